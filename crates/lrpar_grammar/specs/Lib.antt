@@ -1,0 +1,4 @@
+pub mod Span
+pub mod Grammar
+pub mod Tree
+pub mod Sentence

@@ -1,0 +1,52 @@
+-- Lexemes as contracts see them, valid lists of them, and sentences.
+use Rattle.std.specs.Prelude.{◌≡◌, ◌<◌, ◌≤◌, ◌+◌, ℕ, Bool, List, length, slice_get, Some}
+use Rattle.lrpar_grammar.specs.Span.{Extent}
+use Rattle.lrpar_grammar.specs.Grammar.{Grammar, Nonterminal, end_token}
+use Rattle.lrpar_grammar.specs.Tree.{Tree, Fits, leaves}
+
+-- all that a contract knows of a lexeme: its token, where it lies, and whether a repair made it
+pub record LexemeFacts : Type 0 where
+  pub token : ℕ
+  pub span : Extent
+  pub faulty : Bool
+
+-- the lexemes are the leaves of some tree that fits the start rule
+abbrev pub IsSentence : {X : Type 0} → (X → ℕ) → Grammar → List X → Type 0
+IsSentence {X} token g lexemes = (tree : Tree X) × Fits token g tree (Nonterminal g.start) × (leaves tree ≡ lexemes)
+
+-- lexeme i has the end token, or one that the grammar doesn't have
+abbrev pub HasBadToken : Grammar → List LexemeFacts → ℕ → Type 0
+HasBadToken g lexemes i = (x : LexemeFacts) × (slice_get lexemes i ≡ Some x) × (end_token g ≤ x.token)
+
+-- lexeme i starts before the one in front of it
+abbrev pub HasEarlyStart : List LexemeFacts → ℕ → Type 0
+HasEarlyStart lexemes i =
+    (j : ℕ) × (x : LexemeFacts) × (y : LexemeFacts) × (j + 1 ≡ i) × (slice_get lexemes j ≡ Some x) × (slice_get lexemes i ≡ Some y)
+    × (y.span.start < x.span.start)
+
+-- the first n lexemes have tokens of the grammar other than the end token
+abbrev pub HasGoodTokens : Grammar → List LexemeFacts → ℕ → Type 0
+HasGoodTokens g lexemes n = (i : ℕ) (x : LexemeFacts) → i < n → slice_get lexemes i ≡ Some x → x.token < end_token g
+
+-- none of the first n lexemes starts before the one in front of it
+abbrev pub HasOrderedStarts : List LexemeFacts → ℕ → Type 0
+HasOrderedStarts lexemes n =
+    (i : ℕ) (x y : LexemeFacts) → i + 1 < n → slice_get lexemes i ≡ Some x → slice_get lexemes (i + 1) ≡ Some y
+    → x.span.start ≤ y.span.start
+
+-- every token is one of the grammar other than the end token, and no lexeme starts before the one in front of it
+pub record IsValidList (g : Grammar) (lexemes : List LexemeFacts) : Type 0 where
+  pub tokens : HasGoodTokens g lexemes (length lexemes)
+  pub starts : HasOrderedStarts lexemes (length lexemes)
+
+-- lexeme i is the first that has either fault, and has a bad token
+pub record IsFirstBadToken (g : Grammar) (lexemes : List LexemeFacts) (i : ℕ) : Type 0 where
+  pub bad : HasBadToken g lexemes i
+  pub tokens : HasGoodTokens g lexemes i
+  pub starts : HasOrderedStarts lexemes i
+
+-- lexeme i is the first that has either fault, and has a good token
+pub record IsFirstEarlyStart (g : Grammar) (lexemes : List LexemeFacts) (i : ℕ) : Type 0 where
+  pub early : HasEarlyStart lexemes i
+  pub tokens : HasGoodTokens g lexemes (i + 1)
+  pub starts : HasOrderedStarts lexemes i
