@@ -1,7 +1,7 @@
 -- Context-free grammars as in Aho and Ullman, 'The Theory of Parsing, Translation, and Compiling', with names
 -- and places. A grammar has an added rule, number 0, whose one production, the last, derives the start rule;
 -- and an added token, the end token, whose number is one past the others.
-use Rattle.std.specs.Prelude.{◌≡◌, ◌==◌, if◌then◌else◌, ◌<◌, ◌+◌, ◌-◌, ℕ, List, [], ◌∷◌, length, All, slice_get}
+use Rattle.std.specs.Prelude.{◌≡◌, ◌==◌, if◌then◌else◌, ◌<◌, ◌+◌, ◌-◌, ℕ, List, [], ◌∷◌, length, All, slice_get, option_map, Option}
 use Rattle.std.specs.Option.{option_map_or}
 use Rattle.lrpar_grammar.specs.Span.{Extent, nowhere}
 
@@ -75,6 +75,34 @@ prod_len g p = length (symbols_of g p)
 -- the rule of a production
 abbrev pub rule_of : Grammar → ℕ → ℕ
 rule_of g p = option_map_or (λ x. x.rule) (slice_get g.prods p) 0
+
+-- where each symbol of a production stands
+abbrev pub symbol_spans_of : Grammar → ℕ → List Extent
+symbol_spans_of g p = option_map_or (λ x. x.symbol_spans) (slice_get g.prods p) []
+
+-- where a production stands
+abbrev pub prod_span_of : Grammar → ℕ → Extent
+prod_span_of g p = option_map_or (λ x. x.span) (slice_get g.prods p) nowhere
+
+-- a rule's name
+abbrev pub rule_name : Grammar → ℕ → List ℕ
+rule_name g r = option_map_or (λ x. x.name) (slice_get g.rules r) []
+
+-- where a rule is first defined
+abbrev pub rule_span : Grammar → ℕ → Extent
+rule_span g r = option_map_or (λ x. x.span) (slice_get g.rules r) nowhere
+
+-- a token's name, which the end token doesn't have
+abbrev pub token_name : Grammar → ℕ → Option (List ℕ)
+token_name g t = option_map (λ x. x.name) (slice_get g.tokens t)
+
+-- a token's printed text, which the end token doesn't have
+abbrev pub token_epp : Grammar → ℕ → Option (List ℕ)
+token_epp g t = option_map (λ x. x.epp) (slice_get g.tokens t)
+
+-- where a token is first declared or used, which the end token isn't
+abbrev pub token_span : Grammar → ℕ → Option Extent
+token_span g t = option_map (λ x. x.span) (slice_get g.tokens t)
 
 -- the productions whose rule is r among those from number p on, ascending
 abbrev pub prods_from : ℕ → ℕ → List Production → List ℕ

@@ -2,3 +2,7 @@ pub mod Span
 pub mod Grammar
 pub mod Tree
 pub mod Sentence
+pub mod Symbols
+pub mod Parts
+pub mod Kept
+pub mod Sum

@@ -1,4 +1,6 @@
-//! The grammar that a table and a parse stand on: index types, spans, and the grammar value.
+//! What a grammar is made of: numbers, spans, and the grammar value with its names and places.
 #![tactic(auto)]
 
+pub mod grammar;
+pub mod laws;
 pub mod span;

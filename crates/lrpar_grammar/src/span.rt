@@ -187,6 +187,16 @@ impl StorageNum for u32 {
     ghost eq_law = { λ x y. refl };
 }
 
+/// A number of one kind: of rules, productions, tokens or states.
+pub trait Numbered<StorageT: StorageNum>: Copy + Debug {
+    /// The number.
+    ghost number: { Self → ℕ };
+
+    /// The number of this kind.
+    fn numbered(number_of: StorageT) -> Self
+        ensures { number result ≡ StorageT.index number_of };
+}
+
 /// The number of a rule.
 #[derive(Clone, Copy, Debug, PartialEq, Eq, PartialOrd, Ord, Hash)]
 pub struct RIdx<StorageT>(pub StorageT);
@@ -197,6 +207,14 @@ impl<StorageT: StorageNum> RIdx<StorageT> {
         ensures { result ≡ self.now.0 }
     {
         self.0
+    }
+}
+
+impl<StorageT: StorageNum> Numbered<StorageT> for RIdx<StorageT> {
+    ghost number = { λ x. StorageT.index x.0 };
+
+    fn numbered(number_of: StorageT) -> Self {
+        RIdx(number_of)
     }
 }
 
@@ -221,6 +239,14 @@ impl<StorageT: StorageNum> PIdx<StorageT> {
     }
 }
 
+impl<StorageT: StorageNum> Numbered<StorageT> for PIdx<StorageT> {
+    ghost number = { λ x. StorageT.index x.0 };
+
+    fn numbered(number_of: StorageT) -> Self {
+        PIdx(number_of)
+    }
+}
+
 impl<StorageT: StorageNum> From<PIdx<StorageT>> for usize {
     ghost from_gives = { λ number value. value ≡ StorageT.index number.0 };
 
@@ -239,6 +265,14 @@ impl<StorageT: StorageNum> TIdx<StorageT> {
         ensures { result ≡ self.now.0 }
     {
         self.0
+    }
+}
+
+impl<StorageT: StorageNum> Numbered<StorageT> for TIdx<StorageT> {
+    ghost number = { λ x. StorageT.index x.0 };
+
+    fn numbered(number_of: StorageT) -> Self {
+        TIdx(number_of)
     }
 }
 

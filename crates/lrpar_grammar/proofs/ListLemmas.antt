@@ -1,0 +1,43 @@
+-- Lemmas on lists that std lacks.
+use Rattle.std.proofs.Common.{◌≡◌, ◌<◌, ◌+◌, ◌-◌, ℕ, zero, suc, Bool, cond, not, ltb, Some, None, refl, List, [], ◌∷◌, ◌++◌, length, map, take, get_or, subst, sym, ap, ◌∙◌, arith}
+use Rattle.std.specs.List.{All, range_with_len, position, prefix_len}
+use Rattle.std.proofs.lemmas.List.{get_or-map, length-map, take_more, map-append}
+
+-- what holds of each member of a mapped list holds of what each member is mapped to
+pub All-map-at : {X Y : Type 0} (P : Y → Type 0) (f : X → Y) (xs : List X) → All P (map f xs) → (k : ℕ) (d : X) → k < length xs → P (f (get_or xs k d))
+All-map-at P f xs all k d within =
+    let within' : k < length (map f xs) = omega (arith, length-map xs f) in
+    subst P (get_or-map f xs k d (f d) within) (all k (f d) within')
+
+-- a member that is mapped to what fails refutes that all hold
+pub All-map-fails : {X Y : Type 0} (P : Y → Type 0) (f : X → Y) (xs : List X) (k : ℕ) (x : X) → k < length xs → x ≡ get_or xs k x → (P (f x) → ⊥) → All P (map f xs) → ⊥
+All-map-fails P f xs k x within is fails all = fails (subst (λ y. P (f y)) (sym is) (All-map-at P f xs all k x within))
+
+-- a mapped front that is one member longer
+pub map-take_more : {X Y : Type 0} (f : X → Y) (xs : List X) (i : ℕ) (x : X) → i < length xs → x ≡ get_or xs i x → map f (take (i + 1) xs) ≡ map f (take i xs) ++ f x ∷ []
+map-take_more f xs i x within is =
+    ap (map f) (take_more xs i x within ∙ ap (λ y. take i xs ++ y ∷ []) (sym is)) ∙ map-append f (take i xs) (x ∷ [])
+
+-- numbers up to an end, their first one taken off
+pub range_first : (a e : ℕ) → a < e → range_with_len a (e - a) ≡ a ∷ range_with_len (a + 1) (e - (a + 1))
+range_first a e below = let count : e - a ≡ suc (e - (a + 1)) = omega arith in ap (range_with_len a) count
+
+-- the longest front of a mapped list whose members pass
+pub prefix_len-map : {X Y : Type 0} (p : Y → Bool) (f : X → Y) (xs : List X) → prefix_len p (map f xs) ≡ prefix_len (λ x. p (f x)) xs
+prefix_len-map p f [] = refl
+prefix_len-map p f (x ∷ xs) = ap (λ n. cond (p (f x)) (1 + n) 0) (prefix_len-map p f xs)
+
+-- where the first member that passes stands in a mapped list
+pub position-map : {X Y : Type 0} (p : Y → Bool) (f : X → Y) (xs : List X) → position p (map f xs) ≡ position (λ x. p (f x)) xs
+position-map p f xs =
+    let place = prefix_len-map (λ y. not (p y)) f xs in
+    ap (λ k. cond (ltb k (length (map f xs))) (Some k) None) place
+    ∙ ap (λ n. cond (ltb (prefix_len (λ x. not (p (f x))) xs) n) (Some (prefix_len (λ x. not (p (f x))) xs)) None) (length-map xs f)
+
+-- numbers from 0 up to an end, one more put behind them
+pub range_more : (a n : ℕ) → range_with_len a n ++ (a + n) ∷ [] ≡ range_with_len a (n + 1)
+range_more a zero = let same : a + 0 ≡ a = omega arith in ap (λ n. n ∷ []) same
+range_more a (suc n) =
+    let last : a + suc n ≡ (a + 1) + n = omega arith in
+    let count : suc n + 1 ≡ suc (n + 1) = omega arith in
+    ap (λ k. a ∷ (range_with_len (a + 1) n ++ k ∷ [])) last ∙ ap (λ s. a ∷ s) (range_more (a + 1) n) ∙ sym (ap (range_with_len a) count)

@@ -1,0 +1,29 @@
+use Rattle.std.proofs.Common.{◌≡◌, ◌<◌, ◌++◌, ◌∷◌, [], map, length, take, sym, ap, ◌∙◌, refl, arith}
+use Rattle.std.proofs.lemmas.List.{take_all}
+use Rattle.std.proofs.lemmas.Simd.{map-map}
+use Rattle.lrpar_grammar.specs.Symbols.{symbol_of}
+use Rattle.lrpar_grammar.proofs.ListLemmas.{map-take_more}
+use Rattle.lrpar_grammar.proofs.grammar.prods.split_prod.Goals as goal
+
+pub loop-symbol-preserved : goal.loop-symbol-preserved
+loop-symbol-preserved g c =
+    let pairs = c.args.part.now.symbols.items in
+    let within : c.loop-symbol.symbol-index < length pairs = omega arith in
+    let pair = c.loop-symbol-item.result in
+    let is = rw c.deref-symbol-items.ensures.value at c.loop-symbol-item.is in
+    record {
+      symbols = c.in_ok-push.ensures.items ∙ ap (λ s. s ++ pair.0 ∷ []) c.loop-symbol.invariant.symbols
+          ∙ sym (map-take_more (λ x. x.0) pairs c.loop-symbol.symbol-index pair within is);
+      spans = c.in_ok-push-2.ensures.items ∙ ap (λ s. s ++ pair.1 ∷ []) c.loop-symbol.invariant.spans
+          ∙ sym (map-take_more (λ x. x.1) pairs c.loop-symbol.symbol-index pair within is);
+    }
+
+pub returns : goal.returns
+returns g c =
+    let pairs = c.args.part.now.symbols.items in
+    let all : take c.loop-symbol.symbol-index pairs ≡ pairs = take_all _ _ (omega arith) in
+    let index = g.StorageT.StorageNum.index in
+    let symbols : map (symbol_of index) c.loop-symbol.symbols.items ≡ map (λ x. symbol_of index x.0) pairs =
+    ap (map (symbol_of index)) (c.loop-symbol.invariant.symbols ∙ ap (map (λ x. x.0)) all) ∙ map-map (symbol_of index) (λ x. x.0) pairs in
+    let spans : c.loop-symbol.symbol_spans.items ≡ map (λ x. x.1) pairs = c.loop-symbol.invariant.spans ∙ ap (map (λ x. x.1)) all in
+    rw (symbols, spans) refl

@@ -1,0 +1,56 @@
+-- The grammar `E: T '+' E | T; T: 'ID';`, on which the definitions are tried: tokens `+` 0, ID 1, the end token 2;
+-- rules E 1, T 2; productions `E: T '+' E` 0, `E: T` 1, `T: 'ID'` 2, `^: E` 3.
+use Rattle.std.specs.Prelude.{◌≡◌, ◌+◌, ℕ, List, [], ◌∷◌, codes, Option, Some, None}
+use Rattle.lrpar_grammar.specs.Span.{Extent, nowhere}
+use Rattle.lrpar_grammar.specs.Grammar.{Grammar, GrammarSymbol, Production, Nonterminal, Terminal, added_rule, added_prod, rules_len, prods_len, tokens_len, end_token, start_prod, symbols_of, prod_len, rule_of, symbol_spans_of, prod_span_of, rule_name, rule_span, token_name, token_epp, token_span, prods_of}
+use Rattle.lrpar_grammar.specs.Tree.{Tree, Forest, Leaf, Branch, Nil, Cons, leaves, productions, Fits}
+
+-- a part of the grammar's text
+abbrev extent : ℕ → ℕ → Extent
+extent start end = record { start = start; end = end }
+
+-- a production
+abbrev prod : ℕ → List GrammarSymbol → List Extent → Extent → Production
+prod rule symbols spans span = record { rule = rule; symbols = symbols; symbol_spans = spans; span = span }
+
+-- the grammar
+abbrev pub sum_grammar : Grammar
+sum_grammar = record {
+  rules = added_rule ∷ record { name = codes "E"; span = extent 3 4 } ∷ record { name = codes "T"; span = extent 20 21 } ∷ [];
+  tokens = record { name = codes "+"; epp = codes "+"; span = extent 9 10 } ∷ record { name = codes "ID"; epp = codes "ID"; span = extent 24 26 } ∷ [];
+  prods = prod 1 (Nonterminal 2 ∷ Terminal 0 ∷ Nonterminal 1 ∷ []) (extent 6 7 ∷ extent 9 10 ∷ extent 12 13 ∷ []) (extent 6 13)
+      ∷ prod 1 (Nonterminal 2 ∷ []) (extent 16 17 ∷ []) (extent 16 17)
+      ∷ prod 2 (Terminal 1 ∷ []) (extent 24 26 ∷ []) (extent 24 26)
+      ∷ added_prod 1 ∷ [];
+  start = 1;
+}
+
+-- the tree of a text that reads ID `+` ID, over bare tokens
+abbrev pub sum_tree : Tree ℕ
+sum_tree =
+    let term : Tree ℕ = Branch 2 (Cons (Leaf 1) Nil) in
+    Branch 0 (Cons term (Cons (Leaf 0) (Cons (Branch 1 (Cons term Nil)) Nil)))
+
+-- what the definitions say of the grammar and the tree
+pub record SumIsWorkedOut : Type 0 where
+  pub rules : rules_len sum_grammar ≡ 3
+  pub prods : prods_len sum_grammar ≡ 4
+  pub tokens : tokens_len sum_grammar ≡ 3
+  pub end : end_token sum_grammar ≡ 2
+  pub start : start_prod sum_grammar ≡ 3
+  pub symbols : symbols_of sum_grammar 0 ≡ Nonterminal 2 ∷ Terminal 0 ∷ Nonterminal 1 ∷ []
+  pub len : prod_len sum_grammar 0 ≡ 3
+  pub symbol_spans : symbol_spans_of sum_grammar 1 ≡ extent 16 17 ∷ []
+  pub prod_span : prod_span_of sum_grammar 0 ≡ extent 6 13
+  pub rule : rule_of sum_grammar 2 ≡ 2
+  pub of_rule : prods_of sum_grammar 1 ≡ 0 ∷ 1 ∷ []
+  pub added : prods_of sum_grammar 0 ≡ 3 ∷ []
+  pub name : rule_name sum_grammar 0 ≡ codes "^"
+  pub name_span : rule_span sum_grammar 2 ≡ extent 20 21
+  pub token : token_name sum_grammar 1 ≡ Some (codes "ID")
+  pub printed : token_epp sum_grammar 0 ≡ Some (codes "+")
+  pub span : token_span sum_grammar 1 ≡ Some (extent 24 26)
+  pub unnamed : token_name sum_grammar 2 ≡ None
+  pub leaves : leaves sum_tree ≡ 1 ∷ 0 ∷ 1 ∷ []
+  pub productions : productions sum_tree ≡ 2 ∷ 2 ∷ 1 ∷ 0 ∷ []
+  pub fits : Fits (λ token. token) sum_grammar sum_tree (Nonterminal 1)

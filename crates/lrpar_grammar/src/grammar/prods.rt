@@ -1,0 +1,110 @@
+//! The productions as a grammar keeps them.
+ghost use Rattle.std.specs.Prelude.{◌≡◌, ◌<◌, ◌≤◌, [], ◌∷◌, ◌++◌, All, IfOk, length, map};
+ghost use Rattle.lrpar_grammar.specs.Grammar.{added_prod};
+ghost use Rattle.lrpar_grammar.specs.Parts.{prod_of};
+ghost use Rattle.lrpar_grammar.specs.Kept.{AreRowsOf, split_prod_of};
+
+use super::parts::ProdPart;
+use crate::span::{PIdx, RIdx, Span, StorageNum, Symbol};
+use std::alloc::{AllocError, Global};
+
+// A production whose symbols and their places are lists of their own.
+#[derive(Debug, Drop)]
+pub(super) struct SplitProd<StorageT> {
+    pub(super) rule: RIdx<StorageT>,
+    pub(super) symbols: Vec<Symbol<StorageT>>,
+    pub(super) symbol_spans: Vec<Span>,
+    pub(super) span: Span,
+}
+
+// The productions with their symbols and places as lists of their own, and the start production after them.
+pub(super) fn split_prods<StorageT: StorageNum>(
+    alloc: Global,
+    parts: &[ProdPart<StorageT>],
+    start: RIdx<StorageT>,
+) -> Result<Vec<SplitProd<StorageT>>, AllocError>
+    requires { 0 < StorageT.limit }
+    ensures { IfOk result (λ prods. map (split_prod_of StorageT.index) prods.items
+        ≡ map (prod_of StorageT.index) parts.now ++ added_prod (StorageT.index start.0) ∷ []) }
+{
+    let mut prods = Vec::new(alloc);
+    for part in parts {
+        prods.push(split_prod(alloc, part)?)?;
+    }
+    prods.push(added(alloc, start)?)?;
+    Ok(prods)
+}
+
+// A production with its symbols and places as lists of their own.
+fn split_prod<StorageT: StorageNum>(
+    alloc: Global,
+    part: &ProdPart<StorageT>,
+) -> Result<SplitProd<StorageT>, AllocError>
+    ensures { IfOk result (λ prod. split_prod_of StorageT.index prod ≡ prod_of StorageT.index part.now) }
+{
+    let mut symbols = Vec::with_capacity(alloc, part.symbols.len())?;
+    let mut symbol_spans = Vec::with_capacity(alloc, part.symbols.len())?;
+    for (symbol, span) in &part.symbols {
+        symbols.push(*symbol)?;
+        symbol_spans.push(*span)?;
+    }
+    Ok(SplitProd {
+        rule: part.rule,
+        symbols,
+        symbol_spans,
+        span: part.span,
+    })
+}
+
+// The start production.
+fn added<StorageT: StorageNum>(
+    alloc: Global,
+    start: RIdx<StorageT>,
+) -> Result<SplitProd<StorageT>, AllocError>
+    requires { 0 < StorageT.limit }
+    ensures { IfOk result (λ prod. split_prod_of StorageT.index prod ≡ added_prod (StorageT.index start.0)) }
+{
+    let nowhere = Span::new(0, 0);
+    let mut symbols = Vec::with_capacity(alloc, 1)?;
+    symbols.push(Symbol::Rule(start))?;
+    let mut symbol_spans = Vec::with_capacity(alloc, 1)?;
+    symbol_spans.push(nowhere)?;
+    Ok(SplitProd {
+        rule: RIdx(StorageT::from_index(0).unwrap()),
+        symbols,
+        symbol_spans,
+        span: nowhere,
+    })
+}
+
+// The productions of each of so many rules, ascending.
+pub(super) fn prods_by_rule<StorageT: StorageNum>(
+    alloc: Global,
+    rules: usize,
+    prods: &[SplitProd<StorageT>],
+) -> Result<Vec<Vec<PIdx<StorageT>>>, AllocError>
+    requires numbered { length prods.now ≤ StorageT.limit }
+    requires within { All (λ p. p.rule < rules) (map (split_prod_of StorageT.index) prods.now) }
+    ensures { IfOk result (λ rows. AreRowsOf StorageT.index rules (map (split_prod_of StorageT.index) prods.now) rows.items) }
+{
+    let mut rows = empty_rows(alloc, rules)?;
+    for (number, prod) in prods.iter().enumerate() {
+        let row = &mut rows[usize::from(prod.rule)];
+        row.push(PIdx(StorageT::from_index(number).unwrap()))?;
+    }
+    Ok(rows)
+}
+
+// So many empty rows.
+fn empty_rows<StorageT: StorageNum>(
+    alloc: Global,
+    rules: usize,
+) -> Result<Vec<Vec<PIdx<StorageT>>>, AllocError>
+    ensures { IfOk result (λ rows. AreRowsOf StorageT.index rules [] rows.items) }
+{
+    let mut rows = Vec::with_capacity(alloc, rules)?;
+    for _ in 0..rules {
+        rows.push(Vec::new(alloc))?;
+    }
+    Ok(rows)
+}

@@ -1,0 +1,32 @@
+//! Tokens by name.
+ghost use Rattle.std.specs.Prelude.{◌≡◌, ◌≤◌, IfOk, length, map, position, string_bytes};
+ghost use Rattle.std.specs.List.{range_with_len};
+ghost use Rattle.std.specs.Str.{bytes_eq};
+
+use super::parts::TokenPart;
+use crate::span::{StorageNum, TIdx};
+use std::alloc::{AllocError, Global};
+
+// The place of the first token of that name.
+pub(super) fn first_named(tokens: &[TokenPart], name: &str) -> Option<usize>
+    ensures { result ≡ position (λ token. bytes_eq (string_bytes token.name) name.now) tokens.now }
+{
+    tokens.iter().position(|token| token.name.as_str() == name)
+}
+
+// The name and the number of each token.
+pub(super) fn numbered_names<StorageT: StorageNum>(
+    alloc: Global,
+    tokens: &[TokenPart],
+) -> Result<Vec<(&str, TIdx<StorageT>)>, AllocError>
+    requires { length tokens.now ≤ StorageT.limit }
+    ensures names { IfOk result (λ pairs. map (λ pair. pair.0.now) pairs.items ≡ map (λ token. string_bytes token.name) tokens.now) }
+    ensures numbers { IfOk result (λ pairs. map (λ pair. StorageT.index pair.1.0) pairs.items ≡ range_with_len 0 (length tokens.now)) }
+{
+    let mut pairs = Vec::with_capacity(alloc, tokens.len())?;
+    for (number, token) in tokens.iter().enumerate() {
+        let tidx = TIdx(StorageT::from_index(number).unwrap());
+        pairs.push((token.name.as_str(), tidx))?;
+    }
+    Ok(pairs)
+}

@@ -1,0 +1,260 @@
+//! The grammar value.
+ghost use Rattle.std.specs.Prelude.{◌≡◌, ◌<◌, ◌≤◌, ◌+◌, ◌↔◌, IfOk, IsErrOf, IsNone, length, map, option_map, position};
+ghost use Rattle.std.specs.List.{range_with_len};
+ghost use Rattle.std.specs.Str.{bytes_eq};
+ghost use Rattle.lrpar_grammar.specs.Symbols.{symbol_of};
+
+use super::numbers::Numbers;
+use super::parts::{GrammarFault, GrammarParts, RulePart, TokenPart};
+use super::prods::{SplitProd, prods_by_rule, split_prods};
+use super::tokens::{first_named, numbered_names};
+use crate::span::{PIdx, RIdx, Span, StorageNum, Symbol, TIdx};
+use std::alloc::{AllocError, Global};
+use std::marker::Model;
+
+/// A context-free grammar with names and places. Rule 0 is the added rule `^`; the last production, the start
+/// production, is of that rule and derives the start rule alone; the last token is the end token, which has no name.
+#[derive(Debug, Drop)]
+pub struct YaccGrammar<StorageT: StorageNum> {
+    rules: Vec<RulePart>,
+    tokens: Vec<TokenPart>,
+    prods: Vec<SplitProd<StorageT>>,
+    start: RIdx<StorageT>,
+    rule_prods: Vec<Vec<PIdx<StorageT>>>,
+}
+
+impl<StorageT: StorageNum> Model for YaccGrammar<StorageT> {
+    ghost use Rattle.lrpar_grammar.specs.Grammar.{Grammar};
+
+    ghost Value = { Grammar };
+
+    ghost use Rattle.lrpar_grammar.specs.Kept.{IsKept, kept_grammar};
+
+    ghost view = { λ s. kept_grammar StorageT.index s.rules.items s.tokens.items s.prods.items s.start.0 };
+
+    ghost invariant = { λ s. IsKept StorageT.limit StorageT.index
+        (kept_grammar StorageT.index s.rules.items s.tokens.items s.prods.items s.start.0) s.rule_prods.items };
+}
+
+impl<StorageT: StorageNum> YaccGrammar<StorageT> {
+    ghost use Rattle.lrpar_grammar.specs.Parts.{AreSound, grammar_of, parts_of, IsFirstFault};
+    ghost use Rattle.lrpar_grammar.specs.Grammar.{IsWellFormed, rules_len, prods_len, tokens_len, end_token, start_prod, rule_of, symbols_of, symbol_spans_of, prod_span_of, prods_of, rule_name, rule_span, token_name, token_epp, token_span};
+
+    /// The grammar of the parts. Its rules are the added rule and the listed ones, in order; its productions the
+    /// listed ones, in order, and the start production; its tokens the listed ones, in order, and the end token.
+    ///
+    /// Refused by the first of these that holds: no rule is listed; the storage type can't number them all, with
+    /// what is added; the start isn't a listed rule; a production's rule or a symbol isn't a listed one; memory is
+    /// wanting. Takes time and memory linear in the parts.
+    pub fn from_parts(alloc: Global, parts: GrammarParts<StorageT>) -> Result<Self, GrammarFault>
+        ensures made { IfOk result (λ grm. grm ≡ grammar_of (parts_of StorageT.index parts)) }
+        ensures well_formed { IfOk result IsWellFormed }
+
+        // Each fault but want of memory comes exactly where it is the first that holds.
+        ensures no_rules { IsErrOf result GrammarFault.NoRules ↔ IsFirstFault StorageT.limit (parts_of StorageT.index parts) GrammarFault.NoRules }
+        ensures storage_too_small { IsErrOf result GrammarFault.StorageTooSmall ↔ IsFirstFault StorageT.limit (parts_of StorageT.index parts) GrammarFault.StorageTooSmall }
+        ensures bad_start { IsErrOf result GrammarFault.BadStart ↔ IsFirstFault StorageT.limit (parts_of StorageT.index parts) GrammarFault.BadStart }
+        ensures bad_symbol { IsErrOf result GrammarFault.BadSymbol ↔ IsFirstFault StorageT.limit (parts_of StorageT.index parts) GrammarFault.BadSymbol }
+    {
+        match parts.fault() {
+            Some(fault) => Err(fault),
+            None => Ok(YaccGrammar::made(alloc, parts)?),
+        }
+    }
+
+    // The grammar of sound parts.
+    fn made(alloc: Global, parts: GrammarParts<StorageT>) -> Result<Self, AllocError>
+        requires { AreSound StorageT.limit (parts_of StorageT.index parts) }
+        ensures made { IfOk result (λ grm. grm ≡ grammar_of (parts_of StorageT.index parts)) }
+        ensures well_formed { IfOk result IsWellFormed }
+    {
+        let prods = split_prods(alloc, &parts.prods, parts.start)?;
+        let rule_prods = prods_by_rule(alloc, parts.rules.len() + 1, &prods)?;
+        let GrammarParts {
+            rules,
+            tokens,
+            prods: _,
+            start,
+        } = parts;
+        Ok(YaccGrammar {
+            rules,
+            tokens,
+            prods,
+            start,
+            rule_prods,
+        })
+    }
+
+    /// How many rules there are, the added one counted.
+    pub fn rules_len(&self) -> usize
+        ensures len { result ≡ rules_len self.now }
+        ensures within { result ≤ StorageT.limit }
+    {
+        self.rule_prods.len()
+    }
+
+    /// How many productions there are, the start production counted.
+    pub fn prods_len(&self) -> usize
+        ensures len { result ≡ prods_len self.now }
+        ensures within { result ≤ StorageT.limit }
+    {
+        self.prods.len()
+    }
+
+    /// How many tokens there are, the end token counted.
+    pub fn tokens_len(&self) -> usize
+        ensures len { result ≡ tokens_len self.now }
+        ensures within { result ≤ StorageT.limit }
+    {
+        self.tokens.len() + 1
+    }
+
+    /// The rules, ascending.
+    pub fn iter_rules(&self) -> Numbers<StorageT, RIdx<StorageT>>
+        ensures { result ≡ range_with_len 0 (rules_len self.now) }
+    {
+        Numbers::below(self.rules_len())
+    }
+
+    /// The productions, ascending.
+    pub fn iter_pidxs(&self) -> Numbers<StorageT, PIdx<StorageT>>
+        ensures { result ≡ range_with_len 0 (prods_len self.now) }
+    {
+        Numbers::below(self.prods_len())
+    }
+
+    /// The tokens, ascending.
+    pub fn iter_tidxs(&self) -> Numbers<StorageT, TIdx<StorageT>>
+        ensures { result ≡ range_with_len 0 (tokens_len self.now) }
+    {
+        Numbers::below(self.tokens_len())
+    }
+
+    /// The right side of a production.
+    pub fn prod(&self, pidx: PIdx<StorageT>) -> &[Symbol<StorageT>]
+        requires { StorageT.index pidx.0 < prods_len self.now }
+        ensures { map (symbol_of StorageT.index) result.now ≡ symbols_of self.now (StorageT.index pidx.0) }
+    {
+        &self.prods[usize::from(pidx)].symbols
+    }
+
+    /// Where each symbol of a production stands.
+    pub fn symbol_spans(&self, pidx: PIdx<StorageT>) -> &[Span]
+        requires { StorageT.index pidx.0 < prods_len self.now }
+        ensures { result.now ≡ symbol_spans_of self.now (StorageT.index pidx.0) }
+    {
+        &self.prods[usize::from(pidx)].symbol_spans
+    }
+
+    /// The rule of a production.
+    pub fn prod_to_rule(&self, pidx: PIdx<StorageT>) -> RIdx<StorageT>
+        requires { StorageT.index pidx.0 < prods_len self.now }
+        ensures { StorageT.index result.0 ≡ rule_of self.now (StorageT.index pidx.0) }
+    {
+        self.prods[usize::from(pidx)].rule
+    }
+
+    /// Where a production stands.
+    pub fn prod_span(&self, pidx: PIdx<StorageT>) -> Span
+        requires { StorageT.index pidx.0 < prods_len self.now }
+        ensures { result ≡ prod_span_of self.now (StorageT.index pidx.0) }
+    {
+        self.prods[usize::from(pidx)].span
+    }
+
+    /// The productions of a rule, ascending.
+    pub fn rule_to_prods(&self, ridx: RIdx<StorageT>) -> &[PIdx<StorageT>]
+        requires { StorageT.index ridx.0 < rules_len self.now }
+        ensures { map (λ p. StorageT.index p.0) result.now ≡ prods_of self.now (StorageT.index ridx.0) }
+    {
+        &self.rule_prods[usize::from(ridx)]
+    }
+
+    /// A rule's name: `^` for the added rule.
+    pub fn rule_name_str(&self, ridx: RIdx<StorageT>) -> &str
+        requires { StorageT.index ridx.0 < rules_len self.now }
+        ensures { result.now ≡ rule_name self.now (StorageT.index ridx.0) }
+    {
+        match usize::from(ridx) {
+            0 => "^",
+            listed => self.rules[listed - 1].name.as_str(),
+        }
+    }
+
+    /// Where a rule is first defined: the empty span at 0 for the added rule.
+    pub fn rule_name_span(&self, ridx: RIdx<StorageT>) -> Span
+        requires { StorageT.index ridx.0 < rules_len self.now }
+        ensures { result ≡ rule_span self.now (StorageT.index ridx.0) }
+    {
+        match usize::from(ridx) {
+            0 => Span::new(0, 0),
+            listed => self.rules[listed - 1].span,
+        }
+    }
+
+    /// A token's name: none for the end token alone.
+    pub fn token_name(&self, tidx: TIdx<StorageT>) -> Option<&str>
+        requires { StorageT.index tidx.0 < tokens_len self.now }
+        ensures name { option_map (λ text. text.now) result ≡ token_name self.now (StorageT.index tidx.0) }
+        ensures end { IsNone result ↔ (StorageT.index tidx.0 ≡ end_token self.now) }
+    {
+        let token = self.tokens.get(usize::from(tidx))?;
+        Some(token.name.as_str())
+    }
+
+    /// The text that messages print for a token: none for the end token alone.
+    pub fn token_epp(&self, tidx: TIdx<StorageT>) -> Option<&str>
+        requires { StorageT.index tidx.0 < tokens_len self.now }
+        ensures epp { option_map (λ text. text.now) result ≡ token_epp self.now (StorageT.index tidx.0) }
+        ensures end { IsNone result ↔ (StorageT.index tidx.0 ≡ end_token self.now) }
+    {
+        let token = self.tokens.get(usize::from(tidx))?;
+        match &token.epp {
+            Some(epp) => Some(epp.as_str()),
+            None => Some(token.name.as_str()),
+        }
+    }
+
+    /// Where a token is first declared or used: none for the end token alone.
+    pub fn token_span(&self, tidx: TIdx<StorageT>) -> Option<Span>
+        requires { StorageT.index tidx.0 < tokens_len self.now }
+        ensures span { result ≡ token_span self.now (StorageT.index tidx.0) }
+        ensures end { IsNone result ↔ (StorageT.index tidx.0 ≡ end_token self.now) }
+    {
+        let token = self.tokens.get(usize::from(tidx))?;
+        Some(token.span)
+    }
+
+    /// The start production, the last one.
+    pub fn start_prod(&self) -> PIdx<StorageT>
+        ensures number { StorageT.index result.0 ≡ start_prod self.now }
+        ensures within { StorageT.index result.0 < prods_len self.now }
+    {
+        PIdx(StorageT::from_index(self.prods.len() - 1).unwrap())
+    }
+
+    /// The end token, the last one.
+    pub fn eof_token_idx(&self) -> TIdx<StorageT>
+        ensures { StorageT.index result.0 ≡ end_token self.now }
+    {
+        TIdx(StorageT::from_index(self.tokens.len()).unwrap())
+    }
+
+    /// The first token of that name. Takes time linear in the tokens.
+    pub fn token_idx(&self, name: &str) -> Option<TIdx<StorageT>>
+        ensures { option_map (λ token. StorageT.index token.0) result ≡ position (λ token. bytes_eq token.name name.now) (self.now).tokens }
+    {
+        match first_named(&self.tokens, name) {
+            Some(number) => Some(TIdx(StorageT::from_index(number).unwrap())),
+            None => None,
+        }
+    }
+
+    /// The tokens but the end token, each with its name, ascending. Takes time and memory linear in the tokens.
+    pub fn tokens_map(&self, alloc: Global) -> Result<Vec<(&str, TIdx<StorageT>)>, AllocError>
+        ensures names { IfOk result (λ pairs. map (λ pair. pair.0.now) pairs.items ≡ map (λ token. token.name) (self.now).tokens) }
+        ensures numbers { IfOk result (λ pairs. map (λ pair. StorageT.index pair.1.0) pairs.items ≡ range_with_len 0 (end_token self.now)) }
+    {
+        numbered_names(alloc, &self.tokens)
+    }
+}
