@@ -1,0 +1,46 @@
+-- What is true of each element of a list, and of each element of its image.
+use Rattle.std.proofs.Common.{◌≡◌, ◌<◌, ◌↔◌, ℕ, Bool, false, IsTrue, nat_eq, List, length, map, All, slice_index_or, subst, sym, arith}
+use Rattle.std.proofs.Math.ListN.{get_or-map}
+use Rattle.std.proofs.lemmas.Bool.{eqb-true}
+use Rattle.std.proofs.lemmas.List.{length-map}
+use Rattle.std.proofs.lemmas.List.Elements.{All-map}
+
+-- what is true of each image is true of the image of each element
+pub All-unmap : {X Y : Type 0} (P : Y → Type 0) (f : X → Y) (xs : List X) → All P (map f xs) → All (λ x. P (f x)) xs
+All-unmap P f xs all k d below = subst P (get_or-map f xs k d) (all k (f d) (rw length-map below))
+
+-- a test of the elements is a test of the images, where their number is right
+pub row_test : {X Y : Type 0} (P : Y → Type 0) (f : X → Y) (xs : List X) (n : ℕ) (b : Bool) → length xs ≡ n
+    → IsTrue b ↔ All (λ x. P (f x)) xs → IsTrue b ↔ ((length (map f xs) ≡ n) × All P (map f xs))
+row_test P f xs n b e test = (λ h. (rw length-map e, All-map P f xs (test.0 h)), λ h. test.1 (All-unmap P f xs h.1))
+
+-- where their number is wrong, the test of it fails, as it should
+pub row_refused : {X Y : Type 0} (P : Y → Type 0) (f : X → Y) (xs : List X) (n : ℕ) → ¬ (length xs ≡ n)
+    → IsTrue (nat_eq (length xs) n) ↔ ((length (map f xs) ≡ n) × All P (map f xs))
+row_refused P f xs n other = (λ h. absurd (other (eqb-true _ _ h)), λ h. absurd (other (rw length-map at h.0)))
+
+-- a number below the length that each row has is below the length of the row that was read
+pub index_in_row : {R X Y : Type 0} (P : Y → Type 0) (items : R → List X) (f : X → Y) (rows : List R) (n s k : ℕ) (row : R)
+    → All (λ ys. (length ys ≡ n) × All P ys) (map (λ r. map f (items r)) rows)
+    → s < length rows → row ≡ slice_index_or rows s row → k < n → k < length (items row)
+index_in_row P items f rows n s k row all below is k_below =
+    let read = All-unmap (λ ys. (length ys ≡ n) × All P ys) (λ r. map f (items r)) rows all s row below in
+    let len : length (items (slice_index_or rows s row)) ≡ n = rw length-map at read.0 in
+    let row_len : length (items row) ≡ n = subst (λ r. length (items r) ≡ n) (sym is) len in
+    omega arith
+
+-- a test of the elements with the number n is a test of the images with m, where n is m
+pub images_test : {X Y : Type 0} (P : ℕ → Y → Type 0) (f : X → Y) (xs ys : List X) (n m : ℕ) (b : Bool) → ys ≡ xs → n ≡ m
+    → IsTrue b ↔ All (λ x. P n (f x)) ys → IsTrue b ↔ All (P m) (map f xs)
+images_test P f xs ys n m b same e test =
+    let elements : IsTrue b ↔ All (λ x. P m (f x)) xs =
+    subst (λ k. IsTrue b ↔ All (λ x. P k (f x)) xs) e (subst (λ zs. IsTrue b ↔ All (λ x. P n (f x)) zs) same test) in
+    (λ h. All-map (P m) f xs (elements.0 h), λ h. elements.1 (All-unmap (P m) f xs h))
+
+-- where the first test passes, the second decides both facts
+pub second_test : {A B : Type 0} (a b : Bool) → IsTrue a → IsTrue a ↔ A → IsTrue b ↔ B → IsTrue b ↔ (A × B)
+second_test a b passed first second = (λ h. (first.0 passed, second.0 h), λ h. second.1 h.1)
+
+-- where the first test fails, so do both facts
+pub first_test : {A B : Type 0} (a : Bool) → a ≡ false → IsTrue a ↔ A → IsTrue a ↔ (A × B)
+first_test a failed first = (λ h. absurd cc, λ h. first.1 h.0)

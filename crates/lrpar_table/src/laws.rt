@@ -1,0 +1,43 @@
+//! Laws about the definitions that contracts cite: each function has one as its contract, and does nothing.
+ghost use Rattle.std.specs.Prelude.{◌≡◌, ◌^◌, ◌∷◌, [], Some, None};
+ghost use Rattle.lrpar_table.specs.Reduction.{SettlesOneWay, Settles};
+ghost use Rattle.lrpar_table.specs.Stack.{IsStack};
+ghost use Rattle.lrpar_table.specs.Sum.{sum_grammar, sum_table};
+ghost use Rattle.lrpar_table.specs.Table.{AreRows, ShiftTo, ReduceBy, Accepts, Fails, action_of, goto_of, states_len};
+
+/// From a stack, under a token, there is at most one list of reductions after which none is left, and one stack that
+/// they give.
+pub fn reductions_have_one_answer()
+    ensures { SettlesOneWay }
+{}
+
+/// The small table of sums is made of rows as they should be, so that `from_rows` takes it.
+pub fn sum_table_has_rows()
+    ensures { AreRows (2 ^ 8) sum_table }
+{}
+
+/// What the small table of sums does, at one entry of each kind and out of range.
+pub fn sum_table_acts()
+    ensures states { states_len sum_table ≡ 6 }
+    ensures shifts { action_of sum_table 4 1 ≡ ShiftTo 3 }
+    ensures reduces { action_of sum_table 2 2 ≡ ReduceBy 1 }
+    ensures accepts { action_of sum_table 1 2 ≡ Accepts }
+    ensures fails { action_of sum_table 0 0 ≡ Fails }
+    ensures no_state { action_of sum_table 6 0 ≡ Fails }
+    ensures no_token { action_of sum_table 3 3 ≡ Fails }
+    ensures goes { goto_of sum_table 4 1 ≡ Some 5 }
+    ensures goes_nowhere { goto_of sum_table 4 0 ≡ None }
+    ensures no_rule { goto_of sum_table 4 3 ≡ None }
+{}
+
+/// A stack of the small table, met after `ID + ID`, and two lists of states that are none.
+pub fn sum_table_has_stack()
+    ensures stack { IsStack sum_table (0 ∷ 2 ∷ 4 ∷ 3 ∷ []) }
+    ensures other_start { ¬ (IsStack sum_table (2 ∷ 4 ∷ 3 ∷ [])) }
+    ensures not_joined { ¬ (IsStack sum_table (0 ∷ 4 ∷ [])) }
+{}
+
+/// At the end of `ID + ID` the small table reduces by `T: 'ID'`, by `E: T` and by `E: T '+' E`.
+pub fn sum_table_settles()
+    ensures { Settles sum_grammar sum_table 2 (0 ∷ 2 ∷ 4 ∷ 3 ∷ []) (2 ∷ 1 ∷ 0 ∷ []) (0 ∷ 1 ∷ []) }
+{}

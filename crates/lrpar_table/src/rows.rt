@@ -1,0 +1,34 @@
+//! The rows that a table is made of.
+use crate::conflicts::Conflicts;
+use lrpar_grammar::span::{PIdx, StIdx, StorageNum};
+
+/// What a parser does in a state at a token.
+#[derive(Clone, Copy, Debug, PartialEq, Eq, Hash)]
+pub enum Action<StorageT> {
+    /// Takes the token and goes to the state.
+    Shift(StIdx<StorageT>),
+    /// Replaces the symbols of the production by its rule.
+    Reduce(PIdx<StorageT>),
+    /// Accepts what was read.
+    Accept,
+    /// Finds an error: no sentence goes on with the token.
+    Error,
+}
+
+/// The parts of a table, of which nothing is known: for each state, by its number, a row of an action for each token,
+/// and a row of an optional state for each rule.
+#[derive(Debug, Drop)]
+pub struct TableRows<StorageT: StorageNum> {
+    /// The state in which a parser starts.
+    pub start: StIdx<StorageT>,
+    /// How many tokens there are, the end token counted.
+    pub tokens: usize,
+    /// How many rules there are, the added one counted.
+    pub rules: usize,
+    /// What each state does at each token.
+    pub actions: Vec<Vec<Action<StorageT>>>,
+    /// Where each state goes by each rule.
+    pub gotos: Vec<Vec<Option<StIdx<StorageT>>>>,
+    /// The conflicts that were met when the rows were made, if the maker kept them.
+    pub conflicts: Option<Conflicts<StorageT>>,
+}
