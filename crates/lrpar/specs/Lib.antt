@@ -1,0 +1,6 @@
+pub mod Lines
+pub mod Lexemes
+pub mod Failure
+pub mod FailureLaws
+pub mod Repairs
+pub mod LexParse

@@ -1,0 +1,5 @@
+//! Parses over a checked table: lexers, lexemes and errors.
+#![tactic(auto)]
+
+pub mod errors;
+pub mod lex_api;
