@@ -1,1 +1,2 @@
 pub mod RepairLemmas
+pub mod LexemeLemmas

@@ -4,3 +4,5 @@ pub mod Failure
 pub mod FailureLaws
 pub mod Repairs
 pub mod LexParse
+pub mod Lexed
+pub mod Parse

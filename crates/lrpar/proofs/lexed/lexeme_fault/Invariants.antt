@@ -1,0 +1,15 @@
+use Rattle.std.proofs.Common.{map}
+use Rattle.lrpar_grammar.specs.Sentence.{HasGoodTokens, HasOrderedStarts}
+use Rattle.lrpar.specs.Lexemes.{facts_of}
+use Rattle.lrpar.proofs.LexemeLemmas.{IsPreviousStart}
+use Rattle.lrpar.proofs.lexed.lexeme_fault.Given as goal
+
+-- no lexeme so far has a fault
+abbrev pub invariant-loop-i : goal.invariant-loop-i
+invariant-loop-i g l =
+    let facts = map (λ x. facts_of g.StorageT.StorageNum.index (g.LexemeT.Lexeme.parts x)) l.lexemes in
+    record {
+      tokens : HasGoodTokens l.grm facts l.i;
+      starts : HasOrderedStarts facts l.i;
+      previous : IsPreviousStart facts l.i l.previous;
+    }

@@ -1,0 +1,57 @@
+//! A lexer's answer: its lexemes or its first error, and the faults of its lexemes.
+ghost use Rattle.std.specs.Prelude.{◌≡◌, ◌↔◌, ℕ, IfOk, MatchResult, Some, None, map};
+ghost use Rattle.lrpar_grammar.specs.Sentence.{IsFirstBadToken, IsFirstEarlyStart, IsValidList};
+ghost use Rattle.lrpar.specs.Lexed.{first_error, lexemes_of};
+ghost use Rattle.lrpar.specs.Lexemes.{facts_of};
+
+use crate::fault::ParseFault;
+use crate::lex_api::Lexeme;
+use lrpar_grammar::grammar::YaccGrammar;
+use lrpar_grammar::span::StorageNum;
+use std::alloc::{AllocError, Global};
+
+// The lexemes, or the first lexing error, wherever it stands.
+pub(crate) fn lexemes_or_error<LexemeT: Drop, LexErrorT: Drop>(
+    alloc: Global,
+    answers: Vec<Result<LexemeT, LexErrorT>>,
+) -> Result<Result<Vec<LexemeT>, LexErrorT>, AllocError>
+    ensures { IfOk result (λ lexed. MatchResult lexed
+        (λ lexemes. (first_error answers.items ≡ None) × (lexemes.items ≡ lexemes_of answers.items))
+        (λ error. first_error answers.items ≡ Some error)) }
+{
+    let mut lexemes = Vec::with_capacity(alloc, answers.len())?;
+    for answer in answers {
+        match answer {
+            Ok(lexeme) => lexemes.push(lexeme)?,
+            Err(error) => return Ok(Err(error)),
+        }
+    }
+    Ok(Ok(lexemes))
+}
+
+// The first lexeme that has a fault, with its fault: a token that is the end token or isn't the grammar's, or else a
+// start before that of the lexeme in front of it.
+pub(crate) fn lexeme_fault<LexemeT: Lexeme<StorageT>, StorageT: StorageNum>(
+    grm: &YaccGrammar<StorageT>,
+    lexemes: &[LexemeT],
+) -> Option<ParseFault>
+    ensures bad_token { (i : ℕ) → (result ≡ Some (ParseFault.BadToken i))
+        ↔ IsFirstBadToken grm.now (map (λ x. facts_of StorageT.index (LexemeT.parts x)) lexemes.now) i }
+    ensures starts_decrease { (i : ℕ) → (result ≡ Some (ParseFault.StartsDecrease i))
+        ↔ IsFirstEarlyStart grm.now (map (λ x. facts_of StorageT.index (LexemeT.parts x)) lexemes.now) i }
+    ensures none { (result ≡ None) ↔ IsValidList grm.now (map (λ x. facts_of StorageT.index (LexemeT.parts x)) lexemes.now) }
+{
+    let end = grm.tokens_len() - 1;
+    let mut previous = 0;
+    for (i, lexeme) in lexemes.iter().enumerate() {
+        if end <= lexeme.tok_id().to_index() {
+            return Some(ParseFault::BadToken(i));
+        }
+        let start = lexeme.span().start();
+        if start < previous {
+            return Some(ParseFault::StartsDecrease(i));
+        }
+        previous = start;
+    }
+    None
+}
