@@ -1,5 +1,5 @@
 -- What comparing and cloning lists of repairs says of the repairs that contracts see.
-use Rattle.std.proofs.Common.{◌≡◌, ℕ, Bool, List, [], ◌∷◌, refl, ap, Vec, vec_len}
+use Rattle.std.proofs.Common.{◌∙◌, ◌≡◌, ℕ, Bool, List, [], ◌∷◌, refl, ap, Vec, vec_len}
 use Rattle.std.specs.Prelude.{map, false, ◌==◌, ◌&&◌}
 use Rattle.std.specs.List.{AllZip, each_same}
 use Rattle.std.specs.Cmp.Lexicographic.{pointwise}
@@ -65,3 +65,9 @@ module _ {X S : Type 0} (index : S → ℕ) (eq : X → X → Bool) (same : Pars
   repairs_eq [] (w ∷ ws) = refl
   repairs_eq (v ∷ vs) [] = refl
   repairs_eq (v ∷ vs) (w ∷ ws) = λ i. sequence_eq v.items w.items i && repairs_eq vs ws i
+
+  -- and so for what such a comparison answers
+  pub answer_eq : {A : Type 0} (xs ys : List (Vec (ParseRepair X S) A)) (answer : Bool)
+      → answer ≡ pointwise (λ v w. pointwise same v.items w.items) xs ys
+      → answer ≡ pointwise (pointwise (repair_eq eq)) (repairs_of index xs) (repairs_of index ys)
+  answer_eq xs ys answer h = h ∙ repairs_eq xs ys

@@ -1,20 +1,24 @@
 -- Lines and columns of a text of UTF-8 bytes. A line starts at byte 0 and after each line feed; it ends before its
 -- line feed, and the last one at the text's end.
-use Rattle.std.specs.Prelude.{ℕ, ◌+◌, ◌-◌, ◌==◌, Bool, List, length, count_by, take, drop, slice_range}
-use Rattle.std.specs.List.{after_last, position_or_len}
+use Rattle.std.specs.Prelude.{ℕ, ◌+◌, ◌-◌, ◌==◌, Bool, not, List, length, count_by, take, drop, slice_range}
+use Rattle.std.specs.List.{prefix_len, suffix_len}
 use Rattle.std.specs.Str.{chars}
 
 -- a line feed
 abbrev pub is_line_feed : ℕ → Bool
 is_line_feed byte = byte == 10
 
--- the start of the line of byte i: the byte after the last line feed before it, or 0
-abbrev pub line_start : List ℕ → ℕ → ℕ
-line_start text i = i - length (after_last is_line_feed (take i text))
+-- a byte that isn't one
+abbrev pub is_in_line : ℕ → Bool
+is_in_line byte = not (is_line_feed byte)
 
--- the end of the line of byte i: the first line feed from it on, or the text's end
+-- the start of the line of byte i: back from i over all bytes that aren't line feeds
+abbrev pub line_start : List ℕ → ℕ → ℕ
+line_start text i = i - suffix_len is_in_line (take i text)
+
+-- the end of the line of byte i: forward from i over all bytes that aren't line feeds
 abbrev pub line_end : List ℕ → ℕ → ℕ
-line_end text i = i + position_or_len is_line_feed (drop i text)
+line_end text i = i + prefix_len is_in_line (drop i text)
 
 -- the lines from that of byte i to that of byte j, without the last line feed
 abbrev pub lines_of : List ℕ → ℕ → ℕ → List ℕ

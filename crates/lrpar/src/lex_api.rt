@@ -1,5 +1,5 @@
 //! What a parse takes from its caller: lexemes, lexing errors and lexers.
-ghost use Rattle.std.specs.Prelude.{◌≡◌, ◌+◌, ◌<◌, ◌≤◌, ◌^◌, ℕ, List, Result, IfOk, true, false, slice_range};
+ghost use Rattle.std.specs.Prelude.{◌≡◌, ◌+◌, ◌<◌, ◌^◌, ℕ, List, Result, IfOk, true, false, slice_range};
 ghost use Rattle.std.specs.Str.{IsCharBoundary};
 ghost use Rattle.lrpar_grammar.specs.Span.{Extent};
 ghost use Rattle.lrpar.specs.Lexemes.{LexemeParts, lexeme_parts};
@@ -16,7 +16,7 @@ pub trait LexerTypes: Debug + Clone {
     /// The lexemes.
     type LexemeT: Lexeme<Self::StorageT>;
 
-    /// What tokens, rules, productions and states are numbered by.
+    /// What tokens, rules, productions and states are numbered by. Parsers ask that it be a `StorageNum`.
     type StorageT;
 
     /// What the lexer answers where no token fits.
@@ -82,7 +82,6 @@ pub trait NonStreamingLexer<'input, LexerTypesT: LexerTypes>: Lexer<LexerTypesT>
 
     /// The input at `span`, which must start and end between two characters of the input.
     fn span_str(&self, span: Span) -> &'input str
-        requires ordered { span.start ≤ span.end }
         requires start { IsCharBoundary (text self.now) span.start }
         requires end { IsCharBoundary (text self.now) span.end }
         ensures part { result.now ≡ slice_range (text self.now) span.start span.end };
@@ -90,7 +89,6 @@ pub trait NonStreamingLexer<'input, LexerTypesT: LexerTypes>: Lexer<LexerTypesT>
     /// The input's lines from that of the start of `span` to that of its end, without the last line feed. The span
     /// must start and end between two characters of the input.
     fn span_lines_str(&self, span: Span) -> &'input str
-        requires ordered { span.start ≤ span.end }
         requires start { IsCharBoundary (text self.now) span.start }
         requires end { IsCharBoundary (text self.now) span.end }
         ensures lines { result.now ≡ lines_of (text self.now) span.start span.end };
@@ -98,7 +96,6 @@ pub trait NonStreamingLexer<'input, LexerTypesT: LexerTypes>: Lexer<LexerTypesT>
     /// The line and the column of the start of `span`, and those of its end, each counted from 1, and columns in
     /// characters. The span must start and end between two characters of the input.
     fn line_col(&self, span: Span) -> ((usize, usize), (usize, usize))
-        requires ordered { span.start ≤ span.end }
         requires start { IsCharBoundary (text self.now) span.start }
         requires end { IsCharBoundary (text self.now) span.end }
         ensures start_line { result.0.0 ≡ line_of (text self.now) span.start }

@@ -1,5 +1,5 @@
-use Rattle.std.proofs.Common.{rules, ◌∙◌, refl}
-use Rattle.lrpar.proofs.RepairLemmas.{repair_alike, repairs_eq}
+use Rattle.std.proofs.Common.{rules, refl}
+use Rattle.lrpar.proofs.RepairLemmas.{repair_alike, answer_eq}
 use Rattle.lrpar.proofs.errors.ParseErrorPartialEq.eq.Goals as goal
 
 pub returns-then-eq-2 : goal.returns-then-eq-2
@@ -8,5 +8,6 @@ returns-then-eq-2 g c =
     let eq = g.LexemeT.PartialEq.eq in
     let alike = repair_alike index eq _ (λ t u. g.met.StorageT.StorageNum.eq_law t.0 u.0) (λ _ _. refl) (λ _ _. refl)
     (λ _ _. refl) (λ _ _. refl) (λ _ _. refl) (λ _ _. refl) (λ _ _. refl) (λ _ _. refl) in
-    let compared = c.eq-then-eq-2.ensures ∙ repairs_eq index eq _ alike c.self.inside.repairs.items c.other.inside.repairs.items in
+    let compared = answer_eq index eq _ alike c.self.inside.repairs.items c.other.inside.repairs.items c.eq-then-eq-2.result
+    c.eq-then-eq-2.ensures in
     search rules
