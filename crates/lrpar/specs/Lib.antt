@@ -6,3 +6,4 @@ pub mod Repairs
 pub mod LexParse
 pub mod Lexed
 pub mod Parse
+pub mod Paired

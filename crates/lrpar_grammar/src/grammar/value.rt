@@ -233,6 +233,14 @@ impl<StorageT: StorageNum> YaccGrammar<StorageT> {
         PIdx(StorageT::from_index(self.prods.len() - 1).unwrap())
     }
 
+    /// The start rule.
+    pub fn start_rule_idx(&self) -> RIdx<StorageT>
+        ensures start { StorageT.index result.0 ≡ self.now.start }
+        ensures within { StorageT.index result.0 < rules_len self.now }
+    {
+        self.start
+    }
+
     /// The end token, the last one.
     pub fn eof_token_idx(&self) -> TIdx<StorageT>
         ensures { StorageT.index result.0 ≡ end_token self.now }
