@@ -8,4 +8,5 @@ pub mod Lexed
 pub mod LexemeFault
 pub mod Answer
 pub mod Parse
+pub mod Parser
 pub mod Paired

@@ -12,7 +12,7 @@ use lrpar_grammar::grammar::YaccGrammar;
 use lrpar_grammar::span::{RIdx, StorageNum};
 use lrpar_table::table::StateTable;
 use std::alloc::Global;
-use std::marker::PhantomData;
+use std::marker::{Model, PhantomData};
 
 /// A parser of one grammar by one table.
 #[derive(Drop)]
@@ -26,12 +26,21 @@ pub struct RTParserBuilder<
     lexer_types: PhantomData<LexerTypesT>,
 }
 
+impl<'a, StorageT: StorageNum, LexerTypesT: LexerTypes<StorageT = StorageT>> Model
+    for RTParserBuilder<'a, StorageT, LexerTypesT> {
+    ghost use Rattle.lrpar.specs.Parser.{Parser};
+
+    ghost Value = { Parser };
+
+    ghost view = { λ p. record { grammar = p.grm.now; table = p.stable.now } };
+}
+
 impl<'a, StorageT: StorageNum, LexerTypesT: LexerTypes<StorageT = StorageT>>
     RTParserBuilder<'a, StorageT, LexerTypesT> {
     /// A parser of the grammar by the table.
     pub fn new(grm: &'a YaccGrammar<StorageT>, stable: &'a StateTable<StorageT>) -> Self
-        ensures grammar { result.grm.now ≡ grm.now }
-        ensures table { result.stable.now ≡ stable.now }
+        ensures grammar { result.grammar ≡ grm.now }
+        ensures table { result.table ≡ stable.now }
     {
         RTParserBuilder {
             grm,
@@ -68,7 +77,7 @@ impl<'a, StorageT: StorageNum, LexerTypesT: LexerTypes<StorageT = StorageT>>
         // Memory was wanting, or there is an answer that the lexer allows, and this is the parse over it.
         ensures parse { IsErrOf result ParseFault.Memory
             ⊎ ((lexed : List (Result LexerTypesT.LexemeT LexerTypesT.LexErrorT)) × L.allows lexer.now lexed
-                × IsParse self.now.grm.now (λ x. facts_of StorageT.index (LexerTypesT.LexemeT.parts x)) lexed result) }
+                × IsParse self.now.grammar (λ x. facts_of StorageT.index (LexerTypesT.LexemeT.parts x)) lexed result) }
     {
         let answers = lexer.iter(alloc)?;
         match lexemes_or_error(alloc, answers)? {
