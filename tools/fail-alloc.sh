@@ -1,0 +1,108 @@
+#!/usr/bin/env bash
+# Runs the real program with each of its calls for memory refused in turn, and with an argument that isn't UTF-8.
+#
+# Wants: where a call is refused, status 2, the one line `lrpar: out of memory` on standard error and nothing on
+# standard output, or else the whole tree as if no call had been refused. Prints the cases that failed, and one closing
+# line. It stands outside the gate. It needs cc and glibc.
+set -u
+
+here=$(cd -P "$(dirname "$(readlink -f "${BASH_SOURCE[0]}")")" && pwd) || exit 1
+readonly here
+readonly root=$here/..
+readonly program=$root/crates/lrpar_program/out/lrpar_program
+readonly most_calls=100000
+readonly tree='E
+ T
+  ID a
+ + +
+ E
+  T
+   ID b
+'
+readonly no_memory='lrpar: out of memory
+'
+
+work=$(mktemp -d) || exit 1
+readonly work
+trap 'rm -rf "$work"' EXIT
+
+passed=0
+failed=0
+
+# count CASE CHECK..: counts the case as passed where the check holds.
+count() {
+    local name=$1
+    shift
+    if "$@"; then
+        passed=$((passed + 1))
+    else
+        failed=$((failed + 1))
+        printf 'failed: %s: status %s, standard output and standard error:\n' "$name" "$status"
+        cat "$work/out" "$work/err"
+    fi
+}
+
+# run WORDS..: runs the program, and keeps what it wrote and its status.
+run() {
+    timeout 60 "$@" >"$work/out" 2>"$work/err" </dev/null
+    status=$?
+}
+
+# wrote STATUS OUT ERR: whether the last run had just this status, standard output and standard error.
+wrote() {
+    [[ $status -eq $1 ]] && cmp -s "$work/out" <(printf '%s' "$2") && cmp -s "$work/err" <(printf '%s' "$3")
+}
+
+gives_tree() {
+    wrote 0 "$tree" ''
+}
+
+gives_tree_or_no_memory() {
+    gives_tree || wrote 2 '' "$no_memory"
+}
+
+# One line, which begins as the usage line does.
+gives_usage_line() {
+    [[ $status -eq 2 && ! -s $work/out && $(wc -l <"$work/err") -eq 1 ]] && grep -q '^usage: lrpar ' "$work/err"
+}
+
+# run_refused N WORDS..: runs the program with its Nth call for memory refused.
+run_refused() {
+    local call=$1
+    shift
+    rm -f "$work/mark"
+    run env FAIL_ALLOC_AT="$call" FAIL_ALLOC_MARK="$work/mark" LD_PRELOAD="$work/fail_alloc.so" "$program" "$@"
+}
+
+# Refuses each call of `lrpar demo a+b` in turn, until a run makes fewer calls than that.
+refuse_each_call() {
+    local call
+    for ((call = 1; call <= most_calls; call++)); do
+        run_refused "$call" demo a+b
+        if [[ ! -e $work/mark ]]; then
+            count "no call refused, $((call - 1)) made" gives_tree
+            count 'some call is refused' test "$call" -gt 1
+            return
+        fi
+        count "call $call refused" gives_tree_or_no_memory
+    done
+    count "at most $most_calls calls" false
+}
+
+if ! "$root/lrpar" demo a+b >"$work/out"; then
+    printf 'lrpar demo a+b fails before any call is refused\n' >&2
+    exit 1
+fi
+if ! cc -O1 -Wall -shared -fPIC -o "$work/fail_alloc.so" "$here/fail_alloc.c"; then
+    printf 'cannot build tools/fail_alloc.c\n' >&2
+    exit 1
+fi
+
+refuse_each_call
+run "$program" demo $'\xff'
+count 'an argument that is not UTF-8' gives_usage_line
+run "$program" $'\xff'
+count 'a command that is not UTF-8' gives_usage_line
+
+printf '%s passed, %s failed\n' "$passed" "$failed"
+[[ $failed -eq 0 ]]
