@@ -6,6 +6,8 @@ mod fault;
 mod lexer;
 mod lines;
 mod run;
+#[cfg(test)]
+mod tests;
 mod text;
 
 use std::process::ExitCode;

@@ -1,13 +1,17 @@
-// A library with one function.
+//! Tests that cross the library crates.
 #![tactic(auto)]
 
-ghost use Rattle.std.specs.Prelude.{◌≡◌};
-ghost use Rattle.lrpar_tests.specs.Echo.{echo_of};
-
-// The `ensures` clause is the contract: what `echo` returns is `echo_of` of its argument, a definition
-// in `specs/Echo.antt`, which a caller's clause can cite too.
-pub fn echo(x: usize) -> usize
-    ensures { result ≡ echo_of x }
-{
-    x
-}
+#[cfg(test)]
+mod errors;
+#[cfg(test)]
+mod fixtures;
+#[cfg(test)]
+mod grammar;
+#[cfg(test)]
+mod lexer;
+#[cfg(test)]
+mod parse;
+#[cfg(test)]
+mod span;
+#[cfg(test)]
+mod table;
