@@ -75,12 +75,12 @@ pub(crate) fn prod<S: StorageNum>(
 }
 
 /// The rule of that number.
-pub(crate) const fn r(rule: u8) -> Symbol<u8> {
+pub(crate) fn r(rule: u8) -> Symbol<u8> {
     Symbol::Rule(RIdx(rule))
 }
 
 /// The token of that number.
-pub(crate) const fn t(token: u8) -> Symbol<u8> {
+pub(crate) fn t(token: u8) -> Symbol<u8> {
     Symbol::Token(TIdx(token))
 }
 
@@ -99,30 +99,34 @@ pub(crate) fn sum_parts<S: StorageNum>(alloc: Global) -> Result<GrammarParts<S>,
     })
 }
 
-/// What a state does at a token: `s` goes to a state, `p` reduces by a production.
-pub(crate) const fn s(state: u8) -> Action<u8> {
-    Action::Shift(StIdx(state))
-}
-
-/// A reduction by the production.
-pub(crate) const fn p(prod: u8) -> Action<u8> {
-    Action::Reduce(PIdx(prod))
-}
-
 /// An error.
 pub(crate) const X: Action<u8> = Action::Error;
 
 /// The acceptance of the input.
 pub(crate) const ACCEPT: Action<u8> = Action::Accept;
 
+/// A shift to state 3.
+pub(crate) const S3: Action<u8> = Action::Shift(StIdx(3));
+
+const S4: Action<u8> = Action::Shift(StIdx(4));
+
+/// A reduction by production 0.
+pub(crate) const P0: Action<u8> = Action::Reduce(PIdx(0));
+
+/// A reduction by production 1.
+pub(crate) const P1: Action<u8> = Action::Reduce(PIdx(1));
+
+/// A reduction by production 2.
+pub(crate) const P2: Action<u8> = Action::Reduce(PIdx(2));
+
 /// What the six states of the table of sums do at `+`, `ID` and the end.
 pub(crate) const SUM_ACTIONS: [[Action<u8>; 3]; 6] = [
-    [X, s(3), X],
+    [X, S3, X],
     [X, X, ACCEPT],
-    [s(4), X, p(1)],
-    [p(2), X, p(2)],
-    [X, s(3), X],
-    [X, X, p(0)],
+    [S4, X, P1],
+    [P2, X, P2],
+    [X, S3, X],
+    [X, X, P0],
 ];
 
 /// Where those states go by `^`, `E` and `T`.

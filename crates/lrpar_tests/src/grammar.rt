@@ -34,18 +34,21 @@ fn prods_of_the_sum_grammar(rt: HostRuntime) -> Result<(), Fail> {
     assert_eq!(rt; grm.prods_len(), 4);
     assert_eq!(rt; grm.start_prod(), PIdx(3));
     let sum = [(r(2), 6, 7), (t(0), 9, 10), (r(1), 12, 13)];
+    let term = [(r(2), 16, 17)];
+    let id = [(t(1), 23, 25)];
+    let start = [(r(1), 0, 0)];
     let rows = [
         (0, 1, sum.as_slice(), Span::new(6, 13)),
-        (1, 1, [(r(2), 16, 17)].as_slice(), Span::new(16, 17)),
-        (2, 2, [(t(1), 23, 25)].as_slice(), Span::new(23, 25)),
-        (3, 0, [(r(1), 0, 0)].as_slice(), Span::new(0, 0)),
+        (1, 1, term.as_slice(), Span::new(16, 17)),
+        (2, 2, id.as_slice(), Span::new(23, 25)),
+        (3, 0, start.as_slice(), Span::new(0, 0)),
     ];
     for (number, rule, placed, span) in rows {
         let pidx = PIdx(number);
         assert!(rt; usize::from(pidx) < grm.prods_len());
         assert_eq!(rt; grm.prod_to_rule(pidx), RIdx(rule), "rule of {number}");
         assert!(rt; grm.prod_span(pidx) == span, "span of {number}");
-        assert_eq!(rt; grm.prod_len(pidx), placed.len(), "length of {number}");
+        assert_eq!(rt; grm.prod(pidx).len(), placed.len(), "length of {number}");
         let symbols = placed.iter().map(|(symbol, _, _)| *symbol);
         assert!(rt; grm.prod(pidx).iter().copied().eq(symbols), "symbols of {number}");
         let starts = placed.iter().map(|(_, start, _)| *start);

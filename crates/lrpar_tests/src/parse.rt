@@ -1,5 +1,7 @@
 //! Parses by tables that are written by hand.
-use crate::fixtures::{ACCEPT, SUM_ACTIONS, SUM_GOTOS, X, p, prod, r, rows, rules, s, sum_parts, sum_rows, t, tokens};
+use crate::fixtures::{
+    ACCEPT, P0, P1, P2, S3, SUM_ACTIONS, SUM_GOTOS, X, prod, r, rows, rules, sum_parts, sum_rows, t, tokens,
+};
 use crate::lexer::{HandedLexer, HandedTypes, NoToken, Token};
 use lrpar::grammar::{GrammarParts, YaccGrammar};
 use lrpar::parser::ParseFault;
@@ -142,9 +144,11 @@ fn the_first_lexing_error_stands_alone(rt: HostRuntime) -> Result<(), Fail> {
     let first = NoToken { span: Span::new(7, 8) };
     let second = NoToken { span: Span::new(9, 10) };
     let faulty = [(1, 0), (0, 1), (1, 2), (2, 3), (1, 6), (0, 5)];
+    let one = [Err(first)];
+    let two = [Err(first), Ok(lexeme(1, 8)), Err(second)];
     let rows = [
-        ("after faulty lexemes", faulty.as_slice(), [Err(first)].as_slice()),
-        ("two errors", [(1, 0)].as_slice(), [Err(first), Ok(lexeme(1, 8)), Err(second)].as_slice()),
+        ("after faulty lexemes", faulty.as_slice(), one.as_slice()),
+        ("two errors", [(1, 0)].as_slice(), two.as_slice()),
     ];
     for (name, given, others) in rows {
         let mut answers = lexemes(alloc, given)?;
@@ -170,7 +174,7 @@ fn without_goto(alloc: Global) -> Result<TableRows<u32>, Fail> {
 // The table of sums with a reduction by `T: 'ID'` at the start.
 fn with_early_reduction(alloc: Global) -> Result<TableRows<u32>, Fail> {
     let mut actions = SUM_ACTIONS;
-    actions[0] = [X, p(2), X];
+    actions[0] = [X, P2, X];
     rows(alloc, &actions, &SUM_GOTOS)
 }
 
@@ -218,7 +222,7 @@ fn loop_parts(alloc: Global) -> Result<GrammarParts<u32>, Fail> {
 
 // A table of that grammar, which reduces by `A: A` at the end of the input, over and over.
 fn loop_rows(alloc: Global) -> Result<TableRows<u32>, Fail> {
-    let actions = [[s(3), X, X], [X, p(0), X], [X, ACCEPT, X], [X, p(1), X]];
+    let actions = [[S3, X, X], [X, P0, X], [X, ACCEPT, X], [X, P1, X]];
     let none = [None, None, None];
     let mut rows = rows(alloc, &actions, &[[None, Some(1), Some(2)], none, none, none])?;
     rows.tokens = 2;

@@ -1,5 +1,5 @@
 //! State tables.
-use crate::fixtures::{SUM_ACTIONS, SUM_GOTOS, X, rows, s, sum_rows};
+use crate::fixtures::{SUM_ACTIONS, SUM_GOTOS, X, rows, sum_rows};
 use lrpar::span::{PIdx, RIdx, StIdx, TIdx};
 use lrpar::table::{Action, Conflicts, StateTable, TableFault, TableRows};
 use std::alloc::Global;
@@ -87,7 +87,7 @@ fn refused_rows(rt: HostRuntime) -> Result<(), Fail> {
         ("a long action row", with_action_row(alloc, &[X, X, X, X])?),
         ("a short goto row", with_goto_row(alloc, &[None, None])?),
         ("one goto row less", one_goto_row_less),
-        ("a shift past the states", with_action_row(alloc, &[X, s(6), X])?),
+        ("a shift past the states", with_action_row(alloc, &[X, Action::Shift(StIdx(6)), X])?),
         ("a goto past the states", with_goto_row(alloc, &[None, Some(StIdx(6)), None])?),
         ("a start past the states", with_start(alloc, 6)?),
         ("no state", bare_rows(alloc, 0)?),
