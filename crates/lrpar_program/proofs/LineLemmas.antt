@@ -1,8 +1,7 @@
 -- Steps over the bytes of a line.
-use Rattle.std.proofs.Common.{◌≡◌, ◌∙◌, sym, ap, ℕ, ◌+◌, ◌-◌, ◌<◌, ◌≤◌, ◌==◌, not, false, true, arith, List, length, take, drop, slice_index}
+use Rattle.std.proofs.Common.{◌≡◌, ℕ, ◌+◌, ◌-◌, ◌<◌, ◌≤◌, false, true, arith, List, length, slice_index}
 use Rattle.std.proofs.lemmas.Bool.Decides.{nat_tests}
-use Rattle.std.proofs.lemmas.List.Sums.{suffix_len-take_yes, suffix_len-take_no, suffix_len-le-length, prefix_len-drop_yes, prefix_len-drop_no, prefix_len-drop_all}
-use Rattle.std.specs.List.{prefix_len, suffix_len}
+use Rattle.std.proofs.lemmas.List.Sums.{suffix_len-take_yes, suffix_len-take_no, prefix_len-drop_yes, prefix_len-drop_no, prefix_len-drop_all}
 use Rattle.lrpar.specs.Lines.{is_in_line, line_start, line_end}
 
 in_line : (b : ℕ) → ¬ (b ≡ 10) → is_in_line b ≡ true

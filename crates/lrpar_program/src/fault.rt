@@ -13,9 +13,7 @@ use thiserror::Error;
 #[derive(Debug, Drop, Error)]
 pub(crate) enum Fault {
     /// No command has these words.
-    #[error(
-        "usage: lrpar demo TEXT | tree GRAMMAR LEXER INPUT [REPAIRS] | check GRAMMAR CAP | conflicts GRAMMAR | calc [REPAIRS]"
-    )]
+    #[error("usage: lrpar demo TEXT | tree GRAMMAR LEXER INPUT [REPAIRS] | check GRAMMAR CAP | conflicts GRAMMAR | calc [REPAIRS]")]
     Usage,
     /// Memory was wanting.
     #[error("lrpar: out of memory")]

@@ -95,7 +95,9 @@ pub(crate) enum SumTypes {}
 
 impl LexerTypes for SumTypes {
     type LexemeT = Token<u32>;
+
     type StorageT = u32;
+
     type LexErrorT = NoToken;
 }
 

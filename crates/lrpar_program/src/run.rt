@@ -2,10 +2,9 @@
 use crate::demo::demo;
 use crate::fault::Fault;
 use std::alloc::Global;
-use std::env;
-use std::io;
 use std::io::{Read, Write};
 use std::rt::Files;
+use std::{env, io};
 
 /// The status of a command that has its answer.
 const SUCCESS: u8 = 0;

@@ -1,11 +1,11 @@
 use crate::run::run;
 use std::alloc::{AllocError, Global};
-use std::io;
 use std::io::Write;
-use std::str;
 use std::test::Fail;
+use std::{io, str};
 
-const USAGE: &str = "usage: lrpar demo TEXT | tree GRAMMAR LEXER INPUT [REPAIRS] | check GRAMMAR CAP | conflicts GRAMMAR | calc [REPAIRS]\n";
+const USAGE: &str =
+    "usage: lrpar demo TEXT | tree GRAMMAR LEXER INPUT [REPAIRS] | check GRAMMAR CAP | conflicts GRAMMAR | calc [REPAIRS]\n";
 
 const TREE: &str = "E\n T\n  ID a\n + +\n E\n  T\n   ID b\n";
 
@@ -114,7 +114,11 @@ fn failed_writes(rt: HostRuntime) -> Result<(), Fail> {
         let mut err_bytes = Vec::new(rt.alloc());
         let out = Failing { calls_left };
         let found = run(&rt, rt.alloc(), &args, io::empty(), out, &mut err_bytes);
-        assert_eq!(rt; text(&err_bytes), "lrpar: cannot write standard output\n", "at {calls_left}");
+        assert_eq!(rt;
+            text(&err_bytes),
+            "lrpar: cannot write standard output\n",
+            "at {calls_left}"
+        );
         assert_eq!(rt; found, 2, "at {calls_left}");
         let out = Failing { calls_left };
         let err = Failing { calls_left };

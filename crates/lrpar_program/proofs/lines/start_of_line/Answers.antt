@@ -1,5 +1,5 @@
 use Rattle.std.proofs.Common.{rules}
-use Rattle.std.proofs.lemmas.Str.{IsCharBoundary-after_ascii, IsCharBoundary-start, lead_after_ascii}
+use Rattle.std.proofs.lemmas.Str.{IsCharBoundary-start, lead_after_ascii}
 use Rattle.lrpar_program.proofs.lines.start_of_line.Goals as goal
 
 pub returns-then-as_bytes-start-eq10-clause-boundary : goal.returns-then-as_bytes-start-eq10-clause-boundary

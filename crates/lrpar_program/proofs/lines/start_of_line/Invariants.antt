@@ -1,4 +1,4 @@
-use Rattle.std.proofs.Common.{◌≡◌, ◌≤◌, length}
+use Rattle.std.proofs.Common.{◌≡◌, ◌≤◌}
 use Rattle.lrpar.specs.Lines.{line_start}
 use Rattle.lrpar_program.proofs.lines.start_of_line.Given as goal
 
