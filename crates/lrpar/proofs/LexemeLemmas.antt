@@ -5,6 +5,8 @@ use Rattle.std.proofs.lemmas.Bool.{cases_order, cases_lt}
 use Rattle.std.proofs.lemmas.Option.{slice_get_within, same_Some}
 use Rattle.lrpar_grammar.specs.Grammar.{Grammar, end_token}
 use Rattle.lrpar_grammar.specs.Sentence.{LexemeFacts, HasBadToken, HasEarlyStart, HasGoodTokens, HasOrderedStarts, IsValidList, IsFirstBadToken, IsFirstEarlyStart}
+use Rattle.lrpar.specs.LexemeFault.{IsLexemeFault}
+use Rattle.lrpar.specs.declared.fault.ParseFault.TheVariants.{BadToken, StartsDecrease}
 
 -- the start of the lexeme in front of lexeme i, or 0 in front of the first
 abbrev pub IsPreviousStart : List LexemeFacts → ℕ → ℕ → Type 0
@@ -25,8 +27,19 @@ good_more g lexemes i x good at below k y k_below y_at =
 
 -- one ordered start more
 pub ordered_more : (lexemes : List LexemeFacts) (i start : ℕ) (x : LexemeFacts) → HasOrderedStarts lexemes i → IsPreviousStart lexemes i start → slice_get lexemes i ≡ Some x → start ≤ x.span.start → HasOrderedStarts lexemes (i + 1)
-ordered_more lexemes i start x ordered (inl none) at later k y z k_below y_at z_at = ?
-ordered_more lexemes i start x ordered (inr (j, before, place, before_at, is)) at later k y z k_below y_at z_at = ?
+ordered_more lexemes i start x ordered previous at later k y z k_below y_at z_at =
+    elim (cases_order (k + 1) i) [
+      inl same ↦
+        let here : z ≡ x = same_facts lexemes i z x (ap (slice_get lexemes) (sym same) ∙ z_at) at in
+        elim previous [
+          inl none ↦ absurd (let zero : i ≡ 0 = none.0 in omega arith)
+        | inr before ↦
+            let place : before.0 ≡ k = let p : before.0 + 1 ≡ i = before.2 in omega arith in
+            let front : before.1 ≡ y = same_facts lexemes k before.1 y (ap (slice_get lexemes) (sym place) ∙ before.3) y_at in
+            let start_is : y.span.start ≡ start = ap (λ w. w.span.start) (sym front) ∙ before.4 in
+            subst (λ w. y.span.start ≤ w.span.start) (sym here) (omega arith) ]
+    | inr (inl before) ↦ ordered k y z before y_at z_at
+    | inr (inr after) ↦ absurd (omega arith) ]
 
 -- a start before the previous one is early
 pub early_here : (lexemes : List LexemeFacts) (i start : ℕ) (x : LexemeFacts) → IsPreviousStart lexemes i start → slice_get lexemes i ≡ Some x → x.span.start < start → HasEarlyStart lexemes i
@@ -80,3 +93,31 @@ valid_not_bad g lexemes i valid a = not_bad g lexemes (length lexemes) i valid.t
 -- a valid list has no early start
 pub valid_not_early : (g : Grammar) (lexemes : List LexemeFacts) (i : ℕ) → IsValidList g lexemes → IsFirstEarlyStart g lexemes i → ⊥
 valid_not_early g lexemes i valid a = not_early lexemes (length lexemes) i valid.starts (early_within lexemes i a.early) a.early
+
+-- the first bad token is the fault
+pub bad_is_fault : (g : Grammar) (lexemes : List LexemeFacts) (i : ℕ) → IsFirstBadToken g lexemes i → IsLexemeFault g lexemes (Some (BadToken i))
+bad_is_fault g lexemes i bad = record {
+  bad_token = λ k. (λ e. let same : i ≡ k = cc in subst (IsFirstBadToken g lexemes) same bad, λ other. ap (λ n. Some (BadToken n)) (sym (one_bad g lexemes i k bad other)));
+  starts_decrease = λ k. (λ e. cc, λ other. absurd (one_kind g lexemes i k bad other));
+  none = (λ e. cc, λ valid. absurd (valid_not_bad g lexemes i valid bad));
+}
+
+-- the first early start is the fault
+pub early_is_fault : (g : Grammar) (lexemes : List LexemeFacts) (i : ℕ) → IsFirstEarlyStart g lexemes i → IsLexemeFault g lexemes (Some (StartsDecrease i))
+early_is_fault g lexemes i early = record {
+  bad_token = λ k. (λ e. cc, λ other. absurd (one_kind g lexemes k i other early));
+  starts_decrease = λ k. (λ e. let same : i ≡ k = cc in subst (IsFirstEarlyStart g lexemes) same early, λ other. ap (λ n. Some (StartsDecrease n)) (sym (one_early g lexemes i k early other)));
+  none = (λ e. cc, λ valid. absurd (valid_not_early g lexemes i valid early));
+}
+
+-- a valid list has no fault
+pub valid_has_no_fault : (g : Grammar) (lexemes : List LexemeFacts) → IsValidList g lexemes → IsLexemeFault g lexemes None
+valid_has_no_fault g lexemes valid = record {
+  bad_token = λ k. (λ e. cc, λ other. absurd (valid_not_bad g lexemes k valid other));
+  starts_decrease = λ k. (λ e. cc, λ other. absurd (valid_not_early g lexemes k valid other));
+  none = (λ _. valid, λ _. refl);
+}
+
+-- lexeme i is in front of the next one
+pub next_previous : (lexemes : List LexemeFacts) (i start : ℕ) (x : LexemeFacts) → slice_get lexemes i ≡ Some x → start ≡ x.span.start → IsPreviousStart lexemes (i + 1) start
+next_previous lexemes i start x at is = inr (i, x, refl, at, sym is)

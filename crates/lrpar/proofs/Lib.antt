@@ -1,2 +1,3 @@
 pub mod RepairLemmas
 pub mod LexemeLemmas
+pub mod ParseLemmas

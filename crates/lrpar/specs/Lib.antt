@@ -5,5 +5,8 @@ pub mod FailureLaws
 pub mod Repairs
 pub mod LexParse
 pub mod Lexed
+pub mod LexemeFault
+pub mod Answer
 pub mod Parse
+pub mod Parser
 pub mod Paired

@@ -1,7 +1,7 @@
 //! A lexer's answer: its lexemes or its first error, and the faults of its lexemes.
-ghost use Rattle.std.specs.Prelude.{◌≡◌, ◌↔◌, ℕ, IfOk, MatchResult, Some, None, map};
-ghost use Rattle.lrpar_grammar.specs.Sentence.{IsFirstBadToken, IsFirstEarlyStart, IsValidList};
+ghost use Rattle.std.specs.Prelude.{◌≡◌, IfOk, MatchResult, Some, None, map};
 ghost use Rattle.lrpar.specs.Lexed.{first_error, lexemes_of};
+ghost use Rattle.lrpar.specs.LexemeFault.{IsLexemeFault};
 ghost use Rattle.lrpar.specs.Lexemes.{facts_of};
 
 use crate::fault::ParseFault;
@@ -35,11 +35,7 @@ pub(crate) fn lexeme_fault<LexemeT: Lexeme<StorageT>, StorageT: StorageNum>(
     grm: &YaccGrammar<StorageT>,
     lexemes: &[LexemeT],
 ) -> Option<ParseFault>
-    ensures bad_token { (i : ℕ) → (result ≡ Some (ParseFault.BadToken i))
-        ↔ IsFirstBadToken grm.now (map (λ x. facts_of StorageT.index (LexemeT.parts x)) lexemes.now) i }
-    ensures starts_decrease { (i : ℕ) → (result ≡ Some (ParseFault.StartsDecrease i))
-        ↔ IsFirstEarlyStart grm.now (map (λ x. facts_of StorageT.index (LexemeT.parts x)) lexemes.now) i }
-    ensures none { (result ≡ None) ↔ IsValidList grm.now (map (λ x. facts_of StorageT.index (LexemeT.parts x)) lexemes.now) }
+    ensures { IsLexemeFault grm.now (map (λ x. facts_of StorageT.index (LexemeT.parts x)) lexemes.now) result }
 {
     let end = grm.tokens_len() - 1;
     let mut previous = 0;

@@ -1,5 +1,7 @@
 //! Parses: the calls that take a lexer and answer a value and the errors.
-ghost use Rattle.std.specs.Prelude.{◌≡◌};
+ghost use Rattle.std.specs.Prelude.{◌≡◌, ◌⊎◌, List, Result, IsErrOf};
+ghost use Rattle.lrpar.specs.Lexemes.{facts_of};
+ghost use Rattle.lrpar.specs.Parse.{IsParse};
 
 pub use crate::errors::{LexParseError, ParseError, ParseRepair};
 pub use crate::fault::ParseFault;
@@ -10,7 +12,7 @@ use lrpar_grammar::grammar::YaccGrammar;
 use lrpar_grammar::span::{RIdx, StorageNum};
 use lrpar_table::table::StateTable;
 use std::alloc::Global;
-use std::marker::PhantomData;
+use std::marker::{Model, PhantomData};
 
 /// A parser of one grammar by one table.
 #[derive(Drop)]
@@ -24,10 +26,22 @@ pub struct RTParserBuilder<
     lexer_types: PhantomData<LexerTypesT>,
 }
 
+impl<'a, StorageT: StorageNum, LexerTypesT: LexerTypes<StorageT = StorageT>> Model
+    for RTParserBuilder<'a, StorageT, LexerTypesT> {
+    ghost use Rattle.lrpar.specs.Parser.{Parser};
+
+    ghost Value = { Parser };
+
+    ghost view = { λ p. record { grammar = p.grm.now; table = p.stable.now } };
+}
+
 impl<'a, StorageT: StorageNum, LexerTypesT: LexerTypes<StorageT = StorageT>>
     RTParserBuilder<'a, StorageT, LexerTypesT> {
     /// A parser of the grammar by the table.
-    pub fn new(grm: &'a YaccGrammar<StorageT>, stable: &'a StateTable<StorageT>) -> Self {
+    pub fn new(grm: &'a YaccGrammar<StorageT>, stable: &'a StateTable<StorageT>) -> Self
+        ensures grammar { result.grammar ≡ grm.now }
+        ensures table { result.table ≡ stable.now }
+    {
         RTParserBuilder {
             grm,
             stable,
@@ -60,6 +74,10 @@ impl<'a, StorageT: StorageNum, LexerTypesT: LexerTypes<StorageT = StorageT>>
     ) -> Result<Answer<StorageT, LexerTypesT, V>, ParseFault>
         requires fterm { F.IsAlwaysCallable fterm }
         requires fnonterm { G.IsAlwaysCallable fnonterm }
+        // Memory was wanting, or there is an answer that the lexer allows, and this is the parse over it.
+        ensures parse { IsErrOf result ParseFault.Memory
+            ⊎ ((lexed : List (Result LexerTypesT.LexemeT LexerTypesT.LexErrorT)) × L.allows lexer.now lexed
+                × IsParse self.now.grammar (λ x. facts_of StorageT.index (LexerTypesT.LexemeT.parts x)) lexed result) }
     {
         let answers = lexer.iter(alloc)?;
         match lexemes_or_error(alloc, answers)? {

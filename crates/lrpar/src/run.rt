@@ -1,6 +1,6 @@
 //! The run: shifts and reductions over lexemes that have no fault.
-ghost use Rattle.std.specs.Prelude.{◌≡◌, ◌<◌, ◌≤◌, IfOk, IfErr, OnOk};
-ghost use Rattle.std.specs.Bool.{OnTrue};
+ghost use Rattle.std.specs.Prelude.{◌≡◌, IfOk, IfErr, OnOk};
+ghost use Rattle.lrpar.specs.Answer.{IsErrorAlone, HasValueOrFailure, IsRunFault};
 ghost use Rattle.lrpar.specs.Paired.{IsPaired};
 
 use crate::errors::{LexParseError, ParseError};
@@ -49,6 +49,8 @@ impl<'a, StorageT: StorageNum> Run<'a, StorageT> {
     ) -> Result<Answer<StorageT, LexerTypesT, V>, ParseFault>
         requires fterm { F.IsAlwaysCallable fterm.now }
         requires fnonterm { G.IsAlwaysCallable fnonterm.now }
+        ensures answer { IfOk result HasValueOrFailure }
+        ensures fault { IfErr result IsRunFault }
     {
         let mut stack = Stack::new(alloc, self.stable.start_state())?;
         if !self.is_of_one_grammar() {
@@ -87,17 +89,18 @@ impl<'a, StorageT: StorageNum> Run<'a, StorageT> {
     ) -> Result<Action<StorageT>, ParseFault>
         requires paired { IsPaired stack.old }
         requires fnonterm { G.IsAlwaysCallable fnonterm.now }
-        ensures { OnOk result (IsPaired stack.new) }
+        ensures paired { OnOk result (IsPaired stack.new) }
+        ensures fault { IfErr result IsRunFault }
     {
-        let mut due = STEP_LIMIT;
-        while let Action::Reduce(pidx) = self.action(stack.top(), token)? {
-            if due == 0 {
-                return Err(ParseFault::StepLimit);
+        let mut left = STEP_LIMIT;
+        'reductions: loop {
+            match self.action(stack.top(), token)? {
+                Action::Reduce(_) if left == 0 => return Err(ParseFault::StepLimit),
+                Action::Reduce(pidx) => self.reduce(stack, pidx, fnonterm)?,
+                action => return Ok(action),
             }
-            due -= 1;
-            self.reduce(stack, pidx, fnonterm)?;
+            left -= 1;
         }
-        self.action(stack.top(), token)
     }
 
     // The action of the state at the token.
@@ -105,7 +108,9 @@ impl<'a, StorageT: StorageNum> Run<'a, StorageT> {
         &self,
         state: StIdx<StorageT>,
         token: TIdx<StorageT>,
-    ) -> Result<Action<StorageT>, ParseFault> {
+    ) -> Result<Action<StorageT>, ParseFault>
+        ensures { IfErr result IsRunFault }
+    {
         if usize::from(state) < self.stable.states_len()
             && usize::from(token) < self.stable.tokens_len()
         {
@@ -124,7 +129,8 @@ impl<'a, StorageT: StorageNum> Run<'a, StorageT> {
     ) -> Result<(), ParseFault>
         requires paired { IsPaired stack.old }
         requires fnonterm { G.IsAlwaysCallable fnonterm.now }
-        ensures { OnOk result (IsPaired stack.new) }
+        ensures paired { OnOk result (IsPaired stack.new) }
+        ensures fault { IfErr result IsRunFault }
     {
         let fault = bad_table(stack.top());
         if usize::from(pidx) >= self.grm.prods_len() || pidx == self.grm.start_prod() {
@@ -159,6 +165,8 @@ impl<'a, StorageT: StorageNum> Run<'a, StorageT> {
         stack: Stack<StorageT, V>,
     ) -> Result<Answer<StorageT, LexerTypesT, V>, ParseFault>
         requires { IsPaired stack }
+        ensures answer { IfOk result HasValueOrFailure }
+        ensures fault { IfErr result IsRunFault }
     {
         let fault = bad_table(stack.top());
         let start = self.grm.start_rule_idx();
@@ -171,7 +179,9 @@ impl<'a, StorageT: StorageNum> Run<'a, StorageT> {
 pub(crate) fn one_error<StorageT: StorageNum, LexerTypesT: LexerTypes<StorageT = StorageT>, V>(
     alloc: Global,
     error: LexParseError<StorageT, LexerTypesT>,
-) -> Result<Answer<StorageT, LexerTypesT, V>, AllocError> {
+) -> Result<Answer<StorageT, LexerTypesT, V>, AllocError>
+    ensures { IfOk result (λ answer. IsErrorAlone answer error) }
+{
     let mut errors = Vec::new(alloc);
     errors.push(error)?;
     Ok((None, errors))
@@ -182,9 +192,11 @@ fn stopped<StorageT: StorageNum, LexerTypesT: LexerTypes<StorageT = StorageT>, V
     alloc: Global,
     state: StIdx<StorageT>,
     lexeme: LexerTypesT::LexemeT,
-) -> Result<Answer<StorageT, LexerTypesT, V>, AllocError> {
+) -> Result<Answer<StorageT, LexerTypesT, V>, AllocError>
+    ensures { IfOk result HasValueOrFailure }
+{
     let error = ParseError::new(state, lexeme, Vec::new(alloc));
-    one_error(alloc, LexParseError::ParseError(error))
+    Ok(one_error(alloc, LexParseError::ParseError(error))?)
 }
 
 // The lexeme past the last one.
@@ -200,6 +212,8 @@ fn end_lexeme<StorageT: StorageNum, LexemeT: Lexeme<StorageT>>(
 }
 
 // The fault of a table whose action in this state can't be taken.
-fn bad_table<StorageT: StorageNum>(state: StIdx<StorageT>) -> ParseFault {
+fn bad_table<StorageT: StorageNum>(state: StIdx<StorageT>) -> ParseFault
+    ensures { IsRunFault result }
+{
     ParseFault::BadTable(usize::from(state))
 }

@@ -82,10 +82,9 @@ impl<StorageT: StorageNum, V: Drop> Stack<StorageT, V> {
 
     /// The one value, where the one symbol on the stack is this one.
     pub(crate) fn only_value(mut self, symbol: Symbol<StorageT>) -> Option<V> {
-        if self.symbols.as_slice() == [symbol].as_slice() {
-            self.values.pop()
-        } else {
-            None
+        match self.symbols.as_slice() {
+            [only] if *only == symbol => self.values.pop(),
+            _ => None,
         }
     }
 }
