@@ -1,0 +1,135 @@
+use crate::run::run;
+use std::alloc::{AllocError, Global};
+use std::io::Write;
+use std::test::Fail;
+use std::{io, str};
+
+const USAGE: &str =
+    "usage: lrpar demo TEXT | tree GRAMMAR LEXER INPUT [REPAIRS] | check GRAMMAR CAP | conflicts GRAMMAR | calc [REPAIRS]\n";
+
+const TREE: &str = "E\n T\n  ID a\n + +\n E\n  T\n   ID b\n";
+
+// A writer that takes one byte a call, and fails once it was called so many times, at each call from then on.
+#[derive(Drop)]
+struct Failing {
+    calls_left: usize,
+}
+
+impl Failing {
+    fn call(&mut self) -> io::Result<()> {
+        if self.calls_left == 0 {
+            return Err(io::Error::from(io::ErrorKind::BrokenPipe));
+        }
+        self.calls_left -= 1;
+        Ok(())
+    }
+}
+
+impl Write for Failing {
+    fn write(&mut self, bytes: &[u8]) -> io::Result<usize> {
+        self.call()?;
+        Ok(bytes.len().min(1))
+    }
+
+    fn flush(&mut self) -> io::Result<()> {
+        self.call()
+    }
+}
+
+fn strings(alloc: Global, words: &[&str]) -> Result<Vec<String>, AllocError> {
+    words
+        .iter()
+        .map(|word| String::from_str(alloc, *word))
+        .try_collect(alloc)
+}
+
+fn text(bytes: &[u8]) -> &str {
+    str::from_utf8(bytes).unwrap_or("not UTF-8")
+}
+
+#[test]
+fn answers_and_statuses(rt: HostRuntime) -> Result<(), Fail> {
+    let rows = [
+        (["demo", "a+b"].as_slice(), TREE, "", 0),
+        (
+            ["demo", "a+"].as_slice(),
+            "Parsing error at line 1 column 3. No repair sequences found.\n",
+            "",
+            1,
+        ),
+        (
+            ["demo", "ab"].as_slice(),
+            "Parsing error at line 1 column 2. No repair sequences found.\n",
+            "",
+            1,
+        ),
+        (
+            ["demo", ""].as_slice(),
+            "Parsing error at line 1 column 1. No repair sequences found.\n",
+            "",
+            1,
+        ),
+        (
+            ["demo", "a?"].as_slice(),
+            "Lexing error at line 1 column 2.\n",
+            "",
+            1,
+        ),
+        (
+            ["demo", "a\né?"].as_slice(),
+            "Lexing error at line 1 column 2.\n",
+            "",
+            1,
+        ),
+        ([].as_slice(), "", USAGE, 2),
+        (["demo"].as_slice(), "", USAGE, 2),
+        (["demo", "a", "b"].as_slice(), "", USAGE, 2),
+        (["tree", "g", "l", "i"].as_slice(), "", USAGE, 2),
+        (["", "a"].as_slice(), "", USAGE, 2),
+    ];
+    for (words, out, err, status) in rows {
+        let args = strings(rt.alloc(), words)?;
+        let mut out_bytes = Vec::new(rt.alloc());
+        let mut err_bytes = Vec::new(rt.alloc());
+        let found = run(
+            &rt,
+            rt.alloc(),
+            &args,
+            io::empty(),
+            &mut out_bytes,
+            &mut err_bytes,
+        );
+        assert_eq!(rt; text(&out_bytes), out, "output of {words:?}");
+        assert_eq!(rt; text(&err_bytes), err, "error output of {words:?}");
+        assert_eq!(rt; found, status, "status of {words:?}");
+    }
+    Ok(())
+}
+
+#[test]
+fn failed_writes(rt: HostRuntime) -> Result<(), Fail> {
+    let args = strings(rt.alloc(), ["demo", "a+b"].as_slice())?;
+    // A call for each byte of the tree, and one to flush.
+    for calls_left in 0..=TREE.len() {
+        let mut err_bytes = Vec::new(rt.alloc());
+        let out = Failing { calls_left };
+        let found = run(&rt, rt.alloc(), &args, io::empty(), out, &mut err_bytes);
+        assert_eq!(rt;
+            text(&err_bytes),
+            "lrpar: cannot write standard output\n",
+            "at {calls_left}"
+        );
+        assert_eq!(rt; found, 2, "at {calls_left}");
+        let out = Failing { calls_left };
+        let err = Failing { calls_left };
+        let found = run(&rt, rt.alloc(), &args, io::empty(), out, err);
+        assert_eq!(rt; found, 2, "with both at {calls_left}");
+    }
+    let out = Failing {
+        calls_left: TREE.len().saturating_add(1),
+    };
+    let err = Failing { calls_left: 0 };
+    let found = run(&rt, rt.alloc(), &args, io::empty(), out, err);
+    assert_eq!(rt; found, 0);
+    Ok(())
+}

@@ -1,0 +1,200 @@
+//! Two small grammars with tables by hand: sums, and a rule that derives itself.
+ghost use Rattle.std.specs.Prelude.{◌≡◌, IfOk};
+
+use lrpar::grammar::{GrammarParts, ProdPart, RulePart, TokenPart};
+use lrpar::span::{PIdx, RIdx, Span, StIdx, StorageNum, Symbol, TIdx};
+use lrpar::table::{Action, TableRows};
+use std::alloc::Global;
+use std::test::Fail;
+
+/// A name, and where it starts.
+pub(crate) type Named = (&'static str, usize);
+
+/// A symbol, where it starts, and how many bytes it has.
+pub(crate) type Placed = (Symbol<u8>, usize, usize);
+
+/// The number in any storage type.
+pub(crate) fn number<S: StorageNum>(n: u8) -> Result<S, Fail> {
+    match S::from_index(usize::from(n)) {
+        Some(found) => Ok(found),
+        None => Err(Fail::new("the storage type has no such number")),
+    }
+}
+
+/// The part of `len` bytes from `start` on.
+pub(crate) fn part(start: usize, len: usize) -> Span {
+    Span::new(start, start.saturating_add(len))
+}
+
+/// Rules of these names.
+pub(crate) fn rules(alloc: Global, named: &[Named]) -> Result<Vec<RulePart>, Fail> {
+    let mut made = Vec::new(alloc);
+    for (name, start) in named {
+        made.push(RulePart {
+            name: String::from_str(alloc, *name)?,
+            span: part(*start, name.len()),
+        })?;
+    }
+    Ok(made)
+}
+
+/// Tokens of these names.
+pub(crate) fn tokens(alloc: Global, named: &[Named]) -> Result<Vec<TokenPart>, Fail> {
+    let mut made = Vec::new(alloc);
+    for (name, start) in named {
+        made.push(TokenPart {
+            name: String::from_str(alloc, *name)?,
+            epp: None,
+            span: part(*start, name.len()),
+        })?;
+    }
+    Ok(made)
+}
+
+/// The production of the rule and the symbols, at `start` and of `len` bytes.
+pub(crate) fn prod<S: StorageNum>(
+    alloc: Global,
+    rule: u8,
+    placed: &[Placed],
+    start: usize,
+    len: usize,
+) -> Result<ProdPart<S>, Fail> {
+    let mut symbols = Vec::new(alloc);
+    for (symbol, start, len) in placed {
+        let symbol = match *symbol {
+            Symbol::Rule(rule) => Symbol::Rule(RIdx(number(rule.0)?)),
+            Symbol::Token(token) => Symbol::Token(TIdx(number(token.0)?)),
+        };
+        symbols.push((symbol, part(*start, *len)))?;
+    }
+    Ok(ProdPart {
+        rule: RIdx(number(rule)?),
+        symbols,
+        span: part(start, len),
+    })
+}
+
+/// The rule of that number.
+pub(crate) fn r(rule: u8) -> Symbol<u8> {
+    Symbol::Rule(RIdx(rule))
+}
+
+/// The token of that number.
+pub(crate) fn t(token: u8) -> Symbol<u8> {
+    Symbol::Token(TIdx(token))
+}
+
+/// The grammar `%% E: T '+' E | T; T: 'ID';`, with its places.
+pub(crate) fn sum_parts<S: StorageNum>(alloc: Global) -> Result<GrammarParts<S>, Fail> {
+    let mut prods = Vec::new(alloc);
+    let sum = [(r(2), 6, 1), (t(0), 9, 1), (r(1), 12, 1)];
+    prods.push(prod(alloc, 1, &sum, 6, 7)?)?;
+    prods.push(prod(alloc, 1, &[(r(2), 16, 1)], 16, 1)?)?;
+    prods.push(prod(alloc, 2, &[(t(1), 23, 2)], 23, 2)?)?;
+    Ok(GrammarParts {
+        rules: rules(alloc, &[("E", 3), ("T", 19)])?,
+        tokens: tokens(alloc, &[("+", 9), ("ID", 23)])?,
+        prods,
+        start: RIdx(number(1)?),
+    })
+}
+
+/// An error.
+pub(crate) const X: Action<u8> = Action::Error;
+
+/// The acceptance of the input.
+pub(crate) const ACCEPT: Action<u8> = Action::Accept;
+
+/// A shift to state 3.
+pub(crate) const S3: Action<u8> = Action::Shift(StIdx(3));
+
+const S4: Action<u8> = Action::Shift(StIdx(4));
+
+/// A reduction by production 0.
+pub(crate) const P0: Action<u8> = Action::Reduce(PIdx(0));
+
+/// A reduction by production 1.
+pub(crate) const P1: Action<u8> = Action::Reduce(PIdx(1));
+
+/// A reduction by production 2.
+pub(crate) const P2: Action<u8> = Action::Reduce(PIdx(2));
+
+/// What the six states of the table of sums do at `+`, `ID` and the end.
+pub(crate) const SUM_ACTIONS: [[Action<u8>; 3]; 6] = [
+    [X, S3, X],
+    [X, X, ACCEPT],
+    [S4, X, P1],
+    [P2, X, P2],
+    [X, S3, X],
+    [X, X, P0],
+];
+
+/// Where those states go by `^`, `E` and `T`.
+pub(crate) const SUM_GOTOS: [[Option<u8>; 3]; 6] = [
+    [None, Some(1), Some(2)],
+    [None, None, None],
+    [None, None, None],
+    [None, None, None],
+    [None, Some(5), Some(2)],
+    [None, None, None],
+];
+
+/// The rows of a table of three tokens and three rules, which starts in state 0.
+pub(crate) fn rows<S: StorageNum>(
+    alloc: Global,
+    actions: &[[Action<u8>; 3]],
+    gotos: &[[Option<u8>; 3]],
+) -> Result<TableRows<S>, Fail> {
+    let mut action_rows = Vec::new(alloc);
+    for row in actions {
+        let mut made = Vec::new(alloc);
+        for action in row {
+            made.push(action_at(*action)?)?;
+        }
+        action_rows.push(made)?;
+    }
+    Ok(TableRows {
+        start: StIdx(number(0)?),
+        tokens: 3,
+        rules: 3,
+        actions: action_rows,
+        gotos: goto_rows(alloc, gotos)?,
+        conflicts: None,
+    })
+}
+
+fn goto_rows<S: StorageNum>(
+    alloc: Global,
+    gotos: &[[Option<u8>; 3]],
+) -> Result<Vec<Vec<Option<StIdx<S>>>>, Fail> {
+    let mut made_rows = Vec::new(alloc);
+    for row in gotos {
+        let mut made = Vec::new(alloc);
+        for goto in row {
+            made.push(goto_at(*goto)?)?;
+        }
+        made_rows.push(made)?;
+    }
+    Ok(made_rows)
+}
+
+fn action_at<S: StorageNum>(action: Action<u8>) -> Result<Action<S>, Fail> {
+    Ok(match action {
+        Action::Shift(state) => Action::Shift(StIdx(number(state.0)?)),
+        Action::Reduce(prod) => Action::Reduce(PIdx(number(prod.0)?)),
+        Action::Accept => Action::Accept,
+        Action::Error => Action::Error,
+    })
+}
+
+fn goto_at<S: StorageNum>(goto: Option<u8>) -> Result<Option<StIdx<S>>, Fail> {
+    Ok(match goto {
+        Some(state) => Some(StIdx(number(state)?)),
+        None => None,
+    })
+}
+
+/// The rows of the table of sums.
+pub(crate) fn sum_rows<S: StorageNum>(alloc: Global) -> Result<TableRows<S>, Fail> {
+    rows(alloc, &SUM_ACTIONS, &SUM_GOTOS)
+}

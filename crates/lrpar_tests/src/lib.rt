@@ -1,0 +1,17 @@
+//! Tests that cross the library crates.
+#![tactic(auto)]
+
+#[cfg(test)]
+mod errors;
+#[cfg(test)]
+mod fixtures;
+#[cfg(test)]
+mod grammar;
+#[cfg(test)]
+mod lexer;
+#[cfg(test)]
+mod parse;
+#[cfg(test)]
+mod span;
+#[cfg(test)]
+mod table;

@@ -1,0 +1,263 @@
+//! Parses by tables that are written by hand.
+use crate::fixtures::{
+    ACCEPT, P0, P1, P2, S3, SUM_ACTIONS, SUM_GOTOS, X, prod, r, rows, rules, sum_parts, sum_rows, t, tokens,
+};
+use crate::lexer::{HandedLexer, HandedTypes, NoToken, Token};
+use lrpar::grammar::{GrammarParts, YaccGrammar};
+use lrpar::parser::ParseFault;
+use lrpar::span::{RIdx, Span, StIdx};
+use lrpar::table::{StateTable, TableRows};
+use lrpar::{LexParseError, Lexeme, RTParserBuilder};
+use std::alloc::Global;
+use std::test::Fail;
+
+// What a lexer answers.
+type LexAnswer = Result<Token<u32>, NoToken>;
+
+// The lexeme of the token, of one byte.
+fn lexeme(token: u32, start: usize) -> Token<u32> {
+    Token::new(token, start.min(1_000), 1)
+}
+
+// The lexemes of these tokens and starts, of one byte each.
+fn lexemes(alloc: Global, given: &[(u32, usize)]) -> Result<Vec<LexAnswer>, Fail> {
+    Ok(given
+        .iter()
+        .map(|(token, start)| Ok(lexeme(*token, *start)))
+        .collect(alloc)?)
+}
+
+// A tree's text: a lexeme as its token and start, a rule as its number and the texts of its symbols in brackets.
+// Where memory is wanting, the text is none.
+fn term(alloc: Global, lexeme: Token<u32>) -> Option<String> {
+    let token = lexeme.tok_id();
+    let start = lexeme.span().start();
+    format!(in alloc; "{token}@{start}").ok()
+}
+
+fn nonterm(alloc: Global, ridx: RIdx<u32>, nodes: Vec<Option<String>>) -> Option<String> {
+    let number = ridx.as_storaget();
+    let mut text = format!(in alloc; "{number}[").ok()?;
+    for node in nodes {
+        let node = node?;
+        write!(text, " {node}").ok()?;
+    }
+    text.push_str(" ]").ok()?;
+    Some(text)
+}
+
+// What a parse answers: a tree's text, and the errors as text.
+type Answer = (Option<String>, Vec<LexParseError<u32, HandedTypes>>);
+
+fn parsed(
+    alloc: Global,
+    parts: GrammarParts<u32>,
+    rows: TableRows<u32>,
+    answers: &[LexAnswer],
+) -> Result<Result<Answer, ParseFault>, Fail> {
+    let grm = YaccGrammar::from_parts(alloc, parts)?;
+    let stable = StateTable::from_rows(rows)?;
+    let lexer = HandedLexer { answers };
+    let parser = RTParserBuilder::<u32, HandedTypes>::new(&grm, &stable);
+    Ok(
+        match parser.parse_map(
+            alloc,
+            &lexer,
+            |lexeme| term(alloc, lexeme),
+            |ridx, nodes| nonterm(alloc, ridx, nodes),
+        ) {
+            Ok((Some(None), _)) => return Err(Fail::new("no memory for the text")),
+            Ok((Some(text), errors)) => Ok((text, errors)),
+            Ok((None, errors)) => Ok((None, errors)),
+            Err(fault) => Err(fault),
+        },
+    )
+}
+
+// The parse of a sum.
+fn sum_parsed(alloc: Global, answers: &[LexAnswer]) -> Result<Result<Answer, ParseFault>, Fail> {
+    parsed(alloc, sum_parts(alloc)?, sum_rows(alloc)?, answers)
+}
+
+#[test]
+fn a_sum_has_its_tree(rt: HostRuntime) -> Result<(), Fail> {
+    let alloc = rt.alloc();
+    let rows = [
+        ("a+b", [(1, 0), (0, 1), (1, 2)].as_slice(), "1[ 2[ 1@0 ] 0@1 1[ 2[ 1@2 ] ] ]"),
+        ("equal starts", [(1, 4), (0, 4), (1, 4)].as_slice(), "1[ 2[ 1@4 ] 0@4 1[ 2[ 1@4 ] ] ]"),
+    ];
+    for (name, given, text) in rows {
+        let answers = lexemes(alloc, given)?;
+        let (tree, errors) = sum_parsed(alloc, &answers)??;
+        assert!(rt; errors.is_empty(), "errors of {name}");
+        assert_eq!(rt; tree.as_ref().map(|tree| tree.as_str()), Some(text), "tree of {name}");
+    }
+    Ok(())
+}
+
+#[test]
+fn errors_of_sums(rt: HostRuntime) -> Result<(), Fail> {
+    let alloc = rt.alloc();
+    let rows = [
+        ("a+", [(1, 0), (0, 1)].as_slice(), 4, Token::new_faulty(2, 2, 0)),
+        ("ab", [(1, 0), (1, 1)].as_slice(), 3, Token::new(1, 1, 1)),
+        ("", [].as_slice(), 0, Token::new_faulty(2, 0, 0)),
+    ];
+    for (name, given, state, at) in rows {
+        let answers = lexemes(alloc, given)?;
+        let (tree, errors) = sum_parsed(alloc, &answers)??;
+        assert!(rt; tree.is_none(), "tree of {name:?}");
+        assert_eq!(rt; errors.len(), 1, "errors of {name:?}");
+        match &errors[0] {
+            LexParseError::LexError(_) => return Err(Fail::new(format_args!("lexing error of {name:?}"))),
+            LexParseError::ParseError(error) => {
+                assert_eq!(rt; error.stidx(), StIdx(state), "state of {name:?}");
+                assert_eq!(rt; *error.lexeme(), at, "lexeme of {name:?}");
+                assert!(rt; error.repairs().is_empty(), "repairs of {name:?}");
+            }
+        }
+    }
+    Ok(())
+}
+
+#[test]
+fn faults_of_lexemes(rt: HostRuntime) -> Result<(), Fail> {
+    let alloc = rt.alloc();
+    let rows = [
+        ("the end token", [(1, 0), (0, 1), (1, 2), (2, 3), (1, 6), (0, 5)], ParseFault::BadToken(3)),
+        ("a token past it", [(1, 0), (0, 1), (1, 2), (3, 3), (1, 6), (0, 5)], ParseFault::BadToken(3)),
+        ("an early start", [(1, 0), (0, 1), (1, 2), (0, 3), (1, 6), (0, 5)], ParseFault::StartsDecrease(5)),
+    ];
+    for (name, given, want) in rows {
+        let answers = lexemes(alloc, &given)?;
+        match sum_parsed(alloc, &answers)? {
+            Ok(_) => return Err(Fail::new(format_args!("{name} is taken"))),
+            Err(fault) => assert_eq!(rt; fault, want, "{name}"),
+        }
+    }
+    Ok(())
+}
+
+#[test]
+fn the_first_lexing_error_stands_alone(rt: HostRuntime) -> Result<(), Fail> {
+    let alloc = rt.alloc();
+    let first = NoToken { span: Span::new(7, 8) };
+    let second = NoToken { span: Span::new(9, 10) };
+    let faulty = [(1, 0), (0, 1), (1, 2), (2, 3), (1, 6), (0, 5)];
+    let one = [Err(first)];
+    let two = [Err(first), Ok(lexeme(1, 8)), Err(second)];
+    let rows = [
+        ("after faulty lexemes", faulty.as_slice(), one.as_slice()),
+        ("two errors", [(1, 0)].as_slice(), two.as_slice()),
+    ];
+    for (name, given, others) in rows {
+        let mut answers = lexemes(alloc, given)?;
+        answers.extend_from_slice(others)?;
+        let (tree, errors) = sum_parsed(alloc, &answers)??;
+        assert!(rt; tree.is_none(), "tree of {name}");
+        assert_eq!(rt; errors.len(), 1, "errors of {name}");
+        match &errors[0] {
+            LexParseError::LexError(error) => assert_eq!(rt; *error, first, "error of {name}"),
+            LexParseError::ParseError(_) => return Err(Fail::new(format_args!("parse error of {name}"))),
+        }
+    }
+    Ok(())
+}
+
+// The table of sums without the goto of state 0 by `T`.
+fn without_goto(alloc: Global) -> Result<TableRows<u32>, Fail> {
+    let mut gotos = SUM_GOTOS;
+    gotos[0] = [None, Some(1), None];
+    rows(alloc, &SUM_ACTIONS, &gotos)
+}
+
+// The table of sums with a reduction by `T: 'ID'` at the start.
+fn with_early_reduction(alloc: Global) -> Result<TableRows<u32>, Fail> {
+    let mut actions = SUM_ACTIONS;
+    actions[0] = [X, P2, X];
+    rows(alloc, &actions, &SUM_GOTOS)
+}
+
+// A table of one token less than the grammar of sums has.
+fn with_two_tokens(alloc: Global) -> Result<TableRows<u32>, Fail> {
+    let mut rows = sum_rows(alloc)?;
+    rows.tokens = 2;
+    for row in rows.actions.iter_mut() {
+        row.truncate(2);
+    }
+    Ok(rows)
+}
+
+#[test]
+fn tables_of_other_grammars(rt: HostRuntime) -> Result<(), Fail> {
+    let alloc = rt.alloc();
+    let rows = [
+        ("no goto", without_goto(alloc)?, ParseFault::BadTable(3)),
+        ("an early reduction", with_early_reduction(alloc)?, ParseFault::BadTable(0)),
+        ("two tokens", with_two_tokens(alloc)?, ParseFault::BadTable(0)),
+    ];
+    let answers = lexemes(alloc, &[(1, 0)])?;
+    for (name, rows, want) in rows {
+        match parsed(alloc, sum_parts(alloc)?, rows, &answers)? {
+            Ok(_) => return Err(Fail::new(format_args!("{name} is taken"))),
+            Err(fault) => assert_eq!(rt; fault, want, "{name}"),
+        }
+    }
+    Ok(())
+}
+
+// The grammar `%start S %% A: A | 'x'; S: A;`.
+fn loop_parts(alloc: Global) -> Result<GrammarParts<u32>, Fail> {
+    let mut prods = Vec::new(alloc);
+    prods.push(prod(alloc, 1, &[(r(1), 15, 1)], 15, 1)?)?;
+    prods.push(prod(alloc, 1, &[(t(0), 20, 1)], 20, 1)?)?;
+    prods.push(prod(alloc, 2, &[(r(1), 27, 1)], 27, 1)?)?;
+    Ok(GrammarParts {
+        rules: rules(alloc, &[("A", 12), ("S", 24)])?,
+        tokens: tokens(alloc, &[("x", 20)])?,
+        prods,
+        start: RIdx(2),
+    })
+}
+
+// A table of that grammar, which reduces by `A: A` at the end of the input, over and over.
+fn loop_rows(alloc: Global) -> Result<TableRows<u32>, Fail> {
+    let actions = [[S3, X, X], [X, P0, X], [X, ACCEPT, X], [X, P1, X]];
+    let none = [None, None, None];
+    let mut rows = rows(alloc, &actions, &[[None, Some(1), Some(2)], none, none, none])?;
+    rows.tokens = 2;
+    for row in rows.actions.iter_mut() {
+        row.truncate(2);
+    }
+    Ok(rows)
+}
+
+#[test]
+fn reductions_without_end(rt: HostRuntime) -> Result<(), Fail> {
+    let alloc = rt.alloc();
+    let answers = lexemes(alloc, &[(0, 0)])?;
+    let (grammar, table) = (loop_parts(alloc)?, loop_rows(alloc)?);
+    let grm = YaccGrammar::from_parts(alloc, grammar)?;
+    let stable = StateTable::from_rows(table)?;
+    let parser = RTParserBuilder::<u32, HandedTypes>::new(&grm, &stable);
+    let lexer = HandedLexer { answers: &answers };
+    match parser.parse_map(alloc, &lexer, |_| (), |_, _| ()) {
+        Ok(_) => return Err(Fail::new("the parse ends")),
+        Err(fault) => assert_eq!(rt; fault, ParseFault::StepLimit),
+    }
+    Ok(())
+}
+
+#[test]
+fn texts_of_parse_faults(rt: HostRuntime) -> Result<(), Fail> {
+    for (fault, text) in [
+        (ParseFault::BadToken(3), "bad token at lexeme 3"),
+        (ParseFault::StartsDecrease(5), "start decreases at lexeme 5"),
+        (ParseFault::BadTable(3), "bad table at state 3"),
+        (ParseFault::StepLimit, "step limit"),
+        (ParseFault::Memory, "out of memory"),
+    ] {
+        assert_eq!(rt; format!(in rt.alloc(); "{fault}")?.as_str(), text);
+    }
+    Ok(())
+}
