@@ -21,25 +21,28 @@ same_facts lexemes i x y a b = same_Some x y (sym a ∙ b)
 pub good_more : (g : Grammar) (lexemes : List LexemeFacts) (i : ℕ) (x : LexemeFacts) → HasGoodTokens g lexemes i → slice_get lexemes i ≡ Some x → x.token < end_token g → HasGoodTokens g lexemes (i + 1)
 good_more g lexemes i x good at below k y k_below y_at =
     elim (cases_order k i) [
-      inl same ↦ subst (λ z. z.token < end_token g) (same_facts lexemes i x y at (ap (slice_get lexemes) (sym same) ∙ y_at)) below
-    | inr (inl before) ↦ good k y before y_at
-    | inr (inr after) ↦ absurd (omega arith) ]
+      | inl same ↦ subst (λ z. z.token < end_token g) (same_facts lexemes i x y at (ap (slice_get lexemes) (sym same) ∙ y_at)) below
+      | inr (inl before) ↦ good k y before y_at
+      | inr (inr after) ↦ absurd (omega arith)
+    ]
 
 -- one ordered start more
 pub ordered_more : (lexemes : List LexemeFacts) (i start : ℕ) (x : LexemeFacts) → HasOrderedStarts lexemes i → IsPreviousStart lexemes i start → slice_get lexemes i ≡ Some x → start ≤ x.span.start → HasOrderedStarts lexemes (i + 1)
 ordered_more lexemes i start x ordered previous at later k y z k_below y_at z_at =
     elim (cases_order (k + 1) i) [
-      inl same ↦
-        let here : z ≡ x = same_facts lexemes i z x (ap (slice_get lexemes) (sym same) ∙ z_at) at in
-        elim previous [
-          inl none ↦ absurd (let zero : i ≡ 0 = none.0 in omega arith)
-        | inr before ↦
-            let place : before.0 ≡ k = let p : before.0 + 1 ≡ i = before.2 in omega arith in
-            let front : before.1 ≡ y = same_facts lexemes k before.1 y (ap (slice_get lexemes) (sym place) ∙ before.3) y_at in
-            let start_is : y.span.start ≡ start = ap (λ w. w.span.start) (sym front) ∙ before.4 in
-            subst (λ w. y.span.start ≤ w.span.start) (sym here) (omega arith) ]
-    | inr (inl before) ↦ ordered k y z before y_at z_at
-    | inr (inr after) ↦ absurd (omega arith) ]
+      | inl same ↦
+          let here : z ≡ x = same_facts lexemes i z x (ap (slice_get lexemes) (sym same) ∙ z_at) at in
+          elim previous [
+            | inl none ↦ absurd (let zero : i ≡ 0 = none.0 in omega arith)
+            | inr before ↦
+                let place : before.0 ≡ k = let p : before.0 + 1 ≡ i = before.2 in omega arith in
+                let front : before.1 ≡ y = same_facts lexemes k before.1 y (ap (slice_get lexemes) (sym place) ∙ before.3) y_at in
+                let start_is : y.span.start ≡ start = ap (λ w. w.span.start) (sym front) ∙ before.4 in
+                subst (λ w. y.span.start ≤ w.span.start) (sym here) (omega arith)
+          ]
+      | inr (inl before) ↦ ordered k y z before y_at z_at
+      | inr (inr after) ↦ absurd (omega arith)
+    ]
 
 -- a start before the previous one is early
 pub early_here : (lexemes : List LexemeFacts) (i start : ℕ) (x : LexemeFacts) → IsPreviousStart lexemes i start → slice_get lexemes i ≡ Some x → x.span.start < start → HasEarlyStart lexemes i
@@ -67,24 +70,27 @@ early_within lexemes k (j, x, y, place, x_at, y_at, early) = slice_get_within le
 pub one_bad : (g : Grammar) (lexemes : List LexemeFacts) (i k : ℕ) → IsFirstBadToken g lexemes i → IsFirstBadToken g lexemes k → k ≡ i
 one_bad g lexemes i k a b =
     elim (cases_order k i) [
-      inl same ↦ same
-    | inr (inl before) ↦ absurd (not_bad g lexemes i k a.tokens before b.bad)
-    | inr (inr after) ↦ absurd (not_bad g lexemes k i b.tokens after a.bad) ]
+      | inl same ↦ same
+      | inr (inl before) ↦ absurd (not_bad g lexemes i k a.tokens before b.bad)
+      | inr (inr after) ↦ absurd (not_bad g lexemes k i b.tokens after a.bad)
+    ]
 
 -- of two lexemes that are the first with an early start, both are one
 pub one_early : (g : Grammar) (lexemes : List LexemeFacts) (i k : ℕ) → IsFirstEarlyStart g lexemes i → IsFirstEarlyStart g lexemes k → k ≡ i
 one_early g lexemes i k a b =
     elim (cases_order k i) [
-      inl same ↦ same
-    | inr (inl before) ↦ absurd (not_early lexemes i k a.starts before b.early)
-    | inr (inr after) ↦ absurd (not_early lexemes k i b.starts after a.early) ]
+      | inl same ↦ same
+      | inr (inl before) ↦ absurd (not_early lexemes i k a.starts before b.early)
+      | inr (inr after) ↦ absurd (not_early lexemes k i b.starts after a.early)
+    ]
 
 -- the first fault is of one kind
 pub one_kind : (g : Grammar) (lexemes : List LexemeFacts) (i k : ℕ) → IsFirstBadToken g lexemes i → IsFirstEarlyStart g lexemes k → ⊥
 one_kind g lexemes i k a b =
     elim (cases_lt k i) [
-      inl before ↦ not_early lexemes i k a.starts before b.early
-    | inr after ↦ not_bad g lexemes (k + 1) i b.tokens (omega arith) a.bad ]
+      | inl before ↦ not_early lexemes i k a.starts before b.early
+      | inr after ↦ not_bad g lexemes (k + 1) i b.tokens (omega arith) a.bad
+    ]
 
 -- a valid list has no bad token
 pub valid_not_bad : (g : Grammar) (lexemes : List LexemeFacts) (i : ℕ) → IsValidList g lexemes → IsFirstBadToken g lexemes i → ⊥

@@ -20,12 +20,14 @@ fault_is_parse g facts lexed lexemes fault none are is =
     record {
       lexing_error = λ error some. let differ : ◌≡◌ {A = Option _} None (Some error) = sym none ∙ some in absurd (let no : ⊥ = cc in no);
       value = λ _. tt;
-      bad_token = λ i.
-          (λ e. let same : fault ≡ BadToken i = cc in (none, subst (λ w. IsFirstBadToken g w i) facts_are ((is.bad_token i).0 (ap Some same))),
-           λ h. let same : fault ≡ BadToken i = let e = (is.bad_token i).1 (subst (λ w. IsFirstBadToken g w i) (sym facts_are) h.1) in cc in ap Err same);
-      starts_decrease = λ i.
-          (λ e. let same : fault ≡ StartsDecrease i = cc in (none, subst (λ w. IsFirstEarlyStart g w i) facts_are ((is.starts_decrease i).0 (ap Some same))),
-           λ h. let same : fault ≡ StartsDecrease i = let e = (is.starts_decrease i).1 (subst (λ w. IsFirstEarlyStart g w i) (sym facts_are) h.1) in cc in ap Err same);
+      bad_token = λ i. (
+        λ e. let same : fault ≡ BadToken i = cc in (none, subst (λ w. IsFirstBadToken g w i) facts_are ((is.bad_token i).0 (ap Some same))),
+        λ h. let same : fault ≡ BadToken i = let e = (is.bad_token i).1 (subst (λ w. IsFirstBadToken g w i) (sym facts_are) h.1) in cc in ap Err same,
+      );
+      starts_decrease = λ i. (
+        λ e. let same : fault ≡ StartsDecrease i = cc in (none, subst (λ w. IsFirstEarlyStart g w i) facts_are ((is.starts_decrease i).0 (ap Some same))),
+        λ h. let same : fault ≡ StartsDecrease i = let e = (is.starts_decrease i).1 (subst (λ w. IsFirstEarlyStart g w i) (sym facts_are) h.1) in cc in ap Err same,
+      );
     }
 
 -- the answer of a run over valid lexemes
@@ -38,10 +40,12 @@ run_is_parse g facts lexed lexemes r none are is answer fault =
     record {
       lexing_error = λ error some. let differ : ◌≡◌ {A = Option _} None (Some error) = sym none ∙ some in absurd (let no : ⊥ = cc in no);
       value = λ _. answer;
-      bad_token = λ i.
-          (λ e. absurd (subst (λ w. IfErr w IsRunFault) e fault),
-           λ h. absurd (valid_not_bad g (map facts lexemes) i valid (subst (λ w. IsFirstBadToken g w i) (sym facts_are) h.1)));
-      starts_decrease = λ i.
-          (λ e. absurd (subst (λ w. IfErr w IsRunFault) e fault),
-           λ h. absurd (valid_not_early g (map facts lexemes) i valid (subst (λ w. IsFirstEarlyStart g w i) (sym facts_are) h.1)));
+      bad_token = λ i. (
+        λ e. absurd (subst (λ w. IfErr w IsRunFault) e fault),
+        λ h. absurd (valid_not_bad g (map facts lexemes) i valid (subst (λ w. IsFirstBadToken g w i) (sym facts_are) h.1)),
+      );
+      starts_decrease = λ i. (
+        λ e. absurd (subst (λ w. IfErr w IsRunFault) e fault),
+        λ h. absurd (valid_not_early g (map facts lexemes) i valid (subst (λ w. IsFirstEarlyStart g w i) (sym facts_are) h.1)),
+      );
     }

@@ -16,11 +16,7 @@ use std::marker::{Model, PhantomData};
 
 /// A parser of one grammar by one table.
 #[derive(Drop)]
-pub struct RTParserBuilder<
-    'a,
-    StorageT: StorageNum,
-    LexerTypesT: LexerTypes<StorageT = StorageT>,
-> {
+pub struct RTParserBuilder<'a, StorageT: StorageNum, LexerTypesT: LexerTypes<StorageT = StorageT>> {
     grm: &'a YaccGrammar<StorageT>,
     stable: &'a StateTable<StorageT>,
     lexer_types: PhantomData<LexerTypesT>,
@@ -35,8 +31,11 @@ impl<'a, StorageT: StorageNum, LexerTypesT: LexerTypes<StorageT = StorageT>> Mod
     ghost view = { λ p. record { grammar = p.grm.now; table = p.stable.now } };
 }
 
-impl<'a, StorageT: StorageNum, LexerTypesT: LexerTypes<StorageT = StorageT>>
-    RTParserBuilder<'a, StorageT, LexerTypesT> {
+impl<'a, StorageT: StorageNum, LexerTypesT: LexerTypes<StorageT = StorageT>> RTParserBuilder<
+    'a,
+    StorageT,
+    LexerTypesT,
+> {
     /// A parser of the grammar by the table.
     pub fn new(grm: &'a YaccGrammar<StorageT>, stable: &'a StateTable<StorageT>) -> Self
         ensures grammar { result.grammar ≡ grm.now }
@@ -77,7 +76,7 @@ impl<'a, StorageT: StorageNum, LexerTypesT: LexerTypes<StorageT = StorageT>>
         // Memory was wanting, or there is an answer that the lexer allows, and this is the parse over it.
         ensures parse { IsErrOf result ParseFault.Memory
             ⊎ ((lexed : List (Result LexerTypesT.LexemeT LexerTypesT.LexErrorT)) × L.allows lexer.now lexed
-                × IsParse self.now.grammar (λ x. facts_of StorageT.index (LexerTypesT.LexemeT.parts x)) lexed result) }
+            × IsParse self.now.grammar (λ x. facts_of StorageT.index (LexerTypesT.LexemeT.parts x)) lexed result) }
     {
         let answers = lexer.iter(alloc)?;
         match lexemes_or_error(alloc, answers)? {

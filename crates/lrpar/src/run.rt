@@ -16,8 +16,10 @@ use std::alloc::{AllocError, Global};
 const STEP_LIMIT: usize = 65_535;
 
 /// A value, where the parse comes to one, and the errors.
-pub(crate) type Answer<StorageT, LexerTypesT, V> =
-    (Option<V>, Vec<LexParseError<StorageT, LexerTypesT>>);
+pub(crate) type Answer<StorageT, LexerTypesT, V> = (
+    Option<V>,
+    Vec<LexParseError<StorageT, LexerTypesT>>,
+);
 
 /// The grammar and the table of a run.
 #[derive(Drop)]

@@ -17,7 +17,7 @@ returns-then-end-to_index g c =
     let i = c.loop-i.i in
     let facts = λ (x : g.row.LexemeT.Denot). facts_of index (g.LexemeT.Lexeme.parts x) in
     let at : slice_get (map facts lexemes) i ≡ Some (facts lexeme) =
-        slice_get-map facts lexemes i ∙ ap (option_map facts) (slice_get_read lexemes (length lexemes) i lexeme refl (omega arith) c.index-lexemes-i.is) in
+    slice_get-map facts lexemes i ∙ ap (option_map facts) (slice_get_read lexemes (length lexemes) i lexeme refl (omega arith) c.index-lexemes-i.is) in
     let number : c.to_index.result ≡ (facts lexeme).token = c.to_index.ensures.value ∙ ap index c.tok_id.ensures.token in
     bad_is_fault c.args.grm.now (map facts lexemes) i (record {
       bad = (facts lexeme, at, omega arith);
@@ -33,7 +33,7 @@ returns-then-start-previous g c =
     let i = c.loop-i.i in
     let facts = λ (x : g.row.LexemeT.Denot). facts_of index (g.LexemeT.Lexeme.parts x) in
     let at : slice_get (map facts lexemes) i ≡ Some (facts lexeme) =
-        slice_get-map facts lexemes i ∙ ap (option_map facts) (slice_get_read lexemes (length lexemes) i lexeme refl (omega arith) c.index-lexemes-i.is) in
+    slice_get-map facts lexemes i ∙ ap (option_map facts) (slice_get_read lexemes (length lexemes) i lexeme refl (omega arith) c.index-lexemes-i.is) in
     let number : c.to_index.result ≡ (facts lexeme).token = c.to_index.ensures.value ∙ ap index c.tok_id.ensures.token in
     let start : c.start-start.result ≡ (facts lexeme).span.start = c.start-start.ensures.start ∙ ap (λ s. s.start) c.span.ensures.span in
     early_is_fault c.args.grm.now (map facts lexemes) i (record {
@@ -50,7 +50,7 @@ loop-i-preserved g c =
     let i = c.loop-i.i in
     let facts = λ (x : g.row.LexemeT.Denot). facts_of index (g.LexemeT.Lexeme.parts x) in
     let at : slice_get (map facts lexemes) i ≡ Some (facts lexeme) =
-        slice_get-map facts lexemes i ∙ ap (option_map facts) (slice_get_read lexemes (length lexemes) i lexeme refl (omega arith) c.index-lexemes-i.is) in
+    slice_get-map facts lexemes i ∙ ap (option_map facts) (slice_get_read lexemes (length lexemes) i lexeme refl (omega arith) c.index-lexemes-i.is) in
     let number : c.to_index.result ≡ (facts lexeme).token = c.to_index.ensures.value ∙ ap index c.tok_id.ensures.token in
     let start : c.start-start.result ≡ (facts lexeme).span.start = c.start-start.ensures.start ∙ ap (λ s. s.start) c.span.ensures.span in
     record {
