@@ -59,19 +59,20 @@ fn parsed(
     let stable = StateTable::from_rows(rows)?;
     let lexer = HandedLexer { answers };
     let parser = RTParserBuilder::<u32, HandedTypes>::new(&grm, &stable);
-    Ok(
-        match parser.parse_map(
-            alloc,
-            &lexer,
-            |lexeme| term(alloc, lexeme),
-            |ridx, nodes| nonterm(alloc, ridx, nodes),
-        ) {
-            Ok((Some(None), _)) => return Err(Fail::new("no memory for the text")),
-            Ok((Some(text), errors)) => Ok((text, errors)),
-            Ok((None, errors)) => Ok((None, errors)),
-            Err(fault) => Err(fault),
+    let answer = parser.parse_map(
+        alloc,
+        &lexer,
+        |lexeme| term(alloc, lexeme),
+        |ridx, nodes| nonterm(alloc, ridx, nodes),
+    );
+    match answer {
+        Ok((None, errors)) => Ok(Ok((None, errors))),
+        Ok((Some(tree), errors)) => match tree {
+            Some(text) => Ok(Ok((Some(text), errors))),
+            None => Err(Fail::new("no memory for the text")),
         },
-    )
+        Err(fault) => Ok(Err(fault)),
+    }
 }
 
 // The parse of a sum.
