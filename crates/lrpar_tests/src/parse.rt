@@ -65,13 +65,14 @@ fn parsed(
         |lexeme| term(alloc, lexeme),
         |ridx, nodes| nonterm(alloc, ridx, nodes),
     );
-    match answer {
-        Ok((None, errors)) => Ok(Ok((None, errors))),
-        Ok((Some(tree), errors)) => match tree {
-            Some(text) => Ok(Ok((Some(text), errors))),
-            None => Err(Fail::new("no memory for the text")),
-        },
-        Err(fault) => Ok(Err(fault)),
+    let (tree, errors) = match answer {
+        Ok(found) => found,
+        Err(fault) => return Ok(Err(fault)),
+    };
+    match tree {
+        None => Ok(Ok((None, errors))),
+        Some(Some(text)) => Ok(Ok((Some(text), errors))),
+        Some(None) => Err(Fail::new("no memory for the text")),
     }
 }
 
