@@ -37,9 +37,14 @@ fn texts_of_errors(rt: HostRuntime) -> Result<(), Fail> {
     assert_eq!(rt; format!(in alloc; "{error}")?.as_str(), want.as_str());
     let error: LexParseError<u32, HandedTypes> = LexParseError::from(error);
     assert_eq!(rt; format!(in alloc; "{error}")?.as_str(), want.as_str());
-    let no_token = NoToken { span: Span::new(7, 8) };
+    let no_token = NoToken {
+        span: Span::new(7, 8),
+    };
     let error: LexParseError<u32, HandedTypes> = LexParseError::from(no_token);
-    assert_eq!(rt; format!(in alloc; "{error}")?.as_str(), "no token fits at byte 7");
+    assert_eq!(rt;
+        format!(in alloc; "{error}")?.as_str(),
+        "no token fits at byte 7"
+    );
     Ok(())
 }
 

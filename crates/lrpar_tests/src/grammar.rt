@@ -21,7 +21,13 @@ fn rules_of_the_sum_grammar(rt: HostRuntime) -> Result<(), Fail> {
         assert_eq!(rt; grm.rule_name_str(ridx), name, "name of rule {rule}");
         assert!(rt; grm.rule_name_span(ridx) == span, "span of rule {rule}");
         let found = grm.rule_to_prods(ridx);
-        assert!(rt; found.iter().map(|pidx| pidx.as_storaget()).eq(prods.iter().copied()), "productions of rule {rule}");
+        assert!(rt;
+            found
+                .iter()
+                .map(|pidx| pidx.as_storaget())
+                .eq(prods.iter().copied()),
+            "productions of rule {rule}"
+        );
     }
     let numbers: Vec<RIdx<u8>> = grm.iter_rules().collect(rt.alloc())?;
     assert!(rt; numbers.as_slice() == [RIdx(0), RIdx(1), RIdx(2)].as_slice());
@@ -50,12 +56,21 @@ fn prods_of_the_sum_grammar(rt: HostRuntime) -> Result<(), Fail> {
         assert!(rt; grm.prod_span(pidx) == span, "span of {number}");
         assert_eq!(rt; grm.prod(pidx).len(), placed.len(), "length of {number}");
         let symbols = placed.iter().map(|(symbol, _, _)| *symbol);
-        assert!(rt; grm.prod(pidx).iter().copied().eq(symbols), "symbols of {number}");
+        assert!(rt;
+            grm.prod(pidx).iter().copied().eq(symbols),
+            "symbols of {number}"
+        );
         let starts = placed.iter().map(|(_, start, _)| *start);
         let ends = placed.iter().map(|(_, _, end)| *end);
         let spans = grm.symbol_spans(pidx);
-        assert!(rt; spans.iter().map(|span| span.start()).eq(starts), "starts of {number}");
-        assert!(rt; spans.iter().map(|span| span.end()).eq(ends), "ends of {number}");
+        assert!(rt;
+            spans.iter().map(|span| span.start()).eq(starts),
+            "starts of {number}"
+        );
+        assert!(rt;
+            spans.iter().map(|span| span.end()).eq(ends),
+            "ends of {number}"
+        );
     }
     let numbers: Vec<PIdx<u8>> = grm.iter_pidxs().collect(rt.alloc())?;
     assert!(rt; numbers.as_slice() == [PIdx(0), PIdx(1), PIdx(2), PIdx(3)].as_slice());
@@ -149,17 +164,57 @@ fn refused_parts(rt: HostRuntime) -> Result<(), Fail> {
     let alloc = rt.alloc();
     let rows = [
         ("no rules", without_rules(alloc, 0)?, GrammarFault::NoRules),
-        ("no rules and more", without_rules(alloc, 256)?, GrammarFault::NoRules),
-        ("256 tokens", many_tokens(alloc, 256)?, GrammarFault::StorageTooSmall),
-        ("256 tokens and more", with_three_faults(alloc)?, GrammarFault::StorageTooSmall),
+        (
+            "no rules and more",
+            without_rules(alloc, 256)?,
+            GrammarFault::NoRules,
+        ),
+        (
+            "256 tokens",
+            many_tokens(alloc, 256)?,
+            GrammarFault::StorageTooSmall,
+        ),
+        (
+            "256 tokens and more",
+            with_three_faults(alloc)?,
+            GrammarFault::StorageTooSmall,
+        ),
         ("the start ^", with_start(alloc, 0)?, GrammarFault::BadStart),
-        ("a start past the rules", with_start(alloc, 3)?, GrammarFault::BadStart),
-        ("such a start and more", with_two_faults(alloc)?, GrammarFault::BadStart),
-        ("^ on the right", with_prod(alloc, 1, &[(r(0), 0, 0)])?, GrammarFault::BadSymbol),
-        ("a rule past the rules", with_prod(alloc, 1, &[(r(3), 0, 0)])?, GrammarFault::BadSymbol),
-        ("the end token", with_prod(alloc, 1, &[(t(0), 0, 0), (t(2), 0, 0)])?, GrammarFault::BadSymbol),
-        ("a production of ^", with_prod(alloc, 0, &[])?, GrammarFault::BadSymbol),
-        ("a production of rule 3", with_prod(alloc, 3, &[])?, GrammarFault::BadSymbol),
+        (
+            "a start past the rules",
+            with_start(alloc, 3)?,
+            GrammarFault::BadStart,
+        ),
+        (
+            "such a start and more",
+            with_two_faults(alloc)?,
+            GrammarFault::BadStart,
+        ),
+        (
+            "^ on the right",
+            with_prod(alloc, 1, &[(r(0), 0, 0)])?,
+            GrammarFault::BadSymbol,
+        ),
+        (
+            "a rule past the rules",
+            with_prod(alloc, 1, &[(r(3), 0, 0)])?,
+            GrammarFault::BadSymbol,
+        ),
+        (
+            "the end token",
+            with_prod(alloc, 1, &[(t(0), 0, 0), (t(2), 0, 0)])?,
+            GrammarFault::BadSymbol,
+        ),
+        (
+            "a production of ^",
+            with_prod(alloc, 0, &[])?,
+            GrammarFault::BadSymbol,
+        ),
+        (
+            "a production of rule 3",
+            with_prod(alloc, 3, &[])?,
+            GrammarFault::BadSymbol,
+        ),
     ];
     for (name, parts, want) in rows {
         match YaccGrammar::from_parts(alloc, parts) {

@@ -83,7 +83,9 @@ pub(crate) enum HandedTypes {}
 
 impl LexerTypes for HandedTypes {
     type LexemeT = Token<u32>;
+
     type StorageT = u32;
+
     type LexErrorT = NoToken;
 }
 

@@ -1,6 +1,7 @@
 //! Parses by tables that are written by hand.
 use crate::fixtures::{
-    ACCEPT, P0, P1, P2, S3, SUM_ACTIONS, SUM_GOTOS, X, prod, r, rows, rules, sum_parts, sum_rows, t, tokens,
+    ACCEPT, P0, P1, P2, S3, SUM_ACTIONS, SUM_GOTOS, X, prod, r, rows, rules, sum_parts, sum_rows,
+    t, tokens,
 };
 use crate::lexer::{HandedLexer, HandedTypes, NoToken, Token};
 use lrpar::grammar::{GrammarParts, YaccGrammar};
@@ -21,10 +22,12 @@ fn lexeme(token: u32, start: usize) -> Token<u32> {
 
 // The lexemes of these tokens and starts, of one byte each.
 fn lexemes(alloc: Global, given: &[(u32, usize)]) -> Result<Vec<LexAnswer>, Fail> {
-    Ok(given
-        .iter()
-        .map(|(token, start)| Ok(lexeme(*token, *start)))
-        .collect(alloc)?)
+    Ok(
+        given
+            .iter()
+            .map(|(token, start)| Ok(lexeme(*token, *start)))
+            .collect(alloc)?,
+    )
 }
 
 // A tree's text: a lexeme as its token and start, a rule as its number and the texts of its symbols in brackets.
@@ -85,14 +88,26 @@ fn sum_parsed(alloc: Global, answers: &[LexAnswer]) -> Result<Result<Answer, Par
 fn a_sum_has_its_tree(rt: HostRuntime) -> Result<(), Fail> {
     let alloc = rt.alloc();
     let rows = [
-        ("a+b", [(1, 0), (0, 1), (1, 2)].as_slice(), "1[ 2[ 1@0 ] 0@1 1[ 2[ 1@2 ] ] ]"),
-        ("equal starts", [(1, 4), (0, 4), (1, 4)].as_slice(), "1[ 2[ 1@4 ] 0@4 1[ 2[ 1@4 ] ] ]"),
+        (
+            "a+b",
+            [(1, 0), (0, 1), (1, 2)].as_slice(),
+            "1[ 2[ 1@0 ] 0@1 1[ 2[ 1@2 ] ] ]",
+        ),
+        (
+            "equal starts",
+            [(1, 4), (0, 4), (1, 4)].as_slice(),
+            "1[ 2[ 1@4 ] 0@4 1[ 2[ 1@4 ] ] ]",
+        ),
     ];
     for (name, given, text) in rows {
         let answers = lexemes(alloc, given)?;
         let (tree, errors) = sum_parsed(alloc, &answers)??;
         assert!(rt; errors.is_empty(), "errors of {name}");
-        assert_eq!(rt; tree.as_ref().map(|tree| tree.as_str()), Some(text), "tree of {name}");
+        assert_eq!(rt;
+            tree.as_ref().map(|tree| tree.as_str()),
+            Some(text),
+            "tree of {name}"
+        );
     }
     Ok(())
 }
@@ -101,7 +116,12 @@ fn a_sum_has_its_tree(rt: HostRuntime) -> Result<(), Fail> {
 fn errors_of_sums(rt: HostRuntime) -> Result<(), Fail> {
     let alloc = rt.alloc();
     let rows = [
-        ("a+", [(1, 0), (0, 1)].as_slice(), 4, Token::new_faulty(2, 2, 0)),
+        (
+            "a+",
+            [(1, 0), (0, 1)].as_slice(),
+            4,
+            Token::new_faulty(2, 2, 0),
+        ),
         ("ab", [(1, 0), (1, 1)].as_slice(), 3, Token::new(1, 1, 1)),
         ("", [].as_slice(), 0, Token::new_faulty(2, 0, 0)),
     ];
@@ -111,7 +131,9 @@ fn errors_of_sums(rt: HostRuntime) -> Result<(), Fail> {
         assert!(rt; tree.is_none(), "tree of {name:?}");
         assert_eq!(rt; errors.len(), 1, "errors of {name:?}");
         match &errors[0] {
-            LexParseError::LexError(_) => return Err(Fail::new(format_args!("lexing error of {name:?}"))),
+            LexParseError::LexError(_) => return Err(Fail::new(format_args!(
+                "lexing error of {name:?}"
+            ))),
             LexParseError::ParseError(error) => {
                 assert_eq!(rt; error.stidx(), StIdx(state), "state of {name:?}");
                 assert_eq!(rt; *error.lexeme(), at, "lexeme of {name:?}");
@@ -126,9 +148,21 @@ fn errors_of_sums(rt: HostRuntime) -> Result<(), Fail> {
 fn faults_of_lexemes(rt: HostRuntime) -> Result<(), Fail> {
     let alloc = rt.alloc();
     let rows = [
-        ("the end token", [(1, 0), (0, 1), (1, 2), (2, 3), (1, 6), (0, 5)], ParseFault::BadToken(3)),
-        ("a token past it", [(1, 0), (0, 1), (1, 2), (3, 3), (1, 6), (0, 5)], ParseFault::BadToken(3)),
-        ("an early start", [(1, 0), (0, 1), (1, 2), (0, 3), (1, 6), (0, 5)], ParseFault::StartsDecrease(5)),
+        (
+            "the end token",
+            [(1, 0), (0, 1), (1, 2), (2, 3), (1, 6), (0, 5)],
+            ParseFault::BadToken(3),
+        ),
+        (
+            "a token past it",
+            [(1, 0), (0, 1), (1, 2), (3, 3), (1, 6), (0, 5)],
+            ParseFault::BadToken(3),
+        ),
+        (
+            "an early start",
+            [(1, 0), (0, 1), (1, 2), (0, 3), (1, 6), (0, 5)],
+            ParseFault::StartsDecrease(5),
+        ),
     ];
     for (name, given, want) in rows {
         let answers = lexemes(alloc, &given)?;
@@ -143,8 +177,12 @@ fn faults_of_lexemes(rt: HostRuntime) -> Result<(), Fail> {
 #[test]
 fn the_first_lexing_error_stands_alone(rt: HostRuntime) -> Result<(), Fail> {
     let alloc = rt.alloc();
-    let first = NoToken { span: Span::new(7, 8) };
-    let second = NoToken { span: Span::new(9, 10) };
+    let first = NoToken {
+        span: Span::new(7, 8),
+    };
+    let second = NoToken {
+        span: Span::new(9, 10),
+    };
     let faulty = [(1, 0), (0, 1), (1, 2), (2, 3), (1, 6), (0, 5)];
     let one = [Err(first)];
     let two = [Err(first), Ok(lexeme(1, 8)), Err(second)];
@@ -160,7 +198,9 @@ fn the_first_lexing_error_stands_alone(rt: HostRuntime) -> Result<(), Fail> {
         assert_eq!(rt; errors.len(), 1, "errors of {name}");
         match &errors[0] {
             LexParseError::LexError(error) => assert_eq!(rt; *error, first, "error of {name}"),
-            LexParseError::ParseError(_) => return Err(Fail::new(format_args!("parse error of {name}"))),
+            LexParseError::ParseError(_) => return Err(Fail::new(format_args!(
+                "parse error of {name}"
+            ))),
         }
     }
     Ok(())
@@ -195,8 +235,16 @@ fn tables_of_other_grammars(rt: HostRuntime) -> Result<(), Fail> {
     let alloc = rt.alloc();
     let rows = [
         ("no goto", without_goto(alloc)?, ParseFault::BadTable(3)),
-        ("an early reduction", with_early_reduction(alloc)?, ParseFault::BadTable(0)),
-        ("two tokens", with_two_tokens(alloc)?, ParseFault::BadTable(0)),
+        (
+            "an early reduction",
+            with_early_reduction(alloc)?,
+            ParseFault::BadTable(0),
+        ),
+        (
+            "two tokens",
+            with_two_tokens(alloc)?,
+            ParseFault::BadTable(0),
+        ),
     ];
     let answers = lexemes(alloc, &[(1, 0)])?;
     for (name, rows, want) in rows {
@@ -226,7 +274,11 @@ fn loop_parts(alloc: Global) -> Result<GrammarParts<u32>, Fail> {
 fn loop_rows(alloc: Global) -> Result<TableRows<u32>, Fail> {
     let actions = [[S3, X, X], [X, P0, X], [X, ACCEPT, X], [X, P1, X]];
     let none = [None, None, None];
-    let mut rows = rows(alloc, &actions, &[[None, Some(1), Some(2)], none, none, none])?;
+    let mut rows = rows(
+        alloc,
+        &actions,
+        &[[None, Some(1), Some(2)], none, none, none],
+    )?;
     rows.tokens = 2;
     for row in rows.actions.iter_mut() {
         row.truncate(2);

@@ -19,9 +19,21 @@ fn storage_numbers(rt: HostRuntime) -> Result<(), Fail> {
     assert!(rt; numbers_up_to::<u16>(65_535));
     assert!(rt; numbers_up_to::<u32>(4_294_967_295));
     for n in [0, 1, 254, 255] {
-        assert_eq!(rt; u8::from_index(n).map(|x| x.to_index()), Some(n), "u8 at {n}");
-        assert_eq!(rt; u16::from_index(n).map(|x| x.to_index()), Some(n), "u16 at {n}");
-        assert_eq!(rt; u32::from_index(n).map(|x| x.to_index()), Some(n), "u32 at {n}");
+        assert_eq!(rt;
+            u8::from_index(n).map(|x| x.to_index()),
+            Some(n),
+            "u8 at {n}"
+        );
+        assert_eq!(rt;
+            u16::from_index(n).map(|x| x.to_index()),
+            Some(n),
+            "u16 at {n}"
+        );
+        assert_eq!(rt;
+            u32::from_index(n).map(|x| x.to_index()),
+            Some(n),
+            "u32 at {n}"
+        );
     }
     Ok(())
 }

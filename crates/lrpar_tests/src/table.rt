@@ -17,8 +17,16 @@ fn entries_of_the_sum_table(rt: HostRuntime) -> Result<(), Fail> {
         for number in 0..3u8 {
             let action = SUM_ACTIONS[usize::from(state)][usize::from(number)];
             let goto = SUM_GOTOS[usize::from(state)][usize::from(number)].map(|to| StIdx(to));
-            assert_eq!(rt; table.action(StIdx(state), TIdx(number)), action, "action {state} {number}");
-            assert_eq!(rt; table.goto(StIdx(state), RIdx(number)), goto, "goto {state} {number}");
+            assert_eq!(rt;
+                table.action(StIdx(state), TIdx(number)),
+                action,
+                "action {state} {number}"
+            );
+            assert_eq!(rt;
+                table.goto(StIdx(state), RIdx(number)),
+                goto,
+                "goto {state} {number}"
+            );
         }
     }
     Ok(())
@@ -38,8 +46,10 @@ fn conflicts_of_a_table(rt: HostRuntime) -> Result<(), Fail> {
     assert_eq!(rt; conflicts.rr_len(), 1);
     assert_eq!(rt; conflicts.sr_len(), 2);
     assert!(rt; conflicts.rr_conflicts() == [(TIdx(2), PIdx(0), PIdx(1), StIdx(5))].as_slice());
-    assert!(rt; conflicts.sr_conflicts()
-        == [(TIdx(0), PIdx(1), StIdx(2)), (TIdx(1), PIdx(2), StIdx(3))].as_slice());
+    assert!(rt;
+        conflicts.sr_conflicts()
+            == [(TIdx(0), PIdx(1), StIdx(2)), (TIdx(1), PIdx(2), StIdx(3))].as_slice()
+    );
     Ok(())
 }
 
@@ -72,7 +82,8 @@ fn bare_rows(alloc: Global, states: usize) -> Result<TableRows<u8>, Fail> {
     let mut rows = rows(alloc, &[], &[])?;
     for _ in 0..states {
         rows.actions.push(Vec::from_slice(alloc, &[X, X, X])?)?;
-        rows.gotos.push(Vec::from_slice(alloc, &[None, None, None])?)?;
+        rows.gotos
+            .push(Vec::from_slice(alloc, &[None, None, None])?)?;
     }
     Ok(rows)
 }
@@ -87,8 +98,14 @@ fn refused_rows(rt: HostRuntime) -> Result<(), Fail> {
         ("a long action row", with_action_row(alloc, &[X, X, X, X])?),
         ("a short goto row", with_goto_row(alloc, &[None, None])?),
         ("one goto row less", one_goto_row_less),
-        ("a shift past the states", with_action_row(alloc, &[X, Action::Shift(StIdx(6)), X])?),
-        ("a goto past the states", with_goto_row(alloc, &[None, Some(StIdx(6)), None])?),
+        (
+            "a shift past the states",
+            with_action_row(alloc, &[X, Action::Shift(StIdx(6)), X])?,
+        ),
+        (
+            "a goto past the states",
+            with_goto_row(alloc, &[None, Some(StIdx(6)), None])?,
+        ),
         ("a start past the states", with_start(alloc, 6)?),
         ("no state", bare_rows(alloc, 0)?),
         ("257 states", bare_rows(alloc, 257)?),
