@@ -30,12 +30,13 @@ pub(crate) fn demo(alloc: Global, text: &str) -> Result<Answer, Fault> {
     for error in &errors {
         push_error(&mut out, &lexer, error)?;
     }
-    if let Some(node) = &tree {
-        push_tree(&mut out, &grm, &lexer, node, 0)?;
+    let has_errors = tree.is_none() || !errors.is_empty();
+    if let Some(tree) = tree {
+        push_tree(alloc, &mut out, &grm, &lexer, tree)?;
     }
     Ok(Answer {
         text: out,
-        has_errors: tree.is_none() || !errors.is_empty(),
+        has_errors,
     })
 }
 

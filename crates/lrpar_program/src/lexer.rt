@@ -1,6 +1,8 @@
 //! The lexer of sums: one answer for each character of the text.
-ghost use Rattle.std.specs.Prelude.{◌≡◌, ◌+◌, ◌≤◌};
+ghost use Rattle.std.specs.Prelude.{◌≡◌, ◌+◌, ◌≤◌, slice_range};
 ghost use Rattle.std.specs.Char.{len_utf8};
+ghost use Rattle.std.specs.Str.{IsCharBoundary};
+ghost use Rattle.lrpar.specs.Lines.{line_of, column_of};
 ghost use Rattle.lrpar_program.specs.Sums.{token_of};
 ghost use Rattle.lrpar_program.specs.SumAnswers.{answer_of};
 
@@ -116,15 +118,26 @@ impl<'input> SumLexer<'input> {
         SumLexer { input }
     }
 
-    /// The line and the column of the start of the span, each counted from 1, and columns in characters.
-    pub(crate) fn place_of(&self, span: Span) -> (usize, usize) {
+    /// The line and the column of the start of the span, each counted from 1, and columns in characters. A start
+    /// that isn't between two characters of the input counts as the nearest place in front of it that is.
+    pub(crate) fn place_of(&self, span: Span) -> (usize, usize)
+        ensures line { IsCharBoundary self.now.input.now span.start → result.0 ≡ line_of self.now.input.now span.start }
+        ensures column { IsCharBoundary self.now.input.now span.start → result.1 ≡ column_of self.now.input.now span.start }
+    {
         let start = self.input.floor_char_boundary(span.start());
         self.line_col(Span::new(start, start)).0
     }
 
-    /// The input at the span: nothing, where that isn't a part of it.
-    pub(crate) fn part(&self, span: Span) -> &'input str {
-        self.input.get(span.start()..span.end()).unwrap_or("")
+    /// The input at the span: nothing, where the span doesn't start and end between two characters of the input.
+    pub(crate) fn part(&self, span: Span) -> &'input str
+        ensures { IsCharBoundary self.now.input.now span.start → IsCharBoundary self.now.input.now span.end
+            → result.now ≡ slice_range self.now.input.now span.start span.end }
+    {
+        if self.input.is_char_boundary(span.start()) && self.input.is_char_boundary(span.end()) {
+            self.span_str(span)
+        } else {
+            ""
+        }
     }
 }
 

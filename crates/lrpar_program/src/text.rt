@@ -3,7 +3,7 @@ use crate::lexer::{SumLexer, SumTypes, Token};
 use lrpar::grammar::YaccGrammar;
 use lrpar::span::{RIdx, TIdx};
 use lrpar::{LexError, LexParseError, Lexeme};
-use std::alloc::AllocError;
+use std::alloc::{AllocError, Global};
 
 /// A tree of a parse.
 #[derive(Debug, Drop)]
@@ -35,33 +35,71 @@ pub(crate) fn push_error(
     }
 }
 
-/// Adds the tree's lines, one for each node in front of its children, indented by one space a level from `depth` on.
-/// A lexeme's line has its token's name and its part of the input, a rule's line its name.
+/// Adds the tree's lines, one for each node in front of its children, indented by one space a level. A lexeme's line
+/// has its token's name and its part of the input, a rule's line its name. However deep the tree is, the call's own
+/// depth stays the same.
 pub(crate) fn push_tree(
+    alloc: Global,
+    out: &mut String,
+    grm: &YaccGrammar<u32>,
+    lexer: &SumLexer<'_>,
+    tree: Node,
+) -> Result<(), AllocError> {
+    let mut left = Vec::new(alloc);
+    left.push((0, tree))?;
+    for _ in 0..u64::MAX {
+        match left.pop() {
+            Some((depth, node)) => {
+                push_indent(out, depth)?;
+                push_node(out, grm, lexer, &node)?;
+                push_children(&mut left, depth, node)?;
+            }
+            None => break,
+        }
+    }
+    Ok(())
+}
+
+// Adds one space a level.
+fn push_indent(out: &mut String, depth: usize) -> Result<(), AllocError> {
+    for _ in 0..depth {
+        out.push(' ')?;
+    }
+    Ok(())
+}
+
+// Adds the node's own line.
+fn push_node(
     out: &mut String,
     grm: &YaccGrammar<u32>,
     lexer: &SumLexer<'_>,
     node: &Node,
-    depth: usize,
 ) -> Result<(), AllocError> {
-    for _ in 0..depth {
-        out.push(' ')?;
-    }
     match node {
         Node::Term { lexeme } => {
             let name = token_name(grm, TIdx(lexeme.tok_id()));
             let part = lexer.part(lexeme.span());
             writeln!(out, "{name} {part}")
         }
-        Node::Nonterm { ridx, nodes } => {
+        Node::Nonterm { ridx, nodes: _ } => {
             let name = rule_name(grm, *ridx);
-            writeln!(out, "{name}")?;
-            for node in nodes {
-                push_tree(out, grm, lexer, node, depth.saturating_add(1))?;
-            }
-            Ok(())
+            writeln!(out, "{name}")
         }
     }
+}
+
+// Puts the node's children on top of the nodes that are left, the first child on the very top, one level below it.
+fn push_children(
+    left: &mut Vec<(usize, Node)>,
+    depth: usize,
+    node: Node,
+) -> Result<(), AllocError> {
+    if let Node::Nonterm { ridx: _, nodes } = node {
+        for child in nodes.into_iter().rev() {
+            left.push((depth.saturating_add(1), child))?;
+        }
+    }
+    Ok(())
 }
 
 // The token's name, which the end token, and a number that is no token's, don't have.

@@ -62,19 +62,21 @@ fn parsed(
     let stable = StateTable::from_rows(rows)?;
     let lexer = HandedLexer { answers };
     let parser = RTParserBuilder::<u32, HandedTypes>::new(&grm, &stable);
-    Ok(
-        match parser.parse_map(
-            alloc,
-            &lexer,
-            |lexeme| term(alloc, lexeme),
-            |ridx, nodes| nonterm(alloc, ridx, nodes),
-        ) {
-            Ok((Some(None), _)) => return Err(Fail::new("no memory for the text")),
-            Ok((Some(text), errors)) => Ok((text, errors)),
-            Ok((None, errors)) => Ok((None, errors)),
-            Err(fault) => Err(fault),
-        },
-    )
+    let answer = parser.parse_map(
+        alloc,
+        &lexer,
+        |lexeme| term(alloc, lexeme),
+        |ridx, nodes| nonterm(alloc, ridx, nodes),
+    );
+    let (tree, errors) = match answer {
+        Ok(found) => found,
+        Err(fault) => return Ok(Err(fault)),
+    };
+    match tree {
+        None => Ok(Ok((None, errors))),
+        Some(Some(text)) => Ok(Ok((Some(text), errors))),
+        Some(None) => Err(Fail::new("no memory for the text")),
+    }
 }
 
 // The parse of a sum.
