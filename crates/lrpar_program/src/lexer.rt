@@ -93,7 +93,7 @@ impl LexError for NoToken {
 
 /// The types of the lexer of sums.
 #[derive(Clone, Debug, Drop)]
-pub(crate) enum SumTypes {}
+pub(crate) struct SumTypes;
 
 impl LexerTypes for SumTypes {
     type LexemeT = Token<u32>;

@@ -79,7 +79,7 @@ impl LexError for NoToken {
 
 /// The types of the lexer.
 #[derive(Clone, Debug, Drop)]
-pub(crate) enum HandedTypes {}
+pub(crate) struct HandedTypes;
 
 impl LexerTypes for HandedTypes {
     type LexemeT = Token<u32>;
