@@ -1,2 +1,4 @@
 pub mod Mapped
 pub mod Reductions
+pub mod AscendingLemmas
+pub mod ItemLemmas
