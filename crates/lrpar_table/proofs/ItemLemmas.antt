@@ -1,13 +1,23 @@
 -- Items of code and the numbers that they stand for.
-use Rattle.std.proofs.Common.{◌≡◌, ◌↔◌, ◌∙◌, ℕ, suc, zero, List, [], ◌∷◌, map, slice_index_or, subst, ap, refl, arith}
+use Rattle.std.proofs.Common.{sym, ◌≡◌, ◌↔◌, ◌∙◌, ℕ, suc, zero, List, [], ◌∷◌, map, slice_index_or, subst, ap, refl, arith}
 use Rattle.std.proofs.Math.ListN.{get_or-map}
 use Rattle.std.proofs.lemmas.List.{length-map}
-use Rattle.std.specs.List.{Contains, AllZip}
+use Rattle.std.specs.Ordering.{nat_cmp, ordering_then}
+use Rattle.std.specs.List.Sorted.{IsStrictlySortedBy}
+use Rattle.std.specs.declared.cmp.Ordering.{Ordering}
+use Rattle.std.specs.declared.cmp.Ordering.TheVariants.{Less}
+use Rattle.std.specs.List.{AllByRecursion, Contains, AllZip}
 use Rattle.lrpar_grammar.specs.declared.span.PIdx.{PIdx}
 use Rattle.lrpar_grammar.specs.declared.span.TIdx.{TIdx}
 use Rattle.lrpar_table.specs.Ascending.{HaveSame}
-use Rattle.lrpar_table.specs.Graph.{AreWithCore, ItemOf, item_at}
+use Rattle.lrpar_table.specs.Graph.{AreWithCore, ItemOf, core_cmp, item_at, item_cmp}
 use Rattle.lrpar_table.specs.PlainItems.{AreCoresOf, core_of, item_of}
+
+-- what comes before all of a row has its image before all of the row's image
+first_image : {X Y : Type 0} (R : X → X → Ordering) (Q : Y → Y → Ordering) (f : X → Y) → ((x y : X) → R x y ≡ Q (f x) (f y)) → (x : X)
+    → (xs : List X) → AllByRecursion (λ y. R x y ≡ Less) xs → AllByRecursion (λ y. Q (f x) y ≡ Less) (map f xs)
+first_image R Q f same x [] h = h
+first_image R Q f same x (y ∷ ys) h = (sym (same x y) ∙ h.0, first_image R Q f same x ys h.1)
 
 -- the image of an element is in the image of the list
 pub Contains-image : {X Y : Type 0} (f : X → Y) (xs : List X) (x : X) → Contains xs x → Contains (map f xs) (f x)
@@ -103,3 +113,25 @@ same_at_each [] (y ∷ ys) all s = absurd all
 same_at_each (x ∷ xs) [] all s = absurd all
 same_at_each (x ∷ xs) (y ∷ ys) all zero = all.0
 same_at_each (x ∷ xs) (y ∷ ys) all (suc s) = same_at_each xs ys all.1 s
+
+-- a row in order has its image in order, where the image's order is that of the row
+pub sorted_image : {X Y : Type 0} (R : X → X → Ordering) (Q : Y → Y → Ordering) (f : X → Y) → ((x y : X) → R x y ≡ Q (f x) (f y))
+    → (xs : List X) → IsStrictlySortedBy R xs → IsStrictlySortedBy Q (map f xs)
+unfolding IsStrictlySortedBy
+sorted_image R Q f same [] h = h
+sorted_image R Q f same (x ∷ xs) h = (first_image R Q f same x xs h.0, sorted_image R Q f same xs h.1)
+
+-- where numbers compare as what they stand for, so do items
+pub same_item_order : {S : Type 0} (index : S → ℕ) (cmp : S → S → Ordering) → ((a b : S) → cmp a b ≡ nat_cmp (index a) (index b))
+    → (x y : PIdx S × ℕ × TIdx S)
+    → ordering_then (ordering_then (cmp x.0.0 y.0.0) (nat_cmp x.1 y.1)) (cmp x.2.0 y.2.0) ≡ item_cmp (item_of index x) (item_of index y)
+same_item_order index cmp law x y =
+    let prod = law x.0.0 y.0.0 in
+    let token = law x.2.0 y.2.0 in
+    ap (λ (o : Ordering). ordering_then (ordering_then o (nat_cmp x.1 y.1)) (cmp x.2.0 y.2.0)) prod
+    ∙ ap (λ (o : Ordering). ordering_then (ordering_then (nat_cmp (index x.0.0) (index y.0.0)) (nat_cmp x.1 y.1)) o) token
+
+-- and cores
+pub same_core_order : {S : Type 0} (index : S → ℕ) (cmp : S → S → Ordering) → ((a b : S) → cmp a b ≡ nat_cmp (index a) (index b))
+    → (x y : PIdx S × ℕ) → ordering_then (cmp x.0.0 y.0.0) (nat_cmp x.1 y.1) ≡ core_cmp (core_of index x) (core_of index y)
+same_core_order index cmp law x y = ap (λ (o : Ordering). ordering_then o (nat_cmp x.1 y.1)) (law x.0.0 y.0.0)

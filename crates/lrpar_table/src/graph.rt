@@ -1,8 +1,9 @@
 //! State graphs: the item sets of the states of an LR automaton.
 ghost use Rattle.std.specs.Prelude.{◌≡◌, ◌<◌, ◌≤◌, ◌↔◌, ℕ, IsTrue, IfOk, IfErr, IsErrOf, length, map};
 ghost use Rattle.std.specs.List.{Contains, AllZip};
+ghost use Rattle.std.specs.List.Sorted.{IsStrictlySortedBy};
 ghost use Rattle.lrpar_table.specs.Ascending.{HaveSame};
-ghost use Rattle.lrpar_table.specs.Graph.{HasCore, HasItem, graph_len, items_of};
+ghost use Rattle.lrpar_table.specs.Graph.{HasCore, HasItem, core_cmp, graph_len, item_cmp, items_of};
 ghost use Rattle.lrpar_table.specs.PlainItems.{core_of, item_of, rows_of};
 
 use crate::items::{Core, Item, ItemSet};
@@ -37,7 +38,7 @@ impl<StorageT: StorageNum> StateGraph<StorageT> {
     /// them the graph keeps each core once more. After a refusal they are dropped.
     pub fn from_rows(
         alloc: Global,
-        rows: Vec<Vec<Item<StorageT>>>,
+        rows: Vec<Vec<(PIdx<StorageT>, usize, TIdx<StorageT>)>>,
     ) -> Result<Self, TableFault>
         ensures states { IfOk result (λ graph. graph_len graph ≡ length rows.items) }
         ensures items { IfOk result (λ graph. (s p k t : ℕ) → HasItem graph s p k t ↔ HasItem (rows_of StorageT.index rows) s p k t) }
@@ -91,7 +92,8 @@ impl<StorageT: StorageNum> StateGraph<StorageT> {
     /// The items of state `s`, ascending, each once.
     pub(crate) fn items(&self, s: StIdx<StorageT>) -> &[Item<StorageT>]
         requires { StorageT.index s.0 < graph_len self.now }
-        ensures { map (item_of StorageT.index) result.now ≡ items_of self.now (StorageT.index s.0) }
+        ensures all { map (item_of StorageT.index) result.now ≡ items_of self.now (StorageT.index s.0) }
+        ensures ascending { IsStrictlySortedBy item_cmp (items_of self.now (StorageT.index s.0)) }
     {
         self.sets[usize::from(s)].items()
     }
@@ -99,7 +101,8 @@ impl<StorageT: StorageNum> StateGraph<StorageT> {
     /// The cores of the items of state `s`, ascending, each once.
     pub(crate) fn cores(&self, s: StIdx<StorageT>) -> &[Core<StorageT>]
         requires { StorageT.index s.0 < graph_len self.now }
-        ensures { (p k : ℕ) → HasCore self.now (StorageT.index s.0) p k ↔ Contains (map (core_of StorageT.index) result.now) (p, k) }
+        ensures all { (p k : ℕ) → HasCore self.now (StorageT.index s.0) p k ↔ Contains (map (core_of StorageT.index) result.now) (p, k) }
+        ensures ascending { IsStrictlySortedBy core_cmp (map (core_of StorageT.index) result.now) }
     {
         self.sets[usize::from(s)].cores()
     }

@@ -1,8 +1,9 @@
 //! The items of one state, and their cores.
 ghost use Rattle.std.specs.Prelude.{◌≡◌, ◌↔◌, ℕ, IsTrue, IfOk, map};
 ghost use Rattle.std.specs.List.{Contains};
+ghost use Rattle.std.specs.List.Sorted.{IsStrictlySortedBy};
 ghost use Rattle.lrpar_table.specs.Ascending.{HaveSame};
-ghost use Rattle.lrpar_table.specs.Graph.{AreWithCore, item_at};
+ghost use Rattle.lrpar_table.specs.Graph.{AreWithCore, core_cmp, item_at, item_cmp};
 ghost use Rattle.lrpar_table.specs.PlainItems.{AreCoresOf, core_of, item_of, row_of};
 
 use crate::ascending::Ascending;
@@ -11,10 +12,10 @@ use std::alloc::{AllocError, Global};
 use std::marker::Model;
 
 /// An item: its production, how many of its symbols stand before the dot, and its lookahead.
-pub type Item<StorageT> = (PIdx<StorageT>, usize, TIdx<StorageT>);
+pub(crate) type Item<StorageT> = (PIdx<StorageT>, usize, TIdx<StorageT>);
 
 /// The core of an item: its production, and how many of its symbols stand before the dot.
-pub type Core<StorageT> = (PIdx<StorageT>, usize);
+pub(crate) type Core<StorageT> = (PIdx<StorageT>, usize);
 
 /// The items of a state, and their cores.
 #[derive(Debug, Drop)]
@@ -69,14 +70,16 @@ impl<StorageT: StorageNum> ItemSet<StorageT> {
 
     /// The items, ascending, each once.
     pub(crate) fn items(&self) -> &[Item<StorageT>]
-        ensures { map (item_of StorageT.index) result.now ≡ self.now }
+        ensures all { map (item_of StorageT.index) result.now ≡ self.now }
+        ensures ascending { IsStrictlySortedBy item_cmp self.now }
     {
         self.items.as_slice()
     }
 
     /// The cores, ascending, each once.
     pub(crate) fn cores(&self) -> &[Core<StorageT>]
-        ensures { (p k : ℕ) → AreWithCore self.now p k ↔ Contains (map (core_of StorageT.index) result.now) (p, k) }
+        ensures all { (p k : ℕ) → AreWithCore self.now p k ↔ Contains (map (core_of StorageT.index) result.now) (p, k) }
+        ensures ascending { IsStrictlySortedBy core_cmp (map (core_of StorageT.index) result.now) }
     {
         self.cores.as_slice()
     }

@@ -8,7 +8,6 @@ ghost use Rattle.lrpar_table.specs.declared.table.TableFault.TheVariants.{Memory
 
 pub use crate::conflicts::Conflicts;
 pub use crate::graph::StateGraph;
-pub use crate::items::{Core, Item};
 pub use crate::rows::{Action, TableRows};
 use lrpar_grammar::span::{RIdx, StIdx, StorageNum, TIdx};
 use std::alloc::{AllocError, AllocFailed};
