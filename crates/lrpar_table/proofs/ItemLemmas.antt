@@ -1,11 +1,14 @@
 -- Items of code and the numbers that they stand for.
-use Rattle.std.proofs.Common.{sym, ◌≡◌, ◌↔◌, ◌∙◌, ℕ, suc, zero, List, [], ◌∷◌, map, slice_index_or, subst, ap, refl, arith}
+use Rattle.std.proofs.Common.{sym, ◌++◌, ◌&&◌, Bool, true, nat_eq, inl, inr, ◌⊎◌, ◌≡◌, ◌↔◌, ◌∙◌, ℕ, suc, zero, List, [], ◌∷◌, map, slice_index_or, subst, ap, refl, arith}
 use Rattle.std.proofs.Math.ListN.{get_or-map}
 use Rattle.std.proofs.lemmas.List.{length-map}
+use Rattle.std.proofs.lemmas.Bool.{and_parts, eqb-true}
+use Rattle.std.proofs.lemmas.Cmp.{ranked}
+use Rattle.std.proofs.lemmas.List.Elements.{Contains-append_left, Contains-push, Contains-push_cases}
 use Rattle.std.specs.Ordering.{nat_cmp, ordering_then}
 use Rattle.std.specs.List.Sorted.{IsStrictlySortedBy}
 use Rattle.std.specs.declared.cmp.Ordering.{Ordering}
-use Rattle.std.specs.declared.cmp.Ordering.TheVariants.{Less}
+use Rattle.std.specs.declared.cmp.Ordering.TheVariants.{Less, Equal, Greater}
 use Rattle.std.specs.List.{AllByRecursion, Contains, AllZip}
 use Rattle.lrpar_grammar.specs.declared.span.PIdx.{PIdx}
 use Rattle.lrpar_grammar.specs.declared.span.TIdx.{TIdx}
@@ -37,6 +40,16 @@ HaveSame-map f xs ys same y =
     (λ h. let x = Contains-preimage f xs y h in subst (Contains (map f ys)) x.2 (Contains-image f ys x.0 ((same x.0).0 x.1)),
     λ h. let x = Contains-preimage f ys y h in subst (Contains (map f xs)) x.2 (Contains-image f xs x.0 ((same x.0).1 x.1)))
 
+-- a number of which its index is known is known
+pub exact_index : {S : Type 0} (index : S → ℕ) (at_index : ℕ → S) → ((x : S) → at_index (index x) ≡ x) → (x y : S) → index x ≡ index y → x ≡ y
+exact_index index at_index law x y e = sym (law x) ∙ ap at_index e ∙ law y
+
+-- two comparisons, the second asked where the first ties, tie where both do
+then_ties : (a b : Ordering) → ordering_then a b ≡ Equal → (a ≡ Equal) × (b ≡ Equal)
+then_ties Less b h = absurd (cc)
+then_ties Equal b h = (refl, h)
+then_ties Greater b h = absurd (cc)
+
 module _ {S : Type 0} (index : S → ℕ) (exact : (x y : S) → index x ≡ index y → x ≡ y) where
   -- a production of the same number is the same
   same_prod : (p q : PIdx S) → index p.0 ≡ index q.0 → p ≡ q
@@ -45,6 +58,24 @@ module _ {S : Type 0} (index : S → ℕ) (exact : (x y : S) → index x ≡ ind
   -- a token of the same number is the same
   same_token : (t u : TIdx S) → index t.0 ≡ index u.0 → t ≡ u
   same_token t u e = ap (λ (v : S). let made : TIdx S = record { 0 = v } in made) (exact t.0 u.0 e)
+
+  -- cores that compare equal are the same, where numbers compare as what they stand for
+  pub cores_told_apart : (cmp : S → S → Ordering) → ((a b : S) → cmp a b ≡ nat_cmp (index a) (index b)) → (x y : PIdx S × ℕ)
+      → ordering_then (cmp x.0.0 y.0.0) (nat_cmp x.1 y.1) ≡ Equal → x ≡ y
+  cores_told_apart cmp law x y h =
+      let ties = then_ties _ _ h in
+      let prod : x.0 ≡ y.0 = same_prod x.0 y.0 (ranked (index x.0.0) (index y.0.0) Equal (sym ties.0 ∙ law x.0.0 y.0.0)) in
+      let dot : x.1 ≡ y.1 = ranked x.1 y.1 Equal (sym ties.1) in
+      let is : (x.0, x.1) ≡ (y.0, y.1) = cc in is
+
+  -- and so are those that a test counts as the same
+  pub cores_same_by_test : (eq : S → S → Bool) → ((a b : S) → eq a b ≡ nat_eq (index a) (index b)) → (x y : PIdx S × ℕ)
+      → (eq x.0.0 y.0.0 && nat_eq x.1 y.1) ≡ true → x ≡ y
+  cores_same_by_test eq law x y h =
+      let parts = and_parts _ _ h in
+      let prod : x.0 ≡ y.0 = same_prod x.0 y.0 (eqb-true _ _ (sym (law x.0.0 y.0.0) ∙ parts.0)) in
+      let dot : x.1 ≡ y.1 = eqb-true _ _ parts.1 in
+      let is : (x.0, x.1) ≡ (y.0, y.1) = cc in is
 
   -- a list has an item where its image has the item's numbers
   pub item_by_numbers : (items : List (PIdx S × ℕ × TIdx S)) (p : PIdx S) (k : ℕ) (t : TIdx S)
@@ -89,6 +120,20 @@ cores_by_numbers index items cores of p k =
     let has = Contains-image (item_of index) items (c.0.0, c.0.1, t.0) t.1 in
     let is : item_at (index c.0.0.0) c.0.1 (index t.0.0) ≡ item_at p k (index t.0.0) = cc in
     (index t.0.0, subst (Contains (map (item_of index) items)) is has))
+
+-- one more element on each side
+pub HaveSame-push : {X : Type 0} (xs ys zs : List X) (y : X) → HaveSame xs ys → HaveSame zs (xs ++ y ∷ []) → HaveSame zs (ys ++ y ∷ [])
+HaveSame-push xs ys zs y same pushed x =
+    (λ h.
+    elim (Contains-push_cases xs y x ((pushed x).0 h)) as (λ _. Contains (ys ++ y ∷ []) x) [
+      inl before ↦ Contains-append_left ys (y ∷ []) x ((same x).0 before)
+    | inr last ↦ subst (Contains (ys ++ y ∷ [])) last (Contains-push ys y)
+    ],
+    λ h. (pushed x).1 (
+    elim (Contains-push_cases ys y x h) as (λ _. Contains (xs ++ y ∷ []) x) [
+      inl before ↦ Contains-append_left xs (y ∷ []) x ((same x).1 before)
+    | inr last ↦ subst (Contains (xs ++ y ∷ [])) last (Contains-push xs y)
+    ]))
 
 -- the production and the dot of an item
 abbrev pub core_part : {S : Type 0} → PIdx S × ℕ × TIdx S → PIdx S × ℕ

@@ -1,9 +1,10 @@
 //! Rows in ascending order, each element once.
-ghost use Rattle.std.specs.Prelude.{◌≡◌, ◌↔◌, IsTrue};
+ghost use Rattle.std.specs.Prelude.{◌≡◌, ◌↔◌, ◌∷◌, ◌++◌, [], true, IsTrue, OnOk};
 ghost use Rattle.std.specs.List.{Contains};
 ghost use Rattle.std.specs.List.Sorted.{IsStrictlySortedBy};
 ghost use Rattle.lrpar_table.specs.Ascending.{HaveSame, TellsApart};
 
+use std::alloc::AllocError;
 use std::marker::Model;
 
 /// Elements in ascending order, each once.
@@ -49,4 +50,16 @@ impl<T: Ord + Drop> Ascending<T> {
     {
         &self.elements
     }
+}
+
+/// Appends the element, unless it is the last one already.
+pub(crate) fn push_new<T: Eq + Drop>(row: &mut Vec<T>, element: T) -> Result<(), AllocError>
+    requires exact { (x y : T) → T.PartialEq.eq x y ≡ true → x ≡ y }
+    ensures same { OnOk result (HaveSame row.new.items (row.old.items ++ element ∷ [])) }
+{
+    if row.last() == Some(&element) {
+        return Ok(());
+    }
+    row.push(element)?;
+    Ok(())
 }

@@ -6,7 +6,7 @@ ghost use Rattle.lrpar_table.specs.Ascending.{HaveSame};
 ghost use Rattle.lrpar_table.specs.Graph.{AreWithCore, core_cmp, item_at, item_cmp};
 ghost use Rattle.lrpar_table.specs.PlainItems.{AreCoresOf, core_of, item_of, row_of};
 
-use crate::ascending::Ascending;
+use crate::ascending::{Ascending, push_new};
 use lrpar_grammar::span::{PIdx, StorageNum, TIdx};
 use std::alloc::{AllocError, Global};
 use std::marker::Model;
@@ -92,9 +92,9 @@ fn cores_of<StorageT: StorageNum>(
 ) -> Result<Ascending<Core<StorageT>>, AllocError>
     ensures { IfOk result (λ cores. AreCoresOf items.now cores) }
 {
-    let cores: Vec<Core<StorageT>> = items
-        .iter()
-        .map(|item| (item.0, item.1))
-        .collect(alloc)?;
+    let mut cores: Vec<Core<StorageT>> = Vec::new(alloc);
+    for item in items {
+        push_new(&mut cores, (item.0, item.1))?;
+    }
     Ok(Ascending::from_vec(cores))
 }
