@@ -31,8 +31,8 @@ not_here : {X : Type 0} {R : X → X → Ordering} → IsTotalOrder R → (xs : 
 not_here {X} {R} o xs x i parts h =
     let tied : R (slice_index_or xs h.0 x) x ≡ Equal = subst (λ (y : X). R y x ≡ Equal) (sym h.2) (tied_itself o x) in
     elim (cases_lt h.0 i) as (λ _. ⊥) [
-      inl before ↦ let less = parts.0 h.0 x (omega arith) before in absurd (cc)
-    | inr after ↦ let greater = parts.1 h.0 x after h.1 in absurd (cc)
+      | inl before ↦ let less = parts.0 h.0 x (omega arith) before in absurd (cc)
+      | inr after ↦ let greater = parts.1 h.0 x after h.1 in absurd (cc)
     ]
 
 -- a binary search finds what is there
@@ -56,6 +56,7 @@ same_from_equal {R = R} ties exact x y e = exact x y ((Equal-is (R x y)).0 (sym 
 pub same_from_sort : {X : Type 0} {R : X → X → Ordering} {E : X → X → Bool} → IsEquivalence E → ((x y : X) → E x y ≡ eq_by_cmp R x y)
     → TellsApart R → (xs ys zs : List X) → IsPermutation xs ys → IsFiltered (DiffersFromLast E) [] ys zs → HaveSame zs xs
 same_from_sort equals ties exact xs ys zs moved left x =
-    let is = dedup_is _ ys zs left in
-    (λ h. Contains-permutation ys xs x (IsPermutation-sym xs ys moved) (Contains-from_dedup _ ys x (rw is at h)),
-    λ h. rw is (Contains-dedup equals (same_from_equal ties exact) ys x (Contains-permutation xs ys x moved h)))
+    let is = dedup_is _ ys zs left in (
+      λ h. Contains-permutation ys xs x (IsPermutation-sym xs ys moved) (Contains-from_dedup _ ys x (rw is at h)),
+      λ h. rw is (Contains-dedup equals (same_from_equal ties exact) ys x (Contains-permutation xs ys x moved h)),
+    )

@@ -1,5 +1,5 @@
 -- Items of code and the numbers that they stand for.
-use Rattle.std.proofs.Common.{sym, ◌++◌, ◌&&◌, Bool, true, nat_eq, inl, inr, ◌⊎◌, ◌≡◌, ◌↔◌, ◌∙◌, ℕ, suc, zero, List, [], ◌∷◌, map, slice_index_or, subst, ap, refl, arith}
+use Rattle.std.proofs.Common.{sym, ◌++◌, ◌&&◌, Bool, true, nat_eq, inl, inr, ◌≡◌, ◌↔◌, ◌∙◌, ℕ, suc, zero, List, [], ◌∷◌, map, slice_index_or, subst, ap, refl, arith}
 use Rattle.std.proofs.Math.ListN.{get_or-map}
 use Rattle.std.proofs.lemmas.List.{length-map}
 use Rattle.std.proofs.lemmas.Bool.{and_parts, eqb-true}
@@ -36,9 +36,10 @@ Contains-preimage f (x ∷ xs) y (suc k, below, is) =
 
 -- lists with the same elements have images with the same elements
 pub HaveSame-map : {X Y : Type 0} (f : X → Y) (xs ys : List X) → HaveSame xs ys → HaveSame (map f xs) (map f ys)
-HaveSame-map f xs ys same y =
-    (λ h. let x = Contains-preimage f xs y h in subst (Contains (map f ys)) x.2 (Contains-image f ys x.0 ((same x.0).0 x.1)),
-    λ h. let x = Contains-preimage f ys y h in subst (Contains (map f xs)) x.2 (Contains-image f xs x.0 ((same x.0).1 x.1)))
+HaveSame-map f xs ys same y = (
+  λ h. let x = Contains-preimage f xs y h in subst (Contains (map f ys)) x.2 (Contains-image f ys x.0 ((same x.0).0 x.1)),
+  λ h. let x = Contains-preimage f ys y h in subst (Contains (map f xs)) x.2 (Contains-image f xs x.0 ((same x.0).1 x.1)),
+)
 
 -- a number of which its index is known is known
 pub exact_index : {S : Type 0} (index : S → ℕ) (at_index : ℕ → S) → ((x : S) → at_index (index x) ≡ x) → (x y : S) → index x ≡ index y → x ≡ y
@@ -80,60 +81,64 @@ module _ {S : Type 0} (index : S → ℕ) (exact : (x y : S) → index x ≡ ind
   -- a list has an item where its image has the item's numbers
   pub item_by_numbers : (items : List (PIdx S × ℕ × TIdx S)) (p : PIdx S) (k : ℕ) (t : TIdx S)
       → Contains items (p, k, t) ↔ Contains (map (item_of index) items) (item_at (index p.0) k (index t.0))
-  item_by_numbers items p k t =
-      (λ h. Contains-image (item_of index) items (p, k, t) h,
-      λ h.
-      let x = Contains-preimage (item_of index) items _ h in
-      let prod : x.0.0 ≡ p = same_prod x.0.0 p (ap (λ (i : ItemOf). i.prod) x.2) in
-      let dot : x.0.1 ≡ k = ap (λ (i : ItemOf). i.dot) x.2 in
-      let token : x.0.2 ≡ t = same_token x.0.2 t (ap (λ (i : ItemOf). i.token) x.2) in
-      let is : (x.0.0, x.0.1, x.0.2) ≡ (p, k, t) = cc in
-      subst (Contains items) is x.1)
+  item_by_numbers items p k t = (
+    λ h. Contains-image (item_of index) items (p, k, t) h,
+    λ h.
+        let x = Contains-preimage (item_of index) items _ h in
+        let prod : x.0.0 ≡ p = same_prod x.0.0 p (ap (λ (i : ItemOf). i.prod) x.2) in
+        let dot : x.0.1 ≡ k = ap (λ (i : ItemOf). i.dot) x.2 in
+        let token : x.0.2 ≡ t = same_token x.0.2 t (ap (λ (i : ItemOf). i.token) x.2) in
+        let is : (x.0.0, x.0.1, x.0.2) ≡ (p, k, t) = cc in
+        subst (Contains items) is x.1,
+  )
 
   -- the cores have a core where the image of the items has its numbers
   pub core_by_numbers : (items : List (PIdx S × ℕ × TIdx S)) (cores : List (PIdx S × ℕ)) (p : PIdx S) (k : ℕ)
       → AreCoresOf items cores → Contains cores (p, k) ↔ AreWithCore (map (item_of index) items) (index p.0) k
-  core_by_numbers items cores p k of =
-      (λ h. let t = (of p k).0 h in (index t.0.0, (item_by_numbers items p k t.0).0 t.1),
-      λ h.
-      let x = Contains-preimage (item_of index) items _ h.1 in
-      let prod : x.0.0 ≡ p = same_prod x.0.0 p (ap (λ (i : ItemOf). i.prod) x.2) in
-      let dot : x.0.1 ≡ k = ap (λ (i : ItemOf). i.dot) x.2 in
-      let is : (x.0.0, x.0.1, x.0.2) ≡ (p, k, x.0.2) = cc in
-      (of p k).1 (x.0.2, subst (Contains items) is x.1))
+  core_by_numbers items cores p k of = (
+    λ h. let t = (of p k).0 h in (index t.0.0, (item_by_numbers items p k t.0).0 t.1),
+    λ h.
+        let x = Contains-preimage (item_of index) items _ h.1 in
+        let prod : x.0.0 ≡ p = same_prod x.0.0 p (ap (λ (i : ItemOf). i.prod) x.2) in
+        let dot : x.0.1 ≡ k = ap (λ (i : ItemOf). i.dot) x.2 in
+        let is : (x.0.0, x.0.1, x.0.2) ≡ (p, k, x.0.2) = cc in
+        (of p k).1 (x.0.2, subst (Contains items) is x.1),
+  )
 
 -- the images of items and cores agree too
 pub cores_by_numbers : {S : Type 0} (index : S → ℕ) (items : List (PIdx S × ℕ × TIdx S)) (cores : List (PIdx S × ℕ)) → AreCoresOf items cores
     → (p k : ℕ) → AreWithCore (map (item_of index) items) p k ↔ Contains (map (core_of index) cores) (p, k)
-cores_by_numbers index items cores of p k =
-    (λ h.
-    let x = Contains-preimage (item_of index) items _ h.1 in
-    let prod : index x.0.0.0 ≡ p = ap (λ (i : ItemOf). i.prod) x.2 in
-    let dot : x.0.1 ≡ k = ap (λ (i : ItemOf). i.dot) x.2 in
-    let is : (index x.0.0.0, x.0.1) ≡ (p, k) = cc in
-    subst (Contains (map (core_of index) cores)) is (Contains-image (core_of index) cores (x.0.0, x.0.1) ((of x.0.0 x.0.1).1 (x.0.2, x.1))),
-    λ h.
-    let c = Contains-preimage (core_of index) cores _ h in
-    let prod : index c.0.0.0 ≡ p = ap (λ (i : ℕ × ℕ). i.0) c.2 in
-    let dot : c.0.1 ≡ k = ap (λ (i : ℕ × ℕ). i.1) c.2 in
-    let t = (of c.0.0 c.0.1).0 c.1 in
-    let has = Contains-image (item_of index) items (c.0.0, c.0.1, t.0) t.1 in
-    let is : item_at (index c.0.0.0) c.0.1 (index t.0.0) ≡ item_at p k (index t.0.0) = cc in
-    (index t.0.0, subst (Contains (map (item_of index) items)) is has))
+cores_by_numbers index items cores of p k = (
+  λ h.
+      let x = Contains-preimage (item_of index) items _ h.1 in
+      let prod : index x.0.0.0 ≡ p = ap (λ (i : ItemOf). i.prod) x.2 in
+      let dot : x.0.1 ≡ k = ap (λ (i : ItemOf). i.dot) x.2 in
+      let is : (index x.0.0.0, x.0.1) ≡ (p, k) = cc in
+      subst (Contains (map (core_of index) cores)) is (Contains-image (core_of index) cores (x.0.0, x.0.1) ((of x.0.0 x.0.1).1 (x.0.2, x.1))),
+  λ h.
+      let c = Contains-preimage (core_of index) cores _ h in
+      let prod : index c.0.0.0 ≡ p = ap (λ (i : ℕ × ℕ). i.0) c.2 in
+      let dot : c.0.1 ≡ k = ap (λ (i : ℕ × ℕ). i.1) c.2 in
+      let t = (of c.0.0 c.0.1).0 c.1 in
+      let has = Contains-image (item_of index) items (c.0.0, c.0.1, t.0) t.1 in
+      let is : item_at (index c.0.0.0) c.0.1 (index t.0.0) ≡ item_at p k (index t.0.0) = cc in
+      (index t.0.0, subst (Contains (map (item_of index) items)) is has),
+)
 
 -- one more element on each side
 pub HaveSame-push : {X : Type 0} (xs ys zs : List X) (y : X) → HaveSame xs ys → HaveSame zs (xs ++ y ∷ []) → HaveSame zs (ys ++ y ∷ [])
-HaveSame-push xs ys zs y same pushed x =
-    (λ h.
-    elim (Contains-push_cases xs y x ((pushed x).0 h)) as (λ _. Contains (ys ++ y ∷ []) x) [
-      inl before ↦ Contains-append_left ys (y ∷ []) x ((same x).0 before)
-    | inr last ↦ subst (Contains (ys ++ y ∷ [])) last (Contains-push ys y)
-    ],
-    λ h. (pushed x).1 (
-    elim (Contains-push_cases ys y x h) as (λ _. Contains (xs ++ y ∷ []) x) [
-      inl before ↦ Contains-append_left xs (y ∷ []) x ((same x).1 before)
-    | inr last ↦ subst (Contains (xs ++ y ∷ [])) last (Contains-push xs y)
-    ]))
+HaveSame-push xs ys zs y same pushed x = (
+  λ h.
+      elim (Contains-push_cases xs y x ((pushed x).0 h)) as (λ _. Contains (ys ++ y ∷ []) x) [
+        | inl before ↦ Contains-append_left ys (y ∷ []) x ((same x).0 before)
+        | inr last ↦ subst (Contains (ys ++ y ∷ [])) last (Contains-push ys y)
+      ],
+  λ h. (pushed x).1 (
+      elim (Contains-push_cases ys y x h) as (λ _. Contains (xs ++ y ∷ []) x) [
+        | inl before ↦ Contains-append_left xs (y ∷ []) x ((same x).1 before)
+        | inr last ↦ subst (Contains (xs ++ y ∷ [])) last (Contains-push xs y)
+      ]),
+)
 
 -- the production and the dot of an item
 abbrev pub core_part : {S : Type 0} → PIdx S × ℕ × TIdx S → PIdx S × ℕ
@@ -142,14 +147,15 @@ core_part x = (x.0, x.1)
 -- the productions and dots of a list are its cores
 pub cores_from_same : {S : Type 0} (items : List (PIdx S × ℕ × TIdx S)) (cores : List (PIdx S × ℕ))
     → HaveSame cores (map core_part items) → AreCoresOf items cores
-cores_from_same {S} items cores same p k =
-    (λ h.
-    let x = Contains-preimage core_part items (p, k) ((same (p, k)).0 h) in
-    let prod : x.0.0 ≡ p = ap (λ (c : PIdx S × ℕ). c.0) x.2 in
-    let dot : x.0.1 ≡ k = ap (λ (c : PIdx S × ℕ). c.1) x.2 in
-    let is : (x.0.0, x.0.1, x.0.2) ≡ (p, k, x.0.2) = cc in
-    (x.0.2, subst (Contains items) is x.1),
-    λ h. (same (p, k)).1 (Contains-image core_part items (p, k, h.0) h.1))
+cores_from_same {S} items cores same p k = (
+  λ h.
+      let x = Contains-preimage core_part items (p, k) ((same (p, k)).0 h) in
+      let prod : x.0.0 ≡ p = ap (λ (c : PIdx S × ℕ). c.0) x.2 in
+      let dot : x.0.1 ≡ k = ap (λ (c : PIdx S × ℕ). c.1) x.2 in
+      let is : (x.0.0, x.0.1, x.0.2) ≡ (p, k, x.0.2) = cc in
+      (x.0.2, subst (Contains items) is x.1),
+  λ h. (same (p, k)).1 (Contains-image core_part items (p, k, h.0) h.1),
+)
 
 -- rows with the same elements have them at each place, and at no place past the end
 pub same_at_each : {X : Type 0} (xs ys : List (List X)) → AllZip HaveSame xs ys → (s : ℕ) → HaveSame (slice_index_or xs s []) (slice_index_or ys s [])

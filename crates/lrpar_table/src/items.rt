@@ -38,10 +38,7 @@ impl<StorageT: StorageNum> Model for ItemSet<StorageT> {
 
 impl<StorageT: StorageNum> ItemSet<StorageT> {
     /// The set of the row's items. The row is sorted in place; memory is taken for the cores alone.
-    pub(crate) fn from_row(
-        alloc: Global,
-        row: Vec<Item<StorageT>>,
-    ) -> Result<Self, AllocError>
+    pub(crate) fn from_row(alloc: Global, row: Vec<Item<StorageT>>) -> Result<Self, AllocError>
         ensures same { IfOk result (λ set. HaveSame set (row_of StorageT.index row)) }
     {
         let items = Ascending::from_vec(row);
@@ -50,12 +47,7 @@ impl<StorageT: StorageNum> ItemSet<StorageT> {
     }
 
     /// Whether the item is one of the set: a binary search.
-    pub(crate) fn has_item(
-        &self,
-        prod: PIdx<StorageT>,
-        dot: usize,
-        token: TIdx<StorageT>,
-    ) -> bool
+    pub(crate) fn has_item(&self, prod: PIdx<StorageT>, dot: usize, token: TIdx<StorageT>) -> bool
         ensures found { IsTrue result ↔ Contains self.now (item_at (StorageT.index prod.0) dot (StorageT.index token.0)) }
     {
         self.items.contains(&(prod, dot, token))

@@ -1,4 +1,4 @@
-use Rattle.std.proofs.Common.{◌≡◌, ◌++◌, ◌+◌, ◌∷◌, [], ◌∙◌, map, take, sym, ap, arith}
+use Rattle.std.proofs.Common.{◌≡◌, ◌++◌, ◌+◌, ◌∷◌, [], map, take}
 use Rattle.std.proofs.lemmas.List.{map-append, take_all, take_more}
 use Rattle.lrpar_table.specs.Ascending.{HaveSame}
 use Rattle.lrpar_table.proofs.ItemLemmas.{HaveSame-push, core_part, cores_from_same, cores_same_by_test, cores_told_apart, exact_index}

@@ -1,6 +1,3 @@
-use Rattle.std.proofs.Common.{ap}
-use Rattle.std.specs.Ordering.{nat_cmp, ordering_then}
-use Rattle.std.specs.declared.cmp.Ordering.{Ordering}
 use Rattle.lrpar_table.specs.Graph.{item_cmp}
 use Rattle.lrpar_table.specs.PlainItems.{item_of}
 use Rattle.lrpar_table.proofs.ItemLemmas.{sorted_image, same_item_order}
