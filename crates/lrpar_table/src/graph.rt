@@ -70,7 +70,7 @@ impl<StorageT: StorageNum> StateGraph<StorageT> {
         dot: usize,
         t: TIdx<StorageT>,
     ) -> bool
-        ensures { IsTrue result ↔ HasItem self.now (StorageT.index s.0) (StorageT.index p.0) dot (StorageT.index t.0) }
+        ensures found { IsTrue result ↔ HasItem self.now (StorageT.index s.0) (StorageT.index p.0) dot (StorageT.index t.0) }
     {
         match self.sets.get(usize::from(s)) {
             Some(set) => set.has_item(p, dot, t),
@@ -81,7 +81,7 @@ impl<StorageT: StorageNum> StateGraph<StorageT> {
     /// Whether state `s` has an item of production `p` with `dot` symbols before the dot, with some lookahead. A state
     /// out of range has none. It is a binary search, in O(log n) for the state's n cores.
     pub fn has_core(&self, s: StIdx<StorageT>, p: PIdx<StorageT>, dot: usize) -> bool
-        ensures { IsTrue result ↔ HasCore self.now (StorageT.index s.0) (StorageT.index p.0) dot }
+        ensures found { IsTrue result ↔ HasCore self.now (StorageT.index s.0) (StorageT.index p.0) dot }
     {
         match self.sets.get(usize::from(s)) {
             Some(set) => set.has_core(p, dot),
