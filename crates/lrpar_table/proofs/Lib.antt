@@ -1,2 +1,5 @@
 pub mod Mapped
 pub mod Reductions
+pub mod AscendingLemmas
+pub mod ItemLemmas
+pub mod GraphLemmas

@@ -1,6 +1,9 @@
 pub mod Table
 pub mod Stack
 pub mod Reduction
+pub mod Graph
 pub mod Sum
 pub mod PlainConflicts
 pub mod PlainRows
+pub mod PlainItems
+pub mod Ascending

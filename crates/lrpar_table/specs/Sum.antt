@@ -2,6 +2,7 @@
 use Rattle.std.specs.Prelude.{ℕ, List, [], ◌∷◌, Option, Some, None}
 use Rattle.lrpar_grammar.specs.Span.{nowhere}
 use Rattle.lrpar_grammar.specs.Grammar.{Grammar, GrammarSymbol, Nonterminal, Terminal, Production, RuleName, TokenName, added_rule, added_prod}
+use Rattle.lrpar_table.specs.Graph.{Graph, item_at}
 use Rattle.lrpar_table.specs.Table.{Table, TableAction, ShiftTo, ReduceBy, Accepts, Fails}
 
 -- a production with no places
@@ -50,3 +51,15 @@ sum_table = record {
       ∷ three_gotos None (Some 5) (Some 2) ∷ three_gotos None None None ∷ [];
   conflicts = None;
 }
+
+-- the items of those states: 0 `^: . E {end}`, `E: . T '+' E {end}`, `E: . T {end}`, `T: . 'ID' {'+', end}`;
+-- 1 `^: E . {end}`; 2 `E: T . '+' E {end}`, `E: T . {end}`; 3 `T: 'ID' . {'+', end}`; 4 `E: T '+' . E {end}`,
+-- `E: . T '+' E {end}`, `E: . T {end}`, `T: . 'ID' {'+', end}`; 5 `E: T '+' E . {end}`
+abbrev pub sum_graph : Graph
+sum_graph =
+    (item_at 3 0 2 ∷ item_at 0 0 2 ∷ item_at 1 0 2 ∷ item_at 2 0 0 ∷ item_at 2 0 2 ∷ [])
+    ∷ (item_at 3 1 2 ∷ [])
+    ∷ (item_at 0 1 2 ∷ item_at 1 1 2 ∷ [])
+    ∷ (item_at 2 1 0 ∷ item_at 2 1 2 ∷ [])
+    ∷ (item_at 0 2 2 ∷ item_at 0 0 2 ∷ item_at 1 0 2 ∷ item_at 2 0 0 ∷ item_at 2 0 2 ∷ [])
+    ∷ (item_at 0 3 2 ∷ []) ∷ []

@@ -1,8 +1,9 @@
 //! Laws about the definitions that contracts cite: each function has one as its contract, and does nothing.
 ghost use Rattle.std.specs.Prelude.{◌≡◌, ◌^◌, ◌∷◌, [], Some, None};
+ghost use Rattle.lrpar_table.specs.Graph.{HasCore, HasItem, graph_len};
 ghost use Rattle.lrpar_table.specs.Reduction.{SettlesOneWay, Settles};
 ghost use Rattle.lrpar_table.specs.Stack.{IsStack};
-ghost use Rattle.lrpar_table.specs.Sum.{sum_grammar, sum_table};
+ghost use Rattle.lrpar_table.specs.Sum.{sum_grammar, sum_graph, sum_table};
 ghost use Rattle.lrpar_table.specs.Table.{AreRows, ShiftTo, ReduceBy, Accepts, Fails, action_of, goto_of, states_len};
 
 /// From a stack, under a token, there is at most one list of reductions after which none is left, and one stack that
@@ -40,4 +41,15 @@ pub fn sum_table_has_stack()
 /// At the end of `ID + ID` the small table reduces by `T: 'ID'`, by `E: T` and by `E: T '+' E`.
 pub fn sum_table_settles()
     ensures { Settles sum_grammar sum_table 2 (0 ∷ 2 ∷ 4 ∷ 3 ∷ []) (2 ∷ 1 ∷ 0 ∷ []) (0 ∷ 1 ∷ []) }
+{}
+
+/// Items and cores that states of the small table have: `E: T . '+' E {end}` in state 2, `T: . 'ID'` in state 4; and some
+/// that they lack, by the lookahead, by the dot or by the state.
+pub fn sum_graph_has_items()
+    ensures states { graph_len sum_graph ≡ 6 }
+    ensures item { HasItem sum_graph 2 0 1 2 }
+    ensures other_token { ¬ (HasItem sum_graph 2 0 1 0) }
+    ensures core { HasCore sum_graph 4 2 0 }
+    ensures other_dot { ¬ (HasCore sum_graph 4 2 1) }
+    ensures no_state { ¬ (HasCore sum_graph 6 0 3) }
 {}

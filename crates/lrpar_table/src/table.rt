@@ -7,6 +7,7 @@ ghost use Rattle.lrpar_table.specs.declared.table.TableFault.{TableFault};
 ghost use Rattle.lrpar_table.specs.declared.table.TableFault.TheVariants.{Memory};
 
 pub use crate::conflicts::Conflicts;
+pub use crate::graph::StateGraph;
 pub use crate::rows::{Action, TableRows};
 use lrpar_grammar::span::{RIdx, StIdx, StorageNum, TIdx};
 use std::alloc::{AllocError, AllocFailed};
@@ -174,7 +175,7 @@ fn are_entries<StorageT: StorageNum>(rows: &TableRows<StorageT>) -> bool
 }
 
 /// Whether `StorageT` has at least `count` numbers.
-fn has_numbers<StorageT: StorageNum>(count: usize) -> bool
+pub(crate) fn has_numbers<StorageT: StorageNum>(count: usize) -> bool
     ensures { IsTrue result ↔ (count ≤ StorageT.limit) }
 {
     match count.checked_sub(1) {
