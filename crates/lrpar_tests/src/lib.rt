@@ -8,6 +8,8 @@ mod fixtures;
 #[cfg(test)]
 mod grammar;
 #[cfg(test)]
+mod graph;
+#[cfg(test)]
 mod lexer;
 #[cfg(test)]
 mod parse;
