@@ -1,5 +1,5 @@
 -- The answers of a parse whose lexer answered no error.
-use Rattle.std.proofs.Common.{◌≡◌, ◌↔◌, ℕ, List, map, Option, Some, None, Result, Ok, Err, IfOk, IfErr, Vec, refl, sym, subst, ap, ◌∙◌}
+use Rattle.std.proofs.Common.{◌≡◌, List, map, Option, Some, None, Result, Err, IfOk, IfErr, Vec, refl, sym, subst, ap, ◌∙◌}
 use Rattle.lrpar_grammar.specs.Grammar.{Grammar}
 use Rattle.lrpar_grammar.specs.Sentence.{LexemeFacts, IsFirstBadToken, IsFirstEarlyStart}
 use Rattle.lrpar.specs.Lexed.{first_error, lexemes_of}

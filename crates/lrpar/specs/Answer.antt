@@ -1,5 +1,5 @@
 -- What a parse call answers where it isn't refused: a value, where it comes to one, and the errors.
-use Rattle.std.specs.Prelude.{◌≡◌, ◌⊎◌, [], ◌∷◌, Option, Some, None, IsSome, Vec}
+use Rattle.std.specs.Prelude.{◌≡◌, ◌⊎◌, [], ◌∷◌, Option, None, IsSome, Vec}
 use Rattle.lrpar.specs.Failure.{Failure}
 use Rattle.lrpar.specs.declared.errors.LexParseError.{LexParseError}
 use Rattle.lrpar.specs.declared.errors.LexParseError.TheVariants.{ParseError}
