@@ -1,4 +1,4 @@
--- The grammar `E: T '+' E | T; T: 'ID';`, on which the definitions are tried: tokens `+` 0, ID 1, the end token 2;
+-- The grammar of the text `%% E: T '+' E | T; T: 'ID';`, on which the definitions are tried: tokens `+` 0, ID 1, the end token 2;
 -- rules E 1, T 2; productions `E: T '+' E` 0, `E: T` 1, `T: 'ID'` 2, `^: E` 3.
 use Rattle.std.specs.Prelude.{◌≡◌, ℕ, List, [], ◌∷◌, codes, Some, None}
 use Rattle.lrpar_grammar.specs.Span.{Extent}
@@ -16,11 +16,11 @@ prod rule symbols spans span = record { rule = rule; symbols = symbols; symbol_s
 -- the grammar
 abbrev pub sum_grammar : Grammar
 sum_grammar = record {
-  rules = added_rule ∷ record { name = codes "E"; span = extent 3 4 } ∷ record { name = codes "T"; span = extent 20 21 } ∷ [];
-  tokens = record { name = codes "+"; epp = codes "+"; span = extent 9 10 } ∷ record { name = codes "ID"; epp = codes "ID"; span = extent 24 26 } ∷ [];
+  rules = added_rule ∷ record { name = codes "E"; span = extent 3 4 } ∷ record { name = codes "T"; span = extent 19 20 } ∷ [];
+  tokens = record { name = codes "+"; epp = codes "+"; span = extent 9 10 } ∷ record { name = codes "ID"; epp = codes "ID"; span = extent 23 25 } ∷ [];
   prods = prod 1 (Nonterminal 2 ∷ Terminal 0 ∷ Nonterminal 1 ∷ []) (extent 6 7 ∷ extent 9 10 ∷ extent 12 13 ∷ []) (extent 6 13)
       ∷ prod 1 (Nonterminal 2 ∷ []) (extent 16 17 ∷ []) (extent 16 17)
-      ∷ prod 2 (Terminal 1 ∷ []) (extent 24 26 ∷ []) (extent 24 26)
+      ∷ prod 2 (Terminal 1 ∷ []) (extent 23 25 ∷ []) (extent 23 25)
       ∷ added_prod 1 ∷ [];
   start = 1;
 }
@@ -46,10 +46,10 @@ pub record SumIsWorkedOut : Type 0 where
   pub of_rule : prods_of sum_grammar 1 ≡ 0 ∷ 1 ∷ []
   pub added : prods_of sum_grammar 0 ≡ 3 ∷ []
   pub name : rule_name sum_grammar 0 ≡ codes "^"
-  pub name_span : rule_span sum_grammar 2 ≡ extent 20 21
+  pub name_span : rule_span sum_grammar 2 ≡ extent 19 20
   pub token : token_name sum_grammar 1 ≡ Some (codes "ID")
   pub printed : token_epp sum_grammar 0 ≡ Some (codes "+")
-  pub span : token_span sum_grammar 1 ≡ Some (extent 24 26)
+  pub span : token_span sum_grammar 1 ≡ Some (extent 23 25)
   pub unnamed : token_name sum_grammar 2 ≡ None
   pub leaves : leaves sum_tree ≡ 1 ∷ 0 ∷ 1 ∷ []
   pub productions : productions sum_tree ≡ 2 ∷ 2 ∷ 1 ∷ 0 ∷ []
