@@ -1,3 +1,5 @@
 pub mod ListLemmas
 pub mod RowsLemmas
 pub mod PartsLemmas
+pub mod ForestLemmas
+pub mod RewritingLemmas

@@ -1,16 +1,17 @@
 -- What sound parts make, and the one fault of parts that aren't sound.
-use Rattle.std.proofs.Common.{◌≡◌, ◌↔◌, ◌<◌, ◌≤◌, ◌+◌, ℕ, suc, List, [], ◌∷◌, ◌++◌, length, map, get_or, Vec, Option, Some, Result, Err, refl, subst, sym, ap, ◌∙◌, arith}
+use Rattle.std.proofs.Common.{inl, inr, ◌≡◌, ◌↔◌, ◌<◌, ◌≤◌, ◌+◌, ℕ, suc, List, [], ◌∷◌, ◌++◌, length, map, get_or, Vec, Option, Some, Result, Err, refl, subst, sym, ap, ◌∙◌, arith}
 use Rattle.std.specs.List.{slice_get, All}
 use Rattle.std.specs.Option.{option_map_or}
 use Rattle.std.proofs.lemmas.Option.{slice_get-get_or}
 use Rattle.std.proofs.lemmas.List.{length-append, length-map, get_or_append_left, get_or_at}
 use Rattle.lrpar_grammar.specs.declared.grammar.parts.GrammarFault.{GrammarFault}
+use Rattle.std.proofs.lemmas.Bool.{cases_lt}
 use Rattle.std.specs.declared.alloc.Global.{Global}
 use Rattle.lrpar_grammar.specs.declared.span.PIdx.{PIdx}
 use Rattle.lrpar_grammar.specs.declared.grammar.parts.GrammarParts.{GrammarParts}
 use Rattle.lrpar_grammar.specs.declared.grammar.prods.SplitProd.{SplitProd}
 use Rattle.lrpar_grammar.specs.Kept.{AreRowsOf, IsKept, kept_grammar, split_prod_of}
-use Rattle.lrpar_grammar.specs.Grammar.{added_rule, Production, IsListedSymbol, IsWellFormed, added_prod, rule_of, symbols_of, rules_len, end_token, start_prod}
+use Rattle.lrpar_grammar.specs.Grammar.{added_rule, Production, IsListedSymbol, IsWellFormed, added_prod, rule_of, symbols_of, rules_len, end_token, start_prod, Grammar}
 use Rattle.lrpar_grammar.specs.Parts.{Parts, AreSound, IsListedProd, grammar_of, parts_of, prod_of, rule_name_of}
 
 -- the fault that was found is the one that is answered
@@ -82,3 +83,15 @@ kept_parts {S} limit index parts prods rows sound split by_rule =
       prods = let few : length x.prods < limit = sound.storage.prods in omega arith;
       by_rule = subst (λ n. AreRowsOf index n (map (split_prod_of index) prods) rows) rules_are by_rule;
     }
+
+-- the rule of a production is one of the grammar
+pub rule_of_within : (g : Grammar) (p : ℕ) → IsWellFormed g → p < length g.prods → rule_of g p < rules_len g
+rule_of_within g p formed within =
+    elim (cases_lt p (start_prod g)) [
+      | inl listed ↦ formed.rule_within p listed
+      | inr last ↦
+          let place : start_prod g ≡ p = omega arith in
+          let zero : rule_of g p ≡ 0 = ap (rule_of g) (sym place) ∙ formed.last_rule in
+          let some : g.start < rules_len g = formed.start_within in
+          omega arith
+    ]

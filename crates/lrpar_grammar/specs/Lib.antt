@@ -2,6 +2,7 @@ pub mod Span
 pub mod Grammar
 pub mod Tree
 pub mod Sentence
+pub mod Rewriting
 pub mod Symbols
 pub mod Parts
 pub mod Kept

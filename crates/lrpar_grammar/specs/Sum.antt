@@ -1,9 +1,10 @@
 -- The grammar of the text `%% E: T '+' E | T; T: 'ID';`, on which the definitions are tried: tokens `+` 0, ID 1, the end token 2;
 -- rules E 1, T 2; productions `E: T '+' E` 0, `E: T` 1, `T: 'ID'` 2, `^: E` 3.
-use Rattle.std.specs.Prelude.{◌≡◌, ℕ, List, [], ◌∷◌, codes, Some, None}
+use Rattle.std.specs.Prelude.{◌≡◌, ℕ, false, List, [], ◌∷◌, codes, Some, None}
 use Rattle.lrpar_grammar.specs.Span.{Extent}
 use Rattle.lrpar_grammar.specs.Grammar.{Grammar, GrammarSymbol, Production, Nonterminal, Terminal, added_rule, added_prod, rules_len, prods_len, tokens_len, end_token, start_prod, symbols_of, prod_len, rule_of, symbol_spans_of, prod_span_of, rule_name, rule_span, token_name, token_epp, token_span, prods_of}
 use Rattle.lrpar_grammar.specs.Tree.{Tree, Leaf, Branch, Nil, Cons, leaves, productions, Fits}
+use Rattle.lrpar_grammar.specs.Sentence.{LexemeFacts}
 
 -- a part of the grammar's text
 abbrev extent : ℕ → ℕ → Extent
@@ -25,13 +26,29 @@ sum_grammar = record {
   start = 1;
 }
 
--- the tree of a text that reads ID `+` ID, over bare tokens
-abbrev pub sum_tree : Tree ℕ
-sum_tree =
-    let term : Tree ℕ = Branch 2 (Cons (Leaf 1) Nil) in
-    Branch 0 (Cons term (Cons (Leaf 0) (Cons (Branch 1 (Cons term Nil)) Nil)))
+-- the tree of a text that reads ID `+` ID, over its three lexemes
+abbrev pub tree_of_sum : {X : Type 0} → X → X → X → Tree X
+tree_of_sum {X} left plus right =
+    let term : X → Tree X = λ x. Branch 2 (Cons (Leaf x) Nil) in
+    Branch 0 (Cons (term left) (Cons (Leaf plus) (Cons (Branch 1 (Cons (term right) Nil)) Nil)))
 
--- what the definitions say of the grammar and the tree
+-- that tree over bare tokens
+abbrev pub token_tree : Tree ℕ
+token_tree = tree_of_sum 1 0 1
+
+-- a lexeme of a text, which no repair made
+abbrev lexeme : ℕ → ℕ → ℕ → LexemeFacts
+lexeme token start end = record { token = token; span = extent start end; faulty = false }
+
+-- the three lexemes of the text `a+b`
+abbrev pub sum_lexemes : List LexemeFacts
+sum_lexemes = lexeme 1 0 1 ∷ lexeme 0 1 2 ∷ lexeme 1 2 3 ∷ []
+
+-- the tree of the text `a+b`
+abbrev pub sum_tree : Tree LexemeFacts
+sum_tree = tree_of_sum (lexeme 1 0 1) (lexeme 0 1 2) (lexeme 1 2 3)
+
+-- what the definitions say of the grammar and the tree over tokens
 pub record SumIsWorkedOut : Type 0 where
   pub rules : rules_len sum_grammar ≡ 3
   pub prods : prods_len sum_grammar ≡ 4
@@ -51,6 +68,6 @@ pub record SumIsWorkedOut : Type 0 where
   pub printed : token_epp sum_grammar 0 ≡ Some (codes "+")
   pub span : token_span sum_grammar 1 ≡ Some (extent 23 25)
   pub unnamed : token_name sum_grammar 2 ≡ None
-  pub leaves : leaves sum_tree ≡ 1 ∷ 0 ∷ 1 ∷ []
-  pub productions : productions sum_tree ≡ 2 ∷ 2 ∷ 1 ∷ 0 ∷ []
-  pub fits : Fits (λ token. token) sum_grammar sum_tree (Nonterminal 1)
+  pub leaves : leaves token_tree ≡ 1 ∷ 0 ∷ 1 ∷ []
+  pub productions : productions token_tree ≡ 2 ∷ 2 ∷ 1 ∷ 0 ∷ []
+  pub fits : Fits (λ token. token) sum_grammar token_tree (Nonterminal 1)

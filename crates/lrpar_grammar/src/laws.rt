@@ -1,7 +1,31 @@
 //! Laws of the definitions that contracts cite. Each function does nothing: its clauses are the law.
-ghost use Rattle.lrpar_grammar.specs.Sum.{SumIsWorkedOut};
+ghost use Rattle.std.specs.Prelude.{◌≡◌, [], ◌∷◌};
+ghost use Rattle.lrpar_grammar.specs.Grammar.{Nonterminal};
+ghost use Rattle.lrpar_grammar.specs.Rewriting.{LeavesAreDerived, DerivedAreLeaves};
+ghost use Rattle.lrpar_grammar.specs.Sentence.{LexemeFacts};
+ghost use Rattle.lrpar_grammar.specs.Sum.{SumIsWorkedOut, sum_grammar, sum_lexemes, sum_tree};
+ghost use Rattle.lrpar_grammar.specs.Tree.{Fits, leaves, productions};
 
 /// The definitions give the numbers, names and places of a small grammar, and the leaves and productions of a tree.
 pub fn sum_is_worked_out()
     ensures { SumIsWorkedOut }
+{}
+
+/// The tree of `a+b` fits the rule E, and not the rule T. Its leaves are the three lexemes, and its productions are `T: 'ID'` twice,
+/// `E: T` and `E: T '+' E`.
+pub fn sum_tree_fits()
+    ensures fits { Fits (λ x. x.token) sum_grammar sum_tree (Nonterminal 1) }
+    ensures lexemes { leaves sum_tree ≡ sum_lexemes }
+    ensures prods { productions sum_tree ≡ 2 ∷ 2 ∷ 1 ∷ 0 ∷ [] }
+    ensures other_rule { ¬ (Fits (λ x. x.token) sum_grammar sum_tree (Nonterminal 2)) }
+{}
+
+/// Derivation trees and rewriting are one, over lexemes of any type and over those that contracts speak of: the tokens of a
+/// tree's leaves are derived from the symbol that the tree fits, and lexemes whose tokens are derived from a symbol are the
+/// leaves of a tree that fits it.
+pub fn trees_are_derivations<LexemeT>()
+    ensures derived { LeavesAreDerived LexemeT }
+    ensures has_tree { DerivedAreLeaves LexemeT }
+    ensures facts_derived { LeavesAreDerived LexemeFacts }
+    ensures facts_have_tree { DerivedAreLeaves LexemeFacts }
 {}

@@ -149,7 +149,8 @@ impl<StorageT: StorageNum> YaccGrammar<StorageT> {
     /// The rule of a production.
     pub fn prod_to_rule(&self, pidx: PIdx<StorageT>) -> RIdx<StorageT>
         requires { StorageT.index pidx.0 < prods_len self.now }
-        ensures { StorageT.index result.0 ≡ rule_of self.now (StorageT.index pidx.0) }
+        ensures rule { StorageT.index result.0 ≡ rule_of self.now (StorageT.index pidx.0) }
+        ensures within { StorageT.index result.0 < rules_len self.now }
     {
         self.prods[usize::from(pidx)].rule
     }
@@ -229,6 +230,7 @@ impl<StorageT: StorageNum> YaccGrammar<StorageT> {
     pub fn start_prod(&self) -> PIdx<StorageT>
         ensures number { StorageT.index result.0 ≡ start_prod self.now }
         ensures within { StorageT.index result.0 < prods_len self.now }
+        ensures well_formed { IsWellFormed self.now }
     {
         PIdx(StorageT::from_index(self.prods.len() - 1).unwrap())
     }
