@@ -3,3 +3,10 @@ pub mod Reductions
 pub mod AscendingLemmas
 pub mod ItemLemmas
 pub mod GraphLemmas
+pub mod SafetyLemmas
+pub mod PathLemmas
+pub mod StackLemmas
+pub mod ChainLemmas
+pub mod ChainTests
+pub mod StepLemmas
+pub mod SettleLemmas

@@ -2,6 +2,12 @@ pub mod Table
 pub mod Stack
 pub mod Reduction
 pub mod Graph
+pub mod Safe
+pub mod Path
+pub mod Chain
+pub mod Step
+pub mod Settled
+pub mod Checked
 pub mod Sum
 pub mod PlainConflicts
 pub mod PlainRows

@@ -2,7 +2,7 @@
 use Rattle.std.specs.Prelude.{◌≡◌, ◌<◌, ◌-◌, ℕ, List, [], ◌∷◌, ◌++◌, length, take, Option, Some}
 use Rattle.std.specs.Option.{option_map_or, option_and_then}
 use Rattle.lrpar_grammar.specs.Grammar.{Grammar, prods_len, prod_len, rule_of}
-use Rattle.lrpar_table.specs.Table.{Table, TableAction, ReduceBy, Fails, action_of, goto_of}
+use Rattle.lrpar_table.specs.Table.{Table, TableAction, ShiftTo, ReduceBy, Fails, action_of, goto_of}
 use Rattle.lrpar_table.specs.Stack.{top_of}
 
 -- what is done at token t on a stack: the action of its top
@@ -27,6 +27,11 @@ pub record Reduces (g : Grammar) (table : Table) (t : ℕ) (st : List ℕ) (p : 
   pub goto : top_goto table (rule_of g p) (left_by g p st) ≡ Some state
   pub pushed : after ≡ left_by g p st ++ state ∷ []
 
+-- at token t the stack reduces by each of `prods`, in this order, which gives the stack `after`; more may follow
+abbrev pub ReducesBy : Grammar → Table → ℕ → List ℕ → List ℕ → List ℕ → Type 0
+ReducesBy g table t st [] after = st ≡ after
+ReducesBy g table t st (p ∷ prods) after = (next : List ℕ) × Reduces g table t st p next × ReducesBy g table t next prods after
+
 -- at token t the stack's top has no reduction
 abbrev pub IsSettled : Table → ℕ → List ℕ → Type 0
 IsSettled table t st = (p : ℕ) → ¬ (top_action table t st ≡ ReduceBy p)
@@ -35,6 +40,15 @@ IsSettled table t st = (p : ℕ) → ¬ (top_action table t st ≡ ReduceBy p)
 abbrev pub Settles : Grammar → Table → ℕ → List ℕ → List ℕ → List ℕ → Type 0
 Settles g table t st [] after = (st ≡ after) × IsSettled table t st
 Settles g table t st (p ∷ prods) after = (next : List ℕ) × Reduces g table t st p next × Settles g table t next prods after
+
+-- at token t the stack makes all reductions, by `prods`, and the top of the stack that they give shifts the token to a
+-- state, which is pushed: this gives the stack `after`
+pub record Feeds (g : Grammar) (table : Table) (t : ℕ) (st prods after : List ℕ) : Type 0 where
+  pub settled : List ℕ
+  pub settles : Settles g table t st prods settled
+  pub next : ℕ
+  pub shifts : top_action table t settled ≡ ShiftTo next
+  pub pushed : after ≡ settled ++ next ∷ []
 
 -- from a stack, under a token, there is at most one way to make all reductions
 abbrev pub SettlesOneWay : Type 0

@@ -2,9 +2,17 @@
 #![tactic(auto)]
 
 mod ascending;
+mod chains;
+pub mod check;
+mod condition;
 mod conflicts;
+mod fault;
 mod graph;
 mod items;
 pub mod laws;
 mod rows;
+mod safety;
+mod settle;
+mod stacks;
+mod step;
 pub mod table;

@@ -1,7 +1,7 @@
 //! State tables, which are made of rows and then only read.
-ghost use Rattle.std.specs.Prelude.{◌≡◌, ◌<◌, ◌≤◌, ◌↔◌, ℕ, IsTrue, IsOk, IfOk, IfErr, IsErrOf, All, map, length};
+ghost use Rattle.std.specs.Prelude.{◌≡◌, ◌<◌, ◌≤◌, ◌↔◌, ℕ, IsTrue, IsOk, IfOk, IfErr, IsErrOf, All, None, map, length};
 ghost use Rattle.std.specs.Option.{option_map};
-ghost use Rattle.lrpar_table.specs.Table.{AreRows, IsActionWithin, IsActionRow, IsClosed, IsGotoWithin, IsGotoRow, action_of, goto_of, states_len};
+ghost use Rattle.lrpar_table.specs.Table.{Fails, AreRows, IsActionWithin, IsActionRow, IsClosed, IsGotoWithin, IsGotoRow, action_of, goto_of, states_len};
 ghost use Rattle.lrpar_table.specs.PlainRows.{plain_action, plain_goto, table_of};
 ghost use Rattle.lrpar_table.specs.declared.table.TableFault.{TableFault};
 ghost use Rattle.lrpar_table.specs.declared.table.TableFault.TheVariants.{Memory};
@@ -99,6 +99,7 @@ impl<StorageT: StorageNum> StateTable<StorageT> {
     pub fn tokens_len(&self) -> usize
         ensures tokens { result ≡ self.now.tokens }
         ensures fits { result ≤ StorageT.limit }
+        ensures end { (s t : ℕ) → self.now.tokens ≤ t → action_of self.now s t ≡ Fails }
     {
         self.rows.tokens
     }
@@ -107,6 +108,7 @@ impl<StorageT: StorageNum> StateTable<StorageT> {
     pub fn rules_len(&self) -> usize
         ensures rules { result ≡ self.now.rules }
         ensures fits { result ≤ StorageT.limit }
+        ensures end { (s r : ℕ) → self.now.rules ≤ r → goto_of self.now s r ≡ None }
     {
         self.rows.rules
     }
