@@ -1,5 +1,6 @@
 -- Lexemes of the program, whose tokens are storage numbers.
-use Rattle.std.specs.Prelude.{ℕ, ◌+◌, Bool}
+use Rattle.std.specs.Prelude.{ℕ, ◌+◌, ◌-◌, Bool, true, List, length, slice_get}
+use Rattle.std.specs.Option.{option_map_or}
 use Rattle.lrpar_grammar.specs.Span.{Extent}
 use Rattle.lrpar_grammar.specs.Sentence.{LexemeFacts}
 
@@ -16,3 +17,11 @@ facts_of index x = record { token = index x.token; span = x.span; faulty = x.fau
 -- the parts of a lexeme of `len` bytes from byte `start` on
 abbrev pub lexeme_parts : {S : Type 0} → S → ℕ → ℕ → Bool → LexemeParts S
 lexeme_parts token start len faulty = record { token = token; span = record { start = start; end = start + len }; faulty = faulty }
+
+-- where the last lexeme ends; 0 where there is none
+abbrev pub last_end : List LexemeFacts → ℕ
+last_end lexemes = option_map_or (λ x. x.span.end) (slice_get lexemes (length lexemes - 1)) 0
+
+-- the lexeme past the last one: it has this token, is empty where the last one ends, and is faulty
+abbrev pub lexeme_past : ℕ → List LexemeFacts → LexemeFacts
+lexeme_past token lexemes = record { token = token; span = record { start = last_end lexemes; end = last_end lexemes }; faulty = true }

@@ -7,6 +7,11 @@ pub mod LexParse
 pub mod Lexed
 pub mod LexemeFault
 pub mod Answer
+pub mod Folds
+pub mod Made
+pub mod Run
+pub mod RunLaws
+pub mod RunAnswer
 pub mod Parse
-pub mod Parser
-pub mod Paired
+pub mod Standing
+pub mod Stacked

@@ -14,12 +14,6 @@ pub enum ParseFault {
     /// This lexeme, counted from 0, starts before the one in front of it.
     #[error("start decreases at lexeme {0}")]
     StartsDecrease(usize),
-    /// The action of this state, the top one, can't be taken: the table isn't of the grammar.
-    #[error("bad table at state {0}")]
-    BadTable(usize),
-    /// More than 65,535 reductions are due under one lookahead.
-    #[error("step limit")]
-    StepLimit,
     /// Memory was wanting.
     #[error("out of memory")]
     Memory,

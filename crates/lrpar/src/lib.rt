@@ -3,6 +3,7 @@
 
 pub mod errors;
 mod fault;
+pub mod laws;
 pub mod lex_api;
 mod lexed;
 pub mod parser;
@@ -12,6 +13,7 @@ mod stack;
 pub use errors::{LexParseError, ParseError, ParseRepair};
 pub use lex_api::{LexError, Lexeme, Lexer, LexerTypes, NonStreamingLexer};
 pub use lrpar_grammar::{grammar, span};
-pub use lrpar_table::table;
+pub use lrpar_table::check::ParserData;
+pub use lrpar_table::{check, table};
 pub use parser::RTParserBuilder;
 pub use span::RIdx;

@@ -1,6 +1,7 @@
 //! Parses: the calls that take a lexer and answer a value and the errors.
 ghost use Rattle.std.specs.Prelude.{◌≡◌, ◌⊎◌, List, Result, IsErrOf};
 ghost use Rattle.lrpar.specs.Lexemes.{facts_of};
+ghost use Rattle.lrpar.specs.Made.{made_by};
 ghost use Rattle.lrpar.specs.Parse.{IsParse};
 
 pub use crate::errors::{LexParseError, ParseError, ParseRepair};
@@ -8,27 +9,25 @@ pub use crate::fault::ParseFault;
 use crate::lex_api::{LexerTypes, NonStreamingLexer};
 use crate::lexed::{lexeme_fault, lexemes_or_error};
 use crate::run::{Answer, Run, one_error};
-use lrpar_grammar::grammar::YaccGrammar;
 use lrpar_grammar::span::{RIdx, StorageNum};
-use lrpar_table::table::StateTable;
+use lrpar_table::check::ParserData;
 use std::alloc::Global;
 use std::marker::{Model, PhantomData};
 
-/// A parser of one grammar by one table.
+/// A parser by a checked table.
 #[derive(Drop)]
 pub struct RTParserBuilder<'a, StorageT: StorageNum, LexerTypesT: LexerTypes<StorageT = StorageT>> {
-    grm: &'a YaccGrammar<StorageT>,
-    stable: &'a StateTable<StorageT>,
+    checked: &'a ParserData<StorageT>,
     lexer_types: PhantomData<LexerTypesT>,
 }
 
 impl<'a, StorageT: StorageNum, LexerTypesT: LexerTypes<StorageT = StorageT>> Model
     for RTParserBuilder<'a, StorageT, LexerTypesT> {
-    ghost use Rattle.lrpar.specs.Parser.{Parser};
+    ghost use Rattle.lrpar_table.specs.Checked.{Checked};
 
-    ghost Value = { Parser };
+    ghost Value = { Checked };
 
-    ghost view = { λ p. record { grammar = p.grm.now; table = p.stable.now } };
+    ghost view = { λ p. p.checked.now };
 }
 
 impl<'a, StorageT: StorageNum, LexerTypesT: LexerTypes<StorageT = StorageT>> RTParserBuilder<
@@ -36,14 +35,12 @@ impl<'a, StorageT: StorageNum, LexerTypesT: LexerTypes<StorageT = StorageT>> RTP
     StorageT,
     LexerTypesT,
 > {
-    /// A parser of the grammar by the table.
-    pub fn new(grm: &'a YaccGrammar<StorageT>, stable: &'a StateTable<StorageT>) -> Self
-        ensures grammar { result.grammar ≡ grm.now }
-        ensures table { result.table ≡ stable.now }
+    /// A parser of the grammar by the table that was checked with it.
+    pub fn new(checked: &'a ParserData<StorageT>) -> Self
+        ensures { result ≡ checked.now }
     {
         RTParserBuilder {
-            grm,
-            stable,
+            checked,
             lexer_types: PhantomData,
         }
     }
@@ -56,8 +53,8 @@ impl<'a, StorageT: StorageNum, LexerTypesT: LexerTypes<StorageT = StorageT>> RTP
     /// last one is faulty, has the end token, and is empty at the end of the last one, or at 0 where there are none.
     ///
     /// Refused as `BadToken` or `StartsDecrease` where the lexer answers no error and this lexeme is the first that
-    /// has either fault; as `BadTable` or `StepLimit` where the table isn't one of the grammar; as `Memory` where
-    /// memory is wanting. Takes time linear in the lexemes and the reductions.
+    /// has either fault; as `Memory` where memory is wanting. Takes time linear in the lexemes and the reductions, of
+    /// which there are at most the table's cap times the states on the stack before each lookahead.
     pub fn parse_map<
         'input,
         L: NonStreamingLexer<'input, LexerTypesT>,
@@ -76,14 +73,15 @@ impl<'a, StorageT: StorageNum, LexerTypesT: LexerTypes<StorageT = StorageT>> RTP
         // Memory was wanting, or there is an answer that the lexer allows, and this is the parse over it.
         ensures parse { IsErrOf result ParseFault.Memory
             ⊎ ((lexed : List (Result LexerTypesT.LexemeT LexerTypesT.LexErrorT)) × L.allows lexer.now lexed
-            × IsParse self.now.grammar (λ x. facts_of StorageT.index (LexerTypesT.LexemeT.parts x)) lexed result) }
+            × IsParse self.now (λ x. facts_of StorageT.index (LexerTypesT.LexemeT.parts x))
+            (F.post fterm) (made_by StorageT.index (G.post fnonterm)) lexed result) }
     {
         let answers = lexer.iter(alloc)?;
         match lexemes_or_error(alloc, answers)? {
             Err(error) => Ok(one_error(alloc, LexParseError::LexError(error))?),
-            Ok(lexemes) => match lexeme_fault(self.grm, &lexemes) {
+            Ok(lexemes) => match lexeme_fault(self.checked.grm(), &lexemes) {
                 Some(fault) => Err(fault),
-                None => Run::new(self.grm, self.stable).over(alloc, &lexemes, &fterm, &fnonterm),
+                None => Run::new(self.checked).over(alloc, &lexemes, &fterm, &fnonterm),
             },
         }
     }

@@ -1,90 +1,102 @@
-//! The stacks of a run: the states, and between each two neighbours a symbol and its value.
-ghost use Rattle.std.specs.Prelude.{◌≡◌, ◌+◌, ◌≤◌, ◌-◌, vec_len, length, OnOk, IfOk};
-ghost use Rattle.std.specs.Bool.{OnTrue};
-ghost use Rattle.lrpar.specs.Paired.{IsPaired};
+//! The stacks of a run: the states, and what stands between each two neighbours.
+ghost use Rattle.std.specs.Prelude.{◌≡◌, ◌+◌, ◌<◌, ◌≤◌, ◌-◌, [], ◌∷◌, ◌++◌, length, take, drop, Some, OnOk, IfOk};
+ghost use Rattle.lrpar_table.specs.Stack.{top_of};
 
-use lrpar_grammar::span::{StIdx, StorageNum, Symbol};
+use lrpar_grammar::span::{StIdx, StorageNum};
 use std::alloc::{AllocError, Global};
+use std::marker::Model;
 
-/// The stacks. Above the lowest state each state has the symbol and the value that led to it.
-#[derive(Drop)]
-pub(crate) struct Stack<StorageT, V> {
-    states: Vec<StIdx<StorageT>>,
-    symbols: Vec<Symbol<StorageT>>,
-    values: Vec<V>,
+/// What stands on a stack for a symbol.
+#[derive(Debug, Drop)]
+pub enum AStackType<LexemeT, ActionT> {
+    /// For a rule: the value that was made for it.
+    ActionType(ActionT),
+    /// For a token: the lexeme that was shifted.
+    Lexeme(LexemeT),
 }
 
-impl<StorageT: StorageNum, V: Drop> Stack<StorageT, V> {
+/// The stacks. Above the lowest state each state has the entry of the symbol that led to it.
+#[derive(Drop)]
+pub(crate) struct Stack<StorageT: StorageNum, LexemeT, V> {
+    states: Vec<StIdx<StorageT>>,
+    entries: Vec<AStackType<LexemeT, V>>,
+}
+
+impl<StorageT: StorageNum, LexemeT, V> Model for Stack<StorageT, LexemeT, V> {
+    ghost use Rattle.std.specs.Prelude.{map};
+    ghost use Rattle.lrpar.specs.Stacked.{Stacked};
+    ghost use Rattle.lrpar.specs.declared.stack.AStackType.{AStackType};
+
+    ghost Value = { Stacked (AStackType LexemeT V) };
+
+    ghost view = { λ s. record { states = map (λ x. StorageT.index x.0) s.states.items; entries = s.entries.items } };
+}
+
+impl<StorageT: StorageNum, LexemeT: Copy, V: Drop> Stack<StorageT, LexemeT, V> {
+    ghost use Rattle.lrpar.specs.declared.stack.AStackType.TheVariants.{ActionType};
+
     /// The stack of one state.
     pub(crate) fn new(alloc: Global, start: StIdx<StorageT>) -> Result<Self, AllocError>
-        ensures { IfOk result IsPaired }
+        ensures { IfOk result (λ stack. stack ≡ record { states = StorageT.index start.0 ∷ []; entries = [] }) }
     {
         let mut states = Vec::new(alloc);
         states.push(start)?;
         Ok(Stack {
             states,
-            symbols: Vec::new(alloc),
-            values: Vec::new(alloc),
+            entries: Vec::new(alloc),
         })
+    }
+
+    /// How many states there are.
+    pub(crate) fn height(&self) -> usize
+        ensures { result ≡ length self.now.states }
+    {
+        self.states.len()
     }
 
     /// The top state.
     pub(crate) fn top(&self) -> StIdx<StorageT>
-        requires { IsPaired self.now }
+        requires { 0 < length self.now.states }
+        ensures { top_of self.now.states ≡ Some (StorageT.index result.0) }
     {
         self.states[self.states.len() - 1]
     }
 
-    /// The state that is left on top where `count` symbols are dropped.
-    pub(crate) fn below(&self, count: usize) -> StIdx<StorageT>
-        requires paired { IsPaired self.now }
-        requires deep { count ≤ vec_len self.now.values }
-    {
-        self.states[self.values.len() - count]
-    }
-
-    /// Whether the top symbols are these.
-    pub(crate) fn ends_with(&self, symbols: &[Symbol<StorageT>]) -> bool
-        requires { IsPaired self.now }
-        ensures { OnTrue result (length symbols.now ≤ vec_len self.now.values) }
-    {
-        symbols.len() <= self.symbols.len() && self.symbols.ends_with(symbols)
-    }
-
-    /// Puts a state on top, with the symbol and the value that led to it.
+    /// Puts a state on top, with the entry of the symbol that led to it.
     pub(crate) fn push(
         &mut self,
         state: StIdx<StorageT>,
-        symbol: Symbol<StorageT>,
-        value: V,
+        entry: AStackType<LexemeT, V>,
     ) -> Result<(), AllocError>
-        requires { IsPaired self.old }
-        ensures { OnOk result (IsPaired self.new) }
+        ensures states { OnOk result (self.new.states ≡ self.old.states ++ StorageT.index state.0 ∷ []) }
+        ensures entries { OnOk result (self.new.entries ≡ self.old.entries ++ entry ∷ []) }
     {
         self.states.push(state)?;
-        self.symbols.push(symbol)?;
-        self.values.push(value)?;
+        self.entries.push(entry)?;
         Ok(())
     }
 
-    /// Drops the top `count` symbols with their states, and answers their values, the lowest first.
-    pub(crate) fn pop(&mut self, count: usize) -> Result<Vec<V>, AllocError>
-        requires paired { IsPaired self.old }
-        requires deep { count ≤ vec_len self.old.values }
-        ensures { OnOk result (IsPaired self.new) }
+    /// Drops the top `count` entries with their states, and answers them, the lowest first.
+    pub(crate) fn pop(&mut self, count: usize) -> Result<Vec<AStackType<LexemeT, V>>, AllocError>
+        requires states { count ≤ length self.old.states }
+        requires entries { count ≤ length self.old.entries }
+        ensures states { OnOk result (self.new.states ≡ take (length self.old.states - count) self.old.states) }
+        ensures entries { OnOk result (self.new.entries ≡ take (length self.old.entries - count) self.old.entries) }
+        ensures popped { IfOk result (λ popped. popped.items ≡ drop (length self.old.entries - count) self.old.entries) }
     {
-        let kept = self.values.len() - count;
-        let popped = self.values.split_off(kept)?;
-        self.symbols.truncate(kept);
-        self.states.truncate(kept + 1);
+        let popped = self.entries.split_off(self.entries.len() - count)?;
+        self.states.truncate(self.states.len() - count);
         Ok(popped)
     }
 
-    /// The one value, where the one symbol on the stack is this one.
-    pub(crate) fn only_value(mut self, symbol: Symbol<StorageT>) -> Option<V> {
-        match self.symbols.as_slice() {
-            [only] if *only == symbol => self.values.pop(),
-            _ => None,
+    /// The value, where it is all that stands on the stack.
+    pub(crate) fn into_value(mut self) -> V
+        requires { (v : V) × (self.entries ≡ ActionType v ∷ []) }
+        ensures { self.entries ≡ ActionType result ∷ [] }
+    {
+        match self.entries.pop() {
+            Some(AStackType::ActionType(value)) => value,
+            Some(AStackType::Lexeme(_)) | None => unreachable!(),
         }
     }
 }

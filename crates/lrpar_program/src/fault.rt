@@ -2,6 +2,7 @@
 ghost use Rattle.std.specs.Prelude.{◌≡◌};
 ghost use Rattle.lrpar_program.specs.declared.fault.Fault.TheVariants.{Memory};
 
+use lrpar::check::CheckFault;
 use lrpar::grammar::GrammarFault;
 use lrpar::parser::ParseFault;
 use lrpar::table::TableFault;
@@ -24,8 +25,11 @@ pub(crate) enum Fault {
     /// A table is refused.
     #[error("lrpar: table: {0}")]
     Table(TableFault),
-    /// A parse is refused, as the table isn't one of the grammar.
+    /// A table isn't safe to parse by.
     #[error("lrpar: table: {0}")]
+    Check(CheckFault),
+    /// A parse is refused for a lexeme, which the lexer of the program doesn't answer.
+    #[error("lrpar: {0}")]
     Parse(ParseFault),
     /// Standard output takes no more.
     #[error("lrpar: cannot write standard output")]
@@ -64,6 +68,15 @@ impl From<TableFault> for Fault {
         match fault {
             TableFault::Memory => Fault::Memory,
             refusal => Fault::Table(refusal),
+        }
+    }
+}
+
+impl From<CheckFault> for Fault {
+    fn from(fault: CheckFault) -> Fault {
+        match fault {
+            CheckFault::Memory => Fault::Memory,
+            refusal => Fault::Check(refusal),
         }
     }
 }

@@ -6,6 +6,7 @@ mod fault;
 mod lexer;
 mod lines;
 mod run;
+mod sum;
 #[cfg(test)]
 mod tests;
 mod text;

@@ -1,9 +1,7 @@
 //! Parse errors and repairs.
-use crate::fixtures::{sum_parts, sum_rows};
+use crate::fixtures::sum_data;
 use crate::lexer::{HandedLexer, HandedTypes, NoToken, Token};
-use lrpar::grammar::YaccGrammar;
 use lrpar::span::{Span, TIdx};
-use lrpar::table::StateTable;
 use lrpar::{LexParseError, Lexeme, ParseError, ParseRepair, RTParserBuilder};
 use std::alloc::Global;
 use std::hash::{DefaultHasher, Hash, Hasher};
@@ -13,14 +11,13 @@ type Repair = ParseRepair<Token<u32>, u32>;
 
 // The error of the parse of `given`, one lexeme of `ID` at each of these bytes.
 fn error_of(alloc: Global, starts: &[usize]) -> Result<ParseError<Token<u32>, u32>, Fail> {
-    let grm = YaccGrammar::from_parts(alloc, sum_parts(alloc)?)?;
-    let stable = StateTable::from_rows(sum_rows(alloc)?)?;
+    let data = sum_data(alloc)?;
     let answers = starts
         .iter()
         .map(|start| Ok(Token::new(1, (*start).min(1_000), 1)))
         .collect::<Vec<_>>(alloc)?;
     let lexer = HandedLexer { answers: &answers };
-    let parser = RTParserBuilder::<u32, HandedTypes>::new(&grm, &stable);
+    let parser = RTParserBuilder::<u32, HandedTypes>::new(&data);
     let (_, mut errors) = parser.parse_map(alloc, &lexer, |_| (), |_, _| ())?;
     match errors.pop() {
         Some(LexParseError::ParseError(error)) => Ok(error),

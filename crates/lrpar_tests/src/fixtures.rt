@@ -1,9 +1,11 @@
 //! Two small grammars with tables by hand: sums, and a rule that derives itself.
 ghost use Rattle.std.specs.Prelude.{◌≡◌, IfOk};
 
-use lrpar::grammar::{GrammarParts, ProdPart, RulePart, TokenPart};
+use lrpar::ParserData;
+use lrpar::check::CheckFault;
+use lrpar::grammar::{GrammarParts, ProdPart, RulePart, TokenPart, YaccGrammar};
 use lrpar::span::{PIdx, RIdx, Span, StIdx, StorageNum, Symbol, TIdx};
-use lrpar::table::{Action, TableRows};
+use lrpar::table::{Action, StateGraph, StateTable, TableRows};
 use std::alloc::Global;
 use std::test::Fail;
 
@@ -197,4 +199,82 @@ fn goto_at<S: StorageNum>(goto: Option<u8>) -> Result<Option<StIdx<S>>, Fail> {
 /// The rows of the table of sums.
 pub(crate) fn sum_rows<S: StorageNum>(alloc: Global) -> Result<TableRows<S>, Fail> {
     rows(alloc, &SUM_ACTIONS, &SUM_GOTOS)
+}
+
+/// An item by numbers: its state, its production, its dot and its lookahead.
+pub(crate) type ItemOf = (u8, u8, usize, u8);
+
+/// The items of the states of sums.
+pub(crate) const SUM_ITEMS: [ItemOf; 16] = [
+    (0, 3, 0, 2),
+    (0, 0, 0, 2),
+    (0, 1, 0, 2),
+    (0, 2, 0, 0),
+    (0, 2, 0, 2),
+    (1, 3, 1, 2),
+    (2, 0, 1, 2),
+    (2, 1, 1, 2),
+    (3, 2, 1, 0),
+    (3, 2, 1, 2),
+    (4, 0, 2, 2),
+    (4, 0, 0, 2),
+    (4, 1, 0, 2),
+    (4, 2, 0, 0),
+    (4, 2, 0, 2),
+    (5, 0, 3, 2),
+];
+
+/// A production, a dot and a lookahead.
+pub(crate) type Item<S> = (PIdx<S>, usize, TIdx<S>);
+
+/// The rows of a graph of so many states that have these items.
+pub(crate) fn item_rows<S: StorageNum>(
+    alloc: Global,
+    items: &[ItemOf],
+    states: usize,
+) -> Result<Vec<Vec<Item<S>>>, Fail> {
+    let mut rows = Vec::new(alloc);
+    for state in 0..states {
+        let mut row = Vec::new(alloc);
+        for (of, prod, dot, token) in items {
+            if usize::from(*of) == state {
+                row.push((PIdx(number(*prod)?), *dot, TIdx(number(*token)?)))?;
+            }
+        }
+        rows.push(row)?;
+    }
+    Ok(rows)
+}
+
+/// The table of these parts, items and rows, checked with the cap.
+pub(crate) fn checked<S: StorageNum>(
+    alloc: Global,
+    parts: GrammarParts<S>,
+    items: &[ItemOf],
+    rows: TableRows<S>,
+    cap: u16,
+) -> Result<Result<ParserData<S>, CheckFault>, Fail> {
+    let grm = YaccGrammar::from_parts(alloc, parts)?;
+    let sgraph = StateGraph::from_rows(alloc, item_rows(alloc, items, rows.actions.len())?)?;
+    let stable = StateTable::from_rows(rows)?;
+    match ParserData::new(alloc, grm, sgraph, stable, cap) {
+        Ok(data) => Ok(Ok(data)),
+        Err(refused) => Ok(Err(refused.fault())),
+    }
+}
+
+/// The table of sums, checked with the cap.
+pub(crate) fn sum_checked<S: StorageNum>(
+    alloc: Global,
+    cap: u16,
+) -> Result<Result<ParserData<S>, CheckFault>, Fail> {
+    checked(alloc, sum_parts(alloc)?, &SUM_ITEMS, sum_rows(alloc)?, cap)
+}
+
+/// The checked table of sums.
+pub(crate) fn sum_data<S: StorageNum>(alloc: Global) -> Result<ParserData<S>, Fail> {
+    match sum_checked(alloc, 2)? {
+        Ok(data) => Ok(data),
+        Err(fault) => Err(Fail::new(format_args!("{fault}"))),
+    }
 }

@@ -2,6 +2,8 @@
 #![tactic(auto)]
 
 #[cfg(test)]
+mod check;
+#[cfg(test)]
 mod errors;
 #[cfg(test)]
 mod fixtures;
@@ -15,5 +17,7 @@ mod lexer;
 mod parse;
 #[cfg(test)]
 mod span;
+#[cfg(test)]
+mod stacks;
 #[cfg(test)]
 mod table;

@@ -1,15 +1,11 @@
 //! Parses by tables that are written by hand.
-use crate::fixtures::{
-    ACCEPT, P0, P1, P2, S3, SUM_ACTIONS, SUM_GOTOS, X, prod, r, rows, rules, sum_parts, sum_rows,
-    t, tokens,
-};
+use crate::fixtures::sum_data;
 use crate::lexer::{HandedLexer, HandedTypes, NoToken, Token};
-use lrpar::grammar::{GrammarParts, YaccGrammar};
 use lrpar::parser::ParseFault;
 use lrpar::span::{RIdx, Span, StIdx};
-use lrpar::table::{StateTable, TableRows};
-use lrpar::{LexParseError, Lexeme, RTParserBuilder};
+use lrpar::{LexParseError, Lexeme, ParserData, RTParserBuilder};
 use std::alloc::Global;
+use std::cell::Cell;
 use std::test::Fail;
 
 // What a lexer answers.
@@ -54,14 +50,11 @@ type Answer = (Option<String>, Vec<LexParseError<u32, HandedTypes>>);
 
 fn parsed(
     alloc: Global,
-    parts: GrammarParts<u32>,
-    rows: TableRows<u32>,
+    data: &ParserData<u32>,
     answers: &[LexAnswer],
 ) -> Result<Result<Answer, ParseFault>, Fail> {
-    let grm = YaccGrammar::from_parts(alloc, parts)?;
-    let stable = StateTable::from_rows(rows)?;
     let lexer = HandedLexer { answers };
-    let parser = RTParserBuilder::<u32, HandedTypes>::new(&grm, &stable);
+    let parser = RTParserBuilder::<u32, HandedTypes>::new(data);
     let answer = parser.parse_map(
         alloc,
         &lexer,
@@ -81,7 +74,7 @@ fn parsed(
 
 // The parse of a sum.
 fn sum_parsed(alloc: Global, answers: &[LexAnswer]) -> Result<Result<Answer, ParseFault>, Fail> {
-    parsed(alloc, sum_parts(alloc)?, sum_rows(alloc)?, answers)
+    parsed(alloc, &sum_data(alloc)?, answers)
 }
 
 #[test]
@@ -206,98 +199,29 @@ fn the_first_lexing_error_stands_alone(rt: HostRuntime) -> Result<(), Fail> {
     Ok(())
 }
 
-// The table of sums without the goto of state 0 by `T`.
-fn without_goto(alloc: Global) -> Result<TableRows<u32>, Fail> {
-    let mut gotos = SUM_GOTOS;
-    gotos[0] = [None, Some(1), None];
-    rows(alloc, &SUM_ACTIONS, &gotos)
-}
-
-// The table of sums with a reduction by `T: 'ID'` at the start.
-fn with_early_reduction(alloc: Global) -> Result<TableRows<u32>, Fail> {
-    let mut actions = SUM_ACTIONS;
-    actions[0] = [X, P2, X];
-    rows(alloc, &actions, &SUM_GOTOS)
-}
-
-// A table of one token less than the grammar of sums has.
-fn with_two_tokens(alloc: Global) -> Result<TableRows<u32>, Fail> {
-    let mut rows = sum_rows(alloc)?;
-    rows.tokens = 2;
-    for row in rows.actions.iter_mut() {
-        row.truncate(2);
-    }
-    Ok(rows)
-}
-
+// A token's value is asked for where its production is reduced, so not for those that stand on the stack at an error.
 #[test]
-fn tables_of_other_grammars(rt: HostRuntime) -> Result<(), Fail> {
+fn calls_of_the_functions(rt: HostRuntime) -> Result<(), Fail> {
     let alloc = rt.alloc();
+    let data = sum_data(alloc)?;
     let rows = [
-        ("no goto", without_goto(alloc)?, ParseFault::BadTable(3)),
-        (
-            "an early reduction",
-            with_early_reduction(alloc)?,
-            ParseFault::BadTable(0),
-        ),
-        (
-            "two tokens",
-            with_two_tokens(alloc)?,
-            ParseFault::BadTable(0),
-        ),
+        ("a+b", [(1, 0), (0, 1), (1, 2)].as_slice(), 3, 4),
+        ("a+", [(1, 0), (0, 1)].as_slice(), 1, 1),
+        ("", [].as_slice(), 0, 0),
     ];
-    let answers = lexemes(alloc, &[(1, 0)])?;
-    for (name, rows, want) in rows {
-        match parsed(alloc, sum_parts(alloc)?, rows, &answers)? {
-            Ok(_) => return Err(Fail::new(format_args!("{name} is taken"))),
-            Err(fault) => assert_eq!(rt; fault, want, "{name}"),
-        }
-    }
-    Ok(())
-}
-
-// The grammar `%start S %% A: A | 'x'; S: A;`.
-fn loop_parts(alloc: Global) -> Result<GrammarParts<u32>, Fail> {
-    let mut prods = Vec::new(alloc);
-    prods.push(prod(alloc, 1, &[(r(1), 15, 1)], 15, 1)?)?;
-    prods.push(prod(alloc, 1, &[(t(0), 20, 1)], 20, 1)?)?;
-    prods.push(prod(alloc, 2, &[(r(1), 27, 1)], 27, 1)?)?;
-    Ok(GrammarParts {
-        rules: rules(alloc, &[("A", 12), ("S", 24)])?,
-        tokens: tokens(alloc, &[("x", 20)])?,
-        prods,
-        start: RIdx(2),
-    })
-}
-
-// A table of that grammar, which reduces by `A: A` at the end of the input, over and over.
-fn loop_rows(alloc: Global) -> Result<TableRows<u32>, Fail> {
-    let actions = [[S3, X, X], [X, P0, X], [X, ACCEPT, X], [X, P1, X]];
-    let none = [None, None, None];
-    let mut rows = rows(
-        alloc,
-        &actions,
-        &[[None, Some(1), Some(2)], none, none, none],
-    )?;
-    rows.tokens = 2;
-    for row in rows.actions.iter_mut() {
-        row.truncate(2);
-    }
-    Ok(rows)
-}
-
-#[test]
-fn reductions_without_end(rt: HostRuntime) -> Result<(), Fail> {
-    let alloc = rt.alloc();
-    let answers = lexemes(alloc, &[(0, 0)])?;
-    let (grammar, table) = (loop_parts(alloc)?, loop_rows(alloc)?);
-    let grm = YaccGrammar::from_parts(alloc, grammar)?;
-    let stable = StateTable::from_rows(table)?;
-    let parser = RTParserBuilder::<u32, HandedTypes>::new(&grm, &stable);
-    let lexer = HandedLexer { answers: &answers };
-    match parser.parse_map(alloc, &lexer, |_| (), |_, _| ()) {
-        Ok(_) => return Err(Fail::new("the parse ends")),
-        Err(fault) => assert_eq!(rt; fault, ParseFault::StepLimit),
+    for (name, given, terms, nonterms) in rows {
+        let answers = lexemes(alloc, given)?;
+        let lexer = HandedLexer { answers: &answers };
+        let (of_terms, of_nonterms) = (Cell::new(0u8), Cell::new(0u8));
+        let parser = RTParserBuilder::<u32, HandedTypes>::new(&data);
+        let _ = parser.parse_map(
+            alloc,
+            &lexer,
+            |_| of_terms.set(of_terms.get().saturating_add(1)),
+            |_, _| of_nonterms.set(of_nonterms.get().saturating_add(1)),
+        )?;
+        assert_eq!(rt; of_terms.get(), terms, "tokens of {name:?}");
+        assert_eq!(rt; of_nonterms.get(), nonterms, "rules of {name:?}");
     }
     Ok(())
 }
@@ -307,8 +231,6 @@ fn texts_of_parse_faults(rt: HostRuntime) -> Result<(), Fail> {
     for (fault, text) in [
         (ParseFault::BadToken(3), "bad token at lexeme 3"),
         (ParseFault::StartsDecrease(5), "start decreases at lexeme 5"),
-        (ParseFault::BadTable(3), "bad table at state 3"),
-        (ParseFault::StepLimit, "step limit"),
         (ParseFault::Memory, "out of memory"),
     ] {
         assert_eq!(rt; format!(in rt.alloc(); "{fault}")?.as_str(), text);

@@ -1,0 +1,358 @@
+//! Checks of tables: the table of sums, and changes for which it is refused.
+use crate::fixtures::{
+    ACCEPT, ItemOf, P0, P1, S3, SUM_ACTIONS, SUM_GOTOS, SUM_ITEMS, X, checked, item_rows, prod, r,
+    rows, rules, sum_checked, sum_parts, t, tokens,
+};
+use lrpar::ParserData;
+use lrpar::check::{CheckFault, Refused, SafetyCondition};
+use lrpar::grammar::{GrammarParts, YaccGrammar};
+use lrpar::span::{PIdx, RIdx, StIdx, StorageNum, TIdx};
+use lrpar::table::{Action, StateGraph, StateTable, TableRows};
+use std::alloc::Global;
+use std::test::Fail;
+
+/// The items and the rows of a table.
+#[derive(Drop)]
+struct Hand {
+    items: Vec<ItemOf>,
+    actions: Vec<[Action<u8>; 3]>,
+    gotos: Vec<[Option<u8>; 3]>,
+}
+
+impl Hand {
+    /// Those of the table of sums.
+    fn sums(alloc: Global) -> Result<Hand, Fail> {
+        Ok(Hand {
+            items: Vec::from_slice(alloc, &SUM_ITEMS)?,
+            actions: Vec::from_slice(alloc, &SUM_ACTIONS)?,
+            gotos: Vec::from_slice(alloc, &SUM_GOTOS)?,
+        })
+    }
+
+    fn graph(&self, alloc: Global) -> Result<StateGraph<u8>, Fail> {
+        Ok(StateGraph::from_rows(alloc, item_rows(alloc, &self.items, self.actions.len())?)?)
+    }
+
+    fn table(&self, alloc: Global) -> Result<StateTable<u8>, Fail> {
+        Ok(StateTable::from_rows(rows(alloc, &self.actions, &self.gotos)?)?)
+    }
+}
+
+/// What is changed in the table of sums.
+#[derive(Clone, Copy, Debug)]
+enum Change {
+    /// The action of the state at the token.
+    Action(usize, usize, Action<u8>),
+    /// The goto of the state by the rule.
+    Goto(usize, usize, Option<u8>),
+    /// One more item.
+    Item(ItemOf),
+    /// One more state, without items, to which the state's action at the token shifts.
+    State(usize, usize),
+}
+
+impl Change {
+    fn of_sums(self, alloc: Global) -> Result<Hand, Fail> {
+        let mut hand = Hand::sums(alloc)?;
+        match self {
+            Change::Action(state, token, action) => put(&mut hand.actions, state, token, action),
+            Change::Goto(state, rule, goto) => put(&mut hand.gotos, state, rule, goto),
+            Change::Item(item) => hand.items.push(item)?,
+            Change::State(state, token) => {
+                put(&mut hand.actions, state, token, Action::Shift(StIdx(6)));
+                hand.actions.push([X, X, X])?;
+                hand.gotos.push([None, None, None])?;
+            }
+        }
+        Ok(hand)
+    }
+}
+
+// Puts the entry at the place in the row.
+fn put<Entry: Copy>(rows: &mut [[Entry; 3]], row: usize, at: usize, entry: Entry) {
+    if let Some(row) = rows.get_mut(row) {
+        if let Some(place) = row.get_mut(at) {
+            *place = entry;
+        }
+    }
+}
+
+fn sum_grammar(alloc: Global) -> Result<YaccGrammar<u8>, Fail> {
+    Ok(YaccGrammar::from_parts(alloc, sum_parts(alloc)?)?)
+}
+
+// The changes, and the faults that they make.
+const CHANGES: [(Change, CheckFault); 9] = [
+    (
+        Change::Action(5, 2, Action::Reduce(PIdx(4))),
+        CheckFault::Shape,
+    ),
+    (
+        Change::Item((0, 3, 1, 2)),
+        CheckFault::Safety(SafetyCondition::S2, 0),
+    ),
+    (
+        Change::State(1, 2),
+        CheckFault::Safety(SafetyCondition::S3, 1),
+    ),
+    (
+        Change::Action(0, 1, Action::Shift(StIdx(5))),
+        CheckFault::Safety(SafetyCondition::S4, 0),
+    ),
+    (
+        Change::Action(2, 2, P0),
+        CheckFault::Safety(SafetyCondition::S5, 2),
+    ),
+    (
+        Change::Goto(4, 2, None),
+        CheckFault::Safety(SafetyCondition::S6, 4),
+    ),
+    (
+        Change::Action(1, 0, ACCEPT),
+        CheckFault::Safety(SafetyCondition::S7, 1),
+    ),
+    (
+        Change::Action(4, 1, Action::Shift(StIdx(0))),
+        CheckFault::Safety(SafetyCondition::S8, 4),
+    ),
+    (
+        Change::Item((4, 3, 0, 2)),
+        CheckFault::Safety(SafetyCondition::S8, 4),
+    ),
+];
+
+// Whether the graph has these items and no others.
+fn has_items(graph: &StateGraph<u8>, hand: &Hand) -> bool {
+    graph.states_len() == hand.actions.len()
+        && (0..7u8).all(|state| (0..4u8).all(|prod| (0..4usize).all(|dot| (0..3u8).all(|token| {
+            let listed = hand
+                .items
+                .iter()
+                .any(|item| *item == (state, prod, dot, token));
+            graph.has_item(StIdx(state), PIdx(prod), dot, TIdx(token)) == listed
+        }))))
+}
+
+// Whether the table has these actions and gotos.
+fn has_rows(table: &StateTable<u8>, hand: &Hand) -> bool {
+    if table.tokens_len() != 3 || table.rules_len() != 3 {
+        return false;
+    }
+    if table.states_len() != hand.actions.len() || table.states_len() > 7 {
+        return false;
+    }
+    for state in 0..table.states_len() {
+        if let Some(index) = u8::from_index(state) {
+            let actions = hand.actions.get(state);
+            let gotos = hand.gotos.get(state);
+            for at in 0..3u8 {
+                let action = table.action(StIdx(index), TIdx(at));
+                let goto = table
+                    .goto(StIdx(index), RIdx(at))
+                    .map(|to| to.as_storaget());
+                let place = usize::from(at);
+                if actions.and_then(|row| row.get(place)) != Some(&action)
+                    || gotos.and_then(|row| row.get(place)) != Some(&goto)
+                {
+                    return false;
+                }
+            }
+        }
+    }
+    true
+}
+
+#[test]
+fn the_table_of_sums_is_checked(rt: HostRuntime) -> Result<(), Fail> {
+    let alloc = rt.alloc();
+    let hand = Hand::sums(alloc)?;
+    let (grm, graph, table) = (sum_grammar(alloc)?, hand.graph(alloc)?, hand.table(alloc)?);
+    let Ok(data) = ParserData::new(alloc, grm, graph, table, 2) else {
+        return Err(Fail::new("the table of sums is refused"));
+    };
+    assert_eq!(rt; data.grm().prods_len(), 4);
+    assert!(rt; has_items(data.sgraph(), &hand));
+    assert!(rt; has_rows(data.stable(), &hand));
+    assert_eq!(rt; data.cap(), 2);
+    Ok(())
+}
+
+#[test]
+fn changed_tables_are_refused(rt: HostRuntime) -> Result<(), Fail> {
+    let alloc = rt.alloc();
+    for (change, want) in CHANGES {
+        let hand = change.of_sums(alloc)?;
+        let (graph, table) = (hand.graph(alloc)?, hand.table(alloc)?);
+        let Err(refused) = ParserData::new(alloc, sum_grammar(alloc)?, graph, table, 2) else {
+            return Err(Fail::new(format_args!("{change:?} is taken")));
+        };
+        assert_eq!(rt; refused.fault(), want, "{change:?}");
+        let was = is_as_it_was(alloc, refused, change)?;
+        assert!(rt; was, "parts of {change:?}");
+    }
+    Ok(())
+}
+
+// Whether the parts of a refused table are as they were, and are taken once what was changed is mended.
+fn is_as_it_was(alloc: Global, refused: Refused<u8>, change: Change) -> Result<bool, Fail> {
+    let (hand, sums) = (change.of_sums(alloc)?, Hand::sums(alloc)?);
+    let (good_graph, good_table) = (sums.graph(alloc)?, sums.table(alloc)?);
+    let (grm, graph, table) = refused.into_parts();
+    let same = grm.prods_len() == 4 && has_items(&graph, &hand) && has_rows(&table, &hand);
+    let mended = match change {
+        Change::Action(..) | Change::Goto(..) => ParserData::new(alloc, grm, graph, good_table, 2),
+        Change::Item(_) => ParserData::new(alloc, grm, good_graph, table, 2),
+        Change::State(..) => ParserData::new(alloc, grm, good_graph, good_table, 2),
+    };
+    Ok(same && mended.is_ok())
+}
+
+// One state less in the graph than in the table, one token less in the table than in the grammar, and other numbers
+// that don't fit.
+#[test]
+fn shapes_that_do_not_fit(rt: HostRuntime) -> Result<(), Fail> {
+    let alloc = rt.alloc();
+    let sums = Hand::sums(alloc)?;
+    let short = StateGraph::from_rows(alloc, item_rows(alloc, &SUM_ITEMS, 5)?)?;
+    let mut one_token_less = rows(alloc, &SUM_ACTIONS, &SUM_GOTOS)?;
+    one_token_less.tokens = 2;
+    for row in one_token_less.actions.iter_mut() {
+        row.truncate(2);
+    }
+    let mut one_rule_less = rows(alloc, &SUM_ACTIONS, &SUM_GOTOS)?;
+    one_rule_less.rules = 2;
+    for row in one_rule_less.gotos.iter_mut() {
+        row.truncate(2);
+    }
+    let rows = [
+        ("a short graph", short, sums.table(alloc)?),
+        (
+            "an item past the productions",
+            Change::Item((0, 4, 0, 2)).of_sums(alloc)?.graph(alloc)?,
+            sums.table(alloc)?,
+        ),
+        (
+            "a dot past the symbols",
+            Change::Item((3, 2, 2, 2)).of_sums(alloc)?.graph(alloc)?,
+            sums.table(alloc)?,
+        ),
+        (
+            "a lookahead past the tokens",
+            Change::Item((0, 3, 0, 3)).of_sums(alloc)?.graph(alloc)?,
+            sums.table(alloc)?,
+        ),
+        (
+            "a token less",
+            sums.graph(alloc)?,
+            StateTable::from_rows(one_token_less)?,
+        ),
+        (
+            "a rule less",
+            sums.graph(alloc)?,
+            StateTable::from_rows(one_rule_less)?,
+        ),
+    ];
+    for (name, graph, table) in rows {
+        match ParserData::new(alloc, sum_grammar(alloc)?, graph, table, 2) {
+            Ok(_) => return Err(Fail::new(format_args!("{name} is taken"))),
+            Err(refused) => assert_eq!(rt; refused.fault(), CheckFault::Shape, "{name}"),
+        }
+    }
+    Ok(())
+}
+
+#[test]
+fn texts_of_check_faults(rt: HostRuntime) -> Result<(), Fail> {
+    for (fault, text) in [
+        (CheckFault::Shape, "shape"),
+        (
+            CheckFault::Safety(SafetyCondition::S2, 0),
+            "condition S2 at state 0",
+        ),
+        (
+            CheckFault::Safety(SafetyCondition::S8, 4),
+            "condition S8 at state 4",
+        ),
+        (
+            CheckFault::ChainTooLong(4, 2),
+            "chain too long at state 4, token 2",
+        ),
+        (CheckFault::Memory, "out of memory"),
+    ] {
+        assert_eq!(rt; format!(in rt.alloc(); "{fault}")?.as_str(), text);
+    }
+    Ok(())
+}
+
+// The grammar `%start S %% A: A | 'x'; S: A;`.
+fn loop_parts(alloc: Global) -> Result<GrammarParts<u32>, Fail> {
+    let mut prods = Vec::new(alloc);
+    prods.push(prod(alloc, 1, &[(r(1), 15, 1)], 15, 1)?)?;
+    prods.push(prod(alloc, 1, &[(t(0), 20, 1)], 20, 1)?)?;
+    prods.push(prod(alloc, 2, &[(r(1), 27, 1)], 27, 1)?)?;
+    Ok(GrammarParts {
+        rules: rules(alloc, &[("A", 12), ("S", 24)])?,
+        tokens: tokens(alloc, &[("x", 20)])?,
+        prods,
+        start: RIdx(2),
+    })
+}
+
+// A table of that grammar, which reduces by `A: A` at the end of the input, over and over.
+fn loop_rows(alloc: Global) -> Result<TableRows<u32>, Fail> {
+    let actions = [[S3, X, X], [X, P0, X], [X, ACCEPT, X], [X, P1, X]];
+    let none = [None, None, None];
+    let mut rows = rows(
+        alloc,
+        &actions,
+        &[[None, Some(1), Some(2)], none, none, none],
+    )?;
+    rows.tokens = 2;
+    for row in rows.actions.iter_mut() {
+        row.truncate(2);
+    }
+    Ok(rows)
+}
+
+// The items of its states: 0 `^: . S`, `S: . A`, `A: . A`, `A: . 'x'`; 1 `S: A .`, `A: A .`; 2 `^: S .`; 3 `A: 'x' .`.
+const LOOP_ITEMS: [ItemOf; 8] = [
+    (0, 3, 0, 1),
+    (0, 2, 0, 1),
+    (0, 0, 0, 1),
+    (0, 1, 0, 1),
+    (1, 2, 1, 1),
+    (1, 0, 1, 1),
+    (2, 3, 1, 1),
+    (3, 1, 1, 1),
+];
+
+#[test]
+fn caps_of_sums(rt: HostRuntime) -> Result<(), Fail> {
+    let alloc = rt.alloc();
+    for (cap, state) in [(0u16, 0usize), (1, 4)] {
+        match sum_checked::<u32>(alloc, cap)? {
+            Ok(_) => return Err(Fail::new(format_args!("cap {cap} is taken"))),
+            Err(fault) => assert_eq!(rt; fault, CheckFault::ChainTooLong(state, 2), "cap {cap}"),
+        }
+    }
+    assert!(rt; sum_checked::<u32>(alloc, 2)?.is_ok());
+    Ok(())
+}
+
+#[test]
+fn a_cycle_passes_every_cap(rt: HostRuntime) -> Result<(), Fail> {
+    let alloc = rt.alloc();
+    for cap in [0u16, 65_535] {
+        match checked(
+            alloc,
+            loop_parts(alloc)?,
+            &LOOP_ITEMS,
+            loop_rows(alloc)?,
+            cap,
+        )? {
+            Ok(_) => return Err(Fail::new(format_args!("cap {cap} is taken"))),
+            Err(fault) => assert_eq!(rt; fault, CheckFault::ChainTooLong(0, 1), "cap {cap}"),
+        }
+    }
+    Ok(())
+}

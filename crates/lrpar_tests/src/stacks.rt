@@ -1,0 +1,73 @@
+//! Stacks of the table of sums.
+use crate::fixtures::sum_data;
+use lrpar::ParserData;
+use lrpar::span::{StIdx, TIdx};
+use std::alloc::Global;
+use std::test::Fail;
+
+// The stack of these states, bottom first.
+fn stack(alloc: Global, states: &[u8]) -> Result<Vec<StIdx<u8>>, Fail> {
+    let mut made = Vec::new(alloc);
+    for state in states {
+        made.push(StIdx(*state))?;
+    }
+    Ok(made)
+}
+
+// The numbers of the states.
+fn numbers(alloc: Global, states: &[StIdx<u8>]) -> Result<Vec<u8>, Fail> {
+    Ok(
+        states
+            .iter()
+            .map(|state| state.as_storaget())
+            .collect(alloc)?,
+    )
+}
+
+#[test]
+fn stacks_and_other_lists(rt: HostRuntime) -> Result<(), Fail> {
+    let data: ParserData<u8> = sum_data(rt.alloc())?;
+    let rows = [
+        ([0, 2, 4, 2].as_slice(), true),
+        ([0].as_slice(), true),
+        ([0, 4].as_slice(), false),
+        ([1].as_slice(), false),
+        ([].as_slice(), false),
+        ([0, 2, 6].as_slice(), false),
+    ];
+    for (states, want) in rows {
+        let stack = stack(rt.alloc(), states)?;
+        assert_eq!(rt; data.is_stack(&stack), want, "{states:?}");
+    }
+    Ok(())
+}
+
+#[test]
+fn reductions_at_the_end(rt: HostRuntime) -> Result<(), Fail> {
+    let data: ParserData<u8> = sum_data(rt.alloc())?;
+    let mut stack = stack(rt.alloc(), &[0, 2, 4, 3])?;
+    assert!(rt; data.is_stack(&stack));
+    assert_eq!(rt; data.stable().tokens_len(), 3);
+    assert_eq!(rt; data.settle(&mut stack, TIdx(2))?, 3);
+    assert_eq!(rt; numbers(rt.alloc(), &stack)?.as_slice(), [0, 1].as_slice());
+    Ok(())
+}
+
+#[test]
+fn tokens_fed(rt: HostRuntime) -> Result<(), Fail> {
+    let data: ParserData<u8> = sum_data(rt.alloc())?;
+    let rows = [
+        ("+", 0u8, true, [0, 2, 4, 2, 4].as_slice()),
+        ("ID", 1, false, [0, 2, 4, 3].as_slice()),
+        ("the end", 2, false, [0, 1].as_slice()),
+    ];
+    assert_eq!(rt; data.stable().tokens_len(), 3);
+    for (name, token, want, after) in rows {
+        let mut stack = stack(rt.alloc(), &[0, 2, 4, 3])?;
+        assert!(rt; data.is_stack(&stack));
+        assert!(rt; token < 3);
+        assert_eq!(rt; data.feed(&mut stack, TIdx(token))?, want, "{name}");
+        assert_eq!(rt; numbers(rt.alloc(), &stack)?.as_slice(), after, "{name}");
+    }
+    Ok(())
+}
