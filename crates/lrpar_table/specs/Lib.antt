@@ -3,6 +3,7 @@ pub mod Stack
 pub mod Reduction
 pub mod Graph
 pub mod Safe
+pub mod ConditionText
 pub mod Path
 pub mod Chain
 pub mod Step

@@ -1,4 +1,7 @@
 //! The conditions of a safe table.
+ghost use Rattle.std.specs.Prelude.{Some};
+ghost use Rattle.lrpar_table.specs.ConditionText.{condition_text};
+
 use std::fmt;
 
 /// A condition that a safe table meets in each state. Its text is `S` and its number; `S1` is the shape.
@@ -21,6 +24,8 @@ pub enum SafetyCondition {
 }
 
 impl fmt::Display for SafetyCondition {
+    ghost output = { λ condition. Some (condition_text condition) };
+
     fn fmt<W: fmt::Write>(&self, f: &mut fmt::Formatter<W>) -> fmt::Result {
         f.write_str(match self {
             SafetyCondition::S2 => "S2",
