@@ -8,12 +8,12 @@ use Rattle.std.specs.Option.{option_map}
 use Rattle.lrpar_grammar.specs.Grammar.{Grammar, Nonterminal, end_token}
 use Rattle.lrpar_grammar.specs.Sentence.{IsValidList, LexemeFacts}
 use Rattle.lrpar_grammar.specs.Tree.{Tree, Leaf, Branch, Fits}
-use Rattle.lrpar_table.specs.Checked.{Checked}
-use Rattle.lrpar_table.specs.Path.{NeverSticks}
-use Rattle.lrpar_table.specs.Reduction.{Settles, top_action}
-use Rattle.lrpar_table.specs.Stack.{top_of}
-use Rattle.lrpar_table.specs.Table.{Table, ShiftTo, Accepts, Fails}
-use Rattle.lrpar_table.proofs.Reductions.{reduces_to_one}
+use Rattle.lrpar_check.specs.Checked.{Checked}
+use Rattle.lrpar_check.specs.Path.{NeverSticks}
+use Rattle.lrpar_check.specs.Reduction.{Settles, top_action}
+use Rattle.lrpar_check.specs.Stack.{top_of}
+use Rattle.lrpar_states.specs.Table.{Table, ShiftTo, Accepts, Fails}
+use Rattle.lrpar_check.proofs.Reductions.{reduces_to_one}
 use Rattle.lrpar.specs.Answer.{IsErrorAlone, failure_at}
 use Rattle.lrpar.specs.Folds.{Folds}
 use Rattle.lrpar.specs.Lexemes.{lexeme_past}

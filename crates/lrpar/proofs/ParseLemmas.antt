@@ -5,7 +5,7 @@ use Rattle.lrpar.specs.Lexed.{first_error, lexemes_of}
 use Rattle.lrpar.specs.LexemeFault.{IsLexemeFault}
 use Rattle.lrpar.specs.Answer.{HasValueOrFailure, IsErrorAlone, IsRunFault}
 use Rattle.std.specs.List.{AllZip}
-use Rattle.lrpar_table.specs.Checked.{Checked}
+use Rattle.lrpar_check.specs.Checked.{Checked}
 use Rattle.lrpar.specs.Parse.{IsParse, lexeme_facts}
 use Rattle.lrpar.specs.Run.{Run, Stop, comes_through, gives_up}
 use Rattle.lrpar.specs.RunAnswer.{IsErrorOf, IsRunAnswer, IsValueOf}

@@ -3,7 +3,7 @@ use Rattle.std.proofs.Common.{◌∙◌, ◌≡◌, ℕ, Bool, List, [], ◌∷�
 use Rattle.std.specs.Prelude.{map, false, ◌==◌, ◌&&◌}
 use Rattle.std.specs.List.{AllZip, each_same}
 use Rattle.std.specs.Cmp.Lexicographic.{pointwise}
-use Rattle.lrpar_grammar.specs.declared.span.TIdx.{TIdx}
+use Rattle.lrpar_text.specs.declared.span.TIdx.{TIdx}
 use Rattle.lrpar.specs.declared.errors.ParseRepair.{ParseRepair}
 use Rattle.lrpar.specs.declared.errors.ParseRepair.TheVariants.{Insert, Delete, Shift}
 use Rattle.lrpar.specs.Failure.{Failure, Repair, repair_eq}

@@ -4,11 +4,11 @@ use Rattle.std.proofs.lemmas.List.{append_assoc, append-nil}
 use Rattle.std.proofs.lemmas.Option.{slice_get_past, slice_get_within}
 use Rattle.std.specs.Option.{option_map_or}
 use Rattle.lrpar_grammar.specs.Grammar.{Grammar, GrammarSymbol, Nonterminal, Terminal, end_token, rule_of}
-use Rattle.lrpar_table.specs.Table.{Table, TableAction, ShiftTo, ReduceBy, Accepts, Fails}
-use Rattle.lrpar_table.specs.Reduction.{Feeds, ReducesBy, Reduces, Settles, IsSettled, top_action}
-use Rattle.lrpar_table.specs.Path.{IsPath, NeverSticks}
+use Rattle.lrpar_states.specs.Table.{Table, TableAction, ShiftTo, ReduceBy, Accepts, Fails}
+use Rattle.lrpar_check.specs.Reduction.{Feeds, ReducesBy, Reduces, Settles, IsSettled, top_action}
+use Rattle.lrpar_check.specs.Path.{IsPath, NeverSticks}
 use Rattle.std.proofs.lemmas.Bool.{cases_lt}
-use Rattle.lrpar_table.proofs.Reductions.{settles_one_way, reduces_to_one}
+use Rattle.lrpar_check.proofs.Reductions.{settles_one_way, reduces_to_one}
 use Rattle.lrpar.specs.RunLaws.{Takes, RunsEndOneWay, RunsGoOnOrEnd, KeepOffEnd, EndsByFailing, RunsStopByFailing}
 use Rattle.lrpar.specs.Run.{Comes, Far, FarEnd, Accepted, StoppedAt, IsStuck, RunsOneWay, stays, comes_on, comes_through, gives_up, goes_on, accepts, stops, token_at}
 

@@ -4,16 +4,16 @@ use Rattle.std.proofs.lemmas.List.{length-append, length-map, length-take-le}
 use Rattle.std.specs.List.{AllZip}
 use Rattle.std.specs.Option.{option_and_then}
 use Rattle.lrpar_grammar.specs.Grammar.{Grammar, GrammarSymbol, Nonterminal, prod_len, rule_of, symbols_of}
-use Rattle.lrpar_grammar.specs.declared.span.PIdx.{PIdx}
-use Rattle.lrpar_grammar.specs.declared.span.StIdx.{StIdx}
-use Rattle.lrpar_table.specs.declared.rows.Action.{Action}
-use Rattle.lrpar_table.specs.declared.rows.Action.TheVariants.{Shift, Reduce, Accept, Error}
-use Rattle.lrpar_table.specs.PlainRows.{plain_action, plain_goto}
-use Rattle.lrpar_table.specs.Path.{IsPath, Leads, ReducesAlong}
-use Rattle.lrpar_table.specs.Reduction.{ReducesBy, left_by, top_goto}
-use Rattle.lrpar_table.specs.Stack.{top_of}
-use Rattle.lrpar_table.specs.Table.{Table, ReduceBy, IsClosed, goto_of, states_len}
-use Rattle.lrpar_table.proofs.PathLemmas.{last_of, last_within, top_is_last}
+use Rattle.lrpar_text.specs.declared.span.PIdx.{PIdx}
+use Rattle.lrpar_text.specs.declared.span.StIdx.{StIdx}
+use Rattle.lrpar_states.specs.declared.rows.Action.{Action}
+use Rattle.lrpar_states.specs.declared.rows.Action.TheVariants.{Shift, Reduce, Accept, Error}
+use Rattle.lrpar_states.specs.PlainRows.{plain_action, plain_goto}
+use Rattle.lrpar_check.specs.Path.{IsPath, Leads, ReducesAlong}
+use Rattle.lrpar_check.specs.Reduction.{ReducesBy, left_by, top_goto}
+use Rattle.lrpar_check.specs.Stack.{top_of}
+use Rattle.lrpar_states.specs.Table.{Table, ReduceBy, IsClosed, goto_of, states_len}
+use Rattle.lrpar_check.proofs.PathLemmas.{last_of, last_within, top_is_last}
 use Rattle.lrpar.specs.Stacked.{Stacked, IsUpright, ReducesTo, ReducesAllTo}
 use Rattle.lrpar.specs.declared.stack.AStackType.{AStackType}
 use Rattle.lrpar.specs.Standing.{kept_by}

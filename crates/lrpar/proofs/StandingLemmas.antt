@@ -4,8 +4,8 @@ use Rattle.std.specs.List.{AllZip}
 use Rattle.std.proofs.lemmas.List.{append_assoc, append-nil, length-append}
 use Rattle.lrpar_grammar.specs.Grammar.{Grammar, GrammarSymbol, Nonterminal, Terminal, symbols_of, prod_len, rule_of}
 use Rattle.lrpar_grammar.specs.Tree.{Tree, Forest, Leaf, Branch, Nil, Cons, Fits, ForestFits, leaves, forest_leaves, productions, forest_productions}
-use Rattle.lrpar_table.specs.Table.{Table}
-use Rattle.lrpar_table.specs.Path.{IsPath, Leads, ReducesAlong}
+use Rattle.lrpar_states.specs.Table.{Table}
+use Rattle.lrpar_check.specs.Path.{IsPath, Leads, ReducesAlong}
 use Rattle.lrpar.specs.Folds.{Folds, ForestFolds}
 use Rattle.lrpar.specs.declared.stack.AStackType.{AStackType}
 use Rattle.lrpar.specs.declared.stack.AStackType.TheVariants.{ActionType, Lexeme}

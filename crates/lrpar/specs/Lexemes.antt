@@ -1,7 +1,7 @@
 -- Lexemes of the program, whose tokens are storage numbers.
 use Rattle.std.specs.Prelude.{ℕ, ◌+◌, ◌-◌, Bool, true, List, length, slice_get}
 use Rattle.std.specs.Option.{option_map_or}
-use Rattle.lrpar_grammar.specs.Span.{Extent}
+use Rattle.lrpar_text.specs.Span.{Extent}
 use Rattle.lrpar_grammar.specs.Sentence.{LexemeFacts}
 
 -- a lexeme's token, where it lies, and whether a repair made it

@@ -2,7 +2,7 @@
 use Rattle.std.specs.Prelude.{◌≡◌, ◌↔◌, ℕ, List, map, Option, Some, None, Result, IfOk, IsOkAnd, IsErrOf, Vec}
 use Rattle.lrpar_grammar.specs.Sentence.{LexemeFacts, IsFirstBadToken, IsFirstEarlyStart}
 use Rattle.lrpar.specs.Lexed.{first_error, lexemes_of}
-use Rattle.lrpar_table.specs.Checked.{Checked}
+use Rattle.lrpar_check.specs.Checked.{Checked}
 use Rattle.lrpar.specs.Answer.{IsErrorAlone, HasValueOrFailure}
 use Rattle.lrpar.specs.RunAnswer.{IsRunAnswer}
 use Rattle.lrpar.specs.declared.errors.LexParseError.{LexParseError}

@@ -2,8 +2,8 @@
 use Rattle.std.specs.Prelude.{◌≡◌, ◌≢◌, ◌<◌, ◌≤◌, ◌+◌, ℕ, List, [], ◌∷◌, ◌++◌, length, drop, slice_get, Option, Some, None}
 use Rattle.std.specs.Option.{option_map_or}
 use Rattle.lrpar_grammar.specs.Grammar.{Grammar, end_token}
-use Rattle.lrpar_table.specs.Table.{Table, ShiftTo, Accepts}
-use Rattle.lrpar_table.specs.Reduction.{Feeds, Settles, top_action}
+use Rattle.lrpar_states.specs.Table.{Table, ShiftTo, Accepts}
+use Rattle.lrpar_check.specs.Reduction.{Feeds, Settles, top_action}
 
 -- the token of lexeme i; past the last one, the end token
 abbrev pub token_at : {X : Type 0} → (X → ℕ) → Grammar → List X → ℕ → ℕ

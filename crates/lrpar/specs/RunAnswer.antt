@@ -4,8 +4,8 @@ use Rattle.std.specs.List.{AllZip}
 use Rattle.lrpar_grammar.specs.Grammar.{Grammar, Nonterminal, end_token}
 use Rattle.lrpar_grammar.specs.Sentence.{LexemeFacts}
 use Rattle.lrpar_grammar.specs.Tree.{Tree, Fits, leaves, productions}
-use Rattle.lrpar_table.specs.Stack.{top_of}
-use Rattle.lrpar_table.specs.Checked.{Checked}
+use Rattle.lrpar_check.specs.Stack.{top_of}
+use Rattle.lrpar_check.specs.Checked.{Checked}
 use Rattle.lrpar.specs.Failure.{Failure}
 use Rattle.lrpar.specs.Folds.{Folds}
 use Rattle.lrpar.specs.Lexemes.{lexeme_past}

@@ -3,9 +3,9 @@
 -- for the ends of runs.
 use Rattle.std.specs.Prelude.{◌≡◌, ◌≢◌, ◌<◌, ◌≤◌, ◌⊎◌, ℕ, List, length, Option}
 use Rattle.lrpar_grammar.specs.Grammar.{Grammar, GrammarSymbol, end_token}
-use Rattle.lrpar_table.specs.Table.{Table, ShiftTo, Accepts, Fails}
-use Rattle.lrpar_table.specs.Reduction.{top_action}
-use Rattle.lrpar_table.specs.Path.{IsPath, NeverSticks}
+use Rattle.lrpar_states.specs.Table.{Table, ShiftTo, Accepts, Fails}
+use Rattle.lrpar_check.specs.Reduction.{top_action}
+use Rattle.lrpar_check.specs.Path.{IsPath, NeverSticks}
 use Rattle.lrpar.specs.Run.{Far, FarEnd, Accepted, StoppedAt, IsStuck, Run, Stop, token_at}
 
 -- two runs from one stack and place have the same stops, consume the same lexemes and make the same reductions

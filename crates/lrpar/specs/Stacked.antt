@@ -2,9 +2,9 @@
 use Rattle.std.specs.Prelude.{◌≡◌, ℕ, List, [], ◌∷◌, ◌++◌, length}
 use Rattle.std.specs.List.{AllZip}
 use Rattle.lrpar_grammar.specs.Grammar.{Grammar, GrammarSymbol, rule_of}
-use Rattle.lrpar_table.specs.Table.{Table}
-use Rattle.lrpar_table.specs.Path.{IsPath}
-use Rattle.lrpar_table.specs.Reduction.{Reduces, IsSettled}
+use Rattle.lrpar_states.specs.Table.{Table}
+use Rattle.lrpar_check.specs.Path.{IsPath}
+use Rattle.lrpar_check.specs.Reduction.{Reduces, IsSettled}
 use Rattle.lrpar.specs.Standing.{Gives, kept_by, popped_by}
 use Rattle.lrpar.specs.declared.stack.AStackType.{AStackType}
 use Rattle.lrpar.specs.declared.stack.AStackType.TheVariants.{ActionType}

@@ -3,8 +3,8 @@
 use Rattle.std.specs.Prelude.{◌≡◌, ◌-◌, ℕ, List, [], ◌∷◌, ◌++◌, length, take, drop}
 use Rattle.lrpar_grammar.specs.Grammar.{Grammar, GrammarSymbol, Nonterminal, symbols_of, prod_len}
 use Rattle.lrpar_grammar.specs.Tree.{Tree, Forest, Leaf, Branch, Nil, Cons, Fits, ForestFits, leaves, forest_leaves, productions, forest_productions}
-use Rattle.lrpar_table.specs.Table.{Table}
-use Rattle.lrpar_table.specs.Path.{IsPath}
+use Rattle.lrpar_states.specs.Table.{Table}
+use Rattle.lrpar_check.specs.Path.{IsPath}
 use Rattle.lrpar.specs.Folds.{Folds}
 use Rattle.lrpar.specs.declared.stack.AStackType.{AStackType}
 use Rattle.lrpar.specs.declared.stack.AStackType.TheVariants.{ActionType, Lexeme}

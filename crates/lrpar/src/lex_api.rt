@@ -1,7 +1,7 @@
 //! What a parse takes from its caller: lexemes, lexing errors and lexers.
 ghost use Rattle.std.specs.Prelude.{◌≡◌, ◌+◌, ◌<◌, ◌^◌, ℕ, List, Result, IfOk, true, false, slice_range};
 ghost use Rattle.std.specs.Str.{IsCharBoundary};
-ghost use Rattle.lrpar_grammar.specs.Span.{Extent};
+ghost use Rattle.lrpar_text.specs.Span.{Extent};
 ghost use Rattle.lrpar.specs.Lexemes.{LexemeParts, lexeme_parts};
 ghost use Rattle.lrpar.specs.Lines.{lines_of, line_of, column_of};
 

@@ -23,7 +23,7 @@ pub struct RTParserBuilder<'a, StorageT: StorageNum, LexerTypesT: LexerTypes<Sto
 
 impl<'a, StorageT: StorageNum, LexerTypesT: LexerTypes<StorageT = StorageT>> Model
     for RTParserBuilder<'a, StorageT, LexerTypesT> {
-    ghost use Rattle.lrpar_table.specs.Checked.{Checked};
+    ghost use Rattle.lrpar_check.specs.Checked.{Checked};
 
     ghost Value = { Checked };
 

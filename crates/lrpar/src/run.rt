@@ -2,9 +2,9 @@
 ghost use Rattle.std.specs.Prelude.{◌≡◌, ◌<◌, ◌≤◌, ◌+◌, ◌*◌, ℕ, length, List, IfOk, IfErr, OnOk, map};
 ghost use Rattle.std.specs.List.{AllZip};
 ghost use Rattle.lrpar_grammar.specs.Sentence.{IsValidList};
-ghost use Rattle.lrpar_table.specs.Reduction.{top_action};
-ghost use Rattle.lrpar_table.specs.Table.{ReduceBy};
-ghost use Rattle.lrpar_table.specs.PlainRows.{plain_action};
+ghost use Rattle.lrpar_check.specs.Reduction.{top_action};
+ghost use Rattle.lrpar_states.specs.Table.{ReduceBy};
+ghost use Rattle.lrpar_states.specs.PlainRows.{plain_action};
 ghost use Rattle.lrpar.specs.Lexemes.{facts_of, lexeme_past};
 ghost use Rattle.lrpar.specs.Answer.{IsErrorAlone, IsRunFault, failure_at};
 ghost use Rattle.lrpar.specs.RunAnswer.{IsRunAnswer};

@@ -1,6 +1,6 @@
 //! The stacks of a run: the states, and what stands between each two neighbours.
 ghost use Rattle.std.specs.Prelude.{◌≡◌, ◌+◌, ◌<◌, ◌≤◌, ◌-◌, [], ◌∷◌, ◌++◌, length, take, drop, Some, OnOk, IfOk};
-ghost use Rattle.lrpar_table.specs.Stack.{top_of};
+ghost use Rattle.lrpar_check.specs.Stack.{top_of};
 
 use lrpar_grammar::span::{StIdx, StorageNum};
 use std::alloc::{AllocError, Global};

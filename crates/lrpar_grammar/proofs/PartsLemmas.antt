@@ -7,7 +7,7 @@ use Rattle.std.proofs.lemmas.List.{length-append, length-map, get_or_append_left
 use Rattle.lrpar_grammar.specs.declared.grammar.parts.GrammarFault.{GrammarFault}
 use Rattle.std.proofs.lemmas.Bool.{cases_lt}
 use Rattle.std.specs.declared.alloc.Global.{Global}
-use Rattle.lrpar_grammar.specs.declared.span.PIdx.{PIdx}
+use Rattle.lrpar_text.specs.declared.span.PIdx.{PIdx}
 use Rattle.lrpar_grammar.specs.declared.grammar.parts.GrammarParts.{GrammarParts}
 use Rattle.lrpar_grammar.specs.declared.grammar.prods.SplitProd.{SplitProd}
 use Rattle.lrpar_grammar.specs.Kept.{AreRowsOf, IsKept, kept_grammar, split_prod_of}

@@ -3,7 +3,7 @@
 -- and an added token, the end token, whose number is one past the others.
 use Rattle.std.specs.Prelude.{◌≡◌, ◌==◌, if◌then◌else◌, ◌<◌, ◌+◌, ◌-◌, ℕ, List, [], ◌∷◌, length, All, slice_get, option_map, Option}
 use Rattle.std.specs.Option.{option_map_or}
-use Rattle.lrpar_grammar.specs.Span.{Extent, nowhere}
+use Rattle.lrpar_text.specs.Span.{Extent, nowhere}
 
 -- a symbol of a right side: a rule or a token, by its number
 pub data GrammarSymbol : Type 0 where

@@ -1,7 +1,7 @@
 -- What the grammar value keeps, and the grammar that it stands for.
 use Rattle.std.specs.Prelude.{◌≡◌, ◌<◌, ◌≤◌, ℕ, List, ◌∷◌, length, map, slice_index_or, Vec}
 use Rattle.std.specs.declared.alloc.Global.{Global}
-use Rattle.lrpar_grammar.specs.declared.span.PIdx.{PIdx}
+use Rattle.lrpar_text.specs.declared.span.PIdx.{PIdx}
 use Rattle.lrpar_grammar.specs.declared.grammar.prods.SplitProd.{SplitProd}
 use Rattle.lrpar_grammar.specs.declared.grammar.parts.RulePart.{RulePart}
 use Rattle.lrpar_grammar.specs.declared.grammar.parts.TokenPart.{TokenPart}

@@ -1,4 +1,3 @@
-pub mod Span
 pub mod Grammar
 pub mod Tree
 pub mod Sentence

@@ -1,7 +1,7 @@
 -- Symbols of the code as symbols of a grammar.
 use Rattle.std.specs.Prelude.{ℕ}
-use Rattle.lrpar_grammar.specs.declared.span.Symbol.{Symbol}
-use Rattle.lrpar_grammar.specs.declared.span.Symbol.TheVariants.{Rule, Token}
+use Rattle.lrpar_text.specs.declared.span.Symbol.{Symbol}
+use Rattle.lrpar_text.specs.declared.span.Symbol.TheVariants.{Rule, Token}
 use Rattle.lrpar_grammar.specs.Grammar.{GrammarSymbol, Nonterminal, Terminal}
 
 -- a symbol by the number that it holds

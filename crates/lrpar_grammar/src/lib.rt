@@ -3,4 +3,5 @@
 
 pub mod grammar;
 pub mod laws;
-pub mod span;
+
+pub use lrpar_text::span;

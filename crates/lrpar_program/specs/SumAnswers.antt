@@ -3,7 +3,7 @@ use Rattle.std.specs.Prelude.{◌+◌, ℕ, false, List, [], ◌∷◌, Result, 
 use Rattle.std.specs.Char.{len_utf8}
 use Rattle.std.specs.Str.{chars}
 use Rattle.std.specs.Option.{option_map_or}
-use Rattle.lrpar_grammar.specs.Span.{Extent}
+use Rattle.lrpar_text.specs.Span.{Extent}
 use Rattle.lrpar_program.specs.Sums.{token_of}
 use Rattle.lrpar_program.specs.declared.lexer.Token.{Token}
 use Rattle.lrpar_program.specs.declared.lexer.NoToken.{NoToken}

@@ -1,18 +1,5 @@
-//! State tables: what a parser does in each state, and where it goes.
+//! State tables and their check, under the names that a user knows. The crates below have the code.
 #![tactic(auto)]
 
-mod ascending;
-mod chains;
-pub mod check;
-mod condition;
-mod conflicts;
-mod fault;
-mod graph;
-mod items;
-pub mod laws;
-mod rows;
-mod safety;
-mod settle;
-mod stacks;
-mod step;
-pub mod table;
+pub use lrpar_check::check;
+pub use lrpar_states::table;

@@ -5,7 +5,7 @@ ghost use Rattle.lrpar_grammar.specs.declared.grammar.parts.GrammarFault.TheVari
 ghost use Rattle.lrpar_grammar.specs.Grammar.{IsListedSymbol};
 ghost use Rattle.lrpar_grammar.specs.Symbols.{symbol_of};
 
-use crate::span::{RIdx, Span, StorageNum, Symbol};
+use lrpar_text::span::{RIdx, Span, StorageNum, Symbol};
 use std::alloc::{AllocError, AllocFailed};
 use thiserror::Error;
 

@@ -5,7 +5,7 @@ ghost use Rattle.lrpar_grammar.specs.Parts.{prod_of};
 ghost use Rattle.lrpar_grammar.specs.Kept.{AreRowsOf, split_prod_of};
 
 use super::parts::ProdPart;
-use crate::span::{PIdx, RIdx, Span, StorageNum, Symbol};
+use lrpar_text::span::{PIdx, RIdx, Span, StorageNum, Symbol};
 use std::alloc::{AllocError, Global};
 
 // A production whose symbols and their places are lists of their own.

@@ -4,7 +4,7 @@ ghost use Rattle.std.specs.List.{range_with_len};
 ghost use Rattle.std.specs.Str.{bytes_eq};
 
 use super::parts::TokenPart;
-use crate::span::{StorageNum, TIdx};
+use lrpar_text::span::{StorageNum, TIdx};
 use std::alloc::{AllocError, Global};
 
 // The place of the first token of that name.

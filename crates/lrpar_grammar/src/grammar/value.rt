@@ -8,7 +8,7 @@ use super::numbers::Numbers;
 use super::parts::{GrammarFault, GrammarParts, RulePart, TokenPart};
 use super::prods::{SplitProd, prods_by_rule, split_prods};
 use super::tokens::{first_named, numbered_names};
-use crate::span::{PIdx, RIdx, Span, StorageNum, Symbol, TIdx};
+use lrpar_text::span::{PIdx, RIdx, Span, StorageNum, Symbol, TIdx};
 use std::alloc::{AllocError, Global};
 use std::marker::Model;
 

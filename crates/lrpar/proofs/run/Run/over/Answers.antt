@@ -1,9 +1,9 @@
 use Rattle.std.proofs.Common.{◌≡◌, ◌<◌, ◌∙◌, [], ◌++◌, length, inl, inr, ap, arith, refl, sym}
 use Rattle.std.proofs.lemmas.Option.{slice_get_read}
 use Rattle.lrpar_grammar.specs.Grammar.{end_token, tokens_len}
-use Rattle.lrpar_table.specs.PlainRows.{plain_action}
-use Rattle.lrpar_table.specs.Reduction.{top_action}
-use Rattle.lrpar_table.specs.Table.{ShiftTo, Accepts, Fails}
+use Rattle.lrpar_states.specs.PlainRows.{plain_action}
+use Rattle.lrpar_check.specs.Reduction.{top_action}
+use Rattle.lrpar_states.specs.Table.{ShiftTo, Accepts, Fails}
 use Rattle.lrpar.specs.Lexemes.{facts_of}
 use Rattle.lrpar.specs.Made.{made_by}
 use Rattle.lrpar.proofs.OverLemmas.{at_start, at_next, at_stop, at_last_stop, at_accept, good_token, lexeme_at_end, lexeme_at_place, stands_upright, stop_answer, value_answer}

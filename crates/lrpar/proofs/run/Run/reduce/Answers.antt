@@ -1,9 +1,9 @@
 use Rattle.std.proofs.Common.{◌≡◌, ◌<◌, ◌-◌, ◌∙◌, ℕ, List, [], ◌∷◌, ◌++◌, length, take, Some, arith, ap, refl, subst, sym}
 use Rattle.lrpar_grammar.specs.Grammar.{prod_len, rule_of}
 use Rattle.lrpar_grammar.specs.Symbols.{symbol_of}
-use Rattle.lrpar_table.specs.PlainRows.{plain_goto}
-use Rattle.lrpar_table.specs.Reduction.{Reduces, left_by}
-use Rattle.lrpar_table.specs.Stack.{top_of}
+use Rattle.lrpar_states.specs.PlainRows.{plain_goto}
+use Rattle.lrpar_check.specs.Reduction.{Reduces, left_by}
+use Rattle.lrpar_check.specs.Stack.{top_of}
 use Rattle.lrpar.specs.Standing.{kept_by}
 use Rattle.lrpar.specs.declared.stack.AStackType.TheVariants.{ActionType}
 use Rattle.lrpar.proofs.StackedLemmas.{after_is, goto_is_some, goto_is_state, goto_of_top, left_path, mapped_len, some_left, symbols_split, top_within, upright_after}

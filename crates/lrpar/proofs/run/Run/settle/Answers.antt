@@ -1,6 +1,6 @@
 use Rattle.std.proofs.Common.{◌≡◌, ◌+◌, ◌*◌, ◌∙◌, [], ◌∷◌, ◌++◌, length, arith, refl}
 use Rattle.std.proofs.lemmas.List.{length-append}
-use Rattle.lrpar_table.specs.Reduction.{IsSettled}
+use Rattle.lrpar_check.specs.Reduction.{IsSettled}
 use Rattle.lrpar.specs.Made.{made_by}
 use Rattle.lrpar.proofs.StackedLemmas.{reduce_is_reduce, reduces_all_more, states_reduce}
 use Rattle.lrpar.proofs.run.Run.settle.Goals as goal

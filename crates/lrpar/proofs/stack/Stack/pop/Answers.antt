@@ -1,6 +1,6 @@
 use Rattle.std.proofs.Common.{◌≡◌, ◌-◌, ℕ, arith, length, map, take, sym, ap, ◌∙◌}
 use Rattle.std.proofs.lemmas.List.{length-map, take-map}
-use Rattle.lrpar_grammar.specs.declared.span.StIdx.{StIdx}
+use Rattle.lrpar_text.specs.declared.span.StIdx.{StIdx}
 use Rattle.lrpar.proofs.stack.Stack.pop.Goals as goal
 
 pub returns-clause-states : goal.returns-clause-states

@@ -1,0 +1,198 @@
+-- What one step makes of a list of states, and of the chain that goes on from them.
+use Rattle.std.proofs.Common.{◌≡◌, ◌<◌, ◌≤◌, ◌+◌, ◌-◌, ◌∙◌, ◌↔◌, ◌⊎◌, inl, inr, refl, sym, ap, subst, arith, ℕ, suc, List, [], ◌∷◌, ◌++◌, length, map, take, get_or, slice_get, Option, Some, None}
+use Rattle.std.proofs.lemmas.List.{get_or-map, get_or-take, length-append, length-map, length-take-le, map-append, take-map}
+use Rattle.std.proofs.lemmas.List.Elements.{All-push, All-take}
+use Rattle.std.proofs.lemmas.Option.{none-some, slice_get-map, slice_get_read}
+use Rattle.std.specs.List.{All}
+use Rattle.std.specs.Option.{MatchOption, option_and_then, option_map, option_map_or}
+use Rattle.lrpar_grammar.specs.Grammar.{Grammar, prods_len, prod_len, rule_of}
+use Rattle.lrpar_check.specs.Chain.{DropsAll, HasReductions}
+use Rattle.lrpar_check.specs.Reduction.{Reduces, top_action, top_goto, left_by}
+use Rattle.lrpar_check.specs.Stack.{top_of}
+use Rattle.lrpar_check.specs.Step.{IsReduction, IsStep}
+use Rattle.lrpar_states.specs.Table.{Table, Fails, ReduceBy, IsClosed, action_of, goto_of, states_len}
+use Rattle.lrpar_check.specs.declared.step.Step.{Step}
+use Rattle.lrpar_check.specs.declared.step.Step.TheVariants.{Reduced, LeavesNone, Stays}
+use Rattle.lrpar_check.proofs.Reductions.{reduces_to_one}
+
+-- an element that was read, of those that stand for numbers
+module _ {A : Type 0} (number : A → ℕ) where
+  -- has what holds of each number
+  pub number_within : (P : ℕ → Type 0) (xs : List A) (k : ℕ) (x : A) → k < length xs → x ≡ get_or xs k x → All P (map number xs) → P (number x)
+  number_within P xs k x below read all =
+      let many : k < length (map number xs) = rw length-map below in
+      subst P (get_or-map number xs k x (number x) below ∙ ap number (sym read)) (all k (number x) many)
+
+  number_read : (xs : List A) (k : ℕ) (x : A) → k < length xs → x ≡ get_or xs k x → slice_get (map number xs) k ≡ Some (number x)
+  number_read xs k x below read =
+      slice_get-map number xs k ∙ ap (option_map number) (slice_get_read xs (length xs) k x refl below read)
+
+  -- is the top, where it is the last
+  pub top_read : (xs : List A) (x : A) → 0 < length xs → x ≡ get_or xs (length xs - 1) x → top_of (map number xs) ≡ Some (number x)
+  top_read xs x some read =
+      ap (λ (n : ℕ). slice_get (map number xs) (n - 1)) (length-map xs number) ∙ number_read xs (length xs - 1) x (omega arith) read
+
+  -- the numbers of what a production leaves
+  left_numbers : (g : Grammar) (p : ℕ) (xs : List A) (left : ℕ) → left ≡ length xs - prod_len g p
+      → left_by g p (map number xs) ≡ map number (take left xs)
+  left_numbers g p xs left is =
+      ap (λ (n : ℕ). take (n - prod_len g p) (map number xs)) (length-map xs number)
+      ∙ ap (λ (n : ℕ). take n (map number xs)) (sym is) ∙ take-map number left xs
+
+  -- of that the last is the top
+  pub left_read : (g : Grammar) (p : ℕ) (xs : List A) (left : ℕ) (x : A) → 0 < left → left ≤ length xs → left ≡ length xs - prod_len g p
+      → x ≡ get_or xs (left - 1) x → top_of (left_by g p (map number xs)) ≡ Some (number x)
+  left_read g p xs left x some fits is read =
+      let many : length (take left xs) ≡ left = length-take-le left xs fits in
+      let last : x ≡ get_or (take left xs) (length (take left xs) - 1) x =
+      rw many (read ∙ sym (get_or-take left xs (left - 1) x (omega arith))) in
+      ap (λ (st : List ℕ). top_of st) (left_numbers g p xs left is) ∙ top_read (take left xs) x (omega (arith, many)) last
+
+  -- with one more on it
+  pub put_numbers : (g : Grammar) (p : ℕ) (xs : List A) (left : ℕ) (next : A) (after : List A) → left ≡ length xs - prod_len g p
+      → after ≡ take left xs ++ next ∷ [] → map number after ≡ left_by g p (map number xs) ++ number next ∷ []
+  put_numbers g p xs left next after is put =
+      ap (map number) put ∙ map-append number (take left xs) (next ∷ [])
+      ∙ ap (λ (st : List ℕ). st ++ number next ∷ []) (sym (left_numbers g p xs left is))
+
+-- the action of a list of states is that of its top
+pub action_by_top : (table : Table) (t : ℕ) (st : List ℕ) (s : ℕ) → top_of st ≡ Some s → top_action table t st ≡ action_of table s t
+action_by_top table t st s top = ap (λ (o : Option ℕ). option_map_or (λ s. action_of table s t) o Fails) top
+
+-- and so is its goto
+pub goto_by_top : (table : Table) (r : ℕ) (st : List ℕ) (s : ℕ) → top_of st ≡ Some s → top_goto table r st ≡ goto_of table s r
+goto_by_top table r st s top = ap (λ (o : Option ℕ). option_and_then (λ s. goto_of table s r) o) top
+
+-- a step is the reduction that is the top's action
+pub step_by_reduction : (g : Grammar) (table : Table) (t p : ℕ) (st : List ℕ) (step : Step) (after : List ℕ)
+    → top_action table t st ≡ ReduceBy p → p < prods_len g → IsReduction g table p st step after → IsStep g table t st step after
+step_by_reduction g table t p st Reduced after action known h =
+    (p, record { action = action; known = known; deep = h.0; state = h.1.0; goto = h.1.1; pushed = h.1.2 })
+step_by_reduction g table t p st LeavesNone after action known h = ((p, action, h.0), h.1)
+step_by_reduction g table t p st Stays after action known h = (
+  λ q next reduces.
+      let same : p ≡ q = let e : ReduceBy p ≡ ReduceBy q = sym action ∙ reduces.action in cc in
+      let P : ℕ → Type 0 = λ q. top_goto table (rule_of g q) (left_by g q st) ≡ None in
+      none-some reduces.state (sym (subst P same h.1) ∙ reduces.goto),
+  λ drops.
+      let same : p ≡ drops.0 = let e : ReduceBy p ≡ ReduceBy drops.0 = sym action ∙ drops.1 in cc in
+      let many : length st ≤ prod_len g p = subst (λ (q : ℕ). length st ≤ prod_len g q) (sym same) drops.2 in
+      omega (arith, h.0, many),
+  h.2,
+)
+
+-- where the top's action is no reduction, the states stay
+pub step_by_no_reduction : (g : Grammar) (table : Table) (t : ℕ) (st : List ℕ) → ((p : ℕ) → ¬ (top_action table t st ≡ ReduceBy p))
+    → IsStep g table t st Stays st
+step_by_no_reduction g table t st none = (λ p next reduces. none p reduces.action, λ drops. none drops.0 drops.1, refl)
+
+-- after a reduction the states are of the table still, and there are some
+pub reduced_within : (g : Grammar) (table : Table) (t : ℕ) (st : List ℕ) (p : ℕ) (after : List ℕ) → IsClosed table
+    → All (λ s. s < states_len table) st → Reduces g table t st p after → (0 < length after) × All (λ s. s < states_len table) after
+reduced_within g table t st p after closed within reduces =
+    let left = left_by g p st in
+    let many : length after ≡ length left + 1 =
+    ap (λ (l : List ℕ). length l) reduces.pushed ∙ length-append left (reduces.state ∷ []) in
+    let left_within = All-take (λ s. s < states_len table) (length st - prod_len g p) st within in
+    let state : reduces.state < states_len table = goto_within (top_of left) reduces.goto in (
+      omega (arith, many),
+      subst (λ (l : List ℕ). All (λ s. s < states_len table) l) (sym reduces.pushed)
+          (All-push (λ s. s < states_len table) left reduces.state left_within state),
+    )
+  where
+    goto_within : (top : Option ℕ) → option_and_then (λ s. goto_of table s (rule_of g p)) top ≡ Some reduces.state → reduces.state < states_len table
+    goto_within None is = absurd (none-some reduces.state is)
+    goto_within (Some s) is = closed.gotos_within s (rule_of g p) reduces.state is
+
+-- a chain goes on by one reduction more than after its first step
+pub goes_on_reduced : (g : Grammar) (table : Table) (t : ℕ) (st : List ℕ) (p : ℕ) (after : List ℕ) (n : ℕ) → Reduces g table t st p after
+    → HasReductions g table t st (suc n) ↔ HasReductions g table t after n
+goes_on_reduced g table t st p after n reduces = (
+  λ h.
+      elim h as (λ _. HasReductions g table t after n) [
+        | inl more ↦
+            let same = reduces_to_one g table t st more.0 p more.1 after more.2 reduces in
+            subst (λ (next : List ℕ). HasReductions g table t next n) same more.3
+        | inr last ↦
+            let same : p ≡ last.0.0 = let e : ReduceBy p ≡ ReduceBy last.0.0 = sym reduces.action ∙ last.0.1 in cc in
+            let many : length st ≤ prod_len g p = subst (λ (q : ℕ). length st ≤ prod_len g q) (sym same) last.0.2 in
+            absurd (omega (arith, reduces.deep, many))
+      ],
+  λ h. inl (p, after, reduces, h),
+)
+
+-- a chain whose reduction drops all states makes that one more
+pub goes_on_dropped : (g : Grammar) (table : Table) (t : ℕ) (st : List ℕ) (n : ℕ) → DropsAll g table t st
+    → HasReductions g table t st (suc n) → n ≡ 0
+goes_on_dropped g table t st n drops h =
+    elim h as (λ _. n ≡ 0) [
+      | inl more ↦
+          let same : more.0 ≡ drops.0 = let e : ReduceBy more.0 ≡ ReduceBy drops.0 = sym more.2.action ∙ drops.1 in cc in
+          let many : length st ≤ prod_len g more.0 = subst (λ (q : ℕ). length st ≤ prod_len g q) (sym same) drops.2 in
+          absurd (omega (arith, more.2.deep, many))
+      | inr last ↦ last.1
+    ]
+
+-- a chain that stays makes none
+pub goes_on_stays : (g : Grammar) (table : Table) (t : ℕ) (st after : List ℕ) (n : ℕ) → IsStep g table t st Stays after
+    → ¬ (HasReductions g table t st (suc n))
+goes_on_stays g table t st after n stays h =
+    elim h as (λ _. ⊥) [ inl more ↦ stays.0 more.0 more.1 more.2 | inr last ↦ stays.1 last.0 ]
+
+-- The chain from `start` has made `made` steps and come to the states of `st`: it makes more than `cap` reductions if it
+-- makes the rest of them from there.
+abbrev pub Remains : Grammar → Table → ℕ → List ℕ → ℕ → List ℕ → ℕ → Type 0
+Remains g table t start cap st made =
+    (left : ℕ) → made + left ≡ cap + 1 → HasReductions g table t start (cap + 1) ↔ HasReductions g table t st left
+
+module _ (g : Grammar) (table : Table) (t : ℕ) (start : List ℕ) (cap : ℕ) where
+  -- at the start
+  pub remains_first : Remains g table t start cap start 0
+  remains_first left is =
+      let e : left ≡ cap + 1 = omega arith in
+      (λ h. rw e h, λ h. rw e at h)
+
+  -- one step more
+  pub remains_more : (st after : List ℕ) (made : ℕ) (step : Step) → Remains g table t start cap st made → step ≡ Reduced
+      → IsStep g table t st step after → Remains g table t start cap after (made + 1)
+  remains_more st after made step remains is reduced left many =
+      let h = subst (λ (s : Step). IsStep g table t st s after) is reduced in
+      let here = remains (suc left) (omega arith) in
+      let on = goes_on_reduced g table t st h.0 after left h.1 in
+      (λ all. on.0 (here.0 all), λ rest. here.1 (on.1 rest))
+
+  -- a chain that ends early is short
+  pub remains_early : (st after : List ℕ) (made : ℕ) (step : Step) → Remains g table t start cap st made → made < cap
+      → (step ≡ LeavesNone) ⊎ (step ≡ Stays) → IsStep g table t st step after → ¬ (HasReductions g table t start (cap + 1))
+  remains_early st after made step remains early is h all =
+      let rest = (remains (suc (cap - made)) (omega arith)).0 all in
+      elim is as (λ _. ⊥) [
+        | inl leaves ↦
+            let drops = subst (λ (s : Step). IsStep g table t st s after) leaves h in
+            omega (arith, goes_on_dropped g table t st (cap - made) drops.0 rest)
+        | inr stays ↦
+            goes_on_stays g table t st after (cap - made) (subst (λ (s : Step). IsStep g table t st s after) stays h) rest
+      ]
+
+  -- where one reduction is still wanted, a step that makes one or would drop all states gives it
+  pub remains_last : (st after : List ℕ) (made : ℕ) (step : Step) → Remains g table t start cap st made → made ≡ cap
+      → (step ≡ Reduced) ⊎ (step ≡ LeavesNone) → IsStep g table t st step after → HasReductions g table t start (cap + 1)
+  remains_last st after made step remains end is h =
+      let rest = (remains 1 (omega arith)).1 in
+      elim is as (λ _. HasReductions g table t start (cap + 1)) [
+        | inl reduced ↦
+            let more = subst (λ (s : Step). IsStep g table t st s after) reduced h in rest (inl (more.0, after, more.1, tt))
+        | inr leaves ↦
+            let drops = subst (λ (s : Step). IsStep g table t st s after) leaves h in rest (inr (drops.0, refl))
+      ]
+
+  -- and no other does
+  pub remains_none : (st after : List ℕ) (made : ℕ) (step : Step) → Remains g table t start cap st made → made ≡ cap → step ≡ Stays
+      → IsStep g table t st step after → ¬ (HasReductions g table t start (cap + 1))
+  remains_none st after made step remains end is h all =
+      goes_on_stays g table t st after 0 (subst (λ (s : Step). IsStep g table t st s after) is h) ((remains 1 (omega arith)).0 all)
+
+-- what is said of an option without a value
+pub match_none : {A : Type 0} (o : Option A) (P : Type 0) (Q : A → Type 0) → ((x : A) → ¬ (o ≡ Some x)) → MatchOption o P Q → P
+match_none None P Q none h = h
+match_none (Some x) P Q none h = absurd (none x refl)

@@ -1,0 +1,9 @@
+use Rattle.std.proofs.Common.{refl}
+use Rattle.lrpar_check.proofs.laws.sum_table_has_path.Goals as goal
+
+pub returns : goal.returns
+returns c = record {
+  path = (refl, (refl, (refl, (refl, tt))));
+  other_rule = λ h. let other = h.1.0 in absurd (cc);
+  too_few = λ h. h.1.1.1;
+}

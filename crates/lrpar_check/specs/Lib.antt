@@ -1,0 +1,7 @@
+pub mod Stack
+pub mod Reduction
+pub mod Path
+pub mod Chain
+pub mod Step
+pub mod Settled
+pub mod Checked

@@ -1,0 +1,23 @@
+-- What a stack comes to at a token.
+use Rattle.std.specs.Prelude.{◌≡◌, ◌≢◌, ◌≤◌, ◌+◌, ◌*◌, ℕ, List, Bool, true, false, length}
+use Rattle.lrpar_grammar.specs.Grammar.{Grammar}
+use Rattle.lrpar_check.specs.Reduction.{Settles, Feeds, top_action}
+use Rattle.lrpar_check.specs.Stack.{IsStack}
+use Rattle.lrpar_states.specs.Table.{Table, ShiftTo}
+
+-- At token t the stack makes all reductions, so many of them, which give the stack `after`. They are at most `cap` for each
+-- state that the stack had; and at most `cap` for each state that it lost, and for `cap + 2` more.
+pub record IsSettledBy (g : Grammar) (table : Table) (cap t : ℕ) (st : List ℕ) (count : ℕ) (after : List ℕ) : Type 0 where
+  pub prods : List ℕ
+  pub settles : Settles g table t st prods after
+  pub counted : count ≡ length prods
+  pub stack : IsStack table after
+  pub by_height : length prods ≤ cap * length st
+  pub by_loss : length prods + cap * length after ≤ cap * (length st + cap + 2)
+
+-- at token t the stack makes all reductions, and then shifts the token, which gives the stack `after`; or the top doesn't
+-- shift it
+abbrev pub IsFedBy : Grammar → Table → ℕ → ℕ → List ℕ → Bool → List ℕ → Type 0
+IsFedBy g table cap t st true after = (prods : List ℕ) × Feeds g table t st prods after
+IsFedBy g table cap t st false after =
+    ((count : ℕ) × IsSettledBy g table cap t st count after) × ((next : ℕ) → top_action table t after ≢ ShiftTo next)

@@ -1,0 +1,191 @@
+//! The check of a table against its grammar and its item sets, which a parse then trusts.
+ghost use Rattle.std.specs.Prelude.{◌≡◌, IfOk, IfErr, OnOk};
+ghost use Rattle.lrpar_grammar.specs.Grammar.{IsWellFormed};
+ghost use Rattle.lrpar_states.specs.Table.{IsClosed};
+ghost use Rattle.lrpar_states.specs.Safe.{IsSafe};
+ghost use Rattle.lrpar_check.specs.Path.{NeverSticks};
+ghost use Rattle.lrpar_check.specs.Chain.{AreChainsShort, IsBounded};
+ghost use Rattle.lrpar_check.specs.Checked.{IsChecked, IsCheckFault};
+ghost use Rattle.lrpar_check.specs.declared.fault.CheckFault.TheVariants.{Memory};
+
+use crate::chains::Chains;
+pub use crate::fault::CheckFault;
+use crate::safety::Parts;
+use lrpar_grammar::grammar::YaccGrammar;
+use lrpar_grammar::span::StorageNum;
+pub use lrpar_states::condition::SafetyCondition;
+use lrpar_states::table::{StateGraph, StateTable};
+use std::alloc::Global;
+use std::marker::Model;
+
+/// A grammar, its item sets and its table, which are safe to parse by, and whose chains of reductions are short.
+#[derive(Debug, Drop)]
+pub struct ParserData<StorageT: StorageNum> {
+    grm: YaccGrammar<StorageT>,
+    sgraph: StateGraph<StorageT>,
+    stable: StateTable<StorageT>,
+    cap: u16,
+}
+
+impl<StorageT: StorageNum> Model for ParserData<StorageT> {
+    ghost use Rattle.lrpar_check.specs.Checked.{Checked, IsChecked};
+
+    ghost Value = { Checked };
+
+    ghost view = { λ d. record { grammar = d.grm; graph = d.sgraph; table = d.stable; cap = d.cap } };
+
+    ghost invariant = { λ d. IsChecked (record { grammar = d.grm; graph = d.sgraph; table = d.stable; cap = d.cap }) };
+}
+
+impl<StorageT: StorageNum> ParserData<StorageT> {
+    /// Checks that the table is safe: that it has its shape, and that each condition holds in each state; and that no chain
+    /// of reductions under one token is longer than the cap.
+    ///
+    /// The fault of a refusal is the first of these: the shape, then the conditions S2 to S8 in turn, each with states
+    /// ascending, then the chains, with states and then tokens ascending; it does fail there. `Memory` comes where memory
+    /// was wanting for a list of at most `cap + 3` states, which the chains are made on. A refusal keeps the three parts as
+    /// they were.
+    ///
+    /// The conditions take time near the size of the input: with I items and A entries of the table, about (I + A) times
+    /// the logarithm of I, where each entry that leads to a state counts the state's cores. The chains take longer: with
+    /// S states, T tokens and at most G gotos in a state there are at most S * T * (1 + G) of them. Each is made once, and
+    /// makes at most `cap + 1` reductions. For each token the gotos of each state are read once.
+    pub fn new(
+        alloc: Global,
+        grm: YaccGrammar<StorageT>,
+        sgraph: StateGraph<StorageT>,
+        stable: StateTable<StorageT>,
+        cap: u16,
+    ) -> Result<Self, Refused<StorageT>>
+        ensures made { IfOk result (λ d. d ≡ record { grammar = grm; graph = sgraph; table = stable; cap = cap }) }
+        ensures checked { IfOk result IsChecked }
+        ensures fault { IfErr result (λ r. IsCheckFault grm sgraph stable cap r.fault) }
+        ensures exact { IsSafe grm sgraph stable → AreChainsShort grm stable cap → IfErr result (λ r. r.fault ≡ Memory) }
+        ensures back { IfErr result (λ r. (r.grammar ≡ grm) × (r.graph ≡ sgraph) × (r.table ≡ stable)) }
+    {
+        are_sound(&grm, &stable);
+        match are_checked(alloc, &grm, &sgraph, &stable, cap) {
+            Ok(()) => Ok(ParserData {
+                grm,
+                sgraph,
+                stable,
+                cap,
+            }),
+            Err(fault) => Err(Refused {
+                fault,
+                grm,
+                sgraph,
+                stable,
+            }),
+        }
+    }
+
+    /// The grammar.
+    pub fn grm(&self) -> &YaccGrammar<StorageT>
+        ensures { result.now ≡ self.now.grammar }
+    {
+        &self.grm
+    }
+
+    /// The item sets.
+    pub fn sgraph(&self) -> &StateGraph<StorageT>
+        ensures { result.now ≡ self.now.graph }
+    {
+        &self.sgraph
+    }
+
+    /// The table.
+    pub fn stable(&self) -> &StateTable<StorageT>
+        ensures table { result.now ≡ self.now.table }
+        ensures checked { IsChecked self.now }
+        ensures runs { NeverSticks self.now.grammar self.now.table }
+        ensures bounds { IsBounded self.now.grammar self.now.table self.now.cap }
+    {
+        &self.stable
+    }
+
+    /// The cap.
+    pub fn cap(&self) -> u16
+        ensures cap { result ≡ self.now.cap }
+        ensures bounds { IsBounded self.now.grammar self.now.table self.now.cap }
+    {
+        self.cap
+    }
+}
+
+// Whether the table is safe, with short chains; otherwise the first fault.
+fn are_checked<StorageT: StorageNum>(
+    alloc: Global,
+    grm: &YaccGrammar<StorageT>,
+    sgraph: &StateGraph<StorageT>,
+    stable: &StateTable<StorageT>,
+    cap: u16,
+) -> Result<(), CheckFault>
+    ensures safe { OnOk result (IsSafe grm.now sgraph.now stable.now) }
+    ensures short { OnOk result (AreChainsShort grm.now stable.now cap) }
+    ensures fault { IfErr result (IsCheckFault grm.now sgraph.now stable.now cap) }
+{
+    if let Some(fault) = Parts::new(grm, sgraph, stable).fault() {
+        return Err(fault);
+    }
+    match Chains::new(grm, stable, cap).first_long(alloc)? {
+        None => Ok(()),
+        Some((s, t)) => Err(CheckFault::ChainTooLong(s, t)),
+    }
+}
+
+// Whatever they were made of, a grammar is well formed, and a table's states are its own.
+fn are_sound<StorageT: StorageNum>(grm: &YaccGrammar<StorageT>, stable: &StateTable<StorageT>)
+    ensures well_formed { IsWellFormed grm.now }
+    ensures closed { IsClosed stable.now }
+{
+    let _start = grm.start_prod();
+    let _states = stable.states_len();
+}
+
+/// A refused table, with its grammar and its item sets as they were.
+#[derive(Debug, Drop)]
+pub struct Refused<StorageT: StorageNum> {
+    fault: CheckFault,
+    grm: YaccGrammar<StorageT>,
+    sgraph: StateGraph<StorageT>,
+    stable: StateTable<StorageT>,
+}
+
+impl<StorageT: StorageNum> Model for Refused<StorageT> {
+    ghost use Rattle.lrpar_check.specs.Checked.{Unchecked};
+
+    ghost Value = { Unchecked };
+
+    ghost view = { λ r. record { fault = r.fault; grammar = r.grm; graph = r.sgraph; table = r.stable } };
+}
+
+impl<StorageT: StorageNum> Refused<StorageT> {
+    /// Why the table is refused.
+    pub fn fault(&self) -> CheckFault
+        ensures { result ≡ self.now.fault }
+    {
+        self.fault
+    }
+
+    /// The grammar, the item sets and the table, as they were handed in.
+    pub fn into_parts(
+        self,
+    ) -> (
+        YaccGrammar<StorageT>,
+        StateGraph<StorageT>,
+        StateTable<StorageT>,
+    )
+        ensures grammar { result.0 ≡ self.grammar }
+        ensures graph { result.1 ≡ self.graph }
+        ensures table { result.2 ≡ self.table }
+    {
+        let Refused {
+            fault: _,
+            grm,
+            sgraph,
+            stable,
+        } = self;
+        (grm, sgraph, stable)
+    }
+}

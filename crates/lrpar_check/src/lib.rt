@@ -1,0 +1,11 @@
+//! The check of a table, and what a checked table does with a stack.
+#![tactic(auto)]
+
+mod chains;
+pub mod check;
+mod fault;
+pub mod laws;
+mod safety;
+mod settle;
+mod stacks;
+mod step;

@@ -1,0 +1,4 @@
+pub mod Mapped
+pub mod AscendingLemmas
+pub mod ItemLemmas
+pub mod GraphLemmas

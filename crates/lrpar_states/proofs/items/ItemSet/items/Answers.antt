@@ -1,0 +1,11 @@
+use Rattle.lrpar_states.specs.Graph.{item_cmp}
+use Rattle.lrpar_states.specs.PlainItems.{item_of}
+use Rattle.lrpar_states.proofs.ItemLemmas.{sorted_image, same_item_order}
+use Rattle.lrpar_states.proofs.items.ItemSet.items.Goals as goal
+
+pub returns-clause-ascending : goal.returns-clause-ascending
+returns-clause-ascending g c =
+    let index = g.StorageT.StorageNum.index in
+    rw (← c.self.view_is)
+    (sorted_image _ item_cmp (item_of index) (same_item_order index g.StorageT.Ord.cmp g.met.StorageT.StorageNum.cmp_law) c.self.inside.items
+    c.as_slice.ensures.sorted)

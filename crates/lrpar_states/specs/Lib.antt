@@ -1,0 +1,9 @@
+pub mod Table
+pub mod Graph
+pub mod Safe
+pub mod ConditionText
+pub mod Sum
+pub mod PlainConflicts
+pub mod PlainRows
+pub mod PlainItems
+pub mod Ascending

@@ -1,0 +1,30 @@
+-- What the rows of code stand for, by the numbers of their indexes.
+use Rattle.std.specs.Prelude.{ℕ, map, Option, Some, None}
+use Rattle.lrpar_text.specs.declared.span.StIdx.{StIdx}
+use Rattle.lrpar_states.specs.Table.{Table, TableAction, ShiftTo, ReduceBy, Accepts, Fails}
+use Rattle.lrpar_states.specs.declared.rows.Action.{Action}
+use Rattle.lrpar_states.specs.declared.rows.Action.TheVariants.{Shift, Reduce, Accept, Error}
+use Rattle.lrpar_states.specs.declared.rows.TableRows.{TableRows}
+
+-- an action
+abbrev pub plain_action : {S : Type 0} → (S → ℕ) → Action S → TableAction
+plain_action index (Shift s) = ShiftTo (index s.0)
+plain_action index (Reduce p) = ReduceBy (index p.0)
+plain_action index Accept = Accepts
+plain_action index Error = Fails
+
+-- a state to go to, if there is one
+abbrev pub plain_goto : {S : Type 0} → (S → ℕ) → Option (StIdx S) → Option ℕ
+plain_goto index (Some s) = Some (index s.0)
+plain_goto index None = None
+
+-- the table that the rows make, over indexes of S; E comes with S, and no row has it
+abbrev pub table_of : {S E : Type 0} → (S → ℕ) → TableRows S E → Table
+table_of index rows = record {
+  start = index rows.start.0;
+  tokens = rows.tokens;
+  rules = rows.rules;
+  actions = map (λ row. map (plain_action index) row.items) rows.actions.items;
+  gotos = map (λ row. map (plain_goto index) row.items) rows.gotos.items;
+  conflicts = rows.conflicts;
+}

@@ -1,0 +1,87 @@
+//! The conflicts that were met, and decided, when a table was made.
+ghost use Rattle.std.specs.Prelude.{◌≡◌, length, map};
+ghost use Rattle.lrpar_states.specs.PlainConflicts.{reduce_reduce_of, shift_reduce_of};
+
+use lrpar_grammar::span::{PIdx, StIdx, StorageNum, TIdx};
+use std::marker::Model;
+
+/// The conflicts that were met when a table was made.
+#[derive(Debug, Drop)]
+pub struct Conflicts<StorageT: StorageNum> {
+    rr: Vec<
+        (
+            TIdx<StorageT>,
+            PIdx<StorageT>,
+            PIdx<StorageT>,
+            StIdx<StorageT>,
+        ),
+    >,
+    sr: Vec<(TIdx<StorageT>, PIdx<StorageT>, StIdx<StorageT>)>,
+}
+
+impl<StorageT: StorageNum> Model for Conflicts<StorageT> {
+    ghost use Rattle.std.specs.Prelude.{map};
+    ghost use Rattle.lrpar_states.specs.Table.{ConflictLists};
+    ghost use Rattle.lrpar_states.specs.PlainConflicts.{reduce_reduce_of, shift_reduce_of};
+
+    ghost Value = { ConflictLists };
+
+    ghost view = { λ c. record { reduce_reduce = map (reduce_reduce_of StorageT.index) c.rr.items; shift_reduce = map (shift_reduce_of StorageT.index) c.sr.items } };
+}
+
+impl<StorageT: StorageNum> Conflicts<StorageT> {
+    /// The conflicts of these two lists: `rr` has those between two reductions, as token, productions and state, and
+    /// `sr` those between a shift and a reduction, as token, production and state. No number is looked at.
+    pub fn new(
+        rr: Vec<
+            (
+                TIdx<StorageT>,
+                PIdx<StorageT>,
+                PIdx<StorageT>,
+                StIdx<StorageT>,
+            ),
+        >,
+        sr: Vec<(TIdx<StorageT>, PIdx<StorageT>, StIdx<StorageT>)>,
+    ) -> Self
+        ensures rr { result.reduce_reduce ≡ map (reduce_reduce_of StorageT.index) rr.items }
+        ensures sr { result.shift_reduce ≡ map (shift_reduce_of StorageT.index) sr.items }
+    {
+        Conflicts { rr, sr }
+    }
+
+    /// The conflicts between two reductions, as token, productions and state, in the order in which they were given.
+    pub fn rr_conflicts(
+        &self,
+    ) -> &[(
+        TIdx<StorageT>,
+        PIdx<StorageT>,
+        PIdx<StorageT>,
+        StIdx<StorageT>,
+    )]
+        ensures { map (reduce_reduce_of StorageT.index) result.now ≡ self.now.reduce_reduce }
+    {
+        &self.rr
+    }
+
+    /// The conflicts between a shift and a reduction, as token, production and state, in the order in which they were
+    /// given.
+    pub fn sr_conflicts(&self) -> &[(TIdx<StorageT>, PIdx<StorageT>, StIdx<StorageT>)]
+        ensures { map (shift_reduce_of StorageT.index) result.now ≡ self.now.shift_reduce }
+    {
+        &self.sr
+    }
+
+    /// How many conflicts there are between two reductions.
+    pub fn rr_len(&self) -> usize
+        ensures { result ≡ length self.now.reduce_reduce }
+    {
+        self.rr.len()
+    }
+
+    /// How many conflicts there are between a shift and a reduction.
+    pub fn sr_len(&self) -> usize
+        ensures { result ≡ length self.now.shift_reduce }
+    {
+        self.sr.len()
+    }
+}

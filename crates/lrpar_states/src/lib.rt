@@ -1,0 +1,13 @@
+//! State tables and item sets: what a parser does in each state, where it goes, and what stands behind it.
+#![tactic(auto)]
+
+mod ascending;
+pub mod condition;
+mod conflicts;
+mod fault;
+mod graph;
+mod items;
+pub mod laws;
+mod numbers;
+mod rows;
+pub mod table;

@@ -1,8 +1,0 @@
-use Rattle.std.proofs.Common.{◌<◌, ℕ}
-use Rattle.lrpar_table.specs.Chain.{IsLongChain}
-use Rattle.lrpar_table.proofs.chains.Chains.first_long_at.Given as goal
-
--- no chain of the state is too long at the tokens so far
-abbrev pub invariant-loop-t : goal.invariant-loop-t
-invariant-loop-t g l =
-    (k : ℕ) → k < l.t → ¬ (IsLongChain l.self.grm.now l.self.stable.now l.self.cap (g.StorageT.StorageNum.index l.s.0) k)

@@ -1,8 +1,0 @@
-use Rattle.lrpar_table.specs.Graph.{item_at}
-use Rattle.lrpar_table.specs.PlainItems.{rows_of}
-use Rattle.lrpar_table.proofs.ItemLemmas.{same_at_each}
-use Rattle.lrpar_table.proofs.graph.StateGraph.from_rows.Goals as goal
-
-pub returns-in_ok-item_sets-clause-items : goal.returns-in_ok-item_sets-clause-items
-returns-in_ok-item_sets-clause-items g c = λ s p k t.
-    same_at_each c.in_ok-item_sets.field-0.items (rows_of g.StorageT.StorageNum.index c.args.rows) c.in_ok-item_sets.ensures s (item_at p k t)

@@ -1,0 +1,4 @@
+//! Parts of a text, and the numbers by which things of a grammar are known.
+#![tactic(auto)]
+
+pub mod span;
