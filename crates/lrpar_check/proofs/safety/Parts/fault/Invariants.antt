@@ -1,7 +1,7 @@
 use Rattle.std.proofs.Common.{◌<◌, ℕ, get_or}
 use Rattle.lrpar_states.specs.Table.{states_len}
 use Rattle.lrpar_states.specs.Safe.{IsSafeAt}
-use Rattle.lrpar_states.specs.declared.safety.TheConstants.{CONDITIONS}
+use Rattle.lrpar_check.specs.declared.safety.TheConstants.{CONDITIONS}
 use Rattle.lrpar_check.proofs.safety.Parts.fault.Given as goal
 
 -- the conditions so far hold everywhere
