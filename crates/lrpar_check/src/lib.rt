@@ -7,5 +7,6 @@ mod fault;
 pub mod laws;
 mod safety;
 mod settle;
+pub mod stack;
 mod stacks;
 mod step;
