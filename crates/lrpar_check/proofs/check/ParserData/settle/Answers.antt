@@ -10,6 +10,6 @@ returns-clause-held_up g c =
     let index = g.StorageT.StorageNum.index in
     let d = c.args.self.now in
     on_err_weaker c.settle_on.result
-    (list_held_up (λ v. states_of index v.items) _ d.grammar d.table (index c.args.t.0) _ (λ v. vec_capacity v) (λ a p r n b h. h) (λ a n b h. (h.0, rw length-map h.1))
-    c.args.stack.now c.settle_on.new.stack)
+    (list_held_up (λ v. states_of index v.items) _ d.grammar d.table (index c.args.t.0) _ (λ _ _. ⊥) (λ v. vec_capacity v) (λ a p r n b h. h)
+    (λ a n b h. (h.0, rw length-map h.1)) (λ a b h. absurd h) c.args.stack.now c.settle_on.new.stack)
     c.settle_on.ensures.held_up
