@@ -7,3 +7,4 @@ pub mod ChainTests
 pub mod StepLemmas
 pub mod SettleLemmas
 pub mod StackReductionLemmas
+pub mod OverlayLemmas

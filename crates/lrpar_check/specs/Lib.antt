@@ -6,3 +6,4 @@ pub mod Step
 pub mod Settled
 pub mod StackReduction
 pub mod Checked
+pub mod Overlay

@@ -5,6 +5,7 @@ mod chains;
 pub mod check;
 mod fault;
 pub mod laws;
+mod overlay;
 mod safety;
 mod settle;
 pub mod stack;
