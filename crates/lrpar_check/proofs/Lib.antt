@@ -8,3 +8,4 @@ pub mod StepLemmas
 pub mod SettleLemmas
 pub mod StackReductionLemmas
 pub mod OverlayLemmas
+pub mod OverSettleLemmas

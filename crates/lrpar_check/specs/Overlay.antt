@@ -22,10 +22,11 @@ abbrev pub kept_by : Grammar → List ℕ → ℕ → ℕ → ℕ
 kept_by g [] height kept = kept
 kept_by g (p ∷ prods) height kept = kept_by g prods (height - prod_len g p + 1) (min kept (height - prod_len g p))
 
--- by these reductions the overlay keeps what it has to of the same base
+-- by these reductions the overlay keeps what it has to of the same base, and gives no room back
 pub record KeepsBy (g : Grammar) (prods : List ℕ) (old new : Overlaid) : Type 0 where
   pub base : new.base ≡ old.base
   pub kept : new.kept ≡ kept_by g prods (length (overlaid old)) old.kept
+  pub room : old.room ≤ new.room
 
 -- the tail fills a room for so many states; or one state more would be more than can be counted
 abbrev pub IsFull : ℕ → Overlaid → Type 0
@@ -68,7 +69,7 @@ pub record IsShiftHeldUpOver (g : Grammar) (table : Table) (cap t : ℕ) (old ne
   pub due : top_action table t (overlaid new) ≡ ShiftTo next
   pub full : IsFull old.room new
 
--- a reduction of so many symbols keeps of the same base what is left of it, and no room is given back
+-- a reduction of so many symbols keeps of the same base what it leaves of it, and no room is given back
 pub record OverlayReduces (old : Overlaid) (symbols : ℕ) (new : Overlaid) : Type 0 where
   pub base : new.base ≡ old.base
   pub kept : new.kept ≡ min old.kept (length (overlaid old) - symbols)
@@ -80,11 +81,12 @@ pub record OverlayShifts (old new : Overlaid) : Type 0 where
   pub kept : new.kept ≡ old.kept
   pub room : old.room ≤ new.room
 
--- the states stay, above as many of the same base; there is no room for one more
+-- the same states of the base and of the tail stay, where there is no room for one more
 pub record OverlayStays (old new : Overlaid) : Type 0 where
   pub base : new.base ≡ old.base
   pub kept : new.kept ≡ old.kept
   pub tail : new.tail ≡ old.tail
+  pub room : old.room ≤ new.room
   pub full : IsFull old.room old
 
 -- so it is where memory was wanting for a reduction of so many symbols, which would have made the tail longer

@@ -10,6 +10,7 @@ ghost use Rattle.lrpar_check.specs.declared.fault.CheckFault.TheVariants.{Memory
 
 use crate::chains::Chains;
 pub use crate::fault::CheckFault;
+pub use crate::overlay::Overlay;
 use crate::safety::Parts;
 use lrpar_grammar::grammar::YaccGrammar;
 use lrpar_grammar::span::StorageNum;

@@ -117,6 +117,7 @@ impl<'a, StorageT: StorageNum> StateStack<StorageT> for Overlay<'a, StorageT> {
 
     fn reduce(&mut self, by: Reduction<StorageT>) -> Result<(), AllocError>
         requires deep { by.symbols < length (overlaid self.old) }
+        ensures can { OnOk result (Unit {0}) }
         ensures states { OnOk result (overlaid self.new
             ≡ take (length (overlaid self.old) - by.symbols) (overlaid self.old) ++ StorageT.index by.next.0 ∷ []) }
         ensures reduces { OnOk result (OverlayReduces self.old by.symbols self.new) }

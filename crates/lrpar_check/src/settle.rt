@@ -1,10 +1,12 @@
 //! What a stack of states does at a token: its reductions, and the shift after them.
 ghost use Rattle.std.specs.Prelude.{◌<◌, ◌⊎◌, IfOk, OnOk, OnErr, vec_capacity};
+ghost use Rattle.lrpar_check.specs.Overlay.{IsFedOver, IsHeldUpOver, IsSettledOver, IsShiftHeldUpOver, overlaid};
 ghost use Rattle.lrpar_check.specs.Settled.{IsFedBy, IsHeldUp, IsSettledBy, IsShiftHeldUp};
 ghost use Rattle.lrpar_check.specs.Stack.{IsStack, states_of};
 ghost use Rattle.lrpar_check.specs.StackReduction.{IsStackFedBy, IsStackHeldUp, IsStackSettledBy, IsStackShiftHeldUp};
 
 use crate::check::ParserData;
+use crate::overlay::Overlay;
 use crate::stack::{ShiftStack, StateStack};
 use crate::step::{Step, take_step};
 use lrpar_grammar::span::{StIdx, StorageNum, TIdx};
@@ -72,6 +74,30 @@ impl<StorageT: StorageNum> ParserData<StorageT> {
         self.settle_on(stack, t)
     }
 
+    /// As `settle`, over an overlay, whose base stays as it is.
+    ///
+    /// Memory is wanted only by a reduction that makes the tail longer, where that is full. `kept` is then that of the
+    /// reductions that were made.
+    pub fn settle_over(
+        &self,
+        stack: &mut Overlay<'_, StorageT>,
+        t: TIdx<StorageT>,
+    ) -> Result<u128, AllocError>
+        requires stack { IsStack self.now.table (overlaid stack.old) }
+        requires token { StorageT.index t.0 < self.now.table.tokens }
+
+        // All reductions were made; their number is told and bounded.
+        ensures settled { IfOk result (λ count. IsSettledOver self.now.grammar self.now.table self.now.cap (StorageT.index t.0) stack.old count stack.new) }
+
+        // Some first reductions were made, and the next one would make the tail longer than it can be.
+        ensures held_up { OnErr result (IsHeldUpOver self.now.grammar self.now.table (StorageT.index t.0) stack.old stack.new) }
+
+        // It is a stack in either case.
+        ensures stack { IsStack self.now.table (overlaid stack.new) }
+    {
+        self.settle_on(stack, t)
+    }
+
     /// Makes all reductions of a stack of any kind under the token, and then shifts the token, if the top state does;
     /// answers whether it did. Internal: `feed` and `feed_over` are this.
     pub fn feed_on<S: ShiftStack<StorageT>>(
@@ -131,6 +157,31 @@ impl<StorageT: StorageNum> ParserData<StorageT> {
 
         // It is a stack in each case.
         ensures stack { IsStack self.now.table (states_of StorageT.index stack.new.items) }
+    {
+        self.feed_on(stack, t)
+    }
+
+    /// As `feed`, over an overlay, whose base stays as it is.
+    ///
+    /// Memory is wanted only by a reduction that makes the tail longer and by the shift, where the tail is full. `kept` is
+    /// then that of the reductions that were made.
+    pub fn feed_over(
+        &self,
+        stack: &mut Overlay<'_, StorageT>,
+        t: TIdx<StorageT>,
+    ) -> Result<bool, AllocError>
+        requires stack { IsStack self.now.table (overlaid stack.old) }
+        requires token { StorageT.index t.0 < self.now.table.tokens }
+
+        // The token was shifted after all reductions, or the top doesn't shift it.
+        ensures fed { IfOk result (λ shifted. IsFedOver self.now.grammar self.now.table self.now.cap (StorageT.index t.0) stack.old shifted stack.new) }
+
+        // The next reduction, or the shift after all of them, would make the tail longer than it can be.
+        ensures held_up { OnErr result (IsHeldUpOver self.now.grammar self.now.table (StorageT.index t.0) stack.old stack.new
+            ⊎ IsShiftHeldUpOver self.now.grammar self.now.table self.now.cap (StorageT.index t.0) stack.old stack.new) }
+
+        // It is a stack in each case.
+        ensures stack { IsStack self.now.table (overlaid stack.new) }
     {
         self.feed_on(stack, t)
     }

@@ -136,7 +136,7 @@ pub(crate) fn put_at<StorageT: StorageNum>(
 ) -> Result<(), AllocError>
     requires { left ≤ length states.old.items }
     ensures put { OnOk result (states.new.items ≡ take left states.old.items ++ next ∷ []) }
-    ensures room { OnOk result (vec_capacity states.old ≤ vec_capacity states.new) }
+    ensures room { vec_capacity states.old ≤ vec_capacity states.new }
     ensures unchanged { OnErr result (states.new.items ≡ states.old.items) }
     ensures full { OnErr result ((left ≡ length states.old.items) × (vec_capacity states.old ≤ left)) }
 {
