@@ -107,8 +107,7 @@ impl<StorageT: StorageNum> ParserData<StorageT> {
 
     /// The cap.
     pub fn cap(&self) -> u16
-        ensures cap { result ≡ self.now.cap }
-        ensures bounds { IsBounded self.now.grammar self.now.table self.now.cap }
+        ensures { result ≡ self.now.cap }
     {
         self.cap
     }

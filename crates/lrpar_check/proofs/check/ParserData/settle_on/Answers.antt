@@ -17,7 +17,7 @@ prove-unreachable-requires g c =
     stack_reduced_once d.grammar d.table d.cap run (g.StorageT.StorageNum.index c.args.t.0) c.requires.token kind.states kind.reduces c.args.stack.now
     c.reductions.stack c.take_step.new.states made.0 c.in_ok-take_step.field-0 c.requires.stack c.reductions.invariant.stack made.1 c.in-Reduced.is
     step in
-    let cap : c.from.result ≡ d.cap = c.from.ensures ∙ c.cap.ensures.cap in
+    let cap : c.from.result ≡ d.cap = c.from.ensures ∙ c.cap.ensures in
     let most : c.from.result * c.height.result ≡ d.cap * length (kind.states c.args.stack.now) = rw (cap, c.height.ensures) refl in
     omega (arith, most, more.1, made.2, c.if-prove.true)
 
