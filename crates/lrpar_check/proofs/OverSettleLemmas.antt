@@ -1,8 +1,9 @@
 -- What reductions of an overlay keep of its base, and what is told of it where they are all made or held up.
-use Rattle.std.proofs.Common.{◌≡◌, ◌≤◌, ◌+◌, ◌*◌, ◌-◌, ◌∙◌, ◌⊎◌, inl, inr, sym, subst, ap, arith, ℕ, List, [], ◌∷◌, ◌++◌, Bool, true, false, length, min, take, refl, length-append}
+use Rattle.std.proofs.Common.{◌≡◌, ◌≤◌, ◌+◌, ◌-◌, ◌∙◌, ◌⊎◌, inl, inr, sym, subst, ap, arith, ℕ, List, [], ◌∷◌, ◌++◌, Bool, true, false, length, min, take, refl, length-append}
 use Rattle.std.proofs.lemmas.List.{length-take-le}
 use Rattle.lrpar_grammar.specs.Grammar.{Grammar, prod_len}
 use Rattle.lrpar_states.specs.Table.{Table, ShiftTo}
+use Rattle.lrpar_check.specs.Chain.{most_reductions}
 use Rattle.lrpar_check.specs.Overlay.{FeedsOver, IsFedOver, IsFull, IsHeldUpOver, IsSettledOver, IsShiftHeldUpOver, KeepsBy, Overlaid, OverlayFails, OverlayReduces, OverlayShifts, OverlayStays, kept_by, overlaid}
 use Rattle.lrpar_check.specs.Reduction.{Reduces, Settles, left_by, top_action}
 use Rattle.lrpar_check.specs.Stack.{IsStack}
@@ -89,7 +90,7 @@ module _ (g : Grammar) (table : Table) (t : ℕ) where
             counted = by.counted;
             stack = subst (λ (st : List ℕ). IsStack table st) same by.stack;
             by_height = by.by_height;
-            by_loss = subst (λ (st : List ℕ). length prods + cap * length st ≤ cap * (length (overlaid old) + cap + 2)) same by.by_loss;
+            by_loss = subst (λ (st : List ℕ). length prods + most_reductions cap (length st) ≤ most_reductions cap (length (overlaid old) + cap + 2)) same by.by_loss;
           };
           keeps = keeps_still prods old h.settled new keeps h.of_rest;
         };

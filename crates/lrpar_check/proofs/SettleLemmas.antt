@@ -6,7 +6,7 @@ use Rattle.std.specs.List.{All}
 use Rattle.std.specs.Result.{OnErr}
 use Rattle.lrpar_grammar.specs.Grammar.{Grammar, IsWellFormed, prod_len, rule_of}
 use Rattle.lrpar_grammar.proofs.PartsLemmas.{rule_of_within}
-use Rattle.lrpar_check.specs.Chain.{IsBounded}
+use Rattle.lrpar_check.specs.Chain.{IsBounded, most_reductions}
 use Rattle.lrpar_check.specs.Checked.{Checked, IsChecked}
 use Rattle.lrpar_check.specs.Path.{NeverSticks}
 use Rattle.lrpar_check.specs.Reduction.{Reduces, ReducesBy, Settles, IsSettled, top_action, left_by, top_goto}
@@ -146,7 +146,8 @@ module _ (g : Grammar) (table : Table) (cap : ℕ) (run : IsRun g table cap) (t 
 
   -- reductions of a stack are bounded
   pub stack_bounds : (st prods after : List ℕ) → IsStack table st → ReducesBy g table t st prods after
-      → (length prods ≤ cap * length st) × (length prods + cap * length after ≤ cap * (length st + cap + 2))
+      → (length prods ≤ most_reductions cap (length st))
+      × (length prods + most_reductions cap (length after) ≤ most_reductions cap (length st + cap + 2))
   stack_bounds st prods after stack reduces =
       let path = stack_has_path table st stack in run.bounds path.0 st t prods after path.1 token reduces
 
@@ -187,7 +188,7 @@ module _ (g : Grammar) (table : Table) (cap : ℕ) (run : IsRun g table cap) (t 
     -- a step that makes a reduction makes one more of them, which the bound allows
     pub stack_reduced_once : (old mid new : X) (prods : List ℕ) (step : Step) → IsStack table (states old) → IsStack table (states mid)
         → StackReducesBy states reduces g table t old prods mid → step ≡ Reduced → IsStackStep states reduces g table t mid step new
-        → IsStack table (states new) × (length prods < cap * length (states old))
+        → IsStack table (states new) × (length prods < most_reductions cap (length (states old)))
         × ((more : List ℕ) × (length more ≡ length prods + 1) × StackReducesBy states reduces g table t old more new)
     stack_reduced_once old mid new prods step stack_old stack_mid made is of_stack =
         let one = subst (λ (s : Step). IsStackStep states reduces g table t mid s new) is of_stack in

@@ -1,6 +1,7 @@
 -- What a stack comes to at a token.
-use Rattle.std.specs.Prelude.{◌≡◌, ◌≢◌, ◌≤◌, ◌+◌, ◌*◌, ℕ, List, Bool, true, false, length}
+use Rattle.std.specs.Prelude.{◌≡◌, ◌≢◌, ◌≤◌, ◌+◌, ℕ, List, Bool, true, false, length}
 use Rattle.lrpar_grammar.specs.Grammar.{Grammar, prod_len}
+use Rattle.lrpar_check.specs.Chain.{most_reductions}
 use Rattle.lrpar_check.specs.Reduction.{Reduces, ReducesBy, Settles, Feeds, top_action}
 use Rattle.lrpar_check.specs.Stack.{IsStack}
 use Rattle.lrpar_states.specs.Table.{Table, ShiftTo}
@@ -12,8 +13,8 @@ pub record IsSettledBy (g : Grammar) (table : Table) (cap t : ℕ) (st : List �
   pub settles : Settles g table t st prods after
   pub counted : count ≡ length prods
   pub stack : IsStack table after
-  pub by_height : length prods ≤ cap * length st
-  pub by_loss : length prods + cap * length after ≤ cap * (length st + cap + 2)
+  pub by_height : length prods ≤ most_reductions cap (length st)
+  pub by_loss : length prods + most_reductions cap (length after) ≤ most_reductions cap (length st + cap + 2)
 
 -- at token t the stack makes all reductions, and then shifts the token, which gives the stack `after`; or the top doesn't
 -- shift it

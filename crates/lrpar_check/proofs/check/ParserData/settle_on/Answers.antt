@@ -1,4 +1,5 @@
 use Rattle.std.proofs.Common.{◌≡◌, ◌∙◌, ◌*◌, arith, length, refl}
+use Rattle.lrpar_check.specs.Chain.{most_reductions}
 use Rattle.lrpar_check.proofs.SettleLemmas.{run_of_checked, stack_reduced_once, stack_settled_by, stack_states}
 use Rattle.lrpar_check.proofs.check.ParserData.settle_on.Goals as goal
 
@@ -18,7 +19,7 @@ prove-unreachable-requires g c =
     c.reductions.stack c.take_step.new.states made.0 c.in_ok-take_step.field-0 c.requires.stack c.reductions.invariant.stack made.1 c.in-Reduced.is
     step in
     let cap : c.from.result ≡ d.cap = c.from.ensures ∙ c.cap.ensures in
-    let most : c.from.result * c.height.result ≡ d.cap * length (kind.states c.args.stack.now) = rw (cap, c.height.ensures) refl in
+    let most : c.from.result * c.height.result ≡ most_reductions d.cap (length (kind.states c.args.stack.now)) = rw (cap, c.height.ensures) refl in
     omega (arith, most, more.1, made.2, c.if-prove.true)
 
 pub reductions-preserved : goal.reductions-preserved

@@ -1,4 +1,5 @@
-use Rattle.std.proofs.Common.{◌≡◌, ◌*◌, ◌-◌, ℕ, List, length}
+use Rattle.std.proofs.Common.{◌≡◌, ◌-◌, ℕ, List, length}
+use Rattle.lrpar_check.specs.Chain.{most_reductions}
 use Rattle.lrpar_check.specs.Stack.{IsStack}
 use Rattle.lrpar_check.specs.StackReduction.{StackReducesBy}
 use Rattle.lrpar_check.proofs.check.ParserData.settle_on.Given as goal
@@ -15,4 +16,4 @@ invariant-reductions g l =
 
 -- the reductions that may still be made
 abbrev pub decreases-reductions : goal.decreases-reductions
-decreases-reductions g l = l.self.cap * length (g.S.StateStack.states l.fn.stack) - l.count
+decreases-reductions g l = most_reductions l.self.cap (length (g.S.StateStack.states l.fn.stack)) - l.count
