@@ -22,12 +22,7 @@ use Rattle.lrpar_check.proofs.StackLemmas.{joined_within, stack_has_path}
 use Rattle.lrpar_check.proofs.StackReductionLemmas.{stack_reduces_more, states_reduce_by}
 use Rattle.lrpar_check.proofs.StepLemmas.{action_by_top, goto_by_top}
 
--- a stack has a state
-pub stack_some : (table : Table) (st : List ℕ) → IsStack table st → 0 < length st
-stack_some table [] stack = absurd stack
-stack_some table (s ∷ st) stack = omega arith
-
--- its states are of the table
+-- the states of a stack are of the table
 joined_states : (table : Table) → IsClosed table → (s : ℕ) (st : List ℕ) → s < states_len table → AreJoined table s st
     → All (λ s. s < states_len table) (s ∷ st)
 joined_states table closed s [] within joined = All-cons (λ s. s < states_len table) s [] within (All-nil (λ s. s < states_len table))
@@ -69,25 +64,12 @@ stack_front table zero st stack some = absurd (omega arith)
 stack_front table (suc n) [] stack some = stack
 stack_front table (suc n) (s ∷ st) stack some = (stack.0, joined_front table s n st stack.1)
 
--- reductions, and one more
-pub reduces_by_more : (g : Grammar) (table : Table) (t : ℕ) (st prods mid : List ℕ) (p : ℕ) (after : List ℕ) → ReducesBy g table t st prods mid
-    → Reduces g table t mid p after → ReducesBy g table t st (prods ++ p ∷ []) after
-reduces_by_more g table t st [] mid p after same last = (after, subst (λ (s : List ℕ). Reduces g table t s p after) (sym same) last, refl)
-reduces_by_more g table t st (q ∷ prods) mid p after all last =
-    (all.0, all.1, reduces_by_more g table t all.0 prods mid p after all.2 last)
-
--- they are all, where the stack is settled
+-- reductions are all, where the stack is settled
 pub settles_at_end : (g : Grammar) (table : Table) (t : ℕ) (st prods after : List ℕ) → ReducesBy g table t st prods after → IsSettled table t after
     → Settles g table t st prods after
 settles_at_end g table t st [] after same settled = (same, subst (λ (s : List ℕ). IsSettled table t s) (sym same) settled)
 settles_at_end g table t st (p ∷ prods) after all settled =
     (all.0, all.1, settles_at_end g table t all.0 prods after all.2 settled)
-
--- and all reductions are some
-pub settles_reduces : (g : Grammar) (table : Table) (t : ℕ) (st prods after : List ℕ) → Settles g table t st prods after
-    → ReducesBy g table t st prods after
-settles_reduces g table t st [] after all = all.0
-settles_reduces g table t st (p ∷ prods) after all = (all.0, all.1, settles_reduces g table t all.0 prods after all.2)
 
 -- what is known of a checked table
 pub record IsRun (g : Grammar) (table : Table) (cap : ℕ) : Type 0 where

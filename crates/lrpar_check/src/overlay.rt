@@ -33,7 +33,8 @@ impl<'a, StorageT: StorageNum> Overlay<'a, StorageT> {
     /// Stands for the base. Takes no memory; the allocator is for the states of its own.
     pub fn new(alloc: Global, base: &'a [StIdx<StorageT>]) -> Self
         requires { 0 < length base.now }
-        ensures { result ≡ record { base = states_of StorageT.index base.now; kept = length base.now; tail = []; room = 0 } }
+        ensures made { result ≡ record { base = states_of StorageT.index base.now; kept = length base.now; tail = []; room = 0 } }
+        ensures states { overlaid result ≡ states_of StorageT.index base.now }
     {
         Overlay {
             base,
@@ -80,7 +81,8 @@ impl<'a, StorageT: StorageNum> Overlay<'a, StorageT> {
 
     /// Stands for the base again. Takes no memory, and gives none back.
     pub fn set_back(&mut self)
-        ensures { self.new ≡ record { base = self.old.base; kept = length self.old.base; tail = []; room = self.old.room } }
+        ensures made { self.new ≡ record { base = self.old.base; kept = length self.old.base; tail = []; room = self.old.room } }
+        ensures states { overlaid self.new ≡ self.old.base }
     {
         self.kept = self.base.len();
         self.tail.clear();

@@ -151,9 +151,9 @@ impl<StorageT: StorageNum> ParserData<StorageT> {
         // The next reduction, or the shift after all of them, would make the list longer than it can be.
         ensures held_up { OnErr result (
             IsHeldUp self.now.grammar self.now.table (StorageT.index t.0)
-                (states_of StorageT.index stack.old.items) (vec_capacity stack.old) (states_of StorageT.index stack.new.items)
+            (states_of StorageT.index stack.old.items) (vec_capacity stack.old) (states_of StorageT.index stack.new.items)
             ⊎ IsShiftHeldUp self.now.grammar self.now.table self.now.cap (StorageT.index t.0)
-                (states_of StorageT.index stack.old.items) (vec_capacity stack.old) (states_of StorageT.index stack.new.items)) }
+            (states_of StorageT.index stack.old.items) (vec_capacity stack.old) (states_of StorageT.index stack.new.items)) }
 
         // It is a stack in each case.
         ensures stack { IsStack self.now.table (states_of StorageT.index stack.new.items) }

@@ -102,7 +102,7 @@ impl<StorageT: StorageNum> StateStack<StorageT> for Vec<StIdx<StorageT>> {
         requires deep { by.symbols < length (states_of StorageT.index self.old.items) }
         ensures states { OnOk result (states_of StorageT.index self.new.items
             ≡ take (length (states_of StorageT.index self.old.items) - by.symbols) (states_of StorageT.index self.old.items)
-                ++ StorageT.index by.next.0 ∷ []) }
+            ++ StorageT.index by.next.0 ∷ []) }
         ensures reduces { OnOk result (vec_capacity self.old ≤ vec_capacity self.new) }
         ensures unchanged { OnErr result (states_of StorageT.index self.new.items ≡ states_of StorageT.index self.old.items) }
         ensures fails { OnErr result ((by.symbols ≡ 0) × (vec_capacity self.old ≤ length self.old.items)) }

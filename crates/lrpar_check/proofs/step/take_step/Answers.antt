@@ -28,15 +28,15 @@ returns-in-Shift-clause-step g c =
     let t = index c.args.t.0 in
     let action = c.action.ensures.action ∙ sym (action_by_top table t states (index c.top.result.0) c.top.ensures) in
     step_by_no_reduction c.args.grm.now table t states (λ p e.
-        let reduce = reduce_from_plain index c.action.result p (action ∙ e) in
-        elim c.in-Shift.is as (λ _. ⊥) [
-          | inl shift ↦ let clash : Shift shift.0 ≡ Reduce reduce.0 = sym shift.1 ∙ reduce.1 in cc
-          | inr rest ↦
-              elim rest as (λ _. ⊥) [
-                | inl accept ↦ let clash : Accept ≡ Reduce reduce.0 = sym accept ∙ reduce.1 in cc
-                | inr error ↦ let clash : Error ≡ Reduce reduce.0 = sym error ∙ reduce.1 in cc
-              ]
-        ])
+    let reduce = reduce_from_plain index c.action.result p (action ∙ e) in
+    elim c.in-Shift.is as (λ _. ⊥) [
+      | inl shift ↦ let clash : Shift shift.0 ≡ Reduce reduce.0 = sym shift.1 ∙ reduce.1 in cc
+      | inr rest ↦
+          elim rest as (λ _. ⊥) [
+            | inl accept ↦ let clash : Accept ≡ Reduce reduce.0 = sym accept ∙ reduce.1 in cc
+            | inr error ↦ let clash : Error ≡ Reduce reduce.0 = sym error ∙ reduce.1 in cc
+          ]
+    ])
 
 pub returns-in-Reduce-clause-held_up : goal.returns-in-Reduce-clause-held_up
 returns-in-Reduce-clause-held_up g c =
