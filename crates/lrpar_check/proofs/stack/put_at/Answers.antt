@@ -2,7 +2,7 @@ use Rattle.std.proofs.Common.{◌<◌, ◌∙◌, ◌+◌, ap, arith, length, sy
 use Rattle.std.proofs.Math.ListN.{set}
 use Rattle.std.proofs.Math.Seq.{take-set-lt}
 use Rattle.std.proofs.lemmas.List.{take_more_set}
-use Rattle.lrpar_check.proofs.step.put_at.Goals as goal
+use Rattle.lrpar_check.proofs.stack.put_at.Goals as goal
 
 pub returns-else-left-len-clause-put : goal.returns-else-left-len-clause-put
 returns-else-left-len-clause-put g c =
