@@ -1,4 +1,5 @@
 //! Parts of a text, and the numbers by which things of a grammar are known.
 #![tactic(auto)]
 
+pub mod laws;
 pub mod span;
