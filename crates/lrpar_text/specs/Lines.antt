@@ -1,7 +1,7 @@
 -- Lines and columns of a text of UTF-8 bytes. A line starts at byte 0 and after each line feed; it ends before its
 -- line feed, and the last one at the text's end.
-use Rattle.std.specs.Prelude.{ℕ, ◌+◌, ◌-◌, ◌==◌, Bool, not, List, length, count_by, take, drop, slice_range}
-use Rattle.std.specs.List.{prefix_len, suffix_len}
+use Rattle.std.specs.Prelude.{ℕ, ◌+◌, ◌-◌, ◌==◌, Bool, not, List, length, count_by, filter, take, drop, slice_index, slice_range}
+use Rattle.std.specs.List.{prefix_len, suffix_len, range_with_len}
 use Rattle.std.specs.Str.{chars}
 
 -- a line feed
@@ -31,3 +31,16 @@ line_of text i = 1 + count_by is_line_feed (take i text)
 -- the column of byte i: one more than the characters between its line's start and it
 abbrev pub column_of : List ℕ → ℕ → ℕ
 column_of text i = 1 + length (chars (slice_range text (line_start text i) i))
+
+-- whether a line starts at byte i, which isn't the first: the byte before it is a line feed
+abbrev pub starts_line : List ℕ → ℕ → Bool
+starts_line text i = is_line_feed (slice_index text (i - 1))
+
+-- where the lines of a text start but for the first, ascending, and how many bytes the text has
+pub record LineTable : Type 0 where
+  pub starts : List ℕ
+  pub len : ℕ
+
+-- those of a text
+abbrev pub line_table : List ℕ → LineTable
+line_table text = record { starts = filter (starts_line text) (range_with_len 1 (length text)); len = length text }
