@@ -1,7 +1,7 @@
 use Rattle.lrpar_states.specs.Table.{IsGotoWithin}
 use Rattle.lrpar_states.specs.PlainRows.{plain_goto}
 use Rattle.lrpar_states.proofs.Mapped.{row_test, row_refused}
-use Rattle.lrpar_states.proofs.table.is_goto_row.Goals as goal
+use Rattle.lrpar_states.proofs.full.is_goto_row.Goals as goal
 
 pub returns-then-row-rules : goal.returns-then-row-rules
 returns-then-row-rules g c =

@@ -1,7 +1,7 @@
 use Rattle.lrpar_states.specs.Table.{IsActionWithin}
 use Rattle.lrpar_states.specs.PlainRows.{plain_action}
 use Rattle.lrpar_states.proofs.Mapped.{row_test, row_refused}
-use Rattle.lrpar_states.proofs.table.is_action_row.Goals as goal
+use Rattle.lrpar_states.proofs.full.is_action_row.Goals as goal
 
 pub returns-then-row-tokens : goal.returns-then-row-tokens
 returns-then-row-tokens g c =
