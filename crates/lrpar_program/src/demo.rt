@@ -10,7 +10,7 @@ use std::alloc::Global;
 /// Parses the text as a sum. The answer has each error's line, and then the tree's lines, if there is a tree.
 pub(crate) fn demo(alloc: Global, text: &str) -> Result<Answer, Fault> {
     let data = sum_data(alloc)?;
-    let lexer = SumLexer::new(text);
+    let lexer = SumLexer::new(alloc, text)?;
     let (tree, errors) = RTParserBuilder::new(&data).parse_map(
         alloc,
         &lexer,
