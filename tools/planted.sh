@@ -30,8 +30,8 @@ for crate in "$@"; do
         failed=$((failed + 1))
         continue
     fi
-    rt must-fail "$crate" | tee "$work/verdicts"
-    refused=$(grep -c "^must-fail $crate/.*: refused" "$work/verdicts")
+    rt must-fail "$crate" 2>&1 | tee "$work/verdicts"
+    refused=$(grep -cE "^(rt: )?must-fail $crate/.*: refused" "$work/verdicts")
     edits=("crates/$crate/must-fail"/*.edit)
     passed=$((passed + refused))
     failed=$((failed + ${#edits[@]} - refused))

@@ -14,6 +14,8 @@ mod graph;
 #[cfg(test)]
 mod lexer;
 #[cfg(test)]
+mod lines;
+#[cfg(test)]
 mod parse;
 #[cfg(test)]
 mod span;
