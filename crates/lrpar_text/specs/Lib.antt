@@ -1,1 +1,3 @@
 pub mod Span
+pub mod Words
+pub mod Shape

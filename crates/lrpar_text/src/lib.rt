@@ -1,4 +1,7 @@
 //! Parts of a text, and the numbers by which things of a grammar are known.
 #![tactic(auto)]
 
+pub mod laws;
+pub mod shape;
 pub mod span;
+pub mod words;
