@@ -1,12 +1,12 @@
 -- How a text is cut into pieces, and which words are among them.
-use Rattle.std.proofs.Common.{◌≡◌, ◌<◌, ◌≤◌, ◌+◌, ◌-◌, nat_eq, inl, inr, subst, get_or, ℕ, Bool, true, false, cond, List, [], ◌∷◌, length, drop, codes, Option, Some, None, option_map, refl, ap, sym, ◌∙◌, arith}
+use Rattle.std.proofs.Common.{◌≡◌, ◌<◌, ◌≤◌, ◌+◌, ◌-◌, nat_eq, inl, inr, subst, get_or, ℕ, false, cond, List, [], ◌∷◌, length, drop, codes, Option, Some, None, option_map, refl, ap, sym, ◌∙◌, arith}
 use Rattle.std.specs.List.{starts_with}
 use Rattle.std.proofs.lemmas.List.{at_drop_more, drop_more, get_or-drop}
 use Rattle.std.specs.Str.{IsUtf8, IsCharBoundary}
 use Rattle.std.proofs.lemmas.Str.{IsCharBoundary-before_ascii, IsCharBoundary-after_ascii}
 use Rattle.std.proofs.lemmas.Bool.{cases_lt}
 use Rattle.lrpar_text.specs.declared.words.Piece.{Piece}
-use Rattle.lrpar_text.specs.Words.{IsCutInto, ReadsAs, ReadsAsOne, closed_len, piece_at, words_of}
+use Rattle.lrpar_text.specs.Words.{IsCutInto, ReadsAsOne, closed_len, piece_at, words_of}
 
 -- two numbers that are added to a found one
 option_map_add : (found : Option ℕ) (i : ℕ) → option_map (λ n. n + i) (option_map (λ n. n + 1) found) ≡ option_map (λ n. n + (i + 1)) found
@@ -52,7 +52,7 @@ ends_char text place len quote utf8 within some few last =
     ]
 
 -- what is cut at an end isn't cut further
-no_piece : (s : List ℕ) (x : Piece) → s ≡ [] → piece_at s ≡ Some x → ⊥
+pub no_piece : (s : List ℕ) (x : Piece) → s ≡ [] → piece_at s ≡ Some x → ⊥
 no_piece s x ends is = let none : piece_at s ≡ None = ap piece_at ends in let same : ◌≡◌ {A = Option Piece} None (Some x) = sym none ∙ is in absurd (cc)
 
 -- a text is cut in one way

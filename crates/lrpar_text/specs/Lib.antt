@@ -1,3 +1,4 @@
 pub mod Span
 pub mod Words
 pub mod Shape
+pub mod Outline

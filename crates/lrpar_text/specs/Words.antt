@@ -1,7 +1,7 @@
 -- The words of a grammar text. Bytes are numbers: 37 is `%`, 39 `'`, 34 `"`, 47 `/`, 42 `*`, 58 `:`, 59 `;`, 124 `|`.
-use Rattle.std.specs.Prelude.{◌≡◌, ◌<◌, ◌≤◌, ◌+◌, ◌-◌, ◌*◌, slice_index, length, ◌==◌, ◌&&◌, ◌||◌, not, ℕ, Bool, true, false, List, [], ◌∷◌, ◌++◌, drop, nat_lt, nat_le, nat_eq, codes, slice_range, Option, Some, None, option_map, if◌then◌else◌}
+use Rattle.std.specs.Prelude.{◌≡◌, ◌<◌, ◌≤◌, ◌+◌, ◌-◌, ◌*◌, slice_index, length, ◌==◌, ◌&&◌, ◌||◌, ℕ, Bool, List, [], ◌∷◌, ◌++◌, drop, nat_lt, nat_le, nat_eq, codes, slice_range, Option, Some, None, option_map, if◌then◌else◌}
 use Rattle.std.specs.List.{prefix_len, position_or_len, starts_with}
-use Rattle.std.specs.Option.{option_map_or, option_to_list}
+use Rattle.std.specs.Option.{option_to_list}
 use Rattle.lrpar_text.specs.declared.words.WordKind.{WordKind}
 use Rattle.lrpar_text.specs.declared.words.WordKind.TheVariants.{Name, Quoted, StartSign, TokenSign, EppSign, RulesSign, Colon, Bar, Semicolon}
 use Rattle.lrpar_text.specs.declared.words.Piece.{Piece}
@@ -106,7 +106,7 @@ pub record PlacedWord : Type 0 where
 
 -- a word as plain data
 abbrev pub placed : Word → PlacedWord
-placed w = record { kind = w.kind; name = w.name.now; span = w.span }
+placed w = record { kind = w.kind; name = w.name.now; span = record { start = w.end - length w.name.now; end = w.end } }
 
 -- the word of that kind and length that stands at the start of s, which lies at a place of a text
 abbrev pub word_at : ℕ → List ℕ → WordKind → ℕ → PlacedWord

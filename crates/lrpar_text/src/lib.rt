@@ -2,6 +2,7 @@
 #![tactic(auto)]
 
 pub mod laws;
+pub mod outline;
 pub mod shape;
 pub mod span;
 pub mod words;

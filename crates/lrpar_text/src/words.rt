@@ -35,8 +35,17 @@ pub struct Word<'a> {
     pub kind: WordKind,
     /// Its text, without quotes.
     pub name: &'a str,
-    /// Where that text stands.
-    pub span: Span,
+    /// The byte after that text.
+    pub end: usize,
+}
+
+impl Word<'_> {
+    /// Where the word stands, without quotes.
+    pub fn span(&self) -> Span
+        ensures { result ≡ (placed self.now).span }
+    {
+        Span::new(self.end.saturating_sub(self.name.len()), self.end)
+    }
 }
 
 // The longest piece of a text at some place: a word or, where `word` is none, blanks. It has so many bytes.
@@ -91,7 +100,7 @@ pub(crate) fn word_at(text: &str, place: usize, kind: WordKind, len: usize) -> W
     Word {
         kind,
         name: &text[start..end],
-        span: Span::new(start, end),
+        end,
     }
 }
 

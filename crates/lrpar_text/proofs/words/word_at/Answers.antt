@@ -1,4 +1,3 @@
-use Rattle.std.proofs.Common.{arith}
 use Rattle.lrpar_text.proofs.WordsLemmas.{starts_char, ends_char}
 use Rattle.lrpar_text.proofs.words.word_at.Goals as goal
 
