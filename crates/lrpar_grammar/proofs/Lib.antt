@@ -3,3 +3,4 @@ pub mod RowsLemmas
 pub mod PartsLemmas
 pub mod ForestLemmas
 pub mod RewritingLemmas
+pub mod NamesLemmas

@@ -6,3 +6,4 @@ pub mod Symbols
 pub mod Parts
 pub mod Kept
 pub mod Sum
+pub mod Names

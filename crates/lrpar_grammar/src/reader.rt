@@ -1,0 +1,3 @@
+//! The grammar of a text.
+
+mod names;
