@@ -7,3 +7,4 @@ pub mod Parts
 pub mod Kept
 pub mod Sum
 pub mod Names
+pub mod Spells

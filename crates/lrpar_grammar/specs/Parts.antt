@@ -87,4 +87,4 @@ IsFirstFault limit x NoRules = x.rules ≡ []
 IsFirstFault limit x StorageTooSmall = (x.rules ≢ []) × ¬ (FitStorage limit x)
 IsFirstFault limit x BadStart = (x.rules ≢ []) × FitStorage limit x × ¬ (HasListedStart x)
 IsFirstFault limit x BadSymbol = (x.rules ≢ []) × FitStorage limit x × HasListedStart x × ¬ (HasListedSymbols x)
-IsFirstFault limit x Memory = ⊥
+IsFirstFault limit x _ = ⊥

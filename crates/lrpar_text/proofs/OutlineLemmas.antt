@@ -1,10 +1,11 @@
 -- How far a text is read, and what the words that were read outline.
-use Rattle.std.proofs.Common.{◌≡◌, ◌<◌, ◌≤◌, ◌+◌, ◌-◌, ℕ, true, false, List, [], ◌∷◌, ◌++◌, append_assoc, length, length-drop, drop, Option, Some, None, option_map, option_and_then, refl, ap, sym, subst, ◌∙◌, arith}
+use Rattle.std.proofs.Common.{◌≡◌, ◌<◌, ◌≤◌, ◌+◌, ◌-◌, ℕ, true, false, List, [], ◌∷◌, ◌++◌, append_assoc, length, length-drop, drop, get_or, Option, Some, None, option_map, option_and_then, refl, ap, sym, subst, ◌∙◌, arith}
 use Rattle.std.specs.List.{All, Contains, slice_get}
 use Rattle.std.specs.Option.{option_to_list}
 use Rattle.std.proofs.Math.ListN.{drop_of_length-le}
 use Rattle.std.proofs.lemmas.List.{append-nil, drop-drop}
-use Rattle.std.proofs.lemmas.List.Elements.{All-append, All-cons, All-nil, All-weaker, Contains-append_left}
+use Rattle.std.proofs.lemmas.List.Elements.{All-append, All-cons, All-nil, All-push, All-weaker, Contains-append_left}
+use Rattle.std.proofs.lemmas.List.Quantifiers.{all_pairs_push}
 use Rattle.std.proofs.lemmas.Option.{get_or_from_slice_get, same_Some, slice_get_within}
 use Rattle.lrpar_text.specs.declared.words.Piece.{Piece}
 use Rattle.lrpar_text.specs.declared.words.WordKind.{WordKind}
@@ -14,7 +15,7 @@ use Rattle.lrpar_text.specs.declared.shape.Role.{Role}
 use Rattle.lrpar_text.specs.declared.shape.Role.TheVariants.{Sign, Start, Declared, EppOf, Epp, Defined, Symbol, AlternativeEnd}
 use Rattle.lrpar_text.specs.Words.{IsCutInto, PlacedWord, ReadsAs, piece_at, word_at, words_of}
 use Rattle.lrpar_text.specs.Shape.{after, may_end}
-use Rattle.lrpar_text.specs.Outline.{AreOfDefinedRules, IsOutlineOf, OutlineIsOne, TextOutline, after_words, TextAlternative, ended, no_words, with_word}
+use Rattle.lrpar_text.specs.Outline.{AreInOrder, HasOrderedSymbols, AreOfDefinedRules, IsOutlineOf, OutlineIsOne, TextOutline, after_words, TextAlternative, ended, no_words, with_word}
 use Rattle.lrpar_text.proofs.WordsLemmas.{no_piece, reads_as_one}
 
 -- the alternative that a sign ends, where a rule is defined
@@ -129,16 +130,76 @@ after_words_append expected o (x ∷ xs) ys =
       | Some step ↦ after_words_append step.1 (with_word o step.0 x) xs ys
     ]
 
+-- up to a place the symbols stand in order
+pub record AreOrderedTo (place : ℕ) (o : TextOutline) : Type 0 where
+  pub before : All (λ w. w.span.end ≤ place) o.symbols
+  pub apart : AreInOrder o.symbols
+  pub ended : HasOrderedSymbols o
+
 -- the text is read up to a place, and its words so far outline what they do
 pub record OutlinesTo (text : List ℕ) (place : ℕ) (expected : Expected) (o : TextOutline) : Type 0 where
   pub seen : List PlacedWord
   pub reads : ReadsTo text place seen
   pub shape : after_words Declaration no_words seen ≡ Some (expected, o)
   pub rules : AreOfDefinedRules o
+  pub order : AreOrderedTo place o
+
+-- nothing is out of order
+ordered_none : AreOrderedTo 0 no_words
+ordered_none = record {
+  before = All-nil (λ (w : PlacedWord). w.span.end ≤ 0);
+  apart = λ i j d before within. absurd (omega arith);
+  ended = All-nil (λ (x : TextAlternative). AreInOrder x.symbols);
+}
+
+-- what stands before a place stands before a later one
+ordered_later : (place later : ℕ) (o : TextOutline) → place ≤ later → AreOrderedTo place o → AreOrderedTo later o
+ordered_later place later o le order = record {
+  before = All-weaker (λ (w : PlacedWord). w.span.end ≤ place) (λ (w : PlacedWord). w.span.end ≤ later) (λ w h. omega arith) o.symbols order.before;
+  apart = order.apart;
+  ended = order.ended;
+}
+
+-- one more symbol
+ordered_symbol : (place later : ℕ) (o : TextOutline) (w : PlacedWord) → place ≤ w.span.start → w.span.end ≤ later → place ≤ later
+    → AreOrderedTo place o → AreOrderedTo later (record o { symbols = o.symbols ++ w ∷ [] })
+ordered_symbol place later o w from to le order =
+    let before' = ordered_later place later o le order in
+    record {
+      before = All-push (λ (x : PlacedWord). x.span.end ≤ later) o.symbols w before'.before to;
+      apart = all_pairs_push (λ (x y : PlacedWord). x.span.end ≤ y.span.start) o.symbols w order.apart
+          (λ k d within. let ends : (get_or o.symbols k d).span.end ≤ place = order.before k d within in omega arith);
+      ended = order.ended;
+    }
+
+-- the alternative that a sign ends has the symbols
+ended_ordered : (o : TextOutline) (w : PlacedWord) (r : Option PlacedWord) → AreInOrder o.symbols
+    → All {X = TextAlternative} (λ x. AreInOrder x.symbols) (option_to_list (option_map (λ rule. record { rule = rule; symbols = o.symbols; end = w }) r))
+ended_ordered o w None apart = All-nil (λ (x : TextAlternative). AreInOrder x.symbols)
+ended_ordered o w (Some rule) apart =
+    All-cons (λ (x : TextAlternative). AreInOrder x.symbols) (record { rule = rule; symbols = o.symbols; end = w }) [] apart (All-nil (λ (x : TextAlternative). AreInOrder x.symbols))
+
+-- one more word
+ordered_word : (place later : ℕ) (o : TextOutline) (role : Role) (w : PlacedWord) → place ≤ w.span.start → w.span.end ≤ later → place ≤ later
+    → AreOrderedTo place o → AreOrderedTo later (with_word o role w)
+unfolding with_word
+ordered_word place later o Sign w from to le order = ordered_later place later o le order
+ordered_word place later o Start w from to le order = let h = ordered_later place later o le order in record { before = h.before; apart = h.apart; ended = h.ended }
+ordered_word place later o Declared w from to le order = let h = ordered_later place later o le order in record { before = h.before; apart = h.apart; ended = h.ended }
+ordered_word place later o EppOf w from to le order = let h = ordered_later place later o le order in record { before = h.before; apart = h.apart; ended = h.ended }
+ordered_word place later o Epp w from to le order = let h = ordered_later place later o le order in record { before = h.before; apart = h.apart; ended = h.ended }
+ordered_word place later o Defined w from to le order = let h = ordered_later place later o le order in record { before = h.before; apart = h.apart; ended = h.ended }
+ordered_word place later o Symbol w from to le order = ordered_symbol place later o w from to le order
+ordered_word place later o AlternativeEnd w from to le order = record {
+  before = All-nil (λ (x : PlacedWord). x.span.end ≤ later);
+  apart = λ i j d before within. absurd (omega arith);
+  ended = All-append (λ (x : TextAlternative). AreInOrder x.symbols) o.alternatives (ended o w) order.ended
+      (ended_ordered o w (slice_get o.defined (length o.defined - 1)) order.apart);
+}
 
 -- nothing is read
 pub outlines_none : (text : List ℕ) → OutlinesTo text 0 Declaration no_words
-outlines_none text = record { seen = []; reads = reads_none text; shape = refl; rules = All-nil (λ (x : TextAlternative). Contains no_words.defined x.rule) }
+outlines_none text = record { seen = []; reads = reads_none text; shape = refl; rules = All-nil (λ (x : TextAlternative). Contains no_words.defined x.rule); order = ordered_none }
 
 -- a piece of blanks
 pub outlines_blank : (text : List ℕ) (place : ℕ) (expected : Expected) (o : TextOutline) (x : Piece) → piece_at (drop place text) ≡ Some x
@@ -151,6 +212,7 @@ outlines_blank text place expected o x is blank to =
       reads = subst (ReadsTo text (place + x.len)) same (reads_more text place to.seen x is to.reads);
       shape = to.shape;
       rules = to.rules;
+      order = ordered_later place (place + x.len) o (omega arith) to.order;
     }
 
 -- each alternative stays one of a defined rule
@@ -181,6 +243,7 @@ outlines_word text place expected next o x kind role is word stands to =
       shape = after_words_append Declaration no_words to.seen (w ∷ []) ∙ ap (option_and_then (λ step. after_words step.0 step.1 (w ∷ []))) to.shape
           ∙ ap (option_and_then (λ step. after_words step.1 (with_word o step.0 w) [])) stands;
       rules = rules_kept o role w to.rules;
+      order = ordered_word place (place + x.len) o role w (omega arith) (omega arith) (omega arith) to.order;
     }
 
 -- where no piece begins, the text has no outline

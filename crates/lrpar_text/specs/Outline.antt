@@ -1,5 +1,6 @@
 -- The declarations and rules of a grammar text, as lists of words in the order of the text.
-use Rattle.std.specs.Prelude.{◌≡◌, ◌-◌, true, ℕ, List, [], ◌∷◌, ◌++◌, All, Contains, length, map, slice_get, Option, Some, option_map, option_and_then}
+use Rattle.std.specs.Prelude.{◌≡◌, ◌≤◌, ◌-◌, true, ℕ, List, [], ◌∷◌, ◌++◌, All, Contains, length, map, slice_get, Option, Some, option_map, option_and_then}
+use Rattle.std.specs.List.{AllPairs}
 use Rattle.std.specs.Option.{option_to_list}
 use Rattle.lrpar_text.specs.declared.shape.Expected.{Expected}
 use Rattle.lrpar_text.specs.declared.shape.Expected.TheVariants.{Declaration}
@@ -88,6 +89,14 @@ OutlineIsOne = (text : List ℕ) (x y : TextOutline) → IsOutlineOf text x → 
 -- each alternative is of a rule that is defined
 abbrev pub AreOfDefinedRules : TextOutline → Type 0
 AreOfDefinedRules o = All (λ x. Contains o.defined x.rule) o.alternatives
+
+-- each word ends before the next one begins, or where it begins
+abbrev pub AreInOrder : List PlacedWord → Type 0
+AreInOrder words = AllPairs (λ x y. x.span.end ≤ y.span.start) words
+
+-- the symbols of each alternative stand in order
+abbrev pub HasOrderedSymbols : TextOutline → Type 0
+HasOrderedSymbols o = All (λ x. AreInOrder x.symbols) o.alternatives
 
 -- why there is no outline: the text reads as no words of the shape, or memory was wanting
 abbrev pub IsRefused : List ℕ → OutlineFault → Type 0

@@ -65,12 +65,13 @@ impl<T: Drop> From<AllocFailed<T>> for OutlineFault {
 }
 
 impl<'a> Outline<'a> {
-    ghost use Rattle.lrpar_text.specs.Outline.{outline_of, no_words, with_word, AreOfDefinedRules, IsOutlineOf, IsRefused};
+    ghost use Rattle.lrpar_text.specs.Outline.{outline_of, no_words, with_word, AreOfDefinedRules, HasOrderedSymbols, IsOutlineOf, IsRefused};
 
     /// The declarations and rules of the text. Takes time and memory linear in the text.
     pub fn read(alloc: Global, text: &'a str) -> Result<Self, OutlineFault>
         ensures outline { IfOk result (λ o. IsOutlineOf text.now (outline_of o)) }
         ensures rules { IfOk result (λ o. AreOfDefinedRules (outline_of o)) }
+        ensures order { IfOk result (λ o. HasOrderedSymbols (outline_of o)) }
         ensures refused { IfErr result (IsRefused text.now) }
     {
         let bytes = text.as_bytes();

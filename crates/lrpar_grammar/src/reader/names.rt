@@ -1,7 +1,7 @@
 //! Words of a grammar text by their names.
 ghost use Rattle.std.specs.Prelude.{◌≡◌, IfOk, OnOk, map};
 ghost use Rattle.lrpar_text.specs.Words.{placed};
-ghost use Rattle.lrpar_grammar.specs.Names.{AreNumbers, first_of_each, number_of, with_name};
+ghost use Rattle.lrpar_grammar.specs.Names.{AreNumbered, AreNumbers, first_of_each, number_of, with_name};
 
 use lrpar_text::words::Word;
 use std::alloc::{AllocError, Global};
@@ -16,8 +16,7 @@ pub(super) struct Names<'a> {
 
 // The words of distinct names among these, each where it stands first. Takes logarithmic time for each word.
 pub(super) fn numbered<'a>(alloc: Global, words: &[Word<'a>]) -> Result<Names<'a>, AllocError>
-    ensures words { IfOk result (λ names. map placed names.words.items ≡ first_of_each (map placed words.now)) }
-    ensures numbers { IfOk result (λ names. AreNumbers names.numbers (map placed names.words.items)) }
+    ensures { IfOk result (λ names. AreNumbered names (first_of_each (map placed words.now))) }
 {
     let mut first = Vec::new(alloc);
     let mut numbers = BTreeMap::new(alloc);

@@ -1,10 +1,10 @@
-use Rattle.std.proofs.Common.{◌≡◌, map, ap, sym, ◌∙◌, nat_cmp, arith}
+use Rattle.std.proofs.Common.{◌≡◌, map, ap, sym, subst, ◌∙◌, nat_cmp, arith}
 use Rattle.std.specs.Map.{lookup}
 use Rattle.std.specs.BTreeMap.{is_at}
 use Rattle.std.specs.Cmp.Lexicographic.{slice_cmp}
 use Rattle.std.proofs.lemmas.List.{length-map, take_all}
 use Rattle.lrpar_text.specs.Words.{placed}
-use Rattle.lrpar_grammar.specs.Names.{first_of_each, number_of}
+use Rattle.lrpar_grammar.specs.Names.{AreNumbers, first_of_each, number_of}
 use Rattle.lrpar_grammar.proofs.NamesLemmas.{first_more_placed}
 use Rattle.lrpar_grammar.proofs.reader.names.numbered.Goals as goal
 
@@ -16,10 +16,12 @@ loop-word-init c = record {
       ∙ ap (λ s. number_of q (map placed s)) (sym c.new-first.ensures.items);
 }
 
-pub returns-clause-words : goal.returns-clause-words
-returns-clause-words c =
+pub returns : goal.returns
+returns c =
     let words = map placed c.args.words.now in
-    c.loop-word.invariant.words ∙ ap first_of_each (take_all c.loop-word.word-index words (omega (arith, length-map c.args.words.now placed)))
+    let all : map placed c.loop-word.first.items ≡ first_of_each words =
+    c.loop-word.invariant.words ∙ ap first_of_each (take_all c.loop-word.word-index words (omega (arith, length-map c.args.words.now placed))) in
+    record { words = all; numbers = subst (AreNumbers c.loop-word.numbers) all c.loop-word.invariant.numbers }
 
 pub loop-word-preserved : goal.loop-word-preserved
 loop-word-preserved c =
