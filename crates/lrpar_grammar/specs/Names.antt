@@ -5,8 +5,7 @@ use Rattle.std.specs.BTreeMap.{BTreeMap, get_by}
 use Rattle.std.specs.Borrow.{Bor}
 use Rattle.std.specs.Ordering.{nat_cmp}
 use Rattle.std.specs.Cmp.Lexicographic.{slice_cmp}
-use Rattle.lrpar_text.specs.Words.{PlacedWord, placed}
-use Rattle.lrpar_grammar.specs.declared.reader.names.Names.{Names}
+use Rattle.lrpar_text.specs.Words.{PlacedWord}
 
 -- the place of the first word of that name, in a list of words
 abbrev pub number_of : List ℕ → List PlacedWord → Option ℕ
@@ -28,8 +27,3 @@ first_of_each words = fold with_name [] words
 -- a map has the number of each name of the words, which is its place among them
 abbrev pub AreNumbers : BTreeMap (Bor (List ℕ)) ℕ → List PlacedWord → Type 0
 AreNumbers numbers words = (q : List ℕ) → get_by (λ k. slice_cmp nat_cmp q k.now) numbers ≡ number_of q words
-
--- the table's words, with their numbers
-pub record AreNumbered (names : Names) (list : List PlacedWord) : Type 0 where
-  pub words : map placed names.words.items ≡ list
-  pub numbers : AreNumbers names.numbers list

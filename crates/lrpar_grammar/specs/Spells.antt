@@ -1,6 +1,6 @@
 -- Which grammar a text spells: numbers, names, printed texts and places by its declarations and rules, and the faults
 -- that these can have. A number has no bound here.
-use Rattle.std.specs.Prelude.{◌≡◌, ◌≢◌, ◌<◌, ◌≤◌, ◌+◌, ◌-◌, ◌||◌, not, ℕ, Bool, true, false, List, [], ◌∷◌, ◌++◌, length, map, filter, take, All, Contains, slice_get, slice_index_or, Option, Some, None, option_map, if◌then◌else◌, ◌⊎◌}
+use Rattle.std.specs.Prelude.{◌≡◌, ◌≢◌, ◌<◌, ◌≤◌, ◌+◌, ◌-◌, ◌||◌, not, ℕ, Bool, true, false, List, [], ◌∷◌, ◌++◌, length, map, filter, take, All, Contains, slice_get, slice_index_or, Option, Some, None, option_map, unwrap_or, if◌then◌else◌, ◌⊎◌}
 use Rattle.std.specs.List.{flat_map}
 use Rattle.std.specs.Option.{option_map_or}
 use Rattle.lrpar_text.specs.Span.{Extent}
@@ -45,7 +45,7 @@ rule_number rules name = option_map_or (λ n. n + 1) (number_of name rules) 0
 
 -- the number of a token
 abbrev pub token_number : List PlacedWord → List ℕ → ℕ
-token_number tokens name = option_map_or (λ n. n) (number_of name tokens) 0
+token_number tokens name = unwrap_or (number_of name tokens) 0
 
 -- the symbol that a word of an alternative stands for
 abbrev pub symbol_of_word : TextOutline → PlacedWord → GrammarSymbol

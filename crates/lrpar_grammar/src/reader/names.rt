@@ -1,32 +1,68 @@
 //! Words of a grammar text by their names.
-ghost use Rattle.std.specs.Prelude.{◌≡◌, IfOk, OnOk, map};
-ghost use Rattle.lrpar_text.specs.Words.{placed};
-ghost use Rattle.lrpar_grammar.specs.Names.{AreNumbered, AreNumbers, first_of_each, number_of, with_name};
+ghost use Rattle.std.specs.Prelude.{◌≡◌, IfOk, OnOk, IfErr, List, map};
+ghost use Rattle.lrpar_text.specs.Words.{PlacedWord, placed};
+ghost use Rattle.lrpar_grammar.specs.Names.{AreNumbers, first_of_each, is_among, number_of, with_name};
 
 use lrpar_text::words::Word;
 use std::alloc::{AllocError, Global};
 use std::collections::BTreeMap;
+use std::marker::Model;
 
-// Words of distinct names, each with its number: its place among them.
+// Words of distinct names. The number of each is its place among them.
 #[derive(Drop)]
 pub(super) struct Names<'a> {
-    pub(super) words: Vec<Word<'a>>,
-    pub(super) numbers: BTreeMap<&'a str, usize>,
+    words: Vec<Word<'a>>,
+    numbers: BTreeMap<&'a str, usize>,
 }
 
-// The words of distinct names among these, each where it stands first. Takes logarithmic time for each word.
-pub(super) fn numbered<'a>(alloc: Global, words: &[Word<'a>]) -> Result<Names<'a>, AllocError>
-    ensures { IfOk result (λ names. AreNumbered names (first_of_each (map placed words.now))) }
-{
-    let mut first = Vec::new(alloc);
-    let mut numbers = BTreeMap::new(alloc);
-    for word in words {
-        add(&mut first, &mut numbers, *word)?;
+impl<'a> Model for Names<'a> {
+    ghost use Rattle.std.specs.Prelude.{List, map};
+    ghost use Rattle.lrpar_text.specs.Words.{PlacedWord, placed};
+    ghost use Rattle.lrpar_grammar.specs.Names.{AreNumbers};
+
+    ghost Value = { List PlacedWord };
+
+    ghost view = { λ s. map placed s.words.items };
+
+    ghost invariant = { λ s. AreNumbers s.numbers (map placed s.words.items) };
+}
+
+impl<'a> Names<'a> {
+    // The words of distinct names among these, each where it stands first. Takes logarithmic time for each word.
+    pub(super) fn first_of_each(alloc: Global, words: &[Word<'a>]) -> Result<Self, AllocError>
+        ensures { IfOk result (λ names. names ≡ first_of_each (map placed words.now)) }
+    {
+        let mut first = Vec::new(alloc);
+        let mut numbers = BTreeMap::new(alloc);
+        for word in words {
+            add(&mut first, &mut numbers, *word)?;
+        }
+        Ok(Names {
+            words: first,
+            numbers,
+        })
     }
-    Ok(Names {
-        words: first,
-        numbers,
-    })
+
+    // The words, by number.
+    pub(super) fn words(&self) -> &[Word<'a>]
+        ensures { map placed result.now ≡ self.now }
+    {
+        &self.words
+    }
+
+    // The number of a name.
+    pub(super) fn number(&self, name: &str) -> Option<usize>
+        ensures { result ≡ number_of name.now self.now }
+    {
+        self.numbers.get(name).copied()
+    }
+
+    // Whether a word has that name.
+    pub(super) fn contains(&self, name: &str) -> bool
+        ensures { result ≡ is_among name.now self.now }
+    {
+        self.numbers.contains_key(name)
+    }
 }
 
 // Gives the word the next number, where its name is new.
@@ -44,12 +80,4 @@ fn add<'a>(
         first.push(word)?;
     }
     Ok(())
-}
-
-// The number of that name.
-pub(super) fn number(names: &Names, name: &str) -> Option<usize>
-    requires { AreNumbers (names.now).numbers (map placed (names.now).words.items) }
-    ensures { result ≡ number_of name.now (map placed (names.now).words.items) }
-{
-    names.numbers.get(name).copied()
 }

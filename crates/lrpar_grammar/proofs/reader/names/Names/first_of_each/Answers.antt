@@ -6,7 +6,7 @@ use Rattle.std.proofs.lemmas.List.{length-map, take_all}
 use Rattle.lrpar_text.specs.Words.{placed}
 use Rattle.lrpar_grammar.specs.Names.{AreNumbers, first_of_each, number_of}
 use Rattle.lrpar_grammar.proofs.NamesLemmas.{first_more_placed}
-use Rattle.lrpar_grammar.proofs.reader.names.numbered.Goals as goal
+use Rattle.lrpar_grammar.proofs.reader.names.Names.first_of_each.Goals as goal
 
 pub loop-word-init : goal.loop-word-init
 unfolding first_of_each
@@ -19,9 +19,7 @@ loop-word-init c = record {
 pub returns : goal.returns
 returns c =
     let words = map placed c.args.words.now in
-    let all : map placed c.loop-word.first.items ≡ first_of_each words =
-    c.loop-word.invariant.words ∙ ap first_of_each (take_all c.loop-word.word-index words (omega (arith, length-map c.args.words.now placed))) in
-    record { words = all; numbers = subst (AreNumbers c.loop-word.numbers) all c.loop-word.invariant.numbers }
+    c.loop-word.invariant.words ∙ ap first_of_each (take_all c.loop-word.word-index words (omega (arith, length-map c.args.words.now placed)))
 
 pub loop-word-preserved : goal.loop-word-preserved
 loop-word-preserved c =
