@@ -4,3 +4,4 @@ pub mod PartsLemmas
 pub mod ForestLemmas
 pub mod RewritingLemmas
 pub mod NamesLemmas
+pub mod GrowthLemmas

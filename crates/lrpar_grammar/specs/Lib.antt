@@ -8,3 +8,4 @@ pub mod Kept
 pub mod Sum
 pub mod Names
 pub mod Spells
+pub mod TextNames

@@ -39,6 +39,16 @@ used_tokens declared alternatives = flat_map (λ x. filter (is_token declared) x
 abbrev pub token_words : TextOutline → List PlacedWord
 token_words o = first_of_each (o.declared ++ used_tokens (declared_words o) o.alternatives)
 
+-- the lists by which rules and tokens are numbered, and that of the declared tokens
+pub record Numbering : Type 0 where
+  pub rules : List PlacedWord
+  pub declared : List PlacedWord
+  pub tokens : List PlacedWord
+
+-- the lists of an outline
+abbrev pub numbering_of : TextOutline → Numbering
+numbering_of o = record { rules = rule_words o; declared = declared_words o; tokens = token_words o }
+
 -- the number of a rule: the added one is 0
 abbrev pub rule_number : List PlacedWord → List ℕ → ℕ
 rule_number rules name = option_map_or (λ n. n + 1) (number_of name rules) 0
@@ -48,9 +58,8 @@ abbrev pub token_number : List PlacedWord → List ℕ → ℕ
 token_number tokens name = unwrap_or (number_of name tokens) 0
 
 -- the symbol that a word of an alternative stands for
-abbrev pub symbol_of_word : TextOutline → PlacedWord → GrammarSymbol
-symbol_of_word o w =
-    if is_token (declared_words o) w then Terminal (token_number (token_words o) w.name) else Nonterminal (rule_number (rule_words o) w.name)
+abbrev pub symbol_of_word : Numbering → PlacedWord → GrammarSymbol
+symbol_of_word n w = if is_token n.declared w then Terminal (token_number n.tokens w.name) else Nonterminal (rule_number n.rules w.name)
 
 -- from the start of the one to the end of the other
 abbrev pub span_between : Option PlacedWord → Option PlacedWord → Extent → Extent
@@ -75,25 +84,25 @@ abbrev pub token_of_word : TextOutline → PlacedWord → TokenName
 token_of_word o w = record { name = w.name; epp = printed_text o w.name; span = w.span }
 
 -- an alternative as a production
-abbrev pub prod_of_alternative : TextOutline → TextAlternative → Production
-prod_of_alternative o x = record {
-  rule = rule_number (rule_words o) x.rule.name;
-  symbols = map (symbol_of_word o) x.symbols;
+abbrev pub prod_of_alternative : Numbering → TextAlternative → Production
+prod_of_alternative n x = record {
+  rule = rule_number n.rules x.rule.name;
+  symbols = map (symbol_of_word n) x.symbols;
   symbol_spans = map (λ w. w.span) x.symbols;
   span = alternative_span x;
 }
 
 -- the number of the rule after `%start`, else that of the first rule
-abbrev pub start_number : TextOutline → ℕ
-start_number o = option_map_or (λ w. rule_number (rule_words o) w.name) (slice_get o.starts 0) 1
+abbrev pub start_number : Numbering → List PlacedWord → ℕ
+start_number n starts = option_map_or (λ w. rule_number n.rules w.name) (slice_get starts 0) 1
 
 -- what a grammar with these declarations and rules is made of
 abbrev pub spelled_parts : TextOutline → Parts
 spelled_parts o = record {
   rules = map rule_of_word (rule_words o);
   tokens = map (token_of_word o) (token_words o);
-  prods = map (prod_of_alternative o) o.alternatives;
-  start = start_number o;
+  prods = map (prod_of_alternative (numbering_of o)) o.alternatives;
+  start = start_number (numbering_of o) o.starts;
 }
 
 -- no word has the name of one before it
@@ -101,8 +110,8 @@ abbrev pub AreDistinct : List PlacedWord → Type 0
 AreDistinct words = (k : ℕ) (d : PlacedWord) → k < length words → is_among (slice_index_or words k d).name (take k words) ≡ false
 
 -- a symbol that is a token or a rule
-abbrev pub is_known : TextOutline → PlacedWord → Bool
-is_known o w = is_token (declared_words o) w || is_among w.name (rule_words o)
+abbrev pub is_known : Numbering → PlacedWord → Bool
+is_known n w = is_token n.declared w || is_among w.name n.rules
 
 -- the declarations and rules have none of the faults
 pub record IsClean (o : TextOutline) : Type 0 where
@@ -111,7 +120,7 @@ pub record IsClean (o : TextOutline) : Type 0 where
   pub some_rule : o.defined ≢ []
   pub rules_undeclared : All (λ w. is_among w.name (declared_words o) ≡ false) (rule_words o)
   pub start_defined : All (λ w. is_among w.name (rule_words o) ≡ true) o.starts
-  pub symbols_known : All (λ x. All (λ w. is_known o w ≡ true) x.symbols) o.alternatives
+  pub symbols_known : All (λ x. All (λ w. is_known (numbering_of o) w ≡ true) x.symbols) o.alternatives
   pub epps_known : All (λ w. is_among w.name (token_words o) ≡ true) o.epps
 
 -- a word of the list that passes stands at this place
@@ -130,10 +139,10 @@ pub record IsRepeatedAt (words : List PlacedWord) (span : Extent) : Type 0 where
   pub at : word.span ≡ span
 
 -- a symbol that is neither a token nor a rule stands at this place
-pub record IsUnknownAt (o : TextOutline) (span : Extent) : Type 0 where
+pub record IsUnknownAt (n : Numbering) (alternatives : List TextAlternative) (span : Extent) : Type 0 where
   pub alternative : TextAlternative
-  pub contains : Contains o.alternatives alternative
-  pub unknown : StandsAt alternative.symbols (λ w. not (is_known o w)) span
+  pub contains : Contains alternatives alternative
+  pub unknown : StandsAt alternative.symbols (λ w. not (is_known n w)) span
 
 -- the declarations and rules have the fault, at the place that it names; want of memory isn't one of theirs
 abbrev pub HasFault : TextOutline → GrammarFault → Type 0
@@ -141,7 +150,7 @@ HasFault o (RepeatedStart span) = (w : PlacedWord) × (slice_get o.starts 1 ≡ 
 HasFault o (RepeatedEpp span) = IsRepeatedAt o.epps span
 HasFault o NoRules = o.defined ≡ []
 HasFault o (TokenIsRule span) = StandsAt (rule_words o) (λ w. is_among w.name (declared_words o)) span
-HasFault o (UnknownRule span) = StandsAt o.starts (λ w. not (is_among w.name (rule_words o))) span ⊎ IsUnknownAt o span
+HasFault o (UnknownRule span) = StandsAt o.starts (λ w. not (is_among w.name (rule_words o))) span ⊎ IsUnknownAt (numbering_of o) o.alternatives span
 HasFault o (UnknownToken span) = StandsAt o.epps (λ w. not (is_among w.name (token_words o))) span
 HasFault o (Syntax place) = ⊥
 HasFault o BadSymbol = ⊥

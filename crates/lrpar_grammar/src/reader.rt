@@ -1,3 +1,4 @@
 //! The grammar of a text.
 
 mod names;
+mod tables;
