@@ -58,3 +58,14 @@ pub all_more : {X Y : Type 0} (P : Y → Type 0) (f : X → Y) (xs : List X) (i 
 all_more P f xs i d within holds so_far =
     let holds' : P (get_or (map f xs) i (f d)) = subst P (sym (get_or-map f xs i d (f d) within)) holds in
     All-more P (map f xs) i (f d) (omega (arith, length-map xs f)) so_far holds'
+
+-- an element that is made of another is pushed
+pub made_more : {X Y Z W : Type 0} (f : X → Y) (g : Y → Z) (h : W → Z) (items new : List W) (w : W) (xs : List X) (i : ℕ) (d : X) → i < length xs
+    → new ≡ items ++ w ∷ [] → h w ≡ g (f (get_or xs i d)) → map h items ≡ map g (take i (map f xs)) → map h new ≡ map g (take (i + 1) (map f xs))
+made_more f g h items new w xs i d within is made so_far =
+    ap (map h) is ∙ map-append h items (w ∷ []) ∙ ap (λ s. s ++ h w ∷ []) so_far ∙ ap (λ z. map g (take i (map f xs)) ++ z ∷ []) made
+    ∙ sym (ap (map g) (take_map_more f xs i d within) ∙ map-append g (take i (map f xs)) (f (get_or xs i d) ∷ []))
+
+-- what holds of all elements of a mapped list holds of each
+pub all_at : {X Y : Type 0} (P : Y → Type 0) (f : X → Y) (xs : List X) (i : ℕ) (d : X) → i < length xs → All P (map f xs) → P (f (get_or xs i d))
+all_at P f xs i d within all = subst P (get_or-map f xs i d (f d) within) (all i (f d) (omega (arith, length-map xs f)))

@@ -5,3 +5,5 @@ pub mod ForestLemmas
 pub mod RewritingLemmas
 pub mod NamesLemmas
 pub mod GrowthLemmas
+pub mod FaultsLemmas
+pub mod SpanLemmas

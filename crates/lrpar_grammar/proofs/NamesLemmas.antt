@@ -68,3 +68,14 @@ first_more_placed words i d within =
 pub not_found : (r : Option ℕ) → is_some r ≡ false → ◌≡◌ {A = Option ℕ} r None
 not_found None is = refl
 not_found (Some n) is = absurd (cc)
+
+-- a number found in the rest
+within_step : (b : Bool) (r : Option ℕ) (n len : ℕ) → cond b (Some 0) (option_map (λ k. k + 1) r) ≡ Some n → ((k : ℕ) → r ≡ Some k → k < len) → n < suc len
+within_step true r n len is rest = let same : 0 ≡ n = cc in omega arith
+within_step false None n len is rest = absurd (cc)
+within_step false (Some k) n len is rest = let same : k + 1 ≡ n = cc in let below : k < len = rest k refl in omega arith
+
+-- a name's number is the place of a word
+pub number_within : (ws : List PlacedWord) (name : List ℕ) (n : ℕ) → number_of name ws ≡ Some n → n < length ws
+number_within [] name n is = absurd (cc)
+number_within (w ∷ ws) name n is = within_step (bytes_eq name w.name) (number_of name ws) n (length ws) is (number_within ws name)

@@ -113,15 +113,19 @@ AreDistinct words = (k : ℕ) (d : PlacedWord) → k < length words → is_among
 abbrev pub is_known : Numbering → PlacedWord → Bool
 is_known n w = is_token n.declared w || is_among w.name n.rules
 
+-- no rule has the name of a declared token, and each name that is used is one of a rule or a token
+pub record AreNamesKnown (n : Numbering) (o : TextOutline) : Type 0 where
+  pub rules_undeclared : All (λ w. is_among w.name n.declared ≡ false) n.rules
+  pub start_defined : All (λ w. is_among w.name n.rules ≡ true) o.starts
+  pub symbols_known : All (λ x. All (λ w. is_known n w ≡ true) x.symbols) o.alternatives
+  pub epps_known : All (λ w. is_among w.name n.tokens ≡ true) o.epps
+
 -- the declarations and rules have none of the faults
 pub record IsClean (o : TextOutline) : Type 0 where
   pub one_start : length o.starts ≤ 1
   pub one_epp_each : AreDistinct o.epps
   pub some_rule : o.defined ≢ []
-  pub rules_undeclared : All (λ w. is_among w.name (declared_words o) ≡ false) (rule_words o)
-  pub start_defined : All (λ w. is_among w.name (rule_words o) ≡ true) o.starts
-  pub symbols_known : All (λ x. All (λ w. is_known (numbering_of o) w ≡ true) x.symbols) o.alternatives
-  pub epps_known : All (λ w. is_among w.name (token_words o) ≡ true) o.epps
+  pub names_known : AreNamesKnown (numbering_of o) o
 
 -- a word of the list that passes stands at this place
 pub record StandsAt (words : List PlacedWord) (passes : PlacedWord → Bool) (span : Extent) : Type 0 where
@@ -145,18 +149,22 @@ pub record IsUnknownAt (n : Numbering) (alternatives : List TextAlternative) (sp
   pub unknown : StandsAt alternative.symbols (λ w. not (is_known n w)) span
 
 -- the declarations and rules have the fault, at the place that it names; want of memory isn't one of theirs
+abbrev pub HasFaultBy : Numbering → TextOutline → GrammarFault → Type 0
+HasFaultBy n o (RepeatedStart span) = (w : PlacedWord) × (slice_get o.starts 1 ≡ Some w) × (w.span ≡ span)
+HasFaultBy n o (RepeatedEpp span) = IsRepeatedAt o.epps span
+HasFaultBy n o NoRules = o.defined ≡ []
+HasFaultBy n o (TokenIsRule span) = StandsAt n.rules (λ w. is_among w.name n.declared) span
+HasFaultBy n o (UnknownRule span) = StandsAt o.starts (λ w. not (is_among w.name n.rules)) span ⊎ IsUnknownAt n o.alternatives span
+HasFaultBy n o (UnknownToken span) = StandsAt o.epps (λ w. not (is_among w.name n.tokens)) span
+HasFaultBy n o (Syntax place) = ⊥
+HasFaultBy n o BadSymbol = ⊥
+HasFaultBy n o BadStart = ⊥
+HasFaultBy n o StorageTooSmall = ⊥
+HasFaultBy n o Memory = Unit {0}
+
+-- the same by the numbers of the outline itself
 abbrev pub HasFault : TextOutline → GrammarFault → Type 0
-HasFault o (RepeatedStart span) = (w : PlacedWord) × (slice_get o.starts 1 ≡ Some w) × (w.span ≡ span)
-HasFault o (RepeatedEpp span) = IsRepeatedAt o.epps span
-HasFault o NoRules = o.defined ≡ []
-HasFault o (TokenIsRule span) = StandsAt (rule_words o) (λ w. is_among w.name (declared_words o)) span
-HasFault o (UnknownRule span) = StandsAt o.starts (λ w. not (is_among w.name (rule_words o))) span ⊎ IsUnknownAt (numbering_of o) o.alternatives span
-HasFault o (UnknownToken span) = StandsAt o.epps (λ w. not (is_among w.name (token_words o))) span
-HasFault o (Syntax place) = ⊥
-HasFault o BadSymbol = ⊥
-HasFault o BadStart = ⊥
-HasFault o StorageTooSmall = ⊥
-HasFault o Memory = Unit {0}
+HasFault o fault = HasFaultBy (numbering_of o) o fault
 
 -- The text spells the grammar: it reads as words of the shape, these have none of the faults, and the grammar is that
 -- of its declarations and rules.

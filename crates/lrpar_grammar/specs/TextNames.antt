@@ -1,5 +1,5 @@
 -- The tables of names that a grammar is read with.
-use Rattle.std.specs.Prelude.{◌≡◌, Bool, true, All, if◌then◌else◌}
+use Rattle.std.specs.Prelude.{◌≡◌, ◌<◌, ℕ, Bool, true, All, length, if◌then◌else◌}
 use Rattle.lrpar_text.specs.Words.{PlacedWord}
 use Rattle.lrpar_text.specs.Outline.{TextAlternative}
 use Rattle.lrpar_grammar.specs.declared.reader.tables.Tables.{Tables}
@@ -18,3 +18,8 @@ has_number n w = if is_token n.declared w then is_among w.name n.tokens else is_
 pub record HasNumbers (n : Numbering) (x : TextAlternative) : Type 0 where
   pub rule : is_among x.rule.name n.rules ≡ true
   pub symbols : All (λ w. has_number n w ≡ true) x.symbols
+
+-- the rules and tokens can be numbered below `limit`, with the added rule and the end token
+pub record FitTables (limit : ℕ) (n : Numbering) : Type 0 where
+  pub rules : length n.rules < limit
+  pub tokens : length n.tokens < limit
