@@ -1,11 +1,13 @@
 -- Words that have a fault, and lists in which none has.
-use Rattle.std.proofs.Common.{◌≡◌, ◌<◌, ◌≤◌, ℕ, Bool, true, List, length, map, take, get_or, ap, sym, subst, ◌∙◌, arith}
+use Rattle.std.proofs.Common.{◌≡◌, ◌<◌, ◌≤◌, ℕ, Bool, true, List, length, map, take, get_or, false, inl, inr, ◌+◌, ap, sym, subst, ◌∙◌, arith}
 use Rattle.std.specs.List.{All, Contains}
 use Rattle.std.proofs.lemmas.List.{get_or-map, length-map, take_all}
 use Rattle.std.proofs.lemmas.List.Elements.{Contains-get_or}
 use Rattle.lrpar_text.specs.Span.{Extent}
 use Rattle.lrpar_text.specs.declared.words.Word.{Word}
 use Rattle.lrpar_text.specs.Words.{PlacedWord, placed}
+use Rattle.std.proofs.lemmas.Bool.{cases_lt}
+use Rattle.lrpar_grammar.specs.Names.{is_among}
 use Rattle.lrpar_grammar.specs.Spells.{StandsAt}
 
 -- an element is among those of the mapped list
@@ -22,3 +24,17 @@ stands passes words i d span within is at =
 -- what holds of as many elements as there are holds of all
 pub all_of : {X Y : Type 0} (P : Y → Type 0) (f : X → Y) (xs : List X) (i : ℕ) → length xs ≤ i → All P (take i (map f xs)) → All P (map f xs)
 all_of P f xs i past so_far = subst (All P) (take_all i (map f xs) (omega (arith, length-map xs f))) so_far
+
+-- one more word whose name isn't one before it
+pub unrepeated_more : (words : List Word) (i : ℕ) (w : Word) → i < length words → w ≡ get_or words i w → is_among w.name.now (take i (map placed words)) ≡ false
+    → ((k : ℕ) (d : PlacedWord) → k < i → is_among (get_or (map placed words) k d).name (take k (map placed words)) ≡ false)
+    → (k : ℕ) (d : PlacedWord) → k < i + 1 → is_among (get_or (map placed words) k d).name (take k (map placed words)) ≡ false
+unrepeated_more words i w within is new before k d below =
+    let ws = map placed words in
+    elim (cases_lt k i) [
+      | inl earlier ↦ before k d earlier
+      | inr last ↦
+          let same : i ≡ k = omega arith in
+          let at : get_or ws i d ≡ placed w = get_or-map placed words i w d within ∙ ap placed (sym is) in
+          subst (λ j. is_among (get_or ws j d).name (take j ws) ≡ false) same (subst (λ y. is_among y.name (take i ws) ≡ false) (sym at) new)
+    ]

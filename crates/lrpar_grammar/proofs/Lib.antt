@@ -7,3 +7,4 @@ pub mod NamesLemmas
 pub mod GrowthLemmas
 pub mod FaultsLemmas
 pub mod SpanLemmas
+pub mod SpellsLemmas

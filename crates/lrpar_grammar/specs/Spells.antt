@@ -198,3 +198,9 @@ IsFaultOf limit text (Syntax place) = (o : TextOutline) → IsOutlineOf text o �
 IsFaultOf limit text StorageTooSmall = SpellsTooMany limit text
 IsFaultOf limit text Memory = Unit {0}
 IsFaultOf limit text fault = ReadsWithFault text fault
+
+-- the text reads as no words of the shape, or memory was wanting
+abbrev pub IsOutlineFault : List ℕ → GrammarFault → Type 0
+IsOutlineFault text (Syntax place) = (o : TextOutline) → IsOutlineOf text o → ⊥
+IsOutlineFault text Memory = Unit {0}
+IsOutlineFault text _ = ⊥

@@ -1,7 +1,7 @@
 -- The tables of names that a grammar is read with.
 use Rattle.std.specs.Prelude.{◌≡◌, ◌<◌, ℕ, Bool, true, All, length, if◌then◌else◌}
 use Rattle.lrpar_text.specs.Words.{PlacedWord}
-use Rattle.lrpar_text.specs.Outline.{TextAlternative}
+use Rattle.lrpar_text.specs.Outline.{TextAlternative, TextOutline}
 use Rattle.lrpar_grammar.specs.declared.reader.tables.Tables.{Tables}
 use Rattle.lrpar_grammar.specs.Names.{is_among}
 use Rattle.lrpar_grammar.specs.Spells.{Numbering, is_token}
@@ -23,3 +23,9 @@ pub record HasNumbers (n : Numbering) (x : TextAlternative) : Type 0 where
 pub record FitTables (limit : ℕ) (n : Numbering) : Type 0 where
   pub rules : length n.rules < limit
   pub tokens : length n.tokens < limit
+
+-- the rules, tokens and alternatives can be numbered below `limit`, with what is added to them
+pub record FitAll (limit : ℕ) (n : Numbering) (o : TextOutline) : Type 0 where
+  pub rules : length n.rules < limit
+  pub tokens : length n.tokens < limit
+  pub prods : length o.alternatives < limit

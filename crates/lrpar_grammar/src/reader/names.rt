@@ -1,8 +1,12 @@
 //! Words of a grammar text by their names.
-ghost use Rattle.std.specs.Prelude.{◌≡◌, IfOk, OnOk, IfErr, List, map};
+ghost use Rattle.std.specs.Prelude.{◌≡◌, IfOk, OnOk, IfErr, List, length, map};
 ghost use Rattle.lrpar_text.specs.Words.{PlacedWord, placed};
+ghost use Rattle.lrpar_text.specs.Outline.{outline_of};
+ghost use Rattle.lrpar_grammar.specs.Spells.{AreDistinct, HasFault};
 ghost use Rattle.lrpar_grammar.specs.Names.{AreNumbers, first_of_each, is_among, number_of, with_name};
 
+use crate::grammar::GrammarFault;
+use lrpar_text::outline::Outline;
 use lrpar_text::words::Word;
 use std::alloc::{AllocError, Global};
 use std::collections::BTreeMap;
@@ -43,11 +47,35 @@ impl<'a> Names<'a> {
         })
     }
 
+    // The tokens of the `%epp`s, which have to be of distinct names.
+    pub(super) fn of_epps(alloc: Global, outline: &Outline<'a>) -> Result<Self, GrammarFault>
+        ensures names { IfOk result (λ names. names ≡ (outline_of outline.now).epps) }
+        ensures distinct { OnOk result (AreDistinct (outline_of outline.now).epps) }
+        ensures err { IfErr result (HasFault (outline_of outline.now)) }
+    {
+        let mut words = Vec::new(alloc);
+        let mut numbers = BTreeMap::new(alloc);
+        for word in &outline.epps {
+            if numbers.contains_key(word.name) {
+                return Err(GrammarFault::RepeatedEpp(word.span()));
+            }
+            add(&mut words, &mut numbers, *word)?;
+        }
+        Ok(Names { words, numbers })
+    }
+
     // The words, by number.
     pub(super) fn words(&self) -> &[Word<'a>]
         ensures { map placed result.now ≡ self.now }
     {
         &self.words
+    }
+
+    // How many words there are.
+    pub(super) fn len(&self) -> usize
+        ensures { result ≡ length self.now }
+    {
+        self.words.len()
     }
 
     // The number of a name.

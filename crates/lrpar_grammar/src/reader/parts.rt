@@ -1,23 +1,67 @@
 //! The parts of a grammar, by its declarations and rules.
 ghost use Rattle.std.specs.Prelude.{◌≡◌, ◌<◌, ◌≤◌, ◌↔◌, All, IfOk, IsTrue, List, length, map, true};
 ghost use Rattle.lrpar_text.specs.Words.{placed};
-ghost use Rattle.lrpar_text.specs.Outline.{AreInOrder, alternative_of, outline_of};
+ghost use Rattle.lrpar_text.specs.Outline.{AreInOrder, AreOfDefinedRules, HasOrderedSymbols, alternative_of, outline_of};
 ghost use Rattle.lrpar_grammar.specs.Names.{is_among};
 ghost use Rattle.lrpar_grammar.specs.Parts.{parts_of, prod_of, rule_name_of, token_name_of};
-ghost use Rattle.lrpar_grammar.specs.Spells.{alternative_span, printed_text, prod_of_alternative, rule_number, rule_of_word, symbol_of_word, token_number, token_of_word};
+ghost use Rattle.lrpar_grammar.specs.Spells.{IsClean, alternative_span, numbering_of, spelled_parts, start_number, printed_text, prod_of_alternative, rule_number, rule_of_word, symbol_of_word, token_number, token_of_word};
 ghost use Rattle.lrpar_grammar.specs.Symbols.{symbol_of};
-ghost use Rattle.lrpar_grammar.specs.TextNames.{HasNumbers, FitTables, has_number, numbering_by};
+ghost use Rattle.lrpar_grammar.specs.TextNames.{FitAll, FitTables, HasNumbers, has_number, numbering_by};
 
 use super::names::Names;
 use super::tables::{Tables, is_token};
-use crate::grammar::{ProdPart, RulePart, TokenPart};
+use crate::grammar::{GrammarParts, ProdPart, RulePart, TokenPart};
 use lrpar_text::outline::{Alternative, Outline};
 use lrpar_text::span::{RIdx, Span, StorageNum, Symbol, TIdx};
 use lrpar_text::words::Word;
 use std::alloc::{AllocError, Global};
 
+// What the grammar of clean declarations and rules is made of.
+pub(super) fn spelled_parts<StorageT: StorageNum>(
+    alloc: Global,
+    outline: &Outline,
+    tables: &Tables,
+) -> Result<GrammarParts<StorageT>, AllocError>
+    requires numbering { numbering_by tables.now ≡ numbering_of (outline_of outline.now) }
+    requires epps { (tables.now).epps ≡ (outline_of outline.now).epps }
+    requires clean { IsClean (outline_of outline.now) }
+    requires rules { AreOfDefinedRules (outline_of outline.now) }
+    requires order { HasOrderedSymbols (outline_of outline.now) }
+    requires fit { FitAll StorageT.limit (numbering_of (outline_of outline.now)) (outline_of outline.now) }
+    ensures { IfOk result (λ parts. parts_of StorageT.index parts ≡ spelled_parts (outline_of outline.now)) }
+{
+    Ok(GrammarParts {
+        rules: rule_parts(alloc, tables.rules.words())?,
+        tokens: token_parts(alloc, tables.tokens.words(), &tables.epps, outline)?,
+        prods: prod_parts(alloc, &outline.alternatives, tables)?,
+        start: start_rule(&outline.starts, tables),
+    })
+}
+
+// Whether the storage type numbers all rules, tokens and productions, with what is added to them.
+pub(super) fn fit<StorageT: StorageNum>(outline: &Outline, tables: &Tables) -> bool
+    ensures { IsTrue result ↔ FitAll StorageT.limit (numbering_by tables.now) (outline_of outline.now) }
+{
+    StorageT::from_index(tables.rules.len()).is_some()
+        && StorageT::from_index(tables.tokens.len()).is_some()
+        && StorageT::from_index(outline.alternatives.len()).is_some()
+}
+
+// The rule after `%start`, else the first rule.
+fn start_rule<StorageT: StorageNum>(starts: &[Word], tables: &Tables) -> RIdx<StorageT>
+    requires room { FitTables StorageT.limit (numbering_by tables.now) }
+    requires some { 0 < length (numbering_by tables.now).rules }
+    requires known { All (λ w. is_among w.name (numbering_by tables.now).rules ≡ true) (map placed starts.now) }
+    ensures { StorageT.index result.0 ≡ start_number (numbering_by tables.now) (map placed starts.now) }
+{
+    match starts.first() {
+        Some(word) => rule_idx(&tables.rules, word.name),
+        None => RIdx(StorageT::from_index(1).unwrap()),
+    }
+}
+
 // The rules, by number.
-pub(super) fn rule_parts(alloc: Global, words: &[Word]) -> Result<Vec<RulePart>, AllocError>
+fn rule_parts(alloc: Global, words: &[Word]) -> Result<Vec<RulePart>, AllocError>
     ensures { IfOk result (λ parts. map rule_name_of parts.items ≡ map rule_of_word (map placed words.now)) }
 {
     let mut parts = Vec::with_capacity(alloc, words.len())?;
@@ -38,7 +82,7 @@ fn rule_part(alloc: Global, word: &Word) -> Result<RulePart, AllocError>
 }
 
 // The tokens, by number, with their printed texts.
-pub(super) fn token_parts(
+fn token_parts(
     alloc: Global,
     words: &[Word],
     epps: &Names,
@@ -86,7 +130,7 @@ fn printed_text<'a>(name: &'a str, epps: &Names, outline: &'a Outline) -> &'a st
 }
 
 // The productions, in order.
-pub(super) fn prod_parts<StorageT: StorageNum>(
+fn prod_parts<StorageT: StorageNum>(
     alloc: Global,
     alternatives: &[Alternative],
     tables: &Tables,
@@ -169,7 +213,7 @@ fn symbol<StorageT: StorageNum>(word: &Word, tables: &Tables) -> Symbol<StorageT
 }
 
 // The number of a rule, of which the added one is 0.
-pub(super) fn rule_idx<StorageT: StorageNum>(rules: &Names, name: &str) -> RIdx<StorageT>
+fn rule_idx<StorageT: StorageNum>(rules: &Names, name: &str) -> RIdx<StorageT>
     requires room { length rules.now < StorageT.limit }
     requires known { is_among name.now rules.now ≡ true }
     ensures { StorageT.index result.0 ≡ rule_number rules.now name.now }

@@ -1,30 +1,36 @@
 //! The tables of names that a grammar is read with.
-ghost use Rattle.std.specs.Prelude.{◌≡◌, ◌++◌, IfOk, OnOk, filter, map};
+ghost use Rattle.std.specs.Prelude.{◌≡◌, ◌++◌, IfErr, IfOk, OnOk, filter, map};
 ghost use Rattle.lrpar_text.specs.Words.{placed};
 ghost use Rattle.lrpar_text.specs.Outline.{alternative_of, outline_of};
-ghost use Rattle.lrpar_grammar.specs.Spells.{is_quoted, is_token, used_tokens};
+ghost use Rattle.lrpar_grammar.specs.Spells.{AreDistinct, HasFault, is_quoted, is_token, used_tokens};
 
 use super::names::Names;
+use crate::grammar::GrammarFault;
 use lrpar_text::outline::{Alternative, Outline};
 use lrpar_text::words::{Word, WordKind};
 use std::alloc::{AllocError, Global};
 
-// The rules, the declared tokens, and all tokens of a grammar text.
+// The rules, the declared tokens, all tokens, and the tokens of the `%epp`s of a grammar text.
 #[derive(Drop)]
 pub(super) struct Tables<'a> {
     pub(super) rules: Names<'a>,
     pub(super) declared: Names<'a>,
     pub(super) tokens: Names<'a>,
+    pub(super) epps: Names<'a>,
 }
 
 impl<'a> Tables<'a> {
     ghost use Rattle.lrpar_grammar.specs.Spells.{numbering_of};
     ghost use Rattle.lrpar_grammar.specs.TextNames.{numbering_by};
 
-    // The tables of an outline.
-    pub(super) fn new(alloc: Global, outline: &Outline<'a>) -> Result<Self, AllocError>
-        ensures { IfOk result (λ tables. numbering_by tables ≡ numbering_of (outline_of outline.now)) }
+    // The tables of an outline. Refuses a second `%epp` of one name.
+    pub(super) fn new(alloc: Global, outline: &Outline<'a>) -> Result<Self, GrammarFault>
+        ensures numbering { IfOk result (λ tables. numbering_by tables ≡ numbering_of (outline_of outline.now)) }
+        ensures epps { IfOk result (λ tables. tables.epps ≡ (outline_of outline.now).epps) }
+        ensures distinct { OnOk result (AreDistinct (outline_of outline.now).epps) }
+        ensures err { IfErr result (HasFault (outline_of outline.now)) }
     {
+        let epps = Names::of_epps(alloc, outline)?;
         let rules = Names::first_of_each(alloc, &outline.defined)?;
         let declared = Names::first_of_each(alloc, &outline.declared)?;
         let words = token_words(alloc, outline, &declared)?;
@@ -33,6 +39,7 @@ impl<'a> Tables<'a> {
             rules,
             declared,
             tokens,
+            epps,
         })
     }
 }
