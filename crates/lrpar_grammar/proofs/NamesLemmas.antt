@@ -1,5 +1,5 @@
 -- Numbers of names, as a list of words grows.
-use Rattle.std.proofs.Common.{◌≡◌, ◌<◌, ◌+◌, ℕ, suc, Bool, true, false, cond, List, [], ◌∷◌, ◌++◌, length, map, take, fold, get_or, Option, Some, None, option_map, bytes_eq, nat_cmp, refl, ap, sym, subst, ◌∙◌, inl, inr, arith, Bor}
+use Rattle.std.proofs.Common.{◌≡◌, ◌<◌, ◌+◌, ℕ, suc, Bool, true, false, cond, List, [], ◌∷◌, ◌++◌, length, map, take, get_or, Option, Some, None, option_map, bytes_eq, nat_cmp, refl, ap, sym, subst, ◌∙◌, arith, Bor}
 use Rattle.std.specs.Option.{is_some}
 use Rattle.std.specs.Map.{update}
 use Rattle.std.proofs.lemmas.Slice.Eq.{bytes_eq-Decides}
@@ -10,7 +10,7 @@ use Rattle.lrpar_text.specs.Words.{PlacedWord, placed}
 use Rattle.std.specs.BTreeMap.{BTreeMap, get_by}
 use Rattle.std.specs.Cmp.Lexicographic.{slice_cmp}
 use Rattle.std.proofs.lemmas.Bool.{false_from_ne_true, false≢true}
-use Rattle.lrpar_grammar.specs.Names.{AreNumbers, first_of_each, is_among, number_of, with_name}
+use Rattle.lrpar_grammar.specs.Names.{AreNumbers, first_of_each, number_of, with_name}
 
 -- a step to the last place
 last_step : (b : Bool) (r s : Option ℕ) (n : ℕ) → ◌≡◌ {A = Option ℕ} (cond b (Some 0) (option_map (λ k. k + 1) r)) None → (◌≡◌ {A = Option ℕ} r None → s ≡ Some n)

@@ -1,16 +1,16 @@
 -- What the declarations and rules of a text make, where they have no fault.
-use Rattle.std.proofs.Common.{◌≡◌, ◌≢◌, ◌<◌, ◌≤◌, ◌+◌, ◌||◌, ℕ, zero, suc, Bool, true, false, cond, List, [], ◌∷◌, ◌++◌, length, map, fold, get_or, Option, Some, None, option_map, unwrap_or, refl, ap, sym, subst, ◌∙◌, arith}
+use Rattle.std.proofs.Common.{◌≡◌, ◌≢◌, ◌<◌, ◌+◌, ◌||◌, ℕ, zero, suc, Bool, true, false, cond, List, [], ◌∷◌, ◌++◌, length, map, fold, get_or, Option, Some, None, option_map, unwrap_or, refl, ap, sym, subst, ◌∙◌, arith}
 use Rattle.std.specs.List.{All, Contains, filter, flat_map, slice_get}
 use Rattle.std.specs.Option.{is_some, option_map_or}
 use Rattle.std.proofs.lemmas.List.{length-map}
 use Rattle.std.proofs.lemmas.List.Elements.{All-contains_itself, All-map, All-weaker, Contains-append_left, Contains-append_right}
 use Rattle.std.proofs.lemmas.Option.{get_or_from_slice_get, slice_get_within}
 use Rattle.lrpar_text.specs.Words.{PlacedWord}
-use Rattle.lrpar_text.specs.Outline.{AreOfDefinedRules, IsOutlineOf, OutlineIsOne, TextAlternative, TextOutline}
+use Rattle.lrpar_text.specs.Outline.{AreOfDefinedRules, OutlineIsOne, TextAlternative, TextOutline}
 use Rattle.lrpar_grammar.specs.Grammar.{IsListedSymbol, Nonterminal, Terminal}
 use Rattle.lrpar_grammar.specs.Names.{first_of_each, is_among, number_of, with_name}
-use Rattle.lrpar_grammar.specs.Parts.{AreSound, FitStorage, HasListedStart, IsListedProd, Parts, grammar_of}
-use Rattle.lrpar_grammar.specs.Spells.{IsClean, Numbering, Spells, SpellsOne, is_known, is_token, numbering_of, prod_of_alternative, rule_number, rule_of_word, rule_words, spelled_parts, start_number, symbol_of_word, token_number, token_of_word, token_words, used_tokens}
+use Rattle.lrpar_grammar.specs.Parts.{AreSound, FitStorage, IsListedProd, grammar_of}
+use Rattle.lrpar_grammar.specs.Spells.{IsClean, Numbering, SpellsOne, is_token, numbering_of, prod_of_alternative, rule_number, rule_of_word, rule_words, spelled_parts, symbol_of_word, token_number, token_of_word, token_words, used_tokens}
 use Rattle.lrpar_grammar.specs.TextNames.{FitAll, HasNumbers, has_number}
 use Rattle.lrpar_grammar.proofs.NamesLemmas.{not_found, number_of_last, number_within}
 use Rattle.std.proofs.lemmas.Slice.Eq.{bytes_eq-Decides}

@@ -1,6 +1,6 @@
 -- Which grammar a text spells: numbers, names, printed texts and places by its declarations and rules, and the faults
 -- that these can have. A number has no bound here.
-use Rattle.std.specs.Prelude.{◌≡◌, ◌≢◌, ◌<◌, ◌≤◌, ◌+◌, ◌-◌, ◌||◌, not, ℕ, Bool, true, false, List, [], ◌∷◌, ◌++◌, length, map, filter, take, All, Contains, slice_get, slice_index_or, Option, Some, None, option_map, unwrap_or, if◌then◌else◌, ◌⊎◌}
+use Rattle.std.specs.Prelude.{◌≡◌, ◌≢◌, ◌<◌, ◌≤◌, ◌+◌, ◌-◌, ◌||◌, not, ℕ, Bool, true, false, List, [], ◌++◌, length, map, filter, take, All, Contains, slice_get, slice_index_or, Option, Some, unwrap_or, if◌then◌else◌, ◌⊎◌}
 use Rattle.std.specs.List.{flat_map}
 use Rattle.std.specs.Option.{option_map_or}
 use Rattle.lrpar_text.specs.Span.{Extent}

@@ -16,6 +16,8 @@ mod lexer;
 #[cfg(test)]
 mod parse;
 #[cfg(test)]
+mod reader;
+#[cfg(test)]
 mod span;
 #[cfg(test)]
 mod stacks;

@@ -1,8 +1,6 @@
-use Rattle.std.proofs.Common.{◌≡◌, true, false, not, ap, sym, ◌∙◌}
+use Rattle.std.proofs.Common.{◌≡◌, false, sym, ◌∙◌}
 use Rattle.lrpar_text.specs.Words.{PlacedWord, placed}
 use Rattle.lrpar_grammar.specs.Names.{is_among}
-use Rattle.lrpar_grammar.specs.Spells.{is_known}
-use Rattle.lrpar_grammar.specs.TextNames.{numbering_by}
 use Rattle.lrpar_grammar.proofs.FaultsLemmas.{all_of, stands}
 use Rattle.lrpar_grammar.proofs.GrowthLemmas.{all_more}
 use Rattle.lrpar_grammar.proofs.reader.faults.find_among.Goals as goal

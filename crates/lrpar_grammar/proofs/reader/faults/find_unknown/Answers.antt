@@ -1,6 +1,5 @@
-use Rattle.std.proofs.Common.{◌≡◌, true, false, not, ap, sym, ◌∙◌}
+use Rattle.std.proofs.Common.{◌≡◌, true, not, ap, sym, ◌∙◌}
 use Rattle.lrpar_text.specs.Words.{PlacedWord, placed}
-use Rattle.lrpar_grammar.specs.Names.{is_among}
 use Rattle.lrpar_grammar.specs.Spells.{is_known}
 use Rattle.lrpar_grammar.specs.TextNames.{numbering_by}
 use Rattle.lrpar_grammar.proofs.FaultsLemmas.{all_of, stands}

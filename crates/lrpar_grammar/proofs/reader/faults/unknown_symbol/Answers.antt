@@ -1,4 +1,4 @@
-use Rattle.std.proofs.Common.{◌≡◌, ◌<◌, true, length, map, get_or, ap, sym, subst, ◌∙◌, arith, not}
+use Rattle.std.proofs.Common.{◌≡◌, true, map, sym, subst, arith, not}
 use Rattle.std.specs.List.{All, Contains}
 use Rattle.lrpar_text.specs.Words.{PlacedWord, placed}
 use Rattle.lrpar_text.specs.Outline.{TextAlternative, alternative_of}

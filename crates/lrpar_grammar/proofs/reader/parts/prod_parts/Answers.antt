@@ -1,4 +1,4 @@
-use Rattle.std.proofs.Common.{◌≡◌, sym, ap, subst, ◌∙◌, arith}
+use Rattle.std.proofs.Common.{sym, ap, subst, ◌∙◌, arith}
 use Rattle.lrpar_text.specs.Outline.{AreInOrder, TextAlternative, alternative_of}
 use Rattle.lrpar_grammar.specs.Parts.{prod_of}
 use Rattle.lrpar_grammar.specs.Spells.{prod_of_alternative}

@@ -1,4 +1,4 @@
-use Rattle.std.proofs.Common.{◌≡◌, true, sym}
+use Rattle.std.proofs.Common.{◌≡◌, true}
 use Rattle.lrpar_text.specs.Words.{PlacedWord, placed}
 use Rattle.lrpar_grammar.specs.Spells.{symbol_of_word}
 use Rattle.lrpar_grammar.specs.Symbols.{symbol_of}

@@ -1,10 +1,10 @@
-use Rattle.std.proofs.Common.{◌≡◌, map, ap, sym, subst, ◌∙◌, nat_cmp, arith}
+use Rattle.std.proofs.Common.{map, ap, sym, ◌∙◌, nat_cmp, arith}
 use Rattle.std.specs.Map.{lookup}
 use Rattle.std.specs.BTreeMap.{is_at}
 use Rattle.std.specs.Cmp.Lexicographic.{slice_cmp}
 use Rattle.std.proofs.lemmas.List.{length-map, take_all}
 use Rattle.lrpar_text.specs.Words.{placed}
-use Rattle.lrpar_grammar.specs.Names.{AreNumbers, first_of_each, number_of}
+use Rattle.lrpar_grammar.specs.Names.{first_of_each, number_of}
 use Rattle.lrpar_grammar.proofs.NamesLemmas.{first_more_placed}
 use Rattle.lrpar_grammar.proofs.reader.names.Names.first_of_each.Goals as goal
 
