@@ -4,3 +4,8 @@ pub mod PartsLemmas
 pub mod ForestLemmas
 pub mod RewritingLemmas
 pub mod FitLemmas
+pub mod NamesLemmas
+pub mod GrowthLemmas
+pub mod FaultsLemmas
+pub mod SpanLemmas
+pub mod SpellsLemmas

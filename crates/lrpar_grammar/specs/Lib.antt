@@ -7,3 +7,6 @@ pub mod Parts
 pub mod Kept
 pub mod Sum
 pub mod SpansFit
+pub mod Names
+pub mod Spells
+pub mod TextNames

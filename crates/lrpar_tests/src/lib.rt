@@ -18,6 +18,8 @@ mod lines;
 #[cfg(test)]
 mod parse;
 #[cfg(test)]
+mod reader;
+#[cfg(test)]
 mod span;
 #[cfg(test)]
 mod stacks;

@@ -66,7 +66,7 @@ impl<StorageT: StorageNum> YaccGrammar<StorageT> {
     }
 
     // The grammar of sound parts.
-    fn made(alloc: Global, parts: GrammarParts<StorageT>) -> Result<Self, AllocError>
+    pub(crate) fn made(alloc: Global, parts: GrammarParts<StorageT>) -> Result<Self, AllocError>
         requires { AreSound StorageT.limit (parts_of StorageT.index parts) }
         ensures made { IfOk result (λ grm. grm ≡ grammar_of (parts_of StorageT.index parts)) }
         ensures well_formed { IfOk result IsWellFormed }
