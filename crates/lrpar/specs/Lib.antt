@@ -9,6 +9,7 @@ pub mod LexemeFault
 pub mod Folds
 pub mod Made
 pub mod Entries
+pub mod Nodes
 pub mod Run
 pub mod RunLaws
 pub mod RunAnswer
