@@ -12,6 +12,7 @@ pub mod Entries
 pub mod Nodes
 pub mod Run
 pub mod RunLaws
+pub mod SumRun
 pub mod RunAnswer
 pub mod Parse
 pub mod Standing
