@@ -31,7 +31,7 @@ pushed_passing f p items new base xs i d within is passes so_far =
     ap (map f) is ∙ map-append f items (get_or xs i d ∷ []) ∙ ap (λ s. s ++ y ∷ []) so_far
     ∙ append_assoc base (filter p (take i (map f xs))) (y ∷ [])
     ∙ ap (λ s. base ++ s) (sym (ap (filter p) (take_map_more f xs i d within) ∙ filter-append p (take i (map f xs)) (y ∷ [])
-        ∙ ap (λ s. filter p (take i (map f xs)) ++ s) (filter_one p y true passes)))
+    ∙ ap (λ s. filter p (take i (map f xs)) ++ s) (filter_one p y true passes)))
 
 -- an element that doesn't pass is left out
 pub left_out : {X Y : Type 0} (f : X → Y) (p : Y → Bool) (items new : List X) (base : List Y) (xs : List X) (i : ℕ) (d : X) → i < length xs
@@ -41,7 +41,7 @@ left_out f p items new base xs i d within is fails so_far =
     let y = f (get_or xs i d) in
     ap (map f) is ∙ so_far
     ∙ ap (λ s. base ++ s) (sym (ap (filter p) (take_map_more f xs i d within) ∙ filter-append p (take i (map f xs)) (y ∷ [])
-        ∙ ap (λ s. filter p (take i (map f xs)) ++ s) (filter_one p y false fails) ∙ append-nil (filter p (take i (map f xs)))))
+    ∙ ap (λ s. filter p (take i (map f xs)) ++ s) (filter_one p y false fails) ∙ append-nil (filter p (take i (map f xs)))))
 
 -- what one more element gives stands behind the rest
 pub gave_more : {X Y Z : Type 0} (f : X → Y) (g : Y → List Z) (items new base : List Z) (xs : List X) (i : ℕ) (d : X) → i < length xs
@@ -50,7 +50,7 @@ gave_more f g items new base xs i d within is so_far =
     let y = f (get_or xs i d) in
     is ∙ ap (λ s. s ++ g y) so_far ∙ append_assoc base (flat_map g (take i (map f xs))) (g y)
     ∙ ap (λ s. base ++ s) (sym (ap (flat_map g) (take_map_more f xs i d within) ∙ flat_map-append g (take i (map f xs)) (y ∷ [])
-        ∙ ap (λ s. flat_map g (take i (map f xs)) ++ s) (append-nil (g y))))
+    ∙ ap (λ s. flat_map g (take i (map f xs)) ++ s) (append-nil (g y))))
 
 -- what holds of the first elements and of one more
 pub all_more : {X Y : Type 0} (P : Y → Type 0) (f : X → Y) (xs : List X) (i : ℕ) (d : X) → i < length xs → P (f (get_or xs i d))

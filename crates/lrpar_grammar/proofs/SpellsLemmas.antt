@@ -134,7 +134,7 @@ prod_listed n x has = record {
   rule_within = (rule_listed n.rules x.rule.name has.rule).1;
   symbols = All-map (IsListedSymbol (length n.rules + 1) (length n.tokens)) (symbol_of_word n) x.symbols
       (All-weaker (λ (w : PlacedWord). has_number n w ≡ true) (λ (w : PlacedWord). IsListedSymbol (length n.rules + 1) (length n.tokens) (symbol_of_word n w))
-          (λ w known. symbol_listed (is_token n.declared w) n w known) x.symbols has.symbols);
+      (λ w known. symbol_listed (is_token n.declared w) n w known) x.symbols has.symbols);
 }
 
 -- a name that is found stands among some words
@@ -194,9 +194,9 @@ clean_sound limit o of clean fit =
       start = record { added = start.0; within = omega (arith, start.1) };
       symbols = subst (λ r. All (IsListedProd (r + 1) (length (map (token_of_word o) (token_words o)))) (spelled_parts o).prods) (sym rules_len)
           (subst (λ t. All (IsListedProd (length (rule_words o) + 1) t) (spelled_parts o).prods) (sym tokens_len)
-              (All-map (IsListedProd (length (rule_words o) + 1) (length (token_words o))) (prod_of_alternative n) o.alternatives
-                  (All-weaker (HasNumbers n) (λ (x : TextAlternative). IsListedProd (length (rule_words o) + 1) (length (token_words o)) (prod_of_alternative n x))
-                      (prod_listed n) o.alternatives (clean_numbers o of clean))));
+          (All-map (IsListedProd (length (rule_words o) + 1) (length (token_words o))) (prod_of_alternative n) o.alternatives
+          (All-weaker (HasNumbers n) (λ (x : TextAlternative). IsListedProd (length (rule_words o) + 1) (length (token_words o)) (prod_of_alternative n x))
+          (prod_listed n) o.alternatives (clean_numbers o of clean))));
     }
 
 -- a text spells one grammar

@@ -159,7 +159,10 @@ fn blanks_and_quotes(rt: HostRuntime) -> Result<(), Fail> {
         assert_eq!(rt; grm.rules_len(), 3, "{text}");
         assert_eq!(rt; grm.prods_len(), 4, "{text}");
         let pairs = grm.tokens_map(alloc)?;
-        assert!(rt; pairs.as_slice() == [("a", TIdx(0)), ("c", TIdx(1))].as_slice(), "{text}");
+        assert!(rt;
+            pairs.as_slice() == [("a", TIdx(0)), ("c", TIdx(1))].as_slice(),
+            "{text}"
+        );
         assert_eq!(rt; grm.start_rule_idx(), RIdx(1), "{text}");
     }
     Ok(())
@@ -185,7 +188,7 @@ fn places_and_printed_texts(rt: HostRuntime) -> Result<(), Fail> {
         assert!(rt; grm.token_span(tidx) == Some(Span::new(start, start + 1)));
     }
     assert!(rt; usize::from(PIdx(1u8)) < grm.prods_len());
-    assert!(rt; grm.prod_span(PIdx(1)) == Span::new(30, 33));
+    assert!(rt; grm.prod_span(PIdx(1)) == Span::new(30, 34));
     Ok(())
 }
 
@@ -194,7 +197,9 @@ fn long_text(alloc: Global, rules: u32) -> Result<String, AllocError> {
     let mut text = String::new(alloc);
     text.push_str("%token id %%\n")?;
     for rule in 0..rules {
-        let line = format!(in alloc; "r{rule}: id '+' r0 id '-' r0 | r{rule} '*' id r0 // a comment\n | ;\n")?;
+        let line = format!(in alloc;
+            "r{rule}: id '+' r0 id '-' r0 | r{rule} '*' id r0 // a comment\n | ;\n"
+        )?;
         text.push_str(line.as_str())?;
     }
     Ok(text)
@@ -209,6 +214,9 @@ fn long_texts(rt: HostRuntime) -> Result<(), Fail> {
     assert_eq!(rt; grm.rules_len(), 18_001);
     assert_eq!(rt; grm.prods_len(), 54_001);
     assert_eq!(rt; grm.tokens_len(), 5);
-    assert_eq!(rt; fault(alloc, text.as_str()), Some(GrammarFault::StorageTooSmall));
+    assert_eq!(rt;
+        fault(alloc, text.as_str()),
+        Some(GrammarFault::StorageTooSmall)
+    );
     Ok(())
 }

@@ -28,7 +28,7 @@ loop-alternative-preserved c =
     let n = numbering_by c.args.tables.now in
     all_more (λ (y : TextAlternative). All (λ (w : PlacedWord). is_known n w ≡ true) y.symbols) alternative_of xs i x (omega arith)
     (subst (λ y. All (λ (w : PlacedWord). is_known n w ≡ true) (map placed y.symbols.items)) c.alternative-item.is
-        (subst (λ s. All (λ (w : PlacedWord). is_known n w ≡ true) (map placed s)) c.deref.ensures.value c.in_default.ensures))
+    (subst (λ s. All (λ (w : PlacedWord). is_known n w ≡ true) (map placed s)) c.deref.ensures.value c.in_default.ensures))
     c.loop-alternative.invariant
 
 pub returns : goal.returns

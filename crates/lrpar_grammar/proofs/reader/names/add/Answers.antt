@@ -19,7 +19,7 @@ returns-in_ok-push-clause-numbers c =
     let count : c.len.result ≡ length ws = omega (arith, c.len.ensures, c.args.first.now.ok.0, length-map first placed) in
     let put : (q : List ℕ) → get_by (λ k. slice_cmp nat_cmp q k.now) n ≡ update bytes_eq (λ ds. get_by (λ k. slice_cmp nat_cmp ds k.now) m) w.name (Some (length ws)) q =
     λ q. btree_map_updates_str w.name m n (Some c.len.result) c.in_ok-insert.ensures.updates q
-        ∙ ap (λ k. update bytes_eq (λ ds. get_by (λ k. slice_cmp nat_cmp ds k.now) m) w.name (Some k) q) count in
+    ∙ ap (λ k. update bytes_eq (λ ds. get_by (λ k. slice_cmp nat_cmp ds k.now) m) w.name (Some k) q) count in
     let new : ◌≡◌ {A = Option ℕ} (number_of w.name ws) None =
     sym (c.requires w.name) ∙ not_found (get_by (λ k. slice_cmp nat_cmp w.name k.now) m) (sym c.contains_key.ensures ∙ c.if-not-contains_key.true) in
     let pushed : map placed c.push.new.self.items ≡ ws ++ w ∷ [] = ap (map placed) c.in_ok-push.ensures.items ∙ map-append placed first (c.args.word ∷ []) in

@@ -16,8 +16,14 @@ new-requires c =
     let first = placed_at symbols c.deref.result.now 0 0 a c.deref.ensures.value refl c.in-Some-Some.ensures.value in
     let place : length c.deref-2.result.now - 1 ≡ length (map placed symbols) - 1 = omega (arith, ap length c.deref-2.ensures.value, length-map symbols placed) in
     let last = placed_at symbols c.deref-2.result.now (length c.deref-2.result.now - 1) (length (map placed symbols) - 1) b c.deref-2.ensures.value place c.in-Some-Some.ensures'.value in
-    omega (arith, ordered_ends (map placed symbols) (placed a) (placed b) c.requires first last (omega arith) (omega arith),
-      c.start.ensures.start, c.end.ensures.end, ap (λ (e : Extent). e.start) c.span.ensures, ap (λ (e : Extent). e.end) c.span-in-Some-Some.ensures)
+    omega (
+      arith,
+      ordered_ends (map placed symbols) (placed a) (placed b) c.requires first last (omega arith) (omega arith),
+      c.start.ensures.start,
+      c.end.ensures.end,
+      ap (λ (e : Extent). e.start) c.span.ensures,
+      ap (λ (e : Extent). e.end) c.span-in-Some-Some.ensures,
+    )
 
 pub returns-in-Some-Some : goal.returns-in-Some-Some
 returns-in-Some-Some c =

@@ -12,7 +12,7 @@ loop-word-preserved c =
     let base = map placed c.args.words.now.items in
     let i = c.loop-word.word-index in
     elim c.if-is_token.branch [
-      then-is_token+in_ok-push w ↦
+      | then-is_token+in_ok-push w ↦
           pushed_passing placed (is_token c.args.declared.now) items _ base symbols i _ c.loop-word-test.true
           (ap (λ v. v.items) w.words-is ∙ w.in_ok-push.ensures.items) (sym c.is_token.ensures ∙ w.if-is_token.true) c.loop-word.invariant
       | else-is_token w ↦

@@ -10,7 +10,7 @@ returns-then-contains_key-clause-err c =
     let i = c.loop-word.word-index in
     repeated_at epps items i _ c.span.result c.deref-word-items.ensures.value c.loop-word-test.true
     (known_is c.loop-word.numbers (map placed c.loop-word.words.items) (take i (map placed epps)) _ c.contains_key.result true
-        c.loop-word.invariant.numbers c.loop-word.invariant.words c.contains_key.ensures c.if-contains_key.true) c.span.ensures
+    c.loop-word.invariant.numbers c.loop-word.invariant.words c.contains_key.ensures c.if-contains_key.true) c.span.ensures
 
 pub loop-word-preserved : goal.loop-word-preserved
 loop-word-preserved c =
