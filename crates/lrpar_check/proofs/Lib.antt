@@ -6,3 +6,4 @@ pub mod ChainLemmas
 pub mod ChainTests
 pub mod StepLemmas
 pub mod SettleLemmas
+pub mod EntryTests

@@ -4,4 +4,5 @@ pub mod Path
 pub mod Chain
 pub mod Step
 pub mod Settled
+pub mod Entrywise
 pub mod Checked
