@@ -9,3 +9,4 @@ pub mod SettleLemmas
 pub mod StackReductionLemmas
 pub mod OverlayLemmas
 pub mod OverSettleLemmas
+pub mod EntryTests

@@ -136,3 +136,11 @@ only_memory g graph table cap Shape h safe short = absurd (h safe.shape)
 only_memory g graph table cap (Safety condition s) h safe short = absurd (h.2 (safe.each condition s h.1))
 only_memory g graph table cap (ChainTooLong s t) h safe short = absurd (short s t h.1 h.2 h.3)
 only_memory g graph table cap Memory h safe short = refl
+
+-- a fault of equal parts is a fault
+pub fault_of_same : (g h : Grammar) (graph other : Graph) (table made : Table) (cap : ℕ) (fault : CheckFault) → g ≡ h → graph ≡ other → table ≡ made
+    → IsCheckFault g graph table cap fault → IsCheckFault h other made cap fault
+fault_of_same g h graph other table made cap fault same_g same_graph same_table is =
+    subst (λ (x : Grammar). IsCheckFault x other made cap fault) same_g
+    (subst (λ (x : Graph). IsCheckFault g x made cap fault) same_graph
+    (subst (λ (x : Table). IsCheckFault g graph x cap fault) same_table is))

@@ -29,16 +29,9 @@ pub record Unchecked : Type 0 where
   pub graph : Graph
   pub table : Table
 
--- the fault names what fails of the table's safety
-abbrev pub IsSafetyFault : Grammar → Graph → Table → CheckFault → Type 0
-IsSafetyFault g graph table Shape = ¬ (HasShape g graph table)
-IsSafetyFault g graph table (Safety condition s) = HasShape g graph table × (s < states_len table) × ¬ (IsSafeAt g graph table condition s)
-IsSafetyFault g graph table (ChainTooLong s t) = ⊥
-IsSafetyFault g graph table Memory = ⊥
-
--- the fault names what fails; of want of memory nothing is known
+-- the fault names what fails; memory is wanted only where the table is safe
 abbrev pub IsCheckFault : Grammar → Graph → Table → ℕ → CheckFault → Type 0
 IsCheckFault g graph table cap Shape = ¬ (HasShape g graph table)
 IsCheckFault g graph table cap (Safety condition s) = HasShape g graph table × (s < states_len table) × ¬ (IsSafeAt g graph table condition s)
 IsCheckFault g graph table cap (ChainTooLong s t) = IsSafe g graph table × (s < states_len table) × (t < table.tokens) × IsLongChain g table cap s t
-IsCheckFault g graph table cap Memory = Unit {0}
+IsCheckFault g graph table cap Memory = IsSafe g graph table

@@ -5,5 +5,6 @@ pub mod Chain
 pub mod Step
 pub mod Settled
 pub mod StackReduction
+pub mod Entrywise
 pub mod Checked
 pub mod Overlay

@@ -43,9 +43,9 @@ impl<StorageT: StorageNum> ParserData<StorageT> {
     /// of reductions under one token is longer than the cap.
     ///
     /// The fault of a refusal is the first of these: the shape, then the conditions S2 to S8 in turn, each with states
-    /// ascending, then the chains, with states and then tokens ascending; it does fail there. `Memory` comes where memory
-    /// was wanting for a list of at most `cap + 3` states, which the chains are made on. A refusal keeps the three parts as
-    /// they were.
+    /// ascending, then the chains, with states and then tokens ascending; it does fail there. `Memory` comes where the
+    /// table is safe and memory was wanting for a list of at most `cap + 3` states, which the chains are made on. A refusal
+    /// keeps the three parts as they were.
     ///
     /// The conditions take time near the size of the input: with I items and A entries of the table, about (I + A) times
     /// the logarithm of I, where each entry that leads to a state counts the state's cores. The chains take longer: with

@@ -1,11 +1,13 @@
 //! The conditions of a safe table, each tested at one state.
 ghost use Rattle.std.specs.Prelude.{◌≡◌, ◌≢◌, ◌<◌, ◌≤◌, ◌+◌, ◌↔◌, ℕ, IsTrue, MatchOption, Some, slice_get};
-ghost use Rattle.lrpar_grammar.specs.Grammar.{Nonterminal, Terminal, prods_len, prod_len, rule_of, symbols_of, start_prod};
+ghost use Rattle.lrpar_grammar.specs.Grammar.{GrammarSymbol, end_token, prods_len, prod_len, rule_of, symbols_of, start_prod};
 ghost use Rattle.lrpar_states.specs.Graph.{HasItem, HasCore, graph_len};
 ghost use Rattle.lrpar_grammar.specs.Symbols.{symbol_of};
-ghost use Rattle.lrpar_states.specs.Table.{ShiftTo, ReduceBy, action_of, goto_of, states_len};
-ghost use Rattle.lrpar_states.specs.Safe.{HasShape, IsItem, IsSafe, CoresFollow, IsSafeAt, StartsFresh, KeepsEnd, StepsFromCores, ReducesComplete, GoesByRules, AcceptsAtEnd, LeavesStart};
-ghost use Rattle.lrpar_check.specs.Checked.{IsSafetyFault};
+ghost use Rattle.lrpar_states.specs.PlainRows.{plain_action};
+ghost use Rattle.lrpar_states.specs.Table.{IsActionWithin, ReduceBy, TableAction, action_of, goto_of, states_len};
+ghost use Rattle.lrpar_states.specs.Safe.{AcceptsAtEnd, CoresFollow, GoesBy, GoesByRules, HasShape, IsItem, IsSafe, IsSafeAt, KeepsEnd, LeavesStart, ReducesComplete, StartsFresh, StepsFromCores};
+ghost use Rattle.lrpar_check.specs.Checked.{IsCheckFault};
+ghost use Rattle.lrpar_check.specs.Entrywise.{AcceptHolds, ActionHolds, GotoHolds, IsNamed, ReduceHolds, ShiftHolds};
 
 use crate::fault::CheckFault;
 use lrpar_grammar::grammar::YaccGrammar;
@@ -49,10 +51,10 @@ impl<'a, StorageT: StorageNum> Parts<'a, StorageT> {
         }
     }
 
-    /// The first fault.
+    /// The first fault, whatever the cap on chains.
     pub(crate) fn fault(&self) -> Option<CheckFault>
         ensures { MatchOption result (IsSafe self.now.grm.now self.now.sgraph.now self.now.stable.now)
-            (IsSafetyFault self.now.grm.now self.now.sgraph.now self.now.stable.now) }
+            (λ fault. (cap : ℕ) → IsCheckFault self.now.grm.now self.now.sgraph.now self.now.stable.now cap fault) }
     {
         if !self.has_shape() {
             return Some(CheckFault::Shape);
@@ -94,15 +96,23 @@ impl<'a, StorageT: StorageNum> Parts<'a, StorageT> {
         requires { StorageT.index s.0 < states_len self.now.stable.now }
         ensures { IsTrue result ↔ ((t p : ℕ) → action_of self.now.stable.now (StorageT.index s.0) t ≡ ReduceBy p → p < prods_len self.now.grm.now) }
     {
-        for t in 0..self.stable.tokens_len() {
-            let token = TIdx(StorageT::from_index(t).unwrap());
-            if let Action::Reduce(pidx) = self.stable.action(s, token) {
-                if usize::from(pidx) >= self.grm.prods_len() {
-                    return false;
-                }
+        let (tokens, actions) = self.stable.actions_of(s);
+        for (place, _) in tokens.iter().enumerate() {
+            if !self.is_named(actions[place]) {
+                return false;
             }
         }
         true
+    }
+
+    // Whether the action, if it is a reduction, is by a production of the grammar.
+    fn is_named(&self, action: Action<StorageT>) -> bool
+        ensures { IsTrue result ↔ IsNamed self.now.grm.now (plain_action StorageT.index action) }
+    {
+        match action {
+            Action::Reduce(pidx) => usize::from(pidx) < self.grm.prods_len(),
+            Action::Shift(_) | Action::Accept | Action::Error => true,
+        }
     }
 
     // Whether each item is of the grammar.
@@ -196,10 +206,7 @@ impl<'a, StorageT: StorageNum> Parts<'a, StorageT> {
         requires state { StorageT.index s.0 < states_len self.now.stable.now }
         ensures { IsTrue result ↔ KeepsEnd self.now.grm.now self.now.stable.now (StorageT.index s.0) }
     {
-        match self.stable.action(s, self.grm.eof_token_idx()) {
-            Action::Shift(_) => false,
-            Action::Reduce(_) | Action::Accept | Action::Error => true,
-        }
+        self.actions_hold(SafetyCondition::S3, s)
     }
 
     // S4: the cores of each state that the state goes to come from its own.
@@ -208,43 +215,217 @@ impl<'a, StorageT: StorageNum> Parts<'a, StorageT> {
         requires state { StorageT.index s.0 < states_len self.now.stable.now }
         ensures { IsTrue result ↔ StepsFromCores self.now.grm.now self.now.sgraph.now self.now.stable.now (StorageT.index s.0) }
     {
-        self.shifts_from_cores(s) && self.gotos_from_cores(s)
+        self.actions_hold(SafetyCondition::S4, s) && self.gotos_hold(SafetyCondition::S4, s)
     }
 
-    // S4 for shifts.
-    fn shifts_from_cores(&self, s: StIdx<StorageT>) -> bool
+    // S5: the state reduces by complete cores alone, and not by the start production.
+    fn reduces_complete(&self, s: StIdx<StorageT>) -> bool
         requires shape { HasShape self.now.grm.now self.now.sgraph.now self.now.stable.now }
         requires state { StorageT.index s.0 < states_len self.now.stable.now }
-        ensures { IsTrue result ↔ ((t next : ℕ) → action_of self.now.stable.now (StorageT.index s.0) t ≡ ShiftTo next
-            → CoresFollow self.now.grm.now self.now.sgraph.now (StorageT.index s.0) (Terminal t) next) }
+        ensures { IsTrue result ↔ ReducesComplete self.now.grm.now self.now.sgraph.now self.now.stable.now (StorageT.index s.0) }
     {
-        for t in 0..self.stable.tokens_len() {
-            let token = TIdx(StorageT::from_index(t).unwrap());
-            if let Action::Shift(next) = self.stable.action(s, token) {
-                if !self.cores_follow(s, Symbol::Token(token), next) {
-                    return false;
-                }
+        self.actions_hold(SafetyCondition::S5, s)
+    }
+
+    // S7: the state accepts at the end token alone, and has the start production's complete core where it does.
+    fn accepts_at_end(&self, s: StIdx<StorageT>) -> bool
+        requires shape { HasShape self.now.grm.now self.now.sgraph.now self.now.stable.now }
+        requires state { StorageT.index s.0 < states_len self.now.stable.now }
+        ensures { IsTrue result ↔ AcceptsAtEnd self.now.grm.now self.now.sgraph.now self.now.stable.now (StorageT.index s.0) }
+    {
+        self.actions_hold(SafetyCondition::S7, s)
+    }
+
+    // S8: the state doesn't go to the start state, and has the start production's first core only as the start state.
+    fn leaves_start(&self, s: StIdx<StorageT>) -> bool
+        requires shape { HasShape self.now.grm.now self.now.sgraph.now self.now.stable.now }
+        requires state { StorageT.index s.0 < states_len self.now.stable.now }
+        ensures { IsTrue result ↔ LeavesStart self.now.grm.now self.now.sgraph.now self.now.stable.now (StorageT.index s.0) }
+    {
+        self.begins_as_start(s) && self.goes_never_back(s)
+    }
+
+    // Whether the state doesn't go to the start state.
+    fn goes_never_back(&self, s: StIdx<StorageT>) -> bool
+        requires shape { HasShape self.now.grm.now self.now.sgraph.now self.now.stable.now }
+        requires state { StorageT.index s.0 < states_len self.now.stable.now }
+        ensures { IsTrue result ↔ ((x : GrammarSymbol) → ¬ (GoesBy self.now.stable.now (StorageT.index s.0) x self.now.stable.now.start)) }
+    {
+        self.actions_hold(SafetyCondition::S8, s) && self.gotos_hold(SafetyCondition::S8, s)
+    }
+
+    // Whether the condition holds of each action that the state stores.
+    fn actions_hold(&self, condition: SafetyCondition, s: StIdx<StorageT>) -> bool
+        requires shape { HasShape self.now.grm.now self.now.sgraph.now self.now.stable.now }
+        requires state { StorageT.index s.0 < states_len self.now.stable.now }
+        ensures { let g = self.now.grm.now in let graph = self.now.sgraph.now in let table = self.now.stable.now in IsTrue result
+            ↔ ((t : ℕ) (action : TableAction) → action_of table (StorageT.index s.0) t ≡ action → ActionHolds g graph table condition (StorageT.index s.0) t action) }
+    {
+        let (tokens, actions) = self.stable.actions_of(s);
+        for (place, token) in tokens.iter().enumerate() {
+            if !self.action_holds(condition, s, *token, actions[place]) {
+                return false;
             }
         }
         true
     }
 
-    // S4 for gotos.
-    fn gotos_from_cores(&self, s: StIdx<StorageT>) -> bool
+    // Whether the condition holds of an action of the state.
+    fn action_holds(
+        &self,
+        condition: SafetyCondition,
+        s: StIdx<StorageT>,
+        token: TIdx<StorageT>,
+        action: Action<StorageT>,
+    ) -> bool
         requires shape { HasShape self.now.grm.now self.now.sgraph.now self.now.stable.now }
         requires state { StorageT.index s.0 < states_len self.now.stable.now }
-        ensures { IsTrue result ↔ ((r next : ℕ) → goto_of self.now.stable.now (StorageT.index s.0) r ≡ Some next
-            → CoresFollow self.now.grm.now self.now.sgraph.now (StorageT.index s.0) (Nonterminal r) next) }
+        requires within { IsActionWithin (states_len self.now.stable.now) (plain_action StorageT.index action) }
+        requires named { IsNamed self.now.grm.now (plain_action StorageT.index action) }
+        ensures { IsTrue result ↔ ActionHolds self.now.grm.now self.now.sgraph.now self.now.stable.now condition (StorageT.index s.0)
+            (StorageT.index token.0) (plain_action StorageT.index action) }
     {
-        for r in 0..self.stable.rules_len() {
-            let rule = RIdx(StorageT::from_index(r).unwrap());
-            if let Some(next) = self.stable.goto(s, rule) {
-                if !self.cores_follow(s, Symbol::Rule(rule), next) {
-                    return false;
-                }
+        match action {
+            Action::Shift(next) => self.shift_holds(condition, s, token, next),
+            Action::Reduce(pidx) => self.reduce_holds(condition, s, pidx),
+            Action::Accept => self.accept_holds(condition, s, token),
+            Action::Error => true,
+        }
+    }
+
+    // Whether the condition holds of a shift of the state.
+    fn shift_holds(
+        &self,
+        condition: SafetyCondition,
+        s: StIdx<StorageT>,
+        token: TIdx<StorageT>,
+        next: StIdx<StorageT>,
+    ) -> bool
+        requires shape { HasShape self.now.grm.now self.now.sgraph.now self.now.stable.now }
+        requires state { StorageT.index s.0 < states_len self.now.stable.now }
+        requires next { StorageT.index next.0 < states_len self.now.stable.now }
+        ensures { IsTrue result ↔ ShiftHolds self.now.grm.now self.now.sgraph.now self.now.stable.now condition (StorageT.index s.0)
+            (StorageT.index token.0) (StorageT.index next.0) }
+    {
+        match condition {
+            SafetyCondition::S3 => !self.is_end(token),
+            SafetyCondition::S4 => self.cores_follow(s, Symbol::Token(token), next),
+            SafetyCondition::S8 => !self.is_start(next),
+            SafetyCondition::S2
+            | SafetyCondition::S5
+            | SafetyCondition::S6
+            | SafetyCondition::S7 => true,
+        }
+    }
+
+    // Whether the condition holds of a reduction of the state.
+    fn reduce_holds(
+        &self,
+        condition: SafetyCondition,
+        s: StIdx<StorageT>,
+        pidx: PIdx<StorageT>,
+    ) -> bool
+        requires shape { HasShape self.now.grm.now self.now.sgraph.now self.now.stable.now }
+        requires state { StorageT.index s.0 < states_len self.now.stable.now }
+        requires prod { StorageT.index pidx.0 < prods_len self.now.grm.now }
+        ensures { IsTrue result ↔ ReduceHolds self.now.grm.now self.now.sgraph.now condition (StorageT.index s.0) (StorageT.index pidx.0) }
+    {
+        match condition {
+            SafetyCondition::S5 => self.is_complete(s, pidx),
+            SafetyCondition::S2
+            | SafetyCondition::S3
+            | SafetyCondition::S4
+            | SafetyCondition::S6
+            | SafetyCondition::S7
+            | SafetyCondition::S8 => true,
+        }
+    }
+
+    // Whether the condition holds of an acceptance of the state.
+    fn accept_holds(
+        &self,
+        condition: SafetyCondition,
+        s: StIdx<StorageT>,
+        token: TIdx<StorageT>,
+    ) -> bool
+        requires shape { HasShape self.now.grm.now self.now.sgraph.now self.now.stable.now }
+        requires state { StorageT.index s.0 < states_len self.now.stable.now }
+        ensures { IsTrue result ↔ AcceptHolds self.now.grm.now self.now.sgraph.now condition (StorageT.index s.0) (StorageT.index token.0) }
+    {
+        match condition {
+            SafetyCondition::S7 => self.accepts_complete(s, token),
+            SafetyCondition::S2
+            | SafetyCondition::S3
+            | SafetyCondition::S4
+            | SafetyCondition::S5
+            | SafetyCondition::S6
+            | SafetyCondition::S8 => true,
+        }
+    }
+
+    // Whether the token is the end token, and the state has the start production's complete core.
+    fn accepts_complete(&self, s: StIdx<StorageT>, token: TIdx<StorageT>) -> bool
+        requires shape { HasShape self.now.grm.now self.now.sgraph.now self.now.stable.now }
+        requires state { StorageT.index s.0 < states_len self.now.stable.now }
+        ensures { IsTrue result ↔ ((StorageT.index token.0 ≡ end_token self.now.grm.now)
+            × HasCore self.now.sgraph.now (StorageT.index s.0) (start_prod self.now.grm.now) 1) }
+    {
+        self.is_end(token) && self.sgraph.has_core(s, self.grm.start_prod(), 1)
+    }
+
+    // Whether the condition holds of each goto that the state stores.
+    fn gotos_hold(&self, condition: SafetyCondition, s: StIdx<StorageT>) -> bool
+        requires shape { HasShape self.now.grm.now self.now.sgraph.now self.now.stable.now }
+        requires state { StorageT.index s.0 < states_len self.now.stable.now }
+        ensures { let g = self.now.grm.now in let graph = self.now.sgraph.now in let table = self.now.stable.now in IsTrue result
+            ↔ ((r next : ℕ) → goto_of table (StorageT.index s.0) r ≡ Some next → GotoHolds g graph table condition (StorageT.index s.0) r next) }
+    {
+        let (rules, states) = self.stable.gotos_of(s);
+        for (place, rule) in rules.iter().enumerate() {
+            if !self.goto_holds(condition, s, *rule, states[place]) {
+                return false;
             }
         }
         true
+    }
+
+    // Whether the condition holds of a goto of the state.
+    fn goto_holds(
+        &self,
+        condition: SafetyCondition,
+        s: StIdx<StorageT>,
+        rule: RIdx<StorageT>,
+        next: StIdx<StorageT>,
+    ) -> bool
+        requires shape { HasShape self.now.grm.now self.now.sgraph.now self.now.stable.now }
+        requires state { StorageT.index s.0 < states_len self.now.stable.now }
+        requires next { StorageT.index next.0 < states_len self.now.stable.now }
+        ensures { IsTrue result ↔ GotoHolds self.now.grm.now self.now.sgraph.now self.now.stable.now condition (StorageT.index s.0)
+            (StorageT.index rule.0) (StorageT.index next.0) }
+    {
+        match condition {
+            SafetyCondition::S4 => self.cores_follow(s, Symbol::Rule(rule), next),
+            SafetyCondition::S8 => !self.is_start(next),
+            SafetyCondition::S2
+            | SafetyCondition::S3
+            | SafetyCondition::S5
+            | SafetyCondition::S6
+            | SafetyCondition::S7 => true,
+        }
+    }
+
+    // Whether the token is the end token.
+    fn is_end(&self, token: TIdx<StorageT>) -> bool
+        ensures { IsTrue result ↔ (StorageT.index token.0 ≡ end_token self.now.grm.now) }
+    {
+        usize::from(token) == usize::from(self.grm.eof_token_idx())
+    }
+
+    // Whether the state is the start state.
+    fn is_start(&self, s: StIdx<StorageT>) -> bool
+        ensures { IsTrue result ↔ (StorageT.index s.0 ≡ self.now.stable.now.start) }
+    {
+        usize::from(s) == usize::from(self.stable.start_state())
     }
 
     // Whether the cores of state `next` with a dot past 0 come from cores of the state by the symbol.
@@ -292,23 +473,6 @@ impl<'a, StorageT: StorageNum> Parts<'a, StorageT> {
         }
     }
 
-    // S5: the state reduces by complete cores alone, and not by the start production.
-    fn reduces_complete(&self, s: StIdx<StorageT>) -> bool
-        requires shape { HasShape self.now.grm.now self.now.sgraph.now self.now.stable.now }
-        requires state { StorageT.index s.0 < states_len self.now.stable.now }
-        ensures { IsTrue result ↔ ReducesComplete self.now.grm.now self.now.sgraph.now self.now.stable.now (StorageT.index s.0) }
-    {
-        for t in 0..self.stable.tokens_len() {
-            let token = TIdx(StorageT::from_index(t).unwrap());
-            if let Action::Reduce(pidx) = self.stable.action(s, token) {
-                if !self.is_complete(s, pidx) {
-                    return false;
-                }
-            }
-        }
-        true
-    }
-
     // Whether the state has the complete core of the production, and that isn't the start production.
     fn is_complete(&self, s: StIdx<StorageT>, pidx: PIdx<StorageT>) -> bool
         requires shape { HasShape self.now.grm.now self.now.sgraph.now self.now.stable.now }
@@ -347,69 +511,14 @@ impl<'a, StorageT: StorageNum> Parts<'a, StorageT> {
             || self.stable.goto(s, self.grm.prod_to_rule(pidx)).is_some()
     }
 
-    // S7: the state accepts at the end token alone, and has the start production's complete core where it does.
-    fn accepts_at_end(&self, s: StIdx<StorageT>) -> bool
+    // S8 of the state's cores: it has the start production's first core only as the start state.
+    fn begins_as_start(&self, s: StIdx<StorageT>) -> bool
         requires shape { HasShape self.now.grm.now self.now.sgraph.now self.now.stable.now }
         requires state { StorageT.index s.0 < states_len self.now.stable.now }
-        ensures { IsTrue result ↔ AcceptsAtEnd self.now.grm.now self.now.sgraph.now self.now.stable.now (StorageT.index s.0) }
+        ensures { IsTrue result ↔ (HasCore self.now.sgraph.now (StorageT.index s.0) (start_prod self.now.grm.now) 0
+            → StorageT.index s.0 ≡ self.now.stable.now.start) }
     {
-        let end = usize::from(self.grm.eof_token_idx());
-        let has_core = self.sgraph.has_core(s, self.grm.start_prod(), 1);
-        for t in 0..self.stable.tokens_len() {
-            let token = TIdx(StorageT::from_index(t).unwrap());
-            if let Action::Accept = self.stable.action(s, token) {
-                if t != end || !has_core {
-                    return false;
-                }
-            }
-        }
-        true
-    }
-
-    // S8: the state doesn't go to the start state, and has the start production's first core only as the start state.
-    fn leaves_start(&self, s: StIdx<StorageT>) -> bool
-        requires shape { HasShape self.now.grm.now self.now.sgraph.now self.now.stable.now }
-        requires state { StorageT.index s.0 < states_len self.now.stable.now }
-        ensures { IsTrue result ↔ LeavesStart self.now.grm.now self.now.sgraph.now self.now.stable.now (StorageT.index s.0) }
-    {
-        let start = usize::from(self.stable.start_state());
-        (usize::from(s) == start || !self.sgraph.has_core(s, self.grm.start_prod(), 0))
-            && self.never_shifts_to(s, start)
-            && self.never_goes_to(s, start)
-    }
-
-    // Whether no shift of the state leads to state `start`.
-    fn never_shifts_to(&self, s: StIdx<StorageT>, start: usize) -> bool
-        requires shape { HasShape self.now.grm.now self.now.sgraph.now self.now.stable.now }
-        requires state { StorageT.index s.0 < states_len self.now.stable.now }
-        ensures { IsTrue result ↔ ((t : ℕ) → action_of self.now.stable.now (StorageT.index s.0) t ≢ ShiftTo start) }
-    {
-        for t in 0..self.stable.tokens_len() {
-            let token = TIdx(StorageT::from_index(t).unwrap());
-            if let Action::Shift(next) = self.stable.action(s, token) {
-                if usize::from(next) == start {
-                    return false;
-                }
-            }
-        }
-        true
-    }
-
-    // Whether no goto of the state leads to state `start`.
-    fn never_goes_to(&self, s: StIdx<StorageT>, start: usize) -> bool
-        requires shape { HasShape self.now.grm.now self.now.sgraph.now self.now.stable.now }
-        requires state { StorageT.index s.0 < states_len self.now.stable.now }
-        ensures { IsTrue result ↔ ((r : ℕ) → goto_of self.now.stable.now (StorageT.index s.0) r ≢ Some start) }
-    {
-        for r in 0..self.stable.rules_len() {
-            let rule = RIdx(StorageT::from_index(r).unwrap());
-            if let Some(next) = self.stable.goto(s, rule) {
-                if usize::from(next) == start {
-                    return false;
-                }
-            }
-        }
-        true
+        self.is_start(s) || !self.sgraph.has_core(s, self.grm.start_prod(), 0)
     }
 }
 

@@ -1,9 +1,10 @@
 -- Rows that lie one after the other in one list.
-use Rattle.std.proofs.Common.{◌≡◌, ◌<◌, ◌≤◌, ◌+◌, ◌-◌, ◌++◌, ◌∙◌, ℕ, zero, suc, List, [], ◌∷◌, length, map, take, drop, slice_index, slice_index_or, add-zero, refl, inl, inr, ap, sym, arith}
-use Rattle.std.specs.List.{range_with_len, slice_range, zip}
-use Rattle.std.proofs.lemmas.List.{append-nil, map_more, append_assoc, take_more, drop-append-le, drop_at, get_or_append_left, get_or_push, length-drop, length_push, take-append-le, take_all}
+use Rattle.std.proofs.Common.{subst, ◌≡◌, ◌<◌, ◌≤◌, ◌+◌, ◌-◌, ◌++◌, ◌∙◌, ℕ, zero, suc, List, [], ◌∷◌, length, map, take, drop, slice_index, slice_index_or, add-zero, refl, inl, inr, ap, sym, arith}
+use Rattle.std.specs.List.{range_with_len, slice_range, sum_by, zip}
+use Rattle.std.proofs.lemmas.List.{append-nil, map_more, append_assoc, take_more, drop-append-le, drop_at, get_or_append_left, get_or_push, length-drop, length-map, length-take-le, length_push, take-append-le, take_all}
 use Rattle.std.proofs.lemmas.Bool.{cases_lt}
-use Rattle.std.proofs.lemmas.List.FromFn.{fill_by_all, get_or-map-range_with_len, length-map-range_with_len, map-range_with_len_more}
+use Rattle.std.proofs.lemmas.List.FromFn.{fill_by_all, get_or-map-range_with_len, length-map-range_with_len, map-range_with_len_more, sum_by-map-range_with_len_more}
+use Rattle.std.proofs.lemmas.List.Sums.{sum_by-cons}
 use Rattle.std.proofs.lemmas.Slice.Zip.{length-zip}
 use Rattle.lrpar_states.specs.Entries.{AreParts, AreStarts, cut}
 
@@ -41,6 +42,7 @@ start_within starts end are s below =
 pub AreStarts-push : (starts : List ℕ) (end more : ℕ) → AreStarts starts end → end ≤ more → AreStarts (starts ++ more ∷ []) more
 AreStarts-push starts end more are after = record {
   some = rw length_push (omega arith);
+  first = get_or_append_left starts (more ∷ []) 0 0 are.some ∙ are.first;
   up = λ s below.
       let inside : s < length starts = omega (arith, simp length_push at below) in
       elim (cases_lt (s + 1) (length starts)) as (λ _. slice_index (starts ++ more ∷ []) s ≤ slice_index (starts ++ more ∷ []) (s + 1)) [
@@ -150,7 +152,7 @@ pub record AreCutSoFar {K V R : Type 0} (items : R → List (K × V)) (starts : 
 pub cut_none : {K V R : Type 0} (items : R → List (K × V)) (rows : List R) → AreCutSoFar {K = K} {V = V} items (0 ∷ []) [] [] rows 0
 cut_none items rows = record {
   parts = record {
-    placed = record { some = omega arith; up = λ s below. absurd (omega (arith, below)); last = refl };
+    placed = record { some = omega arith; first = refl; up = λ s below. absurd (omega (arith, below)); last = refl };
     paired = refl;
   };
   rows_so_far = refl;
@@ -204,3 +206,43 @@ row_is starts keys part_keys values part_values rows row a b parts is below from
     let at = row_at starts keys values rows row parts is below in
     let here = cut_row starts (zip keys values) row at.next in
     rw (keys_are, values_are, ← is, here, from, to) (sym (zip-range (slice_index starts row) (slice_index starts (row + 1)) keys values parts.paired))
+
+-- the first rows have as many elements as stand before the next
+first_rows_len : {X : Type 0} (starts : List ℕ) (xs : List X) → AreStarts starts (length xs) → (n : ℕ) → n < length starts
+    → sum_by (λ row. length row) (map (part starts xs) (range_with_len 0 n)) ≡ slice_index starts n
+first_rows_len starts xs are zero below = sym are.first
+first_rows_len {X} starts xs are (suc n) below =
+    let len : List X → ℕ = λ row. length row in
+    let so_far = first_rows_len starts xs are n (omega (arith, below)) in
+    let more = sum_by-map-range_with_len_more len (part starts xs) 0 n n (omega arith) in
+    let next : suc n ≡ n + 1 = omega arith in
+    let up = are.up n (omega (arith, below)) in
+    let within = start_within starts (length xs) are (n + 1) (omega (arith, below)) in
+    let dropped = length-drop (slice_index starts n) xs in
+    let taken = length-take-le (slice_index starts (n + 1) - slice_index starts n) (drop (slice_index starts n) xs) (omega (arith, dropped, up, within)) in
+    subst (λ (m : ℕ). sum_by len (map (part starts xs) (range_with_len 0 m)) ≡ slice_index starts m) (sym next) (omega (arith, more, so_far, taken, up))
+
+-- all rows have the elements of the list
+pub rows_len_is : {X : Type 0} (starts : List ℕ) (xs : List X) → AreStarts starts (length xs) → sum_by (λ row. length row) (cut starts xs) ≡ length xs
+rows_len_is starts xs are = first_rows_len starts xs are (length starts - 1) (omega (arith, are.some)) ∙ are.last
+
+-- and so have rows of pairs as many as there are keys
+pub pairs_len_is : {K V : Type 0} (starts : List ℕ) (keys : List K) (values : List V) → AreParts starts keys values
+    → sum_by (λ row. length row) (cut starts (zip keys values)) ≡ length keys
+pairs_len_is starts keys values parts =
+    let zipped : length (zip keys values) ≡ length keys = rw (length-zip, parts.paired) (omega arith) in
+    let placed = parts.placed in
+    let placed_zipped : AreStarts starts (length (zip keys values)) = rw zipped placed in
+    rows_len_is starts (zip keys values) placed_zipped ∙ zipped
+
+-- images of rows have as many elements
+pub image_len : {X Y : Type 0} (f : X → Y) (rows : List (List X)) → sum_by (λ row. length row) (map (map f) rows) ≡ sum_by (λ row. length row) rows
+image_len f [] = refl
+image_len {X} {Y} f (row ∷ rows) =
+    let len : List X → ℕ = λ r. length r in
+    let image : List Y → ℕ = λ r. length r in
+    let first = sum_by-cons image (map f row) (map (map f) rows) in
+    let second = sum_by-cons len row rows in
+    let one = length-map row f in
+    let more = image_len f rows in
+    omega (arith, first, second, one, more)

@@ -6,9 +6,10 @@ use Rattle.std.specs.List.{range_with_len}
 abbrev pub cut : {X : Type 0} → List ℕ → List X → List (List X)
 cut starts xs = map (λ s. slice_range xs (slice_index starts s) (slice_index starts (s + 1))) (range_with_len 0 (length starts - 1))
 
--- the places don't descend, and the last one, which there is, is `end`
+-- the first place is 0, the places don't descend, and the last one is `end`
 pub record AreStarts (starts : List ℕ) (end : ℕ) : Type 0 where
   pub some : 0 < length starts
+  pub first : slice_index starts 0 ≡ 0
   pub up : (s : ℕ) → s + 1 < length starts → slice_index starts s ≤ slice_index starts (s + 1)
   pub last : slice_index starts (length starts - 1) ≡ end
 

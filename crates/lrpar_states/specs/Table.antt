@@ -1,5 +1,5 @@
 -- State tables: what is done in each state at each token, and where each state goes by each rule.
-use Rattle.std.specs.Prelude.{◌≡◌, ◌≢◌, ◌<◌, ◌≤◌, ℕ, List, [], length, nat_eq, All, Option, Some, None, unwrap_or, slice_index_or}
+use Rattle.std.specs.Prelude.{◌≡◌, ◌≢◌, ◌<◌, ◌≤◌, ◌+◌, ℕ, List, [], length, nat_eq, All, Option, Some, None, sum_by, unwrap_or, slice_index_or}
 use Rattle.std.specs.List.Sorted.{IsStrictlyIncreasing}
 use Rattle.std.specs.Map.{keys_of, lookup}
 
@@ -58,6 +58,11 @@ action_of table s t = unwrap_or (lookup (nat_eq t) (actions_at table s)) Fails
 -- where state s goes by rule r: the goto that is stored, if there is one
 unfoldable pub goto_of : Table → ℕ → ℕ → Option ℕ
 goto_of table s r = lookup (nat_eq r) (gotos_at table s)
+
+-- how many entries there are: the pairs of a state and a token with an action other than an error, and the pairs of a state
+-- and a rule with a goto
+abbrev pub entries_len : Table → ℕ
+entries_len table = sum_by (λ entries. length entries) table.actions + sum_by (λ entries. length entries) table.gotos
 
 -- the state of a shift, if it is one, is below `states`
 abbrev pub IsActionWithin : ℕ → TableAction → Type 0

@@ -1,5 +1,5 @@
 //! Rows of entries, laid out for a search of their keys.
-ghost use Rattle.std.specs.Prelude.{◌≡◌, ◌<◌, ◌≤◌, ◌+◌, ◌++◌, ℕ, [], List, IfOk, OnOk, MatchOption, Contains, length, map, slice_index, slice_index_or, slice_range, zip};
+ghost use Rattle.std.specs.Prelude.{◌≡◌, ◌<◌, ◌≤◌, ◌+◌, ◌++◌, ℕ, [], List, IfOk, OnOk, MatchOption, Contains, length, map, slice_index, slice_index_or, slice_range, sum_by, zip};
 ghost use Rattle.std.specs.List.Sorted.{IsStrictlyIncreasing};
 
 use lrpar_grammar::span::{RIdx, StorageNum, TIdx};
@@ -76,6 +76,13 @@ impl<K: Copy, V: Copy> Entries<K, V> {
         ensures { result ≡ length self.now }
     {
         self.starts.len() - 1
+    }
+
+    /// How many entries all rows have.
+    pub(crate) fn len(&self) -> usize
+        ensures { result ≡ sum_by (λ row. length row) self.now }
+    {
+        self.keys.len()
     }
 
     /// The keys of a row, and their values, in the same order.

@@ -3,7 +3,7 @@ ghost use Rattle.std.specs.Prelude.{◌≡◌, ◌^◌, Some, None};
 ghost use Rattle.lrpar_states.specs.Graph.{HasCore, HasItem, graph_len};
 ghost use Rattle.lrpar_states.specs.Rows.{AreRows, table_of};
 ghost use Rattle.lrpar_states.specs.Sum.{sum_graph, sum_rows, sum_table};
-ghost use Rattle.lrpar_states.specs.Table.{IsTable, ShiftTo, ReduceBy, Accepts, Fails, action_of, goto_of, states_len};
+ghost use Rattle.lrpar_states.specs.Table.{IsTable, ShiftTo, ReduceBy, Accepts, Fails, action_of, entries_len, goto_of, states_len};
 
 /// The small table of sums is one, so that `from_sparse` takes it.
 pub fn sum_table_is_table()
@@ -20,6 +20,7 @@ pub fn sum_rows_are_rows()
 /// What the small table of sums does, at one entry of each kind and out of range.
 pub fn sum_table_acts()
     ensures states { states_len sum_table ≡ 6 }
+    ensures entries { entries_len sum_table ≡ 12 }
     ensures shifts { action_of sum_table 4 1 ≡ ShiftTo 3 }
     ensures reduces { action_of sum_table 2 2 ≡ ReduceBy 1 }
     ensures accepts { action_of sum_table 1 2 ≡ Accepts }

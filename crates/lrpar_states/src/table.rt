@@ -4,7 +4,7 @@ ghost use Rattle.std.specs.List.Sorted.{IsStrictlyIncreasing};
 ghost use Rattle.std.specs.Map.{keys_of};
 ghost use Rattle.std.specs.Option.{option_map};
 ghost use Rattle.lrpar_states.specs.Rows.{AreRows, table_of};
-ghost use Rattle.lrpar_states.specs.Table.{TableAction, Fails, IsActionEntry, IsActionWithin, IsClosed, IsGotoEntry, IsGotoWithin, IsTable, action_of, actions_at, goto_of, gotos_at, states_len};
+ghost use Rattle.lrpar_states.specs.Table.{TableAction, Fails, IsActionEntry, IsActionWithin, IsClosed, IsGotoEntry, IsGotoWithin, IsTable, action_of, actions_at, entries_len, goto_of, gotos_at, states_len};
 ghost use Rattle.lrpar_states.specs.PlainRows.{action_entry, goto_entry, plain_action, plain_goto, plain_rows, sparse_table_of};
 ghost use Rattle.lrpar_states.specs.declared.fault.TableFault.{TableFault};
 
@@ -125,6 +125,14 @@ impl<StorageT: StorageNum> StateTable<StorageT> {
         ensures { option_map (λ conflicts. conflicts.now) result ≡ self.now.conflicts }
     {
         self.conflicts.as_ref()
+    }
+
+    /// How many entries there are: the pairs of a state and a token at which it doesn't find an error, and the pairs of a
+    /// state and a rule by which it goes anywhere.
+    pub fn entries(&self) -> u128
+        ensures { result ≡ entries_len self.now }
+    {
+        self.actions.len() as u128 + self.gotos.len() as u128
     }
 
     /// What state `s` does at token `t`. A search in the state's tokens.

@@ -5,7 +5,7 @@ use lrpar::ParserData;
 use lrpar::check::CheckFault;
 use lrpar::grammar::{GrammarParts, ProdPart, RulePart, TokenPart, YaccGrammar};
 use lrpar::span::{PIdx, RIdx, Span, StIdx, StorageNum, Symbol, TIdx};
-use lrpar::table::{Action, StateGraph, StateTable, TableRows};
+use lrpar::table::{Action, SparseRows, StateGraph, StateTable, TableRows};
 use std::alloc::Global;
 use std::test::Fail;
 
@@ -199,6 +199,45 @@ fn goto_at<S: StorageNum>(goto: Option<u8>) -> Result<Option<StIdx<S>>, Fail> {
 /// The rows of the table of sums.
 pub(crate) fn sum_rows<S: StorageNum>(alloc: Global) -> Result<TableRows<S>, Fail> {
     rows(alloc, &SUM_ACTIONS, &SUM_GOTOS)
+}
+
+/// What is stored of these rows.
+pub(crate) fn sparse<S: StorageNum>(
+    alloc: Global,
+    rows: &TableRows<S>,
+) -> Result<SparseRows<S>, Fail> {
+    let mut actions = Vec::new(alloc);
+    for row in &rows.actions {
+        let mut stored = Vec::new(alloc);
+        for (token, action) in (0u8..).zip(row) {
+            match action {
+                Action::Error => {}
+                Action::Shift(_) | Action::Reduce(_) | Action::Accept => {
+                    stored.push((TIdx(number(token)?), *action))?;
+                }
+            }
+        }
+        actions.push(stored)?;
+    }
+    let mut gotos = Vec::new(alloc);
+    for row in &rows.gotos {
+        let mut stored = Vec::new(alloc);
+        for (rule, goto) in (0u8..).zip(row) {
+            if let Some(state) = goto {
+                stored.push((RIdx(number(rule)?), *state))?;
+            }
+        }
+        gotos.push(stored)?;
+    }
+    Ok(SparseRows {
+        start: rows.start,
+        states: rows.actions.len(),
+        tokens: rows.tokens,
+        rules: rows.rules,
+        actions,
+        gotos,
+        conflicts: None,
+    })
 }
 
 /// An item by numbers: its state, its production, its dot and its lookahead.

@@ -1,17 +1,28 @@
 //! State tables.
-use crate::fixtures::{SUM_ACTIONS, SUM_GOTOS, X, rows, sum_rows};
+use crate::fixtures::{SUM_ACTIONS, SUM_GOTOS, X, rows, sparse, sum_rows};
 use lrpar::span::{PIdx, RIdx, StIdx, TIdx};
-use lrpar::table::{Action, Conflicts, StateTable, TableFault, TableRows};
+use lrpar::table::{Action, Conflicts, SparseRows, StateTable, TableFault, TableRows};
 use std::alloc::Global;
+use std::process::Abort;
 use std::test::Fail;
 
 #[test]
 fn entries_of_the_sum_table(rt: HostRuntime) -> Result<(), Fail> {
-    let table = StateTable::from_rows(rt.alloc(), sum_rows::<u8>(rt.alloc())?)?;
+    let alloc = rt.alloc();
+    let rows = sum_rows::<u8>(alloc)?;
+    let stored = StateTable::from_sparse(alloc, sparse(alloc, &rows)?)?;
+    has_sum_entries(&rt, &stored);
+    has_sum_entries(&rt, &StateTable::from_rows(alloc, rows)?);
+    Ok(())
+}
+
+// The table has what the table of sums has.
+fn has_sum_entries(rt: &impl Abort, table: &StateTable<u8>) {
     assert_eq!(rt; table.start_state(), StIdx(0));
     assert_eq!(rt; table.states_len(), 6);
     assert_eq!(rt; table.tokens_len(), 3);
     assert_eq!(rt; table.rules_len(), 3);
+    assert_eq!(rt; table.entries(), 12);
     assert!(rt; table.conflicts().is_none());
     for state in 0..6u8 {
         for number in 0..3u8 {
@@ -29,7 +40,12 @@ fn entries_of_the_sum_table(rt: HostRuntime) -> Result<(), Fail> {
             );
         }
     }
-    Ok(())
+    let (tokens, actions) = table.actions_of(StIdx(2));
+    assert_eq!(rt; tokens, [TIdx(0), TIdx(2)].as_slice());
+    assert_eq!(rt; actions, [SUM_ACTIONS[2][0], SUM_ACTIONS[2][2]].as_slice());
+    let (rules, states) = table.gotos_of(StIdx(4));
+    assert_eq!(rt; rules, [RIdx(1), RIdx(2)].as_slice());
+    assert_eq!(rt; states, [StIdx(5), StIdx(2)].as_slice());
 }
 
 #[test]
@@ -118,6 +134,101 @@ fn refused_rows(rt: HostRuntime) -> Result<(), Fail> {
     }
     let largest = StateTable::from_rows(alloc, bare_rows(alloc, 256)?)?;
     assert_eq!(rt; largest.states_len(), 256);
+    Ok(())
+}
+
+// One state with these actions and gotos, three tokens and three rules.
+fn one_state(
+    alloc: Global,
+    actions: &[(TIdx<u8>, Action<u8>)],
+    gotos: &[(RIdx<u8>, StIdx<u8>)],
+) -> Result<SparseRows<u8>, Fail> {
+    Ok(SparseRows {
+        start: StIdx(0),
+        states: 1,
+        tokens: 3,
+        rules: 3,
+        actions: vec![in alloc; Vec::from_slice(alloc, actions)?]?,
+        gotos: vec![in alloc; Vec::from_slice(alloc, gotos)?]?,
+        conflicts: None,
+    })
+}
+
+#[test]
+fn refused_sparse_rows(rt: HostRuntime) -> Result<(), Fail> {
+    let alloc = rt.alloc();
+    let shift = Action::Shift(StIdx(0));
+    let taken = one_state(alloc, &[(TIdx(0), shift), (TIdx(2), X)], &[])?;
+    let mut no_state = one_state(alloc, &[], &[])?;
+    no_state.states = 0;
+    let mut start_past = one_state(alloc, &[], &[])?;
+    start_past.start = StIdx(1);
+    let mut many_tokens = one_state(alloc, &[], &[])?;
+    many_tokens.tokens = 257;
+    let rows = [
+        ("a stored error", taken),
+        (
+            "a token twice",
+            one_state(alloc, &[(TIdx(1), shift), (TIdx(1), shift)], &[])?,
+        ),
+        (
+            "tokens that descend",
+            one_state(alloc, &[(TIdx(2), shift), (TIdx(1), shift)], &[])?,
+        ),
+        (
+            "a token out of range",
+            one_state(alloc, &[(TIdx(3), shift)], &[])?,
+        ),
+        (
+            "a shift out of range",
+            one_state(alloc, &[(TIdx(0), Action::Shift(StIdx(1)))], &[])?,
+        ),
+        (
+            "a rule twice",
+            one_state(alloc, &[], &[(RIdx(1), StIdx(0)), (RIdx(1), StIdx(0))])?,
+        ),
+        (
+            "a rule out of range",
+            one_state(alloc, &[], &[(RIdx(3), StIdx(0))])?,
+        ),
+        (
+            "a goto out of range",
+            one_state(alloc, &[], &[(RIdx(0), StIdx(1))])?,
+        ),
+        ("no state", no_state),
+        ("a start past the states", start_past),
+        ("257 tokens", many_tokens),
+    ];
+    for (name, rows) in rows {
+        match StateTable::from_sparse(alloc, rows) {
+            Ok(_) => return Err(Fail::new(format_args!("{name} is taken"))),
+            Err(fault) => assert_eq!(rt; fault, TableFault::BadIndex, "{name}"),
+        }
+    }
+    Ok(())
+}
+
+#[test]
+fn table_of_all_tokens(rt: HostRuntime) -> Result<(), Fail> {
+    let alloc = rt.alloc();
+    let last = TIdx(u32::MAX);
+    let shift = Action::Shift(StIdx(0));
+    let rows = SparseRows {
+        start: StIdx(0),
+        states: 1,
+        tokens: 4_294_967_296,
+        rules: 1,
+        actions: vec![in alloc; vec![in alloc; (last, shift)]?]?,
+        gotos: vec![in alloc; Vec::new(alloc)]?,
+        conflicts: None,
+    };
+    let table = StateTable::<u32>::from_sparse(alloc, rows)?;
+    if table.states_len() == 1 && table.tokens_len() == 4_294_967_296 {
+        assert_eq!(rt; table.action(StIdx(0), last), shift);
+        assert_eq!(rt; table.action(StIdx(0), TIdx(0)), Action::Error);
+    }
+    assert_eq!(rt; table.tokens_len(), 4_294_967_296);
+    assert_eq!(rt; table.entries(), 1);
     Ok(())
 }
 

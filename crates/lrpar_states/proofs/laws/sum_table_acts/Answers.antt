@@ -6,6 +6,7 @@ pub returns : goal.returns
 unfolding action_of goto_of
 returns c = record {
   states = refl;
+  entries = refl;
   shifts = refl;
   reduces = refl;
   accepts = refl;

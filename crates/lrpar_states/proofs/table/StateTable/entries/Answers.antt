@@ -1,0 +1,11 @@
+use Rattle.std.proofs.Common.{◌+◌, arith}
+use Rattle.lrpar_states.specs.PlainRows.{action_entry, goto_entry}
+use Rattle.lrpar_states.proofs.CutLemmas.{image_len}
+use Rattle.lrpar_states.proofs.table.StateTable.entries.Goals as goal
+
+pub returns : goal.returns
+returns g c =
+    let index = g.StorageT.StorageNum.index in
+    let actions = image_len (action_entry index) c.self.inside.actions in
+    let gotos = image_len (goto_entry index) c.self.inside.gotos in
+    rw (← c.self.view_is) (omega (arith, actions, gotos, c.len.ensures, c.len-2.ensures))
