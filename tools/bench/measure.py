@@ -48,12 +48,13 @@ def peer_nanoseconds(peer, mode, repetitions, table, lexemes):
 
 
 def by_turns(rounds, *calls):
-    """for each call what it gives in each round; a call that gives None is left out from then on"""
+    """for each call what it gives in each round; where the first gives None, the others aren't made"""
     given = [[] for _ in calls]
     for _ in range(rounds):
         for call, figures in zip(calls, given):
-            if None not in figures:
-                figures.append(call())
+            figures.append(call())
+            if given[0][0] is None:
+                return [[None] for _ in calls]
     return given
 
 
@@ -127,11 +128,11 @@ class Bench:
             row(grammar, "", ratio(*by_turns(self.words.rounds, *calls)))
 
     def tables(self):
-        print("\nTables: milliseconds, and the ratio to the program before")
+        print("\nTables: microseconds, and the ratio to the program before")
         for grammar in self.grammars:
             for mode in TABLES:
                 ours, old = self.ours_and_before(mode, 5, self.file(f"{grammar}.lrb"))
-                row(grammar, mode, middle(ours, 1e6), ratio(ours, old))
+                row(grammar, mode, middle(ours, 1e3), ratio(ours, old))
 
     def looks(self):
         print("\nLook-ups in rows of 64 entries: nanoseconds, those in dense rows, their ratio, and that to the program before")
@@ -149,14 +150,22 @@ class Bench:
             row("", "reader", size, taken and size * 1e3 / taken, ratio(ours, old))
 
     def counts(self):
-        print("\nInstructions and allocations a lexeme, ours and the peer's, at 10,000 lexemes")
-        row("grammar", "mode", "instructions", "peer", "allocations", "peer")
+        print("\nInstructions and allocations a lexeme, ours and the peer's")
+        row("grammar", "mode", "lexemes", "instructions", "peer", "before", "allocations", "peer")
         for grammar in self.grammars:
-            for mode, peers in PARSES.items():
-                files, peer_files = self.files(grammar, FEWEST), self.peer_files(grammar, FEWEST)
-                ours = counted(lambda repetitions: [self.words.program, mode, repetitions, *files])
-                peer = counted(lambda repetitions: [self.words.peer, *peer_files, "--reps", repetitions, "--modes", peers])
-                row(grammar, mode, *(it and it / FEWEST for pair in zip(ours, peer) for it in pair))
+            for mode in PARSES:
+                for count in (FEWEST, 10 * FEWEST):
+                    self.count(grammar, mode, count)
+
+    def count(self, grammar, mode, lexemes):
+        files, peer_files = self.files(grammar, lexemes), self.peer_files(grammar, lexemes)
+        ours = [self.words.program, mode], files
+        peer = [self.words.peer, *peer_files, "--modes", PARSES[mode], "--reps"], ()
+        before = [self.words.before, mode], files
+        instructions = [instructions_of(*it) for it in (ours, peer, before) if it[0][0]]
+        allocations = [allocations_of(*it) for it in (ours, peer)]
+        instructions += [None] * (3 - len(instructions))
+        row(grammar, mode, lexemes, *(it and it / lexemes for it in instructions + allocations))
 
     def peaks(self):
         print("\nPeaks of memory: bytes a lexeme, ours and the peer's, by what 1,000,000 lexemes take more than 10,000")
@@ -169,20 +178,24 @@ class Bench:
                 row(grammar, mode, *(None if None in it else (it[1] - it[0]) / (MOST - FEWEST) for it in (ours, peer)))
 
 
-def counted(words):
-    """the instructions and the allocations of one repetition: those of three less those of one, halved"""
-    tools = (("callgrind", r"Collected : (\d+)", ["--callgrind-out-file=/dev/null"]),
-             ("memcheck", r"total heap usage: ([\d,]+) allocs", ["--leak-check=no", "--undef-value-errors=no"]))
-    given = []
-    for tool, found, more in tools:
-        numbers = []
-        for repetitions in ("1", "3"):
-            ran = subprocess.run(["valgrind", f"--tool={tool}", *more, *words(repetitions)], capture_output=True, text=True)
-            if ran.returncode:
-                return None, None
-            numbers.append(int(re.search(found, ran.stderr)[1].replace(",", "")))
-        given.append((numbers[1] - numbers[0]) / 2)
-    return given
+def instructions_of(words, files):
+    return counted("callgrind", r"Collected : (\d+)", ["--callgrind-out-file=/dev/null"], words, files)
+
+
+def allocations_of(words, files):
+    return counted("memcheck", r"total heap usage: ([\d,]+) allocs", ["--leak-check=no", "--undef-value-errors=no"], words, files)
+
+
+def counted(tool, found, options, words, files):
+    """what valgrind counts in one repetition: the number of three less that of one, halved"""
+    numbers = []
+    for repetitions in ("1", "3"):
+        whole = ["valgrind", f"--tool={tool}", *options, *words, repetitions, *files]
+        ran = subprocess.run(whole, capture_output=True, text=True)
+        if ran.returncode:
+            return None
+        numbers.append(int(re.search(found, ran.stderr)[1].replace(",", "")))
+    return (numbers[1] - numbers[0]) / 2
 
 
 def peak(words):
