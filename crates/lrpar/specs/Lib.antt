@@ -1,4 +1,3 @@
-pub mod Lines
 pub mod Lexemes
 pub mod Failure
 pub mod FailureLaws

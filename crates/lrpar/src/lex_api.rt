@@ -3,7 +3,7 @@ ghost use Rattle.std.specs.Prelude.{◌≡◌, ◌+◌, ◌<◌, ◌^◌, ℕ, L
 ghost use Rattle.std.specs.Str.{IsCharBoundary};
 ghost use Rattle.lrpar_text.specs.Span.{Extent};
 ghost use Rattle.lrpar.specs.Lexemes.{LexemeParts, lexeme_parts};
-ghost use Rattle.lrpar.specs.Lines.{lines_of, line_of, column_of};
+ghost use Rattle.lrpar_text.specs.Lines.{lines_of, line_of, column_of};
 
 use lrpar_grammar::span::Span;
 use std::alloc::{AllocError, Global};

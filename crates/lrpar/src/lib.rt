@@ -12,7 +12,7 @@ mod stack;
 
 pub use errors::{LexParseError, ParseError, ParseRepair};
 pub use lex_api::{LexError, Lexeme, Lexer, LexerTypes, NonStreamingLexer};
-pub use lrpar_grammar::{grammar, span};
+pub use lrpar_grammar::{grammar, lines, span};
 pub use lrpar_table::check::ParserData;
 pub use lrpar_table::{check, table};
 pub use parser::RTParserBuilder;

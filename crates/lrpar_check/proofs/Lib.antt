@@ -6,3 +6,6 @@ pub mod ChainLemmas
 pub mod ChainTests
 pub mod StepLemmas
 pub mod SettleLemmas
+pub mod StackReductionLemmas
+pub mod OverlayLemmas
+pub mod OverSettleLemmas

@@ -1,30 +1,28 @@
 -- Reductions of a stack over a table that is checked: they keep it a stack, and none is left where a step makes none.
-use Rattle.std.proofs.Common.{◌≡◌, ◌<◌, ◌≤◌, ◌+◌, ◌*◌, ◌-◌, ◌∙◌, ◌⊎◌, inl, inr, refl, sym, subst, arith, ℕ, zero, suc, List, [], ◌∷◌, ◌++◌, length, take, Some, Result, Ok, Err, length-append}
+use Rattle.std.proofs.Common.{◌≡◌, ◌≢◌, ◌<◌, ◌≤◌, ◌+◌, ◌*◌, ◌-◌, ◌∙◌, ◌⊎◌, inl, inr, refl, sym, subst, arith, ℕ, zero, suc, List, [], ◌∷◌, ◌++◌, length, take, Some, Result, Ok, Err, length-append}
 use Rattle.std.proofs.lemmas.List.Elements.{All-cons, All-nil}
+use Rattle.std.proofs.lemmas.Option.{get_or_from_slice_get, slice_get_within}
 use Rattle.std.specs.List.{All}
 use Rattle.std.specs.Result.{OnErr}
 use Rattle.lrpar_grammar.specs.Grammar.{Grammar, IsWellFormed, prod_len, rule_of}
 use Rattle.lrpar_grammar.proofs.PartsLemmas.{rule_of_within}
-use Rattle.lrpar_check.specs.Chain.{IsBounded}
+use Rattle.lrpar_check.specs.Chain.{IsBounded, most_reductions}
 use Rattle.lrpar_check.specs.Checked.{Checked, IsChecked}
 use Rattle.lrpar_check.specs.Path.{NeverSticks}
 use Rattle.lrpar_check.specs.Reduction.{Reduces, ReducesBy, Settles, IsSettled, top_action, left_by, top_goto}
 use Rattle.lrpar_check.specs.Settled.{IsSettledBy}
 use Rattle.lrpar_check.specs.Stack.{AreJoined, IsJoined, IsStack, top_of}
-use Rattle.lrpar_check.specs.Step.{FitsGrammar, IsStep}
+use Rattle.lrpar_check.specs.StackReduction.{IsStackSettledBy, StackReducesBy}
+use Rattle.lrpar_check.specs.Step.{FitsGrammar, IsStackStep, IsStep}
 use Rattle.lrpar_states.specs.Table.{Table, ShiftTo, IsClosed, goto_of, states_len}
 use Rattle.lrpar_check.specs.declared.step.Step.{Step}
-use Rattle.lrpar_check.specs.declared.step.Step.TheVariants.{LeavesNone, Stays}
+use Rattle.lrpar_check.specs.declared.step.Step.TheVariants.{Reduced, LeavesNone, Stays}
 use Rattle.lrpar_check.proofs.PathLemmas.{last_of, top_is_last}
 use Rattle.lrpar_check.proofs.StackLemmas.{joined_within, stack_has_path}
+use Rattle.lrpar_check.proofs.StackReductionLemmas.{stack_reduces_more, states_reduce_by}
 use Rattle.lrpar_check.proofs.StepLemmas.{action_by_top, goto_by_top}
 
--- a stack has a state
-pub stack_some : (table : Table) (st : List ℕ) → IsStack table st → 0 < length st
-stack_some table [] stack = absurd stack
-stack_some table (s ∷ st) stack = omega arith
-
--- its states are of the table
+-- the states of a stack are of the table
 joined_states : (table : Table) → IsClosed table → (s : ℕ) (st : List ℕ) → s < states_len table → AreJoined table s st
     → All (λ s. s < states_len table) (s ∷ st)
 joined_states table closed s [] within joined = All-cons (λ s. s < states_len table) s [] within (All-nil (λ s. s < states_len table))
@@ -36,6 +34,13 @@ pub stack_states : (table : Table) → IsClosed table → (st : List ℕ) → Is
 stack_states table closed [] stack = absurd stack
 stack_states table closed (s ∷ st) stack =
     joined_states table closed s st (subst (λ (s : ℕ). s < states_len table) (sym stack.0) closed.start_within) stack.1
+
+-- so its top is
+pub stack_top_within : (table : Table) → IsClosed table → (st : List ℕ) (s : ℕ) → IsStack table st → top_of st ≡ Some s → s < states_len table
+stack_top_within table closed st s stack top =
+    let below = slice_get_within st (length st - 1) s top in
+    let read = get_or_from_slice_get st (length st - 1) s s top in
+    subst (λ (n : ℕ). n < states_len table) read (stack_states table closed st stack (length st - 1) s below)
 
 -- a state joined to the top makes it a stack again
 joined_top : (table : Table) (s : ℕ) (st : List ℕ) (next : ℕ) → AreJoined table s st → IsJoined table (last_of s st) next
@@ -59,25 +64,12 @@ stack_front table zero st stack some = absurd (omega arith)
 stack_front table (suc n) [] stack some = stack
 stack_front table (suc n) (s ∷ st) stack some = (stack.0, joined_front table s n st stack.1)
 
--- reductions, and one more
-pub reduces_by_more : (g : Grammar) (table : Table) (t : ℕ) (st prods mid : List ℕ) (p : ℕ) (after : List ℕ) → ReducesBy g table t st prods mid
-    → Reduces g table t mid p after → ReducesBy g table t st (prods ++ p ∷ []) after
-reduces_by_more g table t st [] mid p after same last = (after, subst (λ (s : List ℕ). Reduces g table t s p after) (sym same) last, refl)
-reduces_by_more g table t st (q ∷ prods) mid p after all last =
-    (all.0, all.1, reduces_by_more g table t all.0 prods mid p after all.2 last)
-
--- they are all, where the stack is settled
+-- reductions are all, where the stack is settled
 pub settles_at_end : (g : Grammar) (table : Table) (t : ℕ) (st prods after : List ℕ) → ReducesBy g table t st prods after → IsSettled table t after
     → Settles g table t st prods after
 settles_at_end g table t st [] after same settled = (same, subst (λ (s : List ℕ). IsSettled table t s) (sym same) settled)
 settles_at_end g table t st (p ∷ prods) after all settled =
     (all.0, all.1, settles_at_end g table t all.0 prods after all.2 settled)
-
--- and all reductions are some
-pub settles_reduces : (g : Grammar) (table : Table) (t : ℕ) (st prods after : List ℕ) → Settles g table t st prods after
-    → ReducesBy g table t st prods after
-settles_reduces g table t st [] after all = all.0
-settles_reduces g table t st (p ∷ prods) after all = (all.0, all.1, settles_reduces g table t all.0 prods after all.2)
 
 -- what is known of a checked table
 pub record IsRun (g : Grammar) (table : Table) (cap : ℕ) : Type 0 where
@@ -136,42 +128,61 @@ module _ (g : Grammar) (table : Table) (cap : ℕ) (run : IsRun g table cap) (t 
 
   -- reductions of a stack are bounded
   pub stack_bounds : (st prods after : List ℕ) → IsStack table st → ReducesBy g table t st prods after
-      → (length prods ≤ cap * length st) × (length prods + cap * length after ≤ cap * (length st + cap + 2))
+      → (length prods ≤ most_reductions cap (length st))
+      × (length prods + most_reductions cap (length after) ≤ most_reductions cap (length st + cap + 2))
   stack_bounds st prods after stack reduces =
       let path = stack_has_path table st stack in run.bounds path.0 st t prods after path.1 token reduces
 
-  -- where all reductions are made, that is told of the stack
-  pub settled_by : (st prods after : List ℕ) (count : ℕ) → IsStack table st → IsStack table after → ReducesBy g table t st prods after
-      → count ≡ length prods → IsSettled table t after → IsSettledBy g table cap t st count after
-  settled_by st prods after count stack stack_after reduces counted settled =
-      let bounds = stack_bounds st prods after stack reduces in
-      record {
-        prods = prods;
-        settles = settles_at_end g table t st prods after reduces settled;
-        counted = counted;
-        stack = stack_after;
-        by_height = bounds.0;
-        by_loss = bounds.1;
-      }
+  module _ {X : Type 0} (states : X → List ℕ) (reduces : X → ℕ → ℕ → ℕ → X → Type 0) where
+    -- a step is none but these
+    other_steps : (step : Step) → step ≢ Reduced → (step ≡ LeavesNone) ⊎ (step ≡ Stays)
+    other_steps Reduced not = absurd (not refl)
+    other_steps LeavesNone not = inl refl
+    other_steps Stays not = inr refl
 
-  -- where as many reductions are made as are bounded, no more are due
-  pub settled_at_bound : (st prods after : List ℕ) → IsStack table st → IsStack table after → ReducesBy g table t st prods after
-      → cap * length st ≤ length prods → IsSettled table t after
-  settled_at_bound st prods after stack stack_after reduces most p action =
-      let path = stack_has_path table after stack_after in
-      let along = run.runs.reduces path.0 after t p path.1 action in
-      let one_more = reduces_by_more g table t st prods after p along.after reduces along.reduces in
-      let bounds = stack_bounds st (prods ++ p ∷ []) along.after stack one_more in
-      omega (arith, bounds.0, most, length-append prods (p ∷ []))
+    stays_by_step : (mid new : X) (step : Step) → step ≢ Reduced → IsStackStep states reduces g table t mid step new → new ≡ mid
+    stays_by_step mid new Reduced not h = absurd (not refl)
+    stays_by_step mid new LeavesNone not h = h
+    stays_by_step mid new Stays not h = h
 
-  -- a step that makes no reduction ends them
-  pub settled_after : (st mid after prods : List ℕ) (count : ℕ) (step : Step) → IsStack table st → IsStack table mid
-      → ReducesBy g table t st prods mid → count ≡ length prods → (step ≡ LeavesNone) ⊎ (step ≡ Stays) → IsStep g table t mid step after
-      → IsSettledBy g table cap t st count after
-  settled_after st mid after prods count step stack stack_mid reduces counted is h =
-      let same = settled_by_step mid after step stack_mid is h in
-      let P : List ℕ → Type 0 = λ after. IsSettledBy g table cap t st count after in
-      subst P (sym same.0) (settled_by st prods mid count stack stack_mid reduces counted same.1)
+    -- a step that makes no reduction ends them
+    pub stack_settled_by : (old mid new : X) (prods : List ℕ) (count : ℕ) (step : Step) → IsStack table (states old) → IsStack table (states mid)
+        → StackReducesBy states reduces g table t old prods mid → count ≡ length prods → step ≢ Reduced
+        → IsStep g table t (states mid) step (states new) → IsStackStep states reduces g table t mid step new
+        → IsStackSettledBy states reduces g table cap t old count new
+    stack_settled_by old mid new prods count step stack_old stack_mid made counted not of_states of_stack =
+        let settled = settled_by_step (states mid) (states new) step stack_mid (other_steps step not) of_states in
+        let reduced = states_reduce_by states reduces g table t old prods mid made in
+        let bounds = stack_bounds (states old) prods (states mid) stack_old reduced in
+        let P : X → Type 0 = λ x. IsStackSettledBy states reduces g table cap t old count x in
+        subst P (sym (stays_by_step mid new step not of_stack)) (record {
+          of_states = record {
+            prods = prods;
+            settles = settles_at_end g table t (states old) prods (states mid) reduced settled.1;
+            counted = counted;
+            stack = stack_mid;
+            by_height = bounds.0;
+            by_loss = bounds.1;
+          };
+          by = made;
+        })
+
+    -- a step that makes a reduction makes one more of them, which the bound allows
+    pub stack_reduced_once : (old mid new : X) (prods : List ℕ) (step : Step) → IsStack table (states old) → IsStack table (states mid)
+        → StackReducesBy states reduces g table t old prods mid → step ≡ Reduced → IsStackStep states reduces g table t mid step new
+        → IsStack table (states new) × (length prods < most_reductions cap (length (states old)))
+        × ((more : List ℕ) × (length more ≡ length prods + 1) × StackReducesBy states reduces g table t old more new)
+    stack_reduced_once old mid new prods step stack_old stack_mid made is of_stack =
+        let one = subst (λ (s : Step). IsStackStep states reduces g table t mid s new) is of_stack in
+        let more = stack_reduces_more states reduces g table t old prods mid one.0 new made one.1 in
+        let counted : length (prods ++ one.0 ∷ []) ≡ length prods + 1 = length-append prods (one.0 ∷ []) in
+        let bounds =
+        stack_bounds (states old) (prods ++ one.0 ∷ []) (states new) stack_old
+        (states_reduce_by states reduces g table t old (prods ++ one.0 ∷ []) new more) in (
+          stack_reduced (states mid) one.0 (states new) stack_mid one.1.of_states,
+          omega (arith, bounds.0, counted),
+          (prods ++ one.0 ∷ [], counted, more),
+        )
 
 -- what holds whatever the result holds of its error
 pub on_err_always : {T E : Type 0} (r : Result T E) (Q : Type 0) → Q → OnErr r Q

@@ -1,59 +1,45 @@
 -- What one step makes of a list of states, and of the chain that goes on from them.
-use Rattle.std.proofs.Common.{◌≡◌, ◌<◌, ◌≤◌, ◌+◌, ◌-◌, ◌∙◌, ◌↔◌, ◌⊎◌, inl, inr, refl, sym, ap, subst, arith, ℕ, suc, List, [], ◌∷◌, ◌++◌, length, map, take, get_or, slice_get, Option, Some, None}
+use Rattle.std.proofs.Common.{◌≡◌, ◌<◌, ◌≤◌, ◌+◌, ◌-◌, ◌∙◌, ◌↔◌, ◌⊎◌, inl, inr, refl, sym, ap, subst, arith, ℕ, zero, suc, List, [], ◌∷◌, ◌++◌, length, map, take, get_or, slice_get, Option, Some, None, Result, Ok, Err}
 use Rattle.std.proofs.lemmas.List.{get_or-map, get_or-take, length-append, length-map, length-take-le, map-append, take-map}
 use Rattle.std.proofs.lemmas.List.Elements.{All-push, All-take}
 use Rattle.std.proofs.lemmas.Option.{none-some, slice_get-map, slice_get_read}
 use Rattle.std.specs.List.{All}
+use Rattle.std.specs.Result.{OnErr}
 use Rattle.std.specs.Option.{MatchOption, option_and_then, option_map, option_map_or}
 use Rattle.lrpar_grammar.specs.Grammar.{Grammar, prods_len, prod_len, rule_of}
 use Rattle.lrpar_check.specs.Chain.{DropsAll, HasReductions}
 use Rattle.lrpar_check.specs.Reduction.{Reduces, top_action, top_goto, left_by}
 use Rattle.lrpar_check.specs.Stack.{top_of}
-use Rattle.lrpar_check.specs.Step.{IsReduction, IsStep}
+use Rattle.lrpar_check.specs.StackReduction.{IsStepHeldUp}
+use Rattle.lrpar_check.specs.Step.{CanReduce, IsReduction, IsStep}
 use Rattle.lrpar_states.specs.Table.{Table, Fails, ReduceBy, IsClosed, action_of, goto_of, states_len}
 use Rattle.lrpar_check.specs.declared.step.Step.{Step}
 use Rattle.lrpar_check.specs.declared.step.Step.TheVariants.{Reduced, LeavesNone, Stays}
 use Rattle.lrpar_check.proofs.Reductions.{reduces_to_one}
 
--- an element that was read, of those that stand for numbers
-module _ {A : Type 0} (number : A → ℕ) where
-  -- has what holds of each number
-  pub number_within : (P : ℕ → Type 0) (xs : List A) (k : ℕ) (x : A) → k < length xs → x ≡ get_or xs k x → All P (map number xs) → P (number x)
-  number_within P xs k x below read all =
-      let many : k < length (map number xs) = rw length-map below in
-      subst P (get_or-map number xs k x (number x) below ∙ ap number (sym read)) (all k (number x) many)
+-- the lower elements stay where they are
+slice_get-take : (n i : ℕ) (st : List ℕ) → i < n → slice_get (take n st) i ≡ slice_get st i
+slice_get-take zero i st below = absurd (omega arith)
+slice_get-take (suc n) i [] below = refl
+slice_get-take (suc n) zero (s ∷ st) below = refl
+slice_get-take (suc n) (suc i) (s ∷ st) below = slice_get-take n i st (omega arith)
 
-  number_read : (xs : List A) (k : ℕ) (x : A) → k < length xs → x ≡ get_or xs k x → slice_get (map number xs) k ≡ Some (number x)
-  number_read xs k x below read =
-      slice_get-map number xs k ∙ ap (option_map number) (slice_get_read xs (length xs) k x refl below read)
+-- the top of what is left where some states are dropped
+pub top_of_left : (st : List ℕ) (count s : ℕ) → count < length st → slice_get st (length st - count - 1) ≡ Some s
+    → top_of (take (length st - count) st) ≡ Some s
+top_of_left st count s deep read =
+    let left : length (take (length st - count) st) ≡ length st - count = length-take-le (length st - count) st (omega arith) in
+    ap (λ (n : ℕ). slice_get (take (length st - count) st) (n - 1)) left
+    ∙ slice_get-take (length st - count) (length st - count - 1) st (omega arith) ∙ read
 
-  -- is the top, where it is the last
-  pub top_read : (xs : List A) (x : A) → 0 < length xs → x ≡ get_or xs (length xs - 1) x → top_of (map number xs) ≡ Some (number x)
-  top_read xs x some read =
-      ap (λ (n : ℕ). slice_get (map number xs) (n - 1)) (length-map xs number) ∙ number_read xs (length xs - 1) x (omega arith) read
-
-  -- the numbers of what a production leaves
-  left_numbers : (g : Grammar) (p : ℕ) (xs : List A) (left : ℕ) → left ≡ length xs - prod_len g p
-      → left_by g p (map number xs) ≡ map number (take left xs)
-  left_numbers g p xs left is =
-      ap (λ (n : ℕ). take (n - prod_len g p) (map number xs)) (length-map xs number)
-      ∙ ap (λ (n : ℕ). take n (map number xs)) (sym is) ∙ take-map number left xs
-
-  -- of that the last is the top
-  pub left_read : (g : Grammar) (p : ℕ) (xs : List A) (left : ℕ) (x : A) → 0 < left → left ≤ length xs → left ≡ length xs - prod_len g p
-      → x ≡ get_or xs (left - 1) x → top_of (left_by g p (map number xs)) ≡ Some (number x)
-  left_read g p xs left x some fits is read =
-      let many : length (take left xs) ≡ left = length-take-le left xs fits in
-      let last : x ≡ get_or (take left xs) (length (take left xs) - 1) x =
-      rw many (read ∙ sym (get_or-take left xs (left - 1) x (omega arith))) in
-      ap (λ (st : List ℕ). top_of st) (left_numbers g p xs left is) ∙ top_read (take left xs) x (omega (arith, many)) last
-
-  -- with one more on it
-  pub put_numbers : (g : Grammar) (p : ℕ) (xs : List A) (left : ℕ) (next : A) (after : List A) → left ≡ length xs - prod_len g p
-      → after ≡ take left xs ++ next ∷ [] → map number after ≡ left_by g p (map number xs) ++ number next ∷ []
-  put_numbers g p xs left next after is put =
-      ap (map number) put ∙ map-append number (take left xs) (next ∷ [])
-      ∙ ap (λ (st : List ℕ). st ++ number next ∷ []) (sym (left_numbers g p xs left is))
+-- some states that are put on the lower ones of a list stand for the numbers that are put on the lower ones of theirs
+pub put_states : {A : Type 0} (number : A → ℕ) (xs : List A) (left count : ℕ) (next : A) (after : List A) → left ≡ length xs - count
+    → after ≡ take left xs ++ next ∷ [] → map number after ≡ take (length (map number xs) - count) (map number xs) ++ number next ∷ []
+put_states number xs left count next after is put =
+    let same : left ≡ length (map number xs) - count = rw length-map is in
+    ap (map number) put ∙ map-append number (take left xs) (next ∷ [])
+    ∙ ap (λ (st : List ℕ). st ++ number next ∷ []) (sym (take-map number left xs))
+    ∙ ap (λ (n : ℕ). take n (map number xs) ++ number next ∷ []) same
 
 -- the action of a list of states is that of its top
 pub action_by_top : (table : Table) (t : ℕ) (st : List ℕ) (s : ℕ) → top_of st ≡ Some s → top_action table t st ≡ action_of table s t
@@ -62,6 +48,17 @@ action_by_top table t st s top = ap (λ (o : Option ℕ). option_map_or (λ s. a
 -- and so is its goto
 pub goto_by_top : (table : Table) (r : ℕ) (st : List ℕ) (s : ℕ) → top_of st ≡ Some s → top_goto table r st ≡ goto_of table s r
 goto_by_top table r st s top = ap (λ (o : Option ℕ). option_and_then (λ s. goto_of table s r) o) top
+
+-- so the goto that was read at the top of what is left is the goto of what is left
+pub goto_of_left : (g : Grammar) (table : Table) (p : ℕ) (st : List ℕ) (symbols height s r : ℕ) (goto : Option ℕ) → symbols ≡ prod_len g p
+    → height ≡ length st → symbols < height → slice_get st (height - symbols - 1) ≡ Some s → r ≡ rule_of g p → goto ≡ goto_of table s r
+    → (prod_len g p < length st) × (top_goto table (rule_of g p) (left_by g p st) ≡ goto)
+goto_of_left g table p st symbols height s r goto is_len is_height deep read is_rule is_goto =
+    let below : prod_len g p < length st = omega (arith, is_len, is_height, deep) in
+    let at : height - symbols - 1 ≡ length st - prod_len g p - 1 = omega (arith, is_len, is_height) in
+    let here : slice_get st (length st - prod_len g p - 1) ≡ Some s = rw at at read in
+    let top = top_of_left st (prod_len g p) s below here in
+    (below, goto_by_top table (rule_of g p) (left_by g p st) s top ∙ ap (goto_of table s) (sym is_rule) ∙ sym is_goto)
 
 -- a step is the reduction that is the top's action
 pub step_by_reduction : (g : Grammar) (table : Table) (t p : ℕ) (st : List ℕ) (step : Step) (after : List ℕ)
@@ -191,6 +188,19 @@ module _ (g : Grammar) (table : Table) (t : ℕ) (start : List ℕ) (cap : ℕ) 
       → IsStep g table t st step after → ¬ (HasReductions g table t start (cap + 1))
   remains_none st after made step remains end is h all =
       goes_on_stays g table t st after 0 (subst (λ (s : Step). IsStep g table t st s after) is h) ((remains 1 (omega arith)).0 all)
+
+-- a reduction that can be made, and is the top's action, is due
+pub held_up_at : {X T E : Type 0} (states : X → List ℕ) (fails : X → ℕ → X → Type 0) (g : Grammar) (table : Table) (t p : ℕ) (old new : X)
+    (r : Result T E) → top_action table t (states old) ≡ ReduceBy p → p < prods_len g → OnErr r (CanReduce g table p (states old))
+    → OnErr r (fails old (prod_len g p) new) → OnErr r (states new ≡ states old) → OnErr r (IsStepHeldUp states fails g table t old new)
+held_up_at states fails g table t p old new (Ok x) action known can rest stays = tt
+held_up_at states fails g table t p old new (Err e) action known can rest stays = record {
+  prod = p;
+  after = left_by g p (states old) ++ can.1.0 ∷ [];
+  due = record { action = action; known = known; deep = can.0; state = can.1.0; goto = can.1.1; pushed = refl };
+  stays = stays;
+  of_rest = rest;
+}
 
 -- what is said of an option without a value
 pub match_none : {A : Type 0} (o : Option A) (P : Type 0) (Q : A → Type 0) → ((x : A) → ¬ (o ≡ Some x)) → MatchOption o P Q → P

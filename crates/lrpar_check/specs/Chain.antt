@@ -31,13 +31,22 @@ IsLongChain g table cap s t = (st : List ℕ) × IsChainStart table s st × HasR
 abbrev pub AreChainsShort : Grammar → Table → ℕ → Type 0
 AreChainsShort g table cap = (s t : ℕ) → s < states_len table → t < table.tokens → ¬ (IsLongChain g table cap s t)
 
+-- at most so many reductions are made under one token, from a stack of this height
+abbrev pub most_reductions : ℕ → ℕ → ℕ
+most_reductions cap height = cap * height
+
+-- at most so many productions are reduced by in a parse of so many lexemes, each error counted as one
+abbrev pub most_productions : ℕ → ℕ → ℕ
+most_productions cap lexemes = cap * (cap + 3) * (lexemes + 1)
+
 -- At each token a stack makes at most `cap` reductions for each of its states; and at most `cap` for each state that it
 -- then has less, and for `cap + 2` more.
 abbrev pub IsBounded : Grammar → Table → ℕ → Type 0
 IsBounded g table cap =
     (symbols : List GrammarSymbol) (st : List ℕ) (t : ℕ) (prods after : List ℕ) → IsPath table symbols st → t < table.tokens
     → ReducesBy g table t st prods after
-    → (length prods ≤ cap * length st) × (length prods + cap * length after ≤ cap * (length st + cap + 2))
+    → (length prods ≤ most_reductions cap (length st))
+    × (length prods + most_reductions cap (length after) ≤ most_reductions cap (length st + cap + 2))
 
 -- over a table whose chains are short, reductions are bounded
 abbrev pub BoundsReductions : Type 0

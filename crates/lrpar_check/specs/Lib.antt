@@ -4,4 +4,6 @@ pub mod Path
 pub mod Chain
 pub mod Step
 pub mod Settled
+pub mod StackReduction
 pub mod Checked
+pub mod Overlay

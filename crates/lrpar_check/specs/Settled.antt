@@ -1,7 +1,8 @@
 -- What a stack comes to at a token.
-use Rattle.std.specs.Prelude.{◌≡◌, ◌≢◌, ◌≤◌, ◌+◌, ◌*◌, ℕ, List, Bool, true, false, length}
-use Rattle.lrpar_grammar.specs.Grammar.{Grammar}
-use Rattle.lrpar_check.specs.Reduction.{Settles, Feeds, top_action}
+use Rattle.std.specs.Prelude.{◌≡◌, ◌≢◌, ◌≤◌, ◌+◌, ℕ, List, Bool, true, false, length}
+use Rattle.lrpar_grammar.specs.Grammar.{Grammar, prod_len}
+use Rattle.lrpar_check.specs.Chain.{most_reductions}
+use Rattle.lrpar_check.specs.Reduction.{Reduces, ReducesBy, Settles, Feeds, top_action}
 use Rattle.lrpar_check.specs.Stack.{IsStack}
 use Rattle.lrpar_states.specs.Table.{Table, ShiftTo}
 
@@ -12,8 +13,8 @@ pub record IsSettledBy (g : Grammar) (table : Table) (cap t : ℕ) (st : List �
   pub settles : Settles g table t st prods after
   pub counted : count ≡ length prods
   pub stack : IsStack table after
-  pub by_height : length prods ≤ cap * length st
-  pub by_loss : length prods + cap * length after ≤ cap * (length st + cap + 2)
+  pub by_height : length prods ≤ most_reductions cap (length st)
+  pub by_loss : length prods + most_reductions cap (length after) ≤ most_reductions cap (length st + cap + 2)
 
 -- at token t the stack makes all reductions, and then shifts the token, which gives the stack `after`; or the top doesn't
 -- shift it
@@ -21,3 +22,23 @@ abbrev pub IsFedBy : Grammar → Table → ℕ → ℕ → List ℕ → Bool →
 IsFedBy g table cap t st true after = (prods : List ℕ) × Feeds g table t st prods after
 IsFedBy g table cap t st false after =
     ((count : ℕ) × IsSettledBy g table cap t st count after) × ((next : ℕ) → top_action table t after ≢ ShiftTo next)
+
+-- Memory was wanting for a list with room for so many states. At token t the stack makes some first reductions, which give
+-- the stack `after`; the next one is due, by a production without symbols; and `after` fills the room.
+pub record IsHeldUp (g : Grammar) (table : Table) (t : ℕ) (st : List ℕ) (room : ℕ) (after : List ℕ) : Type 0 where
+  pub prods : List ℕ
+  pub reduced : ReducesBy g table t st prods after
+  pub prod : ℕ
+  pub next : List ℕ
+  pub due : Reduces g table t after prod next
+  pub empty : prod_len g prod ≡ 0
+  pub full : room ≤ length after
+
+-- Memory was wanting for a list with room for so many states. At token t the stack makes all reductions, which give the
+-- stack `after`; its top shifts the token; and `after` fills the room.
+pub record IsShiftHeldUp (g : Grammar) (table : Table) (cap t : ℕ) (st : List ℕ) (room : ℕ) (after : List ℕ) : Type 0 where
+  pub count : ℕ
+  pub settled : IsSettledBy g table cap t st count after
+  pub next : ℕ
+  pub due : top_action table t after ≡ ShiftTo next
+  pub full : room ≤ length after

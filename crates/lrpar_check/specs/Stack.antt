@@ -1,5 +1,6 @@
 -- Stacks of states, bottom first.
-use Rattle.std.specs.Prelude.{◌≡◌, ◌<◌, ◌-◌, ◌⊎◌, ℕ, List, [], ◌∷◌, length, slice_get, Option, Some}
+use Rattle.std.specs.Prelude.{◌≡◌, ◌<◌, ◌-◌, ◌⊎◌, ℕ, List, [], ◌∷◌, length, map, slice_get, Option, Some}
+use Rattle.lrpar_text.specs.declared.span.StIdx.{StIdx}
 use Rattle.lrpar_states.specs.Table.{Table, ShiftTo, action_of, goto_of}
 
 -- a shift or a goto leads from state s to state next
@@ -20,3 +21,7 @@ IsStack table (s ∷ st) = (s ≡ table.start) × AreJoined table s st
 -- the top of a stack
 abbrev pub top_of : List ℕ → Option ℕ
 top_of st = slice_get st (length st - 1)
+
+-- the numbers of these states
+abbrev pub states_of : {S : Type 0} → (S → ℕ) → List (StIdx S) → List ℕ
+states_of index states = map (λ x. index x.0) states

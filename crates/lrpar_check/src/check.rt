@@ -10,6 +10,7 @@ ghost use Rattle.lrpar_check.specs.declared.fault.CheckFault.TheVariants.{Memory
 
 use crate::chains::Chains;
 pub use crate::fault::CheckFault;
+pub use crate::overlay::Overlay;
 use crate::safety::Parts;
 use lrpar_grammar::grammar::YaccGrammar;
 use lrpar_grammar::span::StorageNum;
@@ -106,8 +107,7 @@ impl<StorageT: StorageNum> ParserData<StorageT> {
 
     /// The cap.
     pub fn cap(&self) -> u16
-        ensures cap { result ≡ self.now.cap }
-        ensures bounds { IsBounded self.now.grammar self.now.table self.now.cap }
+        ensures { result ≡ self.now.cap }
     {
         self.cap
     }

@@ -6,7 +6,7 @@ ghost use Rattle.lrpar_check.specs.Path.{CheckedRunsNeverStick, IsPath};
 ghost use Rattle.lrpar_check.specs.Reduction.{SettlesOneWay, Settles};
 ghost use Rattle.lrpar_check.specs.Stack.{IsStack};
 ghost use Rattle.lrpar_states.specs.Sum.{sum_grammar, sum_graph, sum_table};
-ghost use Rattle.lrpar_states.specs.Table.{AreRows, Table, ShiftTo, ReduceBy, Accepts, Fails, action_of, goto_of, states_len};
+ghost use Rattle.lrpar_states.specs.Table.{Table, ShiftTo, ReduceBy, Accepts, Fails, action_of, goto_of, states_len};
 
 /// From a stack, under a token, there is at most one list of reductions after which none is left, and one stack that
 /// they give.

@@ -1,81 +1,188 @@
 //! What a stack of states does at a token: its reductions, and the shift after them.
-ghost use Rattle.std.specs.Prelude.{◌≡◌, ◌<◌, ℕ, List, IfOk, OnErr, map};
-ghost use Rattle.lrpar_check.specs.Reduction.{ReducesBy};
-ghost use Rattle.lrpar_check.specs.Settled.{IsFedBy, IsSettledBy};
-ghost use Rattle.lrpar_check.specs.Stack.{IsStack};
+ghost use Rattle.std.specs.Prelude.{◌<◌, ◌⊎◌, IfOk, OnOk, OnErr, vec_capacity};
+ghost use Rattle.lrpar_check.specs.Overlay.{IsFedOver, IsHeldUpOver, IsSettledOver, IsShiftHeldUpOver, overlaid};
+ghost use Rattle.lrpar_check.specs.Settled.{IsFedBy, IsHeldUp, IsSettledBy, IsShiftHeldUp};
+ghost use Rattle.lrpar_check.specs.Stack.{IsStack, states_of};
+ghost use Rattle.lrpar_check.specs.StackReduction.{IsStackFedBy, IsStackHeldUp, IsStackSettledBy, IsStackShiftHeldUp};
 
 use crate::check::ParserData;
+use crate::overlay::Overlay;
+use crate::stack::{ShiftStack, StateStack};
 use crate::step::{Step, take_step};
 use lrpar_grammar::span::{StIdx, StorageNum, TIdx};
 use lrpar_states::table::Action;
 use std::alloc::AllocError;
 
 impl<StorageT: StorageNum> ParserData<StorageT> {
+    /// Makes all reductions of a stack of any kind under the token, and answers how many these were. Internal: `settle`
+    /// and `settle_over`, and the run of the crate above, are this.
+    ///
+    /// At most the cap for each state of the stack, each with one action and one goto.
+    pub fn settle_on<S: StateStack<StorageT>>(
+        &self,
+        stack: &mut S,
+        t: TIdx<StorageT>,
+    ) -> Result<u128, AllocError>
+        requires can { S.can_reduce stack.old }
+        requires stack { IsStack self.now.table (S.states stack.old) }
+        requires token { StorageT.index t.0 < self.now.table.tokens }
+
+        // All reductions were made, of the states and of the rest; their number is told and bounded.
+        ensures settled { IfOk result (λ count. IsStackSettledBy S.states S.reduces self.now.grammar self.now.table self.now.cap (StorageT.index t.0)
+            stack.old count stack.new) }
+        ensures can { OnOk result (S.can_reduce stack.new) }
+
+        // Some first reductions were made, and for the next one memory was wanting.
+        ensures held_up { OnErr result (IsStackHeldUp S.states S.reduces S.fails self.now.grammar self.now.table (StorageT.index t.0) stack.old stack.new) }
+
+        // It is a stack in either case.
+        ensures stack { IsStack self.now.table (S.states stack.new) }
+    {
+        let (grm, table) = (self.grm(), self.stable());
+        // At most the one for each of the other: the number of reductions fits.
+        let (_cap, _height) = (self.cap(), stack.height());
+        let mut count = 0;
+        'reductions: while let Step::Reduced = take_step(grm, table, stack, t)? {
+            count += 1;
+        }
+        Ok(count)
+    }
+
     /// Makes all reductions of the stack, bottom first, under the token, and answers how many these were.
     ///
-    /// At most the cap for each state of the stack. Memory is wanted only by a reduction of no symbols; where it was
-    /// wanting, the stack is what the reductions before that one give.
+    /// At most the cap for each state of the stack. Memory is wanted only by a reduction of no symbols, on a list that is
+    /// full; where it was wanting, the stack is what the reductions before that one give.
     pub fn settle(
         &self,
         stack: &mut Vec<StIdx<StorageT>>,
         t: TIdx<StorageT>,
     ) -> Result<u128, AllocError>
-        requires stack { IsStack self.now.table (map (λ x. StorageT.index x.0) stack.old.items) }
+        requires stack { IsStack self.now.table (states_of StorageT.index stack.old.items) }
         requires token { StorageT.index t.0 < self.now.table.tokens }
 
         // All reductions were made; their number is told and bounded.
         ensures settled { IfOk result (λ count. IsSettledBy self.now.grammar self.now.table self.now.cap (StorageT.index t.0)
-            (map (λ x. StorageT.index x.0) stack.old.items) count (map (λ x. StorageT.index x.0) stack.new.items)) }
+            (states_of StorageT.index stack.old.items) count (states_of StorageT.index stack.new.items)) }
 
-        // Some first reductions were made.
-        ensures reduced { OnErr result ((prods : List ℕ) × ReducesBy self.now.grammar self.now.table (StorageT.index t.0)
-            (map (λ x. StorageT.index x.0) stack.old.items) prods (map (λ x. StorageT.index x.0) stack.new.items)) }
+        // Some first reductions were made, and the next one would make the list longer than it can be.
+        ensures held_up { OnErr result (IsHeldUp self.now.grammar self.now.table (StorageT.index t.0)
+            (states_of StorageT.index stack.old.items) (vec_capacity stack.old) (states_of StorageT.index stack.new.items)) }
 
         // It is a stack in either case.
-        ensures stack { IsStack self.now.table (map (λ x. StorageT.index x.0) stack.new.items) }
+        ensures stack { IsStack self.now.table (states_of StorageT.index stack.new.items) }
     {
-        let (grm, table) = (self.grm(), self.stable());
-        let most = u128::from(self.cap()) * stack.len() as u128;
-        for count in 0..most {
-            match take_step(grm, table, stack, t)? {
-                Step::Reduced => {}
-                Step::LeavesNone | Step::Stays => return Ok(count),
+        self.settle_on(stack, t)
+    }
+
+    /// As `settle`, over an overlay, whose base stays as it is.
+    ///
+    /// Memory is wanted only by a reduction that makes the tail longer, where that is full. `kept` is then that of the
+    /// reductions that were made.
+    pub fn settle_over(
+        &self,
+        stack: &mut Overlay<'_, StorageT>,
+        t: TIdx<StorageT>,
+    ) -> Result<u128, AllocError>
+        requires stack { IsStack self.now.table (overlaid stack.old) }
+        requires token { StorageT.index t.0 < self.now.table.tokens }
+
+        // All reductions were made; their number is told and bounded.
+        ensures settled { IfOk result (λ count. IsSettledOver self.now.grammar self.now.table self.now.cap (StorageT.index t.0) stack.old count stack.new) }
+
+        // Some first reductions were made, and the next one would make the tail longer than it can be.
+        ensures held_up { OnErr result (IsHeldUpOver self.now.grammar self.now.table (StorageT.index t.0) stack.old stack.new) }
+
+        // It is a stack in either case.
+        ensures stack { IsStack self.now.table (overlaid stack.new) }
+    {
+        self.settle_on(stack, t)
+    }
+
+    /// Makes all reductions of a stack of any kind under the token, and then shifts the token, if the top state does;
+    /// answers whether it did. Internal: `feed` and `feed_over` are this.
+    pub fn feed_on<S: ShiftStack<StorageT>>(
+        &self,
+        stack: &mut S,
+        t: TIdx<StorageT>,
+    ) -> Result<bool, AllocError>
+        requires can { S.can_reduce stack.old }
+        requires stack { IsStack self.now.table (S.states stack.old) }
+        requires token { StorageT.index t.0 < self.now.table.tokens }
+
+        // The token was shifted after all reductions, or the top doesn't shift it.
+        ensures fed { IfOk result (λ shifted. IsStackFedBy S.states S.reduces S.shifts self.now.grammar self.now.table self.now.cap (StorageT.index t.0)
+            stack.old shifted stack.new) }
+
+        // Memory was wanting for a reduction, or for the shift after all of them.
+        ensures held_up { OnErr result (
+            IsStackHeldUp S.states S.reduces S.fails self.now.grammar self.now.table (StorageT.index t.0) stack.old stack.new
+            ⊎ IsStackShiftHeldUp S.states S.reduces S.shift_fails self.now.grammar self.now.table self.now.cap (StorageT.index t.0) stack.old stack.new) }
+
+        // It is a stack in each case.
+        ensures stack { IsStack self.now.table (S.states stack.new) }
+    {
+        self.settle_on(stack, t)?;
+        match self.stable().action(stack.top(), t) {
+            Action::Shift(next) => {
+                stack.shift(next)?;
+                Ok(true)
             }
+            Action::Reduce(_) | Action::Accept | Action::Error => Ok(false),
         }
-        Ok(most)
     }
 
     /// Makes all reductions of the stack, bottom first, under the token, and then shifts the token, if the top state
     /// does; answers whether it did.
     ///
-    /// Where it didn't, the reductions stay made. Where memory was wanting, the stack is what some first reductions give.
+    /// Where it didn't, the reductions stay made. Memory is wanted by a reduction of no symbols and by the shift, on a list
+    /// that is full; where it was wanting, the stack is what the reductions before that give.
     pub fn feed(
         &self,
         stack: &mut Vec<StIdx<StorageT>>,
         t: TIdx<StorageT>,
     ) -> Result<bool, AllocError>
-        requires stack { IsStack self.now.table (map (λ x. StorageT.index x.0) stack.old.items) }
+        requires stack { IsStack self.now.table (states_of StorageT.index stack.old.items) }
         requires token { StorageT.index t.0 < self.now.table.tokens }
 
         // The token was shifted after all reductions, or the top doesn't shift it.
         ensures fed { IfOk result (λ shifted. IsFedBy self.now.grammar self.now.table self.now.cap (StorageT.index t.0)
-            (map (λ x. StorageT.index x.0) stack.old.items) shifted (map (λ x. StorageT.index x.0) stack.new.items)) }
+            (states_of StorageT.index stack.old.items) shifted (states_of StorageT.index stack.new.items)) }
 
-        // Some first reductions were made.
-        ensures reduced { OnErr result ((prods : List ℕ) × ReducesBy self.now.grammar self.now.table (StorageT.index t.0)
-            (map (λ x. StorageT.index x.0) stack.old.items) prods (map (λ x. StorageT.index x.0) stack.new.items)) }
+        // The next reduction, or the shift after all of them, would make the list longer than it can be.
+        ensures held_up { OnErr result (
+            IsHeldUp self.now.grammar self.now.table (StorageT.index t.0)
+            (states_of StorageT.index stack.old.items) (vec_capacity stack.old) (states_of StorageT.index stack.new.items)
+            ⊎ IsShiftHeldUp self.now.grammar self.now.table self.now.cap (StorageT.index t.0)
+            (states_of StorageT.index stack.old.items) (vec_capacity stack.old) (states_of StorageT.index stack.new.items)) }
 
         // It is a stack in each case.
-        ensures stack { IsStack self.now.table (map (λ x. StorageT.index x.0) stack.new.items) }
+        ensures stack { IsStack self.now.table (states_of StorageT.index stack.new.items) }
     {
-        self.settle(stack, t)?;
-        let top = stack[stack.len() - 1];
-        match self.stable().action(top, t) {
-            Action::Shift(next) => {
-                stack.push(next)?;
-                Ok(true)
-            }
-            Action::Reduce(_) | Action::Accept | Action::Error => Ok(false),
-        }
+        self.feed_on(stack, t)
+    }
+
+    /// As `feed`, over an overlay, whose base stays as it is.
+    ///
+    /// Memory is wanted only by a reduction that makes the tail longer and by the shift, where the tail is full. `kept` is
+    /// then that of the reductions that were made.
+    pub fn feed_over(
+        &self,
+        stack: &mut Overlay<'_, StorageT>,
+        t: TIdx<StorageT>,
+    ) -> Result<bool, AllocError>
+        requires stack { IsStack self.now.table (overlaid stack.old) }
+        requires token { StorageT.index t.0 < self.now.table.tokens }
+
+        // The token was shifted after all reductions, or the top doesn't shift it.
+        ensures fed { IfOk result (λ shifted. IsFedOver self.now.grammar self.now.table self.now.cap (StorageT.index t.0) stack.old shifted stack.new) }
+
+        // The next reduction, or the shift after all of them, would make the tail longer than it can be.
+        ensures held_up { OnErr result (IsHeldUpOver self.now.grammar self.now.table (StorageT.index t.0) stack.old stack.new
+            ⊎ IsShiftHeldUpOver self.now.grammar self.now.table self.now.cap (StorageT.index t.0) stack.old stack.new) }
+
+        // It is a stack in each case.
+        ensures stack { IsStack self.now.table (overlaid stack.new) }
+    {
+        self.feed_on(stack, t)
     }
 }

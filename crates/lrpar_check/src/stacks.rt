@@ -1,6 +1,6 @@
 //! Stacks of states: whether a list of states is one of a table.
-ghost use Rattle.std.specs.Prelude.{◌≡◌, ◌<◌, ◌↔◌, ℕ, IsTrue, Some, map};
-ghost use Rattle.lrpar_check.specs.Stack.{AreJoined, IsJoined, IsStack};
+ghost use Rattle.std.specs.Prelude.{◌≡◌, ◌<◌, ◌↔◌, ℕ, IsTrue, Some};
+ghost use Rattle.lrpar_check.specs.Stack.{AreJoined, IsJoined, IsStack, states_of};
 ghost use Rattle.lrpar_states.specs.Table.{ShiftTo, IsClosed, action_of, goto_of, states_len};
 
 use crate::check::ParserData;
@@ -13,7 +13,7 @@ impl<StorageT: StorageNum> ParserData<StorageT> {
     ///
     /// Takes no memory. Reads at most the two rows of each state but the top.
     pub fn is_stack(&self, stack: &[StIdx<StorageT>]) -> bool
-        ensures { IsTrue result ↔ IsStack self.now.table (map (λ x. StorageT.index x.0) stack.now) }
+        ensures { IsTrue result ↔ IsStack self.now.table (states_of StorageT.index stack.now) }
     {
         is_stack_of(self.stable(), stack)
     }
@@ -25,7 +25,7 @@ fn is_stack_of<StorageT: StorageNum>(
     stack: &[StIdx<StorageT>],
 ) -> bool
     requires { IsClosed table.now }
-    ensures { IsTrue result ↔ IsStack table.now (map (λ x. StorageT.index x.0) stack.now) }
+    ensures { IsTrue result ↔ IsStack table.now (states_of StorageT.index stack.now) }
 {
     match stack.split_first() {
         None => false,
@@ -44,7 +44,7 @@ fn are_joined<StorageT: StorageNum>(
 ) -> bool
     requires closed { IsClosed table.now }
     requires state { StorageT.index bottom.0 < states_len table.now }
-    ensures { IsTrue result ↔ AreJoined table.now (StorageT.index bottom.0) (map (λ x. StorageT.index x.0) above.now) }
+    ensures { IsTrue result ↔ AreJoined table.now (StorageT.index bottom.0) (states_of StorageT.index above.now) }
 {
     let mut below = bottom;
     for next in above {

@@ -1,11 +1,13 @@
 //! One step at a token, over any list of states, be it a stack or the states of a chain.
-ghost use Rattle.std.specs.Prelude.{◌≡◌, ◌<◌, ◌≤◌, ◌++◌, [], ◌∷◌, All, IfOk, OnOk, OnErr, length, map, take};
-ghost use Rattle.lrpar_grammar.specs.Grammar.{prods_len, rules_len};
-ghost use Rattle.lrpar_check.specs.Step.{FitsGrammar, IsReduction, IsStep};
+ghost use Rattle.std.specs.Prelude.{◌≡◌, ◌<◌, All, IfOk, OnOk, OnErr, length};
+ghost use Rattle.lrpar_grammar.specs.Grammar.{prods_len, prod_len, rules_len};
+ghost use Rattle.lrpar_check.specs.StackReduction.{IsStepHeldUp};
+ghost use Rattle.lrpar_check.specs.Step.{CanReduce, FitsGrammar, IsReduction, IsRestOf, IsStackStep, IsStep};
 ghost use Rattle.lrpar_states.specs.Table.{states_len};
 
+use crate::stack::{Reduction, StateStack};
 use lrpar_grammar::grammar::YaccGrammar;
-use lrpar_grammar::span::{PIdx, StIdx, StorageNum, TIdx};
+use lrpar_grammar::span::{PIdx, StorageNum, TIdx};
 use lrpar_states::table::{Action, StateTable};
 use std::alloc::AllocError;
 
@@ -22,72 +24,62 @@ pub(crate) enum Step {
 
 /// Makes one reduction under the token, if it leaves a state that has the goto. Otherwise, and where memory was wanting,
 /// the states stay as they were.
-pub(crate) fn take_step<StorageT: StorageNum>(
+pub(crate) fn take_step<StorageT: StorageNum, S: StateStack<StorageT>>(
     grm: &YaccGrammar<StorageT>,
     table: &StateTable<StorageT>,
-    states: &mut Vec<StIdx<StorageT>>,
+    states: &mut S,
     t: TIdx<StorageT>,
 ) -> Result<Step, AllocError>
     requires fits { FitsGrammar grm.now table.now }
     requires token { StorageT.index t.0 < table.now.tokens }
-    requires some { 0 < length states.old.items }
-    requires within { All (λ s. s < states_len table.now) (map (λ x. StorageT.index x.0) states.old.items) }
-    ensures step { IfOk result (λ step. IsStep grm.now table.now (StorageT.index t.0)
-        (map (λ x. StorageT.index x.0) states.old.items) step (map (λ x. StorageT.index x.0) states.new.items)) }
-    ensures unchanged { OnErr result (states.new.items ≡ states.old.items) }
+    requires can { S.can_reduce states.old }
+    requires some { 0 < length (S.states states.old) }
+    requires within { All (λ s. s < states_len table.now) (S.states states.old) }
+    ensures step { IfOk result (λ step. IsStep grm.now table.now (StorageT.index t.0) (S.states states.old) step (S.states states.new)) }
+    ensures made { IfOk result (λ step. IsStackStep S.states S.reduces grm.now table.now (StorageT.index t.0) states.old step states.new) }
+    ensures can { OnOk result (S.can_reduce states.new) }
+    ensures held_up { OnErr result (IsStepHeldUp S.states S.fails grm.now table.now (StorageT.index t.0) states.old states.new) }
 {
-    let top = states[states.len() - 1];
-    match table.action(top, t) {
-        Action::Reduce(pidx) => reduce(grm, table, states, pidx),
+    match table.action(states.top(), t) {
+        Action::Reduce(prod) => reduce_by(grm, table, states, prod),
         Action::Shift(_) | Action::Accept | Action::Error => Ok(Step::Stays),
     }
 }
 
 // Reduces the states by the production, if it leaves a state that has the goto.
-fn reduce<StorageT: StorageNum>(
+fn reduce_by<StorageT: StorageNum, S: StateStack<StorageT>>(
     grm: &YaccGrammar<StorageT>,
     table: &StateTable<StorageT>,
-    states: &mut Vec<StIdx<StorageT>>,
-    pidx: PIdx<StorageT>,
+    states: &mut S,
+    prod: PIdx<StorageT>,
 ) -> Result<Step, AllocError>
     requires rules { table.now.rules ≡ rules_len grm.now }
-    requires prod { StorageT.index pidx.0 < prods_len grm.now }
-    requires within { All (λ s. s < states_len table.now) (map (λ x. StorageT.index x.0) states.old.items) }
-    ensures reduction { IfOk result (λ step. IsReduction grm.now table.now (StorageT.index pidx.0)
-        (map (λ x. StorageT.index x.0) states.old.items) step (map (λ x. StorageT.index x.0) states.new.items)) }
-    ensures unchanged { OnErr result (states.new.items ≡ states.old.items) }
+    requires prod { StorageT.index prod.0 < prods_len grm.now }
+    requires can { S.can_reduce states.old }
+    requires within { All (λ s. s < states_len table.now) (S.states states.old) }
+    ensures reduction { IfOk result (λ step. IsReduction grm.now table.now (StorageT.index prod.0) (S.states states.old) step (S.states states.new)) }
+    ensures rest { IfOk result (λ step. IsRestOf S.reduces grm.now (StorageT.index prod.0) states.old step states.new) }
+    ensures can { OnOk result (S.can_reduce states.new) }
+    ensures due { OnErr result (CanReduce grm.now table.now (StorageT.index prod.0) (S.states states.old)) }
+    ensures fails { OnErr result (S.fails states.old (prod_len grm.now (StorageT.index prod.0)) states.new) }
+    ensures unchanged { OnErr result (S.states states.new ≡ S.states states.old) }
 {
-    let count = grm.prod(pidx).len();
-    let height = states.len();
-    if height <= count {
+    let symbols = grm.prod(prod).len();
+    let height = states.height();
+    if height <= symbols {
         return Ok(Step::LeavesNone);
     }
-    let left = height - count;
-    let base = states[left - 1];
-    match table.goto(base, grm.prod_to_rule(pidx)) {
+    let rule = grm.prod_to_rule(prod);
+    match table.goto(states.state_at(height - symbols - 1), rule) {
         None => Ok(Step::Stays),
         Some(next) => {
-            put_at(states, left, next)?;
+            states.reduce(Reduction {
+                prod,
+                rule,
+                symbols,
+                next,
+            })?;
             Ok(Step::Reduced)
         }
     }
-}
-
-// Puts a state on the first `left` states, and drops those above.
-fn put_at<StorageT: StorageNum>(
-    states: &mut Vec<StIdx<StorageT>>,
-    left: usize,
-    next: StIdx<StorageT>,
-) -> Result<(), AllocError>
-    requires { left ≤ length states.old.items }
-    ensures put { OnOk result (states.new.items ≡ take left states.old.items ++ next ∷ []) }
-    ensures unchanged { OnErr result (states.new.items ≡ states.old.items) }
-{
-    if left == states.len() {
-        states.push(next)?;
-    } else {
-        states.truncate(left + 1);
-        states[left] = next;
-    }
-    Ok(())
 }

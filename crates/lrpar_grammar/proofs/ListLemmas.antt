@@ -1,7 +1,7 @@
 -- Lemmas on lists that std lacks.
-use Rattle.std.proofs.Common.{◌≡◌, ◌<◌, ◌+◌, ◌-◌, ℕ, zero, suc, Bool, cond, not, ltb, Some, None, refl, List, [], ◌∷◌, ◌++◌, length, map, take, get_or, subst, sym, ap, ◌∙◌, arith}
+use Rattle.std.proofs.Common.{◌≡◌, ◌<◌, ◌+◌, ◌-◌, ℕ, zero, suc, Bool, cond, not, ltb, Some, None, refl, List, [], ◌∷◌, ◌++◌, length, map, take, get_or, subst, sym, ap, zero-add, ◌≤◌, ◌∙◌, arith}
 use Rattle.std.specs.List.{All, range_with_len, position, prefix_len}
-use Rattle.std.proofs.lemmas.List.{get_or-map, length-map, take_more, map-append}
+use Rattle.std.proofs.lemmas.List.{get_or-map, length-map, take_all, take_more, map-append}
 
 -- what holds of each member of a mapped list holds of what each member is mapped to
 pub All-map-at : {X Y : Type 0} (P : Y → Type 0) (f : X → Y) (xs : List X) → All P (map f xs) → (k : ℕ) (d : X) → k < length xs → P (f (get_or xs k d))
@@ -18,6 +18,43 @@ pub map-take_more : {X Y : Type 0} (f : X → Y) (xs : List X) (i : ℕ) (x : X)
 map-take_more f xs i x within is =
     ap (map f) (take_more xs i x within ∙ ap (λ y. take i xs ++ y ∷ []) (sym is)) ∙ map-append f (take i xs) (x ∷ [])
 
+-- a list that follows another one, one member more
+pub follows_more : {X Y Z : Type 0} (f : X → Z) (h : Y → Z) (items : List Y) (i : ℕ) (item : Y) (made pushed : List X) (x : X)
+    → i < length items → item ≡ get_or items i item → map f made ≡ map h (take i items) → pushed ≡ made ++ x ∷ [] → f x ≡ h item
+    → map f pushed ≡ map h (take (i + 1) items)
+follows_more f h items i item made pushed x within is so_far more same =
+    ap (map f) more ∙ map-append f made (x ∷ []) ∙ ap (λ s. s ++ f x ∷ []) so_far ∙ ap (λ y. map h (take i items) ++ y ∷ []) same
+    ∙ sym (map-take_more h items i item within is)
+
+-- the same of what the members are mapped to
+pub copies_more : {Y Z : Type 0} (h : Y → Z) (items : List Y) (i : ℕ) (item : Y) (made pushed : List Z)
+    → i < length items → item ≡ get_or items i item → made ≡ map h (take i items) → pushed ≡ made ++ h item ∷ []
+    → pushed ≡ map h (take (i + 1) items)
+copies_more h items i item made pushed within is so_far more =
+    more ∙ ap (λ s. s ++ h item ∷ []) so_far ∙ sym (map-take_more h items i item within is)
+
+-- a list that follows the whole of another one, and one member behind it
+pub follows_all : {X Y Z : Type 0} (f : X → Z) (h : Y → Z) (items : List Y) (i : ℕ) (made pushed : List X) (x : X) (z : Z)
+    → length items ≤ i → map f made ≡ map h (take i items) → pushed ≡ made ++ x ∷ [] → f x ≡ z → map f pushed ≡ map h items ++ z ∷ []
+follows_all f h items i made pushed x z whole so_far more same =
+    ap (map f) more ∙ map-append f made (x ∷ []) ∙ ap (λ s. s ++ f x ∷ []) (so_far ∙ ap (map h) (take_all i items whole))
+    ∙ ap (λ y. map h items ++ y ∷ []) same
+
+-- numbers from 0 up to an end, one more put behind them
+pub range_more : (a n : ℕ) → range_with_len a n ++ (a + n) ∷ [] ≡ range_with_len a (n + 1)
+range_more a zero = let same : a + 0 ≡ a = omega arith in ap (λ n. n ∷ []) same
+range_more a (suc n) =
+    let last : a + suc n ≡ (a + 1) + n = omega arith in
+    let count : suc n + 1 ≡ suc (n + 1) = omega arith in
+    ap (λ k. a ∷ (range_with_len (a + 1) n ++ k ∷ [])) last ∙ ap (λ s. a ∷ s) (range_more (a + 1) n) ∙ sym (ap (range_with_len a) count)
+
+-- numbers pushed one by one
+pub numbers_more : {X : Type 0} (f : X → ℕ) (n : ℕ) (made pushed : List X) (x : X)
+    → map f made ≡ range_with_len 0 n → pushed ≡ made ++ x ∷ [] → f x ≡ n → map f pushed ≡ range_with_len 0 (n + 1)
+numbers_more f n made pushed x so_far more is =
+    ap (map f) more ∙ map-append f made (x ∷ []) ∙ ap (λ s. s ++ f x ∷ []) so_far
+    ∙ ap (λ k. range_with_len 0 n ++ k ∷ []) (is ∙ sym (zero-add n)) ∙ range_more 0 n
+
 -- numbers up to an end, their first one taken off
 pub range_first : (a e : ℕ) → a < e → range_with_len a (e - a) ≡ a ∷ range_with_len (a + 1) (e - (a + 1))
 range_first a e below = let count : e - a ≡ suc (e - (a + 1)) = omega arith in ap (range_with_len a) count
@@ -33,11 +70,3 @@ position-map p f xs =
     let place = prefix_len-map (λ y. not (p y)) f xs in
     ap (λ k. cond (ltb k (length (map f xs))) (Some k) None) place
     ∙ ap (λ n. cond (ltb (prefix_len (λ x. not (p (f x))) xs) n) (Some (prefix_len (λ x. not (p (f x))) xs)) None) (length-map xs f)
-
--- numbers from 0 up to an end, one more put behind them
-pub range_more : (a n : ℕ) → range_with_len a n ++ (a + n) ∷ [] ≡ range_with_len a (n + 1)
-range_more a zero = let same : a + 0 ≡ a = omega arith in ap (λ n. n ∷ []) same
-range_more a (suc n) =
-    let last : a + suc n ≡ (a + 1) + n = omega arith in
-    let count : suc n + 1 ≡ suc (n + 1) = omega arith in
-    ap (λ k. a ∷ (range_with_len (a + 1) n ++ k ∷ [])) last ∙ ap (λ s. a ∷ s) (range_more (a + 1) n) ∙ sym (ap (range_with_len a) count)

@@ -1,23 +1,82 @@
 -- What sound parts make, and the one fault of parts that aren't sound.
-use Rattle.std.proofs.Common.{inl, inr, ◌≡◌, ◌↔◌, ◌<◌, ◌≤◌, ◌+◌, ℕ, suc, List, [], ◌∷◌, ◌++◌, length, map, get_or, Vec, Option, Some, Result, Err, refl, subst, sym, ap, ◌∙◌, arith}
+use Rattle.std.proofs.Common.{inl, inr, ◌≡◌, ◌↔◌, ◌<◌, ◌≤◌, ◌+◌, ℕ, suc, List, [], ◌∷◌, ◌++◌, length, map, get_or, Vec, Bool, true, false, Some, Result, Ok, Err, refl, subst, sym, ap, ◌∙◌, arith}
 use Rattle.std.specs.List.{slice_get, All}
-use Rattle.std.specs.Option.{option_map_or}
-use Rattle.std.proofs.lemmas.Option.{slice_get-get_or}
+use Rattle.std.specs.Option.{option_map, option_map_or}
+use Rattle.std.specs.Result.{IsErrOf, IsErrAnd}
+use Rattle.std.proofs.lemmas.Option.{slice_get-get_or, slice_get-map, slice_get_read}
 use Rattle.std.proofs.lemmas.List.{length-append, length-map, get_or_append_left, get_or_at}
+use Rattle.std.proofs.lemmas.List.Elements.{All-append, All-cons, All-map}
 use Rattle.lrpar_grammar.specs.declared.grammar.parts.GrammarFault.{GrammarFault}
+use Rattle.lrpar_grammar.specs.declared.grammar.parts.GrammarFault.TheVariants.{NoRules, StorageTooSmall, BadStart, BadSymbol, Memory}
 use Rattle.std.proofs.lemmas.Bool.{cases_lt}
 use Rattle.std.specs.declared.alloc.Global.{Global}
 use Rattle.lrpar_text.specs.declared.span.PIdx.{PIdx}
 use Rattle.lrpar_grammar.specs.declared.grammar.parts.GrammarParts.{GrammarParts}
 use Rattle.lrpar_grammar.specs.declared.grammar.prods.SplitProd.{SplitProd}
 use Rattle.lrpar_grammar.specs.Kept.{AreRowsOf, IsKept, kept_grammar, split_prod_of}
-use Rattle.lrpar_grammar.specs.Grammar.{added_rule, Production, IsListedSymbol, IsWellFormed, added_prod, rule_of, symbols_of, rules_len, end_token, start_prod, Grammar}
-use Rattle.lrpar_grammar.specs.Parts.{Parts, AreSound, IsListedProd, grammar_of, parts_of, prod_of, rule_name_of}
+use Rattle.lrpar_grammar.specs.Grammar.{added_rule, Production, IsListedSymbol, IsWellFormed, added_prod, rule_of, symbols_of, symbol_spans_of, prod_len, prods_len, rules_len, end_token, start_prod, Grammar, HasSpans}
+use Rattle.lrpar_grammar.specs.Symbols.{symbol_of}
+use Rattle.lrpar_grammar.specs.Parts.{Parts, AreSound, IsFirstFault, IsListedProd, grammar_of, parts_of, prod_of, rule_name_of}
 
--- the fault that was found is the one that is answered
-pub answers_fault : {T P : Type 0} (found fault : GrammarFault) → ((◌≡◌ {A = Option GrammarFault} (Some found) (Some fault)) ↔ P) → (◌≡◌ {A = Result T GrammarFault} (Err found) (Err fault)) ↔ P
-answers_fault found fault exact =
-    (λ e. let same : found ≡ fault = cc in exact.0 (ap Some same), λ p. let same : found ≡ fault = let e = exact.1 p in cc in ap Err same)
+-- only one fault comes first
+first_fault_alone : (limit : ℕ) (x : Parts) (found fault : GrammarFault) → IsFirstFault limit x found → IsFirstFault limit x fault → found ≡ fault
+first_fault_alone limit x NoRules NoRules a b = refl
+first_fault_alone limit x NoRules StorageTooSmall a b = absurd (b.0 a)
+first_fault_alone limit x NoRules BadStart a b = absurd (b.0 a)
+first_fault_alone limit x NoRules BadSymbol a b = absurd (b.0 a)
+first_fault_alone limit x NoRules Memory a b = absurd b
+first_fault_alone limit x StorageTooSmall NoRules a b = absurd (a.0 b)
+first_fault_alone limit x StorageTooSmall StorageTooSmall a b = refl
+first_fault_alone limit x StorageTooSmall BadStart a b = absurd (a.1 b.1)
+first_fault_alone limit x StorageTooSmall BadSymbol a b = absurd (a.1 b.1)
+first_fault_alone limit x StorageTooSmall Memory a b = absurd b
+first_fault_alone limit x BadStart NoRules a b = absurd (a.0 b)
+first_fault_alone limit x BadStart StorageTooSmall a b = absurd (b.1 a.1)
+first_fault_alone limit x BadStart BadStart a b = refl
+first_fault_alone limit x BadStart BadSymbol a b = absurd (a.2 b.2)
+first_fault_alone limit x BadStart Memory a b = absurd b
+first_fault_alone limit x BadSymbol NoRules a b = absurd (a.0 b)
+first_fault_alone limit x BadSymbol StorageTooSmall a b = absurd (b.1 a.1)
+first_fault_alone limit x BadSymbol BadStart a b = absurd (b.2 a.2)
+first_fault_alone limit x BadSymbol BadSymbol a b = refl
+first_fault_alone limit x BadSymbol Memory a b = absurd b
+first_fault_alone limit x Memory fault a b = absurd a
+
+-- sound parts have none
+sound_no_fault : (limit : ℕ) (x : Parts) → AreSound limit x → (fault : GrammarFault) → IsFirstFault limit x fault → ⊥
+sound_no_fault limit x sound NoRules first = sound.rules first
+sound_no_fault limit x sound StorageTooSmall first = first.1 sound.storage
+sound_no_fault limit x sound BadStart first = first.2 sound.start
+sound_no_fault limit x sound BadSymbol first = first.3 sound.symbols
+sound_no_fault limit x sound Memory first = first
+
+-- the first fault is answered exactly where it is the first
+pub answers_first : {T : Type 0} (limit : ℕ) (x : Parts) (found fault : GrammarFault) → IsFirstFault limit x found
+    → (◌≡◌ {A = Result T GrammarFault} (Err found) (Err fault)) ↔ IsFirstFault limit x fault
+answers_first limit x found fault first =
+    (λ e. let same : found ≡ fault = cc in subst (IsFirstFault limit x) same first, λ h. ap Err (first_fault_alone limit x found fault first h))
+
+-- where the parts are sound, a grammar is none of the faults that parts can have
+pub answers_grammar : {T : Type 0} (limit : ℕ) (x : Parts) (grm : T) (fault : GrammarFault) → AreSound limit x
+    → (◌≡◌ {A = Result T GrammarFault} (Ok grm) (Err fault)) ↔ IsFirstFault limit x fault
+answers_grammar limit x grm fault sound = (λ e. absurd (cc), λ h. absurd (sound_no_fault limit x sound fault h))
+
+-- whether memory was wanting
+abbrev is_memory : GrammarFault → Bool
+is_memory NoRules = false
+is_memory StorageTooSmall = false
+is_memory BadStart = false
+is_memory BadSymbol = false
+is_memory Memory = true
+
+-- nor is want of memory
+pub answers_memory : {T : Type 0} (limit : ℕ) (x : Parts) (result : Result T GrammarFault) (fault : GrammarFault) → AreSound limit x
+    → IsErrAnd result (λ refusal. refusal ≡ Memory) → is_memory fault ≡ false → IsErrOf result fault ↔ IsFirstFault limit x fault
+answers_memory limit x (Ok grm) fault sound memory other = absurd memory
+answers_memory limit x (Err refusal) fault sound memory other = (
+  λ e. let same : refusal ≡ fault = cc in let both : false ≡ true = sym other ∙ ap is_memory (sym same ∙ memory) in absurd (cc),
+  λ h. absurd (sound_no_fault limit x sound fault h),
+)
 
 -- what the listed productions are, seen in the whole list
 pub listed_prod_at : (x : Parts) (p : ℕ) (d : Production) → p < length x.prods → slice_get (grammar_of x).prods p ≡ Some (get_or x.prods p d)
@@ -38,9 +97,16 @@ start_prod_at x =
 pub below_start_prod : (x : Parts) (p : ℕ) → p < start_prod (grammar_of x) → p < length x.prods
 below_start_prod x p below = omega (arith, length-append x.prods (added_prod x.start ∷ []))
 
+-- each production of the parts has as many places as symbols
+pub parts_have_spans : {S : Type 0} (index : S → ℕ) (parts : GrammarParts S) → All HasSpans (parts_of index parts).prods
+parts_have_spans index parts =
+    All-map HasSpans (prod_of index) parts.prods.items
+    (λ k d within. let pairs = (get_or parts.prods.items k d).symbols.items in
+    length-map pairs (λ x. x.1) ∙ sym (length-map pairs (λ x. symbol_of index x.0)))
+
 -- sound parts make a well-formed grammar
-pub sound_well_formed : (limit : ℕ) (x : Parts) → AreSound limit x → IsWellFormed (grammar_of x)
-sound_well_formed limit x sound =
+pub sound_well_formed : (limit : ℕ) (x : Parts) → AreSound limit x → All HasSpans x.prods → IsWellFormed (grammar_of x)
+sound_well_formed limit x sound spans =
     let d = added_prod x.start in
     let g = grammar_of x in
     let listed : (p : ℕ) → p < start_prod g → IsListedProd (length x.rules + 1) (length x.tokens) (get_or x.prods p d) =
@@ -62,7 +128,59 @@ sound_well_formed limit x sound =
           let count : length x.rules + 1 ≡ rules_len g = omega arith in
           subst (λ w. All (IsListedSymbol (rules_len g) (end_token g)) w) (sym same)
           (subst (λ n. All (IsListedSymbol n (end_token g)) (get_or x.prods p d).symbols) count (listed p below).symbols);
+      spans = λ p below.
+          let len : prods_len g ≡ length x.prods + 1 = length-append x.prods (added_prod x.start ∷ []) in
+          elim (cases_lt p (length x.prods)) [
+            | inl listed ↦ ap (λ o. length (option_map_or (λ y. y.symbol_spans) o [])) (listed_prod_at x p d listed)
+                ∙ spans p d listed ∙ sym (ap (λ o. length (option_map_or (λ y. y.symbols) o [])) (listed_prod_at x p d listed))
+            | inr last ↦
+                let place : start_prod g ≡ p = omega arith in
+                subst (λ q. length (symbol_spans_of g q) ≡ prod_len g q) place
+                (ap (λ o. length (option_map_or (λ y. y.symbol_spans) o [])) (start_prod_at x)
+                ∙ sym (ap (λ o. length (option_map_or (λ y. y.symbols) o [])) (start_prod_at x)))
+          ];
     }
+
+-- the grammar that is kept of sound parts is the one that they make
+pub kept_is_made : {S : Type 0} (index : S → ℕ) (parts : GrammarParts S) (prods : List (SplitProd S))
+    → map (split_prod_of index) prods ≡ map (prod_of index) parts.prods.items ++ added_prod (index parts.start.0) ∷ []
+    → kept_grammar index parts.rules.items parts.tokens.items prods parts.start.0 ≡ grammar_of (parts_of index parts)
+kept_is_made index parts prods split =
+    let x = parts_of index parts in
+    ap (λ w. record { rules = added_rule ∷ x.rules; tokens = x.tokens; prods = w; start = x.start }) split
+
+-- it is well formed
+pub kept_well_formed : {S : Type 0} (limit : ℕ) (index : S → ℕ) (parts : GrammarParts S) (prods : List (SplitProd S))
+    → AreSound limit (parts_of index parts)
+    → map (split_prod_of index) prods ≡ map (prod_of index) parts.prods.items ++ added_prod (index parts.start.0) ∷ []
+    → IsWellFormed (kept_grammar index parts.rules.items parts.tokens.items prods parts.start.0)
+kept_well_formed limit index parts prods sound split =
+    subst IsWellFormed (sym (kept_is_made index parts prods split)) (sound_well_formed limit (parts_of index parts) sound (parts_have_spans index parts))
+
+-- its productions can be numbered
+pub split_fits : {S : Type 0} (limit : ℕ) (index : S → ℕ) (parts : GrammarParts S) (prods : List (SplitProd S))
+    → AreSound limit (parts_of index parts)
+    → map (split_prod_of index) prods ≡ map (prod_of index) parts.prods.items ++ added_prod (index parts.start.0) ∷ []
+    → length prods ≤ limit
+split_fits limit index parts prods sound split =
+    let x = parts_of index parts in
+    let some : length x.prods < limit = sound.storage.prods in
+    let count : length prods ≡ length x.prods + 1 =
+    sym (length-map prods (split_prod_of index)) ∙ ap length split ∙ length-append x.prods (added_prod x.start ∷ []) in
+    omega arith
+
+-- and are of rules in range
+pub split_rules_within : {S : Type 0} (limit : ℕ) (index : S → ℕ) (parts : GrammarParts S) (prods : List (SplitProd S))
+    → AreSound limit (parts_of index parts)
+    → map (split_prod_of index) prods ≡ map (prod_of index) parts.prods.items ++ added_prod (index parts.start.0) ∷ []
+    → All (λ p. p.rule < length parts.rules.items + 1) (map (split_prod_of index) prods)
+split_rules_within limit index parts prods sound split =
+    let x = parts_of index parts in
+    let count : length x.rules ≡ length parts.rules.items = length-map parts.rules.items rule_name_of in
+    subst (All (λ p. p.rule < length parts.rules.items + 1)) (sym split)
+    (All-append (λ p. p.rule < length parts.rules.items + 1) x.prods (added_prod x.start ∷ [])
+    (λ k d within. let below = (sound.symbols k d within).rule_within in omega (arith, below))
+    (All-cons (λ p. p.rule < length parts.rules.items + 1) (added_prod x.start) [] (omega arith) (λ k d within. absurd (omega (arith, within)))))
 
 -- the split productions of sound parts, and their numbers by rule, are what a grammar keeps
 pub kept_parts : {S : Type 0} (limit : ℕ) (index : S → ℕ) (parts : GrammarParts S) (prods : List (SplitProd S)) (rows : List (Vec (PIdx S) Global))
@@ -72,12 +190,10 @@ pub kept_parts : {S : Type 0} (limit : ℕ) (index : S → ℕ) (parts : Grammar
     → IsKept limit index (kept_grammar index parts.rules.items parts.tokens.items prods parts.start.0) rows
 kept_parts {S} limit index parts prods rows sound split by_rule =
     let x = parts_of index parts in
-    let same : grammar_of x ≡ kept_grammar index parts.rules.items parts.tokens.items prods parts.start.0 =
-    ap (λ w. record { rules = added_rule ∷ x.rules; tokens = x.tokens; prods = w; start = x.start }) (sym split) in
     let rules_are : length parts.rules.items + 1 ≡ suc (length (map rule_name_of parts.rules.items)) = omega (arith, length-map parts.rules.items rule_name_of) in
     let prods_are : length (map (split_prod_of index) prods) ≡ length x.prods + 1 = ap length split ∙ length-append x.prods (added_prod x.start ∷ []) in
     record {
-      well_formed = subst IsWellFormed same (sound_well_formed limit x sound);
+      well_formed = kept_well_formed limit index parts prods sound split;
       rules = sound.storage.rules;
       tokens = let few : length x.tokens < limit = sound.storage.tokens in omega arith;
       prods = let few : length x.prods < limit = sound.storage.prods in omega arith;
@@ -95,3 +211,19 @@ rule_of_within g p formed within =
           let some : g.start < rules_len g = formed.start_within in
           omega arith
     ]
+
+-- a kept production, seen in the grammar
+pub kept_prod_at : {S : Type 0} (index : S → ℕ) (prods : List (SplitProd S)) (p : ℕ) (prod : SplitProd S) → p < length prods → prod ≡ get_or prods p prod
+    → slice_get (map (split_prod_of index) prods) p ≡ Some (split_prod_of index prod)
+kept_prod_at index prods p prod within is =
+    slice_get-map (split_prod_of index) prods p ∙ ap (option_map (split_prod_of index)) (slice_get_read prods (length prods) p prod refl within is)
+
+-- its rule is one of the grammar
+pub kept_rule_within : {S : Type 0} (index : S → ℕ) (g : Grammar) (prods : List (SplitProd S)) (p : ℕ) (prod : SplitProd S)
+    → IsWellFormed g → map (split_prod_of index) prods ≡ g.prods → p < length prods → prod ≡ get_or prods p prod → index prod.rule.0 < rules_len g
+kept_rule_within index g prods p prod formed are within is =
+    let at : slice_get g.prods p ≡ Some (split_prod_of index prod) = subst (λ ps. slice_get ps p ≡ Some (split_prod_of index prod)) are (kept_prod_at index prods p prod within is) in
+    let rule : rule_of g p ≡ index prod.rule.0 = ap (λ o. option_map_or (λ x. x.rule) o 0) at in
+    let count : length g.prods ≡ length prods = sym (ap length are) ∙ length-map prods (split_prod_of index) in
+    let below : rule_of g p < rules_len g = rule_of_within g p formed (omega arith) in
+    subst (λ r. r < rules_len g) rule below

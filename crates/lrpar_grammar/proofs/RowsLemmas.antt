@@ -1,8 +1,8 @@
 -- The rows of a grammar's productions by rule, one production more at a time.
 use Rattle.std.proofs.Common.{◌≡◌, ◌<◌, ◌+◌, ℕ, suc, true, false, cond, eqb, List, [], ◌∷◌, ◌++◌, length, map, set, get_or, refl, subst, sym, ap, ◌∙◌, arith, rules, Vec, inl, inr, zero-add}
 use Rattle.std.specs.declared.alloc.Global.{Global}
-use Rattle.std.proofs.lemmas.List.{length-set, get_or-set_same, get_or-set_other, map-append, append-nil}
-use Rattle.std.proofs.lemmas.Bool.{cases_eq, eq-eqb, ne_eqb}
+use Rattle.std.proofs.lemmas.List.{length-set, length-append, get_or_at, get_or_append_left, get_or-set_same, get_or-set_other, map-append, append-nil}
+use Rattle.std.proofs.lemmas.Bool.{cases_eq, cases_lt, eq-eqb, ne_eqb}
 use Rattle.lrpar_text.specs.declared.span.PIdx.{PIdx}
 use Rattle.lrpar_grammar.specs.Grammar.{Production, prods_from}
 use Rattle.lrpar_grammar.specs.Kept.{AreRowsOf}
@@ -39,5 +39,17 @@ AreRowsOf-push index rules prods rows y row row' p before within read pushed num
         | inr other ↦
             ap (λ w. map (λ q. index q.0) w.items) (get_or-set_other rows y.rule r row' d (λ e. other (sym e))) ∙ before.each r d r_within
             ∙ sym (prods_from-push r 0 prods y ∙ ap (λ b. prods_from r 0 prods ++ cond b ((0 + length prods) ∷ []) []) (ne_eqb y.rule r other) ∙ append-nil (prods_from r 0 prods))
+      ];
+}
+
+-- one empty row more keeps rows empty
+pub AreRowsOf-more : {S : Type 0} (index : S → ℕ) (n : ℕ) (rows : List (Vec (PIdx S) Global)) (row : Vec (PIdx S) Global)
+    → AreRowsOf index n [] rows → row.items ≡ [] → AreRowsOf index (n + 1) [] (rows ++ row ∷ [])
+AreRowsOf-more index n rows row before empty = record {
+  len = length-append rows (row ∷ []) ∙ ap (λ k. k + 1) before.len;
+  each = λ r d within.
+      elim (cases_lt r n) [
+        | inl below ↦ ap (λ w. map (λ q. index q.0) w.items) (get_or_append_left rows (row ∷ []) d r (omega (arith, before.len))) ∙ before.each r d below
+        | inr last ↦ ap (λ w. map (λ q. index q.0) w.items) (get_or_at rows row [] d r (let len = before.len in omega arith)) ∙ ap (map (λ q. index q.0)) empty
       ];
 }

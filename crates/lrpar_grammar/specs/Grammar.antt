@@ -118,8 +118,12 @@ abbrev pub IsListedSymbol : ℕ → ℕ → GrammarSymbol → Type 0
 IsListedSymbol rules tokens (Nonterminal r) = (0 < r) × (r < rules)
 IsListedSymbol rules tokens (Terminal t) = t < tokens
 
+-- a production with as many places as symbols
+abbrev pub HasSpans : Production → Type 0
+HasSpans p = length p.symbol_spans ≡ length p.symbols
+
 -- every number is in range; the last production is `^ : S`, and no other has the added rule; neither that rule
--- nor the end token stands on a right side
+-- nor the end token stands on a right side; each symbol has its place
 pub record IsWellFormed (g : Grammar) : Type 0 where
   pub start_added : 0 < g.start
   pub start_within : g.start < rules_len g
@@ -128,3 +132,4 @@ pub record IsWellFormed (g : Grammar) : Type 0 where
   pub rule_added : (p : ℕ) → p < start_prod g → 0 < rule_of g p
   pub rule_within : (p : ℕ) → p < start_prod g → rule_of g p < rules_len g
   pub symbols : (p : ℕ) → p < start_prod g → All (IsListedSymbol (rules_len g) (end_token g)) (symbols_of g p)
+  pub spans : (p : ℕ) → p < prods_len g → length (symbol_spans_of g p) ≡ prod_len g p

@@ -4,4 +4,4 @@
 pub mod grammar;
 pub mod laws;
 
-pub use lrpar_text::span;
+pub use lrpar_text::{lines, span};

@@ -2,7 +2,7 @@
 ghost use Rattle.std.specs.Prelude.{◌≡◌, ◌+◌, ◌≤◌, slice_range};
 ghost use Rattle.std.specs.Char.{len_utf8};
 ghost use Rattle.std.specs.Str.{IsCharBoundary};
-ghost use Rattle.lrpar.specs.Lines.{line_of, column_of};
+ghost use Rattle.lrpar_text.specs.Lines.{line_of, column_of};
 ghost use Rattle.lrpar_program.specs.Sums.{token_of};
 ghost use Rattle.lrpar_program.specs.SumAnswers.{answer_of};
 

@@ -1,7 +1,7 @@
 //! Lines and columns of a text, by a walk over it.
 ghost use Rattle.std.specs.Prelude.{◌≡◌, ◌≤◌};
 ghost use Rattle.std.specs.Str.{IsCharBoundary};
-ghost use Rattle.lrpar.specs.Lines.{line_start, line_end, line_of, column_of};
+ghost use Rattle.lrpar_text.specs.Lines.{line_start, line_end, line_of, column_of};
 
 // The line of byte `i`, counted from 1.
 pub(crate) fn line_at(text: &str, i: usize) -> usize

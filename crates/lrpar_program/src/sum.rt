@@ -26,7 +26,7 @@ type Item = (PIdx<u32>, usize, TIdx<u32>);
 pub(crate) fn sum_data(alloc: Global) -> Result<ParserData<u32>, Fault> {
     let grm = YaccGrammar::from_parts(alloc, sum_parts(alloc)?)?;
     let sgraph = StateGraph::from_rows(alloc, sum_items(alloc)?)?;
-    let stable = StateTable::from_rows(sum_rows(alloc)?)?;
+    let stable = StateTable::from_rows(alloc, sum_rows(alloc)?)?;
     match ParserData::new(alloc, grm, sgraph, stable, CAP) {
         Ok(data) => Ok(data),
         Err(refused) => Err(refused.fault().into()),

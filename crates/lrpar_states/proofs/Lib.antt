@@ -2,3 +2,8 @@ pub mod Mapped
 pub mod AscendingLemmas
 pub mod ItemLemmas
 pub mod GraphLemmas
+pub mod SearchLemmas
+pub mod CutLemmas
+pub mod EntryLemmas
+pub mod RowLemmas
+pub mod TableLemmas

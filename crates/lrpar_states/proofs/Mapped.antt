@@ -1,9 +1,9 @@
 -- What is true of each element of a list, and of each element of its image.
-use Rattle.std.proofs.Common.{◌≡◌, ◌<◌, ◌↔◌, ℕ, Bool, false, IsTrue, nat_eq, List, length, map, All, slice_index_or, subst, sym, arith}
+use Rattle.std.proofs.Common.{◌≡◌, ◌<◌, ◌≤◌, ◌+◌, ◌↔◌, ℕ, Bool, true, false, IsTrue, nat_eq, List, length, map, take, All, slice_index_or, refl, subst, sym, arith}
 use Rattle.std.proofs.Math.ListN.{get_or-map}
 use Rattle.std.proofs.lemmas.Bool.{eqb-true}
-use Rattle.std.proofs.lemmas.List.{length-map}
-use Rattle.std.proofs.lemmas.List.Elements.{All-map}
+use Rattle.std.proofs.lemmas.List.{length-map, take_all}
+use Rattle.std.proofs.lemmas.List.Elements.{All-map, All-more}
 
 -- what is true of each image is true of the image of each element
 pub All-unmap : {X Y : Type 0} (P : Y → Type 0) (f : X → Y) (xs : List X) → All P (map f xs) → All (λ x. P (f x)) xs
@@ -29,6 +29,10 @@ index_in_row P items f rows n s k row all below is k_below =
     let row_len : length (items row) ≡ n = subst (λ r. length (items r) ≡ n) (sym is) len in
     omega arith
 
+-- a test of the elements is a test of the images
+pub image_test : {X Y : Type 0} (P : Y → Type 0) (f : X → Y) (xs : List X) (b : Bool) → IsTrue b ↔ All (λ x. P (f x)) xs → IsTrue b ↔ All P (map f xs)
+image_test P f xs b test = (λ h. All-map P f xs (test.0 h), λ h. test.1 (All-unmap P f xs h))
+
 -- a test of the elements with the number n is a test of the images with m, where n is m
 pub images_test : {X Y : Type 0} (P : ℕ → Y → Type 0) (f : X → Y) (xs ys : List X) (n m : ℕ) (b : Bool) → ys ≡ xs → n ≡ m
     → IsTrue b ↔ All (λ x. P n (f x)) ys → IsTrue b ↔ All (P m) (map f xs)
@@ -44,3 +48,17 @@ second_test a b passed first second = (λ h. (first.0 passed, second.0 h), λ h.
 -- where the first test fails, so do both facts
 pub first_test : {A B : Type 0} (a : Bool) → a ≡ false → IsTrue a ↔ A → IsTrue a ↔ (A × B)
 first_test a failed first = (λ h. absurd cc, λ h. first.1 h.0)
+
+-- what was tested of each element so far, and of the next, was tested of one more
+pub all_more : {X : Type 0} (P : X → Type 0) (xs : List X) (i : ℕ) (x : X) → All P (take i xs) → i < length xs → x ≡ slice_index_or xs i x → P x
+    → All P (take (i + 1) xs)
+all_more P xs i x so_far below is here = All-more P xs i x below so_far (subst P is here)
+
+-- where all were tested, it holds of all
+pub all_tested : {X : Type 0} (P : X → Type 0) (xs : List X) (i : ℕ) → All P (take i xs) → length xs ≤ i → IsTrue true ↔ All P xs
+all_tested P xs i so_far end = (λ h. subst (All P) (take_all i xs end) so_far, λ all. refl)
+
+-- where it fails of one, it doesn't hold of all
+pub all_refused : {X : Type 0} (P : X → Type 0) (xs : List X) (i : ℕ) (x : X) → i < length xs → x ≡ slice_index_or xs i x → ¬ (P x)
+    → IsTrue false ↔ All P xs
+all_refused P xs i x below is fails = (λ h. absurd cc, λ all. absurd (fails (subst P (sym is) (all i x below))))

@@ -1,9 +1,12 @@
 pub mod Table
+pub mod Rows
+pub mod Entries
 pub mod Graph
 pub mod Safe
 pub mod ConditionText
 pub mod Sum
 pub mod PlainConflicts
 pub mod PlainRows
+pub mod PlainTable
 pub mod PlainItems
 pub mod Ascending

@@ -1,9 +1,13 @@
 -- What the rows of code stand for, by the numbers of their indexes.
 use Rattle.std.specs.Prelude.{ℕ, map, Option, Some, None}
+use Rattle.lrpar_text.specs.declared.span.RIdx.{RIdx}
 use Rattle.lrpar_text.specs.declared.span.StIdx.{StIdx}
+use Rattle.lrpar_text.specs.declared.span.TIdx.{TIdx}
+use Rattle.lrpar_states.specs.Rows.{Rows}
 use Rattle.lrpar_states.specs.Table.{Table, TableAction, ShiftTo, ReduceBy, Accepts, Fails}
 use Rattle.lrpar_states.specs.declared.rows.Action.{Action}
 use Rattle.lrpar_states.specs.declared.rows.Action.TheVariants.{Shift, Reduce, Accept, Error}
+use Rattle.lrpar_states.specs.declared.rows.SparseRows.{SparseRows}
 use Rattle.lrpar_states.specs.declared.rows.TableRows.{TableRows}
 
 -- an action
@@ -18,13 +22,33 @@ abbrev pub plain_goto : {S : Type 0} → (S → ℕ) → Option (StIdx S) → Op
 plain_goto index (Some s) = Some (index s.0)
 plain_goto index None = None
 
--- the table that the rows make, over indexes of S; E comes with S, and no row has it
-abbrev pub table_of : {S E : Type 0} → (S → ℕ) → TableRows S E → Table
-table_of index rows = record {
+-- a token with an action
+abbrev pub action_entry : {S : Type 0} → (S → ℕ) → TIdx S × Action S → ℕ × TableAction
+action_entry index entry = (index entry.0.0, plain_action index entry.1)
+
+-- a rule with a state to go to
+abbrev pub goto_entry : {S : Type 0} → (S → ℕ) → RIdx S × StIdx S → ℕ × ℕ
+goto_entry index entry = (index entry.0.0, index entry.1.0)
+
+-- full rows, over indexes of S; E comes with S, and no row has it
+abbrev pub plain_rows : {S E : Type 0} → (S → ℕ) → TableRows S E → Rows
+plain_rows index rows = record {
   start = index rows.start.0;
   tokens = rows.tokens;
   rules = rows.rules;
   actions = map (λ row. map (plain_action index) row.items) rows.actions.items;
   gotos = map (λ row. map (plain_goto index) row.items) rows.gotos.items;
+  conflicts = rows.conflicts;
+}
+
+-- the table that sparse rows make
+abbrev pub sparse_table_of : {S E : Type 0} → (S → ℕ) → SparseRows S E → Table
+sparse_table_of index rows = record {
+  start = index rows.start.0;
+  states = rows.states;
+  tokens = rows.tokens;
+  rules = rows.rules;
+  actions = map (λ row. map (action_entry index) row.items) rows.actions.items;
+  gotos = map (λ row. map (goto_entry index) row.items) rows.gotos.items;
   conflicts = rows.conflicts;
 }

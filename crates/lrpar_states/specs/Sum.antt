@@ -3,6 +3,7 @@ use Rattle.std.specs.Prelude.{ℕ, List, [], ◌∷◌, Option, Some, None}
 use Rattle.lrpar_text.specs.Span.{nowhere}
 use Rattle.lrpar_grammar.specs.Grammar.{Grammar, GrammarSymbol, Nonterminal, Terminal, Production, RuleName, TokenName, added_rule, added_prod}
 use Rattle.lrpar_states.specs.Graph.{Graph, item_at}
+use Rattle.lrpar_states.specs.Rows.{Rows}
 use Rattle.lrpar_states.specs.Table.{Table, TableAction, ShiftTo, ReduceBy, Accepts, Fails}
 
 -- a production with no places
@@ -28,6 +29,21 @@ sum_grammar = record {
   start = 1;
 }
 
+-- the six states of that grammar: 0 `^: . E`, 1 `^: E .`, 2 `E: T . '+' E` and `E: T .`, 3 `T: 'ID' .`,
+-- 4 `E: T '+' . E`, 5 `E: T '+' E .`
+abbrev pub sum_table : Table
+sum_table = record {
+  start = 0;
+  states = 6;
+  tokens = 3;
+  rules = 3;
+  actions =
+      ((1, ShiftTo 3) ∷ []) ∷ ((2, Accepts) ∷ []) ∷ ((0, ShiftTo 4) ∷ (2, ReduceBy 1) ∷ []) ∷ ((0, ReduceBy 2) ∷ (2, ReduceBy 2) ∷ [])
+      ∷ ((1, ShiftTo 3) ∷ []) ∷ ((2, ReduceBy 0) ∷ []) ∷ [];
+  gotos = ((1, 1) ∷ (2, 2) ∷ []) ∷ [] ∷ [] ∷ [] ∷ ((1, 5) ∷ (2, 2) ∷ []) ∷ [] ∷ [];
+  conflicts = None;
+}
+
 -- a row of three actions: at '+', at 'ID' and at the end
 abbrev pub three_actions : TableAction → TableAction → TableAction → List TableAction
 three_actions plus id end = plus ∷ id ∷ end ∷ []
@@ -36,10 +52,9 @@ three_actions plus id end = plus ∷ id ∷ end ∷ []
 abbrev pub three_gotos : Option ℕ → Option ℕ → Option ℕ → List (Option ℕ)
 three_gotos added e t = added ∷ e ∷ t ∷ []
 
--- the six states of that grammar: 0 `^: . E`, 1 `^: E .`, 2 `E: T . '+' E` and `E: T .`, 3 `T: 'ID' .`,
--- 4 `E: T '+' . E`, 5 `E: T '+' E .`
-abbrev pub sum_table : Table
-sum_table = record {
+-- the full rows of that table
+abbrev pub sum_rows : Rows
+sum_rows = record {
   start = 0;
   tokens = 3;
   rules = 3;

@@ -1,5 +1,7 @@
 -- State tables: what is done in each state at each token, and where each state goes by each rule.
-use Rattle.std.specs.Prelude.{◌≡◌, ◌<◌, ◌≤◌, ℕ, List, [], length, All, slice_index_or, Option, Some, None}
+use Rattle.std.specs.Prelude.{◌≡◌, ◌≢◌, ◌<◌, ◌≤◌, ℕ, List, [], length, nat_eq, All, Option, Some, None, unwrap_or, slice_index_or}
+use Rattle.std.specs.List.Sorted.{IsStrictlyIncreasing}
+use Rattle.std.specs.Map.{keys_of, lookup}
 
 -- a parser goes to a state and takes the token, reduces by a production, accepts, or finds an error
 pub data TableAction : Type 0 where
@@ -26,27 +28,36 @@ pub record ConflictLists : Type 0 where
   pub reduce_reduce : List ReduceReduce
   pub shift_reduce : List ShiftReduce
 
--- the start state, how many tokens and rules there are, and for each state a row of actions, by token, and a row of
--- states to go to, by rule
+-- the start state; how many states, tokens and rules there are; for each state what is stored: actions, each with its
+-- token, and states to go to, each with its rule
 pub record Table : Type 0 where
   pub start : ℕ
+  pub states : ℕ
   pub tokens : ℕ
   pub rules : ℕ
-  pub actions : List (List TableAction)
-  pub gotos : List (List (Option ℕ))
+  pub actions : List (List (ℕ × TableAction))
+  pub gotos : List (List (ℕ × ℕ))
   pub conflicts : Option ConflictLists
 
 -- how many states there are
 abbrev pub states_len : Table → ℕ
-states_len table = length table.actions
+states_len table = table.states
 
--- what is done in state s at token t; out of range, an error
-abbrev pub action_of : Table → ℕ → ℕ → TableAction
-action_of table s t = slice_index_or (slice_index_or table.actions s []) t Fails
+-- the actions that are stored for state s; out of range, none
+abbrev pub actions_at : Table → ℕ → List (ℕ × TableAction)
+actions_at table s = slice_index_or table.actions s []
 
--- where state s goes by rule r; out of range, nowhere
-abbrev pub goto_of : Table → ℕ → ℕ → Option ℕ
-goto_of table s r = slice_index_or (slice_index_or table.gotos s []) r None
+-- the gotos that are stored for state s; out of range, none
+abbrev pub gotos_at : Table → ℕ → List (ℕ × ℕ)
+gotos_at table s = slice_index_or table.gotos s []
+
+-- what is done in state s at token t: the action that is stored, or else an error
+unfoldable pub action_of : Table → ℕ → ℕ → TableAction
+action_of table s t = unwrap_or (lookup (nat_eq t) (actions_at table s)) Fails
+
+-- where state s goes by rule r: the goto that is stored, if there is one
+unfoldable pub goto_of : Table → ℕ → ℕ → Option ℕ
+goto_of table s r = lookup (nat_eq r) (gotos_at table s)
 
 -- the state of a shift, if it is one, is below `states`
 abbrev pub IsActionWithin : ℕ → TableAction → Type 0
@@ -60,24 +71,33 @@ abbrev pub IsGotoWithin : ℕ → Option ℕ → Type 0
 IsGotoWithin states (Some s) = s < states
 IsGotoWithin states None = Unit {0}
 
--- an action for each token, with states in range
-abbrev pub IsActionRow : ℕ → ℕ → List TableAction → Type 0
-IsActionRow tokens states row = (length row ≡ tokens) × All (IsActionWithin states) row
+-- a token below `tokens` with an action other than an error, whose state, if it has one, is below `states`
+pub record IsActionEntry (tokens states : ℕ) (entry : ℕ × TableAction) : Type 0 where
+  pub token : entry.0 < tokens
+  pub stored : entry.1 ≢ Fails
+  pub within : IsActionWithin states entry.1
 
--- an optional state for each rule, in range
-abbrev pub IsGotoRow : ℕ → ℕ → List (Option ℕ) → Type 0
-IsGotoRow rules states row = (length row ≡ rules) × All (IsGotoWithin states) row
+-- a rule below `rules` with a state below `states`
+pub record IsGotoEntry (rules states : ℕ) (entry : ℕ × ℕ) : Type 0 where
+  pub rule : entry.0 < rules
+  pub within : entry.1 < states
 
--- each state has its two rows, every state that they name is one of the table, and so is the start state; the
+-- the entries stand in ascending order of their numbers, each number once, and each entry is as it should be
+pub record AreEntries {X : Type 0} (IsEntry : ℕ × X → Type 0) (entries : List (ℕ × X)) : Type 0 where
+  pub ascending : IsStrictlyIncreasing (keys_of entries)
+  pub each : All IsEntry entries
+
+-- each state has its two lists of entries, every state that they name is one of the table, and so is the start state; the
 -- numbers of states, tokens and rules are at most `limit`
-pub record AreRows (limit : ℕ) (table : Table) : Type 0 where
-  pub gotos_len : length table.gotos ≡ states_len table
-  pub states_fit : states_len table ≤ limit
+pub record IsTable (limit : ℕ) (table : Table) : Type 0 where
+  pub actions_len : length table.actions ≡ table.states
+  pub gotos_len : length table.gotos ≡ table.states
+  pub states_fit : table.states ≤ limit
   pub tokens_fit : table.tokens ≤ limit
   pub rules_fit : table.rules ≤ limit
-  pub start_within : table.start < states_len table
-  pub action_rows : All (IsActionRow table.tokens (states_len table)) table.actions
-  pub goto_rows : All (IsGotoRow table.rules (states_len table)) table.gotos
+  pub start_within : table.start < table.states
+  pub actions : All (AreEntries (IsActionEntry table.tokens table.states)) table.actions
+  pub gotos : All (AreEntries (IsGotoEntry table.rules table.states)) table.gotos
 
 -- the start state is one of the table, and so is each state that a shift or a goto leads to
 pub record IsClosed (table : Table) : Type 0 where

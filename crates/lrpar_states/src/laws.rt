@@ -1,12 +1,20 @@
 //! Laws about the definitions that contracts cite: each function has one as its contract, and does nothing.
 ghost use Rattle.std.specs.Prelude.{◌≡◌, ◌^◌, Some, None};
 ghost use Rattle.lrpar_states.specs.Graph.{HasCore, HasItem, graph_len};
-ghost use Rattle.lrpar_states.specs.Sum.{sum_graph, sum_table};
-ghost use Rattle.lrpar_states.specs.Table.{AreRows, ShiftTo, ReduceBy, Accepts, Fails, action_of, goto_of, states_len};
+ghost use Rattle.lrpar_states.specs.Rows.{AreRows, table_of};
+ghost use Rattle.lrpar_states.specs.Sum.{sum_graph, sum_rows, sum_table};
+ghost use Rattle.lrpar_states.specs.Table.{IsTable, ShiftTo, ReduceBy, Accepts, Fails, action_of, goto_of, states_len};
 
-/// The small table of sums is made of rows as they should be, so that `from_rows` takes it.
-pub fn sum_table_has_rows()
-    ensures { AreRows (2 ^ 8) sum_table }
+/// The small table of sums is one, so that `from_sparse` takes it.
+pub fn sum_table_is_table()
+    ensures { IsTable (2 ^ 8) sum_table }
+{}
+
+/// The full rows of the small table are rows as they should be, so that `from_rows` takes them; and what is stored of them
+/// is the small table.
+pub fn sum_rows_are_rows()
+    ensures rows { AreRows (2 ^ 8) sum_rows }
+    ensures table { table_of sum_rows ≡ sum_table }
 {}
 
 /// What the small table of sums does, at one entry of each kind and out of range.

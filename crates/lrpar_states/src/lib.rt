@@ -4,10 +4,13 @@
 mod ascending;
 pub mod condition;
 mod conflicts;
+mod entries;
 mod fault;
+mod full;
 mod graph;
 mod items;
 pub mod laws;
 mod numbers;
 mod rows;
+mod sparse;
 pub mod table;

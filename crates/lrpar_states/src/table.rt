@@ -1,53 +1,86 @@
 //! State tables, which are made of rows and then only read.
-ghost use Rattle.std.specs.Prelude.{◌≡◌, ◌<◌, ◌≤◌, ◌↔◌, ℕ, IsTrue, IsOk, IfOk, IfErr, IsErrOf, All, None, map, length};
+ghost use Rattle.std.specs.Prelude.{◌≡◌, ◌≢◌, ◌<◌, ◌≤◌, ◌↔◌, ℕ, [], IfOk, IsErrOf, Some, None, Contains, All, length, map, slice_index_or, zip};
+ghost use Rattle.std.specs.List.Sorted.{IsStrictlyIncreasing};
+ghost use Rattle.std.specs.Map.{keys_of};
 ghost use Rattle.std.specs.Option.{option_map};
-ghost use Rattle.lrpar_states.specs.Table.{Fails, AreRows, IsActionWithin, IsActionRow, IsClosed, IsGotoWithin, IsGotoRow, action_of, goto_of, states_len};
-ghost use Rattle.lrpar_states.specs.PlainRows.{plain_action, plain_goto, table_of};
+ghost use Rattle.lrpar_states.specs.Rows.{AreRows, table_of};
+ghost use Rattle.lrpar_states.specs.Table.{TableAction, Fails, IsActionEntry, IsActionWithin, IsClosed, IsGotoEntry, IsGotoWithin, IsTable, action_of, actions_at, goto_of, gotos_at, states_len};
+ghost use Rattle.lrpar_states.specs.PlainRows.{action_entry, goto_entry, plain_action, plain_goto, plain_rows, sparse_table_of};
 ghost use Rattle.lrpar_states.specs.declared.fault.TableFault.{TableFault};
 
 pub use crate::conflicts::Conflicts;
+use crate::entries::{Entries, place_of};
 pub use crate::fault::TableFault;
+use crate::full::{are_rows, stored_actions, stored_gotos};
 pub use crate::graph::{Core, Item, StateGraph};
-use crate::numbers::has_numbers;
-pub use crate::rows::{Action, TableRows};
+pub use crate::rows::{Action, SparseRows, TableRows};
+use crate::sparse::is_sparse_table;
 use lrpar_grammar::span::{RIdx, StIdx, StorageNum, TIdx};
+use std::alloc::{AllocError, Global};
 use std::marker::Model;
 
-/// What a parser does in each state, and where it goes.
+/// What a parser does in each state, and where it goes. Only the entries are stored: in each state the tokens at which it
+/// doesn't find an error, and the rules by which it goes anywhere.
 #[derive(Debug, Drop)]
 pub struct StateTable<StorageT: StorageNum> {
-    rows: TableRows<StorageT>,
+    start: StIdx<StorageT>,
+    tokens: usize,
+    rules: usize,
+    actions: Entries<TIdx<StorageT>, Action<StorageT>>,
+    gotos: Entries<RIdx<StorageT>, StIdx<StorageT>>,
+    conflicts: Option<Conflicts<StorageT>>,
 }
 
 impl<StorageT: StorageNum> Model for StateTable<StorageT> {
-    ghost use Rattle.lrpar_states.specs.Table.{Table, AreRows};
-    ghost use Rattle.lrpar_states.specs.PlainRows.{table_of};
+    ghost use Rattle.lrpar_states.specs.Table.{Table, IsTable};
+    ghost use Rattle.lrpar_states.specs.PlainTable.{plain_table};
 
     ghost Value = { Table };
 
-    ghost view = { λ t. table_of StorageT.index t.rows };
+    ghost view = { λ t. plain_table StorageT.index t.start t.tokens t.rules t.actions t.gotos t.conflicts };
 
-    ghost invariant = { λ t. AreRows StorageT.limit (table_of StorageT.index t.rows) };
+    ghost invariant = { λ t. IsTable StorageT.limit (plain_table StorageT.index t.start t.tokens t.rules t.actions t.gotos t.conflicts) };
 }
 
 impl<StorageT: StorageNum> StateTable<StorageT> {
-    /// The table of these rows, which are moved and not copied.
+    /// The table of these full rows.
     ///
     /// `BadIndex` comes where a state hasn't one row of an action for each token and one of an optional state for each
     /// rule; where the start state, or a state in a row, isn't one of the table; and where there are more states,
-    /// tokens or rules than `StorageT` has numbers. Productions, and what the conflicts name, aren't looked at. As
-    /// nothing is allocated, `Memory` doesn't come. Every entry of the rows is read at most once; after a refusal they are
-    /// dropped.
-    pub fn from_rows(rows: TableRows<StorageT>) -> Result<Self, TableFault>
-        ensures made { IsOk result ↔ AreRows StorageT.limit (table_of StorageT.index rows) }
-        ensures table { IfOk result (λ table. table ≡ table_of StorageT.index rows) }
-        ensures refused { IsErrOf result TableFault.BadIndex ↔ ¬ (AreRows StorageT.limit (table_of StorageT.index rows)) }
+    /// tokens or rules than `StorageT` has numbers. Productions, and what the conflicts name, aren't looked at. It is
+    /// decided before any memory is asked for. `Memory` comes where it doesn't suffice for the entries, which are
+    /// stored apart from the rows. Every entry of the rows is read a few times; in the end they are dropped.
+    pub fn from_rows(alloc: Global, rows: TableRows<StorageT>) -> Result<Self, TableFault>
+        ensures made { IfOk result (λ _. AreRows StorageT.limit (plain_rows StorageT.index rows)) }
+        ensures table { IfOk result (λ table. table ≡ table_of (plain_rows StorageT.index rows)) }
+        ensures actions { IfOk result (λ table. (s t : ℕ)
+            → action_of table s t ≡ slice_index_or (slice_index_or (plain_rows StorageT.index rows).actions s []) t Fails) }
+        ensures gotos { IfOk result (λ table. (s r : ℕ)
+            → goto_of table s r ≡ slice_index_or (slice_index_or (plain_rows StorageT.index rows).gotos s []) r None) }
+        ensures refused { IsErrOf result TableFault.BadIndex ↔ ¬ (AreRows StorageT.limit (plain_rows StorageT.index rows)) }
     {
-        if are_rows(&rows) {
-            Ok(StateTable { rows })
-        } else {
-            Err(TableFault::BadIndex)
+        if !are_rows(&rows) {
+            return Err(TableFault::BadIndex);
         }
+        Ok(of_rows(alloc, rows)?)
+    }
+
+    /// The table of these sparse rows.
+    ///
+    /// `BadIndex` comes where there aren't as many rows of each kind as states; where a row isn't ascending, has a token
+    /// or a rule twice, or stores an error; where a token, a rule or a state is out of range, or the start state; and
+    /// where there are more states, tokens or rules than `StorageT` has numbers. Productions, and what the conflicts
+    /// name, aren't looked at. It is decided before any memory is asked for. `Memory` comes where it doesn't suffice for
+    /// the entries. Time and memory grow with states and entries, and not with tokens and rules.
+    pub fn from_sparse(alloc: Global, rows: SparseRows<StorageT>) -> Result<Self, TableFault>
+        ensures made { IfOk result (λ _. IsTable StorageT.limit (sparse_table_of StorageT.index rows)) }
+        ensures table { IfOk result (λ table. table ≡ sparse_table_of StorageT.index rows) }
+        ensures refused { IsErrOf result TableFault.BadIndex ↔ ¬ (IsTable StorageT.limit (sparse_table_of StorageT.index rows)) }
+    {
+        if !is_sparse_table(&rows) {
+            return Err(TableFault::BadIndex);
+        }
+        Ok(of_sparse(alloc, rows)?)
     }
 
     /// The state in which a parser starts.
@@ -55,7 +88,7 @@ impl<StorageT: StorageNum> StateTable<StorageT> {
         ensures start { StorageT.index result.0 ≡ self.now.start }
         ensures within { self.now.start < states_len self.now }
     {
-        self.rows.start
+        self.start
     }
 
     /// How many states there are.
@@ -63,8 +96,10 @@ impl<StorageT: StorageNum> StateTable<StorageT> {
         ensures states { result ≡ states_len self.now }
         ensures fits { result ≤ StorageT.limit }
         ensures closed { IsClosed self.now }
+        ensures no_action { (s t : ℕ) → states_len self.now ≤ s → action_of self.now s t ≡ Fails }
+        ensures no_goto { (s r : ℕ) → states_len self.now ≤ s → goto_of self.now s r ≡ None }
     {
-        self.rows.actions.len()
+        self.actions.rows_len()
     }
 
     /// How many tokens there are, the end token counted.
@@ -73,7 +108,7 @@ impl<StorageT: StorageNum> StateTable<StorageT> {
         ensures fits { result ≤ StorageT.limit }
         ensures end { (s t : ℕ) → self.now.tokens ≤ t → action_of self.now s t ≡ Fails }
     {
-        self.rows.tokens
+        self.tokens
     }
 
     /// How many rules there are, the added one counted.
@@ -82,146 +117,114 @@ impl<StorageT: StorageNum> StateTable<StorageT> {
         ensures fits { result ≤ StorageT.limit }
         ensures end { (s r : ℕ) → self.now.rules ≤ r → goto_of self.now s r ≡ None }
     {
-        self.rows.rules
+        self.rules
     }
 
     /// The conflicts that came with the rows, if any did.
     pub fn conflicts(&self) -> Option<&Conflicts<StorageT>>
         ensures { option_map (λ conflicts. conflicts.now) result ≡ self.now.conflicts }
     {
-        self.rows.conflicts.as_ref()
+        self.conflicts.as_ref()
     }
 
-    /// What state `s` does at token `t`.
+    /// What state `s` does at token `t`. A search in the state's tokens.
+    #[inline]
     pub fn action(&self, s: StIdx<StorageT>, t: TIdx<StorageT>) -> Action<StorageT>
         requires state { StorageT.index s.0 < states_len self.now }
         requires token { StorageT.index t.0 < self.now.tokens }
         ensures action { plain_action StorageT.index result ≡ action_of self.now (StorageT.index s.0) (StorageT.index t.0) }
         ensures within { IsActionWithin (states_len self.now) (action_of self.now (StorageT.index s.0) (StorageT.index t.0)) }
     {
-        let row = self.rows.actions[usize::from(s)].as_slice();
-        row[usize::from(t)]
+        let (tokens, actions) = self.actions_of(s);
+        match place_of(tokens, usize::from(t)) {
+            Some(place) => actions[place],
+            None => Action::Error,
+        }
     }
 
-    /// Where state `s` goes by rule `r`, if it goes anywhere.
+    /// Where state `s` goes by rule `r`, if it goes anywhere. A search in the state's rules.
+    #[inline]
     pub fn goto(&self, s: StIdx<StorageT>, r: RIdx<StorageT>) -> Option<StIdx<StorageT>>
         requires state { StorageT.index s.0 < states_len self.now }
         requires rule { StorageT.index r.0 < self.now.rules }
         ensures goto { plain_goto StorageT.index result ≡ goto_of self.now (StorageT.index s.0) (StorageT.index r.0) }
         ensures within { IsGotoWithin (states_len self.now) (goto_of self.now (StorageT.index s.0) (StorageT.index r.0)) }
     {
-        let row = self.rows.gotos[usize::from(s)].as_slice();
-        row[usize::from(r)]
+        let (rules, states) = self.gotos_of(s);
+        match place_of(rules, usize::from(r)) {
+            Some(place) => Some(states[place]),
+            None => None,
+        }
+    }
+
+    /// The tokens at which state `s` doesn't find an error, ascending, and what it does at each.
+    #[inline]
+    pub fn actions_of(&self, s: StIdx<StorageT>) -> (&[TIdx<StorageT>], &[Action<StorageT>])
+        requires { StorageT.index s.0 < states_len self.now }
+        ensures entries { map (action_entry StorageT.index) (zip result.0.now result.1.now) ≡ actions_at self.now (StorageT.index s.0) }
+        ensures actions { length result.1.now ≡ length result.0.now }
+        ensures exact { (t : ℕ) (action : TableAction) → Contains (actions_at self.now (StorageT.index s.0)) (t, action)
+            ↔ ((action_of self.now (StorageT.index s.0) t ≡ action) × (action ≢ Fails)) }
+        ensures ascending { IsStrictlyIncreasing (keys_of (actions_at self.now (StorageT.index s.0))) }
+        ensures within { All (IsActionEntry self.now.tokens (states_len self.now)) (actions_at self.now (StorageT.index s.0)) }
+    {
+        self.actions.row(usize::from(s))
+    }
+
+    /// The rules by which state `s` goes to a state, ascending, and the state of each.
+    #[inline]
+    pub fn gotos_of(&self, s: StIdx<StorageT>) -> (&[RIdx<StorageT>], &[StIdx<StorageT>])
+        requires { StorageT.index s.0 < states_len self.now }
+        ensures entries { map (goto_entry StorageT.index) (zip result.0.now result.1.now) ≡ gotos_at self.now (StorageT.index s.0) }
+        ensures states { length result.1.now ≡ length result.0.now }
+        ensures exact { (r next : ℕ) → Contains (gotos_at self.now (StorageT.index s.0)) (r, next)
+            ↔ (goto_of self.now (StorageT.index s.0) r ≡ Some next) }
+        ensures ascending { IsStrictlyIncreasing (keys_of (gotos_at self.now (StorageT.index s.0))) }
+        ensures within { All (IsGotoEntry self.now.rules (states_len self.now)) (gotos_at self.now (StorageT.index s.0)) }
+    {
+        self.gotos.row(usize::from(s))
     }
 }
 
-/// Whether the rows are those of a table.
-fn are_rows<StorageT: StorageNum>(rows: &TableRows<StorageT>) -> bool
-    ensures { IsTrue result ↔ AreRows StorageT.limit (table_of StorageT.index rows.now) }
-{
-    are_numbers(rows) && are_entries(rows)
-}
-
-/// Whether there are as many rows of both kinds, numbers for all that is counted, and a start state among the states.
-fn are_numbers<StorageT: StorageNum>(rows: &TableRows<StorageT>) -> bool
-    ensures { let table = table_of StorageT.index rows.now in IsTrue result ↔ (
-        (length table.gotos ≡ states_len table) × (table.start < states_len table) × (states_len table ≤ StorageT.limit)
-        × (table.tokens ≤ StorageT.limit) × (table.rules ≤ StorageT.limit)) }
+/// The table of what is stored of full rows, which are those of a table.
+fn of_rows<StorageT: StorageNum>(
+    alloc: Global,
+    rows: TableRows<StorageT>,
+) -> Result<StateTable<StorageT>, AllocError>
+    requires { AreRows StorageT.limit (plain_rows StorageT.index rows) }
+    ensures { IfOk result (λ table. table ≡ table_of (plain_rows StorageT.index rows)) }
 {
     let states = rows.actions.len();
-    rows.gotos.len() == states
-        && usize::from(rows.start) < states
-        && has_numbers::<StorageT>(states)
-        && has_numbers::<StorageT>(rows.tokens)
-        && has_numbers::<StorageT>(rows.rules)
+    let actions = stored_actions(alloc, &rows.actions)?;
+    let gotos = stored_gotos(alloc, &rows.gotos)?;
+    let sparse = SparseRows {
+        start: rows.start,
+        states,
+        tokens: rows.tokens,
+        rules: rows.rules,
+        actions,
+        gotos,
+        conflicts: rows.conflicts,
+    };
+    of_sparse(alloc, sparse)
 }
 
-/// Whether each row has its length, with states in range.
-fn are_entries<StorageT: StorageNum>(rows: &TableRows<StorageT>) -> bool
-    ensures { let table = table_of StorageT.index rows.now in IsTrue result ↔ (
-        All (IsActionRow table.tokens (states_len table)) table.actions
-        × All (IsGotoRow table.rules (states_len table)) table.gotos) }
+/// The table of sparse rows, which are those of a table.
+fn of_sparse<StorageT: StorageNum>(
+    alloc: Global,
+    rows: SparseRows<StorageT>,
+) -> Result<StateTable<StorageT>, AllocError>
+    requires { IsTable StorageT.limit (sparse_table_of StorageT.index rows) }
+    ensures { IfOk result (λ table. table ≡ sparse_table_of StorageT.index rows) }
 {
-    let actions = rows.actions.as_slice();
-    let gotos = rows.gotos.as_slice();
-    let states = actions.len();
-    are_action_rows(actions, rows.tokens, states) && are_goto_rows(gotos, rows.rules, states)
-}
-
-/// Whether each row has an action for each token, with states in range.
-fn are_action_rows<StorageT: StorageNum>(
-    rows: &[Vec<Action<StorageT>>],
-    tokens: usize,
-    states: usize,
-) -> bool
-    ensures { IsTrue result ↔ All (λ row. IsActionRow tokens states (map (plain_action StorageT.index) row.items)) rows.now }
-{
-    rows.iter().all(|row| is_action_row(row, tokens, states))
-}
-
-/// Whether the row has an action for each token, with states in range.
-fn is_action_row<StorageT: StorageNum>(
-    row: &[Action<StorageT>],
-    tokens: usize,
-    states: usize,
-) -> bool
-    ensures { IsTrue result ↔ IsActionRow tokens states (map (plain_action StorageT.index) row.now) }
-{
-    row.len() == tokens && are_actions_within(row, states)
-}
-
-/// Whether the state of each action that has one is below `states`.
-fn are_actions_within<StorageT: StorageNum>(row: &[Action<StorageT>], states: usize) -> bool
-    ensures { IsTrue result ↔ All (λ action. IsActionWithin states (plain_action StorageT.index action)) row.now }
-{
-    row.iter().all(|action| is_action_within(*action, states))
-}
-
-/// Whether the action's state, if it has one, is below `states`.
-fn is_action_within<StorageT: StorageNum>(action: Action<StorageT>, states: usize) -> bool
-    ensures { IsTrue result ↔ IsActionWithin states (plain_action StorageT.index action) }
-{
-    match action {
-        Action::Shift(state) => usize::from(state) < states,
-        Action::Reduce(_) | Action::Accept | Action::Error => true,
-    }
-}
-
-/// Whether each row has an optional state for each rule, in range.
-fn are_goto_rows<StorageT: StorageNum>(
-    rows: &[Vec<Option<StIdx<StorageT>>>],
-    rules: usize,
-    states: usize,
-) -> bool
-    ensures { IsTrue result ↔ All (λ row. IsGotoRow rules states (map (plain_goto StorageT.index) row.items)) rows.now }
-{
-    rows.iter().all(|row| is_goto_row(row, rules, states))
-}
-
-/// Whether the row has an optional state for each rule, in range.
-fn is_goto_row<StorageT: StorageNum>(
-    row: &[Option<StIdx<StorageT>>],
-    rules: usize,
-    states: usize,
-) -> bool
-    ensures { IsTrue result ↔ IsGotoRow rules states (map (plain_goto StorageT.index) row.now) }
-{
-    row.len() == rules && are_gotos_within(row, states)
-}
-
-/// Whether each state to go to is below `states`.
-fn are_gotos_within<StorageT: StorageNum>(row: &[Option<StIdx<StorageT>>], states: usize) -> bool
-    ensures { IsTrue result ↔ All (λ goto. IsGotoWithin states (plain_goto StorageT.index goto)) row.now }
-{
-    row.iter().all(|goto| is_goto_within(*goto, states))
-}
-
-/// Whether the state to go to, if there is one, is below `states`.
-fn is_goto_within<StorageT: StorageNum>(goto: Option<StIdx<StorageT>>, states: usize) -> bool
-    ensures { IsTrue result ↔ IsGotoWithin states (plain_goto StorageT.index goto) }
-{
-    match goto {
-        Some(state) => usize::from(state) < states,
-        None => true,
-    }
+    let actions = Entries::from_rows(alloc, &rows.actions)?;
+    let gotos = Entries::from_rows(alloc, &rows.gotos)?;
+    Ok(StateTable {
+        start: rows.start,
+        tokens: rows.tokens,
+        rules: rows.rules,
+        actions,
+        gotos,
+        conflicts: rows.conflicts,
+    })
 }

@@ -34,7 +34,7 @@ impl Hand {
     }
 
     fn table(&self, alloc: Global) -> Result<StateTable<u8>, Fail> {
-        Ok(StateTable::from_rows(rows(alloc, &self.actions, &self.gotos)?)?)
+        Ok(StateTable::from_rows(alloc, rows(alloc, &self.actions, &self.gotos)?)?)
     }
 }
 
@@ -244,12 +244,12 @@ fn shapes_that_do_not_fit(rt: HostRuntime) -> Result<(), Fail> {
         (
             "a token less",
             sums.graph(alloc)?,
-            StateTable::from_rows(one_token_less)?,
+            StateTable::from_rows(alloc, one_token_less)?,
         ),
         (
             "a rule less",
             sums.graph(alloc)?,
-            StateTable::from_rows(one_rule_less)?,
+            StateTable::from_rows(alloc, one_rule_less)?,
         ),
     ];
     for (name, graph, table) in rows {

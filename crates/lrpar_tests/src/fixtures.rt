@@ -256,7 +256,7 @@ pub(crate) fn checked<S: StorageNum>(
 ) -> Result<Result<ParserData<S>, CheckFault>, Fail> {
     let grm = YaccGrammar::from_parts(alloc, parts)?;
     let sgraph = StateGraph::from_rows(alloc, item_rows(alloc, items, rows.actions.len())?)?;
-    let stable = StateTable::from_rows(rows)?;
+    let stable = StateTable::from_rows(alloc, rows)?;
     match ParserData::new(alloc, grm, sgraph, stable, cap) {
         Ok(data) => Ok(Ok(data)),
         Err(refused) => Ok(Err(refused.fault())),

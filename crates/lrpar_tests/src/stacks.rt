@@ -1,6 +1,7 @@
 //! Stacks of the table of sums.
 use crate::fixtures::sum_data;
 use lrpar::ParserData;
+use lrpar::check::Overlay;
 use lrpar::span::{StIdx, TIdx};
 use std::alloc::Global;
 use std::test::Fail;
@@ -68,6 +69,61 @@ fn tokens_fed(rt: HostRuntime) -> Result<(), Fail> {
         assert!(rt; token < 3);
         assert_eq!(rt; data.feed(&mut stack, TIdx(token))?, want, "{name}");
         assert_eq!(rt; numbers(rt.alloc(), &stack)?.as_slice(), after, "{name}");
+    }
+    Ok(())
+}
+
+#[test]
+fn reductions_over_a_base(rt: HostRuntime) -> Result<(), Fail> {
+    let data: ParserData<u8> = sum_data(rt.alloc())?;
+    let base = stack(rt.alloc(), &[0, 2, 4, 3])?;
+    assert!(rt; data.is_stack(&base));
+    assert_eq!(rt; base.len(), 4);
+    assert_eq!(rt; data.stable().tokens_len(), 3);
+    let mut over = Overlay::new(rt.alloc(), &base);
+    assert_eq!(rt; over.len(), 4);
+    assert_eq!(rt; over.kept(), 4);
+    assert_eq!(rt; over.top().as_storaget(), 3);
+    assert_eq!(rt; data.settle_over(&mut over, TIdx(2))?, 3);
+    assert_eq!(rt;
+        numbers(rt.alloc(), &over.to_vec()?)?.as_slice(),
+        [0, 1].as_slice()
+    );
+    assert_eq!(rt; over.len(), 2);
+    assert_eq!(rt; over.kept(), 1);
+    assert_eq!(rt; over.top().as_storaget(), 1);
+    assert_eq!(rt;
+        numbers(rt.alloc(), &base)?.as_slice(),
+        [0, 2, 4, 3].as_slice()
+    );
+    Ok(())
+}
+
+#[test]
+fn tokens_fed_over_a_base(rt: HostRuntime) -> Result<(), Fail> {
+    let data: ParserData<u8> = sum_data(rt.alloc())?;
+    let base = stack(rt.alloc(), &[0, 2, 4, 3])?;
+    assert_eq!(rt; base.len(), 4);
+    assert_eq!(rt; data.stable().tokens_len(), 3);
+    let rows = [
+        ("+", 0u8, true, [0, 2, 4, 2, 4].as_slice(), 3),
+        ("ID", 1, false, [0, 2, 4, 3].as_slice(), 4),
+        ("the end", 2, false, [0, 1].as_slice(), 1),
+        ("+ again", 0, true, [0, 2, 4, 2, 4].as_slice(), 3),
+    ];
+    let mut over = Overlay::new(rt.alloc(), &base);
+    for (name, token, want, after, kept) in rows {
+        over.set_back();
+        let states = over.to_vec()?;
+        assert!(rt; data.is_stack(&states));
+        assert!(rt; token < 3);
+        assert_eq!(rt; data.feed_over(&mut over, TIdx(token))?, want, "{name}");
+        assert_eq!(rt;
+            numbers(rt.alloc(), &over.to_vec()?)?.as_slice(),
+            after,
+            "{name}"
+        );
+        assert_eq!(rt; over.kept(), kept, "{name}");
     }
     Ok(())
 }

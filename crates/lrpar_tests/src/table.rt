@@ -7,7 +7,7 @@ use std::test::Fail;
 
 #[test]
 fn entries_of_the_sum_table(rt: HostRuntime) -> Result<(), Fail> {
-    let table = StateTable::from_rows(sum_rows::<u8>(rt.alloc())?)?;
+    let table = StateTable::from_rows(rt.alloc(), sum_rows::<u8>(rt.alloc())?)?;
     assert_eq!(rt; table.start_state(), StIdx(0));
     assert_eq!(rt; table.states_len(), 6);
     assert_eq!(rt; table.tokens_len(), 3);
@@ -39,7 +39,7 @@ fn conflicts_of_a_table(rt: HostRuntime) -> Result<(), Fail> {
     let sr = vec![in alloc; (TIdx(0), PIdx(1), StIdx(2)), (TIdx(1), PIdx(2), StIdx(3))]?;
     let mut rows = sum_rows::<u8>(alloc)?;
     rows.conflicts = Some(Conflicts::new(rr, sr));
-    let table = StateTable::from_rows(rows)?;
+    let table = StateTable::from_rows(alloc, rows)?;
     let Some(conflicts) = table.conflicts() else {
         return Err(Fail::new("no conflicts"));
     };
@@ -111,12 +111,12 @@ fn refused_rows(rt: HostRuntime) -> Result<(), Fail> {
         ("257 states", bare_rows(alloc, 257)?),
     ];
     for (name, rows) in rows {
-        match StateTable::from_rows(rows) {
+        match StateTable::from_rows(alloc, rows) {
             Ok(_) => return Err(Fail::new(format_args!("{name} is taken"))),
             Err(fault) => assert_eq!(rt; fault, TableFault::BadIndex, "{name}"),
         }
     }
-    let largest = StateTable::from_rows(bare_rows(alloc, 256)?)?;
+    let largest = StateTable::from_rows(alloc, bare_rows(alloc, 256)?)?;
     assert_eq!(rt; largest.states_len(), 256);
     Ok(())
 }

@@ -1,1 +1,3 @@
 pub mod Span
+pub mod Comparisons
+pub mod Lines

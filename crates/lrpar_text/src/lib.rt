@@ -1,4 +1,6 @@
 //! Parts of a text, and the numbers by which things of a grammar are known.
 #![tactic(auto)]
 
+pub mod laws;
+pub mod lines;
 pub mod span;

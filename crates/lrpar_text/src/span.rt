@@ -1,5 +1,5 @@
 //! Parts of a text, storage numbers, and the numbers of rules, productions, tokens and states.
-ghost use Rattle.std.specs.Prelude.{◌≡◌, ◌-◌, ◌^◌, ◌<◌, ◌≤◌, ◌==◌, ◌↔◌, ℕ, IsTrue, IsSome, IfSome, List, refl};
+ghost use Rattle.std.specs.Prelude.{◌≡◌, ◌-◌, ◌^◌, ◌<◌, ◌≤◌, ◌==◌, ◌↔◌, ℕ, pos, Some, IsTrue, IsSome, IfSome, List, refl};
 ghost use Rattle.std.specs.Ordering.{nat_cmp};
 ghost use Rattle.lrpar_text.specs.Span.{Extent};
 ghost use Rattle.lrpar_text.specs.declared.span.SpansKind.{SpansKind};
@@ -101,6 +101,12 @@ pub trait StorageNum: PrimInt + Unsigned + Debug + Hash {
     ghost cmp_law: { (x y : Self) → Self.Ord.cmp x y ≡ nat_cmp (index x) (index y) };
 
     ghost eq_law: { (x y : Self) → Self.PartialEq.eq x y ≡ (index x == index y) };
+
+    ghost value_law: { (x : Self) → Self.value x ≡ pos (index x) };
+
+    ghost integer_law: { (x : Self) → Self.integer_of x ≡ Some (pos (index x)) };
+
+    ghost fits_law: { (n : ℕ) → Self.fits (pos n) ↔ (n < limit) };
 }
 
 impl StorageNum for u8 {
@@ -129,6 +135,12 @@ impl StorageNum for u8 {
     ghost cmp_law = { λ x y. refl };
 
     ghost eq_law = { λ x y. refl };
+
+    ghost value_law = { λ x. refl };
+
+    ghost integer_law = { λ x. refl };
+
+    ghost fits_law = { λ n. (λ fits. fits, λ below. below) };
 }
 
 impl StorageNum for u16 {
@@ -157,6 +169,12 @@ impl StorageNum for u16 {
     ghost cmp_law = { λ x y. refl };
 
     ghost eq_law = { λ x y. refl };
+
+    ghost value_law = { λ x. refl };
+
+    ghost integer_law = { λ x. refl };
+
+    ghost fits_law = { λ n. (λ fits. fits, λ below. below) };
 }
 
 impl StorageNum for u32 {
@@ -185,6 +203,12 @@ impl StorageNum for u32 {
     ghost cmp_law = { λ x y. refl };
 
     ghost eq_law = { λ x y. refl };
+
+    ghost value_law = { λ x. refl };
+
+    ghost integer_law = { λ x. refl };
+
+    ghost fits_law = { λ n. (λ fits. fits, λ below. below) };
 }
 
 /// A number of one kind: of rules, productions, tokens or states.

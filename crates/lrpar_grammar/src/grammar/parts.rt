@@ -1,6 +1,5 @@
 //! The parts that a grammar is made of, as a reader or a caller hands them in, and their faults.
-ghost use Rattle.std.specs.Prelude.{◌≡◌, ◌↔◌, ◌<◌, ◌+◌, IsTrue, IsNone, Some};
-ghost use Rattle.lrpar_grammar.specs.declared.grammar.parts.GrammarFault.{GrammarFault};
+ghost use Rattle.std.specs.Prelude.{◌≡◌, ◌↔◌, ◌<◌, ◌+◌, IsTrue, IfSome, IfNone};
 ghost use Rattle.lrpar_grammar.specs.declared.grammar.parts.GrammarFault.TheVariants.{Memory};
 ghost use Rattle.lrpar_grammar.specs.Grammar.{IsListedSymbol};
 ghost use Rattle.lrpar_grammar.specs.Symbols.{symbol_of};
@@ -27,6 +26,20 @@ pub struct TokenPart {
     pub epp: Option<String>,
     /// Where it is first declared or used.
     pub span: Span,
+}
+
+impl TokenPart {
+    ghost use Rattle.lrpar_grammar.specs.Parts.{token_name_of};
+
+    // The text that messages print.
+    pub(super) fn printed(&self) -> &str
+        ensures { result.now ≡ (token_name_of self.now).epp }
+    {
+        match &self.epp {
+            Some(epp) => epp.as_str(),
+            None => self.name.as_str(),
+        }
+    }
 }
 
 /// A production: its rule, the symbols of its right side, each with its place, and its own place.
@@ -78,8 +91,8 @@ impl<StorageT: StorageNum> GrammarParts<StorageT> {
 
     // The first fault but want of memory.
     pub(crate) fn fault(&self) -> Option<GrammarFault>
-        ensures none { IsNone result ↔ AreSound StorageT.limit (parts_of StorageT.index self.now) }
-        ensures some { (fault : GrammarFault) → (result ≡ Some fault) ↔ IsFirstFault StorageT.limit (parts_of StorageT.index self.now) fault }
+        ensures found { IfSome result (IsFirstFault StorageT.limit (parts_of StorageT.index self.now)) }
+        ensures sound { IfNone result (AreSound StorageT.limit (parts_of StorageT.index self.now)) }
     {
         if self.rules.is_empty() {
             Some(GrammarFault::NoRules)

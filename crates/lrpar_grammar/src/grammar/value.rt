@@ -1,6 +1,6 @@
 //! The grammar value.
-ghost use Rattle.std.specs.Prelude.{◌≡◌, ◌<◌, ◌≤◌, ◌+◌, ◌↔◌, IfOk, IsErrOf, IsNone, length, map, option_map, position};
-ghost use Rattle.std.specs.List.{range_with_len};
+ghost use Rattle.std.specs.Prelude.{◌≡◌, ◌<◌, ◌≤◌, ◌+◌, ◌↔◌, IfOk, IsErrOf, IsNone, Some, length, map, option_map, position};
+ghost use Rattle.std.specs.List.{range_with_len, slice_get};
 ghost use Rattle.std.specs.Str.{bytes_eq};
 ghost use Rattle.lrpar_grammar.specs.Symbols.{symbol_of};
 
@@ -37,7 +37,8 @@ impl<StorageT: StorageNum> Model for YaccGrammar<StorageT> {
 }
 
 impl<StorageT: StorageNum> YaccGrammar<StorageT> {
-    ghost use Rattle.lrpar_grammar.specs.Parts.{AreSound, grammar_of, parts_of, IsFirstFault};
+    ghost use Rattle.lrpar_grammar.specs.Parts.{AreSound, grammar_of, parts_of, token_name_of, IsFirstFault};
+    ghost use Rattle.lrpar_grammar.specs.Kept.{split_prod_of};
     ghost use Rattle.lrpar_grammar.specs.Grammar.{IsWellFormed, rules_len, prods_len, tokens_len, end_token, start_prod, rule_of, symbols_of, symbol_spans_of, prod_span_of, prods_of, rule_name, rule_span, token_name, token_epp, token_span};
 
     /// The grammar of the parts. Its rules are the added rule and the listed ones, in order; its productions the
@@ -135,7 +136,7 @@ impl<StorageT: StorageNum> YaccGrammar<StorageT> {
         requires { StorageT.index pidx.0 < prods_len self.now }
         ensures { map (symbol_of StorageT.index) result.now ≡ symbols_of self.now (StorageT.index pidx.0) }
     {
-        &self.prods[usize::from(pidx)].symbols
+        &self.kept(pidx).symbols
     }
 
     /// Where each symbol of a production stands.
@@ -143,7 +144,7 @@ impl<StorageT: StorageNum> YaccGrammar<StorageT> {
         requires { StorageT.index pidx.0 < prods_len self.now }
         ensures { result.now ≡ symbol_spans_of self.now (StorageT.index pidx.0) }
     {
-        &self.prods[usize::from(pidx)].symbol_spans
+        &self.kept(pidx).symbol_spans
     }
 
     /// The rule of a production.
@@ -152,7 +153,7 @@ impl<StorageT: StorageNum> YaccGrammar<StorageT> {
         ensures rule { StorageT.index result.0 ≡ rule_of self.now (StorageT.index pidx.0) }
         ensures within { StorageT.index result.0 < rules_len self.now }
     {
-        self.prods[usize::from(pidx)].rule
+        self.kept(pidx).rule
     }
 
     /// Where a production stands.
@@ -160,7 +161,16 @@ impl<StorageT: StorageNum> YaccGrammar<StorageT> {
         requires { StorageT.index pidx.0 < prods_len self.now }
         ensures { result ≡ prod_span_of self.now (StorageT.index pidx.0) }
     {
-        self.prods[usize::from(pidx)].span
+        self.kept(pidx).span
+    }
+
+    // A production as it is kept.
+    fn kept(&self, pidx: PIdx<StorageT>) -> &SplitProd<StorageT>
+        requires { StorageT.index pidx.0 < prods_len self.now }
+        ensures prod { slice_get (self.now).prods (StorageT.index pidx.0) ≡ Some (split_prod_of StorageT.index result.now) }
+        ensures within { StorageT.index result.now.rule.0 < rules_len self.now }
+    {
+        &self.prods[usize::from(pidx)]
     }
 
     /// The productions of a rule, ascending.
@@ -199,7 +209,7 @@ impl<StorageT: StorageNum> YaccGrammar<StorageT> {
         ensures name { option_map (λ text. text.now) result ≡ token_name self.now (StorageT.index tidx.0) }
         ensures end { IsNone result ↔ (StorageT.index tidx.0 ≡ end_token self.now) }
     {
-        let token = self.tokens.get(usize::from(tidx))?;
+        let token = self.token(tidx)?;
         Some(token.name.as_str())
     }
 
@@ -209,11 +219,8 @@ impl<StorageT: StorageNum> YaccGrammar<StorageT> {
         ensures epp { option_map (λ text. text.now) result ≡ token_epp self.now (StorageT.index tidx.0) }
         ensures end { IsNone result ↔ (StorageT.index tidx.0 ≡ end_token self.now) }
     {
-        let token = self.tokens.get(usize::from(tidx))?;
-        match &token.epp {
-            Some(epp) => Some(epp.as_str()),
-            None => Some(token.name.as_str()),
-        }
+        let token = self.token(tidx)?;
+        Some(token.printed())
     }
 
     /// Where a token is first declared or used: none for the end token alone.
@@ -222,8 +229,17 @@ impl<StorageT: StorageNum> YaccGrammar<StorageT> {
         ensures span { result ≡ token_span self.now (StorageT.index tidx.0) }
         ensures end { IsNone result ↔ (StorageT.index tidx.0 ≡ end_token self.now) }
     {
-        let token = self.tokens.get(usize::from(tidx))?;
+        let token = self.token(tidx)?;
         Some(token.span)
+    }
+
+    // What is kept of a token: nothing for the end token alone.
+    fn token(&self, tidx: TIdx<StorageT>) -> Option<&TokenPart>
+        requires { StorageT.index tidx.0 < tokens_len self.now }
+        ensures token { option_map (λ token. token_name_of token.now) result ≡ slice_get (self.now).tokens (StorageT.index tidx.0) }
+        ensures end { IsNone result ↔ (StorageT.index tidx.0 ≡ end_token self.now) }
+    {
+        self.tokens.get(usize::from(tidx))
     }
 
     /// The start production, the last one.

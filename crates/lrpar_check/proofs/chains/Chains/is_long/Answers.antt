@@ -17,7 +17,7 @@ loop-made-init g c =
     }
 
 pub take_step-requires-clause-some : goal.take_step-requires-clause-some
-take_step-requires-clause-some g c = c.loop-made.invariant.some
+take_step-requires-clause-some g c = rw length-map c.loop-made.invariant.some
 
 pub take_step-requires-clause-within : goal.take_step-requires-clause-within
 take_step-requires-clause-within g c = c.loop-made.invariant.within
@@ -48,7 +48,7 @@ loop-made-preserved g c =
     }
 
 pub take_step-requires-2-clause-some : goal.take_step-requires-2-clause-some
-take_step-requires-2-clause-some g c = c.loop-made.invariant.some
+take_step-requires-2-clause-some g c = rw length-map c.loop-made.invariant.some
 
 pub take_step-requires-2-clause-within : goal.take_step-requires-2-clause-within
 take_step-requires-2-clause-within g c = c.loop-made.invariant.within

@@ -1,8 +1,8 @@
-use Rattle.std.proofs.Common.{◌≡◌, ◌<◌, ◌++◌, ◌∷◌, [], map, length, take, sym, ap, ◌∙◌, refl, arith}
+use Rattle.std.proofs.Common.{◌≡◌, ◌<◌, map, length, take, ap, ◌∙◌, refl, arith}
 use Rattle.std.proofs.lemmas.List.{take_all}
 use Rattle.std.proofs.lemmas.Simd.{map-map}
 use Rattle.lrpar_grammar.specs.Symbols.{symbol_of}
-use Rattle.lrpar_grammar.proofs.ListLemmas.{map-take_more}
+use Rattle.lrpar_grammar.proofs.ListLemmas.{copies_more}
 use Rattle.lrpar_grammar.proofs.grammar.prods.split_prod.Goals as goal
 
 pub loop-symbol-preserved : goal.loop-symbol-preserved
@@ -12,10 +12,10 @@ loop-symbol-preserved g c =
     let pair = c.loop-symbol-item.result in
     let is = rw c.deref-symbol-items.ensures.value at c.loop-symbol-item.is in
     record {
-      symbols = c.in_ok-push.ensures.items ∙ ap (λ s. s ++ pair.0 ∷ []) c.loop-symbol.invariant.symbols
-          ∙ sym (map-take_more (λ x. x.0) pairs c.loop-symbol.symbol-index pair within is);
-      spans = c.in_ok-push-2.ensures.items ∙ ap (λ s. s ++ pair.1 ∷ []) c.loop-symbol.invariant.spans
-          ∙ sym (map-take_more (λ x. x.1) pairs c.loop-symbol.symbol-index pair within is);
+      symbols = copies_more (λ x. x.0) pairs c.loop-symbol.symbol-index pair c.loop-symbol.symbols.items c.push.new.self.items
+          within is c.loop-symbol.invariant.symbols c.in_ok-push.ensures.items;
+      spans = copies_more (λ x. x.1) pairs c.loop-symbol.symbol-index pair c.loop-symbol.symbol_spans.items c.push-in-loop-symbol.new.self.items
+          within is c.loop-symbol.invariant.spans c.in_ok-push-2.ensures.items;
     }
 
 pub returns : goal.returns

@@ -1,20 +1,35 @@
-use Rattle.std.proofs.Common.{◌<◌, length, arith}
-use Rattle.std.proofs.lemmas.List.{length-map}
-use Rattle.lrpar_states.specs.Table.{IsActionWithin, states_len}
-use Rattle.lrpar_states.specs.PlainRows.{plain_action, table_of}
-use Rattle.lrpar_states.proofs.Mapped.{index_in_row}
+use Rattle.std.proofs.Common.{◌∙◌, sym}
+use Rattle.lrpar_states.specs.PlainRows.{plain_action}
+use Rattle.lrpar_states.specs.Table.{actions_at}
+use Rattle.lrpar_states.proofs.EntryLemmas.{action_missing, action_within_row, keys_ascend, read_entry, read_none}
 use Rattle.lrpar_states.proofs.table.StateTable.action.Goals as goal
 
-pub bounds-row-from : goal.bounds-row-from
-bounds-row-from g c =
+pub place_of-requires : goal.place_of-requires
+place_of-requires g c =
     let index = g.StorageT.StorageNum.index in
-    let table = table_of index c.self.inside.rows in
-    let state : c.from.result < length c.self.inside.rows.actions.items =
-    rw c.from.ensures (simp length-map at (rw (← c.self.view_is) at c.requires.state)) in
-    let token : c.from-2.result < table.tokens = rw c.from-2.ensures (rw (← c.self.view_is) at c.requires.token) in
-    rw c.as_slice-row.ensures.value
-    (index_in_row (IsActionWithin (states_len table)) (λ row. row.items) (plain_action index) c.self.inside.rows.actions.items table.tokens
-    c.from.result c.from-2.result c.index.result.now c.self.invariant.action_rows state c.index.ensures token)
+    let at = c.actions_of.ensures in
+    keys_ascend (λ t. index t.0) (plain_action index) c.actions_of.result.0.now c.actions_of.result.1.now (actions_at c.args.self.now (index c.args.s.0)) at.actions at.entries at.ascending
 
-pub offset_bounds-row-from : goal.offset_bounds-row-from
-offset_bounds-row-from g c = let below = bounds-row-from g c in omega arith
+pub returns-in-Some-clause-action : goal.returns-in-Some-clause-action
+returns-in-Some-clause-action g c =
+    let index = g.StorageT.StorageNum.index in
+    let at = c.actions_of.ensures in
+    let there =
+    read_entry (λ t. index t.0) (plain_action index) c.actions_of.result.0.now c.actions_of.result.1.now (actions_at c.args.self.now (index c.args.s.0)) at.actions at.entries c.in-Some.place
+    (index c.args.t.0) c.index-actions-place.result c.in-Some.ensures.0 (c.in-Some.ensures.1 ∙ c.from.ensures) c.index-actions-place.is in
+    let found = (at.exact (index c.args.t.0) (plain_action index c.index-actions-place.result)).0 there in
+    sym found.0
+
+pub returns-in-Some-clause-within : goal.returns-in-Some-clause-within
+returns-in-Some-clause-within g c = action_within_row _ _ _ c.actions_of.ensures.within
+
+pub returns-in-None-clause-action : goal.returns-in-None-clause-action
+returns-in-None-clause-action g c =
+    let index = g.StorageT.StorageNum.index in
+    let at = c.actions_of.ensures in
+    let missing = rw c.from.ensures at c.in-None.ensures in
+    sym (action_missing c.args.self.now (index c.args.s.0) (index c.args.t.0)
+    (read_none (λ t. index t.0) (plain_action index) c.actions_of.result.0.now c.actions_of.result.1.now (actions_at c.args.self.now (index c.args.s.0)) at.actions at.entries (index c.args.t.0) missing))
+
+pub returns-in-None-clause-within : goal.returns-in-None-clause-within
+returns-in-None-clause-within g c = action_within_row _ _ _ c.actions_of.ensures.within

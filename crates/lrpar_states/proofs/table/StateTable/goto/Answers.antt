@@ -1,21 +1,46 @@
-use Rattle.std.proofs.Common.{◌<◌, length, arith}
-use Rattle.std.proofs.lemmas.List.{length-map}
-use Rattle.lrpar_states.specs.Table.{IsGotoWithin, states_len}
-use Rattle.lrpar_states.specs.PlainRows.{plain_goto, table_of}
-use Rattle.lrpar_states.proofs.Mapped.{index_in_row}
+use Rattle.std.proofs.Common.{◌∙◌, sym, subst}
+use Rattle.lrpar_states.specs.Table.{IsGotoWithin, gotos_at}
+use Rattle.lrpar_states.proofs.EntryLemmas.{goto_missing, goto_within_row, keys_ascend, read_entry, read_none}
 use Rattle.lrpar_states.proofs.table.StateTable.goto.Goals as goal
 
-pub bounds-row-from : goal.bounds-row-from
-bounds-row-from g c =
+pub place_of-requires : goal.place_of-requires
+place_of-requires g c =
     let index = g.StorageT.StorageNum.index in
-    let table = table_of index c.self.inside.rows in
-    let below : index c.args.s.0 < states_len table = rw (← c.self.view_is) at c.requires.state in
-    let state : c.from.result < length c.self.inside.rows.gotos.items =
-    rw c.from.ensures (simp length-map at (rw (← c.self.invariant.gotos_len) at below)) in
-    let rule : c.from-2.result < table.rules = rw c.from-2.ensures (rw (← c.self.view_is) at c.requires.rule) in
-    rw c.as_slice-row.ensures.value
-    (index_in_row (IsGotoWithin (states_len table)) (λ row. row.items) (plain_goto index) c.self.inside.rows.gotos.items table.rules
-    c.from.result c.from-2.result c.index.result.now c.self.invariant.goto_rows state c.index.ensures rule)
+    let at = c.gotos_of.ensures in
+    keys_ascend (λ r. index r.0) (λ s. index s.0) c.gotos_of.result.0.now c.gotos_of.result.1.now (gotos_at c.args.self.now (index c.args.s.0)) at.states at.entries at.ascending
 
-pub offset_bounds-row-from : goal.offset_bounds-row-from
-offset_bounds-row-from g c = let below = bounds-row-from g c in omega arith
+pub returns-in-Some-clause-goto : goal.returns-in-Some-clause-goto
+returns-in-Some-clause-goto g c =
+    let index = g.StorageT.StorageNum.index in
+    let at = c.gotos_of.ensures in
+    let there =
+    read_entry (λ r. index r.0) (λ s. index s.0) c.gotos_of.result.0.now c.gotos_of.result.1.now (gotos_at c.args.self.now (index c.args.s.0)) at.states at.entries c.in-Some.place
+    (index c.args.r.0) c.index-states-place.result c.in-Some.ensures.0 (c.in-Some.ensures.1 ∙ c.from.ensures) c.index-states-place.is in
+    sym ((at.exact (index c.args.r.0) (index c.index-states-place.result.0)).0 there)
+
+pub returns-in-Some-clause-within : goal.returns-in-Some-clause-within
+returns-in-Some-clause-within g c =
+    let index = g.StorageT.StorageNum.index in
+    let at = c.gotos_of.ensures in
+    let there =
+    read_entry (λ r. index r.0) (λ s. index s.0) c.gotos_of.result.0.now c.gotos_of.result.1.now (gotos_at c.args.self.now (index c.args.s.0)) at.states at.entries c.in-Some.place
+    (index c.args.r.0) c.index-states-place.result c.in-Some.ensures.0 (c.in-Some.ensures.1 ∙ c.from.ensures) c.index-states-place.is in
+    let found = (at.exact (index c.args.r.0) (index c.index-states-place.result.0)).0 there in
+    subst (IsGotoWithin c.args.self.now.states) (sym found) (goto_within_row c.args.self.now (index c.args.s.0) (index c.args.r.0) (index c.index-states-place.result.0) at.within there)
+
+pub returns-in-None-clause-goto : goal.returns-in-None-clause-goto
+returns-in-None-clause-goto g c =
+    let index = g.StorageT.StorageNum.index in
+    let at = c.gotos_of.ensures in
+    let missing = rw c.from.ensures at c.in-None.ensures in
+    sym (goto_missing c.args.self.now (index c.args.s.0) (index c.args.r.0)
+    (read_none (λ r. index r.0) (λ s. index s.0) c.gotos_of.result.0.now c.gotos_of.result.1.now (gotos_at c.args.self.now (index c.args.s.0)) at.states at.entries (index c.args.r.0) missing))
+
+pub returns-in-None-clause-within : goal.returns-in-None-clause-within
+returns-in-None-clause-within g c =
+    let index = g.StorageT.StorageNum.index in
+    let at = c.gotos_of.ensures in
+    let missing = rw c.from.ensures at c.in-None.ensures in
+    let none = goto_missing c.args.self.now (index c.args.s.0) (index c.args.r.0)
+    (read_none (λ r. index r.0) (λ s. index s.0) c.gotos_of.result.0.now c.gotos_of.result.1.now (gotos_at c.args.self.now (index c.args.s.0)) at.states at.entries (index c.args.r.0) missing) in
+    subst (IsGotoWithin c.args.self.now.states) (sym none) tt

@@ -1,0 +1,83 @@
+use Rattle.std.proofs.Common.{◌≡◌, ◌<◌, ◌≤◌, ◌+◌, ◌-◌, ◌*◌, ◌^◌, ℕ, arith, length, refl, rules, subst, sym}
+use Rattle.std.proofs.Math.Nat.{mul-le-mul_right}
+use Rattle.lrpar_check.specs.Chain.{most_reductions}
+use Rattle.lrpar_check.proofs.SettleLemmas.{run_of_checked, stack_reduced_once, stack_settled_by, stack_states}
+use Rattle.lrpar_check.proofs.check.ParserData.settle_on.Goals as goal
+
+pub take_step-requires-clause-within : goal.take_step-requires-clause-within
+take_step-requires-clause-within g c =
+    rw c.stable-table.ensures.table (stack_states c.args.self.now.table c.stable-table.ensures.checked.closed _ c.reductions.invariant.stack)
+
+-- each step leaves less to be made
+left_to_make : (most made more : ℕ) → made < most → more ≡ made + 1 → most - more < most - made
+left_to_make most made more below is = omega arith
+
+-- what the cap allows a list is a number that is counted by
+most_fit : (cap height most made : ℕ) → cap < 2 ^ 16 → height < 2 ^ 64 → most ≡ cap * height → made < most → made + 1 < 2 ^ 128
+most_fit cap height most made small short is below =
+    let times : cap * height ≤ 65536 * height = mul-le-mul_right height (omega arith) in
+    omega (arith, times)
+
+pub overflow_add-count : goal.overflow_add-count
+overflow_add-count g c =
+    let kind = g.S.StateStack in
+    let d = c.args.self.now in
+    let run = run_of_checked d c.stable-table.ensures.checked c.stable-table.ensures.runs c.stable-table.ensures.bounds in
+    let made = c.reductions.invariant.made in
+    let step = rw (c.grm-grm.ensures, c.stable-table.ensures.table) at c.in_ok-take_step.ensures.made in
+    let more =
+    stack_reduced_once d.grammar d.table d.cap run (g.StorageT.StorageNum.index c.args.t.0) c.requires.token kind.states kind.reduces c.args.stack.now
+    c.reductions.stack c.take_step.new.states made.0 c.in_ok-take_step.field-0 c.requires.stack c.reductions.invariant.stack made.1 c.in-Reduced.is
+    step in
+    let below = subst (λ (n : ℕ). n < most_reductions d.cap (length (kind.states c.args.stack.now))) (sym made.2) more.1 in
+    let small = subst (λ (n : ℕ). n < 2 ^ 16) c.cap-cap.ensures c.cap-cap.type_inv in
+    let short = subst (λ (n : ℕ). n < 2 ^ 64) c.height-height.ensures c.height-height.type_inv in
+    let fits : c.reductions.count + 1 < 2 ^ 128 =
+    most_fit d.cap (length (kind.states c.args.stack.now)) (most_reductions d.cap (length (kind.states c.args.stack.now))) c.reductions.count small short
+    refl below in
+    search rules
+
+pub reductions-smaller : goal.reductions-smaller
+reductions-smaller g c =
+    let kind = g.S.StateStack in
+    let d = c.args.self.now in
+    let run = run_of_checked d c.stable-table.ensures.checked c.stable-table.ensures.runs c.stable-table.ensures.bounds in
+    let made = c.reductions.invariant.made in
+    let step = rw (c.grm-grm.ensures, c.stable-table.ensures.table) at c.in_ok-take_step.ensures.made in
+    let more =
+    stack_reduced_once d.grammar d.table d.cap run (g.StorageT.StorageNum.index c.args.t.0) c.requires.token kind.states kind.reduces c.args.stack.now
+    c.reductions.stack c.take_step.new.states made.0 c.in_ok-take_step.field-0 c.requires.stack c.reductions.invariant.stack made.1 c.in-Reduced.is
+    step in
+    left_to_make (most_reductions d.cap (length (kind.states c.args.stack.now))) c.reductions.count (c.reductions.count + 1)
+    (subst (λ (n : ℕ). n < most_reductions d.cap (length (kind.states c.args.stack.now))) (sym made.2) more.1) refl
+
+pub reductions-preserved : goal.reductions-preserved
+reductions-preserved g c =
+    let kind = g.S.StateStack in
+    let d = c.args.self.now in
+    let run = run_of_checked d c.stable-table.ensures.checked c.stable-table.ensures.runs c.stable-table.ensures.bounds in
+    let made = c.reductions.invariant.made in
+    let step = rw (c.grm-grm.ensures, c.stable-table.ensures.table) at c.in_ok-take_step.ensures.made in
+    let more =
+    stack_reduced_once d.grammar d.table d.cap run (g.StorageT.StorageNum.index c.args.t.0) c.requires.token kind.states kind.reduces c.args.stack.now
+    c.reductions.stack c.take_step.new.states made.0 c.in_ok-take_step.field-0 c.requires.stack c.reductions.invariant.stack made.1 c.in-Reduced.is
+    step in
+    record {
+      can = c.in_ok-take_step.ensures.can;
+      stack = more.0;
+      made = (more.2.0, more.2.2, omega (arith, more.2.1, made.2));
+    }
+
+pub returns : goal.returns
+returns g c =
+    let kind = g.S.StateStack in
+    let d = c.args.self.now in
+    let run = run_of_checked d c.stable-table.ensures.checked c.stable-table.ensures.runs c.stable-table.ensures.bounds in
+    let made = c.reductions.invariant.made in
+    let of_states = rw (c.grm-grm.ensures, c.stable-table.ensures.table) at c.in_ok-take_step.ensures.step in
+    let of_stack = rw (c.grm-grm.ensures, c.stable-table.ensures.table) at c.in_ok-take_step.ensures.made in
+    let settled =
+    stack_settled_by d.grammar d.table d.cap run (g.StorageT.StorageNum.index c.args.t.0) c.requires.token kind.states kind.reduces c.args.stack.now
+    c.reductions.stack c.take_step.new.states made.0 c.reductions.count c.in_ok-take_step.field-0 c.requires.stack c.reductions.invariant.stack
+    made.1 made.2 c.in_default.not-Reduced of_states of_stack in
+    record { settled = settled; can = c.in_ok-take_step.ensures.can; held_up = tt; stack = settled.of_states.stack }

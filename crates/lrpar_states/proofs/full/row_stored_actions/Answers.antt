@@ -1,0 +1,16 @@
+use Rattle.std.proofs.Common.{◌∙◌, ◌++◌, ap, sym}
+use Rattle.std.specs.Option.{option_to_list}
+use Rattle.lrpar_states.specs.PlainRows.{plain_action}
+use Rattle.lrpar_states.specs.Rows.{unless_error, kept_entry}
+use Rattle.lrpar_states.proofs.RowLemmas.{row_entries_more}
+use Rattle.lrpar_states.proofs.full.row_stored_actions.Goals as goal
+
+pub loop-number-preserved : goal.loop-number-preserved
+loop-number-preserved g c =
+    let index = g.StorageT.StorageNum.index in
+    let number = c.loop-number.number in
+    let item = c.index-row-number.result in
+    let more =
+    row_entries_more unless_error (plain_action index) c.args.row.now number item c.loop-number-test.true c.index-row-number.is in
+    c.in_ok-push_action.ensures
+    ∙ (ap (λ es. es ++ option_to_list (kept_entry unless_error (number, plain_action index item))) c.loop-number.invariant ∙ sym more)

@@ -1,0 +1,16 @@
+use Rattle.std.proofs.Common.{◌∙◌, ◌++◌, ap, sym}
+use Rattle.std.specs.Option.{option_to_list}
+use Rattle.lrpar_states.specs.PlainRows.{plain_goto}
+use Rattle.lrpar_states.specs.Rows.{kept_entry}
+use Rattle.lrpar_states.proofs.RowLemmas.{row_entries_more}
+use Rattle.lrpar_states.proofs.full.row_stored_gotos.Goals as goal
+
+pub loop-number-preserved : goal.loop-number-preserved
+loop-number-preserved g c =
+    let index = g.StorageT.StorageNum.index in
+    let number = c.loop-number.number in
+    let item = c.index-row-number.result in
+    let more =
+    row_entries_more (λ goto. goto) (plain_goto index) c.args.row.now number item c.loop-number-test.true c.index-row-number.is in
+    c.in_ok-push_goto.ensures
+    ∙ (ap (λ es. es ++ option_to_list (kept_entry (λ goto. goto) (number, plain_goto index item))) c.loop-number.invariant ∙ sym more)

@@ -1,0 +1,18 @@
+use Rattle.std.proofs.Common.{refl}
+use Rattle.lrpar_states.specs.Table.{action_of, goto_of}
+use Rattle.lrpar_states.proofs.laws.sum_table_acts.Goals as goal
+
+pub returns : goal.returns
+unfolding action_of goto_of
+returns c = record {
+  states = refl;
+  shifts = refl;
+  reduces = refl;
+  accepts = refl;
+  fails = refl;
+  no_state = refl;
+  no_token = refl;
+  goes = refl;
+  goes_nowhere = refl;
+  no_rule = refl;
+}

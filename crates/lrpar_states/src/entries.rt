@@ -1,0 +1,155 @@
+//! Rows of entries, laid out for a search of their keys.
+ghost use Rattle.std.specs.Prelude.{◌≡◌, ◌<◌, ◌≤◌, ◌+◌, ◌++◌, ℕ, [], List, IfOk, OnOk, MatchOption, Contains, length, map, slice_index, slice_index_or, slice_range, zip};
+ghost use Rattle.std.specs.List.Sorted.{IsStrictlyIncreasing};
+
+use lrpar_grammar::span::{RIdx, StorageNum, TIdx};
+use std::alloc::{AllocError, Global};
+use std::marker::Model;
+
+/// What entries are found by: a number.
+pub(crate) trait Key: Copy {
+    /// The number.
+    ghost number: { Self → ℕ };
+
+    /// The number.
+    fn to_number(self) -> usize
+        ensures { result ≡ number self };
+}
+
+impl<StorageT: StorageNum> Key for TIdx<StorageT> {
+    ghost number = { λ token. StorageT.index token.0 };
+
+    fn to_number(self) -> usize {
+        self.0.to_index()
+    }
+}
+
+impl<StorageT: StorageNum> Key for RIdx<StorageT> {
+    ghost number = { λ rule. StorageT.index rule.0 };
+
+    fn to_number(self) -> usize {
+        self.0.to_index()
+    }
+}
+
+/// Rows of entries, each a key with its value. All keys stand in one list, row after row, and the values in another.
+#[derive(Debug, Drop)]
+pub(crate) struct Entries<K, V> {
+    starts: Vec<usize>,
+    keys: Vec<K>,
+    values: Vec<V>,
+}
+
+impl<K, V> Model for Entries<K, V> {
+    ghost use Rattle.std.specs.Prelude.{List, zip};
+    ghost use Rattle.lrpar_states.specs.Entries.{AreParts, cut};
+
+    ghost Value = { List (List (K × V)) };
+
+    ghost view = { λ e. cut e.starts.items (zip e.keys.items e.values.items) };
+
+    ghost invariant = { λ e. AreParts e.starts.items e.keys.items e.values.items };
+}
+
+impl<K: Copy, V: Copy> Entries<K, V> {
+    /// The entries of these rows, which are copied.
+    pub(crate) fn from_rows(alloc: Global, rows: &[Vec<(K, V)>]) -> Result<Self, AllocError>
+        ensures { IfOk result (λ entries. entries ≡ map (λ row. row.items) rows.now) }
+    {
+        let mut starts = Vec::with_capacity(alloc, rows.len() + 1)?;
+        let mut keys = Vec::new(alloc);
+        let mut values = Vec::new(alloc);
+        starts.push(0)?;
+        for row in rows {
+            push_row(&mut keys, &mut values, row)?;
+            starts.push(keys.len())?;
+        }
+        Ok(Entries {
+            starts,
+            keys,
+            values,
+        })
+    }
+
+    /// How many rows there are.
+    pub(crate) fn rows_len(&self) -> usize
+        ensures { result ≡ length self.now }
+    {
+        self.starts.len() - 1
+    }
+
+    /// The keys of a row, and their values, in the same order.
+    #[inline]
+    pub(crate) fn row(&self, number: usize) -> (&[K], &[V])
+        requires { number < length self.now }
+        ensures entries { zip result.0.now result.1.now ≡ slice_index_or self.now number [] }
+        ensures values { length result.1.now ≡ length result.0.now }
+    {
+        let start = self.starts[number];
+        let end = self.starts[number + 1];
+        parts(&self.keys, &self.values, start, end)
+    }
+}
+
+/// The part from `start` to `end` of both lists.
+#[inline]
+fn parts<'a, K, V>(
+    keys: &'a [K],
+    values: &'a [V],
+    start: usize,
+    end: usize,
+) -> (&'a [K], &'a [V])
+    requires up { start ≤ end }
+    requires within { end ≤ length keys.now }
+    requires paired { length values.now ≡ length keys.now }
+    ensures keys { result.0.now ≡ slice_range keys.now start end }
+    ensures values { result.1.now ≡ slice_range values.now start end }
+    ensures paired { length result.1.now ≡ length result.0.now }
+{
+    (&keys[start..end], &values[start..end])
+}
+
+/// Appends the keys of the row, and their values.
+fn push_row<K: Copy, V: Copy>(
+    keys: &mut Vec<K>,
+    values: &mut Vec<V>,
+    row: &[(K, V)],
+) -> Result<(), AllocError>
+    requires { length values.old.items ≡ length keys.old.items }
+    ensures values { OnOk result (length values.new.items ≡ length keys.new.items) }
+    ensures len { OnOk result (length keys.new.items ≡ length keys.old.items + length row.now) }
+    ensures entries { OnOk result (zip keys.new.items values.new.items ≡ zip keys.old.items values.old.items ++ row.now) }
+{
+    for (key, value) in row {
+        keys.push(*key)?;
+        values.push(*value)?;
+    }
+    Ok(())
+}
+
+/// The place of the key of this number, if it is one of the keys, which ascend. The part that is
+/// left is halved until one is, and no branch hangs on a comparison until then.
+#[inline]
+pub(crate) fn place_of<K: Key>(keys: &[K], wanted: usize) -> Option<usize>
+    requires { IsStrictlyIncreasing (map K.number keys.now) }
+    ensures { MatchOption result (¬ (Contains (map K.number keys.now) wanted))
+        (λ place. (place < length keys.now) × (slice_index (map K.number keys.now) place ≡ wanted)) }
+{
+    let mut base = 0;
+    let mut size = keys.len();
+    while size > 1 {
+        let half = size / 2;
+        let middle = base + half;
+        base = if keys[middle].to_number() <= wanted {
+            middle
+        } else {
+            base
+        };
+        size -= half;
+    }
+    if size == 1 && keys[base].to_number() == wanted {
+        Some(base)
+    } else {
+        None
+    }
+}

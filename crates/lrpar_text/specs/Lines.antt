@@ -1,0 +1,46 @@
+-- Lines and columns of a text of UTF-8 bytes. A line starts at byte 0 and after each line feed; it ends before its
+-- line feed, and the last one at the text's end.
+use Rattle.std.specs.Prelude.{ℕ, ◌+◌, ◌-◌, ◌==◌, Bool, not, List, length, count_by, filter, take, drop, slice_index, slice_range}
+use Rattle.std.specs.List.{prefix_len, suffix_len, range_with_len}
+use Rattle.std.specs.Str.{chars}
+
+-- a line feed
+abbrev pub is_line_feed : ℕ → Bool
+is_line_feed byte = byte == 10
+
+-- a byte that isn't one
+abbrev pub is_in_line : ℕ → Bool
+is_in_line byte = not (is_line_feed byte)
+
+-- the start of the line of byte i: back from i over all bytes that aren't line feeds
+abbrev pub line_start : List ℕ → ℕ → ℕ
+line_start text i = i - suffix_len is_in_line (take i text)
+
+-- the end of the line of byte i: forward from i over all bytes that aren't line feeds
+abbrev pub line_end : List ℕ → ℕ → ℕ
+line_end text i = i + prefix_len is_in_line (drop i text)
+
+-- the lines from that of byte i to that of byte j, without the last line feed
+abbrev pub lines_of : List ℕ → ℕ → ℕ → List ℕ
+lines_of text i j = slice_range text (line_start text i) (line_end text j)
+
+-- the line of byte i: one more than the line feeds before it
+abbrev pub line_of : List ℕ → ℕ → ℕ
+line_of text i = 1 + count_by is_line_feed (take i text)
+
+-- the column of byte i: one more than the characters between its line's start and it
+abbrev pub column_of : List ℕ → ℕ → ℕ
+column_of text i = 1 + length (chars (slice_range text (line_start text i) i))
+
+-- whether a line starts at byte i, which isn't the first: the byte before it is a line feed
+abbrev pub starts_line : List ℕ → ℕ → Bool
+starts_line text i = is_line_feed (slice_index text (i - 1))
+
+-- where the lines of a text start but for the first, ascending, and how many bytes the text has
+pub record LineTable : Type 0 where
+  pub starts : List ℕ
+  pub len : ℕ
+
+-- those of a text
+abbrev pub line_table : List ℕ → LineTable
+line_table text = record { starts = filter (starts_line text) (range_with_len 1 (length text)); len = length text }
