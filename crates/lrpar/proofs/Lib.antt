@@ -1,7 +1,9 @@
 pub mod RepairLemmas
 pub mod LexemeLemmas
-pub mod ParseLemmas
+pub mod ListLemmas
 pub mod RunLemmas
-pub mod StandingLemmas
 pub mod StackedLemmas
+pub mod StandingLemmas
 pub mod OverLemmas
+pub mod ParseLemmas
+pub mod FoldLemmas

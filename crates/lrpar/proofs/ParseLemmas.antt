@@ -1,106 +1,160 @@
--- The answers of a parse whose lexer answered no error.
-use Rattle.std.proofs.Common.{◌≡◌, ℕ, List, [], ◌∷◌, map, MatchOption, IsSome, Option, Some, None, Result, Ok, Err, inl, inr, IfOk, IfErr, Vec, refl, sym, subst, ap, ◌∙◌}
-use Rattle.lrpar_grammar.specs.Sentence.{LexemeFacts, IsFirstBadToken, IsFirstEarlyStart}
+-- The answers of a parse: by the ends of its run, by its lexing error or by a fault of its lexemes; and seen as another answer.
+use Rattle.std.proofs.Common.{◌≡◌, ◌≤◌, ◌∙◌, ℕ, List, [], ◌∷◌, length, map, MatchOption, IsSome, Option, Some, None, Result, Ok, Err, inl, inr, IfOk, IfErr, Vec, refl, sym, subst, ap}
+use Rattle.std.specs.List.{AllZip}
+use Rattle.lrpar_grammar.specs.Grammar.{GrammarSymbol}
+use Rattle.lrpar_grammar.specs.Sentence.{LexemeFacts, IsFirstBadToken, IsFirstEarlyStart, IsSentence}
+use Rattle.lrpar_grammar.specs.Tree.{Tree}
+use Rattle.lrpar_check.specs.Checked.{Checked}
+use Rattle.lrpar.specs.End.{AcceptsWith, EndsSo, IsAnswerOf, IsOfTree, StopsAt, failure_at}
 use Rattle.lrpar.specs.Lexed.{first_error, lexemes_of}
 use Rattle.lrpar.specs.LexemeFault.{IsLexemeFault}
-use Rattle.lrpar.specs.Answer.{HasValueOrFailure, IsErrorAlone, IsRunFault}
-use Rattle.std.specs.List.{AllZip}
-use Rattle.lrpar_check.specs.Checked.{Checked}
-use Rattle.lrpar.specs.Parse.{IsParse, lexeme_facts}
-use Rattle.lrpar.specs.Run.{Run, Stop, comes_through, gives_up}
-use Rattle.lrpar.specs.RunAnswer.{IsErrorOf, IsRunAnswer, IsValueOf}
-use Rattle.lrpar.specs.declared.errors.LexParseError.TheVariants.{LexError, ParseError}
+use Rattle.lrpar.specs.Parse.{IsParse, Parses, lexeme_facts}
+use Rattle.lrpar.specs.Run.{Stop}
+use Rattle.lrpar.specs.RunAnswer.{HasValue, IsErrorOf, IsOneWay, IsRunAnswer}
 use Rattle.lrpar.specs.declared.errors.LexParseError.{LexParseError}
+use Rattle.lrpar.specs.declared.errors.LexParseError.TheVariants.{LexError, ParseError}
 use Rattle.lrpar.specs.declared.fault.ParseFault.{ParseFault}
-use Rattle.lrpar.specs.declared.fault.ParseFault.TheVariants.{BadToken, StartsDecrease}
+use Rattle.lrpar.specs.declared.fault.ParseFault.TheVariants.{BadToken, StartsDecrease, Memory}
+use Rattle.lrpar.specs.declared.run.End.{End}
+use Rattle.lrpar.specs.declared.run.End.TheVariants.{Accepts, Stops}
 use Rattle.lrpar.proofs.LexemeLemmas.{valid_not_bad, valid_not_early}
 
--- an option that is a value is one
-is_some_from : {A : Type 0} (o : Option A) (v : A) → o ≡ Some v → IsSome o
-is_some_from None v e = absurd (let no : ⊥ = cc in no)
-is_some_from (Some w) v e = refl
+-- an answer isn't none and some at once
+none_not_some : {A : Type 0} (o : Option A) (x : A) → o ≡ None → o ≡ Some x → ⊥
+none_not_some o x none some = let differ : ◌≡◌ {A = Option _} None (Some x) = sym none ∙ some in cc
 
--- what holds of a value in place of what held of it
-if_ok_weaker : {T E : Type 0} {P Q : T → Type 0} (r : Result T E) → ((x : T) → P x → Q x) → IfOk r P → IfOk r Q
-if_ok_weaker (Ok x) weaker h = weaker x h
-if_ok_weaker (Err e) weaker h = tt
+-- nor a value and a refusal
+ok_not_err : {A F : Type 0} (x : A) (f : F) → ◌≡◌ {A = Result A F} (Ok x) (Err f) → ⊥
+ok_not_err x f e = cc
 
--- a fault of a lexeme is answered
-pub fault_is_parse : {V S L A B C Z : Type 0} (d : Checked) (facts : B → LexemeFacts) (leaf : B → V → Type 0) (node : ℕ → List V → V → Type 0) (lexed : List (Result B C)) (lexemes : List B) (fault : ParseFault)
-    → first_error lexed ≡ None → lexemes ≡ lexemes_of lexed → IsLexemeFault d.grammar (map facts lexemes) (Some fault)
-    → IsParse {V = V} {S = S} {L = L} {A = A} {B = B} {C = C} {Z = Z} d facts leaf node lexed (Err fault)
-fault_is_parse d facts leaf node lexed lexemes fault none are is =
-    let facts_are : map facts lexemes ≡ lexeme_facts facts lexed = ap (map facts) are in
+module _ {T S L A B C : Type 0} (d : Checked) (facts : B → LexemeFacts) (errors_of : T → List (LexParseError S L A B C)) (IsValued : Option (List B) → List ℕ → T → Type 0) (lexed : List (Result B C)) where
+  -- a fault of a lexeme is answered
+  pub fault_is_parse : (lexemes : List B) (fault : ParseFault) → first_error lexed ≡ None → lexemes ≡ lexemes_of lexed
+      → IsLexemeFault d.grammar (map facts lexemes) (Some fault) → IsParse d facts errors_of IsValued lexed (Err fault)
+  fault_is_parse lexemes fault none are is =
+      let facts_are : map facts lexemes ≡ lexeme_facts facts lexed = ap (map facts) are in
+      record {
+        lexing_error = λ error some. absurd (none_not_some (first_error lexed) error none some);
+        run = λ _. tt;
+        bad_token = λ i. (
+          λ e. let same : fault ≡ BadToken i = cc in (none, subst (λ w. IsFirstBadToken d.grammar w i) facts_are ((is.bad_token i).0 (ap Some same))),
+          λ h. let same : fault ≡ BadToken i = let e = (is.bad_token i).1 (subst (λ w. IsFirstBadToken d.grammar w i) (sym facts_are) h.1) in cc in ap Err same,
+        );
+        starts_decrease = λ i. (
+          λ e. let same : fault ≡ StartsDecrease i = cc in (none, subst (λ w. IsFirstEarlyStart d.grammar w i) facts_are ((is.starts_decrease i).0 (ap Some same))),
+          λ h. let same : fault ≡ StartsDecrease i = let e = (is.starts_decrease i).1 (subst (λ w. IsFirstEarlyStart d.grammar w i) (sym facts_are) h.1) in cc in ap Err same,
+        );
+      }
+
+  -- the answer of a run over valid lexemes
+  pub run_is_parse : (lexemes : List B) (answer : T) → first_error lexed ≡ None → lexemes ≡ lexemes_of lexed → IsLexemeFault d.grammar (map facts lexemes) None
+      → IsRunAnswer d facts errors_of IsValued lexemes answer → IsParse d facts errors_of IsValued lexed (Ok answer)
+  run_is_parse lexemes answer none are is of_run =
+      let facts_are : map facts lexemes ≡ lexeme_facts facts lexed = ap (map facts) are in
+      let valid = is.none.0 refl in
+      record {
+        lexing_error = λ error some. absurd (none_not_some (first_error lexed) error none some);
+        run = λ _. subst (λ (xs : List B). IsRunAnswer d facts errors_of IsValued xs answer) are of_run;
+        bad_token = λ i. (
+          λ e. absurd (ok_not_err answer (BadToken i) e),
+          λ h. absurd (valid_not_bad d.grammar (map facts lexemes) i valid (subst (λ w. IsFirstBadToken d.grammar w i) (sym facts_are) h.1)),
+        );
+        starts_decrease = λ i. (
+          λ e. absurd (ok_not_err answer (StartsDecrease i) e),
+          λ h. absurd (valid_not_early d.grammar (map facts lexemes) i valid (subst (λ w. IsFirstEarlyStart d.grammar w i) (sym facts_are) h.1)),
+        );
+      }
+
+  -- the first lexing error is answered
+  pub error_is_parse : (error : C) (answer : T) → first_error lexed ≡ Some error → errors_of answer ≡ LexError error ∷ [] → IsValued None [] answer
+      → IsParse d facts errors_of IsValued lexed (Ok answer)
+  error_is_parse error answer some errors valued = record {
+    lexing_error = λ other is.
+        let same : error ≡ other = let e : Some error ≡ Some other = sym some ∙ is in cc in
+        (errors ∙ ap (λ e. LexError e ∷ []) same, valued);
+    run = λ none. absurd (none_not_some (first_error lexed) error none some);
+    bad_token = λ i. (λ e. absurd (ok_not_err answer (BadToken i) e), λ h. absurd (none_not_some (first_error lexed) error h.0 some));
+    starts_decrease = λ i. (λ e. absurd (ok_not_err answer (StartsDecrease i) e), λ h. absurd (none_not_some (first_error lexed) error h.0 some));
+  }
+
+module _ {S L A X C E Z : Type 0} (facts : X → LexemeFacts) (leaf : X → E → Type 0) (node : ℕ → Option E → List E → E → Type 0) (suits : GrammarSymbol → E → Type 0) (d : Checked) (lexemes : List X) where
+  -- what is told of the answer at the end of a run
+  abbrev pub IsEndAnswer : Option E × Vec (LexParseError S L A X C) Z → Type 0
+  IsEndAnswer answer = IsRunAnswer d facts (λ answer. answer.1.items) (HasValue (λ x. (facts x).token) d.grammar (IsOfTree leaf node suits d)) lexemes answer
+
+  accept_answer : (entry : E) (answer : Option E × Vec (LexParseError S L A X C) Z) → AcceptsWith facts leaf node suits d lexemes entry
+      → answer.0 ≡ Some entry → answer.1.items ≡ [] → IsEndAnswer answer
+  accept_answer entry answer accepts some none = record {
+    course = record { stops = []; consumed = Some lexemes; prods = accepts.prods; run = accepts.run };
+    errors = subst (AllZip (IsErrorOf facts d.grammar lexemes) []) (sym none) tt;
+    one_way = inl (refl, none);
+    sentence = λ _. (accepts.is_value.tree, accepts.is_value.fits, accepts.is_value.leaves_are);
+    value = (entry, some, accepts.is_value);
+    bound = accepts.bound;
+  }
+
+  stop_answer : (state : ℕ) (lexeme : X) (answer : Option E × Vec (LexParseError S L A X C) Z) → StopsAt facts leaf node suits d lexemes state lexeme
+      → answer.0 ≡ None → answer.1.items ≡ ParseError (failure_at state lexeme) ∷ [] → IsEndAnswer answer
+  stop_answer state lexeme answer stops none one = record {
+    course = record { stops = stops.stop ∷ []; consumed = None; prods = stops.prods; run = stops.run };
+    errors = subst (AllZip (IsErrorOf facts d.grammar lexemes) (stops.stop ∷ [])) (sym one) (record { state = stops.top; lexeme = stops.lexeme_is; repairs = refl }, tt);
+    one_way = inr (refl, (failure_at state lexeme, one));
+    sentence = λ no_error. absurd (let differ : ◌≡◌ {A = List (LexParseError S L A X C)} [] (ParseError (failure_at state lexeme) ∷ []) = sym no_error ∙ one in let no : ⊥ = cc in no);
+    value = none;
+    bound = tt;
+  }
+
+  -- the answer at the end of a run is that of the run
+  pub end_answer : (index : S → ℕ) (end : End S X E) (answer : Option E × Vec (LexParseError S L A X C) Z) → EndsSo facts leaf node suits d lexemes index end
+      → IsAnswerOf index end answer → IsEndAnswer answer
+  end_answer index (Accepts entry) answer ends is = accept_answer entry answer ends is.0 is.1
+  end_answer index (Stops state lexeme) answer ends is = stop_answer (index state.0) lexeme answer ends is.0 is.1
+
+-- An answer as another one of the same errors, where what is known of the value of one tells that of the other.
+module _ {T U S L A B C : Type 0} (d : Checked) (facts : B → LexemeFacts) (allows : List (Result B C) → Type 0) (errors_of : T → List (LexParseError S L A B C)) (errors_are : U → List (LexParseError S L A B C)) (IsValued : Option (List B) → List ℕ → T → Type 0) (HasBecome : Option (List B) → List ℕ → U → Type 0) where
+  -- of a run
+  run_as : (lexemes : List B) (t : T) (u : U) → errors_are u ≡ errors_of t → ((consumed : Option (List B)) (prods : List ℕ) → IsValued consumed prods t → HasBecome consumed prods u)
+      → IsRunAnswer d facts errors_of IsValued lexemes t → IsRunAnswer d facts errors_are HasBecome lexemes u
+  run_as lexemes t u same becomes is = record {
+    course = is.course;
+    errors = subst (AllZip (IsErrorOf facts d.grammar lexemes) is.course.stops) (sym same) is.errors;
+    one_way = subst (IsOneWay is.course.consumed) (sym same) is.one_way;
+    sentence = λ none. is.sentence (sym same ∙ none);
+    value = becomes is.course.consumed is.course.prods is.value;
+    bound = is.bound;
+  }
+
+  -- of a parse
+  pub parse_as : (t : T) (u : U) → errors_are u ≡ errors_of t → ((consumed : Option (List B)) (prods : List ℕ) → IsValued consumed prods t → HasBecome consumed prods u)
+      → Parses d facts allows errors_of IsValued (Ok t) → Parses d facts allows errors_are HasBecome (Ok u)
+  parse_as t u same becomes (inl memory) = absurd (ok_not_err t Memory memory)
+  parse_as t u same becomes (inr (lexed, allowed, is)) = inr (
+    lexed,
+    allowed,
     record {
-      lexing_error = λ error some. let differ : ◌≡◌ {A = Option _} None (Some error) = sym none ∙ some in absurd (let no : ⊥ = cc in no);
+      lexing_error = λ error some. let told = is.lexing_error error some in (same ∙ told.0, becomes None [] told.1);
+      run = λ none. run_as (lexemes_of lexed) t u same becomes (is.run none);
+      bad_token = λ i. (λ e. absurd (ok_not_err u (BadToken i) e), λ h. absurd (ok_not_err t (BadToken i) ((is.bad_token i).1 h)));
+      starts_decrease = λ i. (λ e. absurd (ok_not_err u (StartsDecrease i) e), λ h. absurd (ok_not_err t (StartsDecrease i) ((is.starts_decrease i).1 h)));
+    },
+  )
+
+  -- a refusal is the same for both
+  pub refusal_as : (fault : ParseFault) → Parses d facts allows errors_of IsValued (Err fault) → Parses d facts allows errors_are HasBecome (Err fault)
+  refusal_as fault (inl memory) = inl (let same : fault ≡ Memory = cc in ap Err same)
+  refusal_as fault (inr (lexed, allowed, is)) = inr (
+    lexed,
+    allowed,
+    record {
+      lexing_error = λ error some. absurd (is.lexing_error error some);
       run = λ _. tt;
-      value_or_error = λ _. tt;
       bad_token = λ i. (
-        λ e. let same : fault ≡ BadToken i = cc in (none, subst (λ w. IsFirstBadToken d.grammar w i) facts_are ((is.bad_token i).0 (ap Some same))),
-        λ h. let same : fault ≡ BadToken i = let e = (is.bad_token i).1 (subst (λ w. IsFirstBadToken d.grammar w i) (sym facts_are) h.1) in cc in ap Err same,
+        λ e. let same : fault ≡ BadToken i = cc in (is.bad_token i).0 (ap Err same),
+        λ h. let e = (is.bad_token i).1 h in let same : fault ≡ BadToken i = cc in ap Err same,
       );
       starts_decrease = λ i. (
-        λ e. let same : fault ≡ StartsDecrease i = cc in (none, subst (λ w. IsFirstEarlyStart d.grammar w i) facts_are ((is.starts_decrease i).0 (ap Some same))),
-        λ h. let same : fault ≡ StartsDecrease i = let e = (is.starts_decrease i).1 (subst (λ w. IsFirstEarlyStart d.grammar w i) (sym facts_are) h.1) in cc in ap Err same,
+        λ e. let same : fault ≡ StartsDecrease i = cc in (is.starts_decrease i).0 (ap Err same),
+        λ h. let e = (is.starts_decrease i).1 h in let same : fault ≡ StartsDecrease i = cc in ap Err same,
       );
-    }
-
--- what errors and value a run's answer has
-one_of : {V S L A B C Z : Type 0} (d : Checked) (facts : B → LexemeFacts) (leaf : B → V → Type 0) (node : ℕ → List V → V → Type 0) (lexemes : List B) (answer : Option V × Vec (LexParseError S L A B C) Z)
-    (st : List ℕ) (i : ℕ) (stops : List Stop) (consumed : Option (List B)) (prods : List ℕ) (errors : List (LexParseError S L A B C)) → errors ≡ answer.1.items
-    → Run (λ x. (facts x).token) d.grammar d.table lexemes st i stops consumed prods → AllZip (IsErrorOf facts d.grammar lexemes) stops errors
-    → MatchOption consumed (answer.0 ≡ None) (λ xs. (v : V) × (answer.0 ≡ Some v) × IsValueOf (λ x. (facts x).token) leaf node d.grammar xs prods v)
-    → HasValueOrFailure answer
-one_of d facts leaf node lexemes answer _ _ _ _ _ [] is (comes_through st i prods far) all value =
-    inl (is_some_from answer.0 value.0 value.1, sym is)
-one_of d facts leaf node lexemes answer _ _ _ _ _ (e ∷ errors) is (comes_through st i prods far) all value = absurd all
-one_of d facts leaf node lexemes answer _ _ _ _ _ [] is (gives_up st i prods settled place far) all value = absurd all
-one_of d facts leaf node lexemes answer _ _ _ _ _ (LexError e ∷ errors) is (gives_up st i prods settled place far) all value = absurd all.0
-one_of d facts leaf node lexemes answer _ _ _ _ _ (ParseError e ∷ []) is (gives_up st i prods settled place far) all value = inr (e, (value, sym is))
-one_of d facts leaf node lexemes answer _ _ _ _ _ (ParseError e ∷ f ∷ errors) is (gives_up st i prods settled place far) all value = absurd all.1
-
--- a run's answer has a value and no error, or no value and one parse error
-one_answer : {V S L A B C Z : Type 0} (d : Checked) (facts : B → LexemeFacts) (leaf : B → V → Type 0) (node : ℕ → List V → V → Type 0) (lexemes : List B) (answer : Option V × Vec (LexParseError S L A B C) Z)
-    → IsRunAnswer d facts leaf node lexemes answer → HasValueOrFailure answer
-one_answer d facts leaf node lexemes answer is =
-    one_of d facts leaf node lexemes answer (d.table.start ∷ []) 0 is.stops is.consumed is.prods answer.1.items refl is.run is.errors is.value
-
--- the answer of a run over valid lexemes
-pub run_is_parse : {V S L A B C Z : Type 0} (d : Checked) (facts : B → LexemeFacts) (leaf : B → V → Type 0) (node : ℕ → List V → V → Type 0) (lexed : List (Result B C)) (lexemes : List B) (r : Result (Option V × Vec (LexParseError S L A B C) Z) ParseFault)
-    → first_error lexed ≡ None → lexemes ≡ lexemes_of lexed → IsLexemeFault d.grammar (map facts lexemes) None
-    → IfOk r (IsRunAnswer d facts leaf node lexemes) → IfErr r IsRunFault → IsParse d facts leaf node lexed r
-run_is_parse {B = B} d facts leaf node lexed lexemes r none are is answer fault =
-    let facts_are : map facts lexemes ≡ lexeme_facts facts lexed = ap (map facts) are in
-    let valid = is.none.0 refl in
-    record {
-      lexing_error = λ error some. let differ : ◌≡◌ {A = Option _} None (Some error) = sym none ∙ some in absurd (let no : ⊥ = cc in no);
-      run = λ _. subst (λ (xs : List B). IfOk r (IsRunAnswer d facts leaf node xs)) are answer;
-      value_or_error = λ _. if_ok_weaker r (one_answer d facts leaf node lexemes) answer;
-      bad_token = λ i. (
-        λ e. absurd (subst (λ w. IfErr w IsRunFault) e fault),
-        λ h. absurd (valid_not_bad d.grammar (map facts lexemes) i valid (subst (λ w. IsFirstBadToken d.grammar w i) (sym facts_are) h.1)),
-      );
-      starts_decrease = λ i. (
-        λ e. absurd (subst (λ w. IfErr w IsRunFault) e fault),
-        λ h. absurd (valid_not_early d.grammar (map facts lexemes) i valid (subst (λ w. IsFirstEarlyStart d.grammar w i) (sym facts_are) h.1)),
-      );
-    }
-
--- the first lexing error is answered
-pub error_is_parse : {V S L A B C Z : Type 0} (d : Checked) (facts : B → LexemeFacts) (leaf : B → V → Type 0) (node : ℕ → List V → V → Type 0) (lexed : List (Result B C)) (error : C) (answer : Option V × Vec (LexParseError S L A B C) Z)
-    → first_error lexed ≡ Some error → IsErrorAlone answer (LexError error) → IsParse d facts leaf node lexed (Ok answer)
-error_is_parse d facts leaf node lexed error answer some alone = record {
-  lexing_error = λ other is.
-      let same : error ≡ other = let e : Some error ≡ Some other = sym some ∙ is in cc in
-      subst (λ e. IsErrorAlone answer (LexError e)) same alone;
-  run = λ none. let differ : ◌≡◌ {A = Option _} None (Some error) = sym none ∙ some in absurd (let no : ⊥ = cc in no);
-  value_or_error = λ none. let differ : ◌≡◌ {A = Option _} None (Some error) = sym none ∙ some in absurd (let no : ⊥ = cc in no);
-  bad_token = λ i. (
-    λ e. absurd (let no : ⊥ = cc in no),
-    λ h. let differ : ◌≡◌ {A = Option _} None (Some error) = sym h.0 ∙ some in absurd (let no : ⊥ = cc in no),
-  );
-  starts_decrease = λ i. (
-    λ e. absurd (let no : ⊥ = cc in no),
-    λ h. let differ : ◌≡◌ {A = Option _} None (Some error) = sym h.0 ∙ some in absurd (let no : ⊥ = cc in no),
-  );
-}
+    },
+  )

@@ -10,7 +10,7 @@ use Rattle.lrpar_check.specs.Path.{IsPath, NeverSticks}
 use Rattle.std.proofs.lemmas.Bool.{cases_lt}
 use Rattle.lrpar_check.proofs.Reductions.{settles_one_way, reduces_to_one}
 use Rattle.lrpar.specs.RunLaws.{Takes, RunsEndOneWay, RunsGoOnOrEnd, KeepOffEnd, EndsByFailing, RunsStopByFailing}
-use Rattle.lrpar.specs.Run.{Comes, Far, FarEnd, Accepted, StoppedAt, IsStuck, RunsOneWay, stays, comes_on, comes_through, gives_up, goes_on, accepts, stops, token_at}
+use Rattle.lrpar.specs.Run.{Comes, Far, FarEnd, Accepted, Stopped, Stop, IsStuck, RunsOneWay, stays, comes_on, comes_through, gives_up, goes_on, accepts, stops, token_at}
 
 -- one more reduction
 pub reduces_more : (g : Grammar) (table : Table) (t : ℕ) (st ps mid : List ℕ) (p : ℕ) (after : List ℕ)
@@ -143,25 +143,24 @@ runs_one_way token g table lexemes _ _ _ _ _ _ (stops st i ps settled fits settl
     absurd (accepts_not_stuck token g table lexemes st i qs settled' ps settled at_end settles' accepted settles stuck)
 runs_one_way token g table lexemes _ _ _ _ _ _ (stops st i ps settled fits settles stuck) (stops st' i' qs settled' fits' settles' stuck') =
     let same = settles_one_way g table (token_at token g lexemes i) st ps qs settled settled' settles settles' in
-    (same.0, ap (λ w. StoppedAt w i) same.1)
+    (same.0, ap (λ (w : List ℕ). Stopped (record { stack = w; place = i })) same.1)
 
 -- so have two runs that may list a stop
 pub runs_end_one_way : {X : Type 0} → RunsEndOneWay X
 runs_end_one_way token g table lexemes _ _ _ _ _ _ _ _ (comes_through st i ps far) (comes_through st' i' qs far') =
     let same = runs_one_way token g table lexemes st i ps qs Accepted Accepted far far' in
     (refl, refl, same.0)
-runs_end_one_way token g table lexemes _ _ _ _ _ _ _ _ (comes_through st i ps far) (gives_up st' i' qs settled place far') =
-    let same = runs_one_way token g table lexemes st i ps qs Accepted (StoppedAt settled place) far far' in
-    let e : Accepted ≡ StoppedAt settled place = same.1 in cc
-runs_end_one_way token g table lexemes _ _ _ _ _ _ _ _ (gives_up st i ps settled place far) (comes_through st' i' qs far') =
-    let same = runs_one_way token g table lexemes st i ps qs (StoppedAt settled place) Accepted far far' in
-    let e : StoppedAt settled place ≡ Accepted = same.1 in cc
-runs_end_one_way token g table lexemes _ _ _ _ _ _ _ _ (gives_up st i ps settled place far) (gives_up st' i' qs settled' place' far') =
-    let same = runs_one_way token g table lexemes st i ps qs (StoppedAt settled place) (StoppedAt settled' place') far far' in
-    let e : StoppedAt settled place ≡ StoppedAt settled' place' = same.1 in
-    let stacks : settled ≡ settled' = cc in
-    let places : place ≡ place' = cc in
-    (cc, refl, same.0)
+runs_end_one_way token g table lexemes _ _ _ _ _ _ _ _ (comes_through st i ps far) (gives_up st' i' qs stop far') =
+    let same = runs_one_way token g table lexemes st i ps qs Accepted (Stopped stop) far far' in
+    let e : Accepted ≡ Stopped stop = same.1 in cc
+runs_end_one_way token g table lexemes _ _ _ _ _ _ _ _ (gives_up st i ps stop far) (comes_through st' i' qs far') =
+    let same = runs_one_way token g table lexemes st i ps qs (Stopped stop) Accepted far far' in
+    let e : Stopped stop ≡ Accepted = same.1 in cc
+runs_end_one_way token g table lexemes _ _ _ _ _ _ _ _ (gives_up st i ps stop far) (gives_up st' i' qs stop' far') =
+    let same = runs_one_way token g table lexemes st i ps qs (Stopped stop) (Stopped stop') far far' in
+    let e : Stopped stop ≡ Stopped stop' = same.1 in
+    let stops : stop ≡ stop' = cc in
+    (ap (λ (s : Stop). s ∷ []) stops, refl, same.0)
 
 -- a lexeme is fed: all reductions are made at its token, and the top shifts it
 pub comes_by : {X : Type 0} (token : X → ℕ) (g : Grammar) (table : Table) (lexemes : List X) (st : List ℕ) (i : ℕ) (ps mid : List ℕ) (j : ℕ) (x : X) (qs settled : List ℕ) (next : ℕ)
@@ -185,10 +184,10 @@ comes_to_accept token g table lexemes st i ps mid j qs settled comes at_end sett
 pub comes_to_end : {X : Type 0} (token : X → ℕ) (g : Grammar) (table : Table) (lexemes : List X) (st : List ℕ) (i : ℕ) (ps mid : List ℕ) (j : ℕ) (qs settled : List ℕ)
     → Comes token g table lexemes st i ps mid j → j ≡ length lexemes
     → Settles g table (end_token g) mid qs settled → top_action table (end_token g) settled ≡ Fails
-    → Far token g table lexemes st i (ps ++ qs) (StoppedAt settled j)
+    → Far token g table lexemes st i (ps ++ qs) (Stopped (record { stack = settled; place = j }))
 comes_to_end token g table lexemes st i ps mid j qs settled comes at_end settles fails =
     let is : end_token g ≡ token_at token g lexemes j = sym (token_at_end token g lexemes j (omega arith)) in
-    comes_far token g table lexemes st i ps mid j qs (StoppedAt settled j) comes
+    comes_far token g table lexemes st i ps mid j qs (Stopped (record { stack = settled; place = j })) comes
     (stops mid j qs settled (omega arith) (subst (λ t. Settles g table t mid qs settled) is settles)
     (stuck_from_fails token g table lexemes settled j (subst (λ t. top_action table t settled ≡ Fails) is fails)))
 
@@ -196,10 +195,10 @@ comes_to_end token g table lexemes st i ps mid j qs settled comes at_end settles
 pub comes_to_stop : {X : Type 0} (token : X → ℕ) (g : Grammar) (table : Table) (lexemes : List X) (st : List ℕ) (i : ℕ) (ps mid : List ℕ) (j : ℕ) (x : X) (qs settled : List ℕ)
     → Comes token g table lexemes st i ps mid j → slice_get lexemes j ≡ Some x
     → Settles g table (token x) mid qs settled → top_action table (token x) settled ≡ Fails
-    → Far token g table lexemes st i (ps ++ qs) (StoppedAt settled j)
+    → Far token g table lexemes st i (ps ++ qs) (Stopped (record { stack = settled; place = j }))
 comes_to_stop token g table lexemes st i ps mid j x qs settled comes at settles fails =
     let is : token x ≡ token_at token g lexemes j = sym (token_at_lexeme token g lexemes j x at) in
-    comes_far token g table lexemes st i ps mid j qs (StoppedAt settled j) comes
+    comes_far token g table lexemes st i ps mid j qs (Stopped (record { stack = settled; place = j })) comes
     (stops mid j qs settled (omega (arith, slice_get_within lexemes j x at)) (subst (λ t. Settles g table t mid qs settled) is settles)
     (stuck_from_fails token g table lexemes settled j (subst (λ t. top_action table t settled ≡ Fails) is fails)))
 

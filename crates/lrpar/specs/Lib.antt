@@ -5,12 +5,13 @@ pub mod Repairs
 pub mod LexParse
 pub mod Lexed
 pub mod LexemeFault
-pub mod Answer
 pub mod Folds
 pub mod Made
+pub mod Entries
 pub mod Run
 pub mod RunLaws
 pub mod RunAnswer
 pub mod Parse
 pub mod Standing
 pub mod Stacked
+pub mod End

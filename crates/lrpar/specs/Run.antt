@@ -14,10 +14,15 @@ pub record IsStuck {X : Type 0} (token : X → ℕ) (g : Grammar) (table : Table
   pub shifts_not : i < length lexemes → (next : ℕ) → top_action table (token_at token g lexemes i) settled ≢ ShiftTo next
   pub accepts_not : i ≡ length lexemes → top_action table (end_token g) settled ≢ Accepts
 
--- where a run ends: it accepts, or it stops with a settled stack at the place of a lexeme, or one past the last
+-- where a run stops: with a settled stack, at the place of a lexeme, or one past the last
+pub record Stop : Type 0 where
+  pub stack : List ℕ
+  pub place : ℕ
+
+-- where a run ends: it accepts, or it stops
 pub data FarEnd : Type 0 where
   Accepted : FarEnd
-  StoppedAt : (stack : List ℕ) (place : ℕ) → FarEnd
+  Stopped : (stop : Stop) → FarEnd
 
 -- from the stack at place i the run feeds the lexemes up to place j, by the reductions `prods`, which gives another stack
 pub data Comes {X : Type 0} (token : X → ℕ) (g : Grammar) (table : Table) (lexemes : List X) : List ℕ → ℕ → List ℕ → List ℕ → ℕ → Type 0 where
@@ -41,12 +46,7 @@ pub data Far {X : Type 0} (token : X → ℕ) (g : Grammar) (table : Table) (lex
   -- all reductions are made at the token of lexeme i, or at the end token, and the stack goes no further
   stops : (st : List ℕ) (i : ℕ) (ps settled : List ℕ) → i ≤ length lexemes
       → Settles g table (token_at token g lexemes i) st ps settled → IsStuck token g table lexemes settled i
-      → Far token g table lexemes st i ps (StoppedAt settled i)
-
--- where a run stops: with a settled stack, at the place of a lexeme, or one past the last
-pub record Stop : Type 0 where
-  pub stack : List ℕ
-  pub place : ℕ
+      → Far token g table lexemes st i ps (Stopped (record { stack = settled; place = i }))
 
 -- A run from the stack at place i, without repairs: where it stops; the lexemes that it consumes, if it comes to accept; and
 -- its reductions.
@@ -55,8 +55,8 @@ pub data Run {X : Type 0} (token : X → ℕ) (g : Grammar) (table : Table) (lex
   comes_through : (st : List ℕ) (i : ℕ) (prods : List ℕ) → Far token g table lexemes st i prods Accepted
       → Run token g table lexemes st i [] (Some (drop i lexemes)) prods
   -- it stops, and no repair is listed
-  gives_up : (st : List ℕ) (i : ℕ) (prods settled : List ℕ) (place : ℕ) → Far token g table lexemes st i prods (StoppedAt settled place)
-      → Run token g table lexemes st i (record { stack = settled; place = place } ∷ []) None prods
+  gives_up : (st : List ℕ) (i : ℕ) (prods : List ℕ) (stop : Stop) → Far token g table lexemes st i prods (Stopped stop)
+      → Run token g table lexemes st i (stop ∷ []) None prods
 
 -- a run over lexemes of this kind has at most one answer
 abbrev pub RunsOneWay : Type 0 → Type 0

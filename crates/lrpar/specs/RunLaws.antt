@@ -6,7 +6,7 @@ use Rattle.lrpar_grammar.specs.Grammar.{Grammar, GrammarSymbol, end_token}
 use Rattle.lrpar_states.specs.Table.{Table, ShiftTo, Accepts, Fails}
 use Rattle.lrpar_check.specs.Reduction.{top_action}
 use Rattle.lrpar_check.specs.Path.{IsPath, NeverSticks}
-use Rattle.lrpar.specs.Run.{Far, FarEnd, Accepted, StoppedAt, IsStuck, Run, Stop, token_at}
+use Rattle.lrpar.specs.Run.{Far, FarEnd, Accepted, Stopped, IsStuck, Run, Stop, token_at}
 
 -- two runs from one stack and place have the same stops, consume the same lexemes and make the same reductions
 abbrev pub RunsEndOneWay : Type 0 → Type 0
@@ -34,7 +34,7 @@ KeepOffEnd token g lexemes = (i : ℕ) → i < length lexemes → token_at token
 -- where a run ends by a stop, the top of its settled stack has no action at the token of that place
 abbrev pub EndsByFailing : {X : Type 0} → (X → ℕ) → Grammar → Table → List X → FarEnd → Type 0
 EndsByFailing token g table lexemes Accepted = Unit {0}
-EndsByFailing token g table lexemes (StoppedAt settled i) = top_action table (token_at token g lexemes i) settled ≡ Fails
+EndsByFailing token g table lexemes (Stopped stop) = top_action table (token_at token g lexemes stop.place) stop.stack ≡ Fails
 
 -- over a table that never sticks each run from a stack of the table ends so, where no lexeme has the end token
 abbrev pub RunsStopByFailing : Type 0 → Type 0

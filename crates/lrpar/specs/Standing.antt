@@ -1,31 +1,19 @@
--- What stands on the stack of a run: trees, by their entries. Stacks are listed bottom first. `Stands tree entry` says
--- which entries stand for which trees.
-use Rattle.std.specs.Prelude.{◌≡◌, ◌-◌, ℕ, List, [], ◌∷◌, ◌++◌, length, take, drop}
-use Rattle.lrpar_grammar.specs.Grammar.{Grammar, GrammarSymbol, Nonterminal, symbols_of, prod_len}
-use Rattle.lrpar_grammar.specs.Tree.{Tree, Forest, Leaf, Branch, Nil, Cons, Fits, ForestFits, leaves, forest_leaves, productions, forest_productions}
+-- What stands on the stack of a run, as plain lists, bottom first: its states, and entries for the trees between them. Three
+-- relations say what a parse builds. `leaf x e`: entry e may stand for lexeme x. `node p before es e`: e may stand for a
+-- node of production p whose children have the entries es, and which has `before` to its left. `suits s e`: e may stand
+-- for symbol s.
+use Rattle.std.specs.Prelude.{◌≡◌, ◌-◌, ℕ, List, [], ◌∷◌, ◌++◌, length, take, drop, Option, Some, None}
+use Rattle.std.specs.List.{AllZip, last_or}
+use Rattle.lrpar_grammar.specs.Grammar.{Grammar, GrammarSymbol, Nonterminal, rule_of, prod_len}
+use Rattle.lrpar_grammar.specs.Tree.{Tree, Forest, Leaf, Branch, Nil, Cons, ForestFits, forest_leaves, forest_productions}
 use Rattle.lrpar_states.specs.Table.{Table}
 use Rattle.lrpar_check.specs.Path.{IsPath}
-use Rattle.lrpar.specs.Folds.{Folds}
-use Rattle.lrpar.specs.declared.stack.AStackType.{AStackType}
-use Rattle.lrpar.specs.declared.stack.AStackType.TheVariants.{ActionType, Lexeme}
+use Rattle.lrpar_check.specs.Reduction.{Reduces, IsSettled}
 
--- each entry stands for the tree at its place
-abbrev pub AllStand : {X E : Type 0} → (Tree X → E → Type 0) → Forest X → List E → Type 0
-AllStand Stands Nil [] = Unit {0}
-AllStand Stands Nil (e ∷ entries) = ⊥
-AllStand Stands (Cons t ts) [] = ⊥
-AllStand Stands (Cons t ts) (e ∷ entries) = Stands t e × AllStand Stands ts entries
-
--- The states are joined by symbols, each of which a tree fits; the entries stand for these trees, whose leaves are the
--- lexemes consumed so far, and whose productions are those of the reductions made so far.
-pub record IsStanding {X E : Type 0} (token : X → ℕ) (g : Grammar) (table : Table) (Stands : Tree X → E → Type 0) (states : List ℕ) (entries : List E) (consumed : List X) (prods : List ℕ) : Type 0 where
-  pub symbols : List GrammarSymbol
-  pub trees : Forest X
-  pub path : IsPath table symbols states
-  pub fits : ForestFits token g trees symbols
-  pub stands : AllStand Stands trees entries
-  pub leaves_are : forest_leaves trees ≡ consumed
-  pub productions_are : forest_productions trees ≡ prods
+-- the states, and for each but the lowest the entry of the symbol that led to it
+pub record Stacked (E : Type 0) : Type 0 where
+  pub states : List ℕ
+  pub entries : List E
 
 -- the entries that a reduction by p leaves
 abbrev pub kept_by : {E : Type 0} → Grammar → ℕ → List E → List E
@@ -35,33 +23,36 @@ kept_by g p entries = take (length entries - prod_len g p) entries
 abbrev pub popped_by : {E : Type 0} → Grammar → ℕ → List E → List E
 popped_by g p entries = drop (length entries - prod_len g p) entries
 
--- A reduction by p, which gives the states `after`: the popped entries stand for trees that fit the symbols of p, and with
--- any entry that stands for the node of these trees in their place, what has to stand on the stack stands there.
-pub record Gathers {X E : Type 0} (token : X → ℕ) (g : Grammar) (table : Table) (Stands : Tree X → E → Type 0) (after : List ℕ) (entries : List E) (consumed : List X) (prods : List ℕ) (p : ℕ) : Type 0 where
-  pub children : Forest X
-  pub fits : ForestFits token g children (symbols_of g p)
-  pub stands : AllStand Stands children (popped_by g p entries)
-  pub gathered : (e : E) → Stands (Branch p children) e
-      → IsStanding token g table Stands after (kept_by g p entries ++ e ∷ []) consumed (prods ++ p ∷ [])
+module _ {X E : Type 0} (leaf : X → E → Type 0) (node : ℕ → Option E → List E → E → Type 0) where
+  -- which entries stand for a tree with `before` to its left, and for trees side by side
+  abbrev mutual
+    pub StandsFor : Option E → Tree X → E → Type 0
+    StandsFor before (Leaf x) e = leaf x e
+    StandsFor before (Branch p children) e = (es : List E) × AllStand before children es × node p before es e
 
--- one entry is left, and it stands for a tree of the start rule that has all the leaves and productions
-pub record IsWhole {X E : Type 0} (token : X → ℕ) (g : Grammar) (Stands : Tree X → E → Type 0) (entries : List E) (consumed : List X) (prods : List ℕ) : Type 0 where
+    pub AllStand : Option E → Forest X → List E → Type 0
+    AllStand before Nil [] = Unit {0}
+    AllStand before Nil (e ∷ es) = ⊥
+    AllStand before (Cons t ts) [] = ⊥
+    AllStand before (Cons t ts) (e ∷ es) = StandsFor before t e × AllStand (Some e) ts es
+
+-- the states are joined by symbols, and for each of them there is an entry that suits it
+pub record IsUpright {E : Type 0} (suits : GrammarSymbol → E → Type 0) (table : Table) (stack : Stacked E) : Type 0 where
+  pub symbols : List GrammarSymbol
+  pub path : IsPath table symbols stack.states
+  pub suit : AllZip suits symbols stack.entries
+
+-- At token t the stacks reduce by production p: the states do, and the entries of its symbols make way for one of a node
+-- of p over them.
+pub record ReducesTo {E : Type 0} (node : ℕ → Option E → List E → E → Type 0) (suits : GrammarSymbol → E → Type 0) (g : Grammar) (table : Table) (t : ℕ) (old : Stacked E) (p : ℕ) (new : Stacked E) : Type 0 where
+  pub of_states : Reduces g table t old.states p new.states
   pub entry : E
-  pub tree : Tree X
-  pub alone : entries ≡ entry ∷ []
-  pub fits : Fits token g tree (Nonterminal g.start)
-  pub stands : Stands tree entry
-  pub leaves_are : leaves tree ≡ consumed
-  pub productions_are : productions tree ≡ prods
+  pub made : node p (last_or None (kept_by g p old.entries)) (popped_by g p old.entries) entry
+  pub suit : suits (Nonterminal (rule_of g p)) entry
+  pub of_entries : new.entries ≡ kept_by g p old.entries ++ entry ∷ []
 
--- a leaf stands as its lexeme, and an inner node as a value to which it folds
-abbrev pub StandsFor : {X V : Type 0} → (X → V → Type 0) → (ℕ → List V → V → Type 0) → Grammar → Tree X → AStackType X V → Type 0
-StandsFor leaf node g (Leaf x) (Lexeme y) = x ≡ y
-StandsFor leaf node g (Leaf x) (ActionType v) = ⊥
-StandsFor leaf node g (Branch p children) (Lexeme y) = ⊥
-StandsFor leaf node g (Branch p children) (ActionType v) = Folds leaf node g (Branch p children) v
-
--- the values of an entry: those of its lexeme, or itself
-abbrev pub Gives : {X V : Type 0} → (X → V → Type 0) → AStackType X V → V → Type 0
-Gives leaf (Lexeme x) v = leaf x v
-Gives leaf (ActionType w) v = w ≡ v
+-- at token t the stacks reduce by these productions, in this order
+abbrev pub ReducesAllTo : {E : Type 0} → (ℕ → Option E → List E → E → Type 0) → (GrammarSymbol → E → Type 0) → Grammar → Table → ℕ → Stacked E → List ℕ → Stacked E → Type 0
+ReducesAllTo node suits g table t old [] new = old ≡ new
+ReducesAllTo {E} node suits g table t old (p ∷ prods) new =
+    (next : Stacked E) × ReducesTo node suits g table t old p next × ReducesAllTo node suits g table t next prods new

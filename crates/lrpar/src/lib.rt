@@ -1,14 +1,17 @@
 //! Parses over a grammar and its state table: lexers and lexemes in, values and errors out.
 #![tactic(auto)]
 
+mod build;
 pub mod errors;
 mod fault;
 pub mod laws;
 pub mod lex_api;
 mod lexed;
+mod nothing;
 pub mod parser;
 mod run;
 mod stack;
+mod values;
 
 pub use errors::{LexParseError, ParseError, ParseRepair};
 pub use lex_api::{LexError, Lexeme, Lexer, LexerTypes, NonStreamingLexer};

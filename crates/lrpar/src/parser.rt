@@ -1,18 +1,30 @@
 //! Parses: the calls that take a lexer and answer a value and the errors.
-ghost use Rattle.std.specs.Prelude.{◌≡◌, ◌⊎◌, List, Result, IsErrOf};
+ghost use Rattle.std.specs.Prelude.{◌≡◌, ◌∷◌, [], List, Result, IfOk, IfSome, option_map};
+ghost use Rattle.lrpar_check.specs.Checked.{IsChecked};
+ghost use Rattle.lrpar.specs.End.{IsAnswerOf, IsOfTree};
+ghost use Rattle.lrpar.specs.Entries.{HasValueEntry};
+ghost use Rattle.lrpar.specs.Folds.{Folds};
+ghost use Rattle.lrpar.specs.declared.values.AStackType.TheVariants.{ActionType};
 ghost use Rattle.lrpar.specs.Lexemes.{facts_of};
 ghost use Rattle.lrpar.specs.Made.{made_by};
-ghost use Rattle.lrpar.specs.Parse.{IsParse};
+ghost use Rattle.lrpar.specs.Parse.{ParsesTo, ParsesToErrors};
 
+use crate::build::Build;
 pub use crate::errors::{LexParseError, ParseError, ParseRepair};
 pub use crate::fault::ParseFault;
 use crate::lex_api::{LexerTypes, NonStreamingLexer};
 use crate::lexed::{lexeme_fault, lexemes_or_error};
-use crate::run::{Answer, Run, one_error};
+use crate::nothing::Nothing;
+use crate::run::{End, Run};
+pub use crate::values::AStackType;
+use crate::values::Functions;
 use lrpar_grammar::span::{RIdx, StorageNum};
 use lrpar_table::check::ParserData;
-use std::alloc::Global;
+use std::alloc::{AllocError, Global};
 use std::marker::{Model, PhantomData};
+
+/// A value, where the parse comes to one, and the errors.
+type Answer<StorageT, LexerTypesT, V> = (Option<V>, Vec<LexParseError<StorageT, LexerTypesT>>);
 
 /// A parser by a checked table.
 #[derive(Drop)]
@@ -37,8 +49,10 @@ impl<'a, StorageT: StorageNum, LexerTypesT: LexerTypes<StorageT = StorageT>> RTP
 > {
     /// A parser of the grammar by the table that was checked with it.
     pub fn new(checked: &'a ParserData<StorageT>) -> Self
-        ensures { result ≡ checked.now }
+        ensures made { result ≡ checked.now }
+        ensures checked { IsChecked result }
     {
+        let _table = checked.stable();
         RTParserBuilder {
             checked,
             lexer_types: PhantomData,
@@ -49,12 +63,13 @@ impl<'a, StorageT: StorageNum, LexerTypesT: LexerTypes<StorageT = StorageT>> RTP
     /// the value that `fnonterm` gives of the rule and the values of its symbols, from left to right.
     ///
     /// Where the lexer answers an error, the first one is answered alone. Otherwise there is either a value and no
-    /// error, or no value and one error: the state and the lexeme at which no action was found. The lexeme past the
-    /// last one is faulty, has the end token, and is empty at the end of the last one, or at 0 where there are none.
+    /// error, or no value and one error, which offers no repair: the state and the lexeme at which there is no action.
+    /// `BadToken` and `StartsDecrease` name the first lexeme that has either fault, where the lexer answers no error.
+    /// The answer is `Memory` only where memory was wanting, be it the lexer's.
     ///
-    /// Refused as `BadToken` or `StartsDecrease` where the lexer answers no error and this lexeme is the first that
-    /// has either fault; as `Memory` where memory is wanting. Takes time linear in the lexemes and the reductions, of
-    /// which there are at most the table's cap times the states on the stack before each lookahead.
+    /// The time grows with the lexemes and the reductions. Under one lookahead there are at most as many reductions as
+    /// the cap times the states on the stack before it, and over a whole parse that accepts n lexemes at most
+    /// `cap * (cap + 3) * (n + 1)`.
     pub fn parse_map<
         'input,
         L: NonStreamingLexer<'input, LexerTypesT>,
@@ -71,18 +86,102 @@ impl<'a, StorageT: StorageNum, LexerTypesT: LexerTypes<StorageT = StorageT>> RTP
         requires fterm { F.IsAlwaysCallable fterm }
         requires fnonterm { G.IsAlwaysCallable fnonterm }
         // Memory was wanting, or there is an answer that the lexer allows, and this is the parse over it.
-        ensures parse { IsErrOf result ParseFault.Memory
-            ⊎ ((lexed : List (Result LexerTypesT.LexemeT LexerTypesT.LexErrorT)) × L.allows lexer.now lexed
-            × IsParse self.now (λ x. facts_of StorageT.index (LexerTypesT.LexemeT.parts x))
-            (F.post fterm) (made_by StorageT.index (G.post fnonterm)) lexed result) }
+        ensures parse { ParsesTo self.now (λ x. facts_of StorageT.index (LexerTypesT.LexemeT.parts x)) (L.allows lexer.now)
+            (Folds (F.post fterm) (made_by StorageT.index (G.post fnonterm)) self.now.grammar) result }
+    {
+        let functions = Functions {
+            fterm: &fterm,
+            fnonterm: &fnonterm,
+            values: PhantomData,
+        };
+        match self.parsed(alloc, lexer, &functions) {
+            Ok((entry, errors)) => Ok((value_of(entry), errors)),
+            Err(fault) => Err(fault),
+        }
+    }
+
+    /// Parses what the lexer answers, which it is asked once, and makes nothing of it. The errors are those that
+    /// `parse_map` answers, and it refuses what that refuses. No memory is taken but for the lexemes, the stack of states
+    /// and the errors.
+    pub fn parse_noaction<'input, L: NonStreamingLexer<'input, LexerTypesT>>(
+        &self,
+        alloc: Global,
+        lexer: &L,
+    ) -> Result<Vec<LexParseError<StorageT, LexerTypesT>>, ParseFault>
+        // Memory was wanting, or there is an answer that the lexer allows, and these are the errors of the parse over it.
+        ensures parse { ParsesToErrors self.now (λ x. facts_of StorageT.index (LexerTypesT.LexemeT.parts x)) (L.allows lexer.now) result }
+    {
+        match self.parsed(alloc, lexer, &Nothing) {
+            Ok((_, errors)) => Ok(errors),
+            Err(fault) => Err(fault),
+        }
+    }
+
+    // Parses what the lexer answers to an entry of what is built.
+    fn parsed<
+        'input,
+        L: NonStreamingLexer<'input, LexerTypesT>,
+        B: Build<StorageT, LexerTypesT::LexemeT>,
+    >(
+        &self,
+        alloc: Global,
+        lexer: &L,
+        build: &B,
+    ) -> Result<Answer<StorageT, LexerTypesT, B::Entry>, ParseFault>
+        requires can { B.can_build build.now self.now.grammar }
+        ensures parse { ParsesTo self.now (λ x. facts_of StorageT.index (LexerTypesT.LexemeT.parts x)) (L.allows lexer.now)
+            (IsOfTree (B.leaf build.now) (B.node build.now self.now.grammar) (B.suits build.now) self.now) result }
     {
         let answers = lexer.iter(alloc)?;
         match lexemes_or_error(alloc, answers)? {
-            Err(error) => Ok(one_error(alloc, LexParseError::LexError(error))?),
+            Err(error) => Ok((None, one_error(alloc, LexParseError::LexError(error))?)),
             Ok(lexemes) => match lexeme_fault(self.checked.grm(), &lexemes) {
                 Some(fault) => Err(fault),
-                None => Run::new(self.checked).over(alloc, &lexemes, &fterm, &fnonterm),
+                None => {
+                    let end = Run::new(self.checked, build).over(alloc, &lexemes)?;
+                    Ok(answered(alloc, end)?)
+                }
             },
         }
     }
+}
+
+// The value of an entry of a rule.
+fn value_of<LexemeT: Drop, V: Drop>(entry: Option<AStackType<LexemeT, V>>) -> Option<V>
+    requires { IfSome entry HasValueEntry }
+    ensures { entry ≡ option_map ActionType result }
+{
+    match entry {
+        Some(AStackType::ActionType(value)) => Some(value),
+        Some(AStackType::Lexeme(_)) => unreachable!(),
+        None => None,
+    }
+}
+
+// The answer at the end of a run: a value, or an error for which no repair is listed.
+fn answered<StorageT: StorageNum, LexerTypesT: LexerTypes<StorageT = StorageT>, E: Drop>(
+    alloc: Global,
+    end: End<StorageT, LexerTypesT::LexemeT, E>,
+) -> Result<Answer<StorageT, LexerTypesT, E>, AllocError>
+    ensures { IfOk result (IsAnswerOf StorageT.index end) }
+{
+    match end {
+        End::Accepts(entry) => Ok((Some(entry), Vec::new(alloc))),
+        End::Stops(state, lexeme) => {
+            let error = ParseError::new(state, lexeme, Vec::new(alloc));
+            Ok((None, one_error(alloc, LexParseError::ParseError(error))?))
+        }
+    }
+}
+
+// This error alone.
+fn one_error<StorageT: StorageNum, LexerTypesT: LexerTypes<StorageT = StorageT>>(
+    alloc: Global,
+    error: LexParseError<StorageT, LexerTypesT>,
+) -> Result<Vec<LexParseError<StorageT, LexerTypesT>>, AllocError>
+    ensures { IfOk result (λ errors. errors.items ≡ error ∷ []) }
+{
+    let mut errors = Vec::new(alloc);
+    errors.push(error)?;
+    Ok(errors)
 }

@@ -1,40 +1,33 @@
 //! The stacks of a run: the states, and what stands between each two neighbours.
-ghost use Rattle.std.specs.Prelude.{◌≡◌, ◌+◌, ◌<◌, ◌≤◌, ◌-◌, [], ◌∷◌, ◌++◌, length, take, drop, Some, OnOk, IfOk};
+ghost use Rattle.std.specs.Prelude.{◌≡◌, ◌+◌, ◌<◌, ◌≤◌, ◌-◌, [], ◌∷◌, ◌++◌, None, length, take, drop, Some, OnOk, IfOk};
+ghost use Rattle.std.specs.List.{AllZip, last_or};
 ghost use Rattle.lrpar_check.specs.Stack.{top_of};
+ghost use Rattle.lrpar_grammar.specs.Grammar.{Nonterminal, prod_len, rule_of, start_prod, symbols_of};
 
-use lrpar_grammar::span::{StIdx, StorageNum};
+use crate::build::Build;
+use crate::lex_api::Lexeme;
+use lrpar_grammar::grammar::YaccGrammar;
+use lrpar_grammar::span::{PIdx, StIdx, StorageNum};
 use std::alloc::{AllocError, Global};
 use std::marker::Model;
 
-/// What stands on a stack for a symbol.
-#[derive(Debug, Drop)]
-pub enum AStackType<LexemeT, ActionT> {
-    /// For a rule: the value that was made for it.
-    ActionType(ActionT),
-    /// For a token: the lexeme that was shifted.
-    Lexeme(LexemeT),
-}
-
 /// The stacks. Above the lowest state each state has the entry of the symbol that led to it.
 #[derive(Drop)]
-pub(crate) struct Stack<StorageT: StorageNum, LexemeT, V> {
+pub(crate) struct Stack<StorageT: StorageNum, E: Drop> {
     states: Vec<StIdx<StorageT>>,
-    entries: Vec<AStackType<LexemeT, V>>,
+    entries: Vec<E>,
 }
 
-impl<StorageT: StorageNum, LexemeT, V> Model for Stack<StorageT, LexemeT, V> {
+impl<StorageT: StorageNum, E: Drop> Model for Stack<StorageT, E> {
     ghost use Rattle.std.specs.Prelude.{map};
-    ghost use Rattle.lrpar.specs.Stacked.{Stacked};
-    ghost use Rattle.lrpar.specs.declared.stack.AStackType.{AStackType};
+    ghost use Rattle.lrpar.specs.Standing.{Stacked};
 
-    ghost Value = { Stacked (AStackType LexemeT V) };
+    ghost Value = { Stacked E };
 
     ghost view = { λ s. record { states = map (λ x. StorageT.index x.0) s.states.items; entries = s.entries.items } };
 }
 
-impl<StorageT: StorageNum, LexemeT: Copy, V: Drop> Stack<StorageT, LexemeT, V> {
-    ghost use Rattle.lrpar.specs.declared.stack.AStackType.TheVariants.{ActionType};
-
+impl<StorageT: StorageNum, E: Drop> Stack<StorageT, E> {
     /// The stack of one state.
     pub(crate) fn new(alloc: Global, start: StIdx<StorageT>) -> Result<Self, AllocError>
         ensures { IfOk result (λ stack. stack ≡ record { states = StorageT.index start.0 ∷ []; entries = [] }) }
@@ -63,11 +56,7 @@ impl<StorageT: StorageNum, LexemeT: Copy, V: Drop> Stack<StorageT, LexemeT, V> {
     }
 
     /// Puts a state on top, with the entry of the symbol that led to it.
-    pub(crate) fn push(
-        &mut self,
-        state: StIdx<StorageT>,
-        entry: AStackType<LexemeT, V>,
-    ) -> Result<(), AllocError>
+    pub(crate) fn push(&mut self, state: StIdx<StorageT>, entry: E) -> Result<(), AllocError>
         ensures states { OnOk result (self.new.states ≡ self.old.states ++ StorageT.index state.0 ∷ []) }
         ensures entries { OnOk result (self.new.entries ≡ self.old.entries ++ entry ∷ []) }
     {
@@ -76,27 +65,42 @@ impl<StorageT: StorageNum, LexemeT: Copy, V: Drop> Stack<StorageT, LexemeT, V> {
         Ok(())
     }
 
-    /// Drops the top `count` entries with their states, and answers them, the lowest first.
-    pub(crate) fn pop(&mut self, count: usize) -> Result<Vec<AStackType<LexemeT, V>>, AllocError>
+    /// Drops the states of the production's symbols, which are `count`, and takes their entries off, of which the
+    /// production's own is made.
+    pub(crate) fn gather<LexemeT: Lexeme<StorageT>, B: Build<StorageT, LexemeT, Entry = E>>(
+        &mut self,
+        alloc: Global,
+        build: &B,
+        grm: &YaccGrammar<StorageT>,
+        pidx: PIdx<StorageT>,
+        count: usize,
+    ) -> Result<E, AllocError>
+        requires can { B.can_build build.now grm.now }
+        requires listed { StorageT.index pidx.0 < start_prod grm.now }
+        requires count { count ≡ prod_len grm.now (StorageT.index pidx.0) }
         requires states { count ≤ length self.old.states }
         requires entries { count ≤ length self.old.entries }
+        requires suit { AllZip (B.suits build.now) (symbols_of grm.now (StorageT.index pidx.0)) (drop (length self.old.entries - count) self.old.entries) }
         ensures states { OnOk result (self.new.states ≡ take (length self.old.states - count) self.old.states) }
         ensures entries { OnOk result (self.new.entries ≡ take (length self.old.entries - count) self.old.entries) }
-        ensures popped { IfOk result (λ popped. popped.items ≡ drop (length self.old.entries - count) self.old.entries) }
+        ensures node { IfOk result (B.node build.now grm.now (StorageT.index pidx.0)
+            (last_or None (take (length self.old.entries - count) self.old.entries))
+            (drop (length self.old.entries - count) self.old.entries)) }
+        ensures suit { IfOk result (B.suits build.now (Nonterminal (rule_of grm.now (StorageT.index pidx.0)))) }
     {
-        let popped = self.entries.split_off(self.entries.len() - count)?;
+        let entry = build.reduced(alloc, grm, &pidx, count, &mut self.entries)?;
         self.states.truncate(self.states.len() - count);
-        Ok(popped)
+        Ok(entry)
     }
 
-    /// The value, where it is all that stands on the stack.
-    pub(crate) fn into_value(mut self) -> V
-        requires { (v : V) × (self.entries ≡ ActionType v ∷ []) }
-        ensures { self.entries ≡ ActionType result ∷ [] }
+    /// The entry, where it is all that stands on the stack.
+    pub(crate) fn into_entry(mut self) -> E
+        requires { (e : E) × (self.entries ≡ e ∷ []) }
+        ensures { self.entries ≡ result ∷ [] }
     {
         match self.entries.pop() {
-            Some(AStackType::ActionType(value)) => value,
-            Some(AStackType::Lexeme(_)) | None => unreachable!(),
+            Some(entry) => entry,
+            None => unreachable!(),
         }
     }
 }

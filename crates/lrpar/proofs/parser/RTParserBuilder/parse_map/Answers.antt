@@ -1,41 +1,16 @@
-use Rattle.std.proofs.Common.{◌≡◌, inr, ap}
-use Rattle.lrpar.proofs.ParseLemmas.{error_is_parse, fault_is_parse, run_is_parse}
+use Rattle.lrpar.proofs.FoldLemmas.{has_value_entry, made_fold, parse_mapped}
+use Rattle.lrpar.proofs.ParseLemmas.{refusal_as}
 use Rattle.lrpar.proofs.parser.RTParserBuilder.parse_map.Goals as goal
 
-pub returns-in-Some : goal.returns-in-Some
-returns-in-Some g c =
-    let lexed = rw c.in-Ok.is at c.in_ok-error.ensures in
-    let grammar : c.self.inside.checked.now.grammar ≡ c.args.self.now.grammar = ap (λ v. v.grammar) c.self.view_is in
-    record {
-      parse = inr (
-        c.in_ok-answers.answers.items,
-        c.in_ok-answers.ensures.allowed,
-        fault_is_parse _ _ _ _ c.in_ok-answers.answers.items c.in-Ok.lexemes.items c.in-Some.fault lexed.0 lexed.1
-            (rw (c.deref.ensures.value, c.grm.ensures, grammar) at c.in-Some.ensures),
-      );
-    }
+pub value_of-requires : goal.value_of-requires
+value_of-requires g c =
+    has_value_entry _ _ _ _ _ _ _ (λ e suits. suits) (rw c.in-Ok.is at c.parsed.ensures.parse)
+
+pub returns-in-Ok : goal.returns-in-Ok
+returns-in-Ok g c = record {
+  parse = parse_mapped _ _ _ _ _ _ c.in-Ok.entry c.value_of.result c.in-Ok.errors c.value_of.ensures
+      (λ t v told. made_fold _ _ _ _ t v told.stands) (rw c.in-Ok.is at c.parsed.ensures.parse);
+}
 
 pub returns : goal.returns
-returns g c =
-    let lexed = rw c.in-Ok.is at c.in_ok-error.ensures in
-    let grammar : c.self.inside.checked.now.grammar ≡ c.args.self.now.grammar = ap (λ v. v.grammar) c.self.view_is in
-    let checked : c.self.inside.checked.now ≡ c.args.self.now = c.self.view_is in
-    record {
-      parse = inr (
-        c.in_ok-answers.answers.items,
-        c.in_ok-answers.ensures.allowed,
-        run_is_parse _ _ _ _ c.in_ok-answers.answers.items c.in-Ok.lexemes.items c.over.result lexed.0 lexed.1
-            (rw (c.deref.ensures.value, c.grm.ensures, grammar) at c.in-None.ensures) (rw (c.new.ensures, c.deref-in-None.ensures.value, checked) at c.over.ensures.answer) c.over.ensures.fault,
-      );
-    }
-
-pub returns-in-Err : goal.returns-in-Err
-returns-in-Err g c =
-    let lexed = rw c.in-Err.is at c.in_ok-error.ensures in
-    record {
-      parse = inr (
-        c.in_ok-answers.answers.items,
-        c.in_ok-answers.ensures.allowed,
-        error_is_parse _ _ _ _ c.in_ok-answers.answers.items c.in-Err.error c.in_ok-one_error-in-Err.field-0 lexed c.in_ok-one_error-in-Err.ensures,
-      );
-    }
+returns g c = record { parse = refusal_as _ _ _ _ _ _ _ c.in-Err.fault (rw c.in-Err.is at c.parsed.ensures.parse) }

@@ -1,0 +1,106 @@
+-- A tree for which an entry stands folds to the values that the entry gives.
+use Rattle.std.proofs.Common.{◌≡◌, ◌∙◌, ℕ, IfSome, List, [], ◌∷◌, MatchOption, None, Ok, Option, Result, Some, Vec, inl, inr, option_map, refl, subst, sym}
+use Rattle.std.proofs.lemmas.Option.{same_Some}
+use Rattle.std.specs.List.{AllZip}
+use Rattle.lrpar_grammar.specs.Grammar.{Grammar, GrammarSymbol, Nonterminal, rule_of}
+use Rattle.lrpar_grammar.specs.Tree.{Tree, Forest, Leaf, Branch, Nil, Cons, Fits, leaves, productions}
+use Rattle.lrpar_grammar.specs.Sentence.{LexemeFacts}
+use Rattle.lrpar_check.specs.Checked.{Checked}
+use Rattle.lrpar.specs.End.{IsOfTree}
+use Rattle.lrpar.specs.Entries.{Gives, HasValueEntry, IsLexemeEntry, IsMadeEntry}
+use Rattle.lrpar.specs.Folds.{Folds, ForestFolds}
+use Rattle.lrpar.specs.Lexed.{first_error}
+use Rattle.lrpar.specs.Parse.{ParsesTo}
+use Rattle.lrpar.specs.declared.errors.LexParseError.{LexParseError}
+use Rattle.lrpar.specs.declared.values.AStackType.{AStackType}
+use Rattle.lrpar.specs.declared.values.AStackType.TheVariants.{ActionType, Lexeme}
+use Rattle.lrpar.proofs.ParseLemmas.{parse_as}
+use Rattle.lrpar.specs.RunAnswer.{HasValue, IsValueOf}
+use Rattle.lrpar.specs.Standing.{AllStand, StandsFor}
+
+-- `Values e v`: entry e gives value v. Each value of the entry of a lexeme is one of the lexeme; and each of the entry of a
+-- node is what its rule has over values of the children's entries.
+module _ {X E V : Type 0} (leaf : X → E → Type 0) (node : ℕ → Option E → List E → E → Type 0) (g : Grammar) (of_leaf : X → V → Type 0) (of_node : ℕ → List V → V → Type 0) (Values : E → V → Type 0)
+    (at_leaf : (x : X) (e : E) (v : V) → leaf x e → Values e v → of_leaf x v)
+    (at_node : (p : ℕ) (before : Option E) (es : List E) (e : E) (v : V) → node p before es e → Values e v → (vs : List V) × AllZip Values es vs × of_node (rule_of g p) vs v) where
+  mutual
+    pub stands_fold : (before : Option E) (t : Tree X) (e : E) (v : V) → StandsFor leaf node before t e → Values e v → Folds of_leaf of_node g t v
+    stands_fold before (Leaf x) e v stands gives = at_leaf x e v stands gives
+    stands_fold before (Branch p children) e v (es, stand, made) gives =
+        let found = at_node p before es e v made gives in
+        (found.0, all_fold before children es found.0 stand found.1, found.2)
+
+    all_fold : (before : Option E) (ts : Forest X) (es : List E) (vs : List V) → AllStand leaf node before ts es → AllZip Values es vs → ForestFolds of_leaf of_node g ts vs
+    all_fold before Nil [] [] stand gives = tt
+    all_fold before Nil [] (v ∷ vs) stand gives = absurd gives
+    all_fold before Nil (e ∷ es) vs stand gives = absurd stand
+    all_fold before (Cons t ts) [] vs stand gives = absurd stand
+    all_fold before (Cons t ts) (e ∷ es) [] stand gives = absurd gives
+    all_fold before (Cons t ts) (e ∷ es) (v ∷ vs) stand gives = (stands_fold before t e v stand.0 gives.0, all_fold (Some e) ts es vs stand.1 gives.1)
+
+-- the entries of a caller's two functions: a tree folds to the value of its entry
+pub made_fold : {X V : Type 0} (of_leaf : X → V → Type 0) (of_node : ℕ → List V → V → Type 0) (g : Grammar) (before : Option (AStackType X V)) (t : Tree X) (v : V)
+    → StandsFor IsLexemeEntry (λ p before es e. IsMadeEntry of_leaf of_node (rule_of g p) es e) before t (ActionType v) → Folds of_leaf of_node g t v
+made_fold {X} {V} of_leaf of_node g before t v stands =
+    stands_fold IsLexemeEntry (λ p before es e. IsMadeEntry of_leaf of_node (rule_of g p) es e) g of_leaf of_node (Gives of_leaf)
+    (λ x e v is gives. subst (λ (w : AStackType X V). Gives of_leaf w v) is gives)
+    (λ p before es e v made gives.
+    let same : made.value ≡ v = subst (λ (w : AStackType X V). Gives of_leaf w v) made.is gives in
+    (made.values, made.given, subst (of_node (rule_of g p) made.values) same made.made))
+    before t (ActionType v) v stands refl
+
+-- what maps to none is none
+unmapped : {V W : Type 0} (f : W → V) (w : Option W) → option_map f w ≡ None → w ≡ None
+unmapped f None e = refl
+unmapped f (Some x) e = absurd (let no : ⊥ = cc in no)
+
+-- What is told of a value is told of what it was made of, where each tree of the one tells of the other.
+pub mapped_value : {X V W F Z Y : Type 0} (token : X → ℕ) (g : Grammar) (Tells : Tree X → V → Type 0) (TellsOf : Tree X → W → Type 0) (f : W → V) (w : Option W) (consumed : Option (List X)) (prods : List ℕ) (one : Option V × Vec F Z) (other : Option W × Vec F Y)
+    → one.0 ≡ option_map f w → other.0 ≡ w → ((t : Tree X) (x : W) → Tells t (f x) → TellsOf t x) → HasValue token g Tells consumed prods one → HasValue token g TellsOf consumed prods other
+mapped_value token g Tells TellsOf f w None prods one other is other_is tells has = other_is ∙ unmapped f w (sym is ∙ has)
+mapped_value token g Tells TellsOf f None (Some xs) prods one other is other_is tells (value, has, told) =
+    absurd (let differ : ◌≡◌ {A = Option _} (Some value) None = sym has ∙ is in let no : ⊥ = cc in no)
+mapped_value token g Tells TellsOf f (Some x) (Some xs) prods one other is other_is tells (value, has, told) =
+    let same : value ≡ f x = same_Some value (f x) (sym has ∙ is) in (
+      x,
+      other_is,
+      record {
+        tree = told.tree;
+        fits = told.fits;
+        leaves_are = told.leaves_are;
+        productions_are = told.productions_are;
+        tells = tells told.tree x (subst (Tells told.tree) same told.tells);
+      },
+    )
+
+-- the value that a parse answers is told by a tree
+pub value_told : {X V S L A C Z : Type 0} (d : Checked) (facts : X → LexemeFacts) (allows : List (Result X C) → Type 0) (Tells : Tree X → V → Type 0) (answer : Option V × Vec (LexParseError S L A X C) Z) (v : V)
+    → ParsesTo d facts allows Tells (Ok answer) → answer.0 ≡ Some v → (t : Tree X) × Tells t v
+value_told d facts allows Tells answer v (inl memory) some = absurd (let no : ⊥ = cc in no)
+value_told {X = X} {C = C} d facts allows Tells answer v (inr (lexed, allowed, is)) some = by_error (first_error lexed) refl
+  where
+    by_run : (consumed : Option (List X)) (prods : List ℕ) → HasValue (λ x. (facts x).token) d.grammar Tells consumed prods answer → (t : Tree X) × Tells t v
+    by_run None prods none = absurd (let differ : ◌≡◌ {A = Option _} None (Some v) = sym none ∙ some in let no : ⊥ = cc in no)
+    by_run (Some xs) prods (value, has, told) = (told.tree, subst (Tells told.tree) (same_Some value v (sym has ∙ some)) told.tells)
+
+    by_error : (o : Option C) → first_error lexed ≡ o → (t : Tree X) × Tells t v
+    by_error None none = let of_run = is.run none in by_run of_run.course.consumed of_run.course.prods of_run.value
+    by_error (Some error) first = by_run None [] (is.lexing_error error first).1
+
+-- so the entry that a parse comes to is a value, where only values suit the start rule
+pub has_value_entry : {X W S L A C Z : Type 0} (d : Checked) (facts : X → LexemeFacts) (allows : List (Result X C) → Type 0) (leaf : X → AStackType X W → Type 0) (node : ℕ → Option (AStackType X W) → List (AStackType X W) → AStackType X W → Type 0) (suits : GrammarSymbol → AStackType X W → Type 0) (answer : Option (AStackType X W) × Vec (LexParseError S L A X C) Z)
+    → ((e : AStackType X W) → suits (Nonterminal d.grammar.start) e → HasValueEntry e)
+    → ParsesTo d facts allows (IsOfTree leaf node suits d) (Ok answer) → IfSome answer.0 HasValueEntry
+has_value_entry {X = X} {W = W} d facts allows leaf node suits answer values parses = by_entry answer.0 refl
+  where
+    by_entry : (o : Option (AStackType X W)) → answer.0 ≡ o → IfSome o HasValueEntry
+    by_entry None none = tt
+    by_entry (Some e) some = values e (value_told d facts allows (IsOfTree leaf node suits d) answer e parses some).1.suit
+
+-- a parse of a value is one of what it was made of
+pub parse_mapped : {X V W S L A C Z : Type 0} (d : Checked) (facts : X → LexemeFacts) (allows : List (Result X C) → Type 0) (Tells : Tree X → V → Type 0) (TellsOf : Tree X → W → Type 0) (f : W → V) (v : Option V) (w : Option W) (errors : Vec (LexParseError S L A X C) Z)
+    → v ≡ option_map f w → ((t : Tree X) (x : W) → Tells t (f x) → TellsOf t x)
+    → ParsesTo d facts allows Tells (Ok (v, errors)) → ParsesTo d facts allows TellsOf (Ok (w, errors))
+parse_mapped d facts allows Tells TellsOf f v w errors is tells parses =
+    parse_as d facts allows (λ answer. answer.1.items) (λ answer. answer.1.items) (HasValue (λ x. (facts x).token) d.grammar Tells) (HasValue (λ x. (facts x).token) d.grammar TellsOf) (v, errors) (w, errors) refl
+    (λ consumed prods has. mapped_value (λ x. (facts x).token) d.grammar Tells TellsOf f w consumed prods (v, errors) (w, errors) is refl tells has) parses

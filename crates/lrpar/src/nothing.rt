@@ -1,0 +1,41 @@
+//! Nothing is built: a parse gives its errors alone.
+ghost use Rattle.std.specs.Prelude.{◌≡◌, ◌≤◌, ◌-◌, OnOk, length, take};
+
+use crate::build::Build;
+use crate::lex_api::Lexeme;
+use lrpar_grammar::grammar::YaccGrammar;
+use lrpar_grammar::span::{PIdx, StorageNum};
+use std::alloc::{AllocError, Global};
+
+/// Builds nothing, and makes no list.
+#[derive(Drop)]
+pub(crate) struct Nothing;
+
+impl<StorageT: StorageNum, LexemeT: Lexeme<StorageT>> Build<StorageT, LexemeT> for Nothing {
+    type Entry = ();
+
+    ghost can_build = { λ b g. Unit {0} };
+
+    ghost suits = { λ b s e. Unit {0} };
+
+    ghost leaf = { λ b x e. Unit {0} };
+
+    ghost node = { λ b g p before es e. Unit {0} };
+
+    fn shifted(&self, _lexeme: LexemeT) {}
+
+    fn reduced(
+        &self,
+        _alloc: Global,
+        _grm: &YaccGrammar<StorageT>,
+        _pidx: &PIdx<StorageT>,
+        count: usize,
+        entries: &mut Vec<()>,
+    ) -> Result<(), AllocError>
+        requires deep { count ≤ length entries.old.items }
+        ensures kept { OnOk result (entries.new.items ≡ take (length entries.old.items - count) entries.old.items) }
+    {
+        entries.truncate(entries.len() - count);
+        Ok(())
+    }
+}
