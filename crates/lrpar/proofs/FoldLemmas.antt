@@ -1,5 +1,5 @@
 -- A tree for which an entry stands folds to the values that the entry gives.
-use Rattle.std.proofs.Common.{◌≡◌, ◌∙◌, ℕ, IfSome, List, [], ◌∷◌, MatchOption, None, Ok, Option, Result, Some, Vec, inl, inr, option_map, refl, subst, sym}
+use Rattle.std.proofs.Common.{◌≡◌, ◌∙◌, ℕ, IfSome, List, [], ◌∷◌, MatchOption, None, Ok, Err, Option, Result, Some, Vec, inl, inr, option_map, refl, subst, sym}
 use Rattle.std.proofs.lemmas.Option.{same_Some}
 use Rattle.std.specs.List.{AllZip}
 use Rattle.lrpar_grammar.specs.Grammar.{Grammar, GrammarSymbol, Nonterminal, rule_of}
@@ -10,11 +10,15 @@ use Rattle.lrpar.specs.End.{IsOfTree}
 use Rattle.lrpar.specs.Entries.{Gives, HasValueEntry, IsLexemeEntry, IsMadeEntry}
 use Rattle.lrpar.specs.Folds.{Folds, ForestFolds}
 use Rattle.lrpar.specs.Lexed.{first_error}
+use Rattle.lrpar.specs.Nodes.{IsNonterm, IsTerm}
 use Rattle.lrpar.specs.Parse.{ParsesTo}
 use Rattle.lrpar.specs.declared.errors.LexParseError.{LexParseError}
 use Rattle.lrpar.specs.declared.values.AStackType.{AStackType}
 use Rattle.lrpar.specs.declared.values.AStackType.TheVariants.{ActionType, Lexeme}
-use Rattle.lrpar.proofs.ParseLemmas.{parse_as}
+use Rattle.lrpar.specs.declared.fault.ParseFault.{ParseFault}
+use Rattle.lrpar.specs.declared.node.Node.{Node}
+use Rattle.lrpar.proofs.ListLemmas.{zip_same}
+use Rattle.lrpar.proofs.ParseLemmas.{parse_as, refusal_as}
 use Rattle.lrpar.specs.RunAnswer.{HasValue, IsValueOf}
 use Rattle.lrpar.specs.Standing.{AllStand, StandsFor}
 
@@ -104,3 +108,24 @@ pub parse_mapped : {X V W S L A C Z : Type 0} (d : Checked) (facts : X → Lexem
 parse_mapped d facts allows Tells TellsOf f v w errors is tells parses =
     parse_as d facts allows (λ answer. answer.1.items) (λ answer. answer.1.items) (HasValue (λ x. (facts x).token) d.grammar Tells) (HasValue (λ x. (facts x).token) d.grammar TellsOf) (v, errors) (w, errors) refl
     (λ consumed prods has. mapped_value (λ x. (facts x).token) d.grammar Tells TellsOf f w consumed prods (v, errors) (w, errors) is refl tells has) parses
+
+-- the same value told by other trees, whatever the parse answers
+pub parse_told : {X V S L A C Z : Type 0} (d : Checked) (facts : X → LexemeFacts) (allows : List (Result X C) → Type 0) (Tells TellsOf : Tree X → V → Type 0) (result : Result (Option V × Vec (LexParseError S L A X C) Z) ParseFault)
+    → ((t : Tree X) (v : V) → Tells t v → TellsOf t v) → ParsesTo d facts allows Tells result → ParsesTo d facts allows TellsOf result
+parse_told {V} d facts allows Tells TellsOf (Ok (v, errors)) tells parses =
+    parse_mapped d facts allows Tells TellsOf (λ (x : V). x) v v errors (same v) tells parses
+  where
+    same : (o : Option V) → o ≡ option_map (λ (x : V). x) o
+    same None = refl
+    same (Some x) = refl
+parse_told d facts allows Tells TellsOf (Err fault) tells parses =
+    refusal_as d facts allows (λ answer. answer.1.items) (λ answer. answer.1.items) (HasValue (λ x. (facts x).token) d.grammar Tells) (HasValue (λ x. (facts x).token) d.grammar TellsOf) fault parses
+
+-- the entries of trees: a tree folds to its entry
+pub tree_fold : {X S : Type 0} (index : S → ℕ) (g : Grammar) (before : Option (Node X S)) (t : Tree X) (n : Node X S)
+    → StandsFor IsTerm (λ p before es e. IsNonterm index (rule_of g p) es e) before t n → Folds IsTerm (IsNonterm index) g t n
+tree_fold {X} {S} index g before t n stands =
+    stands_fold IsTerm (λ p before es e. IsNonterm index (rule_of g p) es e) g IsTerm (IsNonterm index) (λ e v. e ≡ v)
+    (λ x e v is same. sym same ∙ is)
+    (λ p before es e v made same. (es, zip_same es, subst (λ (w : Node X S). IsNonterm index (rule_of g p) es w) same made))
+    before t n n stands refl

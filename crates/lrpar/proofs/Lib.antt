@@ -7,3 +7,4 @@ pub mod StandingLemmas
 pub mod OverLemmas
 pub mod ParseLemmas
 pub mod FoldLemmas
+pub mod SumLemmas

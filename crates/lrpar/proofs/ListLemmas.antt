@@ -32,3 +32,8 @@ zip_one R x (y ∷ z ∷ ys) all = absurd all.1
 -- lists of one element are equal by it
 pub same_one : {A : Type 0} (x y : A) → x ∷ [] ≡ y ∷ [] → x ≡ y
 same_one x y e = cc
+
+-- each element is equal to itself
+pub zip_same : {A : Type 0} (xs : List A) → AllZip (λ x y. x ≡ y) xs xs
+zip_same [] = tt
+zip_same (x ∷ xs) = (refl, zip_same xs)

@@ -3,7 +3,7 @@ use Rattle.std.proofs.Common.{◌≡◌, ◌≢◌, ◌<◌, ◌*◌, ◌≤◌,
 use Rattle.std.proofs.lemmas.List.{length-append, length-map, length-take-le}
 use Rattle.std.proofs.lemmas.Slice.Zip.{AllZip-long}
 use Rattle.std.specs.List.{AllZip, last_or}
-use Rattle.std.specs.Option.{option_and_then}
+use Rattle.std.specs.Option.{option_and_then, option_map_or}
 use Rattle.lrpar_grammar.specs.Grammar.{Grammar, GrammarSymbol, Nonterminal, Terminal, end_token, prod_len, prods_len, rule_of, start_prod, symbols_of}
 use Rattle.lrpar_text.specs.declared.span.PIdx.{PIdx}
 use Rattle.lrpar_text.specs.declared.span.StIdx.{StIdx}
@@ -15,7 +15,7 @@ use Rattle.lrpar_check.specs.Checked.{Checked}
 use Rattle.lrpar_check.specs.Path.{IsPath, Leads, NeverSticks, ReducesAlong}
 use Rattle.lrpar_check.specs.Reduction.{Reduces, ReducesBy, left_by, top_action, top_goto}
 use Rattle.lrpar_check.specs.Stack.{top_of}
-use Rattle.lrpar_states.specs.Table.{Table, ReduceBy, ShiftTo, IsClosed, goto_of, states_len}
+use Rattle.lrpar_states.specs.Table.{Table, Fails, ReduceBy, ShiftTo, IsClosed, action_of, goto_of, states_len}
 use Rattle.lrpar_check.proofs.PathLemmas.{last_of, last_within, top_is_last}
 use Rattle.lrpar.specs.Standing.{Stacked, IsUpright, ReducesTo, ReducesAllTo, kept_by, popped_by}
 use Rattle.lrpar.specs.Stacked.{SettlesTo}
@@ -239,3 +239,8 @@ upright_shift suits d t next old new e never upright shifts states entries suit 
   path = subst (IsPath d.table (upright.symbols ++ Terminal t ∷ [])) (sym states) (never.shifts upright.symbols old.states t next upright.path shifts).1;
   suit = subst (AllZip suits (upright.symbols ++ Terminal t ∷ [])) (sym entries) (zip_push suits upright.symbols old.entries (Terminal t) e upright.suit suit);
 }
+
+-- the action of the top state is that of the stack
+pub action_of_top : {S : Type 0} (index : S → ℕ) (table : Table) (t s : ℕ) (st : List ℕ) (action : Action S) → top_of st ≡ Some s
+    → plain_action index action ≡ action_of table s t → plain_action index action ≡ top_action table t st
+action_of_top index table t s st action top is = is ∙ sym (ap (λ (o : Option ℕ). option_map_or (λ (s : ℕ). action_of table s t) o Fails) top)

@@ -8,8 +8,10 @@ pub mod LexemeFault
 pub mod Folds
 pub mod Made
 pub mod Entries
+pub mod Nodes
 pub mod Run
 pub mod RunLaws
+pub mod SumRun
 pub mod RunAnswer
 pub mod Parse
 pub mod Standing

@@ -1,7 +1,17 @@
 //! Laws about the definitions that contracts cite: each function has one as its contract, and does nothing.
+ghost use Rattle.std.specs.Prelude.{◌≡◌};
 ghost use Rattle.lrpar_grammar.specs.Sentence.{LexemeFacts};
 ghost use Rattle.lrpar.specs.Run.{RunsOneWay};
+ghost use Rattle.lrpar.specs.Failure.{repair_eq};
+ghost use Rattle.lrpar.specs.Repairs.{repair_of};
+ghost use Rattle.lrpar.specs.RunAnswer.{most_productions};
 ghost use Rattle.lrpar.specs.RunLaws.{RunsEndOneWay, RunsGoOnOrEnd, RunsStopByFailing};
+ghost use Rattle.lrpar.specs.SumRun.{SumRunsThrough};
+ghost use Rattle.lrpar.specs.declared.errors.ParseRepair.{ParseRepair};
+
+use crate::errors::ParseRepair;
+use crate::lex_api::Lexeme;
+use lrpar_grammar::span::StorageNum;
 
 /// From a stack at a place there is at most one way to run, over lexemes of any type and over those that contracts speak
 /// of: two runs make the same reductions and end alike, so they have the same stops and consume the same lexemes.
@@ -23,4 +33,17 @@ pub fn runs_go_on_or_end<LexemeT>()
 pub fn runs_stop_by_failing<LexemeT>()
     ensures fails { RunsStopByFailing LexemeT }
     ensures facts_fail { RunsStopByFailing LexemeFacts }
+{}
+
+/// On the table of sums the run over `a+b` comes through, by the reductions that a reader works out by hand; and a tree with
+/// three leaves has at most 40 productions there, where a chain has at most 2 reductions and no error came.
+pub fn sum_run_is_worked_out()
+    ensures run { SumRunsThrough }
+    ensures bound { most_productions 2 3 0 ≡ 40 }
+{}
+
+/// Two repairs are equal exactly where they are of one kind, and their tokens or lexemes are equal.
+pub fn repairs_are_compared_by_contents<StorageT: StorageNum, LexemeT: Lexeme<StorageT>>()
+    ensures { (x y : ParseRepair LexemeT StorageT) → ⟦<ParseRepair<LexemeT, StorageT> as PartialEq>⟧.eq x y
+        ≡ repair_eq LexemeT.PartialEq.eq (repair_of StorageT.index x) (repair_of StorageT.index y) }
 {}

@@ -7,6 +7,7 @@ ghost use Rattle.lrpar.specs.Folds.{Folds};
 ghost use Rattle.lrpar.specs.declared.values.AStackType.TheVariants.{ActionType};
 ghost use Rattle.lrpar.specs.Lexemes.{facts_of};
 ghost use Rattle.lrpar.specs.Made.{made_by};
+ghost use Rattle.lrpar.specs.Nodes.{IsNonterm, IsTerm};
 ghost use Rattle.lrpar.specs.Parse.{ParsesTo, ParsesToErrors};
 
 use crate::build::Build;
@@ -14,10 +15,13 @@ pub use crate::errors::{LexParseError, ParseError, ParseRepair};
 pub use crate::fault::ParseFault;
 use crate::lex_api::{LexerTypes, NonStreamingLexer};
 use crate::lexed::{lexeme_fault, lexemes_or_error};
+use crate::node::Trees;
+pub use crate::node::{Node, action_generictree};
 use crate::nothing::Nothing;
 use crate::run::{End, Run};
 pub use crate::values::AStackType;
 use crate::values::Functions;
+use lrpar_grammar::grammar::YaccGrammar;
 use lrpar_grammar::span::{RIdx, StorageNum};
 use lrpar_table::check::ParserData;
 use std::alloc::{AllocError, Global};
@@ -98,6 +102,27 @@ impl<'a, StorageT: StorageNum, LexerTypesT: LexerTypes<StorageT = StorageT>> RTP
             Ok((entry, errors)) => Ok((value_of(entry), errors)),
             Err(fault) => Err(fault),
         }
+    }
+
+    /// The grammar.
+    pub fn grammar(&self) -> &YaccGrammar<StorageT>
+        ensures { result.now ≡ self.now.grammar }
+    {
+        self.checked.grm()
+    }
+
+    /// Parses what the lexer answers, which it is asked once, to its tree. The errors are those that `parse_map` answers,
+    /// and it refuses what that refuses. Each rule with symbols takes memory once, for the list of its nodes.
+    pub fn parse_generictree<'input, L: NonStreamingLexer<'input, LexerTypesT>>(
+        &self,
+        alloc: Global,
+        lexer: &L,
+    ) -> Result<Answer<StorageT, LexerTypesT, Node<LexerTypesT::LexemeT, StorageT>>, ParseFault>
+        // Memory was wanting, or there is an answer that the lexer allows, and this is the parse over it.
+        ensures parse { ParsesTo self.now (λ x. facts_of StorageT.index (LexerTypesT.LexemeT.parts x)) (L.allows lexer.now)
+            (Folds IsTerm (IsNonterm StorageT.index) self.now.grammar) result }
+    {
+        self.parsed(alloc, lexer, &Trees)
     }
 
     /// Parses what the lexer answers, which it is asked once, and makes nothing of it. The errors are those that

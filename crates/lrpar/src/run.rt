@@ -124,24 +124,16 @@ impl<'a, StorageT: StorageNum, LexemeT: Lexeme<StorageT>, B: Build<StorageT, Lex
             self.now.checked.now (StorageT.index token.0) stack.old stack.new) }
         ensures action { IfOk result (λ action. plain_action StorageT.index action ≡ top_action self.now.checked.now.table (StorageT.index token.0) stack.new.states) }
     {
+        let stable = self.checked.stable();
         // How many reductions may still be made: the check allows `cap` for each state.
         let mut left = u128::from(self.checked.cap()) * stack.height() as u128;
         'reductions: loop {
-            match self.action(stack, token) {
+            match stable.action(stack.top(), token) {
                 Action::Reduce(pidx) => self.reduce(alloc, stack, token, pidx)?,
                 action => return Ok(action),
             }
             left -= 1;
         }
-    }
-
-    // The action of the top state at the token.
-    fn action(&self, stack: &Stack<StorageT, B::Entry>, token: TIdx<StorageT>) -> Action<StorageT>
-        requires token { StorageT.index token.0 < self.now.checked.now.table.tokens }
-        requires upright { IsUpright (B.suits self.now.build.now) self.now.checked.now.table stack.now }
-        ensures { plain_action StorageT.index result ≡ top_action self.now.checked.now.table (StorageT.index token.0) stack.now.states }
-    {
-        self.checked.stable().action(stack.top(), token)
     }
 
     // Reduces by the production, which is the action of the top state at the token.

@@ -1,10 +1,10 @@
 -- What reductions of an overlay keep of its base, and what is told of it where they are all made or held up.
-use Rattle.std.proofs.Common.{◌≡◌, ◌≤◌, ◌+◌, ◌-◌, ◌∙◌, ◌⊎◌, inl, inr, sym, subst, ap, arith, ℕ, List, [], ◌∷◌, ◌++◌, Bool, true, false, length, min, take, refl, length-append}
+use Rattle.std.proofs.Common.{◌≡◌, ◌≤◌, ◌+◌, ◌-◌, ◌∙◌, ◌⊎◌, inl, inr, sym, subst, ap, arith, ℕ, List, [], ◌∷◌, Bool, true, false, length, refl, length-append}
 use Rattle.std.proofs.lemmas.List.{length-take-le}
 use Rattle.lrpar_grammar.specs.Grammar.{Grammar, prod_len}
 use Rattle.lrpar_states.specs.Table.{Table, ShiftTo}
 use Rattle.lrpar_check.specs.Chain.{most_reductions}
-use Rattle.lrpar_check.specs.Overlay.{FeedsOver, IsFedOver, IsFull, IsHeldUpOver, IsSettledOver, IsShiftHeldUpOver, KeepsBy, Overlaid, OverlayFails, OverlayReduces, OverlayShifts, OverlayStays, kept_by, overlaid}
+use Rattle.lrpar_check.specs.Overlay.{IsFedOver, IsFull, IsHeldUpOver, IsSettledOver, IsShiftHeldUpOver, KeepsBy, Overlaid, OverlayFails, OverlayReduces, OverlayShifts, OverlayStays, kept_by, overlaid}
 use Rattle.lrpar_check.specs.Reduction.{Reduces, Settles, left_by, top_action}
 use Rattle.lrpar_check.specs.Stack.{IsStack}
 use Rattle.lrpar_check.specs.StackReduction.{IsStackFedBy, IsStackHeldUp, IsStackSettledBy, IsStackShiftHeldUp, StackReducesBy}

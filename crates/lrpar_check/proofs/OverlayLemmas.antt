@@ -1,8 +1,8 @@
 -- What an overlay stands for: the lower states of its base, and those of its tail above them.
-use Rattle.std.proofs.Common.{◌≡◌, ◌<◌, ◌≤◌, ◌+◌, ◌-◌, ◌∙◌, inl, inr, sym, subst, ap, arith, ℕ, zero, suc, List, [], ◌∷◌, ◌++◌, length, map, take, min, get_or, slice_get, Option, Some, None, refl, length-append, append_assoc, append-nil}
+use Rattle.std.proofs.Common.{◌≡◌, ◌<◌, ◌≤◌, ◌+◌, ◌-◌, ◌∙◌, inl, inr, sym, subst, ap, arith, ℕ, suc, List, [], ◌∷◌, ◌++◌, length, map, take, min, get_or, slice_get, Some, None, refl, length-append, append_assoc, append-nil}
 use Rattle.std.proofs.Math.Seq.{take-append-add}
 use Rattle.std.proofs.lemmas.Bool.{cases_lt}
-use Rattle.std.proofs.lemmas.List.{length-map, length-take-le, map-append, take-append-le, take-map, take-take, take_all}
+use Rattle.std.proofs.lemmas.List.{length-map, length-take-le, map-append, take-append-le, take-map, take-take}
 use Rattle.std.proofs.lemmas.Option.{none-some, slice_get-get_or, slice_get-map, slice_get_read}
 use Rattle.std.specs.Option.{option_map}
 use Rattle.lrpar_check.specs.Stack.{top_of}

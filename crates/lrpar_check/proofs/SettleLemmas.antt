@@ -1,5 +1,5 @@
 -- Reductions of a stack over a table that is checked: they keep it a stack, and none is left where a step makes none.
-use Rattle.std.proofs.Common.{◌≡◌, ◌≢◌, ◌<◌, ◌≤◌, ◌+◌, ◌*◌, ◌-◌, ◌∙◌, ◌⊎◌, inl, inr, refl, sym, subst, arith, ℕ, zero, suc, List, [], ◌∷◌, ◌++◌, length, take, Some, Result, Ok, Err, length-append}
+use Rattle.std.proofs.Common.{◌≡◌, ◌≢◌, ◌<◌, ◌≤◌, ◌+◌, ◌-◌, ◌∙◌, ◌⊎◌, inl, inr, refl, sym, subst, arith, ℕ, zero, suc, List, [], ◌∷◌, ◌++◌, length, take, Some, Result, Ok, Err, length-append}
 use Rattle.std.proofs.lemmas.List.Elements.{All-cons, All-nil}
 use Rattle.std.proofs.lemmas.Option.{get_or_from_slice_get, slice_get_within}
 use Rattle.std.specs.List.{All}
@@ -10,7 +10,6 @@ use Rattle.lrpar_check.specs.Chain.{IsBounded, most_reductions}
 use Rattle.lrpar_check.specs.Checked.{Checked, IsChecked}
 use Rattle.lrpar_check.specs.Path.{NeverSticks}
 use Rattle.lrpar_check.specs.Reduction.{Reduces, ReducesBy, Settles, IsSettled, top_action, left_by, top_goto}
-use Rattle.lrpar_check.specs.Settled.{IsSettledBy}
 use Rattle.lrpar_check.specs.Stack.{AreJoined, IsJoined, IsStack, top_of}
 use Rattle.lrpar_check.specs.StackReduction.{IsStackSettledBy, StackReducesBy}
 use Rattle.lrpar_check.specs.Step.{FitsGrammar, IsStackStep, IsStep}

@@ -1,11 +1,14 @@
 -- Stacks and paths are the same states: a path tells by which symbol each state goes to the next.
-use Rattle.std.proofs.Common.{◌≡◌, ◌<◌, ◌≤◌, ◌+◌, ◌∙◌, ◌↔◌, inl, inr, sym, ap, subst, ℕ, List, [], ◌∷◌, map, length, drop, get_or, Some, None}
+use Rattle.std.proofs.Common.{◌≡◌, ◌≢◌, ◌<◌, ◌≤◌, ◌+◌, ◌∙◌, ◌↔◌, inl, inr, sym, ap, subst, arith, ℕ, zero, suc, List, [], ◌∷◌, map, length, drop, get_or, Some, None}
 use Rattle.std.proofs.lemmas.Bool.{cases_lt}
-use Rattle.std.proofs.lemmas.List.{drop_more, drop_all}
+use Rattle.std.proofs.lemmas.List.{drop_more, drop_all, get_or-map, length-map}
+use Rattle.std.specs.List.{Contains, zip}
+use Rattle.lrpar_states.proofs.ItemLemmas.{Contains-image, Contains-preimage}
 use Rattle.lrpar_grammar.specs.Grammar.{GrammarSymbol, Nonterminal, Terminal}
 use Rattle.lrpar_check.specs.Path.{Leads, IsPath}
 use Rattle.lrpar_states.specs.Safe.{GoesBy}
 use Rattle.lrpar_check.specs.Stack.{AreJoined, IsJoined, IsStack}
+use Rattle.lrpar_check.proofs.SafetyLemmas.{each_more}
 use Rattle.lrpar_states.specs.Table.{Table, ShiftTo, Fails, IsClosed, action_of, goto_of, states_len}
 
 module _ (table : Table) (no_token : (s t : ℕ) → table.tokens ≤ t → action_of table s t ≡ Fails)
@@ -80,3 +83,55 @@ joined_more table number s above i next below is =
 pub joined_end : {A : Type 0} (table : Table) (number : A → ℕ) (s : ℕ) (above : List A) (i : ℕ) → length above ≤ i
     → AreJoined table s (map number (drop i above))
 joined_end table number s above i past = rw drop_all tt
+
+-- keys and values side by side: each value that stands there is one of the values
+value_beside : {K V : Type 0} (ks : List K) (vs : List V) (e : K × V) → Contains (zip ks vs) e → Contains vs e.1
+value_beside [] vs e h = absurd (omega (arith, h.1))
+value_beside (k ∷ ks) [] e h = absurd (omega (arith, h.1))
+value_beside (k ∷ ks) (v ∷ vs) e (zero, below, is) = (0, omega arith, ap (λ e. e.1) is)
+value_beside (k ∷ ks) (v ∷ vs) e (suc i, below, is) =
+    let more = value_beside ks vs e (i, omega arith, is) in (suc more.0, omega (arith, more.1), more.2)
+
+-- and each of the values stands beside a key
+key_beside : {K V : Type 0} (ks : List K) (vs : List V) (v : V) → length vs ≡ length ks → Contains vs v → (k : K) × Contains (zip ks vs) (k, v)
+key_beside ks [] v many h = absurd (omega (arith, h.1))
+key_beside [] (w ∷ vs) v many h = absurd (omega arith)
+key_beside (k ∷ ks) (w ∷ vs) v many (zero, below, is) = (k, (0, omega arith, ap (λ w. (k, w)) is))
+key_beside (k ∷ ks) (w ∷ vs) v many (suc i, below, is) =
+    let more = key_beside ks vs v (omega arith) (i, omega arith, is) in (more.0, (suc more.1.0, omega (arith, more.1.1), more.1.2))
+
+-- so the values of some entries are those that stand in them
+pub values_of_entries : {K V X : Type 0} (number : K → ℕ) (value : V → X) (ks : List K) (vs : List V) (es : List (ℕ × X)) (x : X)
+    → length vs ≡ length ks → map (λ e. (number e.0, value e.1)) (zip ks vs) ≡ es → Contains (map value vs) x ↔ ((k : ℕ) × Contains es (k, x))
+values_of_entries {K} {V} {X} number value ks vs es x many is = (
+  λ h.
+      let v = Contains-preimage value vs x h in
+      let e = key_beside ks vs v.0 many v.1 in
+      let there = Contains-image f (zip ks vs) (e.0, v.0) e.1 in
+      (number e.0, subst (λ (l : List (ℕ × X)). Contains l (number e.0, x)) is (subst (λ (y : X). Contains (map f (zip ks vs)) (number e.0, y)) v.2 there)),
+  λ h.
+      let there = subst (λ (l : List (ℕ × X)). Contains l (h.0, x)) (sym is) h.1 in
+      let e = Contains-preimage f (zip ks vs) (h.0, x) there in
+      let same : value e.0.1 ≡ x = ap (λ (y : ℕ × X). y.1) e.2 in
+      subst (Contains (map value vs)) same (Contains-image value vs e.0.1 (value_beside ks vs e.0 e.1)),
+)
+  where
+    f : K × V → ℕ × X
+    f e = (number e.0, value e.1)
+
+-- an element of which the image is y is found in a list
+pub image_found : {A Y : Type 0} (f : A → Y) (y : Y) (xs : List A) (i : ℕ) (x : A) → i < length xs → x ≡ get_or xs i x → f x ≡ y
+    → Contains (map f xs) y
+image_found f y xs i x below read is = subst (Contains (map f xs)) is (Contains-image f xs x (i, below, sym read))
+
+-- where it isn't at one place more, it isn't at one place more of the image
+pub image_more : {A Y : Type 0} (f : A → Y) (y : Y) (xs : List A) (i : ℕ) (x : A) → i < length xs → x ≡ get_or xs i x → f x ≢ y
+    → ((k : ℕ) (d : Y) → k < i → get_or (map f xs) k d ≢ y) → (k : ℕ) (d : Y) → k < i + 1 → get_or (map f xs) k d ≢ y
+image_more f y xs i x below read other before =
+    let many : i < length (map f xs) = rw length-map below in
+    each_more (λ z. z ≢ y) (map f xs) i (f x) many (ap f read ∙ sym (get_or-map f xs i x (f x) below)) other before
+
+-- where it is at no place, the image doesn't have it
+pub image_none : {A Y : Type 0} (f : A → Y) (y : Y) (xs : List A) (i : ℕ) → length xs ≤ i → ((k : ℕ) (d : Y) → k < i → get_or (map f xs) k d ≢ y)
+    → ¬ (Contains (map f xs) y)
+image_none f y xs i past before h = before h.0 y (omega (arith, h.1, past, length-map xs f)) h.2

@@ -1,11 +1,11 @@
 -- What one step makes of a list of states, and of the chain that goes on from them.
-use Rattle.std.proofs.Common.{◌≡◌, ◌<◌, ◌≤◌, ◌+◌, ◌-◌, ◌∙◌, ◌↔◌, ◌⊎◌, inl, inr, refl, sym, ap, subst, arith, ℕ, zero, suc, List, [], ◌∷◌, ◌++◌, length, map, take, get_or, slice_get, Option, Some, None, Result, Ok, Err}
-use Rattle.std.proofs.lemmas.List.{get_or-map, get_or-take, length-append, length-map, length-take-le, map-append, take-map}
+use Rattle.std.proofs.Common.{◌≡◌, ◌<◌, ◌≤◌, ◌+◌, ◌-◌, ◌∙◌, ◌↔◌, ◌⊎◌, inl, inr, refl, sym, ap, subst, arith, ℕ, zero, suc, List, [], ◌∷◌, ◌++◌, length, map, take, slice_get, Option, Some, None, Result, Ok, Err}
+use Rattle.std.proofs.lemmas.List.{length-append, length-map, length-take-le, map-append, take-map}
 use Rattle.std.proofs.lemmas.List.Elements.{All-push, All-take}
-use Rattle.std.proofs.lemmas.Option.{none-some, slice_get-map, slice_get_read}
+use Rattle.std.proofs.lemmas.Option.{none-some}
 use Rattle.std.specs.List.{All}
 use Rattle.std.specs.Result.{OnErr}
-use Rattle.std.specs.Option.{MatchOption, option_and_then, option_map, option_map_or}
+use Rattle.std.specs.Option.{MatchOption, option_and_then, option_map_or}
 use Rattle.lrpar_grammar.specs.Grammar.{Grammar, prods_len, prod_len, rule_of}
 use Rattle.lrpar_check.specs.Chain.{DropsAll, HasReductions}
 use Rattle.lrpar_check.specs.Reduction.{Reduces, top_action, top_goto, left_by}

@@ -1,17 +1,18 @@
 //! Stacks of states: whether a list of states is one of a table.
-ghost use Rattle.std.specs.Prelude.{◌≡◌, ◌<◌, ◌↔◌, ℕ, IsTrue, Some};
+ghost use Rattle.std.specs.Prelude.{◌≡◌, ◌<◌, ◌↔◌, ℕ, Contains, IsTrue, Some, map};
+ghost use Rattle.lrpar_states.specs.PlainRows.{plain_action};
 ghost use Rattle.lrpar_check.specs.Stack.{AreJoined, IsJoined, IsStack, states_of};
 ghost use Rattle.lrpar_states.specs.Table.{ShiftTo, IsClosed, action_of, goto_of, states_len};
 
 use crate::check::ParserData;
-use lrpar_grammar::span::{RIdx, StIdx, StorageNum, TIdx};
+use lrpar_grammar::span::{StIdx, StorageNum};
 use lrpar_states::table::{Action, StateTable};
 
 impl<StorageT: StorageNum> ParserData<StorageT> {
     /// Whether these states, bottom first, are a stack of the table: the start state stands at the bottom, and a shift or
     /// a goto leads from each state to the one above it. A list with a state out of range is none, nor is the empty one.
     ///
-    /// Takes no memory. Reads at most the two rows of each state but the top.
+    /// Takes no memory. Reads at most the entries of each state but the top.
     pub fn is_stack(&self, stack: &[StIdx<StorageT>]) -> bool
         ensures { IsTrue result ↔ IsStack self.now.table (states_of StorageT.index stack.now) }
     {
@@ -77,15 +78,30 @@ fn shifts_to<StorageT: StorageNum>(
     requires { StorageT.index s.0 < states_len table.now }
     ensures { IsTrue result ↔ ((t : ℕ) × (t < table.now.tokens) × (action_of table.now (StorageT.index s.0) t ≡ ShiftTo next)) }
 {
-    for t in 0..table.tokens_len() {
-        let token = TIdx(StorageT::from_index(t).unwrap());
-        if let Action::Shift(state) = table.action(s, token) {
-            if usize::from(state) == next {
-                return true;
-            }
+    let (_, actions) = table.actions_of(s);
+    has_shift(actions, next)
+}
+
+// Whether one of the actions is a shift to state `next`.
+fn has_shift<StorageT: StorageNum>(actions: &[Action<StorageT>], next: usize) -> bool
+    ensures { IsTrue result ↔ Contains (map (plain_action StorageT.index) actions.now) (ShiftTo next) }
+{
+    for action in actions {
+        if is_shift_to(*action, next) {
+            return true;
         }
     }
     false
+}
+
+// Whether the action is a shift to state `next`.
+fn is_shift_to<StorageT: StorageNum>(action: Action<StorageT>, next: usize) -> bool
+    ensures { IsTrue result ↔ plain_action StorageT.index action ≡ ShiftTo next }
+{
+    match action {
+        Action::Shift(state) => usize::from(state) == next,
+        Action::Reduce(_) | Action::Accept | Action::Error => false,
+    }
 }
 
 // Whether a goto leads from the state to state `next`.
@@ -97,12 +113,17 @@ fn goes_to<StorageT: StorageNum>(
     requires { StorageT.index s.0 < states_len table.now }
     ensures { IsTrue result ↔ ((r : ℕ) × (r < table.now.rules) × (goto_of table.now (StorageT.index s.0) r ≡ Some next)) }
 {
-    for r in 0..table.rules_len() {
-        let rule = RIdx(StorageT::from_index(r).unwrap());
-        if let Some(state) = table.goto(s, rule) {
-            if usize::from(state) == next {
-                return true;
-            }
+    let (_, states) = table.gotos_of(s);
+    has_state(states, next)
+}
+
+// Whether state `next` is one of the states.
+fn has_state<StorageT: StorageNum>(states: &[StIdx<StorageT>], next: usize) -> bool
+    ensures { IsTrue result ↔ Contains (states_of StorageT.index states.now) next }
+{
+    for state in states {
+        if usize::from(*state) == next {
+            return true;
         }
     }
     false

@@ -3,3 +3,9 @@ pub mod RowsLemmas
 pub mod PartsLemmas
 pub mod ForestLemmas
 pub mod RewritingLemmas
+pub mod FitLemmas
+pub mod NamesLemmas
+pub mod GrowthLemmas
+pub mod FaultsLemmas
+pub mod SpanLemmas
+pub mod SpellsLemmas

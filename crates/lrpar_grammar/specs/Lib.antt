@@ -6,3 +6,7 @@ pub mod Symbols
 pub mod Parts
 pub mod Kept
 pub mod Sum
+pub mod SpansFit
+pub mod Names
+pub mod Spells
+pub mod TextNames

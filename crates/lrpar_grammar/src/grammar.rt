@@ -1,5 +1,6 @@
 //! The grammar value: rules, tokens and productions with their names and places.
 
+mod fit;
 mod numbers;
 mod parts;
 mod prods;

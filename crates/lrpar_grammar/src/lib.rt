@@ -3,5 +3,6 @@
 
 pub mod grammar;
 pub mod laws;
+mod reader;
 
 pub use lrpar_text::{lines, span};

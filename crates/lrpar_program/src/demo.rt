@@ -15,7 +15,7 @@ type Parsed = (Option<Node>, Vec<LexParseError<u32, SumTypes>>);
 /// Parses the text as a sum. The answer has each error's line, and then the tree's lines, if there is a tree.
 pub(crate) fn demo(alloc: Global, text: &str) -> Result<Answer, Fault> {
     let data = sum_data(alloc)?;
-    let lexer = SumLexer::new(text);
+    let lexer = SumLexer::new(alloc, text)?;
     let (tree, errors) = parsed(alloc, &data, &lexer)?;
     Ok(written(alloc, data.grm(), &lexer, tree, &errors)?)
 }

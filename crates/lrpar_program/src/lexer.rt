@@ -1,12 +1,13 @@
 //! The lexer of sums: one answer for each character of the text.
-ghost use Rattle.std.specs.Prelude.{◌≡◌, ◌+◌, ◌≤◌, slice_range};
+ghost use Rattle.std.specs.Prelude.{◌≡◌, ◌+◌, ◌≤◌, ℕ, [], IfOk, length, slice_range};
 ghost use Rattle.std.specs.Char.{len_utf8};
 ghost use Rattle.std.specs.Str.{IsCharBoundary};
-ghost use Rattle.lrpar_text.specs.Lines.{line_of, column_of};
+ghost use Rattle.lrpar_text.specs.Lines.{line_of, column_of, line_table};
+ghost use Rattle.lrpar_program.specs.Boundaries.{IsBoundaryBefore};
 ghost use Rattle.lrpar_program.specs.Sums.{token_of};
 ghost use Rattle.lrpar_program.specs.SumAnswers.{answer_of};
 
-use crate::lines::{column_at, end_of_line, line_at, start_of_line};
+use lrpar::lines::NewlineCache;
 use lrpar::span::{Span, StorageNum};
 use lrpar::{LexError, Lexeme, Lexer, LexerTypes, NonStreamingLexer};
 use std::alloc::{AllocError, Global};
@@ -108,36 +109,51 @@ impl LexerTypes for SumTypes {
 #[derive(Drop)]
 pub(crate) struct SumLexer<'input> {
     input: &'input str,
+    lines: NewlineCache,
+    ghost starts_of_input: { lines.starts ≡ (line_table input.now).starts },
+    ghost len_of_input: { lines.len ≡ length input.now },
 }
 
 impl<'input> SumLexer<'input> {
-    /// The lexer over this text.
-    pub(crate) fn new(input: &'input str) -> Self
-        ensures { result.input.now ≡ input.now }
+    /// The lexer over this text. Takes time linear in it, and memory for each of its lines.
+    pub(crate) fn new(alloc: Global, input: &'input str) -> Result<Self, AllocError>
+        ensures { IfOk result (λ lexer. lexer.input.now ≡ input.now) }
     {
-        SumLexer { input }
+        let lines = NewlineCache::new(alloc, input)?;
+        Ok(SumLexer { input, lines })
     }
 
     /// The line and the column of the start of the span, each counted from 1, and columns in characters. A start
     /// that isn't between two characters of the input counts as the nearest place in front of it that is.
     pub(crate) fn place_of(&self, span: Span) -> (usize, usize)
-        ensures line { IsCharBoundary self.now.input.now span.start → result.0 ≡ line_of self.now.input.now span.start }
-        ensures column { IsCharBoundary self.now.input.now span.start → result.1 ≡ column_of self.now.input.now span.start }
+        ensures line { (at : ℕ) → IsBoundaryBefore self.now.input.now span.start at → result.0 ≡ line_of self.now.input.now at }
+        ensures column { (at : ℕ) → IsBoundaryBefore self.now.input.now span.start at → result.1 ≡ column_of self.now.input.now at }
     {
-        let start = self.input.floor_char_boundary(span.start());
-        self.line_col(Span::new(start, start)).0
+        self.place(self.input.floor_char_boundary(span.start()))
     }
 
     /// The input at the span: nothing, where the span doesn't start and end between two characters of the input.
     pub(crate) fn part(&self, span: Span) -> &'input str
-        ensures { IsCharBoundary self.now.input.now span.start → IsCharBoundary self.now.input.now span.end
+        ensures part { IsCharBoundary self.now.input.now span.start → IsCharBoundary self.now.input.now span.end
             → result.now ≡ slice_range self.now.input.now span.start span.end }
+        ensures nothing { ¬ (IsCharBoundary self.now.input.now span.start × IsCharBoundary self.now.input.now span.end) → result.now ≡ [] }
     {
         if self.input.is_char_boundary(span.start()) && self.input.is_char_boundary(span.end()) {
             self.span_str(span)
         } else {
             ""
         }
+    }
+
+    // The line and the column of a byte.
+    fn place(&self, byte: usize) -> (usize, usize)
+        requires { IsCharBoundary self.now.input.now byte }
+        ensures line { result.0 ≡ line_of self.now.input.now byte }
+        ensures column { result.1 ≡ column_of self.now.input.now byte }
+    {
+        self.lines
+            .byte_to_line_num_and_col_num(self.input, byte)
+            .unwrap()
     }
 }
 
@@ -163,18 +179,12 @@ impl<'input> NonStreamingLexer<'input, SumTypes> for SumLexer<'input> {
     }
 
     fn span_lines_str(&self, span: Span) -> &'input str {
-        let start = start_of_line(self.input, span.start());
-        let end = end_of_line(self.input, span.end());
+        let (start, end) = self.lines.span_line_bytes(span);
         &self.input[start..end]
     }
 
     fn line_col(&self, span: Span) -> ((usize, usize), (usize, usize)) {
-        let start = span.start();
-        let end = span.end();
-        (
-            (line_at(self.input, start), column_at(self.input, start)),
-            (line_at(self.input, end), column_at(self.input, end)),
-        )
+        (self.place(span.start()), self.place(span.end()))
     }
 }
 

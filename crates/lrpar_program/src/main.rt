@@ -4,7 +4,6 @@
 mod demo;
 mod fault;
 mod lexer;
-mod lines;
 mod run;
 mod sum;
 #[cfg(test)]

@@ -2,6 +2,8 @@
 #![tactic(auto)]
 
 #[cfg(test)]
+mod calls;
+#[cfg(test)]
 mod check;
 #[cfg(test)]
 mod errors;
@@ -14,7 +16,11 @@ mod graph;
 #[cfg(test)]
 mod lexer;
 #[cfg(test)]
+mod lines;
+#[cfg(test)]
 mod parse;
+#[cfg(test)]
+mod reader;
 #[cfg(test)]
 mod span;
 #[cfg(test)]

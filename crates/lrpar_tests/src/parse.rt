@@ -9,15 +9,15 @@ use std::cell::Cell;
 use std::test::Fail;
 
 // What a lexer answers.
-type LexAnswer = Result<Token<u32>, NoToken>;
+pub(crate) type LexAnswer = Result<Token<u32>, NoToken>;
 
 // The lexeme of the token, of one byte.
-fn lexeme(token: u32, start: usize) -> Token<u32> {
+pub(crate) fn lexeme(token: u32, start: usize) -> Token<u32> {
     Token::new(token, start.min(1_000), 1)
 }
 
 // The lexemes of these tokens and starts, of one byte each.
-fn lexemes(alloc: Global, given: &[(u32, usize)]) -> Result<Vec<LexAnswer>, Fail> {
+pub(crate) fn lexemes(alloc: Global, given: &[(u32, usize)]) -> Result<Vec<LexAnswer>, Fail> {
     Ok(
         given
             .iter()

@@ -1,3 +1,6 @@
 pub mod Span
 pub mod Comparisons
 pub mod Lines
+pub mod Words
+pub mod Shape
+pub mod Outline

@@ -1,8 +1,10 @@
-//! Laws of spans, numbers and symbols. Each function does nothing: its clauses are the law.
+//! Laws of spans, numbers and symbols, and of the definitions of grammar texts. Each function does nothing: its clauses are the law.
 ghost use Rattle.std.specs.Prelude.{◌≡◌, ◌↔◌, ◌++◌, IsTrue};
 ghost use Rattle.std.specs.Hash as fed;
 ghost use Rattle.lrpar_text.specs.Span.{Extent};
 ghost use Rattle.lrpar_text.specs.Comparisons.{ComparesByNumber, HashesAs, IsSameSymbol, symbol_input};
+ghost use Rattle.lrpar_text.specs.Outline.{OutlineIsOne};
+ghost use Rattle.lrpar_text.specs.Words.{ReadsAsOne};
 
 use crate::span::{PIdx, RIdx, Span, StIdx, StorageNum, Symbol, TIdx};
 use std::hash::Hash;
@@ -31,4 +33,14 @@ pub fn numbers_compare_by_value<StorageT: StorageNum>()
 pub fn symbols_compare_by_contents<StorageT: StorageNum>()
     ensures equal { (x y : Symbol StorageT) → IsTrue (⟦<Symbol<StorageT> as PartialEq>⟧.eq x y) ↔ IsSameSymbol StorageT.index x y }
     ensures hash { HashesAs (symbol_input StorageT.hash_input) ⟦<Symbol<StorageT> as PartialEq>⟧.eq ⟦<Symbol<StorageT> as Hash>⟧.hash_input }
+{}
+
+/// A grammar text reads as at most one list of words.
+pub fn text_reads_as_one()
+    ensures { ReadsAsOne }
+{}
+
+/// A grammar text has at most one outline: one list of declarations and rules.
+pub fn text_has_one_outline()
+    ensures { OutlineIsOne }
 {}

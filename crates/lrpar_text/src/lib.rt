@@ -3,4 +3,7 @@
 
 pub mod laws;
 pub mod lines;
+pub mod outline;
+pub mod shape;
 pub mod span;
+pub mod words;

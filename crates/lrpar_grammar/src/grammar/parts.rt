@@ -81,6 +81,25 @@ pub enum GrammarFault {
     /// There are more rules, productions or tokens than the storage type numbers, the added ones counted.
     #[error("storage type too small")]
     StorageTooSmall,
+    /// The text isn't one of a grammar: at this byte stands the first word that can't be read or can't stand there, a
+    /// quote or comment that isn't closed, or the end that comes too early.
+    #[error("syntax at byte {0}")]
+    Syntax(usize),
+    /// A name after `%start` that is no rule, or a symbol that is neither a declared token nor a rule.
+    #[error("unknown rule at byte {at}", at = .0.start())]
+    UnknownRule(Span),
+    /// The name after `%epp` is no token.
+    #[error("unknown token at byte {at}", at = .0.start())]
+    UnknownToken(Span),
+    /// A rule has the name of a token that `%token` declares.
+    #[error("token is a rule at byte {at}", at = .0.start())]
+    TokenIsRule(Span),
+    /// A second `%start`.
+    #[error("repeated %start at byte {at}", at = .0.start())]
+    RepeatedStart(Span),
+    /// A second `%epp` of one name.
+    #[error("repeated %epp at byte {at}", at = .0.start())]
+    RepeatedEpp(Span),
     /// Memory was wanting.
     #[error("out of memory")]
     Memory,

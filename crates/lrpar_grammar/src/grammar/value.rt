@@ -1,9 +1,11 @@
 //! The grammar value.
-ghost use Rattle.std.specs.Prelude.{◌≡◌, ◌<◌, ◌≤◌, ◌+◌, ◌↔◌, IfOk, IsErrOf, IsNone, Some, length, map, option_map, position};
+ghost use Rattle.std.specs.Prelude.{◌≡◌, ◌<◌, ◌≤◌, ◌+◌, ◌↔◌, IfOk, IsErrOf, IsNone, IsTrue, Some, length, map, option_map, position};
 ghost use Rattle.std.specs.List.{range_with_len, slice_get};
 ghost use Rattle.std.specs.Str.{bytes_eq};
+ghost use Rattle.lrpar_grammar.specs.SpansFit.{NamesFit, SpansFit};
 ghost use Rattle.lrpar_grammar.specs.Symbols.{symbol_of};
 
+use super::fit::{prods_fit, rules_fit, tokens_fit};
 use super::numbers::Numbers;
 use super::parts::{GrammarFault, GrammarParts, RulePart, TokenPart};
 use super::prods::{SplitProd, prods_by_rule, split_prods};
@@ -64,7 +66,7 @@ impl<StorageT: StorageNum> YaccGrammar<StorageT> {
     }
 
     // The grammar of sound parts.
-    fn made(alloc: Global, parts: GrammarParts<StorageT>) -> Result<Self, AllocError>
+    pub(crate) fn made(alloc: Global, parts: GrammarParts<StorageT>) -> Result<Self, AllocError>
         requires { AreSound StorageT.limit (parts_of StorageT.index parts) }
         ensures made { IfOk result (λ grm. grm ≡ grammar_of (parts_of StorageT.index parts)) }
         ensures well_formed { IfOk result IsWellFormed }
@@ -264,6 +266,22 @@ impl<StorageT: StorageNum> YaccGrammar<StorageT> {
         ensures { StorageT.index result.0 ≡ end_token self.now }
     {
         TIdx(StorageT::from_index(self.tokens.len()).unwrap())
+    }
+
+    /// Whether the places of the grammar fit a text: each starts and ends between two characters of it; that of each
+    /// symbol, and that of a production without symbols, lies on one line; and those of the symbols of a production
+    /// are in order and don't overlap. Takes time linear in the grammar and its places, and no memory.
+    pub fn spans_fit(&self, src: &str) -> bool
+        ensures { IsTrue result ↔ SpansFit self.now src.now }
+    {
+        self.names_fit(src) && prods_fit(&self.prods, src)
+    }
+
+    // Whether the places of the rules and tokens fit a text.
+    fn names_fit(&self, src: &str) -> bool
+        ensures { IsTrue result ↔ NamesFit self.now src.now }
+    {
+        rules_fit(&self.rules, src) && tokens_fit(&self.tokens, src)
     }
 
     /// The first token of that name. Takes time linear in the tokens.

@@ -1,8 +1,7 @@
-use Rattle.std.proofs.Common.{◌≡◌, ◌∙◌, ap, refl, subst, sym, ℕ}
-use Rattle.lrpar_grammar.specs.Grammar.{prod_len, symbols_of}
+use Rattle.std.proofs.Common.{◌∙◌, ap, refl, subst, ℕ}
+use Rattle.lrpar_grammar.specs.Grammar.{symbols_of}
 use Rattle.lrpar_grammar.specs.Symbols.{symbol_of}
 use Rattle.lrpar_states.specs.PlainRows.{plain_goto}
-use Rattle.lrpar_check.specs.Step.{CanReduce}
 use Rattle.lrpar_check.proofs.SafetyLemmas.{length_by_image}
 use Rattle.lrpar_check.proofs.SettleLemmas.{on_err_always}
 use Rattle.lrpar_check.proofs.StepLemmas.{goto_of_left}

@@ -1,4 +1,4 @@
-use Rattle.std.proofs.Common.{◌≡◌, ◌∙◌, [], ◌∷◌, List, ℕ, inr, subst, sym}
+use Rattle.std.proofs.Common.{◌≡◌, ◌∙◌, List, ℕ, inr, subst, sym}
 use Rattle.lrpar_check.specs.Reduction.{top_action}
 use Rattle.lrpar_check.specs.Stack.{IsStack}
 use Rattle.lrpar_states.specs.Table.{ShiftTo}

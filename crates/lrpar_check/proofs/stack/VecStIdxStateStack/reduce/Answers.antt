@@ -1,4 +1,4 @@
-use Rattle.std.proofs.Common.{◌≡◌, ◌-◌, ◌∙◌, ap, arith, length}
+use Rattle.std.proofs.Common.{◌≡◌, ◌-◌, arith, length}
 use Rattle.std.proofs.lemmas.Result.{on_ok_weaker}
 use Rattle.lrpar_check.proofs.StepLemmas.{put_states}
 use Rattle.lrpar_check.proofs.stack.VecStIdxStateStack.reduce.Goals as goal

@@ -1,7 +1,0 @@
-use Rattle.std.proofs.Common.{◌≢◌, ◌<◌, ℕ}
-use Rattle.lrpar_states.specs.Table.{ShiftTo, action_of}
-use Rattle.lrpar_check.proofs.stacks.shifts_to.Given as goal
-
--- no shift so far leads there
-abbrev pub invariant-loop-t : goal.invariant-loop-t
-invariant-loop-t g l = (k : ℕ) → k < l.t → action_of l.table (g.StorageT.StorageNum.index l.s.0) k ≢ ShiftTo l.next

@@ -1,0 +1,80 @@
+//! The grammar of a text.
+ghost use Rattle.std.specs.Prelude.{◌≡◌, IfErr, IfOk, OnOk};
+ghost use Rattle.lrpar_text.specs.Outline.{AreOfDefinedRules, HasOrderedSymbols, IsOutlineOf, outline_of};
+ghost use Rattle.lrpar_grammar.specs.Spells.{HasFault, IsClean, IsFaultOf, IsOutlineFault, Spells, numbering_of};
+ghost use Rattle.lrpar_grammar.specs.TextNames.{numbering_by};
+
+mod faults;
+mod names;
+mod parts;
+mod tables;
+
+use crate::grammar::{GrammarFault, YaccGrammar};
+use faults::{has_known_names, has_one_start};
+use lrpar_text::outline::{Outline, OutlineFault};
+use lrpar_text::span::StorageNum;
+use parts::{fit, spelled_parts};
+use std::alloc::Global;
+use tables::Tables;
+
+impl<StorageT: StorageNum> YaccGrammar<StorageT> {
+    ghost use Rattle.lrpar_grammar.specs.Grammar.{IsWellFormed};
+
+    /// The grammar of a text: declarations, `%%`, rules, an optional second `%%`.
+    ///
+    /// A declaration is `%start` and a rule's name, `%token` and tokens, or `%epp`, a token and its printed text in
+    /// quotes. A rule is `NAME : SYMBOLS | SYMBOLS ;`. A token is quoted or declared; any other name is a rule. Blanks,
+    /// `//` to the end of the line and `/*` to the next `*/` may stand between words. Without `%start` the first rule
+    /// is the start.
+    ///
+    /// Rules are numbered by first definition, tokens by first declaration or use, productions as they stand. A place
+    /// is in bytes and without quotes.
+    ///
+    /// Refused with `Syntax` where the text isn't of that shape, else by the first of these that holds:
+    /// `RepeatedStart`, `RepeatedEpp`, `NoRules`, `TokenIsRule`, `UnknownRule`, `UnknownToken`, each at its first place,
+    /// and `StorageTooSmall`; or with `Memory`. Takes memory linear in the text, time linear in it but for names, of
+    /// which each is looked up in logarithmic time.
+    pub fn new_with_storaget(alloc: Global, text: &str) -> Result<Self, GrammarFault>
+        ensures spelled { IfOk result (Spells text.now) }
+        ensures well_formed { IfOk result IsWellFormed }
+        ensures faulty { IfErr result (IsFaultOf StorageT.limit text.now) }
+    {
+        let outline = read_outline(alloc, text)?;
+        let tables = checked_tables(alloc, &outline)?;
+        if !fit::<StorageT>(&outline, &tables) {
+            return Err(GrammarFault::StorageTooSmall);
+        }
+        let parts = spelled_parts(alloc, &outline, &tables)?;
+        Ok(YaccGrammar::made(alloc, parts)?)
+    }
+}
+
+// The declarations and rules of the text.
+fn read_outline(alloc: Global, text: &str) -> Result<Outline, GrammarFault>
+    ensures outline { IfOk result (λ o. IsOutlineOf text.now (outline_of o)) }
+    ensures rules { IfOk result (λ o. AreOfDefinedRules (outline_of o)) }
+    ensures order { IfOk result (λ o. HasOrderedSymbols (outline_of o)) }
+    ensures err { IfErr result (IsOutlineFault text.now) }
+{
+    match Outline::read(alloc, text) {
+        Ok(outline) => Ok(outline),
+        Err(OutlineFault::Syntax(place)) => Err(GrammarFault::Syntax(place)),
+        Err(OutlineFault::Memory) => Err(GrammarFault::Memory),
+    }
+}
+
+// The tables of clean declarations and rules.
+fn checked_tables<'a>(alloc: Global, outline: &Outline<'a>) -> Result<Tables<'a>, GrammarFault>
+    ensures numbering { IfOk result (λ tables. numbering_by tables ≡ numbering_of (outline_of outline.now)) }
+    ensures epps { IfOk result (λ tables. tables.epps ≡ (outline_of outline.now).epps) }
+    ensures clean { OnOk result (IsClean (outline_of outline.now)) }
+    ensures err { IfErr result (HasFault (outline_of outline.now)) }
+{
+    has_one_start(outline)?;
+    let tables = Tables::new(alloc, outline)?;
+    if outline.defined.is_empty() {
+        return Err(GrammarFault::NoRules);
+    }
+    has_known_names(outline, &tables)?;
+    Ok(tables)
+}
