@@ -1,0 +1,105 @@
+#!/usr/bin/env bash
+# Times the library beside a parser of the same tables in Rust, and prints figures and ratios.
+#
+#     run.sh [--counts] [--before PROGRAM] [--rounds N] [--folder FOLDER] TOOLS [GRAMMAR.y:LIST ..]
+#
+# TOOLS is a folder with tools/data.py, which makes tables and lexemes, and with the peer's crate peer_lrpar/. Each
+# GRAMMAR is a grammar text, with a rule of it that is a list; without any they are those of TOOLS/../grammars. FOLDER
+# keeps what is built, and what stands there already isn't built again. README.md says the rest. It stands outside
+# the gate. It needs rt, cargo and python3, and valgrind for --counts.
+set -u
+
+here=$(cd -P "$(dirname "$(readlink -f "${BASH_SOURCE[0]}")")" && pwd) || exit 1
+readonly here
+readonly root=$here/../..
+readonly counts=(10000 100000 1000000)
+readonly rules=(1000 10000)
+export PYTHONDONTWRITEBYTECODE=1
+
+usage() {
+    printf 'usage: run.sh [--counts] [--before PROGRAM] [--rounds N] [--folder FOLDER] TOOLS [GRAMMAR.y:LIST ..]\n' >&2
+    exit 2
+}
+
+stop() {
+    printf 'run.sh: %s\n' "$1" >&2
+    exit 1
+}
+
+# Copies the repository with the proofs that were kept, and puts the program in as one more crate. Its files end in
+# `.txt` here, since the gate takes no other for a file outside every crate.
+copy_repository() {
+    local file to
+    mkdir -p "$copy" || return 1
+    tar -C "$root" --exclude='crates/lrpar_program/out' --exclude='crates/lrpar_tests/out' -cf - HANDLES crates.txt crates |
+        tar -C "$copy" -xf - || return 1
+    while IFS= read -r file; do
+        to=$copy/crates/bench_program/${file%.txt}
+        mkdir -p "$(dirname "$to")" && cp "$here/program/$file" "$to" || return 1
+    done < <(cd "$here/program" && find . -name '*.txt')
+    printf 'bench_program: lrpar lrpar_text lrpar_grammar thiserror\n' >>"$copy/crates.txt"
+}
+
+# Proves the program and all below it, as far as no proof was kept, and builds it.
+build_program() {
+    copy_repository || stop "cannot copy the repository to $copy"
+    (cd "$copy/crates/bench_program" && rt run -- actions 1) >"$work/program.log" 2>&1 </dev/null ||
+        stop "the program isn't built: $(tail -n 3 "$work/program.log")"
+}
+
+build_peer() {
+    CARGO_TARGET_DIR=$work/peer cargo build --release --offline --manifest-path "$tools/peer_lrpar/Cargo.toml" \
+        >"$work/peer.log" 2>&1 || stop "the peer isn't built: $(tail -n 3 "$work/peer.log")"
+}
+
+# Tables and lexemes of each grammar, and large grammar texts.
+make_data() {
+    local grammar number
+    for grammar in "${grammars[@]}"; do
+        python3 "$tools/tools/data.py" "${grammar%:*}" "$data.new" "${grammar##*:}" "${counts[@]}" >"$work/data.log" 2>&1 ||
+            stop "no tables of ${grammar%:*}: $(tail -n 1 "$work/data.log")"
+    done
+    for number in "${rules[@]}"; do
+        python3 "$here/gen_grammar.py" "$number" >"$data.new/rules.$number.y" || stop 'no texts for the reader'
+    done
+    mv "$data.new" "$data"
+}
+
+work=
+measure_words=()
+while [[ $# -gt 0 && $1 == --* ]]; do
+    case $1 in
+        --counts) measure_words+=(--counts) ;;
+        --before | --rounds | --folder)
+            [[ $# -gt 1 ]] || usage
+            if [[ $1 == --folder ]]; then work=$2; else measure_words+=("$1" "$2"); fi
+            shift
+            ;;
+        *) usage ;;
+    esac
+    shift
+done
+[[ $# -gt 0 ]] || usage
+tools=$1
+shift
+grammars=("$@")
+[[ $# -gt 0 ]] ||
+    grammars=("$tools/../grammars/json.y:JSONElementList" "$tools/../grammars/ansic.y:translation_unit" "$tools/../grammars/lua.y:chunk_1")
+readonly tools grammars
+
+if [[ -n $work ]]; then
+    mkdir -p "$work" && work=$(cd "$work" && pwd) || exit 1
+else
+    work=$(mktemp -d) || exit 1
+    trap 'rm -rf "$work"' EXIT
+fi
+readonly work
+readonly copy=$work/repository
+readonly data=$work/data
+readonly program=$copy/crates/bench_program/out/bench_program
+readonly peer=$work/peer/release/peer_lrpar
+
+[[ -x $program ]] || build_program
+[[ -x $peer ]] || build_peer
+[[ -d $data ]] || make_data
+python3 "$here/measure.py" ${measure_words[@]+"${measure_words[@]}"} "$program" "$peer" "$data"
