@@ -64,7 +64,7 @@ all_actions table s es P exact fails = (
 pub actions_asked : (g : Grammar) (graph : Graph) (table : Table) (condition : SafetyCondition) (s : ℕ) (es : List (ℕ × TableAction))
     → ((t : ℕ) (action : TableAction) → Contains es (t, action) ↔ ((action_of table s t ≡ action) × (action ≢ Fails)))
     → All (λ e. ActionHolds g graph table condition s e.0 e.1) es
-      ↔ ((t : ℕ) (action : TableAction) → action_of table s t ≡ action → ActionHolds g graph table condition s t action)
+    ↔ ((t : ℕ) (action : TableAction) → action_of table s t ≡ action → ActionHolds g graph table condition s t action)
 actions_asked g graph table condition s es exact =
     all_actions table s es (ActionHolds g graph table condition s) exact (λ t. tt)
 

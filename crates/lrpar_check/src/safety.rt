@@ -311,10 +311,8 @@ impl<'a, StorageT: StorageNum> Parts<'a, StorageT> {
             SafetyCondition::S3 => !self.is_end(token),
             SafetyCondition::S4 => self.cores_follow(s, Symbol::Token(token), next),
             SafetyCondition::S8 => !self.is_start(next),
-            SafetyCondition::S2
-            | SafetyCondition::S5
-            | SafetyCondition::S6
-            | SafetyCondition::S7 => true,
+            SafetyCondition::S2 | SafetyCondition::S5 | SafetyCondition::S6 | SafetyCondition::S7 =>
+                true,
         }
     }
 

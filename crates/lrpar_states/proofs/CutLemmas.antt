@@ -47,13 +47,13 @@ AreStarts-push starts end more are after = record {
       let inside : s < length starts = omega (arith, simp length_push at below) in
       elim (cases_lt (s + 1) (length starts)) as (λ _. slice_index (starts ++ more ∷ []) s ≤ slice_index (starts ++ more ∷ []) (s + 1)) [
         | inl before ↦
-          let here = get_or_append_left starts (more ∷ []) 0 s inside in
-          let next = get_or_append_left starts (more ∷ []) 0 (s + 1) before in
-          omega (arith, here, next, are.up s before)
+            let here = get_or_append_left starts (more ∷ []) 0 s inside in
+            let next = get_or_append_left starts (more ∷ []) 0 (s + 1) before in
+            omega (arith, here, next, are.up s before)
         | inr last ↦
-          let here = get_or_append_left starts (more ∷ []) 0 s inside in
-          let next = get_or_push starts more 0 (s + 1) (omega (arith, inside, last)) in
-          omega (arith, here, next, start_within starts end are s inside)
+            let here = get_or_append_left starts (more ∷ []) 0 s inside in
+            let next = get_or_push starts more 0 (s + 1) (omega (arith, inside, last)) in
+            omega (arith, here, next, start_within starts end are s inside)
       ];
   last =
       let same : length (starts ++ more ∷ []) - 1 ≡ length starts = rw length_push (omega arith) in
@@ -81,11 +81,11 @@ cut_push starts xs ys more are is =
     let longer = starts ++ more ∷ [] in
     let rows : length longer - 1 ≡ n + 1 = rw length_push (omega (arith, are.some)) in
     let same_part : (s : ℕ) → s < n → slice_index_or (cut starts xs) s [] ≡ part longer (xs ++ ys) s = λ s below.
-        let here = get_or_append_left starts (more ∷ []) 0 s (omega (arith, below)) in
-        let next = get_or_append_left starts (more ∷ []) 0 (s + 1) (omega (arith, below)) in
-        cut_row starts xs s (omega (arith, below))
-        ∙ (rw (here, next) (sym (range_of_append xs ys (slice_index starts s) (slice_index starts (s + 1)) (are.up s (omega (arith, below)))
-        (start_within starts (length xs) are (s + 1) (omega (arith, below)))))) in
+    let here = get_or_append_left starts (more ∷ []) 0 s (omega (arith, below)) in
+    let next = get_or_append_left starts (more ∷ []) 0 (s + 1) (omega (arith, below)) in
+    cut_row starts xs s (omega (arith, below))
+    ∙ (rw (here, next) (sym (range_of_append xs ys (slice_index starts s) (slice_index starts (s + 1)) (are.up s (omega (arith, below)))
+    (start_within starts (length xs) are (s + 1) (omega (arith, below)))))) in
     let before : cut starts xs ≡ map (part longer (xs ++ ys)) (range_with_len 0 n) =
     fill_by_all (part longer (xs ++ ys)) (cut starts xs) n [] (length-cut starts xs) same_part in
     let from : slice_index longer n ≡ length xs = get_or_append_left starts (more ∷ []) 0 n (omega (arith, are.some)) ∙ are.last in

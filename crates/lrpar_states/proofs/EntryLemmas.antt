@@ -20,8 +20,8 @@ distinct_numbers : (ks : List ℕ) → IsStrictlyIncreasing ks → IsDistinct na
 distinct_numbers ks up =
     IsDistinct-from_apart nat_eq ks
     (λ i j d before below.
-        let less = AllPairs-from_increasing ks up i j d before below in
-        ne_eqb (slice_index_or ks i d) (slice_index_or ks j d) (λ same. omega (arith, less, same)))
+    let less = AllPairs-from_increasing ks up i j d before below in
+    ne_eqb (slice_index_or ks i d) (slice_index_or ks j d) (λ same. omega (arith, less, same)))
 
 -- an entry is there where the look-up finds it
 pub entry_found : {X : Type 0} (es : List (ℕ × X)) (k : ℕ) (x : X) → IsStrictlyIncreasing (keys_of es)
@@ -35,7 +35,7 @@ entry_found es k x up = (
 pub lookup_cases : {X : Type 0} (es : List (ℕ × X)) (k : ℕ) → (lookup (nat_eq k) es ≡ None) ⊎ ((x : X) × (lookup (nat_eq k) es ≡ Some x))
 lookup_cases {X} es k =
     let cases : (o : Option X) → (o ≡ None) ⊎ ((x : X) × (o ≡ Some x)) = λ o.
-        elim o as (λ v. (v ≡ None) ⊎ ((x : X) × (v ≡ Some x))) [ None ↦ inl refl | Some x ↦ inr (x, refl) ] in
+    elim o as (λ v. (v ≡ None) ⊎ ((x : X) × (v ≡ Some x))) [ None ↦ inl refl | Some x ↦ inr (x, refl) ] in
     cases (lookup (nat_eq k) es)
 
 -- the keys of an image, where the image has the numbers of the keys
@@ -103,8 +103,8 @@ actions_good limit table is s =
     elim (cases_lt s (length table.actions)) as (λ _. AreEntries (IsActionEntry table.tokens table.states) (actions_at table s)) [
       | inl below ↦ is.actions s [] below
       | inr past ↦
-        let none : actions_at table s ≡ [] = get_or_past table.actions s [] past in
-        rw none (record { ascending = λ k h. absurd (omega (arith, h)); each = λ k d h. absurd (omega (arith, h)) })
+          let none : actions_at table s ≡ [] = get_or_past table.actions s [] past in
+          rw none (record { ascending = λ k h. absurd (omega (arith, h)); each = λ k d h. absurd (omega (arith, h)) })
     ]
 
 -- and its gotos
@@ -113,8 +113,8 @@ gotos_good limit table is s =
     elim (cases_lt s (length table.gotos)) as (λ _. AreEntries (IsGotoEntry table.rules table.states) (gotos_at table s)) [
       | inl below ↦ is.gotos s [] below
       | inr past ↦
-        let none : gotos_at table s ≡ [] = get_or_past table.gotos s [] past in
-        rw none (record { ascending = λ k h. absurd (omega (arith, h)); each = λ k d h. absurd (omega (arith, h)) })
+          let none : gotos_at table s ≡ [] = get_or_past table.gotos s [] past in
+          rw none (record { ascending = λ k h. absurd (omega (arith, h)); each = λ k d h. absurd (omega (arith, h)) })
     ]
 
 -- the action of a table is an error, or one that is stored
@@ -177,8 +177,8 @@ action_within_row table s t each =
     elim (action_cases table s t) as (λ _. IsActionWithin table.states (action_of table s t)) [
       | inl none ↦ subst (IsActionWithin table.states) (sym none) tt
       | inr found ↦
-        let entry = All-contains (IsActionEntry table.tokens table.states) (actions_at table s) (t, found.0) each found.1 in
-        subst (IsActionWithin table.states) (sym found.2) entry.within
+          let entry = All-contains (IsActionEntry table.tokens table.states) (actions_at table s) (t, found.0) each found.1 in
+          subst (IsActionWithin table.states) (sym found.2) entry.within
     ]
 
 -- every action has its state in range
@@ -189,10 +189,10 @@ action_within limit table is s t = action_within_row table s t (actions_good lim
 pub goto_within : (limit : ℕ) (table : Table) → IsTable limit table → (s r : ℕ) → IsGotoWithin table.states (goto_of table s r)
 goto_within limit table is s r =
     let each : (o : Option ℕ) → goto_of table s r ≡ o → IsGotoWithin table.states o = λ o.
-        elim o as (λ v. goto_of table s r ≡ v → IsGotoWithin table.states v) [
-          | None ↦ λ at. tt
-          | Some next ↦ λ at. (goto_entry_of limit table is s r next at).within
-        ] in
+    elim o as (λ v. goto_of table s r ≡ v → IsGotoWithin table.states v) [
+      | None ↦ λ at. tt
+      | Some next ↦ λ at. (goto_entry_of limit table is s r next at).within
+    ] in
     each (goto_of table s r) refl
 
 -- a table is closed
@@ -209,18 +209,18 @@ no_action_past limit table is s t past =
     elim (action_cases table s t) as (λ _. action_of table s t ≡ Fails) [
       | inl none ↦ none
       | inr found ↦
-        let entry = All-contains (IsActionEntry table.tokens table.states) (actions_at table s) (t, found.0) (actions_good limit table is s).each found.1 in
-        absurd (omega (arith, entry.token, past))
+          let entry = All-contains (IsActionEntry table.tokens table.states) (actions_at table s) (t, found.0) (actions_good limit table is s).each found.1 in
+          absurd (omega (arith, entry.token, past))
     ]
 
 -- past the rules there are no gotos
 pub no_goto_past : (limit : ℕ) (table : Table) → IsTable limit table → (s r : ℕ) → table.rules ≤ r → goto_of table s r ≡ None
 no_goto_past limit table is s r past =
     let each : (o : Option ℕ) → goto_of table s r ≡ o → o ≡ None = λ o.
-        elim o as (λ v. goto_of table s r ≡ v → v ≡ None) [
-          | None ↦ λ at. refl
-          | Some next ↦ λ at. let rule = (goto_entry_of limit table is s r next at).rule in absurd (omega (arith, rule, past))
-        ] in
+    elim o as (λ v. goto_of table s r ≡ v → v ≡ None) [
+      | None ↦ λ at. refl
+      | Some next ↦ λ at. let rule = (goto_entry_of limit table is s r next at).rule in absurd (omega (arith, rule, past))
+    ] in
     each (goto_of table s r) refl
 
 -- where no key is the token, there is an error

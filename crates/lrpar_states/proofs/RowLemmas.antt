@@ -175,8 +175,8 @@ row_actions_good tokens states row is = record {
       All-from_recursion (IsActionEntry tokens states) (row_actions row)
       (kept_all unless_error (IsActionEntry tokens states) (IsActionWithin states) tokens
       (λ t action kept below within keeps.
-          let same = unless_error_keeps action kept keeps in
-          record { token = below; stored = same.1; within = subst (IsActionWithin states) same.0 within })
+      let same = unless_error_keeps action kept keeps in
+      record { token = below; stored = same.1; within = subst (IsActionWithin states) same.0 within })
       0 row (omega (arith, is.0)) is.1);
 }
 

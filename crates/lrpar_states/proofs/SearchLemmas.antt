@@ -51,13 +51,13 @@ searched_out ns wanted base size so_far small other there =
     elim (cases_lt k base) as (λ _. ⊥) [
       | inl before ↦ let less = so_far.below k before in absurd (omega (arith, less, is))
       | inr from ↦
-        elim (cases_lt k (base + size)) as (λ _. ⊥) [
-          | inl inside ↦
-            let one : size ≡ 1 = omega (arith, from, inside, small) in
-            let here : k ≡ base = omega (arith, from, inside, small) in
-            other one (subst (λ (i : ℕ). slice_index ns i ≡ wanted) here is)
-          | inr past ↦ let greater = so_far.above k past there.1 in absurd (omega (arith, greater, is))
-        ]
+          elim (cases_lt k (base + size)) as (λ _. ⊥) [
+            | inl inside ↦
+                let one : size ≡ 1 = omega (arith, from, inside, small) in
+                let here : k ≡ base = omega (arith, from, inside, small) in
+                other one (subst (λ (i : ℕ). slice_index ns i ≡ wanted) here is)
+            | inr past ↦ let greater = so_far.above k past there.1 in absurd (omega (arith, greater, is))
+          ]
     ]
 
 -- the number of an element that was read is the number at its place

@@ -32,8 +32,8 @@ pub stored_are : {S : Type 0} (E : Type 0) (index : S → ℕ) (rows : TableRows
     → map (λ row. map (action_entry index) row.items) actions.items ≡ map (λ row. row_actions (map (plain_action index) row.items)) rows.actions.items
     → map (λ row. map (goto_entry index) row.items) gotos.items ≡ map (λ row. row_gotos (map (plain_goto index) row.items)) rows.gotos.items
     → sparse_table_of {E = E} index
-        (record { start = rows.start; states = states; tokens = rows.tokens; rules = rows.rules; actions = actions; gotos = gotos; conflicts = rows.conflicts })
-      ≡ table_of (plain_rows index rows)
+    (record { start = rows.start; states = states; tokens = rows.tokens; rules = rows.rules; actions = actions; gotos = gotos; conflicts = rows.conflicts })
+    ≡ table_of (plain_rows index rows)
 stored_are E index rows states actions gotos states_are actions_are gotos_are =
     let len : states ≡ length (map (λ row. map (plain_action index) row.items) rows.actions.items) =
     states_are ∙ sym (length-map rows.actions.items (λ row. map (plain_action index) row.items)) in

@@ -100,12 +100,7 @@ impl<K: Copy, V: Copy> Entries<K, V> {
 
 /// The part from `start` to `end` of both lists.
 #[inline]
-fn parts<'a, K, V>(
-    keys: &'a [K],
-    values: &'a [V],
-    start: usize,
-    end: usize,
-) -> (&'a [K], &'a [V])
+fn parts<'a, K, V>(keys: &'a [K], values: &'a [V], start: usize, end: usize) -> (&'a [K], &'a [V])
     requires up { start ≤ end }
     requires within { end ≤ length keys.now }
     requires paired { length values.now ≡ length keys.now }

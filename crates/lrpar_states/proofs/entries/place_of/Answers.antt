@@ -17,13 +17,13 @@ loop-size-preserved g c =
     (number_read g.K.Key.number c.args.keys.now (base + half) c.index-keys-middle.result inside c.index-keys-middle.is) in
     elim c.if-to_number-wanted.branch [
       | then-to_number-wanted w ↦
-        subst (λ (b : ℕ). IsSearched ns c.args.wanted b (size - half)) (sym w.base-is)
-        (searched_up ns c.args.wanted base size half c.requires c.loop-size.invariant (omega (arith, c.loop-size-test.true))
-        (omega (arith, here, w.if-to_number-wanted.true)))
+          subst (λ (b : ℕ). IsSearched ns c.args.wanted b (size - half)) (sym w.base-is)
+          (searched_up ns c.args.wanted base size half c.requires c.loop-size.invariant (omega (arith, c.loop-size-test.true))
+          (omega (arith, here, w.if-to_number-wanted.true)))
       | else-to_number-wanted w ↦
-        subst (λ (b : ℕ). IsSearched ns c.args.wanted b (size - half)) (sym w.base-is)
-        (searched_down ns c.args.wanted base size half c.requires c.loop-size.invariant (omega (arith, c.loop-size-test.true))
-        (omega (arith, here, w.if-to_number-wanted.false)))
+          subst (λ (b : ℕ). IsSearched ns c.args.wanted b (size - half)) (sym w.base-is)
+          (searched_down ns c.args.wanted base size half c.requires c.loop-size.invariant (omega (arith, c.loop-size-test.true))
+          (omega (arith, here, w.if-to_number-wanted.false)))
     ]
 
 pub returns-else-size-eq1 : goal.returns-else-size-eq1
@@ -32,10 +32,10 @@ returns-else-size-eq1 g c =
     let base = c.loop-size.base in
     searched_out ns c.args.wanted base c.loop-size.size c.loop-size.invariant (omega (arith, c.loop-size-test.false))
     (λ one is.
-        elim c.else-size-eq1.branch [
-          | else-size-eq1-via-then-size-eq1+else-to_number-wanted-2 w ↦
-            let inside : base < length c.args.keys.now = omega (arith, simp length-map at c.loop-size.invariant.within, one) in
-            let here = number_read g.K.Key.number c.args.keys.now base w.index-keys-base.result inside w.index-keys-base.is in
-            absurd (omega (arith, here, is, w.to_number-then-size-eq1.ensures, w.if-to_number-wanted-2.false))
-          | else-size-eq1-via-else-size-eq1 w ↦ absurd (omega (arith, one, w.if-size-eq1.false))
-        ])
+    elim c.else-size-eq1.branch [
+      | else-size-eq1-via-then-size-eq1+else-to_number-wanted-2 w ↦
+          let inside : base < length c.args.keys.now = omega (arith, simp length-map at c.loop-size.invariant.within, one) in
+          let here = number_read g.K.Key.number c.args.keys.now base w.index-keys-base.result inside w.index-keys-base.is in
+          absurd (omega (arith, here, is, w.to_number-then-size-eq1.ensures, w.if-to_number-wanted-2.false))
+      | else-size-eq1-via-else-size-eq1 w ↦ absurd (omega (arith, one, w.if-size-eq1.false))
+    ])

@@ -11,13 +11,15 @@ returns-then-to_number g c =
     let one : 1 ≤ place = c.loop-place.auto.place in
     let below : place < length row = omega (arith, c.loop-place-test.true) in
     let here = get_or-map number row place c.index-row-place.result 0 below in
-    let before = get_or-map number row (place - 1) c.index-row-place-in-loop-place.result 0 (omega (arith, below)) in
-    (λ h. absurd cc, λ up.
-        let next : place - 1 + 1 ≡ place = omega (arith, one) in
-        let inside : place - 1 + 1 < length (map number row) = rw (next, length-map) below in
-        let less = up (place - 1) inside in
-        let less_here = rw next at less in
-        absurd (omega (arith, less_here, here, before, c.to_number.ensures, c.to_number-in-loop-place.ensures, c.if-to_number.true)))
+    let before = get_or-map number row (place - 1) c.index-row-place-in-loop-place.result 0 (omega (arith, below)) in (
+      λ h. absurd cc,
+      λ up.
+          let next : place - 1 + 1 ≡ place = omega (arith, one) in
+          let inside : place - 1 + 1 < length (map number row) = rw (next, length-map) below in
+          let less = up (place - 1) inside in
+          let less_here = rw next at less in
+          absurd (omega (arith, less_here, here, before, c.to_number.ensures, c.to_number-in-loop-place.ensures, c.if-to_number.true)),
+    )
 
 pub loop-place-preserved : goal.loop-place-preserved
 loop-place-preserved g c =
@@ -29,10 +31,10 @@ loop-place-preserved g c =
     let here = get_or-map number row place c.index-row-place.result 0 below in
     let before = get_or-map number row (place - 1) c.index-row-place-in-loop-place.result 0 (omega (arith, below)) in
     λ k inside.
-        elim (cases_lt (k + 1) place) as (λ _. slice_index (map number row) k < slice_index (map number row) (k + 1)) [
-          | inl earlier ↦ c.loop-place.invariant k earlier
-          | inr last ↦
-            let at : k ≡ place - 1 = omega (arith, inside, last) in
-            let next : place - 1 + 1 ≡ place = omega (arith, one) in
-            rw (at, next) (omega (arith, here, before, c.to_number.ensures, c.to_number-in-loop-place.ensures, c.if-to_number.false))
-        ]
+    elim (cases_lt (k + 1) place) as (λ _. slice_index (map number row) k < slice_index (map number row) (k + 1)) [
+      | inl earlier ↦ c.loop-place.invariant k earlier
+      | inr last ↦
+          let at : k ≡ place - 1 = omega (arith, inside, last) in
+          let next : place - 1 + 1 ≡ place = omega (arith, one) in
+          rw (at, next) (omega (arith, here, before, c.to_number.ensures, c.to_number-in-loop-place.ensures, c.if-to_number.false))
+    ]

@@ -6,12 +6,14 @@ use Rattle.lrpar_check.proofs.safety.Parts.reduces_are_named.Goals as goal
 
 pub returns : goal.returns
 returns g c =
-    let states = c.states_len-s-end.ensures in
-    (λ h s t p at.
-        elim (cases_lt s c.loop-s.s) as (λ _. p < prods_len c.args.self.now.grm.now) [
-          | inl before ↦ c.loop-s.invariant s t p before at
-          | inr past ↦
-            let after : states_len c.args.self.now.stable.now ≤ s = omega (arith, past, c.loop-s-test.false, states.states) in
-            let none : ReduceBy p ≡ Fails = sym at ∙ states.no_action s t after in
-            absurd cc
-        ], λ each. refl)
+    let states = c.states_len-s-end.ensures in (
+      λ h s t p at.
+          elim (cases_lt s c.loop-s.s) as (λ _. p < prods_len c.args.self.now.grm.now) [
+            | inl before ↦ c.loop-s.invariant s t p before at
+            | inr past ↦
+                let after : states_len c.args.self.now.stable.now ≤ s = omega (arith, past, c.loop-s-test.false, states.states) in
+                let none : ReduceBy p ≡ Fails = sym at ∙ states.no_action s t after in
+                absurd cc
+          ],
+      λ each. refl,
+    )
