@@ -24,23 +24,23 @@ first_fault_alone limit x NoRules NoRules a b = refl
 first_fault_alone limit x NoRules StorageTooSmall a b = absurd (b.0 a)
 first_fault_alone limit x NoRules BadStart a b = absurd (b.0 a)
 first_fault_alone limit x NoRules BadSymbol a b = absurd (b.0 a)
-first_fault_alone limit x NoRules Memory a b = absurd b
+first_fault_alone limit x NoRules _ a b = absurd b
 first_fault_alone limit x StorageTooSmall NoRules a b = absurd (a.0 b)
 first_fault_alone limit x StorageTooSmall StorageTooSmall a b = refl
 first_fault_alone limit x StorageTooSmall BadStart a b = absurd (a.1 b.1)
 first_fault_alone limit x StorageTooSmall BadSymbol a b = absurd (a.1 b.1)
-first_fault_alone limit x StorageTooSmall Memory a b = absurd b
+first_fault_alone limit x StorageTooSmall _ a b = absurd b
 first_fault_alone limit x BadStart NoRules a b = absurd (a.0 b)
 first_fault_alone limit x BadStart StorageTooSmall a b = absurd (b.1 a.1)
 first_fault_alone limit x BadStart BadStart a b = refl
 first_fault_alone limit x BadStart BadSymbol a b = absurd (a.2 b.2)
-first_fault_alone limit x BadStart Memory a b = absurd b
+first_fault_alone limit x BadStart _ a b = absurd b
 first_fault_alone limit x BadSymbol NoRules a b = absurd (a.0 b)
 first_fault_alone limit x BadSymbol StorageTooSmall a b = absurd (b.1 a.1)
 first_fault_alone limit x BadSymbol BadStart a b = absurd (b.2 a.2)
 first_fault_alone limit x BadSymbol BadSymbol a b = refl
-first_fault_alone limit x BadSymbol Memory a b = absurd b
-first_fault_alone limit x Memory fault a b = absurd a
+first_fault_alone limit x BadSymbol _ a b = absurd b
+first_fault_alone limit x _ fault a b = absurd a
 
 -- sound parts have none
 sound_no_fault : (limit : ℕ) (x : Parts) → AreSound limit x → (fault : GrammarFault) → IsFirstFault limit x fault → ⊥
@@ -48,7 +48,7 @@ sound_no_fault limit x sound NoRules first = sound.rules first
 sound_no_fault limit x sound StorageTooSmall first = first.1 sound.storage
 sound_no_fault limit x sound BadStart first = first.2 sound.start
 sound_no_fault limit x sound BadSymbol first = first.3 sound.symbols
-sound_no_fault limit x sound Memory first = first
+sound_no_fault limit x sound _ first = first
 
 -- the first fault is answered exactly where it is the first
 pub answers_first : {T : Type 0} (limit : ℕ) (x : Parts) (found fault : GrammarFault) → IsFirstFault limit x found
@@ -63,11 +63,8 @@ answers_grammar limit x grm fault sound = (λ e. absurd (cc), λ h. absurd (soun
 
 -- whether memory was wanting
 abbrev is_memory : GrammarFault → Bool
-is_memory NoRules = false
-is_memory StorageTooSmall = false
-is_memory BadStart = false
-is_memory BadSymbol = false
 is_memory Memory = true
+is_memory _ = false
 
 -- nor is want of memory
 pub answers_memory : {T : Type 0} (limit : ℕ) (x : Parts) (result : Result T GrammarFault) (fault : GrammarFault) → AreSound limit x
