@@ -6,7 +6,7 @@ use Rattle.lrpar.proofs.run.Run.settle.Goals as goal
 pub reductions-init : goal.reductions-init
 reductions-init g c =
     let count : c.from.result * c.height.result + 0 ≡ c.args.self.now.checked.now.cap * length c.args.stack.now.states =
-    let cap : c.from.result ≡ c.args.self.now.checked.now.cap = c.from.ensures ∙ c.cap.ensures.cap in
+    let cap : c.from.result ≡ c.args.self.now.checked.now.cap = c.from.ensures ∙ c.cap.ensures in
     rw (cap, c.height.ensures) (omega arith) in
     record { upright = c.requires.upright; counts = record { prods = []; counted = count; steps = refl } }
 
