@@ -9,3 +9,4 @@ pub mod GrowthLemmas
 pub mod FaultsLemmas
 pub mod SpanLemmas
 pub mod SpellsLemmas
+pub mod SpellsFitLemmas

@@ -1,6 +1,7 @@
 //! The grammar of a text.
 ghost use Rattle.std.specs.Prelude.{◌≡◌, IfErr, IfOk, OnOk};
 ghost use Rattle.lrpar_text.specs.Outline.{AreOfDefinedRules, HasOrderedSymbols, IsOutlineOf, outline_of};
+ghost use Rattle.lrpar_grammar.specs.SpansFit.{SpansFit};
 ghost use Rattle.lrpar_grammar.specs.Spells.{HasFault, IsClean, IsFaultOf, IsOutlineFault, Spells, numbering_of};
 ghost use Rattle.lrpar_grammar.specs.TextNames.{numbering_by};
 
@@ -28,7 +29,7 @@ impl<StorageT: StorageNum> YaccGrammar<StorageT> {
     /// is the start.
     ///
     /// Rules are numbered by first definition, tokens by first declaration or use, productions as they stand. A place
-    /// is in bytes and without quotes.
+    /// is in bytes and without quotes; all of them fit the text, as `spans_fit` tests.
     ///
     /// Refused with `Syntax` where the text isn't of that shape, else by the first of these that holds:
     /// `RepeatedStart`, `RepeatedEpp`, `NoRules`, `TokenIsRule`, `UnknownRule`, `UnknownToken`, each at its first place,
@@ -37,6 +38,7 @@ impl<StorageT: StorageNum> YaccGrammar<StorageT> {
     pub fn new_with_storaget(alloc: Global, text: &str) -> Result<Self, GrammarFault>
         ensures spelled { IfOk result (Spells text.now) }
         ensures well_formed { IfOk result IsWellFormed }
+        ensures fits { IfOk result (λ grm. SpansFit grm text.now) }
         ensures faulty { IfErr result (IsFaultOf StorageT.limit text.now) }
     {
         let outline = read_outline(alloc, text)?;

@@ -56,6 +56,14 @@ fn text_of_the_sum_grammar(rt: HostRuntime) -> Result<(), Fail> {
 }
 
 #[test]
+fn places_fit_the_text_that_was_read(rt: HostRuntime) -> Result<(), Fail> {
+    let grm = read(rt.alloc(), SUM)?;
+    assert!(rt; grm.spans_fit(SUM));
+    assert!(rt; !grm.spans_fit("%% E: T '+' E | T; T: 'I"));
+    Ok(())
+}
+
+#[test]
 fn faults_of_texts(rt: HostRuntime) {
     let alloc = rt.alloc();
     let rows = [

@@ -1,3 +1,4 @@
 pub mod LineLemmas
 pub mod WordsLemmas
 pub mod OutlineLemmas
+pub mod PlaceLemmas
