@@ -22,6 +22,8 @@ mod parse;
 #[cfg(test)]
 mod reader;
 #[cfg(test)]
+mod readme;
+#[cfg(test)]
 mod span;
 #[cfg(test)]
 mod stacks;
