@@ -124,12 +124,12 @@ outline_fits text o utf8 outlined order =
       names = record {
         rules = All-cons (λ r. IsPartOf text r.span) added_rule (map rule_of_word (rule_words o)) (nowhere_fits text utf8).part
             (All-map (λ r. IsPartOf text r.span) rule_of_word (rule_words o)
-                (All-weaker P (λ (w : PlacedWord). IsPartOf text w.span) part (rule_words o) (first_all P o.defined all.defined)));
+            (All-weaker P (λ (w : PlacedWord). IsPartOf text w.span) part (rule_words o) (first_all P o.defined all.defined)));
         tokens = All-map (λ t. IsPartOf text t.span) (token_of_word o) (token_words o)
             (All-weaker P (λ (w : PlacedWord). IsPartOf text w.span) part (token_words o) tokens);
       };
       prods = All-push (ProductionFits text) (map (prod_of_alternative n) o.alternatives) (added_prod (spelled_parts o).start)
           (All-map (ProductionFits text) (prod_of_alternative n) o.alternatives
-              (λ k d within. alternative_fits n text (get_or o.alternatives k d) (all.alternatives k d within) (order k d within)))
+          (λ k d within. alternative_fits n text (get_or o.alternatives k d) (all.alternatives k d within) (order k d within)))
           (added_fits text (spelled_parts o).start utf8);
     }

@@ -78,8 +78,8 @@ sign_lies c s p kind unquoted first starts plain =
     let same : p ≡ take (length p) s = (bytes_eq-Decides p (take (length p) s)).0 starts in
     let most : length p ≤ length s = omega (arith, ap length same, length-take (length p) s) in
     plain_after c s (length p) kind unquoted most first (λ k within.
-        let byte : get_or p k 0 ≡ get_or s k 0 = ap (λ l. get_or l k 0) same ∙ get_or-take (length p) s k 0 within in
-        subst (λ b. is_plain b ≡ true) byte (prefix_len_passes is_plain p k 0 (omega arith)))
+    let byte : get_or p k 0 ≡ get_or s k 0 = ap (λ l. get_or l k 0) same ∙ get_or-take (length p) s k 0 within in
+    subst (λ b. is_plain b ≡ true) byte (prefix_len_passes is_plain p k 0 (omega arith)))
 
 -- a word in quotes, neither quote nor line feed in it
 quoted_lies : (quote : ℕ) (s : List ℕ) (n : ℕ) → quote < 128 → 0 < n → n < length s → get_or s n 0 ≡ quote
@@ -96,6 +96,7 @@ quoted_lies quote s n ascii some within ends line =
     last = let place : (n + 2) - 1 ≡ suc n = omega arith in
         let same : get_or (quote ∷ s) ((n + 2) - 1) 0 ≡ get_or s n 0 = ap (λ k. get_or (quote ∷ s) k 0) place in
         omega arith
+
     inside : (s : List ℕ) (n : ℕ) → ((k : ℕ) → k < n → get_or s k 0 ≢ 10) → (k : ℕ) → 1 ≤ k → k < (n + 2) - 1 → get_or (quote ∷ s) k 0 ≢ 10
     inside s n line zero from to = absurd (omega arith)
     inside s n line (suc k) from to = line k (omega arith)
@@ -146,12 +147,12 @@ quoted_begins quote s ascii =
     let n = position_or_len stops s in
     cond_both (ltb 0 n && is_byte_at s n quote) (Some (word_piece Quoted (n + 2))) None (BeginsOnLine (quote ∷ s))
     (λ passes.
-        let parts = and_parts (ltb 0 n) (is_byte_at s n quote) passes in
-        let at = and_parts (ltb n (length s)) (get_or s n 0 == quote) parts.1 in
-        word_begins (quote ∷ s) (n + 2) Quoted (quoted_lies quote s n ascii (ltb-true 0 n parts.0) (ltb-true n (length s) at.0) (eqb-true (get_or s n 0) quote at.1)
-            (λ k within.
-                let fails = or_parts (get_or s k 0 == quote) (get_or s k 0 == 10) (fails_before_first stops s k 0 within) in
-                eqb-false (get_or s k 0) 10 fails.1)))
+    let parts = and_parts (ltb 0 n) (is_byte_at s n quote) passes in
+    let at = and_parts (ltb n (length s)) (get_or s n 0 == quote) parts.1 in
+    word_begins (quote ∷ s) (n + 2) Quoted (quoted_lies quote s n ascii (ltb-true 0 n parts.0) (ltb-true n (length s) at.0) (eqb-true (get_or s n 0) quote at.1)
+    (λ k within.
+    let fails = or_parts (get_or s k 0 == quote) (get_or s k 0 == 10) (fails_before_first stops s k 0 within) in
+    eqb-false (get_or s k 0) 10 fails.1)))
     (λ _. none_begins (quote ∷ s))
 
 -- a sign
@@ -165,12 +166,12 @@ sign_begins s =
     cond_both (starts_with nat_eq s (codes "start")) (Some (word_piece StartSign 6)) token P
     (λ is. word_begins (37 ∷ s) 6 StartSign (sign_lies 37 s (codes "start") StartSign refl refl is refl))
     (λ _. cond_both (starts_with nat_eq s (codes "token")) (Some (word_piece TokenSign 6)) epp P
-        (λ is. word_begins (37 ∷ s) 6 TokenSign (sign_lies 37 s (codes "token") TokenSign refl refl is refl))
-        (λ _. cond_both (starts_with nat_eq s (codes "epp")) (Some (word_piece EppSign 4)) rules P
-            (λ is. word_begins (37 ∷ s) 4 EppSign (sign_lies 37 s (codes "epp") EppSign refl refl is refl))
-            (λ _. cond_both (starts_with nat_eq s (codes "%")) (Some (word_piece RulesSign 2)) None P
-                (λ is. word_begins (37 ∷ s) 2 RulesSign (sign_lies 37 s (codes "%") RulesSign refl refl is refl))
-                (λ _. none_begins (37 ∷ s)))))
+    (λ is. word_begins (37 ∷ s) 6 TokenSign (sign_lies 37 s (codes "token") TokenSign refl refl is refl))
+    (λ _. cond_both (starts_with nat_eq s (codes "epp")) (Some (word_piece EppSign 4)) rules P
+    (λ is. word_begins (37 ∷ s) 4 EppSign (sign_lies 37 s (codes "epp") EppSign refl refl is refl))
+    (λ _. cond_both (starts_with nat_eq s (codes "%")) (Some (word_piece RulesSign 2)) None P
+    (λ is. word_begins (37 ∷ s) 2 RulesSign (sign_lies 37 s (codes "%") RulesSign refl refl is refl))
+    (λ _. none_begins (37 ∷ s)))))
 
 -- a name
 name_begins : (c : ℕ) (s : List ℕ) → BeginsOnLine (c ∷ s) (name_after c s)
@@ -179,7 +180,7 @@ name_begins c s =
     let n = prefix_len is_in_name s in
     cond_both (begins_name c) (Some (word_piece Name (1 + n))) None (BeginsOnLine (c ∷ s))
     (λ begins. word_begins (c ∷ s) (1 + n) Name (plain_after c s n Name refl (prefix_len-le-length is_in_name s)
-        (name_plain c (or_left (begins_name c) _ begins)) (λ k within. name_plain (get_or s k 0) (prefix_len_passes is_in_name s k 0 within))))
+    (name_plain c (or_left (begins_name c) _ begins)) (λ k within. name_plain (get_or s k 0) (prefix_len_passes is_in_name s k 0 within))))
     (λ _. none_begins (c ∷ s))
 
 -- a sign of one byte
@@ -201,13 +202,13 @@ piece_begins c s =
     (λ _. cond_both (c == 47) (comment_after s) quoted P (λ _. comment_begins c s)
     (λ _. cond_both ((c == 39) || (c == 34)) (quoted_after c s) sign P (λ is. quoted_begins c s (quote_ascii c is))
     (λ _. cond_both (c == 37) (sign_after s) colon P
-        (λ is. subst (λ b. BeginsOnLine (b ∷ s) (sign_after s)) (sym (eqb-true c 37 is)) (sign_begins s))
+    (λ is. subst (λ b. BeginsOnLine (b ∷ s) (sign_after s)) (sym (eqb-true c 37 is)) (sign_begins s))
     (λ _. cond_both (c == 58) (Some (word_piece Colon 1)) bar P
-        (λ is. byte_begins c s Colon refl (ap is_plain (eqb-true c 58 is)))
+    (λ is. byte_begins c s Colon refl (ap is_plain (eqb-true c 58 is)))
     (λ _. cond_both (c == 124) (Some (word_piece Bar 1)) semicolon P
-        (λ is. byte_begins c s Bar refl (ap is_plain (eqb-true c 124 is)))
+    (λ is. byte_begins c s Bar refl (ap is_plain (eqb-true c 124 is)))
     (λ _. cond_both (c == 59) (Some (word_piece Semicolon 1)) (name_after c s) P
-        (λ is. byte_begins c s Semicolon refl (ap is_plain (eqb-true c 59 is)))
+    (λ is. byte_begins c s Semicolon refl (ap is_plain (eqb-true c 59 is)))
     (λ _. name_begins c s)))))))
   where
     quote_ascii : (c : ℕ) → ((c == 39) || (c == 34)) ≡ true → c < 128
@@ -269,8 +270,8 @@ words_lie text place (x ∷ xs) utf8 cut =
     let rest : drop x.len s ≡ drop (place + x.len) text = drop-drop x.len place text in
     let first : All P (option_to_list (option_map (λ kind. word_at place s kind x.len) x.word)) =
     option_all P (λ kind. word_at place s kind x.len) x.word (λ kind word.
-        let piece : x ≡ word_piece kind x.len = ap (λ (r : Option WordKind). record { word = r; len = x.len }) word in
-        word_lies text place x.len kind utf8 (begins_on_line s kind x.len (cut.0 ∙ ap (λ (y : Piece). Some y) piece))) in
+    let piece : x ≡ word_piece kind x.len = ap (λ (r : Option WordKind). record { word = r; len = x.len }) word in
+    word_lies text place x.len kind utf8 (begins_on_line s kind x.len (cut.0 ∙ ap (λ (y : Piece). Some y) piece))) in
     let after : All P (words_of (place + x.len) (drop x.len s) xs) =
     subst (λ r. All P (words_of (place + x.len) r xs)) (sym rest) (words_lie text (place + x.len) xs utf8 (subst (λ r. IsCutInto r xs) rest cut.1)) in
     All-append P (option_to_list (option_map (λ kind. word_at place s kind x.len) x.word)) (words_of (place + x.len) (drop x.len s) xs) first after
