@@ -8,12 +8,25 @@ use std::test::Fail;
 
 #[test]
 fn entries_of_the_sum_table(rt: HostRuntime) -> Result<(), Fail> {
-    let alloc = rt.alloc();
-    let rows = sum_rows::<u8>(alloc)?;
-    let stored = StateTable::from_sparse(alloc, sparse(alloc, &rows)?)?;
-    has_sum_entries(&rt, &stored);
-    has_sum_entries(&rt, &StateTable::from_rows(alloc, rows)?);
+    has_sum_entries(&rt, &of_rows(rt.alloc())?);
+    has_sum_entries(&rt, &of_entries(rt.alloc())?);
     Ok(())
+}
+
+// The table of sums, made of its rows.
+fn of_rows(alloc: Global) -> Result<StateTable<u8>, Fail> {
+    Ok(StateTable::from_rows(alloc, sum_rows(alloc)?)?)
+}
+
+// The table of sums, made of its entries.
+fn of_entries(alloc: Global) -> Result<StateTable<u8>, Fail> {
+    Ok(StateTable::from_sparse(alloc, stored(alloc)?)?)
+}
+
+// The entries of the table of sums.
+fn stored(alloc: Global) -> Result<SparseRows<u8>, Fail> {
+    let rows = sum_rows(alloc)?;
+    sparse(alloc, &rows)
 }
 
 // The table has what the table of sums has.
@@ -25,21 +38,34 @@ fn has_sum_entries(rt: &impl Abort, table: &StateTable<u8>) {
     assert_eq!(rt; table.entries(), 12);
     assert!(rt; table.conflicts().is_none());
     for state in 0..6u8 {
-        for number in 0..3u8 {
-            let action = SUM_ACTIONS[usize::from(state)][usize::from(number)];
-            let goto = SUM_GOTOS[usize::from(state)][usize::from(number)].map(|to| StIdx(to));
-            assert_eq!(rt;
-                table.action(StIdx(state), TIdx(number)),
-                action,
-                "action {state} {number}"
-            );
-            assert_eq!(rt;
-                table.goto(StIdx(state), RIdx(number)),
-                goto,
-                "goto {state} {number}"
-            );
-        }
+        has_sum_row(rt, table, state);
     }
+    lends_sum_entries(rt, table);
+}
+
+// The state's actions and gotos are those of the table of sums.
+fn has_sum_row(rt: &impl Abort, table: &StateTable<u8>, state: u8) {
+    assert!(rt; table.states_len() == 6 && table.tokens_len() == 3 && table.rules_len() == 3);
+    assert!(rt; state < 6);
+    for number in 0..3u8 {
+        let action = SUM_ACTIONS[usize::from(state)][usize::from(number)];
+        let goto = SUM_GOTOS[usize::from(state)][usize::from(number)].map(|to| StIdx(to));
+        assert_eq!(rt;
+            table.action(StIdx(state), TIdx(number)),
+            action,
+            "action {state} {number}"
+        );
+        assert_eq!(rt;
+            table.goto(StIdx(state), RIdx(number)),
+            goto,
+            "goto {state} {number}"
+        );
+    }
+}
+
+// Two states lend the entries of the table of sums.
+fn lends_sum_entries(rt: &impl Abort, table: &StateTable<u8>) {
+    assert_eq!(rt; table.states_len(), 6);
     let (tokens, actions) = table.actions_of(StIdx(2));
     assert_eq!(rt; tokens, [TIdx(0), TIdx(2)].as_slice());
     assert_eq!(rt; actions, [SUM_ACTIONS[2][0], SUM_ACTIONS[2][2]].as_slice());
