@@ -130,9 +130,8 @@ fn faults_of_both_calls(rt: HostRuntime) -> Result<(), Fail> {
 #[test]
 fn an_action_makes_a_node(rt: HostRuntime) -> Result<(), Fail> {
     let alloc = rt.alloc();
-    let lexer = HandedLexer {
-        answers: [].as_slice(),
-    };
+    let answers = lexemes(alloc, [].as_slice())?;
+    let lexer = HandedLexer { answers: &answers };
     let mut args = Vec::new(alloc);
     args.push(AStackType::Lexeme(lexeme(3, 0)))?;
     let node = action_generictree::<u32, HandedTypes, HandedLexer<'_>>(

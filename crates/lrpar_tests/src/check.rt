@@ -33,6 +33,19 @@ impl Hand {
         Ok(StateGraph::from_rows(alloc, item_rows(alloc, &self.items, self.actions.len())?)?)
     }
 
+    fn checked(&self, alloc: Global) -> Result<ParserData<u8>, Fail> {
+        match ParserData::new(
+            alloc,
+            sum_grammar(alloc)?,
+            self.graph(alloc)?,
+            self.table(alloc)?,
+            2,
+        ) {
+            Ok(data) => Ok(data),
+            Err(_) => Err(Fail::new("the table of sums is refused")),
+        }
+    }
+
     fn table(&self, alloc: Global) -> Result<StateTable<u8>, Fail> {
         Ok(StateTable::from_rows(alloc, rows(alloc, &self.actions, &self.gotos)?)?)
     }
@@ -166,45 +179,63 @@ fn has_rows(table: &StateTable<u8>, hand: &Hand) -> bool {
 fn the_table_of_sums_is_checked(rt: HostRuntime) -> Result<(), Fail> {
     let alloc = rt.alloc();
     let hand = Hand::sums(alloc)?;
-    let (grm, graph, table) = (sum_grammar(alloc)?, hand.graph(alloc)?, hand.table(alloc)?);
-    let Ok(data) = ParserData::new(alloc, grm, graph, table, 2) else {
-        return Err(Fail::new("the table of sums is refused"));
-    };
-    assert_eq!(rt; data.grm().prods_len(), 4);
-    assert!(rt; has_items(data.sgraph(), &hand));
-    assert!(rt; has_rows(data.stable(), &hand));
-    assert_eq!(rt; data.cap(), 2);
+    let data = hand.checked(alloc)?;
+    assert!(rt; keeps_parts(&data, &hand));
     Ok(())
+}
+
+// Whether the checked table is that of sums, with the cap 2.
+fn keeps_parts(data: &ParserData<u8>, hand: &Hand) -> bool {
+    data.grm().prods_len() == 4
+        && has_items(data.sgraph(), hand)
+        && has_rows(data.stable(), hand)
+        && data.cap() == 2
 }
 
 #[test]
 fn changed_tables_are_refused(rt: HostRuntime) -> Result<(), Fail> {
-    let alloc = rt.alloc();
     for (change, want) in CHANGES {
-        let hand = change.of_sums(alloc)?;
-        let (graph, table) = (hand.graph(alloc)?, hand.table(alloc)?);
-        let Err(refused) = ParserData::new(alloc, sum_grammar(alloc)?, graph, table, 2) else {
-            return Err(Fail::new(format_args!("{change:?} is taken")));
-        };
+        let refused = refused_by(rt.alloc(), change)?;
         assert_eq!(rt; refused.fault(), want, "{change:?}");
-        let was = is_as_it_was(alloc, refused, change)?;
+        let was = is_as_it_was(rt.alloc(), refused, change)?;
         assert!(rt; was, "parts of {change:?}");
     }
     Ok(())
 }
 
+// The refusal of the changed table.
+fn refused_by(alloc: Global, change: Change) -> Result<Refused<u8>, Fail> {
+    let hand = change.of_sums(alloc)?;
+    let (grm, graph, table) = (sum_grammar(alloc)?, hand.graph(alloc)?, hand.table(alloc)?);
+    match ParserData::new(alloc, grm, graph, table, 2) {
+        Ok(_) => Err(Fail::new(format_args!("{change:?} is taken"))),
+        Err(refused) => Ok(refused),
+    }
+}
+
 // Whether the parts of a refused table are as they were, and are taken once what was changed is mended.
 fn is_as_it_was(alloc: Global, refused: Refused<u8>, change: Change) -> Result<bool, Fail> {
-    let (hand, sums) = (change.of_sums(alloc)?, Hand::sums(alloc)?);
-    let (good_graph, good_table) = (sums.graph(alloc)?, sums.table(alloc)?);
+    let hand = change.of_sums(alloc)?;
     let (grm, graph, table) = refused.into_parts();
-    let same = grm.prods_len() == 4 && has_items(&graph, &hand) && has_rows(&table, &hand);
-    let mended = match change {
-        Change::Action(..) | Change::Goto(..) => ParserData::new(alloc, grm, graph, good_table, 2),
-        Change::Item(_) => ParserData::new(alloc, grm, good_graph, table, 2),
-        Change::State(..) => ParserData::new(alloc, grm, good_graph, good_table, 2),
-    };
-    Ok(same && mended.is_ok())
+    if grm.prods_len() != 4 || !has_items(&graph, &hand) || !has_rows(&table, &hand) {
+        return Ok(false);
+    }
+    let sums = Hand::sums(alloc)?;
+    match change {
+        Change::Action(..) | Change::Goto(..) => is_taken(alloc, grm, graph, sums.table(alloc)?),
+        Change::Item(_) => is_taken(alloc, grm, sums.graph(alloc)?, table),
+        Change::State(..) => is_taken(alloc, grm, sums.graph(alloc)?, sums.table(alloc)?),
+    }
+}
+
+// Whether the check takes the parts.
+fn is_taken(
+    alloc: Global,
+    grm: YaccGrammar<u8>,
+    graph: StateGraph<u8>,
+    table: StateTable<u8>,
+) -> Result<bool, Fail> {
+    Ok(ParserData::new(alloc, grm, graph, table, 2).is_ok())
 }
 
 // One state less in the graph than in the table, one token less in the table than in the grammar, and other numbers

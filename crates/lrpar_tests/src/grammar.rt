@@ -3,6 +3,7 @@ use crate::fixtures::{Placed, prod, r, rules, sum_parts, t, tokens};
 use lrpar::grammar::{GrammarFault, GrammarParts, YaccGrammar};
 use lrpar::span::{PIdx, RIdx, Span, Symbol, TIdx};
 use std::alloc::Global;
+use std::process::Abort;
 use std::test::Fail;
 
 #[test]
@@ -231,14 +232,21 @@ fn refused_parts(rt: HostRuntime) -> Result<(), Fail> {
 
 #[test]
 fn texts_of_grammar_faults(rt: HostRuntime) -> Result<(), Fail> {
-    for (fault, text) in [
-        (GrammarFault::BadSymbol, "bad symbol"),
-        (GrammarFault::BadStart, "bad start rule"),
-        (GrammarFault::NoRules, "no rules"),
-        (GrammarFault::StorageTooSmall, "storage type too small"),
-        (GrammarFault::Memory, "out of memory"),
-    ] {
-        assert_eq!(rt; format!(in rt.alloc(); "{fault}")?.as_str(), text);
-    }
+    let alloc = rt.alloc();
+    has_text(&rt, alloc, &GrammarFault::BadSymbol, "bad symbol")?;
+    has_text(&rt, alloc, &GrammarFault::BadStart, "bad start rule")?;
+    has_text(&rt, alloc, &GrammarFault::NoRules, "no rules")?;
+    has_text(
+        &rt,
+        alloc,
+        &GrammarFault::StorageTooSmall,
+        "storage type too small",
+    )?;
+    has_text(&rt, alloc, &GrammarFault::Memory, "out of memory")
+}
+
+// The fault has this text.
+fn has_text(rt: &impl Abort, alloc: Global, fault: &GrammarFault, text: &str) -> Result<(), Fail> {
+    assert_eq!(rt; format!(in alloc; "{fault}")?.as_str(), text);
     Ok(())
 }
