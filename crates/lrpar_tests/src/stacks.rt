@@ -74,32 +74,6 @@ fn tokens_fed(rt: HostRuntime) -> Result<(), Fail> {
 }
 
 #[test]
-fn reductions_over_a_base(rt: HostRuntime) -> Result<(), Fail> {
-    let data: ParserData<u8> = sum_data(rt.alloc())?;
-    let base = stack(rt.alloc(), &[0, 2, 4, 3])?;
-    assert!(rt; data.is_stack(&base));
-    assert_eq!(rt; base.len(), 4);
-    assert_eq!(rt; data.stable().tokens_len(), 3);
-    let mut over = Overlay::new(rt.alloc(), &base);
-    assert_eq!(rt; over.len(), 4);
-    assert_eq!(rt; over.kept(), 4);
-    assert_eq!(rt; over.top().as_storaget(), 3);
-    assert_eq!(rt; data.settle_over(&mut over, TIdx(2))?, 3);
-    assert_eq!(rt;
-        numbers(rt.alloc(), &over.to_vec()?)?.as_slice(),
-        [0, 1].as_slice()
-    );
-    assert_eq!(rt; over.len(), 2);
-    assert_eq!(rt; over.kept(), 1);
-    assert_eq!(rt; over.top().as_storaget(), 1);
-    assert_eq!(rt;
-        numbers(rt.alloc(), &base)?.as_slice(),
-        [0, 2, 4, 3].as_slice()
-    );
-    Ok(())
-}
-
-#[test]
 fn tokens_fed_over_a_base(rt: HostRuntime) -> Result<(), Fail> {
     let data: ParserData<u8> = sum_data(rt.alloc())?;
     let base = stack(rt.alloc(), &[0, 2, 4, 3])?;
