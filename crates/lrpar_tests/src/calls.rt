@@ -1,5 +1,5 @@
 //! The parse calls beside `parse_map`: trees, and errors alone.
-use crate::fixtures::sum_data;
+use crate::fixtures::{By, sum_data};
 use crate::lexer::{HandedLexer, HandedTypes, Token};
 use crate::parse::{LexAnswer, lexeme, lexemes};
 use lrpar::parser::{AStackType, ParseFault};
@@ -47,7 +47,7 @@ fn sum_tree(alloc: Global) -> Result<Tree, Fail> {
 type TreeAnswer = (Option<Tree>, Vec<LexParseError<u32, HandedTypes>>);
 
 fn tree_of(alloc: Global, answers: &[LexAnswer]) -> Result<Result<TreeAnswer, ParseFault>, Fail> {
-    let data = sum_data(alloc)?;
+    let data = sum_data(alloc, By::Entries)?;
     let parser = RTParserBuilder::<u32, HandedTypes>::new(&data);
     Ok(parser.parse_generictree(alloc, &HandedLexer { answers }))
 }
@@ -56,7 +56,7 @@ fn errors_of(
     alloc: Global,
     answers: &[LexAnswer],
 ) -> Result<Result<Vec<LexParseError<u32, HandedTypes>>, ParseFault>, Fail> {
-    let data = sum_data(alloc)?;
+    let data = sum_data(alloc, By::Entries)?;
     let parser = RTParserBuilder::<u32, HandedTypes>::new(&data);
     Ok(parser.parse_noaction(alloc, &HandedLexer { answers }))
 }

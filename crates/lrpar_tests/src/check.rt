@@ -1,7 +1,7 @@
 //! Checks of tables: the table of sums, and changes for which it is refused.
 use crate::fixtures::{
-    ACCEPT, ItemOf, P0, P1, S3, SUM_ACTIONS, SUM_GOTOS, SUM_ITEMS, X, checked, item_rows, prod, r,
-    rows, rules, sum_checked, sum_parts, t, tokens,
+    ACCEPT, BOTH, By, ItemOf, P0, P1, S3, SUM_ACTIONS, SUM_GOTOS, SUM_ITEMS, X, checked, item_rows,
+    prod, r, rows, rules, sum_checked, sum_parts, t, table, tokens,
 };
 use lrpar::ParserData;
 use lrpar::check::{CheckFault, Refused, SafetyCondition};
@@ -9,11 +9,13 @@ use lrpar::grammar::{GrammarParts, YaccGrammar};
 use lrpar::span::{PIdx, RIdx, StIdx, StorageNum, TIdx};
 use lrpar::table::{Action, StateGraph, StateTable, TableRows};
 use std::alloc::Global;
+use std::process::Abort;
 use std::test::Fail;
 
-/// The items and the rows of a table.
+/// The items and the rows of a table, and by which call it is made.
 #[derive(Drop)]
 struct Hand {
+    by: By,
     items: Vec<ItemOf>,
     actions: Vec<[Action<u8>; 3]>,
     gotos: Vec<[Option<u8>; 3]>,
@@ -21,8 +23,9 @@ struct Hand {
 
 impl Hand {
     /// Those of the table of sums.
-    fn sums(alloc: Global) -> Result<Hand, Fail> {
+    fn sums(alloc: Global, by: By) -> Result<Hand, Fail> {
         Ok(Hand {
+            by,
             items: Vec::from_slice(alloc, &SUM_ITEMS)?,
             actions: Vec::from_slice(alloc, &SUM_ACTIONS)?,
             gotos: Vec::from_slice(alloc, &SUM_GOTOS)?,
@@ -47,7 +50,7 @@ impl Hand {
     }
 
     fn table(&self, alloc: Global) -> Result<StateTable<u8>, Fail> {
-        Ok(StateTable::from_rows(alloc, rows(alloc, &self.actions, &self.gotos)?)?)
+        table(alloc, self.by, rows(alloc, &self.actions, &self.gotos)?)
     }
 }
 
@@ -65,8 +68,8 @@ enum Change {
 }
 
 impl Change {
-    fn of_sums(self, alloc: Global) -> Result<Hand, Fail> {
-        let mut hand = Hand::sums(alloc)?;
+    fn of_sums(self, alloc: Global, by: By) -> Result<Hand, Fail> {
+        let mut hand = Hand::sums(alloc, by)?;
         match self {
             Change::Action(state, token, action) => put(&mut hand.actions, state, token, action),
             Change::Goto(state, rule, goto) => put(&mut hand.gotos, state, rule, goto),
@@ -178,9 +181,11 @@ fn has_rows(table: &StateTable<u8>, hand: &Hand) -> bool {
 #[test]
 fn the_table_of_sums_is_checked(rt: HostRuntime) -> Result<(), Fail> {
     let alloc = rt.alloc();
-    let hand = Hand::sums(alloc)?;
-    let data = hand.checked(alloc)?;
-    assert!(rt; keeps_parts(&data, &hand));
+    for by in BOTH {
+        let hand = Hand::sums(alloc, by)?;
+        let data = hand.checked(alloc)?;
+        assert!(rt; keeps_parts(&data, &hand), "{by:?}");
+    }
     Ok(())
 }
 
@@ -194,18 +199,26 @@ fn keeps_parts(data: &ParserData<u8>, hand: &Hand) -> bool {
 
 #[test]
 fn changed_tables_are_refused(rt: HostRuntime) -> Result<(), Fail> {
+    for by in BOTH {
+        changed_are_refused(&rt, rt.alloc(), by)?;
+    }
+    Ok(())
+}
+
+// Each change is refused for its fault, and the parts come back as they were.
+fn changed_are_refused(rt: &impl Abort, alloc: Global, by: By) -> Result<(), Fail> {
     for (change, want) in CHANGES {
-        let refused = refused_by(rt.alloc(), change)?;
-        assert_eq!(rt; refused.fault(), want, "{change:?}");
-        let was = is_as_it_was(rt.alloc(), refused, change)?;
-        assert!(rt; was, "parts of {change:?}");
+        let refused = refused_by(alloc, by, change)?;
+        assert_eq!(rt; refused.fault(), want, "{by:?} {change:?}");
+        let was = is_as_it_was(alloc, by, refused, change)?;
+        assert!(rt; was, "parts of {by:?} {change:?}");
     }
     Ok(())
 }
 
 // The refusal of the changed table.
-fn refused_by(alloc: Global, change: Change) -> Result<Refused<u8>, Fail> {
-    let hand = change.of_sums(alloc)?;
+fn refused_by(alloc: Global, by: By, change: Change) -> Result<Refused<u8>, Fail> {
+    let hand = change.of_sums(alloc, by)?;
     let (grm, graph, table) = (sum_grammar(alloc)?, hand.graph(alloc)?, hand.table(alloc)?);
     match ParserData::new(alloc, grm, graph, table, 2) {
         Ok(_) => Err(Fail::new(format_args!("{change:?} is taken"))),
@@ -214,13 +227,13 @@ fn refused_by(alloc: Global, change: Change) -> Result<Refused<u8>, Fail> {
 }
 
 // Whether the parts of a refused table are as they were, and are taken once what was changed is mended.
-fn is_as_it_was(alloc: Global, refused: Refused<u8>, change: Change) -> Result<bool, Fail> {
-    let hand = change.of_sums(alloc)?;
+fn is_as_it_was(alloc: Global, by: By, refused: Refused<u8>, change: Change) -> Result<bool, Fail> {
+    let hand = change.of_sums(alloc, by)?;
     let (grm, graph, table) = refused.into_parts();
     if grm.prods_len() != 4 || !has_items(&graph, &hand) || !has_rows(&table, &hand) {
         return Ok(false);
     }
-    let sums = Hand::sums(alloc)?;
+    let sums = Hand::sums(alloc, by)?;
     match change {
         Change::Action(..) | Change::Goto(..) => is_taken(alloc, grm, graph, sums.table(alloc)?),
         Change::Item(_) => is_taken(alloc, grm, sums.graph(alloc)?, table),
@@ -243,7 +256,7 @@ fn is_taken(
 #[test]
 fn shapes_that_do_not_fit(rt: HostRuntime) -> Result<(), Fail> {
     let alloc = rt.alloc();
-    let sums = Hand::sums(alloc)?;
+    let sums = Hand::sums(alloc, By::Rows)?;
     let short = StateGraph::from_rows(alloc, item_rows(alloc, &SUM_ITEMS, 5)?)?;
     let mut one_token_less = rows(alloc, &SUM_ACTIONS, &SUM_GOTOS)?;
     one_token_less.tokens = 2;
@@ -259,17 +272,23 @@ fn shapes_that_do_not_fit(rt: HostRuntime) -> Result<(), Fail> {
         ("a short graph", short, sums.table(alloc)?),
         (
             "an item past the productions",
-            Change::Item((0, 4, 0, 2)).of_sums(alloc)?.graph(alloc)?,
+            Change::Item((0, 4, 0, 2))
+                .of_sums(alloc, By::Rows)?
+                .graph(alloc)?,
             sums.table(alloc)?,
         ),
         (
             "a dot past the symbols",
-            Change::Item((3, 2, 2, 2)).of_sums(alloc)?.graph(alloc)?,
+            Change::Item((3, 2, 2, 2))
+                .of_sums(alloc, By::Rows)?
+                .graph(alloc)?,
             sums.table(alloc)?,
         ),
         (
             "a lookahead past the tokens",
-            Change::Item((0, 3, 0, 3)).of_sums(alloc)?.graph(alloc)?,
+            Change::Item((0, 3, 0, 3))
+                .of_sums(alloc, By::Rows)?
+                .graph(alloc)?,
             sums.table(alloc)?,
         ),
         (
@@ -360,29 +379,52 @@ const LOOP_ITEMS: [ItemOf; 8] = [
 #[test]
 fn caps_of_sums(rt: HostRuntime) -> Result<(), Fail> {
     let alloc = rt.alloc();
-    for (cap, state) in [(0u16, 0usize), (1, 4)] {
-        match sum_checked::<u32>(alloc, cap)? {
-            Ok(_) => return Err(Fail::new(format_args!("cap {cap} is taken"))),
-            Err(fault) => assert_eq!(rt; fault, CheckFault::ChainTooLong(state, 2), "cap {cap}"),
+    let rows = [
+        (By::Rows, 0u16, 0usize),
+        (By::Rows, 1, 4),
+        (By::Entries, 0, 0),
+        (By::Entries, 1, 4),
+    ];
+    for (by, cap, state) in rows {
+        match sum_checked::<u32>(alloc, by, cap)? {
+            Ok(_) => return Err(Fail::new(format_args!("{by:?}: cap {cap} is taken"))),
+            Err(fault) => assert_eq!(rt;
+                fault,
+                CheckFault::ChainTooLong(state, 2),
+                "{by:?}: cap {cap}"
+            ),
         }
     }
-    assert!(rt; sum_checked::<u32>(alloc, 2)?.is_ok());
+    for by in BOTH {
+        assert!(rt; sum_checked::<u32>(alloc, by, 2)?.is_ok(), "{by:?}");
+    }
     Ok(())
 }
 
 #[test]
 fn a_cycle_passes_every_cap(rt: HostRuntime) -> Result<(), Fail> {
     let alloc = rt.alloc();
-    for cap in [0u16, 65_535] {
+    let rows = [
+        (By::Rows, 0u16),
+        (By::Rows, 65_535),
+        (By::Entries, 0),
+        (By::Entries, 65_535),
+    ];
+    for (by, cap) in rows {
         match checked(
             alloc,
+            by,
             loop_parts(alloc)?,
             &LOOP_ITEMS,
             loop_rows(alloc)?,
             cap,
         )? {
-            Ok(_) => return Err(Fail::new(format_args!("cap {cap} is taken"))),
-            Err(fault) => assert_eq!(rt; fault, CheckFault::ChainTooLong(0, 1), "cap {cap}"),
+            Ok(_) => return Err(Fail::new(format_args!("{by:?}: cap {cap} is taken"))),
+            Err(fault) => assert_eq!(rt;
+                fault,
+                CheckFault::ChainTooLong(0, 1),
+                "{by:?}: cap {cap}"
+            ),
         }
     }
     Ok(())

@@ -1,5 +1,5 @@
 //! Parse errors and repairs.
-use crate::fixtures::sum_data;
+use crate::fixtures::{By, sum_data};
 use crate::lexer::{HandedLexer, HandedTypes, NoToken, Token};
 use lrpar::span::{Span, TIdx};
 use lrpar::{LexParseError, Lexeme, ParseError, ParseRepair, RTParserBuilder};
@@ -11,7 +11,7 @@ type Repair = ParseRepair<Token<u32>, u32>;
 
 // The error of the parse of `given`, one lexeme of `ID` at each of these bytes.
 fn error_of(alloc: Global, starts: &[usize]) -> Result<ParseError<Token<u32>, u32>, Fail> {
-    let data = sum_data(alloc)?;
+    let data = sum_data(alloc, By::Entries)?;
     let answers = starts
         .iter()
         .map(|start| Ok(Token::new(1, (*start).min(1_000), 1)))

@@ -285,9 +285,32 @@ pub(crate) fn item_rows<S: StorageNum>(
     Ok(rows)
 }
 
+/// By which call a table is made: of its full rows, or of its stored entries.
+#[derive(Clone, Copy, Debug)]
+pub(crate) enum By {
+    Rows,
+    Entries,
+}
+
+/// Both calls.
+pub(crate) const BOTH: [By; 2] = [By::Rows, By::Entries];
+
+/// The table of these rows.
+pub(crate) fn table<S: StorageNum>(
+    alloc: Global,
+    by: By,
+    rows: TableRows<S>,
+) -> Result<StateTable<S>, Fail> {
+    Ok(match by {
+        By::Rows => StateTable::from_rows(alloc, rows)?,
+        By::Entries => StateTable::from_sparse(alloc, sparse(alloc, &rows)?)?,
+    })
+}
+
 /// The table of these parts, items and rows, checked with the cap.
 pub(crate) fn checked<S: StorageNum>(
     alloc: Global,
+    by: By,
     parts: GrammarParts<S>,
     items: &[ItemOf],
     rows: TableRows<S>,
@@ -295,7 +318,7 @@ pub(crate) fn checked<S: StorageNum>(
 ) -> Result<Result<ParserData<S>, CheckFault>, Fail> {
     let grm = YaccGrammar::from_parts(alloc, parts)?;
     let sgraph = StateGraph::from_rows(alloc, item_rows(alloc, items, rows.actions.len())?)?;
-    let stable = StateTable::from_rows(alloc, rows)?;
+    let stable = table(alloc, by, rows)?;
     match ParserData::new(alloc, grm, sgraph, stable, cap) {
         Ok(data) => Ok(Ok(data)),
         Err(refused) => Ok(Err(refused.fault())),
@@ -305,14 +328,22 @@ pub(crate) fn checked<S: StorageNum>(
 /// The table of sums, checked with the cap.
 pub(crate) fn sum_checked<S: StorageNum>(
     alloc: Global,
+    by: By,
     cap: u16,
 ) -> Result<Result<ParserData<S>, CheckFault>, Fail> {
-    checked(alloc, sum_parts(alloc)?, &SUM_ITEMS, sum_rows(alloc)?, cap)
+    checked(
+        alloc,
+        by,
+        sum_parts(alloc)?,
+        &SUM_ITEMS,
+        sum_rows(alloc)?,
+        cap,
+    )
 }
 
 /// The checked table of sums.
-pub(crate) fn sum_data<S: StorageNum>(alloc: Global) -> Result<ParserData<S>, Fail> {
-    match sum_checked(alloc, 2)? {
+pub(crate) fn sum_data<S: StorageNum>(alloc: Global, by: By) -> Result<ParserData<S>, Fail> {
+    match sum_checked(alloc, by, 2)? {
         Ok(data) => Ok(data),
         Err(fault) => Err(Fail::new(format_args!("{fault}"))),
     }

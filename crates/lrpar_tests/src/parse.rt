@@ -1,5 +1,5 @@
 //! Parses by tables that are written by hand.
-use crate::fixtures::sum_data;
+use crate::fixtures::{BOTH, By, sum_data};
 use crate::lexer::{HandedLexer, HandedTypes, NoToken, Token};
 use lrpar::parser::ParseFault;
 use lrpar::span::{RIdx, Span, StIdx};
@@ -73,8 +73,12 @@ fn parsed(
 }
 
 // The parse of a sum.
-fn sum_parsed(alloc: Global, answers: &[LexAnswer]) -> Result<Result<Answer, ParseFault>, Fail> {
-    parsed(alloc, &sum_data(alloc)?, answers)
+fn sum_parsed(
+    alloc: Global,
+    by: By,
+    answers: &[LexAnswer],
+) -> Result<Result<Answer, ParseFault>, Fail> {
+    parsed(alloc, &sum_data(alloc, by)?, answers)
 }
 
 #[test]
@@ -94,13 +98,15 @@ fn a_sum_has_its_tree(rt: HostRuntime) -> Result<(), Fail> {
     ];
     for (name, given, text) in rows {
         let answers = lexemes(alloc, given)?;
-        let (tree, errors) = sum_parsed(alloc, &answers)??;
-        assert!(rt; errors.is_empty(), "errors of {name}");
-        assert_eq!(rt;
-            tree.as_ref().map(|tree| tree.as_str()),
-            Some(text),
-            "tree of {name}"
-        );
+        for by in BOTH {
+            let (tree, errors) = sum_parsed(alloc, by, &answers)??;
+            assert!(rt; errors.is_empty(), "errors of {name}, {by:?}");
+            assert_eq!(rt;
+                tree.as_ref().map(|tree| tree.as_str()),
+                Some(text),
+                "tree of {name}, {by:?}"
+            );
+        }
     }
     Ok(())
 }
@@ -120,21 +126,26 @@ fn errors_of_sums(rt: HostRuntime) -> Result<(), Fail> {
     ];
     for (name, given, state, at) in rows {
         let answers = lexemes(alloc, given)?;
-        let (tree, errors) = sum_parsed(alloc, &answers)??;
-        assert!(rt; tree.is_none(), "tree of {name:?}");
-        assert_eq!(rt; errors.len(), 1, "errors of {name:?}");
-        match &errors[0] {
-            LexParseError::LexError(_) => return Err(Fail::new(format_args!(
-                "lexing error of {name:?}"
-            ))),
-            LexParseError::ParseError(error) => {
-                assert_eq!(rt; error.stidx(), StIdx(state), "state of {name:?}");
-                assert_eq!(rt; *error.lexeme(), at, "lexeme of {name:?}");
-                assert!(rt; error.repairs().is_empty(), "repairs of {name:?}");
-            }
+        for by in BOTH {
+            let answer = sum_parsed(alloc, by, &answers)??;
+            assert!(rt; has_error(&answer, StIdx(state), at), "{name:?}, {by:?}");
         }
     }
     Ok(())
+}
+
+// Whether there is no tree, and one parse error, in the state at the lexeme, without repairs.
+fn has_error(answer: &Answer, state: StIdx<u32>, at: Token<u32>) -> bool {
+    let (tree, errors) = answer;
+    match errors.as_slice() {
+        [LexParseError::ParseError(error)] => {
+            tree.is_none()
+                && error.stidx() == state
+                && *error.lexeme() == at
+                && error.repairs().is_empty()
+        }
+        _ => false,
+    }
 }
 
 #[test]
@@ -159,9 +170,11 @@ fn faults_of_lexemes(rt: HostRuntime) -> Result<(), Fail> {
     ];
     for (name, given, want) in rows {
         let answers = lexemes(alloc, &given)?;
-        match sum_parsed(alloc, &answers)? {
-            Ok(_) => return Err(Fail::new(format_args!("{name} is taken"))),
-            Err(fault) => assert_eq!(rt; fault, want, "{name}"),
+        for by in BOTH {
+            match sum_parsed(alloc, by, &answers)? {
+                Ok(_) => return Err(Fail::new(format_args!("{name} is taken"))),
+                Err(fault) => assert_eq!(rt; fault, want, "{name}, {by:?}"),
+            }
         }
     }
     Ok(())
@@ -186,7 +199,7 @@ fn the_first_lexing_error_stands_alone(rt: HostRuntime) -> Result<(), Fail> {
     for (name, given, others) in rows {
         let mut answers = lexemes(alloc, given)?;
         answers.extend_from_slice(others)?;
-        let (tree, errors) = sum_parsed(alloc, &answers)??;
+        let (tree, errors) = sum_parsed(alloc, By::Rows, &answers)??;
         assert!(rt; tree.is_none(), "tree of {name}");
         assert_eq!(rt; errors.len(), 1, "errors of {name}");
         match &errors[0] {
@@ -203,7 +216,7 @@ fn the_first_lexing_error_stands_alone(rt: HostRuntime) -> Result<(), Fail> {
 #[test]
 fn calls_of_the_functions(rt: HostRuntime) -> Result<(), Fail> {
     let alloc = rt.alloc();
-    let data = sum_data(alloc)?;
+    let data = sum_data(alloc, By::Rows)?;
     let rows = [
         ("a+b", [(1, 0), (0, 1), (1, 2)].as_slice(), 3, 4),
         ("a+", [(1, 0), (0, 1)].as_slice(), 1, 1),

@@ -1,9 +1,10 @@
 //! Stacks of the table of sums.
-use crate::fixtures::sum_data;
+use crate::fixtures::{BOTH, By, sum_data};
 use lrpar::ParserData;
 use lrpar::check::Overlay;
 use lrpar::span::{StIdx, TIdx};
 use std::alloc::Global;
+use std::process::Abort;
 use std::test::Fail;
 
 // The stack of these states, bottom first.
@@ -27,7 +28,14 @@ fn numbers(alloc: Global, states: &[StIdx<u8>]) -> Result<Vec<u8>, Fail> {
 
 #[test]
 fn stacks_and_other_lists(rt: HostRuntime) -> Result<(), Fail> {
-    let data: ParserData<u8> = sum_data(rt.alloc())?;
+    for by in BOTH {
+        are_stacks(&rt, rt.alloc(), by)?;
+    }
+    Ok(())
+}
+
+fn are_stacks(rt: &impl Abort, alloc: Global, by: By) -> Result<(), Fail> {
+    let data: ParserData<u8> = sum_data(alloc, by)?;
     let rows = [
         ([0, 2, 4, 2].as_slice(), true),
         ([0].as_slice(), true),
@@ -37,26 +45,39 @@ fn stacks_and_other_lists(rt: HostRuntime) -> Result<(), Fail> {
         ([0, 2, 6].as_slice(), false),
     ];
     for (states, want) in rows {
-        let stack = stack(rt.alloc(), states)?;
-        assert_eq!(rt; data.is_stack(&stack), want, "{states:?}");
+        let stack = stack(alloc, states)?;
+        assert_eq!(rt; data.is_stack(&stack), want, "{by:?} {states:?}");
     }
     Ok(())
 }
 
 #[test]
 fn reductions_at_the_end(rt: HostRuntime) -> Result<(), Fail> {
-    let data: ParserData<u8> = sum_data(rt.alloc())?;
-    let mut stack = stack(rt.alloc(), &[0, 2, 4, 3])?;
-    assert!(rt; data.is_stack(&stack));
-    assert_eq!(rt; data.stable().tokens_len(), 3);
-    assert_eq!(rt; data.settle(&mut stack, TIdx(2))?, 3);
-    assert_eq!(rt; numbers(rt.alloc(), &stack)?.as_slice(), [0, 1].as_slice());
+    for by in BOTH {
+        let data: ParserData<u8> = sum_data(rt.alloc(), by)?;
+        let mut stack = stack(rt.alloc(), &[0, 2, 4, 3])?;
+        assert!(rt; data.is_stack(&stack));
+        assert_eq!(rt; data.stable().tokens_len(), 3);
+        assert_eq!(rt; data.settle(&mut stack, TIdx(2))?, 3, "{by:?}");
+        assert_eq!(rt;
+            numbers(rt.alloc(), &stack)?.as_slice(),
+            [0, 1].as_slice(),
+            "{by:?}"
+        );
+    }
     Ok(())
 }
 
 #[test]
 fn tokens_fed(rt: HostRuntime) -> Result<(), Fail> {
-    let data: ParserData<u8> = sum_data(rt.alloc())?;
+    for by in BOTH {
+        feeds(&rt, rt.alloc(), by)?;
+    }
+    Ok(())
+}
+
+fn feeds(rt: &impl Abort, alloc: Global, by: By) -> Result<(), Fail> {
+    let data: ParserData<u8> = sum_data(alloc, by)?;
     let rows = [
         ("+", 0u8, true, [0, 2, 4, 2, 4].as_slice()),
         ("ID", 1, false, [0, 2, 4, 3].as_slice()),
@@ -64,19 +85,26 @@ fn tokens_fed(rt: HostRuntime) -> Result<(), Fail> {
     ];
     assert_eq!(rt; data.stable().tokens_len(), 3);
     for (name, token, want, after) in rows {
-        let mut stack = stack(rt.alloc(), &[0, 2, 4, 3])?;
+        let mut stack = stack(alloc, &[0, 2, 4, 3])?;
         assert!(rt; data.is_stack(&stack));
         assert!(rt; token < 3);
-        assert_eq!(rt; data.feed(&mut stack, TIdx(token))?, want, "{name}");
-        assert_eq!(rt; numbers(rt.alloc(), &stack)?.as_slice(), after, "{name}");
+        assert_eq!(rt; data.feed(&mut stack, TIdx(token))?, want, "{by:?} {name}");
+        assert_eq!(rt; numbers(alloc, &stack)?.as_slice(), after, "{by:?} {name}");
     }
     Ok(())
 }
 
 #[test]
 fn tokens_fed_over_a_base(rt: HostRuntime) -> Result<(), Fail> {
-    let data: ParserData<u8> = sum_data(rt.alloc())?;
-    let base = stack(rt.alloc(), &[0, 2, 4, 3])?;
+    for by in BOTH {
+        feeds_over(&rt, rt.alloc(), by)?;
+    }
+    Ok(())
+}
+
+fn feeds_over(rt: &impl Abort, alloc: Global, by: By) -> Result<(), Fail> {
+    let data: ParserData<u8> = sum_data(alloc, by)?;
+    let base = stack(alloc, &[0, 2, 4, 3])?;
     assert_eq!(rt; base.len(), 4);
     assert_eq!(rt; data.stable().tokens_len(), 3);
     let rows = [
@@ -85,19 +113,23 @@ fn tokens_fed_over_a_base(rt: HostRuntime) -> Result<(), Fail> {
         ("the end", 2, false, [0, 1].as_slice(), 1),
         ("+ again", 0, true, [0, 2, 4, 2, 4].as_slice(), 3),
     ];
-    let mut over = Overlay::new(rt.alloc(), &base);
+    let mut over = Overlay::new(alloc, &base);
     for (name, token, want, after, kept) in rows {
         over.set_back();
         let states = over.to_vec()?;
         assert!(rt; data.is_stack(&states));
         assert!(rt; token < 3);
-        assert_eq!(rt; data.feed_over(&mut over, TIdx(token))?, want, "{name}");
         assert_eq!(rt;
-            numbers(rt.alloc(), &over.to_vec()?)?.as_slice(),
-            after,
-            "{name}"
+            data.feed_over(&mut over, TIdx(token))?,
+            want,
+            "{by:?} {name}"
         );
-        assert_eq!(rt; over.kept(), kept, "{name}");
+        assert_eq!(rt;
+            numbers(alloc, &over.to_vec()?)?.as_slice(),
+            after,
+            "{by:?} {name}"
+        );
+        assert_eq!(rt; over.kept(), kept, "{by:?} {name}");
     }
     Ok(())
 }
