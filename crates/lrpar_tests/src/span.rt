@@ -1,10 +1,10 @@
 //! Spans and the numbers of rules, productions, tokens and states.
-use lrpar::span::{PIdx, RIdx, Span, StIdx, StorageNum, TIdx};
+use lrpar::span::{PIdx, RIdx, Span, StIdx, StorageIndex, TIdx};
 use std::cmp::Ordering;
 use std::test::Fail;
 
 // Whether the type has the number `last`, by itself, and not the one after it.
-fn numbers_up_to<S: StorageNum>(last: usize) -> bool {
+fn numbers_up_to<S: StorageIndex>(last: usize) -> bool {
     match S::from_index(last) {
         Some(found) => {
             found.to_index() == last && S::from_index(last.saturating_add(1)).is_none()
