@@ -104,7 +104,8 @@ impl<LexemeT: Lexeme<StorageT>, StorageT: StorageIndex> Clone for ParseError<Lex
     }
 }
 
-impl<LexemeT: Lexeme<StorageT>, StorageT: StorageIndex> PartialEq for ParseError<LexemeT, StorageT> {
+impl<LexemeT: Lexeme<StorageT>, StorageT: StorageIndex> PartialEq
+    for ParseError<LexemeT, StorageT> {
     ghost use Rattle.lrpar.specs.Failure.{failure_eq};
     ghost use Rattle.lrpar.specs.FailureLaws.{failure_per};
 

@@ -32,7 +32,11 @@ type Answer<StorageT, LexerTypesT, V> = (Option<V>, Vec<LexParseError<StorageT, 
 
 /// A parser by a checked table.
 #[derive(Drop)]
-pub struct RTParserBuilder<'a, StorageT: StorageIndex, LexerTypesT: LexerTypes<StorageT = StorageT>> {
+pub struct RTParserBuilder<
+    'a,
+    StorageT: StorageIndex,
+    LexerTypesT: LexerTypes<StorageT = StorageT>,
+> {
     checked: &'a ParserData<StorageT>,
     lexer_types: PhantomData<LexerTypesT>,
 }

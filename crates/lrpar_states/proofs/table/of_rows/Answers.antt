@@ -21,7 +21,7 @@ pub of_sparse-requires : goal.of_sparse-requires
 of_sparse-requires g c =
     let rows = c.args.rows in
     let states : c.len-states.result ≡ length rows.actions.items = c.len-states.ensures ∙ rows.actions.ok.0 in
-    rw (stored_are g.row.StorageT-FromStrRadixErr.Denot g.StorageT.StorageIndex.index rows c.len-states.result c.in_ok-actions.actions c.in_ok-gotos.gotos
+    rw (stored_are g.StorageT.StorageIndex.index rows c.len-states.result c.in_ok-actions.actions c.in_ok-gotos.gotos
     states (rw c.deref.ensures.value at c.in_ok-actions.ensures) (rw c.deref-2.ensures.value at c.in_ok-gotos.ensures))
     (table_from_rows g.StorageT.StorageIndex.limit _ c.requires)
 
@@ -30,6 +30,6 @@ returns g c =
     let rows = c.args.rows in
     let states : c.len-states.result ≡ length rows.actions.items = c.len-states.ensures ∙ rows.actions.ok.0 in
     subst (λ (made : Table). IfOk c.of_sparse.result (λ table. table ≡ made))
-    (stored_are g.row.StorageT-FromStrRadixErr.Denot g.StorageT.StorageIndex.index rows c.len-states.result c.in_ok-actions.actions c.in_ok-gotos.gotos
+    (stored_are g.StorageT.StorageIndex.index rows c.len-states.result c.in_ok-actions.actions c.in_ok-gotos.gotos
     states (rw c.deref.ensures.value at c.in_ok-actions.ensures) (rw c.deref-2.ensures.value at c.in_ok-gotos.ensures))
     c.of_sparse.ensures
