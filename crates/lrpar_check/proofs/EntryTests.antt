@@ -1,15 +1,15 @@
 -- What tests of a state's entries decide.
-use Rattle.std.proofs.Common.{◌≡◌, ◌≢◌, ◌<◌, ◌≤◌, ◌+◌, ◌↔◌, ◌⊎◌, ◌∙◌, ℕ, Bool, true, false, IsTrue, List, All, Some, Option, length, map, min, take, slice_index_or, refl, sym, ap, subst, inl, inr, arith}
+use Rattle.std.proofs.Common.{◌≡◌, ◌≢◌, ◌<◌, ◌↔◌, ◌⊎◌, ◌∙◌, ℕ, List, All, Some, length, map, slice_index_or, refl, sym, ap, subst, inl, inr, arith}
 use Rattle.std.specs.List.{Contains, zip}
 use Rattle.std.proofs.lemmas.List.{get_or-map, get_or_default, length-map}
 use Rattle.std.proofs.lemmas.List.Elements.{All-contains}
 use Rattle.std.proofs.lemmas.Slice.Zip.{get_or-zip, length-zip}
-use Rattle.lrpar_grammar.specs.Grammar.{Grammar, GrammarSymbol, Nonterminal, Terminal, end_token, prods_len, start_prod}
-use Rattle.lrpar_states.specs.Graph.{Graph, HasCore}
-use Rattle.lrpar_states.specs.Safe.{AcceptsAtEnd, CoresFollow, GoesBy, KeepsEnd, ReducesComplete, StepsFromCores}
+use Rattle.lrpar_grammar.specs.Grammar.{Grammar, GrammarSymbol, Nonterminal, Terminal, end_token, prods_len}
+use Rattle.lrpar_states.specs.Graph.{Graph}
+use Rattle.lrpar_states.specs.Safe.{AcceptsAtEnd, GoesBy, KeepsEnd, ReducesComplete, StepsFromCores}
 use Rattle.lrpar_states.specs.Table.{Table, TableAction, ShiftTo, ReduceBy, Accepts, Fails, action_of, goto_of}
 use Rattle.lrpar_states.specs.declared.condition.SafetyCondition.{SafetyCondition}
-use Rattle.lrpar_states.specs.declared.condition.SafetyCondition.TheVariants.{S2, S3, S4, S5, S6, S7, S8}
+use Rattle.lrpar_states.specs.declared.condition.SafetyCondition.TheVariants.{S3, S4, S5, S7, S8}
 use Rattle.lrpar_check.specs.Entrywise.{ActionHolds, GotoHolds, IsNamed}
 use Rattle.lrpar_check.proofs.SafetyLemmas.{never_by_kind, steps_by_kind}
 

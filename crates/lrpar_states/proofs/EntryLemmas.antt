@@ -155,14 +155,6 @@ pub gotos_exact : (limit : ℕ) (table : Table) → IsTable limit table → (s r
 unfolding goto_of
 gotos_exact limit table is s r next = entry_found (gotos_at table s) r next (gotos_good limit table is s).ascending
 
--- the entry of an action that isn't an error
-pub action_entry_of : (limit : ℕ) (table : Table) → IsTable limit table → (s t : ℕ) (action : TableAction) → action_of table s t ≡ action → action ≢ Fails
-    → IsActionEntry table.tokens table.states (t, action)
-action_entry_of limit table is s t action at stored =
-    let good = actions_good limit table is s in
-    All-contains (IsActionEntry table.tokens table.states) (actions_at table s) (t, action) good.each
-    ((actions_exact limit table is s t action).1 (at, stored))
-
 -- the entry of a goto
 pub goto_entry_of : (limit : ℕ) (table : Table) → IsTable limit table → (s r next : ℕ) → goto_of table s r ≡ Some next
     → IsGotoEntry table.rules table.states (r, next)

@@ -6,4 +6,5 @@ pub mod SearchLemmas
 pub mod CutLemmas
 pub mod EntryLemmas
 pub mod RowLemmas
+pub mod SafeTests
 pub mod TableLemmas

@@ -1,4 +1,4 @@
-use Rattle.std.proofs.Common.{◌+◌, arith}
+use Rattle.std.proofs.Common.{arith}
 use Rattle.lrpar_states.specs.PlainRows.{action_entry, goto_entry}
 use Rattle.lrpar_states.proofs.CutLemmas.{image_len}
 use Rattle.lrpar_states.proofs.table.StateTable.entries.Goals as goal
