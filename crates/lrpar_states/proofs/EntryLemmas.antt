@@ -16,7 +16,7 @@ use Rattle.lrpar_states.proofs.Mapped.{All-unmap}
 use Rattle.lrpar_states.proofs.ItemLemmas.{Contains-image}
 
 -- numbers that ascend are distinct
-distinct_numbers : (ks : List ℕ) → IsStrictlyIncreasing ks → IsDistinct nat_eq ks
+pub distinct_numbers : (ks : List ℕ) → IsStrictlyIncreasing ks → IsDistinct nat_eq ks
 distinct_numbers ks up =
     IsDistinct-from_apart nat_eq ks
     (λ i j d before below.
