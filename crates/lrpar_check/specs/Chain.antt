@@ -27,6 +27,13 @@ HasReductions g table t st (suc n) =
 abbrev pub IsLongChain : Grammar → Table → ℕ → ℕ → ℕ → Type 0
 IsLongChain g table cap s t = (st : List ℕ) × IsChainStart table s st × HasReductions g table t st (cap + 1)
 
+-- below token `end` the chain from these states first makes more than `cap` reductions at token `found`, or nowhere where
+-- `found` is `end`
+pub record IsShortUntil (g : Grammar) (table : Table) (cap : ℕ) (st : List ℕ) (end found : ℕ) : Type 0 where
+  pub within : found ≤ end
+  pub long : found < end → HasReductions g table found st (cap + 1)
+  pub short : (t : ℕ) → t < found → ¬ (HasReductions g table t st (cap + 1))
+
 -- no chain makes more than `cap` reductions, whatever its state and its token
 abbrev pub AreChainsShort : Grammar → Table → ℕ → Type 0
 AreChainsShort g table cap = (s t : ℕ) → s < states_len table → t < table.tokens → ¬ (IsLongChain g table cap s t)
