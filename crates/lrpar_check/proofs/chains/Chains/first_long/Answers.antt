@@ -15,7 +15,7 @@ returns-in-Some g c =
     let found =
     MatchOption-at_some ((t : ℕ) → t < table.tokens → ¬ (IsLongChain c.args.self.now.grm.now table c.args.self.now.cap (index c.unwrap.result) t))
     First c.in-Some.t c.in-Some.is c.in_ok-t.ensures in
-    (omega (arith, c.loop-s-test.true, c.states_len-s-end.ensures.states), found.0, subst Long number found.1.0)
+    (omega (arith, c.loop-s-test.true, c.states_len-s-end.ensures.states), found.0, subst Long number found.1)
 
 pub loop-s-preserved : goal.loop-s-preserved
 loop-s-preserved g c = λ k t below token.
