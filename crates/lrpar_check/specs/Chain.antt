@@ -42,9 +42,9 @@ AreChainsShort g table cap = (s t : ℕ) → s < states_len table → t < table.
 abbrev pub most_reductions : ℕ → ℕ → ℕ
 most_reductions cap height = cap * height
 
--- at most so many productions are reduced by in a parse of so many lexemes, each error counted as one
-abbrev pub most_productions : ℕ → ℕ → ℕ
-most_productions cap lexemes = cap * (cap + 3) * (lexemes + 1)
+-- at most so many productions has a tree of so many leaves, that comes of a parse with so many errors
+abbrev pub most_productions : ℕ → ℕ → ℕ → ℕ
+most_productions cap leaves errors = cap * (cap + 3) * (leaves + errors + 1)
 
 -- At each token a stack makes at most `cap` reductions for each of its states; and at most `cap` for each state that it
 -- then has less, and for `cap + 2` more.

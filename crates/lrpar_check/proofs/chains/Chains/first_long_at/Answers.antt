@@ -1,4 +1,4 @@
-use Rattle.std.proofs.Common.{◌≡◌, ◌<◌, ◌≤◌, length, arith, subst, sym}
+use Rattle.std.proofs.Common.{◌<◌, length, arith, subst, sym}
 use Rattle.lrpar_states.specs.Table.{IsGotoEntry, gotos_at}
 use Rattle.lrpar_check.proofs.EntryTests.{entries_len, entry_read}
 use Rattle.lrpar_check.proofs.ChainEntryLemmas.{first_more, first_of_all}

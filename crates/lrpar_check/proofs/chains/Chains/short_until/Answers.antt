@@ -1,9 +1,9 @@
-use Rattle.std.proofs.Common.{◌≡◌, ◌<◌, ◌≤◌, ◌+◌, ◌∷◌, ◌∙◌, ℕ, length, arith, ap, slice_index_or, subst, sym}
+use Rattle.std.proofs.Common.{◌≡◌, ◌<◌, ◌+◌, ◌∷◌, ◌∙◌, ℕ, length, arith, slice_index_or, subst, sym}
 use Rattle.std.specs.List.{Contains}
 use Rattle.std.specs.Option.{option_to_list, unwrap_or}
 use Rattle.std.proofs.lemmas.Bool.{iff_false}
 use Rattle.lrpar_states.specs.PlainRows.{plain_action, plain_goto}
-use Rattle.lrpar_states.specs.Table.{IsActionEntry, TableAction, ReduceBy, actions_at}
+use Rattle.lrpar_states.specs.Table.{IsActionEntry, TableAction, actions_at}
 use Rattle.lrpar_check.specs.Chain.{HasReductions}
 use Rattle.lrpar_check.proofs.ChainEntryLemmas.{never_stored, not_before, start_top, top_reduces}
 use Rattle.lrpar_check.proofs.EntryTests.{entries_len, entry_read}
