@@ -8,19 +8,19 @@ ghost use Rattle.lrpar_states.specs.Table.{IsClosed, IsGotoWithin, ReduceBy, sta
 
 use crate::step::{Step, take_step};
 use lrpar_grammar::grammar::YaccGrammar;
-use lrpar_grammar::span::{StIdx, StorageNum, TIdx};
+use lrpar_grammar::span::{StIdx, StorageIndex, TIdx};
 use lrpar_states::table::{Action, StateTable};
 use std::alloc::{AllocError, Global};
 
 /// The chains of a table, each of which is to make at most `cap` reductions.
 #[derive(Drop)]
-pub(crate) struct Chains<'a, StorageT: StorageNum> {
+pub(crate) struct Chains<'a, StorageT: StorageIndex> {
     grm: &'a YaccGrammar<StorageT>,
     stable: &'a StateTable<StorageT>,
     cap: u16,
 }
 
-impl<'a, StorageT: StorageNum> Chains<'a, StorageT> {
+impl<'a, StorageT: StorageIndex> Chains<'a, StorageT> {
     pub(crate) fn new(
         grm: &'a YaccGrammar<StorageT>,
         stable: &'a StateTable<StorageT>,
@@ -165,7 +165,7 @@ impl<'a, StorageT: StorageNum> Chains<'a, StorageT> {
 }
 
 // Whether the action is a reduction.
-fn is_reduction<StorageT: StorageNum>(action: Action<StorageT>) -> bool
+fn is_reduction<StorageT: StorageIndex>(action: Action<StorageT>) -> bool
     ensures { IsTrue result ↔ ((p : ℕ) × (plain_action StorageT.index action ≡ ReduceBy p)) }
 {
     match action {

@@ -5,5 +5,5 @@ use Rattle.lrpar_check.proofs.chains.is_reduction.Goals as goal
 
 pub returns-in-Reduce : goal.returns-in-Reduce
 returns-in-Reduce g c =
-    let index = g.StorageT.StorageNum.index in
+    let index = g.StorageT.StorageIndex.index in
     accepted (_, ap (plain_action index) c.in-Reduce.is)

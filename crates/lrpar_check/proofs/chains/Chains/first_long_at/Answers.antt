@@ -6,7 +6,7 @@ use Rattle.lrpar_check.proofs.chains.Chains.first_long_at.Goals as goal
 
 pub short_until-requires-in-loop-place-clause-above : goal.short_until-requires-in-loop-place-clause-above
 short_until-requires-in-loop-place-clause-above g c =
-    let index = g.StorageT.StorageNum.index in
+    let index = g.StorageT.StorageIndex.index in
     let table = c.args.self.now.stable.now in
     let at = c.gotos_of.ensures in
     let es = gotos_at table (index c.args.s.0) in
@@ -21,7 +21,7 @@ short_until-requires-in-loop-place-clause-above g c =
 
 pub loop-place-preserved : goal.loop-place-preserved
 loop-place-preserved g c =
-    let index = g.StorageT.StorageNum.index in
+    let index = g.StorageT.StorageIndex.index in
     let table = c.args.self.now.stable.now in
     let at = c.gotos_of.ensures in
     let es = gotos_at table (index c.args.s.0) in
@@ -36,7 +36,7 @@ loop-place-preserved g c =
 
 pub returns-then-end-tokens : goal.returns-then-end-tokens
 returns-then-end-tokens g c =
-    let index = g.StorageT.StorageNum.index in
+    let index = g.StorageT.StorageIndex.index in
     let table = c.args.self.now.stable.now in
     let at = c.gotos_of.ensures in
     let es = gotos_at table (index c.args.s.0) in
@@ -50,7 +50,7 @@ returns-then-end-tokens g c =
 
 pub returns-else-end-tokens : goal.returns-else-end-tokens
 returns-else-end-tokens g c = λ t token.
-    let index = g.StorageT.StorageNum.index in
+    let index = g.StorageT.StorageIndex.index in
     let table = c.args.self.now.stable.now in
     let at = c.gotos_of.ensures in
     let es = gotos_at table (index c.args.s.0) in

@@ -6,5 +6,5 @@ use Rattle.lrpar_check.proofs.chains.Chains.first_long_at.Given as goal
 abbrev pub invariant-loop-place : goal.invariant-loop-place
 invariant-loop-place g l =
     let table = l.self.stable.now in
-    let s = g.StorageT.StorageNum.index l.s.0 in
+    let s = g.StorageT.StorageIndex.index l.s.0 in
     IsFirstOf l.self.grm.now table l.self.cap s (gotos_at table s) table.tokens l.place l.end

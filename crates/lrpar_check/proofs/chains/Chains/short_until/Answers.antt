@@ -13,7 +13,7 @@ use Rattle.lrpar_check.proofs.chains.Chains.short_until.Goals.{else-is_reduction
 
 pub returns-then-t-end : goal.returns-then-t-end
 returns-then-t-end g c =
-    let index = g.StorageT.StorageNum.index in
+    let index = g.StorageT.StorageIndex.index in
     let grm = c.args.self.now.grm.now in
     let table = c.args.self.now.stable.now in
     let cap = c.args.self.now.cap in
@@ -42,7 +42,7 @@ returns-then-t-end g c =
 
 pub is_long_from-requires-clause-token : goal.is_long_from-requires-clause-token
 is_long_from-requires-clause-token g c =
-    let index = g.StorageT.StorageNum.index in
+    let index = g.StorageT.StorageIndex.index in
     let grm = c.args.self.now.grm.now in
     let table = c.args.self.now.stable.now in
     let cap = c.args.self.now.cap in
@@ -61,7 +61,7 @@ is_long_from-requires-clause-token g c =
 
 pub returns-then-branch : goal.returns-then-branch
 returns-then-branch g c =
-    let index = g.StorageT.StorageNum.index in
+    let index = g.StorageT.StorageIndex.index in
     let grm = c.args.self.now.grm.now in
     let table = c.args.self.now.stable.now in
     let cap = c.args.self.now.cap in
@@ -89,7 +89,7 @@ returns-then-branch g c =
 
 pub loop-place-preserved : goal.loop-place-preserved
 loop-place-preserved g c =
-    let index = g.StorageT.StorageNum.index in
+    let index = g.StorageT.StorageIndex.index in
     let grm = c.args.self.now.grm.now in
     let table = c.args.self.now.stable.now in
     let cap = c.args.self.now.cap in
@@ -122,7 +122,7 @@ loop-place-preserved g c =
 
 pub returns : goal.returns
 returns g c =
-    let index = g.StorageT.StorageNum.index in
+    let index = g.StorageT.StorageIndex.index in
     let grm = c.args.self.now.grm.now in
     let table = c.args.self.now.stable.now in
     let cap = c.args.self.now.cap in

@@ -31,7 +31,7 @@ overflow_add-count g c =
     let made = c.reductions.invariant.made in
     let step = rw (c.grm-grm.ensures, c.stable-table.ensures.table) at c.in_ok-take_step.ensures.made in
     let more =
-    stack_reduced_once d.grammar d.table d.cap run (g.StorageT.StorageNum.index c.args.t.0) c.requires.token kind.states kind.reduces c.args.stack.now
+    stack_reduced_once d.grammar d.table d.cap run (g.StorageT.StorageIndex.index c.args.t.0) c.requires.token kind.states kind.reduces c.args.stack.now
     c.reductions.stack c.take_step.new.states made.0 c.in_ok-take_step.field-0 c.requires.stack c.reductions.invariant.stack made.1 c.in-Reduced.is
     step in
     let below = subst (λ (n : ℕ). n < most_reductions d.cap (length (kind.states c.args.stack.now))) (sym made.2) more.1 in
@@ -50,7 +50,7 @@ reductions-smaller g c =
     let made = c.reductions.invariant.made in
     let step = rw (c.grm-grm.ensures, c.stable-table.ensures.table) at c.in_ok-take_step.ensures.made in
     let more =
-    stack_reduced_once d.grammar d.table d.cap run (g.StorageT.StorageNum.index c.args.t.0) c.requires.token kind.states kind.reduces c.args.stack.now
+    stack_reduced_once d.grammar d.table d.cap run (g.StorageT.StorageIndex.index c.args.t.0) c.requires.token kind.states kind.reduces c.args.stack.now
     c.reductions.stack c.take_step.new.states made.0 c.in_ok-take_step.field-0 c.requires.stack c.reductions.invariant.stack made.1 c.in-Reduced.is
     step in
     left_to_make (most_reductions d.cap (length (kind.states c.args.stack.now))) c.reductions.count (c.reductions.count + 1)
@@ -64,15 +64,15 @@ reductions-preserved g c =
     let made = c.reductions.invariant.made in
     let step = rw (c.grm-grm.ensures, c.stable-table.ensures.table) at c.in_ok-take_step.ensures.made in
     let more =
-    stack_reduced_once d.grammar d.table d.cap run (g.StorageT.StorageNum.index c.args.t.0) c.requires.token kind.states kind.reduces c.args.stack.now
+    stack_reduced_once d.grammar d.table d.cap run (g.StorageT.StorageIndex.index c.args.t.0) c.requires.token kind.states kind.reduces c.args.stack.now
     c.reductions.stack c.take_step.new.states made.0 c.in_ok-take_step.field-0 c.requires.stack c.reductions.invariant.stack made.1 c.in-Reduced.is
     step in
     let one =
-    subst (λ (s : Step). IsStackStep kind.states kind.reduces d.grammar d.table (g.StorageT.StorageNum.index c.args.t.0) c.reductions.stack s c.take_step.new.states)
+    subst (λ (s : Step). IsStackStep kind.states kind.reduces d.grammar d.table (g.StorageT.StorageIndex.index c.args.t.0) c.reductions.stack s c.take_step.new.states)
     c.in-Reduced.is step in
     record {
       suits =
-          g.met.S.StateStack.reduced_suits d.grammar d.table (g.StorageT.StorageNum.index c.args.t.0) c.reductions.stack one.0
+          g.met.S.StateStack.reduced_suits d.grammar d.table (g.StorageT.StorageIndex.index c.args.t.0) c.reductions.stack one.0
           c.take_step.new.states c.reductions.invariant.suits one.1;
       stack = more.0;
       made = (more.2.0, more.2.2, omega (arith, more.2.1, made.2));
@@ -87,11 +87,11 @@ returns g c =
     let of_states = rw (c.grm-grm.ensures, c.stable-table.ensures.table) at c.in_ok-take_step.ensures.step in
     let of_stack = rw (c.grm-grm.ensures, c.stable-table.ensures.table) at c.in_ok-take_step.ensures.made in
     let settled =
-    stack_settled_by d.grammar d.table d.cap run (g.StorageT.StorageNum.index c.args.t.0) c.requires.token kind.states kind.reduces c.args.stack.now
+    stack_settled_by d.grammar d.table d.cap run (g.StorageT.StorageIndex.index c.args.t.0) c.requires.token kind.states kind.reduces c.args.stack.now
     c.reductions.stack c.take_step.new.states made.0 c.reductions.count c.in_ok-take_step.field-0 c.requires.stack c.reductions.invariant.stack
     made.1 made.2 c.in_default.not-Reduced of_states of_stack in
     let same =
-    stays_by_step d.grammar d.table d.cap run (g.StorageT.StorageNum.index c.args.t.0) c.requires.token kind.states kind.reduces
+    stays_by_step d.grammar d.table d.cap run (g.StorageT.StorageIndex.index c.args.t.0) c.requires.token kind.states kind.reduces
     c.reductions.stack c.take_step.new.states c.in_ok-take_step.field-0 c.in_default.not-Reduced of_stack in
     record {
       settled = settled;
