@@ -27,6 +27,18 @@ none_not_some o x none some = let differ : ◌≡◌ {A = Option _} None (Some x
 ok_not_err : {A F : Type 0} (x : A) (f : F) → ◌≡◌ {A = Result A F} (Ok x) (Err f) → ⊥
 ok_not_err x f e = cc
 
+-- refusals that are one have one fault
+same_fault : {A F : Type 0} (f g : F) → ◌≡◌ {A = Result A F} (Err f) (Err g) → f ≡ g
+same_fault f g e = cc
+
+-- things that are there and are one
+same_some : {A : Type 0} (x y : A) → ◌≡◌ {A = Option A} (Some x) (Some y) → x ≡ y
+same_some x y e = cc
+
+-- a list that ends isn't one that goes on
+none_not_one : {A : Type 0} (x : A) (xs : List A) → xs ≡ [] → xs ≡ x ∷ [] → ⊥
+none_not_one x xs none one = let differ : ◌≡◌ {A = List _} [] (x ∷ []) = sym none ∙ one in cc
+
 module _ {T S L B C : Type 0} (d : Checked) (facts : B → LexemeFacts) (errors_of : T → List (LexParseError S L B C)) (IsValued : Option (List B) → List ℕ → T → Type 0) (lexed : List (Result B C)) where
   -- a fault of a lexeme is answered
   pub fault_is_parse : (lexemes : List B) (fault : ParseFault) → first_error lexed ≡ None → lexemes ≡ lexemes_of lexed
@@ -37,12 +49,12 @@ module _ {T S L B C : Type 0} (d : Checked) (facts : B → LexemeFacts) (errors_
         lexing_error = λ error some. absurd (none_not_some (first_error lexed) error none some);
         run = λ _. tt;
         bad_token = λ i. (
-          λ e. let same : fault ≡ BadToken i = cc in (none, subst (λ w. IsFirstBadToken d.grammar w i) facts_are ((is.bad_token i).0 (ap Some same))),
-          λ h. let same : fault ≡ BadToken i = let e = (is.bad_token i).1 (subst (λ w. IsFirstBadToken d.grammar w i) (sym facts_are) h.1) in cc in ap Err same,
+          λ e. (none, subst (λ w. IsFirstBadToken d.grammar w i) facts_are ((is.bad_token i).0 (ap Some (same_fault fault (BadToken i) e)))),
+          λ h. ap Err (same_some fault (BadToken i) ((is.bad_token i).1 (subst (λ w. IsFirstBadToken d.grammar w i) (sym facts_are) h.1))),
         );
         starts_decrease = λ i. (
-          λ e. let same : fault ≡ StartsDecrease i = cc in (none, subst (λ w. IsFirstEarlyStart d.grammar w i) facts_are ((is.starts_decrease i).0 (ap Some same))),
-          λ h. let same : fault ≡ StartsDecrease i = let e = (is.starts_decrease i).1 (subst (λ w. IsFirstEarlyStart d.grammar w i) (sym facts_are) h.1) in cc in ap Err same,
+          λ e. (none, subst (λ w. IsFirstEarlyStart d.grammar w i) facts_are ((is.starts_decrease i).0 (ap Some (same_fault fault (StartsDecrease i) e)))),
+          λ h. ap Err (same_some fault (StartsDecrease i) ((is.starts_decrease i).1 (subst (λ w. IsFirstEarlyStart d.grammar w i) (sym facts_are) h.1))),
         );
       }
 
@@ -70,8 +82,7 @@ module _ {T S L B C : Type 0} (d : Checked) (facts : B → LexemeFacts) (errors_
       → IsParse d facts errors_of IsValued lexed (Ok answer)
   error_is_parse error answer some errors valued = record {
     lexing_error = λ other is.
-        let same : error ≡ other = let e : Some error ≡ Some other = sym some ∙ is in cc in
-        (errors ∙ ap (λ e. LexError e ∷ []) same, valued);
+        (errors ∙ ap (λ e. LexError e ∷ []) (same_some error other (sym some ∙ is)), valued);
     run = λ none. absurd (none_not_some (first_error lexed) error none some);
     bad_token = λ i. (λ e. absurd (ok_not_err answer (BadToken i) e), λ h. absurd (none_not_some (first_error lexed) error h.0 some));
     starts_decrease = λ i. (λ e. absurd (ok_not_err answer (StartsDecrease i) e), λ h. absurd (none_not_some (first_error lexed) error h.0 some));
@@ -99,7 +110,7 @@ module _ {S L X C E Z : Type 0} (facts : X → LexemeFacts) (leaf : X → E → 
     course = record { stops = stops.stop ∷ []; consumed = None; prods = stops.prods; run = stops.run };
     errors = subst (AllZip (IsErrorOf facts d.grammar lexemes) (stops.stop ∷ [])) (sym one) (record { state = stops.top; lexeme = stops.lexeme_is; repairs = refl }, tt);
     one_way = inr (refl, (failure_at state lexeme, one));
-    sentence = λ no_error. absurd (let differ : ◌≡◌ {A = List (LexParseError S L X C)} [] (ParseError (failure_at state lexeme) ∷ []) = sym no_error ∙ one in let no : ⊥ = cc in no);
+    sentence = λ no_error. absurd (none_not_one (ParseError (failure_at state lexeme)) answer.1.items no_error one);
     value = none;
     bound = tt;
   }
@@ -141,7 +152,7 @@ module _ {T U S L B C : Type 0} (d : Checked) (facts : B → LexemeFacts) (allow
 
   -- a refusal is the same for both
   pub refusal_as : (fault : ParseFault) → Parses d facts allows errors_of IsValued (Err fault) → Parses d facts allows errors_are HasBecome (Err fault)
-  refusal_as fault (inl memory) = inl (let same : fault ≡ Memory = cc in ap Err same)
+  refusal_as fault (inl memory) = inl (ap Err (same_fault fault Memory memory))
   refusal_as fault (inr (lexed, allowed, is)) = inr (
     lexed,
     allowed,
@@ -149,12 +160,12 @@ module _ {T U S L B C : Type 0} (d : Checked) (facts : B → LexemeFacts) (allow
       lexing_error = λ error some. absurd (is.lexing_error error some);
       run = λ _. tt;
       bad_token = λ i. (
-        λ e. let same : fault ≡ BadToken i = cc in (is.bad_token i).0 (ap Err same),
-        λ h. let e = (is.bad_token i).1 h in let same : fault ≡ BadToken i = cc in ap Err same,
+        λ e. (is.bad_token i).0 (ap Err (same_fault fault (BadToken i) e)),
+        λ h. ap Err (same_fault fault (BadToken i) ((is.bad_token i).1 h)),
       );
       starts_decrease = λ i. (
-        λ e. let same : fault ≡ StartsDecrease i = cc in (is.starts_decrease i).0 (ap Err same),
-        λ h. let e = (is.starts_decrease i).1 h in let same : fault ≡ StartsDecrease i = cc in ap Err same,
+        λ e. (is.starts_decrease i).0 (ap Err (same_fault fault (StartsDecrease i) e)),
+        λ h. ap Err (same_fault fault (StartsDecrease i) ((is.starts_decrease i).1 h)),
       );
     },
   )

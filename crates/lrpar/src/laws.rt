@@ -1,9 +1,10 @@
 //! Laws about the definitions that contracts cite: each function has one as its contract, and does nothing.
 ghost use Rattle.std.specs.Prelude.{◌≡◌};
 ghost use Rattle.lrpar_grammar.specs.Sentence.{LexemeFacts};
+ghost use Rattle.lrpar_text.specs.Comparisons.{HashesAs};
 ghost use Rattle.lrpar.specs.Run.{RunsOneWay};
 ghost use Rattle.lrpar.specs.Failure.{repair_eq};
-ghost use Rattle.lrpar.specs.Repairs.{repair_of};
+ghost use Rattle.lrpar.specs.Repairs.{repair_input, repair_of};
 ghost use Rattle.lrpar.specs.RunAnswer.{most_productions};
 ghost use Rattle.lrpar.specs.RunLaws.{RunsEndOneWay, RunsGoOnOrEnd, RunsStopByFailing};
 ghost use Rattle.lrpar.specs.SumRun.{SumRunsThrough};
@@ -12,6 +13,7 @@ ghost use Rattle.lrpar.specs.declared.errors.ParseRepair.{ParseRepair};
 use crate::errors::ParseRepair;
 use crate::lex_api::Lexeme;
 use lrpar_grammar::span::StorageIndex;
+use std::hash::Hash;
 
 /// From a stack at a place there is at most one way to run, over lexemes of any type and over those that contracts speak
 /// of: two runs make the same reductions and end alike, so they have the same stops and consume the same lexemes.
@@ -42,8 +44,10 @@ pub fn sum_run_is_worked_out()
     ensures bound { most_productions 2 3 0 ≡ 40 }
 {}
 
-/// Two repairs are equal exactly where they are of one kind, and their tokens or lexemes are equal.
+/// Two repairs are equal exactly where they are of one kind, and their tokens or lexemes are equal. A hasher is fed which of the
+/// three a repair is, and then what it is fed of the token's number or of the lexeme.
 pub fn repairs_are_compared_by_contents<StorageT: StorageIndex, LexemeT: Lexeme<StorageT>>()
-    ensures { (x y : ParseRepair LexemeT StorageT) → ⟦<ParseRepair<LexemeT, StorageT> as PartialEq>⟧.eq x y
+    ensures equal { (x y : ParseRepair LexemeT StorageT) → ⟦<ParseRepair<LexemeT, StorageT> as PartialEq>⟧.eq x y
         ≡ repair_eq LexemeT.PartialEq.eq (repair_of StorageT.index x) (repair_of StorageT.index y) }
+    ensures hash { HashesAs (repair_input StorageT.hash_input LexemeT.hash_input) ⟦<ParseRepair<LexemeT, StorageT> as PartialEq>⟧.eq ⟦<ParseRepair<LexemeT, StorageT> as Hash>⟧.hash_input }
 {}
