@@ -15,7 +15,7 @@ use std::alloc::AllocError;
 
 impl<StorageT: StorageIndex> ParserData<StorageT> {
     /// Makes all reductions of a stack of any kind under the token, and answers how many these were. Internal: `settle`
-    /// and `settle_over`, and the run of the crate above, are this.
+    /// and `settle_over` are this.
     ///
     /// At most the cap for each state of the stack, each with one action and one goto.
     pub fn settle_on<S: StateStack<StorageT>>(

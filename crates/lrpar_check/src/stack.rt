@@ -1,5 +1,5 @@
-//! What a stack of states has to do for reductions and shifts: internal, since the run of the crate above has a stack of
-//! its own. Reductions are made by one function over all of them.
+//! What a stack of states has to do for reductions and shifts, which one function makes over all kinds: internal, and public
+//! for a stack of the crate above, which has more than its states.
 ghost use Rattle.std.specs.Prelude.{◌≡◌, ◌<◌, ◌≤◌, ◌-◌, ℕ, List, [], ◌∷◌, ◌++◌, length, slice_get, take, Some, OnOk, OnErr, vec_capacity};
 ghost use Rattle.lrpar_grammar.specs.Grammar.{Grammar, prod_len, rule_of};
 ghost use Rattle.lrpar_check.specs.Reduction.{Reduces};
