@@ -133,3 +133,44 @@ fn feeds_over(rt: &impl Abort, alloc: Global, by: By) -> Result<(), Fail> {
     }
     Ok(())
 }
+
+// What settling under the end token over the base answers, the states after it, and how many of the base are kept.
+fn settled_over(
+    alloc: Global,
+    data: &ParserData<u8>,
+    base: &[StIdx<u8>],
+) -> Result<(u128, Vec<u8>, usize), Fail> {
+    if base.is_empty() || !data.is_stack(base) || data.stable().tokens_len() != 3 {
+        return Err(Fail::new("no stack of the table of sums"));
+    }
+    let mut over = Overlay::new(alloc, base);
+    let count = data.settle_over(&mut over, TIdx(2))?;
+    let states = over.to_vec()?;
+    Ok((count, numbers(alloc, &states)?, over.kept()))
+}
+
+#[test]
+fn reductions_over_a_base(rt: HostRuntime) -> Result<(), Fail> {
+    for by in BOTH {
+        let data: ParserData<u8> = sum_data(rt.alloc(), by)?;
+        let base = stack(rt.alloc(), &[0, 2, 4, 3])?;
+        let (count, states, kept) = settled_over(rt.alloc(), &data, &base)?;
+        assert_eq!(rt; count, 3, "{by:?}");
+        assert_eq!(rt; states.as_slice(), [0, 1].as_slice(), "{by:?}");
+        assert_eq!(rt; kept, 1, "{by:?}");
+        assert_eq!(rt; base.len(), 4, "{by:?}");
+    }
+    Ok(())
+}
+
+#[test]
+fn a_new_overlay_is_its_base(rt: HostRuntime) -> Result<(), Fail> {
+    let base = stack(rt.alloc(), &[0, 2, 4])?;
+    if !base.is_empty() {
+        let over = Overlay::new(rt.alloc(), &base);
+        assert_eq!(rt; over.len(), 3);
+        assert_eq!(rt; over.top(), StIdx(4));
+        assert_eq!(rt; over.kept(), 3);
+    }
+    Ok(())
+}
