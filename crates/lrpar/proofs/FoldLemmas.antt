@@ -78,7 +78,7 @@ mapped_value token g Tells TellsOf f (Some x) (Some xs) prods one other is other
     )
 
 -- the value that a parse answers is told by a tree
-pub value_told : {X V S L A C Z : Type 0} (d : Checked) (facts : X → LexemeFacts) (allows : List (Result X C) → Type 0) (Tells : Tree X → V → Type 0) (answer : Option V × Vec (LexParseError S L A X C) Z) (v : V)
+pub value_told : {X V S L C Z : Type 0} (d : Checked) (facts : X → LexemeFacts) (allows : List (Result X C) → Type 0) (Tells : Tree X → V → Type 0) (answer : Option V × Vec (LexParseError S L X C) Z) (v : V)
     → ParsesTo d facts allows Tells (Ok answer) → answer.0 ≡ Some v → (t : Tree X) × Tells t v
 value_told d facts allows Tells answer v (inl memory) some = absurd (let no : ⊥ = cc in no)
 value_told {X = X} {C = C} d facts allows Tells answer v (inr (lexed, allowed, is)) some = by_error (first_error lexed) refl
@@ -92,7 +92,7 @@ value_told {X = X} {C = C} d facts allows Tells answer v (inr (lexed, allowed, i
     by_error (Some error) first = by_run None [] (is.lexing_error error first).1
 
 -- so the entry that a parse comes to is a value, where only values suit the start rule
-pub has_value_entry : {X W S L A C Z : Type 0} (d : Checked) (facts : X → LexemeFacts) (allows : List (Result X C) → Type 0) (leaf : X → AStackType X W → Type 0) (node : ℕ → Option (AStackType X W) → List (AStackType X W) → AStackType X W → Type 0) (suits : GrammarSymbol → AStackType X W → Type 0) (answer : Option (AStackType X W) × Vec (LexParseError S L A X C) Z)
+pub has_value_entry : {X W S L C Z : Type 0} (d : Checked) (facts : X → LexemeFacts) (allows : List (Result X C) → Type 0) (leaf : X → AStackType X W → Type 0) (node : ℕ → Option (AStackType X W) → List (AStackType X W) → AStackType X W → Type 0) (suits : GrammarSymbol → AStackType X W → Type 0) (answer : Option (AStackType X W) × Vec (LexParseError S L X C) Z)
     → ((e : AStackType X W) → suits (Nonterminal d.grammar.start) e → HasValueEntry e)
     → ParsesTo d facts allows (IsOfTree leaf node suits d) (Ok answer) → IfSome answer.0 HasValueEntry
 has_value_entry {X = X} {W = W} d facts allows leaf node suits answer values parses = by_entry answer.0 refl
@@ -102,7 +102,7 @@ has_value_entry {X = X} {W = W} d facts allows leaf node suits answer values par
     by_entry (Some e) some = values e (value_told d facts allows (IsOfTree leaf node suits d) answer e parses some).1.suit
 
 -- a parse of a value is one of what it was made of
-pub parse_mapped : {X V W S L A C Z : Type 0} (d : Checked) (facts : X → LexemeFacts) (allows : List (Result X C) → Type 0) (Tells : Tree X → V → Type 0) (TellsOf : Tree X → W → Type 0) (f : W → V) (v : Option V) (w : Option W) (errors : Vec (LexParseError S L A X C) Z)
+pub parse_mapped : {X V W S L C Z : Type 0} (d : Checked) (facts : X → LexemeFacts) (allows : List (Result X C) → Type 0) (Tells : Tree X → V → Type 0) (TellsOf : Tree X → W → Type 0) (f : W → V) (v : Option V) (w : Option W) (errors : Vec (LexParseError S L X C) Z)
     → v ≡ option_map f w → ((t : Tree X) (x : W) → Tells t (f x) → TellsOf t x)
     → ParsesTo d facts allows Tells (Ok (v, errors)) → ParsesTo d facts allows TellsOf (Ok (w, errors))
 parse_mapped d facts allows Tells TellsOf f v w errors is tells parses =
@@ -110,7 +110,7 @@ parse_mapped d facts allows Tells TellsOf f v w errors is tells parses =
     (λ consumed prods has. mapped_value (λ x. (facts x).token) d.grammar Tells TellsOf f w consumed prods (v, errors) (w, errors) is refl tells has) parses
 
 -- the same value told by other trees, whatever the parse answers
-pub parse_told : {X V S L A C Z : Type 0} (d : Checked) (facts : X → LexemeFacts) (allows : List (Result X C) → Type 0) (Tells TellsOf : Tree X → V → Type 0) (result : Result (Option V × Vec (LexParseError S L A X C) Z) ParseFault)
+pub parse_told : {X V S L C Z : Type 0} (d : Checked) (facts : X → LexemeFacts) (allows : List (Result X C) → Type 0) (Tells TellsOf : Tree X → V → Type 0) (result : Result (Option V × Vec (LexParseError S L X C) Z) ParseFault)
     → ((t : Tree X) (v : V) → Tells t v → TellsOf t v) → ParsesTo d facts allows Tells result → ParsesTo d facts allows TellsOf result
 parse_told {V} d facts allows Tells TellsOf (Ok (v, errors)) tells parses =
     parse_mapped d facts allows Tells TellsOf (λ (x : V). x) v v errors (same v) tells parses

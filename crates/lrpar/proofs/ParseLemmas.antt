@@ -27,7 +27,7 @@ none_not_some o x none some = let differ : ◌≡◌ {A = Option _} None (Some x
 ok_not_err : {A F : Type 0} (x : A) (f : F) → ◌≡◌ {A = Result A F} (Ok x) (Err f) → ⊥
 ok_not_err x f e = cc
 
-module _ {T S L A B C : Type 0} (d : Checked) (facts : B → LexemeFacts) (errors_of : T → List (LexParseError S L A B C)) (IsValued : Option (List B) → List ℕ → T → Type 0) (lexed : List (Result B C)) where
+module _ {T S L B C : Type 0} (d : Checked) (facts : B → LexemeFacts) (errors_of : T → List (LexParseError S L B C)) (IsValued : Option (List B) → List ℕ → T → Type 0) (lexed : List (Result B C)) where
   -- a fault of a lexeme is answered
   pub fault_is_parse : (lexemes : List B) (fault : ParseFault) → first_error lexed ≡ None → lexemes ≡ lexemes_of lexed
       → IsLexemeFault d.grammar (map facts lexemes) (Some fault) → IsParse d facts errors_of IsValued lexed (Err fault)
@@ -77,12 +77,12 @@ module _ {T S L A B C : Type 0} (d : Checked) (facts : B → LexemeFacts) (error
     starts_decrease = λ i. (λ e. absurd (ok_not_err answer (StartsDecrease i) e), λ h. absurd (none_not_some (first_error lexed) error h.0 some));
   }
 
-module _ {S L A X C E Z : Type 0} (facts : X → LexemeFacts) (leaf : X → E → Type 0) (node : ℕ → Option E → List E → E → Type 0) (suits : GrammarSymbol → E → Type 0) (d : Checked) (lexemes : List X) where
+module _ {S L X C E Z : Type 0} (facts : X → LexemeFacts) (leaf : X → E → Type 0) (node : ℕ → Option E → List E → E → Type 0) (suits : GrammarSymbol → E → Type 0) (d : Checked) (lexemes : List X) where
   -- what is told of the answer at the end of a run
-  abbrev pub IsEndAnswer : Option E × Vec (LexParseError S L A X C) Z → Type 0
+  abbrev pub IsEndAnswer : Option E × Vec (LexParseError S L X C) Z → Type 0
   IsEndAnswer answer = IsRunAnswer d facts (λ answer. answer.1.items) (HasValue (λ x. (facts x).token) d.grammar (IsOfTree leaf node suits d)) lexemes answer
 
-  accept_answer : (entry : E) (answer : Option E × Vec (LexParseError S L A X C) Z) → AcceptsWith facts leaf node suits d lexemes entry
+  accept_answer : (entry : E) (answer : Option E × Vec (LexParseError S L X C) Z) → AcceptsWith facts leaf node suits d lexemes entry
       → answer.0 ≡ Some entry → answer.1.items ≡ [] → IsEndAnswer answer
   accept_answer entry answer accepts some none = record {
     course = record { stops = []; consumed = Some lexemes; prods = accepts.prods; run = accepts.run };
@@ -93,25 +93,25 @@ module _ {S L A X C E Z : Type 0} (facts : X → LexemeFacts) (leaf : X → E �
     bound = accepts.bound;
   }
 
-  stop_answer : (state : ℕ) (lexeme : X) (answer : Option E × Vec (LexParseError S L A X C) Z) → StopsAt facts leaf node suits d lexemes state lexeme
+  stop_answer : (state : ℕ) (lexeme : X) (answer : Option E × Vec (LexParseError S L X C) Z) → StopsAt facts leaf node suits d lexemes state lexeme
       → answer.0 ≡ None → answer.1.items ≡ ParseError (failure_at state lexeme) ∷ [] → IsEndAnswer answer
   stop_answer state lexeme answer stops none one = record {
     course = record { stops = stops.stop ∷ []; consumed = None; prods = stops.prods; run = stops.run };
     errors = subst (AllZip (IsErrorOf facts d.grammar lexemes) (stops.stop ∷ [])) (sym one) (record { state = stops.top; lexeme = stops.lexeme_is; repairs = refl }, tt);
     one_way = inr (refl, (failure_at state lexeme, one));
-    sentence = λ no_error. absurd (let differ : ◌≡◌ {A = List (LexParseError S L A X C)} [] (ParseError (failure_at state lexeme) ∷ []) = sym no_error ∙ one in let no : ⊥ = cc in no);
+    sentence = λ no_error. absurd (let differ : ◌≡◌ {A = List (LexParseError S L X C)} [] (ParseError (failure_at state lexeme) ∷ []) = sym no_error ∙ one in let no : ⊥ = cc in no);
     value = none;
     bound = tt;
   }
 
   -- the answer at the end of a run is that of the run
-  pub end_answer : (index : S → ℕ) (end : End S X E) (answer : Option E × Vec (LexParseError S L A X C) Z) → EndsSo facts leaf node suits d lexemes index end
+  pub end_answer : (index : S → ℕ) (end : End S X E) (answer : Option E × Vec (LexParseError S L X C) Z) → EndsSo facts leaf node suits d lexemes index end
       → IsAnswerOf index end answer → IsEndAnswer answer
   end_answer index (Accepts entry) answer ends is = accept_answer entry answer ends is.0 is.1
   end_answer index (Stops state lexeme) answer ends is = stop_answer (index state.0) lexeme answer ends is.0 is.1
 
 -- An answer as another one of the same errors, where what is known of the value of one tells that of the other.
-module _ {T U S L A B C : Type 0} (d : Checked) (facts : B → LexemeFacts) (allows : List (Result B C) → Type 0) (errors_of : T → List (LexParseError S L A B C)) (errors_are : U → List (LexParseError S L A B C)) (IsValued : Option (List B) → List ℕ → T → Type 0) (HasBecome : Option (List B) → List ℕ → U → Type 0) where
+module _ {T U S L B C : Type 0} (d : Checked) (facts : B → LexemeFacts) (allows : List (Result B C) → Type 0) (errors_of : T → List (LexParseError S L B C)) (errors_are : U → List (LexParseError S L B C)) (IsValued : Option (List B) → List ℕ → T → Type 0) (HasBecome : Option (List B) → List ℕ → U → Type 0) where
   -- of a run
   run_as : (lexemes : List B) (t : T) (u : U) → errors_are u ≡ errors_of t → ((consumed : Option (List B)) (prods : List ℕ) → IsValued consumed prods t → HasBecome consumed prods u)
       → IsRunAnswer d facts errors_of IsValued lexemes t → IsRunAnswer d facts errors_are HasBecome lexemes u

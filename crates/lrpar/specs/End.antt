@@ -46,6 +46,6 @@ module _ {X E : Type 0} (facts : X → LexemeFacts) (leaf : X → E → Type 0) 
   EndsSo index (Stops state lexeme) = StopsAt (index state.0) lexeme
 
 -- the answer at the end of a run: the entry and no error, or no value and the error of the stop
-abbrev pub IsAnswerOf : {S L A X C E Z : Type 0} → (S → ℕ) → End S X E → Option E × Vec (LexParseError S L A X C) Z → Type 0
+abbrev pub IsAnswerOf : {S L X C E Z : Type 0} → (S → ℕ) → End S X E → Option E × Vec (LexParseError S L X C) Z → Type 0
 IsAnswerOf index (Accepts entry) answer = (answer.0 ≡ Some entry) × (answer.1.items ≡ [])
 IsAnswerOf index (Stops state lexeme) answer = (answer.0 ≡ None) × (answer.1.items ≡ ParseError (failure_at (index state.0) lexeme) ∷ [])

@@ -32,12 +32,12 @@ pub record IsFailureOf {X : Type 0} (facts : X → LexemeFacts) (g : Grammar) (l
   pub repairs : failure.repairs ≡ []
 
 -- a parse error is that of the stop
-abbrev pub IsErrorOf : {S L A B C : Type 0} → (B → LexemeFacts) → Grammar → List B → Stop → LexParseError S L A B C → Type 0
+abbrev pub IsErrorOf : {S L B C : Type 0} → (B → LexemeFacts) → Grammar → List B → Stop → LexParseError S L B C → Type 0
 IsErrorOf facts g lexemes stop (LexError error) = ⊥
 IsErrorOf facts g lexemes stop (ParseError failure) = IsFailureOf facts g lexemes stop failure
 
 -- no error, and the run comes through; or one parse error, and it doesn't
-abbrev pub IsOneWay : {S L A B C Y : Type 0} → Option Y → List (LexParseError S L A B C) → Type 0
+abbrev pub IsOneWay : {S L B C Y : Type 0} → Option Y → List (LexParseError S L B C) → Type 0
 IsOneWay {B = B} consumed errors =
     (IsSome consumed × (errors ≡ [])) ⊎ ((consumed ≡ None) × ((failure : Failure B) × (errors ≡ ParseError failure ∷ [])))
 
@@ -65,7 +65,7 @@ most_productions cap leaves errors = cap * (cap + 3) * (leaves + errors + 1)
 
 -- What is answered is that of a run. `errors_of` gives the errors of an answer, and `IsValued` says how its value has to be
 -- for what the run consumed and for its reductions.
-pub record IsRunAnswer {T S L A B C : Type 0} (d : Checked) (facts : B → LexemeFacts) (errors_of : T → List (LexParseError S L A B C)) (IsValued : Option (List B) → List ℕ → T → Type 0) (lexemes : List B) (answer : T) : Type 0 where
+pub record IsRunAnswer {T S L B C : Type 0} (d : Checked) (facts : B → LexemeFacts) (errors_of : T → List (LexParseError S L B C)) (IsValued : Option (List B) → List ℕ → T → Type 0) (lexemes : List B) (answer : T) : Type 0 where
   pub course : Course (λ x. (facts x).token) d lexemes
   -- errors: one for each stop, in order; without repairs there is at most one, and it ends the run
   pub errors : AllZip (IsErrorOf facts d.grammar lexemes) course.stops (errors_of answer)

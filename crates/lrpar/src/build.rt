@@ -5,11 +5,11 @@ ghost use Rattle.lrpar_grammar.specs.Grammar.{Grammar, GrammarSymbol, Nontermina
 
 use crate::lex_api::Lexeme;
 use lrpar_grammar::grammar::YaccGrammar;
-use lrpar_grammar::span::{PIdx, StorageNum};
+use lrpar_grammar::span::{PIdx, StorageIndex};
 use std::alloc::{AllocError, Global};
 
 /// What a parse builds. The run speaks of this trait alone.
-pub(crate) trait Build<StorageT: StorageNum, LexemeT: Lexeme<StorageT>> {
+pub(crate) trait Build<StorageT: StorageIndex, LexemeT: Lexeme<StorageT>> {
     /// What stands on the stack for a symbol.
     type Entry: Drop;
 

@@ -4,7 +4,7 @@ ghost use Rattle.lrpar.specs.Failure.{failure_text};
 ghost use Rattle.lrpar.specs.Repairs.{repairs_of};
 
 use crate::lex_api::{LexError, Lexeme, LexerTypes};
-use lrpar_grammar::span::{StIdx, StorageNum, TIdx};
+use lrpar_grammar::span::{StIdx, StorageIndex, TIdx};
 use std::alloc::AllocError;
 use std::error::Error;
 use std::fmt;
@@ -21,7 +21,7 @@ pub enum ParseRepair<LexemeT, StorageT> {
     Shift(LexemeT),
 }
 
-impl<LexemeT: Lexeme<StorageT>, StorageT: StorageNum> Clone for ParseRepair<LexemeT, StorageT> {
+impl<LexemeT: Lexeme<StorageT>, StorageT: StorageIndex> Clone for ParseRepair<LexemeT, StorageT> {
     ghost is_clone = { λ x y. y ≡ x };
 
     ghost is_infallible = { λ _. ⊤ };
@@ -37,13 +37,13 @@ impl<LexemeT: Lexeme<StorageT>, StorageT: StorageNum> Clone for ParseRepair<Lexe
 
 /// A place at which a parse found no action, and how the input could be repaired there.
 #[derive(Debug, Drop)]
-pub struct ParseError<LexemeT: Lexeme<StorageT>, StorageT: StorageNum> {
+pub struct ParseError<LexemeT: Lexeme<StorageT>, StorageT: StorageIndex> {
     stidx: StIdx<StorageT>,
     lexeme: LexemeT,
     repairs: Vec<Vec<ParseRepair<LexemeT, StorageT>>>,
 }
 
-impl<LexemeT: Lexeme<StorageT>, StorageT: StorageNum> Model for ParseError<LexemeT, StorageT> {
+impl<LexemeT: Lexeme<StorageT>, StorageT: StorageIndex> Model for ParseError<LexemeT, StorageT> {
     ghost use Rattle.lrpar.specs.Failure.{Failure};
     ghost use Rattle.lrpar.specs.Repairs.{repairs_of};
 
@@ -52,7 +52,7 @@ impl<LexemeT: Lexeme<StorageT>, StorageT: StorageNum> Model for ParseError<Lexem
     ghost view = { λ e. record { state = StorageT.index e.stidx.0; lexeme = e.lexeme; repairs = repairs_of StorageT.index e.repairs.items } };
 }
 
-impl<LexemeT: Lexeme<StorageT>, StorageT: StorageNum> ParseError<LexemeT, StorageT> {
+impl<LexemeT: Lexeme<StorageT>, StorageT: StorageIndex> ParseError<LexemeT, StorageT> {
     /// The error in state `stidx` at `lexeme`, for which `repairs` were found.
     pub(crate) fn new(
         stidx: StIdx<StorageT>,
@@ -92,7 +92,7 @@ impl<LexemeT: Lexeme<StorageT>, StorageT: StorageNum> ParseError<LexemeT, Storag
     }
 }
 
-impl<LexemeT: Lexeme<StorageT>, StorageT: StorageNum> Clone for ParseError<LexemeT, StorageT> {
+impl<LexemeT: Lexeme<StorageT>, StorageT: StorageIndex> Clone for ParseError<LexemeT, StorageT> {
     ghost is_clone = { λ x y. y ≡ x };
 
     fn clone(&self) -> Result<Self, AllocError> {
@@ -104,7 +104,7 @@ impl<LexemeT: Lexeme<StorageT>, StorageT: StorageNum> Clone for ParseError<Lexem
     }
 }
 
-impl<LexemeT: Lexeme<StorageT>, StorageT: StorageNum> PartialEq for ParseError<LexemeT, StorageT> {
+impl<LexemeT: Lexeme<StorageT>, StorageT: StorageIndex> PartialEq for ParseError<LexemeT, StorageT> {
     ghost use Rattle.lrpar.specs.Failure.{failure_eq};
     ghost use Rattle.lrpar.specs.FailureLaws.{failure_per};
 
@@ -117,7 +117,7 @@ impl<LexemeT: Lexeme<StorageT>, StorageT: StorageNum> PartialEq for ParseError<L
     }
 }
 
-impl<LexemeT: Lexeme<StorageT>, StorageT: StorageNum> fmt::Display
+impl<LexemeT: Lexeme<StorageT>, StorageT: StorageIndex> fmt::Display
     for ParseError<LexemeT, StorageT> {
     ghost output = { failure_text LexemeT.debug_output };
 
@@ -127,18 +127,18 @@ impl<LexemeT: Lexeme<StorageT>, StorageT: StorageNum> fmt::Display
     }
 }
 
-impl<LexemeT: Lexeme<StorageT>, StorageT: StorageNum> Error for ParseError<LexemeT, StorageT> {}
+impl<LexemeT: Lexeme<StorageT>, StorageT: StorageIndex> Error for ParseError<LexemeT, StorageT> {}
 
 /// A lexing error or a parse error.
 #[derive(Debug, Drop)]
-pub enum LexParseError<StorageT: StorageNum, LexerTypesT: LexerTypes<StorageT = StorageT>> {
+pub enum LexParseError<StorageT: StorageIndex, LexerTypesT: LexerTypes<StorageT = StorageT>> {
     /// No token fits a part of the input.
     LexError(LexerTypesT::LexErrorT),
     /// No action fits a lexeme.
     ParseError(ParseError<LexerTypesT::LexemeT, StorageT>),
 }
 
-impl<StorageT: StorageNum, LexerTypesT: LexerTypes<StorageT = StorageT>> fmt::Display
+impl<StorageT: StorageIndex, LexerTypesT: LexerTypes<StorageT = StorageT>> fmt::Display
     for LexParseError<StorageT, LexerTypesT> {
     ghost use Rattle.lrpar.specs.LexParse.{lex_parse_of};
 
@@ -152,10 +152,10 @@ impl<StorageT: StorageNum, LexerTypesT: LexerTypes<StorageT = StorageT>> fmt::Di
     }
 }
 
-impl<StorageT: StorageNum, LexerTypesT: LexerTypes<StorageT = StorageT>> Error
+impl<StorageT: StorageIndex, LexerTypesT: LexerTypes<StorageT = StorageT>> Error
     for LexParseError<StorageT, LexerTypesT> {}
 
-impl<StorageT: StorageNum, LexerTypesT: LexerTypes<StorageT = StorageT>> From<
+impl<StorageT: StorageIndex, LexerTypesT: LexerTypes<StorageT = StorageT>> From<
     ParseError<LexerTypesT::LexemeT, StorageT>,
 > for LexParseError<StorageT, LexerTypesT> {
     ghost use Rattle.lrpar.specs.declared.errors.LexParseError.TheVariants.{ParseError};
@@ -168,7 +168,7 @@ impl<StorageT: StorageNum, LexerTypesT: LexerTypes<StorageT = StorageT>> From<
 }
 
 impl<
-    StorageT: StorageNum,
+    StorageT: StorageIndex,
     ErrorT: LexError,
     LexerTypesT: LexerTypes<StorageT = StorageT, LexErrorT = ErrorT>,
 > From<ErrorT> for LexParseError<StorageT, LexerTypesT> {

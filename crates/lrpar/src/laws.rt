@@ -11,7 +11,7 @@ ghost use Rattle.lrpar.specs.declared.errors.ParseRepair.{ParseRepair};
 
 use crate::errors::ParseRepair;
 use crate::lex_api::Lexeme;
-use lrpar_grammar::span::StorageNum;
+use lrpar_grammar::span::StorageIndex;
 
 /// From a stack at a place there is at most one way to run, over lexemes of any type and over those that contracts speak
 /// of: two runs make the same reductions and end alike, so they have the same stops and consume the same lexemes.
@@ -43,7 +43,7 @@ pub fn sum_run_is_worked_out()
 {}
 
 /// Two repairs are equal exactly where they are of one kind, and their tokens or lexemes are equal.
-pub fn repairs_are_compared_by_contents<StorageT: StorageNum, LexemeT: Lexeme<StorageT>>()
+pub fn repairs_are_compared_by_contents<StorageT: StorageIndex, LexemeT: Lexeme<StorageT>>()
     ensures { (x y : ParseRepair LexemeT StorageT) → ⟦<ParseRepair<LexemeT, StorageT> as PartialEq>⟧.eq x y
         ≡ repair_eq LexemeT.PartialEq.eq (repair_of StorageT.index x) (repair_of StorageT.index y) }
 {}

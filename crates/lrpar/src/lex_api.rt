@@ -16,7 +16,7 @@ pub trait LexerTypes: Debug + Clone {
     /// The lexemes.
     type LexemeT: Lexeme<Self::StorageT>;
 
-    /// What tokens, rules, productions and states are numbered by. Parsers ask that it be a `StorageNum`.
+    /// What tokens, rules, productions and states are numbered by. Parsers ask that it be a `StorageIndex`.
     type StorageT;
 
     /// What the lexer answers where no token fits.

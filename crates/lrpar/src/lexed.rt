@@ -7,7 +7,7 @@ ghost use Rattle.lrpar.specs.Lexemes.{facts_of};
 use crate::fault::ParseFault;
 use crate::lex_api::Lexeme;
 use lrpar_grammar::grammar::YaccGrammar;
-use lrpar_grammar::span::StorageNum;
+use lrpar_grammar::span::StorageIndex;
 use std::alloc::{AllocError, Global};
 
 // The lexemes, or the first lexing error, wherever it stands.
@@ -31,7 +31,7 @@ pub(crate) fn lexemes_or_error<LexemeT: Drop, LexErrorT: Drop>(
 
 // The first lexeme that has a fault, with its fault: a token that is the end token or isn't the grammar's, or else a
 // start before that of the lexeme in front of it.
-pub(crate) fn lexeme_fault<LexemeT: Lexeme<StorageT>, StorageT: StorageNum>(
+pub(crate) fn lexeme_fault<LexemeT: Lexeme<StorageT>, StorageT: StorageIndex>(
     grm: &YaccGrammar<StorageT>,
     lexemes: &[LexemeT],
 ) -> Option<ParseFault>

@@ -7,7 +7,7 @@ use crate::build::Build;
 use crate::lex_api::{Lexeme, LexerTypes, NonStreamingLexer};
 use crate::values::AStackType;
 use lrpar_grammar::grammar::YaccGrammar;
-use lrpar_grammar::span::{PIdx, RIdx, Span, StorageNum};
+use lrpar_grammar::span::{PIdx, RIdx, Span, StorageIndex};
 use std::alloc::{AllocError, Global};
 
 /// A tree of lexemes and rules.
@@ -31,7 +31,7 @@ pub enum Node<LexemeT, StorageT> {
 #[derive(Drop)]
 pub(crate) struct Trees;
 
-impl<StorageT: StorageNum, LexemeT: Lexeme<StorageT>> Build<StorageT, LexemeT> for Trees {
+impl<StorageT: StorageIndex, LexemeT: Lexeme<StorageT>> Build<StorageT, LexemeT> for Trees {
     type Entry = Node<LexemeT, StorageT>;
 
     ghost can_build = { λ b g. Unit {0} };
@@ -70,7 +70,7 @@ impl<StorageT: StorageNum, LexemeT: Lexeme<StorageT>> Build<StorageT, LexemeT> f
 /// looked at. It fails only where memory is wanting.
 pub fn action_generictree<
     'input,
-    StorageT: StorageNum,
+    StorageT: StorageIndex,
     LexerTypesT: LexerTypes<StorageT = StorageT>,
     L: NonStreamingLexer<'input, LexerTypesT>,
 >(

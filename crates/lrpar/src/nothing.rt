@@ -4,14 +4,14 @@ ghost use Rattle.std.specs.Prelude.{◌≡◌, ◌≤◌, ◌-◌, OnOk, length,
 use crate::build::Build;
 use crate::lex_api::Lexeme;
 use lrpar_grammar::grammar::YaccGrammar;
-use lrpar_grammar::span::{PIdx, StorageNum};
+use lrpar_grammar::span::{PIdx, StorageIndex};
 use std::alloc::{AllocError, Global};
 
 /// Builds nothing, and makes no list.
 #[derive(Drop)]
 pub(crate) struct Nothing;
 
-impl<StorageT: StorageNum, LexemeT: Lexeme<StorageT>> Build<StorageT, LexemeT> for Nothing {
+impl<StorageT: StorageIndex, LexemeT: Lexeme<StorageT>> Build<StorageT, LexemeT> for Nothing {
     type Entry = ();
 
     ghost can_build = { λ b g. Unit {0} };

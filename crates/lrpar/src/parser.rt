@@ -22,7 +22,7 @@ use crate::run::{End, Run};
 pub use crate::values::AStackType;
 use crate::values::Functions;
 use lrpar_grammar::grammar::YaccGrammar;
-use lrpar_grammar::span::{RIdx, StorageNum};
+use lrpar_grammar::span::{RIdx, StorageIndex};
 use lrpar_table::check::ParserData;
 use std::alloc::{AllocError, Global};
 use std::marker::{Model, PhantomData};
@@ -32,12 +32,12 @@ type Answer<StorageT, LexerTypesT, V> = (Option<V>, Vec<LexParseError<StorageT, 
 
 /// A parser by a checked table.
 #[derive(Drop)]
-pub struct RTParserBuilder<'a, StorageT: StorageNum, LexerTypesT: LexerTypes<StorageT = StorageT>> {
+pub struct RTParserBuilder<'a, StorageT: StorageIndex, LexerTypesT: LexerTypes<StorageT = StorageT>> {
     checked: &'a ParserData<StorageT>,
     lexer_types: PhantomData<LexerTypesT>,
 }
 
-impl<'a, StorageT: StorageNum, LexerTypesT: LexerTypes<StorageT = StorageT>> Model
+impl<'a, StorageT: StorageIndex, LexerTypesT: LexerTypes<StorageT = StorageT>> Model
     for RTParserBuilder<'a, StorageT, LexerTypesT> {
     ghost use Rattle.lrpar_check.specs.Checked.{Checked};
 
@@ -46,7 +46,7 @@ impl<'a, StorageT: StorageNum, LexerTypesT: LexerTypes<StorageT = StorageT>> Mod
     ghost view = { λ p. p.checked.now };
 }
 
-impl<'a, StorageT: StorageNum, LexerTypesT: LexerTypes<StorageT = StorageT>> RTParserBuilder<
+impl<'a, StorageT: StorageIndex, LexerTypesT: LexerTypes<StorageT = StorageT>> RTParserBuilder<
     'a,
     StorageT,
     LexerTypesT,
@@ -184,7 +184,7 @@ fn value_of<LexemeT: Drop, V: Drop>(entry: Option<AStackType<LexemeT, V>>) -> Op
 }
 
 // The answer at the end of a run: a value, or an error for which no repair is listed.
-fn answered<StorageT: StorageNum, LexerTypesT: LexerTypes<StorageT = StorageT>, E: Drop>(
+fn answered<StorageT: StorageIndex, LexerTypesT: LexerTypes<StorageT = StorageT>, E: Drop>(
     alloc: Global,
     end: End<StorageT, LexerTypesT::LexemeT, E>,
 ) -> Result<Answer<StorageT, LexerTypesT, E>, AllocError>
@@ -200,7 +200,7 @@ fn answered<StorageT: StorageNum, LexerTypesT: LexerTypes<StorageT = StorageT>, 
 }
 
 // This error alone.
-fn one_error<StorageT: StorageNum, LexerTypesT: LexerTypes<StorageT = StorageT>>(
+fn one_error<StorageT: StorageIndex, LexerTypesT: LexerTypes<StorageT = StorageT>>(
     alloc: Global,
     error: LexParseError<StorageT, LexerTypesT>,
 ) -> Result<Vec<LexParseError<StorageT, LexerTypesT>>, AllocError>

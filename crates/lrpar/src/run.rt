@@ -14,7 +14,7 @@ ghost use Rattle.lrpar.specs.Stacked.{SettlesTo, Shifts, Sticks};
 use crate::build::Build;
 use crate::lex_api::Lexeme;
 use crate::stack::Stack;
-use lrpar_grammar::span::{PIdx, StIdx, StorageNum, TIdx};
+use lrpar_grammar::span::{PIdx, StIdx, StorageIndex, TIdx};
 use lrpar_table::check::ParserData;
 use lrpar_table::table::Action;
 use std::alloc::{AllocError, Global};
@@ -31,13 +31,13 @@ pub(crate) enum End<StorageT, LexemeT, E> {
 
 /// The checked table of a run, and what is built.
 #[derive(Drop)]
-pub(crate) struct Run<'a, StorageT: StorageNum, LexemeT, B> {
+pub(crate) struct Run<'a, StorageT: StorageIndex, LexemeT, B> {
     checked: &'a ParserData<StorageT>,
     build: &'a B,
     lexemes: PhantomData<LexemeT>,
 }
 
-impl<'a, StorageT: StorageNum, LexemeT: Lexeme<StorageT>, B: Build<StorageT, LexemeT>> Run<
+impl<'a, StorageT: StorageIndex, LexemeT: Lexeme<StorageT>, B: Build<StorageT, LexemeT>> Run<
     'a,
     StorageT,
     LexemeT,
@@ -161,7 +161,7 @@ impl<'a, StorageT: StorageNum, LexemeT: Lexeme<StorageT>, B: Build<StorageT, Lex
 }
 
 // The lexeme past the last one.
-fn end_lexeme<StorageT: StorageNum, LexemeT: Lexeme<StorageT>>(
+fn end_lexeme<StorageT: StorageIndex, LexemeT: Lexeme<StorageT>>(
     end: TIdx<StorageT>,
     lexemes: &[LexemeT],
 ) -> LexemeT

@@ -7,18 +7,18 @@ ghost use Rattle.lrpar_grammar.specs.Grammar.{Nonterminal, prod_len, rule_of, st
 use crate::build::Build;
 use crate::lex_api::Lexeme;
 use lrpar_grammar::grammar::YaccGrammar;
-use lrpar_grammar::span::{PIdx, StIdx, StorageNum};
+use lrpar_grammar::span::{PIdx, StIdx, StorageIndex};
 use std::alloc::{AllocError, Global};
 use std::marker::Model;
 
 /// The stacks. Above the lowest state each state has the entry of the symbol that led to it.
 #[derive(Drop)]
-pub(crate) struct Stack<StorageT: StorageNum, E: Drop> {
+pub(crate) struct Stack<StorageT: StorageIndex, E: Drop> {
     states: Vec<StIdx<StorageT>>,
     entries: Vec<E>,
 }
 
-impl<StorageT: StorageNum, E: Drop> Model for Stack<StorageT, E> {
+impl<StorageT: StorageIndex, E: Drop> Model for Stack<StorageT, E> {
     ghost use Rattle.std.specs.Prelude.{map};
     ghost use Rattle.lrpar.specs.Standing.{Stacked};
 
@@ -27,7 +27,7 @@ impl<StorageT: StorageNum, E: Drop> Model for Stack<StorageT, E> {
     ghost view = { λ s. record { states = map (λ x. StorageT.index x.0) s.states.items; entries = s.entries.items } };
 }
 
-impl<StorageT: StorageNum, E: Drop> Stack<StorageT, E> {
+impl<StorageT: StorageIndex, E: Drop> Stack<StorageT, E> {
     /// The stack of one state.
     pub(crate) fn new(alloc: Global, start: StIdx<StorageT>) -> Result<Self, AllocError>
         ensures { IfOk result (λ stack. stack ≡ record { states = StorageT.index start.0 ∷ []; entries = [] }) }

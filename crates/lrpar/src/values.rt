@@ -8,7 +8,7 @@ ghost use Rattle.lrpar.specs.Made.{made_by};
 use crate::build::Build;
 use crate::lex_api::Lexeme;
 use lrpar_grammar::grammar::YaccGrammar;
-use lrpar_grammar::span::{PIdx, RIdx, StorageNum};
+use lrpar_grammar::span::{PIdx, RIdx, StorageIndex};
 use std::alloc::{AllocError, Global};
 use std::marker::PhantomData;
 
@@ -31,7 +31,7 @@ pub(crate) struct Functions<'a, V, F, G> {
 
 impl<
     'a,
-    StorageT: StorageNum,
+    StorageT: StorageIndex,
     LexemeT: Lexeme<StorageT>,
     V: Drop,
     F: Fn(LexemeT) -> V,

@@ -8,19 +8,19 @@ ghost use Rattle.lrpar_states.specs.Table.{IsClosed, IsGotoWithin, states_len};
 
 use crate::step::{Step, take_step};
 use lrpar_grammar::grammar::YaccGrammar;
-use lrpar_grammar::span::{RIdx, StIdx, StorageNum, TIdx};
+use lrpar_grammar::span::{RIdx, StIdx, StorageIndex, TIdx};
 use lrpar_states::table::StateTable;
 use std::alloc::{AllocError, Global};
 
 /// The chains of a table, each of which is to make at most `cap` reductions.
 #[derive(Drop)]
-pub(crate) struct Chains<'a, StorageT: StorageNum> {
+pub(crate) struct Chains<'a, StorageT: StorageIndex> {
     grm: &'a YaccGrammar<StorageT>,
     stable: &'a StateTable<StorageT>,
     cap: u16,
 }
 
-impl<'a, StorageT: StorageNum> Chains<'a, StorageT> {
+impl<'a, StorageT: StorageIndex> Chains<'a, StorageT> {
     pub(crate) fn new(
         grm: &'a YaccGrammar<StorageT>,
         stable: &'a StateTable<StorageT>,

@@ -13,7 +13,7 @@ pub use crate::fault::CheckFault;
 pub use crate::overlay::Overlay;
 use crate::safety::Parts;
 use lrpar_grammar::grammar::YaccGrammar;
-use lrpar_grammar::span::StorageNum;
+use lrpar_grammar::span::StorageIndex;
 pub use lrpar_states::condition::SafetyCondition;
 use lrpar_states::table::{StateGraph, StateTable};
 use std::alloc::Global;
@@ -21,14 +21,14 @@ use std::marker::Model;
 
 /// A grammar, its item sets and its table, which are safe to parse by, and whose chains of reductions are short.
 #[derive(Debug, Drop)]
-pub struct ParserData<StorageT: StorageNum> {
+pub struct ParserData<StorageT: StorageIndex> {
     grm: YaccGrammar<StorageT>,
     sgraph: StateGraph<StorageT>,
     stable: StateTable<StorageT>,
     cap: u16,
 }
 
-impl<StorageT: StorageNum> Model for ParserData<StorageT> {
+impl<StorageT: StorageIndex> Model for ParserData<StorageT> {
     ghost use Rattle.lrpar_check.specs.Checked.{Checked, IsChecked};
 
     ghost Value = { Checked };
@@ -38,7 +38,7 @@ impl<StorageT: StorageNum> Model for ParserData<StorageT> {
     ghost invariant = { λ d. IsChecked (record { grammar = d.grm; graph = d.sgraph; table = d.stable; cap = d.cap }) };
 }
 
-impl<StorageT: StorageNum> ParserData<StorageT> {
+impl<StorageT: StorageIndex> ParserData<StorageT> {
     /// Checks that the table is safe: that it has its shape, and that each condition holds in each state; and that no chain
     /// of reductions under one token is longer than the cap.
     ///
@@ -114,7 +114,7 @@ impl<StorageT: StorageNum> ParserData<StorageT> {
 }
 
 // Whether the table is safe, with short chains; otherwise the first fault.
-fn are_checked<StorageT: StorageNum>(
+fn are_checked<StorageT: StorageIndex>(
     alloc: Global,
     grm: &YaccGrammar<StorageT>,
     sgraph: &StateGraph<StorageT>,
@@ -135,7 +135,7 @@ fn are_checked<StorageT: StorageNum>(
 }
 
 // Whatever they were made of, a grammar is well formed, and a table's states are its own.
-fn are_sound<StorageT: StorageNum>(grm: &YaccGrammar<StorageT>, stable: &StateTable<StorageT>)
+fn are_sound<StorageT: StorageIndex>(grm: &YaccGrammar<StorageT>, stable: &StateTable<StorageT>)
     ensures well_formed { IsWellFormed grm.now }
     ensures closed { IsClosed stable.now }
 {
@@ -145,14 +145,14 @@ fn are_sound<StorageT: StorageNum>(grm: &YaccGrammar<StorageT>, stable: &StateTa
 
 /// A refused table, with its grammar and its item sets as they were.
 #[derive(Debug, Drop)]
-pub struct Refused<StorageT: StorageNum> {
+pub struct Refused<StorageT: StorageIndex> {
     fault: CheckFault,
     grm: YaccGrammar<StorageT>,
     sgraph: StateGraph<StorageT>,
     stable: StateTable<StorageT>,
 }
 
-impl<StorageT: StorageNum> Model for Refused<StorageT> {
+impl<StorageT: StorageIndex> Model for Refused<StorageT> {
     ghost use Rattle.lrpar_check.specs.Checked.{Unchecked};
 
     ghost Value = { Unchecked };
@@ -160,7 +160,7 @@ impl<StorageT: StorageNum> Model for Refused<StorageT> {
     ghost view = { λ r. record { fault = r.fault; grammar = r.grm; graph = r.sgraph; table = r.stable } };
 }
 
-impl<StorageT: StorageNum> Refused<StorageT> {
+impl<StorageT: StorageIndex> Refused<StorageT> {
     /// Why the table is refused.
     pub fn fault(&self) -> CheckFault
         ensures { result ≡ self.now.fault }

@@ -3,19 +3,19 @@ ghost use Rattle.std.specs.Prelude.{◌≡◌, ◌<◌, ◌≤◌, ◌-◌, [], 
 ghost use Rattle.lrpar_check.specs.Stack.{states_of, top_of};
 
 use crate::stack::{Reduction, ShiftStack, StateStack, put_at};
-use lrpar_grammar::span::{StIdx, StorageNum};
+use lrpar_grammar::span::{StIdx, StorageIndex};
 use std::alloc::{AllocError, Global};
 use std::marker::Model;
 
 /// A list of states that begins with the lower ones of a borrowed list, its base, and goes on with some of its own.
 #[derive(Debug, Drop)]
-pub struct Overlay<'a, StorageT: StorageNum> {
+pub struct Overlay<'a, StorageT: StorageIndex> {
     base: &'a [StIdx<StorageT>],
     kept: usize,
     tail: Vec<StIdx<StorageT>>,
 }
 
-impl<'a, StorageT: StorageNum> Model for Overlay<'a, StorageT> {
+impl<'a, StorageT: StorageIndex> Model for Overlay<'a, StorageT> {
     ghost use Rattle.std.specs.Prelude.{◌<◌, ◌≤◌, ◌+◌, ◌^◌, length, vec_capacity};
     ghost use Rattle.lrpar_check.specs.Stack.{states_of};
     ghost use Rattle.lrpar_check.specs.Overlay.{Overlaid};
@@ -27,7 +27,7 @@ impl<'a, StorageT: StorageNum> Model for Overlay<'a, StorageT> {
     ghost invariant = { λ o. (0 < o.kept) × (o.kept ≤ length o.base.now) × (o.kept + length o.tail.items < 2 ^ 64) };
 }
 
-impl<'a, StorageT: StorageNum> Overlay<'a, StorageT> {
+impl<'a, StorageT: StorageIndex> Overlay<'a, StorageT> {
     ghost use Rattle.lrpar_check.specs.Overlay.{overlaid};
 
     /// Stands for the base. Takes no memory; the allocator is for the states of its own.
@@ -89,7 +89,7 @@ impl<'a, StorageT: StorageNum> Overlay<'a, StorageT> {
     }
 }
 
-impl<'a, StorageT: StorageNum> StateStack<StorageT> for Overlay<'a, StorageT> {
+impl<'a, StorageT: StorageIndex> StateStack<StorageT> for Overlay<'a, StorageT> {
     ghost use Rattle.std.specs.Prelude.{◌≡◌, ◌<◌, ◌-◌, [], ◌∷◌, ◌++◌, length, take, OnOk, OnErr};
     ghost use Rattle.lrpar_check.specs.Overlay.{OverlayFails, OverlayReduces, overlaid};
 
@@ -136,7 +136,7 @@ impl<'a, StorageT: StorageNum> StateStack<StorageT> for Overlay<'a, StorageT> {
     }
 }
 
-impl<'a, StorageT: StorageNum> ShiftStack<StorageT> for Overlay<'a, StorageT> {
+impl<'a, StorageT: StorageIndex> ShiftStack<StorageT> for Overlay<'a, StorageT> {
     ghost use Rattle.std.specs.Prelude.{◌≡◌, [], ◌∷◌, ◌++◌, OnOk, OnErr};
     ghost use Rattle.lrpar_check.specs.Overlay.{OverlayShifts, OverlayStays, overlaid};
 

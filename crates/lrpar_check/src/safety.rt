@@ -11,7 +11,7 @@ ghost use Rattle.lrpar_check.specs.Entrywise.{AcceptHolds, ActionHolds, GotoHold
 
 use crate::fault::CheckFault;
 use lrpar_grammar::grammar::YaccGrammar;
-use lrpar_grammar::span::{PIdx, RIdx, StIdx, StorageNum, Symbol, TIdx};
+use lrpar_grammar::span::{PIdx, RIdx, StIdx, StorageIndex, Symbol, TIdx};
 use lrpar_states::condition::SafetyCondition;
 use lrpar_states::table::{Action, StateGraph, StateTable};
 
@@ -28,13 +28,13 @@ const CONDITIONS: [SafetyCondition; 7] = [
 
 /// What is checked.
 #[derive(Drop)]
-pub(crate) struct Parts<'a, StorageT: StorageNum> {
+pub(crate) struct Parts<'a, StorageT: StorageIndex> {
     grm: &'a YaccGrammar<StorageT>,
     sgraph: &'a StateGraph<StorageT>,
     stable: &'a StateTable<StorageT>,
 }
 
-impl<'a, StorageT: StorageNum> Parts<'a, StorageT> {
+impl<'a, StorageT: StorageIndex> Parts<'a, StorageT> {
     pub(crate) fn new(
         grm: &'a YaccGrammar<StorageT>,
         sgraph: &'a StateGraph<StorageT>,
@@ -521,7 +521,7 @@ impl<'a, StorageT: StorageNum> Parts<'a, StorageT> {
 }
 
 // Whether two symbols are one.
-fn is_symbol<StorageT: StorageNum>(a: Symbol<StorageT>, b: Symbol<StorageT>) -> bool
+fn is_symbol<StorageT: StorageIndex>(a: Symbol<StorageT>, b: Symbol<StorageT>) -> bool
     ensures { IsTrue result ↔ (symbol_of StorageT.index a ≡ symbol_of StorageT.index b) }
 {
     match (a, b) {

@@ -9,11 +9,11 @@ use crate::check::ParserData;
 use crate::overlay::Overlay;
 use crate::stack::{ShiftStack, StateStack};
 use crate::step::{Step, take_step};
-use lrpar_grammar::span::{StIdx, StorageNum, TIdx};
+use lrpar_grammar::span::{StIdx, StorageIndex, TIdx};
 use lrpar_states::table::Action;
 use std::alloc::AllocError;
 
-impl<StorageT: StorageNum> ParserData<StorageT> {
+impl<StorageT: StorageIndex> ParserData<StorageT> {
     /// Makes all reductions of a stack of any kind under the token, and answers how many these were. Internal: `settle`
     /// and `settle_over`, and the run of the crate above, are this.
     ///

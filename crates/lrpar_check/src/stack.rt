@@ -3,7 +3,7 @@
 ghost use Rattle.std.specs.Prelude.{◌≡◌, ◌<◌, ◌≤◌, ◌-◌, ℕ, List, [], ◌∷◌, ◌++◌, length, slice_get, take, Some, OnOk, OnErr, vec_capacity};
 ghost use Rattle.lrpar_check.specs.Stack.{states_of, top_of};
 
-use lrpar_grammar::span::{PIdx, RIdx, StIdx, StorageNum};
+use lrpar_grammar::span::{PIdx, RIdx, StIdx, StorageIndex};
 use std::alloc::AllocError;
 
 /// A reduction that is due on a stack.
@@ -20,7 +20,7 @@ pub struct Reduction<StorageT> {
 }
 
 /// A stack of states. Its bottom is state 0 of the list that it stands for.
-pub trait StateStack<StorageT: StorageNum> {
+pub trait StateStack<StorageT: StorageIndex> {
     /// The states, bottom first.
     ghost states: { Self → List ℕ };
 
@@ -61,7 +61,7 @@ pub trait StateStack<StorageT: StorageNum> {
 }
 
 /// A stack onto which a shift puts its state and nothing else.
-pub trait ShiftStack<StorageT: StorageNum>: StateStack<StorageT> {
+pub trait ShiftStack<StorageT: StorageIndex>: StateStack<StorageT> {
     /// What a shift makes of the stack beside its states.
     ghost shifts: { Self → Self → Type 0 };
 
@@ -77,7 +77,7 @@ pub trait ShiftStack<StorageT: StorageNum>: StateStack<StorageT> {
 }
 
 /// A list of states.
-impl<StorageT: StorageNum> StateStack<StorageT> for Vec<StIdx<StorageT>> {
+impl<StorageT: StorageIndex> StateStack<StorageT> for Vec<StIdx<StorageT>> {
     ghost states = { λ v. states_of StorageT.index v.items };
 
     ghost can_reduce = { λ _. Unit {0} };
@@ -111,7 +111,7 @@ impl<StorageT: StorageNum> StateStack<StorageT> for Vec<StIdx<StorageT>> {
     }
 }
 
-impl<StorageT: StorageNum> ShiftStack<StorageT> for Vec<StIdx<StorageT>> {
+impl<StorageT: StorageIndex> ShiftStack<StorageT> for Vec<StIdx<StorageT>> {
     ghost shifts = { λ old new. vec_capacity old ≤ vec_capacity new };
 
     ghost shift_fails = { λ old _. vec_capacity old ≤ length old.items };
@@ -129,7 +129,7 @@ impl<StorageT: StorageNum> ShiftStack<StorageT> for Vec<StIdx<StorageT>> {
 }
 
 // Puts a state on the first `left` states, and drops those above.
-pub(crate) fn put_at<StorageT: StorageNum>(
+pub(crate) fn put_at<StorageT: StorageIndex>(
     states: &mut Vec<StIdx<StorageT>>,
     left: usize,
     next: StIdx<StorageT>,

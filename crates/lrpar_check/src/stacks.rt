@@ -5,10 +5,10 @@ ghost use Rattle.lrpar_check.specs.Stack.{AreJoined, IsJoined, IsStack, states_o
 ghost use Rattle.lrpar_states.specs.Table.{ShiftTo, IsClosed, action_of, goto_of, states_len};
 
 use crate::check::ParserData;
-use lrpar_grammar::span::{StIdx, StorageNum};
+use lrpar_grammar::span::{StIdx, StorageIndex};
 use lrpar_states::table::{Action, StateTable};
 
-impl<StorageT: StorageNum> ParserData<StorageT> {
+impl<StorageT: StorageIndex> ParserData<StorageT> {
     /// Whether these states, bottom first, are a stack of the table: the start state stands at the bottom, and a shift or
     /// a goto leads from each state to the one above it. A list with a state out of range is none, nor is the empty one.
     ///
@@ -21,7 +21,7 @@ impl<StorageT: StorageNum> ParserData<StorageT> {
 }
 
 // Whether these states, bottom first, are a stack of the table.
-fn is_stack_of<StorageT: StorageNum>(
+fn is_stack_of<StorageT: StorageIndex>(
     table: &StateTable<StorageT>,
     stack: &[StIdx<StorageT>],
 ) -> bool
@@ -38,7 +38,7 @@ fn is_stack_of<StorageT: StorageNum>(
 }
 
 // Whether the state is joined to the first of the states above it, and each of those to the next.
-fn are_joined<StorageT: StorageNum>(
+fn are_joined<StorageT: StorageIndex>(
     table: &StateTable<StorageT>,
     bottom: StIdx<StorageT>,
     above: &[StIdx<StorageT>],
@@ -58,7 +58,7 @@ fn are_joined<StorageT: StorageNum>(
 }
 
 // Whether a shift or a goto leads from the state to state `next`.
-fn is_joined<StorageT: StorageNum>(
+fn is_joined<StorageT: StorageIndex>(
     table: &StateTable<StorageT>,
     s: StIdx<StorageT>,
     next: StIdx<StorageT>,
@@ -70,7 +70,7 @@ fn is_joined<StorageT: StorageNum>(
 }
 
 // Whether a shift leads from the state to state `next`.
-fn shifts_to<StorageT: StorageNum>(
+fn shifts_to<StorageT: StorageIndex>(
     table: &StateTable<StorageT>,
     s: StIdx<StorageT>,
     next: usize,
@@ -83,7 +83,7 @@ fn shifts_to<StorageT: StorageNum>(
 }
 
 // Whether one of the actions is a shift to state `next`.
-fn has_shift<StorageT: StorageNum>(actions: &[Action<StorageT>], next: usize) -> bool
+fn has_shift<StorageT: StorageIndex>(actions: &[Action<StorageT>], next: usize) -> bool
     ensures { IsTrue result ↔ Contains (map (plain_action StorageT.index) actions.now) (ShiftTo next) }
 {
     for action in actions {
@@ -95,7 +95,7 @@ fn has_shift<StorageT: StorageNum>(actions: &[Action<StorageT>], next: usize) ->
 }
 
 // Whether the action is a shift to state `next`.
-fn is_shift_to<StorageT: StorageNum>(action: Action<StorageT>, next: usize) -> bool
+fn is_shift_to<StorageT: StorageIndex>(action: Action<StorageT>, next: usize) -> bool
     ensures { IsTrue result ↔ plain_action StorageT.index action ≡ ShiftTo next }
 {
     match action {
@@ -105,7 +105,7 @@ fn is_shift_to<StorageT: StorageNum>(action: Action<StorageT>, next: usize) -> b
 }
 
 // Whether a goto leads from the state to state `next`.
-fn goes_to<StorageT: StorageNum>(
+fn goes_to<StorageT: StorageIndex>(
     table: &StateTable<StorageT>,
     s: StIdx<StorageT>,
     next: usize,
@@ -118,7 +118,7 @@ fn goes_to<StorageT: StorageNum>(
 }
 
 // Whether state `next` is one of the states.
-fn has_state<StorageT: StorageNum>(states: &[StIdx<StorageT>], next: usize) -> bool
+fn has_state<StorageT: StorageIndex>(states: &[StIdx<StorageT>], next: usize) -> bool
     ensures { IsTrue result ↔ Contains (states_of StorageT.index states.now) next }
 {
     for state in states {

@@ -7,7 +7,7 @@ ghost use Rattle.lrpar_states.specs.Table.{states_len};
 
 use crate::stack::{Reduction, StateStack};
 use lrpar_grammar::grammar::YaccGrammar;
-use lrpar_grammar::span::{PIdx, StorageNum, TIdx};
+use lrpar_grammar::span::{PIdx, StorageIndex, TIdx};
 use lrpar_states::table::{Action, StateTable};
 use std::alloc::AllocError;
 
@@ -24,7 +24,7 @@ pub(crate) enum Step {
 
 /// Makes one reduction under the token, if it leaves a state that has the goto. Otherwise, and where memory was wanting,
 /// the states stay as they were.
-pub(crate) fn take_step<StorageT: StorageNum, S: StateStack<StorageT>>(
+pub(crate) fn take_step<StorageT: StorageIndex, S: StateStack<StorageT>>(
     grm: &YaccGrammar<StorageT>,
     table: &StateTable<StorageT>,
     states: &mut S,
@@ -47,7 +47,7 @@ pub(crate) fn take_step<StorageT: StorageNum, S: StateStack<StorageT>>(
 }
 
 // Reduces the states by the production, if it leaves a state that has the goto.
-fn reduce_by<StorageT: StorageNum, S: StateStack<StorageT>>(
+fn reduce_by<StorageT: StorageIndex, S: StateStack<StorageT>>(
     grm: &YaccGrammar<StorageT>,
     table: &StateTable<StorageT>,
     states: &mut S,

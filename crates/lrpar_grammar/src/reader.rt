@@ -13,12 +13,12 @@ mod tables;
 use crate::grammar::{GrammarFault, YaccGrammar};
 use faults::{has_known_names, has_one_start};
 use lrpar_text::outline::{Outline, OutlineFault};
-use lrpar_text::span::StorageNum;
+use lrpar_text::span::StorageIndex;
 use parts::{fit, spelled_parts};
 use std::alloc::Global;
 use tables::Tables;
 
-impl<StorageT: StorageNum> YaccGrammar<StorageT> {
+impl<StorageT: StorageIndex> YaccGrammar<StorageT> {
     ghost use Rattle.lrpar_grammar.specs.Grammar.{IsWellFormed};
 
     /// The grammar of a text: declarations, `%%`, rules, an optional second `%%`.

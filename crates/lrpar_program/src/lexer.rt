@@ -8,7 +8,7 @@ ghost use Rattle.lrpar_program.specs.Sums.{token_of};
 ghost use Rattle.lrpar_program.specs.SumAnswers.{answer_of};
 
 use lrpar::lines::NewlineCache;
-use lrpar::span::{Span, StorageNum};
+use lrpar::span::{Span, StorageIndex};
 use lrpar::{LexError, Lexeme, Lexer, LexerTypes, NonStreamingLexer};
 use std::alloc::{AllocError, Global};
 use std::error::Error;
@@ -28,7 +28,7 @@ pub(crate) struct Token<StorageT> {
     is_faulty: bool,
 }
 
-impl<StorageT: StorageNum> fmt::Display for Token<StorageT> {
+impl<StorageT: StorageIndex> fmt::Display for Token<StorageT> {
     fn fmt<W: fmt::Write>(&self, f: &mut fmt::Formatter<W>) -> fmt::Result {
         let number = self.number.to_index();
         let start = self.span.start();
@@ -37,7 +37,7 @@ impl<StorageT: StorageNum> fmt::Display for Token<StorageT> {
     }
 }
 
-impl<StorageT: StorageNum> Lexeme<StorageT> for Token<StorageT> {
+impl<StorageT: StorageIndex> Lexeme<StorageT> for Token<StorageT> {
     ghost parts = { λ x. record { token = x.number; span = x.span; faulty = x.is_faulty } };
 
     fn new(tok_id: StorageT, start: usize, len: usize) -> Self {

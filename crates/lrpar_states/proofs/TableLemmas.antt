@@ -14,7 +14,7 @@ use Rattle.lrpar_states.proofs.Mapped.{All-unmap}
 use Rattle.lrpar_states.proofs.RowLemmas.{map-map}
 
 -- the parts that are made of sparse rows make their table
-pub parts_are : {S E : Type 0} (index : S → ℕ) (rows : SparseRows S E) (actions : List (List (TIdx S × Action S))) (gotos : List (List (RIdx S × StIdx S)))
+pub parts_are : {S : Type 0} (index : S → ℕ) (rows : SparseRows S) (actions : List (List (TIdx S × Action S))) (gotos : List (List (RIdx S × StIdx S)))
     → length rows.actions.items ≡ rows.states → actions ≡ map (λ row. row.items) rows.actions.items → gotos ≡ map (λ row. row.items) rows.gotos.items
     → plain_table index rows.start rows.tokens rows.rules actions gotos rows.conflicts ≡ sparse_table_of index rows
 parts_are index rows actions gotos states actions_are gotos_are =
@@ -26,15 +26,15 @@ parts_are index rows actions gotos states actions_are gotos_are =
     cc
 
 -- the sparse rows that are made of full rows make their table
-pub stored_are : {S : Type 0} (E : Type 0) (index : S → ℕ) (rows : TableRows S E) (states : ℕ)
+pub stored_are : {S : Type 0} (index : S → ℕ) (rows : TableRows S) (states : ℕ)
     (actions : Vec (Vec (TIdx S × Action S) Global) Global) (gotos : Vec (Vec (RIdx S × StIdx S) Global) Global)
     → states ≡ length rows.actions.items
     → map (λ row. map (action_entry index) row.items) actions.items ≡ map (λ row. row_actions (map (plain_action index) row.items)) rows.actions.items
     → map (λ row. map (goto_entry index) row.items) gotos.items ≡ map (λ row. row_gotos (map (plain_goto index) row.items)) rows.gotos.items
-    → sparse_table_of {E = E} index
+    → sparse_table_of index
     (record { start = rows.start; states = states; tokens = rows.tokens; rules = rows.rules; actions = actions; gotos = gotos; conflicts = rows.conflicts })
     ≡ table_of (plain_rows index rows)
-stored_are E index rows states actions gotos states_are actions_are gotos_are =
+stored_are index rows states actions gotos states_are actions_are gotos_are =
     let len : states ≡ length (map (λ row. map (plain_action index) row.items) rows.actions.items) =
     states_are ∙ sym (length-map rows.actions.items (λ row. map (plain_action index) row.items)) in
     let stored = actions_are ∙ sym (map-map (λ row. map (plain_action index) row.items) row_actions rows.actions.items) in

@@ -30,8 +30,8 @@ action_entry index entry = (index entry.0.0, plain_action index entry.1)
 abbrev pub goto_entry : {S : Type 0} → (S → ℕ) → RIdx S × StIdx S → ℕ × ℕ
 goto_entry index entry = (index entry.0.0, index entry.1.0)
 
--- full rows, over indexes of S; E comes with S, and no row has it
-abbrev pub plain_rows : {S E : Type 0} → (S → ℕ) → TableRows S E → Rows
+-- full rows, over indexes of S
+abbrev pub plain_rows : {S : Type 0} → (S → ℕ) → TableRows S → Rows
 plain_rows index rows = record {
   start = index rows.start.0;
   tokens = rows.tokens;
@@ -42,7 +42,7 @@ plain_rows index rows = record {
 }
 
 -- the table that sparse rows make
-abbrev pub sparse_table_of : {S E : Type 0} → (S → ℕ) → SparseRows S E → Table
+abbrev pub sparse_table_of : {S : Type 0} → (S → ℕ) → SparseRows S → Table
 sparse_table_of index rows = record {
   start = index rows.start.0;
   states = rows.states;

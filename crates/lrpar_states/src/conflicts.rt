@@ -2,12 +2,12 @@
 ghost use Rattle.std.specs.Prelude.{◌≡◌, length, map};
 ghost use Rattle.lrpar_states.specs.PlainConflicts.{reduce_reduce_of, shift_reduce_of};
 
-use lrpar_grammar::span::{PIdx, StIdx, StorageNum, TIdx};
+use lrpar_grammar::span::{PIdx, StIdx, StorageIndex, TIdx};
 use std::marker::Model;
 
 /// The conflicts that were met when a table was made.
 #[derive(Debug, Drop)]
-pub struct Conflicts<StorageT: StorageNum> {
+pub struct Conflicts<StorageT: StorageIndex> {
     rr: Vec<
         (
             TIdx<StorageT>,
@@ -19,7 +19,7 @@ pub struct Conflicts<StorageT: StorageNum> {
     sr: Vec<(TIdx<StorageT>, PIdx<StorageT>, StIdx<StorageT>)>,
 }
 
-impl<StorageT: StorageNum> Model for Conflicts<StorageT> {
+impl<StorageT: StorageIndex> Model for Conflicts<StorageT> {
     ghost use Rattle.std.specs.Prelude.{map};
     ghost use Rattle.lrpar_states.specs.Table.{ConflictLists};
     ghost use Rattle.lrpar_states.specs.PlainConflicts.{reduce_reduce_of, shift_reduce_of};
@@ -29,7 +29,7 @@ impl<StorageT: StorageNum> Model for Conflicts<StorageT> {
     ghost view = { λ c. record { reduce_reduce = map (reduce_reduce_of StorageT.index) c.rr.items; shift_reduce = map (shift_reduce_of StorageT.index) c.sr.items } };
 }
 
-impl<StorageT: StorageNum> Conflicts<StorageT> {
+impl<StorageT: StorageIndex> Conflicts<StorageT> {
     /// The conflicts of these two lists: `rr` has those between two reductions, as token, productions and state, and
     /// `sr` those between a shift and a reduction, as token, production and state. No number is looked at.
     pub fn new(

@@ -2,7 +2,7 @@
 ghost use Rattle.std.specs.Prelude.{◌≡◌, ◌<◌, ◌≤◌, ◌+◌, ◌++◌, ℕ, [], List, IfOk, OnOk, MatchOption, Contains, length, map, slice_index, slice_index_or, slice_range, sum_by, zip};
 ghost use Rattle.std.specs.List.Sorted.{IsStrictlyIncreasing};
 
-use lrpar_grammar::span::{RIdx, StorageNum, TIdx};
+use lrpar_grammar::span::{RIdx, StorageIndex, TIdx};
 use std::alloc::{AllocError, Global};
 use std::marker::Model;
 
@@ -16,7 +16,7 @@ pub(crate) trait Key: Copy {
         ensures { result ≡ number self };
 }
 
-impl<StorageT: StorageNum> Key for TIdx<StorageT> {
+impl<StorageT: StorageIndex> Key for TIdx<StorageT> {
     ghost number = { λ token. StorageT.index token.0 };
 
     fn to_number(self) -> usize {
@@ -24,7 +24,7 @@ impl<StorageT: StorageNum> Key for TIdx<StorageT> {
     }
 }
 
-impl<StorageT: StorageNum> Key for RIdx<StorageT> {
+impl<StorageT: StorageIndex> Key for RIdx<StorageT> {
     ghost number = { λ rule. StorageT.index rule.0 };
 
     fn to_number(self) -> usize {

@@ -7,18 +7,18 @@ ghost use Rattle.lrpar_states.specs.PlainRows.{action_entry, goto_entry, plain_a
 
 use crate::numbers::has_numbers;
 use crate::rows::{Action, TableRows};
-use lrpar_grammar::span::{RIdx, StIdx, StorageNum, TIdx};
+use lrpar_grammar::span::{RIdx, StIdx, StorageIndex, TIdx};
 use std::alloc::{AllocError, Global};
 
 /// Whether the rows are those of a table.
-pub(crate) fn are_rows<StorageT: StorageNum>(rows: &TableRows<StorageT>) -> bool
+pub(crate) fn are_rows<StorageT: StorageIndex>(rows: &TableRows<StorageT>) -> bool
     ensures { IsTrue result ↔ AreRows StorageT.limit (plain_rows StorageT.index rows.now) }
 {
     are_numbers(rows) && are_entries(rows)
 }
 
 /// Whether there are as many rows of both kinds, numbers for all that is counted, and a start state among the states.
-fn are_numbers<StorageT: StorageNum>(rows: &TableRows<StorageT>) -> bool
+fn are_numbers<StorageT: StorageIndex>(rows: &TableRows<StorageT>) -> bool
     ensures { let plain = plain_rows StorageT.index rows.now in IsTrue result ↔ (
         (length plain.gotos ≡ length plain.actions) × (plain.start < length plain.actions) × (length plain.actions ≤ StorageT.limit)
         × (plain.tokens ≤ StorageT.limit) × (plain.rules ≤ StorageT.limit)) }
@@ -32,7 +32,7 @@ fn are_numbers<StorageT: StorageNum>(rows: &TableRows<StorageT>) -> bool
 }
 
 /// Whether each row has its length, with states in range.
-fn are_entries<StorageT: StorageNum>(rows: &TableRows<StorageT>) -> bool
+fn are_entries<StorageT: StorageIndex>(rows: &TableRows<StorageT>) -> bool
     ensures { let plain = plain_rows StorageT.index rows.now in IsTrue result ↔ (
         All (IsActionRow plain.tokens (length plain.actions)) plain.actions
         × All (IsGotoRow plain.rules (length plain.actions)) plain.gotos) }
@@ -44,7 +44,7 @@ fn are_entries<StorageT: StorageNum>(rows: &TableRows<StorageT>) -> bool
 }
 
 /// Whether each row has an action for each token, with states in range.
-fn are_action_rows<StorageT: StorageNum>(
+fn are_action_rows<StorageT: StorageIndex>(
     rows: &[Vec<Action<StorageT>>],
     tokens: usize,
     states: usize,
@@ -55,7 +55,7 @@ fn are_action_rows<StorageT: StorageNum>(
 }
 
 /// Whether the row has an action for each token, with states in range.
-fn is_action_row<StorageT: StorageNum>(
+fn is_action_row<StorageT: StorageIndex>(
     row: &[Action<StorageT>],
     tokens: usize,
     states: usize,
@@ -66,14 +66,14 @@ fn is_action_row<StorageT: StorageNum>(
 }
 
 /// Whether the state of each action that has one is below `states`.
-fn are_actions_within<StorageT: StorageNum>(row: &[Action<StorageT>], states: usize) -> bool
+fn are_actions_within<StorageT: StorageIndex>(row: &[Action<StorageT>], states: usize) -> bool
     ensures { IsTrue result ↔ All (λ action. IsActionWithin states (plain_action StorageT.index action)) row.now }
 {
     row.iter().all(|action| is_action_within(*action, states))
 }
 
 /// Whether the action's state, if it has one, is below `states`.
-fn is_action_within<StorageT: StorageNum>(action: Action<StorageT>, states: usize) -> bool
+fn is_action_within<StorageT: StorageIndex>(action: Action<StorageT>, states: usize) -> bool
     ensures { IsTrue result ↔ IsActionWithin states (plain_action StorageT.index action) }
 {
     match action {
@@ -83,7 +83,7 @@ fn is_action_within<StorageT: StorageNum>(action: Action<StorageT>, states: usiz
 }
 
 /// Whether each row has an optional state for each rule, in range.
-fn are_goto_rows<StorageT: StorageNum>(
+fn are_goto_rows<StorageT: StorageIndex>(
     rows: &[Vec<Option<StIdx<StorageT>>>],
     rules: usize,
     states: usize,
@@ -94,7 +94,7 @@ fn are_goto_rows<StorageT: StorageNum>(
 }
 
 /// Whether the row has an optional state for each rule, in range.
-fn is_goto_row<StorageT: StorageNum>(
+fn is_goto_row<StorageT: StorageIndex>(
     row: &[Option<StIdx<StorageT>>],
     rules: usize,
     states: usize,
@@ -105,14 +105,14 @@ fn is_goto_row<StorageT: StorageNum>(
 }
 
 /// Whether each state to go to is below `states`.
-fn are_gotos_within<StorageT: StorageNum>(row: &[Option<StIdx<StorageT>>], states: usize) -> bool
+fn are_gotos_within<StorageT: StorageIndex>(row: &[Option<StIdx<StorageT>>], states: usize) -> bool
     ensures { IsTrue result ↔ All (λ goto. IsGotoWithin states (plain_goto StorageT.index goto)) row.now }
 {
     row.iter().all(|goto| is_goto_within(*goto, states))
 }
 
 /// Whether the state to go to, if there is one, is below `states`.
-fn is_goto_within<StorageT: StorageNum>(goto: Option<StIdx<StorageT>>, states: usize) -> bool
+fn is_goto_within<StorageT: StorageIndex>(goto: Option<StIdx<StorageT>>, states: usize) -> bool
     ensures { IsTrue result ↔ IsGotoWithin states (plain_goto StorageT.index goto) }
 {
     match goto {
@@ -122,7 +122,7 @@ fn is_goto_within<StorageT: StorageNum>(goto: Option<StIdx<StorageT>>, states: u
 }
 
 /// What of the rows of actions is stored.
-pub(crate) fn stored_actions<StorageT: StorageNum>(
+pub(crate) fn stored_actions<StorageT: StorageIndex>(
     alloc: Global,
     rows: &[Vec<Action<StorageT>>],
 ) -> Result<Vec<Vec<(TIdx<StorageT>, Action<StorageT>)>>, AllocError>
@@ -138,7 +138,7 @@ pub(crate) fn stored_actions<StorageT: StorageNum>(
 }
 
 /// What of the row is stored: each action but errors, with its token.
-fn row_stored_actions<StorageT: StorageNum>(
+fn row_stored_actions<StorageT: StorageIndex>(
     alloc: Global,
     row: &[Action<StorageT>],
 ) -> Result<Vec<(TIdx<StorageT>, Action<StorageT>)>, AllocError>
@@ -153,7 +153,7 @@ fn row_stored_actions<StorageT: StorageNum>(
 }
 
 /// Appends the action with the token of this number, unless it is an error.
-fn push_action<StorageT: StorageNum>(
+fn push_action<StorageT: StorageIndex>(
     stored: &mut Vec<(TIdx<StorageT>, Action<StorageT>)>,
     number: usize,
     action: Action<StorageT>,
@@ -173,7 +173,7 @@ fn push_action<StorageT: StorageNum>(
 }
 
 /// What of the rows of gotos is stored.
-pub(crate) fn stored_gotos<StorageT: StorageNum>(
+pub(crate) fn stored_gotos<StorageT: StorageIndex>(
     alloc: Global,
     rows: &[Vec<Option<StIdx<StorageT>>>],
 ) -> Result<Vec<Vec<(RIdx<StorageT>, StIdx<StorageT>)>>, AllocError>
@@ -189,7 +189,7 @@ pub(crate) fn stored_gotos<StorageT: StorageNum>(
 }
 
 /// What of the row is stored: each state to go to, with its rule.
-fn row_stored_gotos<StorageT: StorageNum>(
+fn row_stored_gotos<StorageT: StorageIndex>(
     alloc: Global,
     row: &[Option<StIdx<StorageT>>],
 ) -> Result<Vec<(RIdx<StorageT>, StIdx<StorageT>)>, AllocError>
@@ -204,7 +204,7 @@ fn row_stored_gotos<StorageT: StorageNum>(
 }
 
 /// Appends the state with the rule of this number, if there is a state.
-fn push_goto<StorageT: StorageNum>(
+fn push_goto<StorageT: StorageIndex>(
     stored: &mut Vec<(RIdx<StorageT>, StIdx<StorageT>)>,
     number: usize,
     goto: Option<StIdx<StorageT>>,

@@ -10,17 +10,17 @@ use crate::fault::TableFault;
 use crate::items::ItemSet;
 pub use crate::items::{Core, Item};
 use crate::numbers::has_numbers;
-use lrpar_grammar::span::{PIdx, StIdx, StorageNum, TIdx};
+use lrpar_grammar::span::{PIdx, StIdx, StorageIndex, TIdx};
 use std::alloc::{AllocError, Global};
 use std::marker::Model;
 
 /// The item sets of the states of an LR automaton, of which nothing is known: they may fit a table or not.
 #[derive(Debug, Drop)]
-pub struct StateGraph<StorageT: StorageNum> {
+pub struct StateGraph<StorageT: StorageIndex> {
     sets: Vec<ItemSet<StorageT>>,
 }
 
-impl<StorageT: StorageNum> Model for StateGraph<StorageT> {
+impl<StorageT: StorageIndex> Model for StateGraph<StorageT> {
     ghost use Rattle.std.specs.Prelude.{◌≤◌, length};
     ghost use Rattle.lrpar_states.specs.Graph.{Graph};
 
@@ -31,7 +31,7 @@ impl<StorageT: StorageNum> Model for StateGraph<StorageT> {
     ghost invariant = { λ graph. length graph.sets.items ≤ StorageT.limit };
 }
 
-impl<StorageT: StorageNum> StateGraph<StorageT> {
+impl<StorageT: StorageIndex> StateGraph<StorageT> {
     /// The graph of these rows: for each state, by its number, its items as production, dot and lookahead, in any order,
     /// repeated or not. An item that is out of range of any grammar is kept as it is.
     ///
@@ -111,7 +111,7 @@ impl<StorageT: StorageNum> StateGraph<StorageT> {
 }
 
 /// The item set of each row.
-fn item_sets<StorageT: StorageNum>(
+fn item_sets<StorageT: StorageIndex>(
     alloc: Global,
     rows: Vec<Vec<Item<StorageT>>>,
 ) -> Result<Vec<ItemSet<StorageT>>, AllocError>

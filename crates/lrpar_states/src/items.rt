@@ -7,7 +7,7 @@ ghost use Rattle.lrpar_states.specs.Graph.{AreWithCore, core_cmp, item_at, item_
 ghost use Rattle.lrpar_states.specs.PlainItems.{AreCoresOf, core_of, item_of, row_of};
 
 use crate::ascending::{Ascending, push_new};
-use lrpar_grammar::span::{PIdx, StorageNum, TIdx};
+use lrpar_grammar::span::{PIdx, StorageIndex, TIdx};
 use std::alloc::{AllocError, Global};
 use std::marker::Model;
 
@@ -19,12 +19,12 @@ pub type Core<StorageT> = (PIdx<StorageT>, usize);
 
 /// The items of a state, and their cores.
 #[derive(Debug, Drop)]
-pub(crate) struct ItemSet<StorageT: StorageNum> {
+pub(crate) struct ItemSet<StorageT: StorageIndex> {
     items: Ascending<Item<StorageT>>,
     cores: Ascending<Core<StorageT>>,
 }
 
-impl<StorageT: StorageNum> Model for ItemSet<StorageT> {
+impl<StorageT: StorageIndex> Model for ItemSet<StorageT> {
     ghost use Rattle.std.specs.Prelude.{List, map};
     ghost use Rattle.lrpar_states.specs.Graph.{ItemOf};
     ghost use Rattle.lrpar_states.specs.PlainItems.{AreCoresOf, item_of};
@@ -36,7 +36,7 @@ impl<StorageT: StorageNum> Model for ItemSet<StorageT> {
     ghost invariant = { λ set. AreCoresOf set.items set.cores };
 }
 
-impl<StorageT: StorageNum> ItemSet<StorageT> {
+impl<StorageT: StorageIndex> ItemSet<StorageT> {
     /// The set of the row's items. The row is sorted in place; memory is taken for the cores alone.
     pub(crate) fn from_row(alloc: Global, row: Vec<Item<StorageT>>) -> Result<Self, AllocError>
         ensures same { IfOk result (λ set. HaveSame set (row_of StorageT.index row)) }
@@ -78,7 +78,7 @@ impl<StorageT: StorageNum> ItemSet<StorageT> {
 }
 
 /// The cores of the items.
-fn cores_of<StorageT: StorageNum>(
+fn cores_of<StorageT: StorageIndex>(
     alloc: Global,
     items: &[Item<StorageT>],
 ) -> Result<Ascending<Core<StorageT>>, AllocError>

@@ -1,10 +1,10 @@
 //! Counts that a storage type can number.
 ghost use Rattle.std.specs.Prelude.{◌≤◌, ◌↔◌, IsTrue};
 
-use lrpar_grammar::span::StorageNum;
+use lrpar_grammar::span::StorageIndex;
 
 /// Whether `StorageT` has at least `count` numbers.
-pub(crate) fn has_numbers<StorageT: StorageNum>(count: usize) -> bool
+pub(crate) fn has_numbers<StorageT: StorageIndex>(count: usize) -> bool
     ensures { IsTrue result ↔ (count ≤ StorageT.limit) }
 {
     match count.checked_sub(1) {

@@ -1,6 +1,6 @@
 //! The rows that a table is made of: full ones, or what is stored alone.
 use crate::conflicts::Conflicts;
-use lrpar_grammar::span::{PIdx, RIdx, StIdx, StorageNum, TIdx};
+use lrpar_grammar::span::{PIdx, RIdx, StIdx, StorageIndex, TIdx};
 
 /// What a parser does in a state at a token.
 #[derive(Clone, Copy, Debug, PartialEq, Eq, Hash)]
@@ -18,7 +18,7 @@ pub enum Action<StorageT> {
 /// The parts of a table, of which nothing is known: for each state, by its number, a row of an action for each token,
 /// and a row of an optional state for each rule.
 #[derive(Debug, Drop)]
-pub struct TableRows<StorageT: StorageNum> {
+pub struct TableRows<StorageT: StorageIndex> {
     /// The state in which a parser starts.
     pub start: StIdx<StorageT>,
     /// How many tokens there are, the end token counted.
@@ -36,7 +36,7 @@ pub struct TableRows<StorageT: StorageNum> {
 /// The parts of a table, of which nothing is known, with what is stored alone: for each state, by its number, a list of
 /// tokens with their actions, and a list of rules with the states to go to.
 #[derive(Debug, Drop)]
-pub struct SparseRows<StorageT: StorageNum> {
+pub struct SparseRows<StorageT: StorageIndex> {
     /// The state in which a parser starts.
     pub start: StIdx<StorageT>,
     /// How many states there are.

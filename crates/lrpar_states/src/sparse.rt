@@ -7,10 +7,10 @@ ghost use Rattle.lrpar_states.specs.Table.{AreEntries, IsActionEntry, IsGotoEntr
 use crate::entries::Key;
 use crate::numbers::has_numbers;
 use crate::rows::{Action, SparseRows};
-use lrpar_grammar::span::{RIdx, StIdx, StorageNum, TIdx};
+use lrpar_grammar::span::{RIdx, StIdx, StorageIndex, TIdx};
 
 /// Whether the rows are those of a table.
-pub(crate) fn is_sparse_table<StorageT: StorageNum>(rows: &SparseRows<StorageT>) -> bool
+pub(crate) fn is_sparse_table<StorageT: StorageIndex>(rows: &SparseRows<StorageT>) -> bool
     ensures { IsTrue result ↔ IsTable StorageT.limit (sparse_table_of StorageT.index rows.now) }
 {
     has_sparse_numbers(rows) && are_entries(rows)
@@ -18,7 +18,7 @@ pub(crate) fn is_sparse_table<StorageT: StorageNum>(rows: &SparseRows<StorageT>)
 
 /// Whether there are a row of both kinds for each state, numbers for all that is counted, and a start state among the
 /// states.
-fn has_sparse_numbers<StorageT: StorageNum>(rows: &SparseRows<StorageT>) -> bool
+fn has_sparse_numbers<StorageT: StorageIndex>(rows: &SparseRows<StorageT>) -> bool
     ensures { let table = sparse_table_of StorageT.index rows.now in IsTrue result ↔ (
         (length table.actions ≡ table.states) × (length table.gotos ≡ table.states) × (table.start < table.states)
         × (table.states ≤ StorageT.limit) × (table.tokens ≤ StorageT.limit) × (table.rules ≤ StorageT.limit)) }
@@ -32,7 +32,7 @@ fn has_sparse_numbers<StorageT: StorageNum>(rows: &SparseRows<StorageT>) -> bool
 }
 
 /// Whether each row has entries that ascend, all in range, and no errors among them.
-fn are_entries<StorageT: StorageNum>(rows: &SparseRows<StorageT>) -> bool
+fn are_entries<StorageT: StorageIndex>(rows: &SparseRows<StorageT>) -> bool
     ensures { let table = sparse_table_of StorageT.index rows.now in IsTrue result ↔ (
         All (AreEntries (IsActionEntry table.tokens table.states)) table.actions
         × All (AreEntries (IsGotoEntry table.rules table.states)) table.gotos) }
@@ -42,7 +42,7 @@ fn are_entries<StorageT: StorageNum>(rows: &SparseRows<StorageT>) -> bool
 }
 
 /// Whether each row has tokens that ascend, with actions other than errors, all in range.
-fn are_action_rows<StorageT: StorageNum>(
+fn are_action_rows<StorageT: StorageIndex>(
     rows: &[Vec<(TIdx<StorageT>, Action<StorageT>)>],
     tokens: usize,
     states: usize,
@@ -58,7 +58,7 @@ fn are_action_rows<StorageT: StorageNum>(
 }
 
 /// Whether the row has tokens that ascend, with actions other than errors, all in range.
-fn is_action_row<StorageT: StorageNum>(
+fn is_action_row<StorageT: StorageIndex>(
     row: &[(TIdx<StorageT>, Action<StorageT>)],
     tokens: usize,
     states: usize,
@@ -69,7 +69,7 @@ fn is_action_row<StorageT: StorageNum>(
 }
 
 /// Whether each entry has an action other than an error, and is in range.
-fn are_action_entries<StorageT: StorageNum>(
+fn are_action_entries<StorageT: StorageIndex>(
     row: &[(TIdx<StorageT>, Action<StorageT>)],
     tokens: usize,
     states: usize,
@@ -81,7 +81,7 @@ fn are_action_entries<StorageT: StorageNum>(
 }
 
 /// Whether the token is below `tokens`, the action isn't an error, and its state, if it has one, is below `states`.
-fn is_action_entry<StorageT: StorageNum>(
+fn is_action_entry<StorageT: StorageIndex>(
     token: TIdx<StorageT>,
     action: Action<StorageT>,
     tokens: usize,
@@ -98,7 +98,7 @@ fn is_action_entry<StorageT: StorageNum>(
 }
 
 /// Whether each row has rules that ascend, with states to go to, all in range.
-fn are_goto_rows<StorageT: StorageNum>(
+fn are_goto_rows<StorageT: StorageIndex>(
     rows: &[Vec<(RIdx<StorageT>, StIdx<StorageT>)>],
     rules: usize,
     states: usize,
@@ -114,7 +114,7 @@ fn are_goto_rows<StorageT: StorageNum>(
 }
 
 /// Whether the row has rules that ascend, with states to go to, all in range.
-fn is_goto_row<StorageT: StorageNum>(
+fn is_goto_row<StorageT: StorageIndex>(
     row: &[(RIdx<StorageT>, StIdx<StorageT>)],
     rules: usize,
     states: usize,
@@ -125,7 +125,7 @@ fn is_goto_row<StorageT: StorageNum>(
 }
 
 /// Whether each entry is in range.
-fn are_goto_entries<StorageT: StorageNum>(
+fn are_goto_entries<StorageT: StorageIndex>(
     row: &[(RIdx<StorageT>, StIdx<StorageT>)],
     rules: usize,
     states: usize,
@@ -137,7 +137,7 @@ fn are_goto_entries<StorageT: StorageNum>(
 }
 
 /// Whether the rule is below `rules`, and the state below `states`.
-fn is_goto_entry<StorageT: StorageNum>(
+fn is_goto_entry<StorageT: StorageIndex>(
     rule: RIdx<StorageT>,
     state: StIdx<StorageT>,
     rules: usize,

@@ -15,14 +15,14 @@ use crate::full::{are_rows, stored_actions, stored_gotos};
 pub use crate::graph::{Core, Item, StateGraph};
 pub use crate::rows::{Action, SparseRows, TableRows};
 use crate::sparse::is_sparse_table;
-use lrpar_grammar::span::{RIdx, StIdx, StorageNum, TIdx};
+use lrpar_grammar::span::{RIdx, StIdx, StorageIndex, TIdx};
 use std::alloc::{AllocError, Global};
 use std::marker::Model;
 
 /// What a parser does in each state, and where it goes. Only the entries are stored: in each state the tokens at which it
 /// doesn't find an error, and the rules by which it goes anywhere.
 #[derive(Debug, Drop)]
-pub struct StateTable<StorageT: StorageNum> {
+pub struct StateTable<StorageT: StorageIndex> {
     start: StIdx<StorageT>,
     tokens: usize,
     rules: usize,
@@ -31,7 +31,7 @@ pub struct StateTable<StorageT: StorageNum> {
     conflicts: Option<Conflicts<StorageT>>,
 }
 
-impl<StorageT: StorageNum> Model for StateTable<StorageT> {
+impl<StorageT: StorageIndex> Model for StateTable<StorageT> {
     ghost use Rattle.lrpar_states.specs.Table.{Table, IsTable};
     ghost use Rattle.lrpar_states.specs.PlainTable.{plain_table};
 
@@ -42,7 +42,7 @@ impl<StorageT: StorageNum> Model for StateTable<StorageT> {
     ghost invariant = { λ t. IsTable StorageT.limit (plain_table StorageT.index t.start t.tokens t.rules t.actions t.gotos t.conflicts) };
 }
 
-impl<StorageT: StorageNum> StateTable<StorageT> {
+impl<StorageT: StorageIndex> StateTable<StorageT> {
     /// The table of these full rows.
     ///
     /// `BadIndex` comes where a state hasn't one row of an action for each token and one of an optional state for each
@@ -195,7 +195,7 @@ impl<StorageT: StorageNum> StateTable<StorageT> {
 }
 
 /// The table of what is stored of full rows, which are those of a table.
-fn of_rows<StorageT: StorageNum>(
+fn of_rows<StorageT: StorageIndex>(
     alloc: Global,
     rows: TableRows<StorageT>,
 ) -> Result<StateTable<StorageT>, AllocError>
@@ -218,7 +218,7 @@ fn of_rows<StorageT: StorageNum>(
 }
 
 /// The table of sparse rows, which are those of a table.
-fn of_sparse<StorageT: StorageNum>(
+fn of_sparse<StorageT: StorageIndex>(
     alloc: Global,
     rows: SparseRows<StorageT>,
 ) -> Result<StateTable<StorageT>, AllocError>

@@ -6,7 +6,7 @@ use crate::fixtures::{
 use lrpar::ParserData;
 use lrpar::check::{CheckFault, Refused, SafetyCondition};
 use lrpar::grammar::{GrammarParts, YaccGrammar};
-use lrpar::span::{PIdx, RIdx, StIdx, StorageNum, TIdx};
+use lrpar::span::{PIdx, RIdx, StIdx, StorageIndex, TIdx};
 use lrpar::table::{Action, StateGraph, StateTable, TableRows};
 use std::alloc::Global;
 use std::test::Fail;

@@ -4,7 +4,7 @@ ghost use Rattle.std.specs.Prelude.{◌≡◌, IfOk};
 use lrpar::ParserData;
 use lrpar::check::CheckFault;
 use lrpar::grammar::{GrammarParts, ProdPart, RulePart, TokenPart, YaccGrammar};
-use lrpar::span::{PIdx, RIdx, Span, StIdx, StorageNum, Symbol, TIdx};
+use lrpar::span::{PIdx, RIdx, Span, StIdx, StorageIndex, Symbol, TIdx};
 use lrpar::table::{Action, SparseRows, StateGraph, StateTable, TableRows};
 use std::alloc::Global;
 use std::test::Fail;
@@ -16,7 +16,7 @@ pub(crate) type Named = (&'static str, usize);
 pub(crate) type Placed = (Symbol<u8>, usize, usize);
 
 /// The number in any storage type.
-pub(crate) fn number<S: StorageNum>(n: u8) -> Result<S, Fail> {
+pub(crate) fn number<S: StorageIndex>(n: u8) -> Result<S, Fail> {
     match S::from_index(usize::from(n)) {
         Some(found) => Ok(found),
         None => Err(Fail::new("the storage type has no such number")),
@@ -54,7 +54,7 @@ pub(crate) fn tokens(alloc: Global, named: &[Named]) -> Result<Vec<TokenPart>, F
 }
 
 /// The production of the rule and the symbols, at `start` and of `len` bytes.
-pub(crate) fn prod<S: StorageNum>(
+pub(crate) fn prod<S: StorageIndex>(
     alloc: Global,
     rule: u8,
     placed: &[Placed],
@@ -87,7 +87,7 @@ pub(crate) fn t(token: u8) -> Symbol<u8> {
 }
 
 /// The grammar `%% E: T '+' E | T; T: 'ID';`, with its places.
-pub(crate) fn sum_parts<S: StorageNum>(alloc: Global) -> Result<GrammarParts<S>, Fail> {
+pub(crate) fn sum_parts<S: StorageIndex>(alloc: Global) -> Result<GrammarParts<S>, Fail> {
     let mut prods = Vec::new(alloc);
     let sum = [(r(2), 6, 1), (t(0), 9, 1), (r(1), 12, 1)];
     prods.push(prod(alloc, 1, &sum, 6, 7)?)?;
@@ -142,7 +142,7 @@ pub(crate) const SUM_GOTOS: [[Option<u8>; 3]; 6] = [
 ];
 
 /// The rows of a table of three tokens and three rules, which starts in state 0.
-pub(crate) fn rows<S: StorageNum>(
+pub(crate) fn rows<S: StorageIndex>(
     alloc: Global,
     actions: &[[Action<u8>; 3]],
     gotos: &[[Option<u8>; 3]],
@@ -165,7 +165,7 @@ pub(crate) fn rows<S: StorageNum>(
     })
 }
 
-fn goto_rows<S: StorageNum>(
+fn goto_rows<S: StorageIndex>(
     alloc: Global,
     gotos: &[[Option<u8>; 3]],
 ) -> Result<Vec<Vec<Option<StIdx<S>>>>, Fail> {
@@ -180,7 +180,7 @@ fn goto_rows<S: StorageNum>(
     Ok(made_rows)
 }
 
-fn action_at<S: StorageNum>(action: Action<u8>) -> Result<Action<S>, Fail> {
+fn action_at<S: StorageIndex>(action: Action<u8>) -> Result<Action<S>, Fail> {
     Ok(match action {
         Action::Shift(state) => Action::Shift(StIdx(number(state.0)?)),
         Action::Reduce(prod) => Action::Reduce(PIdx(number(prod.0)?)),
@@ -189,7 +189,7 @@ fn action_at<S: StorageNum>(action: Action<u8>) -> Result<Action<S>, Fail> {
     })
 }
 
-fn goto_at<S: StorageNum>(goto: Option<u8>) -> Result<Option<StIdx<S>>, Fail> {
+fn goto_at<S: StorageIndex>(goto: Option<u8>) -> Result<Option<StIdx<S>>, Fail> {
     Ok(match goto {
         Some(state) => Some(StIdx(number(state)?)),
         None => None,
@@ -197,12 +197,12 @@ fn goto_at<S: StorageNum>(goto: Option<u8>) -> Result<Option<StIdx<S>>, Fail> {
 }
 
 /// The rows of the table of sums.
-pub(crate) fn sum_rows<S: StorageNum>(alloc: Global) -> Result<TableRows<S>, Fail> {
+pub(crate) fn sum_rows<S: StorageIndex>(alloc: Global) -> Result<TableRows<S>, Fail> {
     rows(alloc, &SUM_ACTIONS, &SUM_GOTOS)
 }
 
 /// What is stored of these rows.
-pub(crate) fn sparse<S: StorageNum>(
+pub(crate) fn sparse<S: StorageIndex>(
     alloc: Global,
     rows: &TableRows<S>,
 ) -> Result<SparseRows<S>, Fail> {
@@ -267,7 +267,7 @@ pub(crate) const SUM_ITEMS: [ItemOf; 16] = [
 pub(crate) type Item<S> = (PIdx<S>, usize, TIdx<S>);
 
 /// The rows of a graph of so many states that have these items.
-pub(crate) fn item_rows<S: StorageNum>(
+pub(crate) fn item_rows<S: StorageIndex>(
     alloc: Global,
     items: &[ItemOf],
     states: usize,
@@ -286,7 +286,7 @@ pub(crate) fn item_rows<S: StorageNum>(
 }
 
 /// The table of these parts, items and rows, checked with the cap.
-pub(crate) fn checked<S: StorageNum>(
+pub(crate) fn checked<S: StorageIndex>(
     alloc: Global,
     parts: GrammarParts<S>,
     items: &[ItemOf],
@@ -303,7 +303,7 @@ pub(crate) fn checked<S: StorageNum>(
 }
 
 /// The table of sums, checked with the cap.
-pub(crate) fn sum_checked<S: StorageNum>(
+pub(crate) fn sum_checked<S: StorageIndex>(
     alloc: Global,
     cap: u16,
 ) -> Result<Result<ParserData<S>, CheckFault>, Fail> {
@@ -311,7 +311,7 @@ pub(crate) fn sum_checked<S: StorageNum>(
 }
 
 /// The checked table of sums.
-pub(crate) fn sum_data<S: StorageNum>(alloc: Global) -> Result<ParserData<S>, Fail> {
+pub(crate) fn sum_data<S: StorageIndex>(alloc: Global) -> Result<ParserData<S>, Fail> {
     match sum_checked(alloc, 2)? {
         Ok(data) => Ok(data),
         Err(fault) => Err(Fail::new(format_args!("{fault}"))),

@@ -1,7 +1,7 @@
 //! A lexer that answers what it is handed. It tells nothing of its input, which is empty as far as it says.
 ghost use Rattle.std.specs.Prelude.{◌≡◌, []};
 
-use lrpar::span::{Span, StorageNum};
+use lrpar::span::{Span, StorageIndex};
 use lrpar::{LexError, Lexeme, Lexer, LexerTypes, NonStreamingLexer};
 use std::alloc::{AllocError, Global};
 use std::error::Error;
@@ -15,14 +15,14 @@ pub(crate) struct Token<StorageT> {
     is_faulty: bool,
 }
 
-impl<StorageT: StorageNum> fmt::Display for Token<StorageT> {
+impl<StorageT: StorageIndex> fmt::Display for Token<StorageT> {
     fn fmt<W: fmt::Write>(&self, f: &mut fmt::Formatter<W>) -> fmt::Result {
         let number = self.number.to_index();
         write!(f, "token {number}")
     }
 }
 
-impl<StorageT: StorageNum> Lexeme<StorageT> for Token<StorageT> {
+impl<StorageT: StorageIndex> Lexeme<StorageT> for Token<StorageT> {
     ghost parts = { λ x. record { token = x.number; span = x.span; faulty = x.is_faulty } };
 
     fn new(tok_id: StorageT, start: usize, len: usize) -> Self {

@@ -1,5 +1,5 @@
 //! Spans and the numbers of rules, productions, tokens and states.
-use lrpar::span::{PIdx, RIdx, Span, StIdx, StorageNum, TIdx};
+use lrpar::span::{PIdx, RIdx, Span, StIdx, StorageIndex, StorageNum, TIdx};
 use std::cmp::Ordering;
 use std::test::Fail;
 

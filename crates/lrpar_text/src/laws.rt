@@ -6,7 +6,7 @@ ghost use Rattle.lrpar_text.specs.Comparisons.{ComparesByNumber, HashesAs, IsSam
 ghost use Rattle.lrpar_text.specs.Outline.{OutlineIsOne};
 ghost use Rattle.lrpar_text.specs.Words.{ReadsAsOne};
 
-use crate::span::{PIdx, RIdx, Span, StIdx, StorageNum, Symbol, TIdx};
+use crate::span::{PIdx, RIdx, Span, StIdx, StorageIndex, Symbol, TIdx};
 use std::hash::Hash;
 
 /// Spans are equal where both ends are, and a hasher is fed the start and then the end.
@@ -17,7 +17,7 @@ pub fn spans_compare_by_ends()
 
 /// The numbers of rules, productions, tokens and states are equal and ordered as numbers are, and a hasher is fed what it is fed
 /// of the storage number that they hold.
-pub fn numbers_compare_by_value<StorageT: StorageNum>()
+pub fn numbers_compare_by_value<StorageT: StorageIndex>()
     ensures rules { ComparesByNumber (λ x. StorageT.index x.0) ⟦<RIdx<StorageT> as PartialEq>⟧.eq ⟦<RIdx<StorageT> as PartialOrd>⟧.partial_cmp ⟦<RIdx<StorageT> as Ord>⟧.cmp }
     ensures prods { ComparesByNumber (λ x. StorageT.index x.0) ⟦<PIdx<StorageT> as PartialEq>⟧.eq ⟦<PIdx<StorageT> as PartialOrd>⟧.partial_cmp ⟦<PIdx<StorageT> as Ord>⟧.cmp }
     ensures tokens { ComparesByNumber (λ x. StorageT.index x.0) ⟦<TIdx<StorageT> as PartialEq>⟧.eq ⟦<TIdx<StorageT> as PartialOrd>⟧.partial_cmp ⟦<TIdx<StorageT> as Ord>⟧.cmp }
@@ -30,7 +30,7 @@ pub fn numbers_compare_by_value<StorageT: StorageNum>()
 
 /// Symbols are equal where both are rules or both are tokens, of one number. A hasher is fed which of the two it is, and then what
 /// it is fed of the number.
-pub fn symbols_compare_by_contents<StorageT: StorageNum>()
+pub fn symbols_compare_by_contents<StorageT: StorageIndex>()
     ensures equal { (x y : Symbol StorageT) → IsTrue (⟦<Symbol<StorageT> as PartialEq>⟧.eq x y) ↔ IsSameSymbol StorageT.index x y }
     ensures hash { HashesAs (symbol_input StorageT.hash_input) ⟦<Symbol<StorageT> as PartialEq>⟧.eq ⟦<Symbol<StorageT> as Hash>⟧.hash_input }
 {}

@@ -70,8 +70,9 @@ impl Span {
     }
 }
 
-/// What rules, productions, tokens and states are numbered by: `u8`, `u16` or `u32`.
-pub trait StorageNum: PrimInt + Unsigned + Debug + Hash {
+/// What a type has to do for rules, productions, tokens and states to be numbered by it: no more than to be compared, hashed,
+/// printed, and turned into an index and back.
+pub trait StorageIndex: Copy + Ord + Debug + Hash {
     /// The number that a value stands for.
     ghost index: { Self → ℕ };
 
@@ -101,15 +102,18 @@ pub trait StorageNum: PrimInt + Unsigned + Debug + Hash {
     ghost cmp_law: { (x y : Self) → Self.Ord.cmp x y ≡ nat_cmp (index x) (index y) };
 
     ghost eq_law: { (x y : Self) → Self.PartialEq.eq x y ≡ (index x == index y) };
-
-    ghost value_law: { (x : Self) → Self.value x ≡ pos (index x) };
-
-    ghost integer_law: { (x : Self) → Self.integer_of x ≡ Some (pos (index x)) };
-
-    ghost fits_law: { (n : ℕ) → Self.fits (pos n) ↔ (n < limit) };
 }
 
-impl StorageNum for u8 {
+/// What rules, productions, tokens and states are numbered by: `u8`, `u16` or `u32`. As a number, a value is its index.
+pub trait StorageNum: StorageIndex + PrimInt + Unsigned {
+    ghost value_law: { (x : Self) → Self.value x ≡ pos (Self.index x) };
+
+    ghost integer_law: { (x : Self) → Self.integer_of x ≡ Some (pos (Self.index x)) };
+
+    ghost fits_law: { (n : ℕ) → Self.fits (pos n) ↔ (n < Self.limit) };
+}
+
+impl StorageIndex for u8 {
     ghost index = { λ x. x };
 
     ghost at_index = { λ n. n };
@@ -135,7 +139,9 @@ impl StorageNum for u8 {
     ghost cmp_law = { λ x y. refl };
 
     ghost eq_law = { λ x y. refl };
+}
 
+impl StorageNum for u8 {
     ghost value_law = { λ x. refl };
 
     ghost integer_law = { λ x. refl };
@@ -143,7 +149,7 @@ impl StorageNum for u8 {
     ghost fits_law = { λ n. (λ fits. fits, λ below. below) };
 }
 
-impl StorageNum for u16 {
+impl StorageIndex for u16 {
     ghost index = { λ x. x };
 
     ghost at_index = { λ n. n };
@@ -169,7 +175,9 @@ impl StorageNum for u16 {
     ghost cmp_law = { λ x y. refl };
 
     ghost eq_law = { λ x y. refl };
+}
 
+impl StorageNum for u16 {
     ghost value_law = { λ x. refl };
 
     ghost integer_law = { λ x. refl };
@@ -177,7 +185,7 @@ impl StorageNum for u16 {
     ghost fits_law = { λ n. (λ fits. fits, λ below. below) };
 }
 
-impl StorageNum for u32 {
+impl StorageIndex for u32 {
     ghost index = { λ x. x };
 
     ghost at_index = { λ n. n };
@@ -203,7 +211,9 @@ impl StorageNum for u32 {
     ghost cmp_law = { λ x y. refl };
 
     ghost eq_law = { λ x y. refl };
+}
 
+impl StorageNum for u32 {
     ghost value_law = { λ x. refl };
 
     ghost integer_law = { λ x. refl };
@@ -212,7 +222,7 @@ impl StorageNum for u32 {
 }
 
 /// A number of one kind: of rules, productions, tokens or states.
-pub trait Numbered<StorageT: StorageNum>: Copy + Debug {
+pub trait Numbered<StorageT: StorageIndex>: Copy + Debug {
     /// The number.
     ghost number: { Self → ℕ };
 
@@ -225,7 +235,7 @@ pub trait Numbered<StorageT: StorageNum>: Copy + Debug {
 #[derive(Clone, Copy, Debug, PartialEq, Eq, PartialOrd, Ord, Hash)]
 pub struct RIdx<StorageT>(pub StorageT);
 
-impl<StorageT: StorageNum> RIdx<StorageT> {
+impl<StorageT: StorageIndex> RIdx<StorageT> {
     /// The number in its storage type.
     pub fn as_storaget(&self) -> StorageT
         ensures { result ≡ self.now.0 }
@@ -234,7 +244,7 @@ impl<StorageT: StorageNum> RIdx<StorageT> {
     }
 }
 
-impl<StorageT: StorageNum> Numbered<StorageT> for RIdx<StorageT> {
+impl<StorageT: StorageIndex> Numbered<StorageT> for RIdx<StorageT> {
     ghost number = { λ x. StorageT.index x.0 };
 
     fn numbered(number_of: StorageT) -> Self {
@@ -242,7 +252,7 @@ impl<StorageT: StorageNum> Numbered<StorageT> for RIdx<StorageT> {
     }
 }
 
-impl<StorageT: StorageNum> From<RIdx<StorageT>> for usize {
+impl<StorageT: StorageIndex> From<RIdx<StorageT>> for usize {
     ghost from_gives = { λ number value. value ≡ StorageT.index number.0 };
 
     fn from(number: RIdx<StorageT>) -> usize {
@@ -254,7 +264,7 @@ impl<StorageT: StorageNum> From<RIdx<StorageT>> for usize {
 #[derive(Clone, Copy, Debug, PartialEq, Eq, PartialOrd, Ord, Hash)]
 pub struct PIdx<StorageT>(pub StorageT);
 
-impl<StorageT: StorageNum> PIdx<StorageT> {
+impl<StorageT: StorageIndex> PIdx<StorageT> {
     /// The number in its storage type.
     pub fn as_storaget(&self) -> StorageT
         ensures { result ≡ self.now.0 }
@@ -263,7 +273,7 @@ impl<StorageT: StorageNum> PIdx<StorageT> {
     }
 }
 
-impl<StorageT: StorageNum> Numbered<StorageT> for PIdx<StorageT> {
+impl<StorageT: StorageIndex> Numbered<StorageT> for PIdx<StorageT> {
     ghost number = { λ x. StorageT.index x.0 };
 
     fn numbered(number_of: StorageT) -> Self {
@@ -271,7 +281,7 @@ impl<StorageT: StorageNum> Numbered<StorageT> for PIdx<StorageT> {
     }
 }
 
-impl<StorageT: StorageNum> From<PIdx<StorageT>> for usize {
+impl<StorageT: StorageIndex> From<PIdx<StorageT>> for usize {
     ghost from_gives = { λ number value. value ≡ StorageT.index number.0 };
 
     fn from(number: PIdx<StorageT>) -> usize {
@@ -283,7 +293,7 @@ impl<StorageT: StorageNum> From<PIdx<StorageT>> for usize {
 #[derive(Clone, Copy, Debug, PartialEq, Eq, PartialOrd, Ord, Hash)]
 pub struct TIdx<StorageT>(pub StorageT);
 
-impl<StorageT: StorageNum> TIdx<StorageT> {
+impl<StorageT: StorageIndex> TIdx<StorageT> {
     /// The number in its storage type.
     pub fn as_storaget(&self) -> StorageT
         ensures { result ≡ self.now.0 }
@@ -292,7 +302,7 @@ impl<StorageT: StorageNum> TIdx<StorageT> {
     }
 }
 
-impl<StorageT: StorageNum> Numbered<StorageT> for TIdx<StorageT> {
+impl<StorageT: StorageIndex> Numbered<StorageT> for TIdx<StorageT> {
     ghost number = { λ x. StorageT.index x.0 };
 
     fn numbered(number_of: StorageT) -> Self {
@@ -300,7 +310,7 @@ impl<StorageT: StorageNum> Numbered<StorageT> for TIdx<StorageT> {
     }
 }
 
-impl<StorageT: StorageNum> From<TIdx<StorageT>> for usize {
+impl<StorageT: StorageIndex> From<TIdx<StorageT>> for usize {
     ghost from_gives = { λ number value. value ≡ StorageT.index number.0 };
 
     fn from(number: TIdx<StorageT>) -> usize {
@@ -312,7 +322,7 @@ impl<StorageT: StorageNum> From<TIdx<StorageT>> for usize {
 #[derive(Clone, Copy, Debug, PartialEq, Eq, PartialOrd, Ord, Hash)]
 pub struct StIdx<StorageT>(pub StorageT);
 
-impl<StorageT: StorageNum> StIdx<StorageT> {
+impl<StorageT: StorageIndex> StIdx<StorageT> {
     /// The number in its storage type.
     pub fn as_storaget(&self) -> StorageT
         ensures { result ≡ self.now.0 }
@@ -321,7 +331,7 @@ impl<StorageT: StorageNum> StIdx<StorageT> {
     }
 }
 
-impl<StorageT: StorageNum> From<StIdx<StorageT>> for usize {
+impl<StorageT: StorageIndex> From<StIdx<StorageT>> for usize {
     ghost from_gives = { λ number value. value ≡ StorageT.index number.0 };
 
     fn from(number: StIdx<StorageT>) -> usize {

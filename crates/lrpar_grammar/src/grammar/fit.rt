@@ -5,7 +5,7 @@ ghost use Rattle.lrpar_grammar.specs.Kept.{split_prod_of};
 
 use super::parts::{RulePart, TokenPart};
 use super::prods::SplitProd;
-use lrpar_text::span::{Span, StorageNum};
+use lrpar_text::span::{Span, StorageIndex};
 
 // Whether the places of all rules lie in the text.
 pub(super) fn rules_fit(rules: &[RulePart], src: &str) -> bool
@@ -22,7 +22,7 @@ pub(super) fn tokens_fit(tokens: &[TokenPart], src: &str) -> bool
 }
 
 // Whether the places of all productions lie in the text, as they have to.
-pub(super) fn prods_fit<StorageT: StorageNum>(prods: &[SplitProd<StorageT>], src: &str) -> bool
+pub(super) fn prods_fit<StorageT: StorageIndex>(prods: &[SplitProd<StorageT>], src: &str) -> bool
     ensures { IsTrue result ↔ All (λ prod. ProductionFits src.now (split_prod_of StorageT.index prod)) prods.now }
 {
     for prod in prods {
@@ -34,7 +34,7 @@ pub(super) fn prods_fit<StorageT: StorageNum>(prods: &[SplitProd<StorageT>], src
 }
 
 // Whether the places of a production lie in the text, as they have to.
-fn prod_fits<StorageT: StorageNum>(prod: &SplitProd<StorageT>, src: &str) -> bool
+fn prod_fits<StorageT: StorageIndex>(prod: &SplitProd<StorageT>, src: &str) -> bool
     ensures { IsTrue result ↔ ProductionFits src.now (split_prod_of StorageT.index prod.now) }
 {
     is_part(prod.span, src)

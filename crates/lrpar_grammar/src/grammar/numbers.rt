@@ -3,18 +3,18 @@ ghost use Rattle.std.specs.Prelude.{◌≡◌, ◌-◌, ◌≤◌};
 ghost use Rattle.std.specs.Iterator.{YieldsFirstBy, item_count};
 ghost use Rattle.std.specs.List.{range_with_len};
 
-use lrpar_text::span::{Numbered, StorageNum};
+use lrpar_text::span::{Numbered, StorageIndex};
 use std::marker::{Model, PhantomData};
 
 /// Numbers of one kind, of rules, productions or tokens, one after another.
 #[derive(Debug, Drop)]
-pub struct Numbers<StorageT: StorageNum, I: Numbered<StorageT>> {
+pub struct Numbers<StorageT: StorageIndex, I: Numbered<StorageT>> {
     next: usize,
     end: usize,
     kind: PhantomData<(StorageT, I)>,
 }
 
-impl<StorageT: StorageNum, I: Numbered<StorageT>> Model for Numbers<StorageT, I> {
+impl<StorageT: StorageIndex, I: Numbered<StorageT>> Model for Numbers<StorageT, I> {
     ghost use Rattle.std.specs.Prelude.{◌-◌, ◌≤◌, ℕ, List};
     ghost use Rattle.std.specs.List.{range_with_len};
 
@@ -25,7 +25,7 @@ impl<StorageT: StorageNum, I: Numbered<StorageT>> Model for Numbers<StorageT, I>
     ghost invariant = { λ s. s.end ≤ StorageT.limit };
 }
 
-impl<StorageT: StorageNum, I: Numbered<StorageT>> Numbers<StorageT, I> {
+impl<StorageT: StorageIndex, I: Numbered<StorageT>> Numbers<StorageT, I> {
     // The numbers below `end`.
     pub(super) fn below(end: usize) -> Self
         requires { end ≤ StorageT.limit }
@@ -39,7 +39,7 @@ impl<StorageT: StorageNum, I: Numbered<StorageT>> Numbers<StorageT, I> {
     }
 }
 
-impl<StorageT: StorageNum, I: Numbered<StorageT>> Iterator for Numbers<StorageT, I> {
+impl<StorageT: StorageIndex, I: Numbered<StorageT>> Iterator for Numbers<StorageT, I> {
     type Item = I;
 
     ghost next_gives = { YieldsFirstBy I.number (λ s. s) };

@@ -4,7 +4,7 @@ ghost use Rattle.lrpar_grammar.specs.declared.grammar.parts.GrammarFault.TheVari
 ghost use Rattle.lrpar_grammar.specs.Grammar.{IsListedSymbol};
 ghost use Rattle.lrpar_grammar.specs.Symbols.{symbol_of};
 
-use lrpar_text::span::{RIdx, Span, StorageNum, Symbol};
+use lrpar_text::span::{RIdx, Span, StorageIndex, Symbol};
 use std::alloc::{AllocError, AllocFailed};
 use thiserror::Error;
 
@@ -105,7 +105,7 @@ pub enum GrammarFault {
     Memory,
 }
 
-impl<StorageT: StorageNum> GrammarParts<StorageT> {
+impl<StorageT: StorageIndex> GrammarParts<StorageT> {
     ghost use Rattle.lrpar_grammar.specs.Parts.{parts_of, AreSound, FitStorage, HasListedStart, HasListedSymbols, IsFirstFault};
 
     // The first fault but want of memory.
@@ -157,7 +157,7 @@ impl<StorageT: StorageNum> GrammarParts<StorageT> {
     }
 }
 
-impl<StorageT: StorageNum> ProdPart<StorageT> {
+impl<StorageT: StorageIndex> ProdPart<StorageT> {
     ghost use Rattle.lrpar_grammar.specs.Parts.{IsListedProd, prod_of};
 
     // Whether the production is of one of `rules` listed rules, and its symbols are listed ones.
@@ -174,7 +174,7 @@ impl<StorageT: StorageNum> ProdPart<StorageT> {
 }
 
 // Whether the rule is one of `rules` listed rules.
-fn is_listed_rule<StorageT: StorageNum>(rule: RIdx<StorageT>, rules: usize) -> bool
+fn is_listed_rule<StorageT: StorageIndex>(rule: RIdx<StorageT>, rules: usize) -> bool
     ensures { IsTrue result ↔ ((0 < StorageT.index rule.0) × (StorageT.index rule.0 < rules + 1)) }
 {
     let rule = usize::from(rule);
@@ -182,7 +182,7 @@ fn is_listed_rule<StorageT: StorageNum>(rule: RIdx<StorageT>, rules: usize) -> b
 }
 
 // Whether the symbol is one of `rules` listed rules or `tokens` listed tokens.
-fn is_listed_symbol<StorageT: StorageNum>(
+fn is_listed_symbol<StorageT: StorageIndex>(
     symbol: Symbol<StorageT>,
     rules: usize,
     tokens: usize,

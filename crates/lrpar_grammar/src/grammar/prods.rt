@@ -5,7 +5,7 @@ ghost use Rattle.lrpar_grammar.specs.Parts.{prod_of};
 ghost use Rattle.lrpar_grammar.specs.Kept.{AreRowsOf, split_prod_of};
 
 use super::parts::ProdPart;
-use lrpar_text::span::{PIdx, RIdx, Span, StorageNum, Symbol};
+use lrpar_text::span::{PIdx, RIdx, Span, StorageIndex, Symbol};
 use std::alloc::{AllocError, Global};
 
 // A production whose symbols and their places are lists of their own.
@@ -18,7 +18,7 @@ pub(super) struct SplitProd<StorageT> {
 }
 
 // The productions with their symbols and places as lists of their own, and the start production after them.
-pub(super) fn split_prods<StorageT: StorageNum>(
+pub(super) fn split_prods<StorageT: StorageIndex>(
     alloc: Global,
     parts: &[ProdPart<StorageT>],
     start: RIdx<StorageT>,
@@ -36,7 +36,7 @@ pub(super) fn split_prods<StorageT: StorageNum>(
 }
 
 // A production with its symbols and places as lists of their own.
-fn split_prod<StorageT: StorageNum>(
+fn split_prod<StorageT: StorageIndex>(
     alloc: Global,
     part: &ProdPart<StorageT>,
 ) -> Result<SplitProd<StorageT>, AllocError>
@@ -57,7 +57,7 @@ fn split_prod<StorageT: StorageNum>(
 }
 
 // The start production.
-fn added<StorageT: StorageNum>(
+fn added<StorageT: StorageIndex>(
     alloc: Global,
     start: RIdx<StorageT>,
 ) -> Result<SplitProd<StorageT>, AllocError>
@@ -78,7 +78,7 @@ fn added<StorageT: StorageNum>(
 }
 
 // The productions of each of so many rules, ascending.
-pub(super) fn prods_by_rule<StorageT: StorageNum>(
+pub(super) fn prods_by_rule<StorageT: StorageIndex>(
     alloc: Global,
     rules: usize,
     prods: &[SplitProd<StorageT>],
@@ -96,7 +96,7 @@ pub(super) fn prods_by_rule<StorageT: StorageNum>(
 }
 
 // So many empty rows.
-fn empty_rows<StorageT: StorageNum>(
+fn empty_rows<StorageT: StorageIndex>(
     alloc: Global,
     rules: usize,
 ) -> Result<Vec<Vec<PIdx<StorageT>>>, AllocError>

@@ -4,7 +4,7 @@ ghost use Rattle.std.specs.List.{range_with_len};
 ghost use Rattle.std.specs.Str.{bytes_eq};
 
 use super::parts::TokenPart;
-use lrpar_text::span::{StorageNum, TIdx};
+use lrpar_text::span::{StorageIndex, TIdx};
 use std::alloc::{AllocError, Global};
 
 // The place of the first token of that name.
@@ -15,7 +15,7 @@ pub(super) fn first_named(tokens: &[TokenPart], name: &str) -> Option<usize>
 }
 
 // The name and the number of each token.
-pub(super) fn numbered_names<StorageT: StorageNum>(
+pub(super) fn numbered_names<StorageT: StorageIndex>(
     alloc: Global,
     tokens: &[TokenPart],
 ) -> Result<Vec<(&str, TIdx<StorageT>)>, AllocError>

@@ -10,14 +10,14 @@ use super::numbers::Numbers;
 use super::parts::{GrammarFault, GrammarParts, RulePart, TokenPart};
 use super::prods::{SplitProd, prods_by_rule, split_prods};
 use super::tokens::{first_named, numbered_names};
-use lrpar_text::span::{PIdx, RIdx, Span, StorageNum, Symbol, TIdx};
+use lrpar_text::span::{PIdx, RIdx, Span, StorageIndex, Symbol, TIdx};
 use std::alloc::{AllocError, Global};
 use std::marker::Model;
 
 /// A context-free grammar with names and places. Rule 0 is the added rule `^`; the last production, the start
 /// production, is of that rule and derives the start rule alone; the last token is the end token, which has no name.
 #[derive(Debug, Drop)]
-pub struct YaccGrammar<StorageT: StorageNum> {
+pub struct YaccGrammar<StorageT: StorageIndex> {
     rules: Vec<RulePart>,
     tokens: Vec<TokenPart>,
     prods: Vec<SplitProd<StorageT>>,
@@ -25,7 +25,7 @@ pub struct YaccGrammar<StorageT: StorageNum> {
     rule_prods: Vec<Vec<PIdx<StorageT>>>,
 }
 
-impl<StorageT: StorageNum> Model for YaccGrammar<StorageT> {
+impl<StorageT: StorageIndex> Model for YaccGrammar<StorageT> {
     ghost use Rattle.lrpar_grammar.specs.Grammar.{Grammar};
 
     ghost Value = { Grammar };
@@ -38,7 +38,7 @@ impl<StorageT: StorageNum> Model for YaccGrammar<StorageT> {
         (kept_grammar StorageT.index s.rules.items s.tokens.items s.prods.items s.start.0) s.rule_prods.items };
 }
 
-impl<StorageT: StorageNum> YaccGrammar<StorageT> {
+impl<StorageT: StorageIndex> YaccGrammar<StorageT> {
     ghost use Rattle.lrpar_grammar.specs.Parts.{AreSound, grammar_of, parts_of, token_name_of, IsFirstFault};
     ghost use Rattle.lrpar_grammar.specs.Kept.{split_prod_of};
     ghost use Rattle.lrpar_grammar.specs.Grammar.{IsWellFormed, rules_len, prods_len, tokens_len, end_token, start_prod, rule_of, symbols_of, symbol_spans_of, prod_span_of, prods_of, rule_name, rule_span, token_name, token_epp, token_span};

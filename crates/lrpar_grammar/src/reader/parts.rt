@@ -12,12 +12,12 @@ use super::names::Names;
 use super::tables::{Tables, is_token};
 use crate::grammar::{GrammarParts, ProdPart, RulePart, TokenPart};
 use lrpar_text::outline::{Alternative, Outline};
-use lrpar_text::span::{RIdx, Span, StorageNum, Symbol, TIdx};
+use lrpar_text::span::{RIdx, Span, StorageIndex, Symbol, TIdx};
 use lrpar_text::words::Word;
 use std::alloc::{AllocError, Global};
 
 // What the grammar of clean declarations and rules is made of.
-pub(super) fn spelled_parts<StorageT: StorageNum>(
+pub(super) fn spelled_parts<StorageT: StorageIndex>(
     alloc: Global,
     outline: &Outline,
     tables: &Tables,
@@ -39,7 +39,7 @@ pub(super) fn spelled_parts<StorageT: StorageNum>(
 }
 
 // Whether the storage type numbers all rules, tokens and productions, with what is added to them.
-pub(super) fn fit<StorageT: StorageNum>(outline: &Outline, tables: &Tables) -> bool
+pub(super) fn fit<StorageT: StorageIndex>(outline: &Outline, tables: &Tables) -> bool
     ensures { IsTrue result ↔ FitAll StorageT.limit (numbering_by tables.now) (outline_of outline.now) }
 {
     StorageT::from_index(tables.rules.len()).is_some()
@@ -48,7 +48,7 @@ pub(super) fn fit<StorageT: StorageNum>(outline: &Outline, tables: &Tables) -> b
 }
 
 // The rule after `%start`, else the first rule.
-fn start_rule<StorageT: StorageNum>(starts: &[Word], tables: &Tables) -> RIdx<StorageT>
+fn start_rule<StorageT: StorageIndex>(starts: &[Word], tables: &Tables) -> RIdx<StorageT>
     requires room { FitTables StorageT.limit (numbering_by tables.now) }
     requires some { 0 < length (numbering_by tables.now).rules }
     requires known { All (λ w. is_among w.name (numbering_by tables.now).rules ≡ true) (map placed starts.now) }
@@ -130,7 +130,7 @@ fn printed_text<'a>(name: &'a str, epps: &Names, outline: &'a Outline) -> &'a st
 }
 
 // The productions, in order.
-fn prod_parts<StorageT: StorageNum>(
+fn prod_parts<StorageT: StorageIndex>(
     alloc: Global,
     alternatives: &[Alternative],
     tables: &Tables,
@@ -149,7 +149,7 @@ fn prod_parts<StorageT: StorageNum>(
 }
 
 // An alternative as a production.
-fn prod_part<StorageT: StorageNum>(
+fn prod_part<StorageT: StorageIndex>(
     alloc: Global,
     alternative: &Alternative,
     tables: &Tables,
@@ -181,7 +181,7 @@ fn prod_span(alternative: &Alternative) -> Span
 }
 
 // The symbols of a production, each with its place.
-fn symbols<StorageT: StorageNum>(
+fn symbols<StorageT: StorageIndex>(
     alloc: Global,
     words: &[Word],
     tables: &Tables,
@@ -200,7 +200,7 @@ fn symbols<StorageT: StorageNum>(
 }
 
 // The symbol that a word stands for.
-fn symbol<StorageT: StorageNum>(word: &Word, tables: &Tables) -> Symbol<StorageT>
+fn symbol<StorageT: StorageIndex>(word: &Word, tables: &Tables) -> Symbol<StorageT>
     requires room { FitTables StorageT.limit (numbering_by tables.now) }
     requires known { has_number (numbering_by tables.now) (placed word.now) ≡ true }
     ensures { symbol_of StorageT.index result ≡ symbol_of_word (numbering_by tables.now) (placed word.now) }
@@ -213,7 +213,7 @@ fn symbol<StorageT: StorageNum>(word: &Word, tables: &Tables) -> Symbol<StorageT
 }
 
 // The number of a rule, of which the added one is 0.
-fn rule_idx<StorageT: StorageNum>(rules: &Names, name: &str) -> RIdx<StorageT>
+fn rule_idx<StorageT: StorageIndex>(rules: &Names, name: &str) -> RIdx<StorageT>
     requires room { length rules.now < StorageT.limit }
     requires known { is_among name.now rules.now ≡ true }
     ensures { StorageT.index result.0 ≡ rule_number rules.now name.now }
@@ -225,7 +225,7 @@ fn rule_idx<StorageT: StorageNum>(rules: &Names, name: &str) -> RIdx<StorageT>
 }
 
 // The number of a token.
-fn token_idx<StorageT: StorageNum>(tokens: &Names, name: &str) -> TIdx<StorageT>
+fn token_idx<StorageT: StorageIndex>(tokens: &Names, name: &str) -> TIdx<StorageT>
     requires room { length tokens.now < StorageT.limit }
     requires known { is_among name.now tokens.now ≡ true }
     ensures { StorageT.index result.0 ≡ token_number tokens.now name.now }

@@ -4,5 +4,5 @@ use Rattle.lrpar.proofs.laws.repairs_are_compared_by_contents.Goals as goal
 
 pub returns : goal.returns
 returns g c =
-    repair_alike g.StorageT.StorageNum.index g.LexemeT.PartialEq.eq _ (λ t u. g.met.StorageT.StorageNum.eq_law t.0 u.0) (λ _ _. refl) (λ _ _. refl)
+    repair_alike g.StorageT.StorageIndex.index g.LexemeT.PartialEq.eq _ (λ t u. g.met.StorageT.StorageIndex.eq_law t.0 u.0) (λ _ _. refl) (λ _ _. refl)
     (λ _ _. refl) (λ _ _. refl) (λ _ _. refl) (λ _ _. refl) (λ _ _. refl) (λ _ _. refl)

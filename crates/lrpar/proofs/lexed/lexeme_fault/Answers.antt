@@ -9,7 +9,7 @@ use Rattle.lrpar.proofs.lexed.lexeme_fault.Goals as goal
 
 pub returns-then-end-to_index : goal.returns-then-end-to_index
 returns-then-end-to_index g c =
-    let index = g.StorageT.StorageNum.index in
+    let index = g.StorageT.StorageIndex.index in
     let lexemes = c.args.lexemes.now in
     let lexeme = c.index-lexemes-i.result in
     let i = c.loop-i.i in
@@ -25,7 +25,7 @@ returns-then-end-to_index g c =
 
 pub returns-then-start-previous : goal.returns-then-start-previous
 returns-then-start-previous g c =
-    let index = g.StorageT.StorageNum.index in
+    let index = g.StorageT.StorageIndex.index in
     let lexemes = c.args.lexemes.now in
     let lexeme = c.index-lexemes-i.result in
     let i = c.loop-i.i in
@@ -42,7 +42,7 @@ returns-then-start-previous g c =
 
 pub loop-i-preserved : goal.loop-i-preserved
 loop-i-preserved g c =
-    let index = g.StorageT.StorageNum.index in
+    let index = g.StorageT.StorageIndex.index in
     let lexemes = c.args.lexemes.now in
     let lexeme = c.index-lexemes-i.result in
     let i = c.loop-i.i in
@@ -59,7 +59,7 @@ loop-i-preserved g c =
 
 pub returns : goal.returns
 returns g c =
-    let facts = λ (x : g.row.LexemeT.Denot). facts_of g.StorageT.StorageNum.index (g.LexemeT.Lexeme.parts x) in
+    let facts = λ (x : g.row.LexemeT.Denot). facts_of g.StorageT.StorageIndex.index (g.LexemeT.Lexeme.parts x) in
     let lexemes = c.args.lexemes.now in
     let count : length (map facts lexemes) ≡ length lexemes = length-map lexemes facts in
     valid_has_no_fault c.args.grm.now (map facts lexemes) (record {

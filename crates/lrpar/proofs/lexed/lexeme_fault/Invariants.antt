@@ -7,7 +7,7 @@ use Rattle.lrpar.proofs.lexed.lexeme_fault.Given as goal
 -- no lexeme so far has a fault
 abbrev pub invariant-loop-i : goal.invariant-loop-i
 invariant-loop-i g l =
-    let facts = map (λ x. facts_of g.StorageT.StorageNum.index (g.LexemeT.Lexeme.parts x)) l.lexemes in
+    let facts = map (λ x. facts_of g.StorageT.StorageIndex.index (g.LexemeT.Lexeme.parts x)) l.lexemes in
     record {
       tokens : HasGoodTokens l.grm facts l.i;
       starts : HasOrderedStarts facts l.i;

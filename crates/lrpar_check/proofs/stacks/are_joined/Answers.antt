@@ -12,7 +12,7 @@ is_joined-requires g c = c.loop-next.invariant.0
 
 pub returns-then-not-is_joined : goal.returns-then-not-is_joined
 returns-then-not-is_joined g c =
-    let index = g.StorageT.StorageNum.index in
+    let index = g.StorageT.StorageIndex.index in
     let step =
     joined_more c.args.table.now (λ x. index x.0) (index c.loop-next.below.0) c.args.above.now c.loop-next.next-index c.next-item.result
     c.loop-next-test.true c.next-item.is in
@@ -20,7 +20,7 @@ returns-then-not-is_joined g c =
 
 pub loop-next-preserved : goal.loop-next-preserved
 loop-next-preserved g c =
-    let index = g.StorageT.StorageNum.index in
+    let index = g.StorageT.StorageIndex.index in
     let table = c.args.table.now in
     let step =
     joined_more table (λ x. index x.0) (index c.loop-next.below.0) c.args.above.now c.loop-next.next-index c.next-item.result
@@ -32,7 +32,7 @@ loop-next-preserved g c =
 
 pub returns : goal.returns
 returns g c =
-    let index = g.StorageT.StorageNum.index in
+    let index = g.StorageT.StorageIndex.index in
     let end =
     joined_end c.args.table.now (λ x. index x.0) (index c.loop-next.below.0) c.args.above.now c.loop-next.next-index c.loop-next-test.false in
     (λ _. c.loop-next.invariant.1.0 end, λ _. refl)

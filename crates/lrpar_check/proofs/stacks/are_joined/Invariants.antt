@@ -6,7 +6,7 @@ use Rattle.lrpar_check.proofs.stacks.are_joined.Given as goal
 -- the state below is one of the table, and all states are joined if those from it upwards are
 abbrev pub invariant-loop-next : goal.invariant-loop-next
 invariant-loop-next g l =
-    let index = g.StorageT.StorageNum.index in
+    let index = g.StorageT.StorageIndex.index in
     (index l.below.0 < states_len l.table)
     × (AreJoined l.table (index l.below.0) (map (λ x. index x.0) (drop l.next-index l.above))
     ↔ AreJoined l.table (index l.fn.bottom.0) (map (λ x. index x.0) l.above))

@@ -5,7 +5,7 @@ use Rattle.lrpar_check.proofs.stacks.goes_to.Goals as goal
 
 pub returns : goal.returns
 returns g c =
-    let index = g.StorageT.StorageNum.index in
+    let index = g.StorageT.StorageIndex.index in
     let table = c.args.table.now in
     let next = c.args.next in
     let es = gotos_at table (index c.args.s.0) in

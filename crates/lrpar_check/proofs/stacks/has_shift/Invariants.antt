@@ -6,4 +6,4 @@ use Rattle.lrpar_check.proofs.stacks.has_shift.Given as goal
 -- none of the actions so far is it
 abbrev pub invariant-loop-action : goal.invariant-loop-action
 invariant-loop-action g l =
-    (k : ℕ) (d : TableAction) → k < l.action-index → get_or (map (plain_action g.StorageT.StorageNum.index) l.actions) k d ≢ ShiftTo l.next
+    (k : ℕ) (d : TableAction) → k < l.action-index → get_or (map (plain_action g.StorageT.StorageIndex.index) l.actions) k d ≢ ShiftTo l.next

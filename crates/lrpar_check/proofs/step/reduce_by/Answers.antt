@@ -9,7 +9,7 @@ use Rattle.lrpar_check.proofs.step.reduce_by.Goals as goal
 
 pub returns-in-None-clause-reduction : goal.returns-in-None-clause-reduction
 returns-in-None-clause-reduction g c =
-    let index = g.StorageT.StorageNum.index in
+    let index = g.StorageT.StorageIndex.index in
     let grm = c.args.grm.now in
     let p = index c.args.prod.0 in
     let len = length_by_image (symbol_of index) c.prod-symbols.result.now (symbols_of grm p) c.prod-symbols.ensures in
@@ -20,7 +20,7 @@ returns-in-None-clause-reduction g c =
 
 pub returns-in_err-reduce-in-Some-clause-due : goal.returns-in_err-reduce-in-Some-clause-due
 returns-in_err-reduce-in-Some-clause-due g c =
-    let index = g.StorageT.StorageNum.index in
+    let index = g.StorageT.StorageIndex.index in
     let grm = c.args.grm.now in
     let p = index c.args.prod.0 in
     let len = length_by_image (symbol_of index) c.prod-symbols.result.now (symbols_of grm p) c.prod-symbols.ensures in
@@ -31,7 +31,7 @@ returns-in_err-reduce-in-Some-clause-due g c =
 
 pub returns-in_err-reduce-in-Some-clause-fails : goal.returns-in_err-reduce-in-Some-clause-fails
 returns-in_err-reduce-in-Some-clause-fails g c =
-    let index = g.StorageT.StorageNum.index in
+    let index = g.StorageT.StorageIndex.index in
     let grm = c.args.grm.now in
     let p = index c.args.prod.0 in
     let len = length_by_image (symbol_of index) c.prod-symbols.result.now (symbols_of grm p) c.prod-symbols.ensures in
@@ -40,7 +40,7 @@ returns-in_err-reduce-in-Some-clause-fails g c =
 
 pub returns-in_ok-reduce-in-Some-clause-reduction : goal.returns-in_ok-reduce-in-Some-clause-reduction
 returns-in_ok-reduce-in-Some-clause-reduction g c =
-    let index = g.StorageT.StorageNum.index in
+    let index = g.StorageT.StorageIndex.index in
     let grm = c.args.grm.now in
     let p = index c.args.prod.0 in
     let len = length_by_image (symbol_of index) c.prod-symbols.result.now (symbols_of grm p) c.prod-symbols.ensures in

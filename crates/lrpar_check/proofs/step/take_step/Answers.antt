@@ -10,7 +10,7 @@ use Rattle.lrpar_check.proofs.step.take_step.Goals as goal
 
 pub returns-in-Reduce-clause-step : goal.returns-in-Reduce-clause-step
 returns-in-Reduce-clause-step g c =
-    let index = g.StorageT.StorageNum.index in
+    let index = g.StorageT.StorageIndex.index in
     let states = g.S.StateStack.states c.args.states.now in
     let table = c.args.table.now in
     let t = index c.args.t.0 in
@@ -22,7 +22,7 @@ returns-in-Reduce-clause-step g c =
 
 pub returns-in-Shift-clause-step : goal.returns-in-Shift-clause-step
 returns-in-Shift-clause-step g c =
-    let index = g.StorageT.StorageNum.index in
+    let index = g.StorageT.StorageIndex.index in
     let states = g.S.StateStack.states c.args.states.now in
     let table = c.args.table.now in
     let t = index c.args.t.0 in
@@ -40,7 +40,7 @@ returns-in-Shift-clause-step g c =
 
 pub returns-in-Reduce-clause-held_up : goal.returns-in-Reduce-clause-held_up
 returns-in-Reduce-clause-held_up g c =
-    let index = g.StorageT.StorageNum.index in
+    let index = g.StorageT.StorageIndex.index in
     let states = g.S.StateStack.states c.args.states.now in
     let table = c.args.table.now in
     let t = index c.args.t.0 in

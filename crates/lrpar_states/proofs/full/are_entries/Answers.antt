@@ -7,7 +7,7 @@ use Rattle.lrpar_states.proofs.full.are_entries.Goals as goal
 
 pub returns-then-are_action_rows : goal.returns-then-are_action_rows
 returns-then-are_action_rows g c =
-    let index = g.StorageT.StorageNum.index in
+    let index = g.StorageT.StorageIndex.index in
     let table = plain_rows index c.args.rows.now in
     let states : length c.as_slice-actions.result.now ≡ length table.actions = rw (c.as_slice-actions.ensures.value, length-map) refl in
     let actions =
@@ -22,7 +22,7 @@ returns-then-are_action_rows g c =
 
 pub returns-else-are_action_rows : goal.returns-else-are_action_rows
 returns-else-are_action_rows g c =
-    let index = g.StorageT.StorageNum.index in
+    let index = g.StorageT.StorageIndex.index in
     let table = plain_rows index c.args.rows.now in
     let states : length c.as_slice-actions.result.now ≡ length table.actions = rw (c.as_slice-actions.ensures.value, length-map) refl in
     let actions =

@@ -5,9 +5,9 @@ use Rattle.lrpar_states.proofs.full.is_action_row.Goals as goal
 
 pub returns-then-row-tokens : goal.returns-then-row-tokens
 returns-then-row-tokens g c =
-    row_test (IsActionWithin c.args.states) (plain_action g.StorageT.StorageNum.index) c.args.row.now c.args.tokens _ c.if-row-tokens.true
+    row_test (IsActionWithin c.args.states) (plain_action g.StorageT.StorageIndex.index) c.args.row.now c.args.tokens _ c.if-row-tokens.true
     c.are_actions_within.ensures
 
 pub returns-else-row-tokens : goal.returns-else-row-tokens
 returns-else-row-tokens g c =
-    row_refused (IsActionWithin c.args.states) (plain_action g.StorageT.StorageNum.index) c.args.row.now c.args.tokens c.if-row-tokens.false
+    row_refused (IsActionWithin c.args.states) (plain_action g.StorageT.StorageIndex.index) c.args.row.now c.args.tokens c.if-row-tokens.false

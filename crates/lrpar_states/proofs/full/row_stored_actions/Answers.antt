@@ -7,7 +7,7 @@ use Rattle.lrpar_states.proofs.full.row_stored_actions.Goals as goal
 
 pub loop-number-preserved : goal.loop-number-preserved
 loop-number-preserved g c =
-    let index = g.StorageT.StorageNum.index in
+    let index = g.StorageT.StorageIndex.index in
     let number = c.loop-number.number in
     let item = c.index-row-number.result in
     let more =

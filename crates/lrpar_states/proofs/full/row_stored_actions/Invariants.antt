@@ -6,4 +6,4 @@ use Rattle.lrpar_states.proofs.full.row_stored_actions.Given as goal
 -- what is stored is what the row so far stores
 abbrev pub invariant-loop-number : goal.invariant-loop-number
 invariant-loop-number g l =
-    map (action_entry g.StorageT.StorageNum.index) l.stored.items ≡ row_actions (take l.number (map (plain_action g.StorageT.StorageNum.index) l.row))
+    map (action_entry g.StorageT.StorageIndex.index) l.stored.items ≡ row_actions (take l.number (map (plain_action g.StorageT.StorageIndex.index) l.row))

@@ -6,5 +6,5 @@ use Rattle.lrpar_states.proofs.full.stored_actions.Given as goal
 -- what is stored is what the rows so far store
 abbrev pub invariant-loop-row : goal.invariant-loop-row
 invariant-loop-row g l =
-    map (λ row. map (action_entry g.StorageT.StorageNum.index) row.items) l.stored.items
-    ≡ map (λ row. row_actions (map (plain_action g.StorageT.StorageNum.index) row.items)) (take l.row-index l.rows)
+    map (λ row. map (action_entry g.StorageT.StorageIndex.index) row.items) l.stored.items
+    ≡ map (λ row. row_actions (map (plain_action g.StorageT.StorageIndex.index) row.items)) (take l.row-index l.rows)

@@ -10,8 +10,8 @@ use Rattle.lrpar_states.proofs.graph.item_sets.Goals as goal
 pub loop-row-preserved : goal.loop-row-preserved
 loop-row-preserved g c =
     rw (c.in_ok-push.ensures.items, map-append)
-    (all_zipped_more HaveSame c.loop-row.sets.items (map (row_of g.StorageT.StorageNum.index) c.loop-row.yielded) c.in_ok-from_row.field-0
-    (row_of g.StorageT.StorageNum.index c.in-Some.row) c.loop-row.invariant c.in_ok-from_row.ensures.same)
+    (all_zipped_more HaveSame c.loop-row.sets.items (map (row_of g.StorageT.StorageIndex.index) c.loop-row.yielded) c.in_ok-from_row.field-0
+    (row_of g.StorageT.StorageIndex.index c.in-Some.row) c.loop-row.invariant c.in_ok-from_row.ensures.same)
 
 pub returns : goal.returns
 returns g c =

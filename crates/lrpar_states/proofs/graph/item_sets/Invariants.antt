@@ -6,4 +6,4 @@ use Rattle.lrpar_states.proofs.graph.item_sets.Given as goal
 
 -- the sets so far have the items of the rows so far
 abbrev pub invariant-loop-row : goal.invariant-loop-row
-invariant-loop-row g l = AllZip HaveSame l.sets.items (map (row_of g.StorageT.StorageNum.index) l.yielded)
+invariant-loop-row g l = AllZip HaveSame l.sets.items (map (row_of g.StorageT.StorageIndex.index) l.yielded)

@@ -7,14 +7,14 @@ use Rattle.lrpar_states.proofs.items.cores_of.Goals as goal
 pub push_new-requires : goal.push_new-requires
 push_new-requires g c =
     let exact =
-    exact_index g.StorageT.StorageNum.index g.StorageT.StorageNum.at_index g.met.StorageT.StorageNum.at_index_law in
-    record { exact = cores_same_by_test g.StorageT.StorageNum.index exact g.StorageT.PartialEq.eq g.met.StorageT.StorageNum.eq_law }
+    exact_index g.StorageT.StorageIndex.index g.StorageT.StorageIndex.at_index g.met.StorageT.StorageIndex.at_index_law in
+    record { exact = cores_same_by_test g.StorageT.StorageIndex.index exact g.StorageT.PartialEq.eq g.met.StorageT.StorageIndex.eq_law }
 
 pub from_vec-requires : goal.from_vec-requires
 from_vec-requires g c =
     let exact =
-    exact_index g.StorageT.StorageNum.index g.StorageT.StorageNum.at_index g.met.StorageT.StorageNum.at_index_law in
-    record { exact = cores_told_apart g.StorageT.StorageNum.index exact g.StorageT.Ord.cmp g.met.StorageT.StorageNum.cmp_law }
+    exact_index g.StorageT.StorageIndex.index g.StorageT.StorageIndex.at_index g.met.StorageT.StorageIndex.at_index_law in
+    record { exact = cores_told_apart g.StorageT.StorageIndex.index exact g.StorageT.Ord.cmp g.met.StorageT.StorageIndex.cmp_law }
 
 pub loop-item-preserved : goal.loop-item-preserved
 loop-item-preserved g c =

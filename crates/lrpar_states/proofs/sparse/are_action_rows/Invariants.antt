@@ -6,4 +6,4 @@ use Rattle.lrpar_states.proofs.sparse.are_action_rows.Given as goal
 -- the rows so far are as they should be
 abbrev pub invariant-loop-row : goal.invariant-loop-row
 invariant-loop-row g l =
-    All (λ row. AreEntries (IsActionEntry l.tokens l.states) (map (action_entry g.StorageT.StorageNum.index) row.items)) (take l.row-index l.rows)
+    All (λ row. AreEntries (IsActionEntry l.tokens l.states) (map (action_entry g.StorageT.StorageIndex.index) row.items)) (take l.row-index l.rows)

@@ -38,6 +38,6 @@ returns g c =
         c.in_ok-answers.ensures.allowed,
         run_is_parse _ _ _ _ c.in_ok-answers.answers.items c.in-Ok.lexemes.items c.in_ok-answered-in-None.field-0 lexed.0 lexed.1
             (rw (c.deref.ensures.value, c.grm.ensures, grammar) at c.in-None.ensures)
-            (end_answer _ _ _ _ _ _ g.StorageT.StorageNum.index c.in_ok-end-in-None.end _ ends c.in_ok-answered-in-None.ensures),
+            (end_answer _ _ _ _ _ _ g.StorageT.StorageIndex.index c.in_ok-end-in-None.end _ ends c.in_ok-answered-in-None.ensures),
       );
     }

@@ -13,13 +13,13 @@ use Rattle.lrpar.proofs.run.Run.over.Goals as goal
 
 pub loop-lexeme-init : goal.loop-lexeme-init
 loop-lexeme-init g c =
-    let index = g.StorageT.StorageNum.index in
+    let index = g.StorageT.StorageIndex.index in
     let start : index c.start_state.result.0 ≡ c.args.self.now.checked.now.table.start = c.start_state.ensures.start ∙ ap (λ t. t.start) c.stable.ensures.table in
     at_start _ _ _ _ _ _ c.in_ok-stack.stack (rw start at c.in_ok-stack.ensures)
 
 pub take-requires-clause-token : goal.take-requires-clause-token
 take-requires-clause-token g c =
-    let facts = λ (x : g.row.LexemeT.Denot). facts_of g.StorageT.StorageNum.index (g.LexemeT.Lexeme.parts x) in
+    let facts = λ (x : g.row.LexemeT.Denot). facts_of g.StorageT.StorageIndex.index (g.LexemeT.Lexeme.parts x) in
     let lexemes = c.args.lexemes.now in
     let i = c.loop-lexeme.lexeme-index in
     let x = c.lexeme-item.result in
@@ -30,7 +30,7 @@ take-requires-clause-token g c =
 
 pub take-requires-clause-inner : goal.take-requires-clause-inner
 take-requires-clause-inner g c =
-    let facts = λ (x : g.row.LexemeT.Denot). facts_of g.StorageT.StorageNum.index (g.LexemeT.Lexeme.parts x) in
+    let facts = λ (x : g.row.LexemeT.Denot). facts_of g.StorageT.StorageIndex.index (g.LexemeT.Lexeme.parts x) in
     let lexemes = c.args.lexemes.now in
     let i = c.loop-lexeme.lexeme-index in
     let x = c.lexeme-item.result in
@@ -56,7 +56,7 @@ loop-lexeme-preserved g c =
 
 pub into_entry-requires : goal.into_entry-requires
 into_entry-requires g c =
-    let index = g.StorageT.StorageNum.index in
+    let index = g.StorageT.StorageIndex.index in
     let d = c.args.self.now.checked.now in
     let i = c.loop-lexeme.lexeme-index in
     let last : i ≡ length c.args.lexemes.now = omega (arith, c.loop-lexeme-test.false, c.loop-lexeme.auto.lexeme-index-end) in
@@ -69,7 +69,7 @@ into_entry-requires g c =
 
 pub unreachable-requires : goal.unreachable-requires
 unreachable-requires g c =
-    let index = g.StorageT.StorageNum.index in
+    let index = g.StorageT.StorageIndex.index in
     let d = c.args.self.now.checked.now in
     let suits = g.B.Build.suits c.args.self.now.build.now in
     let end : index c.eof_token_idx-end.result.0 ≡ end_token d.grammar = rw c.grm.ensures at c.eof_token_idx-end.ensures in
@@ -82,7 +82,7 @@ unreachable-requires g c =
 
 pub returns-in-Accept : goal.returns-in-Accept
 returns-in-Accept g c =
-    let index = g.StorageT.StorageNum.index in
+    let index = g.StorageT.StorageIndex.index in
     let d = c.args.self.now.checked.now in
     let i = c.loop-lexeme.lexeme-index in
     let last : i ≡ length c.args.lexemes.now = omega (arith, c.loop-lexeme-test.false, c.loop-lexeme.auto.lexeme-index-end) in
@@ -96,7 +96,7 @@ returns-in-Accept g c =
 
 pub returns-in-Error : goal.returns-in-Error
 returns-in-Error g c =
-    let index = g.StorageT.StorageNum.index in
+    let index = g.StorageT.StorageIndex.index in
     let d = c.args.self.now.checked.now in
     let i = c.loop-lexeme.lexeme-index in
     let last : i ≡ length c.args.lexemes.now = omega (arith, c.loop-lexeme-test.false, c.loop-lexeme.auto.lexeme-index-end) in

@@ -17,7 +17,7 @@ action-requires-clause-state g c =
 
 pub reduce-requires-clause-action : goal.reduce-requires-clause-action
 reduce-requires-clause-action g c =
-    let index = g.StorageT.StorageNum.index in
+    let index = g.StorageT.StorageIndex.index in
     let is = action_of_top index c.args.self.now.checked.now.table (index c.args.token.0) _ c.reductions.stack.states c.action.result c.top.ensures (rw c.stable-stable.ensures.table at c.action.ensures.action) in
     sym is ∙ ap (plain_action index) c.in-Reduce.is
 
@@ -38,7 +38,7 @@ reductions-preserved g c =
 
 pub returns-in_default : goal.returns-in_default
 returns-in_default g c =
-    let index = g.StorageT.StorageNum.index in
+    let index = g.StorageT.StorageIndex.index in
     let is = action_of_top index c.args.self.now.checked.now.table (index c.args.token.0) _ c.reductions.stack.states c.action.result c.top.ensures (rw c.stable-stable.ensures.table at c.action.ensures.action) in
     record {
       upright = c.reductions.invariant.upright;

@@ -8,7 +8,7 @@ invariant-reductions g l =
     let d = l.self.checked.now in
     record {
       upright : IsUpright (g.B.Build.suits l.self.build.now) d.table l.stack;
-      counts : CountsDown (g.B.Build.node l.self.build.now d.grammar) (g.B.Build.suits l.self.build.now) d (g.StorageT.StorageNum.index l.token.0) l.fn.stack l.stack l.left;
+      counts : CountsDown (g.B.Build.node l.self.build.now d.grammar) (g.B.Build.suits l.self.build.now) d (g.StorageT.StorageIndex.index l.token.0) l.fn.stack l.stack l.left;
     }
 
 -- the reductions that may still be made

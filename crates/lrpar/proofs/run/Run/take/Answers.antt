@@ -7,7 +7,7 @@ use Rattle.lrpar.proofs.run.Run.take.Goals as goal
 
 pub returns-in_ok-push-in-Shift-clause-upright : goal.returns-in_ok-push-in-Shift-clause-upright
 returns-in_ok-push-in-Shift-clause-upright g c =
-    let index = g.StorageT.StorageNum.index in
+    let index = g.StorageT.StorageIndex.index in
     let d = c.args.self.now.checked.now in
     let settled = c.settle.new.stack in
     let token = (g.LexemeT.Lexeme.parts c.args.lexeme).token in

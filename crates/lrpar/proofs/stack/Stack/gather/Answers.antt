@@ -5,7 +5,7 @@ use Rattle.lrpar.proofs.stack.Stack.gather.Goals as goal
 
 pub returns-clause-states : goal.returns-clause-states
 returns-clause-states g c =
-    let number : StIdx g.row.StorageT.Denot → ℕ = λ x. g.StorageT.StorageNum.index x.0 in
+    let number : StIdx g.row.StorageT.Denot → ℕ = λ x. g.StorageT.StorageIndex.index x.0 in
     let states = c.self.inside.states.items in
     let seen : map number states ≡ c.args.self.now.states = ap (λ v. v.states) c.self.view_is in
     let count : length c.args.self.now.states ≡ length states = sym (ap length seen) ∙ length-map states number in

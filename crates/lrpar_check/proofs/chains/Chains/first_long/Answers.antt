@@ -6,7 +6,7 @@ use Rattle.lrpar_check.proofs.chains.Chains.first_long.Goals as goal
 
 pub returns-in-Some : goal.returns-in-Some
 returns-in-Some g c =
-    let index = g.StorageT.StorageNum.index in
+    let index = g.StorageT.StorageIndex.index in
     let table = c.args.self.now.stable.now in
     let number : index c.unwrap.result ≡ c.loop-s.s = rw c.unwrap.ensures at c.from_index.ensures.back in
     let Long : ℕ → Type 0 = λ s. IsLongChain c.args.self.now.grm.now table c.args.self.now.cap s c.in-Some.t in
@@ -17,7 +17,7 @@ returns-in-Some g c =
 
 pub loop-s-preserved : goal.loop-s-preserved
 loop-s-preserved g c = λ k t below token.
-    let index = g.StorageT.StorageNum.index in
+    let index = g.StorageT.StorageIndex.index in
     let table = c.args.self.now.stable.now in
     let number : index c.unwrap.result ≡ c.loop-s.s = rw c.unwrap.ensures at c.from_index.ensures.back in
     let Short : ℕ → Type 0 = λ s. (t : ℕ) → t < table.tokens → ¬ (IsLongChain c.args.self.now.grm.now table c.args.self.now.cap s t) in

@@ -5,7 +5,7 @@ use Rattle.lrpar_check.proofs.chains.Chains.first_long_at.Goals as goal
 
 pub loop-t-preserved : goal.loop-t-preserved
 loop-t-preserved g c =
-    let index = g.StorageT.StorageNum.index in
+    let index = g.StorageT.StorageIndex.index in
     let number : index c.unwrap.result ≡ c.loop-t.t = rw c.unwrap.ensures at c.from_index.ensures.back in
     let Long : ℕ → Type 0 = λ t. IsLongChain c.args.self.now.grm.now c.args.self.now.stable.now c.args.self.now.cap (index c.args.s.0) t in
     let short : ¬ (Long (index c.unwrap.result)) =

@@ -7,7 +7,7 @@ use Rattle.lrpar_check.proofs.chains.Chains.has_long.Goals as goal
 
 pub returns-then-branch-2 : goal.returns-then-branch-2
 returns-then-branch-2 g c =
-    let index = g.StorageT.StorageNum.index in
+    let index = g.StorageT.StorageIndex.index in
     let table = c.args.self.now.stable.now in
     let s = index c.args.s.0 in
     let r = index c.unwrap.result in

@@ -8,7 +8,7 @@ use Rattle.lrpar_check.proofs.chains.Chains.is_long.Goals as goal
 
 pub loop-made-init : goal.loop-made-init
 loop-made-init g c =
-    let index = g.StorageT.StorageNum.index in
+    let index = g.StorageT.StorageIndex.index in
     let states = map (λ x. index x.0) c.args.states.now.items in
     record {
       some = c.requires.some;
@@ -24,7 +24,7 @@ take_step-requires-clause-within g c = c.loop-made.invariant.within
 
 pub returns-in-LeavesNone : goal.returns-in-LeavesNone
 returns-in-LeavesNone g c =
-    let index = g.StorageT.StorageNum.index in
+    let index = g.StorageT.StorageIndex.index in
     refused (remains_early c.args.self.now.grm.now c.args.self.now.stable.now (index c.args.t.0)
     (map (λ x. index x.0) c.args.states.now.items) c.args.self.now.cap (map (λ x. index x.0) c.loop-made.states.items)
     (map (λ x. index x.0) c.take_step.new.states.items) c.loop-made._made c.in_ok-take_step.field-0 c.loop-made.invariant.remains
@@ -32,7 +32,7 @@ returns-in-LeavesNone g c =
 
 pub loop-made-preserved : goal.loop-made-preserved
 loop-made-preserved g c =
-    let index = g.StorageT.StorageNum.index in
+    let index = g.StorageT.StorageIndex.index in
     let grm = c.args.self.now.grm.now in
     let table = c.args.self.now.stable.now in
     let t = index c.args.t.0 in
@@ -55,7 +55,7 @@ take_step-requires-2-clause-within g c = c.loop-made.invariant.within
 
 pub returns-in-Reduced-2 : goal.returns-in-Reduced-2
 returns-in-Reduced-2 g c =
-    let index = g.StorageT.StorageNum.index in
+    let index = g.StorageT.StorageIndex.index in
     let end : c.loop-made._made ≡ c.args.self.now.cap = omega (arith, c.loop-made-test.false, c.loop-made.auto._made-end) in
     accepted (remains_last c.args.self.now.grm.now c.args.self.now.stable.now (index c.args.t.0)
     (map (λ x. index x.0) c.args.states.now.items) c.args.self.now.cap (map (λ x. index x.0) c.loop-made.states.items)
@@ -64,7 +64,7 @@ returns-in-Reduced-2 g c =
 
 pub returns-in-Stays : goal.returns-in-Stays
 returns-in-Stays g c =
-    let index = g.StorageT.StorageNum.index in
+    let index = g.StorageT.StorageIndex.index in
     let end : c.loop-made._made ≡ c.args.self.now.cap = omega (arith, c.loop-made-test.false, c.loop-made.auto._made-end) in
     refused (remains_none c.args.self.now.grm.now c.args.self.now.stable.now (index c.args.t.0)
     (map (λ x. index x.0) c.args.states.now.items) c.args.self.now.cap (map (λ x. index x.0) c.loop-made.states.items)

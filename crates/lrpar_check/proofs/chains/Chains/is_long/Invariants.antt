@@ -7,7 +7,7 @@ use Rattle.lrpar_check.proofs.chains.Chains.is_long.Given as goal
 -- there are states, all of the table, to which the chain has come by so many steps
 abbrev pub invariant-loop-made : goal.invariant-loop-made
 invariant-loop-made g l =
-    let index = g.StorageT.StorageNum.index in
+    let index = g.StorageT.StorageIndex.index in
     let table = l.self.stable.now in
     record {
       some : 0 < length l.states.items;

@@ -7,7 +7,7 @@ use Rattle.lrpar_check.proofs.check.ParserData.feed.Goals as goal
 
 pub returns-clause-held_up : goal.returns-clause-held_up
 returns-clause-held_up g c =
-    let index = g.StorageT.StorageNum.index in
+    let index = g.StorageT.StorageIndex.index in
     let d = c.args.self.now in
     on_err_weaker c.feed_on.result
     (list_feed_held_up (λ v. states_of index v.items) _ d.grammar d.table (index c.args.t.0) _ _ (λ v. vec_capacity v) (λ a p r n b h. h)

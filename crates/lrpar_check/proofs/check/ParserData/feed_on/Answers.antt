@@ -14,7 +14,7 @@ action-requires-clause-state g c =
 
 pub returns-in_err-shift-in-Shift-clause-held_up : goal.returns-in_err-shift-in-Shift-clause-held_up
 returns-in_err-shift-in-Shift-clause-held_up g c =
-    let index = g.StorageT.StorageNum.index in
+    let index = g.StorageT.StorageIndex.index in
     let table = c.args.self.now.table in
     let t = index c.args.t.0 in
     let states = g.S.StateStack.states c.settle_on.new.stack in
@@ -32,7 +32,7 @@ returns-in_err-shift-in-Shift-clause-held_up g c =
 
 pub returns-in_ok-shift-in-Shift-clause-stack : goal.returns-in_ok-shift-in-Shift-clause-stack
 returns-in_ok-shift-in-Shift-clause-stack g c =
-    let index = g.StorageT.StorageNum.index in
+    let index = g.StorageT.StorageIndex.index in
     let d = c.args.self.now in
     let t = index c.args.t.0 in
     let states = g.S.StateStack.states c.settle_on.new.stack in

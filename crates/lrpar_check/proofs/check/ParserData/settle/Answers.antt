@@ -7,7 +7,7 @@ use Rattle.lrpar_check.proofs.check.ParserData.settle.Goals as goal
 
 pub returns-clause-held_up : goal.returns-clause-held_up
 returns-clause-held_up g c =
-    let index = g.StorageT.StorageNum.index in
+    let index = g.StorageT.StorageIndex.index in
     let d = c.args.self.now in
     on_err_weaker c.settle_on.result
     (list_held_up (λ v. states_of index v.items) _ d.grammar d.table (index c.args.t.0) _ (λ _ _. ⊥) (λ v. vec_capacity v) (λ a p r n b h. h)

@@ -26,7 +26,7 @@ overflow_add-count g c =
     let made = c.reductions.invariant.made in
     let step = rw (c.grm-grm.ensures, c.stable-table.ensures.table) at c.in_ok-take_step.ensures.made in
     let more =
-    stack_reduced_once d.grammar d.table d.cap run (g.StorageT.StorageNum.index c.args.t.0) c.requires.token kind.states kind.reduces c.args.stack.now
+    stack_reduced_once d.grammar d.table d.cap run (g.StorageT.StorageIndex.index c.args.t.0) c.requires.token kind.states kind.reduces c.args.stack.now
     c.reductions.stack c.take_step.new.states made.0 c.in_ok-take_step.field-0 c.requires.stack c.reductions.invariant.stack made.1 c.in-Reduced.is
     step in
     let below = subst (λ (n : ℕ). n < most_reductions d.cap (length (kind.states c.args.stack.now))) (sym made.2) more.1 in
@@ -45,7 +45,7 @@ reductions-smaller g c =
     let made = c.reductions.invariant.made in
     let step = rw (c.grm-grm.ensures, c.stable-table.ensures.table) at c.in_ok-take_step.ensures.made in
     let more =
-    stack_reduced_once d.grammar d.table d.cap run (g.StorageT.StorageNum.index c.args.t.0) c.requires.token kind.states kind.reduces c.args.stack.now
+    stack_reduced_once d.grammar d.table d.cap run (g.StorageT.StorageIndex.index c.args.t.0) c.requires.token kind.states kind.reduces c.args.stack.now
     c.reductions.stack c.take_step.new.states made.0 c.in_ok-take_step.field-0 c.requires.stack c.reductions.invariant.stack made.1 c.in-Reduced.is
     step in
     left_to_make (most_reductions d.cap (length (kind.states c.args.stack.now))) c.reductions.count (c.reductions.count + 1)
@@ -59,7 +59,7 @@ reductions-preserved g c =
     let made = c.reductions.invariant.made in
     let step = rw (c.grm-grm.ensures, c.stable-table.ensures.table) at c.in_ok-take_step.ensures.made in
     let more =
-    stack_reduced_once d.grammar d.table d.cap run (g.StorageT.StorageNum.index c.args.t.0) c.requires.token kind.states kind.reduces c.args.stack.now
+    stack_reduced_once d.grammar d.table d.cap run (g.StorageT.StorageIndex.index c.args.t.0) c.requires.token kind.states kind.reduces c.args.stack.now
     c.reductions.stack c.take_step.new.states made.0 c.in_ok-take_step.field-0 c.requires.stack c.reductions.invariant.stack made.1 c.in-Reduced.is
     step in
     record {
@@ -77,7 +77,7 @@ returns g c =
     let of_states = rw (c.grm-grm.ensures, c.stable-table.ensures.table) at c.in_ok-take_step.ensures.step in
     let of_stack = rw (c.grm-grm.ensures, c.stable-table.ensures.table) at c.in_ok-take_step.ensures.made in
     let settled =
-    stack_settled_by d.grammar d.table d.cap run (g.StorageT.StorageNum.index c.args.t.0) c.requires.token kind.states kind.reduces c.args.stack.now
+    stack_settled_by d.grammar d.table d.cap run (g.StorageT.StorageIndex.index c.args.t.0) c.requires.token kind.states kind.reduces c.args.stack.now
     c.reductions.stack c.take_step.new.states made.0 c.reductions.count c.in_ok-take_step.field-0 c.requires.stack c.reductions.invariant.stack
     made.1 made.2 c.in_default.not-Reduced of_states of_stack in
     record { settled = settled; can = c.in_ok-take_step.ensures.can; held_up = tt; stack = settled.of_states.stack }

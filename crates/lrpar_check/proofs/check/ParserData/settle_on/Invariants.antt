@@ -11,7 +11,7 @@ invariant-reductions g l =
     record {
       can : kind.can_reduce l.stack;
       stack : IsStack l.self.table (kind.states l.stack);
-      made : (prods : List ℕ) × StackReducesBy kind.states kind.reduces l.self.grammar l.self.table (g.StorageT.StorageNum.index l.t.0) l.fn.stack prods l.stack × (l.count ≡ length prods);
+      made : (prods : List ℕ) × StackReducesBy kind.states kind.reduces l.self.grammar l.self.table (g.StorageT.StorageIndex.index l.t.0) l.fn.stack prods l.stack × (l.count ≡ length prods);
     }
 
 -- the reductions that may still be made

@@ -5,7 +5,7 @@ use Rattle.lrpar_check.proofs.overlay.Overlay.to_vec.Goals as goal
 
 pub returns : goal.returns
 returns g c =
-    let index = g.StorageT.StorageNum.index in
+    let index = g.StorageT.StorageIndex.index in
     let inside = c.self.inside in
     let first : c.extend_from_slice.new.self.items ≡ take inside.kept inside.base.now =
     c.in_ok-extend_from_slice.ensures.items ∙ grind (arith, common_steps, c.in_ok-states.ensures.items) in

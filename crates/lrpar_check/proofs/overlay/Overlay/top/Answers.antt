@@ -5,7 +5,7 @@ use Rattle.lrpar_check.proofs.overlay.Overlay.top.Goals as goal
 
 pub returns-in-Some : goal.returns-in-Some
 returns-in-Some g c =
-    let index = g.StorageT.StorageNum.index in
+    let index = g.StorageT.StorageIndex.index in
     let inside = c.self.inside in
     rw (← c.self.view_is)
     (top_of_tail (λ x. index x.0) (states_of index inside.base.now) inside.kept inside.tail.items c.in-Some.top.now
@@ -13,7 +13,7 @@ returns-in-Some g c =
 
 pub returns-in-None : goal.returns-in-None
 returns-in-None g c =
-    let index = g.StorageT.StorageNum.index in
+    let index = g.StorageT.StorageIndex.index in
     let inside = c.self.inside in
     rw (← c.self.view_is)
     (top_of_base (λ x. index x.0) inside.base.now inside.tail.items inside.kept c.index-self-self.result c.self.invariant.0 c.self.invariant.1

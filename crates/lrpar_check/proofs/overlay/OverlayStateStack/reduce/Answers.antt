@@ -7,7 +7,7 @@ use Rattle.lrpar_check.proofs.overlay.OverlayStateStack.reduce.Goals as goal
 
 pub returns-clause-states : goal.returns-clause-states
 returns-clause-states g c =
-    let index = g.StorageT.StorageNum.index in
+    let index = g.StorageT.StorageIndex.index in
     let inside = c.self.inside in
     let base = states_of index inside.base.now in
     let left = c.len.result - c.args.by.symbols in

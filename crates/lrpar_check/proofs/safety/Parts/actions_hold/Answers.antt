@@ -11,7 +11,7 @@ use Rattle.lrpar_check.proofs.safety.Parts.actions_hold.Goals as goal
 
 pub action_holds-requires-clause-within : goal.action_holds-requires-clause-within
 action_holds-requires-clause-within g c =
-    let index = g.StorageT.StorageNum.index in
+    let index = g.StorageT.StorageIndex.index in
     let at = c.actions_of.ensures in
     let es = actions_at c.args.self.now.stable.now (index c.args.s.0) in
     let place = c.loop-place.place in
@@ -25,7 +25,7 @@ action_holds-requires-clause-within g c =
 
 pub action_holds-requires-clause-named : goal.action_holds-requires-clause-named
 action_holds-requires-clause-named g c =
-    let index = g.StorageT.StorageNum.index in
+    let index = g.StorageT.StorageIndex.index in
     let at = c.actions_of.ensures in
     let es = actions_at c.args.self.now.stable.now (index c.args.s.0) in
     let place = c.loop-place.place in
@@ -35,11 +35,11 @@ action_holds-requires-clause-named g c =
     let len = entries_len (λ t. index t.0) (plain_action index) c.actions_of.result.0.now c.actions_of.result.1.now es at.actions at.entries in
     let below : place < length es = omega (arith, len, c.loop-place-test.true) in
     let there : Contains es (index c.index-tokens-place.result.0, plain_action index c.index-actions-place.result) = (place, below, sym read) in
-    named_each c.args.self.now.grm.now c.args.self.now.sgraph.now c.args.self.now.stable.now (g.StorageT.StorageNum.index c.args.s.0) (c.requires.shape.reduces (index c.args.s.0)) _ _ ((at.exact _ _).0 there).0
+    named_each c.args.self.now.grm.now c.args.self.now.sgraph.now c.args.self.now.stable.now (g.StorageT.StorageIndex.index c.args.s.0) (c.requires.shape.reduces (index c.args.s.0)) _ _ ((at.exact _ _).0 there).0
 
 pub loop-place-preserved : goal.loop-place-preserved
 loop-place-preserved g c =
-    let index = g.StorageT.StorageNum.index in
+    let index = g.StorageT.StorageIndex.index in
     let at = c.actions_of.ensures in
     let es = actions_at c.args.self.now.stable.now (index c.args.s.0) in
     let place = c.loop-place.place in
@@ -52,7 +52,7 @@ loop-place-preserved g c =
 
 pub returns : goal.returns
 returns g c =
-    let index = g.StorageT.StorageNum.index in
+    let index = g.StorageT.StorageIndex.index in
     let at = c.actions_of.ensures in
     let es = actions_at c.args.self.now.stable.now (index c.args.s.0) in
     let place = c.loop-place.place in
@@ -62,7 +62,7 @@ returns g c =
 
 pub returns-then-not-action_holds : goal.returns-then-not-action_holds
 returns-then-not-action_holds g c =
-    let index = g.StorageT.StorageNum.index in
+    let index = g.StorageT.StorageIndex.index in
     let at = c.actions_of.ensures in
     let es = actions_at c.args.self.now.stable.now (index c.args.s.0) in
     let place = c.loop-place.place in

@@ -9,7 +9,7 @@ use Rattle.lrpar_check.proofs.safety.Parts.core_follows.Goals as goal
 
 pub returns-then-is_symbol : goal.returns-then-is_symbol
 returns-then-is_symbol g c =
-    let index = g.StorageT.StorageNum.index in
+    let index = g.StorageT.StorageIndex.index in
     let p = index c.args.pidx.0 in
     let symbols = symbols_of c.args.self.now.grm.now p in
     let before = c.in-Some.before in
@@ -25,7 +25,7 @@ returns-then-is_symbol g c =
 
 pub returns-else-is_symbol : goal.returns-else-is_symbol
 returns-else-is_symbol g c =
-    let index = g.StorageT.StorageNum.index in
+    let index = g.StorageT.StorageIndex.index in
     let p = index c.args.pidx.0 in
     let symbols = symbols_of c.args.self.now.grm.now p in
     let before = c.in-Some.before in

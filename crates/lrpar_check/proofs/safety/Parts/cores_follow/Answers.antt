@@ -9,7 +9,7 @@ use Rattle.lrpar_check.proofs.safety.Parts.cores_follow.Goals as goal
 
 pub core_follows-requires-clause-prod : goal.core_follows-requires-clause-prod
 core_follows-requires-clause-prod g c =
-    let index = g.StorageT.StorageNum.index in
+    let index = g.StorageT.StorageIndex.index in
     let has =
     core_read index c.args.self.now.sgraph.now (index c.args.next.0) c.cores-pidx-items.result.now c.loop-pidx.pidx-index c.loop-pidx-item.result
     c.cores-pidx-items.ensures.all c.loop-pidx-test.true c.loop-pidx-item.is in
@@ -17,7 +17,7 @@ core_follows-requires-clause-prod g c =
 
 pub core_follows-requires-clause-dot : goal.core_follows-requires-clause-dot
 core_follows-requires-clause-dot g c =
-    let index = g.StorageT.StorageNum.index in
+    let index = g.StorageT.StorageIndex.index in
     let has =
     core_read index c.args.self.now.sgraph.now (index c.args.next.0) c.cores-pidx-items.result.now c.loop-pidx.pidx-index c.loop-pidx-item.result
     c.cores-pidx-items.ensures.all c.loop-pidx-test.true c.loop-pidx-item.is in
@@ -25,7 +25,7 @@ core_follows-requires-clause-dot g c =
 
 pub returns-then-not-core_follows : goal.returns-then-not-core_follows
 returns-then-not-core_follows g c =
-    let index = g.StorageT.StorageNum.index in
+    let index = g.StorageT.StorageIndex.index in
     let has =
     core_read index c.args.self.now.sgraph.now (index c.args.next.0) c.cores-pidx-items.result.now c.loop-pidx.pidx-index c.loop-pidx-item.result
     c.cores-pidx-items.ensures.all c.loop-pidx-test.true c.loop-pidx-item.is in
@@ -35,7 +35,7 @@ returns-then-not-core_follows g c =
 
 pub loop-pidx-preserved : goal.loop-pidx-preserved
 loop-pidx-preserved g c =
-    let index = g.StorageT.StorageNum.index in
+    let index = g.StorageT.StorageIndex.index in
     each_more
     (λ x. (before : ℕ) → x.1 ≡ before + 1
     → (slice_get (symbols_of c.args.self.now.grm.now (index x.0.0)) before ≡ Some (symbol_of index c.args.symbol))
@@ -45,7 +45,7 @@ loop-pidx-preserved g c =
 
 pub returns : goal.returns
 returns g c =
-    let index = g.StorageT.StorageNum.index in
+    let index = g.StorageT.StorageIndex.index in
     let each =
     cores_follow_each c.args.self.now.grm.now c.args.self.now.sgraph.now (index c.args.s.0) (symbol_of index c.args.symbol) (index c.args.next.0) in
     let all =

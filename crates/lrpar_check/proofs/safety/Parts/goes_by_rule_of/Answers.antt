@@ -7,7 +7,7 @@ use Rattle.lrpar_check.proofs.safety.Parts.goes_by_rule_of.Goals as goal
 
 pub returns-else-from : goal.returns-else-from
 returns-else-from g c =
-    let index = g.StorageT.StorageNum.index in
+    let index = g.StorageT.StorageIndex.index in
     let grm = c.args.self.now.grm.now in
     let goes : plain_goto index c.goto.result ≡ goto_of c.args.self.now.stable.now (index c.args.s.0) (rule_of grm (index c.args.pidx.0)) =
     c.goto.ensures.goto ∙ ap (goto_of c.args.self.now.stable.now (index c.args.s.0)) c.prod_to_rule.ensures.rule in

@@ -10,7 +10,7 @@ use Rattle.lrpar_check.proofs.safety.Parts.goes_by_rules.Goals.{else-dot-eq0-via
 
 pub goes_by_rule_of-requires-clause-prod : goal.goes_by_rule_of-requires-clause-prod
 goes_by_rule_of-requires-clause-prod g c =
-    let index = g.StorageT.StorageNum.index in
+    let index = g.StorageT.StorageIndex.index in
     let has =
     core_read index c.args.self.now.sgraph.now (index c.args.s.0) c.cores-pidx-items.result.now c.loop-pidx.pidx-index c.loop-pidx-item.result
     c.cores-pidx-items.ensures.all c.loop-pidx-test.true c.loop-pidx-item.is in
@@ -18,7 +18,7 @@ goes_by_rule_of-requires-clause-prod g c =
 
 pub returns-then-not-goes_by_rule_of : goal.returns-then-not-goes_by_rule_of
 returns-then-not-goes_by_rule_of g c =
-    let index = g.StorageT.StorageNum.index in
+    let index = g.StorageT.StorageIndex.index in
     let has =
     core_read index c.args.self.now.sgraph.now (index c.args.s.0) c.cores-pidx-items.result.now c.loop-pidx.pidx-index c.loop-pidx-item.result
     c.cores-pidx-items.ensures.all c.loop-pidx-test.true c.loop-pidx-item.is in
@@ -28,7 +28,7 @@ returns-then-not-goes_by_rule_of g c =
 
 pub loop-pidx-preserved : goal.loop-pidx-preserved
 loop-pidx-preserved g c =
-    let index = g.StorageT.StorageNum.index in
+    let index = g.StorageT.StorageIndex.index in
     let grm = c.args.self.now.grm.now in
     let item = c.loop-pidx-item.result in
     let here : item.1 ≡ 0 → index item.0.0 ≢ start_prod grm
@@ -44,7 +44,7 @@ loop-pidx-preserved g c =
 
 pub returns : goal.returns
 returns g c =
-    let index = g.StorageT.StorageNum.index in
+    let index = g.StorageT.StorageIndex.index in
     let grm = c.args.self.now.grm.now in
     let all =
     all_cores index

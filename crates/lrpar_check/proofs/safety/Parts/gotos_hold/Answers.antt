@@ -10,7 +10,7 @@ use Rattle.lrpar_check.proofs.safety.Parts.gotos_hold.Goals as goal
 
 pub goto_holds-requires-clause-next : goal.goto_holds-requires-clause-next
 goto_holds-requires-clause-next g c =
-    let index = g.StorageT.StorageNum.index in
+    let index = g.StorageT.StorageIndex.index in
     let at = c.gotos_of.ensures in
     let es = gotos_at c.args.self.now.stable.now (index c.args.s.0) in
     let place = c.loop-place.place in
@@ -24,7 +24,7 @@ goto_holds-requires-clause-next g c =
 
 pub loop-place-preserved : goal.loop-place-preserved
 loop-place-preserved g c =
-    let index = g.StorageT.StorageNum.index in
+    let index = g.StorageT.StorageIndex.index in
     let at = c.gotos_of.ensures in
     let es = gotos_at c.args.self.now.stable.now (index c.args.s.0) in
     let place = c.loop-place.place in
@@ -37,7 +37,7 @@ loop-place-preserved g c =
 
 pub returns : goal.returns
 returns g c =
-    let index = g.StorageT.StorageNum.index in
+    let index = g.StorageT.StorageIndex.index in
     let at = c.gotos_of.ensures in
     let es = gotos_at c.args.self.now.stable.now (index c.args.s.0) in
     let place = c.loop-place.place in
@@ -47,7 +47,7 @@ returns g c =
 
 pub returns-then-not-goto_holds : goal.returns-then-not-goto_holds
 returns-then-not-goto_holds g c =
-    let index = g.StorageT.StorageNum.index in
+    let index = g.StorageT.StorageIndex.index in
     let at = c.gotos_of.ensures in
     let es = gotos_at c.args.self.now.stable.now (index c.args.s.0) in
     let place = c.loop-place.place in

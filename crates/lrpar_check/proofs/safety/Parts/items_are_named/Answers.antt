@@ -8,11 +8,11 @@ use Rattle.lrpar_check.proofs.safety.Parts.items_are_named.Goals as goal
 
 pub returns-then-not-items_of_are_named : goal.returns-then-not-items_of_are_named
 returns-then-not-items_of_are_named g c =
-    refused (λ all. iff_false c.items_of_are_named.ensures c.if-not-items_of_are_named.true (all (g.StorageT.StorageNum.index c.unwrap.result)))
+    refused (λ all. iff_false c.items_of_are_named.ensures c.if-not-items_of_are_named.true (all (g.StorageT.StorageIndex.index c.unwrap.result)))
 
 pub loop-s-preserved : goal.loop-s-preserved
 loop-s-preserved g c = λ n p k t below.
-    let index = g.StorageT.StorageNum.index in
+    let index = g.StorageT.StorageIndex.index in
     let number : index c.unwrap.result ≡ c.loop-s.s = rw c.unwrap.ensures at c.from_index.ensures.back in
     let AreNamed : ℕ → Type 0 = λ m. (p k t : ℕ) → HasItem c.args.self.now.sgraph.now m p k t → IsItem c.args.self.now.grm.now p k t in
     below_more AreNamed c.loop-s.s (λ m h p k t. c.loop-s.invariant m p k t h)

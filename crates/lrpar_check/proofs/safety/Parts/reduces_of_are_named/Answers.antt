@@ -11,7 +11,7 @@ use Rattle.lrpar_check.proofs.safety.Parts.reduces_of_are_named.Goals as goal
 
 pub loop-place-preserved : goal.loop-place-preserved
 loop-place-preserved g c =
-    let index = g.StorageT.StorageNum.index in
+    let index = g.StorageT.StorageIndex.index in
     let at = c.actions_of.ensures in
     let es = actions_at c.args.self.now.stable.now (index c.args.s.0) in
     let place = c.loop-place.place in
@@ -24,7 +24,7 @@ loop-place-preserved g c =
 
 pub returns : goal.returns
 returns g c =
-    let index = g.StorageT.StorageNum.index in
+    let index = g.StorageT.StorageIndex.index in
     let at = c.actions_of.ensures in
     let es = actions_at c.args.self.now.stable.now (index c.args.s.0) in
     let place = c.loop-place.place in
@@ -34,7 +34,7 @@ returns g c =
 
 pub returns-then-not-is_named : goal.returns-then-not-is_named
 returns-then-not-is_named g c =
-    let index = g.StorageT.StorageNum.index in
+    let index = g.StorageT.StorageIndex.index in
     let at = c.actions_of.ensures in
     let es = actions_at c.args.self.now.stable.now (index c.args.s.0) in
     let place = c.loop-place.place in
@@ -44,4 +44,4 @@ returns-then-not-is_named g c =
     let len = entries_len (λ t. index t.0) (plain_action index) c.actions_of.result.0.now c.actions_of.result.1.now es at.actions at.entries in
     let below : place < length es = omega (arith, len, c.loop-place-test.true) in
     let there : Contains es (index c.index-tokens-place.result.0, plain_action index c.index-actions-place.result) = (place, below, sym read) in
-    refused (λ each. iff_false c.is_named.ensures c.if-not-is_named.true (named_each c.args.self.now.grm.now c.args.self.now.sgraph.now c.args.self.now.stable.now (g.StorageT.StorageNum.index c.args.s.0) each _ _ ((at.exact _ _).0 there).0))
+    refused (λ each. iff_false c.is_named.ensures c.if-not-is_named.true (named_each c.args.self.now.grm.now c.args.self.now.sgraph.now c.args.self.now.stable.now (g.StorageT.StorageIndex.index c.args.s.0) each _ _ ((at.exact _ _).0 there).0))

@@ -7,7 +7,7 @@ use Rattle.lrpar_grammar.proofs.grammar.fit.prods_fit.Goals as goal
 
 pub loop-prod-preserved : goal.loop-prod-preserved
 loop-prod-preserved g c = λ k d below.
-    let index = g.StorageT.StorageNum.index in
+    let index = g.StorageT.StorageIndex.index in
     let src = c.args.src.now in
     let at = c.loop-prod.prod-index in
     let prod = c.prod-item.result in
@@ -22,7 +22,7 @@ loop-prod-preserved g c = λ k d below.
 
 pub returns-then-not-prod_fits : goal.returns-then-not-prod_fits
 returns-then-not-prod_fits g c =
-    let index = g.StorageT.StorageNum.index in
+    let index = g.StorageT.StorageIndex.index in
     let src = c.args.src.now in
     let prod = c.prod-item.result in
     let fails : ProductionFits src (split_prod_of index prod) → ⊥ = search rules in (

@@ -5,4 +5,4 @@ use Rattle.lrpar_grammar.proofs.grammar.fit.prods_fit.Given as goal
 
 -- the places of the productions so far fit
 abbrev pub invariant-loop-prod : goal.invariant-loop-prod
-invariant-loop-prod g l = (k : ℕ) (d : _) → k < l.prod-index → ProductionFits l.src (split_prod_of g.StorageT.StorageNum.index (get_or l.prods k d))
+invariant-loop-prod g l = (k : ℕ) (d : _) → k < l.prod-index → ProductionFits l.src (split_prod_of g.StorageT.StorageIndex.index (get_or l.prods k d))

@@ -9,9 +9,9 @@ loop-init g c = rw c.in_ok-rows.ensures.items (record { len = refl; each = λ r 
 pub loop-preserved : goal.loop-preserved
 loop-preserved g c =
     rw c.in_ok-push.ensures.items
-    (AreRowsOf-more g.StorageT.StorageNum.index c.loop.counter c.loop.rows.items c.new.result c.loop.invariant c.new.ensures.items)
+    (AreRowsOf-more g.StorageT.StorageIndex.index c.loop.counter c.loop.rows.items c.new.result c.loop.invariant c.new.ensures.items)
 
 pub returns : goal.returns
 returns g c =
     let all : c.loop.counter ≡ c.args.rules = omega arith in
-    subst (λ n. AreRowsOf g.StorageT.StorageNum.index n [] c.loop.rows.items) all c.loop.invariant
+    subst (λ n. AreRowsOf g.StorageT.StorageIndex.index n [] c.loop.rows.items) all c.loop.invariant

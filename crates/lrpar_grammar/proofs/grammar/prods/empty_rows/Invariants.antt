@@ -4,4 +4,4 @@ use Rattle.lrpar_grammar.proofs.grammar.prods.empty_rows.Given as goal
 
 -- the rows so far are empty
 abbrev pub invariant-loop : goal.invariant-loop
-invariant-loop g l = AreRowsOf g.StorageT.StorageNum.index l.counter [] l.rows.items
+invariant-loop g l = AreRowsOf g.StorageT.StorageIndex.index l.counter [] l.rows.items

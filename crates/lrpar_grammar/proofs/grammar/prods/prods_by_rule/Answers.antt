@@ -7,7 +7,7 @@ use Rattle.lrpar_grammar.proofs.grammar.prods.prods_by_rule.Goals as goal
 
 pub index_mut-row-requires : goal.index_mut-row-requires
 index_mut-row-requires g c =
-    let index = g.StorageT.StorageNum.index in
+    let index = g.StorageT.StorageIndex.index in
     let prod = c.index-prods-number.result in
     let within : index prod.rule.0 < c.args.rules =
     subst (λ p. index p.rule.0 < c.args.rules) (sym c.index-prods-number.is)
@@ -17,7 +17,7 @@ index_mut-row-requires g c =
 
 pub loop-number-preserved : goal.loop-number-preserved
 loop-number-preserved g c =
-    let index = g.StorageT.StorageNum.index in
+    let index = g.StorageT.StorageIndex.index in
     let prods = c.args.prods.now in
     let prod = c.index-prods-number.result in
     let number = c.loop-number.number in

@@ -22,7 +22,7 @@ pub returns : goal.returns
 returns g c =
     let pairs = c.args.part.now.symbols.items in
     let all : take c.loop-symbol.symbol-index pairs ≡ pairs = take_all _ _ (omega arith) in
-    let index = g.StorageT.StorageNum.index in
+    let index = g.StorageT.StorageIndex.index in
     let symbols : map (symbol_of index) c.loop-symbol.symbols.items ≡ map (λ x. symbol_of index x.0) pairs =
     ap (map (symbol_of index)) (c.loop-symbol.invariant.symbols ∙ ap (map (λ x. x.0)) all) ∙ map-map (symbol_of index) (λ x. x.0) pairs in
     let spans : c.loop-symbol.symbol_spans.items ≡ map (λ x. x.1) pairs = c.loop-symbol.invariant.spans ∙ ap (map (λ x. x.1)) all in

@@ -4,7 +4,7 @@ use Rattle.lrpar_grammar.proofs.grammar.tokens.numbered_names.Goals as goal
 
 pub loop-number-preserved : goal.loop-number-preserved
 loop-number-preserved g c =
-    let index = g.StorageT.StorageNum.index in
+    let index = g.StorageT.StorageIndex.index in
     let is : index c.unwrap.result ≡ c.loop-number.number = rw c.unwrap.ensures at c.from_index.ensures.back in
     record {
       names = follows_more (λ pair. pair.0.now) (λ token. string_bytes token.name) c.args.tokens.now c.loop-number.number c.index-tokens-number.result

@@ -6,5 +6,5 @@ use Rattle.lrpar_grammar.proofs.grammar.tokens.numbered_names.Given as goal
 abbrev pub invariant-loop-number : goal.invariant-loop-number
 invariant-loop-number g l = record {
   names : map (λ pair. pair.0.now) l.pairs.items ≡ map (λ token. string_bytes token.name) (take l.number l.tokens);
-  numbers : map (λ pair. g.StorageT.StorageNum.index pair.1.0) l.pairs.items ≡ range_with_len 0 l.number;
+  numbers : map (λ pair. g.StorageT.StorageIndex.index pair.1.0) l.pairs.items ≡ range_with_len 0 l.number;
 }

@@ -22,5 +22,5 @@ pub loop-alternative-preserved : goal.loop-alternative-preserved
 loop-alternative-preserved g c =
     let x = c.alternative-item.result in
     let prod = prod_of_alternative (numbering_by c.args.tables.now) in
-    made_more alternative_of prod (prod_of g.StorageT.StorageNum.index) _ _ _ c.args.alternatives.now c.loop-alternative.alternative-index x (omega arith)
+    made_more alternative_of prod (prod_of g.StorageT.StorageIndex.index) _ _ _ c.args.alternatives.now c.loop-alternative.alternative-index x (omega arith)
     c.in_ok-push.ensures.items (c.in_ok-prod_part.ensures ∙ ap (λ y. prod (alternative_of y)) c.alternative-item.is) c.loop-alternative.invariant

@@ -8,4 +8,4 @@ use Rattle.lrpar_grammar.proofs.reader.parts.prod_parts.Given as goal
 -- the productions so far
 abbrev pub invariant-loop-alternative : goal.invariant-loop-alternative
 invariant-loop-alternative g l =
-    map (prod_of g.StorageT.StorageNum.index) l.parts.items ≡ map (prod_of_alternative (numbering_by l.tables)) (take l.alternative-index (map alternative_of l.alternatives))
+    map (prod_of g.StorageT.StorageIndex.index) l.parts.items ≡ map (prod_of_alternative (numbering_by l.tables)) (take l.alternative-index (map alternative_of l.alternatives))

@@ -8,6 +8,6 @@ use Rattle.lrpar_grammar.proofs.reader.parts.symbols.Given as goal
 -- the symbols so far, and their places
 abbrev pub invariant-loop-word : goal.invariant-loop-word
 invariant-loop-word g l = record {
-  symbols : map (λ pair. symbol_of g.StorageT.StorageNum.index pair.0) l.pairs.items ≡ map (symbol_of_word (numbering_by l.tables)) (take l.word-index (map placed l.words));
+  symbols : map (λ pair. symbol_of g.StorageT.StorageIndex.index pair.0) l.pairs.items ≡ map (symbol_of_word (numbering_by l.tables)) (take l.word-index (map placed l.words));
   spans : map (λ pair. pair.1) l.pairs.items ≡ map (λ w. w.span) (take l.word-index (map placed l.words));
 }

@@ -6,11 +6,11 @@ use Rattle.lrpar_states.proofs.items.ItemSet.cores.Goals as goal
 pub returns-clause-all : goal.returns-clause-all
 returns-clause-all g c = λ p k.
     rw (← c.self.view_is, c.as_slice.ensures.all)
-    (cores_by_numbers g.StorageT.StorageNum.index c.self.inside.items c.self.inside.cores c.self.invariant p k)
+    (cores_by_numbers g.StorageT.StorageIndex.index c.self.inside.items c.self.inside.cores c.self.invariant p k)
 
 pub returns-clause-ascending : goal.returns-clause-ascending
 returns-clause-ascending g c =
-    let index = g.StorageT.StorageNum.index in
+    let index = g.StorageT.StorageIndex.index in
     rw c.as_slice.ensures.all
-    (sorted_image _ core_cmp (core_of index) (same_core_order index g.StorageT.Ord.cmp g.met.StorageT.StorageNum.cmp_law) c.self.inside.cores
+    (sorted_image _ core_cmp (core_of index) (same_core_order index g.StorageT.Ord.cmp g.met.StorageT.StorageIndex.cmp_law) c.self.inside.cores
     c.as_slice.ensures.sorted)

@@ -7,5 +7,5 @@ invariant_of-result g c = rw c.as_slice.ensures.all at c.in_ok-cores.ensures
 
 pub returns : goal.returns
 returns g c = record {
-  same = HaveSame-map (item_of g.StorageT.StorageNum.index) c.from_vec-items.result c.args.row.items c.from_vec-items.ensures.same;
+  same = HaveSame-map (item_of g.StorageT.StorageIndex.index) c.from_vec-items.result c.args.row.items c.from_vec-items.ensures.same;
 }

@@ -5,7 +5,7 @@ use Rattle.lrpar_states.proofs.items.ItemSet.items.Goals as goal
 
 pub returns-clause-ascending : goal.returns-clause-ascending
 returns-clause-ascending g c =
-    let index = g.StorageT.StorageNum.index in
+    let index = g.StorageT.StorageIndex.index in
     rw (← c.self.view_is)
-    (sorted_image _ item_cmp (item_of index) (same_item_order index g.StorageT.Ord.cmp g.met.StorageT.StorageNum.cmp_law) c.self.inside.items
+    (sorted_image _ item_cmp (item_of index) (same_item_order index g.StorageT.Ord.cmp g.met.StorageT.StorageIndex.cmp_law) c.self.inside.items
     c.as_slice.ensures.sorted)

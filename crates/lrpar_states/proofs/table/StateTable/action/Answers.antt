@@ -6,13 +6,13 @@ use Rattle.lrpar_states.proofs.table.StateTable.action.Goals as goal
 
 pub place_of-requires : goal.place_of-requires
 place_of-requires g c =
-    let index = g.StorageT.StorageNum.index in
+    let index = g.StorageT.StorageIndex.index in
     let at = c.actions_of.ensures in
     keys_ascend (λ t. index t.0) (plain_action index) c.actions_of.result.0.now c.actions_of.result.1.now (actions_at c.args.self.now (index c.args.s.0)) at.actions at.entries at.ascending
 
 pub returns-in-Some-clause-action : goal.returns-in-Some-clause-action
 returns-in-Some-clause-action g c =
-    let index = g.StorageT.StorageNum.index in
+    let index = g.StorageT.StorageIndex.index in
     let at = c.actions_of.ensures in
     let there =
     read_entry (λ t. index t.0) (plain_action index) c.actions_of.result.0.now c.actions_of.result.1.now (actions_at c.args.self.now (index c.args.s.0)) at.actions at.entries c.in-Some.place
@@ -25,7 +25,7 @@ returns-in-Some-clause-within g c = action_within_row _ _ _ c.actions_of.ensures
 
 pub returns-in-None-clause-action : goal.returns-in-None-clause-action
 returns-in-None-clause-action g c =
-    let index = g.StorageT.StorageNum.index in
+    let index = g.StorageT.StorageIndex.index in
     let at = c.actions_of.ensures in
     let missing = rw c.from.ensures at c.in-None.ensures in
     sym (action_missing c.args.self.now (index c.args.s.0) (index c.args.t.0)

@@ -2,14 +2,14 @@ use Rattle.lrpar_states.proofs.EntryLemmas.{actions_exact, actions_good}
 use Rattle.lrpar_states.proofs.table.StateTable.actions_of.Goals as goal
 
 pub returns-clause-exact : goal.returns-clause-exact
-returns-clause-exact g c = rw (← c.self.view_is) (actions_exact g.StorageT.StorageNum.limit _ c.self.invariant (g.StorageT.StorageNum.index c.args.s.0))
+returns-clause-exact g c = rw (← c.self.view_is) (actions_exact g.StorageT.StorageIndex.limit _ c.self.invariant (g.StorageT.StorageIndex.index c.args.s.0))
 
 pub returns-clause-ascending : goal.returns-clause-ascending
 returns-clause-ascending g c =
-    let good = actions_good g.StorageT.StorageNum.limit _ c.self.invariant (g.StorageT.StorageNum.index c.args.s.0) in
+    let good = actions_good g.StorageT.StorageIndex.limit _ c.self.invariant (g.StorageT.StorageIndex.index c.args.s.0) in
     rw (← c.self.view_is) good.ascending
 
 pub returns-clause-within : goal.returns-clause-within
 returns-clause-within g c =
-    let good = actions_good g.StorageT.StorageNum.limit _ c.self.invariant (g.StorageT.StorageNum.index c.args.s.0) in
+    let good = actions_good g.StorageT.StorageIndex.limit _ c.self.invariant (g.StorageT.StorageIndex.index c.args.s.0) in
     rw (← c.self.view_is) good.each

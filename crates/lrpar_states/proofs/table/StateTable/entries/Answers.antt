@@ -5,7 +5,7 @@ use Rattle.lrpar_states.proofs.table.StateTable.entries.Goals as goal
 
 pub returns : goal.returns
 returns g c =
-    let index = g.StorageT.StorageNum.index in
+    let index = g.StorageT.StorageIndex.index in
     let actions = image_len (action_entry index) c.self.inside.actions in
     let gotos = image_len (goto_entry index) c.self.inside.gotos in
     rw (← c.self.view_is) (omega (arith, actions, gotos, c.len.ensures, c.len-2.ensures))

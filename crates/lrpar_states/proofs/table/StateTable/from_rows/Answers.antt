@@ -6,12 +6,12 @@ use Rattle.lrpar_states.proofs.table.StateTable.from_rows.Goals as goal
 
 pub returns-clause-actions : goal.returns-clause-actions
 returns-clause-actions g c =
-    let rows = plain_rows g.StorageT.StorageNum.index c.args.rows in
+    let rows = plain_rows g.StorageT.StorageIndex.index c.args.rows in
     subst (λ (table : Table). (s t : ℕ) → action_of table s t ≡ slice_index_or (slice_index_or rows.actions s []) t Fails)
     (sym c.in_ok-of_rows.ensures) (action_of_rows rows)
 
 pub returns-clause-gotos : goal.returns-clause-gotos
 returns-clause-gotos g c =
-    let rows = plain_rows g.StorageT.StorageNum.index c.args.rows in
+    let rows = plain_rows g.StorageT.StorageIndex.index c.args.rows in
     subst (λ (table : Table). (s r : ℕ) → goto_of table s r ≡ slice_index_or (slice_index_or rows.gotos s []) r None)
     (sym c.in_ok-of_rows.ensures) (goto_of_rows rows)

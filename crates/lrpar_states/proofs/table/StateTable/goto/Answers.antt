@@ -5,13 +5,13 @@ use Rattle.lrpar_states.proofs.table.StateTable.goto.Goals as goal
 
 pub place_of-requires : goal.place_of-requires
 place_of-requires g c =
-    let index = g.StorageT.StorageNum.index in
+    let index = g.StorageT.StorageIndex.index in
     let at = c.gotos_of.ensures in
     keys_ascend (λ r. index r.0) (λ s. index s.0) c.gotos_of.result.0.now c.gotos_of.result.1.now (gotos_at c.args.self.now (index c.args.s.0)) at.states at.entries at.ascending
 
 pub returns-in-Some-clause-goto : goal.returns-in-Some-clause-goto
 returns-in-Some-clause-goto g c =
-    let index = g.StorageT.StorageNum.index in
+    let index = g.StorageT.StorageIndex.index in
     let at = c.gotos_of.ensures in
     let there =
     read_entry (λ r. index r.0) (λ s. index s.0) c.gotos_of.result.0.now c.gotos_of.result.1.now (gotos_at c.args.self.now (index c.args.s.0)) at.states at.entries c.in-Some.place
@@ -20,7 +20,7 @@ returns-in-Some-clause-goto g c =
 
 pub returns-in-Some-clause-within : goal.returns-in-Some-clause-within
 returns-in-Some-clause-within g c =
-    let index = g.StorageT.StorageNum.index in
+    let index = g.StorageT.StorageIndex.index in
     let at = c.gotos_of.ensures in
     let there =
     read_entry (λ r. index r.0) (λ s. index s.0) c.gotos_of.result.0.now c.gotos_of.result.1.now (gotos_at c.args.self.now (index c.args.s.0)) at.states at.entries c.in-Some.place
@@ -30,7 +30,7 @@ returns-in-Some-clause-within g c =
 
 pub returns-in-None-clause-goto : goal.returns-in-None-clause-goto
 returns-in-None-clause-goto g c =
-    let index = g.StorageT.StorageNum.index in
+    let index = g.StorageT.StorageIndex.index in
     let at = c.gotos_of.ensures in
     let missing = rw c.from.ensures at c.in-None.ensures in
     sym (goto_missing c.args.self.now (index c.args.s.0) (index c.args.r.0)
@@ -38,7 +38,7 @@ returns-in-None-clause-goto g c =
 
 pub returns-in-None-clause-within : goal.returns-in-None-clause-within
 returns-in-None-clause-within g c =
-    let index = g.StorageT.StorageNum.index in
+    let index = g.StorageT.StorageIndex.index in
     let at = c.gotos_of.ensures in
     let missing = rw c.from.ensures at c.in-None.ensures in
     let none = goto_missing c.args.self.now (index c.args.s.0) (index c.args.r.0)

@@ -5,4 +5,4 @@ use Rattle.lrpar_states.proofs.table.StateTable.rules_len.Goals as goal
 pub returns : goal.returns
 returns g c =
     rw (← c.self.view_is)
-    (record { rules = refl; fits = c.self.invariant.rules_fit; end = no_goto_past g.StorageT.StorageNum.limit _ c.self.invariant })
+    (record { rules = refl; fits = c.self.invariant.rules_fit; end = no_goto_past g.StorageT.StorageIndex.limit _ c.self.invariant })

@@ -6,7 +6,7 @@ pub returns : goal.returns
 returns g c =
     let states = c.rows_len.ensures in
     let fits = c.self.invariant.states_fit in
-    let limit = g.StorageT.StorageNum.limit in
+    let limit = g.StorageT.StorageIndex.limit in
     rw (← c.self.view_is)
     (record {
       states = states;

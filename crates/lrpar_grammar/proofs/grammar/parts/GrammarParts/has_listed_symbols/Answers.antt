@@ -11,7 +11,7 @@ returns-then-not-is_listed g c =
     let rules_are : length (map rule_name_of c.args.self.now.rules.items) ≡ c.len-rules.result = grind (arith, length-map) in
     let tokens_are : length (map token_name_of c.args.self.now.tokens.items) ≡ c.len-tokens.result = grind (arith, length-map) in (
       search rules,
-      λ listed. absurd (All-map-fails (IsListedProd (c.len-rules.result + 1) c.len-tokens.result) (prod_of g.StorageT.StorageNum.index)
+      λ listed. absurd (All-map-fails (IsListedProd (c.len-rules.result + 1) c.len-tokens.result) (prod_of g.StorageT.StorageIndex.index)
           c.args.self.now.prods.items c.loop-prod.prod-index c.prod-item.result (omega arith)
           (rw c.deref-prod-items.ensures.value at c.prod-item.is) (search rules) (rw (← rules_are, ← tokens_are) listed)),
     )
@@ -20,7 +20,7 @@ pub returns : goal.returns
 returns g c =
     let rules_are : length (map rule_name_of c.args.self.now.rules.items) ≡ c.len-rules.result = grind (arith, length-map) in
     let tokens_are : length (map token_name_of c.args.self.now.tokens.items) ≡ c.len-tokens.result = grind (arith, length-map) in
-    let listed : All (IsListedProd (c.len-rules.result + 1) c.len-tokens.result) (map (prod_of g.StorageT.StorageNum.index) c.args.self.now.prods.items) =
-    All-map (IsListedProd (c.len-rules.result + 1) c.len-tokens.result) (prod_of g.StorageT.StorageNum.index) c.args.self.now.prods.items
+    let listed : All (IsListedProd (c.len-rules.result + 1) c.len-tokens.result) (map (prod_of g.StorageT.StorageIndex.index) c.args.self.now.prods.items) =
+    All-map (IsListedProd (c.len-rules.result + 1) c.len-tokens.result) (prod_of g.StorageT.StorageIndex.index) c.args.self.now.prods.items
     (λ k d within. c.loop-prod.invariant k d (omega arith)) in
     (λ _. rw (rules_are, tokens_are) listed, search rules)

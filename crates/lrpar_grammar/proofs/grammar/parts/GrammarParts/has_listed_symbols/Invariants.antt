@@ -6,4 +6,4 @@ use Rattle.lrpar_grammar.proofs.grammar.parts.GrammarParts.has_listed_symbols.Gi
 abbrev pub invariant-loop-prod : goal.invariant-loop-prod
 invariant-loop-prod g l =
     (k : ℕ) (d : _) → k < l.prod-index
-    → IsListedProd (l.rules + 1) l.tokens (prod_of g.StorageT.StorageNum.index (get_or l.self.prods.items k d))
+    → IsListedProd (l.rules + 1) l.tokens (prod_of g.StorageT.StorageIndex.index (get_or l.self.prods.items k d))

@@ -8,7 +8,7 @@ use Rattle.lrpar_grammar.proofs.grammar.parts.ProdPart.is_listed.Goals as goal
 pub returns-then-not-is_listed_symbol : goal.returns-then-not-is_listed_symbol
 returns-then-not-is_listed_symbol g c = (
   search rules,
-  λ listed. absurd (All-map-fails (IsListedSymbol (c.args.rules + 1) c.args.tokens) (λ x. symbol_of g.StorageT.StorageNum.index x.0)
+  λ listed. absurd (All-map-fails (IsListedSymbol (c.args.rules + 1) c.args.tokens) (λ x. symbol_of g.StorageT.StorageIndex.index x.0)
       c.args.self.now.symbols.items c.loop-symbol.symbol-index c.loop-symbol-item.result (omega arith)
       (rw c.deref-symbol-items.ensures.value at c.loop-symbol-item.is) (search rules) listed.symbols),
 )
@@ -18,7 +18,7 @@ returns g c = (
   λ h. let rule = c.is_listed_rule.ensures.0 h in record {
     rule_added = rule.0;
     rule_within = rule.1;
-    symbols = All-map (IsListedSymbol (c.args.rules + 1) c.args.tokens) (λ x. symbol_of g.StorageT.StorageNum.index x.0) c.args.self.now.symbols.items
+    symbols = All-map (IsListedSymbol (c.args.rules + 1) c.args.tokens) (λ x. symbol_of g.StorageT.StorageIndex.index x.0) c.args.self.now.symbols.items
         (λ k d within. c.loop-symbol.invariant k d (omega arith));
   },
   λ listed. c.is_listed_rule.ensures.1 (listed.rule_added, listed.rule_within),

@@ -7,4 +7,4 @@ use Rattle.lrpar_grammar.proofs.grammar.parts.ProdPart.is_listed.Given as goal
 abbrev pub invariant-loop-symbol : goal.invariant-loop-symbol
 invariant-loop-symbol g l =
     (k : ℕ) (d : _) → k < l.symbol-index
-    → IsListedSymbol (l.rules + 1) l.tokens (symbol_of g.StorageT.StorageNum.index (get_or l.self.symbols.items k d).0)
+    → IsListedSymbol (l.rules + 1) l.tokens (symbol_of g.StorageT.StorageIndex.index (get_or l.self.symbols.items k d).0)

@@ -8,7 +8,7 @@ use Rattle.lrpar_grammar.proofs.grammar.value.YaccGrammar.kept.Goals as goal
 
 pub index-requires : goal.index-requires
 index-requires g c =
-    let index = g.StorageT.StorageNum.index in
+    let index = g.StorageT.StorageIndex.index in
     let prods = c.self.inside.prods.items in
     let are : map (split_prod_of index) prods ≡ c.args.self.now.prods = ap (λ v. v.prods) c.self.view_is in
     let count : length c.args.self.now.prods ≡ length prods = sym (ap length are) ∙ length-map prods (split_prod_of index) in
@@ -16,7 +16,7 @@ index-requires g c =
 
 pub returns-clause-prod : goal.returns-clause-prod
 returns-clause-prod g c =
-    let index = g.StorageT.StorageNum.index in
+    let index = g.StorageT.StorageIndex.index in
     let prods = c.self.inside.prods.items in
     let are : map (split_prod_of index) prods ≡ c.args.self.now.prods = ap (λ v. v.prods) c.self.view_is in
     let count : length c.args.self.now.prods ≡ length prods = sym (ap length are) ∙ length-map prods (split_prod_of index) in
@@ -27,7 +27,7 @@ returns-clause-prod g c =
 
 pub returns-clause-within : goal.returns-clause-within
 returns-clause-within g c =
-    let index = g.StorageT.StorageNum.index in
+    let index = g.StorageT.StorageIndex.index in
     let prods = c.self.inside.prods.items in
     let are : map (split_prod_of index) prods ≡ c.args.self.now.prods = ap (λ v. v.prods) c.self.view_is in
     let count : length c.args.self.now.prods ≡ length prods = sym (ap length are) ∙ length-map prods (split_prod_of index) in

@@ -11,7 +11,7 @@ use Rattle.lrpar_grammar.proofs.grammar.value.YaccGrammar.new_with_storaget.Goal
 
 pub returns-then-not-fit-clause-faulty : goal.returns-then-not-fit-clause-faulty
 returns-then-not-fit-clause-faulty g c =
-    let limit = g.StorageT.StorageNum.limit in
+    let limit = g.StorageT.StorageIndex.limit in
     let o = outline_of c.in_ok-outline.outline in
     record {
       outline = o;
@@ -25,7 +25,7 @@ returns-then-not-fit-clause-faulty g c =
 
 pub made-requires : goal.made-requires
 made-requires g c =
-    let limit = g.StorageT.StorageNum.limit in
+    let limit = g.StorageT.StorageIndex.limit in
     let o = outline_of c.in_ok-outline.outline in
     let all : FitAll limit (numbering_of o) o =
     subst (λ (n : Numbering). FitAll limit n o) c.in_ok-tables.ensures.numbering (c.fit.ensures.0 c.if-not-fit.false) in

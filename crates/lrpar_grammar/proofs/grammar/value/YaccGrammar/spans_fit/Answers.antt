@@ -8,7 +8,7 @@ use Rattle.lrpar_grammar.proofs.grammar.value.YaccGrammar.spans_fit.Goals as goa
 
 pub returns-then-names_fit : goal.returns-then-names_fit
 returns-then-names_fit g c =
-    let index = g.StorageT.StorageNum.index in
+    let index = g.StorageT.StorageIndex.index in
     let src = c.args.src.now in
     let prods = c.self.inside.prods.items in
     let names : NamesFit c.args.self.now src = c.names_fit.ensures.0 c.if-names_fit.true in (

@@ -7,7 +7,7 @@ use Rattle.lrpar_grammar.proofs.grammar.value.YaccGrammar.token_idx.Goals as goa
 
 pub returns-in-Some : goal.returns-in-Some
 returns-in-Some g c =
-    let is : g.StorageT.StorageNum.index c.unwrap.result ≡ c.in-Some.number = rw c.unwrap.ensures at c.from_index.ensures.back in
+    let is : g.StorageT.StorageIndex.index c.unwrap.result ≡ c.in-Some.number = rw c.unwrap.ensures at c.from_index.ensures.back in
     let name = c.args.name.now in
     ap (λ (n : ℕ). Some n) is ∙ c.in-Some.ensures ∙ ap (position (λ token. bytes_eq (string_bytes token.name) name)) c.deref.ensures.value
     ∙ sym (position-map (λ token. bytes_eq token.name name) token_name_of c.self.inside.tokens.items)
