@@ -1,9 +1,9 @@
 -- A tree for which an entry stands folds to the values that the entry gives.
-use Rattle.std.proofs.Common.{◌≡◌, ◌∙◌, ℕ, IfSome, List, [], ◌∷◌, MatchOption, None, Ok, Err, Option, Result, Some, Vec, inl, inr, option_map, refl, subst, sym}
+use Rattle.std.proofs.Common.{◌≡◌, ◌∙◌, ℕ, IfSome, List, [], ◌∷◌, None, Ok, Err, Option, Result, Some, Vec, ap, inl, inr, option_map, refl, subst, sym}
 use Rattle.std.proofs.lemmas.Option.{same_Some}
 use Rattle.std.specs.List.{AllZip}
 use Rattle.lrpar_grammar.specs.Grammar.{Grammar, GrammarSymbol, Nonterminal, rule_of}
-use Rattle.lrpar_grammar.specs.Tree.{Tree, Forest, Leaf, Branch, Nil, Cons, Fits, leaves, productions}
+use Rattle.lrpar_grammar.specs.Tree.{Tree, Forest, Leaf, Branch, Nil, Cons}
 use Rattle.lrpar_grammar.specs.Sentence.{LexemeFacts}
 use Rattle.lrpar_check.specs.Checked.{Checked}
 use Rattle.lrpar.specs.End.{IsOfTree}
@@ -14,12 +14,12 @@ use Rattle.lrpar.specs.Nodes.{IsNonterm, IsTerm}
 use Rattle.lrpar.specs.Parse.{ParsesTo}
 use Rattle.lrpar.specs.declared.errors.LexParseError.{LexParseError}
 use Rattle.lrpar.specs.declared.values.AStackType.{AStackType}
-use Rattle.lrpar.specs.declared.values.AStackType.TheVariants.{ActionType, Lexeme}
+use Rattle.lrpar.specs.declared.values.AStackType.TheVariants.{ActionType}
 use Rattle.lrpar.specs.declared.fault.ParseFault.{ParseFault}
 use Rattle.lrpar.specs.declared.node.Node.{Node}
 use Rattle.lrpar.proofs.ListLemmas.{zip_same}
 use Rattle.lrpar.proofs.ParseLemmas.{parse_as, refusal_as}
-use Rattle.lrpar.specs.RunAnswer.{HasValue, IsValueOf}
+use Rattle.lrpar.specs.RunAnswer.{HasValue}
 use Rattle.lrpar.specs.Standing.{AllStand, StandsFor}
 
 -- `Values e v`: entry e gives value v. Each value of the entry of a lexeme is one of the lexeme; and each of the entry of a
@@ -108,6 +108,24 @@ pub parse_mapped : {X V W S L C Z : Type 0} (d : Checked) (facts : X → LexemeF
 parse_mapped d facts allows Tells TellsOf f v w errors is tells parses =
     parse_as d facts allows (λ answer. answer.1.items) (λ answer. answer.1.items) (HasValue (λ x. (facts x).token) d.grammar Tells) (HasValue (λ x. (facts x).token) d.grammar TellsOf) (v, errors) (w, errors) refl
     (λ consumed prods has. mapped_value (λ x. (facts x).token) d.grammar Tells TellsOf f w consumed prods (v, errors) (w, errors) is refl tells has) parses
+
+-- What is told of a value is told of what is made of it.
+mapped_on : {X V W F Z Y : Type 0} (token : X → ℕ) (g : Grammar) (Tells : Tree X → V → Type 0) (TellsOf : Tree X → W → Type 0) (f : V → W) (consumed : Option (List X)) (prods : List ℕ) (one : Option V × Vec F Z) (other : Option W × Vec F Y)
+    → other.0 ≡ option_map f one.0 → ((t : Tree X) (x : V) → Tells t x → TellsOf t (f x)) → HasValue token g Tells consumed prods one → HasValue token g TellsOf consumed prods other
+mapped_on token g Tells TellsOf f None prods one other is tells has = is ∙ ap (option_map f) has
+mapped_on token g Tells TellsOf f (Some xs) prods one other is tells (value, has, told) = (
+  f value,
+  is ∙ ap (option_map f) has,
+  record { tree = told.tree; fits = told.fits; leaves_are = told.leaves_are; productions_are = told.productions_are; tells = tells told.tree value told.tells },
+)
+
+-- so a parse of a value is one of what is made of it
+pub parse_mapped_on : {X V W S L C Z : Type 0} (d : Checked) (facts : X → LexemeFacts) (allows : List (Result X C) → Type 0) (Tells : Tree X → V → Type 0) (TellsOf : Tree X → W → Type 0) (f : V → W) (v : Option V) (w : Option W) (errors : Vec (LexParseError S L X C) Z)
+    → w ≡ option_map f v → ((t : Tree X) (x : V) → Tells t x → TellsOf t (f x))
+    → ParsesTo d facts allows Tells (Ok (v, errors)) → ParsesTo d facts allows TellsOf (Ok (w, errors))
+parse_mapped_on d facts allows Tells TellsOf f v w errors is tells parses =
+    parse_as d facts allows (λ answer. answer.1.items) (λ answer. answer.1.items) (HasValue (λ x. (facts x).token) d.grammar Tells) (HasValue (λ x. (facts x).token) d.grammar TellsOf) (v, errors) (w, errors) refl
+    (λ consumed prods has. mapped_on (λ x. (facts x).token) d.grammar Tells TellsOf f consumed prods (v, errors) (w, errors) is tells has) parses
 
 -- the same value told by other trees, whatever the parse answers
 pub parse_told : {X V S L C Z : Type 0} (d : Checked) (facts : X → LexemeFacts) (allows : List (Result X C) → Type 0) (Tells TellsOf : Tree X → V → Type 0) (result : Result (Option V × Vec (LexParseError S L X C) Z) ParseFault)

@@ -4,7 +4,10 @@ pub mod ListLemmas
 pub mod RunLemmas
 pub mod StackedLemmas
 pub mod StandingLemmas
+pub mod RisingLemmas
 pub mod OverLemmas
+pub mod PlacedLemmas
 pub mod ParseLemmas
 pub mod FoldLemmas
+pub mod ActedLemmas
 pub mod SumLemmas

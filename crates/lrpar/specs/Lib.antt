@@ -9,6 +9,12 @@ pub mod Folds
 pub mod Made
 pub mod Entries
 pub mod Nodes
+pub mod Spans
+pub mod Rising
+pub mod Arguments
+pub mod Acted
+pub mod Placed
+pub mod PlacedRising
 pub mod Run
 pub mod RunLaws
 pub mod SumRun

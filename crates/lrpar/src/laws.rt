@@ -6,6 +6,7 @@ ghost use Rattle.lrpar.specs.Failure.{repair_eq};
 ghost use Rattle.lrpar.specs.Repairs.{repair_of};
 ghost use Rattle.lrpar.specs.RunAnswer.{most_productions};
 ghost use Rattle.lrpar.specs.RunLaws.{RunsEndOneWay, RunsGoOnOrEnd, RunsStopByFailing};
+ghost use Rattle.lrpar.specs.Spans.{SpansAreWorkedOut};
 ghost use Rattle.lrpar.specs.SumRun.{SumRunsThrough};
 ghost use Rattle.lrpar.specs.declared.errors.ParseRepair.{ParseRepair};
 
@@ -46,4 +47,9 @@ pub fn sum_run_is_worked_out()
 pub fn repairs_are_compared_by_contents<StorageT: StorageIndex, LexemeT: Lexeme<StorageT>>()
     ensures { (x y : ParseRepair LexemeT StorageT) → ⟦<ParseRepair<LexemeT, StorageT> as PartialEq>⟧.eq x y
         ≡ repair_eq LexemeT.PartialEq.eq (repair_of StorageT.index x) (repair_of StorageT.index y) }
+{}
+
+/// The spans of trees whose nodes have no children somewhere: what stands in front of such a node is where it is.
+pub fn spans_are_worked_out()
+    ensures { SpansAreWorkedOut }
 {}

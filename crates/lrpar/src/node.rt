@@ -42,6 +42,8 @@ impl<StorageT: StorageIndex, LexemeT: Lexeme<StorageT>> Build<StorageT, LexemeT>
 
     ghost node = { λ b g p before es e. IsNonterm StorageT.index (rule_of g p) es e };
 
+    ghost rises = { λ b es n. Unit {0} };
+
     fn shifted(&self, lexeme: LexemeT) -> Node<LexemeT, StorageT> {
         Node::Term { lexeme }
     }
@@ -64,6 +66,8 @@ impl<StorageT: StorageIndex, LexemeT: Lexeme<StorageT>> Build<StorageT, LexemeT>
         let nodes = entries.split_off(entries.len() - count)?;
         Ok(Node::Nonterm { ridx, nodes })
     }
+
+    ghost rising = { λ b g. record { with_none = tt; by_leaf = λ es n x e rise low is. tt; by_node = λ kept es n p e rise is. tt } };
 }
 
 /// The node of a rule over the arguments of an action: each lexeme is a node of its own. The span and the parameter aren't

@@ -22,6 +22,8 @@ impl<StorageT: StorageIndex, LexemeT: Lexeme<StorageT>> Build<StorageT, LexemeT>
 
     ghost node = { λ b g p before es e. Unit {0} };
 
+    ghost rises = { λ b es n. Unit {0} };
+
     fn shifted(&self, _lexeme: LexemeT) {}
 
     fn reduced(
@@ -38,4 +40,6 @@ impl<StorageT: StorageIndex, LexemeT: Lexeme<StorageT>> Build<StorageT, LexemeT>
         entries.truncate(entries.len() - count);
         Ok(())
     }
+
+    ghost rising = { λ b g. record { with_none = tt; by_leaf = λ es n x e rise low is. tt; by_node = λ kept es n p e rise is. tt } };
 }

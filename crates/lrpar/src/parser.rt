@@ -1,6 +1,9 @@
 //! Parses: the calls that take a lexer and answer a value and the errors.
-ghost use Rattle.std.specs.Prelude.{◌≡◌, ◌∷◌, [], List, Result, IfOk, IfSome, option_map};
+ghost use Rattle.std.specs.Prelude.{◌≡◌, ◌∷◌, ◌↔◌, [], List, Result, IfOk, IfSome, IsTrue, option_map};
 ghost use Rattle.lrpar_check.specs.Checked.{IsChecked};
+ghost use Rattle.lrpar_grammar.specs.Grammar.{rule_of};
+ghost use Rattle.lrpar.specs.Acted.{IsActedValue};
+ghost use Rattle.lrpar.specs.Arguments.{TakesAll};
 ghost use Rattle.lrpar.specs.End.{IsAnswerOf, IsOfTree};
 ghost use Rattle.lrpar.specs.Entries.{HasValueEntry};
 ghost use Rattle.lrpar.specs.Folds.{Folds};
@@ -10,6 +13,8 @@ ghost use Rattle.lrpar.specs.Made.{made_by};
 ghost use Rattle.lrpar.specs.Nodes.{IsNonterm, IsTerm};
 ghost use Rattle.lrpar.specs.Parse.{ParsesTo, ParsesToErrors};
 
+pub use crate::actions::Actions;
+use crate::actions::{Acting, Placed};
 use crate::build::Build;
 pub use crate::errors::{LexParseError, ParseError, ParseRepair};
 pub use crate::fault::ParseFault;
@@ -22,7 +27,7 @@ use crate::run::{End, Run};
 pub use crate::values::AStackType;
 use crate::values::Functions;
 use lrpar_grammar::grammar::YaccGrammar;
-use lrpar_grammar::span::{RIdx, StorageIndex};
+use lrpar_grammar::span::{PIdx, RIdx, StorageIndex};
 use lrpar_table::check::ParserData;
 use std::alloc::{AllocError, Global};
 use std::marker::{Model, PhantomData};
@@ -104,6 +109,59 @@ impl<'a, StorageT: StorageIndex, LexerTypesT: LexerTypes<StorageT = StorageT>> R
         }
     }
 
+    /// Parses what the lexer answers, which it is asked once. Each production has the value that the actions answer for it,
+    /// its rule, its span, the arguments for its symbols and `param`. The errors are those that `parse_map` answers, and it
+    /// refuses what that refuses; the answer is also `Memory` where memory was wanting in an action, and nothing but this
+    /// one call ends by it.
+    ///
+    /// The actions have to take each production of the grammar but the start production, which `takes_all` tells.
+    pub fn parse_actions<
+        'input,
+        L: NonStreamingLexer<'input, LexerTypesT>,
+        A: Actions<StorageT, LexerTypesT::LexemeT, L>,
+    >(
+        &self,
+        alloc: Global,
+        lexer: &L,
+        actions: &A,
+        param: &A::ParamT,
+    ) -> Result<Answer<StorageT, LexerTypesT, A::ActionT>, ParseFault>
+        requires taken { TakesAll (A.taken actions.now) self.now.grammar }
+        // Memory was wanting, or there is an answer that the lexer allows, and this is the parse over it.
+        ensures parse { ParsesTo self.now (λ x. facts_of StorageT.index (LexerTypesT.LexemeT.parts x)) (L.allows lexer.now)
+            (IsActedValue (λ x. (LexerTypesT.LexemeT.parts x).span)
+            (λ p span args v. A.answers actions.now p (rule_of self.now.grammar p) lexer.now span args param.now v)
+            (A.fact actions.now self.now.grammar.start)) result }
+    {
+        let acting = Acting {
+            actions,
+            lexer,
+            param,
+        };
+        match self.parsed(alloc, lexer, &acting) {
+            Ok((entry, errors)) => Ok((value_of(argument_of(entry)), errors)),
+            Err(fault) => Err(fault),
+        }
+    }
+
+    /// Whether the actions take each production of the grammar but the start production.
+    pub fn takes_all<
+        'input,
+        L: NonStreamingLexer<'input, LexerTypesT>,
+        A: Actions<StorageT, LexerTypesT::LexemeT, L>,
+    >(&self, _lexer: &L, actions: &A) -> bool
+        ensures { IsTrue result ↔ TakesAll (A.taken actions.now) self.now.grammar }
+    {
+        let grm = self.checked.grm();
+        for number in 0..grm.start_prod().as_storaget().to_index() {
+            let pidx = PIdx(StorageT::from_index(number).unwrap());
+            if !actions.takes(pidx, grm.prod_to_rule(pidx), grm.prod(pidx)) {
+                return false;
+            }
+        }
+        true
+    }
+
     /// The grammar.
     pub fn grammar(&self) -> &YaccGrammar<StorageT>
         ensures { result.now ≡ self.now.grammar }
@@ -168,6 +226,16 @@ impl<'a, StorageT: StorageIndex, LexerTypesT: LexerTypes<StorageT = StorageT>> R
                 }
             },
         }
+    }
+}
+
+// The argument that an entry is.
+fn argument_of<T: Drop>(entry: Option<Placed<T>>) -> Option<T>
+    ensures { result ≡ option_map (λ e. e.argument) entry }
+{
+    match entry {
+        Some(placed) => Some(placed.argument),
+        None => None,
     }
 }
 

@@ -91,6 +91,7 @@ impl<'a, StorageT: StorageIndex, LexemeT: Lexeme<StorageT>, B: Build<StorageT, L
         requires token { StorageT.index (LexemeT.parts lexeme).token < self.now.checked.now.table.tokens }
         requires inner { StorageT.index (LexemeT.parts lexeme).token ≢ end_token self.now.checked.now.grammar }
         requires upright { IsUpright (B.suits self.now.build.now) self.now.checked.now.table stack.old }
+        requires rises { (start : ℕ) × B.rises self.now.build.now stack.old.entries start }
         ensures upright { OnOk result (IsUpright (B.suits self.now.build.now) self.now.checked.now.table stack.new) }
         ensures shifts { IfOk result (λ shifted. IsTrue shifted → Shifts (B.leaf self.now.build.now)
             (B.node self.now.build.now self.now.checked.now.grammar) (B.suits self.now.build.now) self.now.checked.now
@@ -119,6 +120,7 @@ impl<'a, StorageT: StorageIndex, LexemeT: Lexeme<StorageT>, B: Build<StorageT, L
         requires can { B.can_build self.now.build.now self.now.checked.now.grammar }
         requires token { StorageT.index token.0 < self.now.checked.now.table.tokens }
         requires upright { IsUpright (B.suits self.now.build.now) self.now.checked.now.table stack.old }
+        requires rises { (start : ℕ) × B.rises self.now.build.now stack.old.entries start }
         ensures upright { OnOk result (IsUpright (B.suits self.now.build.now) self.now.checked.now.table stack.new) }
         ensures settles { OnOk result (SettlesTo (B.node self.now.build.now self.now.checked.now.grammar) (B.suits self.now.build.now)
             self.now.checked.now (StorageT.index token.0) stack.old stack.new) }
@@ -146,6 +148,7 @@ impl<'a, StorageT: StorageIndex, LexemeT: Lexeme<StorageT>, B: Build<StorageT, L
     ) -> Result<(), AllocError>
         requires can { B.can_build self.now.build.now self.now.checked.now.grammar }
         requires upright { IsUpright (B.suits self.now.build.now) self.now.checked.now.table stack.old }
+        requires rises { (start : ℕ) × B.rises self.now.build.now stack.old.entries start }
         requires action { top_action self.now.checked.now.table (StorageT.index token.0) stack.old.states ≡ ReduceBy (StorageT.index pidx.0) }
         ensures upright { OnOk result (IsUpright (B.suits self.now.build.now) self.now.checked.now.table stack.new) }
         ensures reduces { OnOk result (ReducesTo (B.node self.now.build.now self.now.checked.now.grammar) (B.suits self.now.build.now)

@@ -1,5 +1,5 @@
 //! The stacks of a run: the states, and what stands between each two neighbours.
-ghost use Rattle.std.specs.Prelude.{◌≡◌, ◌+◌, ◌<◌, ◌≤◌, ◌-◌, [], ◌∷◌, ◌++◌, None, length, take, drop, Some, OnOk, IfOk};
+ghost use Rattle.std.specs.Prelude.{◌≡◌, ◌+◌, ◌<◌, ◌≤◌, ◌-◌, ℕ, [], ◌∷◌, ◌++◌, None, length, take, drop, Some, OnOk, IfOk};
 ghost use Rattle.std.specs.List.{AllZip, last_or};
 ghost use Rattle.lrpar_check.specs.Stack.{top_of};
 ghost use Rattle.lrpar_grammar.specs.Grammar.{Nonterminal, prod_len, rule_of, start_prod, symbols_of};
@@ -81,6 +81,7 @@ impl<StorageT: StorageIndex, E: Drop> Stack<StorageT, E> {
         requires states { count ≤ length self.old.states }
         requires entries { count ≤ length self.old.entries }
         requires suit { AllZip (B.suits build.now) (symbols_of grm.now (StorageT.index pidx.0)) (drop (length self.old.entries - count) self.old.entries) }
+        requires rises { (start : ℕ) × B.rises build.now self.old.entries start }
         ensures states { OnOk result (self.new.states ≡ take (length self.old.states - count) self.old.states) }
         ensures entries { OnOk result (self.new.entries ≡ take (length self.old.entries - count) self.old.entries) }
         ensures node { IfOk result (B.node build.now grm.now (StorageT.index pidx.0)

@@ -47,6 +47,8 @@ impl<
 
     ghost node = { λ b g p before es e. IsMadeEntry (F.post b.fterm.now) (made_by StorageT.index (G.post b.fnonterm.now)) (rule_of g p) es e };
 
+    ghost rises = { λ b es n. Unit {0} };
+
     fn shifted(&self, lexeme: LexemeT) -> Self::Entry {
         AStackType::Lexeme(lexeme)
     }
@@ -72,6 +74,8 @@ impl<
         let value = (self.fnonterm)(ridx, values);
         Ok(AStackType::ActionType(value))
     }
+
+    ghost rising = { λ b g. record { with_none = tt; by_leaf = λ es n x e rise low is. tt; by_node = λ kept es n p e rise is. tt } };
 }
 
 // The values of the top `count` entries, which are taken off, the lowest first.

@@ -1,5 +1,6 @@
 use Rattle.std.proofs.Common.{◌≡◌, ◌+◌, ◌*◌, ◌∙◌, [], length, ap, arith, refl, sym}
 use Rattle.lrpar_states.specs.PlainRows.{plain_action}
+use Rattle.lrpar.proofs.RisingLemmas.{rise_reduce_all}
 use Rattle.lrpar.proofs.StackedLemmas.{action_of_top, all_down, one_down, top_within}
 use Rattle.lrpar.proofs.run.Run.settle.Goals as goal
 
@@ -20,6 +21,16 @@ reduce-requires-clause-action g c =
     let index = g.StorageT.StorageIndex.index in
     let is = action_of_top index c.args.self.now.checked.now.table (index c.args.token.0) _ c.reductions.stack.states c.action.result c.top.ensures (rw c.stable-stable.ensures.table at c.action.ensures.action) in
     sym is ∙ ap (plain_action index) c.in-Reduce.is
+
+pub reduce-requires-clause-rises : goal.reduce-requires-clause-rises
+reduce-requires-clause-rises g c =
+    let d = c.args.self.now.checked.now in
+    let build = c.args.self.now.build.now in
+    let counts = c.reductions.invariant.counts in (
+      c.requires.rises.0,
+      rise_reduce_all _ _ _ (g.B.Build.suits build) _ (g.met.B.Build.rising build d.grammar) d.grammar d.table _ counts.prods c.args.stack.now c.reductions.stack c.requires.rises.0 counts.steps
+          c.requires.rises.1,
+    )
 
 pub overflow_sub-left : goal.overflow_sub-left
 overflow_sub-left g c =
