@@ -1,6 +1,8 @@
 //! Tests that cross the library crates.
 #![tactic(auto)]
 
+pub mod calculator;
+
 #[cfg(test)]
 mod calls;
 #[cfg(test)]
