@@ -35,7 +35,7 @@ module _ {X V : Type 0} (d : Checked) (token : X → ℕ) (span : X → Extent) 
   value_argument r (Lexeme x) fits = fits
   value_argument r (ActionType v) fits = tt
 
-  module _ {S L A C Z : Type 0} (facts : X → LexemeFacts) (allows : List (Result X C) → Type 0) (entry : Option (Placed (AStackType X V))) (argument : Option (AStackType X V)) (errors : Vec (LexParseError S L X C) Z) (is : argument ≡ option_map (λ e. e.argument) entry) (parses : ParsesTo d facts allows OfTree (Ok (entry, errors))) where
+  module _ {S L C Z : Type 0} (facts : X → LexemeFacts) (allows : List (Result X C) → Type 0) (entry : Option (Placed (AStackType X V))) (argument : Option (AStackType X V)) (errors : Vec (LexParseError S L X C) Z) (is : argument ≡ option_map (λ e. e.argument) entry) (parses : ParsesTo d facts allows OfTree (Ok (entry, errors))) where
     argument_parse : ParsesTo d facts allows Told (Ok (argument, errors))
     argument_parse = parse_mapped_on d facts allows OfTree Told (λ e. e.argument) entry argument errors is told parses
 
