@@ -8,3 +8,7 @@ pub mod OverLemmas
 pub mod ParseLemmas
 pub mod FoldLemmas
 pub mod SumLemmas
+pub mod WeightLemmas
+pub mod WalkLemmas
+pub mod PairLemmas
+pub mod GrowingLemmas

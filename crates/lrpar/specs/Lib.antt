@@ -9,6 +9,9 @@ pub mod Folds
 pub mod Made
 pub mod Entries
 pub mod Nodes
+pub mod Visits
+pub mod Walks
+pub mod WalkLaws
 pub mod Run
 pub mod RunLaws
 pub mod SumRun
