@@ -11,3 +11,7 @@ pub mod ParseLemmas
 pub mod FoldLemmas
 pub mod ActedLemmas
 pub mod SumLemmas
+pub mod WeightLemmas
+pub mod WalkLemmas
+pub mod PairLemmas
+pub mod GrowingLemmas

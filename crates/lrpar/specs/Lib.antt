@@ -15,6 +15,9 @@ pub mod Arguments
 pub mod Acted
 pub mod Placed
 pub mod PlacedRising
+pub mod Visits
+pub mod Walks
+pub mod WalkLaws
 pub mod Run
 pub mod RunLaws
 pub mod SumRun
