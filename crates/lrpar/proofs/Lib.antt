@@ -8,3 +8,4 @@ pub mod OverLemmas
 pub mod ParseLemmas
 pub mod FoldLemmas
 pub mod SumLemmas
+pub mod SequenceLemmas
