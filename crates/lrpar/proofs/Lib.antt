@@ -15,3 +15,4 @@ pub mod WeightLemmas
 pub mod WalkLemmas
 pub mod PairLemmas
 pub mod GrowingLemmas
+pub mod SequenceLemmas

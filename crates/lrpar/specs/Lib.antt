@@ -26,3 +26,8 @@ pub mod Parse
 pub mod Standing
 pub mod Stacked
 pub mod End
+pub mod Sequences
+pub mod PlainSteps
+pub mod Mended
+pub mod Recovery
+pub mod RepairRun

@@ -11,8 +11,10 @@ mod lexed;
 mod node;
 mod nothing;
 pub mod parser;
+pub mod repair;
 mod run;
 mod stack;
+mod trial;
 mod values;
 
 pub use errors::{LexParseError, ParseError, ParseRepair};
