@@ -7,6 +7,7 @@ use Rattle.std.specs.List.{slice_get}
 use Rattle.std.specs.Option.{option_map}
 use Rattle.lrpar_grammar.specs.Grammar.{Grammar, GrammarSymbol, end_token}
 use Rattle.lrpar_grammar.specs.Sentence.{IsValidList, LexemeFacts}
+use Rattle.lrpar_check.specs.Chain.{most_productions}
 use Rattle.lrpar_check.specs.Checked.{Checked}
 use Rattle.lrpar_check.specs.Path.{NeverSticks}
 use Rattle.lrpar_check.specs.Reduction.{Settles, top_action}
@@ -15,7 +16,7 @@ use Rattle.lrpar_states.specs.Table.{Accepts, Fails}
 use Rattle.lrpar.specs.End.{AcceptsWith, StopsAt}
 use Rattle.lrpar.specs.Lexemes.{lexeme_past}
 use Rattle.lrpar.specs.Run.{Comes, comes_through, gives_up, stays}
-use Rattle.lrpar.specs.RunAnswer.{IsLexemeAt, most_productions}
+use Rattle.lrpar.specs.RunAnswer.{IsLexemeAt}
 use Rattle.lrpar.specs.Stacked.{SettlesTo, Shifts, Sticks}
 use Rattle.lrpar.specs.Standing.{IsUpright, Stacked}
 use Rattle.lrpar.proofs.RunLemmas.{comes_by, comes_to_accept, comes_to_end, comes_to_stop, settles_from}

@@ -3,11 +3,12 @@ use Rattle.std.specs.Prelude.{◌≡◌, ◌≤◌, ℕ, List, [], ◌∷◌, le
 use Rattle.lrpar_grammar.specs.Grammar.{GrammarSymbol, Nonterminal}
 use Rattle.lrpar_grammar.specs.Sentence.{LexemeFacts}
 use Rattle.lrpar_grammar.specs.Tree.{Tree}
+use Rattle.lrpar_check.specs.Chain.{most_productions}
 use Rattle.lrpar_check.specs.Checked.{Checked}
 use Rattle.lrpar_check.specs.Stack.{top_of}
 use Rattle.lrpar.specs.Failure.{Failure}
 use Rattle.lrpar.specs.Run.{Run, Stop}
-use Rattle.lrpar.specs.RunAnswer.{IsLexemeAt, IsValueOf, most_productions}
+use Rattle.lrpar.specs.RunAnswer.{IsLexemeAt, IsValueOf}
 use Rattle.lrpar.specs.Standing.{StandsFor}
 use Rattle.lrpar.specs.declared.errors.LexParseError.{LexParseError}
 use Rattle.lrpar.specs.declared.errors.LexParseError.TheVariants.{ParseError}

@@ -1,11 +1,12 @@
 -- What is answered of a run over lexemes that have no fault, in parts: the course of the run; the errors of that course; the
 -- value of what it consumed; and the bound of its reductions.
-use Rattle.std.specs.Prelude.{◌≡◌, ◌≤◌, ◌+◌, ◌*◌, ◌⊎◌, ℕ, List, [], ◌∷◌, length, map, slice_get, Option, Some, None, IsSome, MatchOption, Vec}
+use Rattle.std.specs.Prelude.{◌≡◌, ◌≤◌, ◌⊎◌, ℕ, List, [], ◌∷◌, length, map, slice_get, Option, Some, None, IsSome, MatchOption, Vec}
 use Rattle.std.specs.List.{AllZip}
 use Rattle.lrpar_grammar.specs.Grammar.{Grammar, Nonterminal, end_token}
 use Rattle.lrpar_grammar.specs.Sentence.{LexemeFacts, IsSentence}
 use Rattle.lrpar_grammar.specs.Tree.{Tree, Fits, leaves, productions}
 use Rattle.lrpar_check.specs.Stack.{top_of}
+use Rattle.lrpar_check.specs.Chain.{most_productions}
 use Rattle.lrpar_check.specs.Checked.{Checked}
 use Rattle.lrpar.specs.Failure.{Failure}
 use Rattle.lrpar.specs.Lexemes.{lexeme_past}
@@ -58,10 +59,6 @@ HasValue {V = V} token g Tells consumed prods answer =
 -- nothing is said of a value, where a call gives none
 abbrev pub HasNoValue : {X T : Type 0} → Option (List X) → List ℕ → T → Type 0
 HasNoValue consumed prods answer = Unit {0}
-
--- the most productions of a tree with so many leaves, over a table with this cap, where so many errors came
-abbrev pub most_productions : ℕ → ℕ → ℕ → ℕ
-most_productions cap leaves errors = cap * (cap + 3) * (leaves + errors + 1)
 
 -- What is answered is that of a run. `errors_of` gives the errors of an answer, and `IsValued` says how its value has to be
 -- for what the run consumed and for its reductions.

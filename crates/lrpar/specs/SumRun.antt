@@ -1,6 +1,7 @@
 -- The run over `a+b` on the table of sums, worked out. Its lexemes are their tokens: 'ID', '+', 'ID'.
 use Rattle.std.specs.Prelude.{ℕ, List, [], ◌∷◌, Some}
-use Rattle.lrpar_states.specs.Sum.{sum_grammar, sum_table}
+use Rattle.lrpar_grammar.specs.Sum.{sum_grammar}
+use Rattle.lrpar_states.specs.Sum.{sum_table}
 use Rattle.lrpar.specs.Run.{Run}
 
 -- the tokens of `a+b`

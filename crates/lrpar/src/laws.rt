@@ -1,10 +1,10 @@
 //! Laws about the definitions that contracts cite: each function has one as its contract, and does nothing.
 ghost use Rattle.std.specs.Prelude.{◌≡◌};
+ghost use Rattle.lrpar_check.specs.Chain.{most_productions};
 ghost use Rattle.lrpar_grammar.specs.Sentence.{LexemeFacts};
 ghost use Rattle.lrpar.specs.Run.{RunsOneWay};
 ghost use Rattle.lrpar.specs.Failure.{repair_eq};
 ghost use Rattle.lrpar.specs.Repairs.{repair_of};
-ghost use Rattle.lrpar.specs.RunAnswer.{most_productions};
 ghost use Rattle.lrpar.specs.RunLaws.{RunsEndOneWay, RunsGoOnOrEnd, RunsStopByFailing};
 ghost use Rattle.lrpar.specs.SumRun.{SumRunsThrough};
 ghost use Rattle.lrpar.specs.declared.errors.ParseRepair.{ParseRepair};

@@ -1,9 +1,10 @@
 -- Chains of reductions told by tests, which compute: whether a chain goes on so long, and whether all chains are short.
-use Rattle.std.proofs.Common.{◌≡◌, ◌<◌, ◌≤◌, ◌∙◌, ◌↔◌, inl, inr, refl, sym, ap, subst, arith, add-one, ℕ, zero, suc, Bool, true, false, cond, not, ◌&&◌, nat_eq, nat_lt, List, [], ◌∷◌, ◌++◌, length, Option, Some, None}
-use Rattle.std.proofs.lemmas.Bool.{and_from, and_parts, both_ways, cases_lt, cases_eq, cond-true, cond-false, eq-eqb, eqb-true, le-ltb, lt-ltb, ltb-true, not-true}
+use Rattle.std.proofs.Common.{◌≡◌, ◌≤◌, ◌∙◌, ◌↔◌, inl, inr, refl, sym, ap, subst, add-one, ℕ, zero, suc, Bool, true, false, cond, not, ◌&&◌, nat_eq, nat_lt, List, [], ◌∷◌, ◌++◌, length, Option, Some, None}
+use Rattle.std.proofs.lemmas.Bool.{and_from, and_parts, both_ways, cases_lt, cond-true, cond-false, eq-eqb, eqb-true, le-ltb, lt-ltb, ltb-true, not-true}
 use Rattle.lrpar_grammar.specs.Grammar.{Grammar, prods_len, prod_len, rule_of}
 use Rattle.lrpar_check.specs.Chain.{HasReductions, AreChainsShort}
 use Rattle.lrpar_check.specs.Reduction.{top_action, top_goto, left_by}
+use Rattle.lrpar_states.proofs.SafeTests.{all_below, all_below_at}
 use Rattle.lrpar_states.specs.Table.{Table, TableAction, ShiftTo, ReduceBy, Accepts, Fails, goto_of, states_len}
 
 -- the goto is there, and with it pushed the rest holds
@@ -76,20 +77,6 @@ module _ (g : Grammar) (table : Table) (t : ℕ) where
   -- the test decides it
   pub reductions_by_test : (n : ℕ) (st : List ℕ) → (goes_on_by g table t n st ≡ true) ↔ HasReductions g table t st n
   reductions_by_test n st = (from_goes_on n st, goes_on_from n st)
-
--- the test holds of each number below n
-abbrev pub all_below : (ℕ → Bool) → ℕ → Bool
-all_below p zero = true
-all_below p (suc n) = p n && all_below p n
-
-all_below_at : (p : ℕ → Bool) (n : ℕ) → all_below p n ≡ true → (k : ℕ) → k < n → p k ≡ true
-all_below_at p zero h k below = absurd (omega arith)
-all_below_at p (suc n) h k below =
-    let parts = and_parts (p n) (all_below p n) h in
-    elim (cases_eq k n) as (λ _. p k ≡ true) [
-      | inl same ↦ ap p same ∙ parts.0
-      | inr other ↦ all_below_at p n parts.1 k (omega (arith, other))
-    ]
 
 -- no chain that begins with s and the goto makes more than `cap` reductions
 abbrev pub goto_is_short : Grammar → Table → ℕ → ℕ → ℕ → Option ℕ → Bool

@@ -1,16 +1,16 @@
 -- What tests of a state's entries decide.
-use Rattle.std.proofs.Common.{◌≡◌, ◌≢◌, ◌<◌, ◌≤◌, ◌+◌, ◌↔◌, ◌⊎◌, ◌∙◌, ℕ, Bool, true, false, IsTrue, List, All, Some, Option, length, map, min, take, slice_index_or, refl, sym, ap, subst, inl, inr, arith}
+use Rattle.std.proofs.Common.{◌≡◌, ◌≢◌, ◌<◌, ◌↔◌, ◌⊎◌, ◌∙◌, ℕ, List, All, Some, length, map, slice_index_or, refl, sym, ap, subst, inl, inr, arith}
 use Rattle.std.specs.List.{Contains, zip}
 use Rattle.std.proofs.lemmas.List.{get_or-map, get_or_default, length-map}
 use Rattle.std.proofs.lemmas.List.Elements.{All-contains}
 use Rattle.std.proofs.lemmas.Slice.Zip.{get_or-zip, length-zip}
-use Rattle.lrpar_grammar.specs.Grammar.{Grammar, GrammarSymbol, Nonterminal, Terminal, end_token, prods_len, start_prod}
-use Rattle.lrpar_states.specs.Graph.{Graph, HasCore}
-use Rattle.lrpar_states.specs.Safe.{AcceptsAtEnd, CoresFollow, GoesBy, KeepsEnd, ReducesComplete, StepsFromCores}
+use Rattle.lrpar_grammar.specs.Grammar.{Grammar, GrammarSymbol, Nonterminal, Terminal, end_token, prods_len}
+use Rattle.lrpar_states.specs.Graph.{Graph}
+use Rattle.lrpar_states.specs.Safe.{AcceptsAtEnd, GoesBy, KeepsEnd, ReducesComplete, StepsFromCores}
 use Rattle.lrpar_states.specs.Table.{Table, TableAction, ShiftTo, ReduceBy, Accepts, Fails, action_of, goto_of}
 use Rattle.lrpar_states.specs.declared.condition.SafetyCondition.{SafetyCondition}
-use Rattle.lrpar_states.specs.declared.condition.SafetyCondition.TheVariants.{S2, S3, S4, S5, S6, S7, S8}
-use Rattle.lrpar_check.specs.Entrywise.{ActionHolds, GotoHolds, IsNamed}
+use Rattle.lrpar_states.specs.declared.condition.SafetyCondition.TheVariants.{S3, S4, S5, S7, S8}
+use Rattle.lrpar_check.specs.Entrywise.{AcceptHolds, ActionHolds, GotoHolds, IsNamed, ReduceHolds, ShiftHolds}
 use Rattle.lrpar_check.proofs.SafetyLemmas.{never_by_kind, steps_by_kind}
 
 -- keys and values side by side, which are the entries of a state
@@ -79,6 +79,28 @@ all_gotos table s es P exact = (
       let there : Contains es (e.0, e.1) = (i, below, get_or_default es i (e.0, e.1) d below) in
       each e.0 e.1 ((exact e.0 e.1).0 there),
 )
+
+-- a condition that names no shifts asks nothing of one; nor does any of what it doesn't name
+pub shift_unasked : (g : Grammar) (graph : Graph) (table : Table) (condition : SafetyCondition) (s t next : ℕ) → condition ≢ S3 → condition ≢ S4
+    → condition ≢ S8 → ShiftHolds g graph table condition s t next
+shift_unasked g graph table S3 s t next not_third not_fourth not_eighth = absurd (not_third refl)
+shift_unasked g graph table S4 s t next not_third not_fourth not_eighth = absurd (not_fourth refl)
+shift_unasked g graph table S8 s t next not_third not_fourth not_eighth = absurd (not_eighth refl)
+shift_unasked g graph table _ s t next not_third not_fourth not_eighth = tt
+
+pub reduce_unasked : (g : Grammar) (graph : Graph) (condition : SafetyCondition) (s p : ℕ) → condition ≢ S5 → ReduceHolds g graph condition s p
+reduce_unasked g graph S5 s p not = absurd (not refl)
+reduce_unasked g graph _ s p not = tt
+
+pub accept_unasked : (g : Grammar) (graph : Graph) (condition : SafetyCondition) (s t : ℕ) → condition ≢ S7 → AcceptHolds g graph condition s t
+accept_unasked g graph S7 s t not = absurd (not refl)
+accept_unasked g graph _ s t not = tt
+
+pub goto_unasked : (g : Grammar) (graph : Graph) (table : Table) (condition : SafetyCondition) (s r next : ℕ) → condition ≢ S4 → condition ≢ S8
+    → GotoHolds g graph table condition s r next
+goto_unasked g graph table S4 s r next not_fourth not_eighth = absurd (not_fourth refl)
+goto_unasked g graph table S8 s r next not_fourth not_eighth = absurd (not_eighth refl)
+goto_unasked g graph table _ s r next not_fourth not_eighth = tt
 
 module _ (g : Grammar) (graph : Graph) (table : Table) (s : ℕ) where
   -- S3 by actions

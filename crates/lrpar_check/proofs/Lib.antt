@@ -4,6 +4,7 @@ pub mod PathLemmas
 pub mod StackLemmas
 pub mod ChainLemmas
 pub mod ChainTests
+pub mod ChainEntryLemmas
 pub mod StepLemmas
 pub mod SettleLemmas
 pub mod StackReductionLemmas

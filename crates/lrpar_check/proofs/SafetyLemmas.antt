@@ -1,7 +1,7 @@
 -- What the tests of the safety conditions decide.
 use Rattle.std.proofs.Common.{◌≡◌, ◌≢◌, ◌<◌, ◌≤◌, ◌+◌, ◌↔◌, ◌∙◌, ℕ, Bool, false, true, IsTrue, List, length, map, Option, Some, None, slice_get, slice_index_or, refl, sym, ap, subst, arith, below_more}
 use Rattle.std.proofs.lemmas.List.{get_or_default, length-map}
-use Rattle.std.proofs.lemmas.Option.{none-some, same_Some, slice_get-map, slice_get_read}
+use Rattle.std.proofs.lemmas.Option.{none-some, slice_get-map, slice_get_read}
 use Rattle.std.specs.List.{Contains}
 use Rattle.std.specs.Option.{is_some, option_map}
 use Rattle.lrpar_grammar.specs.Grammar.{Grammar, GrammarSymbol, Nonterminal, Terminal, prods_len, prod_len, symbols_of}
@@ -56,14 +56,6 @@ pub item_read : {S : Type 0} (index : S → ℕ) (graph : Graph) (s : ℕ) (item
 item_read index graph s items i item all below read =
     subst (λ (is : List ItemOf). Contains is (item_of index item)) all (Contains-image (item_of index) items item (i, below, sym read))
 
--- an action that stands for a shift is one
-pub shift_from_plain : {S : Type 0} (index : S → ℕ) (action : Action S) (next : ℕ) → plain_action index action ≡ ShiftTo next
-    → (to : StIdx S) × (action ≡ Shift to) × (index to.0 ≡ next)
-shift_from_plain index (Shift to) next is = (to, refl, cc)
-shift_from_plain index (Reduce p) next is = absurd (cc)
-shift_from_plain index Accept next is = absurd (cc)
-shift_from_plain index Error next is = absurd (cc)
-
 -- an action that stands for a reduction is one
 pub reduce_from_plain : {S : Type 0} (index : S → ℕ) (action : Action S) (prod : ℕ) → plain_action index action ≡ ReduceBy prod
     → (by : PIdx S) × (action ≡ Reduce by) × (index by.0 ≡ prod)
@@ -71,12 +63,6 @@ reduce_from_plain index (Shift to) prod is = absurd (cc)
 reduce_from_plain index (Reduce by) prod is = (by, refl, cc)
 reduce_from_plain index Accept prod is = absurd (cc)
 reduce_from_plain index Error prod is = absurd (cc)
-
--- what stands for a goto is one
-pub goto_from_plain : {S : Type 0} (index : S → ℕ) (goto : Option (StIdx S)) (next : ℕ) → plain_goto index goto ≡ Some next
-    → (to : StIdx S) × (goto ≡ Some to) × (index to.0 ≡ next)
-goto_from_plain index (Some to) next is = (to, refl, same_Some (index to.0) next is)
-goto_from_plain index None next is = absurd (none-some next is)
 
 -- a list has as many elements as its image
 pub length_by_image : {X Y : Type 0} (f : X → Y) (xs : List X) (ys : List Y) → map f xs ≡ ys → length xs ≡ length ys

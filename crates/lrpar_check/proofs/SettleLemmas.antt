@@ -139,7 +139,7 @@ module _ (g : Grammar) (table : Table) (cap : ℕ) (run : IsRun g table cap) (t 
     other_steps LeavesNone not = inl refl
     other_steps Stays not = inr refl
 
-    stays_by_step : (mid new : X) (step : Step) → step ≢ Reduced → IsStackStep states reduces g table t mid step new → new ≡ mid
+    pub stays_by_step : (mid new : X) (step : Step) → step ≢ Reduced → IsStackStep states reduces g table t mid step new → new ≡ mid
     stays_by_step mid new Reduced not h = absurd (not refl)
     stays_by_step mid new LeavesNone not h = h
     stays_by_step mid new Stays not h = h

@@ -119,11 +119,6 @@ values_of_entries {K} {V} {X} number value ks vs es x many is = (
     f : K × V → ℕ × X
     f e = (number e.0, value e.1)
 
--- an element of which the image is y is found in a list
-pub image_found : {A Y : Type 0} (f : A → Y) (y : Y) (xs : List A) (i : ℕ) (x : A) → i < length xs → x ≡ get_or xs i x → f x ≡ y
-    → Contains (map f xs) y
-image_found f y xs i x below read is = subst (Contains (map f xs)) is (Contains-image f xs x (i, below, sym read))
-
 -- where it isn't at one place more, it isn't at one place more of the image
 pub image_more : {A Y : Type 0} (f : A → Y) (y : Y) (xs : List A) (i : ℕ) (x : A) → i < length xs → x ≡ get_or xs i x → f x ≢ y
     → ((k : ℕ) (d : Y) → k < i → get_or (map f xs) k d ≢ y) → (k : ℕ) (d : Y) → k < i + 1 → get_or (map f xs) k d ≢ y

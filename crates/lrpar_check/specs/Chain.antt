@@ -27,6 +27,13 @@ HasReductions g table t st (suc n) =
 abbrev pub IsLongChain : Grammar → Table → ℕ → ℕ → ℕ → Type 0
 IsLongChain g table cap s t = (st : List ℕ) × IsChainStart table s st × HasReductions g table t st (cap + 1)
 
+-- below token `end` the chain from these states first makes more than `cap` reductions at token `found`, or nowhere where
+-- `found` is `end`
+pub record IsShortUntil (g : Grammar) (table : Table) (cap : ℕ) (st : List ℕ) (end found : ℕ) : Type 0 where
+  pub within : found ≤ end
+  pub long : found < end → HasReductions g table found st (cap + 1)
+  pub short : (t : ℕ) → t < found → ¬ (HasReductions g table t st (cap + 1))
+
 -- no chain makes more than `cap` reductions, whatever its state and its token
 abbrev pub AreChainsShort : Grammar → Table → ℕ → Type 0
 AreChainsShort g table cap = (s t : ℕ) → s < states_len table → t < table.tokens → ¬ (IsLongChain g table cap s t)
@@ -35,9 +42,9 @@ AreChainsShort g table cap = (s t : ℕ) → s < states_len table → t < table.
 abbrev pub most_reductions : ℕ → ℕ → ℕ
 most_reductions cap height = cap * height
 
--- at most so many productions are reduced by in a parse of so many lexemes, each error counted as one
-abbrev pub most_productions : ℕ → ℕ → ℕ
-most_productions cap lexemes = cap * (cap + 3) * (lexemes + 1)
+-- at most so many productions has a tree of so many leaves, that comes of a parse with so many errors
+abbrev pub most_productions : ℕ → ℕ → ℕ → ℕ
+most_productions cap leaves errors = cap * (cap + 3) * (leaves + errors + 1)
 
 -- At each token a stack makes at most `cap` reductions for each of its states; and at most `cap` for each state that it
 -- then has less, and for `cap + 2` more.

@@ -1,41 +1,28 @@
--- The safety conditions of a state, told by its entries one by one.
+-- The safety conditions of a state, told by its entries one by one. A condition that isn't named asks nothing.
 use Rattle.std.specs.Prelude.{◌≡◌, ◌≢◌, ◌<◌, ℕ}
 use Rattle.lrpar_grammar.specs.Grammar.{Grammar, Nonterminal, Terminal, end_token, prod_len, prods_len, start_prod}
 use Rattle.lrpar_states.specs.Graph.{Graph, HasCore}
 use Rattle.lrpar_states.specs.Safe.{CoresFollow}
 use Rattle.lrpar_states.specs.Table.{Table, TableAction, ShiftTo, ReduceBy, Accepts, Fails}
 use Rattle.lrpar_states.specs.declared.condition.SafetyCondition.{SafetyCondition}
-use Rattle.lrpar_states.specs.declared.condition.SafetyCondition.TheVariants.{S2, S3, S4, S5, S6, S7, S8}
+use Rattle.lrpar_states.specs.declared.condition.SafetyCondition.TheVariants.{S3, S4, S5, S7, S8}
 
 -- what a condition asks of state s where that shifts token t and goes to state next
 abbrev pub ShiftHolds : Grammar → Graph → Table → SafetyCondition → ℕ → ℕ → ℕ → Type 0
-ShiftHolds g graph table S2 s t next = Unit {0}
 ShiftHolds g graph table S3 s t next = t ≢ end_token g
 ShiftHolds g graph table S4 s t next = CoresFollow g graph s (Terminal t) next
-ShiftHolds g graph table S5 s t next = Unit {0}
-ShiftHolds g graph table S6 s t next = Unit {0}
-ShiftHolds g graph table S7 s t next = Unit {0}
 ShiftHolds g graph table S8 s t next = next ≢ table.start
+ShiftHolds g graph table _ s t next = Unit {0}
 
 -- what it asks of state s where that reduces by p
 abbrev pub ReduceHolds : Grammar → Graph → SafetyCondition → ℕ → ℕ → Type 0
-ReduceHolds g graph S2 s p = Unit {0}
-ReduceHolds g graph S3 s p = Unit {0}
-ReduceHolds g graph S4 s p = Unit {0}
 ReduceHolds g graph S5 s p = (p ≢ start_prod g) × HasCore graph s p (prod_len g p)
-ReduceHolds g graph S6 s p = Unit {0}
-ReduceHolds g graph S7 s p = Unit {0}
-ReduceHolds g graph S8 s p = Unit {0}
+ReduceHolds g graph _ s p = Unit {0}
 
 -- what it asks of state s where that accepts at token t
 abbrev pub AcceptHolds : Grammar → Graph → SafetyCondition → ℕ → ℕ → Type 0
-AcceptHolds g graph S2 s t = Unit {0}
-AcceptHolds g graph S3 s t = Unit {0}
-AcceptHolds g graph S4 s t = Unit {0}
-AcceptHolds g graph S5 s t = Unit {0}
-AcceptHolds g graph S6 s t = Unit {0}
 AcceptHolds g graph S7 s t = (t ≡ end_token g) × HasCore graph s (start_prod g) 1
-AcceptHolds g graph S8 s t = Unit {0}
+AcceptHolds g graph _ s t = Unit {0}
 
 -- what it asks of state s where that does this at token t
 abbrev pub ActionHolds : Grammar → Graph → Table → SafetyCondition → ℕ → ℕ → TableAction → Type 0
@@ -46,13 +33,9 @@ ActionHolds g graph table condition s t Fails = Unit {0}
 
 -- what it asks of state s where that goes to state next by rule r
 abbrev pub GotoHolds : Grammar → Graph → Table → SafetyCondition → ℕ → ℕ → ℕ → Type 0
-GotoHolds g graph table S2 s r next = Unit {0}
-GotoHolds g graph table S3 s r next = Unit {0}
 GotoHolds g graph table S4 s r next = CoresFollow g graph s (Nonterminal r) next
-GotoHolds g graph table S5 s r next = Unit {0}
-GotoHolds g graph table S6 s r next = Unit {0}
-GotoHolds g graph table S7 s r next = Unit {0}
 GotoHolds g graph table S8 s r next = next ≢ table.start
+GotoHolds g graph table _ s r next = Unit {0}
 
 -- a reduction, if it is one, is by a production of the grammar
 abbrev pub IsNamed : Grammar → TableAction → Type 0

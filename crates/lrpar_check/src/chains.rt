@@ -1,15 +1,15 @@
 //! The loop check: whether each chain of reductions under one token is short.
 ghost use Rattle.std.specs.Prelude.{◌≡◌, ◌<◌, ◌+◌, ◌↔◌, ◌∷◌, ℕ, All, IsTrue, IfOk, MatchOption, length, map};
 ghost use Rattle.std.specs.Option.{option_to_list};
-ghost use Rattle.lrpar_check.specs.Chain.{AreChainsShort, HasReductions, IsLongChain};
-ghost use Rattle.lrpar_states.specs.PlainRows.{plain_goto};
+ghost use Rattle.lrpar_check.specs.Chain.{AreChainsShort, HasReductions, IsLongChain, IsShortUntil};
+ghost use Rattle.lrpar_states.specs.PlainRows.{plain_action, plain_goto};
 ghost use Rattle.lrpar_check.specs.Step.{FitsGrammar};
-ghost use Rattle.lrpar_states.specs.Table.{IsClosed, IsGotoWithin, states_len};
+ghost use Rattle.lrpar_states.specs.Table.{IsClosed, IsGotoWithin, ReduceBy, states_len};
 
 use crate::step::{Step, take_step};
 use lrpar_grammar::grammar::YaccGrammar;
-use lrpar_grammar::span::{RIdx, StIdx, StorageIndex, TIdx};
-use lrpar_states::table::StateTable;
+use lrpar_grammar::span::{StIdx, StorageIndex, TIdx};
+use lrpar_states::table::{Action, StateTable};
 use std::alloc::{AllocError, Global};
 
 /// The chains of a table, each of which is to make at most `cap` reductions.
@@ -35,8 +35,10 @@ impl<'a, StorageT: StorageIndex> Chains<'a, StorageT> {
 
     /// The first state, and the first token there, at which a chain is too long.
     ///
-    /// Makes each chain once: those of a state are as many as its gotos and one more, for each token. A chain takes at
-    /// most `cap + 1` steps, each with one action and one goto. All chains share one small list of states.
+    /// The chains of a state begin with it alone, and with each of its gotos above it, which are read once. Such a chain
+    /// is made at those tokens alone at which the state that it begins with on top stores a reduction, and at none after a
+    /// token at which an earlier one was too long. It takes at most `cap + 1` steps, each with one action and one goto.
+    /// All chains share one small list of states.
     pub(crate) fn first_long(&self, alloc: Global) -> Result<Option<(usize, usize)>, AllocError>
         requires { FitsGrammar self.now.grm.now self.now.stable.now }
         ensures { let g = self.now.grm.now in let table = self.now.stable.now in let cap = self.now.cap in IfOk result (λ found. MatchOption found
@@ -64,42 +66,51 @@ impl<'a, StorageT: StorageIndex> Chains<'a, StorageT> {
         requires state { StorageT.index s.0 < states_len self.now.stable.now }
         ensures { let g = self.now.grm.now in let table = self.now.stable.now in let cap = self.now.cap in IfOk result (λ found. MatchOption found
             ((t : ℕ) → t < table.tokens → ¬ (IsLongChain g table cap (StorageT.index s.0) t))
-            (λ t. (t < table.tokens) × IsLongChain g table cap (StorageT.index s.0) t)) }
+            (λ t. (t < table.tokens) × IsLongChain g table cap (StorageT.index s.0) t
+            × ((k : ℕ) → k < t → ¬ (IsLongChain g table cap (StorageT.index s.0) k)))) }
     {
-        for t in 0..self.stable.tokens_len() {
-            let token = TIdx(StorageT::from_index(t).unwrap());
-            if self.has_long(states, s, token)? {
-                return Ok(Some(t));
-            }
+        let tokens = self.stable.tokens_len();
+        let mut end = self.short_until(states, s, None, tokens)?;
+        let (rules, nexts) = self.stable.gotos_of(s);
+        for (place, _) in rules.iter().enumerate() {
+            end = self.short_until(states, s, Some(nexts[place]), end)?;
         }
-        Ok(None)
+        if end < tokens {
+            Ok(Some(end))
+        } else {
+            Ok(None)
+        }
     }
 
-    // Whether a chain of the state is too long at the token.
-    fn has_long(
+    // The first token below `end` at which the chain that begins with the state, and with the other one above it, is too
+    // long; or `end`.
+    fn short_until(
         &self,
         states: &mut Vec<StIdx<StorageT>>,
         s: StIdx<StorageT>,
-        t: TIdx<StorageT>,
-    ) -> Result<bool, AllocError>
+        above: Option<StIdx<StorageT>>,
+        end: usize,
+    ) -> Result<usize, AllocError>
         requires fits { FitsGrammar self.now.grm.now self.now.stable.now }
         requires closed { IsClosed self.now.stable.now }
         requires state { StorageT.index s.0 < states_len self.now.stable.now }
-        requires token { StorageT.index t.0 < self.now.stable.now.tokens }
-        ensures { IfOk result (λ long. IsTrue long
-            ↔ IsLongChain self.now.grm.now self.now.stable.now self.now.cap (StorageT.index s.0) (StorageT.index t.0)) }
+        requires above { IsGotoWithin (states_len self.now.stable.now) (plain_goto StorageT.index above) }
+        ensures { IfOk result (λ found. IsShortUntil self.now.grm.now self.now.stable.now self.now.cap
+            (StorageT.index s.0 ∷ option_to_list (plain_goto StorageT.index above)) end found) }
     {
-        if self.is_long_from(states, s, None, t)? {
-            return Ok(true);
-        }
-        for r in 0..self.stable.rules_len() {
-            let rule = RIdx(StorageT::from_index(r).unwrap());
-            let next = self.stable.goto(s, rule);
-            if next.is_some() && self.is_long_from(states, s, next, t)? {
-                return Ok(true);
+        let top = above.unwrap_or(s);
+        let (tokens, actions) = self.stable.actions_of(top);
+        for (place, token) in tokens.iter().enumerate() {
+            let t = usize::from(*token);
+            let action = actions[place];
+            if t >= end {
+                return Ok(end);
+            }
+            if is_reduction(action) && self.is_long_from(states, s, above, *token)? {
+                return Ok(t);
             }
         }
-        Ok(false)
+        Ok(end)
     }
 
     // Whether the chain that begins with the state, and with the other one above it, is too long at the token.
@@ -150,5 +161,15 @@ impl<'a, StorageT: StorageIndex> Chains<'a, StorageT> {
             Step::Reduced | Step::LeavesNone => Ok(true),
             Step::Stays => Ok(false),
         }
+    }
+}
+
+// Whether the action is a reduction.
+fn is_reduction<StorageT: StorageIndex>(action: Action<StorageT>) -> bool
+    ensures { IsTrue result ↔ ((p : ℕ) × (plain_action StorageT.index action ≡ ReduceBy p)) }
+{
+    match action {
+        Action::Reduce(_) => true,
+        Action::Shift(_) | Action::Accept | Action::Error => false,
     }
 }

@@ -48,9 +48,9 @@ impl<StorageT: StorageIndex> ParserData<StorageT> {
     /// keeps the three parts as they were.
     ///
     /// The conditions take time near the size of the input: with I items and A entries of the table, about (I + A) times
-    /// the logarithm of I, where each entry that leads to a state counts the state's cores. The chains take longer: with
-    /// S states, T tokens and at most G gotos in a state there are at most S * T * (1 + G) of them. Each is made once, and
-    /// makes at most `cap + 1` reductions. For each token the gotos of each state are read once.
+    /// the logarithm of I, where each entry that leads to a state counts the state's cores. The chains take longer: a state
+    /// has one for each reduction that it stores, and one for each reduction that the state of one of its gotos stores.
+    /// Each is made at most once, and makes at most `cap + 1` reductions.
     pub fn new(
         alloc: Global,
         grm: YaccGrammar<StorageT>,

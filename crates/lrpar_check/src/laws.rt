@@ -1,11 +1,12 @@
 //! Laws about the definitions that contracts cite: each function has one as its contract, and does nothing.
 ghost use Rattle.std.specs.Prelude.{◌≡◌, ◌≤◌, ◌^◌, ℕ, List, ◌∷◌, [], Some, None};
 ghost use Rattle.lrpar_grammar.specs.Grammar.{GrammarSymbol, Nonterminal, Terminal};
+ghost use Rattle.lrpar_grammar.specs.Sum.{sum_grammar};
 ghost use Rattle.lrpar_check.specs.Chain.{AreChainsShort, BoundsReductions, IsLongChain};
 ghost use Rattle.lrpar_check.specs.Path.{CheckedRunsNeverStick, IsPath};
 ghost use Rattle.lrpar_check.specs.Reduction.{SettlesOneWay, Settles};
 ghost use Rattle.lrpar_check.specs.Stack.{IsStack};
-ghost use Rattle.lrpar_states.specs.Sum.{sum_grammar, sum_graph, sum_table};
+ghost use Rattle.lrpar_states.specs.Sum.{sum_table};
 ghost use Rattle.lrpar_states.specs.Table.{Table, ShiftTo, ReduceBy, Accepts, Fails, action_of, goto_of, states_len};
 
 /// From a stack, under a token, there is at most one list of reductions after which none is left, and one stack that

@@ -95,11 +95,17 @@ impl<'a, StorageT: StorageIndex> StateStack<StorageT> for Overlay<'a, StorageT> 
 
     ghost states = { λ o. overlaid o };
 
-    ghost can_reduce = { λ _. Unit {0} };
+    ghost suits = { λ _ _ _. Unit {0} };
+
+    ghost can_reduce = { λ _ _ _ _. Unit {0} };
 
     ghost reduces = { λ old _ _ symbols new. OverlayReduces old symbols new };
 
     ghost fails = { λ old symbols new. OverlayFails old symbols new };
+
+    ghost due_can = { λ g table t stack p after suit due. tt };
+
+    ghost reduced_suits = { λ g table t old p new suit reduces. tt };
 
     fn height(&self) -> usize {
         self.len()
@@ -119,7 +125,6 @@ impl<'a, StorageT: StorageIndex> StateStack<StorageT> for Overlay<'a, StorageT> 
 
     fn reduce(&mut self, by: Reduction<StorageT>) -> Result<(), AllocError>
         requires deep { by.symbols < length (overlaid self.old) }
-        ensures can { OnOk result (Unit {0}) }
         ensures states { OnOk result (overlaid self.new
             ≡ take (length (overlaid self.old) - by.symbols) (overlaid self.old) ++ StorageT.index by.next.0 ∷ []) }
         ensures reduces { OnOk result (OverlayReduces self.old by.symbols self.new) }

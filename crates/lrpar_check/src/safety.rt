@@ -15,17 +15,6 @@ use lrpar_grammar::span::{PIdx, RIdx, StIdx, StorageIndex, Symbol, TIdx};
 use lrpar_states::condition::SafetyCondition;
 use lrpar_states::table::{Action, StateGraph, StateTable};
 
-/// The conditions, in the order in which they are tested.
-const CONDITIONS: [SafetyCondition; 7] = [
-    SafetyCondition::S2,
-    SafetyCondition::S3,
-    SafetyCondition::S4,
-    SafetyCondition::S5,
-    SafetyCondition::S6,
-    SafetyCondition::S7,
-    SafetyCondition::S8,
-];
-
 /// What is checked.
 #[derive(Drop)]
 pub(crate) struct Parts<'a, StorageT: StorageIndex> {
@@ -59,7 +48,7 @@ impl<'a, StorageT: StorageIndex> Parts<'a, StorageT> {
         if !self.has_shape() {
             return Some(CheckFault::Shape);
         }
-        for condition in CONDITIONS {
+        for condition in SafetyCondition::ALL {
             if let Some(state) = self.first_unsafe(condition) {
                 return Some(CheckFault::Safety(condition, state));
             }
@@ -311,8 +300,7 @@ impl<'a, StorageT: StorageIndex> Parts<'a, StorageT> {
             SafetyCondition::S3 => !self.is_end(token),
             SafetyCondition::S4 => self.cores_follow(s, Symbol::Token(token), next),
             SafetyCondition::S8 => !self.is_start(next),
-            SafetyCondition::S2 | SafetyCondition::S5 | SafetyCondition::S6 | SafetyCondition::S7 =>
-                true,
+            _ => true,
         }
     }
 
@@ -330,12 +318,7 @@ impl<'a, StorageT: StorageIndex> Parts<'a, StorageT> {
     {
         match condition {
             SafetyCondition::S5 => self.is_complete(s, pidx),
-            SafetyCondition::S2
-            | SafetyCondition::S3
-            | SafetyCondition::S4
-            | SafetyCondition::S6
-            | SafetyCondition::S7
-            | SafetyCondition::S8 => true,
+            _ => true,
         }
     }
 
@@ -352,12 +335,7 @@ impl<'a, StorageT: StorageIndex> Parts<'a, StorageT> {
     {
         match condition {
             SafetyCondition::S7 => self.accepts_complete(s, token),
-            SafetyCondition::S2
-            | SafetyCondition::S3
-            | SafetyCondition::S4
-            | SafetyCondition::S5
-            | SafetyCondition::S6
-            | SafetyCondition::S8 => true,
+            _ => true,
         }
     }
 
@@ -404,11 +382,7 @@ impl<'a, StorageT: StorageIndex> Parts<'a, StorageT> {
         match condition {
             SafetyCondition::S4 => self.cores_follow(s, Symbol::Rule(rule), next),
             SafetyCondition::S8 => !self.is_start(next),
-            SafetyCondition::S2
-            | SafetyCondition::S3
-            | SafetyCondition::S5
-            | SafetyCondition::S6
-            | SafetyCondition::S7 => true,
+            _ => true,
         }
     }
 

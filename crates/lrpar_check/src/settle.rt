@@ -15,7 +15,7 @@ use std::alloc::AllocError;
 
 impl<StorageT: StorageIndex> ParserData<StorageT> {
     /// Makes all reductions of a stack of any kind under the token, and answers how many these were. Internal: `settle`
-    /// and `settle_over`, and the run of the crate above, are this.
+    /// and `settle_over` are this.
     ///
     /// At most the cap for each state of the stack, each with one action and one goto.
     pub fn settle_on<S: StateStack<StorageT>>(
@@ -23,14 +23,14 @@ impl<StorageT: StorageIndex> ParserData<StorageT> {
         stack: &mut S,
         t: TIdx<StorageT>,
     ) -> Result<u128, AllocError>
-        requires can { S.can_reduce stack.old }
+        requires suits { S.suits self.now.grammar self.now.table stack.old }
         requires stack { IsStack self.now.table (S.states stack.old) }
         requires token { StorageT.index t.0 < self.now.table.tokens }
 
         // All reductions were made, of the states and of the rest; their number is told and bounded.
         ensures settled { IfOk result (λ count. IsStackSettledBy S.states S.reduces self.now.grammar self.now.table self.now.cap (StorageT.index t.0)
             stack.old count stack.new) }
-        ensures can { OnOk result (S.can_reduce stack.new) }
+        ensures suits { OnOk result (S.suits self.now.grammar self.now.table stack.new) }
 
         // Some first reductions were made, and for the next one memory was wanting.
         ensures held_up { OnErr result (IsStackHeldUp S.states S.reduces S.fails self.now.grammar self.now.table (StorageT.index t.0) stack.old stack.new) }
@@ -105,7 +105,7 @@ impl<StorageT: StorageIndex> ParserData<StorageT> {
         stack: &mut S,
         t: TIdx<StorageT>,
     ) -> Result<bool, AllocError>
-        requires can { S.can_reduce stack.old }
+        requires suits { S.suits self.now.grammar self.now.table stack.old }
         requires stack { IsStack self.now.table (S.states stack.old) }
         requires token { StorageT.index t.0 < self.now.table.tokens }
 

@@ -1,7 +1,11 @@
-//! What a stack of states has to do for reductions and shifts: internal, since the run of the crate above has a stack of
-//! its own. Reductions are made by one function over all of them.
+//! What a stack of states has to do for reductions and shifts, which one function makes over all kinds: internal, and public
+//! for a stack of the crate above, which has more than its states.
 ghost use Rattle.std.specs.Prelude.{◌≡◌, ◌<◌, ◌≤◌, ◌-◌, ℕ, List, [], ◌∷◌, ◌++◌, length, slice_get, take, Some, OnOk, OnErr, vec_capacity};
+ghost use Rattle.lrpar_grammar.specs.Grammar.{Grammar, prod_len, rule_of};
+ghost use Rattle.lrpar_check.specs.Reduction.{Reduces};
 ghost use Rattle.lrpar_check.specs.Stack.{states_of, top_of};
+ghost use Rattle.lrpar_check.specs.StackReduction.{StackReduces};
+ghost use Rattle.lrpar_states.specs.Table.{Table};
 
 use lrpar_grammar::span::{PIdx, RIdx, StIdx, StorageIndex};
 use std::alloc::AllocError;
@@ -24,8 +28,12 @@ pub trait StateStack<StorageT: StorageIndex> {
     /// The states, bottom first.
     ghost states: { Self → List ℕ };
 
-    /// What has to hold of the stack, beside its height, for it to be reduced.
-    ghost can_reduce: { Self → Type 0 };
+    /// What holds of the stack beside its states, where it is one to reduce by a grammar and a table.
+    ghost suits: { Grammar → Table → Self → Type 0 };
+
+    /// What has to hold of the stack, beside its height, for a reduction by a production, of a rule and with so many
+    /// symbols.
+    ghost can_reduce: { Self → ℕ → ℕ → ℕ → Type 0 };
 
     /// What a reduction by a production, of a rule and with so many symbols, makes of the stack beside its states.
     ghost reduces: { Self → ℕ → ℕ → ℕ → Self → Type 0 };
@@ -50,14 +58,21 @@ pub trait StateStack<StorageT: StorageIndex> {
     /// Drops the top states, one for each symbol of the reduction, and pushes the state of its goto. Where memory was
     /// wanting, the states stay.
     fn reduce(&mut self, by: Reduction<StorageT>) -> Result<(), AllocError>
-        requires can { can_reduce self.old }
+        requires can { can_reduce self.old (StorageT.index by.prod.0) (StorageT.index by.rule.0) by.symbols }
         requires deep { by.symbols < length (states self.old) }
-        ensures can { OnOk result (can_reduce self.new) }
         ensures states { OnOk result (states self.new
             ≡ take (length (states self.old) - by.symbols) (states self.old) ++ StorageT.index by.next.0 ∷ []) }
         ensures reduces { OnOk result (reduces self.old (StorageT.index by.prod.0) (StorageT.index by.rule.0) by.symbols self.new) }
         ensures unchanged { OnErr result (states self.new ≡ states self.old) }
         ensures fails { OnErr result (fails self.old by.symbols self.new) };
+
+    /// Where the stack suits a grammar and a table, each reduction that is due by them can be made.
+    ghost due_can: { (g : Grammar) (table : Table) (t : ℕ) (stack : Self) (p : ℕ) (after : List ℕ) → suits g table stack
+        → Reduces g table t (states stack) p after → can_reduce stack p (rule_of g p) (prod_len g p) };
+
+    /// And the stack suits them again when it is made.
+    ghost reduced_suits: { (g : Grammar) (table : Table) (t : ℕ) (old : Self) (p : ℕ) (new : Self) → suits g table old
+        → StackReduces states reduces g table t old p new → suits g table new };
 }
 
 /// A stack onto which a shift puts its state and nothing else.
@@ -80,11 +95,17 @@ pub trait ShiftStack<StorageT: StorageIndex>: StateStack<StorageT> {
 impl<StorageT: StorageIndex> StateStack<StorageT> for Vec<StIdx<StorageT>> {
     ghost states = { λ v. states_of StorageT.index v.items };
 
-    ghost can_reduce = { λ _. Unit {0} };
+    ghost suits = { λ _ _ _. Unit {0} };
+
+    ghost can_reduce = { λ _ _ _ _. Unit {0} };
 
     ghost reduces = { λ old _ _ _ new. vec_capacity old ≤ vec_capacity new };
 
     ghost fails = { λ old symbols _. (symbols ≡ 0) × (vec_capacity old ≤ length old.items) };
+
+    ghost due_can = { λ g table t stack p after suit due. tt };
+
+    ghost reduced_suits = { λ g table t old p new suit reduces. tt };
 
     fn height(&self) -> usize {
         self.len()

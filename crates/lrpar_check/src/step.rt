@@ -1,6 +1,6 @@
 //! One step at a token, over any list of states, be it a stack or the states of a chain.
 ghost use Rattle.std.specs.Prelude.{◌≡◌, ◌<◌, All, IfOk, OnOk, OnErr, length};
-ghost use Rattle.lrpar_grammar.specs.Grammar.{prods_len, prod_len, rules_len};
+ghost use Rattle.lrpar_grammar.specs.Grammar.{prods_len, prod_len, rule_of, rules_len};
 ghost use Rattle.lrpar_check.specs.StackReduction.{IsStepHeldUp};
 ghost use Rattle.lrpar_check.specs.Step.{CanReduce, FitsGrammar, IsReduction, IsRestOf, IsStackStep, IsStep};
 ghost use Rattle.lrpar_states.specs.Table.{states_len};
@@ -32,12 +32,11 @@ pub(crate) fn take_step<StorageT: StorageIndex, S: StateStack<StorageT>>(
 ) -> Result<Step, AllocError>
     requires fits { FitsGrammar grm.now table.now }
     requires token { StorageT.index t.0 < table.now.tokens }
-    requires can { S.can_reduce states.old }
+    requires suits { S.suits grm.now table.now states.old }
     requires some { 0 < length (S.states states.old) }
     requires within { All (λ s. s < states_len table.now) (S.states states.old) }
     ensures step { IfOk result (λ step. IsStep grm.now table.now (StorageT.index t.0) (S.states states.old) step (S.states states.new)) }
     ensures made { IfOk result (λ step. IsStackStep S.states S.reduces grm.now table.now (StorageT.index t.0) states.old step states.new) }
-    ensures can { OnOk result (S.can_reduce states.new) }
     ensures held_up { OnErr result (IsStepHeldUp S.states S.fails grm.now table.now (StorageT.index t.0) states.old states.new) }
 {
     match table.action(states.top(), t) {
@@ -55,11 +54,11 @@ fn reduce_by<StorageT: StorageIndex, S: StateStack<StorageT>>(
 ) -> Result<Step, AllocError>
     requires rules { table.now.rules ≡ rules_len grm.now }
     requires prod { StorageT.index prod.0 < prods_len grm.now }
-    requires can { S.can_reduce states.old }
+    requires can { CanReduce grm.now table.now (StorageT.index prod.0) (S.states states.old)
+        → S.can_reduce states.old (StorageT.index prod.0) (rule_of grm.now (StorageT.index prod.0)) (prod_len grm.now (StorageT.index prod.0)) }
     requires within { All (λ s. s < states_len table.now) (S.states states.old) }
     ensures reduction { IfOk result (λ step. IsReduction grm.now table.now (StorageT.index prod.0) (S.states states.old) step (S.states states.new)) }
     ensures rest { IfOk result (λ step. IsRestOf S.reduces grm.now (StorageT.index prod.0) states.old step states.new) }
-    ensures can { OnOk result (S.can_reduce states.new) }
     ensures due { OnErr result (CanReduce grm.now table.now (StorageT.index prod.0) (S.states states.old)) }
     ensures fails { OnErr result (S.fails states.old (prod_len grm.now (StorageT.index prod.0)) states.new) }
     ensures unchanged { OnErr result (S.states states.new ≡ S.states states.old) }

@@ -1,7 +1,7 @@
 -- Rows that lie one after the other in one list.
 use Rattle.std.proofs.Common.{subst, ◌≡◌, ◌<◌, ◌≤◌, ◌+◌, ◌-◌, ◌++◌, ◌∙◌, ℕ, zero, suc, List, [], ◌∷◌, length, map, take, drop, slice_index, slice_index_or, add-zero, refl, inl, inr, ap, sym, arith}
 use Rattle.std.specs.List.{range_with_len, slice_range, sum_by, zip}
-use Rattle.std.proofs.lemmas.List.{append-nil, map_more, append_assoc, take_more, drop-append-le, drop_at, get_or_append_left, get_or_push, length-drop, length-map, length-take-le, length_push, take-append-le, take_all}
+use Rattle.std.proofs.lemmas.List.{map_more, append_assoc, take_more, drop-append-le, drop_at, get_or_append_left, get_or_push, length-drop, length-map, length-take-le, length_push, take-append-le, take_all}
 use Rattle.std.proofs.lemmas.Bool.{cases_lt}
 use Rattle.std.proofs.lemmas.List.FromFn.{fill_by_all, get_or-map-range_with_len, length-map-range_with_len, map-range_with_len_more, sum_by-map-range_with_len_more}
 use Rattle.std.proofs.lemmas.List.Sums.{sum_by-cons}
@@ -126,11 +126,6 @@ pub record AreAppended {K V : Type 0} (keys before : List K) (values values_befo
   pub len : length keys ≡ length before + i
   pub entries : zip keys values ≡ zip before values_before ++ take i row
 
--- at first none were
-pub appended_none : {K V : Type 0} (keys : List K) (values : List V) (row : List (K × V)) → length values ≡ length keys
-    → AreAppended keys keys values values row 0
-appended_none keys values row same = record { paired = same; len = omega arith; entries = sym (append-nil (zip keys values)) }
-
 -- one more
 pub appended_more : {K V : Type 0} (keys before : List K) (values values_before : List V) (row : List (K × V)) (i : ℕ) (k : K) (v : V)
     → AreAppended keys before values values_before row i → i < length row → (k, v) ≡ slice_index_or row i (k, v)
@@ -147,16 +142,6 @@ appended_more keys before values values_before row i k v so_far below is = recor
 pub record AreCutSoFar {K V R : Type 0} (items : R → List (K × V)) (starts : List ℕ) (keys : List K) (values : List V) (rows : List R) (i : ℕ) : Type 0 where
   pub parts : AreParts starts keys values
   pub rows_so_far : cut starts (zip keys values) ≡ map items (take i rows)
-
--- with no rows there is one place, where the first row begins
-pub cut_none : {K V R : Type 0} (items : R → List (K × V)) (rows : List R) → AreCutSoFar {K = K} {V = V} items (0 ∷ []) [] [] rows 0
-cut_none items rows = record {
-  parts = record {
-    placed = record { some = omega arith; first = refl; up = λ s below. absurd (omega (arith, below)); last = refl };
-    paired = refl;
-  };
-  rows_so_far = refl;
-}
 
 -- one more row
 pub cut_more : {K V R : Type 0} (items : R → List (K × V)) (starts : List ℕ) (keys keys_after : List K) (values values_after : List V) (rows : List R)

@@ -16,7 +16,7 @@ use Rattle.lrpar_states.proofs.Mapped.{All-unmap}
 use Rattle.lrpar_states.proofs.ItemLemmas.{Contains-image}
 
 -- numbers that ascend are distinct
-distinct_numbers : (ks : List ℕ) → IsStrictlyIncreasing ks → IsDistinct nat_eq ks
+pub distinct_numbers : (ks : List ℕ) → IsStrictlyIncreasing ks → IsDistinct nat_eq ks
 distinct_numbers ks up =
     IsDistinct-from_apart nat_eq ks
     (λ i j d before below.
@@ -154,14 +154,6 @@ pub gotos_exact : (limit : ℕ) (table : Table) → IsTable limit table → (s r
     → Contains (gotos_at table s) (r, next) ↔ (goto_of table s r ≡ Some next)
 unfolding goto_of
 gotos_exact limit table is s r next = entry_found (gotos_at table s) r next (gotos_good limit table is s).ascending
-
--- the entry of an action that isn't an error
-pub action_entry_of : (limit : ℕ) (table : Table) → IsTable limit table → (s t : ℕ) (action : TableAction) → action_of table s t ≡ action → action ≢ Fails
-    → IsActionEntry table.tokens table.states (t, action)
-action_entry_of limit table is s t action at stored =
-    let good = actions_good limit table is s in
-    All-contains (IsActionEntry table.tokens table.states) (actions_at table s) (t, action) good.each
-    ((actions_exact limit table is s t action).1 (at, stored))
 
 -- the entry of a goto
 pub goto_entry_of : (limit : ℕ) (table : Table) → IsTable limit table → (s r next : ℕ) → goto_of table s r ≡ Some next

@@ -1,6 +1,6 @@
 -- What state graphs have, told by tests of lists of items, and by what holds of each item.
-use Rattle.std.proofs.Common.{◌≡◌, ◌<◌, ◌↔◌, ℕ, Bool, true, ◌&&◌, nat_eq, List, [], length, map, All, slice_index_or, subst, refl, ap, arith, ◌⊎◌, inl, inr}
-use Rattle.std.proofs.lemmas.Bool.{and_from, and_parts, both_ways, cases_Bool, cases_lt, eq-eqb, eqb-true}
+use Rattle.std.proofs.Common.{◌≡◌, ◌<◌, ◌↔◌, ℕ, Bool, true, ◌&&◌, nat_eq, List, [], length, map, All, slice_index_or, subst, refl, ap, arith, inl, inr}
+use Rattle.std.proofs.lemmas.Bool.{and_from, and_parts, cases_lt, eq-eqb, eqb-true}
 use Rattle.std.proofs.lemmas.List.{get_or_past}
 use Rattle.std.proofs.lemmas.List.Elements.{All-contains, All-contains_itself}
 use Rattle.std.proofs.lemmas.List.Folds.{Any-from_list_any, list_any-from_Any}
@@ -66,24 +66,6 @@ core_by_test items p k = (
       let passes = and_from _ _ (eq-eqb p p refl) (eq-eqb k k refl) in
       list_any-from_Any (is_with_core p k) items (h.1.0, item_at p k h.0, h.1.1, h.1.2, passes),
 )
-
--- a state has an item or lacks it
-pub item_or_not : (graph : Graph) (s p k t : ℕ) → HasItem graph s p k t ⊎ (¬ (HasItem graph s p k t))
-item_or_not graph s p k t =
-    let same = item_by_test (items_of graph s) p k t in
-    elim (cases_Bool (list_any (is_item p k t) (items_of graph s))) as (λ _. HasItem graph s p k t ⊎ (¬ (HasItem graph s p k t))) [
-      | inl found ↦ inl (same.0 found)
-      | inr none ↦ inr (λ h. both_ways _ none (same.1 h))
-    ]
-
--- a state has a core or lacks it
-pub core_or_not : (graph : Graph) (s p k : ℕ) → HasCore graph s p k ⊎ (¬ (HasCore graph s p k))
-core_or_not graph s p k =
-    let same = core_by_test (items_of graph s) p k in
-    elim (cases_Bool (list_any (is_with_core p k) (items_of graph s))) as (λ _. HasCore graph s p k ⊎ (¬ (HasCore graph s p k))) [
-      | inl found ↦ inl (same.0 found)
-      | inr none ↦ inr (λ h. both_ways _ none (same.1 h))
-    ]
 
 -- what holds of each item that `items` answers holds of each item of the state, and of no other list
 pub all_items : {S : Type 0} (index : S → ℕ) (P : ℕ → ℕ → ℕ → Type 0) (graph : Graph) (s : ℕ) (items : List (PIdx S × ℕ × TIdx S))

@@ -5,5 +5,7 @@ pub mod GraphLemmas
 pub mod SearchLemmas
 pub mod CutLemmas
 pub mod EntryLemmas
+pub mod CountLemmas
 pub mod RowLemmas
+pub mod SafeTests
 pub mod TableLemmas

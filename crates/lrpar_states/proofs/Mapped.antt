@@ -1,5 +1,5 @@
 -- What is true of each element of a list, and of each element of its image.
-use Rattle.std.proofs.Common.{◌≡◌, ◌<◌, ◌≤◌, ◌+◌, ◌↔◌, ℕ, Bool, true, false, IsTrue, nat_eq, List, length, map, take, All, slice_index_or, refl, subst, sym, arith}
+use Rattle.std.proofs.Common.{◌≡◌, ◌<◌, ◌≤◌, ◌+◌, ◌↔◌, ℕ, Bool, true, false, IsTrue, nat_eq, List, length, map, take, All, slice_index_or, refl, subst, sym}
 use Rattle.std.proofs.Math.ListN.{get_or-map}
 use Rattle.std.proofs.lemmas.Bool.{eqb-true}
 use Rattle.std.proofs.lemmas.List.{length-map, take_all}
@@ -18,16 +18,6 @@ row_test P f xs n b e test = (λ h. (rw length-map e, All-map P f xs (test.0 h))
 pub row_refused : {X Y : Type 0} (P : Y → Type 0) (f : X → Y) (xs : List X) (n : ℕ) → ¬ (length xs ≡ n)
     → IsTrue (nat_eq (length xs) n) ↔ ((length (map f xs) ≡ n) × All P (map f xs))
 row_refused P f xs n other = (λ h. absurd (other (eqb-true _ _ h)), λ h. absurd (other (rw length-map at h.0)))
-
--- a number below the length that each row has is below the length of the row that was read
-pub index_in_row : {R X Y : Type 0} (P : Y → Type 0) (items : R → List X) (f : X → Y) (rows : List R) (n s k : ℕ) (row : R)
-    → All (λ ys. (length ys ≡ n) × All P ys) (map (λ r. map f (items r)) rows)
-    → s < length rows → row ≡ slice_index_or rows s row → k < n → k < length (items row)
-index_in_row P items f rows n s k row all below is k_below =
-    let read = All-unmap (λ ys. (length ys ≡ n) × All P ys) (λ r. map f (items r)) rows all s row below in
-    let len : length (items (slice_index_or rows s row)) ≡ n = rw length-map at read.0 in
-    let row_len : length (items row) ≡ n = subst (λ r. length (items r) ≡ n) (sym is) len in
-    omega arith
 
 -- a test of the elements is a test of the images
 pub image_test : {X Y : Type 0} (P : Y → Type 0) (f : X → Y) (xs : List X) (b : Bool) → IsTrue b ↔ All (λ x. P (f x)) xs → IsTrue b ↔ All P (map f xs)

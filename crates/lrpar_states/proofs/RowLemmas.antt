@@ -5,7 +5,7 @@ use Rattle.std.specs.List.Sorted.{IsStrictlyIncreasing}
 use Rattle.std.specs.Map.{keys_of, lookup}
 use Rattle.std.specs.Option.{option_and_then, option_map, option_to_list}
 use Rattle.std.proofs.lemmas.Bool.{eq-eqb, ne_eqb}
-use Rattle.std.proofs.lemmas.List.{get_or-map, length-map, length-take-le, map_more, map_push, take_more}
+use Rattle.std.proofs.lemmas.List.{get_or-map, length-map, length-take-le, take_more}
 use Rattle.std.proofs.lemmas.List.Elements.{All-from_recursion, filter_map-append, All-head, All-map, All-tail}
 use Rattle.std.proofs.lemmas.Map.Entries.{lookup_head, lookup_tail}
 use Rattle.lrpar_states.specs.Rows.{AreRows, IsActionRow, IsGotoRow, Rows, kept_entry, row_actions, row_entries, row_gotos, table_of, unless_error}
@@ -105,13 +105,6 @@ row_entries_more keep f row i x below is =
     let len : i ≡ 0 + length front = omega (arith, length-take-le i (map f row) short) in
     rw (more, enumerate_push 0 i front (f x) len, filter_map-append)
     (ap (λ es. filter_map (kept_entry keep) (enumerate_from 0 front) ++ es) (kept_alone (kept_entry keep (i, f x))))
-
--- a list whose image is that of the first rows, and one more
-pub mapped_more : {R X Y : Type 0} (f : X → Y) (h : R → Y) (xs : List X) (rows : List R) (i : ℕ) (x : X) (row : R) → map f xs ≡ map h (take i rows)
-    → i < length rows → row ≡ slice_index_or rows i row → f x ≡ h row → map f (xs ++ x ∷ []) ≡ map h (take (i + 1) rows)
-mapped_more f h xs rows i x row so_far below is same =
-    let more = rw (← is) at (map_more h rows i row below) in
-    map_push f xs x ∙ rw (so_far, same) (sym more)
 
 -- an image of an image
 pub map-map : {X Y Z : Type 0} (f : X → Y) (h : Y → Z) (xs : List X) → map h (map f xs) ≡ map (λ x. h (f x)) xs

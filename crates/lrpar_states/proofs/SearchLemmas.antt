@@ -12,14 +12,6 @@ pub record IsSearched (ns : List ℕ) (wanted base size : ℕ) : Type 0 where
   pub below : (k : ℕ) → k < base → slice_index ns k < wanted
   pub above : (k : ℕ) → base + size ≤ k → k < length ns → wanted < slice_index ns k
 
--- at first all are left
-pub searched_none : (ns : List ℕ) (wanted n : ℕ) → n ≡ length ns → IsSearched ns wanted 0 n
-searched_none ns wanted n e = record {
-  within = omega (arith, e);
-  below = λ k h. absurd (omega (arith, h));
-  above = λ k low high. absurd (omega (arith, e, low, high));
-}
-
 -- where the middle one isn't greater, the part from it on is left
 pub searched_up : (ns : List ℕ) (wanted base size half : ℕ) → IsStrictlyIncreasing ns → IsSearched ns wanted base size → half < size
     → slice_index ns (base + half) ≤ wanted → IsSearched ns wanted (base + half) (size - half)

@@ -3,7 +3,7 @@ pub mod Rows
 pub mod Entries
 pub mod Graph
 pub mod Safe
-pub mod ConditionText
+pub mod Conditions
 pub mod Sum
 pub mod PlainConflicts
 pub mod PlainRows

@@ -1,35 +1,11 @@
--- A small grammar of sums with its table, on which the definitions are computed.
-use Rattle.std.specs.Prelude.{ℕ, List, [], ◌∷◌, Option, Some, None}
-use Rattle.lrpar_text.specs.Span.{nowhere}
-use Rattle.lrpar_grammar.specs.Grammar.{Grammar, GrammarSymbol, Nonterminal, Terminal, Production, RuleName, TokenName, added_rule, added_prod}
-use Rattle.lrpar_states.specs.Graph.{Graph, item_at}
+-- The table of the grammar *sum*, on which the definitions are computed: tokens '+' 0, 'ID' 1, end 2; rules ^ 0, E 1, T 2;
+-- productions 0 `E: T '+' E`, 1 `E: T`, 2 `T: 'ID'`, 3 `^: E`.
+use Rattle.std.specs.Prelude.{◌+◌, ◌++◌, ℕ, List, [], ◌∷◌, Option, Some, None, slice_set}
+use Rattle.lrpar_states.specs.Graph.{Graph, ItemOf, item_at, items_of}
 use Rattle.lrpar_states.specs.Rows.{Rows}
 use Rattle.lrpar_states.specs.Table.{Table, TableAction, ShiftTo, ReduceBy, Accepts, Fails}
 
--- a production with no places
-abbrev pub plain_prod : ℕ → List GrammarSymbol → Production
-plain_prod rule symbols = record { rule = rule; symbols = symbols; symbol_spans = []; span = nowhere }
-
--- a rule with no place
-abbrev pub plain_rule : List ℕ → RuleName
-plain_rule name = record { name = name; span = nowhere }
-
--- a token with no place
-abbrev pub plain_token : List ℕ → TokenName
-plain_token name = record { name = name; epp = name; span = nowhere }
-
--- tokens '+' 0, 'ID' 1, end 2; rules ^ 0, E 1, T 2; productions 0 `E: T '+' E`, 1 `E: T`, 2 `T: 'ID'`, 3 `^: E`
-abbrev pub sum_grammar : Grammar
-sum_grammar = record {
-  rules = added_rule ∷ plain_rule (69 ∷ []) ∷ plain_rule (84 ∷ []) ∷ [];
-  tokens = plain_token (43 ∷ []) ∷ plain_token (73 ∷ 68 ∷ []) ∷ [];
-  prods =
-      plain_prod 1 (Nonterminal 2 ∷ Terminal 0 ∷ Nonterminal 1 ∷ []) ∷ plain_prod 1 (Nonterminal 2 ∷ [])
-      ∷ plain_prod 2 (Terminal 1 ∷ []) ∷ added_prod 1 ∷ [];
-  start = 1;
-}
-
--- the six states of that grammar: 0 `^: . E`, 1 `^: E .`, 2 `E: T . '+' E` and `E: T .`, 3 `T: 'ID' .`,
+-- its six states: 0 `^: . E`, 1 `^: E .`, 2 `E: T . '+' E` and `E: T .`, 3 `T: 'ID' .`,
 -- 4 `E: T '+' . E`, 5 `E: T '+' E .`
 abbrev pub sum_table : Table
 sum_table = record {
@@ -78,3 +54,23 @@ sum_graph =
     ∷ (item_at 2 1 0 ∷ item_at 2 1 2 ∷ [])
     ∷ (item_at 0 2 2 ∷ item_at 0 0 2 ∷ item_at 1 0 2 ∷ item_at 2 0 0 ∷ item_at 2 0 2 ∷ [])
     ∷ (item_at 0 3 2 ∷ []) ∷ []
+
+-- that table with other actions in state s
+abbrev pub with_actions : ℕ → List (ℕ × TableAction) → Table
+with_actions s actions = record sum_table { actions = slice_set sum_table.actions s actions }
+
+-- that table with other gotos in state s
+abbrev pub with_gotos : ℕ → List (ℕ × ℕ) → Table
+with_gotos s gotos = record sum_table { gotos = slice_set sum_table.gotos s gotos }
+
+-- a table with one state more, which has no entries
+abbrev pub with_bare_state : Table → Table
+with_bare_state table = record table { states = table.states + 1; actions = table.actions ++ [] ∷ []; gotos = table.gotos ++ [] ∷ [] }
+
+-- the items of the six states, and of one more, which has none
+abbrev pub with_bare_items : Graph
+with_bare_items = sum_graph ++ [] ∷ []
+
+-- the items of the six states with one item more in state s
+abbrev pub with_item : ℕ → ItemOf → Graph
+with_item s item = slice_set sum_graph s (items_of sum_graph s ++ item ∷ [])

@@ -1,7 +1,9 @@
 -- State tables: what is done in each state at each token, and where each state goes by each rule.
-use Rattle.std.specs.Prelude.{◌≡◌, ◌≢◌, ◌<◌, ◌≤◌, ◌+◌, ℕ, List, [], length, nat_eq, All, Option, Some, None, sum_by, unwrap_or, slice_index_or}
+use Rattle.std.specs.Prelude.{◌≡◌, ◌≢◌, ◌<◌, ◌≤◌, ◌+◌, ℕ, Bool, true, false, List, [], length, nat_eq, All, Option, Some, None, count_by, sum_by, unwrap_or, slice_index_or}
+use Rattle.std.specs.List.{range_with_len}
 use Rattle.std.specs.List.Sorted.{IsStrictlyIncreasing}
 use Rattle.std.specs.Map.{keys_of, lookup}
+use Rattle.std.specs.Option.{is_some}
 
 -- a parser goes to a state and takes the token, reduces by a production, accepts, or finds an error
 pub data TableAction : Type 0 where
@@ -59,10 +61,25 @@ action_of table s t = unwrap_or (lookup (nat_eq t) (actions_at table s)) Fails
 unfoldable pub goto_of : Table → ℕ → ℕ → Option ℕ
 goto_of table s r = lookup (nat_eq r) (gotos_at table s)
 
+-- whether it is an action other than an error
+abbrev pub is_no_error : TableAction → Bool
+is_no_error (ShiftTo s) = true
+is_no_error (ReduceBy p) = true
+is_no_error Accepts = true
+is_no_error Fails = false
+
+-- at how many tokens state s has an action other than an error
+abbrev pub actions_in : Table → ℕ → ℕ
+actions_in table s = count_by (λ t. is_no_error (action_of table s t)) (range_with_len 0 table.tokens)
+
+-- by how many rules state s has a goto
+abbrev pub gotos_in : Table → ℕ → ℕ
+gotos_in table s = count_by (λ r. is_some (goto_of table s r)) (range_with_len 0 table.rules)
+
 -- how many entries there are: the pairs of a state and a token with an action other than an error, and the pairs of a state
 -- and a rule with a goto
 abbrev pub entries_len : Table → ℕ
-entries_len table = sum_by (λ entries. length entries) table.actions + sum_by (λ entries. length entries) table.gotos
+entries_len table = sum_by (λ s. actions_in table s + gotos_in table s) (range_with_len 0 table.states)
 
 -- the state of a shift, if it is one, is below `states`
 abbrev pub IsActionWithin : ℕ → TableAction → Type 0

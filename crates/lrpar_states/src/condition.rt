@@ -1,6 +1,6 @@
 //! The conditions of a safe table.
-ghost use Rattle.std.specs.Prelude.{Some};
-ghost use Rattle.lrpar_states.specs.ConditionText.{condition_text};
+ghost use Rattle.std.specs.Prelude.{◌≡◌, Some};
+ghost use Rattle.lrpar_states.specs.Conditions.{condition_number, condition_text};
 
 use std::fmt;
 
@@ -8,33 +8,45 @@ use std::fmt;
 #[derive(Clone, Copy, Debug, PartialEq, Eq, Hash)]
 pub enum SafetyCondition {
     /// The items of the start state have dot 0.
-    S2,
+    S2 = 2,
     /// No state shifts the end token.
-    S3,
+    S3 = 3,
     /// Each step's items come from cores one symbol before.
-    S4,
+    S4 = 4,
     /// A reduction has its complete core, and isn't by the start production.
-    S5,
+    S5 = 5,
     /// A core with dot 0 has the goto of its rule.
-    S6,
+    S6 = 6,
     /// Accept stands on the end token alone, where the start production is complete.
-    S7,
+    S7 = 7,
     /// Nothing leads to the start state, and no other state has the start production's first core.
-    S8,
+    S8 = 8,
+}
+
+impl SafetyCondition {
+    /// All conditions, in the order in which they are tested.
+    pub const ALL: [SafetyCondition; 7] = [
+        SafetyCondition::S2,
+        SafetyCondition::S3,
+        SafetyCondition::S4,
+        SafetyCondition::S5,
+        SafetyCondition::S6,
+        SafetyCondition::S7,
+        SafetyCondition::S8,
+    ];
+
+    /// Its number.
+    pub fn number(self) -> u8
+        ensures { result ≡ condition_number self }
+    {
+        self as u8
+    }
 }
 
 impl fmt::Display for SafetyCondition {
     ghost output = { λ condition. Some (condition_text condition) };
 
     fn fmt<W: fmt::Write>(&self, f: &mut fmt::Formatter<W>) -> fmt::Result {
-        f.write_str(match self {
-            SafetyCondition::S2 => "S2",
-            SafetyCondition::S3 => "S3",
-            SafetyCondition::S4 => "S4",
-            SafetyCondition::S5 => "S5",
-            SafetyCondition::S6 => "S6",
-            SafetyCondition::S7 => "S7",
-            SafetyCondition::S8 => "S8",
-        })
+        write!(f, "S{}", self.number())
     }
 }

@@ -1,5 +1,6 @@
-use Rattle.std.proofs.Common.{◌≡◌, ◌≤◌, ◌∷◌, [], inr, refl, Some, None, ◌^◌, ℕ, rules}
-use Rattle.lrpar_states.specs.Sum.{sum_grammar, sum_table}
+use Rattle.std.proofs.Common.{◌≡◌, ◌≤◌, ◌∷◌, [], inr, refl, None, ◌^◌, ℕ, rules}
+use Rattle.lrpar_grammar.specs.Sum.{sum_grammar}
+use Rattle.lrpar_states.specs.Sum.{sum_table}
 use Rattle.lrpar_states.specs.Table.{IsTable, action_of, goto_of}
 use Rattle.lrpar_states.proofs.EntryLemmas.{no_goto_past}
 use Rattle.lrpar_check.proofs.ChainTests.{reductions_by_test, short_by_test}

@@ -1,7 +1,5 @@
-use Rattle.std.proofs.Common.{◌⊎◌, inl, inr, lit<, refl, rules}
-use Rattle.lrpar_states.specs.Sum.{sum_table}
+use Rattle.std.proofs.Common.{inl, inr, lit<, refl, rules}
 use Rattle.lrpar_states.specs.Table.{action_of, goto_of}
-use Rattle.lrpar_states.proofs.EntryLemmas.{action_cases}
 use Rattle.lrpar_check.proofs.laws.sum_table_has_stack.Goals as goal
 
 pub returns-clause-stack : goal.returns-clause-stack

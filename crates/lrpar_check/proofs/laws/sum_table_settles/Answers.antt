@@ -1,6 +1,7 @@
 use Rattle.std.proofs.Common.{[], ◌∷◌, refl, lit<}
 use Rattle.lrpar_check.specs.Reduction.{Reduces}
-use Rattle.lrpar_states.specs.Sum.{sum_grammar, sum_table}
+use Rattle.lrpar_grammar.specs.Sum.{sum_grammar}
+use Rattle.lrpar_states.specs.Sum.{sum_table}
 use Rattle.lrpar_states.specs.Table.{action_of, goto_of}
 use Rattle.lrpar_check.proofs.laws.sum_table_settles.Goals as goal
 

@@ -1,7 +1,7 @@
 use Rattle.std.proofs.Common.{◌≢◌}
 use Rattle.std.proofs.lemmas.List.Elements.{All-contains}
 use Rattle.lrpar_states.specs.PlainRows.{plain_action}
-use Rattle.lrpar_states.specs.Table.{TableAction, ShiftTo, Fails, IsActionEntry, actions_at}
+use Rattle.lrpar_states.specs.Table.{ShiftTo, Fails, IsActionEntry, actions_at}
 use Rattle.lrpar_check.proofs.StackLemmas.{values_of_entries}
 use Rattle.lrpar_check.proofs.stacks.shifts_to.Goals as goal
 

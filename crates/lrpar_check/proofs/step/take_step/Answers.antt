@@ -1,7 +1,7 @@
-use Rattle.std.proofs.Common.{◌≡◌, ◌<◌, ◌∙◌, inl, inr, sym}
+use Rattle.std.proofs.Common.{◌≡◌, ◌<◌, ◌∙◌, ◌++◌, ◌∷◌, [], inl, inr, refl, sym}
 use Rattle.std.proofs.lemmas.Result.{IfOk-weaker}
 use Rattle.lrpar_grammar.specs.Grammar.{prods_len}
-use Rattle.lrpar_check.specs.Reduction.{top_action}
+use Rattle.lrpar_check.specs.Reduction.{Reduces, left_by, top_action}
 use Rattle.lrpar_states.specs.Table.{ReduceBy}
 use Rattle.lrpar_states.specs.declared.rows.Action.TheVariants.{Shift, Reduce, Accept, Error}
 use Rattle.lrpar_check.proofs.SafetyLemmas.{reduce_from_plain}
@@ -50,3 +50,18 @@ returns-in-Reduce-clause-held_up g c =
     let known : p < prods_len c.args.grm.now = c.requires.fits.reduces s t p (sym c.in-Reduce.ensures.action) in
     held_up_at g.S.StateStack.states g.S.StateStack.fails c.args.grm.now table t p c.args.states.now c.reduce_by.new.states c.reduce_by.result action
     known c.reduce_by.ensures.due c.reduce_by.ensures.fails c.reduce_by.ensures.unchanged
+
+pub reduce_by-requires-clause-can : goal.reduce_by-requires-clause-can
+reduce_by-requires-clause-can g c = λ can.
+    let index = g.StorageT.StorageIndex.index in
+    let grm = c.args.grm.now in
+    let states = g.S.StateStack.states c.args.states.now in
+    let table = c.args.table.now in
+    let t = index c.args.t.0 in
+    let s = index c.top.result.0 in
+    let p = index c.in-Reduce.prod.0 in
+    let action : top_action table t states ≡ ReduceBy p = action_by_top table t states s c.top.ensures ∙ sym c.in-Reduce.ensures.action in
+    let known : p < prods_len grm = c.requires.fits.reduces s t p (sym c.in-Reduce.ensures.action) in
+    let due : Reduces grm table t states p (left_by grm p states ++ can.1.0 ∷ []) =
+    record { action = action; known = known; deep = can.0; state = can.1.0; goto = can.1.1; pushed = refl } in
+    g.met.S.StateStack.due_can grm table t c.args.states.now p (left_by grm p states ++ can.1.0 ∷ []) c.requires.suits due

@@ -1,12 +1,17 @@
 use Rattle.std.proofs.Common.{◌≡◌, ◌<◌, ◌≤◌, ◌+◌, ◌-◌, ◌*◌, ◌^◌, ℕ, arith, length, refl, rules, subst, sym}
 use Rattle.std.proofs.Math.Nat.{mul-le-mul_right}
 use Rattle.lrpar_check.specs.Chain.{most_reductions}
-use Rattle.lrpar_check.proofs.SettleLemmas.{run_of_checked, stack_reduced_once, stack_settled_by, stack_states}
+use Rattle.lrpar_check.specs.Step.{IsStackStep}
+use Rattle.lrpar_check.specs.declared.step.Step.{Step}
+use Rattle.lrpar_check.proofs.SettleLemmas.{run_of_checked, stack_reduced_once, stack_settled_by, stack_states, stays_by_step}
 use Rattle.lrpar_check.proofs.check.ParserData.settle_on.Goals as goal
 
 pub take_step-requires-clause-within : goal.take_step-requires-clause-within
 take_step-requires-clause-within g c =
     rw c.stable-table.ensures.table (stack_states c.args.self.now.table c.stable-table.ensures.checked.closed _ c.reductions.invariant.stack)
+
+pub take_step-requires-clause-suits : goal.take_step-requires-clause-suits
+take_step-requires-clause-suits g c = rw (c.grm-grm.ensures, c.stable-table.ensures.table) c.reductions.invariant.suits
 
 -- each step leaves less to be made
 left_to_make : (most made more : ℕ) → made < most → more ≡ made + 1 → most - more < most - made
@@ -62,8 +67,13 @@ reductions-preserved g c =
     stack_reduced_once d.grammar d.table d.cap run (g.StorageT.StorageIndex.index c.args.t.0) c.requires.token kind.states kind.reduces c.args.stack.now
     c.reductions.stack c.take_step.new.states made.0 c.in_ok-take_step.field-0 c.requires.stack c.reductions.invariant.stack made.1 c.in-Reduced.is
     step in
+    let one =
+    subst (λ (s : Step). IsStackStep kind.states kind.reduces d.grammar d.table (g.StorageT.StorageIndex.index c.args.t.0) c.reductions.stack s c.take_step.new.states)
+    c.in-Reduced.is step in
     record {
-      can = c.in_ok-take_step.ensures.can;
+      suits =
+          g.met.S.StateStack.reduced_suits d.grammar d.table (g.StorageT.StorageIndex.index c.args.t.0) c.reductions.stack one.0
+          c.take_step.new.states c.reductions.invariant.suits one.1;
       stack = more.0;
       made = (more.2.0, more.2.2, omega (arith, more.2.1, made.2));
     }
@@ -80,4 +90,12 @@ returns g c =
     stack_settled_by d.grammar d.table d.cap run (g.StorageT.StorageIndex.index c.args.t.0) c.requires.token kind.states kind.reduces c.args.stack.now
     c.reductions.stack c.take_step.new.states made.0 c.reductions.count c.in_ok-take_step.field-0 c.requires.stack c.reductions.invariant.stack
     made.1 made.2 c.in_default.not-Reduced of_states of_stack in
-    record { settled = settled; can = c.in_ok-take_step.ensures.can; held_up = tt; stack = settled.of_states.stack }
+    let same =
+    stays_by_step d.grammar d.table d.cap run (g.StorageT.StorageIndex.index c.args.t.0) c.requires.token kind.states kind.reduces
+    c.reductions.stack c.take_step.new.states c.in_ok-take_step.field-0 c.in_default.not-Reduced of_stack in
+    record {
+      settled = settled;
+      suits = subst (kind.suits d.grammar d.table) (sym same) c.reductions.invariant.suits;
+      held_up = tt;
+      stack = settled.of_states.stack;
+    }

@@ -9,7 +9,7 @@ abbrev pub invariant-reductions : goal.invariant-reductions
 invariant-reductions g l =
     let kind = g.S.StateStack in
     record {
-      can : kind.can_reduce l.stack;
+      suits : kind.suits l.self.grammar l.self.table l.stack;
       stack : IsStack l.self.table (kind.states l.stack);
       made : (prods : List ℕ) × StackReducesBy kind.states kind.reduces l.self.grammar l.self.table (g.StorageT.StorageIndex.index l.t.0) l.fn.stack prods l.stack × (l.count ≡ length prods);
     }

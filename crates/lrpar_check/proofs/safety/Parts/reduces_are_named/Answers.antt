@@ -1,7 +1,7 @@
-use Rattle.std.proofs.Common.{◌≡◌, ◌<◌, ◌≤◌, ℕ, refl, sym, ◌∙◌, inl, inr, arith}
+use Rattle.std.proofs.Common.{◌≡◌, ◌<◌, ◌≤◌, refl, sym, ◌∙◌, inl, inr, arith}
 use Rattle.std.proofs.lemmas.Bool.{cases_lt}
 use Rattle.lrpar_grammar.specs.Grammar.{prods_len}
-use Rattle.lrpar_states.specs.Table.{ReduceBy, Fails, action_of, states_len}
+use Rattle.lrpar_states.specs.Table.{ReduceBy, Fails, states_len}
 use Rattle.lrpar_check.proofs.safety.Parts.reduces_are_named.Goals as goal
 
 pub returns : goal.returns

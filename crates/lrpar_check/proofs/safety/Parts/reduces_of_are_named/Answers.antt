@@ -1,4 +1,4 @@
-use Rattle.std.proofs.Common.{◌≡◌, ◌<◌, ◌∙◌, length, refl, arith, subst, sym}
+use Rattle.std.proofs.Common.{◌<◌, length, refl, arith, sym}
 use Rattle.std.proofs.lemmas.Bool.{iff_false}
 use Rattle.std.specs.List.{Contains}
 use Rattle.lrpar_states.specs.PlainRows.{plain_action}

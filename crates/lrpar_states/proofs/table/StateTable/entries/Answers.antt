@@ -1,5 +1,6 @@
-use Rattle.std.proofs.Common.{◌+◌, arith}
+use Rattle.std.proofs.Common.{arith}
 use Rattle.lrpar_states.specs.PlainRows.{action_entry, goto_entry}
+use Rattle.lrpar_states.proofs.CountLemmas.{entries_counted}
 use Rattle.lrpar_states.proofs.CutLemmas.{image_len}
 use Rattle.lrpar_states.proofs.table.StateTable.entries.Goals as goal
 
@@ -8,4 +9,5 @@ returns g c =
     let index = g.StorageT.StorageIndex.index in
     let actions = image_len (action_entry index) c.self.inside.actions in
     let gotos = image_len (goto_entry index) c.self.inside.gotos in
-    rw (← c.self.view_is) (omega (arith, actions, gotos, c.len.ensures, c.len-2.ensures))
+    let counted = entries_counted g.StorageT.StorageIndex.limit _ c.self.invariant in
+    rw (← c.self.view_is) (omega (arith, counted, actions, gotos, c.len.ensures, c.len-2.ensures))
