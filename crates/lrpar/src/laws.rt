@@ -57,8 +57,3 @@ pub fn repairs_are_compared_by_contents<StorageT: StorageIndex, LexemeT: Lexeme<
 pub fn spans_are_worked_out()
     ensures { SpansAreWorkedOut }
 {}
-
-/// The spans of trees whose nodes have no children somewhere: what stands in front of such a node is where it is.
-pub fn spans_are_worked_out()
-    ensures { SpansAreWorkedOut }
-{}
