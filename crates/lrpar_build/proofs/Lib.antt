@@ -1,0 +1,6 @@
+pub mod FirstLemmas
+pub mod RowLemmas
+pub mod GrowthLemmas
+pub mod BeforeLemmas
+pub mod BroughtLemmas
+pub mod SpreadLemmas

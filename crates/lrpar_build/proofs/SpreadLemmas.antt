@@ -1,0 +1,174 @@
+-- One production brings the rule that it begins with: what was worked out is put into the set of that rule.
+use Rattle.std.proofs.Common.{◌≡◌, ◌<◌, ◌≤◌, ◌+◌, ◌||◌, ◌&&◌, ◌↔◌, ◌⊎◌, ◌∙◌, refl, sym, ap, subst, inl, inr, arith, ℕ, Bool, true, false, List, [], ◌∷◌, All, length, map, set, get_or, drop, nat_lt, IsTrue}
+use Rattle.std.proofs.lemmas.Bool.{OnFalse_at, OnTrue_at, cases_Bool, cases_eq, cases_lt, false≢true}
+use Rattle.std.proofs.lemmas.List.{get_or-set_other, get_or-set_same, set-get_or}
+use Rattle.std.proofs.lemmas.List.Elements.{All-cons, All-get_or, All-nil, All-weaker}
+use Rattle.std.specs.Bool.{OnFalse, OnTrue}
+use Rattle.std.specs.List.{IsFirstAndRest}
+use Rattle.lrpar_text.specs.declared.span.Symbol.{Symbol}
+use Rattle.lrpar_grammar.specs.Grammar.{Grammar, GrammarSymbol, IsListedSymbol, IsWellFormed, Nonterminal, Terminal, end_token, prods_len, rule_of, rules_len, start_prod, symbols_of, tokens_len}
+use Rattle.lrpar_grammar.specs.Symbols.{symbol_of}
+use Rattle.lrpar_build.specs.First.{IsFirst}
+use Rattle.lrpar_build.specs.FirstRows.{HaveRoom, IsFirstBefore, IsSymbolBelow, mark_of, row_at, rows_of, total_missing}
+use Rattle.lrpar_build.specs.Tokens.{has, missing}
+use Rattle.lrpar_build.specs.Brought.{IsBrought, Given, Brought, AreBroughtFrom, HasIn, IsSpreadAt, Keeps}
+use Rattle.lrpar_build.specs.declared.tokens.TokenSet.{TokenSet}
+use Rattle.lrpar_build.proofs.BeforeLemmas.{united}
+use Rattle.lrpar_build.proofs.BroughtLemmas.{brought_twice, closed_brought}
+use Rattle.lrpar_build.proofs.GrowthLemmas.{has_room, missing_set, room_set, row_in, rows-set, sets_len}
+
+-- what was given comes
+pub brought_itself : (g : Grammar) (rows : List (List Bool)) → AreBroughtFrom g rows rows
+brought_itself g rows r t h = Given r t h
+
+first_rule : List GrammarSymbol → ℕ
+first_rule [] = 0
+first_rule (Terminal t ∷ w) = 0
+first_rule (Nonterminal r ∷ w) = r
+
+-- lists that begin with rules are alike in both parts
+same_rule : (r s : ℕ) (v w : List GrammarSymbol) → Nonterminal r ∷ v ≡ Nonterminal s ∷ w → r ≡ s
+unfolding first_rule
+same_rule r s v w e = ap first_rule e
+
+same_rest : (r s : ℕ) (v w : List GrammarSymbol) → Nonterminal r ∷ v ≡ Nonterminal s ∷ w → v ≡ w
+same_rest r s v w e = ap (drop 1) e
+
+module _ (g : Grammar) (sets : List TokenSet) (p rule target mark : ℕ) (w : List GrammarSymbol) (known : p < prods_len g) (is : rule ≡ rule_of g p)
+    (rule_low : rule_of g p < rules_len g) (begins : symbols_of g p ≡ Nonterminal target ∷ w) (low : target < rules_len g) (marked : mark ≡ mark_of g)
+    (room : HaveRoom g (rows_of sets)) (d d' new : TokenSet) (fresh cleared : List Bool) (none : (t : ℕ) → has cleared t ≡ false)
+    (came : (t : ℕ) → IsTrue (has fresh t) ↔ (IsTrue (has cleared t) ⊎ IsFirstBefore g (get_or sets rule d).bits.items w t))
+    (long : length fresh ≡ mark_of g + 1) (wide : length new.bits.items ≡ length (get_or sets target d').bits.items)
+    (put : (t : ℕ) → has new.bits.items t ≡ (has (get_or sets target d').bits.items t || (nat_lt t (mark + 1) && has fresh t))) where
+  inside : target < length (rows_of sets)
+  inside = let count = room.rules in omega (arith, count, low)
+
+  old_row : (get_or sets target d').bits.items ≡ row_at (rows_of sets) target
+  old_row = let count = sets_len g sets room in row_in sets target d' (omega (arith, count, low))
+
+  from_row : (get_or sets rule d).bits.items ≡ row_at (rows_of sets) (rule_of g p)
+  from_row =
+      let count = sets_len g sets room in
+      row_in sets rule d (omega (arith, count, is, rule_low)) ∙ ap (row_at (rows_of sets)) is
+
+  new_rows : rows_of (set sets target new) ≡ set (rows_of sets) target new.bits.items
+  new_rows = rows-set sets target new
+
+  new_row : row_at (set (rows_of sets) target new.bits.items) target ≡ new.bits.items
+  new_row = get_or-set_same (rows_of sets) target new.bits.items [] inside
+
+  new_has : (t : ℕ) → IsTrue (has new.bits.items t) ↔ (HasIn (rows_of sets) target t ⊎ ((t < mark + 1) × IsTrue (has fresh t)))
+  new_has t = united (row_at (rows_of sets) target) fresh new.bits.items (mark + 1) t
+      (put t ∙ ap (λ b. has b t || (nat_lt t (mark + 1) && has fresh t)) old_row)
+
+  fresh_is : (t : ℕ) → IsTrue (has fresh t) ↔ IsFirstBefore g (row_at (rows_of sets) (rule_of g p)) w t
+  fresh_is t = (
+    λ h. elim ((came t).0 h) [
+      | inl before ↦ absurd (false≢true (sym (none t) ∙ before))
+      | inr first ↦ subst (λ b. IsFirstBefore g b w t) from_row first
+    ],
+    λ first. (came t).1 (inr (subst (λ b. IsFirstBefore g b w t) (sym from_row) first)),
+  )
+
+  pub spread_room : HaveRoom g (rows_of (set sets target new))
+  spread_room =
+      let old_wide = All-get_or (λ row. length row ≡ mark_of g + 1) (rows_of sets) target [] inside room.wide in
+      subst (HaveRoom g) (sym new_rows) (room_set g (rows_of sets) target new.bits.items room (wide ∙ ap length old_row ∙ old_wide))
+
+  pub spread_keeps : Keeps (rows_of sets) (rows_of (set sets target new))
+  spread_keeps r t h =
+      subst (λ rows. HasIn rows r t) (sym new_rows)
+      (elim (cases_eq r target) as (λ _. HasIn (set (rows_of sets) target new.bits.items) r t) [
+        | inl same ↦
+            let now = (new_has t).1 (inl (subst (λ n. HasIn (rows_of sets) n t) same h)) in
+            subst (λ n. HasIn (set (rows_of sets) target new.bits.items) n t) (sym same) (subst (λ b. IsTrue (has b t)) (sym new_row) now)
+        | inr other ↦ subst (λ b. IsTrue (has b t)) (sym (get_or-set_other (rows_of sets) target r new.bits.items [] other)) h
+      ])
+
+  pub spread_sound : AreBroughtFrom g (rows_of sets) (rows_of (set sets target new))
+  spread_sound r t h =
+      let h' = subst (λ rows. HasIn rows r t) new_rows h in
+      elim (cases_eq r target) as (λ _. IsBrought g (HasIn (rows_of sets)) r t) [
+        | inl same ↦
+            let there = subst (λ n. HasIn (set (rows_of sets) target new.bits.items) n t) same h' in
+            let now = subst (λ b. IsTrue (has b t)) new_row there in
+            subst (λ n. IsBrought g (HasIn (rows_of sets)) n t) (sym same)
+            (elim ((new_has t).0 now) as (λ _. IsBrought g (HasIn (rows_of sets)) target t) [
+              | inl before ↦ Given target t before
+              | inr came ↦ let first = (fresh_is t).0 came.1 in Brought p target first.0 t w known begins (Given (rule_of g p) first.0 first.1) first.2
+            ])
+        | inr other ↦ Given r t (subst (λ b. IsTrue (has b t)) (get_or-set_other (rows_of sets) target r new.bits.items [] other) h')
+      ]
+
+  pub spread_less : missing new.bits.items < missing (get_or sets target d').bits.items → total_missing (rows_of (set sets target new)) < total_missing (rows_of sets)
+  spread_less less =
+      let less' = subst (λ b. missing new.bits.items < missing b) old_row less in
+      subst (λ rows. total_missing rows < total_missing (rows_of sets)) (sym new_rows) (missing_set (rows_of sets) target new.bits.items inside less')
+
+  pub spread_same : new.bits.items ≡ (get_or sets target d').bits.items → rows_of (set sets target new) ≡ rows_of sets
+  spread_same same = new_rows ∙ ap (set (rows_of sets) target) (same ∙ old_row) ∙ set-get_or (rows_of sets) target []
+
+  pub spread_closed : new.bits.items ≡ (get_or sets target d').bits.items → IsSpreadAt g (rows_of (set sets target new)) p
+  spread_closed same =
+      subst (λ rows. IsSpreadAt g rows p) (sym (spread_same same)) (λ r s t v begins' has_s first.
+      let alike = sym begins ∙ begins' in
+      let first' = subst (λ u. IsFirst g s u t) (sym (same_rest target r w v alike)) first in
+      let in_fresh = (fresh_is t).1 (s, has_s, first') in
+      let room_t = has_room fresh t in_fresh in
+      let low_t : t < mark + 1 = omega (arith, room_t, long, marked) in
+      let now = (new_has t).1 (inr (low_t, in_fresh)) in
+      subst (λ n. HasIn (rows_of sets) n t) (same_rule target r w v alike) (subst (λ b. IsTrue (has b t)) (same ∙ old_row) now))
+
+-- a production whose first symbol was split off
+pub begins_by : {S : Type 0} (index : S → ℕ) (symbols rest : List (Symbol S)) (first shown : Symbol S) → IsFirstAndRest symbols first rest → first ≡ shown
+    → map (symbol_of index) symbols ≡ symbol_of index shown ∷ map (symbol_of index) rest
+begins_by index symbols rest first shown split shows = ap (map (symbol_of index)) split.0 ∙ ap (λ s. symbol_of index s ∷ map (symbol_of index) rest) shows
+
+symbol_weaker : (rules tokens : ℕ) (s : GrammarSymbol) → IsListedSymbol rules tokens s → IsSymbolBelow rules (tokens + 1) s
+symbol_weaker rules tokens (Nonterminal r) h = h.1
+symbol_weaker rules tokens (Terminal t) h = omega (arith, h)
+
+-- all symbols of a production are below the mark, and so are all but the first
+pub prod_symbols : (g : Grammar) → IsWellFormed g → (p : ℕ) → p < prods_len g → All (IsSymbolBelow (rules_len g) (tokens_len g)) (symbols_of g p)
+prod_symbols g well p known =
+    let weaker : (s : GrammarSymbol) → IsListedSymbol (rules_len g) (end_token g) s → IsSymbolBelow (rules_len g) (tokens_len g) s = symbol_weaker (rules_len g) (end_token g) in
+    elim (cases_lt p (start_prod g)) [
+      | inl listed ↦ All-weaker (IsListedSymbol (rules_len g) (end_token g)) (IsSymbolBelow (rules_len g) (tokens_len g)) weaker (symbols_of g p) (well.symbols p listed)
+      | inr last ↦
+          let is : start_prod g ≡ p = omega (arith, known, last) in
+          subst (λ n. All (IsSymbolBelow (rules_len g) (tokens_len g)) (symbols_of g n)) is
+          (subst (All (IsSymbolBelow (rules_len g) (tokens_len g))) (sym well.last_symbols)
+          (All-cons (IsSymbolBelow (rules_len g) (tokens_len g)) (Nonterminal g.start) [] well.start_within (All-nil (IsSymbolBelow (rules_len g) (tokens_len g)))))
+    ]
+
+-- one spread after another
+pub brought_on : (g : Grammar) (one two three : List (List Bool)) → AreBroughtFrom g one two → AreBroughtFrom g two three → AreBroughtFrom g one three
+brought_on g one two three before after r t h = brought_twice g (HasIn one) (HasIn two) before r t (after r t h)
+
+pub keeps_on : (one two three : List (List Bool)) → Keeps one two → Keeps two three → Keeps one three
+keeps_on one two three before after r t h = after r t (before r t h)
+
+pub keeps_itself : (rows : List (List Bool)) → Keeps rows rows
+keeps_itself rows r t h = h
+
+-- sets that keep what they had, and have what each production brings, have just what comes with what they had
+pub exact_spread : (g : Grammar) (before after : List (List Bool)) → Keeps before after → AreBroughtFrom g before after
+    → ((p : ℕ) → p < prods_len g → IsSpreadAt g after p) → (r t : ℕ) → HasIn after r t ↔ IsBrought g (HasIn before) r t
+exact_spread g before after kept sound closed r t = (λ h. sound r t h, λ h. closed_brought g (HasIn before) after kept closed r t h)
+
+-- a pass, by one production more: something was new by now, or nothing yet
+pub step_grown : (first before after : List (List Bool)) (grown : Bool) → OnTrue grown (total_missing before < total_missing first)
+    → OnFalse grown (before ≡ first) → total_missing after < total_missing before → total_missing after < total_missing first
+step_grown first before after grown less same fewer =
+    elim (cases_Bool grown) [
+      | inl held ↦ let less' = OnTrue_at held less in omega (arith, less', fewer)
+      | inr fell ↦ let same' = OnFalse_at fell same in subst (λ rows. total_missing after < total_missing rows) same' fewer
+    ]
+
+pub step_closed : (g : Grammar) (before after : List (List Bool)) (n : ℕ) → after ≡ before → ((p : ℕ) → p < n → IsSpreadAt g before p) → IsSpreadAt g after n
+    → (p : ℕ) → p < n + 1 → IsSpreadAt g after p
+step_closed g before after n same closed last p low =
+    elim (cases_lt p n) [
+      | inl early ↦ subst (λ rows. IsSpreadAt g rows p) (sym same) (closed p early)
+      | inr late ↦ let is : n ≡ p = omega (arith, low, late) in subst (IsSpreadAt g after) is last
+    ]

@@ -1,0 +1,4 @@
+pub mod First
+pub mod Tokens
+pub mod FirstRows
+pub mod Brought

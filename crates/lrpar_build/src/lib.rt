@@ -1,0 +1,6 @@
+//! The table builder: the canonical LR(1) item sets of a grammar, and the table that they make.
+#![tactic(auto)]
+
+mod first;
+mod reach;
+mod tokens;

@@ -1,0 +1,100 @@
+//! The rules that come with a rule by closure.
+ghost use Rattle.std.specs.Prelude.{◌≡◌, ◌<◌, ◌≤◌, ◌+◌, ◌↔◌, ℕ, IfOk, length};
+ghost use Rattle.std.specs.Bool.{OnFalse, OnTrue};
+ghost use Rattle.lrpar_grammar.specs.Grammar.{IsWellFormed, prods_len};
+ghost use Rattle.lrpar_build.specs.FirstRows.{AreFirsts, HaveRoom, mark_of, rows_of, total_missing};
+ghost use Rattle.lrpar_build.specs.Brought.{AreBroughtFrom, HasIn, IsBrought, IsSpreadAt, Keeps};
+
+use crate::first::add_first_before;
+use crate::tokens::TokenSet;
+use lrpar_grammar::grammar::YaccGrammar;
+use lrpar_grammar::span::{PIdx, StorageIndex, Symbol};
+
+/// Puts into the sets all that comes with what they have, by closure. The last two are sets to work with.
+pub(crate) fn spread<StorageT: StorageIndex>(
+    grm: &YaccGrammar<StorageT>,
+    firsts: &[TokenSet],
+    sets: &mut [TokenSet],
+    front: &mut TokenSet,
+    fresh: &mut TokenSet,
+)
+    requires well_formed { IsWellFormed grm.now }
+    requires firsts { AreFirsts grm.now (rows_of firsts.now) }
+    requires room { HaveRoom grm.now (rows_of sets.old) }
+    requires front { length front.old.bits.items ≡ mark_of grm.now + 1 }
+    requires fresh { length fresh.old.bits.items ≡ mark_of grm.now + 1 }
+    ensures room { HaveRoom grm.now (rows_of sets.new) }
+    ensures front { length front.new.bits.items ≡ mark_of grm.now + 1 }
+    ensures fresh { length fresh.new.bits.items ≡ mark_of grm.now + 1 }
+    ensures exact { (r t : ℕ) → HasIn (rows_of sets.new) r t ↔ IsBrought grm.now (HasIn (rows_of sets.old)) r t }
+{
+    'passes: while spread_all(grm, firsts, sets, front, fresh) {}
+}
+
+// Lets each production bring the rule that it begins with, and tells whether anything was new.
+fn spread_all<StorageT: StorageIndex>(
+    grm: &YaccGrammar<StorageT>,
+    firsts: &[TokenSet],
+    sets: &mut [TokenSet],
+    front: &mut TokenSet,
+    fresh: &mut TokenSet,
+) -> bool
+    requires well_formed { IsWellFormed grm.now }
+    requires firsts { AreFirsts grm.now (rows_of firsts.now) }
+    requires room { HaveRoom grm.now (rows_of sets.old) }
+    requires front { length front.old.bits.items ≡ mark_of grm.now + 1 }
+    requires fresh { length fresh.old.bits.items ≡ mark_of grm.now + 1 }
+    ensures room { HaveRoom grm.now (rows_of sets.new) }
+    ensures front { length front.new.bits.items ≡ mark_of grm.now + 1 }
+    ensures fresh { length fresh.new.bits.items ≡ mark_of grm.now + 1 }
+    ensures kept { Keeps (rows_of sets.old) (rows_of sets.new) }
+    ensures sound { AreBroughtFrom grm.now (rows_of sets.old) (rows_of sets.new) }
+    ensures grown { OnTrue result (total_missing (rows_of sets.new) < total_missing (rows_of sets.old)) }
+    ensures closed { OnFalse result ((p : ℕ) → p < prods_len grm.now → IsSpreadAt grm.now (rows_of sets.new) p) }
+{
+    let mut grown = false;
+    for prod in 0..grm.prods_len() {
+        let pidx = PIdx(StorageT::from_index(prod).unwrap());
+        if spread_from(grm, firsts, pidx, sets, front, fresh) {
+            grown = true;
+        }
+    }
+    grown
+}
+
+// Lets the production bring the rule that it begins with, before each lookahead of the production's rule; and tells whether
+// anything was new.
+fn spread_from<StorageT: StorageIndex>(
+    grm: &YaccGrammar<StorageT>,
+    firsts: &[TokenSet],
+    pidx: PIdx<StorageT>,
+    sets: &mut [TokenSet],
+    front: &mut TokenSet,
+    fresh: &mut TokenSet,
+) -> bool
+    requires prod { StorageT.index pidx.0 < prods_len grm.now }
+    requires well_formed { IsWellFormed grm.now }
+    requires firsts { AreFirsts grm.now (rows_of firsts.now) }
+    requires room { HaveRoom grm.now (rows_of sets.old) }
+    requires front { length front.old.bits.items ≡ mark_of grm.now + 1 }
+    requires fresh { length fresh.old.bits.items ≡ mark_of grm.now + 1 }
+    ensures room { HaveRoom grm.now (rows_of sets.new) }
+    ensures front { length front.new.bits.items ≡ mark_of grm.now + 1 }
+    ensures fresh { length fresh.new.bits.items ≡ mark_of grm.now + 1 }
+    ensures kept { Keeps (rows_of sets.old) (rows_of sets.new) }
+    ensures sound { AreBroughtFrom grm.now (rows_of sets.old) (rows_of sets.new) }
+    ensures grown { OnTrue result (total_missing (rows_of sets.new) < total_missing (rows_of sets.old)) }
+    ensures same { OnFalse result (rows_of sets.new ≡ rows_of sets.old) }
+    ensures closed { OnFalse result (IsSpreadAt grm.now (rows_of sets.new) (StorageT.index pidx.0)) }
+{
+    match grm.prod(pidx).split_first() {
+        Some((Symbol::Rule(brought), rest)) => {
+            let rule = usize::from(grm.prod_to_rule(pidx));
+            fresh.clear();
+            add_first_before(grm, firsts, rest, &sets[rule], front, fresh);
+            let target = usize::from(*brought);
+            sets[target].unite_below(fresh, grm.tokens_len() + 1)
+        }
+        Some((Symbol::Token(_), _)) | None => false,
+    }
+}

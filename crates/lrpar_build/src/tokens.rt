@@ -1,0 +1,78 @@
+//! Sets of tokens.
+ghost use Rattle.std.specs.Prelude.{◌≡◌, ◌<◌, ◌≤◌, ◌↔◌, ◌||◌, ◌&&◌, ◌==◌, ℕ, IfOk, IsTrue, false, length, nat_lt};
+ghost use Rattle.std.specs.Bool.{OnFalse, OnTrue};
+ghost use Rattle.lrpar_build.specs.Tokens.{has, missing};
+
+use std::alloc::{AllocError, Global};
+
+/// A set of tokens below a number that it was made with: whether each is in it.
+#[derive(Clone, Debug, PartialEq, Eq, PartialOrd, Ord, Drop)]
+pub(crate) struct TokenSet {
+    pub(crate) bits: Vec<bool>,
+}
+
+impl TokenSet {
+    /// The empty set, which has room for the tokens below `len`.
+    pub(crate) fn new(alloc: Global, len: usize) -> Result<Self, AllocError>
+        ensures room { IfOk result (λ set. length set.bits.items ≡ len) }
+        ensures none { IfOk result (λ set. (t : ℕ) → has set.bits.items t ≡ false) }
+    {
+        let bits = vec![in alloc; false; len]?;
+        Ok(TokenSet { bits })
+    }
+
+    /// Whether the token is in the set.
+    pub(crate) fn contains(&self, token: usize) -> bool
+        ensures { result ≡ has self.now.bits.items token }
+    {
+        match self.bits.get(token) {
+            Some(bit) => *bit,
+            None => false,
+        }
+    }
+
+    /// Whether any token is in the set.
+    pub(crate) fn has_any(&self) -> bool
+        ensures { IsTrue result ↔ ((t : ℕ) × IsTrue (has self.now.bits.items t)) }
+    {
+        self.bits.contains(&true)
+    }
+
+    /// Puts the token into the set.
+    pub(crate) fn insert(&mut self, token: usize)
+        requires { token < length self.old.bits.items }
+        ensures room { length self.new.bits.items ≡ length self.old.bits.items }
+        ensures tokens { (t : ℕ) → has self.new.bits.items t ≡ (has self.old.bits.items t || t == token) }
+    {
+        self.bits[token] = true;
+    }
+
+    /// Puts all tokens of the other set below `end` into this one, and tells whether any was new.
+    pub(crate) fn unite_below(&mut self, other: &TokenSet, end: usize) -> bool
+        requires room { end ≤ length self.old.bits.items }
+        requires other { end ≤ length other.now.bits.items }
+        ensures room { length self.new.bits.items ≡ length self.old.bits.items }
+        ensures tokens { (t : ℕ) → has self.new.bits.items t ≡ (has self.old.bits.items t || (nat_lt t end && has other.now.bits.items t)) }
+        ensures grown { OnTrue result (missing self.new.bits.items < missing self.old.bits.items) }
+        ensures same { OnFalse result (self.new.bits.items ≡ self.old.bits.items) }
+    {
+        let mut grown = false;
+        for token in 0..end {
+            if other.bits[token] && !self.bits[token] {
+                self.bits[token] = true;
+                grown = true;
+            }
+        }
+        grown
+    }
+
+    /// Takes all tokens out of the set.
+    pub(crate) fn clear(&mut self)
+        ensures room { length self.new.bits.items ≡ length self.old.bits.items }
+        ensures none { (t : ℕ) → has self.new.bits.items t ≡ false }
+    {
+        for bit in self.bits.iter_mut() {
+            *bit = false;
+        }
+    }
+}
