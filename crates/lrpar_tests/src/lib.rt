@@ -2,7 +2,6 @@
 #![tactic(auto)]
 
 pub mod calculator;
-
 #[cfg(test)]
 mod calls;
 #[cfg(test)]
