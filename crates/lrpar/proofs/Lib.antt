@@ -12,3 +12,4 @@ pub mod WeightLemmas
 pub mod WalkLemmas
 pub mod PairLemmas
 pub mod GrowingLemmas
+pub mod ReversedLemmas

@@ -29,4 +29,4 @@ loop-self-smaller g c =
     ] in
     let kept = weight_unless_empty c.unless_empty-left.result c.pop.new.self c.unless_empty-left.ensures in
     falls_fewer (weight c.loop-self.self + left_weight c.loop-self.left) (weight c.loop-self.self)
-        (weight c.in-Some-pop.node + left_weight c.unless_empty-left.result) (weight c.in-Some-pop.node) (omega arith) (omega arith)
+    (weight c.in-Some-pop.node + left_weight c.unless_empty-left.result) (weight c.in-Some-pop.node) (omega arith) (omega arith)
