@@ -24,11 +24,15 @@ FEWEST, MOST = min(REPETITIONS), max(REPETITIONS)
 TABLES = ("graph", "rows", "sparse", "check")
 LOOKS = ("actions", "gotos", "actions_apart", "gotos_apart")
 LOOKED_UP = 1_000_000
+# A deep tree has so many levels, and the process so much stack.
+LEVELS = 1_000_000
+STACK = 8 << 20
 
 
-def run(words):
+def run(words, stack=None):
     """what a program writes to standard output, or None where it doesn't know the mode"""
-    ran = subprocess.run(words, capture_output=True, text=True)
+    limit = stack and (lambda: resource.setrlimit(resource.RLIMIT_STACK, (stack, stack)))
+    ran = subprocess.run(words, capture_output=True, text=True, preexec_fn=limit)
     if ran.returncode == 2 and "usage" in ran.stderr:
         return None
     if ran.returncode:
@@ -127,6 +131,12 @@ class Bench:
             calls = [lambda it=it: nanoseconds(self.words.program, it, REPETITIONS[100_000], *files) for it in ("map_tree", "tree")]
             row(grammar, "", ratio(*by_turns(self.words.rounds, *calls)))
 
+    def deep(self):
+        print("\nA tree of many levels, parsed, cloned, compared and dropped within 8 MiB of stack: nanoseconds a level")
+        files = self.file("deep/deep.lrb"), self.file(f"deep/deep.{LEVELS}.lx")
+        wrote = run([self.words.program, "deep", "3", *files], STACK)
+        row("", "deep", LEVELS, wrote and statistics.median(map(int, wrote.split()[1:])) / LEVELS)
+
     def tables(self):
         print("\nTables: microseconds, and the ratio to the program before")
         for grammar in self.grammars:
@@ -220,6 +230,7 @@ def main():
     resource.setrlimit(resource.RLIMIT_STACK, (most, most))
     bench.parses()
     bench.trees()
+    bench.deep()
     bench.tables()
     bench.looks()
     bench.reader()

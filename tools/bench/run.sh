@@ -14,6 +14,7 @@ readonly here
 readonly root=$here/../..
 readonly counts=(10000 100000 1000000)
 readonly rules=(1000 10000)
+readonly levels=1000000
 export PYTHONDONTWRITEBYTECODE=1
 
 usage() {
@@ -59,6 +60,8 @@ make_data() {
         python3 "$tools/tools/data.py" "${grammar%:*}" "$data.new" "${grammar##*:}" "${counts[@]}" >"$work/data.log" 2>&1 ||
             stop "no tables of ${grammar%:*}: $(tail -n 1 "$work/data.log")"
     done
+    python3 "$tools/tools/data.py" "$here/deep.y" "$data.new/deep" L 1000 >"$work/data.log" 2>&1 &&
+        python3 "$here/gen_deep.py" "$levels" >"$data.new/deep/deep.$levels.lx" || stop 'no table of a deep tree'
     for number in "${rules[@]}"; do
         python3 "$here/gen_grammar.py" "$number" >"$data.new/rules.$number.y" || stop 'no texts for the reader'
     done

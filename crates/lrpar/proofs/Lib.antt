@@ -16,3 +16,4 @@ pub mod WalkLemmas
 pub mod PairLemmas
 pub mod GrowingLemmas
 pub mod SequenceLemmas
+pub mod ReversedLemmas

@@ -78,7 +78,8 @@ impl<
     ghost rising = { λ b g. record { with_none = tt; by_leaf = λ es n x e rise low is. tt; by_node = λ kept es n p e rise is. tt } };
 }
 
-// The values of the top `count` entries, which are taken off, the lowest first.
+// The values of the top `count` entries, which are taken off, the lowest first. They are turned round on their place, so
+// that the list of the values is the only one that is made.
 fn values_of<LexemeT: Copy, V: Drop, F: Fn(LexemeT) -> V>(
     alloc: Global,
     fterm: &F,
@@ -90,9 +91,11 @@ fn values_of<LexemeT: Copy, V: Drop, F: Fn(LexemeT) -> V>(
     ensures kept { OnOk result (entries.new.items ≡ take (length entries.old.items - count) entries.old.items) }
     ensures values { IfOk result (λ values. AllZip (Gives (F.post fterm.now)) (drop (length entries.old.items - count) entries.old.items) values.items) }
 {
-    let popped = entries.split_off(entries.len() - count)?;
     let mut values = Vec::with_capacity(alloc, count)?;
-    for entry in popped {
+    let at = entries.len() - count;
+    entries[at..].reverse();
+    for _i in 0..count {
+        let entry = entries.pop().unwrap();
         values.push(match entry {
             AStackType::ActionType(value) => value,
             AStackType::Lexeme(lexeme) => fterm(lexeme),

@@ -9,7 +9,7 @@ use std::alloc::Global;
 use std::test::Fail;
 
 // A tree of the tests.
-type Tree = Node<Token<u32>, u32>;
+pub(crate) type Tree = Node<Token<u32>, u32>;
 
 // The node of the lexeme of this token and start, of one byte.
 fn leaf(token: u32, start: usize) -> Tree {
@@ -46,7 +46,10 @@ fn sum_tree(alloc: Global) -> Result<Tree, Fail> {
 // The tree and the errors of a sum, and its errors alone.
 type TreeAnswer = (Option<Tree>, Vec<LexParseError<u32, HandedTypes>>);
 
-fn tree_of(alloc: Global, answers: &[LexAnswer]) -> Result<Result<TreeAnswer, ParseFault>, Fail> {
+pub(crate) fn tree_of(
+    alloc: Global,
+    answers: &[LexAnswer],
+) -> Result<Result<TreeAnswer, ParseFault>, Fail> {
     let data = sum_data(alloc, By::Entries)?;
     let parser = RTParserBuilder::<u32, HandedTypes>::new(&data);
     Ok(parser.parse_generictree(alloc, &HandedLexer { answers }))

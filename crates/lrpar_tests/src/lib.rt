@@ -30,3 +30,5 @@ mod span;
 mod stacks;
 #[cfg(test)]
 mod table;
+#[cfg(test)]
+mod trees;
