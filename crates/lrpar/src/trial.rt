@@ -1,13 +1,16 @@
 //! The test of sequences of repairs, over the states of a parse, which are borrowed.
-ghost use Rattle.std.specs.Prelude.{◌≡◌, ◌<◌, ◌≤◌, ◌↔◌, length, map, IfOk, OnOk, IsTrue};
+ghost use Rattle.std.specs.Prelude.{◌≡◌, ◌<◌, ◌≤◌, ◌↔◌, [], ◌∷◌, List, drop, length, map, IfOk, IfSome, OnOk, IsTrue, None};
 ghost use Rattle.lrpar_check.specs.Overlay.{overlaid};
 ghost use Rattle.lrpar_check.specs.Stack.{IsStack, states_of};
 ghost use Rattle.lrpar_grammar.specs.Grammar.{tokens_len};
 ghost use Rattle.lrpar_grammar.specs.Sentence.{IsValidList};
 ghost use Rattle.lrpar.specs.Lexemes.{facts_of};
+ghost use Rattle.lrpar.specs.Mended.{repairs_over};
 ghost use Rattle.lrpar.specs.PlainSteps.{plain_sequences, plain_step, plain_steps};
-ghost use Rattle.lrpar.specs.Sequences.{PlainInsert, PlainShift, AcceptsAtEnd, AreThoseWith, CanGoOn, IsStepTaken, IsTokenFed, Works};
+ghost use Rattle.lrpar.specs.Repairs.{repair_of, repairs_of};
+ghost use Rattle.lrpar.specs.Sequences.{PlainInsert, PlainShift, PlainStep, AcceptsAtEnd, AreThoseWith, CanGoOn, IsStepTaken, IsTokenFed, Works};
 
+use crate::errors::ParseRepair;
 use crate::lex_api::Lexeme;
 use crate::repair::RepairStep;
 use lrpar_grammar::span::{StIdx, StorageIndex, TIdx};
@@ -66,6 +69,25 @@ impl<'a, StorageT: StorageIndex, LexemeT: Lexeme<StorageT>> Trial<'a, StorageT, 
             }
         }
         Ok(listed)
+    }
+
+    /// The repairs by which an error at the place lists these sequences, each Delete and Shift with its own lexeme.
+    pub(crate) fn repairs(
+        &self,
+        alloc: Global,
+        place: usize,
+        listed: &[Vec<RepairStep<StorageT>>],
+    ) -> Result<Vec<Vec<ParseRepair<LexemeT, StorageT>>>, AllocError>
+        requires within { place ≤ length self.now.lexemes.now }
+        ensures repairs { IfOk result (λ repairs. repairs_of StorageT.index repairs.items
+            ≡ map (repairs_over (drop place self.now.lexemes.now)) (plain_sequences StorageT.index listed.now)) }
+    {
+        let left = &self.lexemes[place..];
+        let mut repairs = Vec::with_capacity(alloc, listed.len())?;
+        for steps in listed {
+            repairs.push(repairs_over(alloc, left, steps)?)?;
+        }
+        Ok(repairs)
     }
 
     // Whether the sequence works from the states at the place.
@@ -223,6 +245,50 @@ impl<'a, StorageT: StorageIndex, LexemeT: Lexeme<StorageT>> Trial<'a, StorageT, 
         match stable.action(states.top(), end) {
             Action::Accept => Ok(true),
             Action::Shift(_) | Action::Reduce(_) | Action::Error => Ok(false),
+        }
+    }
+}
+
+// The repairs of the steps over the lexemes that are left; past the last of these there is none.
+fn repairs_over<StorageT: StorageIndex, LexemeT: Lexeme<StorageT>>(
+    alloc: Global,
+    left: &[LexemeT],
+    steps: &[RepairStep<StorageT>],
+) -> Result<Vec<ParseRepair<LexemeT, StorageT>>, AllocError>
+    ensures repairs { IfOk result (λ repairs. map (repair_of StorageT.index) repairs.items ≡ repairs_over left.now (plain_steps StorageT.index steps.now)) }
+{
+    let mut repairs = Vec::with_capacity(alloc, steps.len())?;
+    let mut rest = left;
+    for step in steps {
+        match repair_over(*step, rest) {
+            None => return Ok(repairs),
+            Some((repair, after)) => {
+                repairs.push(repair)?;
+                rest = after;
+            }
+        }
+    }
+    Ok(repairs)
+}
+
+// The repair of the step over the lexemes that are left, and those that are left after it.
+fn repair_over<'a, StorageT: StorageIndex, LexemeT: Lexeme<StorageT>>(
+    step: RepairStep<StorageT>,
+    left: &'a [LexemeT],
+) -> Option<(ParseRepair<LexemeT, StorageT>, &'a [LexemeT])>
+    ensures none { result ≡ None → (steps : List PlainStep) → repairs_over left.now (plain_step StorageT.index step ∷ steps) ≡ [] }
+    ensures some { IfSome result (λ r. (steps : List PlainStep)
+        → repairs_over left.now (plain_step StorageT.index step ∷ steps) ≡ repair_of StorageT.index r.0 ∷ repairs_over r.1.now steps) }
+{
+    match step {
+        RepairStep::Insert(token) => Some((ParseRepair::Insert(token), left)),
+        RepairStep::Delete => {
+            let (lexeme, rest) = left.split_first()?;
+            Some((ParseRepair::Delete(*lexeme), rest))
+        }
+        RepairStep::Shift => {
+            let (lexeme, rest) = left.split_first()?;
+            Some((ParseRepair::Shift(*lexeme), rest))
         }
     }
 }
