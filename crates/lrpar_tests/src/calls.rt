@@ -90,44 +90,55 @@ fn errors_of_both_calls(rt: HostRuntime) -> Result<(), Fail> {
     ];
     for (name, given, state, at) in rows {
         let answers = lexemes(alloc, given)?;
-        let (tree, errors) = tree_of(alloc, &answers)??;
-        assert!(rt; tree.is_none(), "tree of {name:?}");
-        let alone = errors_of(alloc, &answers)??;
-        for errors in [&errors, &alone] {
-            assert_eq!(rt; errors.len(), 1, "errors of {name:?}");
-            match &errors[0] {
-                LexParseError::LexError(_) => return Err(Fail::new(format_args!(
-                    "lexing error of {name:?}"
-                ))),
-                LexParseError::ParseError(error) => {
-                    assert_eq!(rt; error.stidx(), StIdx(state), "state of {name:?}");
-                    assert_eq!(rt; *error.lexeme(), at, "lexeme of {name:?}");
-                }
-            }
-        }
+        let tree = tree_of(alloc, &answers)??;
+        assert!(rt; tree.0.is_none(), "tree of {name:?}");
+        assert!(rt; is_error(&tree.1, StIdx(state), at), "error of {name:?}");
+        let errors = errors_of(alloc, &answers)??;
+        assert!(rt;
+            is_error(&errors, StIdx(state), at),
+            "error alone of {name:?}"
+        );
     }
     Ok(())
+}
+
+// Whether there is one error, in this state at this lexeme.
+fn is_error(errors: &[LexParseError<u32, HandedTypes>], state: StIdx<u32>, at: Token<u32>) -> bool {
+    match errors {
+        [LexParseError::ParseError(error)] => error.stidx() == state && *error.lexeme() == at,
+        _ => false,
+    }
 }
 
 #[test]
 fn faults_of_both_calls(rt: HostRuntime) -> Result<(), Fail> {
     let alloc = rt.alloc();
-    let bad = lexemes(alloc, [(1, 0), (2, 1)].as_slice())?;
-    let early = lexemes(alloc, [(1, 3), (0, 2)].as_slice())?;
-    assert_eq!(rt; tree_of(alloc, &bad)?.err(), Some(ParseFault::BadToken(1)));
-    assert_eq!(rt;
-        errors_of(alloc, &bad)?.err(),
-        Some(ParseFault::BadToken(1))
-    );
-    assert_eq!(rt;
-        tree_of(alloc, &early)?.err(),
-        Some(ParseFault::StartsDecrease(1))
-    );
-    assert_eq!(rt;
-        errors_of(alloc, &early)?.err(),
-        Some(ParseFault::StartsDecrease(1))
-    );
+    let rows = [
+        ([(1, 0), (2, 1)], ParseFault::BadToken(1)),
+        ([(1, 3), (0, 2)], ParseFault::StartsDecrease(1)),
+    ];
+    for (given, want) in rows {
+        let answers = lexemes(alloc, &given)?;
+        assert_eq!(rt; fault_of_tree(alloc, &answers)?, Some(want));
+        assert_eq!(rt; fault_of_errors(alloc, &answers)?, Some(want));
+    }
     Ok(())
+}
+
+// For what the parse to a tree refuses the answers, if it does.
+fn fault_of_tree(alloc: Global, answers: &[LexAnswer]) -> Result<Option<ParseFault>, Fail> {
+    match tree_of(alloc, answers)? {
+        Ok(_) => Ok(None),
+        Err(fault) => Ok(Some(fault)),
+    }
+}
+
+// For what the parse to errors alone refuses them, if it does.
+fn fault_of_errors(alloc: Global, answers: &[LexAnswer]) -> Result<Option<ParseFault>, Fail> {
+    match errors_of(alloc, answers)? {
+        Ok(_) => Ok(None),
+        Err(fault) => Ok(Some(fault)),
+    }
 }
 
 #[test]

@@ -1,7 +1,7 @@
 //! Checks of tables: the table of sums, and changes for which it is refused.
 use crate::fixtures::{
     ACCEPT, BOTH, By, ItemOf, P0, P1, S3, SUM_ACTIONS, SUM_GOTOS, SUM_ITEMS, X, checked, item_rows,
-    prod, r, rows, rules, sum_checked, sum_parts, t, table, tokens,
+    prod, r, rows, rules, sum_checked, sum_parts, sum_rows, t, table, tokens,
 };
 use lrpar::ParserData;
 use lrpar::check::{CheckFault, Refused, SafetyCondition};
@@ -256,59 +256,61 @@ fn is_taken(
 #[test]
 fn shapes_that_do_not_fit(rt: HostRuntime) -> Result<(), Fail> {
     let alloc = rt.alloc();
-    let sums = Hand::sums(alloc, By::Rows)?;
-    let short = StateGraph::from_rows(alloc, item_rows(alloc, &SUM_ITEMS, 5)?)?;
-    let mut one_token_less = rows(alloc, &SUM_ACTIONS, &SUM_GOTOS)?;
-    one_token_less.tokens = 2;
-    for row in one_token_less.actions.iter_mut() {
-        row.truncate(2);
-    }
-    let mut one_rule_less = rows(alloc, &SUM_ACTIONS, &SUM_GOTOS)?;
-    one_rule_less.rules = 2;
-    for row in one_rule_less.gotos.iter_mut() {
-        row.truncate(2);
-    }
-    let rows = [
-        ("a short graph", short, sums.table(alloc)?),
-        (
-            "an item past the productions",
-            Change::Item((0, 4, 0, 2))
-                .of_sums(alloc, By::Rows)?
-                .graph(alloc)?,
-            sums.table(alloc)?,
-        ),
-        (
-            "a dot past the symbols",
-            Change::Item((3, 2, 2, 2))
-                .of_sums(alloc, By::Rows)?
-                .graph(alloc)?,
-            sums.table(alloc)?,
-        ),
-        (
-            "a lookahead past the tokens",
-            Change::Item((0, 3, 0, 3))
-                .of_sums(alloc, By::Rows)?
-                .graph(alloc)?,
-            sums.table(alloc)?,
-        ),
-        (
-            "a token less",
-            sums.graph(alloc)?,
-            StateTable::from_rows(alloc, one_token_less)?,
-        ),
-        (
-            "a rule less",
-            sums.graph(alloc)?,
-            StateTable::from_rows(alloc, one_rule_less)?,
-        ),
+    let items = [
+        ("an item past the productions", (0, 4, 0, 2)),
+        ("a dot past the symbols", (3, 2, 2, 2)),
+        ("a lookahead past the tokens", (0, 3, 0, 3)),
     ];
-    for (name, graph, table) in rows {
-        match ParserData::new(alloc, sum_grammar(alloc)?, graph, table, 2) {
-            Ok(_) => return Err(Fail::new(format_args!("{name} is taken"))),
-            Err(refused) => assert_eq!(rt; refused.fault(), CheckFault::Shape, "{name}"),
-        }
+    for (name, item) in items {
+        assert_eq!(rt; fault_with_item(alloc, item)?, CheckFault::Shape, "{name}");
     }
+    let short = fault_with(alloc, 5, sum_rows(alloc)?)?;
+    assert_eq!(rt; short, Some(CheckFault::Shape), "a short graph");
+    let one_token_less = fault_with(alloc, 6, one_token_less(alloc)?)?;
+    assert_eq!(rt; one_token_less, Some(CheckFault::Shape), "a token less");
+    let one_rule_less = fault_with(alloc, 6, one_rule_less(alloc)?)?;
+    assert_eq!(rt; one_rule_less, Some(CheckFault::Shape), "a rule less");
     Ok(())
+}
+
+// For what the table of sums is refused with one more item.
+fn fault_with_item(alloc: Global, item: ItemOf) -> Result<CheckFault, Fail> {
+    let refused = refused_by(alloc, By::Rows, Change::Item(item))?;
+    Ok(refused.fault())
+}
+
+// For what the items of so many states of sums are refused beside these rows, if they are.
+fn fault_with(
+    alloc: Global,
+    states: usize,
+    rows: TableRows<u8>,
+) -> Result<Option<CheckFault>, Fail> {
+    let graph = StateGraph::from_rows(alloc, item_rows(alloc, &SUM_ITEMS, states)?)?;
+    let table = StateTable::from_rows(alloc, rows)?;
+    match ParserData::new(alloc, sum_grammar(alloc)?, graph, table, 2) {
+        Ok(_) => Ok(None),
+        Err(refused) => Ok(Some(refused.fault())),
+    }
+}
+
+// The rows of sums without the last token.
+fn one_token_less(alloc: Global) -> Result<TableRows<u8>, Fail> {
+    let mut rows = sum_rows(alloc)?;
+    rows.tokens = 2;
+    for row in rows.actions.iter_mut() {
+        row.truncate(2);
+    }
+    Ok(rows)
+}
+
+// The rows of sums without the last rule.
+fn one_rule_less(alloc: Global) -> Result<TableRows<u8>, Fail> {
+    let mut rows = sum_rows(alloc)?;
+    rows.rules = 2;
+    for row in rows.gotos.iter_mut() {
+        row.truncate(2);
+    }
+    Ok(rows)
 }
 
 #[test]
@@ -378,32 +380,34 @@ const LOOP_ITEMS: [ItemOf; 8] = [
 
 #[test]
 fn caps_of_sums(rt: HostRuntime) -> Result<(), Fail> {
-    let alloc = rt.alloc();
     let rows = [
-        (By::Rows, 0u16, 0usize),
-        (By::Rows, 1, 4),
-        (By::Entries, 0, 0),
-        (By::Entries, 1, 4),
+        (By::Rows, 0u16, Some(CheckFault::ChainTooLong(0, 2))),
+        (By::Rows, 1, Some(CheckFault::ChainTooLong(4, 2))),
+        (By::Rows, 2, None),
+        (By::Entries, 0, Some(CheckFault::ChainTooLong(0, 2))),
+        (By::Entries, 1, Some(CheckFault::ChainTooLong(4, 2))),
+        (By::Entries, 2, None),
     ];
-    for (by, cap, state) in rows {
-        match sum_checked::<u32>(alloc, by, cap)? {
-            Ok(_) => return Err(Fail::new(format_args!("{by:?}: cap {cap} is taken"))),
-            Err(fault) => assert_eq!(rt;
-                fault,
-                CheckFault::ChainTooLong(state, 2),
-                "{by:?}: cap {cap}"
-            ),
-        }
-    }
-    for by in BOTH {
-        assert!(rt; sum_checked::<u32>(alloc, by, 2)?.is_ok(), "{by:?}");
+    for (by, cap, want) in rows {
+        assert_eq!(rt;
+            fault_of_sums(rt.alloc(), by, cap)?,
+            want,
+            "{by:?}: cap {cap}"
+        );
     }
     Ok(())
 }
 
+// For what the table of sums is refused with the cap, if it is.
+fn fault_of_sums(alloc: Global, by: By, cap: u16) -> Result<Option<CheckFault>, Fail> {
+    match sum_checked::<u32>(alloc, by, cap)? {
+        Ok(_) => Ok(None),
+        Err(fault) => Ok(Some(fault)),
+    }
+}
+
 #[test]
 fn a_cycle_passes_every_cap(rt: HostRuntime) -> Result<(), Fail> {
-    let alloc = rt.alloc();
     let rows = [
         (By::Rows, 0u16),
         (By::Rows, 65_535),
@@ -411,21 +415,21 @@ fn a_cycle_passes_every_cap(rt: HostRuntime) -> Result<(), Fail> {
         (By::Entries, 65_535),
     ];
     for (by, cap) in rows {
-        match checked(
-            alloc,
-            by,
-            loop_parts(alloc)?,
-            &LOOP_ITEMS,
-            loop_rows(alloc)?,
-            cap,
-        )? {
-            Ok(_) => return Err(Fail::new(format_args!("{by:?}: cap {cap} is taken"))),
-            Err(fault) => assert_eq!(rt;
-                fault,
-                CheckFault::ChainTooLong(0, 1),
-                "{by:?}: cap {cap}"
-            ),
-        }
+        let fault = fault_of_loop(rt.alloc(), by, cap)?;
+        assert_eq!(rt;
+            fault,
+            Some(CheckFault::ChainTooLong(0, 1)),
+            "{by:?}: cap {cap}"
+        );
     }
     Ok(())
+}
+
+// For what the table of the cycle is refused with the cap, if it is.
+fn fault_of_loop(alloc: Global, by: By, cap: u16) -> Result<Option<CheckFault>, Fail> {
+    let (parts, rows) = (loop_parts(alloc)?, loop_rows(alloc)?);
+    match checked(alloc, by, parts, &LOOP_ITEMS, rows, cap)? {
+        Ok(_) => Ok(None),
+        Err(fault) => Ok(Some(fault)),
+    }
 }
