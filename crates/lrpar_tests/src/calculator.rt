@@ -41,9 +41,25 @@ impl<LexemeT: Lexeme<u32>, LexerT> Actions<u32, LexemeT, LexerT> for Calculator 
         ensures { IsTrue result ↔ IsTaken pidx.0 ridx.0 (map (symbol_of (λ number. number)) symbols.now) }
     {
         match (pidx.as_storaget(), ridx.as_storaget(), symbols) {
-            (0, 1, [Symbol::Rule(RIdx(1)), Symbol::Token(TIdx(0)), Symbol::Rule(RIdx(2))]) => true,
+            (
+                0,
+                1,
+                [
+                    Symbol::Rule(RIdx(1)),
+                    Symbol::Token(TIdx(0)),
+                    Symbol::Rule(RIdx(2)),
+                ],
+            ) => true,
             (1, 1, [Symbol::Rule(RIdx(2))]) => true,
-            (2, 2, [Symbol::Rule(RIdx(2)), Symbol::Token(TIdx(1)), Symbol::Rule(RIdx(3))]) => true,
+            (
+                2,
+                2,
+                [
+                    Symbol::Rule(RIdx(2)),
+                    Symbol::Token(TIdx(1)),
+                    Symbol::Rule(RIdx(3)),
+                ],
+            ) => true,
             (3, 2, [Symbol::Rule(RIdx(3))]) => true,
             (4, 3, [Symbol::Token(TIdx(2))]) => true,
             _ => false,

@@ -9,7 +9,7 @@ use std::alloc::Global;
 use std::test::Fail;
 
 // A tree of the tests.
-type Tree = Node<Token<u32>, u32>;
+pub(crate) type Tree = Node<Token<u32>, u32>;
 
 // The node of the lexeme of this token and start, of one byte.
 fn leaf(token: u32, start: usize) -> Tree {
@@ -34,7 +34,7 @@ fn one(alloc: Global, node: Tree) -> Result<Vec<Tree>, Fail> {
 }
 
 // The tree of `a+b`.
-fn sum_tree(alloc: Global) -> Result<Tree, Fail> {
+pub(crate) fn sum_tree(alloc: Global) -> Result<Tree, Fail> {
     let first = rule(2, one(alloc, leaf(1, 0))?);
     let second = rule(2, one(alloc, leaf(1, 2))?);
     let mut nodes = one(alloc, first)?;

@@ -1,8 +1,9 @@
-//! Tests that cross the library crates.
+//! Tests that cross the library crates, and a calculator as a user writes it.
 #![tactic(auto)]
 
+#[cfg(test)]
+mod actions;
 pub mod calculator;
-
 #[cfg(test)]
 mod calls;
 #[cfg(test)]
@@ -15,6 +16,8 @@ mod fixtures;
 mod grammar;
 #[cfg(test)]
 mod graph;
+#[cfg(test)]
+mod hand;
 #[cfg(test)]
 mod lexer;
 #[cfg(test)]
