@@ -120,20 +120,6 @@ last_or_at o (y ∷ z ∷ zs) x at =
     let place : length (y ∷ z ∷ zs) - 1 ≡ suc (length (z ∷ zs) - 1) = omega arith in
     last_or_at (Some y) (z ∷ zs) x (subst (λ (n : ℕ). slice_get (y ∷ z ∷ zs) n ≡ Some x) place at)
 
--- and of one without items
-pub last_or_none : {A : Type 0} (o : Option A) (xs : List A) → slice_get xs (length xs - 1) ≡ None → last_or o xs ≡ o
-last_or_none o [] none = refl
-last_or_none o (y ∷ []) none = absurd (let no : ⊥ = cc in no)
-last_or_none o (y ∷ z ∷ zs) none =
-    let place : length (y ∷ z ∷ zs) - 1 ≡ suc (length (z ∷ zs) - 1) = omega arith in
-    absurd (some_last (Some y) z zs (subst (λ (n : ℕ). slice_get (y ∷ z ∷ zs) n ≡ None) place none))
-  where
-    some_last : {A : Type 0} (o : Option A) (z : A) (zs : List A) → slice_get (z ∷ zs) (length (z ∷ zs) - 1) ≡ None → ⊥
-    some_last o z [] none = cc
-    some_last o z (w ∷ ws) none =
-        let place : length (z ∷ w ∷ ws) - 1 ≡ suc (length (w ∷ ws) - 1) = omega arith in
-        some_last o w ws (subst (λ (n : ℕ). slice_get (z ∷ w ∷ ws) n ≡ None) place none)
-
 -- what holds of the arguments of entries, place by place, holds of the list of them
 pub zip_arguments : {S T : Type 0} (R : S → T → Type 0) (symbols : List S) (es : List (Placed T)) → AllZip (λ s e. R s e.argument) symbols es → AllZip R symbols (arguments_of es)
 zip_arguments R [] [] all = tt

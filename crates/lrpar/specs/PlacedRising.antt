@@ -28,7 +28,7 @@ rise_both low mid [] ys high front back = back front
 rise_both low mid (x ∷ xs) ys high front back = (front.0, rise_both x.start mid xs ys high front.1 back)
 
 -- the bounds of parts that rise
-pub rise_within : (low : ℕ) (xs : List Extent) (high : ℕ) → Rise low xs high → low ≤ high
+rise_within : (low : ℕ) (xs : List Extent) (high : ℕ) → Rise low xs high → low ≤ high
 rise_within low [] high rise = rise
 rise_within low (x ∷ xs) high rise =
     let first : low ≤ x.start = rise.0 in

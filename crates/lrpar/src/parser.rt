@@ -115,8 +115,11 @@ impl<'a, StorageT: StorageIndex, LexerTypesT: LexerTypes<StorageT = StorageT>> R
 
     /// Parses what the lexer answers, which it is asked once. Each production has the value that the actions answer for it,
     /// its rule, its span, the arguments for its symbols and `param`. The errors are those that `parse_map` answers, and it
-    /// refuses what that refuses; the answer is also `Memory` where memory was wanting in an action, and nothing but this
-    /// one call ends by it.
+    /// refuses what that refuses; the answer is also `Memory` where memory was wanting in an action. The next parse by the
+    /// same parser is as if this one hadn't been.
+    ///
+    /// Beside what the actions take, a production with symbols takes memory for two lists of its arguments. The time grows
+    /// as that of `parse_map`.
     ///
     /// The actions have to take each production of the grammar but the start production, which `takes_all` tells.
     pub fn parse_actions<

@@ -34,7 +34,7 @@ fn one(alloc: Global, node: Tree) -> Result<Vec<Tree>, Fail> {
 }
 
 // The tree of `a+b`.
-fn sum_tree(alloc: Global) -> Result<Tree, Fail> {
+pub(crate) fn sum_tree(alloc: Global) -> Result<Tree, Fail> {
     let first = rule(2, one(alloc, leaf(1, 0))?);
     let second = rule(2, one(alloc, leaf(1, 2))?);
     let mut nodes = one(alloc, first)?;

@@ -1,6 +1,8 @@
-//! Tests that cross the library crates.
+//! Tests that cross the library crates, and a calculator as a user writes it.
 #![tactic(auto)]
 
+#[cfg(test)]
+mod actions;
 pub mod calculator;
 #[cfg(test)]
 mod calls;
@@ -14,6 +16,8 @@ mod fixtures;
 mod grammar;
 #[cfg(test)]
 mod graph;
+#[cfg(test)]
+mod hand;
 #[cfg(test)]
 mod lexer;
 #[cfg(test)]

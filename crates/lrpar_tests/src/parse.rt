@@ -46,9 +46,9 @@ fn nonterm(alloc: Global, ridx: RIdx<u32>, nodes: Vec<Option<String>>) -> Option
 }
 
 // What a parse answers: a tree's text, and the errors as text.
-type Answer = (Option<String>, Vec<LexParseError<u32, HandedTypes>>);
+pub(crate) type Answer = (Option<String>, Vec<LexParseError<u32, HandedTypes>>);
 
-fn parsed(
+pub(crate) fn parsed(
     alloc: Global,
     data: &ParserData<u32>,
     answers: &[LexAnswer],

@@ -1,0 +1,467 @@
+//! Parses by actions, and all four calls side by side.
+ghost use Rattle.std.specs.Prelude.{◌≡◌, IfOk, IsTrue, map};
+ghost use Rattle.lrpar.specs.Nodes.{IsNonterm, node_of};
+
+use crate::calculator::{Calculator, Value};
+use crate::calls::{Tree, sum_tree};
+use crate::fixtures::sum_data;
+use crate::hand::{AFTER, ARITHMETIC, BETWEEN, CALL, Hand, LIST, data};
+use crate::lexer::{HandedLexer, HandedTypes, NoToken, Token};
+use crate::parse::{LexAnswer, lexemes, parsed};
+use lrpar::parser::{AStackType, Actions, ParseFault};
+use lrpar::span::{PIdx, RIdx, Span, StIdx, Symbol};
+use lrpar::{LexParseError, Lexeme, ParserData, RTParserBuilder, action_generictree};
+use std::alloc::{AllocError, Global};
+use std::cell::Cell;
+use std::test::Fail;
+
+// Makes trees, as `parse_generictree` does.
+#[derive(Drop)]
+struct TreeActions;
+
+impl<'a> Actions<u32, Token<u32>, HandedLexer<'a>> for TreeActions {
+    type ActionT = Tree;
+
+    type ParamT = ();
+
+    ghost taken = { λ b p r symbols. Unit {0} };
+
+    ghost fact = { λ b r v. Unit {0} };
+
+    ghost answers = { λ b p r lexer span args param v. IsNonterm (λ number. number) r (map node_of args) v };
+
+    fn takes(&self, _pidx: PIdx<u32>, _ridx: RIdx<u32>, _symbols: &[Symbol<u32>]) -> bool
+        ensures { IsTrue result }
+    {
+        true
+    }
+
+    fn act(
+        &self,
+        alloc: Global,
+        _pidx: PIdx<u32>,
+        ridx: RIdx<u32>,
+        lexer: &HandedLexer<'a>,
+        span: Span,
+        args: Vec<AStackType<Token<u32>, Tree>>,
+        param: &(),
+    ) -> Result<Tree, AllocError>
+        ensures { IfOk result (IsNonterm (λ number. number) ridx.0 (map node_of args.items)) }
+    {
+        action_generictree::<u32, HandedTypes, HandedLexer<'a>>(
+            alloc, ridx, lexer, span, args, param,
+        )
+    }
+}
+
+// A rule, and where it starts and ends.
+type Place = (u32, usize, usize);
+
+// Tells where the rules of a tree lie, in the order of the reductions. Of its answers it states nothing.
+#[derive(Drop)]
+struct Places;
+
+impl<'a> Actions<u32, Token<u32>, HandedLexer<'a>> for Places {
+    type ActionT = Vec<Place>;
+
+    type ParamT = ();
+
+    ghost taken = { λ b p r symbols. Unit {0} };
+
+    ghost fact = { λ b r v. Unit {0} };
+
+    ghost answers = { λ b p r lexer span args param v. Unit {0} };
+
+    fn takes(&self, _pidx: PIdx<u32>, _ridx: RIdx<u32>, _symbols: &[Symbol<u32>]) -> bool
+        ensures { IsTrue result }
+    {
+        true
+    }
+
+    fn act(
+        &self,
+        alloc: Global,
+        _pidx: PIdx<u32>,
+        ridx: RIdx<u32>,
+        _lexer: &HandedLexer<'a>,
+        span: Span,
+        args: Vec<AStackType<Token<u32>, Vec<Place>>>,
+        _param: &(),
+    ) -> Result<Vec<Place>, AllocError>
+        ensures { Unit {0} }
+    {
+        let mut places = Vec::new(alloc);
+        for arg in args {
+            if let AStackType::ActionType(mut below) = arg {
+                places.append(&mut below)?;
+            }
+        }
+        places.push((ridx.as_storaget(), span.start(), span.end()))?;
+        Ok(places)
+    }
+}
+
+// Counts its calls, and finds no memory at one of them. Of its answers it states nothing.
+#[derive(Drop)]
+struct Counting {
+    calls: Cell<usize>,
+    fails_at: usize,
+}
+
+impl<'a> Actions<u32, Token<u32>, HandedLexer<'a>> for Counting {
+    type ActionT = ();
+
+    type ParamT = ();
+
+    ghost taken = { λ b p r symbols. Unit {0} };
+
+    ghost fact = { λ b r v. Unit {0} };
+
+    ghost answers = { λ b p r lexer span args param v. Unit {0} };
+
+    fn takes(&self, _pidx: PIdx<u32>, _ridx: RIdx<u32>, _symbols: &[Symbol<u32>]) -> bool
+        ensures { IsTrue result }
+    {
+        true
+    }
+
+    fn act(
+        &self,
+        _alloc: Global,
+        _pidx: PIdx<u32>,
+        _ridx: RIdx<u32>,
+        _lexer: &HandedLexer<'a>,
+        _span: Span,
+        _args: Vec<AStackType<Token<u32>, ()>>,
+        _param: &(),
+    ) -> Result<(), AllocError>
+        ensures { Unit {0} }
+    {
+        self.calls.set(self.calls.get().saturating_add(1));
+        if self.calls.get() == self.fails_at {
+            Err(AllocError)
+        } else {
+            Ok(())
+        }
+    }
+}
+
+// What a parse by actions answers.
+type Acted<V> = Result<(Option<V>, Vec<LexParseError<u32, HandedTypes>>), ParseFault>;
+
+fn acted<'a, A: Actions<u32, Token<u32>, HandedLexer<'a>, ParamT = ()>>(
+    alloc: Global,
+    data: &ParserData<u32>,
+    answers: &'a [LexAnswer],
+    actions: &A,
+) -> Result<Acted<A::ActionT>, Fail> {
+    let lexer = HandedLexer { answers };
+    let parser = RTParserBuilder::<u32, HandedTypes>::new(data);
+    if !parser.takes_all(&lexer, actions) {
+        return Err(Fail::new("a production isn't taken"));
+    }
+    Ok(parser.parse_actions(alloc, &lexer, actions, &()))
+}
+
+// The lexemes of these tokens, starts and lengths.
+fn long_lexemes(alloc: Global, given: &[(u32, usize, usize)]) -> Result<Vec<LexAnswer>, Fail> {
+    Ok(
+        given
+            .iter()
+            .map(|(token, start, len)| Ok(Token::new(
+                *token,
+                (*start).min(1_000),
+                (*len).min(1_000),
+            )))
+            .collect(alloc)?,
+    )
+}
+
+fn value_of(alloc: Global, given: &[(u32, usize, usize)]) -> Result<Option<Value>, Fail> {
+    let answers = long_lexemes(alloc, given)?;
+    let (value, _) = acted(alloc, &data(alloc, &ARITHMETIC)?, &answers, &Calculator)??;
+    Ok(value)
+}
+
+#[test]
+fn values_of_a_calculator(rt: HostRuntime) -> Result<(), Fail> {
+    let alloc = rt.alloc();
+    let product_last = [(2, 0, 2), (0, 2, 1), (2, 3, 3), (1, 6, 1), (2, 7, 4)];
+    let product_first = [(2, 0, 2), (1, 2, 1), (2, 3, 3), (0, 6, 1), (2, 7, 4)];
+    assert_eq!(rt;
+        value_of(alloc, &product_last)?,
+        Some(Value::Sum(14)),
+        "2+3*4"
+    );
+    assert_eq!(rt;
+        value_of(alloc, &product_first)?,
+        Some(Value::Sum(10)),
+        "2*3+4"
+    );
+    assert_eq!(rt; value_of(alloc, &[(2, 0, 2), (0, 2, 1)])?, None, "2+");
+    Ok(())
+}
+
+#[test]
+fn a_calculator_of_another_grammar(rt: HostRuntime) -> Result<(), Fail> {
+    let alloc = rt.alloc();
+    let data = sum_data::<u32>(alloc)?;
+    let parser = RTParserBuilder::<u32, HandedTypes>::new(&data);
+    let answers = lexemes(alloc, [].as_slice())?;
+    let lexer = HandedLexer { answers: &answers };
+    assert!(rt; !parser.takes_all(&lexer, &Calculator));
+    Ok(())
+}
+
+fn places_of(
+    alloc: Global,
+    hand: &Hand,
+    given: &[(u32, usize, usize)],
+) -> Result<Option<Vec<Place>>, Fail> {
+    let answers = long_lexemes(alloc, given)?;
+    let (places, _) = acted(alloc, &data(alloc, hand)?, &answers, &Places)??;
+    Ok(places)
+}
+
+#[test]
+fn spans_of_rules(rt: HostRuntime) -> Result<(), Fail> {
+    let alloc = rt.alloc();
+    let rows = [
+        (
+            "nothing",
+            LIST,
+            [].as_slice(),
+            [(2, 0, 0), (1, 0, 0)].as_slice(),
+        ),
+        (
+            "x",
+            LIST,
+            [(0, 3, 1)].as_slice(),
+            [(2, 3, 4), (1, 3, 4)].as_slice(),
+        ),
+        (
+            "a",
+            AFTER,
+            [(0, 0, 1)].as_slice(),
+            [(2, 0, 1), (1, 0, 1)].as_slice(),
+        ),
+        (
+            "ab",
+            BETWEEN,
+            [(0, 0, 1), (1, 1, 1)].as_slice(),
+            [(3, 0, 1), (2, 0, 2), (1, 0, 2)].as_slice(),
+        ),
+        (
+            "ends that decrease",
+            BETWEEN,
+            [(0, 1, 9), (1, 2, 1)].as_slice(),
+            [(3, 1, 10), (2, 1, 3), (1, 1, 3)].as_slice(),
+        ),
+    ];
+    for (name, hand, given, want) in rows {
+        let places = places_of(alloc, &hand, given)?;
+        assert_eq!(rt;
+            places.as_ref().map(|places| places.as_slice()),
+            Some(want),
+            "{name}"
+        );
+    }
+    Ok(())
+}
+
+#[test]
+fn calls_of_actions(rt: HostRuntime) -> Result<(), Fail> {
+    let alloc = rt.alloc();
+    let data = sum_data(alloc)?;
+    let rows = [
+        ("a+b", [(1, 0), (0, 1), (1, 2)].as_slice(), 4),
+        ("a+", [(1, 0), (0, 1)].as_slice(), 1),
+        ("", [].as_slice(), 0),
+    ];
+    for (name, given, calls) in rows {
+        let counting = Counting {
+            calls: Cell::new(0),
+            fails_at: 0,
+        };
+        let _ = acted(alloc, &data, &lexemes(alloc, given)?, &counting)??;
+        assert_eq!(rt; counting.calls.get(), calls, "{name:?}");
+    }
+    Ok(())
+}
+
+#[test]
+fn want_of_memory_in_an_action(rt: HostRuntime) -> Result<(), Fail> {
+    let alloc = rt.alloc();
+    let data = sum_data(alloc)?;
+    let answers = lexemes(alloc, [(1, 0), (0, 1), (1, 2)].as_slice())?;
+    let lexer = HandedLexer { answers: &answers };
+    let parser = RTParserBuilder::<u32, HandedTypes>::new(&data);
+    let counting = Counting {
+        calls: Cell::new(0),
+        fails_at: 2,
+    };
+    if !parser.takes_all(&lexer, &counting) {
+        return Err(Fail::new("a production isn't taken"));
+    }
+    let first = parser.parse_actions(alloc, &lexer, &counting, &());
+    assert_eq!(rt;
+        first.err(),
+        Some(ParseFault::Memory),
+        "the second call fails"
+    );
+    assert_eq!(rt; counting.calls.get(), 2, "calls up to the one that fails");
+    let (value, errors) = parser.parse_actions(alloc, &lexer, &counting, &())?;
+    assert_eq!(rt; value, Some(()), "the next parse");
+    assert!(rt; errors.is_empty(), "errors of the next parse");
+    Ok(())
+}
+
+// The faults of all four calls over a sum, if they are one.
+fn fault_of(alloc: Global, answers: &[LexAnswer]) -> Result<Option<ParseFault>, Fail> {
+    let data = sum_data(alloc)?;
+    let lexer = HandedLexer { answers };
+    let parser = RTParserBuilder::<u32, HandedTypes>::new(&data);
+    let mapped = parser.parse_map(alloc, &lexer, |_| {}, |_, _| {}).err();
+    let faults = [
+        acted(alloc, &data, answers, &TreeActions)?.err(),
+        parser.parse_generictree(alloc, &lexer).err(),
+        parser.parse_noaction(alloc, &lexer).err(),
+    ];
+    for fault in faults {
+        if fault != mapped {
+            return Err(Fail::new("two calls answer two faults"));
+        }
+    }
+    Ok(mapped)
+}
+
+#[test]
+fn faults_of_each_call(rt: HostRuntime) -> Result<(), Fail> {
+    let alloc = rt.alloc();
+    let bad = [(1, 0), (0, 1), (1, 2), (2, 3), (1, 6), (0, 5)];
+    let early = [(1, 0), (0, 1), (1, 2), (0, 3), (1, 6), (0, 5)];
+    let mut answers = lexemes(alloc, &bad)?;
+    assert_eq!(rt; fault_of(alloc, &answers)?, Some(ParseFault::BadToken(3)));
+    assert_eq!(rt;
+        fault_of(alloc, &lexemes(alloc, &early)?)?,
+        Some(ParseFault::StartsDecrease(5))
+    );
+    answers.push(Err(NoToken {
+        span: Span::new(7, 8),
+    }))?;
+    assert_eq!(rt; fault_of(alloc, &answers)?, None, "a lexing error");
+    Ok(())
+}
+
+// The errors of all four calls, which are as many.
+fn errors_of(
+    alloc: Global,
+    data: &ParserData<u32>,
+    answers: &[LexAnswer],
+) -> Result<Vec<Vec<LexParseError<u32, HandedTypes>>>, Fail> {
+    let lexer = HandedLexer { answers };
+    let parser = RTParserBuilder::<u32, HandedTypes>::new(data);
+    let mut all = Vec::new(alloc);
+    all.push(parser.parse_map(alloc, &lexer, |_| {}, |_, _| {})?.1)?;
+    all.push(acted(alloc, data, answers, &TreeActions)??.1)?;
+    all.push(parser.parse_generictree(alloc, &lexer)?.1)?;
+    all.push(parser.parse_noaction(alloc, &lexer)?)?;
+    Ok(all)
+}
+
+#[test]
+fn errors_of_each_call(rt: HostRuntime) -> Result<(), Fail> {
+    let alloc = rt.alloc();
+    let data = data(alloc, &CALL)?;
+    let rows = [
+        (
+            "f(",
+            [(0, 0), (1, 1)].as_slice(),
+            Token::new_faulty(3, 2, 0),
+        ),
+        (
+            "f(f(",
+            [(0, 0), (1, 1), (0, 2), (1, 3)].as_slice(),
+            Token::new(0, 2, 1),
+        ),
+    ];
+    for (name, given, at) in rows {
+        for errors in errors_of(alloc, &data, &lexemes(alloc, given)?)? {
+            assert_eq!(rt; errors.len(), 1, "errors of {name}");
+            match &errors[0] {
+                LexParseError::LexError(_) => return Err(Fail::new(format_args!(
+                    "lexing error of {name}"
+                ))),
+                LexParseError::ParseError(error) => {
+                    assert_eq!(rt; error.stidx(), StIdx(3), "state of {name}");
+                    assert_eq!(rt; *error.lexeme(), at, "lexeme of {name}");
+                }
+            }
+        }
+    }
+    Ok(())
+}
+
+#[test]
+fn a_first_lexing_error_of_each_call(rt: HostRuntime) -> Result<(), Fail> {
+    let alloc = rt.alloc();
+    let first = NoToken {
+        span: Span::new(7, 8),
+    };
+    let mut answers = lexemes(alloc, &[(1, 0), (0, 1), (1, 2), (2, 3), (1, 6), (0, 5)])?;
+    answers.push(Err(first))?;
+    for errors in errors_of(alloc, &sum_data(alloc)?, &answers)? {
+        assert_eq!(rt; errors.len(), 1);
+        match &errors[0] {
+            LexParseError::LexError(error) => assert_eq!(rt; *error, first),
+            LexParseError::ParseError(_) => return Err(Fail::new("a parse error")),
+        }
+    }
+    Ok(())
+}
+
+#[test]
+fn trees_of_actions(rt: HostRuntime) -> Result<(), Fail> {
+    let alloc = rt.alloc();
+    let answers = lexemes(alloc, [(1, 0), (0, 1), (1, 2)].as_slice())?;
+    let (tree, errors) = acted(alloc, &sum_data(alloc)?, &answers, &TreeActions)??;
+    assert!(rt; errors.is_empty(), "errors");
+    assert_eq!(rt; tree, Some(sum_tree(alloc)?), "tree");
+    Ok(())
+}
+
+#[test]
+fn trees_by_hand(rt: HostRuntime) -> Result<(), Fail> {
+    let alloc = rt.alloc();
+    let rows = [
+        (
+            "a call",
+            CALL,
+            [(0, 0), (1, 1), (2, 2)].as_slice(),
+            "1[ 0@0 1@1 2@2 ]",
+        ),
+        ("nothing", LIST, [].as_slice(), "1[ 2[ ] ]"),
+        (
+            "2+3*4",
+            ARITHMETIC,
+            [(2, 0), (0, 1), (2, 2), (1, 3), (2, 4)].as_slice(),
+            "1[ 1[ 2[ 3[ 2@0 ] ] ] 0@1 2[ 2[ 3[ 2@2 ] ] 1@3 3[ 2@4 ] ] ]",
+        ),
+        (
+            "2*3+4",
+            ARITHMETIC,
+            [(2, 0), (1, 1), (2, 2), (0, 3), (2, 4)].as_slice(),
+            "1[ 1[ 2[ 2[ 3[ 2@0 ] ] 1@1 3[ 2@2 ] ] ] 0@3 2[ 3[ 2@4 ] ] ]",
+        ),
+    ];
+    for (name, hand, given, text) in rows {
+        let (tree, errors) = parsed(alloc, &data(alloc, &hand)?, &lexemes(alloc, given)?)??;
+        assert!(rt; errors.is_empty(), "errors of {name}");
+        assert_eq!(rt;
+            tree.as_ref().map(|tree| tree.as_str()),
+            Some(text),
+            "tree of {name}"
+        );
+    }
+    Ok(())
+}
