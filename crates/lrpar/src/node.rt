@@ -18,8 +18,11 @@ use std::mem;
 
 /// A tree of lexemes and rules.
 ///
-/// `clone`, `==` and the drop take no stack for a level, so that a tree can be as deep as memory allows. Only `Debug`
-/// takes some for each level.
+/// A tree can be as deep as memory allows: `clone`, `==` and the drop take time linear in the nodes, and no stack for a
+/// level. `clone` and `==` keep a list with an entry for each level; the drop takes no memory. Where memory is wanting,
+/// `clone` answers so, and `==` takes stack in place of an entry. `Debug` takes stack for each level.
+///
+/// As the type has a drop of its own, a pattern looks at a node by reference. `mem::replace` takes the trees out of it.
 #[derive(Debug)]
 pub enum Node<LexemeT, StorageT> {
     /// A lexeme.
@@ -39,8 +42,8 @@ pub enum Node<LexemeT, StorageT> {
 impl<LexemeT: Copy, StorageT: Copy> Node<LexemeT, StorageT> {
     ghost use Rattle.lrpar.specs.Walks.{walk};
 
-    /// The same tree again: what a walk through it meets is the same. It fails only where memory is wanting, and takes
-    /// one allocation for each rule with children and a list of as many entries as the tree has levels.
+    /// The same tree again. It fails only where memory is wanting, and takes one allocation for each rule with children
+    /// and a list with an entry for each level.
     pub fn clone(&self, alloc: Global) -> Result<Self, AllocError>
         ensures equal { IfOk result (λ node. walk node ≡ walk self.now) }
     {

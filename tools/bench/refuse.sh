@@ -1,0 +1,68 @@
+#!/usr/bin/env bash
+# Reads two small grammar texts with each call for memory refused in turn.
+#
+#     refuse.sh PROGRAM
+#
+# PROGRAM is the built bench_program, which reads a text twice. Wants: where a call for memory of the first reading is
+# refused, that this reading answers a want of memory and the next one gives the grammar; and the other way round.
+# Prints the cases that failed, and one closing line. It stands outside the gate. It needs cc and glibc.
+set -u
+
+here=$(cd -P "$(dirname "$(readlink -f "${BASH_SOURCE[0]}")")" && pwd) || exit 1
+readonly here
+readonly most_calls=10000
+
+[[ $# -eq 1 && -x $1 ]] || {
+    printf 'usage: refuse.sh PROGRAM\n' >&2
+    exit 2
+}
+program=$(readlink -f "$1") || exit 1
+readonly program
+work=$(mktemp -d) || exit 1
+readonly work
+trap 'rm -rf "$work"' EXIT
+
+cc -O1 -Wall -shared -fPIC -o "$work/fail_alloc.so" "$here/../fail_alloc.c" || exit 1
+printf "%%%% E: T '+' E | T; T: 'ID';" >"$work/sum"
+printf "%%start A\n%%%%\nA : 'a' 'b' | B 'b';\nB : 'a' | C;\nC : 'a';\n" >"$work/conflicts"
+
+passed=0
+failed=0
+
+# The program's outcome where its call for memory of this number is refused.
+outcome() {
+    rm -f "$work/mark"
+    FAIL_ALLOC_AT=$1 FAIL_ALLOC_MARK=$work/mark LD_PRELOAD=$work/fail_alloc.so \
+        timeout 60 "$program" read_twice 1 "$2" >"$work/out" 2>"$work/err" </dev/null
+    printf '%s|%s|%s' "$?" "$(paste -sd/ "$work/out")" "$(<"$work/err")"
+}
+
+# refuse_each TEXT ANSWER: refuses each call in turn, until a run makes fewer calls than that.
+refuse_each() {
+    local call given first=0 second=0
+    for ((call = 1; call <= most_calls; call++)); do
+        given=$(outcome "$call" "$work/$1")
+        [[ -e $work/mark ]] || break
+        passed=$((passed + 1))
+        case $given in
+            "0|memory/$2|") first=$((first + 1)) ;;
+            "0|$2/memory|") second=$((second + 1)) ;;
+            '2||bench_program: out of memory') ;; # before the first reading: its arguments, and the file
+            *)
+                passed=$((passed - 1)) failed=$((failed + 1))
+                printf 'failed: %s, call %s refused: %s\n' "$1" "$call" "$given"
+                ;;
+        esac
+    done
+    if [[ $given == "0|$2/$2|" && $first -gt 0 && $first -eq $second ]]; then
+        passed=$((passed + 1))
+    else
+        failed=$((failed + 1))
+        printf 'failed: %s, no call refused: %s; %s of the first reading, %s of the second\n' "$1" "$given" "$first" "$second"
+    fi
+}
+
+refuse_each sum '3 rules, 3 tokens, 4 productions'
+refuse_each conflicts '4 rules, 3 tokens, 6 productions'
+printf '%s passed, %s failed\n' "$passed" "$failed"
+[[ $failed -eq 0 ]]
