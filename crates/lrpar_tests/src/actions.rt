@@ -4,7 +4,7 @@ ghost use Rattle.lrpar.specs.Nodes.{IsNonterm, node_of};
 
 use crate::calculator::{Calculator, Value};
 use crate::calls::{Tree, sum_tree};
-use crate::fixtures::sum_data;
+use crate::fixtures::{By, sum_data};
 use crate::hand::{AFTER, ARITHMETIC, BETWEEN, CALL, Hand, LIST, data};
 use crate::lexer::{HandedLexer, HandedTypes, NoToken, Token};
 use crate::parse::{LexAnswer, lexemes, parsed};
@@ -205,7 +205,7 @@ fn values_of_a_calculator(rt: HostRuntime) -> Result<(), Fail> {
 #[test]
 fn a_calculator_of_another_grammar(rt: HostRuntime) -> Result<(), Fail> {
     let alloc = rt.alloc();
-    let data = sum_data::<u32>(alloc)?;
+    let data = sum_data::<u32>(alloc, By::Rows)?;
     let parser = RTParserBuilder::<u32, HandedTypes>::new(&data);
     let answers = lexemes(alloc, [].as_slice())?;
     let lexer = HandedLexer { answers: &answers };
@@ -272,7 +272,7 @@ fn spans_of_rules(rt: HostRuntime) -> Result<(), Fail> {
 #[test]
 fn calls_of_actions(rt: HostRuntime) -> Result<(), Fail> {
     let alloc = rt.alloc();
-    let data = sum_data(alloc)?;
+    let data = sum_data(alloc, By::Rows)?;
     let rows = [
         ("a+b", [(1, 0), (0, 1), (1, 2)].as_slice(), 4),
         ("a+", [(1, 0), (0, 1)].as_slice(), 1),
@@ -292,7 +292,7 @@ fn calls_of_actions(rt: HostRuntime) -> Result<(), Fail> {
 #[test]
 fn want_of_memory_in_an_action(rt: HostRuntime) -> Result<(), Fail> {
     let alloc = rt.alloc();
-    let data = sum_data(alloc)?;
+    let data = sum_data(alloc, By::Rows)?;
     let answers = lexemes(alloc, [(1, 0), (0, 1), (1, 2)].as_slice())?;
     let lexer = HandedLexer { answers: &answers };
     let parser = RTParserBuilder::<u32, HandedTypes>::new(&data);
@@ -318,7 +318,7 @@ fn want_of_memory_in_an_action(rt: HostRuntime) -> Result<(), Fail> {
 
 // The faults of all four calls over a sum, if they are one.
 fn fault_of(alloc: Global, answers: &[LexAnswer]) -> Result<Option<ParseFault>, Fail> {
-    let data = sum_data(alloc)?;
+    let data = sum_data(alloc, By::Rows)?;
     let lexer = HandedLexer { answers };
     let parser = RTParserBuilder::<u32, HandedTypes>::new(&data);
     let mapped = parser.parse_map(alloc, &lexer, |_| {}, |_, _| {}).err();
@@ -410,7 +410,7 @@ fn a_first_lexing_error_of_each_call(rt: HostRuntime) -> Result<(), Fail> {
     };
     let mut answers = lexemes(alloc, &[(1, 0), (0, 1), (1, 2), (2, 3), (1, 6), (0, 5)])?;
     answers.push(Err(first))?;
-    for errors in errors_of(alloc, &sum_data(alloc)?, &answers)? {
+    for errors in errors_of(alloc, &sum_data(alloc, By::Rows)?, &answers)? {
         assert_eq!(rt; errors.len(), 1);
         match &errors[0] {
             LexParseError::LexError(error) => assert_eq!(rt; *error, first),
@@ -424,7 +424,7 @@ fn a_first_lexing_error_of_each_call(rt: HostRuntime) -> Result<(), Fail> {
 fn trees_of_actions(rt: HostRuntime) -> Result<(), Fail> {
     let alloc = rt.alloc();
     let answers = lexemes(alloc, [(1, 0), (0, 1), (1, 2)].as_slice())?;
-    let (tree, errors) = acted(alloc, &sum_data(alloc)?, &answers, &TreeActions)??;
+    let (tree, errors) = acted(alloc, &sum_data(alloc, By::Rows)?, &answers, &TreeActions)??;
     assert!(rt; errors.is_empty(), "errors");
     assert_eq!(rt; tree, Some(sum_tree(alloc)?), "tree");
     Ok(())
