@@ -1,7 +1,7 @@
 -- One production brings the rule that it begins with: what was worked out is put into the set of that rule.
-use Rattle.std.proofs.Common.{◌≡◌, ◌<◌, ◌≤◌, ◌+◌, ◌||◌, ◌&&◌, ◌↔◌, ◌⊎◌, ◌∙◌, refl, sym, ap, subst, inl, inr, arith, ℕ, Bool, true, false, List, [], ◌∷◌, All, length, map, set, get_or, drop, nat_lt, IsTrue}
+use Rattle.std.proofs.Common.{◌≡◌, ◌<◌, ◌≤◌, ◌+◌, ◌-◌, ◌||◌, ◌&&◌, ◌↔◌, ◌⊎◌, ◌∙◌, refl, sym, ap, subst, inl, inr, arith, ℕ, suc, Bool, true, false, List, [], ◌∷◌, All, length, map, set, get_or, drop, take, nat_lt, IsTrue}
 use Rattle.std.proofs.lemmas.Bool.{OnFalse_at, OnTrue_at, cases_Bool, cases_eq, cases_lt, false≢true}
-use Rattle.std.proofs.lemmas.List.{get_or-set_other, get_or-set_same, set-get_or}
+use Rattle.std.proofs.lemmas.List.{drop-map, length-drop, length-map, take_all, get_or-set_other, get_or-set_same, set-get_or}
 use Rattle.std.proofs.lemmas.List.Elements.{All-cons, All-get_or, All-nil, All-weaker}
 use Rattle.std.specs.Bool.{OnFalse, OnTrue}
 use Rattle.std.specs.List.{IsFirstAndRest}
@@ -27,11 +27,11 @@ first_rule (Terminal t ∷ w) = 0
 first_rule (Nonterminal r ∷ w) = r
 
 -- lists that begin with rules are alike in both parts
-same_rule : (r s : ℕ) (v w : List GrammarSymbol) → Nonterminal r ∷ v ≡ Nonterminal s ∷ w → r ≡ s
+pub same_rule : (r s : ℕ) (v w : List GrammarSymbol) → Nonterminal r ∷ v ≡ Nonterminal s ∷ w → r ≡ s
 unfolding first_rule
 same_rule r s v w e = ap first_rule e
 
-same_rest : (r s : ℕ) (v w : List GrammarSymbol) → Nonterminal r ∷ v ≡ Nonterminal s ∷ w → v ≡ w
+pub same_rest : (r s : ℕ) (v w : List GrammarSymbol) → Nonterminal r ∷ v ≡ Nonterminal s ∷ w → v ≡ w
 same_rest r s v w e = ap (drop 1) e
 
 module _ (g : Grammar) (sets : List TokenSet) (p rule target mark : ℕ) (w : List GrammarSymbol) (known : p < prods_len g) (is : rule ≡ rule_of g p)
@@ -123,6 +123,29 @@ module _ (g : Grammar) (sets : List TokenSet) (p rule target mark : ℕ) (w : Li
 pub begins_by : {S : Type 0} (index : S → ℕ) (symbols rest : List (Symbol S)) (first shown : Symbol S) → IsFirstAndRest symbols first rest → first ≡ shown
     → map (symbol_of index) symbols ≡ symbol_of index shown ∷ map (symbol_of index) rest
 begins_by index symbols rest first shown split shows = ap (map (symbol_of index)) split.0 ∙ ap (λ s. symbol_of index s ∷ map (symbol_of index) rest) shows
+
+-- the symbols of a production from a place on, the first of which was split off
+pub behind_by : {S : Type 0} (index : S → ℕ) (symbols rest : List (Symbol S)) (first shown : Symbol S) (all : List GrammarSymbol) (k : ℕ)
+    → map (symbol_of index) symbols ≡ all → IsFirstAndRest (take (length symbols - k) (drop k symbols)) first rest → first ≡ shown
+    → drop k all ≡ symbol_of index shown ∷ map (symbol_of index) rest
+behind_by index symbols rest first shown all k is split shows =
+    let long : length (drop k symbols) ≤ length symbols - k = let exact = length-drop k symbols in omega (arith, exact) in
+    let whole = take_all (length symbols - k) (drop k symbols) long in
+    ap (drop k) (sym is) ∙ drop-map (symbol_of index) k symbols ∙ begins_by index (drop k symbols) rest first shown (subst (λ xs. IsFirstAndRest xs first rest) whole split) shows
+
+-- nothing is left of them, or a token comes first: then no rule does
+pub nothing_behind : {S : Type 0} (index : S → ℕ) (symbols : List (Symbol S)) (all : List GrammarSymbol) (k : ℕ) → map (symbol_of index) symbols ≡ all
+    → length (take (length symbols - k) (drop k symbols)) ≡ 0 → (r : ℕ) (w : List GrammarSymbol) → drop k all ≡ Nonterminal r ∷ w → ⊥
+nothing_behind index symbols all k is none r w begins =
+    let long : length (drop k symbols) ≤ length symbols - k = let exact = length-drop k symbols in omega (arith, exact) in
+    let whole = take_all (length symbols - k) (drop k symbols) long in
+    let shown : length (drop k symbols) ≡ 0 = subst (λ xs. length xs ≡ 0) whole none in
+    let one : length (drop k symbols) ≡ suc (length w) =
+    sym (length-map (drop k symbols) (symbol_of index)) ∙ ap length (sym (drop-map (symbol_of index) k symbols) ∙ ap (drop k) is ∙ begins) in
+    omega (arith, shown, one)
+
+pub token_behind : (k t : ℕ) (all rest : List GrammarSymbol) → drop k all ≡ Terminal t ∷ rest → (r : ℕ) (w : List GrammarSymbol) → drop k all ≡ Nonterminal r ∷ w → ⊥
+token_behind k t all rest begins r w begins' = let both = sym begins ∙ begins' in absurd cc
 
 symbol_weaker : (rules tokens : ℕ) (s : GrammarSymbol) → IsListedSymbol rules tokens s → IsSymbolBelow rules (tokens + 1) s
 symbol_weaker rules tokens (Nonterminal r) h = h.1

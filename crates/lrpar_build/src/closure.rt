@@ -1,0 +1,100 @@
+//! The closure of a set of items.
+ghost use Rattle.std.specs.Prelude.{◌≡◌, ◌≢◌, ◌+◌, ◌↔◌, ◌⊎◌, ◌∷◌, ℕ, List, All, MatchOption, drop, length, map};
+ghost use Rattle.lrpar_grammar.specs.Grammar.{GrammarSymbol, IsWellFormed, Nonterminal, symbols_of};
+ghost use Rattle.lrpar_grammar.specs.Symbols.{symbol_of};
+ghost use Rattle.lrpar_build.specs.FirstRows.{AreFirsts, HaveRoom, HoldNothing, mark_of, rows_of};
+ghost use Rattle.lrpar_build.specs.Brought.{HasIn, IsBrought};
+ghost use Rattle.lrpar_build.specs.Cores.{AreBringing, Brings, IsCoreOf, core_set};
+
+use crate::cores::CoreItems;
+use crate::first::add_first_before;
+use crate::reach::spread;
+use crate::tokens::TokenSet;
+use lrpar_grammar::grammar::YaccGrammar;
+use lrpar_grammar::span::{RIdx, StorageIndex, Symbol};
+
+/// Puts into `brought`, in place of what was there, the rules that come with the cores by closure, with their lookaheads. The last
+/// two are sets to work with.
+pub(crate) fn bring<StorageT: StorageIndex>(
+    grm: &YaccGrammar<StorageT>,
+    firsts: &[TokenSet],
+    cores: &[CoreItems<StorageT>],
+    brought: &mut [TokenSet],
+    front: &mut TokenSet,
+    fresh: &mut TokenSet,
+)
+    requires well_formed { IsWellFormed grm.now }
+    requires firsts { AreFirsts grm.now (rows_of firsts.now) }
+    requires cores { All (IsCoreOf grm.now) (map (core_set StorageT.index) cores.now) }
+    requires room { HaveRoom grm.now (rows_of brought.old) }
+    requires front { length front.old.bits.items ≡ mark_of grm.now + 1 }
+    requires fresh { length fresh.old.bits.items ≡ mark_of grm.now + 1 }
+    ensures room { HaveRoom grm.now (rows_of brought.new) }
+    ensures front { length front.new.bits.items ≡ mark_of grm.now + 1 }
+    ensures fresh { length fresh.new.bits.items ≡ mark_of grm.now + 1 }
+    ensures exact { (r t : ℕ) → HasIn (rows_of brought.new) r t
+        ↔ IsBrought grm.now (AreBringing grm.now (map (core_set StorageT.index) cores.now)) r t }
+{
+    clear_all(brought);
+    for core in cores {
+        bring_one(grm, firsts, core, brought, front);
+    }
+    spread(grm, firsts, brought, front, fresh);
+}
+
+// Takes everything out of the sets.
+fn clear_all(sets: &mut [TokenSet])
+    ensures none { HoldNothing (rows_of sets.new) }
+    ensures room { map (λ row. length row) (rows_of sets.new) ≡ map (λ row. length row) (rows_of sets.old) }
+{
+    for rule in 0..sets.len() {
+        sets[rule].clear();
+    }
+}
+
+// Puts to what is brought the rule that the core stands before, if it does, with its lookaheads. `front` is a set to work with.
+fn bring_one<StorageT: StorageIndex>(
+    grm: &YaccGrammar<StorageT>,
+    firsts: &[TokenSet],
+    core: &CoreItems<StorageT>,
+    brought: &mut [TokenSet],
+    front: &mut TokenSet,
+)
+    requires well_formed { IsWellFormed grm.now }
+    requires firsts { AreFirsts grm.now (rows_of firsts.now) }
+    requires core { IsCoreOf grm.now (core_set StorageT.index core.now) }
+    requires room { HaveRoom grm.now (rows_of brought.old) }
+    requires front { length front.old.bits.items ≡ mark_of grm.now + 1 }
+    ensures room { HaveRoom grm.now (rows_of brought.new) }
+    ensures front { length front.new.bits.items ≡ mark_of grm.now + 1 }
+    ensures exact { (r t : ℕ) → HasIn (rows_of brought.new) r t
+        ↔ (HasIn (rows_of brought.old) r t ⊎ Brings grm.now (core_set StorageT.index core.now) r t) }
+{
+    match rule_behind(grm, core) {
+        None => {}
+        Some((rule, rest)) => {
+            let target = usize::from(rule);
+            add_first_before(grm, firsts, rest, &core.tokens, front, &mut brought[target]);
+        }
+    }
+}
+
+// The rule that the core stands before, and the symbols behind it.
+fn rule_behind<'a, StorageT: StorageIndex>(
+    grm: &'a YaccGrammar<StorageT>,
+    core: &CoreItems<StorageT>,
+) -> Option<(RIdx<StorageT>, &'a [Symbol<StorageT>])>
+    requires { IsCoreOf grm.now (core_set StorageT.index core.now) }
+    ensures { let behind = drop core.now.dot (symbols_of grm.now (StorageT.index core.now.prod.0)) in
+        MatchOption result ((r : ℕ) (w : List GrammarSymbol) → behind ≢ Nonterminal r ∷ w)
+        (λ found. behind ≡ Nonterminal (StorageT.index found.0.0) ∷ map (symbol_of StorageT.index) found.1.now) }
+{
+    let symbols = &grm.prod(core.prod)[core.dot..];
+    match symbols.split_first() {
+        None => None,
+        Some((first, rest)) => match *first {
+            Symbol::Rule(rule) => Some((rule, rest)),
+            Symbol::Token(_) => None,
+        },
+    }
+}
