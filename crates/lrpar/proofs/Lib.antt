@@ -9,3 +9,5 @@ pub mod ParseLemmas
 pub mod FoldLemmas
 pub mod SumLemmas
 pub mod SequenceLemmas
+pub mod RepairRunLemmas
+pub mod TestWorkLemmas

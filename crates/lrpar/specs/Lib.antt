@@ -22,3 +22,5 @@ pub mod PlainSteps
 pub mod Mended
 pub mod Recovery
 pub mod RepairRun
+pub mod RepairLaws
+pub mod TestWork
