@@ -17,3 +17,5 @@ pub mod PairLemmas
 pub mod GrowingLemmas
 pub mod SequenceLemmas
 pub mod ReversedLemmas
+pub mod RepairRunLemmas
+pub mod TestWorkLemmas

@@ -31,3 +31,5 @@ pub mod PlainSteps
 pub mod Mended
 pub mod Recovery
 pub mod RepairRun
+pub mod RepairLaws
+pub mod TestWork

@@ -5,14 +5,18 @@ ghost use Rattle.lrpar_grammar.specs.Sentence.{LexemeFacts};
 ghost use Rattle.lrpar_text.specs.Comparisons.{HashesAs};
 ghost use Rattle.lrpar.specs.Run.{RunsOneWay};
 ghost use Rattle.lrpar.specs.Failure.{repair_eq};
+ghost use Rattle.lrpar.specs.Lexemes.{facts_of};
+ghost use Rattle.lrpar.specs.RepairLaws.{AcceptsWhereRepaired, ListsSound, ReplaysOneWay, RunsWithoutRepairs, StopsLieApart, WorksByReplay};
 ghost use Rattle.lrpar.specs.Repairs.{repair_input, repair_of};
 ghost use Rattle.lrpar.specs.RunLaws.{RunsEndOneWay, RunsGoOnOrEnd, RunsStopByFailing};
 ghost use Rattle.lrpar.specs.Spans.{SpansAreWorkedOut};
 ghost use Rattle.lrpar.specs.SumRun.{SumRunsThrough};
+ghost use Rattle.lrpar.specs.TestWork.{BoundsTests};
 ghost use Rattle.lrpar.specs.declared.errors.ParseRepair.{ParseRepair};
 
 use crate::errors::ParseRepair;
 use crate::lex_api::Lexeme;
+use crate::repair::Recoverer;
 use lrpar_grammar::span::StorageIndex;
 use std::hash::Hash;
 
@@ -43,6 +47,42 @@ pub fn runs_stop_by_failing<LexemeT>()
 pub fn sum_run_is_worked_out()
     ensures run { SumRunsThrough }
     ensures bound { most_productions 2 3 0 ≡ 40 }
+{}
+
+/// A sequence of repairs works exactly where it can be replayed and k lexemes can be fed after that; and it is replayed in
+/// one way.
+pub fn sequences_that_work_are_replayed<LexemeT>()
+    ensures works { WorksByReplay LexemeT }
+    ensures one_way { ReplaysOneWay LexemeT }
+    ensures facts_work { WorksByReplay LexemeFacts }
+    ensures facts_one_way { ReplaysOneWay LexemeFacts }
+{}
+
+/// In a run with repairs, where at least one lexeme has to follow each: no listed sequence is empty, inserts the end token or
+/// one that the grammar doesn't have, or goes past the last lexeme; each stop lies at least k lexemes after those before it,
+/// so over n lexemes there are at most n / k + 1; and the run comes to accept exactly where a sequence is listed at each stop.
+pub fn runs_with_repairs_are_sound<
+    StorageT: StorageIndex,
+    LexemeT: Lexeme<StorageT>,
+    R: Recoverer<StorageT, LexemeT>,
+>()
+    ensures sound { (r : R) → ListsSound (λ x. facts_of StorageT.index (LexemeT.parts x)) (R.allows r) }
+    ensures apart { (r : R) → StopsLieApart (λ x. facts_of StorageT.index (LexemeT.parts x)) (R.allows r) }
+    ensures accepts { (r : R) → AcceptsWhereRepaired (λ x. facts_of StorageT.index (LexemeT.parts x)) (R.allows r) }
+{}
+
+/// Where nothing is handed in, a run with repairs is a run without them.
+pub fn runs_without_a_recoverer<LexemeT>()
+    ensures runs { RunsWithoutRepairs LexemeT }
+    ensures facts_run { RunsWithoutRepairs LexemeFacts }
+{}
+
+/// The test of a sequence of m steps from a stack of h states makes at most `cap * (h + (m + k + 1) * (cap + 3))` reductions,
+/// whatever the steps, where k lexemes have to follow: those of the steps that can be taken, and of the one at which the test
+/// ends. So it is over a table whose runs never stick and whose reductions are bounded by the cap, as a checked one's are.
+pub fn tests_of_sequences_are_bounded<LexemeT>()
+    ensures tests { BoundsTests LexemeT }
+    ensures facts_tests { BoundsTests LexemeFacts }
 {}
 
 /// Two repairs are equal exactly where they are of one kind, and their tokens or lexemes are equal. A hasher is fed which of the

@@ -1,0 +1,12 @@
+use Rattle.lrpar.specs.Lexemes.{facts_of}
+use Rattle.lrpar.proofs.RepairRunLemmas.{accepts_where_repaired, lists_sound, stops_lie_apart}
+use Rattle.lrpar.proofs.laws.runs_with_repairs_are_sound.Goals as goal
+
+pub returns : goal.returns
+returns g c =
+    let facts = λ (x : g.row.LexemeT.Denot). facts_of g.StorageT.StorageIndex.index (g.LexemeT.Lexeme.parts x) in
+    record {
+      sound = λ r. lists_sound facts (g.R.Recoverer.allows r);
+      apart = λ r. stops_lie_apart facts (g.R.Recoverer.allows r);
+      accepts = λ r. accepts_where_repaired facts (g.R.Recoverer.allows r);
+    }
