@@ -289,13 +289,15 @@ fn calls_of_actions(rt: HostRuntime) -> Result<(), Fail> {
     Ok(())
 }
 
-#[test]
-fn want_of_memory_in_an_action(rt: HostRuntime) -> Result<(), Fail> {
-    let alloc = rt.alloc();
-    let data = sum_data(alloc, By::Rows)?;
-    let answers = lexemes(alloc, [(1, 0), (0, 1), (1, 2)].as_slice())?;
-    let lexer = HandedLexer { answers: &answers };
-    let parser = RTParserBuilder::<u32, HandedTypes>::new(&data);
+// Two parses by one parser and by actions that find no memory at their second call: the fault of the first, the number of
+// calls up to it, and the value of the second.
+fn parsed_twice(
+    alloc: Global,
+    data: &ParserData<u32>,
+    answers: &[LexAnswer],
+) -> Result<(Option<ParseFault>, usize, Option<()>), Fail> {
+    let lexer = HandedLexer { answers };
+    let parser = RTParserBuilder::<u32, HandedTypes>::new(data);
     let counting = Counting {
         calls: Cell::new(0),
         fails_at: 2,
@@ -303,70 +305,81 @@ fn want_of_memory_in_an_action(rt: HostRuntime) -> Result<(), Fail> {
     if !parser.takes_all(&lexer, &counting) {
         return Err(Fail::new("a production isn't taken"));
     }
-    let first = parser.parse_actions(alloc, &lexer, &counting, &());
-    assert_eq!(rt;
-        first.err(),
-        Some(ParseFault::Memory),
-        "the second call fails"
-    );
-    assert_eq!(rt; counting.calls.get(), 2, "calls up to the one that fails");
-    let (value, errors) = parser.parse_actions(alloc, &lexer, &counting, &())?;
-    assert_eq!(rt; value, Some(()), "the next parse");
-    assert!(rt; errors.is_empty(), "errors of the next parse");
+    let fault = parser.parse_actions(alloc, &lexer, &counting, &()).err();
+    let calls = counting.calls.get();
+    let (value, _) = parser.parse_actions(alloc, &lexer, &counting, &())?;
+    Ok((fault, calls, value))
+}
+
+#[test]
+fn want_of_memory_in_an_action(rt: HostRuntime) -> Result<(), Fail> {
+    let alloc = rt.alloc();
+    let answers = lexemes(alloc, [(1, 0), (0, 1), (1, 2)].as_slice())?;
+    let found = parsed_twice(alloc, &sum_data(alloc, By::Rows)?, &answers)?;
+    assert_eq!(rt; found, (Some(ParseFault::Memory), 2, Some(())));
     Ok(())
 }
 
-// The faults of all four calls over a sum, if they are one.
-fn fault_of(alloc: Global, answers: &[LexAnswer]) -> Result<Option<ParseFault>, Fail> {
-    let data = sum_data(alloc, By::Rows)?;
-    let lexer = HandedLexer { answers };
-    let parser = RTParserBuilder::<u32, HandedTypes>::new(&data);
-    let mapped = parser.parse_map(alloc, &lexer, |_| {}, |_, _| {}).err();
-    let faults = [
-        acted(alloc, &data, answers, &TreeActions)?.err(),
-        parser.parse_generictree(alloc, &lexer).err(),
-        parser.parse_noaction(alloc, &lexer).err(),
-    ];
-    for fault in faults {
-        if fault != mapped {
-            return Err(Fail::new("two calls answer two faults"));
-        }
-    }
-    Ok(mapped)
+// The errors of a parse, or its fault.
+type Errors = Result<Vec<LexParseError<u32, HandedTypes>>, ParseFault>;
+
+fn map_errors(alloc: Global, data: &ParserData<u32>, answers: &[LexAnswer]) -> Errors {
+    let parser = RTParserBuilder::<u32, HandedTypes>::new(data);
+    let (_, errors) = parser.parse_map(alloc, &HandedLexer { answers }, |_| {}, |_, _| {})?;
+    Ok(errors)
+}
+
+fn tree_errors(alloc: Global, data: &ParserData<u32>, answers: &[LexAnswer]) -> Errors {
+    let parser = RTParserBuilder::<u32, HandedTypes>::new(data);
+    let (_, errors) = parser.parse_generictree(alloc, &HandedLexer { answers })?;
+    Ok(errors)
+}
+
+fn errors_alone(alloc: Global, data: &ParserData<u32>, answers: &[LexAnswer]) -> Errors {
+    RTParserBuilder::<u32, HandedTypes>::new(data).parse_noaction(alloc, &HandedLexer { answers })
+}
+
+fn action_errors(
+    alloc: Global,
+    data: &ParserData<u32>,
+    answers: &[LexAnswer],
+) -> Result<Errors, Fail> {
+    Ok(match acted(alloc, data, answers, &TreeActions)? {
+        Ok((_, errors)) => Ok(errors),
+        Err(fault) => Err(fault),
+    })
+}
+
+// What each of the four calls answers.
+fn errors_of(
+    alloc: Global,
+    data: &ParserData<u32>,
+    answers: &[LexAnswer],
+) -> Result<Vec<Errors>, Fail> {
+    let mut all = Vec::new(alloc);
+    all.push(map_errors(alloc, data, answers))?;
+    all.push(action_errors(alloc, data, answers)?)?;
+    all.push(tree_errors(alloc, data, answers))?;
+    all.push(errors_alone(alloc, data, answers))?;
+    Ok(all)
 }
 
 #[test]
 fn faults_of_each_call(rt: HostRuntime) -> Result<(), Fail> {
     let alloc = rt.alloc();
+    let data = sum_data(alloc, By::Rows)?;
     let bad = [(1, 0), (0, 1), (1, 2), (2, 3), (1, 6), (0, 5)];
     let early = [(1, 0), (0, 1), (1, 2), (0, 3), (1, 6), (0, 5)];
-    let mut answers = lexemes(alloc, &bad)?;
-    assert_eq!(rt; fault_of(alloc, &answers)?, Some(ParseFault::BadToken(3)));
-    assert_eq!(rt;
-        fault_of(alloc, &lexemes(alloc, &early)?)?,
-        Some(ParseFault::StartsDecrease(5))
-    );
-    answers.push(Err(NoToken {
-        span: Span::new(7, 8),
-    }))?;
-    assert_eq!(rt; fault_of(alloc, &answers)?, None, "a lexing error");
+    let rows = [
+        (bad, ParseFault::BadToken(3)),
+        (early, ParseFault::StartsDecrease(5)),
+    ];
+    for (given, want) in rows {
+        for errors in errors_of(alloc, &data, &lexemes(alloc, &given)?)? {
+            assert_eq!(rt; errors.err(), Some(want));
+        }
+    }
     Ok(())
-}
-
-// The errors of all four calls, which are as many.
-fn errors_of(
-    alloc: Global,
-    data: &ParserData<u32>,
-    answers: &[LexAnswer],
-) -> Result<Vec<Vec<LexParseError<u32, HandedTypes>>>, Fail> {
-    let lexer = HandedLexer { answers };
-    let parser = RTParserBuilder::<u32, HandedTypes>::new(data);
-    let mut all = Vec::new(alloc);
-    all.push(parser.parse_map(alloc, &lexer, |_| {}, |_, _| {})?.1)?;
-    all.push(acted(alloc, data, answers, &TreeActions)??.1)?;
-    all.push(parser.parse_generictree(alloc, &lexer)?.1)?;
-    all.push(parser.parse_noaction(alloc, &lexer)?)?;
-    Ok(all)
 }
 
 #[test]
@@ -387,6 +400,7 @@ fn errors_of_each_call(rt: HostRuntime) -> Result<(), Fail> {
     ];
     for (name, given, at) in rows {
         for errors in errors_of(alloc, &data, &lexemes(alloc, given)?)? {
+            let errors = errors?;
             assert_eq!(rt; errors.len(), 1, "errors of {name}");
             match &errors[0] {
                 LexParseError::LexError(_) => return Err(Fail::new(format_args!(
@@ -411,6 +425,7 @@ fn a_first_lexing_error_of_each_call(rt: HostRuntime) -> Result<(), Fail> {
     let mut answers = lexemes(alloc, &[(1, 0), (0, 1), (1, 2), (2, 3), (1, 6), (0, 5)])?;
     answers.push(Err(first))?;
     for errors in errors_of(alloc, &sum_data(alloc, By::Rows)?, &answers)? {
+        let errors = errors?;
         assert_eq!(rt; errors.len(), 1);
         match &errors[0] {
             LexParseError::LexError(error) => assert_eq!(rt; *error, first),
