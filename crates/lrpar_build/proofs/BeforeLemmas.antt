@@ -1,11 +1,11 @@
 -- What symbols begin with before the tokens of a set, told from what they begin with before the mark.
-use Rattle.std.proofs.Common.{◌≡◌, ◌<◌, ◌≤◌, ◌+◌, ◌||◌, ◌&&◌, ◌↔◌, ◌⊎◌, ◌∙◌, refl, sym, ap, subst, inl, inr, arith, ℕ, Bool, true, false, List, [], ◌∷◌, ◌++◌, All, length, nat_lt, IsTrue}
+use Rattle.std.proofs.Common.{◌≡◌, ◌<◌, ◌+◌, ◌||◌, ◌&&◌, ◌↔◌, ◌⊎◌, ◌∙◌, refl, sym, subst, inl, inr, arith, ℕ, Bool, true, false, List, [], ◌∷◌, All, length, nat_lt, IsTrue}
 use Rattle.std.proofs.lemmas.Bool.{and_from, and_parts, lt-ltb, ltb-true, or_cases, or_left, or_right}
 use Rattle.std.proofs.lemmas.List.{append-nil}
 use Rattle.std.proofs.lemmas.List.Elements.{All-head, All-tail}
 use Rattle.lrpar_grammar.specs.Grammar.{Grammar, GrammarSymbol, IsWellFormed, Nonterminal, Terminal, prods_len, rule_of, symbols_of}
-use Rattle.lrpar_build.specs.First.{IsFirst, Behind, Token, Rule}
-use Rattle.lrpar_build.specs.FirstRows.{AreFirsts, IsFirstBefore, IsSymbolBelow, begins, mark_of, row_at}
+use Rattle.lrpar_build.specs.First.{IsFirst, Behind, Rule}
+use Rattle.lrpar_build.specs.FirstRows.{AreFirsts, IsFirstBefore, IsSymbolBelow, begins, mark_of}
 use Rattle.lrpar_build.specs.Tokens.{has}
 use Rattle.lrpar_build.proofs.FirstLemmas.{AreBelow, closed_begins, first_behind, first_by_mark, first_from_mark, sound_begins}
 use Rattle.lrpar_build.proofs.GrowthLemmas.{has_room, prods_below}

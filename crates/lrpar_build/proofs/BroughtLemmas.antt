@@ -1,10 +1,7 @@
 -- What comes with rules by closure.
-use Rattle.std.proofs.Common.{◌≡◌, ◌<◌, ◌≤◌, ◌+◌, ◌↔◌, ◌⊎◌, ◌∙◌, refl, sym, ap, subst, inl, inr, arith, ℕ, Bool, true, false, List, [], ◌∷◌, length, IsTrue}
-use Rattle.lrpar_grammar.specs.Grammar.{Grammar, GrammarSymbol, Nonterminal, Terminal, prods_len, rule_of, symbols_of}
-use Rattle.lrpar_build.specs.First.{IsFirst}
-use Rattle.lrpar_build.specs.FirstRows.{row_at}
-use Rattle.lrpar_build.specs.Tokens.{has}
-use Rattle.lrpar_build.specs.Brought.{IsBrought, Given, Brought, AreBroughtFrom, HasIn, IsSpreadAt, Keeps}
+use Rattle.std.proofs.Common.{◌<◌, ℕ, Bool, List}
+use Rattle.lrpar_grammar.specs.Grammar.{Grammar, prods_len, rule_of}
+use Rattle.lrpar_build.specs.Brought.{IsBrought, Given, Brought, HasIn, IsSpreadAt}
 
 -- what comes with what comes with the given comes with the given
 pub brought_twice : (g : Grammar) (given more : ℕ → ℕ → Type 0) → ((r t : ℕ) → more r t → IsBrought g given r t)

@@ -1,15 +1,11 @@
 -- The closure of a list of cores: the items of the cores, and each production of each rule that they bring, with the lookaheads that
 -- come with the rule.
-use Rattle.std.proofs.Common.{◌≡◌, ◌<◌, ◌≤◌, ◌+◌, ◌↔◌, ◌⊎◌, ◌∙◌, refl, sym, ap, subst, inl, inr, arith, ℕ, Bool, IsTrue, List, [], ◌∷◌, ◌++◌, drop, length}
-use Rattle.std.specs.List.{Contains}
-use Rattle.std.proofs.lemmas.Bool.{cases_lt}
-use Rattle.lrpar_grammar.specs.Grammar.{Grammar, GrammarSymbol, Nonterminal, prods_len, rule_of, symbols_of}
+use Rattle.std.proofs.Common.{◌≡◌, ◌<◌, ◌↔◌, ◌⊎◌, ◌∙◌, refl, sym, ap, subst, inl, inr, ℕ, List, ◌∷◌, drop}
+use Rattle.lrpar_grammar.specs.Grammar.{Grammar, Nonterminal, prods_len, rule_of, symbols_of}
 use Rattle.lrpar_states.specs.Graph.{ItemOf}
-use Rattle.lrpar_build.specs.First.{IsFirst}
-use Rattle.lrpar_build.specs.FirstRows.{IsFirstBefore}
 use Rattle.lrpar_build.specs.ItemSets.{Adds, IsInClosure, Own, Added}
 use Rattle.lrpar_build.specs.Brought.{IsBrought, Given, Brought}
-use Rattle.lrpar_build.specs.Cores.{AreBringing, Brings, CoreSet, IsAmong, IsOfCore}
+use Rattle.lrpar_build.specs.Cores.{AreBringing, Brings, CoreSet, IsAmong}
 
 -- an item that a rule brings: its dot is at the front, and its lookahead comes with the rule of its production
 pub record IsOfBrought (g : Grammar) (cores : List CoreSet) (x : ItemOf) : Type 0 where

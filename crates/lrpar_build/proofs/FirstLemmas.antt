@@ -1,7 +1,7 @@
 -- What lists of symbols begin with. The sets of the rules are worked out with a mark behind, a number that no token has. What is in
 -- them is derived (soundness), and once they are closed all that is derived is in them (completeness). With any other token behind,
 -- it takes the place of the mark.
-use Rattle.std.proofs.Common.{◌≡◌, ◌<◌, ◌+◌, ◌==◌, ◌||◌, ◌&&◌, ◌⊎◌, ◌∙◌, refl, sym, subst, inl, inr, arith, ℕ, Bool, true, false, List, [], ◌∷◌, ◌++◌, nat_lt, IsTrue}
+use Rattle.std.proofs.Common.{◌≡◌, ◌<◌, ◌&&◌, ◌⊎◌, refl, sym, subst, inl, inr, arith, ℕ, Bool, List, [], ◌∷◌, ◌++◌, nat_lt, IsTrue}
 use Rattle.std.proofs.lemmas.Bool.{and_from, and_parts, eqb-true, eq-eqb, lt-ltb, ltb-true, or_cases, or_left, or_right}
 use Rattle.std.proofs.lemmas.List.{append_assoc}
 use Rattle.lrpar_grammar.specs.Grammar.{Grammar, GrammarSymbol, Nonterminal, Terminal, prods_len, rule_of, symbols_of}

@@ -1,11 +1,11 @@
 -- One production more is looked at: what it begins with is put into the set of its rule.
-use Rattle.std.proofs.Common.{◌≡◌, ◌≢◌, ◌<◌, ◌≤◌, ◌+◌, ◌-◌, ◌||◌, ◌&&◌, ◌∙◌, refl, sym, ap, subst, inl, inr, arith, ℕ, Bool, true, false, List, [], ◌∷◌, ◌++◌, All, length, map, set, get_or, nat_lt, take, drop, IsTrue, sum_by}
+use Rattle.std.proofs.Common.{◌≡◌, ◌<◌, ◌≤◌, ◌+◌, ◌||◌, ◌&&◌, ◌∙◌, sym, ap, subst, inl, inr, arith, ℕ, Bool, false, List, [], ◌∷◌, ◌++◌, All, length, set, get_or, nat_lt, take, drop, IsTrue}
 use Rattle.std.proofs.lemmas.Bool.{and_from, and_parts, cases_eq, cases_lt, eqb-true, false≢true, lt-ltb, or_cases, or_right}
-use Rattle.std.proofs.lemmas.List.{append-nil, drop_all, get_or-map, get_or-set_other, get_or-set_same, get_or_past, length-map, length-set, map-set, set-get_or, take-append-le, take_all}
+use Rattle.std.proofs.lemmas.List.{append-nil, drop_all, get_or-map, get_or-set_other, get_or-set_same, get_or_past, length-map, length-set, map-set, set-get_or, take_all}
 use Rattle.std.proofs.lemmas.List.Elements.{All-get_or, All-head, All-set, All-tail}
 use Rattle.std.proofs.lemmas.List.Sums.{sum_by-set}
-use Rattle.lrpar_grammar.specs.Grammar.{Grammar, GrammarSymbol, IsListedSymbol, IsWellFormed, Nonterminal, Terminal, end_token, prods_len, rule_of, rules_len, start_prod, symbols_of, tokens_len}
-use Rattle.lrpar_build.specs.First.{IsFirst, Behind, Token, Rule}
+use Rattle.lrpar_grammar.specs.Grammar.{Grammar, GrammarSymbol, IsListedSymbol, IsWellFormed, Nonterminal, Terminal, end_token, prods_len, rule_of, rules_len, start_prod, symbols_of}
+use Rattle.lrpar_build.specs.First.{IsFirst, Rule}
 use Rattle.lrpar_build.specs.FirstRows.{AreFirsts, AreSound, HaveRoom, IsClosedAt, begins, mark_of, row_at, rows_of, total_missing}
 use Rattle.lrpar_build.specs.Tokens.{has, missing}
 use Rattle.lrpar_build.specs.declared.tokens.TokenSet.{TokenSet}

@@ -6,3 +6,4 @@ pub mod BroughtLemmas
 pub mod SpreadLemmas
 pub mod ClosureLemmas
 pub mod BringLemmas
+pub mod AmongLemmas

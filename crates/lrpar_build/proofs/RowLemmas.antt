@@ -1,17 +1,14 @@
 -- Sets of tokens in a list, one for each rule, and what a walk over symbols puts into a set.
-use Rattle.std.proofs.Common.{◌≡◌, ◌<◌, ◌≤◌, ◌+◌, ◌==◌, ◌||◌, ◌&&◌, ◌∙◌, refl, sym, ap, subst, arith, ℕ, suc, Bool, true, false, List, [], ◌∷◌, All, length, map, set, drop, get_or, nat_lt, IsTrue, inl, inr}
+use Rattle.std.proofs.Common.{◌≡◌, ◌<◌, ◌+◌, ◌==◌, ◌||◌, ◌&&◌, ◌∙◌, refl, sym, ap, subst, arith, ℕ, suc, Bool, true, false, List, [], ◌∷◌, All, length, map, set, drop, get_or, nat_lt}
 use Rattle.std.proofs.Math.Bool.{or_assoc}
 use Rattle.std.proofs.Math.Seq.{drop-cons}
-use Rattle.std.proofs.lemmas.Bool.{cases_eq}
-use Rattle.std.proofs.lemmas.List.{get_or-map, get_or-set_other, get_or-set_same, length-map, length-set, map-set}
-use Rattle.std.proofs.lemmas.List.Elements.{All-get_or, All-set}
-use Rattle.std.proofs.lemmas.List.Sums.{sum_by-set}
+use Rattle.std.proofs.lemmas.List.{get_or-map, length-map}
 use Rattle.lrpar_text.specs.declared.span.Symbol.{Symbol}
-use Rattle.lrpar_grammar.specs.Grammar.{Grammar, GrammarSymbol, Nonterminal, Terminal}
+use Rattle.lrpar_grammar.specs.Grammar.{GrammarSymbol, Nonterminal, Terminal}
 use Rattle.lrpar_grammar.specs.Symbols.{symbol_of}
 use Rattle.lrpar_grammar.proofs.ListLemmas.{All-map-at}
-use Rattle.lrpar_build.specs.FirstRows.{HaveRoom, begins, mark_of, row_at, rows_of, total_missing}
-use Rattle.lrpar_build.specs.Tokens.{has, missing}
+use Rattle.lrpar_build.specs.FirstRows.{begins, row_at, rows_of}
+use Rattle.lrpar_build.specs.Tokens.{has}
 use Rattle.lrpar_build.specs.declared.tokens.TokenSet.{TokenSet}
 
 -- the row of a rule is that of the set in its place

@@ -1,5 +1,5 @@
 -- The canonical graph of a grammar, what its item sets want to be done, and the conflicts among that.
-use Rattle.std.specs.Prelude.{◌≡◌, ◌≢◌, ◌<◌, ◌≤◌, ◌↔◌, ◌+◌, ℕ, List, [], Contains, Some, None, slice_get}
+use Rattle.std.specs.Prelude.{◌≡◌, ◌≢◌, ◌<◌, ◌≤◌, ◌↔◌, ℕ, List, [], Contains, Some, None, slice_get}
 use Rattle.lrpar_grammar.specs.Grammar.{Grammar, GrammarSymbol, Nonterminal, Terminal, end_token, prod_len, start_prod, symbols_of}
 use Rattle.lrpar_states.specs.Graph.{Graph, ItemOf, graph_len, item_at, items_of}
 use Rattle.lrpar_states.specs.Table.{ReduceReduce, ShiftReduce, Table, ShiftTo, ReduceBy, Accepts, Fails, action_of, goto_of}

@@ -1,8 +1,9 @@
 -- Items by their cores, each with the set of its lookaheads.
-use Rattle.std.specs.Prelude.{◌≡◌, ◌<◌, ◌≤◌, ◌+◌, ℕ, Bool, IsTrue, List, ◌∷◌, Contains, drop, length, map}
-use Rattle.lrpar_grammar.specs.Grammar.{Grammar, GrammarSymbol, Nonterminal, prod_len, prods_len, symbols_of}
+use Rattle.std.specs.Prelude.{◌≡◌, ◌<◌, ◌≤◌, ◌+◌, ℕ, Bool, IsTrue, List, ◌∷◌, Contains, drop, length}
+use Rattle.lrpar_grammar.specs.Grammar.{Grammar, GrammarSymbol, Nonterminal, prod_len, prods_len, rule_of, symbols_of}
 use Rattle.lrpar_states.specs.Graph.{ItemOf}
 use Rattle.lrpar_build.specs.FirstRows.{IsFirstBefore, mark_of}
+use Rattle.lrpar_build.specs.Brought.{HasIn}
 use Rattle.lrpar_build.specs.Tokens.{has}
 use Rattle.lrpar_build.specs.declared.cores.CoreItems.{CoreItems}
 
@@ -37,3 +38,8 @@ Brings g core r t = (w : List GrammarSymbol) × (drop core.dot (symbols_of g cor
 -- some core of the list brings it
 abbrev pub AreBringing : Grammar → List CoreSet → ℕ → ℕ → Type 0
 AreBringing g cores r t = (core : CoreSet) × Contains cores core × Brings g core r t
+
+-- an item that comes with a rule: its dot is at the front, its production is one of the first n, and its lookahead is in the set of
+-- the production's rule
+abbrev pub IsOfRows : Grammar → List (List Bool) → ℕ → ItemOf → Type 0
+IsOfRows g rows n x = (x.dot ≡ 0) × (x.prod < n) × HasIn rows (rule_of g x.prod) x.token

@@ -1,7 +1,7 @@
 -- The sets of tokens that rules begin with, one for each rule, as they are worked out. First(w, a) for any token a is told from
 -- First(w, mark), where the mark is a number that no token has: what derives nothing has the mark behind it alone.
 use Rattle.std.specs.Prelude.{◌≡◌, ◌<◌, ◌+◌, ◌==◌, ◌||◌, ◌&&◌, ◌↔◌, ℕ, Bool, false, IsTrue, List, [], ◌∷◌, All, length, map, nat_lt, slice_index_or, sum_by}
-use Rattle.lrpar_grammar.specs.Grammar.{Grammar, GrammarSymbol, Nonterminal, Terminal, prods_len, rule_of, rules_len, symbols_of, tokens_len}
+use Rattle.lrpar_grammar.specs.Grammar.{Grammar, GrammarSymbol, Nonterminal, Terminal, rule_of, rules_len, symbols_of, tokens_len}
 use Rattle.lrpar_build.specs.First.{IsFirst}
 use Rattle.lrpar_build.specs.Tokens.{has, missing}
 use Rattle.lrpar_build.specs.declared.tokens.TokenSet.{TokenSet}

@@ -1,17 +1,90 @@
 //! The closure of a set of items.
-ghost use Rattle.std.specs.Prelude.{◌≡◌, ◌≢◌, ◌+◌, ◌↔◌, ◌⊎◌, ◌∷◌, ℕ, List, All, MatchOption, drop, length, map};
-ghost use Rattle.lrpar_grammar.specs.Grammar.{GrammarSymbol, IsWellFormed, Nonterminal, symbols_of};
+ghost use Rattle.std.specs.Prelude.{◌≡◌, ◌≢◌, ◌+◌, ◌↔◌, ◌⊎◌, ◌∷◌, ℕ, List, All, IfOk, MatchOption, OnOk, drop, length, map};
+ghost use Rattle.lrpar_grammar.specs.Grammar.{GrammarSymbol, IsWellFormed, Nonterminal, prods_len, symbols_of};
+ghost use Rattle.lrpar_states.specs.Graph.{ItemOf};
 ghost use Rattle.lrpar_grammar.specs.Symbols.{symbol_of};
 ghost use Rattle.lrpar_build.specs.FirstRows.{AreFirsts, HaveRoom, HoldNothing, mark_of, rows_of};
 ghost use Rattle.lrpar_build.specs.Brought.{HasIn, IsBrought};
-ghost use Rattle.lrpar_build.specs.Cores.{AreBringing, Brings, IsCoreOf, core_set};
+ghost use Rattle.lrpar_build.specs.Cores.{AreBringing, Brings, IsAmong, IsCoreOf, IsOfCore, IsOfRows, core_set};
+ghost use Rattle.lrpar_build.specs.ItemSets.{IsInClosure};
 
 use crate::cores::CoreItems;
 use crate::first::add_first_before;
 use crate::reach::spread;
 use crate::tokens::TokenSet;
 use lrpar_grammar::grammar::YaccGrammar;
-use lrpar_grammar::span::{RIdx, StorageIndex, Symbol};
+use lrpar_grammar::span::{PIdx, RIdx, StorageIndex, Symbol};
+use std::alloc::{AllocError, Global};
+
+/// The closure of the cores: they themselves, and with its lookaheads each production of each rule that comes with them. The last
+/// three are sets to work with, of which the first are one for each rule.
+pub(crate) fn closure<StorageT: StorageIndex>(
+    alloc: Global,
+    grm: &YaccGrammar<StorageT>,
+    firsts: &[TokenSet],
+    cores: Vec<CoreItems<StorageT>>,
+    brought: &mut [TokenSet],
+    front: &mut TokenSet,
+    fresh: &mut TokenSet,
+) -> Result<Vec<CoreItems<StorageT>>, AllocError>
+    requires well_formed { IsWellFormed grm.now }
+    requires firsts { AreFirsts grm.now (rows_of firsts.now) }
+    requires cores { All (IsCoreOf grm.now) (map (core_set StorageT.index) cores.items) }
+    requires room { HaveRoom grm.now (rows_of brought.old) }
+    requires front { length front.old.bits.items ≡ mark_of grm.now + 1 }
+    requires fresh { length fresh.old.bits.items ≡ mark_of grm.now + 1 }
+    ensures room { HaveRoom grm.now (rows_of brought.new) }
+    ensures front { length front.new.bits.items ≡ mark_of grm.now + 1 }
+    ensures fresh { length fresh.new.bits.items ≡ mark_of grm.now + 1 }
+    ensures items { IfOk result (λ closure. (x : ItemOf) → IsAmong (map (core_set StorageT.index) closure.items) x
+        ↔ IsInClosure grm.now (IsAmong (map (core_set StorageT.index) cores.items)) x) }
+{
+    let mut closure = cores;
+    bring(grm, firsts, &closure, brought, front, fresh);
+    push_brought(alloc, grm, brought, &mut closure)?;
+    Ok(closure)
+}
+
+// Appends each production of each rule that has lookaheads, with them.
+fn push_brought<StorageT: StorageIndex>(
+    alloc: Global,
+    grm: &YaccGrammar<StorageT>,
+    brought: &[TokenSet],
+    closure: &mut Vec<CoreItems<StorageT>>,
+) -> Result<(), AllocError>
+    requires room { HaveRoom grm.now (rows_of brought.now) }
+    ensures items { OnOk result ((x : ItemOf) → IsAmong (map (core_set StorageT.index) closure.new.items) x
+        ↔ (IsAmong (map (core_set StorageT.index) closure.old.items) x ⊎ IsOfRows grm.now (rows_of brought.now) (prods_len grm.now) x)) }
+{
+    for prod in 0..grm.prods_len() {
+        let pidx = PIdx(StorageT::from_index(prod).unwrap());
+        let rule = usize::from(grm.prod_to_rule(pidx));
+        push_one(alloc, pidx, &brought[rule], closure)?;
+    }
+    Ok(())
+}
+
+// Appends the production with these lookaheads, if there are any.
+fn push_one<StorageT: StorageIndex>(
+    alloc: Global,
+    pidx: PIdx<StorageT>,
+    tokens: &TokenSet,
+    closure: &mut Vec<CoreItems<StorageT>>,
+) -> Result<(), AllocError>
+    ensures items { OnOk result ((x : ItemOf) → IsAmong (map (core_set StorageT.index) closure.new.items) x
+        ↔ (IsAmong (map (core_set StorageT.index) closure.old.items) x
+        ⊎ IsOfCore (record { prod = StorageT.index pidx.0; dot = 0; tokens = tokens.now.bits.items }) x)) }
+{
+    if tokens.has_any() {
+        let tokens = tokens.copy(alloc)?;
+        closure.push(CoreItems {
+            prod: pidx,
+            dot: 0,
+            tokens,
+        })?;
+    }
+    Ok(())
+}
 
 /// Puts into `brought`, in place of what was there, the rules that come with the cores by closure, with their lookaheads. The last
 /// two are sets to work with.

@@ -21,6 +21,14 @@ impl TokenSet {
         Ok(TokenSet { bits })
     }
 
+    /// A set with the same tokens.
+    pub(crate) fn copy(&self, alloc: Global) -> Result<Self, AllocError>
+        ensures { IfOk result (λ set. set.bits.items ≡ self.now.bits.items) }
+    {
+        let bits = Vec::from_slice(alloc, &self.bits)?;
+        Ok(TokenSet { bits })
+    }
+
     /// Whether the token is in the set.
     pub(crate) fn contains(&self, token: usize) -> bool
         ensures { result ≡ has self.now.bits.items token }

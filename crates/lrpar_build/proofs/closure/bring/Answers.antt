@@ -1,4 +1,4 @@
-use Rattle.std.proofs.Common.{◌≡◌, ◌<◌, ◌+◌, ◌↔◌, ◌∙◌, ℕ, sym, ap, subst, arith, length, map, take}
+use Rattle.std.proofs.Common.{◌+◌, ◌↔◌, ℕ, sym, subst, map, take}
 use Rattle.std.proofs.lemmas.List.{take_all}
 use Rattle.lrpar_grammar.proofs.ListLemmas.{All-map-at, map-take_more}
 use Rattle.lrpar_build.specs.Brought.{HasIn}

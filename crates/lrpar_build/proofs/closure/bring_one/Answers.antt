@@ -1,13 +1,12 @@
-use Rattle.std.proofs.Common.{◌≡◌, ◌<◌, ◌≤◌, ◌+◌, ◌∷◌, ◌∙◌, sym, ap, subst, arith, rules, All, List, drop, length, map}
-use Rattle.std.proofs.lemmas.List.{drop-map}
+use Rattle.std.proofs.Common.{◌≡◌, ◌<◌, ◌+◌, ◌∷◌, ◌∙◌, sym, ap, subst, arith, rules, All, drop, length, map}
 use Rattle.std.proofs.lemmas.List.Elements.{All-drop, All-get_or, All-head, All-tail}
-use Rattle.lrpar_grammar.specs.Grammar.{Nonterminal, rule_of, rules_len, symbols_of, tokens_len}
+use Rattle.lrpar_grammar.specs.Grammar.{Nonterminal, rules_len, symbols_of, tokens_len}
 use Rattle.lrpar_grammar.specs.Symbols.{symbol_of}
 use Rattle.lrpar_build.specs.Cores.{core_set}
 use Rattle.lrpar_build.specs.FirstRows.{IsSymbolBelow, mark_of, row_at, rows_of}
 use Rattle.lrpar_build.proofs.BringLemmas.{bring_exact, bring_room, brings_nothing}
 use Rattle.lrpar_build.proofs.GrowthLemmas.{row_in, sets_len}
-use Rattle.lrpar_build.proofs.SpreadLemmas.{begins_by, prod_symbols}
+use Rattle.lrpar_build.proofs.SpreadLemmas.{prod_symbols}
 use Rattle.lrpar_build.proofs.closure.bring_one.Goals as goal
 
 pub add_first_before-requires-clause-symbols : goal.add_first_before-requires-clause-symbols

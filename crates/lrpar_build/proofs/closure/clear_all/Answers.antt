@@ -1,4 +1,4 @@
-use Rattle.std.proofs.Common.{◌≡◌, ◌<◌, ◌∙◌, arith, length}
+use Rattle.std.proofs.Common.{◌<◌, ◌∙◌, arith, length}
 use Rattle.lrpar_build.proofs.BringLemmas.{cleared_more, rooms_kept}
 use Rattle.lrpar_build.proofs.closure.clear_all.Goals as goal
 

@@ -1,4 +1,3 @@
-use Rattle.std.proofs.Common.{◌≡◌, ◌∷◌, ◌∙◌, refl}
 use Rattle.lrpar_build.proofs.SpreadLemmas.{behind_by, nothing_behind, token_behind}
 use Rattle.lrpar_build.proofs.closure.rule_behind.Goals as goal
 

@@ -1,7 +1,7 @@
-use Rattle.std.proofs.Common.{◌≡◌, ◌<◌, ◌≤◌, ◌+◌, ◌∷◌, ◌∙◌, ◌||◌, ◌&&◌, nat_lt, ℕ, sym, ap, subst, arith, rules, true, false, length, map, drop}
+use Rattle.std.proofs.Common.{◌<◌, ◌+◌, ◌∷◌, ◌∙◌, ◌||◌, ◌&&◌, nat_lt, ℕ, sym, ap, arith, rules, length, map, drop}
 use Rattle.lrpar_grammar.specs.Grammar.{Nonterminal}
 use Rattle.lrpar_grammar.specs.Symbols.{symbol_of}
-use Rattle.lrpar_build.specs.FirstRows.{IsSymbolBelow, row_at, rows_of}
+use Rattle.lrpar_build.specs.FirstRows.{IsSymbolBelow, rows_of}
 use Rattle.lrpar_build.specs.Tokens.{has}
 use Rattle.lrpar_build.proofs.RowLemmas.{row_is, symbol_below, symbols_from, walk_on, walk_rule, walk_token, wide_at}
 use Rattle.lrpar_build.proofs.first.add_first.Goals as goal

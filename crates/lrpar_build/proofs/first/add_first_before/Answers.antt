@@ -1,4 +1,4 @@
-use Rattle.std.proofs.Common.{◌≡◌, ◌+◌, ◌||◌, ◌&&◌, ◌∙◌, ℕ, nat_lt, true, false, sym, ap, map, length}
+use Rattle.std.proofs.Common.{◌≡◌, ◌+◌, ◌||◌, ◌&&◌, ◌∙◌, ℕ, nat_lt, true, false, sym, ap, map}
 use Rattle.lrpar_grammar.specs.Grammar.{rules_len, tokens_len}
 use Rattle.lrpar_grammar.specs.Symbols.{symbol_of}
 use Rattle.lrpar_build.specs.FirstRows.{begins, mark_of, rows_of}

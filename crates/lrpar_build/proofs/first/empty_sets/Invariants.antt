@@ -1,4 +1,4 @@
-use Rattle.std.proofs.Common.{◌≡◌, ◌+◌, ℕ, Bool, false, length, All}
+use Rattle.std.proofs.Common.{◌≡◌, ◌+◌, length, All}
 use Rattle.lrpar_build.specs.FirstRows.{HoldNothing, mark_of, rows_of}
 use Rattle.lrpar_build.proofs.first.empty_sets.Given as goal
 

@@ -1,6 +1,5 @@
-use Rattle.std.proofs.Common.{◌≡◌, ◌∙◌, sym, subst, arith, length, take, drop, ◌++◌}
+use Rattle.std.proofs.Common.{◌≡◌, ◌∙◌, sym, subst, length}
 use Rattle.std.proofs.lemmas.Bool.{OnFalse_at}
-use Rattle.lrpar_grammar.specs.Grammar.{rules_len}
 use Rattle.lrpar_build.specs.FirstRows.{AreFirsts, rows_of}
 use Rattle.lrpar_build.proofs.GrowthLemmas.{exact_sets, lent_back, sets_len}
 use Rattle.lrpar_build.proofs.first.first_sets.Goals as goal

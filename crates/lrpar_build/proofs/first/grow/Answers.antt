@@ -1,7 +1,7 @@
-use Rattle.std.proofs.Common.{◌≡◌, ◌<◌, ◌≤◌, ◌+◌, ◌∙◌, sym, ap, arith, length}
+use Rattle.std.proofs.Common.{◌≡◌, ◌<◌, ◌+◌, ◌∙◌, ap, arith, length}
 use Rattle.std.proofs.lemmas.Bool.{OnFalse_at, OnFalse_from, OnTrue_at, OnTrue_from}
 use Rattle.std.proofs.lemmas.List.Elements.{All-get_or}
-use Rattle.lrpar_build.specs.FirstRows.{IsClosedAt, mark_of, row_at, rows_of, total_missing}
+use Rattle.lrpar_build.specs.FirstRows.{mark_of, row_at, rows_of}
 use Rattle.lrpar_build.proofs.GrowthLemmas.{grown_closed, grown_less, grown_room, grown_same, grown_sound, row_in, sets_len}
 use Rattle.lrpar_build.proofs.first.grow.Goals as goal
 

@@ -1,4 +1,3 @@
-use Rattle.std.proofs.Common.{◌≡◌, ◌<◌, refl, arith, rules}
 use Rattle.std.proofs.lemmas.Bool.{OnFalse_at}
 use Rattle.lrpar_build.specs.FirstRows.{rows_of}
 use Rattle.lrpar_build.proofs.SpreadLemmas.{brought_itself, brought_on, exact_spread, keeps_itself, keeps_on}

@@ -1,6 +1,5 @@
-use Rattle.std.proofs.Common.{◌≡◌, ◌<◌, ◌+◌, ◌∙◌, ℕ, refl, sym, ap, subst, true, false, arith, rules}
-use Rattle.std.specs.Bool.{OnFalse, OnTrue}
-use Rattle.std.proofs.lemmas.Bool.{OnFalse_at, OnFalse_from, OnTrue_at, OnTrue_from, false≢true, true≢false}
+use Rattle.std.proofs.Common.{◌≡◌, ◌<◌, ◌∙◌, refl, sym, subst, arith}
+use Rattle.std.proofs.lemmas.Bool.{OnFalse_at, OnFalse_from, OnTrue_at, OnTrue_from, true≢false}
 use Rattle.lrpar_build.specs.Brought.{IsSpreadAt}
 use Rattle.lrpar_build.specs.FirstRows.{rows_of, total_missing}
 use Rattle.lrpar_build.proofs.SpreadLemmas.{brought_itself, brought_on, keeps_itself, keeps_on, step_closed, step_grown}

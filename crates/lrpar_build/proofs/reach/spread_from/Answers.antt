@@ -1,7 +1,7 @@
-use Rattle.std.proofs.Common.{◌≡◌, ◌<◌, ◌≤◌, ◌+◌, ◌∷◌, ◌∙◌, sym, ap, subst, arith, rules, All, List, length, map}
+use Rattle.std.proofs.Common.{◌≡◌, ◌<◌, ◌+◌, ◌∷◌, ◌∙◌, sym, ap, subst, arith, rules, All, length, map}
 use Rattle.std.proofs.lemmas.Bool.{OnFalse_at, OnFalse_from, OnTrue_at, OnTrue_from}
 use Rattle.std.proofs.lemmas.List.Elements.{All-get_or, All-head, All-tail}
-use Rattle.lrpar_grammar.specs.Grammar.{Nonterminal, rule_of, rules_len, symbols_of, tokens_len}
+use Rattle.lrpar_grammar.specs.Grammar.{Nonterminal, rules_len, symbols_of, tokens_len}
 use Rattle.lrpar_grammar.specs.Symbols.{symbol_of}
 use Rattle.lrpar_build.specs.FirstRows.{IsSymbolBelow, mark_of, row_at, rows_of}
 use Rattle.lrpar_build.proofs.GrowthLemmas.{row_in, sets_len}

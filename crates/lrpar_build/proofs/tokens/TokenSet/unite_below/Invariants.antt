@@ -1,4 +1,4 @@
-use Rattle.std.proofs.Common.{◌≡◌, ◌<◌, ◌≤◌, ◌||◌, ◌&&◌, ℕ, nat_lt, length}
+use Rattle.std.proofs.Common.{◌≡◌, ◌<◌, ◌||◌, ◌&&◌, ℕ, nat_lt, length}
 use Rattle.std.specs.Bool.{OnFalse, OnTrue}
 use Rattle.lrpar_build.specs.Tokens.{has, missing}
 use Rattle.lrpar_build.proofs.tokens.TokenSet.unite_below.Given as goal

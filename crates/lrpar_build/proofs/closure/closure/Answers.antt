@@ -1,0 +1,16 @@
+use Rattle.std.proofs.Common.{◌↔◌, ℕ, subst, map}
+use Rattle.lrpar_build.specs.Brought.{HasIn, IsBrought}
+use Rattle.lrpar_build.specs.Cores.{AreBringing, core_set}
+use Rattle.lrpar_build.specs.FirstRows.{rows_of}
+use Rattle.lrpar_build.proofs.AmongLemmas.{closure_among}
+use Rattle.lrpar_build.proofs.closure.closure.Goals as goal
+
+pub returns-clause-items : goal.returns-clause-items
+returns-clause-items g c =
+    let index = g.StorageT.StorageIndex.index in
+    let grm = c.args.grm.now in
+    let rows = rows_of c.bring.new.brought in
+    let exact =
+    subst (λ cs. (r t : ℕ) → HasIn rows r t ↔ IsBrought grm (AreBringing grm (map (core_set index) cs)) r t) c.deref.ensures.value c.bring.ensures.exact in
+    closure_among grm (map (core_set index) c.args.cores.items) (map (core_set index) c.push_brought.new.closure.items) rows exact
+    c.in_ok-push_brought.ensures.items

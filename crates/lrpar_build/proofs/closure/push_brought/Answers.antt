@@ -1,0 +1,37 @@
+use Rattle.std.proofs.Common.{◌≡◌, ◌<◌, ◌↔◌, ◌⊎◌, ◌∙◌, refl, sym, ap, subst, arith, length, map}
+use Rattle.lrpar_grammar.specs.Grammar.{prods_len, rule_of}
+use Rattle.lrpar_states.specs.Graph.{ItemOf}
+use Rattle.lrpar_build.specs.Cores.{CoreSet, IsAmong, IsOfRows, core_set}
+use Rattle.lrpar_build.specs.FirstRows.{row_at, rows_of}
+use Rattle.lrpar_build.proofs.AmongLemmas.{rows_more}
+use Rattle.lrpar_build.proofs.GrowthLemmas.{sets_len}
+use Rattle.lrpar_build.proofs.RowLemmas.{row_is}
+use Rattle.lrpar_build.proofs.closure.push_brought.Goals as goal
+
+pub loop-prod-preserved : goal.loop-prod-preserved
+loop-prod-preserved g c =
+    let index = g.StorageT.StorageIndex.index in
+    let grm = c.args.grm.now in
+    let brought = c.args.brought.now in
+    let rows = rows_of brought in
+    let n = c.loop-prod.prod in
+    let number : index c.unwrap.result ≡ n = rw c.unwrap.ensures at c.from_index.ensures.back in
+    let count = sets_len grm brought c.requires.room in
+    let within : c.from-rule.result < length brought = omega (arith, count, c.from-rule.ensures, c.prod_to_rule.ensures.within) in
+    let rule : c.from-rule.result ≡ rule_of grm n = c.from-rule.ensures ∙ c.prod_to_rule.ensures.rule ∙ ap (rule_of grm) number in
+    let tokens : c.index-brought-rule.result.bits.items ≡ row_at rows (rule_of grm n) =
+    sym (row_is brought c.from-rule.result c.index-brought-rule.result within c.index-brought-rule.is) ∙ ap (row_at rows) rule in
+    let core : CoreSet = record { prod = index c.unwrap.result; dot = 0; tokens = c.index-brought-rule.result.bits.items } in
+    λ x. rows_more grm rows (IsAmong (map (core_set index) c.args.closure.now.items)) (IsAmong (map (core_set index) c.loop-prod.closure.items))
+    (IsAmong (map (core_set index) c.push_one.new.closure.items)) n core x number refl tokens (c.loop-prod.invariant x) (c.in_ok-push_one.ensures.items x)
+
+pub returns : goal.returns
+returns g c =
+    let index = g.StorageT.StorageIndex.index in
+    let grm = c.args.grm.now in
+    let full : c.loop-prod.prod ≡ prods_len grm = omega (arith, c.loop-prod-test.false, c.loop-prod.auto.prod-end, c.prods_len-prod-end.ensures.len) in
+    record {
+      items =
+          subst (λ n. (x : ItemOf) → IsAmong (map (core_set index) c.loop-prod.closure.items) x
+          ↔ (IsAmong (map (core_set index) c.args.closure.now.items) x ⊎ IsOfRows grm (rows_of c.args.brought.now) n x)) full c.loop-prod.invariant;
+    }

@@ -1,0 +1,12 @@
+use Rattle.std.proofs.Common.{◌↔◌, ◌⊎◌, map}
+use Rattle.lrpar_states.specs.Graph.{ItemOf}
+use Rattle.lrpar_build.specs.Cores.{IsAmong, IsOfRows, core_set}
+use Rattle.lrpar_build.specs.FirstRows.{rows_of}
+use Rattle.lrpar_build.proofs.closure.push_brought.Given as goal
+
+-- the items of the productions so far are there
+abbrev pub invariant-loop-prod : goal.invariant-loop-prod
+invariant-loop-prod g l =
+    let index = g.StorageT.StorageIndex.index in
+    (x : ItemOf) → IsAmong (map (core_set index) l.closure.items) x
+    ↔ (IsAmong (map (core_set index) l.initial.closure.items) x ⊎ IsOfRows l.grm (rows_of l.brought) l.prod x)
