@@ -11,3 +11,4 @@ pub mod SumLemmas
 pub mod SequenceLemmas
 pub mod RepairRunLemmas
 pub mod TestWorkLemmas
+pub mod StopStackLemmas
