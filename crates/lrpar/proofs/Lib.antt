@@ -19,3 +19,4 @@ pub mod SequenceLemmas
 pub mod ReversedLemmas
 pub mod RepairRunLemmas
 pub mod TestWorkLemmas
+pub mod StopStackLemmas

@@ -2,8 +2,10 @@
 use Rattle.std.specs.Prelude.{◌≡◌, ◌≢◌, ◌<◌, ◌≤◌, ◌+◌, ◌-◌, ◌/◌, ◌↔◌, ℕ, List, [], ◌∷◌, All, length, map, Option, IsSome}
 use Rattle.std.specs.List.{AllPairs}
 use Rattle.lrpar_grammar.specs.Grammar.{Grammar, end_token}
-use Rattle.lrpar_grammar.specs.Sentence.{LexemeFacts}
+use Rattle.lrpar_grammar.specs.Sentence.{IsValidList, LexemeFacts}
 use Rattle.lrpar_states.specs.Table.{Table}
+use Rattle.lrpar_check.specs.Checked.{Checked, IsChecked}
+use Rattle.lrpar_check.specs.Stack.{IsStack}
 use Rattle.lrpar.specs.Recovery.{Point}
 use Rattle.lrpar.specs.RepairRun.{RepairRun, RepairStop}
 use Rattle.lrpar.specs.Run.{Run, Stop}
@@ -64,6 +66,14 @@ module _ {X : Type 0} (facts : X → LexemeFacts) (allows : Point X → List (Li
       (k : ℕ) (g : Grammar) (table : Table) (lexemes : List X) (st : List ℕ) (stops : List RepairStop) (consumed : Option (List X)) (prods : List ℕ)
       → RepairRun facts allows k g table lexemes st 0 stops consumed prods
       → IsSome consumed ↔ All (λ s. s.listed ≢ []) stops
+
+  -- over a checked table and a valid list, from a stack of the table, the stack of each stop is one too
+  abbrev pub StopsAtStacks : Type 0
+  StopsAtStacks =
+      (d : Checked) (k : ℕ) (lexemes : List X) (st : List ℕ) (stops : List RepairStop) (consumed : Option (List X)) (prods : List ℕ)
+      → IsChecked d → IsValidList d.grammar (map facts lexemes) → IsStack d.table st
+      → RepairRun facts allows k d.grammar d.table lexemes st 0 stops consumed prods
+      → All (λ s. IsStack d.table s.stop.stack) stops
 
 -- where the recoverer hands in nothing, the run is the one without repairs
 abbrev pub RunsWithoutRepairs : Type 0 → Type 0

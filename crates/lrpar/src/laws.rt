@@ -6,7 +6,7 @@ ghost use Rattle.lrpar_text.specs.Comparisons.{HashesAs};
 ghost use Rattle.lrpar.specs.Run.{RunsOneWay};
 ghost use Rattle.lrpar.specs.Failure.{repair_eq};
 ghost use Rattle.lrpar.specs.Lexemes.{facts_of};
-ghost use Rattle.lrpar.specs.RepairLaws.{AcceptsWhereRepaired, ListsSound, ReplaysOneWay, RunsWithoutRepairs, StopsLieApart, WorksByReplay};
+ghost use Rattle.lrpar.specs.RepairLaws.{AcceptsWhereRepaired, ListsSound, ReplaysOneWay, RunsWithoutRepairs, StopsAtStacks, StopsLieApart, WorksByReplay};
 ghost use Rattle.lrpar.specs.Repairs.{repair_input, repair_of};
 ghost use Rattle.lrpar.specs.RunLaws.{RunsEndOneWay, RunsGoOnOrEnd, RunsStopByFailing};
 ghost use Rattle.lrpar.specs.Spans.{SpansAreWorkedOut};
@@ -61,6 +61,7 @@ pub fn sequences_that_work_are_replayed<LexemeT>()
 /// In a run with repairs, where at least one lexeme has to follow each: no listed sequence is empty, inserts the end token or
 /// one that the grammar doesn't have, or goes past the last lexeme; each stop lies at least k lexemes after those before it,
 /// so over n lexemes there are at most n / k + 1; and the run comes to accept exactly where a sequence is listed at each stop.
+/// Over a checked table the stack of each stop is one of the table.
 pub fn runs_with_repairs_are_sound<
     StorageT: StorageIndex,
     LexemeT: Lexeme<StorageT>,
@@ -69,6 +70,7 @@ pub fn runs_with_repairs_are_sound<
     ensures sound { (r : R) → ListsSound (λ x. facts_of StorageT.index (LexemeT.parts x)) (R.allows r) }
     ensures apart { (r : R) → StopsLieApart (λ x. facts_of StorageT.index (LexemeT.parts x)) (R.allows r) }
     ensures accepts { (r : R) → AcceptsWhereRepaired (λ x. facts_of StorageT.index (LexemeT.parts x)) (R.allows r) }
+    ensures stacks { (r : R) → StopsAtStacks (λ x. facts_of StorageT.index (LexemeT.parts x)) (R.allows r) }
 {}
 
 /// Where nothing is handed in, a run with repairs is a run without them.
