@@ -11,3 +11,5 @@ pub mod ParseLemmas
 pub mod FoldLemmas
 pub mod ActedLemmas
 pub mod SumLemmas
+pub mod SequenceTextLemmas
+pub mod ErrorTextLemmas

@@ -23,3 +23,9 @@ pub mod Parse
 pub mod Standing
 pub mod Stacked
 pub mod End
+pub mod SequenceText
+pub mod Printed
+pub mod FaultText
+pub mod PrintedParts
+pub mod ErrorText
+pub mod LexParseText

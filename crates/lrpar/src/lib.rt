@@ -3,6 +3,7 @@
 
 mod actions;
 mod build;
+mod error_text;
 pub mod errors;
 mod fault;
 pub mod laws;
@@ -11,7 +12,9 @@ mod lexed;
 mod node;
 mod nothing;
 pub mod parser;
+mod pp_fault;
 mod run;
+mod sequence_text;
 mod stack;
 mod values;
 
