@@ -12,4 +12,5 @@ pub mod FoldLemmas
 pub mod ActedLemmas
 pub mod SumLemmas
 pub mod SequenceTextLemmas
+pub mod TreeTextLemmas
 pub mod ErrorTextLemmas

@@ -29,3 +29,4 @@ pub mod FaultText
 pub mod PrintedParts
 pub mod ErrorText
 pub mod LexParseText
+pub mod TreeText

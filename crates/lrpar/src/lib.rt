@@ -16,6 +16,7 @@ mod pp_fault;
 mod run;
 mod sequence_text;
 mod stack;
+mod tree_text;
 mod values;
 
 pub use errors::{LexParseError, ParseError, ParseRepair};
