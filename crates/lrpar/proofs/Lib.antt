@@ -20,3 +20,6 @@ pub mod ReversedLemmas
 pub mod RepairRunLemmas
 pub mod TestWorkLemmas
 pub mod StopStackLemmas
+pub mod SequenceTextLemmas
+pub mod TreeTextLemmas
+pub mod ErrorTextLemmas

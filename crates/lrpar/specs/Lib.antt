@@ -33,3 +33,10 @@ pub mod Recovery
 pub mod RepairRun
 pub mod RepairLaws
 pub mod TestWork
+pub mod SequenceText
+pub mod Printed
+pub mod FaultText
+pub mod PrintedParts
+pub mod ErrorText
+pub mod LexParseText
+pub mod TreeText

@@ -3,6 +3,7 @@
 
 mod actions;
 mod build;
+mod error_text;
 pub mod errors;
 mod fault;
 pub mod laws;
@@ -11,9 +12,12 @@ mod lexed;
 mod node;
 mod nothing;
 pub mod parser;
+mod pp_fault;
 pub mod repair;
 mod run;
+mod sequence_text;
 mod stack;
+mod tree_text;
 mod trial;
 mod values;
 

@@ -23,6 +23,7 @@ use crate::lexed::{lexeme_fault, lexemes_or_error};
 use crate::node::Trees;
 pub use crate::node::{Node, action_generictree};
 use crate::nothing::Nothing;
+pub use crate::pp_fault::PpFault;
 use crate::run::{End, Run};
 pub use crate::values::AStackType;
 use crate::values::Functions;
