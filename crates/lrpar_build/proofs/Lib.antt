@@ -4,3 +4,5 @@ pub mod GrowthLemmas
 pub mod BeforeLemmas
 pub mod BroughtLemmas
 pub mod SpreadLemmas
+pub mod EntryLemmas
+pub mod WantedLemmas

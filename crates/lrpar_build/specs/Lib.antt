@@ -2,3 +2,5 @@ pub mod First
 pub mod Tokens
 pub mod FirstRows
 pub mod Brought
+pub mod Cores
+pub mod Wanted

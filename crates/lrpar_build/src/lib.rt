@@ -1,6 +1,8 @@
 //! The table builder: the canonical LR(1) item sets of a grammar, and the table that they make.
 #![tactic(auto)]
 
+mod cores;
+mod entries;
 mod first;
 mod reach;
 mod tokens;

@@ -1,0 +1,11 @@
+//! Items by their cores.
+use crate::tokens::TokenSet;
+use lrpar_grammar::span::PIdx;
+
+/// The items of one core: its production, how many of its symbols stand before the dot, and the set of their lookaheads.
+#[derive(Debug, Drop)]
+pub(crate) struct CoreItems<StorageT> {
+    pub(crate) prod: PIdx<StorageT>,
+    pub(crate) dot: usize,
+    pub(crate) tokens: TokenSet,
+}
