@@ -123,3 +123,16 @@ pub lookup_other : {X : Type 0} (t : ℕ) (e : ℕ × X) (entries : List (ℕ ×
 lookup_other t e entries up other =
     let differs : t ≢ e.0 = λ same. other (sym same) in
     ap (λ b. cond b (Some e.1) (lookup (nat_eq t) entries)) (ne_eqb t e.0 differs) ∙ lookup_past t (e.0 + 1) entries (omega (arith, up.0)) up.1
+
+-- lists joined for each number below an end, one number more
+pub flat_more : {Y : Type 0} (f : ℕ → List Y) (n : ℕ) → flat_map f (range_with_len 0 (n + 1)) ≡ flat_map f (range_with_len 0 n) ++ f n
+flat_more f n =
+    ap (flat_map f) (sym (range_more 0 n)) ∙ flat_map-append f (range_with_len 0 n) ((0 + n) ∷ [])
+    ∙ ap (λ s. flat_map f (range_with_len 0 n) ++ s) (append-nil (f (0 + n))) ∙ ap (λ k. flat_map f (range_with_len 0 n) ++ f k) (zero-add n)
+
+-- the same where the lists are told by a view
+pub joined_more : {X Y : Type 0} (view : X → Y) (f : ℕ → List Y) (n : ℕ) (made pushed : List X) (base : List Y)
+    → map view made ≡ base ++ flat_map f (range_with_len 0 n) → map view pushed ≡ map view made ++ f n
+    → map view pushed ≡ base ++ flat_map f (range_with_len 0 (n + 1))
+joined_more view f n made pushed base so_far more =
+    more ∙ ap (λ s. s ++ f n) so_far ∙ append_assoc base (flat_map f (range_with_len 0 n)) (f n) ∙ ap (λ s. base ++ s) (sym (flat_more f n))

@@ -10,6 +10,8 @@ use Rattle.lrpar_states.specs.Graph.{ItemOf, item_at}
 use Rattle.lrpar_states.specs.Table.{ReduceReduce, ShiftReduce, TableAction, ShiftTo, ReduceBy, Accepts, Fails}
 use Rattle.lrpar_build.specs.Cores.{CoreSet}
 use Rattle.lrpar_build.specs.Tokens.{has}
+use Rattle.lrpar_build.specs.declared.fault.BuildFault.{BuildFault}
+use Rattle.lrpar_build.specs.declared.fault.BuildFault.TheVariants.{AcceptReduceConflict, Memory, StorageTooSmall, TooManyStates}
 
 -- a token with the state that is next
 abbrev pub shift_entry : {S : Type 0} → (S → ℕ) → TIdx S × StIdx S → ℕ × ℕ
@@ -78,6 +80,17 @@ pub record AcceptsBeside (shift : Option ℕ) (prods : List ℕ) (accepts : Bool
 -- at token t it is wanted to accept beside a reduction
 abbrev pub IsAcceptReduce : Grammar → List CoreSet → List (ℕ × ℕ) → ℕ → Type 0
 IsAcceptReduce g cores shifts t = AcceptsBeside (lookup (nat_eq t) shifts) (reductions g cores t) (is_complete_at g cores t (start_prod g))
+
+-- at some token it is
+abbrev pub HasAcceptReduce : Grammar → List CoreSet → List (ℕ × ℕ) → Type 0
+HasAcceptReduce g cores shifts = (t : ℕ) × (t < tokens_len g) × IsAcceptReduce g cores shifts t
+
+-- what a fault of state s tells: that there is a reason to refuse it, or that memory didn't suffice
+abbrev pub IsRefusal : ℕ → Type 0 → BuildFault → Type 0
+IsRefusal s reason (AcceptReduceConflict n) = (n ≡ s) × reason
+IsRefusal s reason Memory = Unit {0}
+IsRefusal s reason TooManyStates = ⊥
+IsRefusal s reason StorageTooSmall = ⊥
 
 -- each core stands at most once
 abbrev pub AreOnce : List CoreSet → Type 0

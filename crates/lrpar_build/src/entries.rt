@@ -1,19 +1,20 @@
 //! What a state does at each token, and its conflicts.
-ghost use Rattle.std.specs.Prelude.{◌≡◌, ◌<◌, ◌+◌, ◌++◌, ◌∷◌, ◌==◌, ◌&&◌, ℕ, All, IfOk, OnOk, filter, map, nat_eq, not};
+ghost use Rattle.std.specs.Prelude.{◌≡◌, ◌<◌, ◌+◌, ◌++◌, ◌∷◌, ◌==◌, ◌&&◌, ℕ, All, IfErr, IfOk, OnOk, filter, map, nat_eq, not};
 ghost use Rattle.std.specs.List.Sorted.{IsNonDecreasingBy, IsPermutation};
 ghost use Rattle.std.specs.Map.{keys_of, lookup};
 ghost use Rattle.lrpar_grammar.specs.Grammar.{prod_len, prods_len, tokens_len};
-ghost use Rattle.lrpar_states.specs.PlainConflicts.{reduce_reduce_of};
+ghost use Rattle.lrpar_states.specs.PlainConflicts.{reduce_reduce_of, shift_reduce_of};
 ghost use Rattle.lrpar_states.specs.PlainItems.{item_of};
-ghost use Rattle.lrpar_states.specs.PlainRows.{plain_goto};
+ghost use Rattle.lrpar_states.specs.PlainRows.{action_entry, plain_goto};
 ghost use Rattle.lrpar_build.specs.Cores.{core_set};
 ghost use Rattle.lrpar_build.specs.Tokens.{has};
-ghost use Rattle.lrpar_build.specs.Wanted.{AscendFrom, accepts_at, items_of_core, items_of_cores, prods_at, reduce_conflicts_at, shift_entry};
+ghost use Rattle.lrpar_build.specs.Wanted.{AcceptsBeside, AscendFrom, IsRefusal, accepts_at, entry_at, items_of_core, items_of_cores, prods_at, reduce_conflicts_at, shift_conflicts_at, shift_entry, wanted};
 
 use crate::cores::CoreItems;
+use crate::fault::BuildFault;
 use lrpar_grammar::grammar::YaccGrammar;
 use lrpar_grammar::span::{PIdx, StIdx, StorageIndex, TIdx};
-use lrpar_states::table::Item;
+use lrpar_states::table::{Action, Item};
 use std::alloc::{AllocError, Global};
 
 /// The token, the two productions and the state of a conflict between reductions.
@@ -23,6 +24,9 @@ pub(crate) type ReduceReduce<StorageT> = (
     PIdx<StorageT>,
     StIdx<StorageT>,
 );
+
+/// The token, the production and the state of a conflict between a shift and a reduction.
+pub(crate) type ShiftReduce<StorageT> = (TIdx<StorageT>, PIdx<StorageT>, StIdx<StorageT>);
 
 /// The items one by one, each with its lookahead: core by core, and a core's lookaheads ascending.
 pub(crate) fn single_items<StorageT: StorageIndex>(
@@ -198,4 +202,80 @@ fn split_shift<StorageT: StorageIndex>(
         }
         None => (None, shifts),
     }
+}
+
+// Appends what is done at the token, and the conflict of its shift.
+fn push_token<StorageT: StorageIndex>(
+    prods: &[PIdx<StorageT>],
+    shift: Option<StIdx<StorageT>>,
+    accepting: bool,
+    tidx: &TIdx<StorageT>,
+    state: &StIdx<StorageT>,
+    row: &mut Vec<(TIdx<StorageT>, Action<StorageT>)>,
+    sr: &mut Vec<ShiftReduce<StorageT>>,
+) -> Result<(), BuildFault>
+    ensures row { OnOk result (map (action_entry StorageT.index) row.new.items ≡ map (action_entry StorageT.index) row.old.items
+        ++ entry_at (StorageT.index tidx.now.0) (wanted (plain_goto StorageT.index shift) (map (λ p. StorageT.index p.0) prods.now) accepting)) }
+    ensures sr { OnOk result (map (shift_reduce_of StorageT.index) sr.new.items ≡ map (shift_reduce_of StorageT.index) sr.old.items
+        ++ shift_conflicts_at (StorageT.index state.now.0) (StorageT.index tidx.now.0) (plain_goto StorageT.index shift) (map (λ p. StorageT.index p.0) prods.now)) }
+    ensures none { IfOk result (λ _. ¬ (AcceptsBeside (plain_goto StorageT.index shift) (map (λ p. StorageT.index p.0) prods.now) accepting)) }
+    ensures refused { IfErr result (IsRefusal (StorageT.index state.now.0)
+        (AcceptsBeside (plain_goto StorageT.index shift) (map (λ p. StorageT.index p.0) prods.now) accepting)) }
+{
+    match shift {
+        Some(next) => {
+            row.push((*tidx, Action::Shift(next)))?;
+            push_shift_conflict(prods, tidx, state, sr)?;
+            Ok(())
+        }
+        None => push_unshifted(prods, accepting, tidx, state, row),
+    }
+}
+
+// Appends the conflict of a shift by the token with the first production, if there is one.
+fn push_shift_conflict<StorageT: StorageIndex>(
+    prods: &[PIdx<StorageT>],
+    tidx: &TIdx<StorageT>,
+    state: &StIdx<StorageT>,
+    sr: &mut Vec<ShiftReduce<StorageT>>,
+) -> Result<(), AllocError>
+    ensures { OnOk result ((next : ℕ) → map (shift_reduce_of StorageT.index) sr.new.items ≡ map (shift_reduce_of StorageT.index) sr.old.items
+        ++ shift_conflicts_at (StorageT.index state.now.0) (StorageT.index tidx.now.0) (Some next) (map (λ p. StorageT.index p.0) prods.now)) }
+{
+    match prods.split_first() {
+        Some((prod, _)) => {
+            sr.push((*tidx, *prod, *state))?;
+            Ok(())
+        }
+        None => Ok(()),
+    }
+}
+
+// Appends what is done at the token where there is no shift.
+fn push_unshifted<StorageT: StorageIndex>(
+    prods: &[PIdx<StorageT>],
+    accepting: bool,
+    tidx: &TIdx<StorageT>,
+    state: &StIdx<StorageT>,
+    row: &mut Vec<(TIdx<StorageT>, Action<StorageT>)>,
+) -> Result<(), BuildFault>
+    ensures row { OnOk result (map (action_entry StorageT.index) row.new.items ≡ map (action_entry StorageT.index) row.old.items
+        ++ entry_at (StorageT.index tidx.now.0) (wanted None (map (λ p. StorageT.index p.0) prods.now) accepting)) }
+    ensures none { IfOk result (λ _. ¬ (AcceptsBeside None (map (λ p. StorageT.index p.0) prods.now) accepting)) }
+    ensures refused { IfErr result (IsRefusal (StorageT.index state.now.0) (AcceptsBeside None (map (λ p. StorageT.index p.0) prods.now) accepting)) }
+{
+    match prods.split_first() {
+        Some((prod, _)) => {
+            if accepting {
+                return Err(BuildFault::AcceptReduceConflict(usize::from(*state)));
+            }
+            row.push((*tidx, Action::Reduce(*prod)))?;
+        }
+        None => {
+            if accepting {
+                row.push((*tidx, Action::Accept))?;
+            }
+        }
+    }
+    Ok(())
 }

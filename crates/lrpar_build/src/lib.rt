@@ -3,6 +3,7 @@
 
 mod cores;
 mod entries;
+mod fault;
 mod first;
 mod reach;
 mod tokens;
