@@ -7,3 +7,5 @@ pub mod SpreadLemmas
 pub mod ClosureLemmas
 pub mod BringLemmas
 pub mod AmongLemmas
+pub mod EntryLemmas
+pub mod WantedLemmas

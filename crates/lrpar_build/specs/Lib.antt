@@ -5,3 +5,4 @@ pub mod Tokens
 pub mod FirstRows
 pub mod Brought
 pub mod Cores
+pub mod Wanted

@@ -3,6 +3,8 @@
 
 mod closure;
 mod cores;
+mod entries;
+mod fault;
 mod first;
 mod reach;
 mod tokens;
