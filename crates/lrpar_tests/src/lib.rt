@@ -29,3 +29,5 @@ mod span;
 mod stacks;
 #[cfg(test)]
 mod table;
+#[cfg(test)]
+mod texts;
