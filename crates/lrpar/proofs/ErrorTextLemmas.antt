@@ -1,5 +1,5 @@
 -- The texts of the sequences of an error.
-use Rattle.std.proofs.Common.{◌≡◌, ℕ, zero, suc, ◌+◌, ◌<◌, ◌≤◌, List, [], ◌∷◌, ◌++◌, Option, Some, None, Vec, length, map, take, drop, get_or, refl, ap, sym, ◌∙◌, arith, append_assoc, append-nil, subst, codes}
+use Rattle.std.proofs.Common.{◌≡◌, ℕ, zero, suc, ◌+◌, ◌<◌, ◌≤◌, List, [], ◌∷◌, ◌++◌, Option, Vec, length, map, take, drop, get_or, refl, ap, sym, ◌∙◌, arith, append_assoc, append-nil, subst, codes}
 use Rattle.std.specs.List.{AllByRecursion, AllZip, flat_map}
 use Rattle.std.proofs.lemmas.List.{take_more, length-take}
 use Rattle.std.proofs.lemmas.Grind.{flat_map-append}
@@ -8,7 +8,7 @@ use Rattle.lrpar.specs.declared.errors.ParseRepair.{ParseRepair}
 use Rattle.lrpar.specs.Printed.{IsPpFault}
 use Rattle.lrpar.specs.PrintedParts.{sequence_parts}
 use Rattle.lrpar.specs.Repairs.{repair_of, repairs_of}
-use Rattle.lrpar.specs.SequenceText.{Part, IsPartsText, RepairFits, RepairsFit, inserted, parts_of, IsFirstUnnamed}
+use Rattle.lrpar.specs.SequenceText.{Part, IsPartsText, RepairsFit, inserted, parts_of, IsFirstUnnamed}
 use Rattle.lrpar.specs.ErrorText.{digits, numbering, numbered, repairs_text, tokens_of}
 use Rattle.lrpar.specs.declared.pp_fault.PpFault.{PpFault}
 use Rattle.lrpar.specs.declared.pp_fault.PpFault.TheVariants.{NoPrintedName, Memory}

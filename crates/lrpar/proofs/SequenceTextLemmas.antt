@@ -1,16 +1,15 @@
 -- The texts of sequences of repairs.
-use Rattle.std.proofs.Common.{◌≡◌, ℕ, suc, ◌+◌, ◌-◌, ◌<◌, ◌≤◌, ◌∙◌, Bool, true, false, cond, not, List, [], ◌∷◌, ◌++◌, Option, Some, None, length, map, take, drop, refl, ap, sym, arith, append_assoc, append-nil, codes, Result, Ok, Err, is_ok, OnOk, IfErr, IsErrAnd, subst, if◌then◌else◌}
+use Rattle.std.proofs.Common.{◌≡◌, ℕ, suc, ◌+◌, ◌<◌, ◌∙◌, Bool, true, false, cond, not, List, [], ◌∷◌, ◌++◌, Option, Some, length, take, drop, refl, ap, sym, arith, append_assoc, append-nil, codes, Result, Ok, Err, is_ok, OnOk, IfErr, IsErrAnd, subst, if◌then◌else◌}
 use Rattle.std.specs.Prelude.{◌==◌}
-use Rattle.std.specs.List.{AllByRecursion, AllZip, flat_map, join_by, prefix_len, position_or_len, before_first, after_first}
+use Rattle.std.specs.List.{AllByRecursion, AllZip, flat_map, join_by, position_or_len, before_first, after_first}
 use Rattle.std.proofs.lemmas.Grind.{flat_map-append}
 use Rattle.lrpar_text.specs.Span.{Extent}
 use Rattle.lrpar_grammar.specs.SpansFit.{IsPartOf}
 use Rattle.lrpar.specs.Failure.{Repair, Inserted, Deleted, Shifted}
-use Rattle.lrpar_text.specs.declared.span.TIdx.{TIdx}
 use Rattle.lrpar.specs.Printed.{IsPpFault}
 use Rattle.lrpar.specs.declared.pp_fault.PpFault.{PpFault}
 use Rattle.lrpar.specs.declared.pp_fault.PpFault.TheVariants.{NoPrintedName, Memory}
-use Rattle.lrpar.specs.SequenceText.{on_one_line, Part, Inserts, Deletes, Shifts, joined, parts_of, IsPartText, IsPartsText, RepairFits, PartFits, RepairsFit, inserted_by, inserted, IsFirstUnnamed}
+use Rattle.lrpar.specs.SequenceText.{on_one_line, Part, Inserts, Deletes, Shifts, joined, parts_of, IsPartText, IsPartsText, PartFits, RepairsFit, inserted_by, inserted, IsFirstUnnamed}
 
 -- a line feed
 abbrev feeds : ℕ → Bool

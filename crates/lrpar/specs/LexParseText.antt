@@ -3,7 +3,6 @@ use Rattle.std.specs.Prelude.{◌≡◌, ℕ, List, [], Option, codes}
 use Rattle.lrpar_text.specs.Span.{Extent}
 use Rattle.lrpar_grammar.specs.SpansFit.{IsPartOf}
 use Rattle.lrpar.specs.ErrorText.{FailureFits, IsFailureText, place_text, tokens_of}
-use Rattle.lrpar.specs.Failure.{Failure}
 use Rattle.lrpar.specs.declared.errors.LexParseError.{LexParseError}
 use Rattle.lrpar.specs.declared.errors.LexParseError.TheVariants.{LexError, ParseError}
 

@@ -1,6 +1,6 @@
 -- The texts of sequences of repairs, over the bytes of the input. `names` says what is printed for a token: a name, or
 -- nothing.
-use Rattle.std.specs.Prelude.{◌≡◌, ◌==◌, if◌then◌else◌, ℕ, List, [], ◌∷◌, ◌++◌, codes, map, slice_range, Option, Some, None}
+use Rattle.std.specs.Prelude.{◌≡◌, ◌==◌, if◌then◌else◌, ℕ, List, [], ◌∷◌, ◌++◌, codes, slice_range, Option, Some, None}
 use Rattle.std.specs.List.{AllByRecursion, AllZip, flat_map, join_by}
 use Rattle.lrpar_text.specs.Lines.{is_line_feed}
 use Rattle.lrpar_text.specs.Span.{Extent}

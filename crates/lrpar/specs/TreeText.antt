@@ -1,5 +1,5 @@
 -- The text of a tree of the program: its nodes from the root down and from left to right, a line each.
-use Rattle.std.specs.Prelude.{◌≡◌, ◌<◌, ◌+◌, ℕ, List, [], ◌∷◌, ◌++◌, map, replicate, slice_range, Option, Some}
+use Rattle.std.specs.Prelude.{◌<◌, ◌+◌, ℕ, List, [], ◌∷◌, ◌++◌, replicate, slice_range}
 use Rattle.std.specs.Option.{option_map_or}
 use Rattle.std.specs.List.{AllByRecursion, flat_map}
 use Rattle.lrpar_grammar.specs.Grammar.{Grammar, rules_len, rule_name, token_name, end_token}

@@ -1,6 +1,10 @@
+use crate::lexer::SumLexer;
 use crate::run::run;
+use crate::sum::sum_data;
+use lrpar::RTParserBuilder;
 use std::alloc::{AllocError, Global};
 use std::io::Write;
+use std::process::Abort;
 use std::test::Fail;
 use std::{io, str};
 
@@ -131,5 +135,39 @@ fn failed_writes(rt: HostRuntime) -> Result<(), Fail> {
     let err = Failing { calls_left: 0 };
     let found = run(&rt, rt.alloc(), &args, io::empty(), out, err);
     assert_eq!(rt; found, 0);
+    Ok(())
+}
+
+// The texts of the errors of a sum, by the library.
+fn printed(rt: &impl Abort, alloc: Global, text: &str) -> Result<String, Fail> {
+    let data = sum_data(alloc)?;
+    let lexer = SumLexer::new(alloc, text)?;
+    let errors = RTParserBuilder::new(&data).parse_noaction(alloc, &lexer)?;
+    let mut all = String::new(alloc);
+    for error in &errors {
+        assert!(rt; error.fits(text));
+        all.push_str(error.pp(alloc, &lexer, |_| None)?.as_str())?;
+    }
+    Ok(all)
+}
+
+#[test]
+fn texts_of_errors(rt: HostRuntime) -> Result<(), Fail> {
+    let rows = [
+        ("a+b", ""),
+        (
+            "a+",
+            "Parsing error at line 1 column 3. No repair sequences found.",
+        ),
+        (
+            "ab",
+            "Parsing error at line 1 column 2. No repair sequences found.",
+        ),
+        ("a\n b", "Lexing error at line 1 column 2."),
+        ("a1", "Lexing error at line 1 column 2."),
+    ];
+    for (text, want) in rows {
+        assert_eq!(rt; printed(&rt, rt.alloc(), text)?.as_str(), want, "{text}");
+    }
     Ok(())
 }

@@ -34,5 +34,6 @@ mod span;
 mod stacks;
 #[cfg(test)]
 mod table;
+mod texts;
 #[cfg(test)]
 mod trees;

@@ -1,5 +1,4 @@
-use Rattle.std.proofs.Common.{rules, ◌≡◌, ◌<◌, List, [], ◌++◌, length, ap, ◌∙◌, refl, arith, take}
-use Rattle.std.proofs.lemmas.Grind.{common_steps}
+use Rattle.std.proofs.Common.{rules, ◌≡◌, ◌<◌, [], length, refl, arith}
 use Rattle.std.proofs.lemmas.List.{nil_from_length}
 use Rattle.std.specs.String.{string_bytes}
 use Rattle.lrpar.specs.ErrorText.{digits}

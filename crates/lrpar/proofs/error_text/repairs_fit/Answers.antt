@@ -1,4 +1,4 @@
-use Rattle.std.proofs.Common.{◌≡◌, true, subst}
+use Rattle.std.proofs.Common.{subst}
 use Rattle.std.specs.Prelude.{IsTrue}
 use Rattle.lrpar.specs.Repairs.{repair_of}
 use Rattle.lrpar.specs.SequenceText.{RepairFits}

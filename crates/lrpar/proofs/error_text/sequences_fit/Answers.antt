@@ -1,4 +1,4 @@
-use Rattle.std.proofs.Common.{◌≡◌, true, subst}
+use Rattle.std.proofs.Common.{subst}
 use Rattle.std.specs.Prelude.{IsTrue}
 use Rattle.lrpar.proofs.ErrorTextLemmas.{sequence_fits}
 use Rattle.lrpar.proofs.error_text.sequences_fit.Goals as goal

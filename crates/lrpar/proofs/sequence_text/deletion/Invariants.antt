@@ -1,4 +1,4 @@
-use Rattle.std.proofs.Common.{◌≡◌, ◌≤◌, List, length}
+use Rattle.std.proofs.Common.{◌≡◌, ◌≤◌, length}
 use Rattle.lrpar.specs.PrintedParts.{sequence_parts}
 use Rattle.lrpar.specs.SequenceText.{joined}
 use Rattle.lrpar.proofs.sequence_text.deletion.Given as goal

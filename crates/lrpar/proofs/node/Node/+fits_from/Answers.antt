@@ -1,4 +1,4 @@
-use Rattle.std.proofs.Common.{◌≡◌, ◌+◌, ℕ, List, true, subst, refl}
+use Rattle.std.proofs.Common.{◌+◌, List, subst, refl}
 use Rattle.std.specs.Prelude.{IsTrue}
 use Rattle.std.specs.List.{AllByRecursion}
 use Rattle.lrpar.specs.Lexemes.{facts_of}
