@@ -4,7 +4,8 @@
 #     refuse.sh PROGRAM
 #
 # PROGRAM is the built bench_program, which reads a text twice. Wants: where a call for memory of the first reading is
-# refused, that this reading answers a want of memory and the next one gives the grammar; and the other way round.
+# refused, that this reading answers a want of memory and the next one gives the grammar, or that both give it, since a
+# list asks again for less; and the other way round.
 # Prints the cases that failed, and one closing line. It stands outside the gate. It needs cc and glibc.
 set -u
 
@@ -47,6 +48,7 @@ refuse_each() {
         case $given in
             "0|memory/$2|") first=$((first + 1)) ;;
             "0|$2/memory|") second=$((second + 1)) ;;
+            "0|$2/$2|") ;; # a list that may not grow by much asks again for less
             '2||bench_program: out of memory') ;; # before the first reading: its arguments, and the file
             *)
                 passed=$((passed - 1)) failed=$((failed + 1))
