@@ -1,5 +1,5 @@
 //! Parses by actions, and all four calls side by side.
-ghost use Rattle.std.specs.Prelude.{◌≡◌, IfOk, IsTrue, map};
+ghost use Rattle.std.specs.Prelude.{◌↔◌, IfOk, IsTrue, map};
 ghost use Rattle.lrpar.specs.Nodes.{IsNonterm, node_of};
 
 use crate::calculator::{Calculator, Value};
@@ -31,7 +31,7 @@ impl<'a> Actions<u32, Token<u32>, HandedLexer<'a>> for TreeActions {
     ghost answers = { λ b p r lexer span args param v. IsNonterm (λ number. number) r (map node_of args) v };
 
     fn takes(&self, _pidx: PIdx<u32>, _ridx: RIdx<u32>, _symbols: &[Symbol<u32>]) -> bool
-        ensures { IsTrue result }
+        ensures { IsTrue result ↔ Unit {0} }
     {
         true
     }
@@ -46,7 +46,8 @@ impl<'a> Actions<u32, Token<u32>, HandedLexer<'a>> for TreeActions {
         args: Vec<AStackType<Token<u32>, Tree>>,
         param: &(),
     ) -> Result<Tree, AllocError>
-        ensures { IfOk result (IsNonterm (λ number. number) ridx.0 (map node_of args.items)) }
+        ensures fact { IfOk result (λ _. Unit {0}) }
+        ensures answers { IfOk result (IsNonterm (λ number. number) ridx.0 (map node_of args.items)) }
     {
         action_generictree::<u32, HandedTypes, HandedLexer<'a>>(
             alloc, ridx, lexer, span, args, param,
@@ -73,7 +74,7 @@ impl<'a> Actions<u32, Token<u32>, HandedLexer<'a>> for Places {
     ghost answers = { λ b p r lexer span args param v. Unit {0} };
 
     fn takes(&self, _pidx: PIdx<u32>, _ridx: RIdx<u32>, _symbols: &[Symbol<u32>]) -> bool
-        ensures { IsTrue result }
+        ensures { IsTrue result ↔ Unit {0} }
     {
         true
     }
@@ -88,7 +89,8 @@ impl<'a> Actions<u32, Token<u32>, HandedLexer<'a>> for Places {
         args: Vec<AStackType<Token<u32>, Vec<Place>>>,
         _param: &(),
     ) -> Result<Vec<Place>, AllocError>
-        ensures { Unit {0} }
+        ensures fact { IfOk result (λ _. Unit {0}) }
+        ensures answers { IfOk result (λ _. Unit {0}) }
     {
         let mut places = Vec::new(alloc);
         for arg in args {
@@ -120,7 +122,7 @@ impl<'a> Actions<u32, Token<u32>, HandedLexer<'a>> for Counting {
     ghost answers = { λ b p r lexer span args param v. Unit {0} };
 
     fn takes(&self, _pidx: PIdx<u32>, _ridx: RIdx<u32>, _symbols: &[Symbol<u32>]) -> bool
-        ensures { IsTrue result }
+        ensures { IsTrue result ↔ Unit {0} }
     {
         true
     }
@@ -135,7 +137,8 @@ impl<'a> Actions<u32, Token<u32>, HandedLexer<'a>> for Counting {
         _args: Vec<AStackType<Token<u32>, ()>>,
         _param: &(),
     ) -> Result<(), AllocError>
-        ensures { Unit {0} }
+        ensures fact { IfOk result (λ _. Unit {0}) }
+        ensures answers { IfOk result (λ _. Unit {0}) }
     {
         self.calls.set(self.calls.get().saturating_add(1));
         if self.calls.get() == self.fails_at {
