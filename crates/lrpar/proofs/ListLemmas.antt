@@ -1,7 +1,6 @@
 -- Lists side by side.
-use Rattle.std.proofs.Common.{◌≡◌, ◌<◌, ◌≤◌, ◌+◌, ◌-◌, ◌∙◌, ℕ, List, [], ◌∷◌, ◌++◌, None, Option, Some, length, take, drop, ap, arith, refl, subst, sym}
-use Rattle.std.specs.List.{AllZip, last_or, slice_get}
-use Rattle.std.proofs.lemmas.Slice.Zip.{AllZip-long}
+use Rattle.std.proofs.Common.{◌≡◌, List, [], ◌∷◌, ◌++◌, length, take, drop, refl}
+use Rattle.std.specs.List.{AllZip}
 
 -- a relation that holds place by place holds of one more place
 pub zip_push : {A B : Type 0} (R : A → B → Type 0) (xs : List A) (ys : List B) (x : A) (y : B)

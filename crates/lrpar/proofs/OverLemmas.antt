@@ -1,13 +1,12 @@
 -- The run over the lexemes of a parse. It is at a lexeme where it came there from the start, and its stacks have what has to
 -- stand on them: the trees of the lexemes so far, which its reductions made.
-use Rattle.std.proofs.Common.{◌≡◌, ◌<◌, ◌≤◌, ◌+◌, ◌*◌, ◌∙◌, ℕ, List, [], ◌∷◌, ◌++◌, MatchOption, Option, Some, None, length, map, take, ap, arith, refl, subst, sym}
+use Rattle.std.proofs.Common.{◌≡◌, ◌<◌, ◌≤◌, ◌+◌, ◌*◌, ◌∙◌, ℕ, List, [], ◌∷◌, ◌++◌, MatchOption, Option, Some, length, map, take, ap, arith, refl, subst, sym}
 use Rattle.std.proofs.lemmas.List.{length-append, length-map, take_all, take_more}
 use Rattle.std.proofs.lemmas.Option.{get_or_from_slice_get, slice_get-map, slice_get_past, slice_get_within}
 use Rattle.std.specs.List.{slice_get}
 use Rattle.std.specs.Option.{option_map}
 use Rattle.lrpar_grammar.specs.Grammar.{Grammar, GrammarSymbol, end_token}
 use Rattle.lrpar_grammar.specs.Sentence.{IsValidList, LexemeFacts}
-use Rattle.lrpar_check.specs.Chain.{most_productions}
 use Rattle.lrpar_check.specs.Checked.{Checked}
 use Rattle.lrpar_check.specs.Path.{NeverSticks}
 use Rattle.lrpar_check.specs.Reduction.{Settles, top_action}
@@ -16,7 +15,6 @@ use Rattle.lrpar_states.specs.Table.{Accepts, Fails}
 use Rattle.lrpar.specs.End.{AcceptsWith, StopsAt}
 use Rattle.lrpar.specs.Lexemes.{lexeme_past}
 use Rattle.lrpar.specs.Run.{Comes, comes_through, gives_up, stays}
-use Rattle.lrpar.specs.RunAnswer.{IsLexemeAt}
 use Rattle.lrpar.specs.Stacked.{SettlesTo, Shifts, Sticks}
 use Rattle.lrpar.specs.Standing.{IsUpright, Stacked}
 use Rattle.lrpar.proofs.RunLemmas.{comes_by, comes_to_accept, comes_to_end, comes_to_stop, settles_from}

@@ -1,15 +1,13 @@
 -- The answers of a parse: by the ends of its run, by its lexing error or by a fault of its lexemes; and seen as another answer.
-use Rattle.std.proofs.Common.{◌≡◌, ◌≤◌, ◌∙◌, ℕ, List, [], ◌∷◌, length, map, MatchOption, IsSome, Option, Some, None, Result, Ok, Err, inl, inr, IfOk, IfErr, Vec, refl, sym, subst, ap}
+use Rattle.std.proofs.Common.{◌≡◌, ◌∙◌, ℕ, List, [], ◌∷◌, map, Option, Some, None, Result, Ok, Err, inl, inr, Vec, refl, sym, subst, ap}
 use Rattle.std.specs.List.{AllZip}
 use Rattle.lrpar_grammar.specs.Grammar.{GrammarSymbol}
-use Rattle.lrpar_grammar.specs.Sentence.{LexemeFacts, IsFirstBadToken, IsFirstEarlyStart, IsSentence}
-use Rattle.lrpar_grammar.specs.Tree.{Tree}
+use Rattle.lrpar_grammar.specs.Sentence.{LexemeFacts, IsFirstBadToken, IsFirstEarlyStart}
 use Rattle.lrpar_check.specs.Checked.{Checked}
 use Rattle.lrpar.specs.End.{AcceptsWith, EndsSo, IsAnswerOf, IsOfTree, StopsAt, failure_at}
 use Rattle.lrpar.specs.Lexed.{first_error, lexemes_of}
 use Rattle.lrpar.specs.LexemeFault.{IsLexemeFault}
 use Rattle.lrpar.specs.Parse.{IsParse, Parses, lexeme_facts}
-use Rattle.lrpar.specs.Run.{Stop}
 use Rattle.lrpar.specs.RunAnswer.{HasValue, IsErrorOf, IsOneWay, IsRunAnswer}
 use Rattle.lrpar.specs.declared.errors.LexParseError.{LexParseError}
 use Rattle.lrpar.specs.declared.errors.LexParseError.TheVariants.{LexError, ParseError}

@@ -1,5 +1,5 @@
 -- A tree for which an entry with a span stands folds to its argument, and lies at its span.
-use Rattle.std.proofs.Common.{◌≡◌, ◌≤◌, ◌-◌, ◌∙◌, ℕ, suc, List, [], ◌∷◌, ◌++◌, None, Option, Some, length, nat_eq, take, drop, slice_index_or, true, false, ap, arith, refl, subst, sym}
+use Rattle.std.proofs.Common.{◌≡◌, ◌≤◌, ◌-◌, ◌∙◌, ℕ, suc, List, [], ◌∷◌, ◌++◌, Option, Some, length, nat_eq, take, drop, slice_index_or, true, false, ap, arith, refl, subst, sym}
 use Rattle.std.proofs.lemmas.Bool.{eqb-true}
 use Rattle.std.proofs.lemmas.List.{take-append-drop}
 use Rattle.std.specs.List.{AllZip, last_or, slice_get}

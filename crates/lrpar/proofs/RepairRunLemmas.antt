@@ -1,19 +1,19 @@
 -- Runs with repairs: what is replayed, where the stops lie, and when the run comes to accept.
-use Rattle.std.proofs.Common.{◌≡◌, ◌≢◌, ◌<◌, ◌≤◌, ◌+◌, ◌*◌, ◌-◌, ◌/◌, ◌∙◌, ◌↔◌, ◌⊎◌, inl, inr, ℕ, zero, suc, List, [], ◌∷◌, ◌++◌, Option, Some, None, IsSome, option_map, length, map, refl, sym, subst, ap, arith, All}
+use Rattle.std.proofs.Common.{◌≡◌, ◌≢◌, ◌<◌, ◌≤◌, ◌+◌, ◌*◌, ◌/◌, ◌∙◌, ◌↔◌, inl, inr, ℕ, zero, suc, List, [], ◌∷◌, ◌++◌, Option, Some, None, IsSome, option_map, length, map, refl, sym, subst, ap, arith, All}
 use Rattle.std.proofs.Math.Nat.{le-div_iff_mul-le}
 use Rattle.std.proofs.lemmas.List.Elements.{All-nil, All-cons, All-head, All-tail, All-weaker}
 use Rattle.std.proofs.lemmas.List.Kept.{AllPairs-cons}
 use Rattle.std.specs.List.{AllPairs}
-use Rattle.lrpar_grammar.specs.Grammar.{Grammar, end_token}
+use Rattle.lrpar_grammar.specs.Grammar.{Grammar}
 use Rattle.lrpar_grammar.specs.Sentence.{LexemeFacts}
 use Rattle.lrpar_states.specs.Table.{Table}
-use Rattle.lrpar_check.specs.Reduction.{Feeds, IsSettled, Settles, top_action}
+use Rattle.lrpar_check.specs.Reduction.{IsSettled}
 use Rattle.lrpar.specs.Recovery.{Point}
 use Rattle.lrpar.specs.RepairLaws.{InsertsListed, IsSound, ListsSound, StopsLieApart, AcceptsWhereRepaired, ReplaysOneWay, RunsWithoutRepairs, WorksByReplay, places_of}
 use Rattle.lrpar.specs.RepairRun.{IsListedAt, RepairRun, RepairStop, ends_there, is_repaired, runs_through}
 use Rattle.lrpar.specs.Run.{Far, FarEnd, Accepted, Stopped, IsStuck, Run, Stop, accepts, comes_through, gives_up, goes_on, stops, token_at}
 use Rattle.lrpar.specs.Sequences.{PlainStep, PlainInsert, PlainDelete, PlainShift, AreThoseWith, CanGoOn, Replays, StepsTo, Works}
-use Rattle.lrpar.proofs.RunLemmas.{accepts_not_stuck, feeds_not_stuck, feeds_one_way, settles_settled, token_at_end}
+use Rattle.lrpar.proofs.RunLemmas.{accepts_not_stuck, feeds_not_stuck, feeds_one_way, settles_settled}
 use Rattle.lrpar.proofs.SequenceLemmas.{steps_one_way, steps_within}
 
 -- all of those with P have P

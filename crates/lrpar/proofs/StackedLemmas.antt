@@ -4,7 +4,7 @@ use Rattle.std.proofs.lemmas.List.{length-append, length-map, length-take-le}
 use Rattle.std.proofs.lemmas.Slice.Zip.{AllZip-long}
 use Rattle.std.specs.List.{AllZip, last_or}
 use Rattle.std.specs.Option.{option_and_then, option_map_or}
-use Rattle.lrpar_grammar.specs.Grammar.{Grammar, GrammarSymbol, Nonterminal, Terminal, end_token, prod_len, prods_len, rule_of, start_prod, symbols_of}
+use Rattle.lrpar_grammar.specs.Grammar.{Grammar, GrammarSymbol, Nonterminal, Terminal, end_token, prod_len, rule_of, start_prod, symbols_of}
 use Rattle.lrpar_text.specs.declared.span.PIdx.{PIdx}
 use Rattle.lrpar_text.specs.declared.span.StIdx.{StIdx}
 use Rattle.lrpar_states.specs.declared.rows.Action.{Action}
@@ -17,7 +17,7 @@ use Rattle.lrpar_check.specs.Reduction.{Reduces, ReducesBy, left_by, top_action,
 use Rattle.lrpar_check.specs.Stack.{top_of}
 use Rattle.lrpar_states.specs.Table.{Table, Fails, ReduceBy, ShiftTo, IsClosed, action_of, goto_of, states_len}
 use Rattle.lrpar_check.proofs.PathLemmas.{last_of, last_within, top_is_last}
-use Rattle.lrpar.specs.Standing.{Stacked, IsUpright, ReducesTo, ReducesAllTo, kept_by, popped_by}
+use Rattle.lrpar.specs.Standing.{Stacked, IsUpright, ReducesTo, ReducesAllTo, kept_by}
 use Rattle.lrpar.specs.Stacked.{SettlesTo}
 use Rattle.lrpar.proofs.ListLemmas.{zip_drop, zip_push, zip_take}
 

@@ -1,6 +1,5 @@
 -- What runs keep of a stack: it stays one of the table.
-use Rattle.std.proofs.Common.{◌≡◌, ◌<◌, ◌≤◌, ◌+◌, ◌∙◌, inl, inr, ℕ, List, [], ◌∷◌, Option, length, map, sym, subst, arith, slice_get, Some, All}
-use Rattle.std.proofs.lemmas.Bool.{cases_lt}
+use Rattle.std.proofs.Common.{◌≡◌, ◌<◌, ◌+◌, inl, inr, ℕ, List, [], ◌∷◌, Option, map, sym, subst, arith, All}
 use Rattle.std.proofs.lemmas.List.Elements.{All-nil, All-cons}
 use Rattle.std.proofs.lemmas.Option.{slice_get_cases}
 use Rattle.lrpar_grammar.specs.Grammar.{Grammar, end_token, tokens_len}
@@ -15,7 +14,7 @@ use Rattle.lrpar_check.proofs.SettleLemmas.{IsRun, run_of_checked, stack_reduced
 use Rattle.lrpar.specs.Recovery.{Point}
 use Rattle.lrpar.specs.RepairLaws.{StopsAtStacks}
 use Rattle.lrpar.specs.RepairRun.{RepairRun, RepairStop, ends_there, is_repaired, runs_through}
-use Rattle.lrpar.specs.Run.{Far, FarEnd, Accepted, Stopped, Stop, accepts, goes_on, stops, token_at}
+use Rattle.lrpar.specs.Run.{Far, FarEnd, Accepted, Stopped, accepts, goes_on, stops, token_at}
 use Rattle.lrpar.specs.Sequences.{PlainStep, PlainInsert, PlainDelete, PlainShift, Replays, StepsTo}
 use Rattle.lrpar.proofs.OverLemmas.{good_token}
 use Rattle.lrpar.proofs.RunLemmas.{token_at_end, token_at_lexeme}

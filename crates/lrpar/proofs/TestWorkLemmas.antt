@@ -1,14 +1,14 @@
 -- The reductions that the test of a sequence makes are bounded: each lookahead costs at most `cap` for each state that is lost,
 -- and `cap * (cap + 3)` beside that.
-use Rattle.std.proofs.Common.{◌≡◌, ◌<◌, ◌≤◌, ◌+◌, ◌*◌, ◌∙◌, ◌⊎◌, inl, inr, ℕ, zero, suc, List, [], ◌∷◌, ◌++◌, length, refl, sym, subst, ap, arith, length-append}
-use Rattle.lrpar_grammar.specs.Grammar.{Grammar, GrammarSymbol, end_token}
+use Rattle.std.proofs.Common.{◌≡◌, ◌<◌, ◌≤◌, ◌+◌, ◌*◌, ◌∙◌, inl, inr, ℕ, zero, suc, List, [], ◌∷◌, ◌++◌, length, sym, subst, ap, arith, length-append}
+use Rattle.lrpar_grammar.specs.Grammar.{Grammar, end_token}
 use Rattle.lrpar_states.specs.Table.{Table}
 use Rattle.lrpar_check.specs.Chain.{IsBounded}
-use Rattle.lrpar_check.specs.Path.{IsPath, NeverSticks}
+use Rattle.lrpar_check.specs.Path.{NeverSticks}
 use Rattle.lrpar_check.specs.Reduction.{Feeds, Settles}
 use Rattle.lrpar.specs.Run.{token_at}
 use Rattle.lrpar.specs.Sequences.{PlainStep, PlainInsert, PlainDelete, PlainShift, StepsTo}
-use Rattle.lrpar.specs.TestWork.{BoundsTests, EndsBy, GoesOnBy, TestedBy, most_tested}
+use Rattle.lrpar.specs.TestWork.{BoundsTests, EndsBy, GoesOnBy, TestedBy}
 use Rattle.lrpar.proofs.RunLemmas.{HasPath, feeds_path, settles_reduces}
 
 -- the sums: a lookahead that is fed, and what comes after it

@@ -14,7 +14,6 @@ use Rattle.lrpar.specs.declared.errors.LexParseError.{LexParseError}
 use Rattle.lrpar.specs.declared.errors.LexParseError.TheVariants.{ParseError}
 use Rattle.lrpar.specs.declared.run.End.{End}
 use Rattle.lrpar.specs.declared.run.End.TheVariants.{Accepts, Stops}
-use Rattle.lrpar_text.specs.declared.span.StIdx.{StIdx}
 
 -- the error in this state at this lexeme, for which no repair is listed
 abbrev pub failure_at : {X : Type 0} → ℕ → X → Failure X

@@ -1,5 +1,5 @@
 -- Laws of sequences of repairs and of runs with repairs.
-use Rattle.std.specs.Prelude.{◌≡◌, ◌≢◌, ◌<◌, ◌≤◌, ◌+◌, ◌-◌, ◌/◌, ◌↔◌, ℕ, List, [], ◌∷◌, All, length, map, Option, IsSome}
+use Rattle.std.specs.Prelude.{◌≡◌, ◌≢◌, ◌<◌, ◌≤◌, ◌+◌, ◌/◌, ◌↔◌, ℕ, List, [], ◌∷◌, All, length, map, Option, IsSome}
 use Rattle.std.specs.List.{AllPairs}
 use Rattle.lrpar_grammar.specs.Grammar.{Grammar, end_token}
 use Rattle.lrpar_grammar.specs.Sentence.{IsValidList, LexemeFacts}

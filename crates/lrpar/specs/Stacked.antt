@@ -1,7 +1,7 @@
 -- What the stacks of a run do at a token.
 use Rattle.std.specs.Prelude.{◌≡◌, ◌≤◌, ◌+◌, ◌*◌, ℕ, List, [], ◌∷◌, ◌++◌, length, Option}
-use Rattle.lrpar_grammar.specs.Grammar.{Grammar, GrammarSymbol, Terminal}
-use Rattle.lrpar_states.specs.Table.{Table, ShiftTo, Fails}
+use Rattle.lrpar_grammar.specs.Grammar.{GrammarSymbol, Terminal}
+use Rattle.lrpar_states.specs.Table.{ShiftTo, Fails}
 use Rattle.lrpar_check.specs.Checked.{Checked}
 use Rattle.lrpar_check.specs.Reduction.{IsSettled, top_action}
 use Rattle.lrpar.specs.Standing.{Stacked, ReducesAllTo}

@@ -5,10 +5,10 @@
 use Rattle.std.specs.Prelude.{◌≡◌, ◌-◌, ℕ, List, [], ◌∷◌, ◌++◌, length, take, drop, Option, Some, None}
 use Rattle.std.specs.List.{AllZip, last_or}
 use Rattle.lrpar_grammar.specs.Grammar.{Grammar, GrammarSymbol, Nonterminal, rule_of, prod_len}
-use Rattle.lrpar_grammar.specs.Tree.{Tree, Forest, Leaf, Branch, Nil, Cons, ForestFits, forest_leaves, forest_productions}
+use Rattle.lrpar_grammar.specs.Tree.{Tree, Forest, Leaf, Branch, Nil, Cons}
 use Rattle.lrpar_states.specs.Table.{Table}
 use Rattle.lrpar_check.specs.Path.{IsPath}
-use Rattle.lrpar_check.specs.Reduction.{Reduces, IsSettled}
+use Rattle.lrpar_check.specs.Reduction.{Reduces}
 
 -- the states, and for each but the lowest the entry of the symbol that led to it
 pub record Stacked (E : Type 0) : Type 0 where

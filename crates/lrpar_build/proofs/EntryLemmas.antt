@@ -1,6 +1,6 @@
 -- What the loops over cores, tokens and productions put together, told by what the next one adds.
-use Rattle.std.proofs.Common.{◌≡◌, ◌≢◌, ◌<◌, ◌≤◌, ◌+◌, ◌==◌, ◌&&◌, ◌||◌, ◌++◌, ◌∷◌, ◌∙◌, ℕ, zero, suc, Bool, true, false, not, cond, nat_eq, List, [], Option, Some, None, refl, sym, ap, subst, arith, length, map, take, get_or, filter, zero-add}
-use Rattle.std.specs.List.{range_with_len, flat_map, list_any}
+use Rattle.std.proofs.Common.{◌≡◌, ◌≢◌, ◌<◌, ◌+◌, ◌==◌, ◌&&◌, ◌||◌, ◌++◌, ◌∷◌, ◌∙◌, ℕ, Bool, true, false, not, cond, nat_eq, List, [], Some, None, refl, sym, ap, arith, length, map, take, get_or, filter, zero-add}
+use Rattle.std.specs.List.{range_with_len, flat_map}
 use Rattle.std.specs.Map.{keys_of, lookup}
 use Rattle.std.proofs.lemmas.Bool.{ne_eqb}
 use Rattle.std.proofs.lemmas.List.{append-nil, append_assoc, get_or-map, length-map, map-append}

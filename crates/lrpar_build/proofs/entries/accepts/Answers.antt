@@ -1,4 +1,4 @@
-use Rattle.std.proofs.Common.{◌≡◌, ◌∙◌, sym, ap, map}
+use Rattle.std.proofs.Common.{◌∙◌, sym, ap, map}
 use Rattle.std.proofs.lemmas.List.{take_all}
 use Rattle.lrpar_build.specs.Cores.{core_set}
 use Rattle.lrpar_build.specs.Wanted.{accepts_at}

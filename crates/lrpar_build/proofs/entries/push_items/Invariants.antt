@@ -2,7 +2,6 @@ use Rattle.std.proofs.Common.{◌≡◌, ◌++◌, filter, map}
 use Rattle.std.specs.List.{range_with_len}
 use Rattle.lrpar_states.specs.Graph.{item_at}
 use Rattle.lrpar_states.specs.PlainItems.{item_of}
-use Rattle.lrpar_build.specs.Cores.{core_set}
 use Rattle.lrpar_build.specs.Tokens.{has}
 use Rattle.lrpar_build.proofs.entries.push_items.Given as goal
 

@@ -1,7 +1,5 @@
-use Rattle.std.proofs.Common.{◌≡◌, ◌++◌, ◌∷◌, [], ◌∙◌, refl, sym, ap, map}
-use Rattle.std.proofs.lemmas.List.{append-nil, take_all}
+use Rattle.std.proofs.Common.{refl, map}
 use Rattle.lrpar_states.specs.PlainConflicts.{reduce_reduce_of}
-use Rattle.lrpar_build.specs.Wanted.{reduce_conflicts_at}
 use Rattle.lrpar_build.proofs.EntryLemmas.{conflicts_more}
 use Rattle.lrpar_build.proofs.entries.push_later.Goals as goal
 

@@ -1,4 +1,4 @@
-use Rattle.std.proofs.Common.{◌≡◌, ◌∙◌, ℕ, sym, ap, subst, map, nat_eq}
+use Rattle.std.proofs.Common.{◌∙◌, sym, ap, subst, map, nat_eq}
 use Rattle.std.specs.Map.{keys_of, lookup}
 use Rattle.lrpar_build.specs.Wanted.{AscendFrom, shift_entry}
 use Rattle.lrpar_build.proofs.EntryLemmas.{lookup_other}

@@ -1,5 +1,4 @@
-use Rattle.std.proofs.Common.{◌≡◌, ◌∙◌, length, arith, sym}
-use Rattle.lrpar_grammar.specs.Grammar.{prod_len}
+use Rattle.std.proofs.Common.{length}
 use Rattle.lrpar_grammar.specs.Symbols.{symbol_of}
 use Rattle.lrpar.proofs.StackedLemmas.{entries_deep, goto_some, is_listed, left_some, left_top_within, mapped_len, popped_suit, reduces_to, states_deep, upright_after}
 use Rattle.lrpar.proofs.run.Run.reduce.Goals as goal
