@@ -1,10 +1,10 @@
-use crate::lexer::SumLexer;
+use crate::lexer::{SumLexer, SumTypes};
 use crate::run::run;
 use crate::sum::sum_data;
-use lrpar::RTParserBuilder;
+use lrpar::span::TIdx;
+use lrpar::{LexParseError, RTParserBuilder};
 use std::alloc::{AllocError, Global};
 use std::io::Write;
-use std::process::Abort;
 use std::test::Fail;
 use std::{io, str};
 
@@ -138,15 +138,32 @@ fn failed_writes(rt: HostRuntime) -> Result<(), Fail> {
     Ok(())
 }
 
+// No token has a text.
+fn no_text<'a>(_token: TIdx<u32>) -> Option<&'a str> {
+    None
+}
+
+// The text of an error of the text.
+fn text_of<'a>(
+    alloc: Global,
+    text: &'a str,
+    error: &LexParseError<u32, SumTypes>,
+) -> Result<String, Fail> {
+    if !error.fits(text) {
+        return Err(Fail::new("an error outside the text"));
+    }
+    let lexer = SumLexer::new(alloc, text)?;
+    Ok(error.pp(alloc, &lexer, no_text::<'a>)?)
+}
+
 // The texts of the errors of a sum, by the library.
-fn printed(rt: &impl Abort, alloc: Global, text: &str) -> Result<String, Fail> {
+fn all_texts(alloc: Global, text: &str) -> Result<String, Fail> {
     let data = sum_data(alloc)?;
     let lexer = SumLexer::new(alloc, text)?;
     let errors = RTParserBuilder::new(&data).parse_noaction(alloc, &lexer)?;
     let mut all = String::new(alloc);
     for error in &errors {
-        assert!(rt; error.fits(text));
-        all.push_str(error.pp(alloc, &lexer, |_| None)?.as_str())?;
+        all.push_str(text_of(alloc, text, error)?.as_str())?;
     }
     Ok(all)
 }
@@ -167,7 +184,7 @@ fn texts_of_errors(rt: HostRuntime) -> Result<(), Fail> {
         ("a1", "Lexing error at line 1 column 2."),
     ];
     for (text, want) in rows {
-        assert_eq!(rt; printed(&rt, rt.alloc(), text)?.as_str(), want, "{text}");
+        assert_eq!(rt; all_texts(rt.alloc(), text)?.as_str(), want, "{text}");
     }
     Ok(())
 }

@@ -347,10 +347,15 @@ fn action_errors(
     data: &ParserData<u32>,
     answers: &[LexAnswer],
 ) -> Result<Errors, Fail> {
-    Ok(match acted(alloc, data, answers, &TreeActions)? {
-        Ok((_, errors)) => Ok(errors),
-        Err(fault) => Err(fault),
-    })
+    let lexer = HandedLexer { answers };
+    let parser = RTParserBuilder::<u32, HandedTypes>::new(data);
+    if !parser.takes_all(&lexer, &TreeActions) {
+        return Err(Fail::new("a production isn't taken"));
+    }
+    match parser.parse_actions(alloc, &lexer, &TreeActions, &()) {
+        Ok((_, errors)) => Ok(Ok(errors)),
+        Err(fault) => Ok(Err(fault)),
+    }
 }
 
 // What each of the four calls answers.
