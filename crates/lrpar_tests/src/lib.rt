@@ -34,6 +34,7 @@ mod span;
 mod stacks;
 #[cfg(test)]
 mod table;
+#[cfg(test)]
 mod texts;
 #[cfg(test)]
 mod trees;
