@@ -6,3 +6,4 @@ pub mod FirstRows
 pub mod Brought
 pub mod Cores
 pub mod Wanted
+pub mod States

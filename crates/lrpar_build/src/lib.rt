@@ -7,4 +7,5 @@ mod entries;
 mod fault;
 mod first;
 mod reach;
+mod state;
 mod tokens;

@@ -1,0 +1,44 @@
+-- The states that are built: each with its cores, and where it goes by the symbols that its items stand before.
+use Rattle.std.specs.Prelude.{◌≡◌, ◌<◌, ℕ, List, [], All, length, map, nat_eq, slice_index_or}
+use Rattle.std.specs.Map.{keys_of, lookup}
+use Rattle.lrpar_grammar.specs.Grammar.{Grammar, Nonterminal, Terminal}
+use Rattle.lrpar_states.specs.Graph.{ItemOf}
+use Rattle.lrpar_states.specs.PlainRows.{goto_entry}
+use Rattle.lrpar_build.specs.Canonical.{AreCanonical, IsStep}
+use Rattle.lrpar_build.specs.Cores.{CoreSet, IsAmong, IsCoreOf, core_set}
+use Rattle.lrpar_build.specs.Wanted.{AreOnce, AscendFrom, shift_entry}
+use Rattle.lrpar_build.specs.declared.state.State.{State}
+
+-- a state: its cores with their lookaheads, the states to which it goes by rules, and those to which it goes by tokens
+pub record StateOf : Type 0 where
+  pub cores : List CoreSet
+  pub gotos : List (ℕ × ℕ)
+  pub shifts : List (ℕ × ℕ)
+
+-- that of the code
+abbrev pub state_of : {S : Type 0} → (S → ℕ) → State S → StateOf
+state_of index state = record {
+  cores = map (core_set index) state.items.items;
+  gotos = map (goto_entry index) state.gotos.items;
+  shifts = map (shift_entry index) state.shifts.items;
+}
+
+-- state s; out of range, one without items
+abbrev pub state_at : List StateOf → ℕ → StateOf
+state_at states s = slice_index_or states s (record { cores = []; gotos = []; shifts = [] })
+
+-- the items of each state
+abbrev pub sets_at : List StateOf → ℕ → ItemOf → Type 0
+sets_at states s = IsAmong (state_at states s).cores
+
+-- the states have the canonical sets, each core of a state once, and where they go they list by ascending numbers
+pub record AreStates (g : Grammar) (states : List StateOf) : Type 0 where
+  pub canonical : AreCanonical g (length states) (sets_at states)
+  pub cores : (s : ℕ) → s < length states → All (IsCoreOf g) (state_at states s).cores
+  pub once : (s : ℕ) → s < length states → AreOnce (state_at states s).cores
+  pub gotos_ascend : (s : ℕ) → s < length states → AscendFrom 0 (keys_of (state_at states s).gotos)
+  pub shifts_ascend : (s : ℕ) → s < length states → AscendFrom 0 (keys_of (state_at states s).shifts)
+  pub gotos : (s r : ℕ) → s < length states
+      → IsStep g (length states) (sets_at states) s (Nonterminal r) (lookup (nat_eq r) (state_at states s).gotos)
+  pub shifts : (s t : ℕ) → s < length states
+      → IsStep g (length states) (sets_at states) s (Terminal t) (lookup (nat_eq t) (state_at states s).shifts)
