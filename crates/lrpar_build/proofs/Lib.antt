@@ -12,3 +12,4 @@ pub mod WantedLemmas
 pub mod ReachedLemmas
 pub mod DecidedLemmas
 pub mod SafeLemmas
+pub mod ConflictLemmas
