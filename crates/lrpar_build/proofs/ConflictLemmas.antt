@@ -1,15 +1,19 @@
--- Canonical sets have no conflicts exactly where none of them wants two different actions at one token.
-use Rattle.std.proofs.Common.{◌≡◌, ◌≢◌, ◌<◌, ◌+◌, refl, sym, ap, subst, inl, inr, arith, ℕ, List, [], ◌∷◌, None, Option, Some}
+-- Canonical sets have no conflicts exactly where none of them wants two different actions at one token; and those that they have fit the
+-- grammar.
+use Rattle.std.proofs.Common.{◌≡◌, ◌≢◌, ◌<◌, ◌+◌, refl, sym, ap, subst, inl, inr, arith, ℕ, List, [], ◌∷◌, All, slice_index_or, None, Option, Some}
 use Rattle.std.specs.List.{Contains}
 use Rattle.std.proofs.lemmas.Bool.{cases_eq}
-use Rattle.lrpar_grammar.specs.Grammar.{Grammar, GrammarSymbol, IsWellFormed, Terminal, end_token, start_prod, tokens_len}
+use Rattle.std.proofs.lemmas.List.Elements.{All-contains_itself}
+use Rattle.lrpar_grammar.specs.Grammar.{Grammar, GrammarSymbol, IsWellFormed, Terminal, end_token, prod_len, prods_len, start_prod}
+use Rattle.lrpar_states.specs.ConflictsFit.{ReductionsFit, ShiftFits}
 use Rattle.lrpar_states.specs.Graph.{Graph, ItemOf, graph_len, item_at}
+use Rattle.lrpar_states.specs.Safe.{IsItem}
 use Rattle.lrpar_states.specs.Table.{Accepts, ConflictLists, Fails, ReduceBy, ReduceReduce, ShiftReduce, ShiftTo}
-use Rattle.lrpar_build.specs.BuilderLaws.{AcceptAlone, AreConflictsOf, NoConflictsAreOneAction, WantOneAction, lists_in}
+use Rattle.lrpar_build.specs.BuilderLaws.{AcceptAlone, AreConflictsOf, CanonicalConflictsFit, NoConflictsAreOneAction, WantOneAction, lists_in}
 use Rattle.lrpar_build.specs.Canonical.{IsCanonical, IsStep, StandsBefore, WantsAccept, WantsFirst, WantsReduce, sets_of}
 use Rattle.lrpar_build.specs.ItemSets.{Added, IsAdvanced, IsInClosure, IsInNext, IsReachedBy, Own}
 use Rattle.lrpar_build.proofs.DecidedLemmas.{first_wanted}
-use Rattle.lrpar_build.proofs.ReachedLemmas.{no_end_token, reached_at_end, reached_items}
+use Rattle.lrpar_build.proofs.ReachedLemmas.{no_end_token, reached_at_end, reached_items, symbol_listed}
 
 -- a closure has what the closure of fewer items has
 closure_grows : (g : Grammar) (items more : ItemOf → Type 0) → ((x : ItemOf) → items x → more x) → (x : ItemOf)
@@ -30,9 +34,10 @@ empty_list (x ∷ xs) none = absurd (none x (0, omega arith, refl))
 
 module _ (g : Grammar) (graph : Graph) (well : IsWellFormed g) (canonical : IsCanonical g graph) where
   -- an item of a state is one of the grammar
-  pub token_known : (s p k t : ℕ) → s < graph_len graph → sets_of graph s (item_at p k t) → t < tokens_len g
-  token_known s p k t within has =
-      let reached = canonical.reached s within in (reached_items g well reached.0 (item_at p k t) ((reached.1 (item_at p k t)).0 has)).token
+  pub item_known : (s p k t : ℕ) → s < graph_len graph → sets_of graph s (item_at p k t) → IsItem g p k t
+  item_known s p k t within has =
+      let item = item_at p k t in
+      let reached = canonical.reached s within in reached_items g well reached.0 item ((reached.1 item).0 has)
 
   -- a state that wants to accept does so at the end token
   accept_at_end : (s t : ℕ) → s < graph_len graph → WantsAccept g (sets_of graph) s t → t ≡ end_token g
@@ -74,7 +79,7 @@ module _ (g : Grammar) (graph : Graph) (well : IsWellFormed g) (canonical : IsCa
           → WantsReduce g (sets_of graph) s t second → first < second → ⊥
       no_reduce_conflict s t first second within wants also less =
           let x : ReduceReduce = record { token = t; first = first; second = second; state = s } in
-          let listed = (are.reduce_reduce x).1 (within, token_known s first _ t within wants.0.1, (wants, also, less)) in
+          let listed = (are.reduce_reduce x).1 (within, (item_known s first _ t within wants.0.1).token, (wants, also, less)) in
           let there : Contains [] x = subst (λ (c : Option ConflictLists). Contains (lists_in c).reduce_reduce x) none listed in
           omega (arith, there.1)
 
@@ -83,7 +88,7 @@ module _ (g : Grammar) (graph : Graph) (well : IsWellFormed g) (canonical : IsCa
       no_shift_conflict s t p within before wants =
           let first = first_wanted g graph s t p wants in
           let x : ShiftReduce = record { token = t; prod = first.0; state = s } in
-          let listed = (are.shift_reduce x).1 (within, token_known s p _ t within wants.1, (before, first.1)) in
+          let listed = (are.shift_reduce x).1 (within, (item_known s p _ t within wants.1).token, (before, first.1)) in
           let there : Contains [] x = subst (λ (c : Option ConflictLists). Contains (lists_in c).shift_reduce x) none listed in
           omega (arith, there.1)
 
@@ -167,3 +172,29 @@ no_conflicts_are_one_action g graph conflicts well canonical are alone = (
   one_action g graph well canonical conflicts are alone,
   λ one. none_listed g graph well canonical conflicts are alone one conflicts refl,
 )
+
+-- what holds of all that a list contains holds of its elements
+all_contained : {X : Type 0} (P : X → Type 0) (xs : List X) → ((x : X) → Contains xs x → P x) → All P xs
+all_contained P xs each i d below = each (slice_index_or xs i d) (All-contains_itself xs i d below)
+
+pub canonical_conflicts_fit : CanonicalConflictsFit
+canonical_conflicts_fit g graph conflicts well canonical are =
+    let lists = lists_in conflicts in
+    let known : (s t p : ℕ) → s < graph_len graph → WantsReduce g (sets_of graph) s t p → p < prods_len g = λ s t p within wants.
+    (item_known g graph well canonical s p (prod_len g p) t within wants.1).prod in
+    record {
+      reduce_reduce = all_contained (ReductionsFit g) lists.reduce_reduce (λ x there.
+          let found = (are.reduce_reduce x).0 there in
+          record {
+            token = found.1;
+            first = known x.state x.token x.first found.0 found.2.0.0;
+            second = known x.state x.token x.second found.0 found.2.1;
+          });
+      shift_reduce = all_contained (ShiftFits g) lists.shift_reduce (λ x there.
+          let found = (are.shift_reduce x).0 there in
+          let before = found.2.0 in
+          record {
+            token = symbol_listed g well before.0.prod before.0.dot (Terminal x.token) before.2;
+            prod = known x.state x.token x.prod found.0 found.2.1.0;
+          });
+    }

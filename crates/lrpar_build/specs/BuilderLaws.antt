@@ -1,6 +1,7 @@
 -- What follows where a table does what the canonical sets want.
 use Rattle.std.specs.Prelude.{◌≡◌, ◌<◌, ◌≤◌, ◌↔◌, ℕ, [], Contains, Option, Some, None}
 use Rattle.lrpar_grammar.specs.Grammar.{Grammar, IsWellFormed, Terminal, rules_len, tokens_len}
+use Rattle.lrpar_states.specs.ConflictsFit.{ConflictsFit}
 use Rattle.lrpar_states.specs.Graph.{Graph, ItemOf, graph_len}
 use Rattle.lrpar_states.specs.Safe.{IsSafe}
 use Rattle.lrpar_states.specs.Table.{ConflictLists, ReduceReduce, ShiftReduce, Table, TableAction, ShiftTo, ReduceBy, Accepts, Fails, action_of, goto_of, states_len}
@@ -59,3 +60,9 @@ NoConflictsAreOneAction =
     (g : Grammar) (graph : Graph) (conflicts : Option ConflictLists) → IsWellFormed g → IsCanonical g graph
     → AreConflictsOf g graph conflicts → AcceptAlone g (graph_len graph) (sets_of graph)
     → (conflicts ≡ None) ↔ WantOneAction g (graph_len graph) (sets_of graph)
+
+-- what is listed of canonical sets fits the grammar
+abbrev pub CanonicalConflictsFit : Type 0
+CanonicalConflictsFit =
+    (g : Grammar) (graph : Graph) (conflicts : Option ConflictLists) → IsWellFormed g → IsCanonical g graph
+    → AreConflictsOf g graph conflicts → ConflictsFit g (lists_in conflicts)
