@@ -140,14 +140,15 @@ impl<
     /// Parses what the lexer answers, which it is asked once. A lexeme has the value that `fterm` gives; a rule has
     /// the value that `fnonterm` gives of the rule and the values of its symbols, from left to right.
     ///
-    /// Where the lexer answers an error, the first one is answered alone. Otherwise there is either a value and no
-    /// error, or no value and one error, which offers no repair: the state and the lexeme at which there is no action.
-    /// `BadToken` and `StartsDecrease` name the first lexeme that has either fault, where the lexer answers no error.
-    /// The answer is `Memory` only where memory was wanting, be it the lexer's.
+    /// Where the lexer answers an error, the first one is answered alone. Otherwise there is an error for each stop: the
+    /// state and the lexeme at which there is no action, and those of the recoverer's sequences that work there, in its
+    /// order. The parse goes on from what the first of them gives, so there is a value exactly where each error lists a
+    /// sequence. `BadToken` and `StartsDecrease` name the first lexeme that has either fault, where the lexer answers no
+    /// error. The answer is `Memory` only where memory was wanting, be it the lexer's or the recoverer's.
     ///
-    /// The time grows with the lexemes and the reductions. Under one lookahead there are at most as many reductions as
-    /// the cap times the states on the stack before it, and over a whole parse that accepts n lexemes at most
-    /// `cap * (cap + 3) * (n + 1)`.
+    /// The time grows with the lexemes, the reductions and the steps that are handed in; the test of a sequence copies no
+    /// stack. Under one lookahead there are at most as many reductions as the cap times the states on the stack before it,
+    /// and over a whole parse that consumes n lexemes and has e errors at most `cap * (cap + 3) * (n + e + 1)`.
     pub fn parse_map<
         'input,
         L: NonStreamingLexer<'input, LexerTypesT>,
