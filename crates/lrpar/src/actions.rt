@@ -10,7 +10,7 @@ ghost use Rattle.lrpar.specs.Placed.{IsPlacedLexeme, IsPlacedValue, arguments_of
 ghost use Rattle.lrpar.specs.PlacedRising.{placed_rise};
 ghost use Rattle.lrpar.specs.Spans.{Rise, span_over};
 
-use crate::build::Build;
+use crate::building::Build;
 use crate::lex_api::Lexeme;
 use crate::values::AStackType;
 use lrpar_grammar::grammar::YaccGrammar;

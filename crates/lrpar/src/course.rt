@@ -11,7 +11,7 @@ ghost use Rattle.lrpar.specs.RepairAnswer.{IsRepairAnswer, IsRepairErrorOf};
 ghost use Rattle.lrpar.specs.RepairRun.{IsListedAt};
 ghost use Rattle.lrpar.specs.RunAnswer.{HasValue};
 
-use crate::build::Build;
+use crate::building::Build;
 use crate::errors::{LexParseError, ParseError};
 use crate::lex_api::{Lexeme, LexerTypes};
 use crate::repair::{Recoverer, RecoveryPoint, RepairStep};

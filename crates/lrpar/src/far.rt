@@ -6,7 +6,7 @@ ghost use Rattle.lrpar.specs.Mended.{start_at};
 ghost use Rattle.lrpar.specs.Moves.{GoesFar, RiseUpTo, StartsRise};
 ghost use Rattle.lrpar.specs.Standing.{IsUpright};
 
-use crate::build::Build;
+use crate::building::Build;
 use crate::lex_api::Lexeme;
 use crate::run::Run;
 use crate::stack::Stack;

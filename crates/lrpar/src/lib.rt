@@ -2,7 +2,7 @@
 #![tactic(auto)]
 
 mod actions;
-mod build;
+mod building;
 mod course;
 mod error_text;
 pub mod errors;
@@ -29,7 +29,7 @@ pub use errors::{LexParseError, ParseError, ParseRepair};
 pub use lex_api::{LexError, Lexeme, Lexer, LexerTypes, NonStreamingLexer};
 pub use lrpar_grammar::{grammar, lines, span};
 pub use lrpar_table::check::ParserData;
-pub use lrpar_table::{check, table};
+pub use lrpar_table::{build, check, table};
 pub use node::{Node, action_generictree};
 pub use parser::RTParserBuilder;
 pub use span::RIdx;

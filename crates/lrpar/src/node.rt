@@ -8,7 +8,7 @@ ghost use Rattle.lrpar.specs.Nodes.{IsNonterm, IsTerm, node_of};
 
 use self::copied::copied;
 use self::equal::are_equal;
-use crate::build::Build;
+use crate::building::Build;
 use crate::lex_api::{Lexeme, LexerTypes, NonStreamingLexer};
 use crate::values::AStackType;
 use lrpar_grammar::grammar::YaccGrammar;

@@ -1,7 +1,7 @@
 //! Nothing is built: a parse gives its errors alone.
 ghost use Rattle.std.specs.Prelude.{◌≡◌, ◌≤◌, ◌-◌, OnOk, length, take};
 
-use crate::build::Build;
+use crate::building::Build;
 use crate::lex_api::Lexeme;
 use lrpar_grammar::grammar::YaccGrammar;
 use lrpar_grammar::span::{PIdx, StorageIndex};

@@ -15,7 +15,7 @@ ghost use Rattle.lrpar.specs.Parse.{ParsesTo, ParsesToErrors};
 
 pub use crate::actions::Actions;
 use crate::actions::{Acting, Placed};
-use crate::build::Build;
+use crate::building::Build;
 use crate::course::Course;
 pub use crate::errors::{LexParseError, ParseError, ParseRepair};
 pub use crate::fault::ParseFault;

@@ -12,7 +12,7 @@ ghost use Rattle.lrpar.specs.Sequences.{PlainStep, Replays, StepsTo};
 ghost use Rattle.lrpar.specs.Stacked.{Shifts};
 ghost use Rattle.lrpar.specs.Standing.{IsUpright};
 
-use crate::build::Build;
+use crate::building::Build;
 use crate::lex_api::Lexeme;
 use crate::repair::RepairStep;
 use crate::run::Run;

@@ -9,7 +9,7 @@ ghost use Rattle.lrpar.specs.Lexemes.{facts_of, lexeme_past};
 ghost use Rattle.lrpar.specs.Standing.{IsUpright, ReducesTo};
 ghost use Rattle.lrpar.specs.Stacked.{SettlesTo, Shifts, Sticks};
 
-use crate::build::Build;
+use crate::building::Build;
 use crate::lex_api::Lexeme;
 use crate::stack::Stack;
 use lrpar_grammar::span::{PIdx, StorageIndex, TIdx};

@@ -5,7 +5,7 @@ use std::error::Error;
 use std::fmt;
 
 /// The number was 0: some lexeme has to follow a repair.
-#[derive(Debug, Drop)]
+#[derive(Drop)]
 pub struct ZeroShifts<B> {
     pub(crate) builder: B,
 }
@@ -19,6 +19,13 @@ impl<B> ZeroShifts<B> {
     }
 }
 
+// Of the builder it shows nothing, so that a caller's `?` asks nothing of its types.
+impl<B: Drop> fmt::Debug for ZeroShifts<B> {
+    fn fmt<W: fmt::Write>(&self, f: &mut fmt::Formatter<W>) -> fmt::Result {
+        write!(f, "ZeroShifts")
+    }
+}
+
 impl<B: Drop> fmt::Display for ZeroShifts<B> {
     ghost use Rattle.std.specs.Prelude.{Some, codes};
 
@@ -29,4 +36,4 @@ impl<B: Drop> fmt::Display for ZeroShifts<B> {
     }
 }
 
-impl<B: fmt::Debug + Drop> Error for ZeroShifts<B> {}
+impl<B: Drop> Error for ZeroShifts<B> {}

@@ -5,7 +5,7 @@ ghost use Rattle.lrpar_grammar.specs.Grammar.{Nonterminal, rule_of, start_prod};
 ghost use Rattle.lrpar.specs.Entries.{Gives, IsLexemeEntry, IsMadeEntry, SuitsSymbol};
 ghost use Rattle.lrpar.specs.Made.{made_by};
 
-use crate::build::Build;
+use crate::building::Build;
 use crate::lex_api::Lexeme;
 use lrpar_grammar::grammar::YaccGrammar;
 use lrpar_grammar::span::{PIdx, RIdx, StorageIndex};

@@ -1,0 +1,28 @@
+-- A checked table of a grammar alone, and why there is none.
+use Rattle.std.specs.Prelude.{◌≡◌, ◌≤◌, ℕ}
+use Rattle.lrpar_grammar.specs.Grammar.{Grammar}
+use Rattle.lrpar_states.specs.Graph.{graph_len}
+use Rattle.lrpar_build.specs.Built.{IsBuildRefusal, IsBuilt}
+use Rattle.lrpar_check.specs.Checked.{Checked, IsChainFault, IsChecked, Unchecked}
+use Rattle.lrpar_table.specs.declared.build.Unbuilt.{Unbuilt}
+use Rattle.lrpar_table.specs.declared.build.Unbuilt.TheVariants.{Chains, Table}
+
+-- the checked table is that which is built of the grammar, with at most so many states, and has this cap
+pub record IsParserDataOf (g : Grammar) (most cap : ℕ) (d : Checked) : Type 0 where
+  pub grammar : d.grammar ≡ g
+  pub cap_is : d.cap ≡ cap
+  pub built : IsBuilt g d.graph d.table
+  pub room : graph_len d.graph ≤ most
+  pub checked : IsChecked d
+
+-- what is refused for its chains is what was built of the grammar
+pub record IsRefusedBuilt (g : Grammar) (most cap : ℕ) (refused : Unchecked) : Type 0 where
+  pub grammar : refused.grammar ≡ g
+  pub built : IsBuilt g refused.graph refused.table
+  pub room : graph_len refused.graph ≤ most
+  pub fault : IsChainFault g refused.table cap refused.fault
+
+-- why there is no checked table: none is built; or its chains are too long, or memory was wanting
+abbrev pub IsUnbuilt : {S : Type 0} → ℕ → Grammar → ℕ → ℕ → Unbuilt S → Type 0
+IsUnbuilt limit g most bound (Table fault grm) = (grm ≡ g) × IsBuildRefusal g most limit fault
+IsUnbuilt limit g most bound (Chains refused) = IsRefusedBuilt g most bound refused
