@@ -9,3 +9,4 @@ pub mod BringLemmas
 pub mod AmongLemmas
 pub mod EntryLemmas
 pub mod WantedLemmas
+pub mod StateRowLemmas
