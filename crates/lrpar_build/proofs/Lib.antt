@@ -10,3 +10,6 @@ pub mod AmongLemmas
 pub mod EntryLemmas
 pub mod WantedLemmas
 pub mod StateRowLemmas
+pub mod ReachedLemmas
+pub mod DecidedLemmas
+pub mod SafeLemmas
