@@ -13,3 +13,4 @@ pub mod StateRowLemmas
 pub mod ReachedLemmas
 pub mod DecidedLemmas
 pub mod SafeLemmas
+pub mod ConflictLemmas
