@@ -14,3 +14,9 @@ pub mod ReachedLemmas
 pub mod DecidedLemmas
 pub mod SafeLemmas
 pub mod ConflictLemmas
+pub mod MemberLemmas
+pub mod SetLemmas
+pub mod ReductionLemmas
+pub mod TableRowLemmas
+pub mod ListedLemmas
+pub mod BuiltLemmas

@@ -8,3 +8,5 @@ pub mod Cores
 pub mod Wanted
 pub mod States
 pub mod BuilderLaws
+pub mod Built
+pub mod StateRows
