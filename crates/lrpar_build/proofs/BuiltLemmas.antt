@@ -1,18 +1,18 @@
 -- A graph and a table of the states are built as they should be.
-use Rattle.std.proofs.Common.{◌≡◌, ◌≢◌, ◌<◌, ◌≤◌, ◌+◌, ◌↔◌, ◌∙◌, ◌∷◌, refl, sym, ap, subst, arith, ℕ, true, List, [], All, Option, Some, None, length, map, nat_eq}
+use Rattle.std.proofs.Common.{◌≡◌, ◌≢◌, ◌<◌, ◌↔◌, ◌∷◌, refl, sym, ap, subst, arith, ℕ, List, [], Option, Some, None, length, nat_eq}
 use Rattle.std.specs.List.{Contains}
 use Rattle.std.specs.Map.{lookup}
 use Rattle.std.proofs.lemmas.List.{length-map}
-use Rattle.lrpar_grammar.specs.Grammar.{Grammar, GrammarSymbol, IsWellFormed, Nonterminal, Terminal, end_token, prod_len, rules_len, start_prod, tokens_len}
+use Rattle.lrpar_grammar.specs.Grammar.{Grammar, GrammarSymbol, IsWellFormed, Nonterminal, Terminal, end_token, prod_len, start_prod, tokens_len}
 use Rattle.lrpar_states.specs.Graph.{Graph, HasItem, ItemOf, graph_len, item_at}
-use Rattle.lrpar_states.specs.Table.{IsTable, Table}
+use Rattle.lrpar_states.specs.Table.{IsTable}
 use Rattle.lrpar_states.proofs.EntryLemmas.{no_action_after, no_action_past, no_goto_past}
 use Rattle.lrpar_build.specs.BuilderLaws.{AcceptAlone, IsWantedTable}
-use Rattle.lrpar_build.specs.Built.{HasAcceptConflict, IsBuildRefusal, IsBuilt}
-use Rattle.lrpar_build.specs.Canonical.{AreCanonical, AreSame, IsAcceptConflict, IsCanonical, IsStep, StandsBefore, WantsAccept, sets_of}
+use Rattle.lrpar_build.specs.Built.{IsBuildRefusal, IsBuilt}
+use Rattle.lrpar_build.specs.Canonical.{AreCanonical, AreSame, IsAcceptConflict, IsCanonical, IsStep, WantsAccept, sets_of}
 use Rattle.lrpar_build.specs.StateRows.{IsRefusalOf, IsRefusedState, item_rows, table_of_states}
 use Rattle.lrpar_build.specs.States.{AreStates, StateOf, sets_at, state_at}
-use Rattle.lrpar_build.specs.Wanted.{AcceptsBeside, IsAcceptReduce, is_complete_at, reductions}
+use Rattle.lrpar_build.specs.Wanted.{IsAcceptReduce, is_complete_at, reductions}
 use Rattle.lrpar_build.specs.declared.fault.BuildFault.{BuildFault}
 use Rattle.lrpar_build.specs.declared.fault.BuildFault.TheVariants.{AcceptReduceConflict, Memory, StorageTooSmall, TooManyStates}
 use Rattle.lrpar_build.proofs.ConflictLemmas.{no_conflicts_are_one_action}
@@ -20,7 +20,7 @@ use Rattle.lrpar_build.proofs.ListedLemmas.{conflicts_are, in_order}
 use Rattle.lrpar_build.proofs.MemberLemmas.{member_first, member_none}
 use Rattle.lrpar_build.proofs.ReachedLemmas.{no_end_token, reached_at_end}
 use Rattle.lrpar_build.proofs.ReductionLemmas.{accept_is, acts_as_wanted, goes_as_wanted, wants_is}
-use Rattle.lrpar_build.proofs.SetLemmas.{before_other, canonical_same, graph_same, rows_same, same_on, step_same}
+use Rattle.lrpar_build.proofs.SetLemmas.{canonical_same, graph_same, rows_same, same_on, step_same}
 use Rattle.lrpar_build.proofs.TableRowLemmas.{action_is, goto_is}
 
 -- the start production has one symbol

@@ -20,3 +20,4 @@ pub mod ReductionLemmas
 pub mod TableRowLemmas
 pub mod ListedLemmas
 pub mod BuiltLemmas
+pub mod TablesLemmas

@@ -1,6 +1,6 @@
 -- The conflicts that are listed, state by state and token by token, are those of the sets; and they stand in order.
-use Rattle.std.proofs.Common.{◌≡◌, ◌<◌, ◌≤◌, ◌+◌, ◌↔◌, ◌⊎◌, ◌∙◌, ◌∷◌, refl, sym, ap, subst, inl, inr, arith, ℕ, List, [], All, Option, Some, None, cond, drop, length, map, nat_eq}
-use Rattle.std.specs.List.{Contains, flat_map, range_with_len}
+use Rattle.std.proofs.Common.{◌≡◌, ◌<◌, ◌+◌, ◌↔◌, ◌∙◌, ◌∷◌, refl, sym, ap, subst, inl, inr, arith, ℕ, List, [], All, Option, Some, None, cond, drop, length, map, nat_eq}
+use Rattle.std.specs.List.{Contains, range_with_len}
 use Rattle.std.specs.List.Sorted.{IsStrictlySortedBy}
 use Rattle.std.specs.Map.{lookup}
 use Rattle.std.specs.Ordering.{nat_cmp, ordering_then}
@@ -18,7 +18,7 @@ use Rattle.lrpar_build.specs.Cores.{CoreSet, IsAmong, IsCoreOf}
 use Rattle.lrpar_build.specs.StateRows.{reduce_conflicts_below, shift_conflicts_below, unless_empty}
 use Rattle.lrpar_build.specs.States.{AreStates, StateOf, sets_at, state_at}
 use Rattle.lrpar_build.specs.Wanted.{AscendFrom, reduce_conflicts, reduce_conflicts_at, reductions, shift_conflicts, shift_conflicts_at}
-use Rattle.lrpar_build.proofs.MemberLemmas.{joined_has, joined_member, member_cases, member_first, member_later, member_none, range_has, range_member, sorted_first, sorted_joined, sorted_none}
+use Rattle.lrpar_build.proofs.MemberLemmas.{joined_has, joined_member, member_cases, member_later, member_none, range_has, range_member, sorted_first, sorted_joined, sorted_none}
 use Rattle.lrpar_build.proofs.ReductionLemmas.{first_alone, first_is, first_least, none_is, reductions_ascend, wants_is}
 use Rattle.lrpar_build.proofs.SetLemmas.{before_other, before_same}
 

@@ -1,5 +1,5 @@
 -- Members of lists that are filtered, counted and joined; and lists that are sorted where they are joined.
-use Rattle.std.proofs.Common.{◌≡◌, ◌≢◌, ◌<◌, ◌≤◌, ◌+◌, ◌⊎◌, ◌∷◌, ◌++◌, ℕ, zero, suc, Bool, true, cond, List, [], refl, sym, ap, subst, arith, inl, inr, filter, map}
+use Rattle.std.proofs.Common.{◌≡◌, ◌≢◌, ◌<◌, ◌≤◌, ◌+◌, ◌⊎◌, ◌∷◌, ◌++◌, ℕ, zero, suc, Bool, true, cond, List, [], refl, sym, subst, arith, inl, inr, filter}
 use Rattle.std.specs.List.{AllByRecursion, Contains, flat_map, range_with_len}
 use Rattle.std.specs.List.Sorted.{IsStrictlySortedBy}
 use Rattle.std.specs.declared.cmp.Ordering.{Ordering}

@@ -1,17 +1,17 @@
 -- What a set of items wants to be done at a token, told by its cores: the list of the reductions, and whether to accept.
-use Rattle.std.proofs.Common.{◌≡◌, ◌≢◌, ◌<◌, ◌≤◌, ◌+◌, ◌==◌, ◌&&◌, ◌↔◌, ◌⊎◌, ◌∙◌, refl, sym, ap, subst, inl, inr, arith, ℕ, zero, suc, Bool, true, false, cond, List, [], ◌∷◌, All, Option, Some, None, filter, length}
+use Rattle.std.proofs.Common.{◌≡◌, ◌<◌, ◌≤◌, ◌+◌, ◌==◌, ◌&&◌, ◌↔◌, ◌∙◌, sym, ap, subst, inl, inr, arith, ℕ, zero, suc, Bool, true, false, cond, List, [], ◌∷◌, All, Option, Some, None, filter}
 use Rattle.std.specs.List.{Contains, range_with_len}
 use Rattle.std.proofs.lemmas.Bool.{and_from, and_parts, cases_Bool, eq-eqb, eqb-true}
 use Rattle.std.proofs.lemmas.List.Elements.{All-contains}
 use Rattle.std.proofs.lemmas.List.Folds.{Any-from_list_any, list_any-from_Any}
-use Rattle.lrpar_grammar.specs.Grammar.{Grammar, Nonterminal, Terminal, prod_len, prods_len, start_prod}
+use Rattle.lrpar_grammar.specs.Grammar.{Grammar, Nonterminal, Terminal, prod_len, start_prod}
 use Rattle.lrpar_states.specs.Graph.{ItemOf, item_at}
-use Rattle.lrpar_states.specs.Table.{Accepts, Fails, ReduceBy, ShiftTo, Table, action_of, goto_of}
+use Rattle.lrpar_states.specs.Table.{ReduceBy, Table, action_of, goto_of}
 use Rattle.lrpar_build.specs.Canonical.{ActsAsWanted, AreSame, GoesAsWanted, IsStep, WantsAccept, WantsFirst, WantsReduce}
 use Rattle.lrpar_build.specs.Cores.{CoreSet, IsAmong, IsCoreOf}
 use Rattle.lrpar_build.specs.Tokens.{has}
 use Rattle.lrpar_build.specs.Wanted.{AscendFrom, is_complete, is_complete_at, reductions, wanted}
-use Rattle.lrpar_build.proofs.MemberLemmas.{filter_has, filter_member, member_cases, member_first, member_later, member_none, range_has, range_member}
+use Rattle.lrpar_build.proofs.MemberLemmas.{filter_has, filter_member, member_cases, member_first, member_none, range_has, range_member}
 use Rattle.lrpar_build.proofs.WantedLemmas.{ascend_lower}
 
 -- the least of numbers that ascend is the first

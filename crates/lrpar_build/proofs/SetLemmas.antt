@@ -1,12 +1,11 @@
 -- Numbered sets that have the same items: what is told of the one holds of the other. And the sets of rows of items, which are those of
 -- the cores that the rows were made of.
-use Rattle.std.proofs.Common.{◌≡◌, ◌<◌, ◌≤◌, ◌+◌, ◌↔◌, ◌∙◌, refl, sym, ap, subst, inl, inr, arith, ℕ, true, List, [], ◌∷◌, Option, Some, None, filter, length, map, slice_get, slice_index_or}
+use Rattle.std.proofs.Common.{◌≡◌, ◌<◌, ◌↔◌, ◌∙◌, sym, ap, subst, inl, inr, arith, ℕ, true, List, [], Option, Some, None, filter, length}
 use Rattle.std.specs.List.{Contains, range_with_len}
 use Rattle.std.proofs.lemmas.Bool.{cases_lt}
 use Rattle.std.proofs.lemmas.List.{get_or-map, get_or_past, length-map}
-use Rattle.lrpar_grammar.specs.Grammar.{Grammar, GrammarSymbol, IsWellFormed, symbols_of, tokens_len}
-use Rattle.lrpar_states.specs.Graph.{Graph, HasItem, ItemOf, graph_len, item_at, items_of}
-use Rattle.lrpar_states.specs.Safe.{IsItem}
+use Rattle.lrpar_grammar.specs.Grammar.{Grammar, GrammarSymbol, IsWellFormed, tokens_len}
+use Rattle.lrpar_states.specs.Graph.{Graph, HasItem, ItemOf, item_at, items_of}
 use Rattle.lrpar_states.proofs.ItemLemmas.{Contains-image, Contains-preimage}
 use Rattle.lrpar_build.specs.Canonical.{AreCanonical, AreSame, IsStep, LeadsTo, StandsBefore, sets_of}
 use Rattle.lrpar_build.specs.Cores.{CoreSet, IsAmong}

@@ -1,5 +1,5 @@
 -- The table of the states: each row has what is wanted, ascending; and what is looked up in it.
-use Rattle.std.proofs.Common.{◌≡◌, ◌≢◌, ◌<◌, ◌≤◌, ◌+◌, ◌↔◌, ◌⊎◌, ◌∙◌, ◌∷◌, ◌++◌, refl, sym, ap, subst, inl, inr, arith, ℕ, zero, suc, Bool, true, false, List, [], All, Option, Some, None, cond, length, map, nat_eq, slice_index, slice_index_or, unwrap_or}
+use Rattle.std.proofs.Common.{◌≡◌, ◌≢◌, ◌<◌, ◌≤◌, ◌+◌, ◌∙◌, ◌∷◌, ◌++◌, refl, sym, ap, subst, inl, inr, arith, ℕ, zero, suc, Bool, true, false, List, [], All, Option, Some, None, length, map, nat_eq, slice_index, slice_index_or, unwrap_or}
 use Rattle.std.specs.List.{Contains, flat_map, range_with_len}
 use Rattle.std.specs.List.Sorted.{IsStrictlyIncreasing}
 use Rattle.std.specs.Map.{keys_of, lookup}
@@ -7,14 +7,14 @@ use Rattle.std.proofs.lemmas.Bool.{cases_eq, cases_lt, eq-eqb, ne_eqb}
 use Rattle.std.proofs.lemmas.List.{get_or-map, get_or_past, length-map}
 use Rattle.std.proofs.lemmas.List.Elements.{All-append, All-cons, All-nil, Contains-get_or}
 use Rattle.std.proofs.lemmas.Map.Entries.{lookup_head, lookup_tail}
-use Rattle.lrpar_grammar.specs.Grammar.{Grammar, GrammarSymbol, IsWellFormed, Nonterminal, Terminal, end_token, prods_len, rules_len, start_prod, symbols_of, tokens_len}
-use Rattle.lrpar_states.specs.Graph.{ItemOf, item_at}
+use Rattle.lrpar_grammar.specs.Grammar.{Grammar, GrammarSymbol, IsWellFormed, Nonterminal, Terminal, end_token, rules_len, start_prod, tokens_len}
+use Rattle.lrpar_states.specs.Graph.{item_at}
 use Rattle.lrpar_states.specs.Table.{AreEntries, IsActionEntry, IsActionWithin, IsGotoEntry, IsTable, TableAction, ShiftTo, ReduceBy, Accepts, Fails, action_of, actions_at, goto_of}
 use Rattle.lrpar_states.proofs.EntryLemmas.{entry_found}
-use Rattle.lrpar_build.specs.Canonical.{AreCanonical, IsStep, StandsBefore}
-use Rattle.lrpar_build.specs.Cores.{CoreSet, IsAmong}
-use Rattle.lrpar_build.specs.ItemSets.{IsStartItem, Own}
-use Rattle.lrpar_build.specs.StateRows.{action_rows, goto_rows, table_of_states}
+use Rattle.lrpar_build.specs.Canonical.{IsStep, StandsBefore}
+use Rattle.lrpar_build.specs.Cores.{IsAmong}
+use Rattle.lrpar_build.specs.ItemSets.{Own}
+use Rattle.lrpar_build.specs.StateRows.{table_of_states}
 use Rattle.lrpar_build.specs.States.{AreStates, StateOf, sets_at, state_at}
 use Rattle.lrpar_build.specs.Wanted.{AscendFrom, entry_at, is_complete_at, reductions, wanted, wanted_at, wanted_row}
 use Rattle.lrpar_build.proofs.EntryLemmas.{lookup_past}

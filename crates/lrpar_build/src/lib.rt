@@ -9,4 +9,5 @@ mod first;
 pub mod laws;
 mod reach;
 mod state;
+mod tables;
 mod tokens;
