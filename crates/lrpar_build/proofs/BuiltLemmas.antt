@@ -20,6 +20,7 @@ use Rattle.lrpar_build.proofs.ListedLemmas.{conflicts_are, in_order}
 use Rattle.lrpar_build.proofs.MemberLemmas.{member_first, member_none}
 use Rattle.lrpar_build.proofs.ReachedLemmas.{no_end_token, reached_at_end}
 use Rattle.lrpar_build.proofs.ReductionLemmas.{accept_is, acts_as_wanted, goes_as_wanted, wants_is}
+use Rattle.lrpar_build.proofs.SafeLemmas.{canonical_tables_are_safe}
 use Rattle.lrpar_build.proofs.SetLemmas.{canonical_same, graph_same, rows_same, same_on, step_same}
 use Rattle.lrpar_build.proofs.TableRowLemmas.{action_is, goto_is}
 
@@ -51,7 +52,8 @@ module _ (g : Grammar) (well : IsWellFormed g) (states : List StateOf) (are : Ar
       let wants = (accept_is g sets s cores known (same s) t (start_len g well)).1 beside.accept in
       let end = accepts_at_end s t below wants in
       let one = one_of (reductions g cores t) beside.some in
-      (subst (WantsAccept g sets s) end wants, (one.0, (wants_is g sets s cores known (same s) (end_token g) one.0).1 (subst (λ n. Contains (reductions g cores n) one.0) end one.1)))
+      let there = subst (λ n. Contains (reductions g cores n) one.0) end one.1 in
+      (subst (WantsAccept g sets s) end wants, (one.0, (wants_is g sets s cores known (same s) (end_token g) one.0).1 there))
 
   -- no step is by the end token
   no_step_at_end : (s : ℕ) (step : Option ℕ) → IsStep g (length states) (sets_at states) s (Terminal (end_token g)) step → step ≡ None
@@ -100,10 +102,14 @@ module _ (g : Grammar) (well : IsWellFormed g) (states : List StateOf) (are : Ar
     (items : (s p k t : ℕ) → HasItem graph s p k t ↔ HasItem (item_rows g states) s p k t) where
   -- the graph has the sets of the states
   graph_sets : (s : ℕ) → AreSame (sets_of graph s) (sets_at states s)
-  graph_sets s = same_on (sets_of graph s) (sets_of (item_rows g states) s) (sets_at states s) (graph_same graph (item_rows g states) items s) (rows_same g states well are.canonical s)
+  graph_sets s =
+      same_on (sets_of graph s) (sets_of (item_rows g states) s) (sets_at states s) (graph_same graph (item_rows g states) items s)
+      (rows_same g states well are.canonical s)
 
   graph_canonical : IsCanonical g graph
-  graph_canonical = subst (λ n. AreCanonical g n (sets_of graph)) (sym len) (canonical_same g (sets_of graph) (sets_at states) graph_sets (length states) are.canonical)
+  graph_canonical =
+      subst (λ n. AreCanonical g n (sets_of graph)) (sym len)
+      (canonical_same g (sets_of graph) (sets_at states) graph_sets (length states) are.canonical)
 
   -- the table does in each state what the set wants
   graph_wanted : (limit : ℕ) → IsTable limit (table_of_states g states) → IsWantedTable g graph (table_of_states g states)
@@ -143,6 +149,7 @@ module _ (g : Grammar) (well : IsWellFormed g) (states : List StateOf) (are : Ar
       record {
         canonical = graph_canonical;
         wanted = graph_wanted limit is;
+        safe = canonical_tables_are_safe g graph table well graph_canonical (graph_wanted limit is);
         conflicts = conflicts;
         in_order = in_order g states (length states);
         no_conflicts = no_conflicts_are_one_action g graph table.conflicts well graph_canonical conflicts alone;

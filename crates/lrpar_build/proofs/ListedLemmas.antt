@@ -137,7 +137,8 @@ module _ (s t : ℕ) where
 
 module _ (g : Grammar) (cores : List CoreSet) (s : ℕ) where
   -- those of a state
-  at_state : (x : ReduceReduce) → Contains (reduce_conflicts g cores s) x → (x.state ≡ s) × (x.token < tokens_len g) × IsOfReductions (reductions g cores x.token) x
+  at_state : (x : ReduceReduce) → Contains (reduce_conflicts g cores s) x
+      → (x.state ≡ s) × (x.token < tokens_len g) × IsOfReductions (reductions g cores x.token) x
   at_state x h =
       let one = joined_member (λ t. reduce_conflicts_at s t (reductions g cores t)) (range_with_len 0 (tokens_len g)) x h in
       let t = one.0 in
@@ -153,7 +154,8 @@ module _ (g : Grammar) (cores : List CoreSet) (s : ℕ) where
 
   state_sorted : IsStrictlySortedBy reduce_reduce_cmp (reduce_conflicts g cores s)
   state_sorted =
-      sorted_joined reduce_reduce_cmp (λ t. reduce_conflicts_at s t (reductions g cores t)) (λ t. token_sorted s t (reductions g cores t) (reductions_ascend g cores t))
+      sorted_joined reduce_reduce_cmp (λ t. reduce_conflicts_at s t (reductions g cores t))
+      (λ t. token_sorted s t (reductions g cores t) (reductions_ascend g cores t))
       (λ i j x y less one other.
       let left = at_token s i (reductions g cores i) x one in
       let right = at_token s j (reductions g cores j) y other in
@@ -263,8 +265,10 @@ unless_empty_is (x ∷ xs) ys = refl
 pub unless_empty_some : (xs : List ReduceReduce) (ys : List ShiftReduce) (lists : ConflictLists) → unless_empty xs ys ≡ Some lists
     → lists.reduce_reduce ≡ [] → lists.shift_reduce ≡ [] → ⊥
 unless_empty_some [] [] lists is none nothing = absurd (cc)
-unless_empty_some [] (y ∷ ys) lists is none nothing = let same = ap lists_in is in let both : y ∷ ys ≡ [] = ap (λ (l : ConflictLists). l.shift_reduce) same ∙ nothing in absurd (cc)
-unless_empty_some (x ∷ xs) ys lists is none nothing = let same = ap lists_in is in let both : x ∷ xs ≡ [] = ap (λ (l : ConflictLists). l.reduce_reduce) same ∙ none in absurd (cc)
+unless_empty_some [] (y ∷ ys) lists is none nothing =
+    let both : y ∷ ys ≡ [] = ap (λ (l : ConflictLists). l.shift_reduce) (ap lists_in is) ∙ nothing in absurd (cc)
+unless_empty_some (x ∷ xs) ys lists is none nothing =
+    let both : x ∷ xs ≡ [] = ap (λ (l : ConflictLists). l.reduce_reduce) (ap lists_in is) ∙ none in absurd (cc)
 
 -- they stand in order
 pub in_order : (g : Grammar) (states : List StateOf) (n : ℕ)
@@ -293,12 +297,13 @@ step_before : (g : Grammar) (sets : ℕ → ItemOf → Type 0) (len s t : ℕ) (
 step_before g sets len s t None next h is = absurd (cc)
 step_before g sets len s t (Some other) next h is = h.0
 
-before_step : (g : Grammar) (sets : ℕ → ItemOf → Type 0) (len s t : ℕ) (step : Option ℕ) → IsStep g len sets s (Terminal t) step → StandsBefore g sets s (Terminal t)
-    → (next : ℕ) × (step ≡ Some next)
+before_step : (g : Grammar) (sets : ℕ → ItemOf → Type 0) (len s t : ℕ) (step : Option ℕ) → IsStep g len sets s (Terminal t) step
+    → StandsBefore g sets s (Terminal t) → (next : ℕ) × (step ≡ Some next)
 before_step g sets len s t None h before = absurd (h before)
 before_step g sets len s t (Some next) h before = (next, refl)
 
-module _ (g : Grammar) (states : List StateOf) (are : AreStates g states) (sets : ℕ → ItemOf → Type 0) (same : (s : ℕ) → AreSame (sets s) (sets_at states s)) where
+module _ (g : Grammar) (states : List StateOf) (are : AreStates g states) (sets : ℕ → ItemOf → Type 0)
+    (same : (s : ℕ) → AreSame (sets s) (sets_at states s)) where
   -- those that are listed are those of the sets
   reduce_is : (x : ReduceReduce) → x.state < length states
       → IsOfReductions (reductions g (state_at states x.state).cores x.token) x ↔ IsReduceConflict g sets x
@@ -338,11 +343,13 @@ module _ (g : Grammar) (states : List StateOf) (are : AreStates g states) (sets 
       let known = are.cores s below in
       let step = are.shifts s t below in (
         λ h. (
-          before_same g sets (sets_at states) same s (Terminal t) (step_before g (sets_at states) (length states) s t (lookup (nat_eq t) (state_at states s).shifts) h.0.0 step h.0.1),
+          before_same g sets (sets_at states) same s (Terminal t)
+              (step_before g (sets_at states) (length states) s t (lookup (nat_eq t) (state_at states s).shifts) h.0.0 step h.0.1),
           first_is g sets s cores known (same s) t x.prod h.1.0 h.1.1,
         ),
         λ h. (
-          before_step g (sets_at states) (length states) s t (lookup (nat_eq t) (state_at states s).shifts) step (before_other g sets (sets_at states) same s (Terminal t) h.0),
+          before_step g (sets_at states) (length states) s t (lookup (nat_eq t) (state_at states s).shifts) step
+              (before_other g sets (sets_at states) same s (Terminal t) h.0),
           first_splits g sets s cores known (same s) t x.prod h.1,
         ),
       )
@@ -359,14 +366,16 @@ conflicts_are g states are graph len same =
       reduce_reduce = λ x.
           subst (λ (lists : ConflictLists). Contains lists.reduce_reduce x
           ↔ ((x.state < graph_len graph) × (x.token < tokens_len g) × IsReduceConflict g (sets_of graph) x)) (sym (unless_empty_is xs ys)) (
-            λ h. let one = at_states g states n x h in (subst (λ k. x.state < k) (sym len) one.0, one.1, (reduce_is g states are (sets_of graph) same x one.0).0 one.2),
+            λ h. let one = at_states g states n x h in
+                (subst (λ k. x.state < k) (sym len) one.0, one.1, (reduce_is g states are (sets_of graph) same x one.0).0 one.2),
             λ h. let below = subst (λ k. x.state < k) len h.0 in
                 states_have g states n x below h.1 ((reduce_is g states are (sets_of graph) same x below).1 h.2),
           );
       shift_reduce = λ x.
           subst (λ (lists : ConflictLists). Contains lists.shift_reduce x
           ↔ ((x.state < graph_len graph) × (x.token < tokens_len g) × IsShiftConflict g (sets_of graph) x)) (sym (unless_empty_is xs ys)) (
-            λ h. let one = shifts_at_states g states n x h in (subst (λ k. x.state < k) (sym len) one.0, one.1, (shift_is g states are (sets_of graph) same x one.0).0 one.2),
+            λ h. let one = shifts_at_states g states n x h in
+                (subst (λ k. x.state < k) (sym len) one.0, one.1, (shift_is g states are (sets_of graph) same x one.0).0 one.2),
             λ h. let below = subst (λ k. x.state < k) len h.0 in
                 shifts_states_have g states n x below h.1 ((shift_is g states are (sets_of graph) same x below).1 h.2),
           );

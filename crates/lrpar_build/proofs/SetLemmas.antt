@@ -25,7 +25,8 @@ pub same_on : (items others more : ItemOf → Type 0) → AreSame items others �
 same_on items others more one two x = (λ h. (two x).0 ((one x).0 h), λ h. (one x).1 ((two x).1 h))
 
 -- the closure of more items has what that of fewer has
-closure_more : (g : Grammar) (items others : ItemOf → Type 0) → ((x : ItemOf) → items x → others x) → (x : ItemOf) → IsInClosure g items x → IsInClosure g others x
+closure_more : (g : Grammar) (items others : ItemOf → Type 0) → ((x : ItemOf) → items x → others x) → (x : ItemOf)
+    → IsInClosure g items x → IsInClosure g others x
 closure_more g items others more x (Own y h) = Own y (more y h)
 closure_more g items others more x (Added y z h adds) = Added y z (closure_more g items others more y h) adds
 
@@ -62,7 +63,8 @@ module _ (g : Grammar) (sets others : ℕ → ItemOf → Type 0) (same : (s : �
     reached = λ s below. let one = are.reached s below in (one.0, same_on (sets s) (others s) (IsReachedBy g one.0) (same s) one.1);
     all = λ path x h. let one = are.all path x h in (one.0, one.1, same_on (sets one.0) (others one.0) (IsReachedBy g path) (same one.0) one.2);
     once = λ s other below within both.
-        are.once s other below within (same_on (others s) (sets s) (others other) (same_back (sets s) (others s) (same s)) (same_on (sets s) (sets other) (others other) both (same other)));
+        are.once s other below within (same_on (others s) (sets s) (others other) (same_back (sets s) (others s) (same s))
+        (same_on (sets s) (sets other) (others other) both (same other)));
   }
 
 -- the items of a core, one by one, are its items with tokens below the number
@@ -113,7 +115,8 @@ module _ (g : Grammar) (states : List StateOf) where
               subst (λ (xs : List ItemOf). Contains xs x) (sym (row_at s below)) ((cores_items (tokens_len g) (state_at states s).cores x).1 (h, item.token)),
         )
         | inr past ↦
-            let none : items_of (item_rows g states) s ≡ [] = get_or_past (item_rows g states) s [] (omega (arith, past, length-map states (λ (state : StateOf). items_of_cores (tokens_len g) state.cores))) in
+            let long = length-map states (λ (state : StateOf). items_of_cores (tokens_len g) state.cores) in
+            let none : items_of (item_rows g states) s ≡ [] = get_or_past (item_rows g states) s [] (omega (arith, past, long)) in
             let empty : state_at states s ≡ record { cores = []; gotos = []; shifts = [] } = get_or_past states s _ past in (
               λ h. absurd (member_none x (subst (λ (xs : List ItemOf). Contains xs x) none h)),
               λ h. let among : IsAmong [] x = subst (λ (state : StateOf). IsAmong state.cores x) empty h in absurd (member_none among.0 among.1),

@@ -55,11 +55,14 @@ entry_ascends k Fails later up = ascend_lower k (k + 1) (keys_of later) (omega a
 
 entry_each : (tokens states k : ℕ) (action : TableAction) → k < tokens → IsActionWithin states action → All (IsActionEntry tokens states) (entry_at k action)
 entry_each tokens states k (ShiftTo next) below within =
-    All-cons (IsActionEntry tokens states) (k, ShiftTo next) [] (record { token = below; stored = λ h. absurd (cc); within = within }) (All-nil (IsActionEntry tokens states))
+    All-cons (IsActionEntry tokens states) (k, ShiftTo next) [] (record { token = below; stored = λ h. absurd (cc); within = within })
+    (All-nil (IsActionEntry tokens states))
 entry_each tokens states k (ReduceBy p) below within =
-    All-cons (IsActionEntry tokens states) (k, ReduceBy p) [] (record { token = below; stored = λ h. absurd (cc); within = within }) (All-nil (IsActionEntry tokens states))
+    All-cons (IsActionEntry tokens states) (k, ReduceBy p) [] (record { token = below; stored = λ h. absurd (cc); within = within })
+    (All-nil (IsActionEntry tokens states))
 entry_each tokens states k Accepts below within =
-    All-cons (IsActionEntry tokens states) (k, Accepts) [] (record { token = below; stored = λ h. absurd (cc); within = within }) (All-nil (IsActionEntry tokens states))
+    All-cons (IsActionEntry tokens states) (k, Accepts) [] (record { token = below; stored = λ h. absurd (cc); within = within })
+    (All-nil (IsActionEntry tokens states))
 entry_each tokens states k Fails below within = All-nil (IsActionEntry tokens states)
 
 module _ (f : ℕ → TableAction) where
@@ -78,16 +81,19 @@ module _ (f : ℕ → TableAction) where
       elim (cases_eq t a) [
         | inl here ↦
             let none = lookup_past a (a + 1) (row_from (a + 1) n) (omega arith) (row_ascends (a + 1) n) in
-            subst (λ k. unwrap_or (lookup (nat_eq k) (entry_at a (f a) ++ row_from (a + 1) n)) Fails ≡ f k) (sym here) (entry_here a (f a) (row_from (a + 1) n) none)
+            subst (λ k. unwrap_or (lookup (nat_eq k) (entry_at a (f a) ++ row_from (a + 1) n)) Fails ≡ f k) (sym here)
+            (entry_here a (f a) (row_from (a + 1) n) none)
         | inr other ↦
             let differs : t ≢ a = other in
-            ap (λ o. unwrap_or o Fails) (entry_elsewhere a t (f a) (row_from (a + 1) n) other) ∙ row_lookup (a + 1) n t (omega (arith, from, differs)) (omega (arith, below))
+            ap (λ o. unwrap_or o Fails) (entry_elsewhere a t (f a) (row_from (a + 1) n) other)
+            ∙ row_lookup (a + 1) n t (omega (arith, from, differs)) (omega (arith, below))
       ]
 
   row_each : (tokens states a n : ℕ) → a + n ≤ tokens → ((t : ℕ) → t < tokens → IsActionWithin states (f t)) → All (IsActionEntry tokens states) (row_from a n)
   row_each tokens states a zero low within = All-nil (IsActionEntry tokens states)
   row_each tokens states a (suc n) low within =
-      All-append (IsActionEntry tokens states) (entry_at a (f a)) (row_from (a + 1) n) (entry_each tokens states a (f a) (omega (arith, low)) (within a (omega (arith, low))))
+      All-append (IsActionEntry tokens states) (entry_at a (f a)) (row_from (a + 1) n)
+      (entry_each tokens states a (f a) (omega (arith, low)) (within a (omega (arith, low))))
       (row_each tokens states (a + 1) n (omega (arith, low)) within)
 
 -- what is wanted leads to a state where a shift does
@@ -180,6 +186,7 @@ module _ (g : Grammar) (states : List StateOf) (are : AreStates g states) (well 
     tokens_fit = tokens_fit;
     rules_fit = rules_fit;
     start_within = some_state;
-    actions = All-map_at (AreEntries (IsActionEntry (tokens_len g) (length states))) (λ (state : StateOf). wanted_row g state.cores state.shifts) states _ action_entries;
+    actions = All-map_at (AreEntries (IsActionEntry (tokens_len g) (length states))) (λ (state : StateOf). wanted_row g state.cores state.shifts) states _
+        action_entries;
     gotos = All-map_at (AreEntries (IsGotoEntry (rules_len g) (length states))) (λ (state : StateOf). state.gotos) states _ goto_entries;
   }

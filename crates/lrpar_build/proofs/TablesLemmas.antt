@@ -24,10 +24,12 @@ row_more view f h xs i x made pushed row within is so_far more same =
     ap (map view) more ∙ map-append view made (row ∷ []) ∙ ap (λ s. s ++ view row ∷ []) so_far ∙ ap (λ z. map h (map f (take i xs)) ++ z ∷ []) same
     ∙ sym (ap (map h) (map-take_more f xs i x within is) ∙ map-append h (map f (take i xs)) (f x ∷ []))
 
-module _ (g : Grammar) (states : List StateOf) (are : AreStates g states) (s : ℕ) (state : StateOf) (below : s < length states) (is : state_at states s ≡ state) where
+module _ (g : Grammar) (states : List StateOf) (are : AreStates g states) (s : ℕ) (state : StateOf) (below : s < length states)
+    (is : state_at states s ≡ state) where
   -- what a state's row asks of its cores and its shifts
   pub cores_known : All (λ (core : CoreSet). core.prod < prods_len g) state.cores
-  cores_known k d within = subst (λ (st : StateOf). All (λ (core : CoreSet). core.prod < prods_len g) st.cores) is (λ n e low. (are.cores s below n e low).prod) k d within
+  cores_known k d within =
+      subst (λ (st : StateOf). All (λ (core : CoreSet). core.prod < prods_len g) st.cores) is (λ n e low. (are.cores s below n e low).prod) k d within
 
   pub cores_once : AreOnce state.cores
   cores_once = subst (λ (st : StateOf). AreOnce st.cores) is (are.once s below)

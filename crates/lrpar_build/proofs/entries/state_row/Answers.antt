@@ -23,7 +23,8 @@ returns-in_err-push_token-clause-refused g c =
     let start = c.from-start.ensures ∙ c.start_prod.ensures.number in
     let sorted = sorted_image (λ core. core_set index core.now) (λ core. core.prod) c.in_ok-complete.complete.items c.in_ok-complete.ensures.sorted in
     let told = rw c.deref.ensures.value at c.in_ok-prods.ensures in
-    let reduces = reductions_are grm cores complete c.from-start.result token prods c.in_ok-complete.ensures.all sorted c.requires.once c.requires.prods start told in
+    let reduces =
+    reductions_are grm cores complete c.from-start.result token prods c.in_ok-complete.ensures.all sorted c.requires.once c.requires.prods start told in
     let tested = rw c.deref-in-loop-token.ensures.value at c.accepts-accepting.ensures in
     let accepts = accepts_are grm cores complete c.from-start.result token c.accepts-accepting.result c.in_ok-complete.ensures.all start tested in
     let shift = c.split_shift-shift.ensures.shift ∙ c.loop-token.invariant.5 token (omega arith) in
@@ -47,7 +48,8 @@ loop-token-preserved g c =
     let start = c.from-start.ensures ∙ c.start_prod.ensures.number in
     let sorted = sorted_image (λ core. core_set index core.now) (λ core. core.prod) c.in_ok-complete.complete.items c.in_ok-complete.ensures.sorted in
     let told = rw c.deref.ensures.value at c.in_ok-prods.ensures in
-    let reduces = reductions_are grm cores complete c.from-start.result token prods c.in_ok-complete.ensures.all sorted c.requires.once c.requires.prods start told in
+    let reduces =
+    reductions_are grm cores complete c.from-start.result token prods c.in_ok-complete.ensures.all sorted c.requires.once c.requires.prods start told in
     let tested = rw c.deref-in-loop-token.ensures.value at c.accepts-accepting.ensures in
     let accepts = accepts_are grm cores complete c.from-start.result token c.accepts-accepting.result c.in_ok-complete.ensures.all start tested in
     let shift = c.split_shift-shift.ensures.shift ∙ c.loop-token.invariant.5 token (omega arith) in
@@ -82,7 +84,8 @@ returns-clause-row g c =
     let grm = c.args.grm.now in
     let cores = map (core_set index) c.args.cores.now in
     let shifts = map (shift_entry index) c.args.shifts.now in
-    let full : c.loop-token.token ≡ tokens_len c.args.grm.now = omega (arith, c.loop-token-test.false, c.loop-token.auto.token-end, c.tokens_len-token-end.ensures.len) in
+    let full : c.loop-token.token ≡ tokens_len c.args.grm.now =
+    omega (arith, c.loop-token-test.false, c.loop-token.auto.token-end, c.tokens_len-token-end.ensures.len) in
     c.loop-token.invariant.0 ∙ ap (λ n. flat_map (λ t. entry_at t (wanted_at grm cores shifts t)) (range_with_len 0 n)) full
 
 pub returns-clause-rr : goal.returns-clause-rr
@@ -91,7 +94,8 @@ returns-clause-rr g c =
     let grm = c.args.grm.now in
     let cores = map (core_set index) c.args.cores.now in
     let s = index c.args.state.now.0 in
-    let full : c.loop-token.token ≡ tokens_len c.args.grm.now = omega (arith, c.loop-token-test.false, c.loop-token.auto.token-end, c.tokens_len-token-end.ensures.len) in
+    let full : c.loop-token.token ≡ tokens_len c.args.grm.now =
+    omega (arith, c.loop-token-test.false, c.loop-token.auto.token-end, c.tokens_len-token-end.ensures.len) in
     c.loop-token.invariant.1
     ∙ ap (λ n. map (reduce_reduce_of index) c.args.rr.now.items ++ flat_map (λ t. reduce_conflicts_at s t (reductions grm cores t)) (range_with_len 0 n)) full
 
@@ -102,12 +106,14 @@ returns-clause-sr g c =
     let cores = map (core_set index) c.args.cores.now in
     let shifts = map (shift_entry index) c.args.shifts.now in
     let s = index c.args.state.now.0 in
-    let full : c.loop-token.token ≡ tokens_len c.args.grm.now = omega (arith, c.loop-token-test.false, c.loop-token.auto.token-end, c.tokens_len-token-end.ensures.len) in
+    let full : c.loop-token.token ≡ tokens_len c.args.grm.now =
+    omega (arith, c.loop-token-test.false, c.loop-token.auto.token-end, c.tokens_len-token-end.ensures.len) in
     c.loop-token.invariant.2
     ∙ ap (λ n. map (shift_reduce_of index) c.args.sr.now.items
     ++ flat_map (λ t. shift_conflicts_at s t (lookup (nat_eq t) shifts) (reductions grm cores t)) (range_with_len 0 n)) full
 
 pub returns-clause-none : goal.returns-clause-none
 returns-clause-none g c =
-    let full : c.loop-token.token ≡ tokens_len c.args.grm.now = omega (arith, c.loop-token-test.false, c.loop-token.auto.token-end, c.tokens_len-token-end.ensures.len) in
+    let full : c.loop-token.token ≡ tokens_len c.args.grm.now =
+    omega (arith, c.loop-token-test.false, c.loop-token.auto.token-end, c.tokens_len-token-end.ensures.len) in
     λ t below. c.loop-token.invariant.3 t (omega (arith, below, full))

@@ -30,7 +30,8 @@ table_of-requires g c =
     let made = table_is grm states (length c.args.states.items) (index c.unwrap.result) c.len-len.result c.tokens_len.result c.rules_len.result
     (map (λ row. map (action_entry index) row.items) c.in_ok-actions.actions.items) (map (λ row. map (goto_entry index) row.items) c.in_ok-gotos.gotos.items)
     c.conflicts_of.result (map (reduce_reduce_of index) c.rows_of_actions.new.rr.items) (map (shift_reduce_of index) c.rows_of_actions.new.sr.items)
-    (sym len) start (c.len-len.ensures ∙ c.args.states.ok.0) c.tokens_len.ensures.len c.rules_len.ensures.len actions c.in_ok-gotos.ensures c.conflicts_of.ensures rr sr in
+    (sym len) start (c.len-len.ensures ∙ c.args.states.ok.0) c.tokens_len.ensures.len c.rules_len.ensures.len actions c.in_ok-gotos.ensures
+    c.conflicts_of.ensures rr sr in
     let is = is_table grm states c.requires.states well g.StorageT.StorageIndex.limit (omega (arith, len, c.requires.fit))
     (omega (arith, c.tokens_len.ensures.len, c.tokens_len.ensures.within)) (omega (arith, c.rules_len.ensures.len, c.rules_len.ensures.within)) in
     subst (IsTable g.StorageT.StorageIndex.limit) (sym made) is
@@ -49,7 +50,8 @@ returns-clause-built g c =
     let made = table_is grm states (length c.args.states.items) (index c.unwrap.result) c.len-len.result c.tokens_len.result c.rules_len.result
     (map (λ row. map (action_entry index) row.items) c.in_ok-actions.actions.items) (map (λ row. map (goto_entry index) row.items) c.in_ok-gotos.gotos.items)
     c.conflicts_of.result (map (reduce_reduce_of index) c.rows_of_actions.new.rr.items) (map (shift_reduce_of index) c.rows_of_actions.new.sr.items)
-    (sym len) start (c.len-len.ensures ∙ c.args.states.ok.0) c.tokens_len.ensures.len c.rules_len.ensures.len actions c.in_ok-gotos.ensures c.conflicts_of.ensures rr sr in
+    (sym len) start (c.len-len.ensures ∙ c.args.states.ok.0) c.tokens_len.ensures.len c.rules_len.ensures.len actions c.in_ok-gotos.ensures
+    c.conflicts_of.ensures rr sr in
     let is = is_table grm states c.requires.states well g.StorageT.StorageIndex.limit (omega (arith, len, c.requires.fit))
     (omega (arith, c.tokens_len.ensures.len, c.tokens_len.ensures.within)) (omega (arith, c.rules_len.ensures.len, c.rules_len.ensures.within)) in
     let items = rw c.deref-2.ensures.value at c.in_ok-graph.ensures.items in
