@@ -9,3 +9,7 @@ pub mod BringLemmas
 pub mod AmongLemmas
 pub mod EntryLemmas
 pub mod WantedLemmas
+pub mod KernelLemmas
+pub mod NextLemmas
+pub mod StatesLemmas
+pub mod NumberLemmas

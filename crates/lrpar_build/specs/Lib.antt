@@ -6,4 +6,5 @@ pub mod FirstRows
 pub mod Brought
 pub mod Cores
 pub mod Wanted
+pub mod Kernels
 pub mod States

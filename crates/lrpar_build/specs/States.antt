@@ -1,11 +1,13 @@
 -- The states that are built: each with its cores, and where it goes by the symbols that its items stand before.
 use Rattle.std.specs.Prelude.{◌≡◌, ◌<◌, ℕ, List, [], All, length, map, nat_eq, slice_index_or}
 use Rattle.std.specs.Map.{keys_of, lookup}
-use Rattle.lrpar_grammar.specs.Grammar.{Grammar, Nonterminal, Terminal}
+use Rattle.lrpar_grammar.specs.Grammar.{Grammar, GrammarSymbol, Nonterminal, Terminal}
 use Rattle.lrpar_states.specs.Graph.{ItemOf}
 use Rattle.lrpar_states.specs.PlainRows.{goto_entry}
-use Rattle.lrpar_build.specs.Canonical.{AreCanonical, IsStep}
+use Rattle.lrpar_build.specs.Canonical.{AreCanonical, AreSame, IsStep}
 use Rattle.lrpar_build.specs.Cores.{CoreSet, IsAmong, IsCoreOf, core_set}
+use Rattle.lrpar_build.specs.ItemSets.{IsInClosure}
+use Rattle.lrpar_build.specs.Kernels.{AreCores, GoesTo}
 use Rattle.lrpar_build.specs.Wanted.{AreOnce, AscendFrom, shift_entry}
 use Rattle.lrpar_build.specs.declared.state.State.{State}
 
@@ -42,3 +44,15 @@ pub record AreStates (g : Grammar) (states : List StateOf) : Type 0 where
       → IsStep g (length states) (sets_at states) s (Nonterminal r) (lookup (nat_eq r) (state_at states s).gotos)
   pub shifts : (s t : ℕ) → s < length states
       → IsStep g (length states) (sets_at states) s (Terminal t) (lookup (nat_eq t) (state_at states s).shifts)
+
+-- rows of the numbers of symbols, ascending, with where cores go by each: to one of the kernels, or nowhere
+pub record AreSteps (g : Grammar) (kernels : List (List CoreSet)) (cores : List CoreSet) (symbol : ℕ → GrammarSymbol) (rows : List (ℕ × ℕ)) : Type 0 where
+  pub ascend : AscendFrom 0 (keys_of rows)
+  pub goes : (n : ℕ) → GoesTo g kernels cores (symbol n) (lookup (nat_eq n) rows)
+
+-- the state has the closure of the kernel, and goes to these kernels
+pub record IsExpanded (g : Grammar) (kernels : List (List CoreSet)) (kernel : List CoreSet) (state : StateOf) : Type 0 where
+  pub items : AreSame (IsAmong state.cores) (IsInClosure g (IsAmong kernel))
+  pub cores : AreCores g state.cores
+  pub gotos : AreSteps g kernels state.cores Nonterminal state.gotos
+  pub shifts : AreSteps g kernels state.cores Terminal state.shifts
