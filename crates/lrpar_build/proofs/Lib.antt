@@ -13,3 +13,4 @@ pub mod KernelLemmas
 pub mod NextLemmas
 pub mod StatesLemmas
 pub mod NumberLemmas
+pub mod PutLemmas

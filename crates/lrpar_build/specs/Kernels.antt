@@ -1,5 +1,5 @@
 -- Kernels: the cores from which the items of a state come by closure. They stand in an order, so that a set of items has one kernel.
-use Rattle.std.specs.Prelude.{◌≡◌, ◌<◌, ◌≤◌, ◌+◌, ◌==◌, ◌⊎◌, if◌then◌else◌, ℕ, Bool, false, IsTrue, List, [], ◌∷◌, All, Option, Some, None, length, map, slice_get, slice_index_or}
+use Rattle.std.specs.Prelude.{◌≡◌, ◌<◌, ◌≤◌, ◌+◌, ◌==◌, ◌⊎◌, ◌++◌, if◌then◌else◌, ℕ, Bool, false, IsTrue, List, [], ◌∷◌, All, Option, Some, None, length, map, slice_get, slice_index_or}
 use Rattle.std.specs.List.{filter}
 use Rattle.lrpar_grammar.specs.Grammar.{Grammar, GrammarSymbol, Nonterminal, Terminal, start_prod, symbols_of}
 use Rattle.lrpar_states.specs.Graph.{ItemOf}
@@ -100,3 +100,7 @@ abbrev pub GoesTo : Grammar → List (List CoreSet) → List CoreSet → Grammar
 GoesTo g kernels cores symbol None = ¬ (StandBefore g cores symbol)
 GoesTo g kernels cores symbol (Some next) =
     StandBefore g cores symbol × (next < length kernels) × AreSame (IsAmong (kernel_at kernels next)) (IsAdvanced g (IsAmong cores) symbol)
+
+-- the core was put behind the others, if it has any lookahead
+abbrev pub IsPut : List CoreSet → CoreSet → List CoreSet → Type 0
+IsPut cores core more = (IsFilled core × (more ≡ cores ++ core ∷ [])) ⊎ (¬ (IsFilled core) × (more ≡ cores))

@@ -7,4 +7,5 @@ pub mod Brought
 pub mod Cores
 pub mod Wanted
 pub mod Kernels
+pub mod Numbers
 pub mod States

@@ -6,6 +6,8 @@ mod cores;
 mod entries;
 mod fault;
 mod first;
+mod kernels;
 mod reach;
 mod state;
+mod states;
 mod tokens;
