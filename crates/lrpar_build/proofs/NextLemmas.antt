@@ -1,9 +1,9 @@
 -- The kernel to which cores go by a symbol: those that stand before it, each advanced.
-use Rattle.std.proofs.Common.{◌≡◌, ◌<◌, ◌≤◌, ◌+◌, ◌↔◌, ◌⊎◌, ◌∙◌, refl, sym, ap, subst, inl, inr, arith, ℕ, zero, Bool, true, false, cond, List, [], ◌∷◌, All, Option, Some, None, length, map, slice_get, IsTrue}
+use Rattle.std.proofs.Common.{◌≡◌, ◌<◌, ◌≤◌, ◌+◌, ◌↔◌, ◌⊎◌, ◌∙◌, refl, sym, ap, subst, inl, inr, arith, ℕ, zero, Bool, true, false, cond, List, [], ◌∷◌, ◌++◌, All, Option, Some, None, get_or, length, map, slice_get, take, IsTrue}
 use Rattle.std.specs.List.{Contains, filter}
 use Rattle.std.proofs.lemmas.Bool.{cases_Bool, eq-eqb, eqb-true, false≢true}
-use Rattle.std.proofs.lemmas.List.{length-map}
-use Rattle.std.proofs.lemmas.List.Elements.{All-filter, All-head, All-map, All-weaker, filter_passes}
+use Rattle.std.proofs.lemmas.List.{append-nil, map-append, map_more}
+use Rattle.std.proofs.lemmas.List.Elements.{All-filter, All-head, All-map, All-weaker, filter-append, filter_passes}
 use Rattle.std.proofs.lemmas.Option.{slice_get_within}
 use Rattle.lrpar_grammar.specs.Grammar.{Grammar, GrammarSymbol, Nonterminal, Terminal, symbols_of}
 use Rattle.lrpar_states.specs.Graph.{ItemOf, item_at}
@@ -33,10 +33,10 @@ module _ (g : Grammar) (symbol : GrammarSymbol) where
   before core = is_symbol symbol (symbol_behind g core)
 
   -- a core more that stands before the symbol, and one that doesn't
-  next_one : (core : CoreSet) (cores : List CoreSet) → before core ≡ true → next_kernel g symbol (core ∷ cores) ≡ advanced core ∷ next_kernel g symbol cores
+  pub next_one : (core : CoreSet) (cores : List CoreSet) → before core ≡ true → next_kernel g symbol (core ∷ cores) ≡ advanced core ∷ next_kernel g symbol cores
   next_one core cores here = ap (λ b. map advanced (cond b (core ∷ filter before cores) (filter before cores))) here
 
-  next_none : (core : CoreSet) (cores : List CoreSet) → before core ≡ false → next_kernel g symbol (core ∷ cores) ≡ next_kernel g symbol cores
+  pub next_none : (core : CoreSet) (cores : List CoreSet) → before core ≡ false → next_kernel g symbol (core ∷ cores) ≡ next_kernel g symbol cores
   next_none core cores apart = ap (λ b. map advanced (cond b (core ∷ filter before cores) (filter before cores))) apart
 
   -- the items of a core that stands before the symbol, advanced, and back
@@ -149,6 +149,33 @@ module _ (g : Grammar) (symbol : GrammarSymbol) where
       let x = h.0 in
       let there = (next_from cores (item_at x.prod (x.dot + 1) x.token) (x, h.1, h.2, refl)).1 in
       let low = there.1 in omega (arith, low)
+
+-- a core more of a list
+pub next_more : {X : Type 0} (g : Grammar) (symbol : GrammarSymbol) (core_of : X → CoreSet) (xs : List X) (i : ℕ) (x : X) → i < length xs → x ≡ get_or xs i x
+    → next_kernel g symbol (map core_of (take (i + 1) xs))
+    ≡ next_kernel g symbol (map core_of (take i xs)) ++ next_kernel g symbol (core_of x ∷ [])
+next_more g symbol core_of xs i x low is =
+    let early = map core_of (take i xs) in
+    let all : map core_of (take (i + 1) xs) ≡ early ++ core_of x ∷ [] =
+    map_more core_of xs i x low ∙ ap (λ y. early ++ core_of y ∷ []) (sym is) in
+    ap (next_kernel g symbol) all ∙ ap (map advanced) (filter-append (before g symbol) early (core_of x ∷ []))
+    ∙ map-append advanced (filter (before g symbol) early) (filter (before g symbol) (core_of x ∷ []))
+
+-- one that stands before the symbol is put to the kernel, and one that doesn't isn't
+module _ {X : Type 0} (g : Grammar) (symbol : GrammarSymbol) (core_of : X → CoreSet) (xs : List X) (i : ℕ) (x : X) (low : i < length xs)
+    (is : x ≡ get_or xs i x) (kernel : List X) (so_far : map core_of kernel ≡ next_kernel g symbol (map core_of (take i xs))) where
+  pub next_put : (more : List X) (y : X) → is_symbol symbol (symbol_behind g (core_of x)) ≡ true → more ≡ kernel ++ y ∷ [] → core_of y ≡ advanced (core_of x)
+      → map core_of more ≡ next_kernel g symbol (map core_of (take (i + 1) xs))
+  next_put more y stands put core =
+      let before = next_kernel g symbol (map core_of (take i xs)) in
+      ap (map core_of) put ∙ map-append core_of kernel (y ∷ []) ∙ ap (λ cs. cs ++ core_of y ∷ []) so_far ∙ ap (λ c. before ++ c ∷ []) core
+      ∙ ap (λ cs. before ++ cs) (sym (next_one g symbol (core_of x) [] stands)) ∙ sym (next_more g symbol core_of xs i x low is)
+
+  pub next_left : is_symbol symbol (symbol_behind g (core_of x)) ≡ false → map core_of kernel ≡ next_kernel g symbol (map core_of (take (i + 1) xs))
+  next_left apart =
+      let before = next_kernel g symbol (map core_of (take i xs)) in
+      so_far ∙ sym (append-nil before) ∙ ap (λ cs. before ++ cs) (sym (next_none g symbol (core_of x) [] apart))
+      ∙ sym (next_more g symbol core_of xs i x low is)
 
 -- cores with lookaheads have items
 pub some_item : (cores : List CoreSet) → All IsFilled cores → 0 < length cores → (x : ItemOf) × IsAmong cores x

@@ -1,5 +1,6 @@
 //! The states: the item sets that are reached, each once.
-ghost use Rattle.std.specs.Prelude.{◌≡◌, ◌<◌, ◌≤◌, ◌+◌, ℕ, List, All, IfErr, IfOk, OnOk, length, map};
+ghost use Rattle.std.specs.Prelude.{◌≡◌, ◌<◌, ◌≤◌, ◌+◌, ◌^◌, ℕ, List, All, IfErr, IfOk, OnOk, Some, length, map};
+ghost use Rattle.std.specs.Bool.{OnTrue};
 ghost use Rattle.std.specs.Option.{option_map};
 ghost use Rattle.lrpar_grammar.specs.Grammar.{GrammarSymbol, IsWellFormed, Nonterminal, Terminal};
 ghost use Rattle.lrpar_grammar.specs.Symbols.{symbol_of};
@@ -31,11 +32,12 @@ fn stands_before<StorageT: StorageIndex>(
     symbol: Symbol<StorageT>,
 ) -> bool
     requires { IsCoreOf grm.now (core_set StorageT.index core.now) }
-    ensures { result ≡ is_symbol (symbol_of StorageT.index symbol) (symbol_behind grm.now (core_set StorageT.index core.now)) }
+    ensures symbol { result ≡ is_symbol (symbol_of StorageT.index symbol) (symbol_behind grm.now (core_set StorageT.index core.now)) }
+    ensures more { OnTrue result (core.now.dot + 1 < 2 ^ 64) }
 {
     match grm.prod(core.prod).get(core.dot) {
         None => false,
-        Some(behind) => is_same(*behind, symbol),
+        Some(behind) => is_same(symbol, *behind),
     }
 }
 
