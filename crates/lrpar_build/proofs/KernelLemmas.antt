@@ -1,5 +1,5 @@
 -- A set of items has one kernel: cores in their order, each with some lookahead, are told by their items.
-use Rattle.std.proofs.Common.{◌≡◌, ◌<◌, ◌≤◌, ◌+◌, ◌==◌, ◌&&◌, ◌↔◌, ◌⊎◌, ◌∙◌, refl, sym, ap, subst, inl, inr, arith, zero-add, ℕ, Bool, true, false, cond, List, [], ◌∷◌, All, length, IsTrue}
+use Rattle.std.proofs.Common.{◌≡◌, ◌≤◌, ◌+◌, ◌==◌, ◌&&◌, ◌↔◌, ◌⊎◌, ◌∙◌, refl, sym, ap, subst, inl, inr, arith, zero-add, ℕ, Bool, false, cond, List, [], ◌∷◌, All, length, IsTrue}
 use Rattle.std.specs.List.{Contains, count_by}
 use Rattle.std.proofs.lemmas.List.Sums.{sum_by-cons}
 use Rattle.std.proofs.lemmas.Bool.{and_parts, cases_Bool, eqb-true, false≢true}
@@ -8,7 +8,7 @@ use Rattle.std.proofs.lemmas.List.Elements.{All-contains, All-head, All-tail, Co
 use Rattle.lrpar_grammar.specs.Grammar.{Grammar}
 use Rattle.lrpar_states.specs.Graph.{ItemOf}
 use Rattle.lrpar_build.specs.Canonical.{AreSame}
-use Rattle.lrpar_build.specs.Cores.{CoreSet, IsAmong, IsCoreOf, IsOfCore}
+use Rattle.lrpar_build.specs.Cores.{CoreSet, IsAmong, IsOfCore}
 use Rattle.lrpar_build.specs.FirstRows.{mark_of}
 use Rattle.lrpar_build.specs.Kernels.{AreCores, AreInOrder, ComesBefore, IsFilled, Precedes, place_of}
 use Rattle.lrpar_build.specs.Tokens.{has}
@@ -39,7 +39,7 @@ abbrev core_of : ℕ → ℕ → List Bool → CoreSet
 core_of prod dot tokens = record { prod = prod; dot = dot; tokens = tokens }
 
 -- the parts of a core make it
-core_is : (a b : CoreSet) → a.prod ≡ b.prod → a.dot ≡ b.dot → a.tokens ≡ b.tokens → a ≡ b
+pub core_is : (a b : CoreSet) → a.prod ≡ b.prod → a.dot ≡ b.dot → a.tokens ≡ b.tokens → a ≡ b
 core_is a b prod dot tokens =
     ap (λ n. core_of n a.dot a.tokens) prod ∙ ap (λ n. core_of b.prod n a.tokens) dot ∙ ap (core_of b.prod b.dot) tokens
 

@@ -14,3 +14,5 @@ pub mod NextLemmas
 pub mod StatesLemmas
 pub mod NumberLemmas
 pub mod PutLemmas
+pub mod StepLemmas
+pub mod FindLemmas

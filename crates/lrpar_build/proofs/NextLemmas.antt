@@ -1,6 +1,6 @@
 -- The kernel to which cores go by a symbol: those that stand before it, each advanced.
-use Rattle.std.proofs.Common.{◌≡◌, ◌<◌, ◌≤◌, ◌+◌, ◌↔◌, ◌⊎◌, ◌∙◌, refl, sym, ap, subst, inl, inr, arith, ℕ, zero, Bool, true, false, cond, List, [], ◌∷◌, ◌++◌, All, Option, Some, None, get_or, length, map, slice_get, take, IsTrue}
-use Rattle.std.specs.List.{Contains, filter}
+use Rattle.std.proofs.Common.{◌≡◌, ◌<◌, ◌+◌, ◌↔◌, ◌⊎◌, ◌∙◌, refl, sym, ap, subst, inl, inr, arith, ℕ, Bool, true, false, cond, List, [], ◌∷◌, ◌++◌, All, Option, Some, None, get_or, length, map, slice_get, take}
+use Rattle.std.specs.List.{filter}
 use Rattle.std.proofs.lemmas.Bool.{cases_Bool, eq-eqb, eqb-true, false≢true}
 use Rattle.std.proofs.lemmas.List.{append-nil, map-append, map_more}
 use Rattle.std.proofs.lemmas.List.Elements.{All-filter, All-head, All-map, All-weaker, filter-append, filter_passes}
@@ -10,7 +10,6 @@ use Rattle.lrpar_states.specs.Graph.{ItemOf, item_at}
 use Rattle.lrpar_build.specs.Cores.{CoreSet, IsAmong, IsCoreOf, IsOfCore}
 use Rattle.lrpar_build.specs.ItemSets.{IsAdvanced}
 use Rattle.lrpar_build.specs.Kernels.{AreCores, AreInOrder, ComesBefore, IsBegun, IsFilled, IsKernel, StandBefore, advanced, is_symbol, next_kernel, symbol_behind}
-use Rattle.lrpar_build.specs.Tokens.{has}
 use Rattle.lrpar_build.proofs.KernelLemmas.{among_cons, among_nil}
 
 -- the test of a symbol holds where it is that symbol
@@ -42,9 +41,12 @@ module _ (g : Grammar) (symbol : GrammarSymbol) where
   -- the items of a core that stands before the symbol, advanced, and back
   advanced_to : (core : CoreSet) (y : ItemOf) → before core ≡ true → IsOfCore (advanced core) y → IsAdvanced g (IsOfCore core) symbol y
   advanced_to core y here of =
-      let x : ItemOf = record { prod = core.prod; dot = core.dot; token = y.token } in
-      (x, (refl, refl, of.2), symbol_from symbol (symbol_behind g core) here,
-        ap (λ n. item_at n y.dot y.token) (sym of.0) ∙ ap (λ n. item_at core.prod n y.token) (sym of.1))
+      let x : ItemOf = record { prod = core.prod; dot = core.dot; token = y.token } in (
+        x,
+        (refl, refl, of.2),
+        symbol_from symbol (symbol_behind g core) here,
+        ap (λ n. item_at n y.dot y.token) (sym of.0) ∙ ap (λ n. item_at core.prod n y.token) (sym of.1),
+      )
 
   advanced_from : (core : CoreSet) (y : ItemOf) → IsAdvanced g (IsOfCore core) symbol y → (before core ≡ true) × IsOfCore (advanced core) y
   advanced_from core y h =
@@ -116,8 +118,8 @@ module _ (g : Grammar) (symbol : GrammarSymbol) where
         | inl here ↦
             subst (AreInOrder g) (sym (next_one core cores here)) (
               All-map (ComesBefore g (advanced core)) advanced (filter before cores)
-              (All-weaker (ComesBefore g core) (λ c. ComesBefore g (advanced core) (advanced c)) (later_advanced core) (filter before cores)
-              (All-filter before (ComesBefore g core) cores order.0)),
+                  (All-weaker (ComesBefore g core) (λ c. ComesBefore g (advanced core) (advanced c)) (later_advanced core) (filter before cores)
+                  (All-filter before (ComesBefore g core) cores order.0)),
               next_order cores order.1,
             )
         | inr apart ↦ subst (AreInOrder g) (sym (next_none core cores apart)) (next_order cores order.1)

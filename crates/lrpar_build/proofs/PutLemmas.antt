@@ -1,11 +1,11 @@
 -- The closure's cores in their order: the kernel's, and then each production that comes with them.
-use Rattle.std.proofs.Common.{◌≡◌, ◌≢◌, ◌<◌, ◌≤◌, ◌+◌, ◌==◌, ◌⊎◌, ◌∙◌, refl, sym, ap, subst, inl, inr, arith, ℕ, Bool, true, false, cond, List, [], ◌∷◌, ◌++◌, All, length, IsTrue}
+use Rattle.std.proofs.Common.{◌≡◌, ◌≢◌, ◌<◌, ◌≤◌, ◌+◌, ◌⊎◌, ◌∙◌, sym, ap, subst, inl, inr, arith, ℕ, cond, List, [], ◌∷◌, ◌++◌, All}
 use Rattle.std.proofs.lemmas.Bool.{cases_lt, eq-eqb, ne_eqb}
-use Rattle.std.proofs.lemmas.List.Elements.{All-cons, All-head, All-nil, All-push, All-tail, All-weaker}
-use Rattle.lrpar_grammar.specs.Grammar.{Grammar, IsWellFormed, rule_of, start_prod}
-use Rattle.lrpar_build.specs.Brought.{HasIn, IsBrought, Given, Brought}
+use Rattle.std.proofs.lemmas.List.Elements.{All-head, All-nil, All-push, All-tail, All-weaker}
+use Rattle.lrpar_grammar.specs.Grammar.{Grammar, IsWellFormed, start_prod}
+use Rattle.lrpar_build.specs.Brought.{IsBrought, Given, Brought}
 use Rattle.lrpar_build.specs.Cores.{AreBringing, CoreSet, IsCoreOf}
-use Rattle.lrpar_build.specs.Kernels.{AreCores, AreInOrder, ComesBefore, IsBegun, IsFilled, IsKernel, IsPut, place_of}
+use Rattle.lrpar_build.specs.Kernels.{AreCores, AreInOrder, ComesBefore, IsBegun, IsFilled, IsPut, place_of}
 use Rattle.lrpar_build.proofs.StatesLemmas.{rule_behind_listed}
 
 module _ (g : Grammar) where

@@ -1,20 +1,18 @@
 -- States that were worked out from all kernels have the canonical sets.
-use Rattle.std.proofs.Common.{◌≡◌, ◌<◌, ◌≤◌, ◌+◌, ◌==◌, ◌&&◌, ◌↔◌, ◌⊎◌, ◌∙◌, refl, sym, ap, subst, inl, inr, arith, ℕ, Bool, true, false, List, [], ◌∷◌, ◌++◌, All, Option, Some, None, drop, length, nat_eq, slice_get, slice_index_or, IsTrue}
-use Rattle.std.specs.List.{Contains, count_by}
-use Rattle.std.specs.Map.{keys_of, lookup}
-use Rattle.std.proofs.lemmas.Bool.{and_parts, cases_Bool, cases_lt, cases_order, eqb-true}
+use Rattle.std.proofs.Common.{◌≡◌, ◌<◌, ◌⊎◌, ◌∙◌, sym, ap, subst, inl, inr, arith, ℕ, List, [], ◌∷◌, All, Option, Some, None, drop, length, nat_eq, slice_index_or}
+use Rattle.std.specs.Map.{lookup}
+use Rattle.std.proofs.lemmas.Bool.{cases_order}
 use Rattle.std.proofs.lemmas.List.Elements.{All-cons, All-contains, All-drop, All-head, All-nil, All-weaker}
 use Rattle.std.proofs.lemmas.List.{get_or_default}
 use Rattle.std.proofs.lemmas.Option.{slice_get_past}
 use Rattle.std.specs.Option.{option_map_or}
-use Rattle.lrpar_grammar.specs.Grammar.{Grammar, GrammarSymbol, IsListedSymbol, IsWellFormed, Nonterminal, Terminal, end_token, prods_len, rule_of, rules_len, start_prod, symbols_of}
-use Rattle.lrpar_states.specs.Graph.{ItemOf, item_at}
+use Rattle.lrpar_grammar.specs.Grammar.{Grammar, GrammarSymbol, IsListedSymbol, IsWellFormed, Nonterminal, Terminal, end_token, rule_of, rules_len, start_prod, symbols_of}
+use Rattle.lrpar_states.specs.Graph.{ItemOf}
 use Rattle.lrpar_build.specs.Canonical.{AreCanonical, AreSame, IsStep, ReachesMore}
-use Rattle.lrpar_build.specs.Cores.{CoreSet, IsAmong, IsCoreOf, IsOfCore}
-use Rattle.lrpar_build.specs.ItemSets.{Adds, IsAdvanced, IsInClosure, Own, Added, IsReachedBy, IsStartItem}
-use Rattle.lrpar_build.specs.Kernels.{AreCores, AreInOrder, AreKept, AreKernels, ComesBefore, GoesTo, IsBegun, IsKernel, IsReachedKernel, StandBefore, kernel_at, path_at}
-use Rattle.lrpar_build.specs.States.{AreStates, AreSteps, IsExpanded, StateOf, sets_at, state_at}
-use Rattle.lrpar_build.specs.Wanted.{AreOnce}
+use Rattle.lrpar_build.specs.Cores.{CoreSet, IsAmong}
+use Rattle.lrpar_build.specs.ItemSets.{IsAdvanced, IsInClosure, Own, Added, IsReachedBy, IsStartItem}
+use Rattle.lrpar_build.specs.Kernels.{AreKernels, GoesTo, IsBegun, IsKernel, kernel_at, path_at}
+use Rattle.lrpar_build.specs.States.{AreStates, IsExpanded, StateOf, sets_at, state_at}
 use Rattle.lrpar_build.proofs.KernelLemmas.{once_in_order, one_kernel}
 use Rattle.lrpar_build.proofs.NextLemmas.{some_item}
 
@@ -158,7 +156,7 @@ module _ (g : Grammar) where
           goes.0,
           (let low = goes.1 in omega (arith, low, len)),
           same_via (sets_at states next) (closure_at next) (IsInClosure g advanced) (set_is next goes.1)
-          (closure_same (IsAmong (kernel_at kernels next)) advanced goes.2),
+              (closure_same (IsAmong (kernel_at kernels next)) advanced goes.2),
         )
 
     steps_of : (s : ℕ) → s < length states → (symbol : GrammarSymbol)
@@ -186,7 +184,7 @@ module _ (g : Grammar) where
           next,
           step.1,
           same_via (sets_at states next) (IsInClosure g advanced) (IsInClosure g others) step.2
-          (closure_same advanced others (advanced_same (sets_at states s) (IsReachedBy g path) symbol same)),
+              (closure_same advanced others (advanced_same (sets_at states s) (IsReachedBy g path) symbol same)),
         )
 
     all_reached : (path : List GrammarSymbol) (x : ItemOf) → IsReachedBy g path x

@@ -1,8 +1,8 @@
-use Rattle.std.proofs.Common.{◌+◌, ◌∙◌, Bool, List, refl, sym, ap, subst, map}
+use Rattle.std.proofs.Common.{◌+◌, ◌∙◌, Bool, List, sym, ap, subst, map}
 use Rattle.std.proofs.lemmas.List.{take_all}
 use Rattle.lrpar_grammar.specs.Symbols.{symbol_of}
 use Rattle.lrpar_grammar.proofs.ListLemmas.{All-map-at}
-use Rattle.lrpar_build.specs.Cores.{CoreSet, IsCoreOf, core_set}
+use Rattle.lrpar_build.specs.Cores.{IsCoreOf, core_set}
 use Rattle.lrpar_build.specs.Kernels.{next_kernel}
 use Rattle.lrpar_build.proofs.NextLemmas.{next_left, next_put}
 use Rattle.lrpar_build.proofs.states.next_kernel.Goals as goal
