@@ -21,3 +21,10 @@ pub mod TableRowLemmas
 pub mod ListedLemmas
 pub mod BuiltLemmas
 pub mod TablesLemmas
+pub mod KernelLemmas
+pub mod NextLemmas
+pub mod StatesLemmas
+pub mod NumberLemmas
+pub mod PutLemmas
+pub mod StepLemmas
+pub mod FindLemmas
