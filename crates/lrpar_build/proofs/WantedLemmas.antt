@@ -46,6 +46,11 @@ count_filter q r q' implies (x ∷ xs) =
           ]
     ]
 
+-- numbers that ascend from one on ascend from a lower one on
+pub ascend_lower : (a b : ℕ) (ks : List ℕ) → a ≤ b → AscendFrom b ks → AscendFrom a ks
+ascend_lower a b [] low up = tt
+ascend_lower a b (k ∷ ks) low up = (omega (arith, low, up.0), up.1)
+
 module _ {X : Type 0} (n : X → ℕ) where
   -- what is at least a number, and isn't it, is greater
   above : (m : ℕ) (xs : List X) → All (λ y. m ≤ n y) xs → count_by (λ y. n y == m) xs ≡ 0 → All (λ y. m + 1 ≤ n y) xs
@@ -73,10 +78,6 @@ module _ {X : Type 0} (n : X → ℕ) where
             (λ m. let more = count_up (λ y. n y == m) x xs in let all = once m in omega (arith, more, all))
             (above (n x) xs later (omega (arith, one, most))),
       )
-
-  ascend_lower : (a b : ℕ) (ks : List ℕ) → a ≤ b → AscendFrom b ks → AscendFrom a ks
-  ascend_lower a b [] low up = tt
-  ascend_lower a b (k ∷ ks) low up = (omega (arith, low, up.0), up.1)
 
   -- and so do those that pass a test
   pub ascend_filter : (p : X → Bool) (a : ℕ) (xs : List X) → AscendFrom a (map n xs) → AscendFrom a (map n (filter p xs))

@@ -6,5 +6,9 @@ pub mod FirstRows
 pub mod Brought
 pub mod Cores
 pub mod Wanted
+pub mod Kernels
+pub mod Numbers
 pub mod States
 pub mod BuilderLaws
+pub mod Built
+pub mod StateRows

@@ -1,13 +1,17 @@
 -- The states that are built: each with its cores, and where it goes by the symbols that its items stand before.
-use Rattle.std.specs.Prelude.{◌≡◌, ◌<◌, ℕ, List, [], All, length, map, nat_eq, slice_index_or}
+use Rattle.std.specs.Prelude.{◌≡◌, ◌<◌, ◌+◌, ℕ, List, [], All, length, map, nat_eq, slice_index_or}
 use Rattle.std.specs.Map.{keys_of, lookup}
-use Rattle.lrpar_grammar.specs.Grammar.{Grammar, Nonterminal, Terminal}
+use Rattle.lrpar_grammar.specs.Grammar.{Grammar, GrammarSymbol, Nonterminal, Terminal}
 use Rattle.lrpar_states.specs.Graph.{ItemOf}
 use Rattle.lrpar_states.specs.PlainRows.{goto_entry}
-use Rattle.lrpar_build.specs.Canonical.{AreCanonical, IsStep}
+use Rattle.lrpar_build.specs.Canonical.{AreCanonical, AreSame, IsStep}
 use Rattle.lrpar_build.specs.Cores.{CoreSet, IsAmong, IsCoreOf, core_set}
+use Rattle.lrpar_build.specs.ItemSets.{IsInClosure, IsStartItem}
+use Rattle.lrpar_build.specs.Kernels.{AreCores, GoesTo, kernel_at}
 use Rattle.lrpar_build.specs.Wanted.{AreOnce, AscendFrom, shift_entry}
+use Rattle.lrpar_build.specs.FirstRows.{AreFirsts, HaveRoom, mark_of, rows_of}
 use Rattle.lrpar_build.specs.declared.state.State.{State}
+use Rattle.lrpar_build.specs.declared.states.Sets.{Sets}
 
 -- a state: its cores with their lookaheads, the states to which it goes by rules, and those to which it goes by tokens
 pub record StateOf : Type 0 where
@@ -42,3 +46,37 @@ pub record AreStates (g : Grammar) (states : List StateOf) : Type 0 where
       → IsStep g (length states) (sets_at states) s (Nonterminal r) (lookup (nat_eq r) (state_at states s).gotos)
   pub shifts : (s t : ℕ) → s < length states
       → IsStep g (length states) (sets_at states) s (Terminal t) (lookup (nat_eq t) (state_at states s).shifts)
+
+-- rows of the numbers of symbols, ascending, with where cores go by each: to one of the kernels, or nowhere
+pub record AreSteps (g : Grammar) (kernels : List (List CoreSet)) (cores : List CoreSet) (symbol : ℕ → GrammarSymbol) (rows : List (ℕ × ℕ)) : Type 0 where
+  pub ascend : AscendFrom 0 (keys_of rows)
+  pub goes : (n : ℕ) → GoesTo g kernels cores (symbol n) (lookup (nat_eq n) rows)
+
+-- the state has the closure of the kernel, and goes to these kernels
+pub record IsExpanded (g : Grammar) (kernels : List (List CoreSet)) (kernel : List CoreSet) (state : StateOf) : Type 0 where
+  pub items : AreSame (IsAmong state.cores) (IsInClosure g (IsAmong kernel))
+  pub cores : AreCores g state.cores
+  pub gotos : AreSteps g kernels state.cores Nonterminal state.gotos
+  pub shifts : AreSteps g kernels state.cores Terminal state.shifts
+
+-- rows of the numbers of symbols below n, ascending, with where cores go by each
+pub record AreStepsBelow (g : Grammar) (kernels : List (List CoreSet)) (cores : List CoreSet) (symbol : ℕ → GrammarSymbol) (rows : List (ℕ × ℕ)) (n : ℕ) : Type 0 where
+  pub ascend : AscendFrom 0 (keys_of rows)
+  pub below : All (λ k. k < n) (keys_of rows)
+  pub goes : (k : ℕ) → k < n → GoesTo g kernels cores (symbol k) (lookup (nat_eq k) rows)
+
+-- sets to work with, for a closure
+pub record AreSets (g : Grammar) (sets : Sets) : Type 0 where
+  pub firsts : AreFirsts g (rows_of sets.firsts.items)
+  pub room : HaveRoom g (rows_of sets.brought.items)
+  pub front : length sets.front.bits.items ≡ mark_of g + 1
+  pub fresh : length sets.fresh.bits.items ≡ mark_of g + 1
+
+-- the first kernel is that of the start item
+pub record StartsRight (g : Grammar) (kernels : List (List CoreSet)) : Type 0 where
+  pub some : 0 < length kernels
+  pub is : AreSame (IsAmong (kernel_at kernels 0)) (IsStartItem g)
+
+-- the states have the closures of the first kernels, and go to these kernels
+abbrev pub AreExpanded : Grammar → List (List CoreSet) → List StateOf → Type 0
+AreExpanded g kernels states = (s : ℕ) → s < length states → IsExpanded g kernels (kernel_at kernels s) (state_at states s)

@@ -7,6 +7,7 @@ ghost use Rattle.lrpar_build.specs.FirstRows.{AreFirsts, HaveRoom, HoldNothing, 
 ghost use Rattle.lrpar_build.specs.Brought.{HasIn, IsBrought};
 ghost use Rattle.lrpar_build.specs.Cores.{AreBringing, Brings, IsAmong, IsCoreOf, IsOfCore, IsOfRows, core_set};
 ghost use Rattle.lrpar_build.specs.ItemSets.{IsInClosure};
+ghost use Rattle.lrpar_build.specs.Kernels.{AreCores, IsKernel, IsPut};
 
 use crate::cores::CoreItems;
 use crate::first::add_first_before;
@@ -16,7 +17,7 @@ use lrpar_grammar::grammar::YaccGrammar;
 use lrpar_grammar::span::{PIdx, RIdx, StorageIndex, Symbol};
 use std::alloc::{AllocError, Global};
 
-/// The closure of the cores: they themselves, and with its lookaheads each production of each rule that comes with them. The last
+/// The closure of the kernel's cores: they themselves, and with its lookaheads each production of each rule that comes with them. The last
 /// three are sets to work with, of which the first are one for each rule.
 pub(crate) fn closure<StorageT: StorageIndex>(
     alloc: Global,
@@ -29,7 +30,7 @@ pub(crate) fn closure<StorageT: StorageIndex>(
 ) -> Result<Vec<CoreItems<StorageT>>, AllocError>
     requires well_formed { IsWellFormed grm.now }
     requires firsts { AreFirsts grm.now (rows_of firsts.now) }
-    requires cores { All (IsCoreOf grm.now) (map (core_set StorageT.index) cores.items) }
+    requires kernel { IsKernel grm.now (map (core_set StorageT.index) cores.items) }
     requires room { HaveRoom grm.now (rows_of brought.old) }
     requires front { length front.old.bits.items ≡ mark_of grm.now + 1 }
     requires fresh { length fresh.old.bits.items ≡ mark_of grm.now + 1 }
@@ -38,6 +39,7 @@ pub(crate) fn closure<StorageT: StorageIndex>(
     ensures fresh { length fresh.new.bits.items ≡ mark_of grm.now + 1 }
     ensures items { IfOk result (λ closure. (x : ItemOf) → IsAmong (map (core_set StorageT.index) closure.items) x
         ↔ IsInClosure grm.now (IsAmong (map (core_set StorageT.index) cores.items)) x) }
+    ensures cores { IfOk result (λ closure. AreCores grm.now (map (core_set StorageT.index) closure.items)) }
 {
     let mut closure = cores;
     bring(grm, firsts, &closure, brought, front, fresh);
@@ -52,9 +54,13 @@ fn push_brought<StorageT: StorageIndex>(
     brought: &[TokenSet],
     closure: &mut Vec<CoreItems<StorageT>>,
 ) -> Result<(), AllocError>
+    requires well_formed { IsWellFormed grm.now }
     requires room { HaveRoom grm.now (rows_of brought.now) }
+    requires added { (t : ℕ) → ¬ (HasIn (rows_of brought.now) 0 t) }
+    requires kernel { IsKernel grm.now (map (core_set StorageT.index) closure.old.items) }
     ensures items { OnOk result ((x : ItemOf) → IsAmong (map (core_set StorageT.index) closure.new.items) x
         ↔ (IsAmong (map (core_set StorageT.index) closure.old.items) x ⊎ IsOfRows grm.now (rows_of brought.now) (prods_len grm.now) x)) }
+    ensures cores { OnOk result (AreCores grm.now (map (core_set StorageT.index) closure.new.items)) }
 {
     for prod in 0..grm.prods_len() {
         let pidx = PIdx(StorageT::from_index(prod).unwrap());
@@ -74,6 +80,8 @@ fn push_one<StorageT: StorageIndex>(
     ensures items { OnOk result ((x : ItemOf) → IsAmong (map (core_set StorageT.index) closure.new.items) x
         ↔ (IsAmong (map (core_set StorageT.index) closure.old.items) x
         ⊎ IsOfCore (record { prod = StorageT.index pidx.0; dot = 0; tokens = tokens.now.bits.items }) x)) }
+    ensures put { OnOk result (IsPut (map (core_set StorageT.index) closure.old.items)
+        (record { prod = StorageT.index pidx.0; dot = 0; tokens = tokens.now.bits.items }) (map (core_set StorageT.index) closure.new.items)) }
 {
     if tokens.has_any() {
         let tokens = tokens.copy(alloc)?;

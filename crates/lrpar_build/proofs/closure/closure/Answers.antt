@@ -1,9 +1,16 @@
-use Rattle.std.proofs.Common.{◌↔◌, ℕ, subst, map}
+use Rattle.std.proofs.Common.{arith, ◌↔◌, ℕ, subst, map}
 use Rattle.lrpar_build.specs.Brought.{HasIn, IsBrought}
 use Rattle.lrpar_build.specs.Cores.{AreBringing, core_set}
 use Rattle.lrpar_build.specs.FirstRows.{rows_of}
 use Rattle.lrpar_build.proofs.AmongLemmas.{closure_among}
+use Rattle.lrpar_build.proofs.PutLemmas.{added_not_brought}
 use Rattle.lrpar_build.proofs.closure.closure.Goals as goal
+
+pub push_brought-requires-clause-added : goal.push_brought-requires-clause-added
+push_brought-requires-clause-added g c =
+    let cores = map (core_set g.StorageT.StorageIndex.index) c.deref.result.now in
+    λ t h.
+    let listed = added_not_brought c.args.grm.now c.requires.well_formed cores 0 t ((c.bring.ensures.exact 0 t).0 h) in omega (arith, listed)
 
 pub returns-clause-items : goal.returns-clause-items
 returns-clause-items g c =

@@ -1,4 +1,4 @@
-use Rattle.std.proofs.Common.{◌↔◌, ◌⊎◌, ◌∙◌, ap, subst, map, List, Bool}
+use Rattle.std.proofs.Common.{inl, [], ◌∷◌, ◌++◌, ◌≡◌, ◌↔◌, ◌⊎◌, ◌∙◌, ap, subst, map, List, Bool}
 use Rattle.std.proofs.lemmas.List.{map-append}
 use Rattle.lrpar_build.specs.Cores.{CoreSet, IsAmong, IsOfCore, core_set}
 use Rattle.lrpar_build.proofs.AmongLemmas.{among_more}
@@ -15,4 +15,9 @@ returns-in_ok-push g c =
       items = λ x.
           subst (λ (tokens : List Bool). IsAmong new x ↔ (IsAmong old x ⊎ IsOfCore (record { prod = index c.args.pidx.0; dot = 0; tokens = tokens }) x))
           c.in_ok-tokens.ensures (among_more old new core x is);
+      put =
+          inl (
+            c.has_any.ensures.0 c.if-has_any.true,
+            subst (λ (tokens : List Bool). new ≡ old ++ record { prod = index c.args.pidx.0; dot = 0; tokens = tokens } ∷ []) c.in_ok-tokens.ensures is,
+          );
     }

@@ -1,0 +1,63 @@
+use Rattle.std.proofs.Common.{◌≡◌, ◌≤◌, ◌+◌, ◌∷◌, ◌++◌, ◌∙◌, ℕ, [], arith, ap, subst, sym, map}
+use Rattle.std.specs.Option.{option_map}
+use Rattle.std.proofs.lemmas.List.{map-append}
+use Rattle.lrpar_grammar.specs.Grammar.{Terminal, tokens_len}
+use Rattle.lrpar_build.specs.Wanted.{shift_entry}
+use Rattle.lrpar_build.specs.Cores.{core_set}
+use Rattle.lrpar_build.specs.Kernels.{GoesTo}
+use Rattle.lrpar_build.specs.Numbers.{kernels_of}
+use Rattle.lrpar_build.specs.States.{AreStepsBelow}
+use Rattle.lrpar_build.proofs.NumberLemmas.{kept_itself, kept_twice}
+use Rattle.lrpar_build.proofs.StepLemmas.{all_shifts, no_steps, step_none, step_some}
+use Rattle.lrpar_build.proofs.states.shifts.Goals as goal
+use Rattle.lrpar_build.proofs.states.shifts.Goals.{in-None, in-Some+in_ok-push-in-Some}
+
+pub loop-token-init : goal.loop-token-init
+loop-token-init g c =
+    let index = g.StorageT.StorageIndex.index in
+    let grm = c.args.grm.now in
+    let kernels = kernels_of index c.args.kernels.now in
+    let cores = map (core_set index) c.args.cores.now in record {
+      numbered = c.requires.kernels;
+      kept = kept_itself kernels;
+      steps =
+          subst (λ rows. AreStepsBelow grm kernels cores Terminal (map (shift_entry index) rows) 0) (sym c.new-rows.ensures.items)
+          (no_steps grm kernels cores Terminal);
+    }
+
+pub loop-token-preserved : goal.loop-token-preserved
+loop-token-preserved g c =
+    let index = g.StorageT.StorageIndex.index in
+    let grm = c.args.grm.now in
+    let n = c.loop-token.token in
+    let before = kernels_of index c.loop-token.kernels in
+    let after = kernels_of index c.step.new.kernels in
+    let cores = map (core_set index) c.args.cores.now in
+    let rows = map (shift_entry index) c.loop-token.rows.items in
+    let kept = c.in_ok-next.ensures.kept in
+    let number : index c.unwrap.result ≡ n = rw c.unwrap.ensures at c.from_index.ensures.back in
+    let goes : GoesTo grm after cores (Terminal n) (option_map (λ state. index state.0) c.in_ok-next.next) =
+    subst (λ m. GoesTo grm after cores (Terminal m) (option_map (λ state. index state.0) c.in_ok-next.next)) number c.in_ok-next.ensures.goes in record {
+      numbered = c.in_ok-next.ensures.kernels;
+      kept = kept_twice (kernels_of index c.args.kernels.now) before after c.loop-token.invariant.kept kept;
+      steps =
+          elim c.match-next.branch [
+            | in-None w ↦
+                subst (λ v. AreStepsBelow grm after cores Terminal (map (shift_entry index) v.items) (n + 1)) (sym w.rows-is)
+                (step_none grm before after kept cores Terminal rows n c.loop-token.invariant.steps
+                (subst (λ next. GoesTo grm after cores (Terminal n) (option_map (λ state. index state.0) next)) w.in-None.is goes))
+            | in-Some+in_ok-push-in-Some w ↦
+                step_some grm before after kept cores Terminal rows n c.loop-token.invariant.steps (map (shift_entry index) c.match-next.rows.items)
+                (index w.in-Some.state.0)
+                (subst (λ next. GoesTo grm after cores (Terminal n) (option_map (λ state. index state.0) next)) w.in-Some.is goes)
+                (ap (λ v. map (shift_entry index) v.items) w.rows-is ∙ ap (map (shift_entry index)) w.in_ok-push-in-Some.ensures.items
+                ∙ map-append (shift_entry index) c.loop-token.rows.items _ ∙ ap (λ (m : ℕ). rows ++ (m, index w.in-Some.state.0) ∷ []) number)
+          ];
+    }
+
+pub returns-clause-steps : goal.returns-clause-steps
+returns-clause-steps g c =
+    let index = g.StorageT.StorageIndex.index in
+    let full : tokens_len c.args.grm.now ≤ c.loop-token.token = omega (arith, c.loop-token-test.false, c.tokens_len-token-end.ensures.len) in
+    all_shifts c.args.grm.now c.requires.well_formed (kernels_of index c.loop-token.kernels) (map (core_set index) c.args.cores.now)
+    (map (shift_entry index) c.loop-token.rows.items) c.loop-token.token full c.loop-token.invariant.steps

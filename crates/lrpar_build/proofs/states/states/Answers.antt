@@ -1,0 +1,64 @@
+use Rattle.std.proofs.Common.{◌≡◌, ◌<◌, ◌∷◌, ◌++◌, ◌∙◌, [], sym, ap, subst, arith, length, map}
+use Rattle.std.proofs.lemmas.List.{length-map, length_push, map_push}
+use Rattle.lrpar_build.specs.Cores.{core_set}
+use Rattle.lrpar_build.specs.Kernels.{IsKernel, IsReachedKernel, kernel_at, path_at}
+use Rattle.lrpar_build.specs.Numbers.{kernels_of}
+use Rattle.lrpar_build.specs.States.{AreExpanded, IsExpanded, state_of}
+use Rattle.lrpar_build.proofs.NumberLemmas.{expanded_more, starts_kept}
+use Rattle.lrpar_build.proofs.StatesLemmas.{are_states}
+use Rattle.lrpar_build.proofs.states.states.Goals as goal
+
+pub expanded-requires-clause-kernel : goal.expanded-requires-clause-kernel
+expanded-requires-clause-kernel g c =
+    let index = g.StorageT.StorageIndex.index in
+    let kernels = kernels_of index c.states.kernels in
+    let low : c.len-in-states-2.result < length kernels = omega (arith, c.states-test.true, c.len.ensures, c.len-in-states.ensures, c.len-in-states-2.ensures) in
+    subst (IsKernel c.args.grm.now) (sym c.in_ok-kernel.ensures) (c.states.invariant.numbered.are.each c.len-in-states-2.result low)
+
+pub expanded-requires-clause-reached : goal.expanded-requires-clause-reached
+expanded-requires-clause-reached g c =
+    let index = g.StorageT.StorageIndex.index in
+    let kernels = kernels_of index c.states.kernels in
+    let are = c.states.invariant.numbered.are in
+    let low : c.len-in-states-2.result < length kernels = omega (arith, c.states-test.true, c.len.ensures, c.len-in-states.ensures, c.len-in-states-2.ensures) in
+    let path = path_at are.paths c.len-in-states-2.result in
+    (path, subst (λ k. IsReachedKernel c.args.grm.now k path) (sym c.in_ok-kernel.ensures) (are.reached c.len-in-states-2.result low))
+
+pub states-preserved : goal.states-preserved
+states-preserved g c =
+    let index = g.StorageT.StorageIndex.index in
+    let grm = c.args.grm.now in
+    let before = kernels_of index c.states.kernels in
+    let after = kernels_of index c.expanded.new.kernels in
+    let states = map (state_of index) c.states.states.items in
+    let state = state_of index c.in_ok-state.state in
+    let kept = c.in_ok-state.ensures.kept in
+    let count = length-map c.states.states.items (state_of index) in
+    let at : c.len-in-states-2.result ≡ length states = omega (arith, count, c.states.states.ok, c.len-in-states-2.ensures) in
+    let low : length states < length before = omega (arith, count, c.states.states.ok, c.states-test.true, c.len.ensures, c.len-in-states.ensures) in
+    let kernel : map (core_set index) c.in_ok-kernel.kernel.items ≡ kernel_at before (length states) =
+    c.in_ok-kernel.ensures ∙ ap (kernel_at before) at in
+    let new = subst (λ k. IsExpanded grm after k state) kernel c.in_ok-state.ensures.state in
+    let all : map (state_of index) c.push.new.self.items ≡ states ++ state ∷ [] =
+    ap (map (state_of index)) c.in_ok-push.ensures.items ∙ map_push (state_of index) c.states.states.items c.in_ok-state.state in
+    let more = length_push states state in
+    let longer = kept.len in record {
+      sets = c.in_ok-state.ensures.sets;
+      numbered = c.in_ok-state.ensures.kernels;
+      start = starts_kept grm before after kept c.states.invariant.start;
+      few = (let total = ap length all in omega (arith, total, more, low, longer));
+      expanded =
+          subst (AreExpanded grm after) (sym all) (expanded_more grm before after states state kept low c.states.invariant.expanded new);
+    }
+
+pub returns-clause-states : goal.returns-clause-states
+returns-clause-states g c =
+    let index = g.StorageT.StorageIndex.index in
+    let kernels = kernels_of index c.states.kernels in
+    let states = map (state_of index) c.states.states.items in
+    let few = c.states.invariant.few in
+    let count = length-map c.states.states.items (state_of index) in
+    let full : length states ≡ length kernels =
+    omega (arith, few, count, c.states.states.ok, c.states-test.false, c.len.ensures, c.len-in-states.ensures) in
+    are_states c.args.grm.now c.start_kernels.ensures.well_formed kernels c.states.invariant.numbered.are c.states.invariant.start.some
+    c.states.invariant.start.is states full c.states.invariant.expanded

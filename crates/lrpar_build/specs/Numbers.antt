@@ -1,0 +1,54 @@
+-- Kernels and their numbers.
+use Rattle.std.specs.Prelude.{◌≡◌, ◌≢◌, ◌<◌, ◌≤◌, ◌⊎◌, ◌++◌, ℕ, List, [], ◌∷◌, length, map}
+use Rattle.lrpar_grammar.specs.Grammar.{Grammar}
+use Rattle.lrpar_build.specs.Canonical.{ReachesMore}
+use Rattle.lrpar_build.specs.Cores.{CoreSet, core_set}
+use Rattle.lrpar_build.specs.Kernels.{AreKernels, kernel_at}
+use Rattle.lrpar_build.specs.declared.fault.BuildFault.{BuildFault}
+use Rattle.lrpar_build.specs.declared.fault.BuildFault.TheVariants.{AcceptReduceConflict, Memory, StorageTooSmall, TooManyStates}
+use Rattle.lrpar_build.specs.declared.kernels.Kernels.{Kernels}
+
+-- the kernels of the code
+abbrev pub kernels_of : {S : Type 0} → (S → ℕ) → Kernels S → List (List CoreSet)
+kernels_of index kernels = map (λ kernel. map (core_set index) kernel.items) kernels.kernels.items
+
+-- the kernel has this number
+pub record IsFound (kernels : List (List CoreSet)) (kernel : List CoreSet) (number : ℕ) : Type 0 where
+  pub within : number < length kernels
+  pub is : kernel_at kernels number ≡ kernel
+
+-- the kernel has no number
+abbrev pub IsFresh : List (List CoreSet) → List CoreSet → Type 0
+IsFresh kernels kernel = (s : ℕ) → s < length kernels → kernel_at kernels s ≢ kernel
+
+-- the kernel had no number, and got the next one, which is below both bounds
+pub record IsPushed (max limit : ℕ) (before : List (List CoreSet)) (kernel : List CoreSet) (after : List (List CoreSet)) : Type 0 where
+  pub fresh : IsFresh before kernel
+  pub room : length before < max
+  pub fits : length before < limit
+  pub is : after ≡ before ++ kernel ∷ []
+
+-- the kernel has this number, by which it was found or pushed
+pub record IsNumberOf (max limit : ℕ) (before : List (List CoreSet)) (kernel : List CoreSet) (number : ℕ) (after : List (List CoreSet)) : Type 0 where
+  pub found : IsFound after kernel number
+  pub kernels : (after ≡ before) ⊎ IsPushed max limit before kernel after
+
+-- the kernel has no number, and gets none, since a bound is reached; or memory was wanting
+abbrev pub IsNumberFault : ℕ → ℕ → List (List CoreSet) → List CoreSet → BuildFault → Type 0
+IsNumberFault max limit kernels kernel TooManyStates = IsFresh kernels kernel × (max ≤ length kernels)
+IsNumberFault max limit kernels kernel StorageTooSmall = IsFresh kernels kernel × (limit ≤ length kernels)
+IsNumberFault max limit kernels kernel Memory = Unit {0}
+IsNumberFault max limit kernels kernel (AcceptReduceConflict s) = ⊥
+
+-- kernels of sets that are reached, at most as many as both bounds
+pub record AreNumbered (g : Grammar) (max limit : ℕ) (kernels : List (List CoreSet)) : Type 0 where
+  pub are : AreKernels g kernels
+  pub room : length kernels ≤ max
+  pub fits : length kernels ≤ limit
+
+-- why states aren't worked out: more sets are reached than a bound, or memory was wanting
+abbrev pub IsFaultOfStates : Grammar → ℕ → ℕ → BuildFault → Type 0
+IsFaultOfStates g max limit TooManyStates = ReachesMore g max
+IsFaultOfStates g max limit StorageTooSmall = ReachesMore g limit
+IsFaultOfStates g max limit Memory = Unit {0}
+IsFaultOfStates g max limit (AcceptReduceConflict s) = ⊥
