@@ -1,6 +1,7 @@
 //! The table builder: the canonical LR(1) item sets of a grammar, and the table that they make.
 #![tactic(auto)]
 
+pub mod build;
 mod closure;
 mod cores;
 mod entries;
