@@ -1,5 +1,5 @@
 //! Kernels, each with its number.
-ghost use Rattle.std.specs.Prelude.{◌≡◌, ◌<◌, ◌≤◌, ◌↔◌, ℕ, [], IfErr, IfOk, IsTrue, MatchOption, length, map};
+ghost use Rattle.std.specs.Prelude.{◌≡◌, ◌<◌, ◌≤◌, ◌↔◌, ℕ, [], IfErr, IfOk, IfSome, IsTrue, MatchOption, length, map};
 ghost use Rattle.lrpar_build.specs.Cores.{core_set};
 ghost use Rattle.lrpar_build.specs.Kernels.{kernel_at};
 ghost use Rattle.lrpar_build.specs.Numbers.{IsFound, IsFresh, IsNumberFault, IsNumberOf, kernels_of};
@@ -8,11 +8,13 @@ use crate::cores::CoreItems;
 use crate::fault::BuildFault;
 use lrpar_grammar::span::{StIdx, StorageIndex};
 use std::alloc::{AllocError, Global};
+use std::collections::BTreeMap;
 
-/// The kernels that were found, by their numbers.
+/// The kernels that were found, by their numbers; and their numbers, to find them quickly.
 #[derive(Debug, Drop)]
-pub(crate) struct Kernels<StorageT> {
+pub(crate) struct Kernels<StorageT: StorageIndex> {
     pub(crate) kernels: Vec<Vec<CoreItems<StorageT>>>,
+    pub(crate) numbers: BTreeMap<Vec<CoreItems<StorageT>>, StIdx<StorageT>>,
 }
 
 impl<StorageT: StorageIndex> Kernels<StorageT> {
@@ -22,6 +24,7 @@ impl<StorageT: StorageIndex> Kernels<StorageT> {
     {
         Kernels {
             kernels: Vec::new(alloc),
+            numbers: BTreeMap::new(alloc),
         }
     }
 
@@ -47,6 +50,7 @@ impl<StorageT: StorageIndex> Kernels<StorageT> {
     /// The number of the kernel, which is the next one if it is new.
     pub(crate) fn number(
         &mut self,
+        alloc: Global,
         max_states: usize,
         kernel: Vec<CoreItems<StorageT>>,
     ) -> Result<StIdx<StorageT>, BuildFault>
@@ -66,24 +70,45 @@ impl<StorageT: StorageIndex> Kernels<StorageT> {
         match StorageT::from_index(next) {
             None => Err(BuildFault::StorageTooSmall),
             Some(number) => {
+                let key = copied(alloc, &kernel)?;
+                self.numbers.insert(key, StIdx(number))?;
                 self.kernels.push(kernel)?;
                 Ok(StIdx(number))
             }
         }
     }
 
-    // The number of the kernel, if it was found.
+    // The number of the kernel, if it was found. That it is new is seen by comparing it with all others, which takes little time
+    // beside its closure.
     fn find(&self, kernel: &[CoreItems<StorageT>]) -> Option<StIdx<StorageT>>
         requires { length (kernels_of StorageT.index self.now) ≤ StorageT.limit }
         ensures { MatchOption result (IsFresh (kernels_of StorageT.index self.now) (map (core_set StorageT.index) kernel.now))
             (λ state. IsFound (kernels_of StorageT.index self.now) (map (core_set StorageT.index) kernel.now) (StorageT.index state.0)) }
     {
+        let known = self.known(kernel);
+        if known.is_some() {
+            return known;
+        }
         for number in 0..self.kernels.len() {
             if are_same(&self.kernels[number], kernel) {
                 return Some(StIdx(StorageT::from_index(number).unwrap()));
             }
         }
         None
+    }
+
+    // The number that the kernel has in the map, if it is the kernel's.
+    fn known(&self, kernel: &[CoreItems<StorageT>]) -> Option<StIdx<StorageT>>
+        ensures { IfSome result (λ state. IsFound (kernels_of StorageT.index self.now) (map (core_set StorageT.index) kernel.now) (StorageT.index state.0)) }
+    {
+        let state = *self.numbers.get(kernel)?;
+        let number = usize::from(state);
+        let found = self.kernels.get(number)?;
+        if are_same(found, kernel) {
+            Some(state)
+        } else {
+            None
+        }
     }
 }
 

@@ -89,7 +89,7 @@ fn start_kernels<StorageT: StorageIndex>(
 {
     let start = start_kernel(alloc, grm)?;
     let mut kernels = Kernels::new(alloc);
-    let _start = kernels.number(max_states, start)?;
+    let _start = kernels.number(alloc, max_states, start)?;
     Ok(kernels)
 }
 
@@ -246,7 +246,7 @@ fn step<StorageT: StorageIndex>(
     if kernel.is_empty() {
         return Ok(None);
     }
-    let state = kernels.number(max_states, kernel)?;
+    let state = kernels.number(alloc, max_states, kernel)?;
     Ok(Some(state))
 }
 
