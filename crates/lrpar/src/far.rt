@@ -1,5 +1,5 @@
 //! How far a run comes from a place, without repairs.
-ghost use Rattle.std.specs.Prelude.{◌≡◌, ◌<◌, ◌≤◌, ℕ, IfOk, IfSome, OnOk, length, map};
+ghost use Rattle.std.specs.Prelude.{◌<◌, ◌≤◌, IfOk, IfSome, OnOk, length, map};
 ghost use Rattle.lrpar_grammar.specs.Sentence.{IsValidList};
 ghost use Rattle.lrpar.specs.Lexemes.{facts_of};
 ghost use Rattle.lrpar.specs.Mended.{start_at};

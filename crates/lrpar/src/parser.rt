@@ -140,15 +140,19 @@ impl<
     /// Parses what the lexer answers, which it is asked once. A lexeme has the value that `fterm` gives; a rule has
     /// the value that `fnonterm` gives of the rule and the values of its symbols, from left to right.
     ///
-    /// Where the lexer answers an error, the first one is answered alone. Otherwise there is an error for each stop: the
-    /// state and the lexeme at which there is no action, and those of the recoverer's sequences that work there, in its
-    /// order. The parse goes on from what the first of them gives, so there is a value exactly where each error lists a
-    /// sequence. `BadToken` and `StartsDecrease` name the first lexeme that has either fault, where the lexer answers no
-    /// error. The answer is `Memory` only where memory was wanting, be it the lexer's or the recoverer's.
+    /// Where the lexer answers an error, the first one is answered alone. Otherwise there is an error for each place where
+    /// the parse finds no action: the state and the lexeme there, and those that work of the sequences that the recoverer
+    /// hands in, which it is asked for once. The parse goes on from what the first of them gives, or ends where there is
+    /// none; so there is a value exactly where each error lists a sequence. A lexeme that a repair inserts is faulty, and has
+    /// a value as any other.
     ///
-    /// The time grows with the lexemes, the reductions and the steps that are handed in; the test of a sequence copies no
-    /// stack. Under one lookahead there are at most as many reductions as the cap times the states on the stack before it,
-    /// and over a whole parse that consumes n lexemes and has e errors at most `cap * (cap + 3) * (n + e + 1)`.
+    /// `BadToken` and `StartsDecrease` name the first lexeme that has either fault, where the lexer answers no error.
+    /// The answer is `Memory` only where memory was wanting, be it the lexer's or the recoverer's.
+    ///
+    /// The time grows with the lexemes, the reductions and the steps that are handed in. Under one lookahead there are at
+    /// most as many reductions as the cap times the states on the stack before it, and over a whole parse to a value over l
+    /// leaves, with e errors, at most `cap * (cap + 3) * (l + e + 1)`. The test of a sequence of m steps makes at most
+    /// `cap * (h + (m + k + 1) * (cap + 3))`, where h states stand and k lexemes have to follow.
     pub fn parse_map<
         'input,
         L: NonStreamingLexer<'input, LexerTypesT>,
@@ -257,8 +261,8 @@ impl<
     }
 
     /// Parses what the lexer answers, which it is asked once, and makes nothing of it. The errors are those that
-    /// `parse_map` answers, and it refuses what that refuses. No memory is taken but for the lexemes, the stack of states
-    /// and the errors.
+    /// `parse_map` answers, and it refuses what that refuses. No memory is taken but for the lexemes, the stack of states,
+    /// the errors, and the sequences that are handed in with their test.
     pub fn parse_noaction<'input, L: NonStreamingLexer<'input, LexerTypesT>>(
         &self,
         alloc: Global,

@@ -1,5 +1,5 @@
 //! The replay of a sequence of repairs on the stacks of a run.
-ghost use Rattle.std.specs.Prelude.{◌≡◌, ◌≢◌, ◌<◌, ◌≤◌, ◌+◌, ℕ, length, List, IfOk, OnOk, [], ◌∷◌, map};
+ghost use Rattle.std.specs.Prelude.{◌≡◌, ◌<◌, ◌≤◌, ℕ, length, List, IfOk, OnOk, [], ◌∷◌, map};
 ghost use Rattle.lrpar_grammar.specs.Grammar.{end_token};
 ghost use Rattle.lrpar_grammar.specs.Sentence.{IsValidList};
 ghost use Rattle.lrpar_check.specs.Path.{NeverSticks};
@@ -8,7 +8,7 @@ ghost use Rattle.lrpar.specs.Lexemes.{facts_of, last_end};
 ghost use Rattle.lrpar.specs.Mended.{start_at};
 ghost use Rattle.lrpar.specs.Moves.{IsReplayed, RiseUpTo, StartsRise};
 ghost use Rattle.lrpar.specs.PlainSteps.{plain_step, plain_steps};
-ghost use Rattle.lrpar.specs.Sequences.{PlainStep, Replays, StepsTo};
+ghost use Rattle.lrpar.specs.Sequences.{Replays, StepsTo};
 ghost use Rattle.lrpar.specs.Stacked.{Shifts};
 ghost use Rattle.lrpar.specs.Standing.{IsUpright};
 

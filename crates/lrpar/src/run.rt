@@ -1,5 +1,5 @@
 //! The run: shifts and reductions over lexemes that have no fault, by a checked table.
-ghost use Rattle.std.specs.Prelude.{◌≡◌, ◌≢◌, ◌<◌, ◌≤◌, ◌+◌, ◌*◌, ℕ, length, List, IfOk, OnOk, IsTrue, IsFalse, map};
+ghost use Rattle.std.specs.Prelude.{◌≡◌, ◌≢◌, ◌<◌, ℕ, IfOk, OnOk, IsTrue, IsFalse, map};
 ghost use Rattle.lrpar_grammar.specs.Grammar.{end_token};
 ghost use Rattle.lrpar_check.specs.Path.{NeverSticks};
 ghost use Rattle.lrpar_check.specs.Reduction.{top_action};
@@ -43,7 +43,7 @@ impl<'a, StorageT: StorageIndex, LexemeT: Lexeme<StorageT>, B: Build<StorageT, L
         }
     }
 
-    // Makes all reductions under the lexeme's token and shifts it, if the top state does; answers whether it did.
+    /// Makes all reductions under the lexeme's token and shifts it, if the top state does; answers whether it did.
     pub(crate) fn take(
         &self,
         alloc: Global,
@@ -74,7 +74,7 @@ impl<'a, StorageT: StorageIndex, LexemeT: Lexeme<StorageT>, B: Build<StorageT, L
         }
     }
 
-    // Makes all reductions under the token, and answers the action of the state that is then on top.
+    /// Makes all reductions under the token, and answers the action of the state that is then on top.
     pub(crate) fn settle(
         &self,
         alloc: Global,
@@ -127,7 +127,7 @@ impl<'a, StorageT: StorageIndex, LexemeT: Lexeme<StorageT>, B: Build<StorageT, L
     }
 }
 
-// The lexeme past the last one.
+/// The lexeme past the last one.
 pub(crate) fn end_lexeme<StorageT: StorageIndex, LexemeT: Lexeme<StorageT>>(
     end: TIdx<StorageT>,
     lexemes: &[LexemeT],
