@@ -1,0 +1,2 @@
+pub mod WinnerLemmas
+pub mod LexingLemmas

@@ -1,0 +1,4 @@
+pub mod Matching
+pub mod Matchers
+pub mod Rules
+pub mod Lexing
