@@ -23,3 +23,4 @@ pub mod StopStackLemmas
 pub mod SequenceTextLemmas
 pub mod TreeTextLemmas
 pub mod ErrorTextLemmas
+pub mod WriteLemmas

@@ -18,6 +18,7 @@ mod run;
 mod sequence_text;
 mod stack;
 mod tree_text;
+mod tree_write;
 mod trial;
 mod values;
 
