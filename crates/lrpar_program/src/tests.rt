@@ -1,15 +1,25 @@
-use crate::lexer::{SumLexer, SumTypes};
+use crate::arguments::command_of;
+use crate::calc::{self, calc};
+use crate::check::check_built;
+use crate::hand_tables::{BRACKETS, CALC, CALL, Hand, LIST, hand_data};
+use crate::lexer::SumLexer;
+use crate::parsing::{parser_by, printed_names};
+use crate::repairs::recoverer_of;
 use crate::run::run;
-use crate::sum::sum_data;
+use crate::sum::{sum_built, sum_data, sum_grammar};
+use crate::tree::{TreeTexts, tree_by};
 use lrpar::span::TIdx;
-use lrpar::{LexParseError, RTParserBuilder};
+use lrpar::{LexParseError, ParserData, RTParserBuilder};
+use lrpar_lexer::{TokenTypes, rules_of};
 use std::alloc::{AllocError, Global};
 use std::io::Write;
 use std::test::Fail;
-use std::{io, str};
+use std::{fs, io, str};
 
 const USAGE: &str =
-    "usage: lrpar demo TEXT | tree GRAMMAR LEXER INPUT [REPAIRS] | check GRAMMAR CAP | conflicts GRAMMAR | calc [REPAIRS]\n";
+    "usage: lrpar demo TEXT | tree [--shifts K] GRAMMAR LEXER INPUT [REPAIRS] | check GRAMMAR CAP | conflicts GRAMMAR | calc [--shifts K] [REPAIRS]\n";
+
+const ZERO: &str = "lrpar: shifts must be at least 1\n";
 
 const TREE: &str = "E\n T\n  ID a\n + +\n E\n  T\n   ID b\n";
 
@@ -88,8 +98,85 @@ fn answers_and_statuses(rt: HostRuntime) -> Result<(), Fail> {
         ([].as_slice(), "", USAGE, 2),
         (["demo"].as_slice(), "", USAGE, 2),
         (["demo", "a", "b"].as_slice(), "", USAGE, 2),
-        (["tree", "g", "l", "i"].as_slice(), "", USAGE, 2),
         (["", "a"].as_slice(), "", USAGE, 2),
+        (["conflicts", "g"].as_slice(), "", USAGE, 2),
+        (["tree", "g", "l"].as_slice(), "", USAGE, 2),
+        (["tree", "g", "l", "i", "r", "x"].as_slice(), "", USAGE, 2),
+        (["tree", "--shifts"].as_slice(), "", USAGE, 2),
+        (["tree", "--shifts", "0", "g", "l"].as_slice(), "", USAGE, 2),
+        (
+            ["tree", "--shifts", "", "g", "l", "i"].as_slice(),
+            "",
+            USAGE,
+            2,
+        ),
+        (
+            ["tree", "--shifts", "+1", "g", "l", "i"].as_slice(),
+            "",
+            USAGE,
+            2,
+        ),
+        (
+            ["tree", "--shifts", "1234567890", "g", "l", "i"].as_slice(),
+            "",
+            USAGE,
+            2,
+        ),
+        (
+            ["tree", "--shifts", "000", "g", "l", "i"].as_slice(),
+            "",
+            ZERO,
+            2,
+        ),
+        (
+            ["tree", "--shifts", "123456789", "g.none", "l", "i"].as_slice(),
+            "",
+            "lrpar: cannot read g.none\n",
+            2,
+        ),
+        (
+            ["tree", "g.none", "--shifts", "3"].as_slice(),
+            "",
+            "lrpar: cannot read g.none\n",
+            2,
+        ),
+        (
+            ["tree", "", "l", "i"].as_slice(),
+            "",
+            "lrpar: cannot read \n",
+            2,
+        ),
+        (
+            ["tree", ".", "l", "i"].as_slice(),
+            "",
+            "lrpar: cannot read .\n",
+            2,
+        ),
+        (["check", "g.none"].as_slice(), "", USAGE, 2),
+        (["check", "g.none", ""].as_slice(), "", USAGE, 2),
+        (["check", "g.none", "65536"].as_slice(), "", USAGE, 2),
+        (["check", "g.none", "000001"].as_slice(), "", USAGE, 2),
+        (["check", "g.none", "1 "].as_slice(), "", USAGE, 2),
+        (
+            ["check", "g.none", "00001"].as_slice(),
+            "",
+            "lrpar: cannot read g.none\n",
+            2,
+        ),
+        (
+            ["check", "g.none", "65535"].as_slice(),
+            "",
+            "lrpar: cannot read g.none\n",
+            2,
+        ),
+        (["calc", "r", "s"].as_slice(), "", USAGE, 2),
+        (["calc", "--shifts", "0"].as_slice(), "", ZERO, 2),
+        (
+            ["calc", "--shifts", "1", "r.none"].as_slice(),
+            "",
+            "lrpar: cannot read r.none\n",
+            2,
+        ),
     ];
     for (words, out, err, status) in rows {
         let args = strings(rt.alloc(), words)?;
@@ -147,7 +234,7 @@ fn no_text<'a>(_token: TIdx<u32>) -> Option<&'a str> {
 fn text_of<'a>(
     alloc: Global,
     text: &'a str,
-    error: &LexParseError<u32, SumTypes>,
+    error: &LexParseError<u32, TokenTypes>,
 ) -> Result<String, Fail> {
     if !error.fits(text) {
         return Err(Fail::new("an error outside the text"));
@@ -185,6 +272,355 @@ fn texts_of_errors(rt: HostRuntime) -> Result<(), Fail> {
     ];
     for (text, want) in rows {
         assert_eq!(rt; all_texts(rt.alloc(), text)?.as_str(), want, "{text}");
+    }
+    Ok(())
+}
+
+// Whether the words are those of a command.
+fn is_command(alloc: Global, words: &[&str]) -> Result<bool, Fail> {
+    let args = strings(alloc, words)?;
+    Ok(command_of(&args).is_ok())
+}
+
+#[test]
+fn commands(rt: HostRuntime) -> Result<(), Fail> {
+    let rows = [
+        ["demo", "--shifts"].as_slice(),
+        ["tree", "g", "l", "i"].as_slice(),
+        ["tree", "g", "l", "i", "r"].as_slice(),
+        ["tree", "--shifts", "1", "g", "l", "i"].as_slice(),
+        ["tree", "--shifts", "009", "g", "l", "i", "r"].as_slice(),
+        ["check", "g", "0"].as_slice(),
+        ["calc"].as_slice(),
+        ["calc", "r"].as_slice(),
+        ["calc", "--shifts", "2"].as_slice(),
+        ["calc", "--shifts", "2", "r"].as_slice(),
+    ];
+    for words in rows {
+        assert!(rt; is_command(rt.alloc(), words)?, "{words:?}");
+    }
+    Ok(())
+}
+
+#[test]
+fn unreadable_files(rt: HostRuntime) -> Result<(), Fail> {
+    fs::write(&rt, "lrpar_tests.bytes", [0xffu8].as_slice())?;
+    fs::write(&rt, "lrpar_tests.text", "a")?;
+    let rows = [
+        (
+            ["tree", "lrpar_tests.bytes", "l", "i"].as_slice(),
+            "lrpar: cannot read lrpar_tests.bytes\n",
+        ),
+        (
+            ["tree", "lrpar_tests.text", "lrpar_tests.bytes", "i"].as_slice(),
+            "lrpar: cannot read lrpar_tests.bytes\n",
+        ),
+        (
+            ["tree", "lrpar_tests.text", "lrpar_tests.text", "i.none"].as_slice(),
+            "lrpar: cannot read i.none\n",
+        ),
+        (
+            [
+                "tree",
+                "lrpar_tests.text",
+                "lrpar_tests.text",
+                "lrpar_tests.text",
+                "r.none",
+            ]
+            .as_slice(),
+            "lrpar: cannot read r.none\n",
+        ),
+        (
+            [
+                "tree",
+                "lrpar_tests.text",
+                "lrpar_tests.text",
+                "lrpar_tests.text",
+            ]
+            .as_slice(),
+            "lrpar: grammar: syntax at byte 0\n",
+        ),
+        (
+            ["check", "lrpar_tests.text", "1"].as_slice(),
+            "lrpar: grammar: syntax at byte 0\n",
+        ),
+    ];
+    for (words, want) in rows {
+        let args = strings(rt.alloc(), words)?;
+        let mut out = Vec::new(rt.alloc());
+        let mut err = Vec::new(rt.alloc());
+        let status = run(&rt, rt.alloc(), &args, io::empty(), &mut out, &mut err);
+        assert_eq!(rt; text(&out), "", "output of {words:?}");
+        assert_eq!(rt; text(&err), want, "error output of {words:?}");
+        assert_eq!(rt; status, 2, "status of {words:?}");
+    }
+    Ok(())
+}
+
+// What `tree` prints by a table, or its fault.
+fn printed_tree(
+    alloc: Global,
+    data: &ParserData<u32>,
+    lexer: &str,
+    input: &str,
+    repairs: &str,
+) -> Result<String, Fail> {
+    let texts = TreeTexts {
+        grammar: String::new(alloc),
+        lexer: String::from_str(alloc, lexer)?,
+        input: String::from_str(alloc, input)?,
+        repairs: String::from_str(alloc, repairs)?,
+    };
+    let mut out = Vec::new(alloc);
+    match tree_by(alloc, data, &texts, None, &mut out) {
+        Ok(_) => Ok(String::from_utf8(out)?),
+        Err(fault) => Ok(format!(in alloc; "{fault}")?),
+    }
+}
+
+// The same by the table of sums.
+fn sum_tree(alloc: Global, lexer: &str, input: &str, repairs: &str) -> Result<String, Fail> {
+    printed_tree(alloc, &sum_data(alloc)?, lexer, input, repairs)
+}
+
+// The same by a table that is written out.
+fn hand_tree(
+    alloc: Global,
+    hand: Hand,
+    lexer: &str,
+    input: &str,
+    repairs: &str,
+) -> Result<String, Fail> {
+    printed_tree(alloc, &hand_data(alloc, hand)?, lexer, input, repairs)
+}
+
+#[test]
+fn hand_trees(rt: HostRuntime) -> Result<(), Fail> {
+    let ids = "[a-zA-Z_] 'ID'";
+    let signs = "n 'N'\n\\+ '+'\n\\( '('\n\\) ')'";
+    let calls = "[a-z] 'ID'\n\\( '('\n\\) ')'";
+    let rows = [
+        (LIST, ids, "", "S\n L\n"),
+        (LIST, ids, "x", "S\n L\n  ID x\n"),
+        (CALL, calls, "f()", "Call\n ID f\n ( (\n ) )\n"),
+        (
+            CALL,
+            calls,
+            "f(",
+            "Parsing error at line 1 column 3. No repair sequences found.\n",
+        ),
+        (
+            CALL,
+            calls,
+            "f(f(",
+            "Parsing error at line 1 column 3. No repair sequences found.\n",
+        ),
+        (
+            BRACKETS,
+            signs,
+            "(n+n)",
+            "E\n ( (\n E\n  E\n   N n\n  + +\n  N n\n ) )\n",
+        ),
+    ];
+    for (hand, lexer, input, want) in rows {
+        assert_eq!(rt;
+            hand_tree(rt.alloc(), hand, lexer, input, "")?.as_str(),
+            want,
+            "{input:?}"
+        );
+    }
+    Ok(())
+}
+
+#[test]
+fn trees(rt: HostRuntime) -> Result<(), Fail> {
+    let at_1 = "Lexing error at line 1 column 1.\n";
+    let rows = [
+        ("[a-zA-Z_] 'ID'\n\\+ '+'", "a+b", TREE),
+        ("\t[a-zA-Z_]\t 'ID' \r\n\n  \r\n\\+ '+'", "a+b", TREE),
+        ("[a-z_] 'ID'\n\\+ '+'\n[ \\n]+ ;", " a +\nb\n", TREE),
+        (
+            "[a-z_] 'ID'\n\\+ '+'",
+            "a+",
+            "Parsing error at line 1 column 3. No repair sequences found.\n",
+        ),
+        (
+            "[a-z_] 'ID'\n\\+ '+'",
+            "a?b",
+            "Lexing error at line 1 column 2.\n",
+        ),
+        // The longest match wins, and the first rule among equals.
+        ("[a-z] 'ID'\n[a-z]+ 'ID'", "abc", "E\n T\n  ID abc\n"),
+        ("abc '+'\n[a-z]+ 'ID'", "abcd", "E\n T\n  ID abcd\n"),
+        ("abc 'ID'\n[a-z]+ '+'", "abc", "E\n T\n  ID abc\n"),
+        (
+            "[a-z]+ ;\nabc 'ID'",
+            "abc",
+            "Parsing error at line 1 column 1. No repair sequences found.\n",
+        ),
+        // A match that begins later, or is empty, is none.
+        ("b 'ID'", "ab", at_1),
+        ("a* 'ID'", "b", at_1),
+        ("a*? 'ID'", "a", at_1),
+        // What stands in front of a place is not looked at.
+        ("a 'ID'\n^\\+ '+'\n\\bb 'ID'", "a+b", TREE),
+        ("a ;\n\\bb 'ID'", "ab", "E\n T\n  ID b\n"),
+        ("a'b 'ID'", "a'b", "E\n T\n  ID a'b\n"),
+        ("é 'ID'", "é", "E\n T\n  ID é\n"),
+        (
+            "",
+            "",
+            "Parsing error at line 1 column 1. No repair sequences found.\n",
+        ),
+        ("", "a", at_1),
+        // Lines that are no rules.
+        ("a", "a", "lrpar: lexer: line 1"),
+        ("a 'ID'\n\nb 'NONE'", "a", "lrpar: lexer: line 3"),
+        ("a 'ID'\n(b 'ID'", "a", "lrpar: lexer: line 2"),
+        ("a'ID'", "a", "lrpar: lexer: line 1"),
+        ("'ID'", "a", "lrpar: lexer: line 1"),
+        ("a ID'", "a", "lrpar: lexer: line 1"),
+        ("a;", "a", "lrpar: lexer: line 1"),
+        (" ;", "a", "lrpar: lexer: line 1"),
+        ("a ''", "a", "lrpar: lexer: line 1"),
+        ("a '$'", "a", "lrpar: lexer: line 1"),
+    ];
+    for (lexer, input, want) in rows {
+        assert_eq!(rt;
+            sum_tree(rt.alloc(), lexer, input, "")?.as_str(),
+            want,
+            "{lexer:?} on {input:?}"
+        );
+    }
+    Ok(())
+}
+
+#[test]
+fn wrong_repairs(rt: HostRuntime) -> Result<(), Fail> {
+    let rows = [
+        ("insert 'ID'", "E\n T\n  ID a\n"),
+        (
+            " insert\t \"+\"  delete shift \r\n\n shift\ndelete",
+            "E\n T\n  ID a\n",
+        ),
+        ("insert", "lrpar: repairs: line 1"),
+        ("insert 'ID", "lrpar: repairs: line 1"),
+        ("insert 'ID\"", "lrpar: repairs: line 1"),
+        ("insert'ID'", "lrpar: repairs: line 1"),
+        ("insert 'ID'delete", "lrpar: repairs: line 1"),
+        ("insert 'NONE'", "lrpar: repairs: line 1"),
+        ("delete\n\ndeleted", "lrpar: repairs: line 3"),
+        ("delete,shift", "lrpar: repairs: line 1"),
+        ("Delete", "lrpar: repairs: line 1"),
+    ];
+    for (repairs, want) in rows {
+        assert_eq!(rt;
+            sum_tree(rt.alloc(), "a 'ID'", "a", repairs)?.as_str(),
+            want,
+            "{repairs:?}"
+        );
+    }
+    Ok(())
+}
+
+#[test]
+fn written_trees(rt: HostRuntime) -> Result<(), Fail> {
+    let data = sum_data(rt.alloc())?;
+    for input in ["a", "a+b", "a+b+c"] {
+        let lexer = SumLexer::new(rt.alloc(), input)?;
+        let (tree, _) = RTParserBuilder::new(&data).parse_generictree(rt.alloc(), &lexer)?;
+        let Some(tree) = tree else {
+            return Err(Fail::new("no tree"));
+        };
+        if !tree.fits(data.grm(), input) {
+            return Err(Fail::new("a tree outside the text"));
+        }
+        let mut out = Vec::new(rt.alloc());
+        tree.write(rt.alloc(), data.grm(), input, &mut out)?;
+        assert_eq!(rt;
+            text(&out),
+            tree.pp(rt.alloc(), data.grm(), input)?.as_str(),
+            "{input}"
+        );
+        assert!(rt;
+            tree.write(rt.alloc(), data.grm(), "", &mut out).is_err(),
+            "{input}"
+        );
+    }
+    Ok(())
+}
+
+#[test]
+fn checks(rt: HostRuntime) -> Result<(), Fail> {
+    let rows = [
+        (
+            1,
+            "rules 3, productions 4, tokens 3, states 6\nrefused: chain too long at state 4, token $\n",
+            false,
+        ),
+        (
+            2,
+            "rules 3, productions 4, tokens 3, states 6\nchecked\n",
+            true,
+        ),
+    ];
+    for (cap, want, passes) in rows {
+        let alloc = rt.alloc();
+        let mut out = Vec::new(alloc);
+        let found = check_built(alloc, sum_grammar(alloc)?, sum_built(alloc)?, cap, &mut out)?;
+        assert_eq!(rt; text(&out), want, "cap {cap}");
+        assert_eq!(rt; found, passes, "cap {cap}");
+    }
+    Ok(())
+}
+
+// What `calc` writes to its two streams, by a table that is written out, and whether all lines are well.
+fn calculated(alloc: Global, lines: &str, repairs: &str) -> Result<(String, String, bool), Fail> {
+    let data = hand_data(alloc, CALC)?;
+    let rules = rules_of(alloc, data.grm(), calc::LEXER)?;
+    let names = printed_names(alloc, data.grm())?;
+    let parser = parser_by(&data, recoverer_of(alloc, data.grm(), repairs)?, None)?;
+    let mut out = Vec::new(alloc);
+    let mut err = Vec::new(alloc);
+    let well = calc(alloc, &parser, &names, &rules, lines, &mut out, &mut err)?;
+    Ok((String::from_utf8(out)?, String::from_utf8(err)?, well))
+}
+
+#[test]
+fn calculations(rt: HostRuntime) -> Result<(), Fail> {
+    let none = "Unable to evaluate expression.\n";
+    let rows = [
+        (
+            "2 + 3\n2 + 3 * 4\n(2 + 3) * 4\n",
+            "Result: 5\nResult: 14\nResult: 20\n",
+            "",
+            true,
+        ),
+        ("2 + 3\r\n\n \t\r\n1", "Result: 5\nResult: 1\n", "", true),
+        ("", "", "", true),
+        ("18446744073709551615 + 1", "", none, false),
+        ("18446744073709551616", "", none, false),
+        (
+            "18446744073709551615 * 1",
+            "Result: 18446744073709551615\n",
+            "",
+            true,
+        ),
+        ("18446744073709551616 * 0", "", none, false),
+        ("0000000000000000000000000000012", "Result: 12\n", "", true),
+        (
+            "2 +\n3",
+            "Parsing error at line 1 column 4. No repair sequences found.\nResult: 3\n",
+            none,
+            false,
+        ),
+        ("1\r", "Lexing error at line 1 column 2.\n", none, false),
+    ];
+    for (lines, out, err, well) in rows {
+        let found = calculated(rt.alloc(), lines, "")?;
+        assert_eq!(rt; found.0.as_str(), out, "output for {lines:?}");
+        assert_eq!(rt; found.1.as_str(), err, "error output for {lines:?}");
+        assert_eq!(rt; found.2, well, "{lines:?}");
     }
     Ok(())
 }
