@@ -10,6 +10,8 @@ use Rattle.lrpar.specs.Arguments.{IsArgument}
 use Rattle.lrpar.specs.End.{IsOfTree}
 use Rattle.lrpar.specs.Entries.{HasValueEntry}
 use Rattle.lrpar.specs.Parse.{ParsesTo}
+use Rattle.lrpar.specs.Recovery.{Point}
+use Rattle.lrpar.specs.Sequences.{PlainStep}
 use Rattle.lrpar.specs.Placed.{IsPlacedLexeme, IsPlacedValue}
 use Rattle.lrpar.specs.declared.actions.Placed.{Placed}
 use Rattle.lrpar.specs.declared.errors.LexParseError.{LexParseError}
@@ -35,9 +37,9 @@ module _ {X V : Type 0} (d : Checked) (token : X → ℕ) (span : X → Extent) 
   value_argument r (Lexeme x) fits = fits
   value_argument r (ActionType v) fits = tt
 
-  module _ {S L C Z : Type 0} (facts : X → LexemeFacts) (allows : List (Result X C) → Type 0) (entry : Option (Placed (AStackType X V))) (argument : Option (AStackType X V)) (errors : Vec (LexParseError S L X C) Z) (is : argument ≡ option_map (λ e. e.argument) entry) (parses : ParsesTo d facts allows OfTree (Ok (entry, errors))) where
-    argument_parse : ParsesTo d facts allows Told (Ok (argument, errors))
-    argument_parse = parse_mapped_on d facts allows OfTree Told (λ e. e.argument) entry argument errors is told parses
+  module _ {S L C Z : Type 0} (facts : X → LexemeFacts) (allows : Point X → List (List PlainStep) → Type 0) (k : ℕ) (lexes : List (Result X C) → Type 0) (entry : Option (Placed (AStackType X V))) (argument : Option (AStackType X V)) (errors : Vec (LexParseError S L X C) Z) (is : argument ≡ option_map (λ e. e.argument) entry) (parses : ParsesTo d facts allows k lexes OfTree (Ok (entry, errors))) where
+    argument_parse : ParsesTo d facts allows k lexes Told (Ok (argument, errors))
+    argument_parse = parse_mapped_on d facts allows k lexes OfTree Told (λ e. e.argument) entry argument errors is told parses
 
     -- so there is a value, where there is an entry
     pub is_value : IfSome argument HasValueEntry
@@ -45,9 +47,9 @@ module _ {X V : Type 0} (d : Checked) (token : X → ℕ) (span : X → Extent) 
       where
         by_argument : (o : Option (AStackType X V)) → argument ≡ o → IfSome o HasValueEntry
         by_argument None none = tt
-        by_argument (Some arg) some = value_argument d.grammar.start arg (value_told d facts allows Told (argument, errors) arg argument_parse some).1.1
+        by_argument (Some arg) some = value_argument d.grammar.start arg (value_told d facts allows k lexes Told (argument, errors) arg argument_parse some).1.1
 
     -- and it is one to which a tree folds, and has the start rule's fact
-    pub acted_parse : (value : Option V) → argument ≡ option_map ActionType value → ParsesTo d facts allows (IsActedValue span acts (fact d.grammar.start)) (Ok (value, errors))
+    pub acted_parse : (value : Option V) → argument ≡ option_map ActionType value → ParsesTo d facts allows k lexes (IsActedValue span acts (fact d.grammar.start)) (Ok (value, errors))
     acted_parse value value_is =
-        parse_mapped d facts allows Told (IsActedValue span acts (fact d.grammar.start)) ActionType argument value errors value_is (λ t v is. record { folds = is.0; kept = is.1 }) argument_parse
+        parse_mapped d facts allows k lexes Told (IsActedValue span acts (fact d.grammar.start)) ActionType argument value errors value_is (λ t v is. record { folds = is.0; kept = is.1 }) argument_parse

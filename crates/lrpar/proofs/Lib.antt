@@ -5,7 +5,8 @@ pub mod RunLemmas
 pub mod StackedLemmas
 pub mod StandingLemmas
 pub mod RisingLemmas
-pub mod OverLemmas
+pub mod MovesLemmas
+pub mod FarLemmas
 pub mod PlacedLemmas
 pub mod ParseLemmas
 pub mod FoldLemmas
@@ -20,7 +21,9 @@ pub mod ReversedLemmas
 pub mod RepairRunLemmas
 pub mod TestWorkLemmas
 pub mod StopStackLemmas
+pub mod RepairWayLemmas
 pub mod SequenceTextLemmas
 pub mod TreeTextLemmas
 pub mod ErrorTextLemmas
 pub mod WriteLemmas
+pub mod CourseLemmas

@@ -1,20 +1,19 @@
--- The answers of a parse: by the ends of its run, by its lexing error or by a fault of its lexemes; and seen as another answer.
-use Rattle.std.proofs.Common.{◌≡◌, ◌∙◌, ℕ, List, [], ◌∷◌, map, Option, Some, None, Result, Ok, Err, inl, inr, Vec, refl, sym, subst, ap}
+-- The answers of a parse: by its run, by its lexing error or by a fault of its lexemes; and seen as another answer.
+use Rattle.std.proofs.Common.{◌≡◌, ◌∙◌, ℕ, List, [], ◌∷◌, map, Option, Some, None, Result, Ok, Err, inl, inr, sym, subst, ap, refl}
 use Rattle.std.specs.List.{AllZip}
-use Rattle.lrpar_grammar.specs.Grammar.{GrammarSymbol}
 use Rattle.lrpar_grammar.specs.Sentence.{LexemeFacts, IsFirstBadToken, IsFirstEarlyStart}
 use Rattle.lrpar_check.specs.Checked.{Checked}
-use Rattle.lrpar.specs.End.{AcceptsWith, EndsSo, IsAnswerOf, IsOfTree, StopsAt, failure_at}
 use Rattle.lrpar.specs.Lexed.{first_error, lexemes_of}
 use Rattle.lrpar.specs.LexemeFault.{IsLexemeFault}
 use Rattle.lrpar.specs.Parse.{IsParse, Parses, lexeme_facts}
-use Rattle.lrpar.specs.RunAnswer.{HasValue, IsErrorOf, IsOneWay, IsRunAnswer}
+use Rattle.lrpar.specs.Recovery.{Point}
+use Rattle.lrpar.specs.RepairAnswer.{IsRepairAnswer, IsRepairErrorOf}
+use Rattle.lrpar.specs.RunAnswer.{IsOneWay}
+use Rattle.lrpar.specs.Sequences.{PlainStep}
 use Rattle.lrpar.specs.declared.errors.LexParseError.{LexParseError}
-use Rattle.lrpar.specs.declared.errors.LexParseError.TheVariants.{LexError, ParseError}
+use Rattle.lrpar.specs.declared.errors.LexParseError.TheVariants.{LexError}
 use Rattle.lrpar.specs.declared.fault.ParseFault.{ParseFault}
 use Rattle.lrpar.specs.declared.fault.ParseFault.TheVariants.{BadToken, StartsDecrease, Memory}
-use Rattle.lrpar.specs.declared.run.End.{End}
-use Rattle.lrpar.specs.declared.run.End.TheVariants.{Accepts, Stops}
 use Rattle.lrpar.proofs.LexemeLemmas.{valid_not_bad, valid_not_early}
 
 -- an answer isn't none and some at once
@@ -33,14 +32,10 @@ same_fault f g e = cc
 same_some : {A : Type 0} (x y : A) → ◌≡◌ {A = Option A} (Some x) (Some y) → x ≡ y
 same_some x y e = cc
 
--- a list that ends isn't one that goes on
-none_not_one : {A : Type 0} (x : A) (xs : List A) → xs ≡ [] → xs ≡ x ∷ [] → ⊥
-none_not_one x xs none one = let differ : ◌≡◌ {A = List _} [] (x ∷ []) = sym none ∙ one in cc
-
-module _ {T S L B C : Type 0} (d : Checked) (facts : B → LexemeFacts) (errors_of : T → List (LexParseError S L B C)) (IsValued : Option (List B) → List ℕ → T → Type 0) (lexed : List (Result B C)) where
+module _ {T S L B C : Type 0} (d : Checked) (facts : B → LexemeFacts) (allows : Point B → List (List PlainStep) → Type 0) (k : ℕ) (errors_of : T → List (LexParseError S L B C)) (IsValued : Option (List B) → List ℕ → T → Type 0) (lexed : List (Result B C)) where
   -- a fault of a lexeme is answered
   pub fault_is_parse : (lexemes : List B) (fault : ParseFault) → first_error lexed ≡ None → lexemes ≡ lexemes_of lexed
-      → IsLexemeFault d.grammar (map facts lexemes) (Some fault) → IsParse d facts errors_of IsValued lexed (Err fault)
+      → IsLexemeFault d.grammar (map facts lexemes) (Some fault) → IsParse d facts allows k errors_of IsValued lexed (Err fault)
   fault_is_parse lexemes fault none are is =
       let facts_are : map facts lexemes ≡ lexeme_facts facts lexed = ap (map facts) are in
       record {
@@ -58,13 +53,13 @@ module _ {T S L B C : Type 0} (d : Checked) (facts : B → LexemeFacts) (errors_
 
   -- the answer of a run over valid lexemes
   pub run_is_parse : (lexemes : List B) (answer : T) → first_error lexed ≡ None → lexemes ≡ lexemes_of lexed → IsLexemeFault d.grammar (map facts lexemes) None
-      → IsRunAnswer d facts errors_of IsValued lexemes answer → IsParse d facts errors_of IsValued lexed (Ok answer)
+      → IsRepairAnswer d facts allows k errors_of IsValued lexemes answer → IsParse d facts allows k errors_of IsValued lexed (Ok answer)
   run_is_parse lexemes answer none are is of_run =
       let facts_are : map facts lexemes ≡ lexeme_facts facts lexed = ap (map facts) are in
       let valid = is.none.0 refl in
       record {
         lexing_error = λ error some. absurd (none_not_some (first_error lexed) error none some);
-        run = λ _. subst (λ (xs : List B). IsRunAnswer d facts errors_of IsValued xs answer) are of_run;
+        run = λ _. subst (λ (xs : List B). IsRepairAnswer d facts allows k errors_of IsValued xs answer) are of_run;
         bad_token = λ i. (
           λ e. absurd (ok_not_err answer (BadToken i) e),
           λ h. absurd (valid_not_bad d.grammar (map facts lexemes) i valid (subst (λ w. IsFirstBadToken d.grammar w i) (sym facts_are) h.1)),
@@ -77,7 +72,7 @@ module _ {T S L B C : Type 0} (d : Checked) (facts : B → LexemeFacts) (errors_
 
   -- the first lexing error is answered
   pub error_is_parse : (error : C) (answer : T) → first_error lexed ≡ Some error → errors_of answer ≡ LexError error ∷ [] → IsValued None [] answer
-      → IsParse d facts errors_of IsValued lexed (Ok answer)
+      → IsParse d facts allows k errors_of IsValued lexed (Ok answer)
   error_is_parse error answer some errors valued = record {
     lexing_error = λ other is.
         (errors ∙ ap (λ e. LexError e ∷ []) (same_some error other (sym some ∙ is)), valued);
@@ -86,48 +81,15 @@ module _ {T S L B C : Type 0} (d : Checked) (facts : B → LexemeFacts) (errors_
     starts_decrease = λ i. (λ e. absurd (ok_not_err answer (StartsDecrease i) e), λ h. absurd (none_not_some (first_error lexed) error h.0 some));
   }
 
-module _ {S L X C E Z : Type 0} (facts : X → LexemeFacts) (leaf : X → E → Type 0) (node : ℕ → Option E → List E → E → Type 0) (suits : GrammarSymbol → E → Type 0) (d : Checked) (lexemes : List X) where
-  -- what is told of the answer at the end of a run
-  abbrev pub IsEndAnswer : Option E × Vec (LexParseError S L X C) Z → Type 0
-  IsEndAnswer answer = IsRunAnswer d facts (λ answer. answer.1.items) (HasValue (λ x. (facts x).token) d.grammar (IsOfTree leaf node suits d)) lexemes answer
-
-  accept_answer : (entry : E) (answer : Option E × Vec (LexParseError S L X C) Z) → AcceptsWith facts leaf node suits d lexemes entry
-      → answer.0 ≡ Some entry → answer.1.items ≡ [] → IsEndAnswer answer
-  accept_answer entry answer accepts some none = record {
-    course = record { stops = []; consumed = Some lexemes; prods = accepts.prods; run = accepts.run };
-    errors = subst (AllZip (IsErrorOf facts d.grammar lexemes) []) (sym none) tt;
-    one_way = inl (refl, none);
-    sentence = λ _. (accepts.is_value.tree, accepts.is_value.fits, accepts.is_value.leaves_are);
-    value = (entry, some, accepts.is_value);
-    bound = accepts.bound;
-  }
-
-  stop_answer : (state : ℕ) (lexeme : X) (answer : Option E × Vec (LexParseError S L X C) Z) → StopsAt facts leaf node suits d lexemes state lexeme
-      → answer.0 ≡ None → answer.1.items ≡ ParseError (failure_at state lexeme) ∷ [] → IsEndAnswer answer
-  stop_answer state lexeme answer stops none one = record {
-    course = record { stops = stops.stop ∷ []; consumed = None; prods = stops.prods; run = stops.run };
-    errors = subst (AllZip (IsErrorOf facts d.grammar lexemes) (stops.stop ∷ [])) (sym one) (record { state = stops.top; lexeme = stops.lexeme_is; repairs = refl }, tt);
-    one_way = inr (refl, (failure_at state lexeme, one));
-    sentence = λ no_error. absurd (none_not_one (ParseError (failure_at state lexeme)) answer.1.items no_error one);
-    value = none;
-    bound = tt;
-  }
-
-  -- the answer at the end of a run is that of the run
-  pub end_answer : (index : S → ℕ) (end : End S X E) (answer : Option E × Vec (LexParseError S L X C) Z) → EndsSo facts leaf node suits d lexemes index end
-      → IsAnswerOf index end answer → IsEndAnswer answer
-  end_answer index (Accepts entry) answer ends is = accept_answer entry answer ends is.0 is.1
-  end_answer index (Stops state lexeme) answer ends is = stop_answer (index state.0) lexeme answer ends is.0 is.1
-
 -- An answer as another one of the same errors, where what is known of the value of one tells that of the other.
-module _ {T U S L B C : Type 0} (d : Checked) (facts : B → LexemeFacts) (allows : List (Result B C) → Type 0) (errors_of : T → List (LexParseError S L B C)) (errors_are : U → List (LexParseError S L B C)) (IsValued : Option (List B) → List ℕ → T → Type 0) (HasBecome : Option (List B) → List ℕ → U → Type 0) where
+module _ {T U S L B C : Type 0} (d : Checked) (facts : B → LexemeFacts) (allows : Point B → List (List PlainStep) → Type 0) (k : ℕ) (lexes : List (Result B C) → Type 0) (errors_of : T → List (LexParseError S L B C)) (errors_are : U → List (LexParseError S L B C)) (IsValued : Option (List B) → List ℕ → T → Type 0) (HasBecome : Option (List B) → List ℕ → U → Type 0) where
   -- of a run
   run_as : (lexemes : List B) (t : T) (u : U) → errors_are u ≡ errors_of t → ((consumed : Option (List B)) (prods : List ℕ) → IsValued consumed prods t → HasBecome consumed prods u)
-      → IsRunAnswer d facts errors_of IsValued lexemes t → IsRunAnswer d facts errors_are HasBecome lexemes u
+      → IsRepairAnswer d facts allows k errors_of IsValued lexemes t → IsRepairAnswer d facts allows k errors_are HasBecome lexemes u
   run_as lexemes t u same becomes is = record {
     course = is.course;
-    errors = subst (AllZip (IsErrorOf facts d.grammar lexemes) is.course.stops) (sym same) is.errors;
-    one_way = subst (IsOneWay is.course.consumed) (sym same) is.one_way;
+    errors = subst (AllZip (IsRepairErrorOf facts d.grammar lexemes) is.course.stops) (sym same) is.errors;
+    one_way = λ none. subst (IsOneWay is.course.consumed) (sym same) (is.one_way none);
     sentence = λ none. is.sentence (sym same ∙ none);
     value = becomes is.course.consumed is.course.prods is.value;
     bound = is.bound;
@@ -135,7 +97,7 @@ module _ {T U S L B C : Type 0} (d : Checked) (facts : B → LexemeFacts) (allow
 
   -- of a parse
   pub parse_as : (t : T) (u : U) → errors_are u ≡ errors_of t → ((consumed : Option (List B)) (prods : List ℕ) → IsValued consumed prods t → HasBecome consumed prods u)
-      → Parses d facts allows errors_of IsValued (Ok t) → Parses d facts allows errors_are HasBecome (Ok u)
+      → Parses d facts allows k lexes errors_of IsValued (Ok t) → Parses d facts allows k lexes errors_are HasBecome (Ok u)
   parse_as t u same becomes (inl memory) = absurd (ok_not_err t Memory memory)
   parse_as t u same becomes (inr (lexed, allowed, is)) = inr (
     lexed,
@@ -149,7 +111,7 @@ module _ {T U S L B C : Type 0} (d : Checked) (facts : B → LexemeFacts) (allow
   )
 
   -- a refusal is the same for both
-  pub refusal_as : (fault : ParseFault) → Parses d facts allows errors_of IsValued (Err fault) → Parses d facts allows errors_are HasBecome (Err fault)
+  pub refusal_as : (fault : ParseFault) → Parses d facts allows k lexes errors_of IsValued (Err fault) → Parses d facts allows k lexes errors_are HasBecome (Err fault)
   refusal_as fault (inl memory) = inl (ap Err (same_fault fault Memory memory))
   refusal_as fault (inr (lexed, allowed, is)) = inr (
     lexed,

@@ -66,7 +66,7 @@ module _ {X : Type 0} (token : X → ℕ) (g : Grammar) (table : Table) (lexemes
   step_place st i PlainShift steps ps next j x = omega (arith, x.2)
 
   -- and so do steps that are replayed
-  replays_place : (st : List ℕ) (i : ℕ) (steps : List PlainStep) (ps after : List ℕ) (j : ℕ) → Replays token g table lexemes st i steps ps after j
+  pub replays_place : (st : List ℕ) (i : ℕ) (steps : List PlainStep) (ps after : List ℕ) (j : ℕ) → Replays token g table lexemes st i steps ps after j
       → j ≡ i + places_of steps
   replays_place st i [] ps after j x = omega (arith, x.2)
   replays_place st i (step ∷ steps) ps after j x =
@@ -91,7 +91,7 @@ module _ {X : Type 0} (token : X → ℕ) (g : Grammar) (table : Table) (lexemes
       All-cons (InsertsListed g) step steps (step_inserts st i step x.0 x.1 x.2 x.4) (replays_inserts x.1 x.2 steps x.3 after j x.5)
 
   -- where a run stops: at a settled stack that goes no further, at a place of the lexemes, at place m or after it
-  abbrev StopsFrom : ℕ → FarEnd → Type 0
+  abbrev pub StopsFrom : ℕ → FarEnd → Type 0
   StopsFrom m Accepted = Unit {0}
   StopsFrom m (Stopped stop) =
       (m ≤ stop.place) × (stop.place ≤ length lexemes) × IsSettled table (token_at token g lexemes stop.place) stop.stack
@@ -101,14 +101,14 @@ module _ {X : Type 0} (token : X → ℕ) (g : Grammar) (table : Table) (lexemes
   stops_later m n Accepted le h = tt
   stops_later m n (Stopped stop) le h = (omega (arith, le, h.0), h.1, h.2, h.3)
 
-  far_stops : (st : List ℕ) (i : ℕ) (ps : List ℕ) (end : FarEnd) → Far token g table lexemes st i ps end → StopsFrom i end
+  pub far_stops : (st : List ℕ) (i : ℕ) (ps : List ℕ) (end : FarEnd) → Far token g table lexemes st i ps end → StopsFrom i end
   far_stops _ _ _ _ (goes_on st i ps qs next end within first rest) = stops_later i (i + 1) end (omega arith) (far_stops next (i + 1) qs end rest)
   far_stops _ _ _ _ (accepts st i ps settled at_end settles accepted) = tt
   far_stops _ _ _ _ (stops st i ps settled fits settles stuck) =
       (omega arith, fits, settles_settled g table (token_at token g lexemes i) st ps settled settles, stuck)
 
   -- where k lexemes can be fed, a run stops no earlier
-  go_on_far : (k : ℕ) (st : List ℕ) (i : ℕ) (ps : List ℕ) (end : FarEnd) → CanGoOn token g table lexemes k st i → Far token g table lexemes st i ps end
+  pub go_on_far : (k : ℕ) (st : List ℕ) (i : ℕ) (ps : List ℕ) (end : FarEnd) → CanGoOn token g table lexemes k st i → Far token g table lexemes st i ps end
       → StopsFrom (i + k) end
   go_on_far zero st i ps end on far = stops_later (i + zero) i end (omega arith) (far_stops st i ps end far)
   go_on_far (suc k) _ _ _ _ on (goes_on st i ps qs next end within first rest) =

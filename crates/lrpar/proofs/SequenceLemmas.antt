@@ -1,8 +1,8 @@
 -- Sequences of repairs: which step can be taken in which way, and what that says of whether a sequence works.
-use Rattle.std.proofs.Common.{◌≡◌, ◌≢◌, ◌<◌, ◌≤◌, ◌+◌, ◌-◌, ◌∙◌, ◌↔◌, ◌⊎◌, inl, inr, ℕ, zero, suc, List, [], ◌∷◌, ◌++◌, Bool, true, false, Option, Some, None, slice_get, drop, get_or, Vec, vec_len, length, IsTrue, refl, sym, subst, ap, arith}
+use Rattle.std.proofs.Common.{◌≡◌, ◌≢◌, ◌<◌, ◌≤◌, ◌+◌, ◌-◌, ◌∙◌, ◌↔◌, ◌⊎◌, inl, inr, ℕ, zero, suc, List, [], ◌∷◌, ◌++◌, Bool, true, false, Option, Some, None, slice_get, drop, take, get_or, Vec, vec_len, length, IsTrue, refl, sym, subst, ap, arith}
 use Rattle.std.specs.Prelude.{map}
 use Rattle.std.specs.List.{AllZip, each_same}
-use Rattle.std.proofs.lemmas.List.{drop_more, map-append}
+use Rattle.std.proofs.lemmas.List.{drop_more, map-append, take_more}
 use Rattle.std.proofs.lemmas.Option.{slice_get_within}
 use Rattle.lrpar_grammar.specs.Grammar.{Grammar, end_token}
 use Rattle.lrpar_states.specs.Table.{Table, Accepts, Fails, ReduceBy, ShiftTo}
@@ -31,10 +31,17 @@ sequences_clone index (v ∷ vs) (w ∷ ws) h =
     λ i. map (plain_step index) (each_same v.items w.items h.0.0 i) ∷ sequences_clone index vs ws h.1 i
 
 -- the steps from n on are the one at n and those after it
-steps_left : {S : Type 0} (index : S → ℕ) (steps : List (RepairStep S)) (n : ℕ) (step : RepairStep S) → n < length steps → step ≡ get_or steps n step
+pub steps_left : {S : Type 0} (index : S → ℕ) (steps : List (RepairStep S)) (n : ℕ) (step : RepairStep S) → n < length steps → step ≡ get_or steps n step
     → plain_steps index (drop n steps) ≡ plain_step index step ∷ plain_steps index (drop (n + 1) steps)
 steps_left index steps n step below is =
     ap (λ l. plain_steps index l) (drop_more steps n step below) ∙ ap (λ x. plain_step index x ∷ plain_steps index (drop (n + 1) steps)) (sym is)
+
+-- the steps up to n and the one at n are those up to n + 1
+pub steps_so_far : {S : Type 0} (index : S → ℕ) (steps : List (RepairStep S)) (n : ℕ) (step : RepairStep S) → n < length steps → step ≡ get_or steps n step
+    → plain_steps index (take (n + 1) steps) ≡ plain_steps index (take n steps) ++ plain_step index step ∷ []
+steps_so_far index steps n step below is =
+    ap (λ l. plain_steps index l) (take_more steps n step below) ∙ (map-append (plain_step index) (take n steps) (get_or steps n step ∷ [])
+    ∙ ap (λ x. plain_steps index (take n steps) ++ plain_step index x ∷ []) (sym is))
 
 -- one more member that has P
 those_kept : {A : Type 0} (P : A → Type 0) (xs ys : List A) (x : A) → AreThoseWith P xs ys → P x → AreThoseWith P (xs ++ x ∷ []) (ys ++ x ∷ [])

@@ -13,13 +13,14 @@ use Rattle.lrpar_states.specs.PlainRows.{plain_action, plain_goto}
 use Rattle.lrpar_check.specs.Chain.{IsBounded}
 use Rattle.lrpar_check.specs.Checked.{Checked}
 use Rattle.lrpar_check.specs.Path.{IsPath, Leads, NeverSticks, ReducesAlong}
-use Rattle.lrpar_check.specs.Reduction.{Reduces, ReducesBy, left_by, top_action, top_goto}
+use Rattle.lrpar_check.specs.Reduction.{Reduces, ReducesBy, Settles, left_by, top_action, top_goto}
 use Rattle.lrpar_check.specs.Stack.{top_of}
 use Rattle.lrpar_states.specs.Table.{Table, Fails, ReduceBy, ShiftTo, IsClosed, action_of, goto_of, states_len}
 use Rattle.lrpar_check.proofs.PathLemmas.{last_of, last_within, top_is_last}
 use Rattle.lrpar.specs.Standing.{Stacked, IsUpright, ReducesTo, ReducesAllTo, kept_by}
 use Rattle.lrpar.specs.Stacked.{SettlesTo}
 use Rattle.lrpar.proofs.ListLemmas.{zip_drop, zip_push, zip_take}
+use Rattle.lrpar.proofs.RunLemmas.{settles_from}
 
 -- the top of a path is a state of the table
 pub top_within : (table : Table) → IsClosed table → (symbols : List GrammarSymbol) (st : List ℕ) (s : ℕ) → IsPath table symbols st → top_of st ≡ Some s
@@ -244,3 +245,8 @@ upright_shift suits d t next old new e never upright shifts states entries suit 
 pub action_of_top : {S : Type 0} (index : S → ℕ) (table : Table) (t s : ℕ) (st : List ℕ) (action : Action S) → top_of st ≡ Some s
     → plain_action index action ≡ action_of table s t → plain_action index action ≡ top_action table t st
 action_of_top index table t s st action top is = is ∙ sym (ap (λ (o : Option ℕ). option_map_or (λ (s : ℕ). action_of table s t) o Fails) top)
+
+-- the states settle where the stacks do
+pub states_settle : {E : Type 0} (node : ℕ → Option E → List E → E → Type 0) (suits : GrammarSymbol → E → Type 0) (d : Checked) (t : ℕ) (old new : Stacked E)
+    → (h : SettlesTo node suits d t old new) → Settles d.grammar d.table t old.states h.prods new.states
+states_settle node suits d t old new h = settles_from d.grammar d.table t old.states h.prods new.states (states_reduce node suits d.grammar d.table t old h.prods new h.steps) h.settled

@@ -1,23 +1,26 @@
--- What runs keep of a stack: it stays one of the table.
+-- What runs keep of a stack: it stays one of the table; and where a run stops, the table has no action.
 use Rattle.std.proofs.Common.{◌≡◌, ◌<◌, ◌+◌, inl, inr, ℕ, List, [], ◌∷◌, Option, map, sym, subst, arith, All}
 use Rattle.std.proofs.lemmas.List.Elements.{All-nil, All-cons}
 use Rattle.std.proofs.lemmas.Option.{slice_get_cases}
 use Rattle.lrpar_grammar.specs.Grammar.{Grammar, end_token, tokens_len}
 use Rattle.lrpar_grammar.specs.Sentence.{IsValidList, LexemeFacts}
-use Rattle.lrpar_states.specs.Table.{Table}
+use Rattle.lrpar_states.specs.Table.{Table, Fails}
 use Rattle.lrpar_check.specs.Checked.{Checked, IsChecked}
-use Rattle.lrpar_check.specs.Reduction.{Feeds, Settles}
+use Rattle.lrpar_check.specs.Path.{NeverSticks}
+use Rattle.lrpar_check.specs.Reduction.{Feeds, Settles, top_action}
 use Rattle.lrpar_check.specs.Stack.{IsStack}
 use Rattle.lrpar_check.proofs.ChainLemmas.{bounds_reductions}
 use Rattle.lrpar_check.proofs.PathLemmas.{checked_runs_never_stick}
 use Rattle.lrpar_check.proofs.SettleLemmas.{IsRun, run_of_checked, stack_reduced, stack_shifted}
+use Rattle.lrpar_check.proofs.StackLemmas.{stack_has_path}
 use Rattle.lrpar.specs.Recovery.{Point}
-use Rattle.lrpar.specs.RepairLaws.{StopsAtStacks}
+use Rattle.lrpar.specs.RepairLaws.{StopsAtStacks, StopsByFailing}
 use Rattle.lrpar.specs.RepairRun.{RepairRun, RepairStop, ends_there, is_repaired, runs_through}
+use Rattle.lrpar.specs.RunLaws.{KeepOffEnd}
 use Rattle.lrpar.specs.Run.{Far, FarEnd, Accepted, Stopped, accepts, goes_on, stops, token_at}
 use Rattle.lrpar.specs.Sequences.{PlainStep, PlainInsert, PlainDelete, PlainShift, Replays, StepsTo}
-use Rattle.lrpar.proofs.OverLemmas.{good_token}
-use Rattle.lrpar.proofs.RunLemmas.{token_at_end, token_at_lexeme}
+use Rattle.lrpar.proofs.LexemeLemmas.{good_token}
+use Rattle.lrpar.proofs.RunLemmas.{far_ends_by_failing, token_at_end, token_at_lexeme}
 
 module _ (g : Grammar) (table : Table) (cap : ℕ) (run : IsRun g table cap) where
   -- all reductions at a token keep a stack one
@@ -95,3 +98,44 @@ stops_at_stacks facts allows d k lexemes st found consumed prods checked valid s
     let bounds = bounds_reductions d.grammar d.table d.cap checked.closed checked.chains in
     let all : d.table.tokens ≡ tokens_len d.grammar = checked.safe.shape.tokens in
     run_stacks facts allows k d.grammar d.table d.cap (run_of_checked d checked runs bounds) lexemes (known_tokens facts d lexemes checked valid) (omega (arith, all)) st 0 found consumed prods stack more
+
+abbrev FailsThere : {X : Type 0} → (X → ℕ) → Grammar → Table → List X → RepairStop → Type 0
+FailsThere token g table lexemes s = top_action table (token_at token g lexemes s.stop.place) s.stop.stack ≡ Fails
+
+module _ {X : Type 0} (facts : X → LexemeFacts) (allows : Point X → List (List PlainStep) → Type 0) (k : ℕ) (g : Grammar) (table : Table) (cap : ℕ) (run : IsRun g table cap)
+    (lexemes : List X) (known : (j : ℕ) → token_at (λ x. (facts x).token) g lexemes j < table.tokens) (last : end_token g < table.tokens)
+    (never : NeverSticks g table) (good : KeepOffEnd (λ x. (facts x).token) g lexemes) where
+  abbrev Fails_at : RepairStop → Type 0
+  Fails_at = FailsThere (λ x. (facts x).token) g table lexemes
+
+  run_fails : (st : List ℕ) (i : ℕ) (found : List RepairStop) (consumed : Option (List X)) (prods : List ℕ) → IsStack table st
+      → RepairRun facts allows k g table lexemes st i found consumed prods → All Fails_at found
+  run_fails _ _ _ _ _ stack (runs_through st i prods far) = All-nil Fails_at
+  run_fails _ _ _ _ _ stack (ends_there st i prods stop far at) =
+      All-cons Fails_at (record { stop = stop; listed = [] }) []
+      (far_ends_by_failing (λ x. (facts x).token) g table lexemes st i prods (Stopped stop) never good (stack_has_path table st stack) far) (All-nil Fails_at)
+  run_fails _ _ _ _ _ stack (is_repaired st i prods stop first listed made after j mended found consumed rest far at replays eaten more) =
+      let here = far_stack g table cap run (λ x. (facts x).token) lexemes known last st i prods (Stopped stop) stack far in
+      let next = replays_stack g table cap run (λ x. (facts x).token) lexemes known last stop.stack stop.place first made after j here replays in
+      let fails = far_ends_by_failing (λ x. (facts x).token) g table lexemes st i prods (Stopped stop) never good (stack_has_path table st stack) far in
+      All-cons Fails_at (record { stop = stop; listed = first ∷ listed }) found fails (run_fails after j found consumed rest next more)
+
+-- no lexeme of a valid list has the end token
+keeps_off_end : {X : Type 0} (facts : X → LexemeFacts) (g : Grammar) (lexemes : List X) → IsValidList g (map facts lexemes) → KeepOffEnd (λ x. (facts x).token) g lexemes
+keeps_off_end {X} facts g lexemes valid j within same =
+    let token : X → ℕ = λ x. (facts x).token in
+    elim (slice_get_cases lexemes j).1 as (λ _. ⊥) [
+      | inl found ↦
+          let less : (facts found.0).token < end_token g = good_token facts g lexemes j found.0 valid found.2 in
+          let is : token_at token g lexemes j ≡ token found.0 = token_at_lexeme token g lexemes j found.0 found.2 in
+          absurd (omega (arith, less, is, same))
+      | inr past ↦ let over = past.0 in absurd (omega (arith, over, within))
+    ]
+
+pub stops_by_failing : {X : Type 0} (facts : X → LexemeFacts) (allows : Point X → List (List PlainStep) → Type 0) → StopsByFailing facts allows
+stops_by_failing facts allows d k lexemes st found consumed prods checked valid stack more =
+    let runs = checked_runs_never_stick d.grammar d.graph d.table checked.well_formed checked.closed checked.safe in
+    let bounds = bounds_reductions d.grammar d.table d.cap checked.closed checked.chains in
+    let all : d.table.tokens ≡ tokens_len d.grammar = checked.safe.shape.tokens in
+    run_fails facts allows k d.grammar d.table d.cap (run_of_checked d checked runs bounds) lexemes (known_tokens facts d lexemes checked valid) (omega (arith, all))
+    runs (keeps_off_end facts d.grammar lexemes valid) st 0 found consumed prods stack more

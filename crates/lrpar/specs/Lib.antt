@@ -31,6 +31,9 @@ pub mod PlainSteps
 pub mod Mended
 pub mod Recovery
 pub mod RepairRun
+pub mod Parser
+pub mod Moves
+pub mod RepairAnswer
 pub mod RepairLaws
 pub mod TestWork
 pub mod SequenceText

@@ -1,14 +1,15 @@
 -- Laws of sequences of repairs and of runs with repairs.
-use Rattle.std.specs.Prelude.{◌≡◌, ◌≢◌, ◌<◌, ◌≤◌, ◌+◌, ◌/◌, ◌↔◌, ℕ, List, [], ◌∷◌, All, length, map, Option, IsSome}
+use Rattle.std.specs.Prelude.{◌≡◌, ◌≢◌, ◌<◌, ◌≤◌, ◌+◌, ◌/◌, ◌↔◌, ℕ, List, [], ◌∷◌, All, length, map, option_map, Option, IsSome}
 use Rattle.std.specs.List.{AllPairs}
 use Rattle.lrpar_grammar.specs.Grammar.{Grammar, end_token}
 use Rattle.lrpar_grammar.specs.Sentence.{IsValidList, LexemeFacts}
-use Rattle.lrpar_states.specs.Table.{Table}
+use Rattle.lrpar_states.specs.Table.{Table, Fails}
 use Rattle.lrpar_check.specs.Checked.{Checked, IsChecked}
+use Rattle.lrpar_check.specs.Reduction.{top_action}
 use Rattle.lrpar_check.specs.Stack.{IsStack}
 use Rattle.lrpar.specs.Recovery.{Point}
 use Rattle.lrpar.specs.RepairRun.{RepairRun, RepairStop}
-use Rattle.lrpar.specs.Run.{Run, Stop}
+use Rattle.lrpar.specs.Run.{Run, Stop, token_at}
 use Rattle.lrpar.specs.Sequences.{PlainStep, PlainInsert, PlainDelete, PlainShift, CanGoOn, Replays, Works}
 
 -- a sequence works exactly where it can be replayed, and k lexemes can be fed after that
@@ -44,6 +45,10 @@ pub record IsSound (g : Grammar) (lexemes i : ℕ) (steps : List PlainStep) : Ty
   pub inserts : All (InsertsListed g) steps
   pub places : i + places_of steps ≤ lexemes
 
+-- the recoverer has at most one answer at each point
+abbrev pub HandsInOne : {X : Type 0} → (Point X → List (List PlainStep) → Type 0) → Type 0
+HandsInOne {X} allows = (point : Point X) (a b : List (List PlainStep)) → allows point a → allows point b → a ≡ b
+
 -- runs with repairs over lexemes of this kind, from the first place on, where k is at least 1
 module _ {X : Type 0} (facts : X → LexemeFacts) (allows : Point X → List (List PlainStep) → Type 0) where
   -- each listed sequence is sound
@@ -74,6 +79,23 @@ module _ {X : Type 0} (facts : X → LexemeFacts) (allows : Point X → List (Li
       → IsChecked d → IsValidList d.grammar (map facts lexemes) → IsStack d.table st
       → RepairRun facts allows k d.grammar d.table lexemes st 0 stops consumed prods
       → All (λ s. IsStack d.table s.stop.stack) stops
+
+  -- and so the top state of each stop has no action at the token there
+  abbrev pub StopsByFailing : Type 0
+  StopsByFailing =
+      (d : Checked) (k : ℕ) (lexemes : List X) (st : List ℕ) (stops : List RepairStop) (consumed : Option (List X)) (prods : List ℕ)
+      → IsChecked d → IsValidList d.grammar (map facts lexemes) → IsStack d.table st
+      → RepairRun facts allows k d.grammar d.table lexemes st 0 stops consumed prods
+      → All (λ s. top_action d.table (token_at (λ x. (facts x).token) d.grammar lexemes s.stop.place) s.stop.stack ≡ Fails) stops
+
+  -- where the recoverer has at most one answer at each point, two runs from one stack and place have the same stops, list the
+  -- same there, make the same reductions, and consume lexemes of which the same is known
+  abbrev pub RepairRunsOneWay : Type 0
+  RepairRunsOneWay =
+      HandsInOne allows → (k : ℕ) (g : Grammar) (table : Table) (lexemes : List X) (st : List ℕ) (i : ℕ)
+      (a b : List RepairStop) (xs ys : Option (List X)) (ps qs : List ℕ)
+      → RepairRun facts allows k g table lexemes st i a xs ps → RepairRun facts allows k g table lexemes st i b ys qs
+      → (a ≡ b) × (option_map (map facts) xs ≡ option_map (map facts) ys) × (ps ≡ qs)
 
 -- where the recoverer hands in nothing, the run is the one without repairs
 abbrev pub RunsWithoutRepairs : Type 0 → Type 0

@@ -6,7 +6,7 @@ ghost use Rattle.lrpar_text.specs.Comparisons.{HashesAs};
 ghost use Rattle.lrpar.specs.Run.{RunsOneWay};
 ghost use Rattle.lrpar.specs.Failure.{repair_eq};
 ghost use Rattle.lrpar.specs.Lexemes.{facts_of};
-ghost use Rattle.lrpar.specs.RepairLaws.{AcceptsWhereRepaired, ListsSound, ReplaysOneWay, RunsWithoutRepairs, StopsAtStacks, StopsLieApart, WorksByReplay};
+ghost use Rattle.lrpar.specs.RepairLaws.{AcceptsWhereRepaired, ListsSound, RepairRunsOneWay, ReplaysOneWay, RunsWithoutRepairs, StopsAtStacks, StopsByFailing, StopsLieApart, WorksByReplay};
 ghost use Rattle.lrpar.specs.Repairs.{repair_input, repair_of};
 ghost use Rattle.lrpar.specs.RunLaws.{RunsEndOneWay, RunsGoOnOrEnd, RunsStopByFailing};
 ghost use Rattle.lrpar.specs.Spans.{SpansAreWorkedOut};
@@ -61,7 +61,8 @@ pub fn sequences_that_work_are_replayed<LexemeT>()
 /// In a run with repairs, where at least one lexeme has to follow each: no listed sequence is empty, inserts the end token or
 /// one that the grammar doesn't have, or goes past the last lexeme; each stop lies at least k lexemes after those before it,
 /// so over n lexemes there are at most n / k + 1; and the run comes to accept exactly where a sequence is listed at each stop.
-/// Over a checked table the stack of each stop is one of the table.
+/// Over a checked table and lexemes without a fault the stack of each stop is one of the table, and its top state has no action
+/// at the token there.
 pub fn runs_with_repairs_are_sound<
     StorageT: StorageIndex,
     LexemeT: Lexeme<StorageT>,
@@ -71,6 +72,18 @@ pub fn runs_with_repairs_are_sound<
     ensures apart { (r : R) → StopsLieApart (λ x. facts_of StorageT.index (LexemeT.parts x)) (R.allows r) }
     ensures accepts { (r : R) → AcceptsWhereRepaired (λ x. facts_of StorageT.index (LexemeT.parts x)) (R.allows r) }
     ensures stacks { (r : R) → StopsAtStacks (λ x. facts_of StorageT.index (LexemeT.parts x)) (R.allows r) }
+    ensures fails { (r : R) → StopsByFailing (λ x. facts_of StorageT.index (LexemeT.parts x)) (R.allows r) }
+{}
+
+/// Where a recoverer has at most one answer at each point, a run with repairs has one answer: two runs from one stack and place
+/// have the same stops, list the same sequences there, make the same reductions, and consume lexemes of the same tokens, places
+/// and faultiness.
+pub fn runs_with_repairs_have_one_answer<
+    StorageT: StorageIndex,
+    LexemeT: Lexeme<StorageT>,
+    R: Recoverer<StorageT, LexemeT>,
+>()
+    ensures { (r : R) → RepairRunsOneWay (λ x. facts_of StorageT.index (LexemeT.parts x)) (R.allows r) }
 {}
 
 /// Where nothing is handed in, a run with repairs is a run without them.

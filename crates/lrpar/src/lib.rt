@@ -3,8 +3,10 @@
 
 mod actions;
 mod build;
+mod course;
 mod error_text;
 pub mod errors;
+mod far;
 mod fault;
 pub mod laws;
 pub mod lex_api;
@@ -14,8 +16,10 @@ mod nothing;
 pub mod parser;
 mod pp_fault;
 pub mod repair;
+mod replay;
 mod run;
 mod sequence_text;
+mod shifts;
 mod stack;
 mod tree_text;
 mod tree_write;

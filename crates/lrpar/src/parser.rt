@@ -1,10 +1,10 @@
 //! Parses: the calls that take a lexer and answer a value and the errors.
-ghost use Rattle.std.specs.Prelude.{◌≡◌, ◌∷◌, ◌↔◌, [], List, Result, IfOk, IfSome, IsTrue, option_map};
+ghost use Rattle.std.specs.Prelude.{◌≡◌, ◌<◌, ◌∷◌, ◌↔◌, [], List, Result, IfErr, IfOk, IfSome, IsOk, IsTrue, option_map};
 ghost use Rattle.lrpar_check.specs.Checked.{IsChecked};
 ghost use Rattle.lrpar_grammar.specs.Grammar.{rule_of};
 ghost use Rattle.lrpar.specs.Acted.{IsActedValue};
 ghost use Rattle.lrpar.specs.Arguments.{TakesAll};
-ghost use Rattle.lrpar.specs.End.{IsAnswerOf, IsOfTree};
+ghost use Rattle.lrpar.specs.End.{IsOfTree};
 ghost use Rattle.lrpar.specs.Entries.{HasValueEntry};
 ghost use Rattle.lrpar.specs.Folds.{Folds};
 ghost use Rattle.lrpar.specs.declared.values.AStackType.TheVariants.{ActionType};
@@ -16,6 +16,7 @@ ghost use Rattle.lrpar.specs.Parse.{ParsesTo, ParsesToErrors};
 pub use crate::actions::Actions;
 use crate::actions::{Acting, Placed};
 use crate::build::Build;
+use crate::course::Course;
 pub use crate::errors::{LexParseError, ParseError, ParseRepair};
 pub use crate::fault::ParseFault;
 use crate::lex_api::{LexerTypes, NonStreamingLexer};
@@ -24,7 +25,9 @@ use crate::node::Trees;
 pub use crate::node::{Node, action_generictree};
 use crate::nothing::Nothing;
 pub use crate::pp_fault::PpFault;
-use crate::run::{End, Run};
+use crate::repair::{NoRecovery, Recoverer};
+use crate::run::Run;
+pub use crate::shifts::ZeroShifts;
 pub use crate::values::AStackType;
 use crate::values::Functions;
 use lrpar_grammar::grammar::YaccGrammar;
@@ -36,54 +39,116 @@ use std::marker::{Model, PhantomData};
 /// A value, where the parse comes to one, and the errors.
 type Answer<StorageT, LexerTypesT, V> = (Option<V>, Vec<LexParseError<StorageT, LexerTypesT>>);
 
-/// A parser by a checked table.
+/// A parser by a checked table, with the recoverer that it asks at an error, and with how many lexemes have to follow a
+/// repair.
 #[derive(Drop)]
 pub struct RTParserBuilder<
     'a,
     StorageT: StorageIndex,
     LexerTypesT: LexerTypes<StorageT = StorageT>,
+    R: Drop = NoRecovery,
 > {
     checked: &'a ParserData<StorageT>,
+    recoverer: R,
+    shifts: usize,
     lexer_types: PhantomData<LexerTypesT>,
 }
 
-impl<'a, StorageT: StorageIndex, LexerTypesT: LexerTypes<StorageT = StorageT>> Model
-    for RTParserBuilder<'a, StorageT, LexerTypesT> {
-    ghost use Rattle.lrpar_check.specs.Checked.{Checked};
+impl<'a, StorageT: StorageIndex, LexerTypesT: LexerTypes<StorageT = StorageT>, R: Drop> Model
+    for RTParserBuilder<'a, StorageT, LexerTypesT, R> {
+    ghost use Rattle.std.specs.Prelude.{◌<◌};
+    ghost use Rattle.lrpar.specs.Parser.{Parser};
 
-    ghost Value = { Checked };
+    ghost Value = { Parser R };
 
-    ghost view = { λ p. p.checked.now };
+    ghost view = { λ p. record { checked = p.checked.now; recoverer = p.recoverer; shifts = p.shifts } };
+
+    ghost invariant = { λ p. 0 < p.shifts };
 }
 
 impl<'a, StorageT: StorageIndex, LexerTypesT: LexerTypes<StorageT = StorageT>> RTParserBuilder<
     'a,
     StorageT,
     LexerTypesT,
+    NoRecovery,
 > {
-    /// A parser of the grammar by the table that was checked with it.
+    /// A parser of the grammar by the table that was checked with it. It hands in no repair, and asks for 3 lexemes after
+    /// one.
     pub fn new(checked: &'a ParserData<StorageT>) -> Self
-        ensures made { result ≡ checked.now }
-        ensures checked { IsChecked result }
+        ensures made { result.checked ≡ checked.now }
+        ensures shifts { result.shifts ≡ 3 }
+        ensures checked { IsChecked result.checked }
     {
         let _table = checked.stable();
         RTParserBuilder {
             checked,
+            recoverer: NoRecovery,
+            shifts: 3,
             lexer_types: PhantomData,
         }
+    }
+}
+
+impl<
+    'a,
+    StorageT: StorageIndex,
+    LexerTypesT: LexerTypes<StorageT = StorageT>,
+    R: Recoverer<StorageT, LexerTypesT::LexemeT> + Drop,
+> RTParserBuilder<'a, StorageT, LexerTypesT, R> {
+    /// The same parser with another recoverer. As many lexemes have to follow a repair as before.
+    pub fn recoverer<Q: Recoverer<StorageT, LexerTypesT::LexemeT> + Drop>(
+        self,
+        recoverer: Q,
+    ) -> RTParserBuilder<'a, StorageT, LexerTypesT, Q>
+        ensures { result ≡ record { checked = self.entry.checked; recoverer = recoverer; shifts = self.entry.shifts } }
+    {
+        RTParserBuilder {
+            checked: self.checked,
+            recoverer,
+            shifts: self.shifts,
+            lexer_types: PhantomData,
+        }
+    }
+
+    /// The same parser, for which `count` lexemes have to follow a repair: a sequence works where so many lexemes can be
+    /// taken after it, or all that are left, where they are fewer, and the parse then accepts. It has to be at least 1; a
+    /// refusal hands the parser back as it was.
+    pub fn shifts(self, count: usize) -> Result<Self, ZeroShifts<Self>>
+        ensures set { IfOk result (λ p. p ≡ record { checked = self.entry.checked; recoverer = self.entry.recoverer; shifts = count }) }
+        ensures back { IfErr result (λ refused. refused.builder ≡ self.entry) }
+        ensures exact { IsOk result ↔ (0 < count) }
+    {
+        if count == 0 {
+            return Err(ZeroShifts { builder: self });
+        }
+        Ok(RTParserBuilder {
+            checked: self.checked,
+            recoverer: self.recoverer,
+            shifts: count,
+            lexer_types: PhantomData,
+        })
+    }
+
+    /// How many lexemes have to follow a repair.
+    pub fn shift_count(&self) -> usize
+        ensures count { result ≡ self.now.shifts }
+        ensures some { 0 < result }
+    {
+        self.shifts
     }
 
     /// Parses what the lexer answers, which it is asked once. A lexeme has the value that `fterm` gives; a rule has
     /// the value that `fnonterm` gives of the rule and the values of its symbols, from left to right.
     ///
-    /// Where the lexer answers an error, the first one is answered alone. Otherwise there is either a value and no
-    /// error, or no value and one error, which offers no repair: the state and the lexeme at which there is no action.
-    /// `BadToken` and `StartsDecrease` name the first lexeme that has either fault, where the lexer answers no error.
-    /// The answer is `Memory` only where memory was wanting, be it the lexer's.
+    /// Where the lexer answers an error, the first one is answered alone. Otherwise there is an error for each stop: the
+    /// state and the lexeme at which there is no action, and those of the recoverer's sequences that work there, in its
+    /// order. The parse goes on from what the first of them gives, so there is a value exactly where each error lists a
+    /// sequence. `BadToken` and `StartsDecrease` name the first lexeme that has either fault, where the lexer answers no
+    /// error. The answer is `Memory` only where memory was wanting, be it the lexer's or the recoverer's.
     ///
-    /// The time grows with the lexemes and the reductions. Under one lookahead there are at most as many reductions as
-    /// the cap times the states on the stack before it, and over a whole parse that accepts n lexemes at most
-    /// `cap * (cap + 3) * (n + 1)`.
+    /// The time grows with the lexemes, the reductions and the steps that are handed in; the test of a sequence copies no
+    /// stack. Under one lookahead there are at most as many reductions as the cap times the states on the stack before it,
+    /// and over a whole parse that consumes n lexemes and has e errors at most `cap * (cap + 3) * (n + e + 1)`.
     pub fn parse_map<
         'input,
         L: NonStreamingLexer<'input, LexerTypesT>,
@@ -100,8 +165,8 @@ impl<'a, StorageT: StorageIndex, LexerTypesT: LexerTypes<StorageT = StorageT>> R
         requires fterm { F.IsAlwaysCallable fterm }
         requires fnonterm { G.IsAlwaysCallable fnonterm }
         // Memory was wanting, or there is an answer that the lexer allows, and this is the parse over it.
-        ensures parse { ParsesTo self.now (λ x. facts_of StorageT.index (LexerTypesT.LexemeT.parts x)) (L.allows lexer.now)
-            (Folds (F.post fterm) (made_by StorageT.index (G.post fnonterm)) self.now.grammar) result }
+        ensures parse { ParsesTo self.now.checked (λ x. facts_of StorageT.index (LexerTypesT.LexemeT.parts x)) (R.allows self.now.recoverer) self.now.shifts (L.allows lexer.now)
+            (Folds (F.post fterm) (made_by StorageT.index (G.post fnonterm)) self.now.checked.grammar) result }
     {
         let functions = Functions {
             fterm: &fterm,
@@ -134,12 +199,12 @@ impl<'a, StorageT: StorageIndex, LexerTypesT: LexerTypes<StorageT = StorageT>> R
         actions: &A,
         param: &A::ParamT,
     ) -> Result<Answer<StorageT, LexerTypesT, A::ActionT>, ParseFault>
-        requires taken { TakesAll (A.taken actions.now) self.now.grammar }
+        requires taken { TakesAll (A.taken actions.now) self.now.checked.grammar }
         // Memory was wanting, or there is an answer that the lexer allows, and this is the parse over it.
-        ensures parse { ParsesTo self.now (λ x. facts_of StorageT.index (LexerTypesT.LexemeT.parts x)) (L.allows lexer.now)
+        ensures parse { ParsesTo self.now.checked (λ x. facts_of StorageT.index (LexerTypesT.LexemeT.parts x)) (R.allows self.now.recoverer) self.now.shifts (L.allows lexer.now)
             (IsActedValue (λ x. (LexerTypesT.LexemeT.parts x).span)
-            (λ p span args v. A.answers actions.now p (rule_of self.now.grammar p) lexer.now span args param.now v)
-            (A.fact actions.now self.now.grammar.start)) result }
+            (λ p span args v. A.answers actions.now p (rule_of self.now.checked.grammar p) lexer.now span args param.now v)
+            (A.fact actions.now self.now.checked.grammar.start)) result }
     {
         let acting = Acting {
             actions,
@@ -158,7 +223,7 @@ impl<'a, StorageT: StorageIndex, LexerTypesT: LexerTypes<StorageT = StorageT>> R
         L: NonStreamingLexer<'input, LexerTypesT>,
         A: Actions<StorageT, LexerTypesT::LexemeT, L>,
     >(&self, _lexer: &L, actions: &A) -> bool
-        ensures { IsTrue result ↔ TakesAll (A.taken actions.now) self.now.grammar }
+        ensures { IsTrue result ↔ TakesAll (A.taken actions.now) self.now.checked.grammar }
     {
         let grm = self.checked.grm();
         for number in 0..grm.start_prod().as_storaget().to_index() {
@@ -172,7 +237,7 @@ impl<'a, StorageT: StorageIndex, LexerTypesT: LexerTypes<StorageT = StorageT>> R
 
     /// The grammar.
     pub fn grammar(&self) -> &YaccGrammar<StorageT>
-        ensures { result.now ≡ self.now.grammar }
+        ensures { result.now ≡ self.now.checked.grammar }
     {
         self.checked.grm()
     }
@@ -185,8 +250,8 @@ impl<'a, StorageT: StorageIndex, LexerTypesT: LexerTypes<StorageT = StorageT>> R
         lexer: &L,
     ) -> Result<Answer<StorageT, LexerTypesT, Node<LexerTypesT::LexemeT, StorageT>>, ParseFault>
         // Memory was wanting, or there is an answer that the lexer allows, and this is the parse over it.
-        ensures parse { ParsesTo self.now (λ x. facts_of StorageT.index (LexerTypesT.LexemeT.parts x)) (L.allows lexer.now)
-            (Folds IsTerm (IsNonterm StorageT.index) self.now.grammar) result }
+        ensures parse { ParsesTo self.now.checked (λ x. facts_of StorageT.index (LexerTypesT.LexemeT.parts x)) (R.allows self.now.recoverer) self.now.shifts (L.allows lexer.now)
+            (Folds IsTerm (IsNonterm StorageT.index) self.now.checked.grammar) result }
     {
         self.parsed(alloc, lexer, &Trees)
     }
@@ -200,7 +265,7 @@ impl<'a, StorageT: StorageIndex, LexerTypesT: LexerTypes<StorageT = StorageT>> R
         lexer: &L,
     ) -> Result<Vec<LexParseError<StorageT, LexerTypesT>>, ParseFault>
         // Memory was wanting, or there is an answer that the lexer allows, and these are the errors of the parse over it.
-        ensures parse { ParsesToErrors self.now (λ x. facts_of StorageT.index (LexerTypesT.LexemeT.parts x)) (L.allows lexer.now) result }
+        ensures parse { ParsesToErrors self.now.checked (λ x. facts_of StorageT.index (LexerTypesT.LexemeT.parts x)) (R.allows self.now.recoverer) self.now.shifts (L.allows lexer.now) result }
     {
         match self.parsed(alloc, lexer, &Nothing) {
             Ok((_, errors)) => Ok(errors),
@@ -219,9 +284,9 @@ impl<'a, StorageT: StorageIndex, LexerTypesT: LexerTypes<StorageT = StorageT>> R
         lexer: &L,
         build: &B,
     ) -> Result<Answer<StorageT, LexerTypesT, B::Entry>, ParseFault>
-        requires can { B.can_build build.now self.now.grammar }
-        ensures parse { ParsesTo self.now (λ x. facts_of StorageT.index (LexerTypesT.LexemeT.parts x)) (L.allows lexer.now)
-            (IsOfTree (B.leaf build.now) (B.node build.now self.now.grammar) (B.suits build.now) self.now) result }
+        requires can { B.can_build build.now self.now.checked.grammar }
+        ensures parse { ParsesTo self.now.checked (λ x. facts_of StorageT.index (LexerTypesT.LexemeT.parts x)) (R.allows self.now.recoverer) self.now.shifts (L.allows lexer.now)
+            (IsOfTree (B.leaf build.now) (B.node build.now self.now.checked.grammar) (B.suits build.now) self.now.checked) result }
     {
         let answers = lexer.iter(alloc)?;
         match lexemes_or_error(alloc, answers)? {
@@ -229,8 +294,13 @@ impl<'a, StorageT: StorageIndex, LexerTypesT: LexerTypes<StorageT = StorageT>> R
             Ok(lexemes) => match lexeme_fault(self.checked.grm(), &lexemes) {
                 Some(fault) => Err(fault),
                 None => {
-                    let end = Run::new(self.checked, build).over(alloc, &lexemes)?;
-                    Ok(answered(alloc, end)?)
+                    let course = Course {
+                        run: Run::new(self.checked, build),
+                        lexemes: &lexemes,
+                        recoverer: &self.recoverer,
+                        shifts: self.shift_count(),
+                    };
+                    Ok(course.over(alloc)?)
                 }
             },
         }
@@ -256,22 +326,6 @@ fn value_of<LexemeT: Drop, V: Drop>(entry: Option<AStackType<LexemeT, V>>) -> Op
         Some(AStackType::ActionType(value)) => Some(value),
         Some(AStackType::Lexeme(_)) => unreachable!(),
         None => None,
-    }
-}
-
-// The answer at the end of a run: a value, or an error for which no repair is listed.
-fn answered<StorageT: StorageIndex, LexerTypesT: LexerTypes<StorageT = StorageT>, E: Drop>(
-    alloc: Global,
-    end: End<StorageT, LexerTypesT::LexemeT, E>,
-) -> Result<Answer<StorageT, LexerTypesT, E>, AllocError>
-    ensures { IfOk result (IsAnswerOf StorageT.index end) }
-{
-    match end {
-        End::Accepts(entry) => Ok((Some(entry), Vec::new(alloc))),
-        End::Stops(state, lexeme) => {
-            let error = ParseError::new(state, lexeme, Vec::new(alloc));
-            Ok((None, one_error(alloc, LexParseError::ParseError(error))?))
-        }
     }
 }
 

@@ -1,12 +1,10 @@
 //! The run: shifts and reductions over lexemes that have no fault, by a checked table.
 ghost use Rattle.std.specs.Prelude.{◌≡◌, ◌≢◌, ◌<◌, ◌≤◌, ◌+◌, ◌*◌, ℕ, length, List, IfOk, OnOk, IsTrue, IsFalse, map};
 ghost use Rattle.lrpar_grammar.specs.Grammar.{end_token};
-ghost use Rattle.lrpar_grammar.specs.Sentence.{IsValidList};
 ghost use Rattle.lrpar_check.specs.Path.{NeverSticks};
 ghost use Rattle.lrpar_check.specs.Reduction.{top_action};
 ghost use Rattle.lrpar_states.specs.Table.{ReduceBy};
 ghost use Rattle.lrpar_states.specs.PlainRows.{plain_action};
-ghost use Rattle.lrpar.specs.End.{EndsSo};
 ghost use Rattle.lrpar.specs.Lexemes.{facts_of, lexeme_past};
 ghost use Rattle.lrpar.specs.Standing.{IsUpright, ReducesTo};
 ghost use Rattle.lrpar.specs.Stacked.{SettlesTo, Shifts, Sticks};
@@ -14,26 +12,17 @@ ghost use Rattle.lrpar.specs.Stacked.{SettlesTo, Shifts, Sticks};
 use crate::build::Build;
 use crate::lex_api::Lexeme;
 use crate::stack::Stack;
-use lrpar_grammar::span::{PIdx, StIdx, StorageIndex, TIdx};
+use lrpar_grammar::span::{PIdx, StorageIndex, TIdx};
 use lrpar_table::check::ParserData;
 use lrpar_table::table::Action;
 use std::alloc::{AllocError, Global};
 use std::marker::PhantomData;
 
-/// How a run ends.
-#[derive(Drop)]
-pub(crate) enum End<StorageT, LexemeT, E> {
-    /// It accepts, with the entry of the whole.
-    Accepts(E),
-    /// It stops in this state at this lexeme.
-    Stops(StIdx<StorageT>, LexemeT),
-}
-
 /// The checked table of a run, and what is built.
 #[derive(Drop)]
 pub(crate) struct Run<'a, StorageT: StorageIndex, LexemeT, B> {
-    checked: &'a ParserData<StorageT>,
-    build: &'a B,
+    pub(crate) checked: &'a ParserData<StorageT>,
+    pub(crate) build: &'a B,
     lexemes: PhantomData<LexemeT>,
 }
 
@@ -54,33 +43,8 @@ impl<'a, StorageT: StorageIndex, LexemeT: Lexeme<StorageT>, B: Build<StorageT, L
         }
     }
 
-    /// Runs over the lexemes, to their end or to the first of them that no action takes.
-    pub(crate) fn over(
-        &self,
-        alloc: Global,
-        lexemes: &[LexemeT],
-    ) -> Result<End<StorageT, LexemeT, B::Entry>, AllocError>
-        requires can { B.can_build self.now.build.now self.now.checked.now.grammar }
-        requires valid { IsValidList self.now.checked.now.grammar (map (λ x. facts_of StorageT.index (LexemeT.parts x)) lexemes.now) }
-        ensures ends { IfOk result (EndsSo (λ x. facts_of StorageT.index (LexemeT.parts x)) (B.leaf self.now.build.now)
-            (B.node self.now.build.now self.now.checked.now.grammar) (B.suits self.now.build.now) self.now.checked.now lexemes.now StorageT.index) }
-    {
-        let mut stack = Stack::new(alloc, self.checked.stable().start_state())?;
-        for lexeme in lexemes {
-            if !self.take(alloc, &mut stack, *lexeme)? {
-                return Ok(End::Stops(stack.top(), *lexeme));
-            }
-        }
-        let end = self.checked.grm().eof_token_idx();
-        match self.settle(alloc, &mut stack, end)? {
-            Action::Accept => Ok(End::Accepts(stack.into_entry())),
-            Action::Error => Ok(End::Stops(stack.top(), end_lexeme(end, lexemes))),
-            Action::Reduce(_) | Action::Shift(_) => unreachable!(),
-        }
-    }
-
     // Makes all reductions under the lexeme's token and shifts it, if the top state does; answers whether it did.
-    fn take(
+    pub(crate) fn take(
         &self,
         alloc: Global,
         stack: &mut Stack<StorageT, B::Entry>,
@@ -111,7 +75,7 @@ impl<'a, StorageT: StorageIndex, LexemeT: Lexeme<StorageT>, B: Build<StorageT, L
     }
 
     // Makes all reductions under the token, and answers the action of the state that is then on top.
-    fn settle(
+    pub(crate) fn settle(
         &self,
         alloc: Global,
         stack: &mut Stack<StorageT, B::Entry>,
@@ -164,7 +128,7 @@ impl<'a, StorageT: StorageIndex, LexemeT: Lexeme<StorageT>, B: Build<StorageT, L
 }
 
 // The lexeme past the last one.
-fn end_lexeme<StorageT: StorageIndex, LexemeT: Lexeme<StorageT>>(
+pub(crate) fn end_lexeme<StorageT: StorageIndex, LexemeT: Lexeme<StorageT>>(
     end: TIdx<StorageT>,
     lexemes: &[LexemeT],
 ) -> LexemeT

@@ -1,7 +1,7 @@
 //! The stacks of a run: the states, and what stands between each two neighbours.
 ghost use Rattle.std.specs.Prelude.{◌≡◌, ◌+◌, ◌<◌, ◌≤◌, ◌-◌, ℕ, [], ◌∷◌, ◌++◌, None, length, take, drop, Some, OnOk, IfOk};
 ghost use Rattle.std.specs.List.{AllZip, last_or};
-ghost use Rattle.lrpar_check.specs.Stack.{top_of};
+ghost use Rattle.lrpar_check.specs.Stack.{states_of, top_of};
 ghost use Rattle.lrpar_grammar.specs.Grammar.{Nonterminal, prod_len, rule_of, start_prod, symbols_of};
 
 use crate::build::Build;
@@ -45,6 +45,13 @@ impl<StorageT: StorageIndex, E: Drop> Stack<StorageT, E> {
         ensures { result ≡ length self.now.states }
     {
         self.states.len()
+    }
+
+    /// The states, bottom first.
+    pub(crate) fn states(&self) -> &[StIdx<StorageT>]
+        ensures { states_of StorageT.index result.now ≡ self.now.states }
+    {
+        &self.states
     }
 
     /// The top state.

@@ -9,3 +9,7 @@ pub mod BringLemmas
 pub mod AmongLemmas
 pub mod EntryLemmas
 pub mod WantedLemmas
+pub mod ReachedLemmas
+pub mod DecidedLemmas
+pub mod SafeLemmas
+pub mod ConflictLemmas

@@ -7,3 +7,4 @@ pub mod Brought
 pub mod Cores
 pub mod Wanted
 pub mod States
+pub mod BuilderLaws

@@ -6,6 +6,7 @@ mod cores;
 mod entries;
 mod fault;
 mod first;
+pub mod laws;
 mod reach;
 mod state;
 mod tokens;

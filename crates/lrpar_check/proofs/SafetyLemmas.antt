@@ -11,7 +11,7 @@ use Rattle.lrpar_text.specs.declared.span.TIdx.{TIdx}
 use Rattle.lrpar_text.specs.declared.span.StIdx.{StIdx}
 use Rattle.lrpar_text.specs.declared.span.Symbol.{Symbol}
 use Rattle.lrpar_check.specs.Chain.{AreChainsShort}
-use Rattle.lrpar_check.specs.Checked.{IsCheckFault}
+use Rattle.lrpar_check.specs.Checked.{IsChainFault, IsCheckFault}
 use Rattle.lrpar_states.specs.Graph.{Graph, HasCore, HasItem, ItemOf, items_of}
 use Rattle.lrpar_states.specs.PlainItems.{core_of, item_of}
 use Rattle.lrpar_states.specs.PlainRows.{plain_action, plain_goto}
@@ -122,6 +122,22 @@ only_memory g graph table cap Shape h safe short = absurd (h safe.shape)
 only_memory g graph table cap (Safety condition s) h safe short = absurd (h.2 (safe.each condition s h.1))
 only_memory g graph table cap (ChainTooLong s t) h safe short = absurd (short s t h.1 h.2 h.3)
 only_memory g graph table cap Memory h safe short = refl
+
+-- a fault of the chains of a safe table is a fault
+pub fault_of_chains : (g : Grammar) (graph : Graph) (table : Table) (cap : ℕ) (fault : CheckFault) → IsSafe g graph table
+    → IsChainFault g table cap fault → IsCheckFault g graph table cap fault
+fault_of_chains g graph table cap Shape safe is = absurd is
+fault_of_chains g graph table cap (Safety condition s) safe is = absurd is
+fault_of_chains g graph table cap (ChainTooLong s t) safe is = (safe, is.0, is.1, is.2)
+fault_of_chains g graph table cap Memory safe is = safe
+
+-- where the chains are short, they have no fault but want of memory
+pub chains_or_memory : (g : Grammar) (table : Table) (cap : ℕ) (fault : CheckFault) → IsChainFault g table cap fault → AreChainsShort g table cap
+    → fault ≡ Memory
+chains_or_memory g table cap Shape is short = absurd is
+chains_or_memory g table cap (Safety condition s) is short = absurd is
+chains_or_memory g table cap (ChainTooLong s t) is short = absurd (short s t is.0 is.1 is.2)
+chains_or_memory g table cap Memory is short = refl
 
 -- a fault of equal parts is a fault
 pub fault_of_same : (g h : Grammar) (graph other : Graph) (table made : Table) (cap : ℕ) (fault : CheckFault) → g ≡ h → graph ≡ other → table ≡ made

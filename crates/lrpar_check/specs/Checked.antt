@@ -35,3 +35,10 @@ IsCheckFault g graph table cap Shape = ¬ (HasShape g graph table)
 IsCheckFault g graph table cap (Safety condition s) = HasShape g graph table × (s < states_len table) × ¬ (IsSafeAt g graph table condition s)
 IsCheckFault g graph table cap (ChainTooLong s t) = IsSafe g graph table × (s < states_len table) × (t < table.tokens) × IsLongChain g table cap s t
 IsCheckFault g graph table cap Memory = IsSafe g graph table
+
+-- the fault names a chain that is too long; memory aside, a safe table is refused for nothing else
+abbrev pub IsChainFault : Grammar → Table → ℕ → CheckFault → Type 0
+IsChainFault g table cap Shape = ⊥
+IsChainFault g table cap (Safety condition s) = ⊥
+IsChainFault g table cap (ChainTooLong s t) = (s < states_len table) × (t < table.tokens) × IsLongChain g table cap s t
+IsChainFault g table cap Memory = Unit {0}

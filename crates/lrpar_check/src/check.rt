@@ -5,7 +5,8 @@ ghost use Rattle.lrpar_states.specs.Table.{IsClosed};
 ghost use Rattle.lrpar_states.specs.Safe.{IsSafe};
 ghost use Rattle.lrpar_check.specs.Path.{NeverSticks};
 ghost use Rattle.lrpar_check.specs.Chain.{AreChainsShort, IsBounded};
-ghost use Rattle.lrpar_check.specs.Checked.{IsChecked, IsCheckFault};
+ghost use Rattle.lrpar_check.specs.Checked.{IsChainFault, IsChecked, IsCheckFault};
+ghost use Rattle.lrpar_check.specs.Step.{FitsGrammar};
 ghost use Rattle.lrpar_check.specs.declared.fault.CheckFault.TheVariants.{Memory};
 
 use crate::chains::Chains;
@@ -64,8 +65,39 @@ impl<StorageT: StorageIndex> ParserData<StorageT> {
         ensures exact { IsSafe grm sgraph stable → AreChainsShort grm stable cap → IfErr result (λ r. r.fault ≡ Memory) }
         ensures back { IfErr result (λ r. (r.grammar ≡ grm) × (r.graph ≡ sgraph) × (r.table ≡ stable)) }
     {
+        match Parts::new(&grm, &sgraph, &stable).fault() {
+            None => ParserData::of_safe(alloc, grm, sgraph, stable, cap),
+            Some(fault) => Err(Refused {
+                fault,
+                grm,
+                sgraph,
+                stable,
+            }),
+        }
+    }
+
+    /// Of a table that is safe, as its caller knows: it checks only that no chain of reductions under one token is longer
+    /// than the cap.
+    ///
+    /// A refusal names the first chain that is too long, with states and then tokens ascending; or it is for want of
+    /// memory, for the list on which the chains are made. It keeps the three parts as they were. The chains take the time
+    /// that they take in `new`.
+    pub fn of_safe(
+        alloc: Global,
+        grm: YaccGrammar<StorageT>,
+        sgraph: StateGraph<StorageT>,
+        stable: StateTable<StorageT>,
+        cap: u16,
+    ) -> Result<Self, Refused<StorageT>>
+        requires { IsSafe grm sgraph stable }
+        ensures made { IfOk result (λ d. d ≡ record { grammar = grm; graph = sgraph; table = stable; cap = cap }) }
+        ensures checked { IfOk result IsChecked }
+        ensures fault { IfErr result (λ r. IsChainFault grm stable cap r.fault) }
+        ensures exact { AreChainsShort grm stable cap → IfErr result (λ r. r.fault ≡ Memory) }
+        ensures back { IfErr result (λ r. (r.grammar ≡ grm) × (r.graph ≡ sgraph) × (r.table ≡ stable)) }
+    {
         are_sound(&grm, &stable);
-        match are_checked(alloc, &grm, &sgraph, &stable, cap) {
+        match are_short(alloc, &grm, &stable, cap) {
             Ok(()) => Ok(ParserData {
                 grm,
                 sgraph,
@@ -113,21 +145,17 @@ impl<StorageT: StorageIndex> ParserData<StorageT> {
     }
 }
 
-// Whether the table is safe, with short chains; otherwise the first fault.
-fn are_checked<StorageT: StorageIndex>(
+// Whether the chains of a safe table are short; otherwise the first that isn't.
+fn are_short<StorageT: StorageIndex>(
     alloc: Global,
     grm: &YaccGrammar<StorageT>,
-    sgraph: &StateGraph<StorageT>,
     stable: &StateTable<StorageT>,
     cap: u16,
 ) -> Result<(), CheckFault>
-    ensures safe { OnOk result (IsSafe grm.now sgraph.now stable.now) }
+    requires { FitsGrammar grm.now stable.now }
     ensures short { OnOk result (AreChainsShort grm.now stable.now cap) }
-    ensures fault { IfErr result (IsCheckFault grm.now sgraph.now stable.now cap) }
+    ensures fault { IfErr result (IsChainFault grm.now stable.now cap) }
 {
-    if let Some(fault) = Parts::new(grm, sgraph, stable).fault() {
-        return Err(fault);
-    }
     match Chains::new(grm, stable, cap).first_long(alloc)? {
         None => Ok(()),
         Some((s, t)) => Err(CheckFault::ChainTooLong(s, t)),

@@ -4,6 +4,7 @@ pub mod Entries
 pub mod Graph
 pub mod Safe
 pub mod Conditions
+pub mod ConflictsFit
 pub mod Sum
 pub mod PlainConflicts
 pub mod PlainRows

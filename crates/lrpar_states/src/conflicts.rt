@@ -1,7 +1,9 @@
 //! The conflicts that were met, and decided, when a table was made.
-ghost use Rattle.std.specs.Prelude.{◌≡◌, length, map};
+ghost use Rattle.std.specs.Prelude.{◌≡◌, ◌↔◌, All, IsTrue, length, map};
+ghost use Rattle.lrpar_states.specs.ConflictsFit.{ConflictsFit, ReductionsFit, ShiftFits};
 ghost use Rattle.lrpar_states.specs.PlainConflicts.{reduce_reduce_of, shift_reduce_of};
 
+use lrpar_grammar::grammar::YaccGrammar;
 use lrpar_grammar::span::{PIdx, StIdx, StorageIndex, TIdx};
 use std::marker::Model;
 
@@ -84,4 +86,69 @@ impl<StorageT: StorageIndex> Conflicts<StorageT> {
     {
         self.sr.len()
     }
+
+    /// Whether the conflicts fit the grammar: each token and each production that they name is one of it, and none
+    /// between a shift and a reduction is at the end token. The states aren't looked at. Takes time linear in the
+    /// conflicts, and no memory.
+    pub fn fit(&self, grm: &YaccGrammar<StorageT>) -> bool
+        ensures { IsTrue result ↔ ConflictsFit grm.now self.now }
+    {
+        all_reductions_fit(&self.rr, grm) && all_shifts_fit(&self.sr, grm)
+    }
+}
+
+// Whether the conflicts between two reductions fit the grammar.
+fn all_reductions_fit<StorageT: StorageIndex>(
+    conflicts: &[(
+        TIdx<StorageT>,
+        PIdx<StorageT>,
+        PIdx<StorageT>,
+        StIdx<StorageT>,
+    )],
+    grm: &YaccGrammar<StorageT>,
+) -> bool
+    ensures { IsTrue result ↔ All (λ x. ReductionsFit grm.now (reduce_reduce_of StorageT.index x)) conflicts.now }
+{
+    conflicts
+        .iter()
+        .all(|conflict| reductions_fit(*conflict, grm))
+}
+
+// Whether the conflict between two reductions fits the grammar.
+fn reductions_fit<StorageT: StorageIndex>(
+    conflict: (
+        TIdx<StorageT>,
+        PIdx<StorageT>,
+        PIdx<StorageT>,
+        StIdx<StorageT>,
+    ),
+    grm: &YaccGrammar<StorageT>,
+) -> bool
+    ensures { IsTrue result ↔ ReductionsFit grm.now (reduce_reduce_of StorageT.index conflict) }
+{
+    let (token, first, second, _) = conflict;
+    usize::from(token) < grm.tokens_len()
+        && usize::from(first) < grm.prods_len()
+        && usize::from(second) < grm.prods_len()
+}
+
+// Whether the conflicts between a shift and a reduction fit the grammar.
+fn all_shifts_fit<StorageT: StorageIndex>(
+    conflicts: &[(TIdx<StorageT>, PIdx<StorageT>, StIdx<StorageT>)],
+    grm: &YaccGrammar<StorageT>,
+) -> bool
+    ensures { IsTrue result ↔ All (λ x. ShiftFits grm.now (shift_reduce_of StorageT.index x)) conflicts.now }
+{
+    conflicts.iter().all(|conflict| shift_fits(*conflict, grm))
+}
+
+// Whether the conflict between a shift and a reduction fits the grammar.
+fn shift_fits<StorageT: StorageIndex>(
+    conflict: (TIdx<StorageT>, PIdx<StorageT>, StIdx<StorageT>),
+    grm: &YaccGrammar<StorageT>,
+) -> bool
+    ensures { IsTrue result ↔ ShiftFits grm.now (shift_reduce_of StorageT.index conflict) }
+{
+    let (token, prod, _) = conflict;
+    usize::from(token) < usize::from(grm.eof_token_idx()) && usize::from(prod) < grm.prods_len()
 }

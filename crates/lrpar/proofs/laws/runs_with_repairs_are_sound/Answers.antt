@@ -1,6 +1,6 @@
 use Rattle.lrpar.specs.Lexemes.{facts_of}
 use Rattle.lrpar.proofs.RepairRunLemmas.{accepts_where_repaired, lists_sound, stops_lie_apart}
-use Rattle.lrpar.proofs.StopStackLemmas.{stops_at_stacks}
+use Rattle.lrpar.proofs.StopStackLemmas.{stops_at_stacks, stops_by_failing}
 use Rattle.lrpar.proofs.laws.runs_with_repairs_are_sound.Goals as goal
 
 pub returns : goal.returns
@@ -11,4 +11,5 @@ returns g c =
       apart = λ r. stops_lie_apart facts (g.R.Recoverer.allows r);
       accepts = λ r. accepts_where_repaired facts (g.R.Recoverer.allows r);
       stacks = λ r. stops_at_stacks facts (g.R.Recoverer.allows r);
+      fails = λ r. stops_by_failing facts (g.R.Recoverer.allows r);
     }

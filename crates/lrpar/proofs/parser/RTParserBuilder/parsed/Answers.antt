@@ -1,5 +1,5 @@
 use Rattle.std.proofs.Common.{◌≡◌, ap, inr, refl}
-use Rattle.lrpar.proofs.ParseLemmas.{end_answer, error_is_parse, fault_is_parse, run_is_parse}
+use Rattle.lrpar.proofs.ParseLemmas.{error_is_parse, fault_is_parse, run_is_parse}
 use Rattle.lrpar.proofs.parser.RTParserBuilder.parsed.Goals as goal
 
 pub returns-in-Err : goal.returns-in-Err
@@ -9,35 +9,39 @@ returns-in-Err g c =
       parse = inr (
         c.in_ok-answers.answers.items,
         c.in_ok-answers.ensures.allowed,
-        error_is_parse _ _ _ _ c.in_ok-answers.answers.items c.in-Err.error _ lexed c.in_ok-one_error-in-Err.ensures refl,
+        error_is_parse _ _ _ _ _ _ c.in_ok-answers.answers.items c.in-Err.error _ lexed c.in_ok-one_error-in-Err.ensures refl,
       );
     }
 
 pub returns-in-Some : goal.returns-in-Some
 returns-in-Some g c =
     let lexed = rw c.in-Ok.is at c.in_ok-error.ensures in
-    let grammar : c.self.inside.checked.now.grammar ≡ c.args.self.now.grammar = ap (λ v. v.grammar) c.self.view_is in
+    let grammar : c.self.inside.checked.now.grammar ≡ c.args.self.now.checked.grammar = ap (λ v. v.checked.grammar) c.self.view_is in
     record {
       parse = inr (
         c.in_ok-answers.answers.items,
         c.in_ok-answers.ensures.allowed,
-        fault_is_parse _ _ _ _ c.in_ok-answers.answers.items c.in-Ok.lexemes.items c.in-Some.fault lexed.0 lexed.1
+        fault_is_parse _ _ _ _ _ _ c.in_ok-answers.answers.items c.in-Ok.lexemes.items c.in-Some.fault lexed.0 lexed.1
             (rw (c.deref.ensures.value, c.grm.ensures, grammar) at c.in-Some.ensures),
       );
     }
 
+pub over-requires-clause-can : goal.over-requires-clause-can
+over-requires-clause-can g c =
+    let checked : c.self.inside.checked.now ≡ c.args.self.now.checked = ap (λ v. v.checked) c.self.view_is in
+    rw (c.new.ensures.build, c.new.ensures.checked, checked) c.requires.can
+
 pub returns : goal.returns
 returns g c =
     let lexed = rw c.in-Ok.is at c.in_ok-error.ensures in
-    let grammar : c.self.inside.checked.now.grammar ≡ c.args.self.now.grammar = ap (λ v. v.grammar) c.self.view_is in
-    let checked : c.self.inside.checked.now ≡ c.args.self.now = c.self.view_is in
-    let ends = rw (c.new.ensures.checked, c.new.ensures.build, c.deref-in-None.ensures.value, checked) at c.in_ok-end-in-None.ensures.ends in
+    let checked : c.self.inside.checked.now ≡ c.args.self.now.checked = ap (λ v. v.checked) c.self.view_is in
+    let recoverer : c.self.inside.recoverer ≡ c.args.self.now.recoverer = ap (λ v. v.recoverer) c.self.view_is in
+    let of_run = rw (c.new.ensures.checked, c.new.ensures.build, c.deref-in-None.ensures.value, checked, recoverer, c.shift_count.ensures.count) at c.in_ok-over-in-None.ensures in
     record {
       parse = inr (
         c.in_ok-answers.answers.items,
         c.in_ok-answers.ensures.allowed,
-        run_is_parse _ _ _ _ c.in_ok-answers.answers.items c.in-Ok.lexemes.items c.in_ok-answered-in-None.field-0 lexed.0 lexed.1
-            (rw (c.deref.ensures.value, c.grm.ensures, grammar) at c.in-None.ensures)
-            (end_answer _ _ _ _ _ _ g.StorageT.StorageIndex.index c.in_ok-end-in-None.end _ ends c.in_ok-answered-in-None.ensures),
+        run_is_parse _ _ _ _ _ _ c.in_ok-answers.answers.items c.in-Ok.lexemes.items c.in_ok-over-in-None.field-0 lexed.0 lexed.1
+            (rw (c.deref.ensures.value, c.grm.ensures, ap (λ d. d.grammar) checked) at c.in-None.ensures) of_run,
       );
     }

@@ -5,5 +5,5 @@ use Rattle.lrpar.proofs.parser.RTParserBuilder.takes_all.Given as goal
 -- the productions so far are taken
 abbrev pub invariant-loop-number : goal.invariant-loop-number
 invariant-loop-number g l =
-    let grammar = l.self.grammar in
+    let grammar = l.self.checked.grammar in
     (p : ℕ) → p < l.number → g.A.Actions.taken l.actions p (rule_of grammar p) (symbols_of grammar p)

@@ -1,0 +1,16 @@
+use Rattle.lrpar.specs.Lexemes.{facts_of}
+use Rattle.lrpar.specs.PlainSteps.{plain_sequences}
+use Rattle.lrpar.proofs.CourseLemmas.{listed_ok}
+use Rattle.lrpar.proofs.course.Course.listed.Goals as goal
+
+pub listed-requires-clause-valid : goal.listed-requires-clause-valid
+listed-requires-clause-valid g c = rw (c.new.ensures.checked, c.new.ensures.lexemes) c.requires.valid
+
+pub returns : goal.returns
+returns g c =
+    let index = g.StorageT.StorageIndex.index in
+    let facts = λ (x : g.row.LexerTypesT-LexemeT.Denot). facts_of index (g.LexerTypesT.LexemeT.Lexeme.parts x) in
+    let self = c.args.self.now in
+    let allowed = rw (c.new-point.ensures, c.states.ensures) at c.in_ok-answer.ensures.allowed in
+    let those = rw (c.new.ensures.checked, c.new.ensures.lexemes, c.new.ensures.shifts, c.states-2.ensures) at c.listed.ensures.listed in
+    record { listed = listed_ok facts (g.R.Recoverer.allows self.recoverer.now) self.shifts self.run.checked.now.grammar self.run.checked.now.table self.lexemes.now index c.args.stack.now.states c.args.place (plain_sequences index c.in_ok-answer.answer.items) c.listed.result allowed those }

@@ -1,0 +1,144 @@
+//! The course of a run with repairs: where it stops, the recoverer is asked once, and the run goes on from what the first
+//! sequence gives that works.
+ghost use Rattle.std.specs.Prelude.{◌<◌, ◌≤◌, IfOk, length, map};
+ghost use Rattle.lrpar_grammar.specs.Sentence.{IsValidList};
+ghost use Rattle.lrpar_check.specs.Stack.{IsStack};
+ghost use Rattle.lrpar.specs.End.{IsOfTree};
+ghost use Rattle.lrpar.specs.Lexemes.{facts_of};
+ghost use Rattle.lrpar.specs.Moves.{StartsRise};
+ghost use Rattle.lrpar.specs.PlainSteps.{plain_sequences};
+ghost use Rattle.lrpar.specs.RepairAnswer.{IsRepairAnswer, IsRepairErrorOf};
+ghost use Rattle.lrpar.specs.RepairRun.{IsListedAt};
+ghost use Rattle.lrpar.specs.RunAnswer.{HasValue};
+
+use crate::build::Build;
+use crate::errors::{LexParseError, ParseError};
+use crate::lex_api::{Lexeme, LexerTypes};
+use crate::repair::{Recoverer, RecoveryPoint, RepairStep};
+use crate::run::{Run, end_lexeme};
+use crate::stack::Stack;
+use crate::trial::Trial;
+use lrpar_grammar::grammar::YaccGrammar;
+use lrpar_grammar::span::StorageIndex;
+use std::alloc::{AllocError, Global};
+
+/// What the course of a run is made by: what goes on and what is built, the lexemes, the recoverer, and how many lexemes
+/// have to follow a repair.
+#[derive(Drop)]
+pub(crate) struct Course<
+    'a,
+    StorageT: StorageIndex,
+    LexerTypesT: LexerTypes<StorageT = StorageT>,
+    B,
+    R,
+> {
+    pub(crate) run: Run<'a, StorageT, LexerTypesT::LexemeT, B>,
+    pub(crate) lexemes: &'a [LexerTypesT::LexemeT],
+    pub(crate) recoverer: &'a R,
+    pub(crate) shifts: usize,
+}
+
+impl<
+    'a,
+    StorageT: StorageIndex,
+    LexerTypesT: LexerTypes<StorageT = StorageT>,
+    B: Build<StorageT, LexerTypesT::LexemeT>,
+    R: Recoverer<StorageT, LexerTypesT::LexemeT>,
+> Course<'a, StorageT, LexerTypesT, B, R> {
+    /// Runs from the first lexeme, to where the run accepts, or to a stop for which no sequence works. Each later stop lies so
+    /// many lexemes further as have to follow a repair, so it ends.
+    pub(crate) fn over(
+        &self,
+        alloc: Global,
+    ) -> Result<(Option<B::Entry>, Vec<LexParseError<StorageT, LexerTypesT>>), AllocError>
+        requires can { B.can_build self.now.run.build.now self.now.run.checked.now.grammar }
+        requires valid { IsValidList self.now.run.checked.now.grammar (map (λ x. facts_of StorageT.index (LexerTypesT.LexemeT.parts x)) self.now.lexemes.now) }
+        requires shifts { 0 < self.now.shifts }
+        ensures { IfOk result (IsRepairAnswer self.now.run.checked.now (λ x. facts_of StorageT.index (LexerTypesT.LexemeT.parts x))
+            (R.allows self.now.recoverer.now) self.now.shifts (λ answer. answer.1.items)
+            (HasValue (λ x. StorageT.index (LexerTypesT.LexemeT.parts x).token) self.now.run.checked.now.grammar
+            (IsOfTree (B.leaf self.now.run.build.now) (B.node self.now.run.build.now self.now.run.checked.now.grammar) (B.suits self.now.run.build.now) self.now.run.checked.now))
+            self.now.lexemes.now) }
+    {
+        starts_rise::<StorageT, LexerTypesT::LexemeT>(self.run.checked.grm(), self.lexemes);
+        // Past these the table has no entry, so that a path is a stack.
+        let stable = self.run.checked.stable();
+        let (_tokens, _rules) = (stable.tokens_len(), stable.rules_len());
+        let mut stack = Stack::new(alloc, stable.start_state())?;
+        let mut errors = Vec::new(alloc);
+        let mut place = 0;
+        'stops: loop {
+            let Some(stop) = self.run.far(alloc, self.lexemes, &mut stack, place)? else {
+                return Ok((Some(stack.into_entry()), errors));
+            };
+            let listed = self.listed(alloc, &stack, stop)?;
+            errors.push(self.error(alloc, &stack, stop, &listed)?)?;
+            let Some(first) = listed.first() else {
+                return Ok((None, errors));
+            };
+            place = self
+                .run
+                .replay(alloc, self.lexemes, &mut stack, stop, first)?;
+        }
+    }
+
+    // The sequences that work at the stop, of those that the recoverer hands in, which it is asked for once.
+    fn listed(
+        &self,
+        alloc: Global,
+        stack: &Stack<StorageT, B::Entry>,
+        place: usize,
+    ) -> Result<Vec<Vec<RepairStep<StorageT>>>, AllocError>
+        requires valid { IsValidList self.now.run.checked.now.grammar (map (λ x. facts_of StorageT.index (LexerTypesT.LexemeT.parts x)) self.now.lexemes.now) }
+        requires stack { IsStack self.now.run.checked.now.table stack.now.states }
+        requires within { place ≤ length self.now.lexemes.now }
+        ensures listed { IfOk result (λ listed. IsListedAt (λ x. facts_of StorageT.index (LexerTypesT.LexemeT.parts x))
+            (R.allows self.now.recoverer.now) self.now.shifts self.now.run.checked.now.grammar self.now.run.checked.now.table self.now.lexemes.now
+            (record { stack = stack.now.states; place = place }) (plain_sequences StorageT.index listed.items)) }
+    {
+        let point = RecoveryPoint::new(self.lexemes, place, stack.states());
+        let answer = self.recoverer.recover(alloc, &point)?;
+        Trial::new(self.run.checked, self.lexemes, self.shifts).listed(
+            alloc,
+            stack.states(),
+            place,
+            answer,
+        )
+    }
+
+    // The error of the stop, at which these sequences are listed.
+    fn error(
+        &self,
+        alloc: Global,
+        stack: &Stack<StorageT, B::Entry>,
+        place: usize,
+        listed: &[Vec<RepairStep<StorageT>>],
+    ) -> Result<LexParseError<StorageT, LexerTypesT>, AllocError>
+        requires some { 0 < length stack.now.states }
+        requires within { place ≤ length self.now.lexemes.now }
+        ensures error { IfOk result (IsRepairErrorOf (λ x. facts_of StorageT.index (LexerTypesT.LexemeT.parts x)) self.now.run.checked.now.grammar
+            self.now.lexemes.now (record { stop = record { stack = stack.now.states; place = place }; listed = plain_sequences StorageT.index listed.now })) }
+    {
+        let repairs = Trial::new(self.run.checked, self.lexemes, self.shifts).repairs(
+            alloc, place, listed,
+        )?;
+        let lexeme = match self.lexemes.get(place) {
+            Some(lexeme) => *lexeme,
+            None => end_lexeme(self.run.checked.grm().eof_token_idx(), self.lexemes),
+        };
+        Ok(LexParseError::ParseError(ParseError::new(stack.top(), lexeme, repairs)))
+    }
+}
+
+// The starts of the lexemes of a valid list don't decrease, and the end of the last one doesn't lie before its start.
+fn starts_rise<StorageT: StorageIndex, LexemeT: Lexeme<StorageT>>(
+    grm: &YaccGrammar<StorageT>,
+    lexemes: &[LexemeT],
+)
+    requires { IsValidList grm.now (map (λ x. facts_of StorageT.index (LexemeT.parts x)) lexemes.now) }
+    ensures { StartsRise (map (λ x. facts_of StorageT.index (LexemeT.parts x)) lexemes.now) }
+{
+    if let Some(last) = lexemes.last() {
+        let _start = last.span().start();
+    }
+}

@@ -1,0 +1,59 @@
+//! How far a run comes from a place, without repairs.
+ghost use Rattle.std.specs.Prelude.{◌≡◌, ◌<◌, ◌≤◌, ℕ, IfOk, IfSome, OnOk, length, map};
+ghost use Rattle.lrpar_grammar.specs.Sentence.{IsValidList};
+ghost use Rattle.lrpar.specs.Lexemes.{facts_of};
+ghost use Rattle.lrpar.specs.Mended.{start_at};
+ghost use Rattle.lrpar.specs.Moves.{GoesFar, RiseUpTo, StartsRise};
+ghost use Rattle.lrpar.specs.Standing.{IsUpright};
+
+use crate::build::Build;
+use crate::lex_api::Lexeme;
+use crate::run::Run;
+use crate::stack::Stack;
+use lrpar_grammar::span::StorageIndex;
+use lrpar_table::table::Action;
+use std::alloc::{AllocError, Global};
+
+impl<'a, StorageT: StorageIndex, LexemeT: Lexeme<StorageT>, B: Build<StorageT, LexemeT>> Run<
+    'a,
+    StorageT,
+    LexemeT,
+    B,
+> {
+    /// Goes on from the place as far as it can, and answers the place where it stops; none, where it accepts.
+    pub(crate) fn far(
+        &self,
+        alloc: Global,
+        lexemes: &[LexemeT],
+        stack: &mut Stack<StorageT, B::Entry>,
+        place: usize,
+    ) -> Result<Option<usize>, AllocError>
+        requires can { B.can_build self.now.build.now self.now.checked.now.grammar }
+        requires valid { IsValidList self.now.checked.now.grammar (map (λ x. facts_of StorageT.index (LexemeT.parts x)) lexemes.now) }
+        requires starts { StartsRise (map (λ x. facts_of StorageT.index (LexemeT.parts x)) lexemes.now) }
+        requires upright { IsUpright (B.suits self.now.build.now) self.now.checked.now.table stack.old }
+        requires rises { RiseUpTo (B.rises self.now.build.now) stack.old.entries (start_at (map (λ x. facts_of StorageT.index (LexemeT.parts x)) lexemes.now) place) }
+        requires within { place ≤ length lexemes.now }
+        ensures upright { OnOk result (IsUpright (B.suits self.now.build.now) self.now.checked.now.table stack.new) }
+        ensures rises { IfOk result (λ stop. IfSome stop (λ next. RiseUpTo (B.rises self.now.build.now) stack.new.entries
+            (start_at (map (λ x. facts_of StorageT.index (LexemeT.parts x)) lexemes.now) next))) }
+        ensures within { IfOk result (λ stop. IfSome stop (λ next. next ≤ length lexemes.now)) }
+        ensures far { IfOk result (λ stop. GoesFar (λ x. facts_of StorageT.index (LexemeT.parts x)) (B.leaf self.now.build.now)
+            (B.node self.now.build.now self.now.checked.now.grammar) (B.suits self.now.build.now) self.now.checked.now lexemes.now
+            stack.old place stop stack.new) }
+    {
+        // A checked table never sticks.
+        let _table = self.checked.stable();
+        for at in place..lexemes.len() {
+            if !self.take(alloc, stack, lexemes[at])? {
+                return Ok(Some(at));
+            }
+        }
+        let end = self.checked.grm().eof_token_idx();
+        match self.settle(alloc, stack, end)? {
+            Action::Accept => Ok(None),
+            Action::Error => Ok(Some(lexemes.len())),
+            Action::Reduce(_) | Action::Shift(_) => unreachable!(),
+        }
+    }
+}

@@ -1,0 +1,154 @@
+//! The replay of a sequence of repairs on the stacks of a run.
+ghost use Rattle.std.specs.Prelude.{◌≡◌, ◌≢◌, ◌<◌, ◌≤◌, ◌+◌, ℕ, length, List, IfOk, OnOk, [], ◌∷◌, map};
+ghost use Rattle.lrpar_grammar.specs.Grammar.{end_token};
+ghost use Rattle.lrpar_grammar.specs.Sentence.{IsValidList};
+ghost use Rattle.lrpar_check.specs.Path.{NeverSticks};
+ghost use Rattle.lrpar_check.specs.Reduction.{Feeds};
+ghost use Rattle.lrpar.specs.Lexemes.{facts_of, last_end};
+ghost use Rattle.lrpar.specs.Mended.{start_at};
+ghost use Rattle.lrpar.specs.Moves.{IsReplayed, RiseUpTo, StartsRise};
+ghost use Rattle.lrpar.specs.PlainSteps.{plain_step, plain_steps};
+ghost use Rattle.lrpar.specs.Sequences.{PlainStep, Replays, StepsTo};
+ghost use Rattle.lrpar.specs.Stacked.{Shifts};
+ghost use Rattle.lrpar.specs.Standing.{IsUpright};
+
+use crate::build::Build;
+use crate::lex_api::Lexeme;
+use crate::repair::RepairStep;
+use crate::run::Run;
+use crate::stack::Stack;
+use lrpar_grammar::span::StorageIndex;
+use std::alloc::{AllocError, Global};
+
+impl<'a, StorageT: StorageIndex, LexemeT: Lexeme<StorageT>, B: Build<StorageT, LexemeT>> Run<
+    'a,
+    StorageT,
+    LexemeT,
+    B,
+> {
+    /// Takes the steps in turn, from the place on, which can be done, and answers the place after them. An inserted lexeme is
+    /// faulty and empty where the next one starts.
+    pub(crate) fn replay(
+        &self,
+        alloc: Global,
+        lexemes: &[LexemeT],
+        stack: &mut Stack<StorageT, B::Entry>,
+        place: usize,
+        steps: &[RepairStep<StorageT>],
+    ) -> Result<usize, AllocError>
+        requires can { B.can_build self.now.build.now self.now.checked.now.grammar }
+        requires runs { NeverSticks self.now.checked.now.grammar self.now.checked.now.table }
+        requires valid { IsValidList self.now.checked.now.grammar (map (λ x. facts_of StorageT.index (LexemeT.parts x)) lexemes.now) }
+        requires starts { StartsRise (map (λ x. facts_of StorageT.index (LexemeT.parts x)) lexemes.now) }
+        requires upright { IsUpright (B.suits self.now.build.now) self.now.checked.now.table stack.old }
+        requires rises { RiseUpTo (B.rises self.now.build.now) stack.old.entries (start_at (map (λ x. facts_of StorageT.index (LexemeT.parts x)) lexemes.now) place) }
+        requires within { place ≤ length lexemes.now }
+        requires works { (prods after : List ℕ) × (j : ℕ) × Replays (λ x. StorageT.index (LexemeT.parts x).token) self.now.checked.now.grammar
+            self.now.checked.now.table lexemes.now stack.old.states place (plain_steps StorageT.index steps.now) prods after j }
+        ensures upright { OnOk result (IsUpright (B.suits self.now.build.now) self.now.checked.now.table stack.new) }
+        ensures rises { IfOk result (λ next. RiseUpTo (B.rises self.now.build.now) stack.new.entries
+            (start_at (map (λ x. facts_of StorageT.index (LexemeT.parts x)) lexemes.now) next)) }
+        ensures within { IfOk result (λ next. next ≤ length lexemes.now) }
+        ensures replayed { IfOk result (IsReplayed (λ x. facts_of StorageT.index (LexemeT.parts x)) (B.leaf self.now.build.now)
+            (B.node self.now.build.now self.now.checked.now.grammar) (B.suits self.now.build.now) self.now.checked.now lexemes.now
+            stack.old place (plain_steps StorageT.index steps.now) stack.new) }
+    {
+        let mut at = place;
+        for step in steps {
+            at = self.step(alloc, lexemes, stack, at, *step)?;
+        }
+        Ok(at)
+    }
+
+    // Takes the step from the place on, which can be done, and answers the place after it.
+    fn step(
+        &self,
+        alloc: Global,
+        lexemes: &[LexemeT],
+        stack: &mut Stack<StorageT, B::Entry>,
+        place: usize,
+        step: RepairStep<StorageT>,
+    ) -> Result<usize, AllocError>
+        requires can { B.can_build self.now.build.now self.now.checked.now.grammar }
+        requires runs { NeverSticks self.now.checked.now.grammar self.now.checked.now.table }
+        requires valid { IsValidList self.now.checked.now.grammar (map (λ x. facts_of StorageT.index (LexemeT.parts x)) lexemes.now) }
+        requires starts { StartsRise (map (λ x. facts_of StorageT.index (LexemeT.parts x)) lexemes.now) }
+        requires upright { IsUpright (B.suits self.now.build.now) self.now.checked.now.table stack.old }
+        requires rises { RiseUpTo (B.rises self.now.build.now) stack.old.entries (start_at (map (λ x. facts_of StorageT.index (LexemeT.parts x)) lexemes.now) place) }
+        requires within { place ≤ length lexemes.now }
+        requires works { (prods next : List ℕ) × (j : ℕ) × StepsTo (λ x. StorageT.index (LexemeT.parts x).token) self.now.checked.now.grammar
+            self.now.checked.now.table lexemes.now stack.old.states place (plain_step StorageT.index step) prods next j }
+        ensures upright { OnOk result (IsUpright (B.suits self.now.build.now) self.now.checked.now.table stack.new) }
+        ensures rises { IfOk result (λ next. RiseUpTo (B.rises self.now.build.now) stack.new.entries
+            (start_at (map (λ x. facts_of StorageT.index (LexemeT.parts x)) lexemes.now) next)) }
+        ensures within { IfOk result (λ next. next ≤ length lexemes.now) }
+        ensures replayed { IfOk result (IsReplayed (λ x. facts_of StorageT.index (LexemeT.parts x)) (B.leaf self.now.build.now)
+            (B.node self.now.build.now self.now.checked.now.grammar) (B.suits self.now.build.now) self.now.checked.now lexemes.now
+            stack.old place (plain_step StorageT.index step ∷ []) stack.new) }
+    {
+        match step {
+            RepairStep::Insert(token) => {
+                let lexeme = LexemeT::new_faulty(token.0, start_of(lexemes, place), 0);
+                self.feed(alloc, stack, lexeme)?;
+                Ok(place)
+            }
+            RepairStep::Delete => Ok(place + 1),
+            RepairStep::Shift => {
+                self.feed(alloc, stack, lexemes[place])?;
+                Ok(place + 1)
+            }
+        }
+    }
+
+    // Shifts the lexeme, whose token can be fed.
+    fn feed(
+        &self,
+        alloc: Global,
+        stack: &mut Stack<StorageT, B::Entry>,
+        lexeme: LexemeT,
+    ) -> Result<(), AllocError>
+        requires can { B.can_build self.now.build.now self.now.checked.now.grammar }
+        requires runs { NeverSticks self.now.checked.now.grammar self.now.checked.now.table }
+        requires token { StorageT.index (LexemeT.parts lexeme).token < end_token self.now.checked.now.grammar }
+        requires upright { IsUpright (B.suits self.now.build.now) self.now.checked.now.table stack.old }
+        requires rises { (start : ℕ) × B.rises self.now.build.now stack.old.entries start }
+        requires works { (prods next : List ℕ) × Feeds self.now.checked.now.grammar self.now.checked.now.table
+            (StorageT.index (LexemeT.parts lexeme).token) stack.old.states prods next }
+        ensures upright { OnOk result (IsUpright (B.suits self.now.build.now) self.now.checked.now.table stack.new) }
+        ensures shifts { OnOk result (Shifts (B.leaf self.now.build.now)
+            (B.node self.now.build.now self.now.checked.now.grammar) (B.suits self.now.build.now) self.now.checked.now
+            (StorageT.index (LexemeT.parts lexeme).token) lexeme stack.old stack.new) }
+    {
+        // A checked table has the grammar's tokens.
+        let _table = self.checked.stable();
+        if !self.take(alloc, stack, lexeme)? {
+            unreachable!()
+        }
+        Ok(())
+    }
+}
+
+/// Where the lexeme at the place starts; past the last one, where that ends.
+pub(crate) fn start_of<StorageT: StorageIndex, LexemeT: Lexeme<StorageT>>(
+    lexemes: &[LexemeT],
+    place: usize,
+) -> usize
+    ensures { result ≡ start_at (map (λ x. facts_of StorageT.index (LexemeT.parts x)) lexemes.now) place }
+{
+    match lexemes.get(place) {
+        Some(lexeme) => lexeme.span().start(),
+        None => end_of::<StorageT, LexemeT>(lexemes),
+    }
+}
+
+/// Where the last lexeme ends; 0 where there is none.
+pub(crate) fn end_of<StorageT: StorageIndex, LexemeT: Lexeme<StorageT>>(
+    lexemes: &[LexemeT],
+) -> usize
+    ensures { result ≡ last_end (map (λ x. facts_of StorageT.index (LexemeT.parts x)) lexemes.now) }
+{
+    match lexemes.last() {
+        Some(lexeme) => lexeme.span().end(),
+        None => 0,
+    }
+}
