@@ -89,6 +89,12 @@ pub(crate) const LIST: Hand = Hand {
     ],
 };
 
+/// An `A`, and a token that no sentence has.
+pub(crate) const LETTER: Hand = Hand {
+    grammar: "%% S: 'A'; T: 'NL';",
+    states: &["0.0.2 2.0.2|0s1|1g2", "0.1.2|2r0|", "2.1.2|2a|"],
+};
+
 /// The checked table.
 pub(crate) fn hand_data(alloc: Global, hand: Hand) -> Result<ParserData<u32>, Fail> {
     let grm = YaccGrammar::new_with_storaget(alloc, hand.grammar)?;

@@ -11,7 +11,7 @@ use std::alloc::{AllocError, Global};
 use std::io::Write;
 
 /// A parser of the program.
-pub(crate) type Parser<'a> = RTParserBuilder<'a, u32, TokenTypes>;
+pub(crate) type Parser<'a> = RTParserBuilder<'a, u32, TokenTypes, FixedRecoverer<u32>>;
 
 /// A tree of the program.
 pub(crate) type Tree = Node<Token<u32>, u32>;
@@ -20,12 +20,19 @@ pub(crate) type Tree = Node<Token<u32>, u32>;
 pub(crate) type TextError = LexParseError<u32, TokenTypes>;
 
 /// The parser by this table, with these repairs; `shifts` lexemes have to follow a repair, where that is told.
-pub(crate) fn parser_by<'a>(
-    data: &'a ParserData<u32>,
-    _repairs: FixedRecoverer<u32>,
-    _shifts: Option<usize>,
-) -> Result<Parser<'a>, Fault> {
-    Ok(RTParserBuilder::new(data))
+pub(crate) fn parser_by(
+    data: &ParserData<u32>,
+    repairs: FixedRecoverer<u32>,
+    shifts: Option<usize>,
+) -> Result<Parser<'_>, Fault> {
+    let parser = RTParserBuilder::new(data).recoverer(repairs);
+    match shifts {
+        Some(count) => match parser.shifts(count) {
+            Ok(parser) => Ok(parser),
+            Err(_) => Err(Fault::ZeroShifts),
+        },
+        None => Ok(parser),
+    }
 }
 
 /// What messages print for the tokens of a grammar, in their order.
