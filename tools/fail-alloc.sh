@@ -1,8 +1,8 @@
 #!/usr/bin/env bash
 # Runs the real program with each of its calls for memory refused in turn, and with an argument that isn't UTF-8.
 #
-# Wants: where a call is refused, status 2, the one line `lrpar: out of memory` on standard error and nothing on
-# standard output, or else the whole tree as if no call had been refused. Prints the cases that failed, and one closing
+# Wants: where a call is refused, status 2, the one line `lrpar: out of memory` on standard error and a beginning of the
+# tree on standard output, or else the whole tree as if no call had been refused. Prints the cases that failed, and one closing
 # line. It stands outside the gate. It needs cc and glibc.
 set -u
 
@@ -53,12 +53,19 @@ wrote() {
     [[ $status -eq $1 ]] && cmp -s "$work/out" <(printf '%s' "$2") && cmp -s "$work/err" <(printf '%s' "$3")
 }
 
+# wrote_beginning STATUS OUT ERR: the same, but standard output may end early.
+wrote_beginning() {
+    local len
+    len=$(stat -c %s "$work/out")
+    [[ $status -eq $1 ]] && cmp -s "$work/out" <(printf '%s' "$2" | head -c "$len") && cmp -s "$work/err" <(printf '%s' "$3")
+}
+
 gives_tree() {
     wrote 0 "$tree" ''
 }
 
 gives_tree_or_no_memory() {
-    gives_tree || wrote 2 '' "$no_memory"
+    gives_tree || wrote_beginning 2 "$tree" "$no_memory"
 }
 
 # One line, which begins as the usage line does.

@@ -25,4 +25,5 @@ pub mod RepairWayLemmas
 pub mod SequenceTextLemmas
 pub mod TreeTextLemmas
 pub mod ErrorTextLemmas
+pub mod WriteLemmas
 pub mod CourseLemmas

@@ -22,6 +22,7 @@ mod sequence_text;
 mod shifts;
 mod stack;
 mod tree_text;
+mod tree_write;
 mod trial;
 mod values;
 

@@ -75,7 +75,9 @@ impl<LexemeT: Lexeme<StorageT>, StorageT: StorageIndex> Node<LexemeT, StorageT> 
 }
 
 // The trees of the node's symbols. A lexeme has none.
-fn children<LexemeT, StorageT>(node: &Node<LexemeT, StorageT>) -> &[Node<LexemeT, StorageT>]
+pub(crate) fn children<LexemeT, StorageT>(
+    node: &Node<LexemeT, StorageT>,
+) -> &[Node<LexemeT, StorageT>]
     ensures { result.now ≡ nodes_below node.now }
 {
     match node {
@@ -85,7 +87,7 @@ fn children<LexemeT, StorageT>(node: &Node<LexemeT, StorageT>) -> &[Node<LexemeT
 }
 
 // Whether the root of the tree fits.
-fn root_fits<LexemeT: Lexeme<StorageT>, StorageT: StorageIndex>(
+pub(crate) fn root_fits<LexemeT: Lexeme<StorageT>, StorageT: StorageIndex>(
     grm: &YaccGrammar<StorageT>,
     input: &str,
     node: &Node<LexemeT, StorageT>,
@@ -104,7 +106,7 @@ fn root_fits<LexemeT: Lexeme<StorageT>, StorageT: StorageIndex>(
 }
 
 // Adds the line of the root of a tree, at a level.
-fn push_line<LexemeT: Lexeme<StorageT>, StorageT: StorageIndex>(
+pub(crate) fn push_line<LexemeT: Lexeme<StorageT>, StorageT: StorageIndex>(
     out: &mut String,
     grm: &YaccGrammar<StorageT>,
     input: &str,

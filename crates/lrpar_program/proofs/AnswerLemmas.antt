@@ -5,8 +5,8 @@ use Rattle.std.proofs.lemmas.Str.{chars_past_char, IsUtf8-past_char, length-enco
 use Rattle.std.specs.Char.{encode_utf8}
 use Rattle.std.specs.Str.{IsUtf8, chars}
 use Rattle.lrpar_program.specs.SumAnswers.{answer_of, answers_from}
-use Rattle.lrpar_program.specs.declared.lexer.Token.{Token}
-use Rattle.lrpar_program.specs.declared.lexer.NoToken.{NoToken}
+use Rattle.lrpar_lexer.specs.declared.token.Token.{Token}
+use Rattle.lrpar_lexer.specs.declared.token.NoToken.{NoToken}
 
 -- what follows a character is a text
 pub rest_is_text : (bs rest : List ℕ) (c : ℕ) → IsUtf8 bs → bs ≡ encode_utf8 c ++ rest → IsUtf8 rest

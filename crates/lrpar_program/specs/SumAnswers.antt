@@ -5,8 +5,8 @@ use Rattle.std.specs.Str.{chars}
 use Rattle.std.specs.Option.{option_map_or}
 use Rattle.lrpar_text.specs.Span.{Extent}
 use Rattle.lrpar_program.specs.Sums.{token_of}
-use Rattle.lrpar_program.specs.declared.lexer.Token.{Token}
-use Rattle.lrpar_program.specs.declared.lexer.NoToken.{NoToken}
+use Rattle.lrpar_lexer.specs.declared.token.Token.{Token}
+use Rattle.lrpar_lexer.specs.declared.token.NoToken.{NoToken}
 
 -- the lexeme of a token at a place
 abbrev pub lexeme_at : Extent → ℕ → Token ℕ

@@ -1,54 +1,29 @@
 //! The command `demo`: sums of names.
 use crate::fault::Fault;
-use crate::lexer::{SumLexer, SumTypes};
-use crate::run::Answer;
+use crate::lexer::SumLexer;
+use crate::parsing::{Parser, parser_by, print_tree, printed_names};
 use crate::sum::sum_data;
-use crate::text::{Node, push_error, push_tree};
-use lrpar::grammar::YaccGrammar;
-use lrpar::parser::ParseFault;
-use lrpar::{LexParseError, ParserData, RTParserBuilder};
-use std::alloc::{AllocError, Global};
+use lrpar::repair::FixedRecoverer;
+use std::alloc::Global;
+use std::io::Write;
 
-/// What a parse answers: the tree, if there is one, and the errors.
-type Parsed = (Option<Node>, Vec<LexParseError<u32, SumTypes>>);
-
-/// Parses the text as a sum. The answer has each error's line, and then the tree's lines, if there is a tree.
-pub(crate) fn demo(alloc: Global, text: &str) -> Result<Answer, Fault> {
+/// Parses the text as a sum, and prints its errors and its tree. Answers whether there is a tree, and no error.
+pub(crate) fn demo<O: Write>(alloc: Global, text: &str, out: &mut O) -> Result<bool, Fault> {
     let data = sum_data(alloc)?;
+    let names = printed_names(alloc, data.grm())?;
+    let none = FixedRecoverer::new(Vec::new(alloc));
+    let parser = parser_by(&data, none, None)?;
+    sum_of(alloc, &parser, &names, text, out)
+}
+
+// The same by a parser.
+fn sum_of<'a, O: Write>(
+    alloc: Global,
+    parser: &Parser<'_>,
+    names: &'a [&'a str],
+    text: &'a str,
+    out: &mut O,
+) -> Result<bool, Fault> {
     let lexer = SumLexer::new(alloc, text)?;
-    let (tree, errors) = parsed(alloc, &data, &lexer)?;
-    Ok(written(alloc, data.grm(), &lexer, tree, &errors)?)
-}
-
-// The tree of the lexer's text, if it has one, and the errors.
-fn parsed(
-    alloc: Global,
-    data: &ParserData<u32>,
-    lexer: &SumLexer<'_>,
-) -> Result<Parsed, ParseFault> {
-    RTParserBuilder::new(data).parse_map(
-        alloc,
-        lexer,
-        |lexeme| Node::Term { lexeme },
-        |ridx, nodes| Node::Nonterm { ridx, nodes },
-    )
-}
-
-// What is printed of a tree and errors.
-fn written(
-    alloc: Global,
-    grm: &YaccGrammar<u32>,
-    lexer: &SumLexer<'_>,
-    tree: Option<Node>,
-    errors: &[LexParseError<u32, SumTypes>],
-) -> Result<Answer, AllocError> {
-    let mut text = String::new(alloc);
-    for error in errors {
-        push_error(&mut text, lexer, error)?;
-    }
-    let has_errors = tree.is_none() || !errors.is_empty();
-    if let Some(tree) = tree {
-        push_tree(alloc, &mut text, grm, lexer, tree)?;
-    }
-    Ok(Answer { text, has_errors })
+    print_tree(alloc, parser, names, &lexer, text, out)
 }

@@ -4,9 +4,10 @@ ghost use Rattle.lrpar_program.specs.declared.fault.Fault.TheVariants.{Memory};
 
 use lrpar::check::CheckFault;
 use lrpar::grammar::GrammarFault;
-use lrpar::parser::ParseFault;
+use lrpar::parser::{ParseFault, PpFault};
 use lrpar::table::TableFault;
-use std::alloc::{AllocError, AllocFailed};
+use lrpar_lexer::RulesFault;
+use std::alloc::{AllocError, AllocFailed, Global};
 use std::io;
 use thiserror::Error;
 
@@ -14,8 +15,17 @@ use thiserror::Error;
 #[derive(Debug, Drop, Error)]
 pub(crate) enum Fault {
     /// No command has these words.
-    #[error("usage: lrpar demo TEXT | tree GRAMMAR LEXER INPUT [REPAIRS] | check GRAMMAR CAP | conflicts GRAMMAR | calc [REPAIRS]")]
+    #[error("usage: lrpar demo TEXT | tree [--shifts K] GRAMMAR LEXER INPUT [REPAIRS] | check GRAMMAR CAP | conflicts GRAMMAR | calc [--shifts K] [REPAIRS]")]
     Usage,
+    /// No lexeme would have to follow a repair.
+    #[error("lrpar: shifts must be at least 1")]
+    ZeroShifts,
+    /// The file at this path isn't there, can't be read, or isn't UTF-8.
+    #[error("lrpar: cannot read {0}")]
+    File(String),
+    /// Standard input can't be read, or isn't UTF-8.
+    #[error("lrpar: cannot read standard input")]
+    Input,
     /// Memory was wanting.
     #[error("lrpar: out of memory")]
     Memory,
@@ -28,6 +38,18 @@ pub(crate) enum Fault {
     /// A table isn't safe to parse by.
     #[error("lrpar: table: {0}")]
     Check(CheckFault),
+    /// A line of a lexer is no rule.
+    #[error("lrpar: lexer: line {0}")]
+    Lexer(usize),
+    /// A line of repairs is no sequence.
+    #[error("lrpar: repairs: line {0}")]
+    Repairs(usize),
+    /// An error lies outside of its text, which no error of a parse does.
+    #[error("lrpar: an error lies outside of the text")]
+    Misplaced,
+    /// An error names a token that isn't the grammar's, which no error of a parse does.
+    #[error("lrpar: {0}")]
+    Name(PpFault<u32>),
     /// A parse is refused for a lexeme, which the lexer of the program doesn't answer.
     #[error("lrpar: {0}")]
     Parse(ParseFault),
@@ -42,6 +64,25 @@ impl Fault {
         match error.kind() {
             io::ErrorKind::OutOfMemory => Fault::Memory,
             _ => Fault::Output,
+        }
+    }
+
+    // The fault of a file that can't be read.
+    pub(crate) fn of_file(alloc: Global, path: &str, error: &io::Error) -> Fault {
+        if error.kind() == io::ErrorKind::OutOfMemory {
+            return Fault::Memory;
+        }
+        match String::from_str(alloc, path) {
+            Ok(path) => Fault::File(path),
+            Err(_) => Fault::Memory,
+        }
+    }
+
+    // The fault of standard input that can't be read.
+    pub(crate) fn of_input(error: &io::Error) -> Fault {
+        match error.kind() {
+            io::ErrorKind::OutOfMemory => Fault::Memory,
+            _ => Fault::Input,
         }
     }
 
@@ -86,6 +127,24 @@ impl From<ParseFault> for Fault {
         match fault {
             ParseFault::Memory => Fault::Memory,
             refusal => Fault::Parse(refusal),
+        }
+    }
+}
+
+impl From<RulesFault> for Fault {
+    fn from(fault: RulesFault) -> Fault {
+        match fault {
+            RulesFault::Memory => Fault::Memory,
+            RulesFault::Line(number) => Fault::Lexer(number),
+        }
+    }
+}
+
+impl From<PpFault<u32>> for Fault {
+    fn from(fault: PpFault<u32>) -> Fault {
+        match fault {
+            PpFault::Memory => Fault::Memory,
+            refusal => Fault::Name(refusal),
         }
     }
 }

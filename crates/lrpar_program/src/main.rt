@@ -1,14 +1,23 @@
 //! The program `lrpar`.
 #![tactic(auto)]
 
+mod arguments;
+mod calc;
+mod check;
 mod demo;
 mod fault;
+mod files;
+#[cfg(test)]
+mod hand_tables;
 mod lexer;
+mod parsing;
+mod repairs;
 mod run;
 mod sum;
+mod tables;
 #[cfg(test)]
 mod tests;
-mod text;
+mod tree;
 
 use std::process::ExitCode;
 

@@ -1,6 +1,7 @@
 //! Sums of names: their grammar, the item sets of its states, and its table, which are written out here.
 use crate::fault::Fault;
 use crate::lexer::{ID, PLUS};
+use crate::tables::Built;
 use lrpar::ParserData;
 use lrpar::grammar::{GrammarParts, ProdPart, RulePart, TokenPart, YaccGrammar};
 use lrpar::span::{PIdx, RIdx, Span, StIdx, Symbol, TIdx};
@@ -24,13 +25,24 @@ type Item = (PIdx<u32>, usize, TIdx<u32>);
 
 /// The checked table of sums.
 pub(crate) fn sum_data(alloc: Global) -> Result<ParserData<u32>, Fault> {
-    let grm = YaccGrammar::from_parts(alloc, sum_parts(alloc)?)?;
-    let sgraph = StateGraph::from_rows(alloc, sum_items(alloc)?)?;
-    let stable = StateTable::from_rows(alloc, sum_rows(alloc)?)?;
+    let grm = sum_grammar(alloc)?;
+    let (sgraph, stable) = sum_built(alloc)?;
     match ParserData::new(alloc, grm, sgraph, stable, CAP) {
         Ok(data) => Ok(data),
         Err(refused) => Err(refused.fault().into()),
     }
+}
+
+/// The grammar of sums.
+pub(crate) fn sum_grammar(alloc: Global) -> Result<YaccGrammar<u32>, Fault> {
+    Ok(YaccGrammar::from_parts(alloc, sum_parts(alloc)?)?)
+}
+
+/// The item sets and the table of sums.
+pub(crate) fn sum_built(alloc: Global) -> Result<Built, Fault> {
+    let sgraph = StateGraph::from_rows(alloc, sum_items(alloc)?)?;
+    let stable = StateTable::from_rows(alloc, sum_rows(alloc)?)?;
+    Ok((sgraph, stable))
 }
 
 // The parts of `%% E: T '+' E | T; T: 'ID';`, with their places in it.

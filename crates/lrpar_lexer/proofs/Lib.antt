@@ -1,0 +1,3 @@
+pub mod WinnerLemmas
+pub mod LexingLemmas
+pub mod LexingLawLemmas

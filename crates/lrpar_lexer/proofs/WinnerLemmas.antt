@@ -1,0 +1,95 @@
+-- The winner of some patterns, and of one more.
+use Rattle.std.proofs.Common.{◌≡◌, ℕ, ◌+◌, ◌<◌, ◌≤◌, List, [], ◌∷◌, ◌++◌, map, length, take, get_or, set, Option, Some, None, nat_le, sym, subst, ◌∙◌, ap, refl, zero, suc, arith, slice_get}
+use Rattle.std.specs.List.{All}
+use Rattle.std.proofs.lemmas.Bool.{cond_both}
+use Rattle.std.proofs.lemmas.Bool.Decides.{nat_tests}
+use Rattle.std.proofs.lemmas.Grind.{common_steps}
+use Rattle.std.proofs.Math.Seq.{take-append_seam}
+use Rattle.std.proofs.lemmas.List.{map-set, set-get_or, get_or-map, take_more, take-append-le}
+use Rattle.std.proofs.lemmas.List.Elements.{All-push, All-same, All-weaker}
+use Rattle.std.proofs.lemmas.Option.{same_Some, slice_get-get_or, slice_get_within}
+use Rattle.regex.specs.Patterns.{Re, empty}
+use Rattle.lrpar_lexer.specs.declared.matching.Winner.{Winner}
+use Rattle.lrpar_lexer.specs.Matching.{HasNoMatch, IsMatch, IsMatchLen, IsWinner, MatchesAtMost, MatchesLess, Wins, better}
+
+-- one matcher is asked, and its pattern stays: all patterns stay
+pub patterns_stay : {A : Type 0} (pattern : A → Re) (all : List A) (i : ℕ) (old new : A) → i < length all → old ≡ get_or all i old
+    → pattern new ≡ pattern old → map pattern (set all i new) ≡ map pattern all
+patterns_stay pattern all i old new within read same =
+    let at : get_or (map pattern all) i (pattern old) ≡ pattern old = get_or-map pattern all i old _ within ∙ ap pattern (sym read) in
+    map-set pattern all i new ∙ ap (set (map pattern all) i) (same ∙ sym at) ∙ set-get_or (map pattern all) i _
+
+-- an item of a list is at its place in a longer one
+get_earlier : (xs ys : List Re) (i : ℕ) (x : Re) → slice_get xs i ≡ Some x → slice_get (xs ++ ys) i ≡ Some x
+get_earlier [] ys i x is = absurd (cc)
+get_earlier (y ∷ xs) ys zero x is = is
+get_earlier (y ∷ xs) ys (suc i) x is = get_earlier xs ys i x is
+
+-- the last item
+get_last : (xs : List Re) (x : Re) → slice_get (xs ++ x ∷ []) (length xs) ≡ Some x
+get_last [] x = refl
+get_last (y ∷ xs) x = get_last xs x
+
+-- a pattern has one match there
+one_length : {rest : List ℕ} {pattern : Re} {m n : ℕ} → IsMatch rest pattern m → IsMatch rest pattern n → m ≡ n
+one_length {m = m} {n = n} one other =
+    let same : (0, m) ≡ (0, n) = same_Some (0, m) (0, n) (sym one.found ∙ other.found) in
+    ap (λ (s : ℕ × ℕ). s.1) same
+
+module _ (patterns : List Re) (rest : List ℕ) (pattern : Re) where
+  -- one more pattern that matches no more leaves the winner
+  still_wins : (i n : ℕ) → Wins patterns rest i n → MatchesAtMost rest n pattern → Wins (patterns ++ pattern ∷ []) rest i n
+  still_wins i n wins most =
+      let within : i < length patterns = slice_get_within patterns i wins.pattern wins.is in
+      let front : take i (patterns ++ pattern ∷ []) ≡ take i patterns = take-append-le i patterns (pattern ∷ []) (omega arith) in
+      record {
+        pattern = wins.pattern;
+        is = get_earlier patterns (pattern ∷ []) i wins.pattern wins.is;
+        matches = wins.matches;
+        longest = All-push (MatchesAtMost rest n) patterns pattern wins.longest most;
+        first = All-same (MatchesLess rest n) (take i (patterns ++ pattern ∷ [])) (take i patterns) front wins.first;
+      }
+
+  -- one more pattern that matches more than all before it wins
+  now_wins : (n : ℕ) → IsMatch rest pattern n → All (MatchesLess rest n) patterns → Wins (patterns ++ pattern ∷ []) rest (length patterns) n
+  now_wins n is_match less =
+      let front : take (length patterns) (patterns ++ pattern ∷ []) ≡ patterns = take-append_seam patterns (pattern ∷ []) in
+      record {
+        pattern = pattern;
+        is = get_last patterns pattern;
+        matches = is_match;
+        longest = All-push (MatchesAtMost rest n) patterns pattern (All-weaker (MatchesLess rest n) (MatchesAtMost rest n) (λ p. at_most p) patterns less)
+            (λ m other. same_len m other);
+        first = All-same (MatchesLess rest n) (take (length patterns) (patterns ++ pattern ∷ [])) patterns front less;
+      }
+    where
+      at_most : (p : Re) → MatchesLess rest n p → MatchesAtMost rest n p
+      at_most p less m is = let below : m < n = less m is in omega arith
+
+      same_len : (m : ℕ) → IsMatch rest pattern m → m ≤ n
+      same_len m other = let same : m ≡ n = one_length other is_match in omega arith
+
+  -- so the better of the two is the winner of one more pattern
+  pub better_wins : (best : Option Winner) (found : Option ℕ) → IsWinner patterns rest best → IsMatchLen rest pattern found
+      → IsWinner (patterns ++ pattern ∷ []) rest (better best (length patterns) found)
+  better_wins None None none not = All-push (HasNoMatch rest) patterns pattern none not
+  better_wins None (Some n) none is =
+      now_wins n is (All-weaker (HasNoMatch rest) (MatchesLess rest n) (λ p has m found. absurd (has m found)) patterns none)
+  better_wins (Some w) None wins not = still_wins w.rule w.len wins (λ m found. absurd (not m found))
+  better_wins (Some w) (Some n) wins is =
+      cond_both (nat_le n w.len) (Some w) (Some (record { rule = length patterns; len = n })) (IsWinner (patterns ++ pattern ∷ []) rest)
+      (λ less. still_wins w.rule w.len wins (λ m found. let same : m ≡ n = one_length found is in let most : n ≤ w.len = grind (arith, nat_tests) in omega arith))
+      (λ more. now_wins n is (All-weaker (MatchesAtMost rest w.len) (MatchesLess rest n) (λ p most m found. let at : m ≤ w.len = most m found in let above : w.len < n = grind (arith, nat_tests) in omega arith) patterns wins.longest))
+
+-- the same over a list of which the first patterns were looked at
+pub better_wins_at : (patterns : List Re) (rest : List ℕ) (i : ℕ) (best : Option Winner) (found : Option ℕ) → i < length patterns
+    → IsWinner (take i patterns) rest best → ((pattern : Re) → slice_get patterns i ≡ Some pattern → IsMatchLen rest pattern found)
+    → IsWinner (take (i + 1) patterns) rest (better best i found)
+better_wins_at patterns rest i best found within wins at =
+    let pattern : Re = get_or patterns i empty in
+    let more : take (i + 1) patterns ≡ take i patterns ++ pattern ∷ [] = take_more patterns i empty within in
+    let len : length (take i patterns) ≡ i = grind (arith, common_steps) in
+    let found_at : IsMatchLen rest pattern found = at pattern (slice_get-get_or patterns i empty within) in
+    subst (λ ps. IsWinner ps rest (better best i found)) (sym more)
+    (subst (λ k. IsWinner (take i patterns ++ pattern ∷ []) rest (better best k found)) len
+    (better_wins (take i patterns) rest pattern best found wins found_at))

@@ -1,0 +1,12 @@
+-- A law of lexers by rules.
+use Rattle.std.specs.Prelude.{◌≡◌, ℕ, List, Result}
+use Rattle.lrpar_lexer.specs.Rules.{Rule}
+use Rattle.lrpar_lexer.specs.Lexing.{Lexes}
+use Rattle.lrpar_lexer.specs.declared.token.Token.{Token}
+use Rattle.lrpar_lexer.specs.declared.token.NoToken.{NoToken}
+
+-- from a place of a text on there is one list of answers
+abbrev pub LexesOneWay : Type 0
+LexesOneWay =
+    (rules : List Rule) (text : List ℕ) (at : ℕ) (a b : List (Result (Token ℕ) NoToken))
+    → Lexes rules text at a → Lexes rules text at b → a ≡ b

@@ -1,0 +1,5 @@
+pub mod Matching
+pub mod Matchers
+pub mod Rules
+pub mod Lexing
+pub mod LexingLaws

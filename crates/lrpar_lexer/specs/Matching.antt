@@ -1,0 +1,50 @@
+-- Which of several patterns wins at the beginning of a text. What a pattern finds is what `regex` finds.
+use Rattle.std.specs.Prelude.{◌≡◌, ℕ, ◌<◌, ◌≤◌, List, Option, Some, None, if◌then◌else◌, nat_le, option_map, MatchOption, take, slice_get}
+use Rattle.std.specs.List.{All}
+use Rattle.std.specs.Str.{IsCharBoundary}
+use Rattle.regex.specs.Patterns.{Re, find_str, span}
+use Rattle.lrpar_lexer.specs.declared.matching.Winner.{Winner}
+
+-- what the pattern finds in `rest` begins there, has n bytes, which aren't none, and ends between two characters
+pub record IsMatch (rest : List ℕ) (pattern : Re) (n : ℕ) : Type 0 where
+  pub found : option_map span (find_str pattern rest 0) ≡ Some (0, n)
+  pub some : 0 < n
+  pub boundary : IsCharBoundary rest n
+
+-- the pattern has no such match
+abbrev pub HasNoMatch : List ℕ → Re → Type 0
+HasNoMatch rest pattern = (n : ℕ) → ¬ (IsMatch rest pattern n)
+
+-- how many bytes the pattern matches at the beginning of `rest`, if it does
+abbrev pub IsMatchLen : List ℕ → Re → Option ℕ → Type 0
+IsMatchLen rest pattern found = MatchOption found (HasNoMatch rest pattern) (IsMatch rest pattern)
+
+-- the pattern's match has at most so many bytes, or there is none
+abbrev pub MatchesAtMost : List ℕ → ℕ → Re → Type 0
+MatchesAtMost rest most pattern = (n : ℕ) → IsMatch rest pattern n → n ≤ most
+
+-- the pattern's match has fewer bytes, or there is none
+abbrev pub MatchesLess : List ℕ → ℕ → Re → Type 0
+MatchesLess rest bound pattern = (n : ℕ) → IsMatch rest pattern n → n < bound
+
+-- pattern i wins with n bytes: the longest match, and the first of that length
+pub record Wins (patterns : List Re) (rest : List ℕ) (i : ℕ) (n : ℕ) : Type 0 where
+  pub pattern : Re
+  pub is : slice_get patterns i ≡ Some pattern
+  pub matches : IsMatch rest pattern n
+  pub longest : All (MatchesAtMost rest n) patterns
+  pub first : All (MatchesLess rest n) (take i patterns)
+
+-- none of the patterns matches
+abbrev pub NoneMatches : List Re → List ℕ → Type 0
+NoneMatches patterns rest = All (HasNoMatch rest) patterns
+
+-- the winner of the patterns, if one matches
+abbrev pub IsWinner : List Re → List ℕ → Option Winner → Type 0
+IsWinner patterns rest winner = MatchOption winner (NoneMatches patterns rest) (λ w. Wins patterns rest w.rule w.len)
+
+-- the better of two winners: pattern i with its match only where that is longer
+abbrev pub better : Option Winner → ℕ → Option ℕ → Option Winner
+better best i None = best
+better None i (Some n) = Some (record { rule = i; len = n })
+better (Some w) i (Some n) = if nat_le n w.len then Some w else Some (record { rule = i; len = n })

@@ -1,0 +1,15 @@
+//! The lexer of the program: rules that are patterns, and the lexemes that they give.
+#![tactic(auto)]
+
+pub mod laws;
+mod lexer;
+mod lexing;
+mod matching;
+mod rule;
+mod rules;
+mod token;
+
+pub use lexer::RuleLexer;
+pub use rule::LexRule;
+pub use rules::{RulesFault, rules_of};
+pub use token::{NoToken, Token, TokenTypes};

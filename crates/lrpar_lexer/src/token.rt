@@ -1,0 +1,124 @@
+//! Lexemes, and the error where no rule matches.
+ghost use Rattle.std.specs.Prelude.{◌≡◌, ◌+◌, ◌≤◌};
+ghost use Rattle.lrpar_lexer.specs.Lexing.{lexeme_of, nothing_at};
+
+use lrpar::span::{Span, StorageIndex};
+use lrpar::{LexError, Lexeme, LexerTypes};
+use std::error::Error;
+use std::fmt;
+
+/// A lexeme: its token, where it lies, and whether a repair made it.
+#[derive(Clone, Copy, Debug, PartialEq, Eq, Hash)]
+pub struct Token<StorageT> {
+    number: StorageT,
+    span: Span,
+    is_faulty: bool,
+}
+
+impl Token<u32> {
+    // The lexeme of `len` bytes from byte `at` on.
+    pub(crate) fn read(number: u32, at: usize, len: usize) -> Token<u32>
+        requires fits { at + len ≤ usize.MAX }
+        ensures { result ≡ lexeme_of number at len }
+    {
+        Token {
+            number,
+            span: Span::new(at, at + len),
+            is_faulty: false,
+        }
+    }
+}
+
+impl<StorageT: StorageIndex> fmt::Display for Token<StorageT> {
+    fn fmt<W: fmt::Write>(&self, f: &mut fmt::Formatter<W>) -> fmt::Result {
+        let number = self.number.to_index();
+        let start = self.span.start();
+        let end = self.span.end();
+        write!(f, "token {number} at {start}..{end}")
+    }
+}
+
+impl<StorageT: StorageIndex> Lexeme<StorageT> for Token<StorageT> {
+    ghost parts = { λ x. record { token = x.number; span = x.span; faulty = x.is_faulty } };
+
+    fn new(tok_id: StorageT, start: usize, len: usize) -> Self {
+        Token {
+            number: tok_id,
+            span: Span::new(start, start + len),
+            is_faulty: false,
+        }
+    }
+
+    fn new_faulty(tok_id: StorageT, start: usize, len: usize) -> Self {
+        Token {
+            number: tok_id,
+            span: Span::new(start, start + len),
+            is_faulty: true,
+        }
+    }
+
+    fn tok_id(&self) -> StorageT {
+        self.number
+    }
+
+    fn span(&self) -> Span {
+        self.span
+    }
+
+    fn faulty(&self) -> bool {
+        self.is_faulty
+    }
+}
+
+/// A place where no token fits.
+#[derive(Debug, Drop)]
+pub struct NoToken {
+    span: Span,
+}
+
+impl NoToken {
+    /// The error of `span`.
+    pub fn new(span: Span) -> NoToken
+        ensures { result ≡ record { span = span } }
+    {
+        NoToken { span }
+    }
+
+    // The empty place at a byte.
+    pub(crate) fn at(byte: usize) -> NoToken
+        ensures { result ≡ nothing_at byte }
+    {
+        NoToken {
+            span: Span::new(byte, byte),
+        }
+    }
+}
+
+impl fmt::Display for NoToken {
+    fn fmt<W: fmt::Write>(&self, f: &mut fmt::Formatter<W>) -> fmt::Result {
+        let start = self.span.start();
+        write!(f, "no token fits at byte {start}")
+    }
+}
+
+impl Error for NoToken {}
+
+impl LexError for NoToken {
+    ghost place = { λ e. e.span };
+
+    fn span(&self) -> Span {
+        self.span
+    }
+}
+
+/// The types of lexers with these lexemes and errors.
+#[derive(Clone, Debug, Drop)]
+pub struct TokenTypes;
+
+impl LexerTypes for TokenTypes {
+    type LexemeT = Token<u32>;
+
+    type StorageT = u32;
+
+    type LexErrorT = NoToken;
+}

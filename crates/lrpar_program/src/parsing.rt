@@ -1,0 +1,144 @@
+//! Parses of texts by rules, and what is printed of them.
+ghost use Rattle.std.specs.Prelude.{◌≡◌};
+
+use crate::fault::Fault;
+use lrpar::grammar::YaccGrammar;
+use lrpar::repair::FixedRecoverer;
+use lrpar::span::TIdx;
+use lrpar::{LexParseError, Node, NonStreamingLexer, ParserData, RTParserBuilder};
+use lrpar_lexer::{Token, TokenTypes};
+use std::alloc::{AllocError, Global};
+use std::io::Write;
+
+/// A parser of the program.
+pub(crate) type Parser<'a> = RTParserBuilder<'a, u32, TokenTypes, FixedRecoverer<u32>>;
+
+/// A tree of the program.
+pub(crate) type Tree = Node<Token<u32>, u32>;
+
+/// An error of a parse.
+pub(crate) type TextError = LexParseError<u32, TokenTypes>;
+
+/// The parser by this table, with these repairs; `shifts` lexemes have to follow a repair, where that is told.
+pub(crate) fn parser_by(
+    data: &ParserData<u32>,
+    repairs: FixedRecoverer<u32>,
+    shifts: Option<usize>,
+) -> Result<Parser<'_>, Fault> {
+    let parser = RTParserBuilder::new(data).recoverer(repairs);
+    match shifts {
+        Some(count) => match parser.shifts(count) {
+            Ok(parser) => Ok(parser),
+            Err(_) => Err(Fault::ZeroShifts),
+        },
+        None => Ok(parser),
+    }
+}
+
+/// What messages print for the tokens of a grammar, in their order.
+pub(crate) fn printed_names(
+    alloc: Global,
+    grm: &YaccGrammar<u32>,
+) -> Result<Vec<&str>, AllocError> {
+    let mut names = Vec::new(alloc);
+    for token in grm.iter_tidxs() {
+        names.push(printed_name(grm, token))?;
+    }
+    Ok(names)
+}
+
+// What messages print for a token. The end token has no text.
+fn printed_name(grm: &YaccGrammar<u32>, token: TIdx<u32>) -> &str {
+    if usize::from(token) < grm.tokens_len() {
+        grm.token_epp(token).unwrap_or("")
+    } else {
+        ""
+    }
+}
+
+/// Parses the lexer's text to its tree, and prints each error's text and a line feed, and then the tree's text, if there is a
+/// tree. Answers whether there is one, and no error.
+pub(crate) fn print_tree<'a, L: NonStreamingLexer<'a, TokenTypes>, O: Write>(
+    alloc: Global,
+    parser: &Parser<'_>,
+    names: &'a [&'a str],
+    lexer: &L,
+    input: &str,
+    out: &mut O,
+) -> Result<bool, Fault>
+    requires { L.text lexer.now ≡ input.now }
+{
+    let (tree, errors) = parser.parse_generictree(alloc, lexer)?;
+    print_errors(alloc, names, lexer, input, &errors, out)?;
+    match tree {
+        Some(tree) => {
+            print_node(alloc, parser.grammar(), input, &tree, out)?;
+            Ok(errors.is_empty())
+        }
+        None => Ok(false),
+    }
+}
+
+/// Prints each error's text and a line feed.
+pub(crate) fn print_errors<'a, L: NonStreamingLexer<'a, TokenTypes>, O: Write>(
+    alloc: Global,
+    names: &'a [&'a str],
+    lexer: &L,
+    input: &str,
+    errors: &[TextError],
+    out: &mut O,
+) -> Result<(), Fault>
+    requires { L.text lexer.now ≡ input.now }
+{
+    for error in errors {
+        let text = error_text(alloc, names, lexer, input, error)?;
+        print_line(out, text.as_str())?;
+    }
+    Ok(())
+}
+
+/// Prints the text and a line feed.
+pub(crate) fn print_line<O: Write>(out: &mut O, text: &str) -> Result<(), Fault> {
+    match writeln!(out, "{text}") {
+        Ok(()) => Ok(()),
+        Err(error) => Err(Fault::of_write(&error)),
+    }
+}
+
+// The text of an error.
+fn error_text<'a, L: NonStreamingLexer<'a, TokenTypes>>(
+    alloc: Global,
+    names: &'a [&'a str],
+    lexer: &L,
+    input: &str,
+    error: &TextError,
+) -> Result<String, Fault>
+    requires { L.text lexer.now ≡ input.now }
+{
+    if !error.fits(input) {
+        return Err(Fault::Misplaced);
+    }
+    Ok(error.pp(alloc, lexer, |token| name_at(names, token))?)
+}
+
+// The name of a token, if it has one.
+fn name_at<'a>(names: &'a [&'a str], token: TIdx<u32>) -> Option<&'a str> {
+    match names.get(usize::from(token)) {
+        Some(name) => Some(*name),
+        None => None,
+    }
+}
+
+// Prints the text of a tree.
+fn print_node<O: Write>(
+    alloc: Global,
+    grm: &YaccGrammar<u32>,
+    input: &str,
+    tree: &Tree,
+    out: &mut O,
+) -> Result<(), Fault> {
+    match tree.write(alloc, grm, input, out) {
+        Ok(()) => Ok(()),
+        Err(error) => Err(Fault::of_write(&error)),
+    }
+}
