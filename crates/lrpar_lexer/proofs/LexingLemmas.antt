@@ -49,11 +49,10 @@ patterns_same : (rules : List LexRule) → map pattern_of rules ≡ map (λ (r :
 patterns_same [] = refl
 patterns_same (rule ∷ rules) = ap (λ ps. pattern_of rule ∷ ps) (patterns_same rules)
 
--- what is found for the patterns at hand is found for the rules
-pub winner_of_rules : (patterns : List Re) (rules : List LexRule) (text rest : List ℕ) (at : ℕ) (winner : Option Winner)
-    → patterns ≡ map pattern_of rules → rest ≡ drop at text → IsWinner patterns rest winner → IsWinner (map pattern_of rules) (drop at text) winner
-winner_of_rules patterns rules text rest at winner same is wins =
-    subst (λ ps. IsWinner ps (drop at text) winner) same (subst (λ r. IsWinner patterns r winner) is wins)
+-- what wins in the rest of a text
+pub winner_of_rest : (patterns : List Re) (text rest : List ℕ) (at : ℕ) (winner : Option Winner) → rest ≡ drop at text
+    → IsWinner patterns rest winner → IsWinner patterns (drop at text) winner
+winner_of_rest patterns text rest at winner is wins = subst (λ r. IsWinner patterns r winner) is wins
 
 module _ (rules : List LexRule) (text : List ℕ) (at : ℕ) where
   -- a rule that wins is one of the rules

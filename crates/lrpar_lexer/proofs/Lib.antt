@@ -1,3 +1,4 @@
 pub mod WinnerLemmas
 pub mod LexingLemmas
 pub mod LexingLawLemmas
+pub mod AnchoredLemmas

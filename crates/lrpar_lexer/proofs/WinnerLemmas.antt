@@ -1,5 +1,5 @@
 -- The winner of some patterns, and of one more.
-use Rattle.std.proofs.Common.{◌≡◌, ℕ, ◌+◌, ◌<◌, ◌≤◌, List, [], ◌∷◌, ◌++◌, map, length, take, get_or, set, Option, Some, None, nat_le, sym, subst, ◌∙◌, ap, refl, zero, suc, arith, slice_get}
+use Rattle.std.proofs.Common.{◌≡◌, ℕ, ◌+◌, ◌<◌, ◌≤◌, List, [], ◌∷◌, ◌++◌, map, length, take, get_or, set, Option, Some, None, option_map, ⊎_elim, nat_le, sym, subst, ◌∙◌, ap, refl, zero, suc, arith, slice_get}
 use Rattle.std.specs.List.{All}
 use Rattle.std.proofs.lemmas.Bool.{cond_both}
 use Rattle.std.proofs.lemmas.Bool.Decides.{nat_tests}
@@ -7,17 +7,22 @@ use Rattle.std.proofs.lemmas.Grind.{common_steps}
 use Rattle.std.proofs.Math.Seq.{take-append_seam}
 use Rattle.std.proofs.lemmas.List.{map-set, set-get_or, get_or-map, take_more, take-append-le}
 use Rattle.std.proofs.lemmas.List.Elements.{All-push, All-same, All-weaker}
-use Rattle.std.proofs.lemmas.Option.{same_Some, slice_get-get_or, slice_get_within}
+use Rattle.std.proofs.lemmas.Option.{none-some, same_Some, slice_get-get_or, slice_get-map, slice_get_within}
 use Rattle.regex.specs.Patterns.{Re, empty}
+use Rattle.regex_hir.proofs.OptionLemmas.{option_cases}
+use Rattle.regex_meta.specs.declared.program.Program.{Program}
 use Rattle.lrpar_lexer.specs.declared.matching.Winner.{Winner}
+use Rattle.lrpar_lexer.specs.declared.rule.LexRule.{LexRule}
+use Rattle.lrpar_lexer.specs.Anchored.{FindsAtStart}
+use Rattle.lrpar_lexer.specs.Rules.{anchored_of, pattern_of}
 use Rattle.lrpar_lexer.specs.Matching.{HasNoMatch, IsMatch, IsMatchLen, IsWinner, MatchesAtMost, MatchesLess, Wins, better}
 
--- one matcher is asked, and its pattern stays: all patterns stay
-pub patterns_stay : {A : Type 0} (pattern : A → Re) (all : List A) (i : ℕ) (old new : A) → i < length all → old ≡ get_or all i old
-    → pattern new ≡ pattern old → map pattern (set all i new) ≡ map pattern all
-patterns_stay pattern all i old new within read same =
-    let at : get_or (map pattern all) i (pattern old) ≡ pattern old = get_or-map pattern all i old _ within ∙ ap pattern (sym read) in
-    map-set pattern all i new ∙ ap (set (map pattern all) i) (same ∙ sym at) ∙ set-get_or (map pattern all) i _
+-- one of a list changes, and its value stays: all values stay
+pub values_stay : {A B : Type 0} (value : A → B) (all : List A) (i : ℕ) (old new : A) → i < length all → old ≡ get_or all i old
+    → value new ≡ value old → map value (set all i new) ≡ map value all
+values_stay value all i old new within read same =
+    let at : get_or (map value all) i (value old) ≡ value old = get_or-map value all i old _ within ∙ ap value (sym read) in
+    map-set value all i new ∙ ap (set (map value all) i) (same ∙ sym at) ∙ set-get_or (map value all) i _
 
 -- an item of a list is at its place in a longer one
 get_earlier : (xs ys : List Re) (i : ℕ) (x : Re) → slice_get xs i ≡ Some x → slice_get (xs ++ ys) i ≡ Some x
@@ -93,3 +98,17 @@ better_wins_at patterns rest i best found within wins at =
     subst (λ ps. IsWinner ps rest (better best i found)) (sym more)
     (subst (λ k. IsWinner (take i patterns ++ pattern ∷ []) rest (better best k found)) len
     (better_wins (take i patterns) rest pattern best found wins found_at))
+
+-- what is found by a rule's program is the match of its pattern
+pub match_of_rule : (rules : List LexRule) (programs : List Program) (rest : List ℕ) (i : ℕ) (found : Option ℕ) → programs ≡ map anchored_of rules
+    → ((program : Program) (pattern : Re) → slice_get programs i ≡ Some program → FindsAtStart program pattern → IsMatchLen rest pattern found)
+    → (pattern : Re) → slice_get (map pattern_of rules) i ≡ Some pattern → IsMatchLen rest pattern found
+match_of_rule rules programs rest i found same asks pattern at = ⊎_elim
+    (λ none. absurd (none-some pattern (sym (slice_get-map pattern_of rules i ∙ ap (option_map pattern_of) none) ∙ at)))
+    (λ (some : (r : LexRule) × (slice_get rules i ≡ Some r)).
+    let is : pattern_of some.0 ≡ pattern =
+    same_Some (pattern_of some.0) pattern (sym (slice_get-map pattern_of rules i ∙ ap (option_map pattern_of) some.1) ∙ at) in
+    let program : slice_get programs i ≡ Some (anchored_of some.0) =
+    ap (λ ps. slice_get ps i) same ∙ slice_get-map anchored_of rules i ∙ ap (option_map anchored_of) some.1 in
+    subst (λ re. IsMatchLen rest re found) is (asks (anchored_of some.0) (pattern_of some.0) program some.0.finds))
+    (option_cases (slice_get rules i))

@@ -1,4 +1,5 @@
 pub mod Matching
+pub mod Anchored
 pub mod Matchers
 pub mod Rules
 pub mod Lexing

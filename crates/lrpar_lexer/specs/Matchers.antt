@@ -1,9 +1,8 @@
 -- What clauses see of the searches.
 use Rattle.std.specs.Prelude.{List, map}
-use Rattle.regex.specs.Patterns.{Re}
-use Rattle.regex.specs.Strings.{matcher_pattern}
+use Rattle.regex_meta.specs.declared.program.Program.{Program}
 use Rattle.lrpar_lexer.specs.declared.matching.Matchers.{Matchers}
 
--- the patterns for which they search
-abbrev pub patterns_of : Matchers → List Re
-patterns_of m = map matcher_pattern m.matchers.items
+-- the programs that they run
+abbrev pub programs_of : Matchers → List Program
+programs_of m = map (λ s. s.program.now) m.searchers.items

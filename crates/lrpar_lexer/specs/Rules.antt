@@ -1,7 +1,8 @@
 -- The rules of a lexer.
-use Rattle.std.specs.Prelude.{ℕ, List, map, Option, option_map}
-use Rattle.regex.specs.Patterns.{Re}
-use Rattle.regex.specs.Strings.{regex_pattern}
+use Rattle.std.specs.Prelude.{◌≡◌, ℕ, List, map, Option, option_map}
+use Rattle.regex.specs.Patterns.{Re, default_config}
+use Rattle.regex.specs.Strings.{IsReadFromSource, regex_config, regex_pattern, regex_source}
+use Rattle.regex_meta.specs.declared.program.Program.{Program}
 use Rattle.lrpar_lexer.specs.declared.rule.LexRule.{LexRule}
 
 -- the pattern of a rule, and the token of what it matches: none where that is skipped
@@ -12,9 +13,22 @@ pub record Rule : Type 0 where
 abbrev pub pattern_of : LexRule → Re
 pattern_of rule = regex_pattern rule.regex
 
+-- what searches for the pattern at the beginning of a text
+abbrev pub anchored_of : LexRule → Program
+anchored_of rule = rule.anchored
+
 -- the same of a rule of the program
 abbrev pub plain_rule : LexRule → Rule
 plain_rule rule = record { pattern = pattern_of rule; token = option_map (λ token. token.0) rule.token }
 
 abbrev pub plain_rules : List LexRule → List Rule
 plain_rules rules = map plain_rule rules
+
+-- the rule's pattern is what `regex` reads in the text, by its default options
+pub record HasPattern (text : List ℕ) (rule : LexRule) : Type 0 where
+  pub source : regex_source rule.regex ≡ text
+  pub config : regex_config rule.regex ≡ default_config
+  pub read : IsReadFromSource rule.regex
+
+abbrev pub token_of : LexRule → Option ℕ
+token_of rule = option_map (λ token. token.0) rule.token

@@ -1,12 +1,14 @@
 //! Which of several patterns wins at a place of a text.
-ghost use Rattle.std.specs.Prelude.{◌≡◌, ◌<◌, IfOk, map, slice_get, vec_len};
+ghost use Rattle.std.specs.Prelude.{◌≡◌, ◌<◌, IfOk, List, map, slice_get, vec_len};
 ghost use Rattle.regex.specs.Patterns.{Re};
-ghost use Rattle.regex.specs.Strings.{matcher_pattern};
+ghost use Rattle.regex_meta.specs.declared.program.Program.{Program};
+ghost use Rattle.lrpar_lexer.specs.Anchored.{FindsAtStart};
 ghost use Rattle.lrpar_lexer.specs.Matching.{IsMatchLen, IsWinner, better};
-ghost use Rattle.lrpar_lexer.specs.Rules.{pattern_of};
+ghost use Rattle.lrpar_lexer.specs.Rules.{anchored_of, pattern_of};
+ghost use Rattle.lrpar_lexer.specs.declared.rule.LexRule.{LexRule};
 
 use crate::rule::LexRule;
-use regex::Matcher;
+use regex_meta::Searcher;
 use std::alloc::{AllocError, Global};
 
 /// What wins at a place: which of the rules, and how many bytes it takes.
@@ -19,30 +21,31 @@ pub(crate) struct Winner {
 /// Searches for several patterns at one place.
 #[derive(Drop)]
 pub(crate) struct Matchers<'r> {
-    matchers: Vec<Matcher<'r>>,
+    searchers: Vec<Searcher<'r>>,
 }
 
 impl<'r> Matchers<'r> {
-    ghost use Rattle.lrpar_lexer.specs.Matchers.{patterns_of};
+    ghost use Rattle.lrpar_lexer.specs.Matchers.{programs_of};
 
     // The searches for the patterns of the rules.
     pub(crate) fn new(alloc: Global, rules: &'r [LexRule]) -> Result<Matchers<'r>, AllocError>
-        ensures { IfOk result (λ matchers. patterns_of matchers ≡ map pattern_of rules.now) }
+        ensures { IfOk result (λ matchers. programs_of matchers ≡ map anchored_of rules.now) }
     {
-        let mut matchers = Vec::with_capacity(alloc, rules.len())?;
+        let mut searchers = Vec::with_capacity(alloc, rules.len())?;
         'rules: for rule in rules {
-            matchers.push(rule.regex.matcher(alloc)?)?;
+            searchers.push(Searcher::new(alloc, &rule.anchored)?)?;
         }
-        Ok(Matchers { matchers })
+        Ok(Matchers { searchers })
     }
 
     // The winner at the beginning of a text, if a pattern matches there.
     pub(crate) fn winner(&mut self, rest: &str) -> Option<Winner>
-        ensures winner { IsWinner (patterns_of self.old) rest.now result }
-        ensures same { patterns_of self.new ≡ patterns_of self.old }
+        ensures winner { (rules : List LexRule) → programs_of self.old ≡ map anchored_of rules
+            → IsWinner (map pattern_of rules) rest.now result }
+        ensures same { programs_of self.new ≡ programs_of self.old }
     {
         let mut best = None;
-        'matchers: for index in 0..self.matchers.len() {
+        'matchers: for index in 0..self.searchers.len() {
             let found = self.match_len(index, rest);
             best = better(best, index, found);
         }
@@ -51,23 +54,24 @@ impl<'r> Matchers<'r> {
 
     // How many bytes one of the patterns matches at the beginning of a text, if it does.
     fn match_len(&mut self, index: usize, rest: &str) -> Option<usize>
-        requires { index < vec_len self.old.matchers }
-        ensures found { (pattern : Re) → slice_get (patterns_of self.old) index ≡ Some pattern → IsMatchLen rest.now pattern result }
-        ensures same { patterns_of self.new ≡ patterns_of self.old }
-        ensures len { vec_len self.new.matchers ≡ vec_len self.old.matchers }
+        requires { index < vec_len self.old.searchers }
+        ensures found { (program : Program) (pattern : Re) → slice_get (programs_of self.old) index ≡ Some program
+            → FindsAtStart program pattern → IsMatchLen rest.now pattern result }
+        ensures same { programs_of self.new ≡ programs_of self.old }
+        ensures len { vec_len self.new.searchers ≡ vec_len self.old.searchers }
     {
-        match_len(&mut self.matchers[index], rest)
+        match_len(&mut self.searchers[index], rest)
     }
 }
 
 // How many bytes the pattern matches at the beginning of a text, if it does.
-fn match_len(matcher: &mut Matcher<'_>, rest: &str) -> Option<usize>
-    ensures found { IsMatchLen rest.now (matcher_pattern matcher.old) result }
-    ensures same { matcher_pattern matcher.new ≡ matcher_pattern matcher.old }
+fn match_len(searcher: &mut Searcher<'_>, rest: &str) -> Option<usize>
+    ensures found { (pattern : Re) → FindsAtStart searcher.old.program.now pattern → IsMatchLen rest.now pattern result }
+    ensures same { searcher.new.program.now ≡ searcher.old.program.now }
 {
-    let found = matcher.find(rest)?;
-    if found.start() == 0 && !found.is_empty() {
-        Some(found.end())
+    let (_, end) = searcher.find(rest.as_bytes(), 0)?;
+    if end > 0 && rest.is_char_boundary(end) {
+        Some(end)
     } else {
         None
     }

@@ -1,10 +1,80 @@
 //! A rule of a lexer.
+ghost use Rattle.std.specs.Prelude.{◌≡◌, IfOk, IfErr, option_map};
+ghost use Rattle.regex.specs.Patterns.{default_config};
+ghost use Rattle.regex.specs.Sources.{IsTextRefusal};
+ghost use Rattle.regex.specs.Strings.{regex_pattern};
+ghost use Rattle.regex_hir.specs.Meaning.{meaning};
+ghost use Rattle.lrpar_lexer.specs.Anchored.{FindsAtStart, IsBehindStart, behind_start};
+
 use lrpar::span::TIdx;
-use regex::Regex;
+use regex::{Error, Regex};
+use regex_hir::{Hir, Look};
+use regex_meta::Program;
+use regex_syntax::{Config, Parsed};
+use std::alloc::{AllocError, Global};
+use std::fmt;
+
+/// Bytes that a compiled pattern may take: some more than the 10 MiB of `regex`, as there is one assertion more.
+const SIZE_LIMIT: usize = 11 << 20;
 
 /// A rule: a pattern, and the token of what it matches; what a rule without a token matches is skipped.
-#[derive(Debug, Drop)]
+#[derive(Drop)]
 pub struct LexRule {
     pub(crate) regex: Regex,
+    /// The pattern behind an assertion that the text begins there, so that a search of the rest of a text reads no further than
+    /// a match at its beginning could.
+    pub(crate) anchored: Program,
     pub(crate) token: Option<TIdx<u32>>,
+    ghost finds: { FindsAtStart anchored (regex_pattern regex) },
+}
+
+impl LexRule {
+    ghost use Rattle.lrpar_lexer.specs.Rules.{HasPattern, token_of};
+
+    /// The rule of this pattern and token. Refused as `regex` refuses the pattern.
+    pub fn new(alloc: Global, pattern: &str, token: Option<TIdx<u32>>) -> Result<LexRule, Error>
+        ensures pattern { IfOk result (HasPattern pattern.now) }
+        ensures token { IfOk result (λ rule. token_of rule ≡ option_map (λ token. token.0) token) }
+        ensures refused { IfErr result (IsTextRefusal default_config pattern.now) }
+    {
+        let regex = Regex::new(alloc, pattern)?;
+        let anchored = anchored(alloc, pattern)?;
+        Ok(LexRule {
+            regex,
+            anchored,
+            token,
+        })
+    }
+}
+
+impl fmt::Debug for LexRule {
+    fn fmt<W: fmt::Write>(&self, f: &mut fmt::Formatter<W>) -> fmt::Result {
+        f.debug_struct("LexRule")
+            .field("regex", &self.regex)
+            .field("token", &self.token)
+            .finish()
+    }
+}
+
+// The program that finds at the beginning of a text what the pattern finds there.
+fn anchored(alloc: Global, pattern: &str) -> Result<Program, Error>
+    ensures read { IfOk result (IsBehindStart pattern.now) }
+    ensures refused { IfErr result (IsTextRefusal default_config pattern.now) }
+{
+    let Parsed { hir, names } = regex_syntax::parse(alloc, pattern, &Config::default())?;
+    let Ok(groups) = u32::try_from(names.len()) else {
+        return Err(Error::CompiledTooBig);
+    };
+    let tree = behind_start(alloc, hir)?;
+    Ok(Program::new(alloc, tree, groups, SIZE_LIMIT)?)
+}
+
+// The tree behind an assertion that the text begins.
+fn behind_start(alloc: Global, hir: Hir) -> Result<Hir, AllocError>
+    ensures { IfOk result (λ tree. meaning tree ≡ behind_start (meaning hir)) }
+{
+    let mut parts = Vec::with_capacity(alloc, 2)?;
+    parts.push(Hir::Look(Look::Start))?;
+    parts.push(hir)?;
+    Ok(Hir::Concat(parts))
 }

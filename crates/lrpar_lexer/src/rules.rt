@@ -2,7 +2,6 @@
 use crate::rule::LexRule;
 use lrpar::grammar::YaccGrammar;
 use lrpar::span::TIdx;
-use regex::Regex;
 use std::alloc::{AllocError, AllocFailed, Global};
 use thiserror::Error;
 
@@ -57,8 +56,8 @@ fn rule_of(
         Some(name) => Some(token_named(grm, name, number)?),
         None => None,
     };
-    match Regex::new(alloc, pattern) {
-        Ok(regex) => Ok(LexRule { regex, token }),
+    match LexRule::new(alloc, pattern, token) {
+        Ok(rule) => Ok(rule),
         Err(regex::Error::OutOfMemory) => Err(RulesFault::Memory),
         Err(_) => Err(RulesFault::Line(number)),
     }

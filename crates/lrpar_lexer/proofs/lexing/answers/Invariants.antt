@@ -1,14 +1,14 @@
 use Rattle.std.proofs.Common.{◌≡◌, ◌-◌, length, map}
 use Rattle.std.specs.Str.{IsCharBoundary}
-use Rattle.lrpar_lexer.specs.Matchers.{patterns_of}
-use Rattle.lrpar_lexer.specs.Rules.{pattern_of, plain_rules}
+use Rattle.lrpar_lexer.specs.Matchers.{programs_of}
+use Rattle.lrpar_lexer.specs.Rules.{anchored_of, plain_rules}
 use Rattle.lrpar_lexer.proofs.LexingLemmas.{LeadsTo}
 use Rattle.lrpar_lexer.proofs.lexing.answers.Given as goal
 
 -- what the rest of the text gives, with the answers so far, is what the text gives
 abbrev pub invariant-places : goal.invariant-places
 invariant-places l = record {
-  patterns : patterns_of l.matchers ≡ map pattern_of l.rules;
+  programs : programs_of l.matchers ≡ map anchored_of l.rules;
   boundary : IsCharBoundary l.text l.at;
   leads : LeadsTo (plain_rules l.rules) l.text l.at l.answers.items;
 }

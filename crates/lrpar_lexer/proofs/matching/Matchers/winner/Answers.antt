@@ -1,21 +1,29 @@
-use Rattle.std.proofs.Common.{◌≡◌, ◌<◌, ◌+◌, length, sym, subst, ◌∙◌, arith, take, slice_get, Some}
+use Rattle.std.proofs.Common.{◌<◌, ◌+◌, length, map, sym, subst, ◌∙◌, ap, arith, take}
 use Rattle.std.proofs.lemmas.List.{length-map}
-use Rattle.regex.specs.Strings.{matcher_pattern}
-use Rattle.lrpar_lexer.proofs.WinnerLemmas.{better_wins_at}
+use Rattle.lrpar_lexer.proofs.WinnerLemmas.{better_wins_at, match_of_rule}
 use Rattle.lrpar_lexer.specs.Matching.{IsWinner}
-use Rattle.lrpar_lexer.specs.Matchers.{patterns_of}
+use Rattle.lrpar_lexer.specs.Matchers.{programs_of}
+use Rattle.lrpar_lexer.specs.Rules.{anchored_of, pattern_of}
 use Rattle.lrpar_lexer.proofs.matching.Matchers.winner.Goals as goal
 
 pub matchers-preserved : goal.matchers-preserved
 matchers-preserved c =
-    let patterns = patterns_of c.args.self.now in
     let i = c.matchers.index in
-    let within : i < length patterns =
-    omega (arith, length-map c.args.self.now.matchers.items matcher_pattern) in
+    let rest = c.args.rest.now in
     record {
       len = c.match_len-found.ensures.len ∙ c.matchers.invariant.len;
       same = c.match_len-found.ensures.same ∙ c.matchers.invariant.same;
-      winner = subst (IsWinner (take (i + 1) patterns) c.args.rest.now) (sym c.better-best.ensures)
-          (better_wins_at patterns c.args.rest.now i c.matchers.best c.match_len-found.result within c.matchers.invariant.winner
-          (λ pattern is. c.match_len-found.ensures.found pattern (subst (λ ps. slice_get ps i ≡ Some pattern) (sym c.matchers.invariant.same) is)));
+      winner = λ rules programs.
+          let within : i < length (map pattern_of rules) =
+          omega (
+            arith,
+            length-map rules pattern_of,
+            length-map rules anchored_of,
+            ap length programs,
+            length-map c.args.self.now.searchers.items (λ s. s.program.now),
+          ) in
+          subst (IsWinner (take (i + 1) (map pattern_of rules)) rest) (sym c.better-best.ensures)
+          (better_wins_at (map pattern_of rules) rest i c.matchers.best c.match_len-found.result within (c.matchers.invariant.winner rules programs)
+          (match_of_rule rules (programs_of c.matchers.self) rest i c.match_len-found.result (c.matchers.invariant.same ∙ programs)
+          c.match_len-found.ensures.found));
     }

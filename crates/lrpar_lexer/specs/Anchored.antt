@@ -1,0 +1,29 @@
+-- What a pattern finds at the beginning of a text.
+use Rattle.std.specs.Prelude.{◌≡◌, ℕ, ◌==◌, List, Option, Some, None, if◌then◌else◌, option_map, IsUtf8}
+use Rattle.regex.specs.Patterns.{Re, Reads, Start, cat, default_config, empty, find_str, look, span}
+use Rattle.regex_hir.specs.Meaning.{meaning}
+use Rattle.regex_hir.specs.declared.hir.Hir.{Hir}
+use Rattle.regex_meta.specs.Programs.{leftmost, pattern_of}
+use Rattle.regex_meta.specs.declared.program.Program.{Program}
+use Rattle.regex_syntax.specs.Grammar.{Names}
+
+-- the span, if it begins at 0
+abbrev pub if_at_start : Option (ℕ × ℕ) → Option (ℕ × ℕ)
+if_at_start None = None
+if_at_start (Some s) = if s.0 == 0 then Some s else None
+
+-- in each text the program finds what the pattern finds, if that begins at 0, and else nothing
+abbrev pub FindsAtStart : Program → Re → Type 0
+FindsAtStart program pattern = (text : List ℕ) → IsUtf8 text
+    → option_map span (leftmost program text 0) ≡ if_at_start (option_map span (find_str pattern text 0))
+
+-- the pattern, where the text begins
+abbrev pub behind_start : Re → Re
+behind_start pattern = cat (look Start) (cat pattern empty)
+
+-- the program searches for what the grammar of patterns reads in the source, where the text begins
+pub record IsBehindStart (source : List ℕ) (program : Program) : Type 0 where
+  pub tree : Hir
+  pub names : Names
+  pub read : Reads default_config source tree names
+  pub behind : pattern_of program ≡ behind_start (meaning tree)
