@@ -2,6 +2,7 @@
 ghost use Rattle.std.specs.Prelude.{◌≡◌};
 ghost use Rattle.lrpar_program.specs.declared.fault.Fault.TheVariants.{Memory};
 
+use lrpar::build::BuildFault;
 use lrpar::check::CheckFault;
 use lrpar::grammar::GrammarFault;
 use lrpar::parser::{ParseFault, PpFault};
@@ -35,6 +36,9 @@ pub(crate) enum Fault {
     /// A table is refused.
     #[error("lrpar: table: {0}")]
     Table(TableFault),
+    /// No table is built of a grammar.
+    #[error("lrpar: table: {0}")]
+    Build(BuildFault),
     /// A table isn't safe to parse by.
     #[error("lrpar: table: {0}")]
     Check(CheckFault),
@@ -109,6 +113,15 @@ impl From<TableFault> for Fault {
         match fault {
             TableFault::Memory => Fault::Memory,
             refusal => Fault::Table(refusal),
+        }
+    }
+}
+
+impl From<BuildFault> for Fault {
+    fn from(fault: BuildFault) -> Fault {
+        match fault {
+            BuildFault::Memory => Fault::Memory,
+            refusal => Fault::Build(refusal),
         }
     }
 }

@@ -7,8 +7,6 @@ mod check;
 mod demo;
 mod fault;
 mod files;
-#[cfg(test)]
-mod hand_tables;
 mod lexer;
 mod parsing;
 mod repairs;

@@ -1,6 +1,7 @@
-//! Tables of grammars that the program is handed.
+//! Tables of grammars.
 use crate::fault::Fault;
 use lrpar::ParserData;
+use lrpar::build::{Unbuilt, from_yacc, parser_data};
 use lrpar::grammar::YaccGrammar;
 use lrpar::table::{StateGraph, StateTable};
 use std::alloc::Global;
@@ -8,19 +9,22 @@ use std::alloc::Global;
 /// The cap with which the program checks its tables.
 const CAP: u16 = 1_000;
 
+/// How many states a table may have.
+const MAX_STATES: usize = 10_000;
+
 /// The item sets and the table of a grammar.
 pub(crate) type Built = (StateGraph<u32>, StateTable<u32>);
 
 /// The checked table of a grammar.
 pub(crate) fn checked(alloc: Global, grm: YaccGrammar<u32>) -> Result<ParserData<u32>, Fault> {
-    let (sgraph, stable) = built(alloc, &grm)?;
-    match ParserData::new(alloc, grm, sgraph, stable, CAP) {
+    match parser_data(alloc, grm, MAX_STATES, CAP) {
         Ok(data) => Ok(data),
-        Err(refused) => Err(refused.fault().into()),
+        Err(Unbuilt::Table(fault, _)) => Err(fault.into()),
+        Err(Unbuilt::Chains(refused)) => Err(refused.fault().into()),
     }
 }
 
 /// The item sets and the table of a grammar, not checked yet.
-pub(crate) fn built(_alloc: Global, _grm: &YaccGrammar<u32>) -> Result<Built, Fault> {
-    Err(Fault::Usage)
+pub(crate) fn built(alloc: Global, grm: &YaccGrammar<u32>) -> Result<Built, Fault> {
+    Ok(from_yacc(alloc, grm, MAX_STATES)?)
 }

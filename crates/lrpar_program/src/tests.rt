@@ -2,13 +2,14 @@ use crate::arguments::command_of;
 use crate::calc::{self, calc};
 use crate::check::check_built;
 use crate::files::input_text;
-use crate::hand_tables::{BRACKETS, CALC, CALL, Hand, LETTER, LIST, hand_data};
 use crate::lexer::SumLexer;
 use crate::parsing::{parser_by, printed_names};
 use crate::repairs::recoverer_of;
 use crate::run::run;
 use crate::sum::{sum_built, sum_data, sum_grammar};
+use crate::tables::checked;
 use crate::tree::{TreeTexts, tree_by};
+use lrpar::grammar::YaccGrammar;
 use lrpar::span::TIdx;
 use lrpar::{LexParseError, ParserData, RTParserBuilder};
 use lrpar_lexer::{TokenTypes, rules_of};
@@ -16,6 +17,18 @@ use std::alloc::{AllocError, Global};
 use std::io::{Read, Write};
 use std::test::Fail;
 use std::{fs, io, str};
+
+// Sums of `n` in brackets.
+const BRACKETS: &str = "%% E : 'N' | E '+' 'N' | '(' E ')';";
+
+// A call.
+const CALL: &str = "%% Call: 'ID' '(' ')';";
+
+// An `ID` or nothing.
+const LIST: &str = "%% S: L; L: 'ID' | ;";
+
+// An `A`, and a token that no sentence has.
+const LETTER: &str = "%% S: 'A'; T: 'NL';";
 
 const USAGE: &str =
     "usage: lrpar demo TEXT | tree [--shifts K] GRAMMAR LEXER INPUT [REPAIRS] | check GRAMMAR CAP | conflicts GRAMMAR | calc [--shifts K] [REPAIRS]\n";
@@ -406,7 +419,7 @@ fn sum_tree(alloc: Global, lexer: &str, input: &str, repairs: &str) -> Result<St
 
 const SIGNS: &str = "n 'N'\n\\+ '+'\n\\( '('\n\\) ')'";
 
-const HAND_TREES: &[(Hand, &str, &str, &str)] = &[
+const SMALL_TREES: &[(&str, &str, &str, &str)] = &[
     (LIST, IDS, "", "S\n L\n"),
     (LIST, IDS, "x", "S\n L\n  ID x\n"),
     (CALL, CALLS, "f()", "Call\n ID f\n ( (\n ) )\n"),
@@ -430,11 +443,17 @@ const HAND_TREES: &[(Hand, &str, &str, &str)] = &[
     ),
 ];
 
+// The checked table of a grammar text.
+fn data_of(alloc: Global, grammar: &str) -> Result<ParserData<u32>, Fail> {
+    let grm = YaccGrammar::new_with_storaget(alloc, grammar)?;
+    Ok(checked(alloc, grm)?)
+}
+
 #[test]
-fn hand_trees(rt: HostRuntime) -> Result<(), Fail> {
-    for row in HAND_TREES {
-        let (hand, lexer, input, want) = *row;
-        let data = hand_data(rt.alloc(), hand)?;
+fn trees_of_small_grammars(rt: HostRuntime) -> Result<(), Fail> {
+    for row in SMALL_TREES {
+        let (grammar, lexer, input, want) = *row;
+        let data = data_of(rt.alloc(), grammar)?;
         let found = printed_tree(rt.alloc(), &data, lexer, input, "", None)?;
         assert_eq!(rt; found.as_str(), want, "{input:?}");
     }
@@ -506,13 +525,13 @@ const REPAIRED_TREES: &[(&str, &str, Option<usize>, &str)] = &[
 
 #[test]
 fn repaired_trees(rt: HostRuntime) -> Result<(), Fail> {
-    let data = hand_data(rt.alloc(), BRACKETS)?;
+    let data = data_of(rt.alloc(), BRACKETS)?;
     for row in REPAIRED_TREES {
         let (input, repairs, shifts, want) = *row;
         let found = printed_tree(rt.alloc(), &data, SIGNS, input, repairs, shifts)?;
         assert_eq!(rt; found.as_str(), want, "{input:?}");
     }
-    let data = hand_data(rt.alloc(), LETTER)?;
+    let data = data_of(rt.alloc(), LETTER)?;
     let found = printed_tree(rt.alloc(), &data, "a 'A'\n\\n 'NL'", "a\n", "delete", None)?;
     assert_eq!(rt;
         found.as_str(),
@@ -666,9 +685,9 @@ fn checks(rt: HostRuntime) -> Result<(), Fail> {
     Ok(())
 }
 
-// What `calc` writes to its two streams, by a table that is written out, and whether all lines are well.
+// What `calc` writes to its two streams, and whether all lines are well.
 fn calculated(alloc: Global, lines: &str, repairs: &str) -> Result<(String, String, bool), Fail> {
-    let data = hand_data(alloc, CALC)?;
+    let data = data_of(alloc, calc::GRAMMAR)?;
     let rules = rules_of(alloc, data.grm(), calc::LEXER)?;
     let names = printed_names(alloc, data.grm())?;
     let parser = parser_by(&data, recoverer_of(alloc, data.grm(), repairs)?, None)?;
