@@ -1,7 +1,7 @@
 -- A pattern behind an assertion that the text begins finds what the pattern finds, if that begins at 0.
-use Rattle.std.proofs.Common.{◌≡◌, ℕ, ◌+◌, ◌/◌, ◌%◌, ◌<◌, ◌≤◌, true, false, cond, ◌==◌, List, [], ◌∷◌, length, get_or, IsSomeAnd, Option, Some, None, option_map, refl, sym, ap, ◌∙◌, subst, ⊎_elim, arith, true≢false, ne_eqb, zero, suc}
+use Rattle.std.proofs.Common.{◌≡◌, ℕ, ◌+◌, ◌/◌, ◌%◌, ◌<◌, ◌≤◌, Bool, true, false, cond, ◌==◌, List, [], ◌∷◌, length, get_or, IsSomeAnd, is_some, min, Option, Some, None, option_map, refl, sym, ap, ◌∙◌, subst, ⊎_elim, arith, true≢false, ne_eqb, zero, suc}
 use Rattle.std.proofs.lemmas.Bool.{and_parts, cases_Bool, cases_lt, cond-false, cond-true}
-use Rattle.std.proofs.lemmas.Option.{none-some, slice_get-get_or}
+use Rattle.std.proofs.lemmas.Option.{none-some, same_Some, slice_get-get_or}
 use Rattle.std.proofs.lemmas.List.Elements.{All-append, All-from_recursion, All-get_or, All-nil, All-same}
 use Rattle.std.proofs.lemmas.Str.{IsCharBoundary-start, encode_ascii}
 use Rattle.std.proofs.Math.ListN.{get_or-eq_default}
@@ -15,10 +15,14 @@ use Rattle.regex_hir.specs.Re.{Trace, accept, attempt}
 use Rattle.regex_hir.specs.Text.{is_boundary}
 use Rattle.regex_hir.proofs.AttemptLemmas.{attempt_cong, cond_some}
 use Rattle.regex_hir.proofs.FindLemmas.{IsFirst-of_first_between, first_between_here}
-use Rattle.regex_hir.proofs.OptionLemmas.{option_cases}
+use Rattle.regex_hir.proofs.OptionLemmas.{none_of_no_value, option_cases}
 use Rattle.regex_hir.proofs.TextLemmas.{byte_before-add-one, byte_before-zero}
 use Rattle.regex_hir.proofs.Utf8Lemmas.{encode_four, encode_three, encode_two}
-use Rattle.regex_meta.proofs.LeftmostLemmas.{find_here, find_none}
+use Rattle.regex_meta.proofs.LeftmostLemmas.{find_first, find_here, find_none}
+use Rattle.regex_meta.proofs.ProgramLemmas.{refuted}
+use Rattle.regex_meta.specs.Programs.{leftmost, pattern_of}
+use Rattle.regex_literal.specs.ByteSets.{IsInSet}
+use Rattle.regex_literal.specs.Find.{IsFirst}
 use Rattle.regex.specs.Patterns.{Reads, SameCaptures, default_config}
 use Rattle.regex.specs.Strings.{IsReadFromSource, regex_config, regex_names, regex_pattern, regex_source}
 use Rattle.regex.specs.declared.string.regex.Regex.{Regex}
@@ -30,7 +34,8 @@ use Rattle.regex_meta.specs.declared.program.Program.{Program}
 use Rattle.regex_syntax.specs.Brackets.{Nested}
 use Rattle.regex_syntax.specs.Grammar.{Names, group_count, read}
 use Rattle.regex_syntax.proofs.CapturesLemmas.{◌also◌, alike_sym}
-use Rattle.lrpar_lexer.specs.Anchored.{FindsAtStart, IsBehindStart, behind_start, if_at_start}
+use Rattle.lrpar_lexer.specs.Anchored.{FindsAtStart, HasNothingAtStart, IsBehindStart, behind_start, if_at_start}
+use Rattle.lrpar_lexer.specs.Matching.{HasNoMatch}
 
 -- only the first place of a text has nothing in front of it
 begins_at : (text : List ℕ) (i : ℕ) → i ≤ length text → holds Start text i ≡ true → i ≡ 0
@@ -152,3 +157,27 @@ finds_of_parts source regex program is_source is_config is_read it text utf8 =
     let boundary : is_boundary text 0 ≡ true = test_of_IsCharBoundary text 0 (IsCharBoundary-start text utf8) in
     ap (λ re. option_map span (find re text 0)) it.behind ∙ found_at_start (meaning it.tree) text boundary
     ∙ ap if_at_start (span_alike same text (bytes_of_text text utf8) true 0)
+
+-- where a text begins with no byte with which a match can begin, nothing matches there
+pub nothing_begins : (program : Program) (set : List Bool) → program.first ≡ Some set → (text : List ℕ) (bound : ℕ) (found : Option ℕ)
+    → bound ≡ min (length text) 1 → IsFirst (IsInSet set text) 0 bound found → is_some found ≡ false → HasNothingAtStart (pattern_of program) text
+nothing_begins program set is text bound None short none _ =
+    none_of_no_value (attempt text (pattern_of program) accept 0) (λ t found. refuted program.starts (λ starts.
+    let there = starts set is text 0 t found in
+    none 0 (omega arith) (omega (arith, there.0)) there.1))
+nothing_begins program set is text bound (Some at) short first missing = absurd (true≢false missing)
+
+-- and so the pattern has no match
+pub no_match_of_nothing : (program : Program) (pattern : Re) (text : List ℕ) → IsUtf8 text → FindsAtStart program pattern
+    → HasNothingAtStart (pattern_of program) text → HasNoMatch text pattern
+no_match_of_nothing program pattern text utf8 finds nothing n is = ⊎_elim
+    (λ none. none-some (0, n) (sym (ap (option_map span) none) ∙ found))
+    (λ (some : (m : Match) × (leftmost program text 0 ≡ Some m)).
+    let first = find_first (pattern_of program) text 0 some.0 some.1 in
+    let same : span some.0 ≡ (0, n) = same_Some (span some.0) (0, n) (sym (ap (option_map span) some.1) ∙ found) in
+    let at : some.0.start ≡ 0 = ap (λ (s : ℕ × ℕ). s.0) same in
+    none-some some.0.trace (sym nothing ∙ subst (λ i. attempt text (pattern_of program) accept i ≡ Some some.0.trace) at first.here))
+    (option_cases (leftmost program text 0))
+  where
+    found : option_map span (leftmost program text 0) ≡ Some (0, n)
+    found = finds text utf8 ∙ ap if_at_start is.found

@@ -2,6 +2,7 @@
 use Rattle.std.specs.Prelude.{◌≡◌, ℕ, ◌==◌, List, Option, Some, None, if◌then◌else◌, option_map, IsUtf8}
 use Rattle.regex.specs.Patterns.{Re, Reads, Start, cat, default_config, empty, find_str, look, span}
 use Rattle.regex_hir.specs.Meaning.{meaning}
+use Rattle.regex_hir.specs.Re.{accept, attempt}
 use Rattle.regex_hir.specs.declared.hir.Hir.{Hir}
 use Rattle.regex_meta.specs.Programs.{leftmost, pattern_of}
 use Rattle.regex_meta.specs.declared.program.Program.{Program}
@@ -27,3 +28,7 @@ pub record IsBehindStart (source : List ℕ) (program : Program) : Type 0 where
   pub names : Names
   pub read : Reads default_config source tree names
   pub behind : pattern_of program ≡ behind_start (meaning tree)
+
+-- the pattern matches nothing where the text begins
+abbrev pub HasNothingAtStart : Re → List ℕ → Type 0
+HasNothingAtStart pattern text = attempt text pattern accept 0 ≡ None

@@ -1,14 +1,15 @@
 //! Which of several patterns wins at a place of a text.
-ghost use Rattle.std.specs.Prelude.{◌≡◌, ◌<◌, IfOk, List, map, slice_get, vec_len};
+ghost use Rattle.std.specs.Prelude.{◌≡◌, ◌<◌, IfOk, false, List, map, slice_get, vec_len};
 ghost use Rattle.regex.specs.Patterns.{Re};
+ghost use Rattle.regex_meta.specs.Programs.{pattern_of as searched_by};
 ghost use Rattle.regex_meta.specs.declared.program.Program.{Program};
-ghost use Rattle.lrpar_lexer.specs.Anchored.{FindsAtStart};
+ghost use Rattle.lrpar_lexer.specs.Anchored.{FindsAtStart, HasNothingAtStart};
 ghost use Rattle.lrpar_lexer.specs.Matching.{IsMatchLen, IsWinner, better};
 ghost use Rattle.lrpar_lexer.specs.Rules.{anchored_of, pattern_of};
 ghost use Rattle.lrpar_lexer.specs.declared.rule.LexRule.{LexRule};
 
 use crate::rule::LexRule;
-use regex_meta::Searcher;
+use regex_meta::{Program, Searcher};
 use std::alloc::{AllocError, Global};
 
 /// What wins at a place: which of the rules, and how many bytes it takes.
@@ -69,11 +70,24 @@ fn match_len(searcher: &mut Searcher<'_>, rest: &str) -> Option<usize>
     ensures found { (pattern : Re) → FindsAtStart searcher.old.program.now pattern → IsMatchLen rest.now pattern result }
     ensures same { searcher.new.program.now ≡ searcher.old.program.now }
 {
+    if !can_begin(searcher.program, rest.as_bytes()) {
+        return None;
+    }
     let (_, end) = searcher.find(rest.as_bytes(), 0)?;
     if end > 0 && rest.is_char_boundary(end) {
         Some(end)
     } else {
         None
+    }
+}
+
+// Whether a match can begin with the text's first byte. It is asked before a search, which takes longer.
+fn can_begin(program: &Program, text: &[u8]) -> bool
+    ensures { result ≡ false → HasNothingAtStart (searched_by program.now) text.now }
+{
+    match &program.first {
+        Some(bytes) => bytes.find_near(text, 0, text.len().min(1)).is_some(),
+        None => true,
     }
 }
 
