@@ -2,5 +2,6 @@
 #![tactic(auto)]
 
 pub mod build;
+
 pub use lrpar_check::check;
 pub use lrpar_states::table;

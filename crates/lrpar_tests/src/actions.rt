@@ -2,10 +2,10 @@
 ghost use Rattle.std.specs.Prelude.{◌↔◌, IfOk, IsTrue, map};
 ghost use Rattle.lrpar.specs.Nodes.{IsNonterm, node_of};
 
+use crate::built::{AFTER, ARITHMETIC, BETWEEN, CALL, LIST, built};
 use crate::calculator::{Calculator, Value};
 use crate::calls::{Tree, sum_tree};
 use crate::fixtures::{By, sum_data};
-use crate::built::{AFTER, ARITHMETIC, BETWEEN, CALL, LIST, built};
 use crate::lexer::{HandedLexer, HandedTypes, NoToken, Token};
 use crate::parse::{LexAnswer, lexemes, parsed};
 use lrpar::parser::{AStackType, Actions, ParseFault};

@@ -49,7 +49,11 @@ fn states_of_small_grammars(rt: HostRuntime) -> Result<(), Fail> {
         ("%% S: A D | 'z'; A: C 'x'; C: 'c'; D: D 'd';", 6),
     ];
     for (text, count) in rows {
-        assert_eq!(rt; states::<u8>(rt.alloc(), text, count)?, Ok((count, count)), "{text}");
+        assert_eq!(rt;
+            states::<u8>(rt.alloc(), text, count)?,
+            Ok((count, count)),
+            "{text}"
+        );
         assert_eq!(rt;
             states::<u8>(rt.alloc(), text, count.saturating_sub(1))?,
             Err(BuildFault::TooManyStates),
@@ -79,8 +83,14 @@ fn grammars_without_a_table(rt: HostRuntime) -> Result<(), Fail> {
     let text = long_rule(alloc, 254)?;
     assert_eq!(rt; states::<u8>(alloc, text.as_str(), 1_000)?, Ok((256, 256)));
     let text = long_rule(alloc, 255)?;
-    assert_eq!(rt; states::<u8>(alloc, text.as_str(), 1_000)?, Err(BuildFault::StorageTooSmall));
-    assert_eq!(rt; states::<u8>(alloc, text.as_str(), 256)?, Err(BuildFault::TooManyStates));
+    assert_eq!(rt;
+        states::<u8>(alloc, text.as_str(), 1_000)?,
+        Err(BuildFault::StorageTooSmall)
+    );
+    assert_eq!(rt;
+        states::<u8>(alloc, text.as_str(), 256)?,
+        Err(BuildFault::TooManyStates)
+    );
     assert_eq!(rt; states::<u16>(alloc, text.as_str(), 1_000)?, Ok((257, 257)));
     Ok(())
 }
@@ -90,7 +100,10 @@ fn texts_of_build_faults(rt: HostRuntime) -> Result<(), Fail> {
     let alloc = rt.alloc();
     let rows = [
         (BuildFault::TooManyStates, "too many states"),
-        (BuildFault::AcceptReduceConflict(7), "accept and reduce in state 7"),
+        (
+            BuildFault::AcceptReduceConflict(7),
+            "accept and reduce in state 7",
+        ),
         (BuildFault::StorageTooSmall, "storage type too small"),
         (BuildFault::Memory, "out of memory"),
     ];
@@ -146,12 +159,7 @@ fn conflicts_that_fit(rt: HostRuntime) -> Result<(), Fail> {
 }
 
 // Why there is no checked table of the text.
-fn refusal(
-    alloc: Global,
-    text: &str,
-    max_states: usize,
-    cap: u16,
-) -> Result<Option<String>, Fail> {
+fn refusal(alloc: Global, text: &str, max_states: usize, cap: u16) -> Result<Option<String>, Fail> {
     let grm = YaccGrammar::<u8>::new_with_storaget(alloc, text)?;
     match parser_data(alloc, grm, max_states, cap) {
         Ok(_) => Ok(None),
@@ -167,8 +175,18 @@ fn refusal(
 fn grammars_without_a_checked_table(rt: HostRuntime) -> Result<(), Fail> {
     let rows = [
         (SUM, 100, 2, None),
-        (SUM, 100, 1, Some("chains: chain too long at state 4, token 2")),
-        (CYCLE, 100, 1_000, Some("chains: chain too long at state 0, token 1")),
+        (
+            SUM,
+            100,
+            1,
+            Some("chains: chain too long at state 4, token 2"),
+        ),
+        (
+            CYCLE,
+            100,
+            1_000,
+            Some("chains: chain too long at state 0, token 1"),
+        ),
         (BRACKETS, 13, 10, Some("table: too many states")),
     ];
     for (text, max_states, cap, want) in rows {
@@ -185,9 +203,20 @@ fn conflicts_of_small_grammars(rt: HostRuntime) -> Result<(), Fail> {
     let Some(conflicts) = stable.conflicts() else {
         return Err(Fail::new("no conflicts"));
     };
-    assert_eq!(rt; conflicts.rr_conflicts(), [(TIdx(1), PIdx(2), PIdx(4), StIdx(4))].as_slice());
-    assert_eq!(rt; conflicts.sr_conflicts(), [(TIdx(1), PIdx(2), StIdx(4))].as_slice());
+    assert_eq!(rt;
+        conflicts.rr_conflicts(),
+        [(TIdx(1), PIdx(2), PIdx(4), StIdx(4))].as_slice()
+    );
+    assert_eq!(rt;
+        conflicts.sr_conflicts(),
+        [(TIdx(1), PIdx(2), StIdx(4))].as_slice()
+    );
     let (_, stable) = built::<u8>(alloc, CYCLE, 100)??;
-    assert_eq!(rt; stable.conflicts().map(|conflicts| (conflicts.rr_len(), conflicts.sr_len())), Some((1, 0)));
+    assert_eq!(rt;
+        stable
+            .conflicts()
+            .map(|conflicts| (conflicts.rr_len(), conflicts.sr_len())),
+        Some((1, 0))
+    );
     Ok(())
 }

@@ -28,7 +28,8 @@ pub(crate) const ARITHMETIC: &str =
 pub(crate) const CALL: &str = "%% Call: 'ID' '(' ')';";
 
 /// The grammar *calc*: tokens `+` 0, `*` 1, `(` 2, `)` 3, `INT` 4.
-pub(crate) const CALC: &str = "%start Expr %% Expr: Expr '+' Term | Term; Term: Term '*' Factor | Factor; Factor: '(' Expr ')' | 'INT';";
+pub(crate) const CALC: &str =
+    "%start Expr %% Expr: Expr '+' Term | Term; Term: Term '*' Factor | Factor; Factor: '(' Expr ')' | 'INT';";
 
 /// The checked table of a grammar text.
 pub(crate) fn built(alloc: Global, text: &str) -> Result<ParserData<u32>, Fail> {
@@ -69,7 +70,11 @@ pub(crate) fn sequences(
 }
 
 /// What comes of the row.
-pub(crate) fn outcome_of(alloc: Global, data: &ParserData<u32>, row: &Row) -> Result<Outcome, Fail> {
+pub(crate) fn outcome_of(
+    alloc: Global,
+    data: &ParserData<u32>,
+    row: &Row,
+) -> Result<Outcome, Fail> {
     let answers = lexemes(alloc, row.given)?;
     let handed = sequences(alloc, row.handed)?;
     let lexer = HandedLexer { answers: &answers };
@@ -118,10 +123,7 @@ fn push_error(text: &mut String, error: &ParseError<Token<u32>, u32>) -> Result<
     Ok(())
 }
 
-fn push_sequence(
-    text: &mut String,
-    sequence: &[ParseRepair<Token<u32>, u32>],
-) -> Result<(), Fail> {
+fn push_sequence(text: &mut String, sequence: &[ParseRepair<Token<u32>, u32>]) -> Result<(), Fail> {
     text.push('[')?;
     for repair in sequence {
         push_repair(text, repair)?;

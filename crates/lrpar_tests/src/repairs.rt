@@ -14,11 +14,17 @@ use std::process::Abort;
 use std::test::Fail;
 
 const D: RepairStep<u32> = RepairStep::Delete;
+
 const S: RepairStep<u32> = RepairStep::Shift;
+
 const I0: RepairStep<u32> = RepairStep::Insert(TIdx(0));
+
 const I1: RepairStep<u32> = RepairStep::Insert(TIdx(1));
+
 const I2: RepairStep<u32> = RepairStep::Insert(TIdx(2));
+
 const I3: RepairStep<u32> = RepairStep::Insert(TIdx(3));
+
 const I4: RepairStep<u32> = RepairStep::Insert(TIdx(4));
 
 // Whether the row gives what it says.
@@ -295,7 +301,9 @@ fn counted(
     let data = built(alloc, BRACKETS)?;
     let answers = lexemes(alloc, [(0, 0), (0, 1)].as_slice())?;
     let lexer = HandedLexer { answers: &answers };
-    let parser = RTParserBuilder::<u32, HandedTypes>::new(&data).recoverer(FixedRecoverer::new(handed));
+    let parser = RTParserBuilder::<u32, HandedTypes>::new(&data).recoverer(FixedRecoverer::new(
+        handed,
+    ));
     let (leaves, errors) = parser.parse_map(alloc, &lexer, |_| 1, |_, below| sum(&below))?;
     let Some(LexParseError::ParseError(error)) = errors.first() else {
         return Err(Fail::new("no parse error"));
@@ -317,7 +325,11 @@ fn sum(numbers: &[usize]) -> usize {
 }
 
 // This step so often, one after the other.
-fn repeated(alloc: Global, steps: &[RepairStep<u32>], times: usize) -> Result<Vec<RepairStep<u32>>, Fail> {
+fn repeated(
+    alloc: Global,
+    steps: &[RepairStep<u32>],
+    times: usize,
+) -> Result<Vec<RepairStep<u32>>, Fail> {
     let mut made = Vec::new(alloc);
     for _ in 0..times {
         made.extend_from_slice(steps)?;
@@ -381,7 +393,17 @@ impl Recoverer<u32, Token<u32>> for Refusing {
 // second.
 fn parsed_twice(alloc: Global) -> Result<(Option<ParseFault>, String), Fail> {
     let data = built(alloc, BRACKETS)?;
-    let given = [(0, 0), (3, 1), (1, 2), (0, 3), (1, 4), (0, 5), (1, 6), (0, 7), (3, 8)];
+    let given = [
+        (0, 0),
+        (3, 1),
+        (1, 2),
+        (0, 3),
+        (1, 4),
+        (0, 5),
+        (1, 6),
+        (0, 7),
+        (3, 8),
+    ];
     let answers = lexemes(alloc, given.as_slice())?;
     let lexer = HandedLexer { answers: &answers };
     let parser = RTParserBuilder::<u32, HandedTypes>::new(&data).recoverer(Refusing {
