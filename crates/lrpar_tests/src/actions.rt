@@ -2,10 +2,10 @@
 ghost use Rattle.std.specs.Prelude.{◌↔◌, IfOk, IsTrue, map};
 ghost use Rattle.lrpar.specs.Nodes.{IsNonterm, node_of};
 
-use crate::built::{AFTER, ARITHMETIC, BETWEEN, CALL, LIST, built};
 use crate::calculator::{Calculator, Value};
 use crate::calls::{Tree, sum_tree};
 use crate::fixtures::{By, sum_data};
+use crate::hand::{AFTER, ARITHMETIC, BETWEEN, CALL, Hand, LIST, data};
 use crate::lexer::{HandedLexer, HandedTypes, NoToken, Token};
 use crate::parse::{LexAnswer, lexemes, parsed};
 use lrpar::parser::{AStackType, Actions, ParseFault};
@@ -182,7 +182,7 @@ fn long_lexemes(alloc: Global, given: &[(u32, usize, usize)]) -> Result<Vec<LexA
 
 fn value_of(alloc: Global, given: &[(u32, usize, usize)]) -> Result<Option<Value>, Fail> {
     let answers = long_lexemes(alloc, given)?;
-    let (value, _) = acted(alloc, &built(alloc, ARITHMETIC)?, &answers, &Calculator)??;
+    let (value, _) = acted(alloc, &data(alloc, &ARITHMETIC)?, &answers, &Calculator)??;
     Ok(value)
 }
 
@@ -218,11 +218,11 @@ fn a_calculator_of_another_grammar(rt: HostRuntime) -> Result<(), Fail> {
 
 fn places_of(
     alloc: Global,
-    text: &str,
+    hand: &Hand,
     given: &[(u32, usize, usize)],
 ) -> Result<Option<Vec<Place>>, Fail> {
     let answers = long_lexemes(alloc, given)?;
-    let (places, _) = acted(alloc, &built(alloc, text)?, &answers, &Places)??;
+    let (places, _) = acted(alloc, &data(alloc, hand)?, &answers, &Places)??;
     Ok(places)
 }
 
@@ -261,8 +261,8 @@ fn spans_of_rules(rt: HostRuntime) -> Result<(), Fail> {
             [(3, 1, 10), (2, 1, 3), (1, 1, 3)].as_slice(),
         ),
     ];
-    for (name, text, given, want) in rows {
-        let places = places_of(alloc, text, given)?;
+    for (name, hand, given, want) in rows {
+        let places = places_of(alloc, &hand, given)?;
         assert_eq!(rt;
             places.as_ref().map(|places| places.as_slice()),
             Some(want),
@@ -393,7 +393,7 @@ fn faults_of_each_call(rt: HostRuntime) -> Result<(), Fail> {
 #[test]
 fn errors_of_each_call(rt: HostRuntime) -> Result<(), Fail> {
     let alloc = rt.alloc();
-    let data = built(alloc, CALL)?;
+    let data = data(alloc, &CALL)?;
     let rows = [
         (
             "f(",
@@ -454,7 +454,7 @@ fn trees_of_actions(rt: HostRuntime) -> Result<(), Fail> {
 }
 
 #[test]
-fn trees_of_small_grammars(rt: HostRuntime) -> Result<(), Fail> {
+fn trees_by_hand(rt: HostRuntime) -> Result<(), Fail> {
     let alloc = rt.alloc();
     let rows = [
         (
@@ -477,8 +477,8 @@ fn trees_of_small_grammars(rt: HostRuntime) -> Result<(), Fail> {
             "1[ 1[ 2[ 2[ 3[ 2@0 ] ] 1@1 3[ 2@2 ] ] ] 0@3 2[ 3[ 2@4 ] ] ]",
         ),
     ];
-    for (name, grammar, given, text) in rows {
-        let (tree, errors) = parsed(alloc, &built(alloc, grammar)?, &lexemes(alloc, given)?)??;
+    for (name, hand, given, text) in rows {
+        let (tree, errors) = parsed(alloc, &data(alloc, &hand)?, &lexemes(alloc, given)?)??;
         assert!(rt; errors.is_empty(), "errors of {name}");
         assert_eq!(rt;
             tree.as_ref().map(|tree| tree.as_str()),

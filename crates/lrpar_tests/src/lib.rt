@@ -3,10 +3,6 @@
 
 #[cfg(test)]
 mod actions;
-#[cfg(test)]
-mod builder;
-#[cfg(test)]
-mod built;
 pub mod calculator;
 #[cfg(test)]
 mod calls;
@@ -21,6 +17,8 @@ mod grammar;
 #[cfg(test)]
 mod graph;
 #[cfg(test)]
+mod hand;
+#[cfg(test)]
 mod lexer;
 #[cfg(test)]
 mod lines;
@@ -30,8 +28,6 @@ mod parse;
 mod reader;
 #[cfg(test)]
 mod readme;
-#[cfg(test)]
-mod repairs;
 #[cfg(test)]
 mod span;
 #[cfg(test)]
