@@ -15,6 +15,7 @@ mod node;
 mod nothing;
 pub mod parser;
 mod pp_fault;
+mod reducing;
 pub mod repair;
 mod replay;
 mod run;
