@@ -6,7 +6,7 @@ use Rattle.lrpar_states.specs.Table.{Table}
 use Rattle.lrpar_check.specs.Checked.{Checked}
 use Rattle.lrpar_check.specs.Reduction.{IsSettled, Settles}
 use Rattle.lrpar_check.specs.StackReduction.{IsStackSettledBy, StackReducesBy}
-use Rattle.lrpar.specs.Reducing.{Builds, Built, IsSameBut, SuitsRun}
+use Rattle.lrpar.specs.Reducing.{Builds, Built, KeepsRest, SuitsRun}
 use Rattle.lrpar.specs.Stacked.{SettlesTo}
 use Rattle.lrpar.specs.Standing.{IsUpright, ReducesAllTo, ReducesTo, Stacked}
 
@@ -18,10 +18,10 @@ settled_after g table t st (p ∷ prods) after h = settled_after g table t h.0 p
 -- what `X` is a view of, and how it is seen: its grammar, builder, stacks and borrow
 module _ {X B E : Type 0} (built : X → Built B E) (node : B → Grammar → ℕ → Option E → List E → E → Type 0) (suits : B → GrammarSymbol → E → Type 0) (g : Grammar) (table : Table) (t : ℕ) where
   -- reductions of the stacks, by one grammar and with one builder
-  builds_all : (from : Built B E) (old : X) (prods : List ℕ) (new : X) → IsSameBut from (built old) → from.grammar ≡ g
+  builds_all : (from : Built B E) (old : X) (prods : List ℕ) (new : X) → KeepsRest from (built old) → from.grammar ≡ g
       → StackReducesBy (λ (s : X). (built s).stack.states) (λ (a : X) (p r n : ℕ) (b : X). Builds node suits (built a) p r n (built b)) g table t old prods new
-      → IsSameBut from (built new) × ReducesAllTo (node from.build g) (suits from.build) g table t (built old).stack prods (built new).stack
-  builds_all from old [] new same is e = (subst (λ (s : X). IsSameBut from (built s)) e same, ap (λ (s : X). (built s).stack) e)
+      → KeepsRest from (built new) × ReducesAllTo (node from.build g) (suits from.build) g table t (built old).stack prods (built new).stack
+  builds_all from old [] new same is e = (subst (λ (s : X). KeepsRest from (built s)) e same, ap (λ (s : X). (built s).stack) e)
   builds_all from old (p ∷ prods) new same is all =
       let next = all.0 in
       let rest = all.1.of_rest in
@@ -51,7 +51,7 @@ pub builds_settle : {X B E : Type 0} (built : X → Built B E) (node : B → Gra
     → SuitsRun can_build suits rises d.grammar d.table (built new) → IsReduced node suits d t build st lender (built new)
 builds_settle {X} {B} {E} built node suits can_build rises d t build st lender old count new is h suit =
     let from : Built B E = record { grammar = d.grammar; build = build; stack = st; lender = lender } in
-    let begin : IsSameBut from (built old) = record { grammar = ap (λ (s : Built B E). s.grammar) is; build = ap (λ (s : Built B E). s.build) is; lender = ap (λ (s : Built B E). s.lender) is } in
+    let begin : KeepsRest from (built old) = record { grammar = ap (λ (s : Built B E). s.grammar) is; build = ap (λ (s : Built B E). s.build) is; lender = ap (λ (s : Built B E). s.lender) is } in
     let all = builds_all built node suits d.grammar d.table t from old h.of_states.prods new begin refl h.by in
     record {
       same = sym all.0.lender;

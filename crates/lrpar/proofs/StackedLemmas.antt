@@ -1,12 +1,12 @@
 -- The stacks of a run, as plain lists: what they do where all reductions are made.
-use Rattle.std.proofs.Common.{◌≡◌, ◌≢◌, ◌∙◌, ℕ, List, [], ◌∷◌, ◌++◌, Option, Some, ap, refl, subst, sym}
+use Rattle.std.proofs.Common.{◌≡◌, ◌∙◌, ℕ, List, [], ◌∷◌, ◌++◌, Option, Some, ap, refl, subst, sym}
 use Rattle.std.specs.List.{AllZip}
 use Rattle.std.specs.Option.{option_map_or}
 use Rattle.lrpar_grammar.specs.Grammar.{Grammar, GrammarSymbol, Terminal, end_token}
 use Rattle.lrpar_text.specs.declared.span.PIdx.{PIdx}
 use Rattle.lrpar_text.specs.declared.span.StIdx.{StIdx}
 use Rattle.lrpar_states.specs.declared.rows.Action.{Action}
-use Rattle.lrpar_states.specs.declared.rows.Action.TheVariants.{Shift, Reduce, Accept}
+use Rattle.lrpar_states.specs.declared.rows.Action.TheVariants.{Shift, Reduce}
 use Rattle.lrpar_states.specs.PlainRows.{plain_action}
 use Rattle.lrpar_check.specs.Checked.{Checked}
 use Rattle.lrpar_check.specs.Path.{IsPath, NeverSticks}
@@ -24,15 +24,10 @@ pub states_reduce : {E : Type 0} (node : ℕ → Option E → List E → E → T
 states_reduce {E} node suits g table t old [] new e = ap (λ (stack : Stacked E). stack.states) e
 states_reduce node suits g table t old (p ∷ ps) new all = (all.0.states, all.1.of_states, states_reduce node suits g table t all.0 ps new all.2)
 
--- what a settled stack does: no reduction, and it accepts at the end token alone
+-- what a settled stack does: no reduction, and no shift at the end token
 pub no_reduce : {E S : Type 0} (index : S → ℕ) (node : ℕ → Option E → List E → E → Type 0) (suits : GrammarSymbol → E → Type 0) (d : Checked) (t : ℕ) (old new : Stacked E) (action : Action S) (p : PIdx S)
     → SettlesTo node suits d t old new → plain_action index action ≡ top_action d.table t new.states → action ≡ Reduce p → ⊥
 no_reduce index node suits d t old new action p settles is reduce = settles.settled (index p.0) (sym is ∙ ap (plain_action index) reduce)
-
-pub no_accept : {E S : Type 0} (index : S → ℕ) (suits : GrammarSymbol → E → Type 0) (d : Checked) (t : ℕ) (new : Stacked E) (action : Action S)
-    → NeverSticks d.grammar d.table → IsUpright suits d.table new → t ≢ end_token d.grammar → plain_action index action ≡ top_action d.table t new.states → action ≡ Accept → ⊥
-no_accept index suits d t new action never upright inner is accept =
-    inner (never.accepts upright.symbols new.states t upright.path (sym is ∙ ap (plain_action index) accept)).0
 
 pub no_shift : {E S : Type 0} (index : S → ℕ) (suits : GrammarSymbol → E → Type 0) (d : Checked) (new : Stacked E) (action : Action S) (s : StIdx S)
     → NeverSticks d.grammar d.table → IsUpright suits d.table new → plain_action index action ≡ top_action d.table (end_token d.grammar) new.states → action ≡ Shift s → ⊥

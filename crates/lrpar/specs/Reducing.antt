@@ -8,15 +8,15 @@ use Rattle.lrpar_check.specs.Path.{NeverSticks}
 use Rattle.lrpar_states.specs.Table.{Table}
 use Rattle.lrpar.specs.Standing.{IsUpright, Stacked}
 
--- a grammar, what builds, the stacks, and whose borrow they are
+-- a grammar, what builds, the stacks, and the name of the borrow by which they are reached
 pub record Built (B E : Type 0) : Type 0 where
   pub grammar : Grammar
   pub build : B
   pub stack : Stacked E
   pub lender : ℕ
 
--- grammar, builder and borrow stay
-pub record IsSameBut {B E : Type 0} (old new : Built B E) : Type 0 where
+-- all but the stacks stays
+pub record KeepsRest {B E : Type 0} (old new : Built B E) : Type 0 where
   pub grammar : new.grammar ≡ old.grammar
   pub build : new.build ≡ old.build
   pub lender : new.lender ≡ old.lender
@@ -30,7 +30,7 @@ pub record IsBuiltOf {E : Type 0} (node : ℕ → Option E → List E → E → 
 
 -- such a reduction is made, and nothing else changes
 pub record Builds {B E : Type 0} (node : B → Grammar → ℕ → Option E → List E → E → Type 0) (suits : B → GrammarSymbol → E → Type 0) (old : Built B E) (p r n : ℕ) (new : Built B E) : Type 0 where
-  pub same : IsSameBut old new
+  pub same : KeepsRest old new
   pub of_entries : IsBuiltOf (node old.build old.grammar) (suits old.build) p r n old.stack.entries new.stack.entries
 
 module _ {B E : Type 0} (can_build : B → Grammar → Type 0) (suits : B → GrammarSymbol → E → Type 0) (rises : B → List E → ℕ → Type 0) where

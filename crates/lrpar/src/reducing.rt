@@ -56,7 +56,7 @@ impl<'a, StorageT: StorageIndex, LexemeT: Lexeme<StorageT>, B: Build<StorageT, L
     StorageT,
 > for Reducing<'a, StorageT, LexemeT, B> {
     ghost use Rattle.std.specs.Prelude.{◌≡◌, ◌<◌, ◌-◌, [], ◌∷◌, ◌++◌, length, take, OnErr, OnOk};
-    ghost use Rattle.lrpar.specs.Reducing.{Builds, CanBuild, IsSameBut, SuitsRun};
+    ghost use Rattle.lrpar.specs.Reducing.{Builds, CanBuild, KeepsRest, SuitsRun};
     ghost use Rattle.lrpar.specs.ReducingLaws.{builds_suit, due_can_build};
     ghost use Rattle.lrpar.specs.ReducingView.{built};
 
@@ -68,7 +68,7 @@ impl<'a, StorageT: StorageIndex, LexemeT: Lexeme<StorageT>, B: Build<StorageT, L
 
     ghost reduces = { λ old p r n new. Builds B.node B.suits (built old) p r n (built new) };
 
-    ghost fails = { λ old _ new. IsSameBut (built old) (built new) };
+    ghost fails = { λ old _ new. KeepsRest (built old) (built new) };
 
     fn height(&self) -> usize {
         self.stack.height()
@@ -89,7 +89,7 @@ impl<'a, StorageT: StorageIndex, LexemeT: Lexeme<StorageT>, B: Build<StorageT, L
             ≡ take (length self.old.stack.now.states - by.symbols) self.old.stack.now.states ++ StorageT.index by.next.0 ∷ []) }
         ensures reduces { OnOk result (Builds B.node B.suits (built self.old) (StorageT.index by.prod.0) (StorageT.index by.rule.0) by.symbols (built self.new)) }
         ensures unchanged { OnErr result (self.new.stack.now.states ≡ self.old.stack.now.states) }
-        ensures fails { OnErr result (IsSameBut (built self.old) (built self.new)) }
+        ensures fails { OnErr result (KeepsRest (built self.old) (built self.new)) }
     {
         self.stack.reduce(self.alloc, self.build, self.grm, by)
     }
