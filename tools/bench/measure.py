@@ -26,6 +26,10 @@ LOOKS = ("actions", "gotos", "actions_apart", "gotos_apart")
 LOOKED_UP = 1_000_000
 # A deep tree has so many levels, and the process so much stack.
 LEVELS = 1_000_000
+# Lists with marks, of which each tenth lexeme is one, stand in so many brackets and have so many lexemes.
+DEPTHS = (10, 10_000)
+LISTED = (10_000, 100_000)
+GAP = 10
 STACK = 8 << 20
 
 
@@ -137,6 +141,20 @@ class Bench:
         wrote = run([self.words.program, "deep", "3", *files], STACK)
         row("", "deep", LEVELS, wrote and statistics.median(map(int, wrote.split()[1:])) / LEVELS)
 
+    def mends(self):
+        print("\nRepairs: nanoseconds an error, by what a list with errors takes more than one without")
+        row("mode", "brackets", *(f"{count:,}" for count in LISTED), "growth")
+        for mode in ("mend", "mend_tree"):
+            for depth in DEPTHS:
+                rounds = [[self.mend(mode, depth, count) for count in LISTED] for _ in range(self.words.rounds)]
+                few, many = zip(*rounds)
+                row(mode, depth, middle(few), middle(many), ratio(many, few))
+
+    def mend(self, mode, depth, count):
+        """the nanoseconds that each error takes"""
+        marked, plain = (nanoseconds(self.words.program, it, 10, str(depth), str(count)) for it in (mode, f"{mode}_plain"))
+        return (marked - plain) * GAP / count
+
     def tables(self):
         print("\nTables: microseconds, and the ratio to the program before")
         for grammar in self.grammars:
@@ -231,6 +249,7 @@ def main():
     bench.parses()
     bench.trees()
     bench.deep()
+    bench.mends()
     bench.tables()
     bench.looks()
     bench.reader()
