@@ -1,5 +1,5 @@
-//! What comes of an example.
-use crate::example::Example;
+//! What comes of the examples.
+use crate::example::{EXAMPLES, Example};
 use crate::fault::Fault;
 use lrpar::build::{Unbuilt, parser_data};
 use lrpar::check::CheckFault;
@@ -8,15 +8,35 @@ use lrpar::{ParserData, RTParserBuilder};
 use lrpar_lexer::{LexRule, RuleLexer, TokenTypes, rules_of};
 use std::alloc::Global;
 use std::io::Write;
+use std::process::ExitCode;
 use std::rt::Files;
 use std::{fs, io};
 
 /// How many states a table may have.
 const MAX_STATES: usize = 10_000;
 
-/// Prints how many states the table has, whether it passes with the cap and with one less, and for each input how many errors its
-/// parse has.
-pub(crate) fn show<R: Files, O: Write>(
+/// Tries all examples on the process's own files, and prints what comes of each, or why that can't be told.
+pub(crate) fn run_of_process(rt: &HostRuntime) -> ExitCode {
+    match show_all(rt, rt.alloc(), &mut rt.stdout()) {
+        Ok(()) => ExitCode::SUCCESS,
+        Err(fault) => {
+            let _ = writeln!(rt.stderr(), "{fault}");
+            ExitCode::FAILURE
+        }
+    }
+}
+
+// Prints what comes of each example.
+fn show_all<R: Files, O: Write>(rt: &R, alloc: Global, out: &mut O) -> Result<(), Fault> {
+    for example in &EXAMPLES {
+        show(rt, alloc, example, out)?;
+    }
+    Ok(())
+}
+
+// Prints how many states the table has, whether it passes with the cap and with one less, and for each input how many errors its
+// parse has.
+fn show<R: Files, O: Write>(
     rt: &R,
     alloc: Global,
     example: &Example,
