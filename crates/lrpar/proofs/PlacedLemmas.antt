@@ -1,7 +1,7 @@
 -- A tree for which an entry with a span stands folds to its argument, and lies at its span.
-use Rattle.std.proofs.Common.{◌≡◌, ◌≤◌, ◌-◌, ◌∙◌, ℕ, suc, List, [], ◌∷◌, ◌++◌, Option, Some, length, nat_eq, take, drop, slice_index_or, true, false, ap, arith, refl, subst, sym}
+use Rattle.std.proofs.Common.{◌≡◌, ◌<◌, ◌≤◌, ◌+◌, ◌-◌, ◌∙◌, ℕ, suc, List, [], ◌∷◌, ◌++◌, Option, Some, length, nat_eq, take, drop, slice_index_or, get_or, true, false, ap, arith, refl, subst, sym}
 use Rattle.std.proofs.lemmas.Bool.{eqb-true}
-use Rattle.std.proofs.lemmas.List.{take-append-drop}
+use Rattle.std.proofs.lemmas.List.{map-append, take_more}
 use Rattle.std.specs.List.{AllZip, last_or, slice_get}
 use Rattle.lrpar_text.specs.Span.{Extent}
 use Rattle.lrpar_grammar.specs.Tree.{Tree, Forest, Leaf, Branch, Nil, Cons}
@@ -127,15 +127,14 @@ zip_arguments R [] (e ∷ es) all = absurd all
 zip_arguments R (s ∷ symbols) [] all = absurd all
 zip_arguments R (s ∷ symbols) (e ∷ es) all = (all.0, zip_arguments R symbols es all.1)
 
--- entries that rise do so where they are cut in two
-pub rise_cut : {T : Type 0} (n high : ℕ) (es kept own : List (Placed T)) → kept ≡ take n es → own ≡ drop n es → Rise 0 (spans_of es) high → Rise 0 (spans_of (kept ++ own)) high
-rise_cut n high es kept own kept_is own_is rise =
-    let whole : kept ++ own ≡ es = let e : take n es ++ drop n es ≡ es = take-append-drop n es in cc in
-    subst (λ (w : List (Placed _)). Rise 0 (spans_of w) high) (sym whole) rise
-
 -- the arguments of the last entries, where these suit the symbols
-pub own_arguments : {S T : Type 0} (R : S → T → Type 0) (symbols : List S) (es : List (Placed T)) (count len : ℕ) (own : List (Placed T)) (args : List T)
-    → len ≡ length es → own ≡ drop (len - count) es → args ≡ arguments_of own → AllZip (λ s e. R s e.argument) symbols (drop (length es - count) es) → AllZip R symbols args
-own_arguments R symbols es count len own args len_is own_is args_are suit =
-    let same : drop (length es - count) es ≡ own = ap (λ (n : ℕ). drop (n - count) es) (sym len_is) ∙ sym own_is in
-    subst (AllZip R symbols) (sym args_are) (zip_arguments R symbols own (subst (AllZip (λ s e. R s e.argument) symbols) same suit))
+pub own_arguments : {S T : Type 0} (R : S → T → Type 0) (symbols : List S) (es : List (Placed T)) (count : ℕ) (args : List T)
+    → args ≡ arguments_of (drop (length es - count) es) → AllZip (λ s e. R s e.argument) symbols (drop (length es - count) es) → AllZip R symbols args
+own_arguments R symbols es count args args_are suit = subst (AllZip R symbols) (sym args_are) (zip_arguments R symbols (drop (length es - count) es) suit)
+
+-- one more argument of entries that are taken from their front
+pub arguments_more : {T : Type 0} (all : List (Placed T)) (args : List T) (i : ℕ) (x : Placed T) → i < length all → x ≡ get_or all i x
+    → args ≡ arguments_of (take i all) → args ++ x.argument ∷ [] ≡ arguments_of (take (i + 1) all)
+arguments_more {T} all args i x more is made =
+    let front : take (i + 1) all ≡ take i all ++ x ∷ [] = take_more all i x more ∙ ap (λ (y : Placed T). take i all ++ y ∷ []) (sym is) in
+    ap (λ (w : List T). w ++ x.argument ∷ []) made ∙ sym (ap (λ (es : List (Placed T)). arguments_of es) front ∙ map-append (λ (e : Placed T). e.argument) (take i all) (x ∷ []))

@@ -1,5 +1,5 @@
 //! Values that a caller's actions make of productions, and where they lie.
-ghost use Rattle.std.specs.Prelude.{◌≡◌, ◌++◌, ◌↔◌, ℕ, List, IfOk, IsTrue, map};
+ghost use Rattle.std.specs.Prelude.{◌≡◌, ◌≤◌, ◌-◌, ◌++◌, ◌↔◌, ℕ, List, IfOk, IsTrue, OnOk, drop, length, map, take};
 ghost use Rattle.std.specs.List.{last_or};
 ghost use Rattle.lrpar_text.specs.Span.{Extent};
 ghost use Rattle.lrpar_grammar.specs.Grammar.{GrammarSymbol, rule_of};
@@ -114,10 +114,10 @@ impl<
         count: usize,
         entries: &mut Vec<Placed<AStackType<LexemeT, A::ActionT>>>,
     ) -> Result<Placed<AStackType<LexemeT, A::ActionT>>, AllocError> {
-        let own = entries.split_off(entries.len() - count)?;
-        let span = span_of(entries, &own);
+        let (before, own) = entries.split_at(entries.len() - count);
+        let span = span_of(before, own);
         let ridx = grm.prod_to_rule(*pidx);
-        let args = arguments_of(alloc, own)?;
+        let args = arguments_of(alloc, count, entries)?;
         let value = self
             .actions
             .act(alloc, *pidx, ridx, self.lexer, span, args, self.param)?;
@@ -146,12 +146,22 @@ fn span_of<T>(before: &[Placed<T>], own: &[Placed<T>]) -> Span
     }
 }
 
-// The arguments that the entries are.
-fn arguments_of<T: Drop>(alloc: Global, own: Vec<Placed<T>>) -> Result<Vec<T>, AllocError>
-    ensures { IfOk result (λ args. args.items ≡ arguments_of own.items) }
+// The arguments that the top `count` entries are, which are taken off, the lowest first. They are turned round on their
+// place, so that the list of the arguments is the only one that is made.
+fn arguments_of<T: Drop>(
+    alloc: Global,
+    count: usize,
+    entries: &mut Vec<Placed<T>>,
+) -> Result<Vec<T>, AllocError>
+    requires deep { count ≤ length entries.old.items }
+    ensures kept { OnOk result (entries.new.items ≡ take (length entries.old.items - count) entries.old.items) }
+    ensures arguments { IfOk result (λ args. args.items ≡ arguments_of (drop (length entries.old.items - count) entries.old.items)) }
 {
-    let mut args = Vec::with_capacity(alloc, own.len())?;
-    for entry in own {
+    let mut args = Vec::with_capacity(alloc, count)?;
+    let at = entries.len() - count;
+    entries[at..].reverse();
+    for _i in 0..count {
+        let entry = entries.pop().unwrap();
         args.push(entry.argument)?;
     }
     Ok(args)
