@@ -1,11 +1,11 @@
 #!/usr/bin/env bash
-# Reads two small grammar texts with each call for memory refused in turn.
+# Reads two small grammar texts, and builds and checks their tables, with each call for memory refused in turn.
 #
 #     refuse.sh PROGRAM
 #
-# PROGRAM is the built bench_program, which reads a text twice. Wants: where a call for memory of the first reading is
-# refused, that this reading answers a want of memory and the next one gives the grammar, or that both give it, since a
-# list asks again for less; and the other way round.
+# PROGRAM is the built bench_program, which reads a text twice, or builds its table twice. Wants: where a call for memory
+# of the first time is refused, that this time answers a want of memory and the next one gives the answer, or that both
+# give it, since a list asks again for less; and the other way round.
 # Prints the cases that failed, and one closing line. It stands outside the gate. It needs cc and glibc.
 set -u
 
@@ -30,41 +30,46 @@ printf "%%start A\n%%%%\nA : 'a' 'b' | B 'b';\nB : 'a' | C;\nC : 'a';\n" >"$work
 passed=0
 failed=0
 
-# The program's outcome where its call for memory of this number is refused.
+# The program's outcome in a mode where its call for memory of this number is refused.
 outcome() {
     rm -f "$work/mark"
     FAIL_ALLOC_AT=$1 FAIL_ALLOC_MARK=$work/mark LD_PRELOAD=$work/fail_alloc.so \
-        timeout 60 "$program" read_twice 1 "$2" >"$work/out" 2>"$work/err" </dev/null
+        timeout 60 "$program" "$2" 1 "$3" >"$work/out" 2>"$work/err" </dev/null
     printf '%s|%s|%s' "$?" "$(paste -sd/ "$work/out")" "$(<"$work/err")"
 }
 
-# refuse_each TEXT ANSWER: refuses each call in turn, until a run makes fewer calls than that.
+# refuse_each MODE TEXT ANSWER: refuses each call in turn, until a run makes fewer calls than that.
 refuse_each() {
     local call given first=0 second=0
     for ((call = 1; call <= most_calls; call++)); do
-        given=$(outcome "$call" "$work/$1")
+        given=$(outcome "$call" "$1" "$work/$2")
         [[ -e $work/mark ]] || break
         passed=$((passed + 1))
         case $given in
-            "0|memory/$2|") first=$((first + 1)) ;;
-            "0|$2/memory|") second=$((second + 1)) ;;
-            "0|$2/$2|") ;; # a list that may not grow by much asks again for less
-            '2||bench_program: out of memory') ;; # before the first reading: its arguments, and the file
+            "0|memory/$3|") first=$((first + 1)) ;;
+            "0|$3/memory|") second=$((second + 1)) ;;
+            "0|$3/$3|") ;; # a list that may not grow by much asks again for less
+            '2||bench_program: out of memory') ;; # before the first time: its arguments, and the file
+            '2||bench_program: grammar: out of memory') ;; # before it is built: the grammar
             *)
                 passed=$((passed - 1)) failed=$((failed + 1))
-                printf 'failed: %s, call %s refused: %s\n' "$1" "$call" "$given"
+                printf 'failed: %s of %s, call %s refused: %s\n' "$1" "$2" "$call" "$given"
                 ;;
         esac
     done
-    if [[ $given == "0|$2/$2|" && $first -gt 0 && $first -eq $second ]]; then
+    if [[ $given == "0|$3/$3|" && $first -gt 0 && $first -eq $second ]]; then
         passed=$((passed + 1))
     else
         failed=$((failed + 1))
-        printf 'failed: %s, no call refused: %s; %s of the first reading, %s of the second\n' "$1" "$given" "$first" "$second"
+        printf 'failed: %s of %s, no call refused: %s; %s of the first time, %s of the second\n' "$1" "$2" "$given" "$first" "$second"
     fi
 }
 
-refuse_each sum '3 rules, 3 tokens, 4 productions'
-refuse_each conflicts '4 rules, 3 tokens, 6 productions'
+refuse_each read_twice sum '3 rules, 3 tokens, 4 productions'
+refuse_each read_twice conflicts '4 rules, 3 tokens, 6 productions'
+refuse_each build_twice sum '6 states, 12 entries, no conflicts'
+refuse_each build_twice conflicts '7 states, 10 entries, 1 and 1 conflicts'
+refuse_each check_twice sum '6 states, 12 entries, no conflicts'
+refuse_each check_twice conflicts '7 states, 10 entries, 1 and 1 conflicts'
 printf '%s passed, %s failed\n' "$passed" "$failed"
 [[ $failed -eq 0 ]]
