@@ -1,24 +1,17 @@
 #!/usr/bin/env bash
-# Runs the real program with each of its calls for memory refused in turn, and with an argument that isn't UTF-8.
+# Runs each command of the real program with each of its calls for memory refused in turn, and the program with an argument
+# that isn't UTF-8.
 #
-# Wants: where a call is refused, status 2, the one line `lrpar: out of memory` on standard error and a beginning of the
-# tree on standard output, or else the whole tree as if no call had been refused. Prints the cases that failed, and one closing
-# line. It stands outside the gate. It needs cc and glibc.
+# Wants: where a call is refused, status 2, the one line `lrpar: out of memory` on standard error and a beginning of the whole
+# text on standard output, or else the whole answer as if no call had been refused. Prints how many calls each command makes,
+# the cases that failed, and one closing line. It stands outside the gate. It needs cc and glibc.
 set -u
 
 here=$(cd -P "$(dirname "$(readlink -f "${BASH_SOURCE[0]}")")" && pwd) || exit 1
 readonly here
 readonly root=$here/..
-readonly program=$root/crates/lrpar_program/out/lrpar_program
+readonly program=${LRPAR_PROGRAM:-$root/crates/lrpar_program/out/lrpar_program}
 readonly most_calls=100000
-readonly tree='E
- T
-  ID a
- + +
- E
-  T
-   ID b
-'
 readonly no_memory='lrpar: out of memory
 '
 
@@ -44,7 +37,7 @@ count() {
 
 # run WORDS..: runs the program, and keeps what it wrote and its status.
 run() {
-    timeout 60 "$@" >"$work/out" 2>"$work/err" </dev/null
+    timeout 60 "$@" >"$work/out" 2>"$work/err" <"$work/input"
     status=$?
 }
 
@@ -60,12 +53,12 @@ wrote_beginning() {
     [[ $status -eq $1 ]] && cmp -s "$work/out" <(printf '%s' "$2" | head -c "$len") && cmp -s "$work/err" <(printf '%s' "$3")
 }
 
-gives_tree() {
-    wrote 0 "$tree" ''
+gives_answer() {
+    wrote "$want_status" "$want_out" ''
 }
 
-gives_tree_or_no_memory() {
-    gives_tree || wrote_beginning 2 "$tree" "$no_memory"
+gives_answer_or_no_memory() {
+    gives_answer || wrote_beginning 2 "$want_out" "$no_memory"
 }
 
 # One line, which begins as the usage line does.
@@ -81,22 +74,24 @@ run_refused() {
     run env FAIL_ALLOC_AT="$call" FAIL_ALLOC_MARK="$work/mark" LD_PRELOAD="$work/fail_alloc.so" "$program" "$@"
 }
 
-# Refuses each call of `lrpar demo a+b` in turn, until a run makes fewer calls than that.
+# refuse_each_call STATUS OUT WORDS..: refuses each call of a command in turn, until a run makes fewer calls than that.
 refuse_each_call() {
-    local call
+    local want_status=$1 want_out=$2 call
+    shift 2
     for ((call = 1; call <= most_calls; call++)); do
-        run_refused "$call" demo a+b
+        run_refused "$call" "$@"
         if [[ ! -e $work/mark ]]; then
-            count "no call refused, $((call - 1)) made" gives_tree
-            count 'some call is refused' test "$call" -gt 1
+            printf '%s: %s calls\n' "$1" "$((call - 1))"
+            count "$*: no call refused" gives_answer
+            count "$*: some call is refused" test "$call" -gt 1
             return
         fi
-        count "call $call refused" gives_tree_or_no_memory
+        count "$*: call $call refused" gives_answer_or_no_memory
     done
-    count "at most $most_calls calls" false
+    count "$*: at most $most_calls calls" false
 }
 
-if ! "$root/lrpar" demo a+b >"$work/out"; then
+if [[ -z ${LRPAR_PROGRAM:-} ]] && ! "$root/lrpar" demo a+b >/dev/null; then
     printf 'lrpar demo a+b fails before any call is refused\n' >&2
     exit 1
 fi
@@ -105,7 +100,44 @@ if ! cc -O1 -Wall -shared -fPIC -o "$work/fail_alloc.so" "$here/fail_alloc.c"; t
     exit 1
 fi
 
-refuse_each_call
+printf '%s' "%% E: T '+' E | T; T: 'ID';" >"$work/sum.y"
+printf '%s' "%% E : 'N' | E '+' 'N' | '(' E ')';" >"$work/brackets.y"
+printf '%s\n' "n 'N'" "\\+ '+'" "\\( '('" "\\) ')'" >"$work/brackets.lex"
+printf '%s\n' "insert ')'" "insert ')' delete" "insert '+' shift insert ')'" >"$work/brackets.repairs"
+printf '%s\n' 'delete' "insert 'INT'" >"$work/calc.repairs"
+printf '(nn' >"$work/text"
+printf '%s\n' '2 + + 3' '' '(2 + 3) * 4' >"$work/input"
+
+refuse_each_call 0 'E
+ T
+  ID a
+ + +
+ E
+  T
+   ID b
+' demo a+b
+refuse_each_call 1 'Parsing error at line 1 column 3. Repair sequences found:
+   1: Insert ), Delete n
+   2: Insert +, Shift n, Insert )
+E
+ ( (
+ E
+  N n
+ ) 
+' tree "$work/brackets.y" "$work/brackets.lex" "$work/text" "$work/brackets.repairs"
+refuse_each_call 0 'rules 3, productions 4, tokens 3, states 6
+checked
+' check "$work/sum.y" 2
+refuse_each_call 2 'rules 3, productions 4, tokens 3, states 6
+refused: chain too long at state 4, token $
+' check "$work/sum.y" 1
+refuse_each_call 1 'Parsing error at line 1 column 5. Repair sequences found:
+   1: Delete +
+   2: Insert INT
+Result: 5
+Result: 20
+' calc --shifts 1 "$work/calc.repairs"
+
 run "$program" demo $'\xff'
 count 'an argument that is not UTF-8' gives_usage_line
 run "$program" $'\xff'

@@ -11,10 +11,7 @@ pub(crate) enum Command<'a> {
     /// Parses the file `input` by the grammar and the lexer's rules of two files, and by the repairs of a fourth one.
     Tree {
         shifts: Option<usize>,
-        grammar: &'a str,
-        lexer: &'a str,
-        input: &'a str,
-        repairs: Option<&'a str>,
+        paths: TreePaths<'a>,
     },
     /// Builds and checks the table of the grammar of a file.
     Check {
@@ -26,6 +23,15 @@ pub(crate) enum Command<'a> {
         shifts: Option<usize>,
         repairs: Option<&'a str>,
     },
+}
+
+/// The paths of the files that `tree` reads.
+#[derive(Clone, Copy, Debug)]
+pub(crate) struct TreePaths<'a> {
+    pub(crate) grammar: &'a str,
+    pub(crate) lexer: &'a str,
+    pub(crate) input: &'a str,
+    pub(crate) repairs: Option<&'a str>,
 }
 
 /// The command of these words.
@@ -43,19 +49,34 @@ pub(crate) fn command_of(args: &[String]) -> Result<Command<'_>, Fault> {
 
 // The command `tree` of the words after it.
 fn tree(words: &[String]) -> Result<Command<'_>, Fault> {
-    let (shifts, paths) = option(words)?;
-    let (grammar, lexer, input, repairs) = match paths {
-        [grammar, lexer, input] => (grammar, lexer, input, None),
-        [grammar, lexer, input, repairs] => (grammar, lexer, input, Some(repairs.as_str())),
-        _ => return Err(Fault::Usage),
-    };
+    let (shifts, words) = option(words)?;
+    let paths = tree_paths(words)?;
     Ok(Command::Tree {
         shifts: nonzero(shifts)?,
-        grammar: grammar.as_str(),
-        lexer: lexer.as_str(),
-        input: input.as_str(),
-        repairs,
+        paths,
     })
+}
+
+// The paths of the words after `tree` and its option.
+fn tree_paths(words: &[String]) -> Result<TreePaths<'_>, Fault> {
+    match words {
+        [grammar, lexer, input, repairs @ ..] => Ok(TreePaths {
+            grammar: grammar.as_str(),
+            lexer: lexer.as_str(),
+            input: input.as_str(),
+            repairs: path_if_any(repairs)?,
+        }),
+        _ => Err(Fault::Usage),
+    }
+}
+
+// The path of the last words, which may be missing.
+fn path_if_any(words: &[String]) -> Result<Option<&str>, Fault> {
+    match words {
+        [] => Ok(None),
+        [path] => Ok(Some(path.as_str())),
+        _ => Err(Fault::Usage),
+    }
 }
 
 // The command `check` of the words after it.
@@ -74,12 +95,8 @@ fn check(words: &[String]) -> Result<Command<'_>, Fault> {
 
 // The command `calc` of the words after it.
 fn calc(words: &[String]) -> Result<Command<'_>, Fault> {
-    let (shifts, paths) = option(words)?;
-    let repairs = match paths {
-        [] => None,
-        [repairs] => Some(repairs.as_str()),
-        _ => return Err(Fault::Usage),
-    };
+    let (shifts, words) = option(words)?;
+    let repairs = path_if_any(words)?;
     Ok(Command::Calc {
         shifts: nonzero(shifts)?,
         repairs,

@@ -1,19 +1,21 @@
 //! The command `calc`: sums and products, one a line.
 use crate::fault::Fault;
-use crate::parsing::{Parser, print_errors, print_line};
-use lrpar::Lexeme;
+use crate::files::input_text;
+use crate::parsing::{TextError, Tools, print_errors, print_line, tools_of};
+use crate::tables::data_of;
 use lrpar::grammar::YaccGrammar;
-use lrpar::span::TIdx;
-use lrpar_lexer::{LexRule, RuleLexer, Token};
+use lrpar::span::{Span, TIdx};
+use lrpar::{Lexeme, ParserData};
+use lrpar_lexer::{RuleLexer, Token};
 use std::alloc::Global;
-use std::io::Write;
+use std::io::{Read, Write};
 
 /// The grammar of sums and products.
-pub(crate) const GRAMMAR: &str =
+const GRAMMAR: &str =
     "%start Expr %% Expr: Expr '+' Term | Term; Term: Term '*' Factor | Factor; Factor: '(' Expr ')' | 'INT';";
 
 /// The rules of their lexer.
-pub(crate) const LEXER: &str = "[0-9]+ 'INT'\n\\+ '+'\n\\* '*'\n\\( '('\n\\) ')'\n[\\t ]+ ;\n";
+const LEXER: &str = "[0-9]+ 'INT'\n\\+ '+'\n\\* '*'\n\\( '('\n\\) ')'\n[\\t ]+ ;\n";
 
 /// What a symbol stands for: a sign, or a number, which there may be none of.
 #[derive(Clone, Copy, Debug)]
@@ -30,23 +32,55 @@ enum Sign {
     Bracket,
 }
 
-/// Computes each line of the text but those of white space alone. Prints its errors, and then its number on `out`; where there
-/// is none, says so on `err`. Answers whether each line has a number, and no error.
-pub(crate) fn calc<'a, O: Write, E: Write>(
+/// What a line gives.
+#[derive(Clone, Copy, Debug)]
+struct Found {
+    number: Option<u64>,
+    has_errors: bool,
+}
+
+/// Computes each line of the input but those of white space alone, with the repairs of a text. Prints its errors, and then its
+/// number on `out`; where there is none, says so on `err`. Answers whether each line has a number, and no error.
+///
+/// The input is read once the repairs are made, and before the first line is computed.
+pub(crate) fn calc<I: Read + Drop, O: Write, E: Write>(
     alloc: Global,
-    parser: &Parser<'_>,
-    names: &'a [&'a str],
-    rules: &[LexRule],
-    text: &'a str,
+    repairs: &str,
+    shifts: Option<usize>,
+    input: I,
+    out: &mut O,
+    err: &mut E,
+) -> Result<bool, Fault> {
+    let data = data_of(alloc, GRAMMAR)?;
+    calc_by(alloc, &data, repairs, shifts, input, out, err)
+}
+
+// The same by the table of sums and products.
+fn calc_by<I: Read + Drop, O: Write, E: Write>(
+    alloc: Global,
+    data: &ParserData<u32>,
+    repairs: &str,
+    shifts: Option<usize>,
+    input: I,
+    out: &mut O,
+    err: &mut E,
+) -> Result<bool, Fault> {
+    let tools = tools_of(alloc, data, LEXER, repairs, shifts)?;
+    let text = input_text(alloc, input)?;
+    calc_lines(alloc, &tools, text.as_str(), out, err)
+}
+
+// The same by these tools, of the lines of a text.
+fn calc_lines<O: Write, E: Write>(
+    alloc: Global,
+    tools: &Tools<'_>,
+    text: &str,
     out: &mut O,
     err: &mut E,
 ) -> Result<bool, Fault> {
     let mut all = true;
     for line in text.split_inclusive('\n') {
-        let line = without_end(line);
-        if !line.trim().is_empty() {
-            all = calc_line(alloc, parser, names, rules, line, out, err)? && all;
-        }
+        all = calc_line(alloc, tools, without_end(line), out, err)? && all;
     }
     Ok(all)
 }
@@ -59,35 +93,57 @@ fn without_end(line: &str) -> &str {
     }
 }
 
-// Computes a line.
-fn calc_line<'a, O: Write, E: Write>(
+// Computes a line. One of white space alone is well.
+fn calc_line<O: Write, E: Write>(
     alloc: Global,
-    parser: &Parser<'_>,
-    names: &'a [&'a str],
-    rules: &[LexRule],
-    line: &'a str,
+    tools: &Tools<'_>,
+    line: &str,
     out: &mut O,
     err: &mut E,
 ) -> Result<bool, Fault> {
-    let lexer = RuleLexer::new(alloc, rules, line)?;
-    let grm = parser.grammar();
-    let (value, errors) = parser.parse_map(
-        alloc,
-        &lexer,
-        |lexeme| part_of(grm, line, lexeme),
-        |_, parts| joined(&parts),
-    )?;
-    print_errors(alloc, names, &lexer, line, &errors, out)?;
-    match value {
-        Some(Part::Number(Some(number))) => {
-            print_number(out, number)?;
-            Ok(errors.is_empty())
-        }
-        _ => {
-            print_none(out, err)?;
-            Ok(false)
-        }
+    if line.trim().is_empty() {
+        return Ok(true);
     }
+    let found = computed(alloc, tools, line, out)?;
+    print_result(found.number, out, err)?;
+    Ok(found.number.is_some() && !found.has_errors)
+}
+
+// The number of a line, whose errors it prints.
+fn computed<'a, O: Write>(
+    alloc: Global,
+    tools: &'a Tools<'_>,
+    line: &'a str,
+    out: &mut O,
+) -> Result<Found, Fault> {
+    let lexer = RuleLexer::new(alloc, &tools.rules, line)?;
+    let (value, errors) = value_and_errors(alloc, tools, &lexer, line)?;
+    print_errors(alloc, &tools.names, &lexer, line, &errors, out)?;
+    Ok(Found {
+        number: match value {
+            Some(part) => number_of(part),
+            None => None,
+        },
+        has_errors: !errors.is_empty(),
+    })
+}
+
+// The value of a line, if it has one, and its errors.
+fn value_and_errors(
+    alloc: Global,
+    tools: &Tools<'_>,
+    lexer: &RuleLexer<'_, '_>,
+    line: &str,
+) -> Result<(Option<Part>, Vec<TextError>), Fault> {
+    let grm = tools.parser.grammar();
+    Ok(
+        tools.parser.parse_map(
+            alloc,
+            lexer,
+            |lexeme| part_of(grm, line, lexeme),
+            |_, parts| joined(&parts),
+        )?,
+    )
 }
 
 // What a lexeme stands for. One that a repair made has no number, and neither has one whose number is too large.
@@ -95,13 +151,15 @@ fn part_of(grm: &YaccGrammar<u32>, line: &str, lexeme: Token<u32>) -> Part {
     match token_name(grm, lexeme.tok_id()) {
         "+" => Part::Sign(Sign::Plus),
         "*" => Part::Sign(Sign::Times),
-        "INT" if !lexeme.faulty() => {
-            let digits = line.get(lexeme.span().start()..lexeme.span().end());
-            Part::Number(digits.unwrap_or("").parse::<u64>().ok())
-        }
-        "INT" => Part::Number(None),
+        "INT" if lexeme.faulty() => Part::Number(None),
+        "INT" => Part::Number(number_at(line, lexeme.span())),
         _ => Part::Sign(Sign::Bracket),
     }
+}
+
+// The number that stands in a line, if it isn't too large.
+fn number_at(line: &str, span: Span) -> Option<u64> {
+    line.get(span.start()..span.end())?.parse::<u64>().ok()
 }
 
 // The name of a token.
@@ -117,20 +175,27 @@ fn token_name(grm: &YaccGrammar<u32>, number: u32) -> &str {
 // What the parts of a right side stand for.
 fn joined(parts: &[Part]) -> Part {
     Part::Number(match parts {
-        [Part::Number(number)] => *number,
-        [
-            Part::Number(left),
-            Part::Sign(Sign::Plus),
-            Part::Number(right),
-        ] => sum(*left, *right),
-        [
-            Part::Number(left),
-            Part::Sign(Sign::Times),
-            Part::Number(right),
-        ] => { product(*left, *right) }
-        [Part::Sign(_), Part::Number(number), Part::Sign(_)] => *number,
+        [part] => number_of(*part),
+        [left, middle, right] => number_of_three(*left, *middle, *right),
         _ => None,
     })
+}
+
+// The number of a sum, of a product, or of what stands in brackets.
+fn number_of_three(left: Part, middle: Part, right: Part) -> Option<u64> {
+    match middle {
+        Part::Sign(Sign::Plus) => sum(number_of(left), number_of(right)),
+        Part::Sign(Sign::Times) => product(number_of(left), number_of(right)),
+        middle => number_of(middle),
+    }
+}
+
+// The number that a part stands for, if it is one.
+fn number_of(part: Part) -> Option<u64> {
+    match part {
+        Part::Number(number) => number,
+        Part::Sign(_) => None,
+    }
 }
 
 // The sum of two numbers, if there are both and it fits.
@@ -141,6 +206,18 @@ fn sum(left: Option<u64>, right: Option<u64>) -> Option<u64> {
 // The product of two numbers, if there are both and it fits.
 fn product(left: Option<u64>, right: Option<u64>) -> Option<u64> {
     left?.checked_mul(right?)
+}
+
+// Prints a line's number, or says that it has none.
+fn print_result<O: Write, E: Write>(
+    number: Option<u64>,
+    out: &mut O,
+    err: &mut E,
+) -> Result<(), Fault> {
+    match number {
+        Some(number) => print_number(out, number),
+        None => print_none(out, err),
+    }
 }
 
 // Prints a line's number.

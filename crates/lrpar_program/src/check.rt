@@ -1,13 +1,20 @@
 //! The command `check`: whether the table of a grammar is safe, and its chains short.
 use crate::fault::Fault;
 use crate::parsing::print_line;
-use crate::tables::{Built, built};
+use crate::tables::{Built, built, grammar_of};
 use lrpar::ParserData;
 use lrpar::check::CheckFault;
 use lrpar::grammar::YaccGrammar;
 use lrpar::span::TIdx;
 use std::alloc::Global;
 use std::io::Write;
+
+/// A grammar, and what the check says against its table.
+#[derive(Debug, Drop)]
+struct Refusal {
+    grm: YaccGrammar<u32>,
+    fault: CheckFault,
+}
 
 /// Prints how large the grammar of the text and its table are, and what the check says. Answers whether it passes.
 pub(crate) fn check<O: Write>(
@@ -16,36 +23,50 @@ pub(crate) fn check<O: Write>(
     cap: u16,
     out: &mut O,
 ) -> Result<bool, Fault> {
-    let grm = YaccGrammar::new_with_storaget(alloc, grammar)?;
+    let grm = grammar_of(alloc, grammar)?;
     let built = built(alloc, &grm)?;
-    check_built(alloc, grm, built, cap, out)
+    print_sizes(&grm, &built, out)?;
+    print_verdict(refusal_of(alloc, grm, built, cap), out)
 }
 
-/// The same of a table that was built.
-pub(crate) fn check_built<O: Write>(
+// What the check says against the table, if anything.
+fn refusal_of(
     alloc: Global,
     grm: YaccGrammar<u32>,
     (sgraph, stable): Built,
     cap: u16,
-    out: &mut O,
-) -> Result<bool, Fault> {
-    print_sizes(&grm, stable.states_len(), out)?;
+) -> Option<Refusal> {
     match ParserData::new(alloc, grm, sgraph, stable, cap) {
-        Ok(_) => {
-            print_line(out, "checked")?;
-            Ok(true)
-        }
+        Ok(_) => None,
         Err(refused) => {
             let fault = refused.fault();
             let (grm, _, _) = refused.into_parts();
-            print_refusal(&grm, fault, out)?;
+            Some(Refusal { grm, fault })
+        }
+    }
+}
+
+// Prints what the check says. Answers whether it passes.
+fn print_verdict<O: Write>(refusal: Option<Refusal>, out: &mut O) -> Result<bool, Fault> {
+    match refusal {
+        None => {
+            print_line(out, "checked")?;
+            Ok(true)
+        }
+        Some(refusal) => {
+            print_refusal(&refusal.grm, refusal.fault, out)?;
             Ok(false)
         }
     }
 }
 
 // Prints how large the grammar and its table are.
-fn print_sizes<O: Write>(grm: &YaccGrammar<u32>, states: usize, out: &mut O) -> Result<(), Fault> {
+fn print_sizes<O: Write>(
+    grm: &YaccGrammar<u32>,
+    (_, stable): &Built,
+    out: &mut O,
+) -> Result<(), Fault> {
+    let states = stable.states_len();
     let rules = grm.rules_len();
     let prods = grm.prods_len();
     let tokens = grm.tokens_len();

@@ -2,11 +2,12 @@
 ghost use Rattle.std.specs.Prelude.{◌≡◌};
 
 use crate::fault::Fault;
+use crate::repairs::recoverer_of;
 use lrpar::grammar::YaccGrammar;
 use lrpar::repair::FixedRecoverer;
 use lrpar::span::TIdx;
 use lrpar::{LexParseError, Node, NonStreamingLexer, ParserData, RTParserBuilder};
-use lrpar_lexer::{Token, TokenTypes};
+use lrpar_lexer::{LexRule, Token, TokenTypes, rules_of};
 use std::alloc::{AllocError, Global};
 use std::io::Write;
 
@@ -18,6 +19,46 @@ pub(crate) type Tree = Node<Token<u32>, u32>;
 
 /// An error of a parse.
 pub(crate) type TextError = LexParseError<u32, TokenTypes>;
+
+/// What a command parses texts by.
+#[derive(Drop)]
+pub(crate) struct Tools<'a> {
+    /// The rules of its lexer.
+    pub(crate) rules: Vec<LexRule>,
+    /// The parser, with its repairs.
+    pub(crate) parser: Parser<'a>,
+    /// What messages print for the tokens, in their order.
+    pub(crate) names: Vec<&'a str>,
+}
+
+/// The tools by this table and by the texts of a lexer and of repairs.
+pub(crate) fn tools_of<'a>(
+    alloc: Global,
+    data: &'a ParserData<u32>,
+    lexer: &str,
+    repairs: &str,
+    shifts: Option<usize>,
+) -> Result<Tools<'a>, Fault> {
+    let rules = rules_of(alloc, data.grm(), lexer)?;
+    let parser = repairing_parser(alloc, data, repairs, shifts)?;
+    let names = printed_names(alloc, data.grm())?;
+    Ok(Tools {
+        rules,
+        parser,
+        names,
+    })
+}
+
+// The parser by this table, with the repairs of a text.
+fn repairing_parser<'a>(
+    alloc: Global,
+    data: &'a ParserData<u32>,
+    repairs: &str,
+    shifts: Option<usize>,
+) -> Result<Parser<'a>, Fault> {
+    let repairs = recoverer_of(alloc, data.grm(), repairs)?;
+    parser_by(data, repairs, shifts)
+}
 
 /// The parser by this table, with these repairs; `shifts` lexemes have to follow a repair, where that is told.
 pub(crate) fn parser_by(
@@ -68,7 +109,7 @@ pub(crate) fn print_tree<'a, L: NonStreamingLexer<'a, TokenTypes>, O: Write>(
 ) -> Result<bool, Fault>
     requires { L.text lexer.now ≡ input.now }
 {
-    let (tree, errors) = parser.parse_generictree(alloc, lexer)?;
+    let (tree, errors) = tree_and_errors(alloc, parser, lexer)?;
     print_errors(alloc, names, lexer, input, &errors, out)?;
     match tree {
         Some(tree) => {
@@ -77,6 +118,15 @@ pub(crate) fn print_tree<'a, L: NonStreamingLexer<'a, TokenTypes>, O: Write>(
         }
         None => Ok(false),
     }
+}
+
+// The tree of the lexer's text, if there is one, and the errors.
+fn tree_and_errors<'a, L: NonStreamingLexer<'a, TokenTypes>>(
+    alloc: Global,
+    parser: &Parser<'_>,
+    lexer: &L,
+) -> Result<(Option<Tree>, Vec<TextError>), Fault> {
+    Ok(parser.parse_generictree(alloc, lexer)?)
 }
 
 /// Prints each error's text and a line feed.

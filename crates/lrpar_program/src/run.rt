@@ -1,16 +1,11 @@
 //! The whole program: its words to commands, their answers to standard output, their faults to a line and a status.
-use crate::arguments::{Command, command_of};
-use crate::calc::{self, calc};
+use crate::arguments::{Command, TreePaths, command_of};
+use crate::calc::calc;
 use crate::check::check;
 use crate::demo::demo;
 use crate::fault::Fault;
-use crate::files::{file_text, input_text, text_if_any};
-use crate::parsing::{parser_by, printed_names};
-use crate::repairs::recoverer_of;
-use crate::tables::checked;
+use crate::files::{file_text, text_if_any};
 use crate::tree::{TreeTexts, tree};
-use lrpar::grammar::YaccGrammar;
-use lrpar_lexer::rules_of;
 use std::alloc::Global;
 use std::io::{BufWriter, Read, Write};
 use std::rt::Files;
@@ -49,24 +44,33 @@ pub(crate) fn run<R: Files, I: Read + Drop, O: Write + Drop, E: Write + Drop>(
     out: O,
     mut err: E,
 ) -> u8 {
-    let mut out = match BufWriter::new(alloc, out) {
-        Ok(out) => out,
-        Err(_) => return refused(&Fault::Memory, &mut err),
-    };
-    let status = printed(rt, alloc, args, input, &mut out, &mut err);
-    match flushed(status, &mut out) {
+    match written(rt, alloc, args, input, out, &mut err) {
         Ok(status) => status,
-        Err(fault) => {
-            // What `out` didn't take isn't tried again.
-            let _ = out.into_parts();
-            refused(&fault, &mut err)
-        }
+        Err(fault) => refused(&fault, &mut err),
     }
 }
 
 // The words after the program's name.
 fn words(rt: &HostRuntime) -> io::Result<Vec<String>> {
     Ok(env::args(rt)?.skip(1).collect(rt.alloc())?)
+}
+
+// The status of the command, once all that it prints is written.
+fn written<R: Files, I: Read + Drop, O: Write + Drop, E: Write>(
+    rt: &R,
+    alloc: Global,
+    args: &[String],
+    input: I,
+    out: O,
+    err: &mut E,
+) -> Result<u8, Fault> {
+    match BufWriter::new(alloc, out) {
+        Ok(mut out) => {
+            let status = printed(rt, alloc, args, input, &mut out, err);
+            finished(status, out)
+        }
+        Err(_) => Err(Fault::Memory),
+    }
 }
 
 // The status of the command, which prints its answer.
@@ -80,55 +84,82 @@ fn printed<R: Files, I: Read + Drop, O: Write, E: Write>(
 ) -> Result<u8, Fault> {
     match command_of(args)? {
         Command::Demo { text } => Ok(status_of(demo(alloc, text, out)?, ERRORS)),
-        Command::Tree {
-            shifts,
-            grammar,
-            lexer,
-            input,
-            repairs,
-        } => {
-            let texts = TreeTexts {
-                grammar: file_text(rt, alloc, grammar)?,
-                lexer: file_text(rt, alloc, lexer)?,
-                input: file_text(rt, alloc, input)?,
-                repairs: text_if_any(rt, alloc, repairs)?,
-            };
-            Ok(status_of(tree(alloc, &texts, shifts, out)?, ERRORS))
+        Command::Tree { shifts, paths } => {
+            Ok(status_of(tree_of_files(rt, alloc, paths, shifts, out)?, ERRORS))
         }
         Command::Check { grammar, cap } => {
-            let grammar = file_text(rt, alloc, grammar)?;
-            Ok(status_of(check(alloc, grammar.as_str(), cap, out)?, FAULT))
+            Ok(status_of(check_file(rt, alloc, grammar, cap, out)?, FAULT))
         }
         Command::Calc { shifts, repairs } => {
-            let repairs = text_if_any(rt, alloc, repairs)?;
-            let clean = calc_input(alloc, repairs.as_str(), shifts, input, out, err)?;
+            let clean = calc_input(rt, alloc, repairs, shifts, input, out, err)?;
             Ok(status_of(clean, ERRORS))
         }
     }
 }
 
-// Computes the lines of standard input, by the repairs of a text. Answers whether each has a number, and no error.
-fn calc_input<I: Read + Drop, O: Write, E: Write>(
+// Prints the errors and the tree of a file. Answers whether there is a tree, and no error.
+fn tree_of_files<R: Files, O: Write>(
+    rt: &R,
     alloc: Global,
-    repairs: &str,
+    paths: TreePaths<'_>,
+    shifts: Option<usize>,
+    out: &mut O,
+) -> Result<bool, Fault> {
+    let texts = tree_texts(rt, alloc, paths)?;
+    tree(alloc, &texts, shifts, out)
+}
+
+// The texts of the files that `tree` reads.
+fn tree_texts<R: Files>(rt: &R, alloc: Global, paths: TreePaths<'_>) -> Result<TreeTexts, Fault> {
+    Ok(TreeTexts {
+        grammar: file_text(rt, alloc, paths.grammar)?,
+        lexer: file_text(rt, alloc, paths.lexer)?,
+        input: file_text(rt, alloc, paths.input)?,
+        repairs: text_if_any(rt, alloc, paths.repairs)?,
+    })
+}
+
+// Checks the table of a file's grammar, and prints what the check says. Answers whether it passes.
+fn check_file<R: Files, O: Write>(
+    rt: &R,
+    alloc: Global,
+    grammar: &str,
+    cap: u16,
+    out: &mut O,
+) -> Result<bool, Fault> {
+    let grammar = file_text(rt, alloc, grammar)?;
+    check(alloc, grammar.as_str(), cap, out)
+}
+
+// Computes the lines of standard input, with the repairs of a file. Answers whether each has a number, and no error.
+fn calc_input<R: Files, I: Read + Drop, O: Write, E: Write>(
+    rt: &R,
+    alloc: Global,
+    repairs: Option<&str>,
     shifts: Option<usize>,
     input: I,
     out: &mut O,
     err: &mut E,
 ) -> Result<bool, Fault> {
-    let grm = YaccGrammar::new_with_storaget(alloc, calc::GRAMMAR)?;
-    let data = checked(alloc, grm)?;
-    let rules = rules_of(alloc, data.grm(), calc::LEXER)?;
-    let repairs = recoverer_of(alloc, data.grm(), repairs)?;
-    let names = printed_names(alloc, data.grm())?;
-    let text = input_text(alloc, input)?;
-    let parser = parser_by(&data, repairs, shifts)?;
-    calc(alloc, &parser, &names, &rules, text.as_str(), out, err)
+    let repairs = text_if_any(rt, alloc, repairs)?;
+    calc(alloc, repairs.as_str(), shifts, input, out, err)
 }
 
 // The status of a command that is well, or else another one.
 fn status_of(is_well: bool, other: u8) -> u8 {
     if is_well { SUCCESS } else { other }
+}
+
+// The status, once all that was printed is written. What `out` doesn't take isn't tried again.
+fn finished<O: Write + Drop>(
+    status: Result<u8, Fault>,
+    mut out: BufWriter<O>,
+) -> Result<u8, Fault> {
+    let status = flushed(status, &mut out);
+    if status.is_err() {
+        let _ = out.into_parts();
+    }
+    status
 }
 
 // The status, once all that was printed is written.

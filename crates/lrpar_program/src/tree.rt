@@ -1,11 +1,9 @@
 //! The command `tree`: the tree of a text by a grammar and a lexer of files.
 use crate::fault::Fault;
-use crate::parsing::{Parser, parser_by, print_tree, printed_names};
-use crate::repairs::recoverer_of;
-use crate::tables::checked;
+use crate::parsing::{Tools, print_tree, tools_of};
+use crate::tables::data_of;
 use lrpar::ParserData;
-use lrpar::grammar::YaccGrammar;
-use lrpar_lexer::{LexRule, RuleLexer, rules_of};
+use lrpar_lexer::RuleLexer;
 use std::alloc::Global;
 use std::io::Write;
 
@@ -25,35 +23,30 @@ pub(crate) fn tree<O: Write>(
     shifts: Option<usize>,
     out: &mut O,
 ) -> Result<bool, Fault> {
-    let grm = YaccGrammar::new_with_storaget(alloc, texts.grammar.as_str())?;
-    let data = checked(alloc, grm)?;
+    let data = data_of(alloc, texts.grammar.as_str())?;
     tree_by(alloc, &data, texts, shifts, out)
 }
 
-/// The same by a table that was checked.
-pub(crate) fn tree_by<O: Write>(
+// The same by a table that was checked.
+fn tree_by<O: Write>(
     alloc: Global,
     data: &ParserData<u32>,
     texts: &TreeTexts,
     shifts: Option<usize>,
     out: &mut O,
 ) -> Result<bool, Fault> {
-    let rules = rules_of(alloc, data.grm(), texts.lexer.as_str())?;
-    let repairs = recoverer_of(alloc, data.grm(), texts.repairs.as_str())?;
-    let names = printed_names(alloc, data.grm())?;
-    let parser = parser_by(data, repairs, shifts)?;
-    tree_of(alloc, &parser, &names, &rules, texts.input.as_str(), out)
+    let lexer = texts.lexer.as_str();
+    let tools = tools_of(alloc, data, lexer, texts.repairs.as_str(), shifts)?;
+    tree_of(alloc, &tools, texts.input.as_str(), out)
 }
 
-// The same by a parser and rules.
+// The same by these tools.
 fn tree_of<'a, O: Write>(
     alloc: Global,
-    parser: &Parser<'_>,
-    names: &'a [&'a str],
-    rules: &[LexRule],
+    tools: &'a Tools<'_>,
     input: &'a str,
     out: &mut O,
 ) -> Result<bool, Fault> {
-    let lexer = RuleLexer::new(alloc, rules, input)?;
-    print_tree(alloc, parser, names, &lexer, input, out)
+    let lexer = RuleLexer::new(alloc, &tools.rules, input)?;
+    print_tree(alloc, &tools.parser, &tools.names, &lexer, input, out)
 }
