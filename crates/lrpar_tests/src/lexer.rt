@@ -60,6 +60,15 @@ pub(crate) struct NoToken {
     pub(crate) span: Span,
 }
 
+impl NoToken {
+    /// The error of `span`.
+    pub(crate) fn new(span: Span) -> NoToken
+        ensures { result.span ≡ span }
+    {
+        NoToken { span }
+    }
+}
+
 impl fmt::Display for NoToken {
     fn fmt<W: fmt::Write>(&self, f: &mut fmt::Formatter<W>) -> fmt::Result {
         let start = self.span.start();
