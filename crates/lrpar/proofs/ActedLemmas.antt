@@ -14,7 +14,7 @@ use Rattle.lrpar.specs.Recovery.{Point}
 use Rattle.lrpar.specs.Sequences.{PlainStep}
 use Rattle.lrpar.specs.Placed.{IsPlacedLexeme, IsPlacedValue}
 use Rattle.lrpar.specs.declared.actions.Placed.{Placed}
-use Rattle.lrpar.specs.declared.errors.LexParseError.{LexParseError}
+use Rattle.lrpar_answers.specs.declared.errors.LexParseError.{LexParseError}
 use Rattle.lrpar.specs.declared.values.AStackType.{AStackType}
 use Rattle.lrpar.specs.declared.values.AStackType.TheVariants.{ActionType, Lexeme}
 use Rattle.lrpar.proofs.FoldLemmas.{parse_mapped, parse_mapped_on, value_told}

@@ -11,7 +11,7 @@ use Rattle.lrpar_check.specs.Chain.{most_productions}
 use Rattle.lrpar_check.specs.Checked.{Checked}
 use Rattle.lrpar_check.specs.Path.{NeverSticks}
 use Rattle.lrpar.specs.End.{IsOfTree}
-use Rattle.lrpar.specs.Failure.{Failure}
+use Rattle.lrpar_answers.specs.Failure.{Failure}
 use Rattle.lrpar.specs.Moves.{GoesFar, IsReplayed}
 use Rattle.lrpar.specs.PlainSteps.{plain_sequences, plain_steps}
 use Rattle.lrpar.specs.Recovery.{Point}
@@ -21,8 +21,8 @@ use Rattle.lrpar.specs.Run.{Stopped}
 use Rattle.lrpar.specs.RunAnswer.{HasValue, IsOneWay, IsValueOf}
 use Rattle.lrpar.specs.Sequences.{PlainStep, AreThoseWith, CanGoOn, Replays, Works}
 use Rattle.lrpar.specs.Standing.{Stacked}
-use Rattle.lrpar.specs.declared.errors.LexParseError.{LexParseError}
-use Rattle.lrpar.specs.declared.errors.LexParseError.TheVariants.{LexError, ParseError}
+use Rattle.lrpar_answers.specs.declared.errors.LexParseError.{LexParseError}
+use Rattle.lrpar_answers.specs.declared.errors.LexParseError.TheVariants.{LexError, ParseError}
 use Rattle.lrpar.specs.declared.repair.RepairStep.{RepairStep}
 use Rattle.lrpar.proofs.ListLemmas.{same_one, zip_push}
 use Rattle.lrpar.proofs.MovesLemmas.{moves_bound, moves_stand}

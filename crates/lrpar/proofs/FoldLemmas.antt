@@ -14,11 +14,11 @@ use Rattle.lrpar.specs.Nodes.{IsNonterm, IsTerm}
 use Rattle.lrpar.specs.Parse.{ParsesTo}
 use Rattle.lrpar.specs.Recovery.{Point}
 use Rattle.lrpar.specs.Sequences.{PlainStep}
-use Rattle.lrpar.specs.declared.errors.LexParseError.{LexParseError}
+use Rattle.lrpar_answers.specs.declared.errors.LexParseError.{LexParseError}
 use Rattle.lrpar.specs.declared.values.AStackType.{AStackType}
 use Rattle.lrpar.specs.declared.values.AStackType.TheVariants.{ActionType}
 use Rattle.lrpar.specs.declared.fault.ParseFault.{ParseFault}
-use Rattle.lrpar.specs.declared.node.Node.{Node}
+use Rattle.lrpar_answers.specs.declared.node.Node.{Node}
 use Rattle.lrpar.proofs.ListLemmas.{zip_same}
 use Rattle.lrpar.proofs.ParseLemmas.{parse_as, refusal_as}
 use Rattle.lrpar.specs.RunAnswer.{HasValue}

@@ -1,4 +1,3 @@
-pub mod RepairLemmas
 pub mod LexemeLemmas
 pub mod ListLemmas
 pub mod RunLemmas
@@ -12,18 +11,10 @@ pub mod ParseLemmas
 pub mod FoldLemmas
 pub mod ActedLemmas
 pub mod SumLemmas
-pub mod WeightLemmas
-pub mod WalkLemmas
-pub mod PairLemmas
-pub mod GrowingLemmas
 pub mod SequenceLemmas
 pub mod ReversedLemmas
 pub mod RepairRunLemmas
 pub mod TestWorkLemmas
 pub mod StopStackLemmas
 pub mod RepairWayLemmas
-pub mod SequenceTextLemmas
-pub mod TreeTextLemmas
-pub mod ErrorTextLemmas
-pub mod WriteLemmas
 pub mod CourseLemmas

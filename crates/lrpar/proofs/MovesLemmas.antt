@@ -12,7 +12,7 @@ use Rattle.lrpar_check.specs.Checked.{Checked}
 use Rattle.lrpar_check.specs.Path.{NeverSticks}
 use Rattle.lrpar_check.specs.Reduction.{Feeds, top_action}
 use Rattle.lrpar_check.proofs.Reductions.{settles_one_way}
-use Rattle.lrpar.specs.Lexemes.{last_end}
+use Rattle.lrpar_answers.specs.Lexemes.{last_end}
 use Rattle.lrpar.specs.Mended.{Consumes, inserted_at, start_at}
 use Rattle.lrpar.specs.Moves.{IsReplayed, Moves, RiseUpTo, and_settles, and_shifts, rests}
 use Rattle.lrpar.specs.Rising.{KeepsRising}

@@ -10,8 +10,8 @@ use Rattle.lrpar.specs.Recovery.{Point}
 use Rattle.lrpar.specs.RepairAnswer.{IsRepairAnswer, IsRepairErrorOf}
 use Rattle.lrpar.specs.RunAnswer.{IsOneWay}
 use Rattle.lrpar.specs.Sequences.{PlainStep}
-use Rattle.lrpar.specs.declared.errors.LexParseError.{LexParseError}
-use Rattle.lrpar.specs.declared.errors.LexParseError.TheVariants.{LexError}
+use Rattle.lrpar_answers.specs.declared.errors.LexParseError.{LexParseError}
+use Rattle.lrpar_answers.specs.declared.errors.LexParseError.TheVariants.{LexError}
 use Rattle.lrpar.specs.declared.fault.ParseFault.{ParseFault}
 use Rattle.lrpar.specs.declared.fault.ParseFault.TheVariants.{BadToken, StartsDecrease, Memory}
 use Rattle.lrpar.proofs.LexemeLemmas.{valid_not_bad, valid_not_early}

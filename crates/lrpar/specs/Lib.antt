@@ -1,8 +1,3 @@
-pub mod Lexemes
-pub mod Failure
-pub mod FailureLaws
-pub mod Repairs
-pub mod LexParse
 pub mod Lexed
 pub mod LexemeFault
 pub mod Folds
@@ -15,9 +10,6 @@ pub mod Arguments
 pub mod Acted
 pub mod Placed
 pub mod PlacedRising
-pub mod Visits
-pub mod Walks
-pub mod WalkLaws
 pub mod Run
 pub mod RunLaws
 pub mod SumRun
@@ -36,10 +28,3 @@ pub mod Moves
 pub mod RepairAnswer
 pub mod RepairLaws
 pub mod TestWork
-pub mod SequenceText
-pub mod Printed
-pub mod FaultText
-pub mod PrintedParts
-pub mod ErrorText
-pub mod LexParseText
-pub mod TreeText

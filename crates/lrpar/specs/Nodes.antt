@@ -2,8 +2,8 @@
 use Rattle.std.specs.Prelude.{◌≡◌, ℕ, List, Vec}
 use Rattle.std.specs.declared.alloc.Global.{Global}
 use Rattle.lrpar_text.specs.declared.span.RIdx.{RIdx}
-use Rattle.lrpar.specs.declared.node.Node.{Node}
-use Rattle.lrpar.specs.declared.node.Node.TheVariants.{Term, Nonterm}
+use Rattle.lrpar_answers.specs.declared.node.Node.{Node}
+use Rattle.lrpar_answers.specs.declared.node.Node.TheVariants.{Term, Nonterm}
 use Rattle.lrpar.specs.declared.values.AStackType.{AStackType}
 use Rattle.lrpar.specs.declared.values.AStackType.TheVariants.{ActionType, Lexeme}
 

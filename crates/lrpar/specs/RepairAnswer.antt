@@ -10,8 +10,8 @@ use Rattle.lrpar.specs.Recovery.{Point}
 use Rattle.lrpar.specs.RepairRun.{IsRepairFailure, RepairRun, RepairStop}
 use Rattle.lrpar.specs.RunAnswer.{IsOneWay}
 use Rattle.lrpar.specs.Sequences.{PlainStep}
-use Rattle.lrpar.specs.declared.errors.LexParseError.{LexParseError}
-use Rattle.lrpar.specs.declared.errors.LexParseError.TheVariants.{LexError, ParseError}
+use Rattle.lrpar_answers.specs.declared.errors.LexParseError.{LexParseError}
+use Rattle.lrpar_answers.specs.declared.errors.LexParseError.TheVariants.{LexError, ParseError}
 
 -- The course of a run by a checked table, from the start state at the first lexeme: where it stops, and what is listed there;
 -- the lexemes that it consumes, if it comes to accept; and its reductions.

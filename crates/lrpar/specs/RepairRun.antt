@@ -5,7 +5,7 @@ use Rattle.lrpar_grammar.specs.Grammar.{Grammar}
 use Rattle.lrpar_grammar.specs.Sentence.{LexemeFacts}
 use Rattle.lrpar_states.specs.Table.{Table}
 use Rattle.lrpar_check.specs.Stack.{top_of}
-use Rattle.lrpar.specs.Failure.{Failure}
+use Rattle.lrpar_answers.specs.Failure.{Failure}
 use Rattle.lrpar.specs.Mended.{Consumes, repairs_over}
 use Rattle.lrpar.specs.Recovery.{Point}
 use Rattle.lrpar.specs.Run.{Far, Accepted, Stopped, Stop}

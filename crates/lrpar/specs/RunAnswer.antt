@@ -4,10 +4,10 @@ use Rattle.std.specs.Prelude.{◌≡◌, ◌⊎◌, ℕ, List, [], ◌∷◌, ma
 use Rattle.lrpar_grammar.specs.Grammar.{Grammar, Nonterminal, end_token}
 use Rattle.lrpar_grammar.specs.Sentence.{LexemeFacts}
 use Rattle.lrpar_grammar.specs.Tree.{Tree, Fits, leaves, productions}
-use Rattle.lrpar.specs.Failure.{Failure}
-use Rattle.lrpar.specs.Lexemes.{lexeme_past}
-use Rattle.lrpar.specs.declared.errors.LexParseError.{LexParseError}
-use Rattle.lrpar.specs.declared.errors.LexParseError.TheVariants.{ParseError}
+use Rattle.lrpar_answers.specs.Failure.{Failure}
+use Rattle.lrpar_answers.specs.Lexemes.{lexeme_past}
+use Rattle.lrpar_answers.specs.declared.errors.LexParseError.{LexParseError}
+use Rattle.lrpar_answers.specs.declared.errors.LexParseError.TheVariants.{ParseError}
 
 -- the lexeme at place i; past the last one, the end lexeme, which is known by its token, its span and that it is faulty
 abbrev pub IsLexemeAt : {X : Type 0} → (X → LexemeFacts) → Grammar → List X → ℕ → X → Type 0

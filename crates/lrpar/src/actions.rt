@@ -11,8 +11,8 @@ ghost use Rattle.lrpar.specs.PlacedRising.{placed_rise};
 ghost use Rattle.lrpar.specs.Spans.{Rise, span_over};
 
 use crate::building::Build;
-use crate::lex_api::Lexeme;
 use crate::values::AStackType;
+use lrpar_answers::lex_api::Lexeme;
 use lrpar_grammar::grammar::YaccGrammar;
 use lrpar_grammar::span::{PIdx, RIdx, Span, StorageIndex, Symbol};
 use std::alloc::{AllocError, Global};

@@ -4,7 +4,7 @@ ghost use Rattle.std.specs.List.{AllZip, last_or};
 ghost use Rattle.lrpar.specs.Rising.{KeepsRising};
 ghost use Rattle.lrpar_grammar.specs.Grammar.{Grammar, GrammarSymbol, Nonterminal, Terminal, prod_len, rule_of, start_prod, symbols_of};
 
-use crate::lex_api::Lexeme;
+use lrpar_answers::lex_api::Lexeme;
 use lrpar_grammar::grammar::YaccGrammar;
 use lrpar_grammar::span::{PIdx, StorageIndex};
 use std::alloc::{AllocError, Global};

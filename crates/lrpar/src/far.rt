@@ -1,15 +1,15 @@
 //! How far a run comes from a place, without repairs.
 ghost use Rattle.std.specs.Prelude.{◌<◌, ◌≤◌, IfOk, IfSome, OnOk, length, map};
 ghost use Rattle.lrpar_grammar.specs.Sentence.{IsValidList};
-ghost use Rattle.lrpar.specs.Lexemes.{facts_of};
+ghost use Rattle.lrpar_answers.specs.Lexemes.{facts_of};
 ghost use Rattle.lrpar.specs.Mended.{start_at};
 ghost use Rattle.lrpar.specs.Moves.{GoesFar, RiseUpTo, StartsRise};
 ghost use Rattle.lrpar.specs.Standing.{IsUpright};
 
 use crate::building::Build;
-use crate::lex_api::Lexeme;
 use crate::run::Run;
 use crate::stack::Stack;
+use lrpar_answers::lex_api::Lexeme;
 use lrpar_grammar::span::StorageIndex;
 use lrpar_table::table::Action;
 use std::alloc::{AllocError, Global};

@@ -2,23 +2,18 @@
 ghost use Rattle.std.specs.Prelude.{◌≡◌};
 ghost use Rattle.lrpar_check.specs.Chain.{most_productions};
 ghost use Rattle.lrpar_grammar.specs.Sentence.{LexemeFacts};
-ghost use Rattle.lrpar_text.specs.Comparisons.{HashesAs};
 ghost use Rattle.lrpar.specs.Run.{RunsOneWay};
-ghost use Rattle.lrpar.specs.Failure.{repair_eq};
-ghost use Rattle.lrpar.specs.Lexemes.{facts_of};
+ghost use Rattle.lrpar_answers.specs.Lexemes.{facts_of};
 ghost use Rattle.lrpar.specs.RepairLaws.{AcceptsWhereRepaired, ListsSound, RepairRunsOneWay, ReplaysOneWay, RunsWithoutRepairs, StopsAtStacks, StopsByFailing, StopsLieApart, WorksByReplay};
-ghost use Rattle.lrpar.specs.Repairs.{repair_input, repair_of};
 ghost use Rattle.lrpar.specs.RunLaws.{RunsEndOneWay, RunsGoOnOrEnd, RunsStopByFailing};
 ghost use Rattle.lrpar.specs.Spans.{SpansAreWorkedOut};
 ghost use Rattle.lrpar.specs.SumRun.{SumRunsThrough};
 ghost use Rattle.lrpar.specs.TestWork.{BoundsTests};
-ghost use Rattle.lrpar.specs.declared.errors.ParseRepair.{ParseRepair};
 
-use crate::errors::ParseRepair;
-use crate::lex_api::Lexeme;
 use crate::repair::Recoverer;
+pub use lrpar_answers::laws::repairs_are_compared_by_contents;
+use lrpar_answers::lex_api::Lexeme;
 use lrpar_grammar::span::StorageIndex;
-use std::hash::Hash;
 
 /// From a stack at a place there is at most one way to run, over lexemes of any type and over those that contracts speak
 /// of: two runs make the same reductions and end alike, so they have the same stops and consume the same lexemes.
@@ -98,14 +93,6 @@ pub fn runs_without_a_recoverer<LexemeT>()
 pub fn tests_of_sequences_are_bounded<LexemeT>()
     ensures tests { BoundsTests LexemeT }
     ensures facts_tests { BoundsTests LexemeFacts }
-{}
-
-/// Two repairs are equal exactly where they are of one kind, and their tokens or lexemes are equal. A hasher is fed which of the
-/// three a repair is, and then what it is fed of the token's number or of the lexeme.
-pub fn repairs_are_compared_by_contents<StorageT: StorageIndex, LexemeT: Lexeme<StorageT>>()
-    ensures equal { (x y : ParseRepair LexemeT StorageT) → ⟦<ParseRepair<LexemeT, StorageT> as PartialEq>⟧.eq x y
-        ≡ repair_eq LexemeT.PartialEq.eq (repair_of StorageT.index x) (repair_of StorageT.index y) }
-    ensures hash { HashesAs (repair_input StorageT.hash_input LexemeT.hash_input) ⟦<ParseRepair<LexemeT, StorageT> as PartialEq>⟧.eq ⟦<ParseRepair<LexemeT, StorageT> as Hash>⟧.hash_input }
 {}
 
 /// The spans of trees whose nodes have no children somewhere: what stands in front of such a node is where it is.

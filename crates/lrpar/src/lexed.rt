@@ -2,10 +2,10 @@
 ghost use Rattle.std.specs.Prelude.{◌≡◌, IfOk, MatchResult, Some, None, map};
 ghost use Rattle.lrpar.specs.Lexed.{first_error, lexemes_of};
 ghost use Rattle.lrpar.specs.LexemeFault.{IsLexemeFault};
-ghost use Rattle.lrpar.specs.Lexemes.{facts_of};
+ghost use Rattle.lrpar_answers.specs.Lexemes.{facts_of};
 
 use crate::fault::ParseFault;
-use crate::lex_api::Lexeme;
+use lrpar_answers::lex_api::Lexeme;
 use lrpar_grammar::grammar::YaccGrammar;
 use lrpar_grammar::span::StorageIndex;
 use std::alloc::{AllocError, Global};

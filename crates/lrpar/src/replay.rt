@@ -4,7 +4,7 @@ ghost use Rattle.lrpar_grammar.specs.Grammar.{end_token};
 ghost use Rattle.lrpar_grammar.specs.Sentence.{IsValidList};
 ghost use Rattle.lrpar_check.specs.Path.{NeverSticks};
 ghost use Rattle.lrpar_check.specs.Reduction.{Feeds};
-ghost use Rattle.lrpar.specs.Lexemes.{facts_of, last_end};
+ghost use Rattle.lrpar_answers.specs.Lexemes.{facts_of, last_end};
 ghost use Rattle.lrpar.specs.Mended.{start_at};
 ghost use Rattle.lrpar.specs.Moves.{IsReplayed, RiseUpTo, StartsRise};
 ghost use Rattle.lrpar.specs.PlainSteps.{plain_step, plain_steps};
@@ -13,10 +13,10 @@ ghost use Rattle.lrpar.specs.Stacked.{Shifts};
 ghost use Rattle.lrpar.specs.Standing.{IsUpright};
 
 use crate::building::Build;
-use crate::lex_api::Lexeme;
 use crate::repair::RepairStep;
 use crate::run::Run;
 use crate::stack::Stack;
+use lrpar_answers::lex_api::Lexeme;
 use lrpar_grammar::span::StorageIndex;
 use std::alloc::{AllocError, Global};
 

@@ -5,13 +5,13 @@ ghost use Rattle.lrpar_check.specs.Path.{NeverSticks};
 ghost use Rattle.lrpar_check.specs.Reduction.{top_action};
 ghost use Rattle.lrpar_states.specs.Table.{ReduceBy};
 ghost use Rattle.lrpar_states.specs.PlainRows.{plain_action};
-ghost use Rattle.lrpar.specs.Lexemes.{facts_of, lexeme_past};
+ghost use Rattle.lrpar_answers.specs.Lexemes.{facts_of, lexeme_past};
 ghost use Rattle.lrpar.specs.Standing.{IsUpright, ReducesTo};
 ghost use Rattle.lrpar.specs.Stacked.{SettlesTo, Shifts, Sticks};
 
 use crate::building::Build;
-use crate::lex_api::Lexeme;
 use crate::stack::Stack;
+use lrpar_answers::lex_api::Lexeme;
 use lrpar_grammar::span::{PIdx, StorageIndex, TIdx};
 use lrpar_table::check::ParserData;
 use lrpar_table::table::Action;

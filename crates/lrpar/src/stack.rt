@@ -5,7 +5,7 @@ ghost use Rattle.lrpar_check.specs.Stack.{states_of, top_of};
 ghost use Rattle.lrpar_grammar.specs.Grammar.{Nonterminal, prod_len, rule_of, start_prod, symbols_of};
 
 use crate::building::Build;
-use crate::lex_api::Lexeme;
+use lrpar_answers::lex_api::Lexeme;
 use lrpar_grammar::grammar::YaccGrammar;
 use lrpar_grammar::span::{PIdx, StIdx, StorageIndex};
 use std::alloc::{AllocError, Global};

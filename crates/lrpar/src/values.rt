@@ -6,7 +6,7 @@ ghost use Rattle.lrpar.specs.Entries.{Gives, IsLexemeEntry, IsMadeEntry, SuitsSy
 ghost use Rattle.lrpar.specs.Made.{made_by};
 
 use crate::building::Build;
-use crate::lex_api::Lexeme;
+use lrpar_answers::lex_api::Lexeme;
 use lrpar_grammar::grammar::YaccGrammar;
 use lrpar_grammar::span::{PIdx, RIdx, StorageIndex};
 use std::alloc::{AllocError, Global};

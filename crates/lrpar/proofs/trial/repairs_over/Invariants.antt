@@ -1,7 +1,7 @@
 use Rattle.std.proofs.Common.{◌≡◌, ◌++◌, drop, map}
 use Rattle.lrpar.specs.Mended.{repairs_over}
 use Rattle.lrpar.specs.PlainSteps.{plain_steps}
-use Rattle.lrpar.specs.Repairs.{repair_of}
+use Rattle.lrpar_answers.specs.Repairs.{repair_of}
 use Rattle.lrpar.proofs.trial.repairs_over.Given as goal
 
 -- the repairs so far and those of the steps that are left are all

@@ -1,4 +1,4 @@
-use Rattle.lrpar.specs.Lexemes.{facts_of}
+use Rattle.lrpar_answers.specs.Lexemes.{facts_of}
 use Rattle.lrpar.specs.PlainSteps.{plain_sequences}
 use Rattle.lrpar.proofs.CourseLemmas.{listed_ok}
 use Rattle.lrpar.proofs.course.Course.listed.Goals as goal

@@ -1,7 +1,7 @@
 use Rattle.std.proofs.Common.{◌≡◌, ◌∙◌, [], None, Some, List, ap, arith, length, refl, subst, sym}
 use Rattle.std.specs.List.{AllZip}
 use Rattle.lrpar_check.proofs.StackLemmas.{path_is_stack}
-use Rattle.lrpar.specs.Lexemes.{facts_of}
+use Rattle.lrpar_answers.specs.Lexemes.{facts_of}
 use Rattle.lrpar.specs.RepairAnswer.{IsRepairErrorOf}
 use Rattle.lrpar.specs.Standing.{Stacked}
 use Rattle.lrpar.proofs.CourseLemmas.{accepted_answer, stop_ends, stop_feeds, stop_goes_on, stop_replays, stop_smaller, there_accepts, there_first}

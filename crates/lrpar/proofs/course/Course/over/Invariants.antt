@@ -1,7 +1,7 @@
 use Rattle.std.proofs.Common.{◌<◌, ◌≤◌, ◌+◌, ◌-◌, List, length}
 use Rattle.std.specs.List.{AllZip}
 use Rattle.std.specs.Prelude.{map}
-use Rattle.lrpar.specs.Lexemes.{facts_of}
+use Rattle.lrpar_answers.specs.Lexemes.{facts_of}
 use Rattle.lrpar.specs.Mended.{start_at}
 use Rattle.lrpar.specs.Moves.{RiseUpTo}
 use Rattle.lrpar.specs.RepairAnswer.{IsRepairErrorOf}

@@ -6,7 +6,7 @@ use Rattle.lrpar_grammar.specs.Grammar.{end_token, tokens_len}
 use Rattle.lrpar_states.specs.PlainRows.{plain_action}
 use Rattle.lrpar_states.specs.Table.{Accepts, Fails}
 use Rattle.lrpar_check.specs.Reduction.{top_action}
-use Rattle.lrpar.specs.Lexemes.{facts_of}
+use Rattle.lrpar_answers.specs.Lexemes.{facts_of}
 use Rattle.lrpar.specs.Mended.{start_at}
 use Rattle.lrpar.specs.Moves.{GoesFar, RiseUpTo}
 use Rattle.lrpar.proofs.FarLemmas.{come_more, come_none, come_to_accept, come_to_last, come_to_stop}

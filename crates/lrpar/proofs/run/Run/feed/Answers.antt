@@ -1,4 +1,4 @@
-use Rattle.lrpar.specs.Lexemes.{facts_of}
+use Rattle.lrpar_answers.specs.Lexemes.{facts_of}
 use Rattle.lrpar.proofs.MovesLemmas.{feeds_not_sticks}
 use Rattle.lrpar.proofs.run.Run.feed.Goals as goal
 

@@ -1,6 +1,6 @@
 use Rattle.std.proofs.Common.{◌≡◌, ◌+◌, ◌∷◌, [], arith, drop, length, take}
 use Rattle.std.proofs.lemmas.List.{take_all}
-use Rattle.lrpar.specs.Lexemes.{facts_of}
+use Rattle.lrpar_answers.specs.Lexemes.{facts_of}
 use Rattle.lrpar.specs.PlainSteps.{plain_step, plain_steps}
 use Rattle.lrpar.proofs.MovesLemmas.{replay_left, replayed_none, replayed_then}
 use Rattle.lrpar.proofs.SequenceLemmas.{steps_left, steps_so_far}

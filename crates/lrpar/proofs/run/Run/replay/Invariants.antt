@@ -1,6 +1,6 @@
 use Rattle.std.proofs.Common.{◌≤◌, ℕ, List, drop, length, take}
 use Rattle.std.specs.Prelude.{map}
-use Rattle.lrpar.specs.Lexemes.{facts_of}
+use Rattle.lrpar_answers.specs.Lexemes.{facts_of}
 use Rattle.lrpar.specs.Mended.{start_at}
 use Rattle.lrpar.specs.Moves.{IsReplayed, RiseUpTo}
 use Rattle.lrpar.specs.PlainSteps.{plain_steps}

@@ -2,7 +2,7 @@ use Rattle.std.proofs.Common.{◌≡◌, ◌<◌, ◌+◌, ◌∙◌, ℕ, lengt
 use Rattle.std.proofs.lemmas.List.{length-map}
 use Rattle.std.proofs.lemmas.Option.{slice_get_read}
 use Rattle.lrpar_grammar.specs.Sentence.{LexemeFacts}
-use Rattle.lrpar.specs.Lexemes.{facts_of}
+use Rattle.lrpar_answers.specs.Lexemes.{facts_of}
 use Rattle.lrpar.specs.Mended.{start_at}
 use Rattle.std.specs.Prelude.{map}
 use Rattle.lrpar.proofs.MovesLemmas.{replayed_delete, replayed_insert, replayed_shift, rise_by_shift, start_at_is}

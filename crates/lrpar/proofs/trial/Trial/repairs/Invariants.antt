@@ -1,7 +1,7 @@
 use Rattle.std.proofs.Common.{◌≡◌, drop, map, take}
 use Rattle.lrpar.specs.Mended.{repairs_over}
 use Rattle.lrpar.specs.PlainSteps.{plain_sequences}
-use Rattle.lrpar.specs.Repairs.{repairs_of}
+use Rattle.lrpar_answers.specs.Repairs.{repairs_of}
 use Rattle.lrpar.proofs.trial.Trial.repairs.Given as goal
 
 -- the repairs so far are those of the sequences so far

@@ -1,0 +1,9 @@
+pub mod RepairLemmas
+pub mod WeightLemmas
+pub mod WalkLemmas
+pub mod PairLemmas
+pub mod GrowingLemmas
+pub mod SequenceTextLemmas
+pub mod TreeTextLemmas
+pub mod ErrorTextLemmas
+pub mod WriteLemmas

@@ -1,0 +1,147 @@
+-- What is met in a tree by what a loop has left.
+use denote.Ref.{Bor}
+use Rattle.std.proofs.Common.{rules, ◌≡◌, ℕ, zero, suc, ◌+◌, ◌<◌, ◌≤◌, get_or, List, [], ◌∷◌, ◌++◌, length, take, Vec, refl, ap, sym, ◌∙◌, arith, append_assoc, append-nil, length-append, subst}
+use Rattle.std.specs.List.{AllByRecursion, flat_map}
+use Rattle.std.proofs.lemmas.Grind.{flat_map-append}
+use Rattle.std.proofs.lemmas.List.Folds.{flat_map-map}
+use Rattle.std.specs.declared.alloc.Global.{Global}
+use Rattle.lrpar_text.specs.declared.span.RIdx.{RIdx}
+use Rattle.lrpar_answers.specs.declared.node.Node.{Node}
+use Rattle.lrpar_answers.specs.declared.node.Node.TheVariants.{Term, Nonterm}
+use Rattle.lrpar_answers.specs.declared.node.Node.TheOpen.{Node-F}
+use Rattle.lrpar_answers.specs.declared.node.Node.TheViews.{out-Node, the_lemmas}
+use Rattle.lrpar_answers.specs.declared.node.Node.TheFolds.{fold_out-Node, map-Node}
+use Rattle.lrpar_answers.proofs.ErrorTextLemmas.{taken, taken_all}
+use Rattle.lrpar_answers.specs.TreeText.{Met, LeafAt, RuleAt, met_step, met_from, layer_met, root_at, layer_nodes, nodes_below, all_met}
+
+-- a node of either kind
+pub root_term : {X S : Type 0} (level : ℕ) (node : Node X S) (x : X) → node ≡ Term x → root_at level node ≡ LeafAt level x
+root_term level node x is = ap (root_at level) is ∙ search (rules, the_lemmas)
+
+pub root_nonterm : {X S : Type 0} (level : ℕ) (node : Node X S) (r : RIdx S) (nodes : Vec (Node X S) Global) → node ≡ Nonterm r nodes
+    → root_at level node ≡ RuleAt level r.0
+root_nonterm level node r nodes is = ap (root_at level) is ∙ search (rules, the_lemmas)
+
+pub below_term : {X S : Type 0} (node : Node X S) (x : X) → node ≡ Term x → nodes_below node ≡ []
+below_term node x is = ap nodes_below is ∙ search (rules, the_lemmas)
+
+pub below_nonterm : {X S : Type 0} (node : Node X S) (r : RIdx S) (nodes : Vec (Node X S) Global) → node ≡ Nonterm r nodes → nodes_below node ≡ nodes.items
+below_nonterm node r nodes is = ap nodes_below is ∙ search (rules, the_lemmas)
+
+-- what is met in a tree: its root, and what is met in the trees below it
+layer_from : {X S : Type 0} (layer : Node-F X S (Node X S)) (level : ℕ)
+    → met_step (map-Node X S (Node X S) (ℕ → List (Met X S)) met_from layer) level ≡ layer_met level layer ∷ all_met (level + 1) (layer_nodes layer)
+layer_from (Node-F.Term x) level = refl
+layer_from (Node-F.Nonterm ridx nodes) level =
+    ap (λ ms. RuleAt level ridx.0 ∷ ms) (flat_map-map (λ child. child (level + 1)) met_from nodes.items)
+
+pub met_out : {X S : Type 0} (node : Node X S) (level : ℕ) → met_from node level ≡ root_at level node ∷ all_met (level + 1) (nodes_below node)
+met_out {X = X} {S = S} node level =
+    ap (λ (f : ℕ → List (Met X S)). f level) (fold_out-Node X S (ℕ → List (Met X S)) met_step node) ∙ layer_from (out-Node X S node) level
+
+-- what is left behind the trees in hand: the trees of each level, the highest level first
+abbrev pub later : {X S : Type 0} → ℕ → List (Bor (List (Node X S))) → List (Met X S)
+later level [] = []
+later level (rest ∷ below) = later (level + 1) below ++ all_met level rest.now
+
+later_push : {X S : Type 0} (level : ℕ) (below : List (Bor (List (Node X S)))) (rest : Bor (List (Node X S)))
+    → later level (below ++ rest ∷ []) ≡ all_met (level + length below) rest.now ++ later level below
+later_push level [] rest =
+    let same : level ≡ level + 0 = omega arith in
+    ap (λ n. all_met n rest.now) same ∙ sym (append-nil (all_met (level + 0) rest.now))
+later_push level (b ∷ bs) rest =
+    let same : level + 1 + length bs ≡ level + suc (length bs) = omega arith in
+    ap (λ ms. ms ++ all_met level b.now) (later_push (level + 1) bs rest)
+    ∙ append_assoc (all_met (level + 1 + length bs) rest.now) (later (level + 1) bs) (all_met level b.now)
+    ∙ ap (λ n. all_met n rest.now ++ (later (level + 1) bs ++ all_met level b.now)) same
+
+-- all that is left, with some trees in hand
+abbrev pub left_met : {X S : Type 0} → List (Bor (List (Node X S))) → List (Node X S) → List (Met X S)
+left_met below left = all_met (length below + 1) left ++ later 1 below
+
+-- the first of the trees in hand is entered, and the others are put aside
+pub left_enter : {X S : Type 0} (below : List (Bor (List (Node X S)))) (rest : Bor (List (Node X S))) (node : Node X S)
+    → left_met below (node ∷ rest.now) ≡ root_at (length (below ++ rest ∷ [])) node ∷ left_met (below ++ rest ∷ []) (nodes_below node)
+left_enter below rest node =
+    let n = length below in
+    let longer : length below + 1 ≡ length (below ++ rest ∷ []) = simp length-append refl in
+    let turned : 1 + length below ≡ length below + 1 = omega arith in
+    append_assoc (met_from node (n + 1)) (all_met (n + 1) rest.now) (later 1 below)
+    ∙ ap (λ ms. ms ++ (all_met (n + 1) rest.now ++ later 1 below)) (met_out node (n + 1))
+    ∙ ap (λ m. root_at (n + 1) node ∷ (all_met (n + 1 + 1) (nodes_below node) ++ (all_met m rest.now ++ later 1 below))) (sym turned)
+    ∙ ap (λ ms. root_at (n + 1) node ∷ (all_met (n + 1 + 1) (nodes_below node) ++ ms)) (sym (later_push 1 below rest))
+    ∙ ap (λ m. root_at m node ∷ (all_met (m + 1) (nodes_below node) ++ later 1 (below ++ rest ∷ []))) longer
+
+-- no tree is in hand, and those that were put aside last are taken again
+pub left_turn : {X S : Type 0} (below : List (Bor (List (Node X S)))) (rest : Bor (List (Node X S))) → left_met (below ++ rest ∷ []) [] ≡ left_met below rest.now
+left_turn below rest =
+    let turned : 1 + length below ≡ length below + 1 = omega arith in
+    later_push 1 below rest ∙ ap (λ m. all_met m rest.now ++ later 1 below) turned
+
+-- all of two lists, and of each of them
+pub all_front : {A : Type 0} (P : A → Type 0) (xs ys : List A) → AllByRecursion P (xs ++ ys) → AllByRecursion P xs
+all_front P [] ys all = tt
+all_front P (x ∷ xs) ys all = (all.0, all_front P xs ys all.1)
+
+pub all_back : {A : Type 0} (P : A → Type 0) (xs ys : List A) → AllByRecursion P (xs ++ ys) → AllByRecursion P ys
+all_back P [] ys all = all
+all_back P (x ∷ xs) ys all = all_back P xs ys all.1
+
+pub all_both : {A : Type 0} (P : A → Type 0) (xs ys : List A) → AllByRecursion P xs → AllByRecursion P ys → AllByRecursion P (xs ++ ys)
+all_both P [] ys front back = back
+all_both P (x ∷ xs) ys front back = (front.0, all_both P xs ys front.1 back)
+
+-- a property of all nodes of a tree: of the root, and of those below it
+pub fit_root : {X S : Type 0} (P : Met X S → Type 0) (node : Node X S) (level : ℕ) → AllByRecursion P (met_from node level) → P (root_at level node)
+fit_root P node level all = let both = rw (met_out node level) at all in both.0
+
+pub fit_below : {X S : Type 0} (P : Met X S → Type 0) (node : Node X S) (level : ℕ) → AllByRecursion P (met_from node level) → AllByRecursion P (all_met (level + 1) (nodes_below node))
+fit_below P node level all = let both = rw (met_out node level) at all in both.1
+
+pub fit_whole : {X S : Type 0} (P : Met X S → Type 0) (node : Node X S) (level : ℕ) → P (root_at level node) → AllByRecursion P (all_met (level + 1) (nodes_below node))
+    → AllByRecursion P (met_from node level)
+fit_whole P node level root below = rw (met_out node level) (root, below)
+
+-- of all nodes of several trees
+pub fit_at : {X S : Type 0} (P : Met X S → Type 0) (nodes : List (Node X S)) (level i : ℕ) (node : Node X S) → i < length nodes → node ≡ get_or nodes i node
+    → AllByRecursion P (all_met level nodes) → AllByRecursion P (met_from node level)
+fit_at P [] level i node below at all = absurd (omega arith)
+fit_at {X = X} {S = S} P (n ∷ ns) level zero node below at all =
+    let Q : Node X S → Type 0 = λ m. AllByRecursion P (met_from m level) in
+    subst Q (sym at) (all_front P (met_from n level) (all_met level ns) all)
+fit_at P (n ∷ ns) level (suc i) node below at all = fit_at P ns level i node (omega arith) at (all_back P (met_from n level) (all_met level ns) all)
+
+pub fit_more : {X S : Type 0} (P : Met X S → Type 0) (nodes : List (Node X S)) (level i : ℕ) (node : Node X S) → i < length nodes → node ≡ get_or nodes i node
+    → AllByRecursion P (all_met level (take i nodes)) → AllByRecursion P (met_from node level) → AllByRecursion P (all_met level (take (i + 1) nodes))
+fit_more P nodes level i node below at front last =
+    rw (taken nodes i node below at, flat_map-append) (all_both P (all_met level (take i nodes)) (met_from node level ++ []) front (rw (append-nil (met_from node level)) last))
+
+pub fit_all : {X S : Type 0} (P : Met X S → Type 0) (nodes : List (Node X S)) (level i : ℕ) → length nodes ≤ i → AllByRecursion P (all_met level (take i nodes)) → AllByRecursion P (all_met level nodes)
+fit_all P nodes level i long all = rw (taken_all nodes i long) at all
+
+-- the first tree in hand is printed
+pub text_enter : {X S : Type 0} (line : Met X S → List ℕ) (below : List (Bor (List (Node X S)))) (rest : Bor (List (Node X S))) (node : Node X S) (left : List (Node X S)) (out first : List ℕ)
+    → left ≡ node ∷ rest.now → first ≡ out ++ line (root_at (length (below ++ rest ∷ [])) node)
+    → first ++ flat_map line (left_met (below ++ rest ∷ []) (nodes_below node)) ≡ out ++ flat_map line (left_met below left)
+text_enter line below rest node left out first is e =
+    let more = left_met (below ++ rest ∷ []) (nodes_below node) in
+    ap (λ o. o ++ flat_map line more) e
+    ∙ append_assoc out (line (root_at (length (below ++ rest ∷ [])) node)) (flat_map line more)
+    ∙ ap (λ ms. out ++ flat_map line ms) (sym (ap (left_met below) is ∙ left_enter below rest node))
+
+pub fit_enter : {X S : Type 0} (P : Met X S → Type 0) (below : List (Bor (List (Node X S)))) (rest : Bor (List (Node X S))) (node : Node X S) (left : List (Node X S))
+    → left ≡ node ∷ rest.now → AllByRecursion P (left_met below left) → AllByRecursion P (root_at (length (below ++ rest ∷ [])) node ∷ left_met (below ++ rest ∷ []) (nodes_below node))
+fit_enter {X = X} {S = S} P below rest node left is all = let Q : List (Met X S) → Type 0 = AllByRecursion P in subst Q (ap (left_met below) is ∙ left_enter below rest node) all
+
+-- the text of a tree begins with the line of its root
+pub text_begins : {X S : Type 0} (line : Met X S → List ℕ) (node : Node X S) (out : List ℕ) → out ≡ line (root_at 0 node)
+    → out ++ flat_map line (left_met [] (nodes_below node)) ≡ flat_map line (met_from node 0)
+text_begins line node out e =
+    ap (λ o. o ++ flat_map line (all_met (0 + 1) (nodes_below node) ++ [])) e
+    ∙ ap (λ ms. line (root_at 0 node) ++ flat_map line ms) (append-nil (all_met (0 + 1) (nodes_below node)))
+    ∙ ap (flat_map line) (sym (met_out node 0))
+
+-- how many nodes are left when the first tree in hand is entered
+pub left_length : {X S : Type 0} (below : List (Bor (List (Node X S)))) (rest : Bor (List (Node X S))) (node : Node X S) (left : List (Node X S))
+    → left ≡ node ∷ rest.now → length (left_met below left) ≡ suc (length (left_met (below ++ rest ∷ []) (nodes_below node)))
+left_length below rest node left is = ap length (ap (left_met below) is ∙ left_enter below rest node)

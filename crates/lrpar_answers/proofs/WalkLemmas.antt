@@ -1,0 +1,113 @@
+-- Walks through trees.
+use Rattle.std.proofs.Common.{rules, ◌≡◌, ℕ, zero, suc, ◌+◌, ◌≤◌, Bool, true, false, ◌&&◌, List, [], ◌∷◌, ◌++◌, Vec, refl, ap, sym, ◌∙◌, arith, length, append_assoc, length-append}
+use Rattle.std.specs.declared.alloc.Global.{Global}
+use Rattle.std.proofs.lemmas.List.{length-map}
+use Rattle.std.proofs.lemmas.Bool.{eqb-true}
+use Rattle.std.specs.Cmp.{second_so}
+use Rattle.std.specs.Bool.{◌==◌}
+use Rattle.std.specs.Cmp.Lexicographic.{pointwise}
+use Rattle.lrpar_text.specs.declared.span.RIdx.{RIdx}
+use Rattle.lrpar_answers.specs.declared.node.Node.{Node}
+use Rattle.lrpar_answers.specs.declared.node.Node.TheVariants.{Term, Nonterm}
+use Rattle.lrpar_answers.specs.declared.node.Node.TheOpen.{Node-F}
+use Rattle.lrpar_answers.specs.declared.node.Node.TheViews.{out-Node, the_lemmas}
+use Rattle.lrpar_answers.specs.declared.node.Node.TheFolds.{fold_out-Node, map-Node}
+use Rattle.lrpar_answers.specs.Visits.{Visit, Met, Entered, visit_eq}
+use Rattle.lrpar_answers.specs.Walks.{walk, walks, walk_step, visit, children, layer_visit, layer_children, nodes_eq}
+use Rattle.lrpar_answers.proofs.WeightLemmas.{weight, weights, weight_step, weights_append}
+
+-- one layer of a walk, and of a weight
+layer_walk : {X S : Type 0} (layer : Node-F X S (Node X S))
+    → walk_step (map-Node X S (Node X S) (List (Visit X S)) walk layer) ≡ layer_visit layer ∷ walks (layer_children layer)
+layer_walk (Node-F.Term x) = refl
+layer_walk (Node-F.Nonterm ridx nodes) = ap (λ n. Entered ridx.0 n ∷ walks nodes.items) (length-map nodes.items walk)
+
+layer_weight : {X S : Type 0} (layer : Node-F X S (Node X S))
+    → weight_step (map-Node X S (Node X S) ℕ weight layer) ≡ 1 + weights (layer_children layer)
+layer_weight (Node-F.Term x) = refl
+layer_weight (Node-F.Nonterm ridx nodes) = refl
+
+pub walk_out : {X S : Type 0} (node : Node X S) → walk node ≡ visit node ∷ walks (children node)
+walk_out {X = X} {S = S} node = fold_out-Node X S (List (Visit X S)) walk_step node ∙ layer_walk (out-Node X S node)
+
+pub weight_out : {X S : Type 0} (node : Node X S) → weight node ≡ 1 + weights (children node)
+weight_out {X = X} {S = S} node = fold_out-Node X S ℕ weight_step node ∙ layer_weight (out-Node X S node)
+
+-- what stands at a node of either kind
+pub visit_term : {X S : Type 0} (node : Node X S) (x : X) → node ≡ Term x → visit node ≡ Met x
+visit_term node x is = ap visit is ∙ search (rules, the_lemmas)
+
+pub visit_nonterm : {X S : Type 0} (node : Node X S) (r : RIdx S) (nodes : Vec (Node X S) Global) → node ≡ Nonterm r nodes
+    → visit node ≡ Entered r.0 (length nodes.items)
+visit_nonterm node r nodes is = ap visit is ∙ search (rules, the_lemmas)
+
+pub children_term : {X S : Type 0} (node : Node X S) (x : X) → node ≡ Term x → children node ≡ []
+children_term node x is = ap children is ∙ search (rules, the_lemmas)
+
+pub children_nonterm : {X S : Type 0} (node : Node X S) (r : RIdx S) (nodes : Vec (Node X S) Global) → node ≡ Nonterm r nodes
+    → children node ≡ nodes.items
+children_nonterm node r nodes is = ap children is ∙ search (rules, the_lemmas)
+
+pub walks_append : {X S : Type 0} (ms ns : List (Node X S)) → walks (ms ++ ns) ≡ walks ms ++ walks ns
+walks_append [] ns = refl
+walks_append (m ∷ ms) ns = ap (λ ws. walk m ++ ws) (walks_append ms ns) ∙ sym (append_assoc (walk m) (walks ms) (walks ns))
+
+-- several trees, when the first is entered
+pub walks_enter : {X S : Type 0} (node : Node X S) (rest : List (Node X S)) → walks (node ∷ rest) ≡ visit node ∷ walks (children node ++ rest)
+walks_enter node rest =
+    ap (λ ws. ws ++ walks rest) (walk_out node) ∙ ap (λ ws. visit node ∷ ws) (sym (walks_append (children node) rest))
+
+pub weights_enter : {X S : Type 0} (node : Node X S) (rest : List (Node X S)) → weights (node ∷ rest) ≡ 1 + weights (children node ++ rest)
+weights_enter node rest = omega (arith, weight_out node, weights_append (children node) rest)
+
+-- equal nodes have as many children
+visits_even : {X S : Type 0} (eq : X → X → Bool) (same : S → S → Bool) (a b : Node-F X S (Node X S))
+    → visit_eq eq same (layer_visit a) (layer_visit b) ≡ true → length (layer_children a) ≡ length (layer_children b)
+visits_even eq same (Node-F.Term x) (Node-F.Term y) like = refl
+visits_even eq same (Node-F.Term x) (Node-F.Nonterm q ms) like = cc
+visits_even eq same (Node-F.Nonterm r ns) (Node-F.Term y) like = cc
+visits_even eq same (Node-F.Nonterm r ns) (Node-F.Nonterm q ms) like =
+    eqb-true (length ns.items) (length ms.items) (second_so (same r.0 q.0) (length ns.items == length ms.items) like)
+
+pub children_even : {X S : Type 0} (eq : X → X → Bool) (same : S → S → Bool) (a b : Node X S)
+    → visit_eq eq same (visit a) (visit b) ≡ true → length (children a) ≡ length (children b)
+children_even {X = X} {S = S} eq same a b like = visits_even eq same (out-Node X S a) (out-Node X S b) like
+
+-- one step of the next lemma, over what the rests give
+split_step : (like : Bool) (e f g : Bool) → (like ≡ true → e ≡ (f && g)) → (like && e) ≡ ((like && f) && g)
+split_step false e f g rest = refl
+split_step true e f g rest = rest refl
+
+-- as many trees on both sides, with walks behind them, are equal where the trees are and what is behind them
+pub nodes_eq_split : {X S : Type 0} (eq : X → X → Bool) (same : S → S → Bool) (n : ℕ) (left right : List (Node X S)) (s t : List (Visit X S))
+    → length left ≡ length right → weights left ≤ n
+    → pointwise (visit_eq eq same) (walks left ++ s) (walks right ++ t) ≡ (nodes_eq eq same left right && pointwise (visit_eq eq same) s t)
+nodes_eq_split eq same n [] [] s t even within = refl
+nodes_eq_split eq same n [] (b ∷ bs) s t even within = absurd (omega arith)
+nodes_eq_split eq same n (a ∷ rest) [] s t even within = absurd (omega arith)
+nodes_eq_split eq same zero (a ∷ rest) (b ∷ bs) s t even within = absurd (omega (arith, weights_enter a rest))
+nodes_eq_split {X = X} {S = S} eq same (suc n) (a ∷ rest) (b ∷ bs) s t even within =
+    rw (walks_enter a rest, walks_enter b bs) (split_step (visit_eq eq same (visit a) (visit b)) _ _ _ (λ like.
+    nodes_eq_split eq same n (children a ++ rest) (children b ++ bs) s t
+    (omega (arith, children_even eq same a b like, length-append (children a) rest, length-append (children b) bs))
+    (omega (arith, weights_enter a rest))))
+
+pub nodes_eq_append : {X S : Type 0} (eq : X → X → Bool) (same : S → S → Bool) (left right more others : List (Node X S))
+    → length left ≡ length right → nodes_eq eq same (left ++ more) (right ++ others) ≡ (nodes_eq eq same left right && nodes_eq eq same more others)
+nodes_eq_append eq same left right more others even =
+    rw (walks_append left more, walks_append right others)
+    (nodes_eq_split eq same (weights left) left right (walks more) (walks others) even (omega arith))
+
+-- where the first nodes are alike, their children stand in their places
+pub nodes_eq_enter : {X S : Type 0} (eq : X → X → Bool) (same : S → S → Bool) (a b : Node X S) (like : Bool) (rest others nodes others' more more' : List (Node X S))
+    → nodes ≡ a ∷ rest → others' ≡ b ∷ others → like ≡ visit_eq eq same (visit a) (visit b)
+    → nodes_eq eq same (nodes ++ more) (others' ++ more')
+    ≡ (like && nodes_eq eq same (children a ++ (rest ++ more)) (children b ++ (others ++ more')))
+nodes_eq_enter eq same a b like rest others nodes others' more more' n o is =
+    rw (n, o, walks_enter a (rest ++ more), walks_enter b (others ++ more'), is) refl
+
+-- the nodes of both, when the first is entered
+pub weights_entered : {X S : Type 0} (a : Node X S) (rest nodes more : List (Node X S)) → nodes ≡ a ∷ rest
+    → weights (nodes ++ more) ≡ 1 + (weights (children a) + weights (rest ++ more))
+weights_entered a rest nodes more n =
+    rw n (weights_enter a (rest ++ more) ∙ ap (λ k. 1 + k) (weights_append (children a) (rest ++ more)))

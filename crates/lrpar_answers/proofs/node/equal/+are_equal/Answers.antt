@@ -1,0 +1,100 @@
+use Rattle.std.proofs.Common.{length, ◌<◌, true, false, ◌&&◌, ◌++◌, Some, ap, sym, ◌∙◌, arith, length-append}
+use Rattle.std.proofs.lemmas.List.{nil_from_length}
+use Rattle.std.proofs.lemmas.List.Elements.{All-push, All-pop}
+use Rattle.lrpar_answers.specs.Walks.{nodes_eq, children}
+use Rattle.lrpar_answers.proofs.PairLemmas.{IsEven, later_nodes, later_others, later_nodes_push, later_others_push, rests_even}
+use Rattle.lrpar_answers.proofs.WeightLemmas.{weights, weights_append}
+use Rattle.lrpar_answers.proofs.WalkLemmas.{nodes_eq_enter, nodes_eq_append, children_even, weights_entered}
+use Rattle.lrpar_answers.proofs.node.equal.+are_equal.Goals as goal
+
+pub returns-then-not-is_like : goal.returns-then-not-is_like
+returns-then-not-is_like g t c =
+    let entered = nodes_eq_enter g.LexemeT.PartialEq.eq g.StorageT.PartialEq.eq c.in-Some-Some.node.now c.in-Some-Some.other.now false
+    c.in-Some-Some.rest.now c.in-Some-Some.other_rest.now c.loop-node.nodes.now c.loop-node.others.now (later_nodes c.loop-node.left.items) (later_others c.loop-node.left.items)
+    c.in-Some-Some.ensures.cases.0 c.in-Some-Some.ensures'.cases.0 c.if-not-is_like.ensures.like in
+    sym entered ∙ c.loop-node.invariant.same
+
+pub are_equal-requires : goal.are_equal-requires
+are_equal-requires g t c κs within =
+    let like = children_even g.LexemeT.PartialEq.eq g.StorageT.PartialEq.eq c.in-Some-Some.node.now c.in-Some-Some.other.now (sym c.if-not-is_like.ensures.like) in
+    let entered = weights_entered c.in-Some-Some.node.now c.in-Some-Some.rest.now c.loop-node.nodes.now (later_nodes c.loop-node.left.items) c.in-Some-Some.ensures.cases.0 in
+    let same = ap weights c.children.ensures.children in
+    let below : weights c.children.result.now < weights c.args.nodes.now = omega arith in
+    (omega arith, (within.0, (within.1, ap length c.children.ensures.children ∙ like ∙ sym (ap length c.children-in-Err.ensures.children))))
+
+pub returns-then-not-are_equal : goal.returns-then-not-are_equal
+returns-then-not-are_equal g t c =
+    let eq = g.LexemeT.PartialEq.eq in
+    let same = g.StorageT.PartialEq.eq in
+    let node = c.in-Some-Some.node.now in
+    let other = c.in-Some-Some.other.now in
+    let more = c.in-Some-Some.rest.now ++ later_nodes c.loop-node.left.items in
+    let others = c.in-Some-Some.other_rest.now ++ later_others c.loop-node.left.items in
+    let entered = nodes_eq_enter eq same node other true
+    c.in-Some-Some.rest.now c.in-Some-Some.other_rest.now c.loop-node.nodes.now c.loop-node.others.now (later_nodes c.loop-node.left.items) (later_others c.loop-node.left.items)
+    c.in-Some-Some.ensures.cases.0 c.in-Some-Some.ensures'.cases.0 c.if-not-is_like.ensures.like in
+    let split = nodes_eq_append eq same (children node) (children other) more others (children_even eq same node other (sym c.if-not-is_like.ensures.like)) in
+    let unequal = rw (c.children.ensures.children, c.children-in-Err.ensures.children) at c.if-not-are_equal.ensures in
+    ap (λ b. b && nodes_eq eq same more others) unequal ∙ sym split ∙ sym entered ∙ c.loop-node.invariant.same
+
+pub loop-node-smaller-in-Ok : goal.loop-node-smaller-in-Ok
+loop-node-smaller-in-Ok g t c =
+    let entered = weights_entered c.in-Some-Some.node.now c.in-Some-Some.rest.now c.loop-node.nodes.now (later_nodes c.loop-node.left.items) c.in-Some-Some.ensures.cases.0 in
+    let split = weights_append (children c.in-Some-Some.node.now) (c.in-Some-Some.rest.now ++ later_nodes c.loop-node.left.items) in
+    rw (c.in-Ok.ensures.items, later_nodes_push, c.children-nodes.ensures.children) (simp length-append (omega arith))
+
+pub loop-node-preserved-in-Ok : goal.loop-node-preserved-in-Ok
+loop-node-preserved-in-Ok g t c =
+    let eq = g.LexemeT.PartialEq.eq in
+    let same = g.StorageT.PartialEq.eq in
+    let node = c.in-Some-Some.node.now in
+    let other = c.in-Some-Some.other.now in
+    let entered = nodes_eq_enter eq same node other true
+    c.in-Some-Some.rest.now c.in-Some-Some.other_rest.now c.loop-node.nodes.now c.loop-node.others.now (later_nodes c.loop-node.left.items) (later_others c.loop-node.left.items)
+    c.in-Some-Some.ensures.cases.0 c.in-Some-Some.ensures'.cases.0 c.if-not-is_like.ensures.like in
+    let weighed = weights_entered node c.in-Some-Some.rest.now c.loop-node.nodes.now (later_nodes c.loop-node.left.items) c.in-Some-Some.ensures.cases.0 in
+    let split = weights_append (children node) (c.in-Some-Some.rest.now ++ later_nodes c.loop-node.left.items) in
+    record {
+      same = rw (c.in-Ok.ensures.items, later_nodes_push, later_others_push, c.children-nodes.ensures.children, c.children-others.ensures.children) (sym entered ∙ c.loop-node.invariant.same);
+      even = ap length c.children-nodes.ensures.children ∙ children_even eq same node other (sym c.if-not-is_like.ensures.like) ∙ sym (ap length c.children-others.ensures.children);
+      pairs = rw c.in-Ok.ensures.items (All-push IsEven c.loop-node.left.items (record { nodes = c.in-Some-Some.rest; others = c.in-Some-Some.other_rest }) c.loop-node.invariant.pairs (rests_even c.loop-node.nodes.now c.loop-node.others.now c.in-Some-Some.rest.now c.in-Some-Some.other_rest.now c.in-Some-Some.ensures.cases.1 c.in-Some-Some.ensures'.cases.1 c.loop-node.invariant.even));
+      below = rw (c.in-Ok.ensures.items, later_nodes_push, c.children-nodes.ensures.children) (omega arith);
+    }
+
+pub loop-node-preserved-else-not-are_equal : goal.loop-node-preserved-else-not-are_equal
+loop-node-preserved-else-not-are_equal g t c =
+    let eq = g.LexemeT.PartialEq.eq in
+    let same = g.StorageT.PartialEq.eq in
+    let node = c.in-Some-Some.node.now in
+    let other = c.in-Some-Some.other.now in
+    let more = c.in-Some-Some.rest.now ++ later_nodes c.loop-node.left.items in
+    let others = c.in-Some-Some.other_rest.now ++ later_others c.loop-node.left.items in
+    let entered = nodes_eq_enter eq same node other true
+    c.in-Some-Some.rest.now c.in-Some-Some.other_rest.now c.loop-node.nodes.now c.loop-node.others.now (later_nodes c.loop-node.left.items) (later_others c.loop-node.left.items)
+    c.in-Some-Some.ensures.cases.0 c.in-Some-Some.ensures'.cases.0 c.if-not-is_like.ensures.like in
+    let split = nodes_eq_append eq same (children node) (children other) more others (children_even eq same node other (sym c.if-not-is_like.ensures.like)) in
+    let equal = rw (c.children.ensures.children, c.children-in-Err.ensures.children) at c.if-not-are_equal.ensures in
+    let weighed = weights_entered node c.in-Some-Some.rest.now c.loop-node.nodes.now (later_nodes c.loop-node.left.items) c.in-Some-Some.ensures.cases.0 in
+    record {
+      same = rw c.in-Err.ensures.items (ap (λ b. b && nodes_eq eq same more others) equal ∙ sym split ∙ sym entered ∙ c.loop-node.invariant.same);
+      even = rests_even c.loop-node.nodes.now c.loop-node.others.now c.in-Some-Some.rest.now c.in-Some-Some.other_rest.now c.in-Some-Some.ensures.cases.1 c.in-Some-Some.ensures'.cases.1 c.loop-node.invariant.even;
+      pairs = rw c.in-Err.ensures.items c.loop-node.invariant.pairs;
+      below = rw c.in-Err.ensures.items (omega arith);
+    }
+
+pub loop-node-smaller : goal.loop-node-smaller
+loop-node-smaller g t c =
+    let none = nil_from_length c.loop-node.nodes.now c.in-None-None.ensures.cases in
+    rw (none, c.in-Some.ensures.items, later_nodes_push) (simp length-append (omega arith))
+
+pub loop-node-preserved : goal.loop-node-preserved
+loop-node-preserved g t c =
+    let none = nil_from_length c.loop-node.nodes.now c.in-None-None.ensures.cases in
+    let none' = nil_from_length c.loop-node.others.now c.in-None-None.ensures'.cases in
+    let kept = All-pop IsEven c.loop-node.left.items c.pop.new.self.items (Some c.in-Some.pair) c.in-Some.ensures.items c.loop-node.invariant.pairs in
+    record {
+      same = rw (none, none', c.in-Some.ensures.items, later_nodes_push, later_others_push) at c.loop-node.invariant.same;
+      even = kept.1;
+      pairs = kept.0;
+      below = rw (none, c.in-Some.ensures.items, later_nodes_push) at c.loop-node.invariant.below;
+    }

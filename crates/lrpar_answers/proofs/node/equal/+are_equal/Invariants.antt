@@ -1,0 +1,21 @@
+use Rattle.std.proofs.Common.{◌≡◌, length, ◌+◌, ◌*◌, ◌≤◌, ◌++◌, All}
+use Rattle.lrpar_answers.specs.Walks.{nodes_eq}
+use Rattle.lrpar_answers.proofs.WeightLemmas.{weights}
+use Rattle.lrpar_answers.proofs.PairLemmas.{IsEven, later_nodes, later_others}
+use Rattle.lrpar_answers.proofs.node.equal.+are_equal.Given as goal
+
+-- the nodes of the first list, those of its trees among them
+abbrev pub decreases-are_equal : goal.decreases-are_equal
+decreases-are_equal g l = weights l.nodes.now
+
+abbrev pub invariant-loop-node : goal.invariant-loop-node
+invariant-loop-node g l = record {
+  same : nodes_eq g.LexemeT.PartialEq.eq g.StorageT.PartialEq.eq (l.nodes ++ later_nodes l.left.items) (l.others ++ later_others l.left.items)
+      ≡ nodes_eq g.LexemeT.PartialEq.eq g.StorageT.PartialEq.eq l.fn.nodes l.fn.others;
+  even : length l.nodes ≡ length l.others;
+  pairs : All IsEven l.left.items;
+  below : weights (l.nodes ++ later_nodes l.left.items) ≤ weights l.fn.nodes;
+}
+
+abbrev pub decreases-loop-node : goal.decreases-loop-node
+decreases-loop-node g l = 2 * weights (l.nodes ++ later_nodes l.left.items) + length l.left.items

@@ -1,0 +1,10 @@
+-- The texts of faults of texts.
+use Rattle.std.specs.Prelude.{ℕ, List, ◌++◌, Option, Some, codes}
+use Rattle.std.specs.Fmt.{decimal}
+use Rattle.lrpar_answers.specs.declared.pp_fault.PpFault.{PpFault}
+use Rattle.lrpar_answers.specs.declared.pp_fault.PpFault.TheVariants.{NoPrintedName, Memory}
+
+-- by the token's number
+abbrev pub pp_fault_text : {S : Type 0} → (S → ℕ) → PpFault S → Option (List ℕ)
+pp_fault_text index (NoPrintedName t) = Some (codes "no printed name for token " ++ decimal (index t.0))
+pp_fault_text index Memory = Some (codes "out of memory")
