@@ -1,5 +1,5 @@
 //! Sums and products, computed as they are parsed: a lexer, actions and repairs as a user writes them.
-ghost use Rattle.std.specs.Prelude.{◌≡◌, ◌≤◌, length};
+ghost use Rattle.std.specs.Prelude.{◌≡◌, length};
 ghost use Rattle.lrpar_text.specs.Lines.{line_table};
 
 use crate::built::{CALC, built};
@@ -32,6 +32,10 @@ impl<'input> Lexer<TokenTypes> for SumLexer<'input> {
         let bytes = self.text.as_bytes();
         let mut answers = Vec::new(alloc);
         for (at, byte) in bytes.iter().enumerate() {
+            let digits = bytes[at..]
+                .iter()
+                .take_while(|byte| byte.is_ascii_digit())
+                .count();
             answers.push(match *byte {
                 b' ' => continue,
                 b'+' => Ok(Token::new(0, at, 1)),
@@ -39,20 +43,12 @@ impl<'input> Lexer<TokenTypes> for SumLexer<'input> {
                 b'(' => Ok(Token::new(2, at, 1)),
                 b')' => Ok(Token::new(3, at, 1)),
                 b'0'..=b'9' if at > 0 && bytes[at - 1].is_ascii_digit() => continue,
-                b'0'..=b'9' => Ok(Token::new(4, at, digits(&bytes[at..]))),
+                b'0'..=b'9' => Ok(Token::new(4, at, digits)),
                 _ => Err(NoToken::new(Span::new(at, at))),
             })?;
         }
         Ok(answers)
     }
-}
-
-// How many digits the bytes begin with.
-fn digits(bytes: &[u8]) -> usize
-    ensures { result ≤ length bytes.now }
-{
-    let end = bytes.iter().position(|byte| !byte.is_ascii_digit());
-    end.unwrap_or(bytes.len())
 }
 
 impl<'input> NonStreamingLexer<'input, TokenTypes> for SumLexer<'input> {
@@ -68,9 +64,12 @@ impl<'input> NonStreamingLexer<'input, TokenTypes> for SumLexer<'input> {
     }
 
     fn line_col(&self, span: Span) -> ((usize, usize), (usize, usize)) {
-        let (lines, text) = (&self.lines, self.text);
-        let start = lines.byte_to_line_num_and_col_num(text, span.start());
-        let end = lines.byte_to_line_num_and_col_num(text, span.end());
+        let start = self
+            .lines
+            .byte_to_line_num_and_col_num(self.text, span.start());
+        let end = self
+            .lines
+            .byte_to_line_num_and_col_num(self.text, span.end());
         (start.unwrap(), end.unwrap())
     }
 }
@@ -104,14 +103,12 @@ impl<'input> Actions<u32, Token<u32>, SumLexer<'input>> for Calculation {
         args: Vec<AStackType<Token<u32>, Option<u64>>>,
         _: &(),
     ) -> Result<Option<u64>, AllocError> {
+        let digits = lexer.text.get(span.start()..span.end()).unwrap_or("");
         Ok(match (pidx.as_storaget(), args.as_slice()) {
             (0, [ActionType(Some(left)), _, ActionType(Some(right))]) => left.checked_add(*right),
             (2, [ActionType(Some(left)), _, ActionType(Some(right))]) => left.checked_mul(*right),
             (1 | 3, [ActionType(number)]) | (4, [_, ActionType(number), _]) => *number,
-            (5, [_]) => {
-                let digits = lexer.text.get(span.start()..span.end()).unwrap_or("");
-                digits.parse::<u64>().ok()
-            }
+            (5, [_]) => digits.parse::<u64>().ok(),
             _ => None,
         })
     }
@@ -136,11 +133,8 @@ fn calculated(
     let mut texts = String::new(alloc);
     for error in &errors {
         if error.fits(line) {
-            let text = error.pp(
-                alloc,
-                &lexer,
-                |token| TOKENS.get(usize::from(token)).copied(),
-            )?;
+            let name = |token: TIdx<u32>| TOKENS.get(usize::from(token)).copied();
+            let text = error.pp(alloc, &lexer, name)?;
             writeln!(texts, "{text}")?;
         }
     }

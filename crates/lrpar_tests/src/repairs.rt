@@ -5,7 +5,7 @@ use crate::built::{
     BRACKETS, CALC, CALL, Outcome, Row, SUM, all_hold, built, outcome_of, sequences, text_of_errors,
 };
 use crate::calls::{Tree, leaf, one, rule};
-use crate::lexer::{HandedLexer, HandedTypes, Token};
+use crate::lexer::{HandedLexer, HandedTypes, Token, WantingLexer};
 use crate::parse::{LexAnswer, lexeme, lexemes};
 use lrpar::parser::{AStackType, ParseFault};
 use lrpar::repair::{FixedRecoverer, NoRecovery, Recoverer, RecoveryPoint, RepairStep};
@@ -398,6 +398,28 @@ fn want_of_memory_in_a_recoverer(rt: HostRuntime) -> Result<(), Fail> {
     let (fault, errors) = parsed_twice(rt.alloc())?;
     assert_eq!(rt; fault, Some(ParseFault::Memory));
     assert_eq!(rt; errors.as_str(), "2@3:1+1[ d1] 8@3:8+1[ d8] ");
+    Ok(())
+}
+
+// Two parses of `f(` with a lexer that finds no memory at its first call: the fault of the first, and the errors of the second.
+fn lexed_twice(alloc: Global) -> Result<(Option<ParseFault>, String), Fail> {
+    let data = built(alloc, CALL)?;
+    let answers = lexemes(alloc, &[(0, 0), (1, 1)])?;
+    let lexer = WantingLexer {
+        lexer: HandedLexer { answers: &answers },
+        calls: Cell::new(0),
+    };
+    let parser = RTParserBuilder::<u32, HandedTypes>::new(&data);
+    let fault = parser.parse_noaction(alloc, &lexer).err();
+    let errors = parser.parse_noaction(alloc, &lexer)?;
+    Ok((fault, text_of_errors(alloc, &errors)?))
+}
+
+#[test]
+fn want_of_memory_in_a_lexer(rt: HostRuntime) -> Result<(), Fail> {
+    let (fault, errors) = lexed_twice(rt.alloc())?;
+    assert_eq!(rt; fault, Some(ParseFault::Memory));
+    assert_eq!(rt; errors.as_str(), "3@3:2+0! ");
     Ok(())
 }
 
