@@ -24,7 +24,8 @@ use Rattle.lrpar.specs.Standing.{Stacked}
 use Rattle.lrpar_answers.specs.declared.errors.LexParseError.{LexParseError}
 use Rattle.lrpar_answers.specs.declared.errors.LexParseError.TheVariants.{LexError, ParseError}
 use Rattle.lrpar.specs.declared.repair.RepairStep.{RepairStep}
-use Rattle.lrpar.proofs.ListLemmas.{same_one, zip_push}
+use Rattle.lrpar.specs.ZipLaws.{zip_push}
+use Rattle.lrpar.proofs.ListLemmas.{same_one}
 use Rattle.lrpar.proofs.MovesLemmas.{moves_bound, moves_stand}
 use Rattle.lrpar.proofs.RepairRunLemmas.{far_stops, go_on_far, replay_one_way, replays_place, works_by_replay}
 use Rattle.lrpar.proofs.StandingLemmas.{IsStanding, standing_accept, standing_start}

@@ -1,6 +1,7 @@
 pub mod LexemeLemmas
 pub mod ListLemmas
 pub mod RunLemmas
+pub mod ReducingLemmas
 pub mod StackedLemmas
 pub mod StandingLemmas
 pub mod RisingLemmas

@@ -2,7 +2,7 @@
 use Rattle.std.proofs.Common.{◌≡◌, ℕ, ◌+◌, ◌<◌, List, [], ◌∷◌, ◌++◌, length, take, drop, get_or, reverse, ap, sym, ◌∙◌, append_assoc, drop-cons, add-one}
 use Rattle.std.specs.List.{AllZip}
 use Rattle.std.proofs.lemmas.List.{take_more, same_from_push, reverse-append}
-use Rattle.lrpar.proofs.ListLemmas.{zip_push}
+use Rattle.lrpar.specs.ZipLaws.{zip_push}
 
 -- the last item of such a list is the first one that is left
 pub last_reversed : {A : Type 0} (kept all old new : List A) (i : ℕ) (x : A) → old ≡ kept ++ reverse (drop i all) → i < length all

@@ -12,7 +12,8 @@ use Rattle.std.proofs.lemmas.Slice.Zip.{AllZip-long}
 use Rattle.lrpar.specs.End.{IsOfTree}
 use Rattle.lrpar.specs.RunAnswer.{IsValueOf}
 use Rattle.lrpar.specs.Standing.{AllStand, StandsFor, Stacked, ReducesTo, ReducesAllTo, kept_by, popped_by}
-use Rattle.lrpar.proofs.ListLemmas.{zip_one, zip_push, zip_take}
+use Rattle.lrpar.specs.ZipLaws.{zip_push, zip_take}
+use Rattle.lrpar.proofs.ListLemmas.{zip_one}
 
 -- one more tree, at the end
 abbrev pub with_last : {X : Type 0} → Forest X → Tree X → Forest X

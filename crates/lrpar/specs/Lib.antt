@@ -17,6 +17,10 @@ pub mod RunAnswer
 pub mod Parse
 pub mod Standing
 pub mod Stacked
+pub mod ZipLaws
+pub mod Reducing
+pub mod ReducingLaws
+pub mod ReducingView
 pub mod End
 pub mod Sequences
 pub mod PlainSteps

@@ -10,6 +10,7 @@ pub mod laws;
 mod lexed;
 mod nothing;
 pub mod parser;
+mod reducing;
 pub mod repair;
 mod replay;
 mod run;

@@ -3,16 +3,17 @@ ghost use Rattle.std.specs.Prelude.{◌≡◌, ◌≢◌, ◌<◌, ℕ, IfOk, On
 ghost use Rattle.lrpar_grammar.specs.Grammar.{end_token};
 ghost use Rattle.lrpar_check.specs.Path.{NeverSticks};
 ghost use Rattle.lrpar_check.specs.Reduction.{top_action};
-ghost use Rattle.lrpar_states.specs.Table.{ReduceBy};
 ghost use Rattle.lrpar_states.specs.PlainRows.{plain_action};
 ghost use Rattle.lrpar_answers.specs.Lexemes.{facts_of, lexeme_past};
-ghost use Rattle.lrpar.specs.Standing.{IsUpright, ReducesTo};
+ghost use Rattle.lrpar.specs.Standing.{IsUpright};
 ghost use Rattle.lrpar.specs.Stacked.{SettlesTo, Shifts, Sticks};
 
 use crate::building::Build;
+use crate::reducing::Reducing;
 use crate::stack::Stack;
 use lrpar_answers::lex_api::Lexeme;
-use lrpar_grammar::span::{PIdx, StorageIndex, TIdx};
+use lrpar_check::stack::StateStack;
+use lrpar_grammar::span::{StorageIndex, TIdx};
 use lrpar_table::check::ParserData;
 use lrpar_table::table::Action;
 use std::alloc::{AllocError, Global};
@@ -91,39 +92,11 @@ impl<'a, StorageT: StorageIndex, LexemeT: Lexeme<StorageT>, B: Build<StorageT, L
         ensures action { IfOk result (λ action. plain_action StorageT.index action ≡ top_action self.now.checked.now.table (StorageT.index token.0) stack.new.states) }
     {
         let stable = self.checked.stable();
-        // How many reductions may still be made: the check allows `cap` for each state.
-        let mut left = u128::from(self.checked.cap()) * stack.height() as u128;
-        'reductions: loop {
-            match stable.action(stack.top(), token) {
-                Action::Reduce(pidx) => self.reduce(alloc, stack, token, pidx)?,
-                action => return Ok(action),
-            }
-            left -= 1;
-        }
-    }
-
-    // Reduces by the production, which is the action of the top state at the token.
-    fn reduce(
-        &self,
-        alloc: Global,
-        stack: &mut Stack<StorageT, B::Entry>,
-        token: TIdx<StorageT>,
-        pidx: PIdx<StorageT>,
-    ) -> Result<(), AllocError>
-        requires can { B.can_build self.now.build.now self.now.checked.now.grammar }
-        requires upright { IsUpright (B.suits self.now.build.now) self.now.checked.now.table stack.old }
-        requires rises { (start : ℕ) × B.rises self.now.build.now stack.old.entries start }
-        requires action { top_action self.now.checked.now.table (StorageT.index token.0) stack.old.states ≡ ReduceBy (StorageT.index pidx.0) }
-        ensures upright { OnOk result (IsUpright (B.suits self.now.build.now) self.now.checked.now.table stack.new) }
-        ensures reduces { OnOk result (ReducesTo (B.node self.now.build.now self.now.checked.now.grammar) (B.suits self.now.build.now)
-            self.now.checked.now.grammar self.now.checked.now.table (StorageT.index token.0) stack.old (StorageT.index pidx.0) stack.new) }
-    {
-        let (stable, grm) = (self.checked.stable(), self.checked.grm());
-        let count = grm.prod(pidx).len();
-        let entry = stack.gather(alloc, self.build, grm, pidx, count)?;
-        let state = stable.goto(stack.top(), grm.prod_to_rule(pidx)).unwrap();
-        stack.push(state, entry)?;
-        Ok(())
+        // Past these the table has no entry, so that a path is a stack.
+        let (_tokens, _rules) = (stable.tokens_len(), stable.rules_len());
+        let mut reducing = Reducing::new(alloc, self.checked.grm(), self.build, stack);
+        self.checked.settle_on(&mut reducing, token)?;
+        Ok(stable.action(reducing.top(), token))
     }
 }
 

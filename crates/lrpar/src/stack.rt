@@ -1,13 +1,15 @@
 //! The stacks of a run: the states, and what stands between each two neighbours.
-ghost use Rattle.std.specs.Prelude.{◌≡◌, ◌+◌, ◌<◌, ◌≤◌, ◌-◌, ℕ, [], ◌∷◌, ◌++◌, None, length, take, drop, Some, OnOk, IfOk};
-ghost use Rattle.std.specs.List.{AllZip, last_or};
+ghost use Rattle.std.specs.Prelude.{◌≡◌, ◌<◌, ◌≤◌, ◌-◌, ℕ, [], ◌∷◌, ◌++◌, length, take, drop, slice_get, Some, OnErr, OnOk, IfOk};
+ghost use Rattle.std.specs.List.{AllZip};
 ghost use Rattle.lrpar_check.specs.Stack.{states_of, top_of};
-ghost use Rattle.lrpar_grammar.specs.Grammar.{Nonterminal, prod_len, rule_of, start_prod, symbols_of};
+ghost use Rattle.lrpar_grammar.specs.Grammar.{prod_len, rule_of, start_prod, symbols_of};
+ghost use Rattle.lrpar.specs.Reducing.{IsBuiltOf};
 
 use crate::building::Build;
 use lrpar_answers::lex_api::Lexeme;
+use lrpar_check::stack::{Reduction, StateStack};
 use lrpar_grammar::grammar::YaccGrammar;
-use lrpar_grammar::span::{PIdx, StIdx, StorageIndex};
+use lrpar_grammar::span::{StIdx, StorageIndex};
 use std::alloc::{AllocError, Global};
 use std::marker::Model;
 
@@ -62,6 +64,14 @@ impl<StorageT: StorageIndex, E: Drop> Stack<StorageT, E> {
         self.states[self.states.len() - 1]
     }
 
+    /// The state at this height, from 0 on.
+    pub(crate) fn state_at(&self, at: usize) -> StIdx<StorageT>
+        requires { at < length self.now.states }
+        ensures { slice_get self.now.states at ≡ Some (StorageT.index result.0) }
+    {
+        self.states[at]
+    }
+
     /// Puts a state on top, with the entry of the symbol that led to it.
     pub(crate) fn push(&mut self, state: StIdx<StorageT>, entry: E) -> Result<(), AllocError>
         ensures states { OnOk result (self.new.states ≡ self.old.states ++ StorageT.index state.0 ∷ []) }
@@ -72,33 +82,30 @@ impl<StorageT: StorageIndex, E: Drop> Stack<StorageT, E> {
         Ok(())
     }
 
-    /// Drops the states of the production's symbols, which are `count`, and takes their entries off, of which the
-    /// production's own is made.
-    pub(crate) fn gather<LexemeT: Lexeme<StorageT>, B: Build<StorageT, LexemeT, Entry = E>>(
+    /// Takes the entries of the production's symbols off, puts the one that is made of them in their place, and reduces the
+    /// states. Where memory was wanting, the states stay, and some of the entries may be gone.
+    pub(crate) fn reduce<LexemeT: Lexeme<StorageT>, B: Build<StorageT, LexemeT, Entry = E>>(
         &mut self,
         alloc: Global,
         build: &B,
         grm: &YaccGrammar<StorageT>,
-        pidx: PIdx<StorageT>,
-        count: usize,
-    ) -> Result<E, AllocError>
+        by: Reduction<StorageT>,
+    ) -> Result<(), AllocError>
         requires can { B.can_build build.now grm.now }
-        requires listed { StorageT.index pidx.0 < start_prod grm.now }
-        requires count { count ≡ prod_len grm.now (StorageT.index pidx.0) }
-        requires states { count ≤ length self.old.states }
-        requires entries { count ≤ length self.old.entries }
-        requires suit { AllZip (B.suits build.now) (symbols_of grm.now (StorageT.index pidx.0)) (drop (length self.old.entries - count) self.old.entries) }
+        requires listed { StorageT.index by.prod.0 < start_prod grm.now }
+        requires symbols { by.symbols ≡ prod_len grm.now (StorageT.index by.prod.0) }
+        requires states { by.symbols < length self.old.states }
+        requires entries { by.symbols ≤ length self.old.entries }
+        requires suit { AllZip (B.suits build.now) (symbols_of grm.now (StorageT.index by.prod.0)) (drop (length self.old.entries - by.symbols) self.old.entries) }
         requires rises { (start : ℕ) × B.rises build.now self.old.entries start }
-        ensures states { OnOk result (self.new.states ≡ take (length self.old.states - count) self.old.states) }
-        ensures entries { OnOk result (self.new.entries ≡ take (length self.old.entries - count) self.old.entries) }
-        ensures node { IfOk result (B.node build.now grm.now (StorageT.index pidx.0)
-            (last_or None (take (length self.old.entries - count) self.old.entries))
-            (drop (length self.old.entries - count) self.old.entries)) }
-        ensures suit { IfOk result (B.suits build.now (Nonterminal (rule_of grm.now (StorageT.index pidx.0)))) }
+        ensures states { OnOk result (self.new.states ≡ take (length self.old.states - by.symbols) self.old.states ++ StorageT.index by.next.0 ∷ []) }
+        ensures entries { OnOk result (IsBuiltOf (B.node build.now grm.now) (B.suits build.now) (StorageT.index by.prod.0)
+            (rule_of grm.now (StorageT.index by.prod.0)) by.symbols self.old.entries self.new.entries) }
+        ensures unchanged { OnErr result (self.new.states ≡ self.old.states) }
     {
-        let entry = build.reduced(alloc, grm, &pidx, count, &mut self.entries)?;
-        self.states.truncate(self.states.len() - count);
-        Ok(entry)
+        let entry = build.reduced(alloc, grm, &by.prod, by.symbols, &mut self.entries)?;
+        self.entries.push(entry)?;
+        self.states.reduce(by)
     }
 
     /// The entry, where it is all that stands on the stack.

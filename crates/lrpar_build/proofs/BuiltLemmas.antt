@@ -15,7 +15,7 @@ use Rattle.lrpar_build.specs.States.{AreStates, StateOf, sets_at, state_at}
 use Rattle.lrpar_build.specs.Wanted.{IsAcceptReduce, is_complete_at, reductions}
 use Rattle.lrpar_build.specs.declared.fault.BuildFault.{BuildFault}
 use Rattle.lrpar_build.specs.declared.fault.BuildFault.TheVariants.{AcceptReduceConflict, Memory, StorageTooSmall, TooManyStates}
-use Rattle.lrpar_build.proofs.ConflictLemmas.{no_conflicts_are_one_action}
+use Rattle.lrpar_build.proofs.ConflictLemmas.{canonical_conflicts_fit, no_conflicts_are_one_action}
 use Rattle.lrpar_build.proofs.ListedLemmas.{conflicts_are, in_order}
 use Rattle.lrpar_build.proofs.MemberLemmas.{member_first, member_none}
 use Rattle.lrpar_build.proofs.ReachedLemmas.{no_end_token, reached_at_end}
@@ -152,6 +152,7 @@ module _ (g : Grammar) (well : IsWellFormed g) (states : List StateOf) (are : Ar
         safe = canonical_tables_are_safe g graph table well graph_canonical (graph_wanted limit is);
         conflicts = conflicts;
         in_order = in_order g states (length states);
+        fit = canonical_conflicts_fit g graph table.conflicts well graph_canonical conflicts;
         no_conflicts = no_conflicts_are_one_action g graph table.conflicts well graph_canonical conflicts alone;
         accept_alone = alone;
       }

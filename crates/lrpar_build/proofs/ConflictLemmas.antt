@@ -4,28 +4,17 @@ use Rattle.std.proofs.Common.{◌≡◌, ◌≢◌, ◌<◌, ◌+◌, refl, sym,
 use Rattle.std.specs.List.{Contains}
 use Rattle.std.proofs.lemmas.Bool.{cases_eq}
 use Rattle.std.proofs.lemmas.List.Elements.{All-contains_itself}
-use Rattle.lrpar_grammar.specs.Grammar.{Grammar, GrammarSymbol, IsWellFormed, Terminal, end_token, prod_len, prods_len, start_prod}
+use Rattle.lrpar_grammar.specs.Grammar.{Grammar, IsWellFormed, Terminal, end_token, prod_len, prods_len, start_prod}
 use Rattle.lrpar_states.specs.ConflictsFit.{ReductionsFit, ShiftFits}
 use Rattle.lrpar_states.specs.Graph.{Graph, ItemOf, graph_len, item_at}
 use Rattle.lrpar_states.specs.Safe.{IsItem}
 use Rattle.lrpar_states.specs.Table.{Accepts, ConflictLists, Fails, ReduceBy, ReduceReduce, ShiftReduce, ShiftTo}
 use Rattle.lrpar_build.specs.BuilderLaws.{AcceptAlone, AreConflictsOf, CanonicalConflictsFit, NoConflictsAreOneAction, WantOneAction, lists_in}
 use Rattle.lrpar_build.specs.Canonical.{IsCanonical, IsStep, StandsBefore, WantsAccept, WantsFirst, WantsReduce, sets_of}
-use Rattle.lrpar_build.specs.ItemSets.{Added, IsAdvanced, IsInClosure, IsInNext, IsReachedBy, Own}
+use Rattle.lrpar_build.specs.ItemSets.{IsReachedBy, Own}
 use Rattle.lrpar_build.proofs.DecidedLemmas.{first_wanted}
 use Rattle.lrpar_build.proofs.ReachedLemmas.{no_end_token, reached_at_end, reached_items, symbol_listed}
-
--- a closure has what the closure of fewer items has
-closure_grows : (g : Grammar) (items more : ItemOf → Type 0) → ((x : ItemOf) → items x → more x) → (x : ItemOf)
-    → IsInClosure g items x → IsInClosure g more x
-closure_grows g items more each x (Own y h) = Own y (each y h)
-closure_grows g items more each x (Added y z h adds) = Added y z (closure_grows g items more each y h) adds
-
--- and so does the set to which a set goes
-next_grows : (g : Grammar) (items more : ItemOf → Type 0) → ((x : ItemOf) → items x → more x) → (s : GrammarSymbol) (x : ItemOf)
-    → IsInNext g items s x → IsInNext g more s x
-next_grows g items more each s =
-    closure_grows g (IsAdvanced g items s) (IsAdvanced g more s) (λ y from. (from.0, each from.0 from.1, from.2, from.3))
+use Rattle.lrpar_build.proofs.SetLemmas.{next_more}
 
 -- a list without elements is empty
 empty_list : {X : Type 0} (xs : List X) → ((x : X) → Contains xs x → ⊥) → xs ≡ []
@@ -59,8 +48,8 @@ module _ (g : Grammar) (graph : Graph) (well : IsWellFormed g) (canonical : IsCa
           before,
           next.1,
           λ z. (
-            λ h. next_grows g by (sets_of graph s) (λ i. (reached.1 i).1) (Terminal t) z ((next.2 z).0 h),
-            λ h. (next.2 z).1 (next_grows g (sets_of graph s) by (λ i. (reached.1 i).0) (Terminal t) z h),
+            λ h. next_more g by (sets_of graph s) (Terminal t) (λ i. (reached.1 i).1) z ((next.2 z).0 h),
+            λ h. (next.2 z).1 (next_more g (sets_of graph s) by (Terminal t) (λ i. (reached.1 i).0) z h),
           ),
         ),
       )

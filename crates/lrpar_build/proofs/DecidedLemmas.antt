@@ -1,5 +1,5 @@
 -- What items of a list want is decided: there is such an item, or there is none; and of productions that are wanted there is a least.
-use Rattle.std.proofs.Common.{◌≡◌, ◌≢◌, ◌<◌, ◌≤◌, ◌+◌, ◌⊎◌, ◌∙◌, refl, sym, ap, subst, inl, inr, arith, ℕ, zero, suc, List, [], ◌∷◌, length, None, Option, Some, slice_get, slice_index_or}
+use Rattle.std.proofs.Common.{◌≡◌, ◌≢◌, ◌<◌, ◌≤◌, ◌+◌, ◌⊎◌, ◌∙◌, refl, sym, ap, subst, inl, inr, arith, ℕ, zero, suc, List, [], ◌∷◌, None, Option, Some, slice_get}
 use Rattle.std.specs.List.{Contains, list_any}
 use Rattle.std.proofs.lemmas.Bool.{cases_Bool, cases_eq, cases_lt, false≢true}
 use Rattle.lrpar_grammar.specs.Grammar.{Grammar, GrammarSymbol, Nonterminal, Terminal, prod_len, start_prod, symbols_of}
@@ -7,12 +7,7 @@ use Rattle.lrpar_states.specs.Graph.{Graph, ItemOf, item_at, items_of}
 use Rattle.lrpar_states.specs.Table.{Accepts, Fails, ReduceBy, ShiftTo, Table, action_of}
 use Rattle.lrpar_states.proofs.GraphLemmas.{is_item, item_by_test}
 use Rattle.lrpar_build.specs.Canonical.{ActsAsWanted, LeadsTo, StandsBefore, WantsAccept, WantsFirst, WantsReduce, sets_of}
-
--- an element of a list is the first one, or one of the others
-first_or_later : {X : Type 0} (y : X) (ys : List X) (x : X) (k : ℕ) → k < length (y ∷ ys)
-    → slice_index_or (y ∷ ys) k x ≡ x → (y ≡ x) ⊎ Contains ys x
-first_or_later y ys x zero below at = inl at
-first_or_later y ys x (suc k) below at = inr (k, omega (arith, below), at)
+use Rattle.lrpar_build.proofs.MemberLemmas.{member_cases}
 
 -- an element of a list has what is decided of each, or none has
 some_or_none : {X : Type 0} (P : X → Type 0) → ((x : X) → P x ⊎ ¬ (P x)) → (xs : List X)
@@ -25,7 +20,7 @@ some_or_none P decided (y ∷ ys) =
           elim (some_or_none P decided ys) [
             | inl found ↦ inl (found.0, (suc found.1.0, omega (arith, found.1.1), found.1.2), found.2)
             | inr none ↦
-                inr (λ x there holds. elim (first_or_later y ys x there.0 there.1 there.2) [
+                inr (λ x there holds. elim (member_cases y ys x there) [
                   | inl first ↦ fails (subst P (sym first) holds)
                   | inr later ↦ none x later holds
                 ])

@@ -1,10 +1,7 @@
--- Lists that are compared place by place, and a kernel that is looked for among others.
-use Rattle.std.proofs.Common.{◌≡◌, ◌≢◌, ◌<◌, ◌+◌, ◌∷◌, ◌++◌, ◌∙◌, [], sym, ap, subst, inl, inr, arith, ℕ, List, get_or, length, map, take}
-use Rattle.std.proofs.lemmas.Bool.{cases_eq}
+-- Lists that are compared place by place, and what stands in a place.
+use Rattle.std.proofs.Common.{◌≡◌, ◌<◌, ◌+◌, ◌∷◌, ◌++◌, ◌∙◌, [], sym, ap, ℕ, List, get_or, length, map, take}
 use Rattle.std.proofs.lemmas.List.{get_or-map}
 use Rattle.lrpar_grammar.proofs.ListLemmas.{map-take_more}
-use Rattle.lrpar_build.specs.Cores.{CoreSet}
-use Rattle.lrpar_build.specs.Kernels.{kernel_at}
 
 module _ {X Y : Type 0} (f : X → Y) (xs ys : List X) (i : ℕ) (x y : X) (low : i < length xs) (below : i < length ys) (is : x ≡ get_or xs i x)
     (other : y ≡ get_or ys i y) where
@@ -18,15 +15,6 @@ module _ {X Y : Type 0} (f : X → Y) (xs ys : List X) (i : ℕ) (x y : X) (low 
   same_more before same =
       map-take_more f xs i x low is ∙ ap (λ zs. zs ++ f x ∷ []) before ∙ ap (λ z. map f (take i ys) ++ z ∷ []) same
       ∙ sym (map-take_more f ys i y below other)
-
--- a kernel more that isn't the one that is looked for
-pub fresh_more : (kernels : List (List CoreSet)) (kernel : List CoreSet) (n : ℕ) → ((s : ℕ) → s < n → kernel_at kernels s ≢ kernel)
-    → kernel_at kernels n ≢ kernel → (s : ℕ) → s < n + 1 → kernel_at kernels s ≢ kernel
-fresh_more kernels kernel n before here s low =
-    elim (cases_eq s n) [
-      | inl same ↦ subst (λ k. kernel_at kernels k ≢ kernel) (sym same) here
-      | inr other ↦ let apart : s ≢ n = other in before s (omega (arith, low, apart))
-    ]
 
 -- what stands in a place of a list that is mapped
 pub mapped_at : {X Y : Type 0} (f : X → Y) (xs : List X) (n : ℕ) (x : X) (d : Y) → n < length xs → x ≡ get_or xs n x → get_or (map f xs) n d ≡ f x

@@ -28,3 +28,4 @@ pub mod NumberLemmas
 pub mod PutLemmas
 pub mod StepLemmas
 pub mod FindLemmas
+pub mod KernelMapLemmas

@@ -25,13 +25,13 @@ pub same_on : (items others more : ItemOf → Type 0) → AreSame items others �
 same_on items others more one two x = (λ h. (two x).0 ((one x).0 h), λ h. (one x).1 ((two x).1 h))
 
 -- the closure of more items has what that of fewer has
-closure_more : (g : Grammar) (items others : ItemOf → Type 0) → ((x : ItemOf) → items x → others x) → (x : ItemOf)
+pub closure_more : (g : Grammar) (items others : ItemOf → Type 0) → ((x : ItemOf) → items x → others x) → (x : ItemOf)
     → IsInClosure g items x → IsInClosure g others x
 closure_more g items others more x (Own y h) = Own y (more y h)
 closure_more g items others more x (Added y z h adds) = Added y z (closure_more g items others more y h) adds
 
 -- and so has the set to which it goes
-next_more : (g : Grammar) (items others : ItemOf → Type 0) (s : GrammarSymbol) → ((x : ItemOf) → items x → others x)
+pub next_more : (g : Grammar) (items others : ItemOf → Type 0) (s : GrammarSymbol) → ((x : ItemOf) → items x → others x)
     → (x : ItemOf) → IsInNext g items s x → IsInNext g others s x
 next_more g items others s more =
     closure_more g (IsAdvanced g items s) (IsAdvanced g others s) (λ y h. (h.0, more h.0 h.1, h.2, h.3))

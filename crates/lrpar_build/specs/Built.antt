@@ -5,6 +5,7 @@ use Rattle.std.specs.List.Sorted.{IsStrictlySortedBy}
 use Rattle.std.specs.Ordering.{nat_cmp, ordering_then}
 use Rattle.std.specs.declared.cmp.Ordering.{Ordering}
 use Rattle.lrpar_grammar.specs.Grammar.{Grammar}
+use Rattle.lrpar_states.specs.ConflictsFit.{ConflictsFit}
 use Rattle.lrpar_states.specs.Graph.{Graph, graph_len}
 use Rattle.lrpar_states.specs.Safe.{IsSafe}
 use Rattle.lrpar_states.specs.Table.{ConflictLists, ReduceReduce, ShiftReduce, Table}
@@ -26,14 +27,15 @@ pub record StandInOrder (lists : ConflictLists) : Type 0 where
   pub reduce_reduce : IsStrictlySortedBy reduce_reduce_cmp lists.reduce_reduce
   pub shift_reduce : IsStrictlySortedBy shift_reduce_cmp lists.shift_reduce
 
--- the graph has the canonical sets, and the table does what they want, so it is safe; it keeps their conflicts, in order, and none exactly
--- where no set wants two different actions at one token; and no set wants to accept and a reduction
+-- the graph has the canonical sets, and the table does what they want, so it is safe; it keeps their conflicts, in order, which fit the
+-- grammar, and none exactly where no set wants two different actions at one token; and no set wants to accept and a reduction
 pub record IsBuilt (g : Grammar) (graph : Graph) (table : Table) : Type 0 where
   pub canonical : IsCanonical g graph
   pub wanted : IsWantedTable g graph table
   pub safe : IsSafe g graph table
   pub conflicts : AreConflictsOf g graph table.conflicts
   pub in_order : StandInOrder (lists_in table.conflicts)
+  pub fit : ConflictsFit g (lists_in table.conflicts)
   pub no_conflicts : (table.conflicts ≡ None) ↔ WantOneAction g (graph_len graph) (sets_of graph)
   pub accept_alone : AcceptAlone g (graph_len graph) (sets_of graph)
 

@@ -1,6 +1,6 @@
 -- The canonical sets of a grammar, what they want to be done, and the conflicts among that. Sets of items are told by their numbers,
 -- and each by which items are in it.
-use Rattle.std.specs.Prelude.{◌≡◌, ◌≢◌, ◌<◌, ◌≤◌, ◌↔◌, ◌⊎◌, ℕ, List, [], All, Contains, Option, Some, None, length, slice_get, slice_index_or}
+use Rattle.std.specs.Prelude.{◌≡◌, ◌≢◌, ◌<◌, ◌≤◌, ◌↔◌, ℕ, List, [], All, Contains, Option, Some, None, length, slice_get, slice_index_or}
 use Rattle.lrpar_grammar.specs.Grammar.{Grammar, GrammarSymbol, Nonterminal, Terminal, end_token, prod_len, start_prod, symbols_of}
 use Rattle.lrpar_states.specs.Graph.{Graph, ItemOf, graph_len, item_at, items_of}
 use Rattle.lrpar_states.specs.Table.{ReduceReduce, ShiftReduce, Table, ShiftTo, ReduceBy, Accepts, Fails, action_of, goto_of}

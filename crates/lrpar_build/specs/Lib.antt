@@ -7,6 +7,7 @@ pub mod Brought
 pub mod Cores
 pub mod Wanted
 pub mod Kernels
+pub mod KernelMap
 pub mod Numbers
 pub mod States
 pub mod BuilderLaws

@@ -1,16 +1,11 @@
 -- Kernels and their numbers.
-use Rattle.std.specs.Prelude.{◌≡◌, ◌≢◌, ◌<◌, ◌≤◌, ◌⊎◌, ◌++◌, ℕ, List, [], ◌∷◌, length, map}
+use Rattle.std.specs.Prelude.{◌≡◌, ◌≢◌, ◌<◌, ◌≤◌, ◌⊎◌, ◌++◌, ℕ, List, [], ◌∷◌, length}
 use Rattle.lrpar_grammar.specs.Grammar.{Grammar}
 use Rattle.lrpar_build.specs.Canonical.{ReachesMore}
-use Rattle.lrpar_build.specs.Cores.{CoreSet, core_set}
+use Rattle.lrpar_build.specs.Cores.{CoreSet}
 use Rattle.lrpar_build.specs.Kernels.{AreKernels, kernel_at}
 use Rattle.lrpar_build.specs.declared.fault.BuildFault.{BuildFault}
 use Rattle.lrpar_build.specs.declared.fault.BuildFault.TheVariants.{AcceptReduceConflict, Memory, StorageTooSmall, TooManyStates}
-use Rattle.lrpar_build.specs.declared.kernels.Kernels.{Kernels}
-
--- the kernels of the code
-abbrev pub kernels_of : {S : Type 0} → (S → ℕ) → Kernels S → List (List CoreSet)
-kernels_of index kernels = map (λ kernel. map (core_set index) kernel.items) kernels.kernels.items
 
 -- the kernel has this number
 pub record IsFound (kernels : List (List CoreSet)) (kernel : List CoreSet) (number : ℕ) : Type 0 where

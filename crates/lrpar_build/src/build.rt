@@ -15,8 +15,8 @@ use std::alloc::Global;
 /// start.
 ///
 /// Where an item set wants a shift and a reduction, the table shifts; where it wants several reductions, the table makes the first
-/// one: these are the table's conflicts, listed by state, token and production, and there are none where no item set wants two
-/// different actions at one token. `AcceptReduceConflict` names a state that wants to accept, and a reduction; `TooManyStates` comes
+/// one: these are the table's conflicts, listed by state, token and production. They fit the grammar, and there are none where no
+/// item set wants two different actions at one token. `AcceptReduceConflict` names a state that wants to accept, and a reduction; `TooManyStates` comes
 /// where there are more item sets than `max_states`, `StorageTooSmall` where there are more than `StorageT` has numbers, and
 /// `Memory` where it doesn't suffice.
 pub fn from_yacc<StorageT: StorageIndex>(
@@ -24,7 +24,7 @@ pub fn from_yacc<StorageT: StorageIndex>(
     grm: &YaccGrammar<StorageT>,
     max_states: usize,
 ) -> Result<(StateGraph<StorageT>, StateTable<StorageT>), BuildFault>
-    // The item sets are the canonical ones, and the table does what they want.
+    // The item sets are the canonical ones, and the table does what they want: it is safe, and its conflicts are theirs and fit.
     ensures built { IfOk result (λ built. IsBuilt grm.now built.0 built.1) }
     ensures room { IfOk result (λ built. graph_len built.0 ≤ max_states) }
     // A refusal tells that there are too many, or that one wants what no table does.

@@ -1,26 +1,40 @@
 //! Kernels, each with its number.
-ghost use Rattle.std.specs.Prelude.{◌≡◌, ◌<◌, ◌≤◌, ◌↔◌, ℕ, [], IfErr, IfOk, IfSome, IsTrue, MatchOption, length, map};
+ghost use Rattle.std.specs.Prelude.{◌≡◌, ◌<◌, ◌≤◌, ◌↔◌, ◌∷◌, ◌++◌, ℕ, [], IfErr, IfOk, IsTrue, MatchOption, OnOk, length, map};
 ghost use Rattle.lrpar_build.specs.Cores.{core_set};
+ghost use Rattle.lrpar_build.specs.Numbers.{IsFound, IsFresh, IsNumberFault, IsNumberOf};
 ghost use Rattle.lrpar_build.specs.Kernels.{kernel_at};
-ghost use Rattle.lrpar_build.specs.Numbers.{IsFound, IsFresh, IsNumberFault, IsNumberOf, kernels_of};
+ghost use Rattle.lrpar_build.specs.declared.fault.BuildFault.TheVariants.{Memory};
 
 use crate::cores::CoreItems;
 use crate::fault::BuildFault;
 use lrpar_grammar::span::{StIdx, StorageIndex};
 use std::alloc::{AllocError, Global};
 use std::collections::BTreeMap;
+use std::marker::Model;
 
 /// The kernels that were found, by their numbers; and their numbers, to find them quickly.
 #[derive(Debug, Drop)]
 pub(crate) struct Kernels<StorageT: StorageIndex> {
-    pub(crate) kernels: Vec<Vec<CoreItems<StorageT>>>,
-    pub(crate) numbers: BTreeMap<Vec<CoreItems<StorageT>>, StIdx<StorageT>>,
+    kernels: Vec<Vec<CoreItems<StorageT>>>,
+    numbers: BTreeMap<Vec<CoreItems<StorageT>>, StIdx<StorageT>>,
+}
+
+impl<StorageT: StorageIndex> Model for Kernels<StorageT> {
+    ghost use Rattle.std.specs.Prelude.{List};
+    ghost use Rattle.lrpar_build.specs.Cores.{CoreSet};
+    ghost use Rattle.lrpar_build.specs.KernelMap.{HasNumbers, kernel_rows};
+
+    ghost Value = { List (List CoreSet) };
+
+    ghost view = { λ found. kernel_rows StorageT.index found.kernels.items };
+
+    ghost invariant = { λ found. HasNumbers StorageT.index (kernel_rows StorageT.index found.kernels.items) found.numbers };
 }
 
 impl<StorageT: StorageIndex> Kernels<StorageT> {
     /// None yet.
     pub(crate) fn new(alloc: Global) -> Self
-        ensures { kernels_of StorageT.index result ≡ [] }
+        ensures { result ≡ [] }
     {
         Kernels {
             kernels: Vec::new(alloc),
@@ -30,7 +44,7 @@ impl<StorageT: StorageIndex> Kernels<StorageT> {
 
     /// How many there are.
     pub(crate) fn len(&self) -> usize
-        ensures { result ≡ length (kernels_of StorageT.index self.now) }
+        ensures { result ≡ length self.now }
     {
         self.kernels.len()
     }
@@ -41,8 +55,8 @@ impl<StorageT: StorageIndex> Kernels<StorageT> {
         alloc: Global,
         number: usize,
     ) -> Result<Vec<CoreItems<StorageT>>, AllocError>
-        requires { number < length (kernels_of StorageT.index self.now) }
-        ensures { IfOk result (λ kernel. map (core_set StorageT.index) kernel.items ≡ kernel_at (kernels_of StorageT.index self.now) number) }
+        requires { number < length self.now }
+        ensures { IfOk result (λ kernel. map (core_set StorageT.index) kernel.items ≡ kernel_at self.now number) }
     {
         copied(alloc, &self.kernels[number])
     }
@@ -54,10 +68,9 @@ impl<StorageT: StorageIndex> Kernels<StorageT> {
         max_states: usize,
         kernel: Vec<CoreItems<StorageT>>,
     ) -> Result<StIdx<StorageT>, BuildFault>
-        requires { length (kernels_of StorageT.index self.old) ≤ StorageT.limit }
-        ensures number { IfOk result (λ state. IsNumberOf max_states StorageT.limit (kernels_of StorageT.index self.old)
-            (map (core_set StorageT.index) kernel.items) (StorageT.index state.0) (kernels_of StorageT.index self.new)) }
-        ensures fault { IfErr result (IsNumberFault max_states StorageT.limit (kernels_of StorageT.index self.old)
+        ensures number { IfOk result (λ state. IsNumberOf max_states StorageT.limit self.old
+            (map (core_set StorageT.index) kernel.items) (StorageT.index state.0) self.new) }
+        ensures fault { IfErr result (IsNumberFault max_states StorageT.limit self.old
             (map (core_set StorageT.index) kernel.items)) }
     {
         if let Some(state) = self.find(&kernel) {
@@ -70,36 +83,16 @@ impl<StorageT: StorageIndex> Kernels<StorageT> {
         match StorageT::from_index(next) {
             None => Err(BuildFault::StorageTooSmall),
             Some(number) => {
-                let key = copied(alloc, &kernel)?;
-                self.numbers.insert(key, StIdx(number))?;
-                self.kernels.push(kernel)?;
+                self.push(alloc, kernel, StIdx(number))?;
                 Ok(StIdx(number))
             }
         }
     }
 
-    // The number of the kernel, if it was found. That it is new is seen by comparing it with all others, which takes little time
-    // beside its closure.
+    // The number of the kernel, if it has one.
     fn find(&self, kernel: &[CoreItems<StorageT>]) -> Option<StIdx<StorageT>>
-        requires { length (kernels_of StorageT.index self.now) ≤ StorageT.limit }
-        ensures { MatchOption result (IsFresh (kernels_of StorageT.index self.now) (map (core_set StorageT.index) kernel.now))
-            (λ state. IsFound (kernels_of StorageT.index self.now) (map (core_set StorageT.index) kernel.now) (StorageT.index state.0)) }
-    {
-        let known = self.known(kernel);
-        if known.is_some() {
-            return known;
-        }
-        for number in 0..self.kernels.len() {
-            if are_same(&self.kernels[number], kernel) {
-                return Some(StIdx(StorageT::from_index(number).unwrap()));
-            }
-        }
-        None
-    }
-
-    // The number that the kernel has in the map, if it is the kernel's.
-    fn known(&self, kernel: &[CoreItems<StorageT>]) -> Option<StIdx<StorageT>>
-        ensures { IfSome result (λ state. IsFound (kernels_of StorageT.index self.now) (map (core_set StorageT.index) kernel.now) (StorageT.index state.0)) }
+        ensures { MatchOption result (IsFresh self.now (map (core_set StorageT.index) kernel.now))
+            (λ state. IsFound self.now (map (core_set StorageT.index) kernel.now) (StorageT.index state.0)) }
     {
         let state = *self.numbers.get(kernel)?;
         let number = usize::from(state);
@@ -109,6 +102,25 @@ impl<StorageT: StorageIndex> Kernels<StorageT> {
         } else {
             None
         }
+    }
+
+    // Puts the kernel behind the others, with this number.
+    fn push(
+        &mut self,
+        alloc: Global,
+        kernel: Vec<CoreItems<StorageT>>,
+        state: StIdx<StorageT>,
+    ) -> Result<(), BuildFault>
+        requires fresh { IsFresh self.old (map (core_set StorageT.index) kernel.items) }
+        requires next { StorageT.index state.0 ≡ length self.old }
+        ensures pushed { OnOk result (self.new
+            ≡ self.old ++ map (core_set StorageT.index) kernel.items ∷ []) }
+        ensures fault { IfErr result (λ fault. fault ≡ Memory) }
+    {
+        let key = copied(alloc, &kernel)?;
+        self.numbers.insert(key, state)?;
+        self.kernels.push(kernel)?;
+        Ok(())
     }
 }
 

@@ -9,7 +9,7 @@ ghost use Rattle.lrpar_build.specs.Canonical.{AreSame};
 ghost use Rattle.lrpar_build.specs.Cores.{IsAmong, IsCoreOf, core_set};
 ghost use Rattle.lrpar_build.specs.ItemSets.{IsInClosure, IsReachedBy, IsStartItem};
 ghost use Rattle.lrpar_build.specs.Kernels.{AreCores, AreKept, GoesTo, IsKernel, IsReachedKernel, is_symbol, next_kernel, symbol_behind};
-ghost use Rattle.lrpar_build.specs.Numbers.{AreNumbered, IsFaultOfStates, kernels_of};
+ghost use Rattle.lrpar_build.specs.Numbers.{AreNumbered, IsFaultOfStates};
 ghost use Rattle.lrpar_build.specs.States.{AreSets, AreStates, AreSteps, IsExpanded, StartsRight, state_of};
 ghost use Rattle.lrpar_build.specs.Wanted.{shift_entry};
 
@@ -82,8 +82,8 @@ fn start_kernels<StorageT: StorageIndex>(
     grm: &YaccGrammar<StorageT>,
     max_states: usize,
 ) -> Result<Kernels<StorageT>, BuildFault>
-    ensures kernels { IfOk result (λ kernels. AreNumbered grm.now max_states StorageT.limit (kernels_of StorageT.index kernels)) }
-    ensures start { IfOk result (λ kernels. StartsRight grm.now (kernels_of StorageT.index kernels)) }
+    ensures kernels { IfOk result (λ kernels. AreNumbered grm.now max_states StorageT.limit kernels) }
+    ensures start { IfOk result (λ kernels. StartsRight grm.now kernels) }
     ensures well_formed { IsWellFormed grm.now }
     ensures fault { IfErr result (IsFaultOfStates grm.now max_states StorageT.limit) }
 {
@@ -127,11 +127,11 @@ fn expanded<StorageT: StorageIndex>(
     requires sets { AreSets grm.now sets.old }
     requires kernel { IsKernel grm.now (map (core_set StorageT.index) kernel.items) }
     requires reached { (path : List GrammarSymbol) × IsReachedKernel grm.now (map (core_set StorageT.index) kernel.items) path }
-    requires kernels { AreNumbered grm.now max_states StorageT.limit (kernels_of StorageT.index kernels.old) }
+    requires kernels { AreNumbered grm.now max_states StorageT.limit kernels.old }
     ensures sets { AreSets grm.now sets.new }
-    ensures kernels { OnOk result (AreNumbered grm.now max_states StorageT.limit (kernels_of StorageT.index kernels.new)) }
-    ensures kept { OnOk result (AreKept (kernels_of StorageT.index kernels.old) (kernels_of StorageT.index kernels.new)) }
-    ensures state { IfOk result (λ state. IsExpanded grm.now (kernels_of StorageT.index kernels.new) (map (core_set StorageT.index) kernel.items)
+    ensures kernels { OnOk result (AreNumbered grm.now max_states StorageT.limit kernels.new) }
+    ensures kept { OnOk result (AreKept kernels.old kernels.new) }
+    ensures state { IfOk result (λ state. IsExpanded grm.now kernels.new (map (core_set StorageT.index) kernel.items)
         (state_of StorageT.index state)) }
     ensures fault { IfErr result (IsFaultOfStates grm.now max_states StorageT.limit) }
 {
@@ -235,10 +235,10 @@ fn step<StorageT: StorageIndex>(
     requires well_formed { IsWellFormed grm.now }
     requires cores { AreCores grm.now (map (core_set StorageT.index) cores.now) }
     requires reached { (path : List GrammarSymbol) × AreSame (IsAmong (map (core_set StorageT.index) cores.now)) (IsReachedBy grm.now path) }
-    requires kernels { AreNumbered grm.now max_states StorageT.limit (kernels_of StorageT.index kernels.old) }
-    ensures kernels { OnOk result (AreNumbered grm.now max_states StorageT.limit (kernels_of StorageT.index kernels.new)) }
-    ensures kept { OnOk result (AreKept (kernels_of StorageT.index kernels.old) (kernels_of StorageT.index kernels.new)) }
-    ensures goes { IfOk result (λ next. GoesTo grm.now (kernels_of StorageT.index kernels.new) (map (core_set StorageT.index) cores.now)
+    requires kernels { AreNumbered grm.now max_states StorageT.limit kernels.old }
+    ensures kernels { OnOk result (AreNumbered grm.now max_states StorageT.limit kernels.new) }
+    ensures kept { OnOk result (AreKept kernels.old kernels.new) }
+    ensures goes { IfOk result (λ next. GoesTo grm.now kernels.new (map (core_set StorageT.index) cores.now)
         (symbol_of StorageT.index symbol) (option_map (λ state. StorageT.index state.0) next)) }
     ensures fault { IfErr result (IsFaultOfStates grm.now max_states StorageT.limit) }
 {
@@ -261,10 +261,10 @@ fn gotos<StorageT: StorageIndex>(
     requires well_formed { IsWellFormed grm.now }
     requires cores { AreCores grm.now (map (core_set StorageT.index) cores.now) }
     requires reached { (path : List GrammarSymbol) × AreSame (IsAmong (map (core_set StorageT.index) cores.now)) (IsReachedBy grm.now path) }
-    requires kernels { AreNumbered grm.now max_states StorageT.limit (kernels_of StorageT.index kernels.old) }
-    ensures kernels { OnOk result (AreNumbered grm.now max_states StorageT.limit (kernels_of StorageT.index kernels.new)) }
-    ensures kept { OnOk result (AreKept (kernels_of StorageT.index kernels.old) (kernels_of StorageT.index kernels.new)) }
-    ensures steps { IfOk result (λ rows. AreSteps grm.now (kernels_of StorageT.index kernels.new) (map (core_set StorageT.index) cores.now)
+    requires kernels { AreNumbered grm.now max_states StorageT.limit kernels.old }
+    ensures kernels { OnOk result (AreNumbered grm.now max_states StorageT.limit kernels.new) }
+    ensures kept { OnOk result (AreKept kernels.old kernels.new) }
+    ensures steps { IfOk result (λ rows. AreSteps grm.now kernels.new (map (core_set StorageT.index) cores.now)
         Nonterminal (map (goto_entry StorageT.index) rows.items)) }
     ensures fault { IfErr result (IsFaultOfStates grm.now max_states StorageT.limit) }
 {
@@ -291,10 +291,10 @@ fn shifts<StorageT: StorageIndex>(
     requires well_formed { IsWellFormed grm.now }
     requires cores { AreCores grm.now (map (core_set StorageT.index) cores.now) }
     requires reached { (path : List GrammarSymbol) × AreSame (IsAmong (map (core_set StorageT.index) cores.now)) (IsReachedBy grm.now path) }
-    requires kernels { AreNumbered grm.now max_states StorageT.limit (kernels_of StorageT.index kernels.old) }
-    ensures kernels { OnOk result (AreNumbered grm.now max_states StorageT.limit (kernels_of StorageT.index kernels.new)) }
-    ensures kept { OnOk result (AreKept (kernels_of StorageT.index kernels.old) (kernels_of StorageT.index kernels.new)) }
-    ensures steps { IfOk result (λ rows. AreSteps grm.now (kernels_of StorageT.index kernels.new) (map (core_set StorageT.index) cores.now)
+    requires kernels { AreNumbered grm.now max_states StorageT.limit kernels.old }
+    ensures kernels { OnOk result (AreNumbered grm.now max_states StorageT.limit kernels.new) }
+    ensures kept { OnOk result (AreKept kernels.old kernels.new) }
+    ensures steps { IfOk result (λ rows. AreSteps grm.now kernels.new (map (core_set StorageT.index) cores.now)
         Terminal (map (shift_entry StorageT.index) rows.items)) }
     ensures fault { IfErr result (IsFaultOfStates grm.now max_states StorageT.limit) }
 {

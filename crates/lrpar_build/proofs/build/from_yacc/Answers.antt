@@ -1,4 +1,4 @@
-use Rattle.std.proofs.Common.{◌≡◌, ℕ, sym, subst, length, map}
+use Rattle.std.proofs.Common.{sym, subst, length, map}
 use Rattle.std.proofs.lemmas.List.{length-map}
 use Rattle.std.proofs.lemmas.Result.{IfErr-weaker}
 use Rattle.lrpar_build.specs.Built.{IsBuildRefusal}

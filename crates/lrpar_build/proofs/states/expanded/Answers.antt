@@ -2,7 +2,6 @@ use Rattle.std.proofs.Common.{ap, subst, map}
 use Rattle.lrpar_grammar.specs.Grammar.{Nonterminal, Terminal}
 use Rattle.lrpar_states.specs.PlainRows.{goto_entry}
 use Rattle.lrpar_build.specs.Cores.{core_set}
-use Rattle.lrpar_build.specs.Numbers.{kernels_of}
 use Rattle.lrpar_build.specs.States.{AreSteps}
 use Rattle.lrpar_build.specs.Wanted.{shift_entry}
 use Rattle.lrpar_build.proofs.NumberLemmas.{cores_reached, kept_twice, steps_kept}
@@ -29,15 +28,15 @@ shifts-requires-clause-reached g c =
 pub returns-clause-kept : goal.returns-clause-kept
 returns-clause-kept g c =
     let index = g.StorageT.StorageIndex.index in
-    kept_twice (kernels_of index c.args.kernels.now) (kernels_of index c.gotos.new.kernels) (kernels_of index c.shifts.new.kernels)
+    kept_twice c.args.kernels.now c.gotos.new.kernels c.shifts.new.kernels
     c.in_ok-gotos.ensures.kept c.in_ok-shifts.ensures.kept
 
 pub returns-clause-state : goal.returns-clause-state
 returns-clause-state g c =
     let index = g.StorageT.StorageIndex.index in
     let grm = c.args.grm.now in
-    let middle = kernels_of index c.gotos.new.kernels in
-    let after = kernels_of index c.shifts.new.kernels in
+    let middle = c.gotos.new.kernels in
+    let after = c.shifts.new.kernels in
     let cores = map (core_set index) c.in_ok-items.items.items in
     let gotos = map (goto_entry index) c.in_ok-gotos.gotos.items in
     let shifts = map (shift_entry index) c.in_ok-shifts.shifts.items in record {

@@ -5,7 +5,6 @@ use Rattle.lrpar_grammar.specs.Grammar.{Nonterminal, rules_len}
 use Rattle.lrpar_states.specs.PlainRows.{goto_entry}
 use Rattle.lrpar_build.specs.Cores.{core_set}
 use Rattle.lrpar_build.specs.Kernels.{GoesTo}
-use Rattle.lrpar_build.specs.Numbers.{kernels_of}
 use Rattle.lrpar_build.specs.States.{AreStepsBelow}
 use Rattle.lrpar_build.proofs.NumberLemmas.{kept_itself, kept_twice}
 use Rattle.lrpar_build.proofs.StepLemmas.{all_gotos, no_steps, step_none, step_some}
@@ -16,7 +15,7 @@ pub loop-rule-init : goal.loop-rule-init
 loop-rule-init g c =
     let index = g.StorageT.StorageIndex.index in
     let grm = c.args.grm.now in
-    let kernels = kernels_of index c.args.kernels.now in
+    let kernels = c.args.kernels.now in
     let cores = map (core_set index) c.args.cores.now in record {
       numbered = c.requires.kernels;
       kept = kept_itself kernels;
@@ -30,8 +29,8 @@ loop-rule-preserved g c =
     let index = g.StorageT.StorageIndex.index in
     let grm = c.args.grm.now in
     let n = c.loop-rule.rule in
-    let before = kernels_of index c.loop-rule.kernels in
-    let after = kernels_of index c.step.new.kernels in
+    let before = c.loop-rule.kernels in
+    let after = c.step.new.kernels in
     let cores = map (core_set index) c.args.cores.now in
     let rows = map (goto_entry index) c.loop-rule.rows.items in
     let kept = c.in_ok-next.ensures.kept in
@@ -39,7 +38,7 @@ loop-rule-preserved g c =
     let goes : GoesTo grm after cores (Nonterminal n) (option_map (λ state. index state.0) c.in_ok-next.next) =
     subst (λ m. GoesTo grm after cores (Nonterminal m) (option_map (λ state. index state.0) c.in_ok-next.next)) number c.in_ok-next.ensures.goes in record {
       numbered = c.in_ok-next.ensures.kernels;
-      kept = kept_twice (kernels_of index c.args.kernels.now) before after c.loop-rule.invariant.kept kept;
+      kept = kept_twice c.args.kernels.now before after c.loop-rule.invariant.kept kept;
       steps =
           elim c.match-next.branch [
             | in-None w ↦
@@ -59,5 +58,5 @@ pub returns-clause-steps : goal.returns-clause-steps
 returns-clause-steps g c =
     let index = g.StorageT.StorageIndex.index in
     let full : rules_len c.args.grm.now ≤ c.loop-rule.rule = omega (arith, c.loop-rule-test.false, c.rules_len-rule-end.ensures.len) in
-    all_gotos c.args.grm.now c.requires.well_formed (kernels_of index c.loop-rule.kernels) (map (core_set index) c.args.cores.now)
+    all_gotos c.args.grm.now c.requires.well_formed c.loop-rule.kernels (map (core_set index) c.args.cores.now)
     (map (goto_entry index) c.loop-rule.rows.items) c.loop-rule.rule full c.loop-rule.invariant.steps

@@ -3,7 +3,7 @@ use Rattle.lrpar_grammar.specs.Grammar.{Nonterminal}
 use Rattle.lrpar_states.specs.PlainRows.{goto_entry}
 use Rattle.lrpar_build.specs.Cores.{core_set}
 use Rattle.lrpar_build.specs.Kernels.{AreKept}
-use Rattle.lrpar_build.specs.Numbers.{AreNumbered, kernels_of}
+use Rattle.lrpar_build.specs.Numbers.{AreNumbered}
 use Rattle.lrpar_build.specs.States.{AreStepsBelow}
 use Rattle.lrpar_build.proofs.states.gotos.Given as goal
 
@@ -11,8 +11,8 @@ use Rattle.lrpar_build.proofs.states.gotos.Given as goal
 abbrev pub invariant-loop-rule : goal.invariant-loop-rule
 invariant-loop-rule g l =
     let index = g.StorageT.StorageIndex.index in
-    let kernels = kernels_of index l.kernels in record {
+    let kernels = l.kernels in record {
       numbered : AreNumbered l.grm l.max_states g.StorageT.StorageIndex.limit kernels;
-      kept : AreKept (kernels_of index l.initial.kernels) kernels;
+      kept : AreKept l.initial.kernels kernels;
       steps : AreStepsBelow l.grm kernels (map (core_set index) l.cores) Nonterminal (map (goto_entry index) l.rows.items) l.rule;
     }

@@ -5,7 +5,6 @@ use Rattle.lrpar_grammar.specs.Grammar.{Terminal, tokens_len}
 use Rattle.lrpar_build.specs.Wanted.{shift_entry}
 use Rattle.lrpar_build.specs.Cores.{core_set}
 use Rattle.lrpar_build.specs.Kernels.{GoesTo}
-use Rattle.lrpar_build.specs.Numbers.{kernels_of}
 use Rattle.lrpar_build.specs.States.{AreStepsBelow}
 use Rattle.lrpar_build.proofs.NumberLemmas.{kept_itself, kept_twice}
 use Rattle.lrpar_build.proofs.StepLemmas.{all_shifts, no_steps, step_none, step_some}
@@ -16,7 +15,7 @@ pub loop-token-init : goal.loop-token-init
 loop-token-init g c =
     let index = g.StorageT.StorageIndex.index in
     let grm = c.args.grm.now in
-    let kernels = kernels_of index c.args.kernels.now in
+    let kernels = c.args.kernels.now in
     let cores = map (core_set index) c.args.cores.now in record {
       numbered = c.requires.kernels;
       kept = kept_itself kernels;
@@ -30,8 +29,8 @@ loop-token-preserved g c =
     let index = g.StorageT.StorageIndex.index in
     let grm = c.args.grm.now in
     let n = c.loop-token.token in
-    let before = kernels_of index c.loop-token.kernels in
-    let after = kernels_of index c.step.new.kernels in
+    let before = c.loop-token.kernels in
+    let after = c.step.new.kernels in
     let cores = map (core_set index) c.args.cores.now in
     let rows = map (shift_entry index) c.loop-token.rows.items in
     let kept = c.in_ok-next.ensures.kept in
@@ -39,7 +38,7 @@ loop-token-preserved g c =
     let goes : GoesTo grm after cores (Terminal n) (option_map (λ state. index state.0) c.in_ok-next.next) =
     subst (λ m. GoesTo grm after cores (Terminal m) (option_map (λ state. index state.0) c.in_ok-next.next)) number c.in_ok-next.ensures.goes in record {
       numbered = c.in_ok-next.ensures.kernels;
-      kept = kept_twice (kernels_of index c.args.kernels.now) before after c.loop-token.invariant.kept kept;
+      kept = kept_twice c.args.kernels.now before after c.loop-token.invariant.kept kept;
       steps =
           elim c.match-next.branch [
             | in-None w ↦
@@ -59,5 +58,5 @@ pub returns-clause-steps : goal.returns-clause-steps
 returns-clause-steps g c =
     let index = g.StorageT.StorageIndex.index in
     let full : tokens_len c.args.grm.now ≤ c.loop-token.token = omega (arith, c.loop-token-test.false, c.tokens_len-token-end.ensures.len) in
-    all_shifts c.args.grm.now c.requires.well_formed (kernels_of index c.loop-token.kernels) (map (core_set index) c.args.cores.now)
+    all_shifts c.args.grm.now c.requires.well_formed c.loop-token.kernels (map (core_set index) c.args.cores.now)
     (map (shift_entry index) c.loop-token.rows.items) c.loop-token.token full c.loop-token.invariant.steps

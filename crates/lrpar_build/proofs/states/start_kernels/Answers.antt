@@ -2,7 +2,7 @@ use Rattle.std.proofs.Common.{[], sym, subst, map, List}
 use Rattle.lrpar_build.specs.Canonical.{AreSame}
 use Rattle.lrpar_build.specs.Cores.{CoreSet, IsAmong, core_set}
 use Rattle.lrpar_build.specs.ItemSets.{IsStartItem}
-use Rattle.lrpar_build.specs.Numbers.{IsFaultOfStates, IsNumberFault, IsNumberOf, kernels_of}
+use Rattle.lrpar_build.specs.Numbers.{IsFaultOfStates, IsNumberFault, IsNumberOf}
 use Rattle.lrpar_build.proofs.NumberLemmas.{fault_same, first_number, none_numbered, number_fault, number_numbered, start_reached}
 use Rattle.lrpar_build.proofs.states.start_kernels.Goals as goal
 
@@ -27,7 +27,7 @@ returns-clause-kernels g c =
     let max = c.args.max_states in
     let kernel = map (core_set index) c.in_ok-start.start.items in
     let n = index c.in_ok-_start._start.0 in
-    let after = kernels_of index c.number.new.self in
+    let after = c.number.new.self in
     number_numbered grm c.start_kernel.ensures.well_formed max limit [] (none_numbered grm max limit) kernel c.in_ok-start.ensures.kernel []
     (start_reached grm kernel c.in_ok-start.ensures.start) n after
     (subst (λ (kernels : List (List CoreSet)). IsNumberOf max limit kernels kernel n after) c.new-kernels.ensures c.in_ok-_start.ensures.number)
@@ -40,7 +40,7 @@ returns-clause-start g c =
     let max = c.args.max_states in
     let kernel = map (core_set index) c.in_ok-start.start.items in
     let n = index c.in_ok-_start._start.0 in
-    let after = kernels_of index c.number.new.self in
+    let after = c.number.new.self in
     let found =
     first_number max limit kernel n after
     (subst (λ (kernels : List (List CoreSet)). IsNumberOf max limit kernels kernel n after) c.new-kernels.ensures c.in_ok-_start.ensures.number) in

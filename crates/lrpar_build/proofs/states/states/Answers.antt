@@ -2,7 +2,6 @@ use Rattle.std.proofs.Common.{◌≡◌, ◌<◌, ◌∷◌, ◌++◌, ◌∙◌
 use Rattle.std.proofs.lemmas.List.{length-map, length_push, map_push}
 use Rattle.lrpar_build.specs.Cores.{core_set}
 use Rattle.lrpar_build.specs.Kernels.{IsKernel, IsReachedKernel, kernel_at, path_at}
-use Rattle.lrpar_build.specs.Numbers.{kernels_of}
 use Rattle.lrpar_build.specs.States.{AreExpanded, IsExpanded, state_of}
 use Rattle.lrpar_build.proofs.NumberLemmas.{expanded_more, starts_kept}
 use Rattle.lrpar_build.proofs.StatesLemmas.{are_states}
@@ -11,14 +10,14 @@ use Rattle.lrpar_build.proofs.states.states.Goals as goal
 pub expanded-requires-clause-kernel : goal.expanded-requires-clause-kernel
 expanded-requires-clause-kernel g c =
     let index = g.StorageT.StorageIndex.index in
-    let kernels = kernels_of index c.states.kernels in
+    let kernels = c.states.kernels in
     let low : c.len-in-states-2.result < length kernels = omega (arith, c.states-test.true, c.len.ensures, c.len-in-states.ensures, c.len-in-states-2.ensures) in
     subst (IsKernel c.args.grm.now) (sym c.in_ok-kernel.ensures) (c.states.invariant.numbered.are.each c.len-in-states-2.result low)
 
 pub expanded-requires-clause-reached : goal.expanded-requires-clause-reached
 expanded-requires-clause-reached g c =
     let index = g.StorageT.StorageIndex.index in
-    let kernels = kernels_of index c.states.kernels in
+    let kernels = c.states.kernels in
     let are = c.states.invariant.numbered.are in
     let low : c.len-in-states-2.result < length kernels = omega (arith, c.states-test.true, c.len.ensures, c.len-in-states.ensures, c.len-in-states-2.ensures) in
     let path = path_at are.paths c.len-in-states-2.result in
@@ -28,8 +27,8 @@ pub states-preserved : goal.states-preserved
 states-preserved g c =
     let index = g.StorageT.StorageIndex.index in
     let grm = c.args.grm.now in
-    let before = kernels_of index c.states.kernels in
-    let after = kernels_of index c.expanded.new.kernels in
+    let before = c.states.kernels in
+    let after = c.expanded.new.kernels in
     let states = map (state_of index) c.states.states.items in
     let state = state_of index c.in_ok-state.state in
     let kept = c.in_ok-state.ensures.kept in
@@ -54,7 +53,7 @@ states-preserved g c =
 pub returns-clause-states : goal.returns-clause-states
 returns-clause-states g c =
     let index = g.StorageT.StorageIndex.index in
-    let kernels = kernels_of index c.states.kernels in
+    let kernels = c.states.kernels in
     let states = map (state_of index) c.states.states.items in
     let few = c.states.invariant.few in
     let count = length-map c.states.states.items (state_of index) in

@@ -1,5 +1,5 @@
 use Rattle.std.proofs.Common.{◌-◌, ◌≤◌, length, map}
-use Rattle.lrpar_build.specs.Numbers.{AreNumbered, kernels_of}
+use Rattle.lrpar_build.specs.Numbers.{AreNumbered}
 use Rattle.lrpar_build.specs.States.{AreExpanded, AreSets, StartsRight, state_of}
 use Rattle.lrpar_build.proofs.states.states.Given as goal
 
@@ -7,7 +7,7 @@ use Rattle.lrpar_build.proofs.states.states.Given as goal
 abbrev pub invariant-states : goal.invariant-states
 invariant-states g l =
     let index = g.StorageT.StorageIndex.index in
-    let kernels = kernels_of index l.kernels in
+    let kernels = l.kernels in
     let states = map (state_of index) l.states.items in record {
       sets : AreSets l.grm l.sets;
       numbered : AreNumbered l.grm l.max_states g.StorageT.StorageIndex.limit kernels;

@@ -1,39 +1,48 @@
-use Rattle.std.proofs.Common.{◌≡◌, ◌<◌, ◌∙◌, [], sym, ap, subst, arith, length, map}
+use Rattle.std.proofs.Common.{Global, Vec, ◌≡◌, ◌∙◌, [], sym, ap, subst, arith, length, map, List, MatchOption}
 use Rattle.std.proofs.lemmas.Bool.{false≢true}
 use Rattle.std.proofs.lemmas.List.{length-map}
-use Rattle.lrpar_build.specs.Cores.{core_set}
+use Rattle.lrpar_build.specs.Cores.{CoreSet, core_set}
 use Rattle.lrpar_build.specs.Kernels.{kernel_at}
-use Rattle.lrpar_build.specs.Numbers.{IsFound, kernels_of}
-use Rattle.lrpar_build.proofs.FindLemmas.{fresh_more, mapped_at}
+use Rattle.lrpar_build.specs.Numbers.{IsFound, IsFresh}
+use Rattle.lrpar_build.specs.declared.cores.CoreItems.{CoreItems}
+use Rattle.lrpar_build.proofs.FindLemmas.{mapped_at}
+use Rattle.lrpar_build.proofs.KernelMapLemmas.{new_beside, new_without}
 use Rattle.lrpar_build.proofs.kernels.Kernels.find.Goals as goal
 
-pub returns-then-are_same : goal.returns-then-are_same
-returns-then-are_same g c =
+pub returns-in_err-state : goal.returns-in_err-state
+returns-in_err-state g c =
     let index = g.StorageT.StorageIndex.index in
-    let items = c.args.self.now.kernels.items in
-    let kernels = kernels_of index c.args.self.now in
-    let n = c.loop-number.number in
+    let kernels = c.args.self.now in
     let kernel = map (core_set index) c.args.kernel.now in
-    let low : n < length items = omega (arith, c.loop-number-test.true, c.len-number-end.ensures, c.args.self.now.kernels.ok) in
-    let count = length-map items (λ k. map (core_set index) k.items) in
-    let here : kernel_at kernels n ≡ map (core_set index) c.index.result.now.items =
-    mapped_at (λ k. map (core_set index) k.items) items n c.index.result.now [] low c.index.ensures in
-    let same : kernel_at kernels n ≡ kernel =
-    here ∙ ap (map (core_set index)) (sym c.deref.ensures.value) ∙ c.are_same.ensures.0 c.if-are_same.true in
-    let number : index c.unwrap.result ≡ n = rw c.unwrap.ensures at c.from_index.ensures.back in
-    let found : IsFound kernels kernel n = record { within = omega (arith, low, count); is = same } in subst (IsFound kernels kernel) (sym number) found
+    subst (λ r. MatchOption r (IsFresh kernels kernel) (λ state. IsFound kernels kernel (index state.0))) (sym c.from_residual.ensures)
+    (new_without index g.StorageT.Ord.cmp g.met.StorageT.StorageIndex.cmp_law c.args.kernel.now c.self.inside.numbers _ kernels c.self.view_is
+    c.self.invariant c.in_err-state.ensures.value)
 
-pub loop-number-preserved : goal.loop-number-preserved
-loop-number-preserved g c =
+pub returns-in_err-found : goal.returns-in_err-found
+returns-in_err-found g c =
     let index = g.StorageT.StorageIndex.index in
-    let items = c.args.self.now.kernels.items in
-    let kernels = kernels_of index c.args.self.now in
-    let n = c.loop-number.number in
+    let kernels = c.args.self.now in
     let kernel = map (core_set index) c.args.kernel.now in
-    let low : n < length items = omega (arith, c.loop-number-test.true, c.len-number-end.ensures, c.args.self.now.kernels.ok) in
-    let here : kernel_at kernels n ≡ map (core_set index) c.index.result.now.items =
-    mapped_at (λ k. map (core_set index) k.items) items n c.index.result.now [] low c.index.ensures in
-    fresh_more kernels kernel n c.loop-number.invariant
-    (λ same.
-    let tested = c.are_same.ensures.1 (ap (map (core_set index)) c.deref.ensures.value ∙ sym here ∙ same) in
-    false≢true (sym c.if-are_same.false ∙ tested))
+    let count = length-map c.self.inside.kernels.items (λ row. map (core_set index) row.items) in
+    let rows = ap (λ (rows : List (List CoreSet)). length rows) c.self.view_is in
+    let past = c.in_err-found.ensures.lookup.3 in
+    subst (λ r. MatchOption r (IsFresh kernels kernel) (λ state. IsFound kernels kernel (index state.0))) (sym c.from_residual-in_err-found.ensures)
+    (new_beside index g.StorageT.Ord.cmp g.met.StorageT.StorageIndex.cmp_law c.args.kernel.now c.self.inside.numbers _ kernels c.self.view_is
+    c.self.invariant c.in_ok-state.field-0.now c.in_ok-state.ensures.value
+    (λ below. absurd (omega (arith, below, past, count, rows, c.deref.ensures.len, c.from-number.ensures))))
+
+pub returns-else-are_same : goal.returns-else-are_same
+returns-else-are_same g c =
+    let index = g.StorageT.StorageIndex.index in
+    let kernels = c.args.self.now in
+    let cores = λ (row : Vec (CoreItems g.row.StorageT.Denot) Global). map (core_set index) row.items in
+    let n = c.from-number.result in
+    let found = c.in_ok-found.ensures.lookup in
+    let rows : map cores c.deref.result.now ≡ kernels = ap (map cores) c.deref.ensures.value ∙ c.self.view_is in
+    let here : kernel_at kernels (index c.in_ok-state.field-0.now.0) ≡ cores c.in_ok-found.found.now =
+    sym (λ i. kernel_at (rows i) (c.from-number.ensures i)) ∙ mapped_at cores c.deref.result.now n c.in_ok-found.found.now [] found.3.0 found.1 in
+    new_beside index g.StorageT.Ord.cmp g.met.StorageT.StorageIndex.cmp_law c.args.kernel.now c.self.inside.numbers _ kernels c.self.view_is
+    c.self.invariant c.in_ok-state.field-0.now c.in_ok-state.ensures.value
+    (λ below is.
+    let same = c.are_same.ensures.1 (ap (map (core_set index)) c.deref-2.ensures.value ∙ sym here ∙ is) in
+    false≢true (sym c.if-are_same.false ∙ same))

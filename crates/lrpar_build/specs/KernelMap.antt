@@ -1,0 +1,29 @@
+-- A map that has the numbers of kernels. Its keys are kernels in an order of their own, by which they are found.
+use Rattle.std.specs.Prelude.{◌≡◌, ◌<◌, ℕ, List, Some, length, map}
+use Rattle.std.specs.BTreeMap.{BTreeMap, get_by}
+use Rattle.std.specs.Cmp.Lexicographic.{slice_cmp}
+use Rattle.std.specs.Option.{option_map}
+use Rattle.std.specs.Ordering.{bool_cmp, nat_cmp, ordering_then}
+use Rattle.std.specs.declared.cmp.Ordering.{Ordering}
+use Rattle.std.specs.declared.vec.Vec.{Vec}
+use Rattle.lrpar_text.specs.declared.span.StIdx.{StIdx}
+use Rattle.lrpar_build.specs.Cores.{CoreSet, core_set}
+use Rattle.lrpar_build.specs.Kernels.{kernel_at}
+use Rattle.lrpar_build.specs.declared.cores.CoreItems.{CoreItems}
+
+-- the kernels of the code
+abbrev pub kernel_rows : {S A : Type 0} → (S → ℕ) → List (Vec (CoreItems S) A) → List (List CoreSet)
+kernel_rows index kernels = map (λ kernel. map (core_set index) kernel.items) kernels
+
+-- cores are in the order of their productions, then of their dots, then of their lookaheads
+abbrev pub core_cmp : CoreSet → CoreSet → Ordering
+core_cmp a b = ordering_then (nat_cmp a.prod b.prod) (ordering_then (nat_cmp a.dot b.dot) (slice_cmp bool_cmp a.tokens b.tokens))
+
+-- where a key of the map is in the order, from this kernel
+abbrev pub key_cmp : {S A : Type 0} → (S → ℕ) → List CoreSet → Vec (CoreItems S) A → Ordering
+key_cmp index kernel key = slice_cmp core_cmp kernel (map (core_set index) key.items)
+
+-- the map has each kernel, with its number
+abbrev pub HasNumbers : {S A : Type 0} → (S → ℕ) → List (List CoreSet) → BTreeMap (Vec (CoreItems S) A) (StIdx S) → Type 0
+HasNumbers index kernels numbers =
+    (s : ℕ) → s < length kernels → option_map (λ state. index state.0) (get_by (key_cmp index (kernel_at kernels s)) numbers) ≡ Some s
