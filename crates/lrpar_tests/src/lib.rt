@@ -33,6 +33,8 @@ mod reader;
 #[cfg(test)]
 mod readme;
 #[cfg(test)]
+mod recoverers;
+#[cfg(test)]
 mod repairs;
 #[cfg(test)]
 mod span;

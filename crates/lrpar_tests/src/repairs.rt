@@ -1,17 +1,16 @@
 //! Repairs: which of the sequences that are handed in are listed, and what comes of the first.
-ghost use Rattle.std.specs.Prelude.{IfOk};
-
 use crate::built::{
     BRACKETS, CALC, CALL, Outcome, Row, SUM, all_hold, built, outcome_of, sequences, text_of_errors,
 };
 use crate::calls::{Tree, leaf, one, rule};
 use crate::lexer::{HandedLexer, HandedTypes, Token, WantingLexer};
 use crate::parse::{LexAnswer, lexeme, lexemes};
+use crate::recoverers::{Asked, Noting, Refusing};
 use lrpar::parser::{AStackType, ParseFault};
-use lrpar::repair::{FixedRecoverer, NoRecovery, Recoverer, RecoveryPoint, RepairStep};
+use lrpar::repair::{FixedRecoverer, NoRecovery, RepairStep};
 use lrpar::span::{RIdx, Span, TIdx};
 use lrpar::{LexParseError, Lexeme, Node, RTParserBuilder, action_generictree};
-use std::alloc::{AllocError, Global};
+use std::alloc::Global;
 use std::cell::Cell;
 use std::test::Fail;
 
@@ -349,35 +348,6 @@ fn many_sequences(rt: HostRuntime) -> Result<(), Fail> {
     Ok(())
 }
 
-// Hands in a deletion, and finds no memory at one of its calls.
-#[derive(Drop)]
-struct Refusing {
-    calls: Cell<usize>,
-    fails_at: usize,
-}
-
-impl Recoverer<u32, Token<u32>> for Refusing {
-    ghost allows = { λ recoverer point answer. Unit {0} };
-
-    fn recover(
-        &self,
-        alloc: Global,
-        _point: &RecoveryPoint<'_, u32, Token<u32>>,
-    ) -> Result<Vec<Vec<RepairStep<u32>>>, AllocError>
-        ensures allowed { IfOk result (λ _. Unit {0}) }
-    {
-        self.calls.set(self.calls.get().saturating_add(1));
-        if self.calls.get() == self.fails_at {
-            return Err(AllocError);
-        }
-        let mut steps = Vec::new(alloc);
-        steps.push(D)?;
-        let mut handed = Vec::new(alloc);
-        handed.push(steps)?;
-        Ok(handed)
-    }
-}
-
 // Two parses of `n)+n+n+n)` with a recoverer that finds no memory at its second call: the fault of the first, and the errors of the
 // second.
 fn parsed_twice(alloc: Global) -> Result<(Option<ParseFault>, String), Fail> {
@@ -420,6 +390,24 @@ fn want_of_memory_in_a_lexer(rt: HostRuntime) -> Result<(), Fail> {
     let (fault, errors) = lexed_twice(rt.alloc())?;
     assert_eq!(rt; fault, Some(ParseFault::Memory));
     assert_eq!(rt; errors.as_str(), "3@3:2+0! ");
+    Ok(())
+}
+
+// Where the recoverer is asked in `(nn`.
+fn asked(alloc: Global) -> Result<Asked, Fail> {
+    let data = built(alloc, BRACKETS)?;
+    let answers = lexemes(alloc, &[(2, 0), (0, 1), (0, 2)])?;
+    let asked = Cell::new((0, 0, [0, 0, 0]));
+    let parser = RTParserBuilder::<u32, HandedTypes>::new(&data).recoverer(Noting {
+        asked: &asked,
+    });
+    let _ = parser.parse_noaction(alloc, &HandedLexer { answers: &answers })?;
+    Ok(asked.get())
+}
+
+#[test]
+fn what_a_recoverer_is_handed(rt: HostRuntime) -> Result<(), Fail> {
+    assert_eq!(rt; asked(rt.alloc())?, (2, 3, [0, 3, 6]));
     Ok(())
 }
 
