@@ -2,14 +2,15 @@
 ghost use Rattle.std.specs.Prelude.{◌↔◌, IfOk, IsTrue, map};
 ghost use Rattle.lrpar.specs.Nodes.{IsNonterm, node_of};
 
+use crate::built::{AFTER, ARITHMETIC, BETWEEN, BRACKETS, CALL, LIST, SUM, built, sequences};
 use crate::calculator::{Calculator, Value};
 use crate::calls::{Tree, sum_tree};
 use crate::fixtures::{By, sum_data};
-use crate::hand::{AFTER, ARITHMETIC, BETWEEN, CALL, Hand, LIST, data};
 use crate::lexer::{HandedLexer, HandedTypes, NoToken, Token};
 use crate::parse::{LexAnswer, lexemes, parsed};
 use lrpar::parser::{AStackType, Actions, ParseFault};
-use lrpar::span::{PIdx, RIdx, Span, StIdx, Symbol};
+use lrpar::repair::{FixedRecoverer, RepairStep};
+use lrpar::span::{PIdx, RIdx, Span, StIdx, Symbol, TIdx};
 use lrpar::{LexParseError, Lexeme, ParserData, RTParserBuilder, action_generictree};
 use std::alloc::{AllocError, Global};
 use std::cell::Cell;
@@ -182,7 +183,7 @@ fn long_lexemes(alloc: Global, given: &[(u32, usize, usize)]) -> Result<Vec<LexA
 
 fn value_of(alloc: Global, given: &[(u32, usize, usize)]) -> Result<Option<Value>, Fail> {
     let answers = long_lexemes(alloc, given)?;
-    let (value, _) = acted(alloc, &data(alloc, &ARITHMETIC)?, &answers, &Calculator)??;
+    let (value, _) = acted(alloc, &built(alloc, ARITHMETIC)?, &answers, &Calculator)??;
     Ok(value)
 }
 
@@ -218,11 +219,11 @@ fn a_calculator_of_another_grammar(rt: HostRuntime) -> Result<(), Fail> {
 
 fn places_of(
     alloc: Global,
-    hand: &Hand,
+    text: &str,
     given: &[(u32, usize, usize)],
 ) -> Result<Option<Vec<Place>>, Fail> {
     let answers = long_lexemes(alloc, given)?;
-    let (places, _) = acted(alloc, &data(alloc, hand)?, &answers, &Places)??;
+    let (places, _) = acted(alloc, &built(alloc, text)?, &answers, &Places)??;
     Ok(places)
 }
 
@@ -261,14 +262,41 @@ fn spans_of_rules(rt: HostRuntime) -> Result<(), Fail> {
             [(3, 1, 10), (2, 1, 3), (1, 1, 3)].as_slice(),
         ),
     ];
-    for (name, hand, given, want) in rows {
-        let places = places_of(alloc, &hand, given)?;
+    for (name, text, given, want) in rows {
+        let places = places_of(alloc, text, given)?;
         assert_eq!(rt;
             places.as_ref().map(|places| places.as_slice()),
             Some(want),
             "{name}"
         );
     }
+    Ok(())
+}
+
+// Where the rules lie in `(n` of the grammar *brackets*, once a bracket is inserted.
+fn places_of_repaired(alloc: Global) -> Result<Option<Vec<Place>>, Fail> {
+    let data = built(alloc, BRACKETS)?;
+    let answers = lexemes(alloc, &[(2, 0), (0, 1)])?;
+    let lexer = HandedLexer { answers: &answers };
+    let close = RepairStep::Insert(TIdx(3));
+    let handed = sequences(alloc, &[&[close]])?;
+    let parser = RTParserBuilder::<u32, HandedTypes>::new(&data).recoverer(FixedRecoverer::new(
+        handed,
+    ));
+    if !parser.takes_all(&lexer, &Places) {
+        return Err(Fail::new("a production isn't taken"));
+    }
+    let (places, _) = parser.parse_actions(alloc, &lexer, &Places, &())?;
+    Ok(places)
+}
+
+#[test]
+fn spans_of_a_repaired_rule(rt: HostRuntime) -> Result<(), Fail> {
+    let places = places_of_repaired(rt.alloc())?;
+    assert_eq!(rt;
+        places.as_ref().map(|places| places.as_slice()),
+        Some([(1, 1, 2), (1, 0, 2)].as_slice())
+    );
     Ok(())
 }
 
@@ -375,7 +403,7 @@ fn errors_of(
 #[test]
 fn faults_of_each_call(rt: HostRuntime) -> Result<(), Fail> {
     let alloc = rt.alloc();
-    let data = sum_data(alloc, By::Rows)?;
+    let data = built(alloc, SUM)?;
     let bad = [(1, 0), (0, 1), (1, 2), (2, 3), (1, 6), (0, 5)];
     let early = [(1, 0), (0, 1), (1, 2), (0, 3), (1, 6), (0, 5)];
     let rows = [
@@ -393,7 +421,7 @@ fn faults_of_each_call(rt: HostRuntime) -> Result<(), Fail> {
 #[test]
 fn errors_of_each_call(rt: HostRuntime) -> Result<(), Fail> {
     let alloc = rt.alloc();
-    let data = data(alloc, &CALL)?;
+    let data = built(alloc, CALL)?;
     let rows = [
         (
             "f(",
@@ -432,7 +460,7 @@ fn a_first_lexing_error_of_each_call(rt: HostRuntime) -> Result<(), Fail> {
     };
     let mut answers = lexemes(alloc, &[(1, 0), (0, 1), (1, 2), (2, 3), (1, 6), (0, 5)])?;
     answers.push(Err(first))?;
-    for errors in errors_of(alloc, &sum_data(alloc, By::Rows)?, &answers)? {
+    for errors in errors_of(alloc, &built(alloc, SUM)?, &answers)? {
         let errors = errors?;
         assert_eq!(rt; errors.len(), 1);
         match &errors[0] {
@@ -447,14 +475,41 @@ fn a_first_lexing_error_of_each_call(rt: HostRuntime) -> Result<(), Fail> {
 fn trees_of_actions(rt: HostRuntime) -> Result<(), Fail> {
     let alloc = rt.alloc();
     let answers = lexemes(alloc, [(1, 0), (0, 1), (1, 2)].as_slice())?;
-    let (tree, errors) = acted(alloc, &sum_data(alloc, By::Rows)?, &answers, &TreeActions)??;
+    let (tree, errors) = acted(alloc, &built(alloc, SUM)?, &answers, &TreeActions)??;
     assert!(rt; errors.is_empty(), "errors");
     assert_eq!(rt; tree, Some(sum_tree(alloc)?), "tree");
     Ok(())
 }
 
+// Whether the parse to a tree gives the tree of `a+b`, by the table that is built.
+fn is_sum_tree(alloc: Global, answers: &[LexAnswer]) -> Result<bool, Fail> {
+    let data = built(alloc, SUM)?;
+    let parser = RTParserBuilder::<u32, HandedTypes>::new(&data);
+    let (tree, _) = parser.parse_generictree(alloc, &HandedLexer { answers })?;
+    Ok(tree == Some(sum_tree(alloc)?))
+}
+
+// How many errors each of the four calls answers.
+fn numbers_of_errors(alloc: Global, answers: &[LexAnswer]) -> Result<Vec<usize>, Fail> {
+    let mut numbers = Vec::new(alloc);
+    for errors in errors_of(alloc, &built(alloc, SUM)?, answers)? {
+        numbers.push(errors?.len())?;
+    }
+    Ok(numbers)
+}
+
 #[test]
-fn trees_by_hand(rt: HostRuntime) -> Result<(), Fail> {
+fn a_sum_by_each_call(rt: HostRuntime) -> Result<(), Fail> {
+    let alloc = rt.alloc();
+    let answers = lexemes(alloc, [(1, 0), (0, 1), (1, 2)].as_slice())?;
+    let numbers = numbers_of_errors(alloc, &answers)?;
+    assert_eq!(rt; numbers.as_slice(), [0, 0, 0, 0].as_slice());
+    assert!(rt; is_sum_tree(alloc, &answers)?);
+    Ok(())
+}
+
+#[test]
+fn trees_of_small_grammars(rt: HostRuntime) -> Result<(), Fail> {
     let alloc = rt.alloc();
     let rows = [
         (
@@ -463,7 +518,21 @@ fn trees_by_hand(rt: HostRuntime) -> Result<(), Fail> {
             [(0, 0), (1, 1), (2, 2)].as_slice(),
             "1[ 0@0 1@1 2@2 ]",
         ),
+        (
+            "a+b",
+            SUM,
+            [(1, 0), (0, 1), (1, 2)].as_slice(),
+            "1[ 2[ 1@0 ] 0@1 1[ 2[ 1@2 ] ] ]",
+        ),
         ("nothing", LIST, [].as_slice(), "1[ 2[ ] ]"),
+        ("x", LIST, [(0, 0)].as_slice(), "1[ 2[ 0@0 ] ]"),
+        ("a", AFTER, [(0, 0)].as_slice(), "1[ 0@0 2[ ] ]"),
+        (
+            "ab",
+            BETWEEN,
+            [(0, 0), (1, 1)].as_slice(),
+            "1[ 0@0 2[ 3[ ] 1@1 ] ]",
+        ),
         (
             "2+3*4",
             ARITHMETIC,
@@ -477,8 +546,8 @@ fn trees_by_hand(rt: HostRuntime) -> Result<(), Fail> {
             "1[ 1[ 2[ 2[ 3[ 2@0 ] ] 1@1 3[ 2@2 ] ] ] 0@3 2[ 3[ 2@4 ] ] ]",
         ),
     ];
-    for (name, hand, given, text) in rows {
-        let (tree, errors) = parsed(alloc, &data(alloc, &hand)?, &lexemes(alloc, given)?)??;
+    for (name, grammar, given, text) in rows {
+        let (tree, errors) = parsed(alloc, &built(alloc, grammar)?, &lexemes(alloc, given)?)??;
         assert!(rt; errors.is_empty(), "errors of {name}");
         assert_eq!(rt;
             tree.as_ref().map(|tree| tree.as_str()),

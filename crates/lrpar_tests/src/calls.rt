@@ -12,14 +12,14 @@ use std::test::Fail;
 pub(crate) type Tree = Node<Token<u32>, u32>;
 
 // The node of the lexeme of this token and start, of one byte.
-fn leaf(token: u32, start: usize) -> Tree {
+pub(crate) fn leaf(token: u32, start: usize) -> Tree {
     Node::Term {
         lexeme: lexeme(token, start),
     }
 }
 
 // The node of a rule over these.
-fn rule(number: u32, nodes: Vec<Tree>) -> Tree {
+pub(crate) fn rule(number: u32, nodes: Vec<Tree>) -> Tree {
     Node::Nonterm {
         ridx: RIdx(number),
         nodes,
@@ -27,7 +27,7 @@ fn rule(number: u32, nodes: Vec<Tree>) -> Tree {
 }
 
 // A list of one node.
-fn one(alloc: Global, node: Tree) -> Result<Vec<Tree>, Fail> {
+pub(crate) fn one(alloc: Global, node: Tree) -> Result<Vec<Tree>, Fail> {
     let mut nodes = Vec::new(alloc);
     nodes.push(node)?;
     Ok(nodes)

@@ -4,6 +4,7 @@ ghost use Rattle.std.specs.Prelude.{◌≡◌, []};
 use lrpar::span::{Span, StorageIndex};
 use lrpar::{LexError, Lexeme, Lexer, LexerTypes, NonStreamingLexer};
 use std::alloc::{AllocError, Global};
+use std::cell::Cell;
 use std::error::Error;
 use std::fmt;
 
@@ -58,6 +59,15 @@ impl<StorageT: StorageIndex> Lexeme<StorageT> for Token<StorageT> {
 #[derive(Clone, Copy, Debug, PartialEq, Eq)]
 pub(crate) struct NoToken {
     pub(crate) span: Span,
+}
+
+impl NoToken {
+    /// The error of `span`.
+    pub(crate) fn new(span: Span) -> NoToken
+        ensures { result.span ≡ span }
+    {
+        NoToken { span }
+    }
 }
 
 impl fmt::Display for NoToken {
@@ -116,5 +126,41 @@ impl<'a, 'input> NonStreamingLexer<'input, HandedTypes> for HandedLexer<'a> {
 
     fn line_col(&self, _: Span) -> ((usize, usize), (usize, usize)) {
         ((1, 1), (1, 1))
+    }
+}
+
+/// Answers as another lexer does, but finds no memory at its first call.
+#[derive(Drop)]
+pub(crate) struct WantingLexer<'a> {
+    pub(crate) lexer: HandedLexer<'a>,
+    pub(crate) calls: Cell<usize>,
+}
+
+impl<'a> Lexer<HandedTypes> for WantingLexer<'a> {
+    ghost allows = { λ _ _. Unit {0} };
+
+    fn iter(&self, alloc: Global) -> Result<Vec<Result<Token<u32>, NoToken>>, AllocError> {
+        self.calls.set(self.calls.get().saturating_add(1));
+        if self.calls.get() == 1 {
+            Err(AllocError)
+        } else {
+            self.lexer.iter(alloc)
+        }
+    }
+}
+
+impl<'a, 'input> NonStreamingLexer<'input, HandedTypes> for WantingLexer<'a> {
+    ghost text = { λ _. [] };
+
+    fn span_str(&self, span: Span) -> &'input str {
+        self.lexer.span_str(span)
+    }
+
+    fn span_lines_str(&self, span: Span) -> &'input str {
+        self.lexer.span_lines_str(span)
+    }
+
+    fn line_col(&self, span: Span) -> ((usize, usize), (usize, usize)) {
+        self.lexer.line_col(span)
     }
 }

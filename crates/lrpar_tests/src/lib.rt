@@ -3,6 +3,12 @@
 
 #[cfg(test)]
 mod actions;
+#[cfg(test)]
+mod builder;
+#[cfg(test)]
+mod built;
+#[cfg(test)]
+mod calculation;
 pub mod calculator;
 #[cfg(test)]
 mod calls;
@@ -17,8 +23,6 @@ mod grammar;
 #[cfg(test)]
 mod graph;
 #[cfg(test)]
-mod hand;
-#[cfg(test)]
 mod lexer;
 #[cfg(test)]
 mod lines;
@@ -28,6 +32,10 @@ mod parse;
 mod reader;
 #[cfg(test)]
 mod readme;
+#[cfg(test)]
+mod recoverers;
+#[cfg(test)]
+mod repairs;
 #[cfg(test)]
 mod span;
 #[cfg(test)]

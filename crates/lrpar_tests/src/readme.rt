@@ -1,4 +1,6 @@
-//! The example of the README, as a user writes it.
+//! The examples of the README, as a user writes them.
+use crate::built::{CALC, built};
+use crate::calculation::calculated;
 use crate::fixtures::{SUM_ITEMS, item_rows, sum_rows};
 use crate::lexer::{HandedLexer, HandedTypes, Token};
 use crate::parse::lexeme;
@@ -55,5 +57,43 @@ fn tree_of_a_sum(rt: HostRuntime) -> Result<(), Fail> {
     let (tree, errors) = tree_of(alloc, "%% E: T '+' E | T; T: 'ID';", items, rows, &lexer)?;
     assert!(rt; tree.is_some());
     assert!(rt; errors.is_empty());
+    Ok(())
+}
+
+// A line, and what the calculator prints for it.
+const LINES: [(&str, &str); 9] = [
+    ("2 + 3", "Result: 5\n"),
+    ("2 + 3 * 4", "Result: 14\n"),
+    ("(2 + 3) * 4", "Result: 20\n"),
+    ("12*10", "Result: 120\n"),
+    (
+        "2 + + 3",
+        "Parsing error at line 1 column 5. Repair sequences found:\n   1: Delete +\n   2: Insert INT\nResult: 5\n",
+    ),
+    (
+        "2 + 3 3",
+        "Parsing error at line 1 column 7. Repair sequences found:\n   1: Delete 3\nResult: 5\n",
+    ),
+    (
+        "2 +",
+        "Parsing error at line 1 column 4. Repair sequences found:\n   1: Insert INT\nUnable to evaluate expression.\n",
+    ),
+    (
+        "2 ? 3",
+        "Lexing error at line 1 column 3.\nUnable to evaluate expression.\n",
+    ),
+    (
+        "18446744073709551615 + 1",
+        "Unable to evaluate expression.\n",
+    ),
+];
+
+#[test]
+fn lines_of_a_calculator(rt: HostRuntime) -> Result<(), Fail> {
+    let alloc = rt.alloc();
+    let data = built(alloc, CALC)?;
+    for (line, want) in &LINES {
+        assert_eq!(rt; calculated(alloc, &data, *line)?.as_str(), *want, "{line}");
+    }
     Ok(())
 }

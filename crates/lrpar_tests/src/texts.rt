@@ -1,4 +1,5 @@
 //! Texts of trees.
+use crate::built::{AFTER, ARITHMETIC, LIST, Row, SUM as SUM_GRAMMAR, all_hold};
 use crate::fixtures::{By, sum_data};
 use crate::lexer::{HandedLexer, HandedTypes, Token};
 use crate::parse::lexemes;
@@ -42,4 +43,68 @@ fn trees_of_no_grammar(rt: HostRuntime) -> Result<(), Fail> {
     };
     assert!(rt; !rule.fits(grm, "a"), "the grammar has three rules");
     Ok(())
+}
+
+const SUMS: [Row; 1] = [Row {
+    input: "a+b",
+    given: &[(1, 0), (0, 1), (1, 2)],
+    handed: &[],
+    shifts: 3,
+    tree: SUM,
+    errors: "",
+}];
+
+const LISTS: [Row; 2] = [
+    Row {
+        input: "",
+        given: &[],
+        handed: &[],
+        shifts: 3,
+        tree: "S\n L\n",
+        errors: "",
+    },
+    Row {
+        input: "x",
+        given: &[(0, 0)],
+        handed: &[],
+        shifts: 3,
+        tree: "S\n L\n  ID x\n",
+        errors: "",
+    },
+];
+
+const ONE_BEFORE: [Row; 1] = [Row {
+    input: "a",
+    given: &[(0, 0)],
+    handed: &[],
+    shifts: 3,
+    tree: "S\n a a\n L\n",
+    errors: "",
+}];
+
+const SUMS_AND_PRODUCTS: [Row; 2] = [
+    Row {
+        input: "2+3*4",
+        given: &[(2, 0), (0, 1), (2, 2), (1, 3), (2, 4)],
+        handed: &[],
+        shifts: 3,
+        tree: "Expr\n Expr\n  Term\n   Factor\n    INT 2\n + +\n Term\n  Term\n   Factor\n    INT 3\n  * *\n  Factor\n   INT 4\n",
+        errors: "",
+    },
+    Row {
+        input: "2*3+4",
+        given: &[(2, 0), (1, 1), (2, 2), (0, 3), (2, 4)],
+        handed: &[],
+        shifts: 3,
+        tree: "Expr\n Expr\n  Term\n   Term\n    Factor\n     INT 2\n   * *\n   Factor\n    INT 3\n + +\n Term\n  Factor\n   INT 4\n",
+        errors: "",
+    },
+];
+
+#[test]
+fn texts_of_small_grammars(rt: HostRuntime) -> Result<(), Fail> {
+    all_hold(&rt, rt.alloc(), SUM_GRAMMAR, &SUMS)?;
+    all_hold(&rt, rt.alloc(), LIST, &LISTS)?;
+    all_hold(&rt, rt.alloc(), AFTER, &ONE_BEFORE)?;
+    all_hold(&rt, rt.alloc(), ARITHMETIC, &SUMS_AND_PRODUCTS)
 }

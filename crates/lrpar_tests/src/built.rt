@@ -1,0 +1,191 @@
+//! Tables that are built of grammar texts, and what parses by them give, as text.
+use crate::calls::Tree;
+use crate::lexer::{HandedLexer, HandedTypes, Token};
+use crate::parse::lexemes;
+use lrpar::build::parser_data;
+use lrpar::grammar::YaccGrammar;
+use lrpar::repair::{FixedRecoverer, RepairStep};
+use lrpar::{LexParseError, Lexeme, ParseError, ParseRepair, ParserData, RTParserBuilder};
+use std::alloc::Global;
+use std::process::Abort;
+use std::test::Fail;
+
+/// The grammar *sum*: tokens `+` 0, `ID` 1; rules `E` 1, `T` 2.
+pub(crate) const SUM: &str = "%% E: T '+' E | T; T: 'ID';";
+
+/// The grammar *brackets*: tokens `N` 0, `+` 1, `(` 2, `)` 3.
+pub(crate) const BRACKETS: &str = "%% E : 'N' | E '+' 'N' | '(' E ')';";
+
+/// The grammar *list*, of at most one name: tokens `ID` 0; rules `S` 1, `L` 2.
+pub(crate) const LIST: &str = "%% S: L; L: 'ID' | ;";
+
+/// Nothing after a token: tokens `a` 0; rules `S` 1, `L` 2.
+pub(crate) const AFTER: &str = "%% S: 'a' L; L: ;";
+
+/// Nothing between two tokens: tokens `a` 0, `b` 1; rules `S` 1, `T` 2, `L` 3.
+pub(crate) const BETWEEN: &str = "%% S: 'a' T; T: L 'b'; L: ;";
+
+/// The grammar *arithmetic*: tokens `+` 0, `*` 1, `INT` 2; rules `Expr` 1, `Term` 2, `Factor` 3.
+pub(crate) const ARITHMETIC: &str =
+    "%% Expr: Expr '+' Term | Term; Term: Term '*' Factor | Factor; Factor: 'INT';";
+
+/// A call without arguments: tokens `ID` 0, `(` 1, `)` 2.
+pub(crate) const CALL: &str = "%% Call: 'ID' '(' ')';";
+
+/// The grammar *calc*: tokens `+` 0, `*` 1, `(` 2, `)` 3, `INT` 4.
+pub(crate) const CALC: &str =
+    "%start Expr %% Expr: Expr '+' Term | Term; Term: Term '*' Factor | Factor; Factor: '(' Expr ')' | 'INT';";
+
+/// The checked table of a grammar text.
+pub(crate) fn built(alloc: Global, text: &str) -> Result<ParserData<u32>, Fail> {
+    let grm = YaccGrammar::new_with_storaget(alloc, text)?;
+    match parser_data(alloc, grm, 100, 10) {
+        Ok(data) => Ok(data),
+        Err(_) => Err(Fail::new("no checked table")),
+    }
+}
+
+/// Lexemes of one byte each, what is handed in at each error, how many lexemes have to follow a repair, and what comes of it.
+pub(crate) struct Row {
+    pub(crate) input: &'static str,
+    pub(crate) given: &'static [(u32, usize)],
+    pub(crate) handed: &'static [&'static [RepairStep<u32>]],
+    pub(crate) shifts: usize,
+    pub(crate) tree: &'static str,
+    pub(crate) errors: &'static str,
+}
+
+/// What comes of a parse: the text of the tree, empty where there is none, and the errors.
+#[derive(Debug, Drop, PartialEq, Eq)]
+pub(crate) struct Outcome {
+    pub(crate) tree: String,
+    pub(crate) errors: String,
+}
+
+/// Sequences of these steps.
+pub(crate) fn sequences(
+    alloc: Global,
+    handed: &[&[RepairStep<u32>]],
+) -> Result<Vec<Vec<RepairStep<u32>>>, Fail> {
+    let mut made = Vec::new(alloc);
+    for steps in handed {
+        made.push(steps.iter().map(|step| *step).collect(alloc)?)?;
+    }
+    Ok(made)
+}
+
+/// What comes of the row.
+pub(crate) fn outcome_of(
+    alloc: Global,
+    data: &ParserData<u32>,
+    row: &Row,
+) -> Result<Outcome, Fail> {
+    let answers = lexemes(alloc, row.given)?;
+    let handed = sequences(alloc, row.handed)?;
+    let lexer = HandedLexer { answers: &answers };
+    let parser = RTParserBuilder::<u32, HandedTypes>::new(data)
+        .recoverer(FixedRecoverer::new(handed))
+        .shifts(row.shifts)?;
+    let (tree, errors) = parser.parse_generictree(alloc, &lexer)?;
+    let tree = match tree {
+        None => String::new(alloc),
+        Some(tree) => text_of_tree(alloc, data, &tree, row.input)?,
+    };
+    Ok(Outcome {
+        tree,
+        errors: text_of_errors(alloc, &errors)?,
+    })
+}
+
+// The text of the tree over the input.
+fn text_of_tree(
+    alloc: Global,
+    data: &ParserData<u32>,
+    tree: &Tree,
+    input: &str,
+) -> Result<String, Fail> {
+    if !tree.fits(data.grm(), input) {
+        return Err(Fail::new("the tree doesn't fit"));
+    }
+    Ok(tree.pp(alloc, data.grm(), input)?)
+}
+
+// Whether the row gives what it says.
+fn holds(alloc: Global, grammar: &str, row: &Row) -> Result<bool, Fail> {
+    let data = built(alloc, grammar)?;
+    let Outcome { tree, errors } = outcome_of(alloc, &data, row)?;
+    Ok(tree.as_str() == row.tree && errors.as_str() == row.errors)
+}
+
+/// Each of the rows gives what it says.
+pub(crate) fn all_hold(
+    rt: &impl Abort,
+    alloc: Global,
+    grammar: &str,
+    rows: &[Row],
+) -> Result<(), Fail> {
+    for row in rows {
+        let (input, shifts) = (row.input, row.shifts);
+        assert!(rt; holds(alloc, grammar, row)?, "{input} with {shifts}");
+    }
+    Ok(())
+}
+
+/// Each parse error as its state, the token, start and length of its lexeme, which ends in `!` where that is faulty, and the
+/// sequences in brackets.
+pub(crate) fn text_of_errors(
+    alloc: Global,
+    errors: &[LexParseError<u32, HandedTypes>],
+) -> Result<String, Fail> {
+    let mut text = String::new(alloc);
+    for error in errors {
+        match error {
+            LexParseError::LexError(_) => text.push_str("lexer ")?,
+            LexParseError::ParseError(error) => push_error(&mut text, error)?,
+        }
+    }
+    Ok(text)
+}
+
+fn push_error(text: &mut String, error: &ParseError<Token<u32>, u32>) -> Result<(), Fail> {
+    let state = error.stidx().as_storaget();
+    let lexeme = error.lexeme();
+    let (token, start, len) = (lexeme.tok_id(), lexeme.span().start(), lexeme.span().len());
+    write!(text, "{state}@{token}:{start}+{len}")?;
+    if lexeme.faulty() {
+        text.push('!')?;
+    }
+    for sequence in error.repairs() {
+        push_sequence(text, sequence)?;
+    }
+    text.push(' ')?;
+    Ok(())
+}
+
+fn push_sequence(text: &mut String, sequence: &[ParseRepair<Token<u32>, u32>]) -> Result<(), Fail> {
+    text.push('[')?;
+    for repair in sequence {
+        push_repair(text, repair)?;
+    }
+    text.push(']')?;
+    Ok(())
+}
+
+// An insertion with its token, others with the start of their lexeme.
+fn push_repair(text: &mut String, repair: &ParseRepair<Token<u32>, u32>) -> Result<(), Fail> {
+    match repair {
+        ParseRepair::Insert(token) => {
+            let token = token.as_storaget();
+            write!(text, " i{token}")?;
+        }
+        ParseRepair::Delete(lexeme) => {
+            let start = lexeme.span().start();
+            write!(text, " d{start}")?;
+        }
+        ParseRepair::Shift(lexeme) => {
+            let start = lexeme.span().start();
+            write!(text, " s{start}")?;
+        }
+    }
+    Ok(())
+}

@@ -1,0 +1,135 @@
+//! Sums and products, computed as they are parsed: a lexer, actions and repairs as a user writes them.
+ghost use Rattle.std.specs.Prelude.{◌≡◌, ◌↔◌, IfOk, IsTrue, length};
+ghost use Rattle.lrpar_text.specs.Lines.{line_table};
+
+use crate::lexer::{HandedTypes as TokenTypes, NoToken, Token};
+use lrpar::lines::NewlineCache;
+use lrpar::parser::AStackType::ActionType;
+use lrpar::parser::{AStackType, Actions};
+use lrpar::repair::{FixedRecoverer, RepairStep};
+use lrpar::span::{PIdx, RIdx, Span, Symbol, TIdx};
+use lrpar::{Lexeme, Lexer, NonStreamingLexer, ParserData, RTParserBuilder};
+use std::alloc::{AllocError, Global};
+use std::test::Fail;
+
+#[derive(Drop)]
+struct SumLexer<'input> {
+    text: &'input str,
+    lines: NewlineCache,
+    ghost starts_of_text: { lines.starts ≡ (line_table text.now).starts },
+    ghost len_of_text: { lines.len ≡ length text.now },
+}
+
+impl<'input> Lexer<TokenTypes> for SumLexer<'input> {
+    ghost allows = { λ _ _. Unit {0} };
+
+    fn iter(&self, alloc: Global) -> Result<Vec<Result<Token<u32>, NoToken>>, AllocError> {
+        let (bytes, mut answers) = (self.text.as_bytes(), Vec::new(alloc));
+        for (at, byte) in bytes.iter().enumerate() {
+            answers.push(match *byte {
+                b' ' => continue,
+                b'+' => Ok(Token::new(0, at, 1)),
+                b'*' => Ok(Token::new(1, at, 1)),
+                b'(' => Ok(Token::new(2, at, 1)),
+                b')' => Ok(Token::new(3, at, 1)),
+                b'0'..=b'9' if at > 0 && bytes[at - 1].is_ascii_digit() => continue,
+                b'0'..=b'9' => {
+                    let digits = bytes[at..].iter().take_while(|b| b.is_ascii_digit());
+                    Ok(Token::new(4, at, digits.count()))
+                }
+                _ => Err(NoToken::new(Span::new(at, at))),
+            })?;
+        }
+        Ok(answers)
+    }
+}
+
+impl<'input> NonStreamingLexer<'input, TokenTypes> for SumLexer<'input> {
+    ghost text = { λ lexer. lexer.text.now };
+
+    fn span_str(&self, span: Span) -> &'input str {
+        &self.text[span.start()..span.end()]
+    }
+
+    fn span_lines_str(&self, span: Span) -> &'input str {
+        let (start, end) = self.lines.span_line_bytes(span);
+        &self.text[start..end]
+    }
+
+    fn line_col(&self, span: Span) -> ((usize, usize), (usize, usize)) {
+        let (lines, text) = (&self.lines, self.text);
+        let start = lines.byte_to_line_num_and_col_num(text, span.start());
+        let end = lines.byte_to_line_num_and_col_num(text, span.end());
+        (start.unwrap(), end.unwrap())
+    }
+}
+
+#[derive(Drop)]
+struct Calculation;
+
+impl<'input> Actions<u32, Token<u32>, SumLexer<'input>> for Calculation {
+    type ActionT = Option<u64>;
+
+    type ParamT = ();
+
+    ghost taken = { λ _ _ _ _. Unit {0} };
+
+    ghost fact = { λ _ _ _. Unit {0} };
+
+    ghost answers = { λ _ _ _ _ _ _ _ _. Unit {0} };
+
+    fn takes(&self, _: PIdx<u32>, _: RIdx<u32>, _: &[Symbol<u32>]) -> bool
+        ensures { IsTrue result ↔ Unit {0} }
+    {
+        true
+    }
+
+    fn act(
+        &self,
+        _: Global,
+        pidx: PIdx<u32>,
+        _: RIdx<u32>,
+        lexer: &SumLexer<'input>,
+        span: Span,
+        args: Vec<AStackType<Token<u32>, Option<u64>>>,
+        _: &(),
+    ) -> Result<Option<u64>, AllocError>
+        ensures fact { IfOk result (λ _. Unit {0}) }
+        ensures answers { IfOk result (λ _. Unit {0}) }
+    {
+        let text = lexer.text.get(span.start()..span.end()).unwrap_or("");
+        Ok(match (pidx.as_storaget(), args.as_slice()) {
+            (0, [ActionType(Some(left)), _, ActionType(Some(right))]) => left.checked_add(*right),
+            (2, [ActionType(Some(left)), _, ActionType(Some(right))]) => left.checked_mul(*right),
+            (1 | 3, [ActionType(number)]) | (4, [_, ActionType(number), _]) => *number,
+            (5, [_]) => text.parse::<u64>().ok(),
+            _ => None,
+        })
+    }
+}
+
+/// What the calculator prints for a line: its errors, and its number.
+pub(crate) fn calculated(
+    alloc: Global,
+    data: &ParserData<u32>,
+    line: &str,
+) -> Result<String, Fail> {
+    let (leave_out, number) = (RepairStep::Delete, RepairStep::Insert(TIdx(4)));
+    let handed = vec![in alloc; vec![in alloc; leave_out]?, vec![in alloc; number]?]?;
+    let parser = RTParserBuilder::new(data).recoverer(FixedRecoverer::new(handed));
+    let lines = NewlineCache::new(alloc, line)?;
+    let lexer = SumLexer { text: line, lines };
+    let (number, errors) = parser.parse_actions(alloc, &lexer, &Calculation, &())?;
+    let mut text = String::new(alloc);
+    for error in &errors {
+        if error.fits(line) {
+            let shown = error.pp(alloc, &lexer, |_| Some("INT"))?;
+            writeln!(text, "{shown}")?;
+        }
+    }
+    match number {
+        Some(Some(number)) => writeln!(text, "Result: {number}")?,
+        _ => text.push_str("Unable to evaluate expression.\n")?,
+    }
+    Ok(text)
+}
