@@ -49,9 +49,10 @@ fn sum_tree(
     input: &str,
 ) -> Result<Node<Token<u32>, u32>, Fail> {
     let lexer = SumLexer::new(alloc, input)?;
-    match RTParserBuilder::new(data).parse_generictree(alloc, &lexer)? {
-        (Some(tree), _) => Ok(tree),
-        (None, _) => Err(Fail::new("no tree")),
+    let (tree, _) = RTParserBuilder::new(data).parse_generictree(alloc, &lexer)?;
+    match tree {
+        Some(tree) => Ok(tree),
+        None => Err(Fail::new("no tree")),
     }
 }
 
