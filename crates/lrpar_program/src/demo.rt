@@ -3,6 +3,7 @@ use crate::fault::Fault;
 use crate::lexer::SumLexer;
 use crate::parsing::{Parser, parser_by, print_tree, printed_names};
 use crate::sum::sum_data;
+use lrpar::ParserData;
 use lrpar::repair::FixedRecoverer;
 use std::alloc::Global;
 use std::io::Write;
@@ -10,9 +11,18 @@ use std::io::Write;
 /// Parses the text as a sum, and prints its errors and its tree. Answers whether there is a tree, and no error.
 pub(crate) fn demo<O: Write>(alloc: Global, text: &str, out: &mut O) -> Result<bool, Fault> {
     let data = sum_data(alloc)?;
+    demo_by(alloc, &data, text, out)
+}
+
+// The same by a table.
+fn demo_by<O: Write>(
+    alloc: Global,
+    data: &ParserData<u32>,
+    text: &str,
+    out: &mut O,
+) -> Result<bool, Fault> {
     let names = printed_names(alloc, data.grm())?;
-    let none = FixedRecoverer::new(Vec::new(alloc));
-    let parser = parser_by(&data, none, None)?;
+    let parser = parser_by(data, FixedRecoverer::new(Vec::new(alloc)), None)?;
     sum_of(alloc, &parser, &names, text, out)
 }
 
