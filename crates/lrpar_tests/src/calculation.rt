@@ -26,6 +26,7 @@ impl<'input> Lexer<TokenTypes> for SumLexer<'input> {
     fn iter(&self, alloc: Global) -> Result<Vec<Result<Token<u32>, NoToken>>, AllocError> {
         let (bytes, mut answers) = (self.text.as_bytes(), Vec::new(alloc));
         for (at, byte) in bytes.iter().enumerate() {
+            let digits = bytes[at..].iter().take_while(|b| b.is_ascii_digit());
             answers.push(match *byte {
                 b' ' => continue,
                 b'+' => Ok(Token::new(0, at, 1)),
@@ -33,10 +34,7 @@ impl<'input> Lexer<TokenTypes> for SumLexer<'input> {
                 b'(' => Ok(Token::new(2, at, 1)),
                 b')' => Ok(Token::new(3, at, 1)),
                 b'0'..=b'9' if at > 0 && bytes[at - 1].is_ascii_digit() => continue,
-                b'0'..=b'9' => {
-                    let digits = bytes[at..].iter().take_while(|b| b.is_ascii_digit());
-                    Ok(Token::new(4, at, digits.count()))
-                }
+                b'0'..=b'9' => Ok(Token::new(4, at, digits.count())),
                 _ => Err(NoToken::new(Span::new(at, at))),
             })?;
         }
@@ -108,12 +106,12 @@ impl<'input> Actions<u32, Token<u32>, SumLexer<'input>> for Calculation {
     }
 }
 
-/// What the calculator prints for a line: its errors, and its number.
+/// The errors of a line as text, and its number, if it has one.
 pub(crate) fn calculated(
     alloc: Global,
     data: &ParserData<u32>,
     line: &str,
-) -> Result<String, Fail> {
+) -> Result<(String, Option<u64>), Fail> {
     let (leave_out, number) = (RepairStep::Delete, RepairStep::Insert(TIdx(4)));
     let handed = vec![in alloc; vec![in alloc; leave_out]?, vec![in alloc; number]?]?;
     let parser = RTParserBuilder::new(data).recoverer(FixedRecoverer::new(handed));
@@ -127,9 +125,5 @@ pub(crate) fn calculated(
             writeln!(text, "{shown}")?;
         }
     }
-    match number {
-        Some(Some(number)) => writeln!(text, "Result: {number}")?,
-        _ => text.push_str("Unable to evaluate expression.\n")?,
-    }
-    Ok(text)
+    Ok((text, number.unwrap_or(None)))
 }
