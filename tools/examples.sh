@@ -1,5 +1,6 @@
 #!/usr/bin/env bash
-# Builds the table of each example, checks it with its cap and sees that one less is refused, and parses its inputs.
+# Builds the table of each example, checks it with its cap and sees that one less is refused, parses its inputs, and sees that the
+# gate has the same files.
 #
 # Prints a line for each, and a closing one. It stands outside the gate, and builds the program if it has to.
 set -u
@@ -35,6 +36,10 @@ example() {
     done
 }
 
+for folder in json lua c; do
+    diff -r "$examples/$folder" "$here/../crates/lrpar_examples/data/$folder"
+    tell "$folder, as the gate has it" "$?" 0
+done
 example json 2 json
 example lua 12 lua
 example c 18 c
