@@ -155,16 +155,22 @@ repaired most [] full e = absurd (omega arith)
 repaired most (text ∷ texts) full e = ap (λ n. codes " Repair sequences found:" ++ numbered n 1 (text ∷ texts)) e
 
 pub listed_all : {X S A : Type 0} (index : S → ℕ) (span : X → Extent) (names : ℕ → Option (List ℕ) → Type 0) (input : List ℕ) (most : ℕ)
-    (sequences : List (Vec (ParseRepair X S) A)) (i : ℕ) (before old out : List ℕ)
-    → length sequences ≤ i → AreListed names input most (all_parts index span (take i sequences)) old out → old ≡ before ++ codes " Repair sequences found:"
-    → most ≡ digits (length sequences) → 0 < length sequences
+    (sequences : List (Vec (ParseRepair X S) A)) (i : ℕ) (old out : List ℕ)
+    → length sequences ≤ i → AreListed names input most (all_parts index span (take i sequences)) old out
+    → (texts : List (List ℕ)) × (out ≡ old ++ numbered most 1 texts) × AllZip (IsPartsText names input) (all_parts index span sequences) texts
+listed_all index span names input most sequences i old out long so_far =
+    (so_far.texts, so_far.printed, rw (sym (taken_all sequences i long)) so_far.each)
+
+-- behind the words that sequences were found, they are the text of an error
+pub listed_behind : {X S A : Type 0} (index : S → ℕ) (span : X → Extent) (names : ℕ → Option (List ℕ) → Type 0) (input : List ℕ) (most : ℕ)
+    (sequences : List (Vec (ParseRepair X S) A)) (before old out : List ℕ)
+    → 0 < length sequences → most ≡ digits (length sequences) → old ≡ before ++ codes " Repair sequences found:"
+    → (texts : List (List ℕ)) × (out ≡ old ++ numbered most 1 texts) × AllZip (IsPartsText names input) (all_parts index span sequences) texts
     → (texts : List (List ℕ)) × (out ≡ before ++ repairs_text texts) × AllZip (IsPartsText names input) (all_parts index span sequences) texts
-listed_all index span names input most sequences i before old out long so_far begins count full =
-    let texts = so_far.texts in
-    let each : AllZip (IsPartsText names input) (all_parts index span sequences) texts = rw (sym (taken_all sequences i long)) so_far.each in
+listed_behind index span names input most sequences before old out full count begins (texts, printed, each) =
     let same : length texts ≡ length sequences = sym (zip_length (IsPartsText names input) (all_parts index span sequences) texts each) ∙ all_parts_length index span sequences in (
       texts,
-      so_far.printed ∙ ap (λ o. o ++ numbered most 1 texts) begins ∙ append_assoc before (codes " Repair sequences found:") (numbered most 1 texts)
+      printed ∙ ap (λ o. o ++ numbered most 1 texts) begins ∙ append_assoc before (codes " Repair sequences found:") (numbered most 1 texts)
           ∙ ap (λ t. before ++ t) (repaired most texts (omega arith) (count ∙ ap digits (sym same))),
       each,
     )

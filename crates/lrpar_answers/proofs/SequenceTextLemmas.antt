@@ -64,6 +64,10 @@ added (Err x) new out text whole e same = tt
 abbrev over : Extent → Extent → Extent
 over a b = record { start = a.start; end = b.end }
 
+-- a text that was added in two parts
+pub added_twice : (old first second between new : List ℕ) → between ≡ old ++ first → new ≡ between ++ second → new ≡ old ++ (first ++ second)
+added_twice old first second between new e₁ e₂ = e₂ ∙ ap (λ o. o ++ second) e₁ ∙ append_assoc old first second
+
 -- an error that is passed on
 pub err_same : {T E : Type 0} (r : Result T E) (P : E → Type 0) (e : E) → IsErrAnd r (λ f. f ≡ e) → P e → IfErr r P
 err_same (Ok x) P e is holds = tt

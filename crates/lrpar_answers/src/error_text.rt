@@ -3,7 +3,7 @@ ghost use Rattle.std.specs.Prelude.{◌≡◌, ◌++◌, ◌↔◌, List, ℕ, I
 ghost use Rattle.std.specs.List.{AllByRecursion, AllZip};
 ghost use Rattle.std.specs.String.{string_bytes};
 ghost use Rattle.std.specs.Str.{IsCharBoundary};
-ghost use Rattle.lrpar_answers.specs.ErrorText.{digits, numbering, place_text, repairs_text, tokens_of};
+ghost use Rattle.lrpar_answers.specs.ErrorText.{digits, numbered, numbering, place_text, repairs_text, tokens_of};
 ghost use Rattle.lrpar_answers.specs.Printed.{IsPpFault, printed_by};
 ghost use Rattle.lrpar_answers.specs.Repairs.{repair_of, repairs_of};
 ghost use Rattle.lrpar_grammar.specs.SpansFit.{IsPartOf};
@@ -196,6 +196,33 @@ fn push_repairs<
     }
     out.push_str(" Repair sequences found:")?;
     let most = sequences.len().to_string(alloc)?.len();
+    push_listed(out, alloc, lexer, epp, most, sequences)
+}
+
+// Adds the sequences, each behind its number, where the numbers have so many digits at most.
+fn push_listed<
+    'input,
+    StorageT: StorageIndex,
+    LexerTypesT: LexerTypes<StorageT = StorageT>,
+    L: NonStreamingLexer<'input, LexerTypesT>,
+    F: Fn(TIdx<StorageT>) -> Option<&'input str>,
+>(
+    out: &mut String,
+    alloc: Global,
+    lexer: &L,
+    epp: &F,
+    most: usize,
+    sequences: &[Vec<ParseRepair<LexerTypesT::LexemeT, StorageT>>],
+) -> Result<(), PpFault<StorageT>>
+    requires epp { F.IsAlwaysCallable epp.now }
+    requires fits { AllByRecursion (RepairsFit (λ x. (LexerTypesT.LexemeT.parts x).span) (L.text lexer.now)) (repairs_of StorageT.index sequences.now) }
+    ensures text { OnOk result ((texts : List (List ℕ)) × (string_bytes out.new ≡ string_bytes out.old ++ numbered most 1 texts)
+        × AllZip (IsPartsText (printed_by StorageT.index (F.post epp.now)) (L.text lexer.now))
+        (map (parts_of (λ x. (LexerTypesT.LexemeT.parts x).span)) (repairs_of StorageT.index sequences.now)) texts) }
+    ensures fault { IfErr result (IsPpFault StorageT.index
+        (printed_by StorageT.index (F.post epp.now))
+        (tokens_of (λ x. (LexerTypesT.LexemeT.parts x).span) (repairs_of StorageT.index sequences.now))) }
+{
     for (i, sequence) in sequences.iter().enumerate() {
         push_numbering(out, alloc, most, i + 1)?;
         push_sequence(out, lexer, epp, sequence)?;

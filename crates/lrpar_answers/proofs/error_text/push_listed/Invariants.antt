@@ -4,7 +4,7 @@ use Rattle.lrpar_answers.specs.Printed.{printed_by}
 use Rattle.lrpar_answers.specs.Repairs.{repairs_of}
 use Rattle.lrpar_answers.specs.SequenceText.{parts_of}
 use Rattle.lrpar_answers.proofs.ErrorTextLemmas.{AreListed}
-use Rattle.lrpar_answers.proofs.error_text.push_repairs.Given as goal
+use Rattle.lrpar_answers.proofs.error_text.push_listed.Given as goal
 
 -- the sequences so far are listed
 abbrev pub invariant-loop-i : goal.invariant-loop-i
