@@ -42,25 +42,77 @@ fn show<R: Files, O: Write>(
     example: &Example,
     out: &mut O,
 ) -> Result<(), Fault> {
+    let grammar = text_of(rt, alloc, example.folder, "grammar.y")?;
+    let less = passes(alloc, grammar.as_str(), example.cap.saturating_sub(1))?;
+    match checked(alloc, grammar.as_str(), example.cap)? {
+        Some(data) => show_checked(rt, alloc, example, &data, less, out),
+        None => show_refused(example, out),
+    }
+}
+
+// Prints that the table is refused with the cap.
+fn show_refused<O: Write>(example: &Example, out: &mut O) -> Result<(), Fault> {
     let (folder, cap) = (example.folder, example.cap);
-    let grammar = text_of(rt, alloc, folder, "grammar.y")?;
-    let less = passes(alloc, grammar.as_str(), cap.saturating_sub(1))?;
-    let Some(data) = checked(alloc, grammar.as_str(), cap)? else {
-        writeln!(out, "{folder}: refused with cap {cap}")?;
-        return Ok(());
-    };
-    let states = data.stable().states_len();
+    writeln!(out, "{folder}: refused with cap {cap}")?;
+    Ok(())
+}
+
+// The same of a table that passes with the cap, and with one less, if so.
+fn show_checked<R: Files, O: Write>(
+    rt: &R,
+    alloc: Global,
+    example: &Example,
+    data: &ParserData<u32>,
+    less: bool,
+    out: &mut O,
+) -> Result<(), Fault> {
+    show_states(example, data.stable().states_len(), less, out)?;
+    let lexer = text_of(rt, alloc, example.folder, "lexer.lex")?;
+    let rules = rules_of(alloc, data.grm(), lexer.as_str())?;
+    show_inputs(rt, alloc, example, data, &rules, out)
+}
+
+// Prints how many states the table has, and whether it passes with one less than the cap.
+fn show_states<O: Write>(
+    example: &Example,
+    states: usize,
+    less: bool,
+    out: &mut O,
+) -> Result<(), Fault> {
+    let (folder, cap) = (example.folder, example.cap);
     writeln!(
         out,
         "{folder}: {states} states, passes with cap {cap}, with one less: {less}"
     )?;
-    let lexer = text_of(rt, alloc, folder, "lexer.lex")?;
-    let rules = rules_of(alloc, data.grm(), lexer.as_str())?;
-    for name in example.inputs {
-        let input = text_of(rt, alloc, folder, name)?;
-        let errors = errors_of(alloc, &data, &rules, input.as_str())?;
-        writeln!(out, "{folder}/{name}: {errors} errors")?;
+    Ok(())
+}
+
+// Prints for each input how many errors its parse has.
+fn show_inputs<R: Files, O: Write>(
+    rt: &R,
+    alloc: Global,
+    example: &Example,
+    data: &ParserData<u32>,
+    rules: &[LexRule],
+    out: &mut O,
+) -> Result<(), Fault> {
+    for name in &example.inputs {
+        let input = text_of(rt, alloc, example.folder, *name)?;
+        let errors = errors_of(alloc, data, rules, input.as_str())?;
+        show_errors(example, *name, errors, out)?;
     }
+    Ok(())
+}
+
+// Prints how many errors the parse of an input has.
+fn show_errors<O: Write>(
+    example: &Example,
+    name: &str,
+    errors: usize,
+    out: &mut O,
+) -> Result<(), Fault> {
+    let folder = example.folder;
+    writeln!(out, "{folder}/{name}: {errors} errors")?;
     Ok(())
 }
 
