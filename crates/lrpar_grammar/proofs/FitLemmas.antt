@@ -1,6 +1,6 @@
 -- The places of a grammar that is kept.
-use Rattle.std.proofs.Common.{◌≡◌, ◌<◌, ◌≤◌, ◌+◌, ◌-◌, ℕ, suc, List, ◌∷◌, length, map, get_or, ap, sym, ◌∙◌, subst, arith, inl, inr}
-use Rattle.std.specs.List.{All, AllAdjacentBelow}
+use Rattle.std.proofs.Common.{◌≡◌, ◌<◌, ◌+◌, ◌-◌, ℕ, suc, List, ◌∷◌, length, map, get_or, ap, sym, ◌∙◌, arith, inl, inr}
+use Rattle.std.specs.List.{All}
 use Rattle.std.specs.Str.{IsUtf8}
 use Rattle.std.proofs.lemmas.Bool.{cases_eq}
 use Rattle.std.proofs.lemmas.Str.{IsCharBoundary-start}

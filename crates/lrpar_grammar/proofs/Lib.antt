@@ -1,5 +1,6 @@
 pub mod ListLemmas
 pub mod RowsLemmas
+pub mod RuleLemmas
 pub mod PartsLemmas
 pub mod ForestLemmas
 pub mod RewritingLemmas
@@ -10,3 +11,4 @@ pub mod FaultsLemmas
 pub mod SpanLemmas
 pub mod SpellsLemmas
 pub mod SpellsFitLemmas
+pub mod FaultTextLemmas

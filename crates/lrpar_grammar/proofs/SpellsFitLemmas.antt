@@ -1,5 +1,5 @@
 -- The places of a grammar fit the text that it was read from.
-use Rattle.std.proofs.Common.{◌≡◌, ◌<◌, ◌≤◌, ◌+◌, ◌-◌, ℕ, Bool, List, [], ◌∷◌, ◌++◌, length, length-take, map, fold, take, drop, get_or, Option, Some, None, ap, sym, subst, arith}
+use Rattle.std.proofs.Common.{◌≡◌, ◌<◌, ◌≤◌, ◌+◌, ◌-◌, ℕ, List, [], ◌∷◌, ◌++◌, length, length-take, map, fold, drop, get_or, Option, Some, None, sym, subst, arith}
 use Rattle.std.specs.List.{All, filter, slice_get}
 use Rattle.std.specs.Str.{IsUtf8}
 use Rattle.std.proofs.lemmas.Bool.{cond_both}
@@ -12,10 +12,10 @@ use Rattle.lrpar_text.specs.declared.words.WordKind.TheVariants.{Name}
 use Rattle.lrpar_text.specs.Words.{PlacedWord}
 use Rattle.lrpar_text.specs.Outline.{AreInOrder, HasOrderedSymbols, IsOutlineOf, TextAlternative, TextOutline}
 use Rattle.lrpar_text.proofs.PlaceLemmas.{AllOfAlternative, AllOfOutline, LiesInLine, outline_in_line}
-use Rattle.lrpar_grammar.specs.Grammar.{Production, added_prod, added_rule}
+use Rattle.lrpar_grammar.specs.Grammar.{added_prod, added_rule}
 use Rattle.lrpar_grammar.specs.Names.{first_of_each, is_among, with_name}
 use Rattle.lrpar_grammar.specs.Parts.{grammar_of}
-use Rattle.lrpar_grammar.specs.Spells.{Numbering, alternative_span, declared_words, is_token, numbering_of, prod_of_alternative, rule_of_word, rule_words, span_between, spelled_parts, symbol_of_word, token_of_word, token_words, used_tokens}
+use Rattle.lrpar_grammar.specs.Spells.{Numbering, declared_words, is_token, numbering_of, prod_of_alternative, rule_of_word, rule_words, span_between, spelled_parts, symbol_of_word, token_of_word, token_words, used_tokens}
 use Rattle.lrpar_grammar.specs.SpansFit as fits
 use Rattle.lrpar_grammar.specs.SpansFit.{IsPartOf, IsPartOfLine, ProductionFits, SpansFit}
 

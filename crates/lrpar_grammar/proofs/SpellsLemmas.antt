@@ -154,7 +154,7 @@ start_step n None some known = (omega arith, omega arith)
 start_step n (Some w) some known = rule_listed n.rules w.name (known w refl)
 
 -- a list of rules isn't empty where it has an element
-mapped_some : {X Y : Type 0} (f : X → Y) (xs : List X) → 0 < length xs → map f xs ≢ []
+pub mapped_some : {X Y : Type 0} (f : X → Y) (xs : List X) → 0 < length xs → map f xs ≢ []
 mapped_some f [] some is = absurd (omega arith)
 mapped_some f (x ∷ xs) some is = absurd (cc)
 

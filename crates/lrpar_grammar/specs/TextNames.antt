@@ -4,7 +4,10 @@ use Rattle.lrpar_text.specs.Words.{PlacedWord}
 use Rattle.lrpar_text.specs.Outline.{TextAlternative, TextOutline}
 use Rattle.lrpar_grammar.specs.declared.reader.tables.Tables.{Tables}
 use Rattle.lrpar_grammar.specs.Names.{is_among}
-use Rattle.lrpar_grammar.specs.Spells.{Numbering, is_token}
+use Rattle.lrpar_grammar.specs.Parts.{AreSound, FitStorage, Parts}
+use Rattle.lrpar_grammar.specs.Spells.{HasFault, IsClean, Numbering, is_token, spelled_parts}
+use Rattle.lrpar_grammar.specs.declared.grammar.parts.GrammarFault.{GrammarFault}
+use Rattle.lrpar_grammar.specs.declared.grammar.parts.GrammarFault.TheVariants.{StorageTooSmall}
 
 -- the lists of the tables
 abbrev pub numbering_by : Tables → Numbering
@@ -29,3 +32,14 @@ pub record FitAll (limit : ℕ) (n : Numbering) (o : TextOutline) : Type 0 where
   pub rules : length n.rules < limit
   pub tokens : length n.tokens < limit
   pub prods : length o.alternatives < limit
+
+-- the parts of clean declarations and rules, which make a grammar
+pub record AreSpelled (limit : ℕ) (o : TextOutline) (x : Parts) : Type 0 where
+  pub clean : IsClean o
+  pub is : x ≡ spelled_parts o
+  pub sound : AreSound limit x
+
+-- why declarations and rules make no grammar: a fault of theirs, or they are clean and too many for the storage type
+abbrev pub IsRefusedAs : ℕ → TextOutline → GrammarFault → Type 0
+IsRefusedAs limit o StorageTooSmall = IsClean o × (FitStorage limit (spelled_parts o) → ⊥)
+IsRefusedAs limit o fault = HasFault o fault

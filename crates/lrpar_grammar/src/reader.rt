@@ -1,16 +1,17 @@
 //! The grammar of a text.
-ghost use Rattle.std.specs.Prelude.{◌≡◌, IfErr, IfOk, OnOk};
+ghost use Rattle.std.specs.Prelude.{◌≡◌, ◌≤◌, IfErr, IfOk, length};
 ghost use Rattle.lrpar_text.specs.Outline.{AreOfDefinedRules, HasOrderedSymbols, IsOutlineOf, outline_of};
+ghost use Rattle.lrpar_grammar.specs.Parts.{AreSound, grammar_of, parts_of};
 ghost use Rattle.lrpar_grammar.specs.SpansFit.{SpansFit};
-ghost use Rattle.lrpar_grammar.specs.Spells.{HasFault, IsClean, IsFaultOf, IsOutlineFault, Spells, numbering_of};
-ghost use Rattle.lrpar_grammar.specs.TextNames.{numbering_by};
+ghost use Rattle.lrpar_grammar.specs.Spells.{AreDistinct, IsClean, IsFaultOf, IsOutlineFault, Spells, numbering_of};
+ghost use Rattle.lrpar_grammar.specs.TextNames.{AreSpelled, IsRefusedAs, numbering_by};
 
 mod faults;
 mod names;
 mod parts;
 mod tables;
 
-use crate::grammar::{GrammarFault, YaccGrammar};
+use crate::grammar::{GrammarFault, GrammarParts, YaccGrammar};
 use faults::{has_known_names, has_one_start};
 use lrpar_text::outline::{Outline, OutlineFault};
 use lrpar_text::span::StorageIndex;
@@ -41,14 +42,23 @@ impl<StorageT: StorageIndex> YaccGrammar<StorageT> {
         ensures fits { IfOk result (λ grm. SpansFit grm text.now) }
         ensures faulty { IfErr result (IsFaultOf StorageT.limit text.now) }
     {
-        let outline = read_outline(alloc, text)?;
-        let tables = checked_tables(alloc, &outline)?;
-        if !fit::<StorageT>(&outline, &tables) {
-            return Err(GrammarFault::StorageTooSmall);
-        }
-        let parts = spelled_parts(alloc, &outline, &tables)?;
+        let parts = read_parts(alloc, text)?;
         Ok(YaccGrammar::made(alloc, parts)?)
     }
+}
+
+// The parts that the text spells.
+fn read_parts<StorageT: StorageIndex>(
+    alloc: Global,
+    text: &str,
+) -> Result<GrammarParts<StorageT>, GrammarFault>
+    ensures spelled { IfOk result (λ parts. Spells text.now (grammar_of (parts_of StorageT.index parts))) }
+    ensures sound { IfOk result (λ parts. AreSound StorageT.limit (parts_of StorageT.index parts)) }
+    ensures fits { IfOk result (λ parts. SpansFit (grammar_of (parts_of StorageT.index parts)) text.now) }
+    ensures faulty { IfErr result (IsFaultOf StorageT.limit text.now) }
+{
+    let outline = read_outline(alloc, text)?;
+    checked_parts(alloc, &outline)
 }
 
 // The declarations and rules of the text.
@@ -65,18 +75,59 @@ fn read_outline(alloc: Global, text: &str) -> Result<Outline, GrammarFault>
     }
 }
 
-// The tables of clean declarations and rules.
-fn checked_tables<'a>(alloc: Global, outline: &Outline<'a>) -> Result<Tables<'a>, GrammarFault>
-    ensures numbering { IfOk result (λ tables. numbering_by tables ≡ numbering_of (outline_of outline.now)) }
-    ensures epps { IfOk result (λ tables. tables.epps ≡ (outline_of outline.now).epps) }
-    ensures clean { OnOk result (IsClean (outline_of outline.now)) }
-    ensures err { IfErr result (HasFault (outline_of outline.now)) }
+// The parts that declarations and rules without a fault spell.
+fn checked_parts<StorageT: StorageIndex>(
+    alloc: Global,
+    outline: &Outline,
+) -> Result<GrammarParts<StorageT>, GrammarFault>
+    requires rules { AreOfDefinedRules (outline_of outline.now) }
+    requires order { HasOrderedSymbols (outline_of outline.now) }
+    ensures parts { IfOk result (λ parts. AreSpelled StorageT.limit (outline_of outline.now) (parts_of StorageT.index parts)) }
+    ensures err { IfErr result (IsRefusedAs StorageT.limit (outline_of outline.now)) }
 {
     has_one_start(outline)?;
     let tables = Tables::new(alloc, outline)?;
+    named_parts(alloc, outline, &tables)
+}
+
+// The same, where there is one start and no second text for a token.
+fn named_parts<StorageT: StorageIndex>(
+    alloc: Global,
+    outline: &Outline,
+    tables: &Tables,
+) -> Result<GrammarParts<StorageT>, GrammarFault>
+    requires numbering { numbering_by tables.now ≡ numbering_of (outline_of outline.now) }
+    requires epps { (tables.now).epps ≡ (outline_of outline.now).epps }
+    requires one_start { length (outline_of outline.now).starts ≤ 1 }
+    requires distinct { AreDistinct (outline_of outline.now).epps }
+    requires rules { AreOfDefinedRules (outline_of outline.now) }
+    requires order { HasOrderedSymbols (outline_of outline.now) }
+    ensures parts { IfOk result (λ parts. AreSpelled StorageT.limit (outline_of outline.now) (parts_of StorageT.index parts)) }
+    ensures err { IfErr result (IsRefusedAs StorageT.limit (outline_of outline.now)) }
+{
     if outline.defined.is_empty() {
         return Err(GrammarFault::NoRules);
     }
-    has_known_names(outline, &tables)?;
-    Ok(tables)
+    has_known_names(outline, tables)?;
+    fitting_parts(alloc, outline, tables)
+}
+
+// The same, where they are clean.
+fn fitting_parts<StorageT: StorageIndex>(
+    alloc: Global,
+    outline: &Outline,
+    tables: &Tables,
+) -> Result<GrammarParts<StorageT>, GrammarFault>
+    requires numbering { numbering_by tables.now ≡ numbering_of (outline_of outline.now) }
+    requires epps { (tables.now).epps ≡ (outline_of outline.now).epps }
+    requires clean { IsClean (outline_of outline.now) }
+    requires rules { AreOfDefinedRules (outline_of outline.now) }
+    requires order { HasOrderedSymbols (outline_of outline.now) }
+    ensures parts { IfOk result (λ parts. AreSpelled StorageT.limit (outline_of outline.now) (parts_of StorageT.index parts)) }
+    ensures err { IfErr result (IsRefusedAs StorageT.limit (outline_of outline.now)) }
+{
+    if !fit::<StorageT>(outline, tables) {
+        return Err(GrammarFault::StorageTooSmall);
+    }
+    Ok(spelled_parts(alloc, outline, tables)?)
 }

@@ -1,4 +1,4 @@
-use Rattle.std.proofs.Common.{◌≡◌, ◌<◌, get_or, sym, subst, arith, rules, inl, inr}
+use Rattle.std.proofs.Common.{◌≡◌, get_or, sym, subst, arith, rules, inl, inr}
 use Rattle.std.proofs.lemmas.Bool.{cases_lt}
 use Rattle.std.proofs.lemmas.List.{get_or_read}
 use Rattle.lrpar_grammar.specs.Kept.{split_prod_of}

@@ -1,4 +1,4 @@
-use Rattle.std.proofs.Common.{◌≡◌, false, sym, subst, true≢false, ◌∙◌}
+use Rattle.std.proofs.Common.{sym, subst, true≢false, ◌∙◌}
 use Rattle.std.specs.List.{All}
 use Rattle.std.proofs.lemmas.List.Elements.{All-map}
 use Rattle.lrpar_grammar.specs.Parts.{token_name_of}

@@ -1,0 +1,16 @@
+use Rattle.std.proofs.Common.{[], ap, sym, ◌∙◌, arith}
+use Rattle.std.specs.Option.{option_map_or}
+use Rattle.lrpar_grammar.proofs.RuleLemmas.{kept_added_rule, kept_rule_at}
+use Rattle.lrpar_grammar.proofs.grammar.value.YaccGrammar.rule_name_str.Goals as goal
+
+pub returns-in-0 : goal.returns-in-0
+returns-in-0 g c =
+    sym (ap (λ o. option_map_or (λ x. x.name) o [])
+    (kept_added_rule c.args.self.now c.self.inside.rules.items (g.StorageT.StorageIndex.index c.args.ridx.0) (ap (λ v. v.rules) c.self.view_is) (sym c.from.ensures ∙ c.in-0.is)))
+
+pub returns-in_default : goal.returns-in_default
+returns-in_default g c =
+    let n = g.StorageT.StorageIndex.index c.args.ridx.0 in
+    c.as_str.ensures.value
+    ∙ sym (ap (λ o. option_map_or (λ x. x.name) o [])
+    (kept_rule_at c.args.self.now c.self.inside.rules.items c.from.result n c.index.result.now (ap (λ v. v.rules) c.self.view_is) c.from.ensures (omega arith) c.requires c.index.ensures))
