@@ -1,7 +1,8 @@
 -- Lemmas on lists that std lacks.
-use Rattle.std.proofs.Common.{◌≡◌, ◌<◌, ◌+◌, ◌-◌, ℕ, zero, suc, Bool, cond, not, ltb, Some, None, refl, List, [], ◌∷◌, ◌++◌, length, map, take, get_or, subst, sym, ap, zero-add, ◌≤◌, ◌∙◌, arith}
+use Rattle.std.proofs.Common.{inl, inr, ◌≡◌, ◌<◌, ◌+◌, ◌-◌, ℕ, zero, suc, Bool, cond, not, ltb, Some, None, refl, List, [], ◌∷◌, ◌++◌, length, map, take, get_or, subst, sym, ap, zero-add, ◌≤◌, ◌∙◌, arith}
 use Rattle.std.specs.List.{All, range_with_len, position, prefix_len}
-use Rattle.std.proofs.lemmas.List.{get_or-map, length-map, take_all, take_more, map-append}
+use Rattle.std.proofs.lemmas.Bool.{cases_lt}
+use Rattle.std.proofs.lemmas.List.{get_or-map, get_or_default, length-map, take_all, take_more, map-append}
 
 -- what holds of each member of a mapped list holds of what each member is mapped to
 pub All-map-at : {X Y : Type 0} (P : Y → Type 0) (f : X → Y) (xs : List X) → All P (map f xs) → (k : ℕ) (d : X) → k < length xs → P (f (get_or xs k d))
@@ -70,3 +71,14 @@ position-map p f xs =
     let place = prefix_len-map (λ y. not (p y)) f xs in
     ap (λ k. cond (ltb k (length (map f xs))) (Some k) None) place
     ∙ ap (λ n. cond (ltb (prefix_len (λ x. not (p (f x))) xs) n) (Some (prefix_len (λ x. not (p (f x))) xs)) None) (length-map xs f)
+
+-- what holds of the members so far and of the next one
+pub holds_more : {X : Type 0} (P : X → Type 0) (xs : List X) (i : ℕ) (x : X) → ((k : ℕ) (d : X) → k < i → P (get_or xs k d))
+    → i < length xs → x ≡ get_or xs i x → P x → (k : ℕ) (d : X) → k < i + 1 → P (get_or xs k d)
+holds_more P xs i x so_far within is holds k d below =
+    elim (cases_lt k i) [
+      | inl before ↦ so_far k d before
+      | inr last ↦
+          let same : k ≡ i = omega arith in
+          subst (λ n. P (get_or xs n d)) (sym same) (subst P (is ∙ get_or_default xs i x d within) holds)
+    ]

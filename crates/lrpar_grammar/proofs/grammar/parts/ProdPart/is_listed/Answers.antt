@@ -2,8 +2,14 @@ use Rattle.std.proofs.Common.{rules, arith, ◌+◌}
 use Rattle.std.proofs.lemmas.List.Elements.{All-map}
 use Rattle.lrpar_grammar.specs.Grammar.{IsListedSymbol}
 use Rattle.lrpar_grammar.specs.Symbols.{symbol_of}
-use Rattle.lrpar_grammar.proofs.ListLemmas.{All-map-fails}
+use Rattle.lrpar_grammar.proofs.ListLemmas.{All-map-fails, holds_more}
 use Rattle.lrpar_grammar.proofs.grammar.parts.ProdPart.is_listed.Goals as goal
+
+pub loop-symbol-preserved : goal.loop-symbol-preserved
+loop-symbol-preserved g c =
+    holds_more (λ pair. IsListedSymbol (c.args.rules + 1) c.args.tokens (symbol_of g.StorageT.StorageIndex.index pair.0))
+    c.args.self.now.symbols.items c.loop-symbol.symbol-index c.loop-symbol-item.result c.loop-symbol.invariant (omega arith)
+    (rw c.deref-symbol-items.ensures.value at c.loop-symbol-item.is) (c.is_listed_symbol.ensures.0 c.if-not-is_listed_symbol.false)
 
 pub returns-then-not-is_listed_symbol : goal.returns-then-not-is_listed_symbol
 returns-then-not-is_listed_symbol g c = (
