@@ -2,7 +2,7 @@
 use Rattle.std.proofs.Common.{◌≡◌, ◌<◌, ◌≤◌, ◌+◌, ◌-◌, ◌∙◌, inl, inr, sym, subst, ap, arith, ℕ, suc, List, [], ◌∷◌, ◌++◌, length, map, take, min, get_or, slice_get, Some, None, refl, length-append, append_assoc, append-nil}
 use Rattle.std.proofs.Math.Seq.{take-append-add}
 use Rattle.std.proofs.lemmas.Bool.{cases_lt}
-use Rattle.std.proofs.lemmas.List.{length-map, length-take-le, map-append, take-append-le, take-map, take-take}
+use Rattle.std.proofs.lemmas.List.{get_or-map, get_or-take, get_or_append_left, length-map, length-take-le, map-append, take-append-le, take-map, take-take}
 use Rattle.std.proofs.lemmas.Option.{none-some, slice_get-get_or, slice_get-map, slice_get_read}
 use Rattle.std.specs.Option.{option_map}
 use Rattle.lrpar_check.specs.Stack.{top_of}
@@ -59,6 +59,36 @@ module _ {A : Type 0} (number : A → ℕ) where
       let top : top_of (take kept st) ≡ Some (number x) =
       subst (λ (n : ℕ). top_of (take n st) ≡ Some (number x)) dropped (top_of_left st (length st - kept) (number x) (omega (arith, many)) here) in
       rw (no_last tail none) (rw append-nil top)
+
+  -- below what is kept stand the base's own
+  pub over_base_at : (base tail : List A) (kept at : ℕ) (x : A) → kept ≤ length base → at < kept → x ≡ get_or base at x
+      → slice_get (take kept (map number base) ++ map number tail) at ≡ Some (number x)
+  over_base_at base tail kept at x within below read =
+      let lower : List ℕ = take kept (map number base) in
+      let len : length lower ≡ kept = length-take-le kept (map number base) (omega (arith, length-map base number)) in
+      let is : get_or (lower ++ map number tail) at (number x) ≡ number x =
+      get_or_append_left lower (map number tail) (number x) at (omega (arith, len)) ∙ get_or-take kept (map number base) at (number x) below
+      ∙ get_or-map number base at x (number x) (omega arith) ∙ ap number (sym read) in
+      slice_get-get_or (lower ++ map number tail) at (number x) (omega (arith, len, length-append lower (map number tail)))
+      ∙ ap (λ (n : ℕ). Some n) is
+
+  -- a place from there on is one of the tail
+  pub over_inside : (base tail : List A) (kept at : ℕ) → kept ≤ length base → kept ≤ at → at < length (take kept (map number base) ++ map number tail)
+      → at - kept < length tail
+  over_inside base tail kept at within above below =
+      let lower : List ℕ = take kept (map number base) in
+      let len : length lower ≡ kept = length-take-le kept (map number base) (omega (arith, length-map base number)) in
+      omega (arith, len, length-append lower (map number tail), length-map tail number)
+
+  -- and from there on those of the tail
+  pub over_tail_at : (base tail : List A) (kept at : ℕ) (x : A) → kept ≤ length base → kept ≤ at → at - kept < length tail
+      → x ≡ get_or tail (at - kept) x → slice_get (take kept (map number base) ++ map number tail) at ≡ Some (number x)
+  over_tail_at base tail kept at x within above inside read =
+      let lower : List ℕ = take kept (map number base) in
+      let len : length lower ≡ kept = length-take-le kept (map number base) (omega (arith, length-map base number)) in
+      let place : at ≡ length lower + (at - kept) = omega (arith, len) in
+      ap (λ (n : ℕ). slice_get (lower ++ map number tail) n) place ∙ slice_get-past lower (map number tail) (at - kept)
+      ∙ slice_get-map number tail (at - kept) ∙ ap (option_map number) (slice_get_read tail (length tail) (at - kept) x refl inside read)
 
   -- some of the states of a base and of a tail are dropped, and one is put on them
   pub over_put : (base : List ℕ) (kept : ℕ) (tail : List A) (left at least : ℕ) (next : A) (after : List A) → kept ≤ length base
