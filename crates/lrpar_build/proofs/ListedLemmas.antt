@@ -1,5 +1,5 @@
 -- The conflicts that are listed, state by state and token by token, are those of the sets; and they stand in order.
-use Rattle.std.proofs.Common.{◌≡◌, ◌<◌, ◌+◌, ◌↔◌, ◌∙◌, ◌∷◌, refl, sym, ap, subst, inl, inr, arith, ℕ, List, [], All, Option, Some, None, cond, drop, length, map, nat_eq}
+use Rattle.std.proofs.Common.{◌≡◌, ◌<◌, ◌+◌, ◌↔◌, ◌⊎◌, ◌∙◌, ◌∷◌, refl, sym, ap, subst, inl, inr, arith, ℕ, List, [], All, Option, Some, None, cond, drop, length, map, nat_eq}
 use Rattle.std.specs.List.{Contains, range_with_len}
 use Rattle.std.specs.List.Sorted.{IsStrictlySortedBy}
 use Rattle.std.specs.Map.{lookup}
@@ -260,6 +260,19 @@ pub unless_empty_is : (xs : List ReduceReduce) (ys : List ShiftReduce) → lists
 unless_empty_is [] [] = refl
 unless_empty_is [] (y ∷ ys) = refl
 unless_empty_is (x ∷ xs) ys = refl
+
+-- there are none where both are empty, and else both are kept
+pub unless_empty_none : (xs : List ReduceReduce) (ys : List ShiftReduce) → length xs ≡ 0 → length ys ≡ 0 → None ≡ unless_empty xs ys
+unless_empty_none [] [] none nothing = refl
+unless_empty_none [] (y ∷ ys) none nothing = absurd (omega (arith, nothing))
+unless_empty_none (x ∷ xs) ys none nothing = absurd (omega (arith, none))
+
+pub unless_empty_kept : (lists : ConflictLists) (xs : List ReduceReduce) (ys : List ShiftReduce) → lists.reduce_reduce ≡ xs → lists.shift_reduce ≡ ys
+    → (0 < length xs) ⊎ (0 < length ys) → Some lists ≡ unless_empty xs ys
+unless_empty_kept lists [] [] rr sr (inl some) = absurd (omega (arith, some))
+unless_empty_kept lists [] [] rr sr (inr some) = absurd (omega (arith, some))
+unless_empty_kept lists [] (y ∷ ys) rr sr some = λ i. Some (record { reduce_reduce = rr i; shift_reduce = sr i })
+unless_empty_kept lists (x ∷ xs) ys rr sr some = λ i. Some (record { reduce_reduce = rr i; shift_reduce = sr i })
 
 -- and kept ones aren't both
 pub unless_empty_some : (xs : List ReduceReduce) (ys : List ShiftReduce) (lists : ConflictLists) → unless_empty xs ys ≡ Some lists

@@ -1,10 +1,11 @@
 -- The kernel to which cores go by a symbol: those that stand before it, each advanced.
-use Rattle.std.proofs.Common.{◌≡◌, ◌<◌, ◌+◌, ◌↔◌, ◌⊎◌, ◌∙◌, refl, sym, ap, subst, inl, inr, arith, ℕ, Bool, true, false, cond, List, [], ◌∷◌, ◌++◌, All, Option, Some, None, get_or, length, map, slice_get, take}
+use Rattle.std.proofs.Common.{◌≡◌, ◌<◌, ◌≤◌, ◌+◌, ◌↔◌, ◌⊎◌, ◌∙◌, refl, sym, ap, subst, inl, inr, arith, ℕ, Bool, true, false, cond, List, [], ◌∷◌, ◌++◌, All, Option, Some, None, get_or, length, map, slice_get, take}
 use Rattle.std.specs.List.{filter}
+use Rattle.std.specs.Option.{option_map}
 use Rattle.std.proofs.lemmas.Bool.{cases_Bool, eq-eqb, eqb-true, false≢true}
-use Rattle.std.proofs.lemmas.List.{append-nil, map-append, map_more}
+use Rattle.std.proofs.lemmas.List.{append-nil, length-map, map-append, map_more}
 use Rattle.std.proofs.lemmas.List.Elements.{All-filter, All-head, All-map, All-weaker, filter-append, filter_passes}
-use Rattle.std.proofs.lemmas.Option.{slice_get_within}
+use Rattle.std.proofs.lemmas.Option.{slice_get-map, slice_get_past, slice_get_read, slice_get_within}
 use Rattle.lrpar_grammar.specs.Grammar.{Grammar, GrammarSymbol, Nonterminal, Terminal, symbols_of}
 use Rattle.lrpar_states.specs.Graph.{ItemOf, item_at}
 use Rattle.lrpar_build.specs.Cores.{CoreSet, IsAmong, IsCoreOf, IsOfCore}
@@ -26,6 +27,17 @@ symbol_itself (Terminal t) = eq-eqb t t refl
 
 pub symbol_to : (symbol : GrammarSymbol) (behind : Option GrammarSymbol) → behind ≡ Some symbol → is_symbol symbol behind ≡ true
 symbol_to symbol behind is = ap (is_symbol symbol) is ∙ symbol_itself symbol
+
+-- what stands in a place of a production, whose symbols are those of a list
+pub behind_past : {X : Type 0} (f : X → GrammarSymbol) (xs : List X) (all : List GrammarSymbol) (k : ℕ) → map f xs ≡ all → length xs ≤ k
+    → slice_get all k ≡ None
+behind_past f xs all k is past =
+    let count = length-map xs f in ap (λ w. slice_get w k) (sym is) ∙ slice_get_past (map f xs) k (omega (arith, count, past))
+
+pub behind_at : {X : Type 0} (f : X → GrammarSymbol) (xs : List X) (all : List GrammarSymbol) (k : ℕ) (x : X) → map f xs ≡ all → k < length xs
+    → x ≡ get_or xs k x → slice_get all k ≡ Some (f x)
+behind_at f xs all k x is low here =
+    ap (λ w. slice_get w k) (sym is) ∙ slice_get-map f xs k ∙ ap (option_map f) (slice_get_read xs (length xs) k x refl low here)
 
 module _ (g : Grammar) (symbol : GrammarSymbol) where
   abbrev before : CoreSet → Bool

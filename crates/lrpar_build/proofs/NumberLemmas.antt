@@ -223,6 +223,18 @@ none_numbered g max limit = record {
   fits = omega arith;
 }
 
+-- the number of a kernel that is new
+pub pushed_number : (max limit : ℕ) (before : List (List CoreSet)) (kernel : List CoreSet) (n : ℕ) (after : List (List CoreSet)) → IsFresh before kernel
+    → n ≡ length before → length before < max → length before < limit → after ≡ before ++ kernel ∷ [] → IsNumberOf max limit before kernel n after
+pushed_number max limit before kernel n after fresh next room fits is =
+    let count = length_push before kernel in
+    let found : IsFound (before ++ kernel ∷ []) kernel n =
+    record { within = omega (arith, count, next); is = get_or_push before kernel [] n (sym next) } in
+    record {
+      found = subst (λ ks. IsFound ks kernel n) (sym is) found;
+      kernels = inr (record { fresh = fresh; room = room; fits = fits; is = is });
+    }
+
 -- the first number is 0
 pub first_number : (max limit : ℕ) (kernel : List CoreSet) (n : ℕ) (after : List (List CoreSet)) → IsNumberOf max limit [] kernel n after → IsFound after kernel 0
 first_number max limit kernel n after number =

@@ -34,6 +34,10 @@ same_rule r s v w e = ap first_rule e
 pub same_rest : (r s : ℕ) (v w : List GrammarSymbol) → Nonterminal r ∷ v ≡ Nonterminal s ∷ w → v ≡ w
 same_rest r s v w e = ap (drop 1) e
 
+-- an empty list begins with no rule
+pub none_first : (r : ℕ) (all w : List GrammarSymbol) → length all ≡ 0 → all ≡ Nonterminal r ∷ w → ⊥
+none_first r all w none e = let some = ap length e in absurd (omega (arith, none, some))
+
 module _ (g : Grammar) (sets : List TokenSet) (p rule target mark : ℕ) (w : List GrammarSymbol) (known : p < prods_len g) (is : rule ≡ rule_of g p)
     (rule_low : rule_of g p < rules_len g) (begins : symbols_of g p ≡ Nonterminal target ∷ w) (low : target < rules_len g) (marked : mark ≡ mark_of g)
     (room : HaveRoom g (rows_of sets)) (d d' new : TokenSet) (fresh cleared : List Bool) (none : (t : ℕ) → has cleared t ≡ false)

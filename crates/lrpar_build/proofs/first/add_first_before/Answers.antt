@@ -1,10 +1,21 @@
-use Rattle.std.proofs.Common.{◌≡◌, ◌+◌, ◌||◌, ◌&&◌, ◌∙◌, ℕ, nat_lt, true, false, sym, ap, map}
+use Rattle.std.proofs.Common.{◌≡◌, ◌+◌, ◌||◌, ◌&&◌, ◌∙◌, ℕ, nat_lt, true, false, inl, inr, sym, ap, map}
+use Rattle.std.proofs.lemmas.Bool.{false≢true}
 use Rattle.lrpar_grammar.specs.Grammar.{rules_len, tokens_len}
 use Rattle.lrpar_grammar.specs.Symbols.{symbol_of}
 use Rattle.lrpar_build.specs.FirstRows.{begins, mark_of, rows_of}
 use Rattle.lrpar_build.specs.Tokens.{has}
 use Rattle.lrpar_build.proofs.BeforeLemmas.{added_before, added_through, symbols_below}
 use Rattle.lrpar_build.proofs.first.add_first_before.Goals as goal
+
+pub returns-then-not-has_any-clause-tokens : goal.returns-then-not-has_any-clause-tokens
+returns-then-not-has_any-clause-tokens g c =
+    λ t. (
+      λ h. inl h,
+      λ h. elim h [
+        | inl old ↦ old
+        | inr first ↦ absurd (false≢true (sym c.if-not-has_any.true ∙ c.has_any.ensures.1 (first.0, first.1)))
+      ],
+    )
 
 pub returns-else-contains-clause-tokens : goal.returns-else-contains-clause-tokens
 returns-else-contains-clause-tokens g c =

@@ -1,11 +1,12 @@
 use Rattle.std.proofs.Common.{◌≡◌, ◌<◌, ◌+◌, ◌∷◌, ◌∙◌, sym, ap, subst, arith, rules, All, length, map}
 use Rattle.std.proofs.lemmas.Bool.{OnFalse_at, OnFalse_from, OnTrue_at, OnTrue_from}
+use Rattle.std.proofs.lemmas.List.{length-map}
 use Rattle.std.proofs.lemmas.List.Elements.{All-get_or, All-head, All-tail}
 use Rattle.lrpar_grammar.specs.Grammar.{Nonterminal, rules_len, symbols_of, tokens_len}
 use Rattle.lrpar_grammar.specs.Symbols.{symbol_of}
 use Rattle.lrpar_build.specs.FirstRows.{IsSymbolBelow, mark_of, row_at, rows_of}
 use Rattle.lrpar_build.proofs.GrowthLemmas.{row_in, sets_len}
-use Rattle.lrpar_build.proofs.SpreadLemmas.{begins_by, brought_itself, prod_symbols, spread_closed, spread_keeps, spread_less, spread_room, spread_same, spread_sound}
+use Rattle.lrpar_build.proofs.SpreadLemmas.{begins_by, brought_itself, none_first, prod_symbols, spread_closed, spread_keeps, spread_less, spread_room, spread_same, spread_sound}
 use Rattle.lrpar_build.proofs.reach.spread_from.Goals as goal
 
 pub returns-in-Some-Token-default-clause-sound : goal.returns-in-Some-Token-default-clause-sound
@@ -13,6 +14,15 @@ returns-in-Some-Token-default-clause-sound g c = brought_itself c.args.grm.now _
 
 pub returns-in-Some-Token-default-2-clause-sound : goal.returns-in-Some-Token-default-2-clause-sound
 returns-in-Some-Token-default-2-clause-sound g c = brought_itself c.args.grm.now _
+
+pub returns-in-Some-Token-default-2-clause-closed : goal.returns-in-Some-Token-default-2-clause-closed
+returns-in-Some-Token-default-2-clause-closed g c =
+    let index = g.StorageT.StorageIndex.index in
+    let symbols = symbols_of c.args.grm.now (index c.args.pidx.0) in
+    let count = length-map c.prod.result.now (symbol_of index) in
+    let same = ap length c.prod.ensures in
+    let none : length symbols ≡ 0 = omega (arith, count, same, c.in-Some-Token-default.ensures.cases) in
+    λ r s t w is has_it first. absurd (none_first r symbols w none is)
 
 pub add_first_before-requires-clause-symbols : goal.add_first_before-requires-clause-symbols
 add_first_before-requires-clause-symbols g c =

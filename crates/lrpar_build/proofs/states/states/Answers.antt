@@ -1,8 +1,8 @@
-use Rattle.std.proofs.Common.{◌≡◌, ◌<◌, ◌∷◌, ◌++◌, ◌∙◌, [], sym, ap, subst, arith, length, map}
+use Rattle.std.proofs.Common.{List, ◌≡◌, ◌<◌, ◌≤◌, ◌∷◌, ◌++◌, ◌∙◌, [], sym, ap, subst, arith, length, map}
 use Rattle.std.proofs.lemmas.List.{length-map, length_push, map_push}
 use Rattle.lrpar_build.specs.Cores.{core_set}
 use Rattle.lrpar_build.specs.Kernels.{IsKernel, IsReachedKernel, kernel_at, path_at}
-use Rattle.lrpar_build.specs.States.{AreExpanded, IsExpanded, state_of}
+use Rattle.lrpar_build.specs.States.{AreExpanded, IsExpanded, StateOf, state_of}
 use Rattle.lrpar_build.proofs.NumberLemmas.{expanded_more, starts_kept}
 use Rattle.lrpar_build.proofs.StatesLemmas.{are_states}
 use Rattle.lrpar_build.proofs.states.states.Goals as goal
@@ -22,6 +22,18 @@ expanded-requires-clause-reached g c =
     let low : c.len-in-states-2.result < length kernels = omega (arith, c.states-test.true, c.len.ensures, c.len-in-states.ensures, c.len-in-states-2.ensures) in
     let path = path_at are.paths c.len-in-states-2.result in
     (path, subst (λ k. IsReachedKernel c.args.grm.now k path) (sym c.in_ok-kernel.ensures) (are.reached c.len-in-states-2.result low))
+
+pub states-init : goal.states-init
+states-init g c =
+    let index = g.StorageT.StorageIndex.index in
+    let kernels = c.in_ok-kernels.kernels in
+    let none : map (state_of index) c.new-states.result.items ≡ [] = ap (map (state_of index)) c.new-states.ensures.items in record {
+      sets = c.in_ok-sets.ensures;
+      numbered = c.in_ok-kernels.ensures.kernels;
+      start = c.in_ok-kernels.ensures.start;
+      few = subst (λ (states : List StateOf). length states ≤ length kernels) (sym none) (omega arith);
+      expanded = subst (AreExpanded c.args.grm.now kernels) (sym none) (λ s low. absurd (omega (arith, low)));
+    }
 
 pub states-preserved : goal.states-preserved
 states-preserved g c =
