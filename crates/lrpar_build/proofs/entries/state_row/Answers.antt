@@ -1,6 +1,7 @@
-use Rattle.std.proofs.Common.{◌≡◌, ◌<◌, ◌++◌, ◌∙◌, [], sym, ap, subst, arith, map, nat_eq}
+use Rattle.std.proofs.Common.{◌≡◌, ◌<◌, ◌++◌, ◌∙◌, [], refl, sym, ap, subst, arith, map, nat_eq}
 use Rattle.std.specs.List.{flat_map, range_with_len}
 use Rattle.std.specs.Map.{lookup}
+use Rattle.std.proofs.lemmas.List.{append-nil}
 use Rattle.lrpar_grammar.specs.Grammar.{tokens_len}
 use Rattle.lrpar_states.specs.PlainConflicts.{reduce_reduce_of, shift_reduce_of}
 use Rattle.lrpar_states.specs.PlainRows.{action_entry, plain_goto}
@@ -35,6 +36,16 @@ returns-in_err-push_token-clause-refused g c =
     error_same c.from_residual-in_err-push_token.result _ c.in_err-push_token.field-0.0 c.from_residual-in_err-push_token.ensures.1
     (refused_at grm cores shifts (index c.args.state.now.0) token (AcceptsBeside goto prods c.accepts-accepting.result) c.in_err-push_token.field-0.0 within
     (λ h. subst (λ P. P) beside h) refused)
+
+pub loop-token-init : goal.loop-token-init
+loop-token-init g c = (
+  ap (map (action_entry g.StorageT.StorageIndex.index)) c.new-row.ensures.items,
+  sym (append-nil _),
+  sym (append-nil _),
+  λ t low. absurd (omega (arith, low)),
+  c.requires.shifts,
+  λ t from. refl,
+)
 
 pub loop-token-preserved : goal.loop-token-preserved
 loop-token-preserved g c =

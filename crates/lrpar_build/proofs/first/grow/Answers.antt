@@ -3,7 +3,17 @@ use Rattle.std.proofs.lemmas.Bool.{OnFalse_at, OnFalse_from, OnTrue_at, OnTrue_f
 use Rattle.std.proofs.lemmas.List.Elements.{All-get_or}
 use Rattle.lrpar_build.specs.FirstRows.{mark_of, row_at, rows_of}
 use Rattle.lrpar_build.proofs.GrowthLemmas.{grown_closed, grown_less, grown_room, grown_same, grown_sound, row_in, sets_len}
+use Rattle.lrpar_build.proofs.SpreadLemmas.{prod_symbols}
 use Rattle.lrpar_build.proofs.first.grow.Goals as goal
+
+pub add_first-requires-clause-rules : goal.add_first-requires-clause-rules
+add_first-requires-clause-rules g c =
+    let grm = c.args.grm.now in
+    let p = g.StorageT.StorageIndex.index c.args.pidx.0 in
+    rw (sets_len grm c.args.sets.now c.requires.room, c.tokens_len-mark.ensures.len, c.prod.ensures) (prod_symbols grm c.requires.well_formed p c.requires.prod)
+
+pub add_first-requires-clause-wide : goal.add_first-requires-clause-wide
+add_first-requires-clause-wide g c = rw c.tokens_len-mark.ensures.len c.requires.room.wide
 
 pub unite_below-requires-clause-room : goal.unite_below-requires-clause-room
 unite_below-requires-clause-room g c =
