@@ -1,7 +1,6 @@
 -- The stacks of a run, as plain lists: what they do where all reductions are made.
-use Rattle.std.proofs.Common.{◌≡◌, ◌∙◌, ℕ, List, [], ◌∷◌, ◌++◌, Option, Some, ap, refl, subst, sym}
+use Rattle.std.proofs.Common.{◌≡◌, ◌∙◌, ℕ, List, [], ◌∷◌, ◌++◌, Option, ap, refl, subst, sym}
 use Rattle.std.specs.List.{AllZip}
-use Rattle.std.specs.Option.{option_map_or}
 use Rattle.lrpar_grammar.specs.Grammar.{Grammar, GrammarSymbol, Terminal, end_token}
 use Rattle.lrpar_text.specs.declared.span.PIdx.{PIdx}
 use Rattle.lrpar_text.specs.declared.span.StIdx.{StIdx}
@@ -11,8 +10,7 @@ use Rattle.lrpar_states.specs.PlainRows.{plain_action}
 use Rattle.lrpar_check.specs.Checked.{Checked}
 use Rattle.lrpar_check.specs.Path.{IsPath, NeverSticks}
 use Rattle.lrpar_check.specs.Reduction.{ReducesBy, Settles, top_action}
-use Rattle.lrpar_check.specs.Stack.{top_of}
-use Rattle.lrpar_states.specs.Table.{Table, Fails, ShiftTo, action_of}
+use Rattle.lrpar_states.specs.Table.{Table, ShiftTo}
 use Rattle.lrpar.specs.Standing.{Stacked, IsUpright, ReducesAllTo}
 use Rattle.lrpar.specs.Stacked.{SettlesTo}
 use Rattle.lrpar.specs.ZipLaws.{zip_push}
@@ -43,11 +41,6 @@ upright_shift suits d t next old new e never upright shifts states entries suit 
   path = subst (IsPath d.table (upright.symbols ++ Terminal t ∷ [])) (sym states) (never.shifts upright.symbols old.states t next upright.path shifts).1;
   suit = subst (AllZip suits (upright.symbols ++ Terminal t ∷ [])) (sym entries) (zip_push suits upright.symbols old.entries (Terminal t) e upright.suit suit);
 }
-
--- the action of the top state is that of the stack
-pub action_of_top : {S : Type 0} (index : S → ℕ) (table : Table) (t s : ℕ) (st : List ℕ) (action : Action S) → top_of st ≡ Some s
-    → plain_action index action ≡ action_of table s t → plain_action index action ≡ top_action table t st
-action_of_top index table t s st action top is = is ∙ sym (ap (λ (o : Option ℕ). option_map_or (λ (s : ℕ). action_of table s t) o Fails) top)
 
 -- the states settle where the stacks do
 pub states_settle : {E : Type 0} (node : ℕ → Option E → List E → E → Type 0) (suits : GrammarSymbol → E → Type 0) (d : Checked) (t : ℕ) (old new : Stacked E)

@@ -12,7 +12,6 @@ use crate::building::Build;
 use crate::reducing::Reducing;
 use crate::stack::Stack;
 use lrpar_answers::lex_api::Lexeme;
-use lrpar_check::stack::StateStack;
 use lrpar_grammar::span::{StorageIndex, TIdx};
 use lrpar_table::check::ParserData;
 use lrpar_table::table::Action;
@@ -95,8 +94,7 @@ impl<'a, StorageT: StorageIndex, LexemeT: Lexeme<StorageT>, B: Build<StorageT, L
         // Past these the table has no entry, so that a path is a stack.
         let (_tokens, _rules) = (stable.tokens_len(), stable.rules_len());
         let mut reducing = Reducing::new(alloc, self.checked.grm(), self.build, stack);
-        self.checked.settle_on(&mut reducing, token)?;
-        Ok(stable.action(reducing.top(), token))
+        Ok(self.checked.settle_on(&mut reducing, token)?.action)
     }
 }
 

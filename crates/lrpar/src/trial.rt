@@ -240,9 +240,10 @@ impl<'a, StorageT: StorageIndex, LexemeT: Lexeme<StorageT>> Trial<'a, StorageT, 
         ensures accepts { IfOk result (λ accepts. IsTrue accepts ↔ AcceptsAtEnd self.now.checked.now.grammar self.now.checked.now.table (overlaid states.old)) }
         ensures base { OnOk result (states.new.base ≡ states.old.base) }
     {
-        let (stable, end) = (self.checked.stable(), self.checked.grm().eof_token_idx());
-        self.checked.settle_over(states, end)?;
-        match stable.action(states.top(), end) {
+        // Checked: the table has the grammar's end token.
+        let (_table, end) = (self.checked.stable(), self.checked.grm().eof_token_idx());
+        let action = self.checked.settle_on(states, end)?.action;
+        match action {
             Action::Accept => Ok(true),
             Action::Shift(_) | Action::Reduce(_) | Action::Error => Ok(false),
         }

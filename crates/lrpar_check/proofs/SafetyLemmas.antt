@@ -14,11 +14,9 @@ use Rattle.lrpar_check.specs.Chain.{AreChainsShort}
 use Rattle.lrpar_check.specs.Checked.{IsChainFault, IsCheckFault}
 use Rattle.lrpar_states.specs.Graph.{Graph, HasCore, HasItem, ItemOf, items_of}
 use Rattle.lrpar_states.specs.PlainItems.{core_of, item_of}
-use Rattle.lrpar_states.specs.PlainRows.{plain_action, plain_goto}
+use Rattle.lrpar_states.specs.PlainRows.{plain_goto}
 use Rattle.lrpar_states.specs.Safe.{CoresFollow, GoesBy, HasShape, IsSafe, StepsFromCores}
-use Rattle.lrpar_states.specs.Table.{Table, ShiftTo, ReduceBy, action_of, goto_of}
-use Rattle.lrpar_states.specs.declared.rows.Action.{Action}
-use Rattle.lrpar_states.specs.declared.rows.Action.TheVariants.{Shift, Reduce, Accept, Error}
+use Rattle.lrpar_states.specs.Table.{Table, ShiftTo, action_of, goto_of}
 use Rattle.lrpar_states.proofs.ItemLemmas.{Contains-image}
 use Rattle.lrpar_check.specs.declared.fault.CheckFault.{CheckFault}
 use Rattle.lrpar_check.specs.declared.fault.CheckFault.TheVariants.{Shape, Safety, ChainTooLong, Memory}
@@ -55,14 +53,6 @@ pub item_read : {S : Type 0} (index : S → ℕ) (graph : Graph) (s : ℕ) (item
     → HasItem graph s (index item.0.0) item.1 (index item.2.0)
 item_read index graph s items i item all below read =
     subst (λ (is : List ItemOf). Contains is (item_of index item)) all (Contains-image (item_of index) items item (i, below, sym read))
-
--- an action that stands for a reduction is one
-pub reduce_from_plain : {S : Type 0} (index : S → ℕ) (action : Action S) (prod : ℕ) → plain_action index action ≡ ReduceBy prod
-    → (by : PIdx S) × (action ≡ Reduce by) × (index by.0 ≡ prod)
-reduce_from_plain index (Shift to) prod is = absurd (cc)
-reduce_from_plain index (Reduce by) prod is = (by, refl, cc)
-reduce_from_plain index Accept prod is = absurd (cc)
-reduce_from_plain index Error prod is = absurd (cc)
 
 -- a list has as many elements as its image
 pub length_by_image : {X Y : Type 0} (f : X → Y) (xs : List X) (ys : List Y) → map f xs ≡ ys → length xs ≡ length ys

@@ -1,5 +1,5 @@
 -- Reductions of a stack over a table that is checked: they keep it a stack, and none is left where a step makes none.
-use Rattle.std.proofs.Common.{◌≡◌, ◌≢◌, ◌<◌, ◌≤◌, ◌+◌, ◌-◌, ◌∙◌, ◌⊎◌, inl, inr, refl, sym, subst, arith, ℕ, zero, suc, List, [], ◌∷◌, ◌++◌, length, take, Some, Result, Ok, Err, length-append}
+use Rattle.std.proofs.Common.{◌≡◌, ◌<◌, ◌≤◌, ◌+◌, ◌-◌, ◌∙◌, ◌⊎◌, inl, inr, sym, subst, arith, ℕ, zero, suc, List, [], ◌∷◌, ◌++◌, length, take, Some, Result, Ok, Err, length-append}
 use Rattle.std.proofs.lemmas.List.Elements.{All-cons, All-nil}
 use Rattle.std.proofs.lemmas.Option.{get_or_from_slice_get, slice_get_within}
 use Rattle.std.specs.List.{All}
@@ -133,28 +133,23 @@ module _ (g : Grammar) (table : Table) (cap : ℕ) (run : IsRun g table cap) (t 
       let path = stack_has_path table st stack in run.bounds path.0 st t prods after path.1 token reduces
 
   module _ {X : Type 0} (states : X → List ℕ) (reduces : X → ℕ → ℕ → ℕ → X → Type 0) where
-    -- a step is none but these
-    other_steps : (step : Step) → step ≢ Reduced → (step ≡ LeavesNone) ⊎ (step ≡ Stays)
-    other_steps Reduced not = absurd (not refl)
-    other_steps LeavesNone not = inl refl
-    other_steps Stays not = inr refl
+    -- a step that makes no reduction leaves the stack as it is
+    pub stays_by_step : (mid new : X) (step : Step) → (step ≡ LeavesNone) ⊎ (step ≡ Stays) → IsStackStep states reduces g table t mid step new
+        → new ≡ mid
+    stays_by_step mid new step (inl is) h = subst (λ (s : Step). IsStackStep states reduces g table t mid s new) is h
+    stays_by_step mid new step (inr is) h = subst (λ (s : Step). IsStackStep states reduces g table t mid s new) is h
 
-    pub stays_by_step : (mid new : X) (step : Step) → step ≢ Reduced → IsStackStep states reduces g table t mid step new → new ≡ mid
-    stays_by_step mid new Reduced not h = absurd (not refl)
-    stays_by_step mid new LeavesNone not h = h
-    stays_by_step mid new Stays not h = h
-
-    -- a step that makes no reduction ends them
+    -- and it ends them
     pub stack_settled_by : (old mid new : X) (prods : List ℕ) (count : ℕ) (step : Step) → IsStack table (states old) → IsStack table (states mid)
-        → StackReducesBy states reduces g table t old prods mid → count ≡ length prods → step ≢ Reduced
+        → StackReducesBy states reduces g table t old prods mid → count ≡ length prods → (step ≡ LeavesNone) ⊎ (step ≡ Stays)
         → IsStep g table t (states mid) step (states new) → IsStackStep states reduces g table t mid step new
         → IsStackSettledBy states reduces g table cap t old count new
-    stack_settled_by old mid new prods count step stack_old stack_mid made counted not of_states of_stack =
-        let settled = settled_by_step (states mid) (states new) step stack_mid (other_steps step not) of_states in
+    stack_settled_by old mid new prods count step stack_old stack_mid made counted is of_states of_stack =
+        let settled = settled_by_step (states mid) (states new) step stack_mid is of_states in
         let reduced = states_reduce_by states reduces g table t old prods mid made in
         let bounds = stack_bounds (states old) prods (states mid) stack_old reduced in
         let P : X → Type 0 = λ x. IsStackSettledBy states reduces g table cap t old count x in
-        subst P (sym (stays_by_step mid new step not of_stack)) (record {
+        subst P (sym (stays_by_step mid new step is of_stack)) (record {
           of_states = record {
             prods = prods;
             settles = settles_at_end g table t (states old) prods (states mid) reduced settled.1;

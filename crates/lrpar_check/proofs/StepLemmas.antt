@@ -1,17 +1,16 @@
 -- What one step makes of a list of states, and of the chain that goes on from them.
-use Rattle.std.proofs.Common.{◌≡◌, ◌<◌, ◌≤◌, ◌+◌, ◌-◌, ◌∙◌, ◌↔◌, ◌⊎◌, inl, inr, refl, sym, ap, subst, arith, ℕ, zero, suc, List, [], ◌∷◌, ◌++◌, length, map, take, slice_get, Option, Some, None, Result, Ok, Err}
+use Rattle.std.proofs.Common.{◌≡◌, ◌<◌, ◌≤◌, ◌+◌, ◌-◌, ◌∙◌, ◌↔◌, ◌⊎◌, inl, inr, refl, sym, ap, subst, arith, ℕ, zero, suc, List, [], ◌∷◌, ◌++◌, length, map, take, slice_get, Option, Some, None}
 use Rattle.std.proofs.lemmas.List.{length-append, length-map, length-take-le, map-append, take-map}
 use Rattle.std.proofs.lemmas.List.Elements.{All-push, All-take}
 use Rattle.std.proofs.lemmas.Option.{none-some}
 use Rattle.std.specs.List.{All}
-use Rattle.std.specs.Result.{OnErr}
 use Rattle.std.specs.Option.{MatchOption, option_and_then, option_map_or}
 use Rattle.lrpar_grammar.specs.Grammar.{Grammar, prods_len, prod_len, rule_of}
 use Rattle.lrpar_check.specs.Chain.{DropsAll, HasReductions}
 use Rattle.lrpar_check.specs.Reduction.{Reduces, top_action, top_goto, left_by}
 use Rattle.lrpar_check.specs.Stack.{top_of}
 use Rattle.lrpar_check.specs.StackReduction.{IsStepHeldUp}
-use Rattle.lrpar_check.specs.Step.{CanReduce, IsReduction, IsStep}
+use Rattle.lrpar_check.specs.Step.{CanReduce, IsStep}
 use Rattle.lrpar_states.specs.Table.{Table, Fails, ReduceBy, IsClosed, action_of, goto_of, states_len}
 use Rattle.lrpar_check.specs.declared.step.Step.{Step}
 use Rattle.lrpar_check.specs.declared.step.Step.TheVariants.{Reduced, LeavesNone, Stays}
@@ -59,29 +58,6 @@ goto_of_left g table p st symbols height s r goto is_len is_height deep read is_
     let here : slice_get st (length st - prod_len g p - 1) ≡ Some s = rw at at read in
     let top = top_of_left st (prod_len g p) s below here in
     (below, goto_by_top table (rule_of g p) (left_by g p st) s top ∙ ap (goto_of table s) (sym is_rule) ∙ sym is_goto)
-
--- a step is the reduction that is the top's action
-pub step_by_reduction : (g : Grammar) (table : Table) (t p : ℕ) (st : List ℕ) (step : Step) (after : List ℕ)
-    → top_action table t st ≡ ReduceBy p → p < prods_len g → IsReduction g table p st step after → IsStep g table t st step after
-step_by_reduction g table t p st Reduced after action known h =
-    (p, record { action = action; known = known; deep = h.0; state = h.1.0; goto = h.1.1; pushed = h.1.2 })
-step_by_reduction g table t p st LeavesNone after action known h = ((p, action, h.0), h.1)
-step_by_reduction g table t p st Stays after action known h = (
-  λ q next reduces.
-      let same : p ≡ q = let e : ReduceBy p ≡ ReduceBy q = sym action ∙ reduces.action in cc in
-      let P : ℕ → Type 0 = λ q. top_goto table (rule_of g q) (left_by g q st) ≡ None in
-      none-some reduces.state (sym (subst P same h.1) ∙ reduces.goto),
-  λ drops.
-      let same : p ≡ drops.0 = let e : ReduceBy p ≡ ReduceBy drops.0 = sym action ∙ drops.1 in cc in
-      let many : length st ≤ prod_len g p = subst (λ (q : ℕ). length st ≤ prod_len g q) (sym same) drops.2 in
-      omega (arith, h.0, many),
-  h.2,
-)
-
--- where the top's action is no reduction, the states stay
-pub step_by_no_reduction : (g : Grammar) (table : Table) (t : ℕ) (st : List ℕ) → ((p : ℕ) → ¬ (top_action table t st ≡ ReduceBy p))
-    → IsStep g table t st Stays st
-step_by_no_reduction g table t st none = (λ p next reduces. none p reduces.action, λ drops. none drops.0 drops.1, refl)
 
 -- after a reduction the states are of the table still, and there are some
 pub reduced_within : (g : Grammar) (table : Table) (t : ℕ) (st : List ℕ) (p : ℕ) (after : List ℕ) → IsClosed table
@@ -190,14 +166,25 @@ module _ (g : Grammar) (table : Table) (t : ℕ) (start : List ℕ) (cap : ℕ) 
       goes_on_stays g table t st after 0 (subst (λ (s : Step). IsStep g table t st s after) is h) ((remains 1 (omega arith)).0 all)
 
 -- a reduction that can be made, and is the top's action, is due
-pub held_up_at : {X T E : Type 0} (states : X → List ℕ) (fails : X → ℕ → X → Type 0) (g : Grammar) (table : Table) (t p : ℕ) (old new : X)
-    (r : Result T E) → top_action table t (states old) ≡ ReduceBy p → p < prods_len g → OnErr r (CanReduce g table p (states old))
-    → OnErr r (fails old (prod_len g p) new) → OnErr r (states new ≡ states old) → OnErr r (IsStepHeldUp states fails g table t old new)
-held_up_at states fails g table t p old new (Ok x) action known can rest stays = tt
-held_up_at states fails g table t p old new (Err e) action known can rest stays = record {
+pub reduces_where_can : (g : Grammar) (table : Table) (t p : ℕ) (st : List ℕ) → top_action table t st ≡ ReduceBy p → p < prods_len g
+    → (can : CanReduce g table p st) → Reduces g table t st p (left_by g p st ++ can.1.0 ∷ [])
+reduces_where_can g table t p st action known can = record {
+  action = action;
+  known = known;
+  deep = can.0;
+  state = can.1.0;
+  goto = can.1.1;
+  pushed = refl;
+}
+
+-- and it is held up where memory was wanting for it
+pub held_up_at : {X : Type 0} (states : X → List ℕ) (fails : X → ℕ → X → Type 0) (g : Grammar) (table : Table) (t p : ℕ) (old new : X)
+    → top_action table t (states old) ≡ ReduceBy p → p < prods_len g → CanReduce g table p (states old) → fails old (prod_len g p) new
+    → states new ≡ states old → IsStepHeldUp states fails g table t old new
+held_up_at states fails g table t p old new action known can rest stays = record {
   prod = p;
   after = left_by g p (states old) ++ can.1.0 ∷ [];
-  due = record { action = action; known = known; deep = can.0; state = can.1.0; goto = can.1.1; pushed = refl };
+  due = reduces_where_can g table t p (states old) action known can;
   stays = stays;
   of_rest = rest;
 }

@@ -152,12 +152,14 @@ impl<'a, StorageT: StorageIndex> Chains<'a, StorageT> {
             (map (λ x. StorageT.index x.0) states.old.items) (self.now.cap + 1)) }
     {
         for _made in 0..self.cap {
-            match take_step(self.grm, self.stable, states, t)? {
+            let (step, _action) = take_step(self.grm, self.stable, states, t)?;
+            match step {
                 Step::Reduced => {}
                 Step::LeavesNone | Step::Stays => return Ok(false),
             }
         }
-        match take_step(self.grm, self.stable, states, t)? {
+        let (step, _action) = take_step(self.grm, self.stable, states, t)?;
+        match step {
             Step::Reduced | Step::LeavesNone => Ok(true),
             Step::Stays => Ok(false),
         }

@@ -1,9 +1,11 @@
 //! What a stack of states does at a token: its reductions, and the shift after them.
-ghost use Rattle.std.specs.Prelude.{◌<◌, ◌⊎◌, IfOk, OnOk, OnErr, vec_capacity};
+ghost use Rattle.std.specs.Prelude.{◌≡◌, ◌<◌, ◌⊎◌, IfOk, OnOk, OnErr, vec_capacity};
 ghost use Rattle.lrpar_check.specs.Overlay.{IsFedOver, IsHeldUpOver, IsSettledOver, IsShiftHeldUpOver, overlaid};
+ghost use Rattle.lrpar_check.specs.Reduction.{top_action};
 ghost use Rattle.lrpar_check.specs.Settled.{IsFedBy, IsHeldUp, IsSettledBy, IsShiftHeldUp};
 ghost use Rattle.lrpar_check.specs.Stack.{IsStack, states_of};
 ghost use Rattle.lrpar_check.specs.StackReduction.{IsStackFedBy, IsStackHeldUp, IsStackSettledBy, IsStackShiftHeldUp};
+ghost use Rattle.lrpar_states.specs.PlainRows.{plain_action};
 
 use crate::check::ParserData;
 use crate::overlay::Overlay;
@@ -13,23 +15,33 @@ use lrpar_grammar::span::{StIdx, StorageIndex, TIdx};
 use lrpar_states::table::Action;
 use std::alloc::AllocError;
 
+/// What comes of all reductions of a stack.
+#[derive(Clone, Copy)]
+pub struct Settled<StorageT> {
+    /// How many were made.
+    pub reductions: u128,
+    /// What the state then on top does.
+    pub action: Action<StorageT>,
+}
+
 impl<StorageT: StorageIndex> ParserData<StorageT> {
-    /// Makes all reductions of a stack of any kind under the token, and answers how many these were. Internal: `settle`
-    /// and `settle_over` are this.
+    /// Makes all reductions of a stack of any kind under the token, and answers how many these were, and what the state then
+    /// on top does. Internal: `settle` and `settle_over` are this.
     ///
     /// At most the cap for each state of the stack, each with one action and one goto.
     pub fn settle_on<S: StateStack<StorageT>>(
         &self,
         stack: &mut S,
         t: TIdx<StorageT>,
-    ) -> Result<u128, AllocError>
+    ) -> Result<Settled<StorageT>, AllocError>
         requires suits { S.suits self.now.grammar self.now.table stack.old }
         requires stack { IsStack self.now.table (S.states stack.old) }
         requires token { StorageT.index t.0 < self.now.table.tokens }
 
         // All reductions were made, of the states and of the rest; their number is told and bounded.
-        ensures settled { IfOk result (λ count. IsStackSettledBy S.states S.reduces self.now.grammar self.now.table self.now.cap (StorageT.index t.0)
-            stack.old count stack.new) }
+        ensures settled { IfOk result (λ done. IsStackSettledBy S.states S.reduces self.now.grammar self.now.table self.now.cap (StorageT.index t.0)
+            stack.old done.reductions stack.new) }
+        ensures action { IfOk result (λ done. plain_action StorageT.index done.action ≡ top_action self.now.table (StorageT.index t.0) (S.states stack.new)) }
         ensures suits { OnOk result (S.suits self.now.grammar self.now.table stack.new) }
 
         // Some first reductions were made, and for the next one memory was wanting.
@@ -42,10 +54,16 @@ impl<StorageT: StorageIndex> ParserData<StorageT> {
         // At most the one for each of the other: the number of reductions fits.
         let (_cap, _height) = (self.cap(), stack.height());
         let mut count = 0;
-        'reductions: while let Step::Reduced = take_step(grm, table, stack, t)? {
-            count += 1;
+        'reductions: loop {
+            let (step, action) = take_step(grm, table, stack, t)?;
+            match step {
+                Step::Reduced => count += 1,
+                Step::LeavesNone | Step::Stays => return Ok(Settled {
+                    reductions: count,
+                    action,
+                }),
+            }
         }
-        Ok(count)
     }
 
     /// Makes all reductions of the stack, bottom first, under the token, and answers how many these were.
@@ -71,7 +89,7 @@ impl<StorageT: StorageIndex> ParserData<StorageT> {
         // It is a stack in either case.
         ensures stack { IsStack self.now.table (states_of StorageT.index stack.new.items) }
     {
-        self.settle_on(stack, t)
+        Ok(self.settle_on(stack, t)?.reductions)
     }
 
     /// As `settle`, over an overlay, whose base stays as it is.
@@ -95,7 +113,7 @@ impl<StorageT: StorageIndex> ParserData<StorageT> {
         // It is a stack in either case.
         ensures stack { IsStack self.now.table (overlaid stack.new) }
     {
-        self.settle_on(stack, t)
+        Ok(self.settle_on(stack, t)?.reductions)
     }
 
     /// Makes all reductions of a stack of any kind under the token, and then shifts the token, if the top state does;
@@ -121,8 +139,10 @@ impl<StorageT: StorageIndex> ParserData<StorageT> {
         // It is a stack in each case.
         ensures stack { IsStack self.now.table (S.states stack.new) }
     {
-        self.settle_on(stack, t)?;
-        match self.stable().action(stack.top(), t) {
+        // Checked: what it shifts to makes a stack.
+        let _table = self.stable();
+        let action = self.settle_on(stack, t)?.action;
+        match action {
             Action::Shift(next) => {
                 stack.shift(next)?;
                 Ok(true)

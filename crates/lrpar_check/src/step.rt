@@ -1,8 +1,10 @@
 //! One step at a token, over any list of states, be it a stack or the states of a chain.
 ghost use Rattle.std.specs.Prelude.{◌≡◌, ◌<◌, All, IfOk, OnOk, OnErr, length};
 ghost use Rattle.lrpar_grammar.specs.Grammar.{prods_len, prod_len, rule_of, rules_len};
+ghost use Rattle.lrpar_check.specs.Reduction.{top_action};
 ghost use Rattle.lrpar_check.specs.StackReduction.{IsStepHeldUp};
 ghost use Rattle.lrpar_check.specs.Step.{CanReduce, FitsGrammar, IsReduction, IsRestOf, IsStackStep, IsStep};
+ghost use Rattle.lrpar_states.specs.PlainRows.{plain_action};
 ghost use Rattle.lrpar_states.specs.Table.{states_len};
 
 use crate::stack::{Reduction, StateStack};
@@ -23,25 +25,29 @@ pub(crate) enum Step {
 }
 
 /// Makes one reduction under the token, if it leaves a state that has the goto. Otherwise, and where memory was wanting,
-/// the states stay as they were.
+/// the states stay as they were. Answers what came of it, and the action by which it went.
 pub(crate) fn take_step<StorageT: StorageIndex, S: StateStack<StorageT>>(
     grm: &YaccGrammar<StorageT>,
     table: &StateTable<StorageT>,
     states: &mut S,
     t: TIdx<StorageT>,
-) -> Result<Step, AllocError>
+) -> Result<(Step, Action<StorageT>), AllocError>
     requires fits { FitsGrammar grm.now table.now }
     requires token { StorageT.index t.0 < table.now.tokens }
     requires suits { S.suits grm.now table.now states.old }
     requires some { 0 < length (S.states states.old) }
     requires within { All (λ s. s < states_len table.now) (S.states states.old) }
-    ensures step { IfOk result (λ step. IsStep grm.now table.now (StorageT.index t.0) (S.states states.old) step (S.states states.new)) }
-    ensures made { IfOk result (λ step. IsStackStep S.states S.reduces grm.now table.now (StorageT.index t.0) states.old step states.new) }
+    ensures step { IfOk result (λ taken. IsStep grm.now table.now (StorageT.index t.0) (S.states states.old) taken.0 (S.states states.new)) }
+    ensures made { IfOk result (λ taken. IsStackStep S.states S.reduces grm.now table.now (StorageT.index t.0) states.old taken.0 states.new) }
+    ensures action { IfOk result (λ taken. plain_action StorageT.index taken.1 ≡ top_action table.now (StorageT.index t.0) (S.states states.old)) }
     ensures held_up { OnErr result (IsStepHeldUp S.states S.fails grm.now table.now (StorageT.index t.0) states.old states.new) }
 {
     match table.action(states.top(), t) {
-        Action::Reduce(prod) => reduce_by(grm, table, states, prod),
-        Action::Shift(_) | Action::Accept | Action::Error => Ok(Step::Stays),
+        Action::Reduce(prod) => {
+            let step = reduce_by(grm, table, states, prod)?;
+            Ok((step, Action::Reduce(prod)))
+        }
+        other => Ok((Step::Stays, other)),
     }
 }
 

@@ -1,9 +1,7 @@
 use Rattle.std.proofs.Common.{◌≡◌, ap}
-use Rattle.lrpar_check.proofs.SettleLemmas.{stack_top_within}
 use Rattle.lrpar_check.proofs.StackLemmas.{path_is_stack}
 use Rattle.lrpar.specs.ReducingView.{built}
 use Rattle.lrpar.proofs.ReducingLemmas.{builds_settle}
-use Rattle.lrpar.proofs.StackedLemmas.{action_of_top}
 use Rattle.lrpar.proofs.run.Run.settle.Goals as goal
 
 pub settle_on-requires-clause-stack : goal.settle_on-requires-clause-stack
@@ -15,12 +13,6 @@ settle_on-requires-clause-stack g c =
     (path_is_stack d.table (rw c.stable-stable.ensures.table at c.tokens_len-tokens.ensures.end) (rw c.stable-stable.ensures.table at c.rules_len-rules.ensures.end)
     upright.symbols c.args.stack.now.states upright.path)
 
-pub action-requires-clause-state : goal.action-requires-clause-state
-action-requires-clause-state g c =
-    let d = c.args.self.now.checked.now in
-    rw c.stable-stable.ensures.table
-    (stack_top_within d.table c.stable-stable.ensures.checked.closed c.settle_on.new.stack.stack.now.states _ c.settle_on.ensures.stack c.top.ensures)
-
 pub returns : goal.returns
 returns g c =
     let d = c.args.self.now.checked.now in
@@ -29,10 +21,10 @@ returns g c =
     let t = index c.args.token.0 in
     let new = c.settle_on.new.stack in
     let settled = builds_settle (λ s. built s) kind.node kind.suits kind.can_build kind.rises d t c.args.self.now.build.now c.args.stack.now _
-    c.new-reducing.result c.in_ok-settle_on.field-0 new (rw c.grm.ensures at c.new-reducing.ensures) c.in_ok-settle_on.ensures.settled c.in_ok-settle_on.ensures.suits in
-    let same = c.stack-2-1.given.1 settled.same in
+    c.new-reducing.result c.in_ok-settle_on.field-0.reductions new (rw c.grm.ensures at c.new-reducing.ensures) c.in_ok-settle_on.ensures.settled c.in_ok-settle_on.ensures.suits in
+    let same = c.stack-1.given.1 settled.same in
     record {
       upright = rw same settled.upright;
       settles = rw same settled.settles;
-      action = rw same (action_of_top index d.table t _ new.stack.now.states c.action.result c.top.ensures (rw c.stable-stable.ensures.table at c.action.ensures.action));
+      action = rw same c.in_ok-settle_on.ensures.action;
     }

@@ -27,8 +27,8 @@ returns-in-LeavesNone g c =
     let index = g.StorageT.StorageIndex.index in
     refused (remains_early c.args.self.now.grm.now c.args.self.now.stable.now (index c.args.t.0)
     (map (λ x. index x.0) c.args.states.now.items) c.args.self.now.cap (map (λ x. index x.0) c.loop-made.states.items)
-    (map (λ x. index x.0) c.take_step.new.states.items) c.loop-made._made c.in_ok-take_step.field-0 c.loop-made.invariant.remains
-    c.loop-made-test.true c.in-LeavesNone.is c.in_ok-take_step.ensures.step)
+    (map (λ x. index x.0) c.take_step.new.states.items) c.loop-made._made c.in_ok-step.step c.loop-made.invariant.remains
+    c.loop-made-test.true c.in-LeavesNone.is c.in_ok-step.ensures.step)
 
 pub loop-made-preserved : goal.loop-made-preserved
 loop-made-preserved g c =
@@ -38,13 +38,13 @@ loop-made-preserved g c =
     let t = index c.args.t.0 in
     let states = map (λ x. index x.0) c.loop-made.states.items in
     let after = map (λ x. index x.0) c.take_step.new.states.items in
-    let reduced = subst (λ (s : Step). IsStep grm table t states s after) c.in-Reduced.is c.in_ok-take_step.ensures.step in
+    let reduced = subst (λ (s : Step). IsStep grm table t states s after) c.in-Reduced.is c.in_ok-step.ensures.step in
     let within = reduced_within grm table t states reduced.0 after c.requires.closed c.loop-made.invariant.within reduced.1 in
     record {
       some = rw length-map at within.0;
       within = within.1;
       remains = remains_more grm table t (map (λ x. index x.0) c.args.states.now.items) c.args.self.now.cap states after
-          c.loop-made._made c.in_ok-take_step.field-0 c.loop-made.invariant.remains c.in-Reduced.is c.in_ok-take_step.ensures.step;
+          c.loop-made._made c.in_ok-step.step c.loop-made.invariant.remains c.in-Reduced.is c.in_ok-step.ensures.step;
     }
 
 pub take_step-requires-2-clause-some : goal.take_step-requires-2-clause-some
@@ -53,14 +53,14 @@ take_step-requires-2-clause-some g c = rw length-map c.loop-made.invariant.some
 pub take_step-requires-2-clause-within : goal.take_step-requires-2-clause-within
 take_step-requires-2-clause-within g c = c.loop-made.invariant.within
 
-pub returns-in-Reduced-2 : goal.returns-in-Reduced-2
-returns-in-Reduced-2 g c =
+pub returns-in-Reduced-step : goal.returns-in-Reduced-step
+returns-in-Reduced-step g c =
     let index = g.StorageT.StorageIndex.index in
     let end : c.loop-made._made ≡ c.args.self.now.cap = omega (arith, c.loop-made-test.false, c.loop-made.auto._made-end) in
     accepted (remains_last c.args.self.now.grm.now c.args.self.now.stable.now (index c.args.t.0)
     (map (λ x. index x.0) c.args.states.now.items) c.args.self.now.cap (map (λ x. index x.0) c.loop-made.states.items)
-    (map (λ x. index x.0) c.take_step-2.new.states.items) c.loop-made._made c.in_ok-take_step-2.field-0 c.loop-made.invariant.remains
-    end c.in-Reduced-2.is c.in_ok-take_step-2.ensures.step)
+    (map (λ x. index x.0) c.take_step-2.new.states.items) c.loop-made._made c.in_ok-step-2.step c.loop-made.invariant.remains
+    end c.in-Reduced-step.is c.in_ok-step-2.ensures.step)
 
 pub returns-in-Stays : goal.returns-in-Stays
 returns-in-Stays g c =
@@ -68,5 +68,5 @@ returns-in-Stays g c =
     let end : c.loop-made._made ≡ c.args.self.now.cap = omega (arith, c.loop-made-test.false, c.loop-made.auto._made-end) in
     refused (remains_none c.args.self.now.grm.now c.args.self.now.stable.now (index c.args.t.0)
     (map (λ x. index x.0) c.args.states.now.items) c.args.self.now.cap (map (λ x. index x.0) c.loop-made.states.items)
-    (map (λ x. index x.0) c.take_step-2.new.states.items) c.loop-made._made c.in_ok-take_step-2.field-0 c.loop-made.invariant.remains
-    end c.in-Stays.is c.in_ok-take_step-2.ensures.step)
+    (map (λ x. index x.0) c.take_step-2.new.states.items) c.loop-made._made c.in_ok-step-2.step c.loop-made.invariant.remains
+    end c.in-Stays.is c.in_ok-step-2.ensures.step)

@@ -1,16 +1,10 @@
-use Rattle.std.proofs.Common.{◌≡◌, ◌∙◌, List, ℕ, inr, subst, sym}
+use Rattle.std.proofs.Common.{◌≡◌, ◌∙◌, List, ℕ, ap, inr, subst, sym}
 use Rattle.lrpar_check.specs.Reduction.{top_action}
 use Rattle.lrpar_check.specs.Stack.{IsStack}
+use Rattle.lrpar_states.specs.PlainRows.{plain_action}
 use Rattle.lrpar_states.specs.Table.{ShiftTo}
-use Rattle.lrpar_check.proofs.SettleLemmas.{on_err_always, run_of_checked, stack_shifted, stack_top_within}
-use Rattle.lrpar_check.proofs.StepLemmas.{action_by_top}
+use Rattle.lrpar_check.proofs.SettleLemmas.{on_err_always, run_of_checked, stack_shifted}
 use Rattle.lrpar_check.proofs.check.ParserData.feed_on.Goals as goal
-
-pub action-requires-clause-state : goal.action-requires-clause-state
-action-requires-clause-state g c =
-    rw c.stable.ensures.table
-    (stack_top_within c.args.self.now.table c.stable.ensures.checked.closed (g.S.StateStack.states c.settle_on.new.stack) _ c.settle_on.ensures.stack
-    c.top.ensures)
 
 pub returns-in_err-shift-in-Shift-clause-held_up : goal.returns-in_err-shift-in-Shift-clause-held_up
 returns-in_err-shift-in-Shift-clause-held_up g c =
@@ -19,11 +13,11 @@ returns-in_err-shift-in-Shift-clause-held_up g c =
     let t = index c.args.t.0 in
     let states = g.S.StateStack.states c.settle_on.new.stack in
     let shifts : top_action table t states ≡ ShiftTo (index c.in-Shift.next.0) =
-    action_by_top table t states (index c.top.result.0) c.top.ensures ∙ sym (rw c.stable.ensures.table at c.in-Shift.ensures.action) in
+    sym c.in_ok-action.ensures.action ∙ ap (plain_action index) c.in-Shift.is in
     on_err_always c.from_residual-in_err-shift-in-Shift.result _ (inr (record {
       settled = c.settle_on.new.stack;
-      count = c.in_ok-settle_on.field-0;
-      settles = c.in_ok-settle_on.ensures.settled;
+      count = _;
+      settles = c.in_ok-action.ensures.settled;
       next = index c.in-Shift.next.0;
       due = shifts;
       stays = c.in_err-shift-in-Shift.ensures.unchanged;
@@ -37,7 +31,7 @@ returns-in_ok-shift-in-Shift-clause-stack g c =
     let t = index c.args.t.0 in
     let states = g.S.StateStack.states c.settle_on.new.stack in
     let shifts : top_action d.table t states ≡ ShiftTo (index c.in-Shift.next.0) =
-    action_by_top d.table t states (index c.top.result.0) c.top.ensures ∙ sym (rw c.stable.ensures.table at c.in-Shift.ensures.action) in
-    let run = run_of_checked d c.stable.ensures.checked c.stable.ensures.runs c.stable.ensures.bounds in
+    sym c.in_ok-action.ensures.action ∙ ap (plain_action index) c.in-Shift.is in
+    let run = run_of_checked d c.stable-table.ensures.checked c.stable-table.ensures.runs c.stable-table.ensures.bounds in
     let more = stack_shifted d.grammar d.table d.cap run t c.requires.token states (index c.in-Shift.next.0) c.settle_on.ensures.stack shifts in
     subst (λ (st : List ℕ). IsStack d.table st) (sym c.in_ok-shift-in-Shift.ensures.states) more

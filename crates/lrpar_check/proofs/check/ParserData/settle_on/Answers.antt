@@ -1,6 +1,7 @@
-use Rattle.std.proofs.Common.{◌≡◌, ◌<◌, ◌≤◌, ◌+◌, ◌-◌, ◌*◌, ◌^◌, ℕ, arith, length, refl, rules, subst, sym}
+use Rattle.std.proofs.Common.{◌≡◌, ◌<◌, ◌≤◌, ◌+◌, ◌-◌, ◌*◌, ◌^◌, ◌∙◌, ℕ, ap, arith, length, refl, rules, subst, sym}
 use Rattle.std.proofs.Math.Nat.{mul-le-mul_right}
 use Rattle.lrpar_check.specs.Chain.{most_reductions}
+use Rattle.lrpar_check.specs.Reduction.{top_action}
 use Rattle.lrpar_check.specs.Step.{IsStackStep}
 use Rattle.lrpar_check.specs.declared.step.Step.{Step}
 use Rattle.lrpar_check.proofs.SettleLemmas.{run_of_checked, stack_reduced_once, stack_settled_by, stack_states, stays_by_step}
@@ -29,10 +30,10 @@ overflow_add-count g c =
     let d = c.args.self.now in
     let run = run_of_checked d c.stable-table.ensures.checked c.stable-table.ensures.runs c.stable-table.ensures.bounds in
     let made = c.reductions.invariant.made in
-    let step = rw (c.grm-grm.ensures, c.stable-table.ensures.table) at c.in_ok-take_step.ensures.made in
+    let step = rw (c.grm-grm.ensures, c.stable-table.ensures.table) at c.in_ok-step.ensures.made in
     let more =
     stack_reduced_once d.grammar d.table d.cap run (g.StorageT.StorageIndex.index c.args.t.0) c.requires.token kind.states kind.reduces c.args.stack.now
-    c.reductions.stack c.take_step.new.states made.0 c.in_ok-take_step.field-0 c.requires.stack c.reductions.invariant.stack made.1 c.in-Reduced.is
+    c.reductions.stack c.take_step.new.states made.0 c.in_ok-step.step c.requires.stack c.reductions.invariant.stack made.1 c.in-Reduced.is
     step in
     let below = subst (λ (n : ℕ). n < most_reductions d.cap (length (kind.states c.args.stack.now))) (sym made.2) more.1 in
     let small = subst (λ (n : ℕ). n < 2 ^ 16) c.cap-cap.ensures c.cap-cap.type_inv in
@@ -48,10 +49,10 @@ reductions-smaller g c =
     let d = c.args.self.now in
     let run = run_of_checked d c.stable-table.ensures.checked c.stable-table.ensures.runs c.stable-table.ensures.bounds in
     let made = c.reductions.invariant.made in
-    let step = rw (c.grm-grm.ensures, c.stable-table.ensures.table) at c.in_ok-take_step.ensures.made in
+    let step = rw (c.grm-grm.ensures, c.stable-table.ensures.table) at c.in_ok-step.ensures.made in
     let more =
     stack_reduced_once d.grammar d.table d.cap run (g.StorageT.StorageIndex.index c.args.t.0) c.requires.token kind.states kind.reduces c.args.stack.now
-    c.reductions.stack c.take_step.new.states made.0 c.in_ok-take_step.field-0 c.requires.stack c.reductions.invariant.stack made.1 c.in-Reduced.is
+    c.reductions.stack c.take_step.new.states made.0 c.in_ok-step.step c.requires.stack c.reductions.invariant.stack made.1 c.in-Reduced.is
     step in
     left_to_make (most_reductions d.cap (length (kind.states c.args.stack.now))) c.reductions.count (c.reductions.count + 1)
     (subst (λ (n : ℕ). n < most_reductions d.cap (length (kind.states c.args.stack.now))) (sym made.2) more.1) refl
@@ -62,10 +63,10 @@ reductions-preserved g c =
     let d = c.args.self.now in
     let run = run_of_checked d c.stable-table.ensures.checked c.stable-table.ensures.runs c.stable-table.ensures.bounds in
     let made = c.reductions.invariant.made in
-    let step = rw (c.grm-grm.ensures, c.stable-table.ensures.table) at c.in_ok-take_step.ensures.made in
+    let step = rw (c.grm-grm.ensures, c.stable-table.ensures.table) at c.in_ok-step.ensures.made in
     let more =
     stack_reduced_once d.grammar d.table d.cap run (g.StorageT.StorageIndex.index c.args.t.0) c.requires.token kind.states kind.reduces c.args.stack.now
-    c.reductions.stack c.take_step.new.states made.0 c.in_ok-take_step.field-0 c.requires.stack c.reductions.invariant.stack made.1 c.in-Reduced.is
+    c.reductions.stack c.take_step.new.states made.0 c.in_ok-step.step c.requires.stack c.reductions.invariant.stack made.1 c.in-Reduced.is
     step in
     let one =
     subst (λ (s : Step). IsStackStep kind.states kind.reduces d.grammar d.table (g.StorageT.StorageIndex.index c.args.t.0) c.reductions.stack s c.take_step.new.states)
@@ -78,23 +79,26 @@ reductions-preserved g c =
       made = (more.2.0, more.2.2, omega (arith, more.2.1, made.2));
     }
 
-pub returns : goal.returns
-returns g c =
+pub returns-in-LeavesNone : goal.returns-in-LeavesNone
+returns-in-LeavesNone g c =
     let kind = g.S.StateStack in
     let d = c.args.self.now in
+    let t = g.StorageT.StorageIndex.index c.args.t.0 in
     let run = run_of_checked d c.stable-table.ensures.checked c.stable-table.ensures.runs c.stable-table.ensures.bounds in
     let made = c.reductions.invariant.made in
-    let of_states = rw (c.grm-grm.ensures, c.stable-table.ensures.table) at c.in_ok-take_step.ensures.step in
-    let of_stack = rw (c.grm-grm.ensures, c.stable-table.ensures.table) at c.in_ok-take_step.ensures.made in
+    let of_states = rw (c.grm-grm.ensures, c.stable-table.ensures.table) at c.in_ok-step.ensures.step in
+    let of_stack = rw (c.grm-grm.ensures, c.stable-table.ensures.table) at c.in_ok-step.ensures.made in
     let settled =
-    stack_settled_by d.grammar d.table d.cap run (g.StorageT.StorageIndex.index c.args.t.0) c.requires.token kind.states kind.reduces c.args.stack.now
-    c.reductions.stack c.take_step.new.states made.0 c.reductions.count c.in_ok-take_step.field-0 c.requires.stack c.reductions.invariant.stack
-    made.1 made.2 c.in_default.not-Reduced of_states of_stack in
+    stack_settled_by d.grammar d.table d.cap run t c.requires.token kind.states kind.reduces c.args.stack.now
+    c.reductions.stack c.take_step.new.states made.0 c.reductions.count c.in_ok-step.step c.requires.stack c.reductions.invariant.stack
+    made.1 made.2 c.in-LeavesNone.is of_states of_stack in
     let same =
-    stays_by_step d.grammar d.table d.cap run (g.StorageT.StorageIndex.index c.args.t.0) c.requires.token kind.states kind.reduces
-    c.reductions.stack c.take_step.new.states c.in_ok-take_step.field-0 c.in_default.not-Reduced of_stack in
+    stays_by_step d.grammar d.table d.cap run t c.requires.token kind.states kind.reduces
+    c.reductions.stack c.take_step.new.states c.in_ok-step.step c.in-LeavesNone.is of_stack in
+    let action = rw c.stable-table.ensures.table at c.in_ok-step.ensures.action in
     record {
       settled = settled;
+      action = action ∙ ap (λ st. top_action d.table t (kind.states st)) (sym same);
       suits = subst (kind.suits d.grammar d.table) (sym same) c.reductions.invariant.suits;
       held_up = tt;
       stack = settled.of_states.stack;
