@@ -1,5 +1,6 @@
 pub mod LexemeLemmas
 pub mod ListLemmas
+pub mod ListedLemmas
 pub mod RunLemmas
 pub mod ReducingLemmas
 pub mod StackedLemmas

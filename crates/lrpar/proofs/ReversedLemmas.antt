@@ -1,7 +1,7 @@
 -- Lists whose end stands in reverse.
-use Rattle.std.proofs.Common.{◌≡◌, ℕ, ◌+◌, ◌<◌, List, [], ◌∷◌, ◌++◌, length, take, drop, get_or, reverse, ap, sym, ◌∙◌, append_assoc, drop-cons, add-one}
+use Rattle.std.proofs.Common.{◌≡◌, ℕ, ◌+◌, ◌-◌, ◌<◌, List, [], ◌∷◌, ◌++◌, length, take, drop, get_or, reverse, ap, arith, subst, sym, ◌∙◌, ◌≤◌, append_assoc, drop-cons, add-one, length-drop}
 use Rattle.std.specs.List.{AllZip}
-use Rattle.std.proofs.lemmas.List.{take_more, same_from_push, reverse-append}
+use Rattle.std.proofs.lemmas.List.{append-nil, drop_all, take_all, take_more, same_from_push, reverse-append}
 use Rattle.lrpar.specs.ZipLaws.{zip_push}
 
 -- the last item of such a list is the first one that is left
@@ -20,3 +20,14 @@ pub zip_take_more : {A B : Type 0} (R : A → B → Type 0) (all : List A) (vs :
     → AllZip R (take i all) vs → R x v → AllZip R (take (i + 1) all) (vs ++ v ∷ [])
 zip_take_more R all vs i x v more is given last =
     rw (take_more all i x more, sym is) (zip_push R (take i all) vs x v given last)
+
+-- where no item of the last `count` is left, those in front are kept, and all of the last are taken
+pub all_taken : {A B : Type 0} (R : A → B → Type 0) (all left : List A) (vs : List B) (at count i : ℕ) → at + count ≡ length all → count ≤ i
+    → left ≡ take at all ++ reverse (drop i (drop at all)) → AllZip R (take i (drop at all)) vs
+    → (left ≡ take (length all - count) all) × AllZip R (drop (length all - count) all) vs
+all_taken {A} R all left vs at count i whole end is given =
+    let from : at ≡ length all - count = omega (arith, whole) in
+    let short : length (drop at all) ≤ i = omega (arith, whole, end, length-drop at all) in
+    let kept = is ∙ ap (λ (xs : List A). take at all ++ reverse xs) (drop_all i (drop at all) short) ∙ append-nil (take at all) in
+    let taken = subst (λ (xs : List A). AllZip R xs vs) (take_all i (drop at all) short) given in
+    (subst (λ (n : ℕ). left ≡ take n all) from kept, subst (λ (n : ℕ). AllZip R (drop n all) vs) from taken)

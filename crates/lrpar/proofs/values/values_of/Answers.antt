@@ -1,6 +1,6 @@
 use Rattle.std.proofs.Common.{rules, ◌≡◌, ◌<◌, ◌-◌, ◌∷◌, [], ◌++◌, length, take, drop, subst, sym, arith, length-drop}
 use Rattle.lrpar.specs.Entries.{Gives}
-use Rattle.lrpar.proofs.ReversedLemmas.{last_reversed, zip_take_more}
+use Rattle.lrpar.proofs.ReversedLemmas.{all_taken, last_reversed, zip_take_more}
 use Rattle.lrpar.proofs.values.values_of.Goals as goal
 use Rattle.lrpar.proofs.values.values_of.Goals.{in-ActionType, in-Lexeme}
 
@@ -23,3 +23,12 @@ loop-i-preserved g c =
       turned = last.0;
       given = rw c.in_ok-push.ensures.items (zip_take_more (Gives leaf) all c.loop-i.values.items c.loop-i._i entry c.match-entry.push more last.1 c.loop-i.invariant.given gives);
     }
+
+pub returns : goal.returns
+returns g c =
+    let leaf = λ (x : g.row.LexemeT.Denot) (v : g.row.V.Denot). g.F.Fn.post c.args.fterm.now (x, tt) v in
+    let all = c.args.entries.now.items in
+    let l = c.loop-i in
+    let taken = all_taken (Gives leaf) all l.entries.items l.values.items (c.len.result - c.args.count) c.args.count l._i
+    l.invariant.whole c.loop-i-test.false l.invariant.turned l.invariant.given in
+    record { kept = taken.0; values = taken.1 }

@@ -32,6 +32,9 @@ stops-init g c =
       on = λ some. absurd (omega (arith, some, ap length none));
     }
 
+pub far-requires-clause-rises : goal.far-requires-clause-rises
+far-requires-clause-rises g c = c.stops.invariant.rises
+
 pub into_entry-requires : goal.into_entry-requires
 into_entry-requires g c =
     let index = g.StorageT.StorageIndex.index in
@@ -72,6 +75,12 @@ listed-requires-clause-stack g c =
     let table = c.stable-stable.ensures.table in
     path_is_stack c.args.self.now.run.checked.now.table (rw table at c.tokens_len-tokens.ensures.end) (rw table at c.rules_len-rules.ensures.end) upright.symbols c.far.new.stack.states upright.path
 
+pub listed-requires-clause-within : goal.listed-requires-clause-within
+listed-requires-clause-within g c = rw c.in-Some.is at c.in_ok-stop.ensures.within
+
+pub error-requires-clause-within : goal.error-requires-clause-within
+error-requires-clause-within g c = rw c.in-Some.is at c.in_ok-stop.ensures.within
+
 pub returns-in_default-first : goal.returns-in_default-first
 returns-in_default-first g c =
     let index = g.StorageT.StorageIndex.index in
@@ -90,6 +99,15 @@ returns-in_default-first g c =
     stop_ends facts leaf node suits d allows self.shifts lexemes index c.stable-stable.ensures.runs c.stops.stack c.stops.place there.0 there.1 c.far.new.stack c.in-Some.stop far
     c.in_ok-listed.listed.items c.deref.result.now c.deref-in-stops.result.now c.in_ok-listed.ensures.listed c.deref.ensures.value c.deref-in-stops.ensures.value
     c.in_ok-error.field-0 c.in_ok-error.ensures.error c.stops.errors.items c.push.new.self.items there.2 c.in_ok-push.ensures.items (None, c.push.new.self) none refl refl
+
+pub replay-requires-clause-runs : goal.replay-requires-clause-runs
+replay-requires-clause-runs g c = c.stable-stable.ensures.runs
+
+pub replay-requires-clause-upright : goal.replay-requires-clause-upright
+replay-requires-clause-upright g c = c.in_ok-stop.ensures.upright
+
+pub replay-requires-clause-rises : goal.replay-requires-clause-rises
+replay-requires-clause-rises g c = rw c.in-Some.is at c.in_ok-stop.ensures.rises
 
 pub replay-requires-clause-works : goal.replay-requires-clause-works
 replay-requires-clause-works g c =

@@ -1,11 +1,14 @@
-use Rattle.std.proofs.Common.{◌≡◌, ◌<◌, ◌+◌, ◌∙◌, ℕ, length, ap, arith, refl, true}
+use Rattle.std.proofs.Common.{◌≡◌, ◌<◌, ◌+◌, ◌∙◌, ℕ, length, ap, arith, refl, subst, true}
 use Rattle.std.proofs.lemmas.List.{length-map}
 use Rattle.std.proofs.lemmas.Option.{slice_get_read}
 use Rattle.lrpar_grammar.specs.Sentence.{LexemeFacts}
+use Rattle.lrpar_check.specs.Reduction.{Feeds}
 use Rattle.lrpar_answers.specs.Lexemes.{facts_of}
 use Rattle.lrpar.specs.Mended.{start_at}
 use Rattle.std.specs.Prelude.{map}
 use Rattle.lrpar.proofs.MovesLemmas.{replayed_delete, replayed_insert, replayed_shift, rise_by_shift, start_at_is}
+use Rattle.lrpar.proofs.RunLemmas.{token_at_lexeme}
+use Rattle.lrpar.proofs.LexemeLemmas.{good_token}
 use Rattle.lrpar.proofs.run.Run.step.Goals as goal
 
 pub returns-in_ok-feed-in-Insert-clause-rises : goal.returns-in_ok-feed-in-Insert-clause-rises
@@ -95,3 +98,38 @@ returns-in_ok-feed-in-Shift-clause-replayed g c =
     rw c.in-Shift.is
     (replayed_shift facts (g.B.Build.leaf build) (g.B.Build.node build d.grammar) (g.B.Build.suits build) d lexemes c.args.stack.now c.feed-in-Shift.new.stack i x within is
     c.in_ok-feed-in-Shift.ensures.shifts)
+
+pub feed-requires-clause-token : goal.feed-requires-clause-token
+feed-requires-clause-token g c =
+    let index = g.StorageT.StorageIndex.index in
+    let works = rw c.in-Insert.is at c.requires.works in
+    let same : index (g.LexemeT.Lexeme.parts c.new_faulty-lexeme.result).token ≡ index c.in-Insert.token.0 = ap (λ p. index p.token) c.new_faulty-lexeme.ensures.parts in
+    rw same works.3.0
+
+pub feed-requires-clause-works : goal.feed-requires-clause-works
+feed-requires-clause-works g c =
+    let index = g.StorageT.StorageIndex.index in
+    let works = rw c.in-Insert.is at c.requires.works in
+    let same : index (g.LexemeT.Lexeme.parts c.new_faulty-lexeme.result).token ≡ index c.in-Insert.token.0 = ap (λ p. index p.token) c.new_faulty-lexeme.ensures.parts in
+    (works.0, works.1, rw same works.3.1)
+
+pub feed-requires-in-Shift-clause-token : goal.feed-requires-in-Shift-clause-token
+feed-requires-in-Shift-clause-token g c =
+    let index = g.StorageT.StorageIndex.index in
+    let facts = λ (x : g.row.LexemeT.Denot). facts_of index (g.LexemeT.Lexeme.parts x) in
+    let lexemes = c.args.lexemes.now in
+    let x = c.index-lexemes-place.result in
+    let works = rw c.in-Shift.is at c.requires.works in
+    let is = slice_get_read lexemes (length lexemes) c.args.place x refl works.3.0 c.index-lexemes-place.is in
+    good_token facts c.args.self.now.checked.now.grammar lexemes c.args.place x c.requires.valid is
+
+pub feed-requires-in-Shift-clause-works : goal.feed-requires-in-Shift-clause-works
+feed-requires-in-Shift-clause-works g c =
+    let token = λ (x : g.row.LexemeT.Denot). g.StorageT.StorageIndex.index (g.LexemeT.Lexeme.parts x).token in
+    let d = c.args.self.now.checked.now in
+    let lexemes = c.args.lexemes.now in
+    let x = c.index-lexemes-place.result in
+    let works = rw c.in-Shift.is at c.requires.works in
+    let is = slice_get_read lexemes (length lexemes) c.args.place x refl works.3.0 c.index-lexemes-place.is in
+    let same = token_at_lexeme token d.grammar lexemes c.args.place x is in
+    (works.0, works.1, subst (λ (t : ℕ). Feeds d.grammar d.table t c.args.stack.now.states works.0 works.1) same works.3.1)

@@ -1,0 +1,8 @@
+use Rattle.lrpar.proofs.ListedLemmas.{step_more}
+use Rattle.lrpar.proofs.trial.repairs_over.Goals as goal
+
+pub loop-step-preserved : goal.loop-step-preserved
+loop-step-preserved g c =
+    let l = c.loop-step in
+    step_more g.StorageT.StorageIndex.index l.rest.now c.in-Some.after.now c.args.steps.now l.step-index c.step-item.result l.repairs.items c.push.new.self.items
+    c.in-Some.repair _ c.loop-step-test.true c.step-item.is c.in-Some.ensures.some l.invariant c.in_ok-push-in-Some.ensures.items
