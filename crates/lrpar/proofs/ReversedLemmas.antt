@@ -21,13 +21,13 @@ pub zip_take_more : {A B : Type 0} (R : A → B → Type 0) (all : List A) (vs :
 zip_take_more R all vs i x v more is given last =
     rw (take_more all i x more, sym is) (zip_push R (take i all) vs x v given last)
 
--- where no item of the last `count` is left, those in front are kept, and all of the last are taken
-pub all_taken : {A B : Type 0} (R : A → B → Type 0) (all left : List A) (vs : List B) (at count i : ℕ) → at + count ≡ length all → count ≤ i
-    → left ≡ take at all ++ reverse (drop i (drop at all)) → AllZip R (take i (drop at all)) vs
-    → (left ≡ take (length all - count) all) × AllZip R (drop (length all - count) all) vs
-all_taken {A} R all left vs at count i whole end is given =
+-- where no item of the last `count` is left, those in front are kept, and what is so of the taken ones is so of all the last
+pub all_taken : {A : Type 0} (P : List A → Type 0) (all left : List A) (at count i : ℕ) → at + count ≡ length all → count ≤ i
+    → left ≡ take at all ++ reverse (drop i (drop at all)) → P (take i (drop at all))
+    → (left ≡ take (length all - count) all) × P (drop (length all - count) all)
+all_taken {A} P all left at count i whole end is holds =
     let from : at ≡ length all - count = omega (arith, whole) in
     let short : length (drop at all) ≤ i = omega (arith, whole, end, length-drop at all) in
     let kept = is ∙ ap (λ (xs : List A). take at all ++ reverse xs) (drop_all i (drop at all) short) ∙ append-nil (take at all) in
-    let taken = subst (λ (xs : List A). AllZip R xs vs) (take_all i (drop at all) short) given in
-    (subst (λ (n : ℕ). left ≡ take n all) from kept, subst (λ (n : ℕ). AllZip R (drop n all) vs) from taken)
+    let taken = subst P (take_all i (drop at all) short) holds in
+    (subst (λ (n : ℕ). left ≡ take n all) from kept, subst (λ (n : ℕ). P (drop n all)) from taken)

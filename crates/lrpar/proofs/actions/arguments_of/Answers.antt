@@ -1,6 +1,7 @@
 use Rattle.std.proofs.Common.{rules, ◌≡◌, ◌<◌, ◌-◌, ◌∷◌, [], ◌++◌, length, take, drop, arith, length-drop}
+use Rattle.lrpar.specs.Placed.{arguments_of}
 use Rattle.lrpar.proofs.PlacedLemmas.{arguments_more}
-use Rattle.lrpar.proofs.ReversedLemmas.{last_reversed}
+use Rattle.lrpar.proofs.ReversedLemmas.{all_taken, last_reversed}
 use Rattle.lrpar.proofs.actions.arguments_of.Goals as goal
 
 pub loop-i-preserved : goal.loop-i-preserved
@@ -16,3 +17,10 @@ loop-i-preserved g c =
       turned = last.0;
       made = rw c.in_ok-push.ensures.items (arguments_more all c.loop-i.args.items c.loop-i._i entry more last.1 c.loop-i.invariant.made);
     }
+
+pub returns : goal.returns
+returns g c =
+    let l = c.loop-i in
+    let taken = all_taken (λ entries. l.args.items ≡ arguments_of entries) c.args.entries.now.items l.entries.items (c.len.result - c.args.count) c.args.count l._i
+    l.invariant.whole c.loop-i-test.false l.invariant.turned l.invariant.made in
+    record { kept = taken.0; arguments = taken.1 }

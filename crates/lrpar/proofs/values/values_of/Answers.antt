@@ -1,4 +1,5 @@
 use Rattle.std.proofs.Common.{rules, ◌≡◌, ◌<◌, ◌-◌, ◌∷◌, [], ◌++◌, length, take, drop, subst, sym, arith, length-drop}
+use Rattle.std.specs.List.{AllZip}
 use Rattle.lrpar.specs.Entries.{Gives}
 use Rattle.lrpar.proofs.ReversedLemmas.{all_taken, last_reversed, zip_take_more}
 use Rattle.lrpar.proofs.values.values_of.Goals as goal
@@ -29,6 +30,6 @@ returns g c =
     let leaf = λ (x : g.row.LexemeT.Denot) (v : g.row.V.Denot). g.F.Fn.post c.args.fterm.now (x, tt) v in
     let all = c.args.entries.now.items in
     let l = c.loop-i in
-    let taken = all_taken (Gives leaf) all l.entries.items l.values.items (c.len.result - c.args.count) c.args.count l._i
+    let taken = all_taken (λ entries. AllZip (Gives leaf) entries l.values.items) all l.entries.items (c.len.result - c.args.count) c.args.count l._i
     l.invariant.whole c.loop-i-test.false l.invariant.turned l.invariant.given in
     record { kept = taken.0; values = taken.1 }
