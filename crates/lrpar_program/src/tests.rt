@@ -5,6 +5,7 @@ mod languages;
 mod lexers;
 mod outcome;
 mod repairs;
+mod rules;
 mod streams;
 mod sums;
 mod texts;
