@@ -1,4 +1,8 @@
 //! The rules of a lexer as a text.
+ghost use Rattle.std.specs.Prelude.{IfOk};
+ghost use Rattle.std.specs.List.{All};
+ghost use Rattle.lrpar_lexer.specs.RuleTexts.{IsFirstOfName, IsRuleFor};
+
 use crate::rule::LexRule;
 use lrpar::grammar::YaccGrammar;
 use lrpar::span::TIdx;
@@ -24,7 +28,9 @@ pub fn rules_of(
     alloc: Global,
     grm: &YaccGrammar<u32>,
     text: &str,
-) -> Result<Vec<LexRule>, RulesFault> {
+) -> Result<Vec<LexRule>, RulesFault>
+    ensures rules { IfOk result (λ rules. All (IsRuleFor grm.now) rules.items) }
+{
     let mut rules = Vec::new(alloc);
     let mut number = 0usize;
     'lines: for line in text.split('\n') {
@@ -48,7 +54,9 @@ fn rule_of(
     grm: &YaccGrammar<u32>,
     line: &str,
     number: usize,
-) -> Result<LexRule, RulesFault> {
+) -> Result<LexRule, RulesFault>
+    ensures rule { IfOk result (IsRuleFor grm.now) }
+{
     let Some((pattern, name)) = rule_parts(line) else {
         return Err(RulesFault::Line(number));
     };
@@ -64,7 +72,9 @@ fn rule_of(
 }
 
 // The token of that name.
-fn token_named(grm: &YaccGrammar<u32>, name: &str, number: usize) -> Result<TIdx<u32>, RulesFault> {
+fn token_named(grm: &YaccGrammar<u32>, name: &str, number: usize) -> Result<TIdx<u32>, RulesFault>
+    ensures token { IfOk result (λ token. IsFirstOfName grm.now token.0) }
+{
     match grm.token_idx(name) {
         Some(token) => Ok(token),
         None => Err(RulesFault::Line(number)),
