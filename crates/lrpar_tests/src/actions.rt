@@ -2,7 +2,9 @@
 ghost use Rattle.std.specs.Prelude.{◌↔◌, IfOk, IsTrue, map};
 ghost use Rattle.lrpar.specs.Nodes.{IsNonterm, node_of};
 
-use crate::built::{AFTER, ARITHMETIC, BETWEEN, BRACKETS, CALL, LIST, SUM, built, sequences};
+use crate::built::{
+    AFTER, ARITHMETIC, BETWEEN, BRACKETS, CALL, LIST, SUM, built, sequences, text_of_errors,
+};
 use crate::calculator::{Calculator, Value};
 use crate::calls::{Tree, sum_tree};
 use crate::fixtures::{By, sum_data};
@@ -10,7 +12,7 @@ use crate::lexer::{HandedLexer, HandedTypes, NoToken, Token};
 use crate::parse::{LexAnswer, lexemes, parsed};
 use lrpar::parser::{AStackType, Actions, ParseFault};
 use lrpar::repair::{FixedRecoverer, RepairStep};
-use lrpar::span::{PIdx, RIdx, Span, StIdx, Symbol, TIdx};
+use lrpar::span::{PIdx, RIdx, Span, Symbol, TIdx};
 use lrpar::{LexParseError, Lexeme, ParserData, RTParserBuilder, action_generictree};
 use std::alloc::{AllocError, Global};
 use std::cell::Cell;
@@ -169,16 +171,11 @@ fn acted<'a, A: Actions<u32, Token<u32>, HandedLexer<'a>, ParamT = ()>>(
 
 // The lexemes of these tokens, starts and lengths.
 fn long_lexemes(alloc: Global, given: &[(u32, usize, usize)]) -> Result<Vec<LexAnswer>, Fail> {
-    Ok(
-        given
-            .iter()
-            .map(|(token, start, len)| Ok(Token::new(
-                *token,
-                (*start).min(1_000),
-                (*len).min(1_000),
-            )))
-            .collect(alloc)?,
-    )
+    let mut answers = Vec::new(alloc);
+    for (token, start, len) in given {
+        answers.push(Ok(Token::new(*token, (*start).min(1_000), (*len).min(1_000))))?;
+    }
+    Ok(answers)
 }
 
 fn value_of(alloc: Global, given: &[(u32, usize, usize)]) -> Result<Option<Value>, Fail> {
@@ -206,75 +203,55 @@ fn values_of_a_calculator(rt: HostRuntime) -> Result<(), Fail> {
     Ok(())
 }
 
+// Whether the calculator takes the grammar of sums.
+fn takes_sums(alloc: Global) -> Result<bool, Fail> {
+    let data = sum_data::<u32>(alloc, By::Rows)?;
+    let lexer = HandedLexer { answers: &[] };
+    Ok(RTParserBuilder::<u32, HandedTypes>::new(&data).takes_all(&lexer, &Calculator))
+}
+
 #[test]
 fn a_calculator_of_another_grammar(rt: HostRuntime) -> Result<(), Fail> {
-    let alloc = rt.alloc();
-    let data = sum_data::<u32>(alloc, By::Rows)?;
-    let parser = RTParserBuilder::<u32, HandedTypes>::new(&data);
-    let answers = lexemes(alloc, [].as_slice())?;
-    let lexer = HandedLexer { answers: &answers };
-    assert!(rt; !parser.takes_all(&lexer, &Calculator));
+    assert!(rt; !takes_sums(rt.alloc())?);
     Ok(())
 }
 
-fn places_of(
-    alloc: Global,
-    text: &str,
-    given: &[(u32, usize, usize)],
-) -> Result<Option<Vec<Place>>, Fail> {
+fn places_of(alloc: Global, text: &str, given: &[(u32, usize, usize)]) -> Result<Vec<Place>, Fail> {
     let answers = long_lexemes(alloc, given)?;
     let (places, _) = acted(alloc, &built(alloc, text)?, &answers, &Places)??;
-    Ok(places)
+    Ok(places.ok_or("no value")?)
 }
+
+// A grammar, lexemes, and where the rules lie.
+const SPANS: [(&str, &str, &[(u32, usize, usize)], &[Place]); 5] = [
+    ("nothing", LIST, &[], &[(2, 0, 0), (1, 0, 0)]),
+    ("x", LIST, &[(0, 3, 1)], &[(2, 3, 4), (1, 3, 4)]),
+    ("a", AFTER, &[(0, 0, 1)], &[(2, 0, 1), (1, 0, 1)]),
+    (
+        "ab",
+        BETWEEN,
+        &[(0, 0, 1), (1, 1, 1)],
+        &[(3, 0, 1), (2, 0, 2), (1, 0, 2)],
+    ),
+    (
+        "ends that decrease",
+        BETWEEN,
+        &[(0, 1, 9), (1, 2, 1)],
+        &[(3, 1, 10), (2, 1, 3), (1, 1, 3)],
+    ),
+];
 
 #[test]
 fn spans_of_rules(rt: HostRuntime) -> Result<(), Fail> {
-    let alloc = rt.alloc();
-    let rows = [
-        (
-            "nothing",
-            LIST,
-            [].as_slice(),
-            [(2, 0, 0), (1, 0, 0)].as_slice(),
-        ),
-        (
-            "x",
-            LIST,
-            [(0, 3, 1)].as_slice(),
-            [(2, 3, 4), (1, 3, 4)].as_slice(),
-        ),
-        (
-            "a",
-            AFTER,
-            [(0, 0, 1)].as_slice(),
-            [(2, 0, 1), (1, 0, 1)].as_slice(),
-        ),
-        (
-            "ab",
-            BETWEEN,
-            [(0, 0, 1), (1, 1, 1)].as_slice(),
-            [(3, 0, 1), (2, 0, 2), (1, 0, 2)].as_slice(),
-        ),
-        (
-            "ends that decrease",
-            BETWEEN,
-            [(0, 1, 9), (1, 2, 1)].as_slice(),
-            [(3, 1, 10), (2, 1, 3), (1, 1, 3)].as_slice(),
-        ),
-    ];
-    for (name, text, given, want) in rows {
-        let places = places_of(alloc, text, given)?;
-        assert_eq!(rt;
-            places.as_ref().map(|places| places.as_slice()),
-            Some(want),
-            "{name}"
-        );
+    for (name, text, given, want) in &SPANS {
+        let places = places_of(rt.alloc(), *text, *given)?;
+        assert_eq!(rt; places.as_slice(), *want, "{name}");
     }
     Ok(())
 }
 
 // Where the rules lie in `(n` of the grammar *brackets*, once a bracket is inserted.
-fn places_of_repaired(alloc: Global) -> Result<Option<Vec<Place>>, Fail> {
+fn places_of_repaired(alloc: Global) -> Result<Vec<Place>, Fail> {
     let data = built(alloc, BRACKETS)?;
     let answers = lexemes(alloc, &[(2, 0), (0, 1)])?;
     let lexer = HandedLexer { answers: &answers };
@@ -287,35 +264,46 @@ fn places_of_repaired(alloc: Global) -> Result<Option<Vec<Place>>, Fail> {
         return Err(Fail::new("a production isn't taken"));
     }
     let (places, _) = parser.parse_actions(alloc, &lexer, &Places, &())?;
-    Ok(places)
+    Ok(places.ok_or("no value")?)
 }
 
 #[test]
 fn spans_of_a_repaired_rule(rt: HostRuntime) -> Result<(), Fail> {
     let places = places_of_repaired(rt.alloc())?;
-    assert_eq!(rt;
-        places.as_ref().map(|places| places.as_slice()),
-        Some([(1, 1, 2), (1, 0, 2)].as_slice())
-    );
+    assert_eq!(rt; places.as_slice(), [(1, 1, 2), (1, 0, 2)].as_slice());
     Ok(())
 }
 
+// How many actions are called in the parse of these lexemes.
+fn number_of_calls(
+    alloc: Global,
+    data: &ParserData<u32>,
+    given: &[(u32, usize)],
+) -> Result<usize, Fail> {
+    let counting = Counting {
+        calls: Cell::new(0),
+        fails_at: 0,
+    };
+    let _ = acted(alloc, data, &lexemes(alloc, given)?, &counting)??;
+    Ok(counting.calls.get())
+}
+
+// Lexemes, and how many actions are called.
+const ACTION_CALLS: [(&str, &[(u32, usize)], usize); 3] = [
+    ("a+b", &[(1, 0), (0, 1), (1, 2)], 4),
+    ("a+", &[(1, 0), (0, 1)], 1),
+    ("", &[], 0),
+];
+
 #[test]
 fn calls_of_actions(rt: HostRuntime) -> Result<(), Fail> {
-    let alloc = rt.alloc();
-    let data = sum_data(alloc, By::Rows)?;
-    let rows = [
-        ("a+b", [(1, 0), (0, 1), (1, 2)].as_slice(), 4),
-        ("a+", [(1, 0), (0, 1)].as_slice(), 1),
-        ("", [].as_slice(), 0),
-    ];
-    for (name, given, calls) in rows {
-        let counting = Counting {
-            calls: Cell::new(0),
-            fails_at: 0,
-        };
-        let _ = acted(alloc, &data, &lexemes(alloc, given)?, &counting)??;
-        assert_eq!(rt; counting.calls.get(), calls, "{name:?}");
+    let data = sum_data(rt.alloc(), By::Rows)?;
+    for (name, given, calls) in &ACTION_CALLS {
+        assert_eq!(rt;
+            number_of_calls(rt.alloc(), &data, *given)?,
+            *calls,
+            "{name:?}"
+        );
     }
     Ok(())
 }
@@ -375,110 +363,103 @@ fn action_errors(
     data: &ParserData<u32>,
     answers: &[LexAnswer],
 ) -> Result<Errors, Fail> {
-    let lexer = HandedLexer { answers };
-    let parser = RTParserBuilder::<u32, HandedTypes>::new(data);
-    if !parser.takes_all(&lexer, &TreeActions) {
-        return Err(Fail::new("a production isn't taken"));
-    }
-    match parser.parse_actions(alloc, &lexer, &TreeActions, &()) {
+    match acted(alloc, data, answers, &TreeActions)? {
         Ok((_, errors)) => Ok(Ok(errors)),
         Err(fault) => Ok(Err(fault)),
     }
 }
 
-// What each of the four calls answers.
-fn errors_of(
+/// One of the four calls.
+#[derive(Clone, Copy)]
+enum Call {
+    Map,
+    Actions,
+    Tree,
+    Errors,
+}
+
+const FOUR: [Call; 4] = [Call::Map, Call::Actions, Call::Tree, Call::Errors];
+
+// What the call answers, as text.
+fn errors_by(
     alloc: Global,
+    call: Call,
     data: &ParserData<u32>,
     answers: &[LexAnswer],
-) -> Result<Vec<Errors>, Fail> {
-    let mut all = Vec::new(alloc);
-    all.push(map_errors(alloc, data, answers))?;
-    all.push(action_errors(alloc, data, answers)?)?;
-    all.push(tree_errors(alloc, data, answers))?;
-    all.push(errors_alone(alloc, data, answers))?;
-    Ok(all)
+) -> Result<String, Fail> {
+    let errors = match call {
+        Call::Map => map_errors(alloc, data, answers),
+        Call::Actions => action_errors(alloc, data, answers)?,
+        Call::Tree => tree_errors(alloc, data, answers),
+        Call::Errors => errors_alone(alloc, data, answers),
+    };
+    match errors {
+        Ok(errors) => text_of_errors(alloc, &errors),
+        Err(fault) => Ok(format!(in alloc; "{fault}")?),
+    }
 }
 
-#[test]
-fn faults_of_each_call(rt: HostRuntime) -> Result<(), Fail> {
-    let alloc = rt.alloc();
-    let data = built(alloc, SUM)?;
-    let bad = [(1, 0), (0, 1), (1, 2), (2, 3), (1, 6), (0, 5)];
-    let early = [(1, 0), (0, 1), (1, 2), (0, 3), (1, 6), (0, 5)];
-    let rows = [
-        (bad, ParseFault::BadToken(3)),
-        (early, ParseFault::StartsDecrease(5)),
-    ];
-    for (given, want) in rows {
-        for errors in errors_of(alloc, &data, &lexemes(alloc, &given)?)? {
-            assert_eq!(rt; errors.err(), Some(want));
+// Whether each of the four calls answers this text.
+fn all_answer(
+    alloc: Global,
+    grammar: &str,
+    answers: &[LexAnswer],
+    want: &str,
+) -> Result<bool, Fail> {
+    let data = built(alloc, grammar)?;
+    for call in FOUR {
+        if errors_by(alloc, call, &data, answers)?.as_str() != want {
+            return Ok(false);
         }
     }
-    Ok(())
+    Ok(true)
 }
 
+// A grammar, lexemes, and what each of the four calls answers.
+const ANSWERS: [(&str, &[(u32, usize)], &str); 5] = [
+    (
+        SUM,
+        &[(1, 0), (0, 1), (1, 2), (2, 3), (1, 6), (0, 5)],
+        "bad token at lexeme 3",
+    ),
+    (
+        SUM,
+        &[(1, 0), (0, 1), (1, 2), (0, 3), (1, 6), (0, 5)],
+        "start decreases at lexeme 5",
+    ),
+    (CALL, &[(0, 0), (1, 1)], "3@3:2+0! "),
+    (CALL, &[(0, 0), (1, 1), (0, 2), (1, 3)], "3@0:2+1 "),
+    (SUM, &[(1, 0), (0, 1), (1, 2)], ""),
+];
+
 #[test]
-fn errors_of_each_call(rt: HostRuntime) -> Result<(), Fail> {
-    let alloc = rt.alloc();
-    let data = built(alloc, CALL)?;
-    let rows = [
-        (
-            "f(",
-            [(0, 0), (1, 1)].as_slice(),
-            Token::new_faulty(3, 2, 0),
-        ),
-        (
-            "f(f(",
-            [(0, 0), (1, 1), (0, 2), (1, 3)].as_slice(),
-            Token::new(0, 2, 1),
-        ),
-    ];
-    for (name, given, at) in rows {
-        for errors in errors_of(alloc, &data, &lexemes(alloc, given)?)? {
-            let errors = errors?;
-            assert_eq!(rt; errors.len(), 1, "errors of {name}");
-            match &errors[0] {
-                LexParseError::LexError(_) => return Err(Fail::new(format_args!(
-                    "lexing error of {name}"
-                ))),
-                LexParseError::ParseError(error) => {
-                    assert_eq!(rt; error.stidx(), StIdx(3), "state of {name}");
-                    assert_eq!(rt; *error.lexeme(), at, "lexeme of {name}");
-                }
-            }
-        }
+fn errors_and_faults_of_each_call(rt: HostRuntime) -> Result<(), Fail> {
+    for (grammar, given, want) in &ANSWERS {
+        let answers = lexemes(rt.alloc(), *given)?;
+        assert!(rt;
+            all_answer(rt.alloc(), *grammar, &answers, *want)?,
+            "{want:?}"
+        );
     }
     Ok(())
 }
 
 #[test]
 fn a_first_lexing_error_of_each_call(rt: HostRuntime) -> Result<(), Fail> {
-    let alloc = rt.alloc();
     let first = NoToken {
         span: Span::new(7, 8),
     };
-    let mut answers = lexemes(alloc, &[(1, 0), (0, 1), (1, 2), (2, 3), (1, 6), (0, 5)])?;
+    let given = [(1, 0), (0, 1), (1, 2), (2, 3), (1, 6), (0, 5)];
+    let mut answers = lexemes(rt.alloc(), &given)?;
     answers.push(Err(first))?;
-    for errors in errors_of(alloc, &built(alloc, SUM)?, &answers)? {
-        let errors = errors?;
-        assert_eq!(rt; errors.len(), 1);
-        match &errors[0] {
-            LexParseError::LexError(error) => assert_eq!(rt; *error, first),
-            LexParseError::ParseError(_) => return Err(Fail::new("a parse error")),
-        }
-    }
+    assert!(rt; all_answer(rt.alloc(), SUM, &answers, "no token at 7..8 ")?);
     Ok(())
 }
 
-#[test]
-fn trees_of_actions(rt: HostRuntime) -> Result<(), Fail> {
-    let alloc = rt.alloc();
-    let answers = lexemes(alloc, [(1, 0), (0, 1), (1, 2)].as_slice())?;
-    let (tree, errors) = acted(alloc, &built(alloc, SUM)?, &answers, &TreeActions)??;
-    assert!(rt; errors.is_empty(), "errors");
-    assert_eq!(rt; tree, Some(sum_tree(alloc)?), "tree");
-    Ok(())
+// Whether the parse of `a+b` by actions gives its tree and no error.
+fn is_tree_of_actions(alloc: Global, answers: &[LexAnswer]) -> Result<bool, Fail> {
+    let (tree, errors) = acted(alloc, &built(alloc, SUM)?, answers, &TreeActions)??;
+    Ok(errors.is_empty() && tree == Some(sum_tree(alloc)?))
 }
 
 // Whether the parse to a tree gives the tree of `a+b`, by the table that is built.
@@ -489,71 +470,57 @@ fn is_sum_tree(alloc: Global, answers: &[LexAnswer]) -> Result<bool, Fail> {
     Ok(tree == Some(sum_tree(alloc)?))
 }
 
-// How many errors each of the four calls answers.
-fn numbers_of_errors(alloc: Global, answers: &[LexAnswer]) -> Result<Vec<usize>, Fail> {
-    let mut numbers = Vec::new(alloc);
-    for errors in errors_of(alloc, &built(alloc, SUM)?, answers)? {
-        numbers.push(errors?.len())?;
-    }
-    Ok(numbers)
+#[test]
+fn trees_of_a_sum(rt: HostRuntime) -> Result<(), Fail> {
+    let answers = lexemes(rt.alloc(), [(1, 0), (0, 1), (1, 2)].as_slice())?;
+    assert!(rt; is_tree_of_actions(rt.alloc(), &answers)?, "by actions");
+    assert!(rt; is_sum_tree(rt.alloc(), &answers)?, "by themselves");
+    Ok(())
 }
 
-#[test]
-fn a_sum_by_each_call(rt: HostRuntime) -> Result<(), Fail> {
-    let alloc = rt.alloc();
-    let answers = lexemes(alloc, [(1, 0), (0, 1), (1, 2)].as_slice())?;
-    let numbers = numbers_of_errors(alloc, &answers)?;
-    assert_eq!(rt; numbers.as_slice(), [0, 0, 0, 0].as_slice());
-    assert!(rt; is_sum_tree(alloc, &answers)?);
-    Ok(())
+// A grammar, lexemes, and the tree's text.
+const TREES: [(&str, &str, &[(u32, usize)], &str); 8] = [
+    (
+        "a call",
+        CALL,
+        &[(0, 0), (1, 1), (2, 2)],
+        "1[ 0@0 1@1 2@2 ]",
+    ),
+    (
+        "a+b",
+        SUM,
+        &[(1, 0), (0, 1), (1, 2)],
+        "1[ 2[ 1@0 ] 0@1 1[ 2[ 1@2 ] ] ]",
+    ),
+    ("nothing", LIST, &[], "1[ 2[ ] ]"),
+    ("x", LIST, &[(0, 0)], "1[ 2[ 0@0 ] ]"),
+    ("a", AFTER, &[(0, 0)], "1[ 0@0 2[ ] ]"),
+    ("ab", BETWEEN, &[(0, 0), (1, 1)], "1[ 0@0 2[ 3[ ] 1@1 ] ]"),
+    (
+        "2+3*4",
+        ARITHMETIC,
+        &[(2, 0), (0, 1), (2, 2), (1, 3), (2, 4)],
+        "1[ 1[ 2[ 3[ 2@0 ] ] ] 0@1 2[ 2[ 3[ 2@2 ] ] 1@3 3[ 2@4 ] ] ]",
+    ),
+    (
+        "2*3+4",
+        ARITHMETIC,
+        &[(2, 0), (1, 1), (2, 2), (0, 3), (2, 4)],
+        "1[ 1[ 2[ 2[ 3[ 2@0 ] ] 1@1 3[ 2@2 ] ] ] 0@3 2[ 3[ 2@4 ] ] ]",
+    ),
+];
+
+// What the parse of the lexemes answers as text, by the table that is built of the grammar.
+fn parsed_by(alloc: Global, grammar: &str, given: &[(u32, usize)]) -> Result<String, Fail> {
+    let answers = lexemes(alloc, given)?;
+    parsed(alloc, &built(alloc, grammar)?, &answers)
 }
 
 #[test]
 fn trees_of_small_grammars(rt: HostRuntime) -> Result<(), Fail> {
-    let alloc = rt.alloc();
-    let rows = [
-        (
-            "a call",
-            CALL,
-            [(0, 0), (1, 1), (2, 2)].as_slice(),
-            "1[ 0@0 1@1 2@2 ]",
-        ),
-        (
-            "a+b",
-            SUM,
-            [(1, 0), (0, 1), (1, 2)].as_slice(),
-            "1[ 2[ 1@0 ] 0@1 1[ 2[ 1@2 ] ] ]",
-        ),
-        ("nothing", LIST, [].as_slice(), "1[ 2[ ] ]"),
-        ("x", LIST, [(0, 0)].as_slice(), "1[ 2[ 0@0 ] ]"),
-        ("a", AFTER, [(0, 0)].as_slice(), "1[ 0@0 2[ ] ]"),
-        (
-            "ab",
-            BETWEEN,
-            [(0, 0), (1, 1)].as_slice(),
-            "1[ 0@0 2[ 3[ ] 1@1 ] ]",
-        ),
-        (
-            "2+3*4",
-            ARITHMETIC,
-            [(2, 0), (0, 1), (2, 2), (1, 3), (2, 4)].as_slice(),
-            "1[ 1[ 2[ 3[ 2@0 ] ] ] 0@1 2[ 2[ 3[ 2@2 ] ] 1@3 3[ 2@4 ] ] ]",
-        ),
-        (
-            "2*3+4",
-            ARITHMETIC,
-            [(2, 0), (1, 1), (2, 2), (0, 3), (2, 4)].as_slice(),
-            "1[ 1[ 2[ 2[ 3[ 2@0 ] ] 1@1 3[ 2@2 ] ] ] 0@3 2[ 3[ 2@4 ] ] ]",
-        ),
-    ];
-    for (name, grammar, given, text) in rows {
-        let (tree, errors) = parsed(alloc, &built(alloc, grammar)?, &lexemes(alloc, given)?)??;
-        assert!(rt; errors.is_empty(), "errors of {name}");
-        assert_eq!(rt;
-            tree.as_ref().map(|tree| tree.as_str()),
-            Some(text),
-            "tree of {name}"
-        );
+    for (name, grammar, given, text) in &TREES {
+        let found = parsed_by(rt.alloc(), *grammar, *given)?;
+        assert_eq!(rt; found.as_str(), *text, "tree of {name}");
     }
     Ok(())
 }

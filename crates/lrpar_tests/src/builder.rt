@@ -25,13 +25,19 @@ const NO_TEXT: &str = "%% S: A D | 'z'; A: C 'x'; C: 'c'; D: D 'd';";
 const EITHER_WAY: &str = "%% E: E '+' E | 'N';";
 
 // What is built of the text.
-fn built<S: StorageIndex>(
-    alloc: Global,
-    text: &str,
-    max_states: usize,
-) -> Result<Result<(StateGraph<S>, StateTable<S>), BuildFault>, Fail> {
+fn built(alloc: Global, text: &str) -> Result<(StateGraph<u8>, StateTable<u8>), Fail> {
     let grm = YaccGrammar::new_with_storaget(alloc, text)?;
-    Ok(from_yacc(alloc, &grm, max_states))
+    Ok(from_yacc(alloc, &grm, 100)?)
+}
+
+// How many states the table and the item sets have, or why there are none.
+fn counted<S: StorageIndex>(
+    built: Result<(StateGraph<S>, StateTable<S>), BuildFault>,
+) -> Result<(usize, usize), BuildFault> {
+    match built {
+        Ok((sgraph, stable)) => Ok((stable.states_len(), sgraph.states_len())),
+        Err(fault) => Err(fault),
+    }
 }
 
 // How many states the text has, by the table and by the item sets, or why nothing is built of it.
@@ -40,10 +46,8 @@ fn states<S: StorageIndex>(
     text: &str,
     max_states: usize,
 ) -> Result<Result<(usize, usize), BuildFault>, Fail> {
-    match built::<S>(alloc, text, max_states)? {
-        Ok((sgraph, stable)) => Ok(Ok((stable.states_len(), sgraph.states_len()))),
-        Err(fault) => Ok(Err(fault)),
-    }
+    let grm = YaccGrammar::<S>::new_with_storaget(alloc, text)?;
+    Ok(counted(from_yacc(alloc, &grm, max_states)))
 }
 
 #[test]
@@ -135,12 +139,25 @@ fn entry(table: &StateTable<u8>, state: u8, number: u8) -> Option<(Action<u8>, O
     }
 }
 
+// Whether two tables do the same in the state, and have three tokens and three rules.
+fn act_alike_in(table: &StateTable<u8>, other: &StateTable<u8>, state: u8) -> bool {
+    for number in 0..3u8 {
+        let found = entry(table, state, number);
+        if found.is_none() || found != entry(other, state, number) {
+            return false;
+        }
+    }
+    true
+}
+
 // Whether two tables have six states, three tokens and three rules, and do the same.
 fn act_alike(table: &StateTable<u8>, other: &StateTable<u8>) -> bool {
-    (0u8..6).all(|state| (0u8..3).all(|number| {
-        let found = entry(table, state, number);
-        found.is_some() && found == entry(other, state, number)
-    }))
+    for state in 0..6u8 {
+        if !act_alike_in(table, other, state) {
+            return false;
+        }
+    }
+    true
 }
 
 // The items of the state; none out of range.
@@ -154,10 +171,13 @@ fn items(graph: &StateGraph<u8>, state: u8) -> Option<&[Item<u8>]> {
 
 // Whether two graphs have six states, with the same items.
 fn have_the_same_items(graph: &StateGraph<u8>, other: &StateGraph<u8>) -> bool {
-    (0u8..6).all(|state| {
+    for state in 0..6u8 {
         let found = items(graph, state);
-        found.is_some() && found == items(other, state)
-    })
+        if found.is_none() || found != items(other, state) {
+            return false;
+        }
+    }
+    true
 }
 
 // Whether the item sets and the table are those of *sum* by hand.
@@ -177,7 +197,7 @@ fn is_as_by_hand(
 
 // Whether what is built of *sum* is as by hand, and how many entries its table has.
 fn sum_built(alloc: Global) -> Result<(bool, u128), Fail> {
-    let (sgraph, stable) = built::<u8>(alloc, SUM, 100)??;
+    let (sgraph, stable) = built(alloc, SUM)?;
     Ok((is_as_by_hand(alloc, &sgraph, &stable)?, stable.entries()))
 }
 
@@ -223,74 +243,59 @@ fn conflicts_that_fit(rt: HostRuntime) -> Result<(), Fail> {
     Ok(())
 }
 
-// Why there is no checked table of the text.
-fn refusal(alloc: Global, text: &str, max_states: usize, cap: u16) -> Result<Option<String>, Fail> {
+// Why there is no checked table of the text, empty where there is one.
+fn refusal(alloc: Global, text: &str, max_states: usize, cap: u16) -> Result<String, Fail> {
     let grm = YaccGrammar::<u8>::new_with_storaget(alloc, text)?;
     match parser_data(alloc, grm, max_states, cap) {
-        Ok(_) => Ok(None),
-        Err(Unbuilt::Table(fault, _)) => Ok(Some(format!(in alloc; "table: {fault}")?)),
+        Ok(_) => Ok(String::new(alloc)),
+        Err(Unbuilt::Table(fault, _)) => Ok(format!(in alloc; "table: {fault}")?),
         Err(Unbuilt::Chains(refused)) => {
             let fault = refused.fault();
-            Ok(Some(format!(in alloc; "chains: {fault}")?))
+            Ok(format!(in alloc; "chains: {fault}")?)
         }
     }
 }
 
-// A text, the most states, a cap, and why there is no checked table, if there is none.
-type Refusal = (&'static str, usize, u16, Option<&'static str>);
+// A text, the most states, a cap, and why there is no checked table, empty where there is one.
+type Refusal = (&'static str, usize, u16, &'static str);
 
 const REFUSALS: [Refusal; 12] = [
-    (SUM, 100, 2, None),
-    (
-        SUM,
-        100,
-        1,
-        Some("chains: chain too long at state 4, token 2"),
-    ),
-    (
-        SUM,
-        100,
-        0,
-        Some("chains: chain too long at state 0, token 2"),
-    ),
-    (
-        CYCLE,
-        100,
-        0,
-        Some("chains: chain too long at state 0, token 1"),
-    ),
+    (SUM, 100, 2, ""),
+    (SUM, 100, 1, "chains: chain too long at state 4, token 2"),
+    (SUM, 100, 0, "chains: chain too long at state 0, token 2"),
+    (CYCLE, 100, 0, "chains: chain too long at state 0, token 1"),
     (
         CYCLE,
         100,
         1_000,
-        Some("chains: chain too long at state 0, token 1"),
+        "chains: chain too long at state 0, token 1",
     ),
     (
         CYCLE,
         100,
         65_535,
-        Some("chains: chain too long at state 0, token 1"),
+        "chains: chain too long at state 0, token 1",
     ),
     (
         GROWING,
         100,
         0,
-        Some("chains: chain too long at state 0, token 0"),
+        "chains: chain too long at state 0, token 0",
     ),
     (
         GROWING,
         100,
         65_535,
-        Some("chains: chain too long at state 0, token 0"),
+        "chains: chain too long at state 0, token 0",
     ),
-    (CONFLICTS, 100, 2, None),
-    (BRACKETS, 14, 2, None),
-    (BRACKETS, 13, 10, Some("table: too many states")),
+    (CONFLICTS, 100, 2, ""),
+    (BRACKETS, 14, 2, ""),
+    (BRACKETS, 13, 10, "table: too many states"),
     (
         "%% S: S | 'x';",
         100,
         10,
-        Some("table: accept and reduce in state 1"),
+        "table: accept and reduce in state 1",
     ),
 ];
 
@@ -298,11 +303,7 @@ const REFUSALS: [Refusal; 12] = [
 fn grammars_without_a_checked_table(rt: HostRuntime) -> Result<(), Fail> {
     for (text, max_states, cap, want) in &REFUSALS {
         let found = refusal(rt.alloc(), text, *max_states, *cap)?;
-        assert_eq!(rt;
-            found.as_ref().map(|found| found.as_str()),
-            *want,
-            "{text} with {cap}"
-        );
+        assert_eq!(rt; found.as_str(), *want, "{text} with {cap}");
     }
     Ok(())
 }
@@ -324,18 +325,23 @@ fn push_conflicts(text: &mut String, conflicts: Option<&Conflicts<u8>>) -> Resul
     Ok(())
 }
 
-// The conflicts of the text's table, as it is built and once it is checked with the cap 3, where it passes.
-fn conflicts_of(alloc: Global, source: &str) -> Result<(String, String), Fail> {
-    let (_, stable) = built::<u8>(alloc, source, 100)??;
-    let mut of_built = String::new(alloc);
-    push_conflicts(&mut of_built, stable.conflicts())?;
+// The conflicts of the text's table as it is built.
+fn conflicts_of_built(alloc: Global, source: &str) -> Result<String, Fail> {
+    let (_, stable) = built(alloc, source)?;
+    let mut text = String::new(alloc);
+    push_conflicts(&mut text, stable.conflicts())?;
+    Ok(text)
+}
+
+// The conflicts of the text's table once it is checked with the cap 3, where it passes.
+fn conflicts_of_checked(alloc: Global, source: &str) -> Result<String, Fail> {
     let grm = YaccGrammar::<u8>::new_with_storaget(alloc, source)?;
-    let mut of_checked = String::new(alloc);
+    let mut text = String::new(alloc);
     match parser_data(alloc, grm, 100, 3) {
-        Ok(data) => push_conflicts(&mut of_checked, data.stable().conflicts())?,
-        Err(_) => of_checked.push_str("refused")?,
+        Ok(data) => push_conflicts(&mut text, data.stable().conflicts())?,
+        Err(_) => text.push_str("refused")?,
     }
-    Ok((of_built, of_checked))
+    Ok(text)
 }
 
 // A text, the conflicts of its table, and those of its checked table.
@@ -356,9 +362,10 @@ const LISTED: [(&str, &str, &str); 7] = [
 #[test]
 fn conflicts_of_small_grammars(rt: HostRuntime) -> Result<(), Fail> {
     for (text, of_built, of_checked) in &LISTED {
-        let found = conflicts_of(rt.alloc(), text)?;
-        assert_eq!(rt; found.0.as_str(), *of_built, "{text}");
-        assert_eq!(rt; found.1.as_str(), *of_checked, "{text}");
+        let found = conflicts_of_built(rt.alloc(), text)?;
+        assert_eq!(rt; found.as_str(), *of_built, "{text}");
+        let found = conflicts_of_checked(rt.alloc(), text)?;
+        assert_eq!(rt; found.as_str(), *of_checked, "{text}");
     }
     Ok(())
 }

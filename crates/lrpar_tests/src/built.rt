@@ -1,6 +1,6 @@
 //! Tables that are built of grammar texts, and what parses by them give, as text.
 use crate::calls::Tree;
-use crate::lexer::{HandedLexer, HandedTypes, Token};
+use crate::lexer::{HandedLexer, HandedTypes, NoToken, Token};
 use crate::parse::lexemes;
 use lrpar::build::parser_data;
 use lrpar::grammar::YaccGrammar;
@@ -55,13 +55,6 @@ pub(crate) struct Row {
     pub(crate) errors: &'static str,
 }
 
-/// What comes of a parse: the text of the tree, empty where there is none, and the errors.
-#[derive(Debug, Drop, PartialEq, Eq)]
-pub(crate) struct Outcome {
-    pub(crate) tree: String,
-    pub(crate) errors: String,
-}
-
 /// Sequences of these steps.
 pub(crate) fn sequences(
     alloc: Global,
@@ -69,17 +62,17 @@ pub(crate) fn sequences(
 ) -> Result<Vec<Vec<RepairStep<u32>>>, Fail> {
     let mut made = Vec::new(alloc);
     for steps in handed {
-        made.push(steps.iter().map(|step| *step).collect(alloc)?)?;
+        made.push(Vec::from_slice(alloc, *steps)?)?;
     }
     Ok(made)
 }
 
-/// What comes of the row.
+/// What comes of the row: the text of the tree, empty where there is none, and the errors.
 pub(crate) fn outcome_of(
     alloc: Global,
     data: &ParserData<u32>,
     row: &Row,
-) -> Result<Outcome, Fail> {
+) -> Result<(String, String), Fail> {
     let answers = lexemes(alloc, row.given)?;
     let handed = sequences(alloc, row.handed)?;
     let lexer = HandedLexer { answers: &answers };
@@ -87,33 +80,31 @@ pub(crate) fn outcome_of(
         .recoverer(FixedRecoverer::new(handed))
         .shifts(row.shifts)?;
     let (tree, errors) = parser.parse_generictree(alloc, &lexer)?;
-    let tree = match tree {
-        None => String::new(alloc),
-        Some(tree) => text_of_tree(alloc, data, &tree, row.input)?,
-    };
-    Ok(Outcome {
-        tree,
-        errors: text_of_errors(alloc, &errors)?,
-    })
+    let text = text_of_tree(alloc, data, &tree, row.input)?;
+    Ok((text, text_of_errors(alloc, &errors)?))
 }
 
-// The text of the tree over the input.
+// The text of the tree over the input, empty where there is none.
 fn text_of_tree(
     alloc: Global,
     data: &ParserData<u32>,
-    tree: &Tree,
+    tree: &Option<Tree>,
     input: &str,
 ) -> Result<String, Fail> {
-    if !tree.fits(data.grm(), input) {
-        return Err(Fail::new("the tree doesn't fit"));
+    match tree {
+        None => Ok(String::new(alloc)),
+        Some(tree) => {
+            if !tree.fits(data.grm(), input) {
+                return Err(Fail::new("the tree doesn't fit"));
+            }
+            Ok(tree.pp(alloc, data.grm(), input)?)
+        }
     }
-    Ok(tree.pp(alloc, data.grm(), input)?)
 }
 
 // Whether the row gives what it says.
-fn holds(alloc: Global, grammar: &str, row: &Row) -> Result<bool, Fail> {
-    let data = built(alloc, grammar)?;
-    let Outcome { tree, errors } = outcome_of(alloc, &data, row)?;
+fn holds(alloc: Global, data: &ParserData<u32>, row: &Row) -> Result<bool, Fail> {
+    let (tree, errors) = outcome_of(alloc, data, row)?;
     Ok(tree.as_str() == row.tree && errors.as_str() == row.errors)
 }
 
@@ -124,14 +115,15 @@ pub(crate) fn all_hold(
     grammar: &str,
     rows: &[Row],
 ) -> Result<(), Fail> {
+    let data = built(alloc, grammar)?;
     for row in rows {
         let (input, shifts) = (row.input, row.shifts);
-        assert!(rt; holds(alloc, grammar, row)?, "{input} with {shifts}");
+        assert!(rt; holds(alloc, &data, row)?, "{input} with {shifts}");
     }
     Ok(())
 }
 
-/// Each parse error as its state, the token, start and length of its lexeme, which ends in `!` where that is faulty, and the
+/// Each lexing error by its place, each parse error as its state, the token, start and length of its lexeme, which ends in `!` where that is faulty, and the
 /// sequences in brackets.
 pub(crate) fn text_of_errors(
     alloc: Global,
@@ -140,11 +132,16 @@ pub(crate) fn text_of_errors(
     let mut text = String::new(alloc);
     for error in errors {
         match error {
-            LexParseError::LexError(_) => text.push_str("lexer ")?,
+            LexParseError::LexError(error) => push_lexing_error(&mut text, error)?,
             LexParseError::ParseError(error) => push_error(&mut text, error)?,
         }
     }
     Ok(text)
+}
+
+fn push_lexing_error(text: &mut String, error: &NoToken) -> Result<(), Fail> {
+    let (start, end) = (error.span.start(), error.span.end());
+    Ok(write!(text, "no token at {start}..{end} ")?)
 }
 
 fn push_error(text: &mut String, error: &ParseError<Token<u32>, u32>) -> Result<(), Fail> {

@@ -1,10 +1,11 @@
 //! The parse calls beside `parse_map`: trees, and errors alone.
+use crate::built::text_of_errors;
 use crate::fixtures::{By, sum_data};
 use crate::lexer::{HandedLexer, HandedTypes, Token};
 use crate::parse::{LexAnswer, lexeme, lexemes};
-use lrpar::parser::{AStackType, ParseFault};
-use lrpar::span::{RIdx, Span, StIdx};
-use lrpar::{LexParseError, Lexeme, Node, RTParserBuilder, action_generictree};
+use lrpar::parser::AStackType;
+use lrpar::span::{RIdx, Span};
+use lrpar::{Node, RTParserBuilder, action_generictree};
 use std::alloc::Global;
 use std::test::Fail;
 
@@ -43,102 +44,86 @@ pub(crate) fn sum_tree(alloc: Global) -> Result<Tree, Fail> {
     Ok(rule(1, nodes))
 }
 
-// The tree and the errors of a sum, and its errors alone.
-type TreeAnswer = (Option<Tree>, Vec<LexParseError<u32, HandedTypes>>);
-
-pub(crate) fn tree_of(
-    alloc: Global,
-    answers: &[LexAnswer],
-) -> Result<Result<TreeAnswer, ParseFault>, Fail> {
+// What the parse to a tree answers: the tree, if there is one, and the errors or the fault as text.
+fn tree_answer(alloc: Global, answers: &[LexAnswer]) -> Result<(Option<Tree>, String), Fail> {
     let data = sum_data(alloc, By::Entries)?;
     let parser = RTParserBuilder::<u32, HandedTypes>::new(&data);
-    Ok(parser.parse_generictree(alloc, &HandedLexer { answers }))
+    match parser.parse_generictree(alloc, &HandedLexer { answers }) {
+        Ok((tree, errors)) => Ok((tree, text_of_errors(alloc, &errors)?)),
+        Err(fault) => Ok((None, format!(in alloc; "{fault}")?)),
+    }
 }
 
-fn errors_of(
-    alloc: Global,
-    answers: &[LexAnswer],
-) -> Result<Result<Vec<LexParseError<u32, HandedTypes>>, ParseFault>, Fail> {
+/// The tree of a sum.
+pub(crate) fn tree_of(alloc: Global, answers: &[LexAnswer]) -> Result<Tree, Fail> {
+    let (tree, _) = tree_answer(alloc, answers)?;
+    Ok(tree.ok_or("no tree")?)
+}
+
+// The errors or the fault of the parse to a tree as text, where it gives no tree.
+fn errors_of_tree(alloc: Global, given: &[(u32, usize)]) -> Result<String, Fail> {
+    let answers = lexemes(alloc, given)?;
+    match tree_answer(alloc, &answers)? {
+        (None, text) => Ok(text),
+        (Some(_), _) => Err(Fail::new("a tree")),
+    }
+}
+
+// The errors or the fault of the parse to errors alone, as text.
+fn errors_alone(alloc: Global, given: &[(u32, usize)]) -> Result<String, Fail> {
     let data = sum_data(alloc, By::Entries)?;
+    let answers = lexemes(alloc, given)?;
     let parser = RTParserBuilder::<u32, HandedTypes>::new(&data);
-    Ok(parser.parse_noaction(alloc, &HandedLexer { answers }))
+    match parser.parse_noaction(alloc, &HandedLexer { answers: &answers }) {
+        Ok(errors) => text_of_errors(alloc, &errors),
+        Err(fault) => Ok(format!(in alloc; "{fault}")?),
+    }
+}
+
+// Whether the parse of `a+b` to a tree gives its tree and no error.
+fn is_sum_tree(alloc: Global) -> Result<bool, Fail> {
+    let answers = lexemes(alloc, [(1, 0), (0, 1), (1, 2)].as_slice())?;
+    let (tree, errors) = tree_answer(alloc, &answers)?;
+    Ok(errors.is_empty() && tree == Some(sum_tree(alloc)?))
 }
 
 #[test]
 fn a_sum_is_a_tree(rt: HostRuntime) -> Result<(), Fail> {
-    let alloc = rt.alloc();
-    let answers = lexemes(alloc, [(1, 0), (0, 1), (1, 2)].as_slice())?;
-    let (tree, errors) = tree_of(alloc, &answers)??;
-    assert!(rt; errors.is_empty(), "errors");
-    assert_eq!(rt; tree, Some(sum_tree(alloc)?), "tree");
-    assert!(rt; errors_of(alloc, &answers)??.is_empty(), "errors alone");
+    assert!(rt; is_sum_tree(rt.alloc())?, "tree");
+    let errors = errors_alone(rt.alloc(), &[(1, 0), (0, 1), (1, 2)])?;
+    assert_eq!(rt; errors.as_str(), "", "errors alone");
+    Ok(())
+}
+
+// Lexemes, and the errors or the fault of the parse of them.
+const REFUSED: [(&str, &[(u32, usize)], &str); 5] = [
+    ("a+", &[(1, 0), (0, 1)], "4@2:2+0! "),
+    ("ab", &[(1, 0), (1, 1)], "3@1:1+1 "),
+    ("", &[], "0@2:0+0! "),
+    ("the end token", &[(1, 0), (2, 1)], "bad token at lexeme 1"),
+    (
+        "an early start",
+        &[(1, 3), (0, 2)],
+        "start decreases at lexeme 1",
+    ),
+];
+
+#[test]
+fn errors_and_faults_of_trees(rt: HostRuntime) -> Result<(), Fail> {
+    for (name, given, want) in &REFUSED {
+        let found = errors_of_tree(rt.alloc(), *given)?;
+        assert_eq!(rt; found.as_str(), *want, "{name:?}");
+    }
     Ok(())
 }
 
 #[test]
-fn errors_of_both_calls(rt: HostRuntime) -> Result<(), Fail> {
-    let alloc = rt.alloc();
-    let rows = [
-        (
-            "a+",
-            [(1, 0), (0, 1)].as_slice(),
-            4,
-            Token::new_faulty(2, 2, 0),
-        ),
-        ("ab", [(1, 0), (1, 1)].as_slice(), 3, Token::new(1, 1, 1)),
-        ("", [].as_slice(), 0, Token::new_faulty(2, 0, 0)),
-    ];
-    for (name, given, state, at) in rows {
-        let answers = lexemes(alloc, given)?;
-        let tree = tree_of(alloc, &answers)??;
-        assert!(rt; tree.0.is_none(), "tree of {name:?}");
-        assert!(rt; is_error(&tree.1, StIdx(state), at), "error of {name:?}");
-        let errors = errors_of(alloc, &answers)??;
-        assert!(rt;
-            is_error(&errors, StIdx(state), at),
-            "error alone of {name:?}"
-        );
+fn errors_and_faults_alone(rt: HostRuntime) -> Result<(), Fail> {
+    for (name, given, want) in &REFUSED {
+        let found = errors_alone(rt.alloc(), *given)?;
+        assert_eq!(rt; found.as_str(), *want, "{name:?}");
     }
     Ok(())
-}
-
-// Whether there is one error, in this state at this lexeme.
-fn is_error(errors: &[LexParseError<u32, HandedTypes>], state: StIdx<u32>, at: Token<u32>) -> bool {
-    match errors {
-        [LexParseError::ParseError(error)] => error.stidx() == state && *error.lexeme() == at,
-        _ => false,
-    }
-}
-
-#[test]
-fn faults_of_both_calls(rt: HostRuntime) -> Result<(), Fail> {
-    let alloc = rt.alloc();
-    let rows = [
-        ([(1, 0), (2, 1)], ParseFault::BadToken(1)),
-        ([(1, 3), (0, 2)], ParseFault::StartsDecrease(1)),
-    ];
-    for (given, want) in rows {
-        let answers = lexemes(alloc, &given)?;
-        assert_eq!(rt; fault_of_tree(alloc, &answers)?, Some(want));
-        assert_eq!(rt; fault_of_errors(alloc, &answers)?, Some(want));
-    }
-    Ok(())
-}
-
-// For what the parse to a tree refuses the answers, if it does.
-fn fault_of_tree(alloc: Global, answers: &[LexAnswer]) -> Result<Option<ParseFault>, Fail> {
-    match tree_of(alloc, answers)? {
-        Ok(_) => Ok(None),
-        Err(fault) => Ok(Some(fault)),
-    }
-}
-
-// For what the parse to errors alone refuses them, if it does.
-fn fault_of_errors(alloc: Global, answers: &[LexAnswer]) -> Result<Option<ParseFault>, Fail> {
-    match errors_of(alloc, answers)? {
-        Ok(_) => Ok(None),
-        Err(fault) => Ok(Some(fault)),
-    }
 }
 
 #[test]

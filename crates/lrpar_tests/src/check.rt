@@ -3,10 +3,11 @@ use crate::fixtures::{
     ACCEPT, BOTH, By, ItemOf, P0, P1, S3, SUM_ACTIONS, SUM_GOTOS, SUM_ITEMS, X, checked, item_rows,
     prod, r, rows, rules, sum_checked, sum_parts, sum_rows, t, table, tokens,
 };
+use crate::graph::has_state;
 use lrpar::ParserData;
 use lrpar::check::{CheckFault, Refused, SafetyCondition};
 use lrpar::grammar::{GrammarParts, YaccGrammar};
-use lrpar::span::{PIdx, RIdx, StIdx, StorageIndex, TIdx};
+use lrpar::span::{PIdx, RIdx, StIdx, TIdx};
 use lrpar::table::{Action, StateGraph, StateTable, TableRows};
 use std::alloc::Global;
 use std::process::Abort;
@@ -139,40 +140,52 @@ const CHANGES: [(Change, CheckFault); 9] = [
 
 // Whether the graph has these items and no others.
 fn has_items(graph: &StateGraph<u8>, hand: &Hand) -> bool {
+    for state in 0..8u8 {
+        if !has_state(graph, &hand.items, state) {
+            return false;
+        }
+    }
     graph.states_len() == hand.actions.len()
-        && (0..7u8).all(|state| (0..4u8).all(|prod| (0..4usize).all(|dot| (0..3u8).all(|token| {
-            let listed = hand
-                .items
-                .iter()
-                .any(|item| *item == (state, prod, dot, token));
-            graph.has_item(StIdx(state), PIdx(prod), dot, TIdx(token)) == listed
-        }))))
+}
+
+// The entry at the place in the row, if there is one.
+fn entry<Entry: Copy>(rows: &[[Entry; 3]], row: usize, at: usize) -> Option<Entry> {
+    match rows.get(row) {
+        Some(row) => row.get(at).copied(),
+        None => None,
+    }
+}
+
+// Whether the table does in the state what the rows say.
+fn has_row(table: &StateTable<u8>, hand: &Hand, state: u8) -> bool {
+    let row = usize::from(state);
+    if row >= table.states_len() || table.tokens_len() != 3 || table.rules_len() != 3 {
+        return false;
+    }
+    for at in 0..3u8 {
+        let action = table.action(StIdx(state), TIdx(at));
+        if entry(&hand.actions, row, usize::from(at)) != Some(action) {
+            return false;
+        }
+        let goto = match table.goto(StIdx(state), RIdx(at)) {
+            Some(to) => Some(to.as_storaget()),
+            None => None,
+        };
+        if entry(&hand.gotos, row, usize::from(at)) != Some(goto) {
+            return false;
+        }
+    }
+    true
 }
 
 // Whether the table has these actions and gotos.
 fn has_rows(table: &StateTable<u8>, hand: &Hand) -> bool {
-    if table.tokens_len() != 3 || table.rules_len() != 3 {
-        return false;
-    }
     if table.states_len() != hand.actions.len() || table.states_len() > 7 {
         return false;
     }
-    for state in 0..table.states_len() {
-        if let Some(index) = u8::from_index(state) {
-            let actions = hand.actions.get(state);
-            let gotos = hand.gotos.get(state);
-            for at in 0..3u8 {
-                let action = table.action(StIdx(index), TIdx(at));
-                let goto = table
-                    .goto(StIdx(index), RIdx(at))
-                    .map(|to| to.as_storaget());
-                let place = usize::from(at);
-                if actions.and_then(|row| row.get(place)) != Some(&action)
-                    || gotos.and_then(|row| row.get(place)) != Some(&goto)
-                {
-                    return false;
-                }
-            }
+    for state in 0..7u8 {
+        if usize::from(state) < table.states_len() && !has_row(table, hand, state) {
+            return false;
         }
     }
     true
@@ -230,9 +243,32 @@ fn refused_by(alloc: Global, by: By, change: Change) -> Result<Refused<u8>, Fail
 fn is_as_it_was(alloc: Global, by: By, refused: Refused<u8>, change: Change) -> Result<bool, Fail> {
     let hand = change.of_sums(alloc, by)?;
     let (grm, graph, table) = refused.into_parts();
-    if grm.prods_len() != 4 || !has_items(&graph, &hand) || !has_rows(&table, &hand) {
-        return Ok(false);
+    if has_parts(&grm, &graph, &table, &hand) {
+        is_mended(alloc, by, change, grm, graph, table)
+    } else {
+        Ok(false)
     }
+}
+
+// Whether the grammar is that of sums, and the item sets and the table are these.
+fn has_parts(
+    grm: &YaccGrammar<u8>,
+    graph: &StateGraph<u8>,
+    table: &StateTable<u8>,
+    hand: &Hand,
+) -> bool {
+    grm.prods_len() == 4 && has_items(graph, hand) && has_rows(table, hand)
+}
+
+// Whether the parts are taken once what was changed is mended.
+fn is_mended(
+    alloc: Global,
+    by: By,
+    change: Change,
+    grm: YaccGrammar<u8>,
+    graph: StateGraph<u8>,
+    table: StateTable<u8>,
+) -> Result<bool, Fail> {
     let sums = Hand::sums(alloc, by)?;
     match change {
         Change::Action(..) | Change::Goto(..) => is_taken(alloc, grm, graph, sums.table(alloc)?),

@@ -1,6 +1,7 @@
 //! Parse errors and repairs.
 use crate::fixtures::{By, sum_data};
 use crate::lexer::{HandedLexer, HandedTypes, NoToken, Token};
+use crate::parse::lexemes;
 use lrpar::span::{Span, TIdx};
 use lrpar::{LexParseError, Lexeme, ParseError, ParseRepair, RTParserBuilder};
 use std::alloc::Global;
@@ -9,20 +10,24 @@ use std::test::Fail;
 
 type Repair = ParseRepair<Token<u32>, u32>;
 
-// The error of the parse of `given`, one lexeme of `ID` at each of these bytes.
-fn error_of(alloc: Global, starts: &[usize]) -> Result<ParseError<Token<u32>, u32>, Fail> {
+// The error of the parse of these lexemes.
+fn error_of(alloc: Global, given: &[(u32, usize)]) -> Result<ParseError<Token<u32>, u32>, Fail> {
     let data = sum_data(alloc, By::Entries)?;
-    let answers = starts
-        .iter()
-        .map(|start| Ok(Token::new(1, (*start).min(1_000), 1)))
-        .collect::<Vec<_>>(alloc)?;
+    let answers = lexemes(alloc, given)?;
     let lexer = HandedLexer { answers: &answers };
-    let parser = RTParserBuilder::<u32, HandedTypes>::new(&data);
-    let (_, mut errors) = parser.parse_map(alloc, &lexer, |_| (), |_, _| ())?;
+    let mut errors = RTParserBuilder::<u32, HandedTypes>::new(&data).parse_noaction(alloc, &lexer)?;
     match errors.pop() {
         Some(LexParseError::ParseError(error)) => Ok(error),
         _ => Err(Fail::new("no parse error")),
     }
+}
+
+// The texts of the error at two lexemes `ID`, by itself and as an error of either kind.
+fn texts(alloc: Global) -> Result<(String, String), Fail> {
+    let error = error_of(alloc, &[(1, 0), (1, 1)])?;
+    let text = format!(in alloc; "{error}")?;
+    let error: LexParseError<u32, HandedTypes> = LexParseError::from(error);
+    Ok((text, format!(in alloc; "{error}")?))
 }
 
 #[test]
@@ -30,28 +35,42 @@ fn texts_of_errors(rt: HostRuntime) -> Result<(), Fail> {
     let alloc = rt.alloc();
     let lexeme: Token<u32> = Token::new(1, 1, 1);
     let want = format!(in alloc; "Parse error at lexeme {lexeme:?}")?;
-    let error = error_of(alloc, &[0, 1])?;
-    assert_eq!(rt; format!(in alloc; "{error}")?.as_str(), want.as_str());
-    let error: LexParseError<u32, HandedTypes> = LexParseError::from(error);
-    assert_eq!(rt; format!(in alloc; "{error}")?.as_str(), want.as_str());
+    let (text, again) = texts(alloc)?;
+    assert_eq!(rt; text.as_str(), want.as_str());
+    assert_eq!(rt; again.as_str(), want.as_str());
+    Ok(())
+}
+
+#[test]
+fn texts_of_lexing_errors(rt: HostRuntime) -> Result<(), Fail> {
     let no_token = NoToken {
         span: Span::new(7, 8),
     };
     let error: LexParseError<u32, HandedTypes> = LexParseError::from(no_token);
     assert_eq!(rt;
-        format!(in alloc; "{error}")?.as_str(),
+        format!(in rt.alloc(); "{error}")?.as_str(),
         "no token fits at byte 7"
     );
     Ok(())
 }
 
+// Whether the error at two lexemes `ID` equals that of these.
+fn equals(alloc: Global, given: &[(u32, usize)]) -> Result<bool, Fail> {
+    Ok(error_of(alloc, &[(1, 0), (1, 1)])? == error_of(alloc, given)?)
+}
+
+// Whether the error equals its clone.
+fn equals_its_clone(alloc: Global) -> Result<bool, Fail> {
+    let error = error_of(alloc, &[(1, 0), (1, 1)])?;
+    Ok(error.clone()? == error)
+}
+
 #[test]
 fn equality_of_errors(rt: HostRuntime) -> Result<(), Fail> {
-    let error = error_of(rt.alloc(), &[0, 1])?;
-    assert!(rt; error.clone()? == error);
-    assert!(rt; error == error_of(rt.alloc(), &[0, 1])?);
-    assert!(rt; error != error_of(rt.alloc(), &[0, 2])?);
-    assert!(rt; error != error_of(rt.alloc(), &[])?);
+    assert!(rt; equals_its_clone(rt.alloc())?);
+    assert!(rt; equals(rt.alloc(), &[(1, 0), (1, 1)])?);
+    assert!(rt; !equals(rt.alloc(), &[(1, 0), (1, 2)])?);
+    assert!(rt; !equals(rt.alloc(), &[])?);
     Ok(())
 }
 
@@ -61,22 +80,30 @@ fn hash_of(repair: &Repair) -> u64 {
     hasher.finish()
 }
 
+// Five repairs by number.
+fn repair(number: usize) -> Repair {
+    match number {
+        0 => ParseRepair::Insert(TIdx(0)),
+        1 => ParseRepair::Insert(TIdx(1)),
+        2 => ParseRepair::Delete(Token::new(1, 0, 1)),
+        3 => ParseRepair::Shift(Token::new(1, 0, 1)),
+        _ => ParseRepair::Shift(Token::new(1, 1, 1)),
+    }
+}
+
+// Whether a clone of the repair equals it and has its hash.
+fn is_cloned(repair: &Repair) -> Result<bool, Fail> {
+    let copy = repair.clone()?;
+    Ok(copy == *repair && hash_of(&copy) == hash_of(repair))
+}
+
 #[test]
 fn equality_of_repairs(rt: HostRuntime) -> Result<(), Fail> {
-    let repairs: [Repair; 5] = [
-        ParseRepair::Insert(TIdx(0)),
-        ParseRepair::Insert(TIdx(1)),
-        ParseRepair::Delete(Token::new(1, 0, 1)),
-        ParseRepair::Shift(Token::new(1, 0, 1)),
-        ParseRepair::Shift(Token::new(1, 1, 1)),
-    ];
-    for (i, repair) in repairs.iter().enumerate() {
-        for (j, other) in repairs.iter().enumerate() {
-            assert_eq!(rt; repair == other, i == j, "repairs {i} and {j}");
+    for i in 0..5usize {
+        assert!(rt; is_cloned(&repair(i))?, "clone of repair {i}");
+        for j in 0..5usize {
+            assert_eq!(rt; repair(i) == repair(j), i == j, "repairs {i} and {j}");
         }
-        let copy = repair.clone()?;
-        assert!(rt; copy == *repair, "copy of repair {i}");
-        assert_eq!(rt; hash_of(&copy), hash_of(repair), "hash of repair {i}");
     }
     Ok(())
 }

@@ -206,38 +206,66 @@ pub(crate) fn sparse<S: StorageIndex>(
     alloc: Global,
     rows: &TableRows<S>,
 ) -> Result<SparseRows<S>, Fail> {
-    let mut actions = Vec::new(alloc);
-    for row in &rows.actions {
-        let mut stored = Vec::new(alloc);
-        for (token, action) in (0u8..).zip(row) {
-            match action {
-                Action::Error => {}
-                Action::Shift(_) | Action::Reduce(_) | Action::Accept => {
-                    stored.push((TIdx(number(token)?), *action))?;
-                }
-            }
-        }
-        actions.push(stored)?;
-    }
-    let mut gotos = Vec::new(alloc);
-    for row in &rows.gotos {
-        let mut stored = Vec::new(alloc);
-        for (rule, goto) in (0u8..).zip(row) {
-            if let Some(state) = goto {
-                stored.push((RIdx(number(rule)?), *state))?;
-            }
-        }
-        gotos.push(stored)?;
-    }
     Ok(SparseRows {
         start: rows.start,
         states: rows.actions.len(),
         tokens: rows.tokens,
         rules: rows.rules,
-        actions,
-        gotos,
+        actions: stored_actions(alloc, &rows.actions)?,
+        gotos: stored_gotos(alloc, &rows.gotos)?,
         conflicts: None,
     })
+}
+
+fn stored_actions<S: StorageIndex>(
+    alloc: Global,
+    rows: &[Vec<Action<S>>],
+) -> Result<Vec<Vec<(TIdx<S>, Action<S>)>>, Fail> {
+    let mut made = Vec::new(alloc);
+    for row in rows {
+        made.push(stored_action_row(alloc, row)?)?;
+    }
+    Ok(made)
+}
+
+fn stored_action_row<S: StorageIndex>(
+    alloc: Global,
+    row: &[Action<S>],
+) -> Result<Vec<(TIdx<S>, Action<S>)>, Fail> {
+    let mut stored = Vec::new(alloc);
+    for (token, action) in (0u8..).zip(row) {
+        match action {
+            Action::Error => {}
+            Action::Shift(_) | Action::Reduce(_) | Action::Accept => {
+                stored.push((TIdx(number(token)?), *action))?;
+            }
+        }
+    }
+    Ok(stored)
+}
+
+fn stored_gotos<S: StorageIndex>(
+    alloc: Global,
+    rows: &[Vec<Option<StIdx<S>>>],
+) -> Result<Vec<Vec<(RIdx<S>, StIdx<S>)>>, Fail> {
+    let mut made = Vec::new(alloc);
+    for row in rows {
+        made.push(stored_goto_row(alloc, row)?)?;
+    }
+    Ok(made)
+}
+
+fn stored_goto_row<S: StorageIndex>(
+    alloc: Global,
+    row: &[Option<StIdx<S>>],
+) -> Result<Vec<(RIdx<S>, StIdx<S>)>, Fail> {
+    let mut stored = Vec::new(alloc);
+    for (rule, goto) in (0u8..).zip(row) {
+        if let Some(state) = goto {
+            stored.push((RIdx(number(rule)?), *state))?;
+        }
+    }
+    Ok(stored)
 }
 
 /// An item by numbers: its state, its production, its dot and its lookahead.

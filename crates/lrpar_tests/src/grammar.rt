@@ -1,111 +1,168 @@
 //! Grammars of parts.
-use crate::fixtures::{Placed, prod, r, rules, sum_parts, t, tokens};
+use crate::fixtures::{Placed, prod, rules, sum_parts, tokens};
 use lrpar::grammar::{GrammarFault, GrammarParts, YaccGrammar};
 use lrpar::span::{PIdx, RIdx, Span, Symbol, TIdx};
 use std::alloc::Global;
 use std::process::Abort;
 use std::test::Fail;
 
+// The grammar of sums.
+fn sums(alloc: Global) -> Result<YaccGrammar<u8>, Fail> {
+    Ok(YaccGrammar::from_parts(alloc, sum_parts(alloc)?)?)
+}
+
+// The rule: its number, its name, where that lies, and its productions.
+fn push_rule(text: &mut String, grm: &YaccGrammar<u8>, ridx: RIdx<u8>) -> Result<(), Fail> {
+    if usize::from(ridx) >= grm.rules_len() {
+        return Err(Fail::new("no such rule"));
+    }
+    let (number, name, span) = (
+        ridx.as_storaget(),
+        grm.rule_name_str(ridx),
+        grm.rule_name_span(ridx),
+    );
+    let (start, end) = (span.start(), span.end());
+    write!(text, "{number} {name} {start}..{end}")?;
+    for pidx in grm.rule_to_prods(ridx) {
+        let prod = pidx.as_storaget();
+        write!(text, " {prod}")?;
+    }
+    Ok(text.push('\n')?)
+}
+
+/// A line for each rule.
+pub(crate) fn text_of_rules(alloc: Global, grm: &YaccGrammar<u8>) -> Result<String, Fail> {
+    let mut text = String::new(alloc);
+    for ridx in grm.iter_rules() {
+        push_rule(&mut text, grm, ridx)?;
+    }
+    Ok(text)
+}
+
 #[test]
 fn rules_of_the_sum_grammar(rt: HostRuntime) -> Result<(), Fail> {
-    let grm = YaccGrammar::from_parts(rt.alloc(), sum_parts::<u8>(rt.alloc())?)?;
+    let grm = sums(rt.alloc())?;
     assert_eq!(rt; grm.rules_len(), 3);
     assert_eq!(rt; grm.start_rule_idx(), RIdx(1));
-    let rows = [
-        (0, "^", Span::new(0, 0), [3].as_slice()),
-        (1, "E", Span::new(3, 4), [0, 1].as_slice()),
-        (2, "T", Span::new(19, 20), [2].as_slice()),
-    ];
-    for (rule, name, span, prods) in rows {
-        let ridx = RIdx(rule);
-        assert!(rt; usize::from(ridx) < grm.rules_len());
-        assert_eq!(rt; grm.rule_name_str(ridx), name, "name of rule {rule}");
-        assert!(rt; grm.rule_name_span(ridx) == span, "span of rule {rule}");
-        let found = grm.rule_to_prods(ridx);
-        assert!(rt;
-            found
-                .iter()
-                .map(|pidx| pidx.as_storaget())
-                .eq(prods.iter().copied()),
-            "productions of rule {rule}"
-        );
-    }
-    let numbers: Vec<RIdx<u8>> = grm.iter_rules().collect(rt.alloc())?;
-    assert!(rt; numbers.as_slice() == [RIdx(0), RIdx(1), RIdx(2)].as_slice());
+    let text = text_of_rules(rt.alloc(), &grm)?;
+    assert_eq!(rt; text.as_str(), "0 ^ 0..0 3\n1 E 3..4 0 1\n2 T 19..20 2\n");
     Ok(())
+}
+
+fn push_symbols(text: &mut String, symbols: &[Symbol<u8>]) -> Result<(), Fail> {
+    for symbol in symbols {
+        match symbol {
+            Symbol::Rule(ridx) => {
+                let number = ridx.as_storaget();
+                write!(text, " r{number}")?;
+            }
+            Symbol::Token(tidx) => {
+                let number = tidx.as_storaget();
+                write!(text, " t{number}")?;
+            }
+        }
+    }
+    Ok(())
+}
+
+fn push_spans(text: &mut String, spans: &[Span]) -> Result<(), Fail> {
+    for span in spans {
+        let (start, end) = (span.start(), span.end());
+        write!(text, " {start}..{end}")?;
+    }
+    Ok(())
+}
+
+// The production: its number, its rule, its symbols, where they lie, and where it lies itself.
+fn push_prod(text: &mut String, grm: &YaccGrammar<u8>, pidx: PIdx<u8>) -> Result<(), Fail> {
+    if usize::from(pidx) >= grm.prods_len() {
+        return Err(Fail::new("no such production"));
+    }
+    let (number, rule) = (pidx.as_storaget(), grm.prod_to_rule(pidx).as_storaget());
+    write!(text, "{number} of {rule}:")?;
+    push_symbols(text, grm.prod(pidx))?;
+    push_spans(text, grm.symbol_spans(pidx))?;
+    let span = grm.prod_span(pidx);
+    let (start, end) = (span.start(), span.end());
+    Ok(writeln!(text, " in {start}..{end}")?)
+}
+
+/// A line for each production.
+pub(crate) fn text_of_prods(alloc: Global, grm: &YaccGrammar<u8>) -> Result<String, Fail> {
+    let mut text = String::new(alloc);
+    for pidx in grm.iter_pidxs() {
+        push_prod(&mut text, grm, pidx)?;
+    }
+    Ok(text)
 }
 
 #[test]
 fn prods_of_the_sum_grammar(rt: HostRuntime) -> Result<(), Fail> {
-    let grm = YaccGrammar::from_parts(rt.alloc(), sum_parts::<u8>(rt.alloc())?)?;
+    let grm = sums(rt.alloc())?;
     assert_eq!(rt; grm.prods_len(), 4);
     assert_eq!(rt; grm.start_prod(), PIdx(3));
-    let sum = [(r(2), 6, 7), (t(0), 9, 10), (r(1), 12, 13)];
-    let term = [(r(2), 16, 17)];
-    let id = [(t(1), 23, 25)];
-    let start = [(r(1), 0, 0)];
-    let rows = [
-        (0, 1, sum.as_slice(), Span::new(6, 13)),
-        (1, 1, term.as_slice(), Span::new(16, 17)),
-        (2, 2, id.as_slice(), Span::new(23, 25)),
-        (3, 0, start.as_slice(), Span::new(0, 0)),
-    ];
-    for (number, rule, placed, span) in rows {
-        let pidx = PIdx(number);
-        assert!(rt; usize::from(pidx) < grm.prods_len());
-        assert_eq!(rt; grm.prod_to_rule(pidx), RIdx(rule), "rule of {number}");
-        assert!(rt; grm.prod_span(pidx) == span, "span of {number}");
-        assert_eq!(rt; grm.prod(pidx).len(), placed.len(), "length of {number}");
-        let symbols = placed.iter().map(|(symbol, _, _)| *symbol);
-        assert!(rt;
-            grm.prod(pidx).iter().copied().eq(symbols),
-            "symbols of {number}"
-        );
-        let starts = placed.iter().map(|(_, start, _)| *start);
-        let ends = placed.iter().map(|(_, _, end)| *end);
-        let spans = grm.symbol_spans(pidx);
-        assert!(rt;
-            spans.iter().map(|span| span.start()).eq(starts),
-            "starts of {number}"
-        );
-        assert!(rt;
-            spans.iter().map(|span| span.end()).eq(ends),
-            "ends of {number}"
-        );
-    }
-    let numbers: Vec<PIdx<u8>> = grm.iter_pidxs().collect(rt.alloc())?;
-    assert!(rt; numbers.as_slice() == [PIdx(0), PIdx(1), PIdx(2), PIdx(3)].as_slice());
+    let text = text_of_prods(rt.alloc(), &grm)?;
+    assert_eq!(rt;
+        text.as_str(),
+        "0 of 1: r2 t0 r1 6..7 9..10 12..13 in 6..13\n1 of 1: r2 16..17 in 16..17\n2 of 2: t1 23..25 in 23..25\n3 of 0: r1 0..0 in 0..0\n"
+    );
     Ok(())
+}
+
+// The token: its number, its name, its text for errors, and where it lies; `-` for what it doesn't have.
+fn push_token(text: &mut String, grm: &YaccGrammar<u8>, tidx: TIdx<u8>) -> Result<(), Fail> {
+    if usize::from(tidx) >= grm.tokens_len() {
+        return Err(Fail::new("no such token"));
+    }
+    let number = tidx.as_storaget();
+    let name = grm.token_name(tidx).unwrap_or("-");
+    let epp = grm.token_epp(tidx).unwrap_or("-");
+    write!(text, "{number} {name} {epp}")?;
+    match grm.token_span(tidx) {
+        Some(span) => {
+            let (start, end) = (span.start(), span.end());
+            Ok(writeln!(text, " {start}..{end}")?)
+        }
+        None => Ok(text.push_str(" -\n")?),
+    }
+}
+
+/// A line for each token.
+pub(crate) fn text_of_tokens(alloc: Global, grm: &YaccGrammar<u8>) -> Result<String, Fail> {
+    let mut text = String::new(alloc);
+    for tidx in grm.iter_tidxs() {
+        push_token(&mut text, grm, tidx)?;
+    }
+    Ok(text)
+}
+
+// The grammar of sums, in which `ID` has a text for errors.
+fn sums_with_epp(alloc: Global) -> Result<YaccGrammar<u8>, Fail> {
+    let mut parts = sum_parts::<u8>(alloc)?;
+    if let Some(token) = parts.tokens.get_mut(1) {
+        token.epp = Some(String::from_str(alloc, "a name")?);
+    }
+    Ok(YaccGrammar::from_parts(alloc, parts)?)
 }
 
 #[test]
 fn tokens_of_the_sum_grammar(rt: HostRuntime) -> Result<(), Fail> {
-    let mut parts = sum_parts::<u8>(rt.alloc())?;
-    if let Some(token) = parts.tokens.get_mut(1) {
-        token.epp = Some(String::from_str(rt.alloc(), "a name")?);
-    }
-    let grm = YaccGrammar::from_parts(rt.alloc(), parts)?;
+    let grm = sums_with_epp(rt.alloc())?;
     assert_eq!(rt; grm.tokens_len(), 3);
     assert_eq!(rt; grm.eof_token_idx(), TIdx(2));
-    let rows = [
-        (0, Some("+"), Some("+"), Some(Span::new(9, 10))),
-        (1, Some("ID"), Some("a name"), Some(Span::new(23, 25))),
-        (2, None, None, None),
-    ];
-    for (number, name, epp, span) in rows {
-        let tidx = TIdx(number);
-        assert!(rt; usize::from(tidx) < grm.tokens_len());
-        assert_eq!(rt; grm.token_name(tidx), name, "name of token {number}");
-        assert_eq!(rt; grm.token_epp(tidx), epp, "text of token {number}");
-        assert!(rt; grm.token_span(tidx) == span, "span of token {number}");
-    }
+    let text = text_of_tokens(rt.alloc(), &grm)?;
+    assert_eq!(rt; text.as_str(), "0 + + 9..10\n1 ID a name 23..25\n2 - - -\n");
+    Ok(())
+}
+
+#[test]
+fn tokens_by_their_names(rt: HostRuntime) -> Result<(), Fail> {
+    let grm = sums_with_epp(rt.alloc())?;
     assert_eq!(rt; grm.token_idx("ID"), Some(TIdx(1)));
     assert_eq!(rt; grm.token_idx("+"), Some(TIdx(0)));
     assert_eq!(rt; grm.token_idx("T"), None);
     let map = grm.tokens_map(rt.alloc())?;
     assert!(rt; map.as_slice() == [("+", TIdx(0)), ("ID", TIdx(1))].as_slice());
-    let numbers: Vec<TIdx<u8>> = grm.iter_tidxs().collect(rt.alloc())?;
-    assert!(rt; numbers.as_slice() == [TIdx(0), TIdx(1), TIdx(2)].as_slice());
     Ok(())
 }
 
@@ -160,70 +217,73 @@ fn with_two_faults(alloc: Global) -> Result<GrammarParts<u8>, Fail> {
     Ok(parts)
 }
 
+// Why there is no grammar of the parts, if there is none.
+fn fault_of(alloc: Global, parts: GrammarParts<u8>) -> Option<GrammarFault> {
+    YaccGrammar::from_parts(alloc, parts).err()
+}
+
 #[test]
-fn refused_parts(rt: HostRuntime) -> Result<(), Fail> {
+fn refused_numbers(rt: HostRuntime) -> Result<(), Fail> {
     let alloc = rt.alloc();
-    let rows = [
-        ("no rules", without_rules(alloc, 0)?, GrammarFault::NoRules),
-        (
-            "no rules and more",
-            without_rules(alloc, 256)?,
-            GrammarFault::NoRules,
-        ),
-        (
-            "256 tokens",
-            many_tokens(alloc, 256)?,
-            GrammarFault::StorageTooSmall,
-        ),
-        (
-            "256 tokens and more",
-            with_three_faults(alloc)?,
-            GrammarFault::StorageTooSmall,
-        ),
-        ("the start ^", with_start(alloc, 0)?, GrammarFault::BadStart),
-        (
-            "a start past the rules",
-            with_start(alloc, 3)?,
-            GrammarFault::BadStart,
-        ),
-        (
-            "such a start and more",
-            with_two_faults(alloc)?,
-            GrammarFault::BadStart,
-        ),
-        (
-            "^ on the right",
-            with_prod(alloc, 1, &[(r(0), 0, 0)])?,
-            GrammarFault::BadSymbol,
-        ),
-        (
-            "a rule past the rules",
-            with_prod(alloc, 1, &[(r(3), 0, 0)])?,
-            GrammarFault::BadSymbol,
-        ),
-        (
-            "the end token",
-            with_prod(alloc, 1, &[(t(0), 0, 0), (t(2), 0, 0)])?,
-            GrammarFault::BadSymbol,
-        ),
-        (
-            "a production of ^",
-            with_prod(alloc, 0, &[])?,
-            GrammarFault::BadSymbol,
-        ),
-        (
-            "a production of rule 3",
-            with_prod(alloc, 3, &[])?,
-            GrammarFault::BadSymbol,
-        ),
-    ];
-    for (name, parts, want) in rows {
-        match YaccGrammar::from_parts(alloc, parts) {
-            Ok(_) => return Err(Fail::new(format_args!("{name} is taken"))),
-            Err(fault) => assert_eq!(rt; fault, want, "{name}"),
-        }
+    let no_rules = Some(GrammarFault::NoRules);
+    assert_eq!(rt;
+        fault_of(alloc, without_rules(alloc, 0)?),
+        no_rules,
+        "no rules"
+    );
+    let more = fault_of(alloc, without_rules(alloc, 256)?);
+    assert_eq!(rt; more, no_rules, "no rules and more");
+    let too_small = Some(GrammarFault::StorageTooSmall);
+    assert_eq!(rt;
+        fault_of(alloc, many_tokens(alloc, 256)?),
+        too_small,
+        "256 tokens"
+    );
+    let more = fault_of(alloc, with_three_faults(alloc)?);
+    assert_eq!(rt; more, too_small, "256 tokens and more");
+    Ok(())
+}
+
+#[test]
+fn refused_starts(rt: HostRuntime) -> Result<(), Fail> {
+    let alloc = rt.alloc();
+    let bad = Some(GrammarFault::BadStart);
+    assert_eq!(rt; fault_of(alloc, with_start(alloc, 0)?), bad, "the start ^");
+    let past = fault_of(alloc, with_start(alloc, 3)?);
+    assert_eq!(rt; past, bad, "a start past the rules");
+    let more = fault_of(alloc, with_two_faults(alloc)?);
+    assert_eq!(rt; more, bad, "such a start and more");
+    Ok(())
+}
+
+// A further production that is refused: its rule and its symbols.
+const BAD_PRODS: [(&str, u8, &[Placed]); 5] = [
+    ("^ on the right", 1, &[(Symbol::Rule(RIdx(0)), 0, 0)]),
+    ("a rule past the rules", 1, &[(Symbol::Rule(RIdx(3)), 0, 0)]),
+    (
+        "the end token",
+        1,
+        &[
+            (Symbol::Token(TIdx(0)), 0, 0),
+            (Symbol::Token(TIdx(2)), 0, 0),
+        ],
+    ),
+    ("a production of ^", 0, &[]),
+    ("a production of rule 3", 3, &[]),
+];
+
+#[test]
+fn refused_prods(rt: HostRuntime) -> Result<(), Fail> {
+    for (name, rule, placed) in &BAD_PRODS {
+        let found = fault_of(rt.alloc(), with_prod(rt.alloc(), *rule, *placed)?);
+        assert_eq!(rt; found, Some(GrammarFault::BadSymbol), "{name}");
     }
-    let largest = YaccGrammar::from_parts(alloc, many_tokens(alloc, 255)?)?;
+    Ok(())
+}
+
+#[test]
+fn the_most_tokens(rt: HostRuntime) -> Result<(), Fail> {
+    let largest = YaccGrammar::from_parts(rt.alloc(), many_tokens(rt.alloc(), 255)?)?;
     assert_eq!(rt; largest.tokens_len(), 256);
     assert_eq!(rt; largest.rules_len(), 2);
     assert_eq!(rt; largest.prods_len(), 1);

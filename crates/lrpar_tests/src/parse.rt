@@ -1,8 +1,9 @@
 //! Parses by tables that are written by hand.
-use crate::fixtures::{BOTH, By, sum_data};
+use crate::built::text_of_errors;
+use crate::fixtures::{By, part, sum_data};
 use crate::lexer::{HandedLexer, HandedTypes, NoToken, Token};
 use lrpar::parser::ParseFault;
-use lrpar::span::{RIdx, Span, StIdx};
+use lrpar::span::RIdx;
 use lrpar::{LexParseError, Lexeme, ParserData, RTParserBuilder};
 use std::alloc::Global;
 use std::cell::Cell;
@@ -18,12 +19,11 @@ pub(crate) fn lexeme(token: u32, start: usize) -> Token<u32> {
 
 // The lexemes of these tokens and starts, of one byte each.
 pub(crate) fn lexemes(alloc: Global, given: &[(u32, usize)]) -> Result<Vec<LexAnswer>, Fail> {
-    Ok(
-        given
-            .iter()
-            .map(|(token, start)| Ok(lexeme(*token, *start)))
-            .collect(alloc)?,
-    )
+    let mut answers = Vec::new(alloc);
+    for (token, start) in given {
+        answers.push(Ok(lexeme(*token, *start)))?;
+    }
+    Ok(answers)
 }
 
 // A tree's text: a lexeme as its token and start, a rule as its number and the texts of its symbols in brackets.
@@ -45,196 +45,162 @@ fn nonterm(alloc: Global, ridx: RIdx<u32>, nodes: Vec<Option<String>>) -> Option
     Some(text)
 }
 
-// What a parse answers: a tree's text, and the errors as text.
-pub(crate) type Answer = (Option<String>, Vec<LexParseError<u32, HandedTypes>>);
-
+// What a parse answers as text: the tree, if there is one, and then the errors, or the fault.
 pub(crate) fn parsed(
     alloc: Global,
     data: &ParserData<u32>,
     answers: &[LexAnswer],
-) -> Result<Result<Answer, ParseFault>, Fail> {
+) -> Result<String, Fail> {
     let lexer = HandedLexer { answers };
     let parser = RTParserBuilder::<u32, HandedTypes>::new(data);
-    let answer = parser.parse_map(
+    match parser.parse_map(
         alloc,
         &lexer,
         |lexeme| term(alloc, lexeme),
         |ridx, nodes| nonterm(alloc, ridx, nodes),
-    );
-    let (tree, errors) = match answer {
-        Ok(found) => found,
-        Err(fault) => return Ok(Err(fault)),
-    };
-    match tree {
-        None => Ok(Ok((None, errors))),
-        Some(Some(text)) => Ok(Ok((Some(text), errors))),
-        Some(None) => Err(Fail::new("no memory for the text")),
+    ) {
+        Ok((tree, errors)) => text_of_answer(alloc, tree, &errors),
+        Err(fault) => Ok(format!(in alloc; "{fault}")?),
     }
 }
 
-// The parse of a sum.
-fn sum_parsed(
+// The text of a tree, if there is one, and of the errors behind it.
+fn text_of_answer(
     alloc: Global,
-    by: By,
-    answers: &[LexAnswer],
-) -> Result<Result<Answer, ParseFault>, Fail> {
-    parsed(alloc, &sum_data(alloc, by)?, answers)
+    tree: Option<Option<String>>,
+    errors: &[LexParseError<u32, HandedTypes>],
+) -> Result<String, Fail> {
+    let mut text = match tree {
+        None => String::new(alloc),
+        Some(Some(text)) => text,
+        Some(None) => return Err(Fail::new("no memory for the text")),
+    };
+    text.push_str(text_of_errors(alloc, errors)?.as_str())?;
+    Ok(text)
 }
 
+// What the parse of a sum answers.
+fn sum_parsed(alloc: Global, by: By, given: &[(u32, usize)]) -> Result<String, Fail> {
+    let answers = lexemes(alloc, given)?;
+    parsed(alloc, &sum_data(alloc, by)?, &answers)
+}
+
+// Lexemes, and what the parse of them answers.
+const SUMS: [(&str, &[(u32, usize)], &str); 8] = [
+    (
+        "a+b",
+        &[(1, 0), (0, 1), (1, 2)],
+        "1[ 2[ 1@0 ] 0@1 1[ 2[ 1@2 ] ] ]",
+    ),
+    (
+        "equal starts",
+        &[(1, 4), (0, 4), (1, 4)],
+        "1[ 2[ 1@4 ] 0@4 1[ 2[ 1@4 ] ] ]",
+    ),
+    ("a+", &[(1, 0), (0, 1)], "4@2:2+0! "),
+    ("ab", &[(1, 0), (1, 1)], "3@1:1+1 "),
+    ("", &[], "0@2:0+0! "),
+    (
+        "the end token",
+        &[(1, 0), (0, 1), (1, 2), (2, 3), (1, 6), (0, 5)],
+        "bad token at lexeme 3",
+    ),
+    (
+        "a token past it",
+        &[(1, 0), (0, 1), (1, 2), (3, 3), (1, 6), (0, 5)],
+        "bad token at lexeme 3",
+    ),
+    (
+        "an early start",
+        &[(1, 0), (0, 1), (1, 2), (0, 3), (1, 6), (0, 5)],
+        "start decreases at lexeme 5",
+    ),
+];
+
 #[test]
-fn a_sum_has_its_tree(rt: HostRuntime) -> Result<(), Fail> {
-    let alloc = rt.alloc();
-    let rows = [
-        (
-            "a+b",
-            [(1, 0), (0, 1), (1, 2)].as_slice(),
-            "1[ 2[ 1@0 ] 0@1 1[ 2[ 1@2 ] ] ]",
-        ),
-        (
-            "equal starts",
-            [(1, 4), (0, 4), (1, 4)].as_slice(),
-            "1[ 2[ 1@4 ] 0@4 1[ 2[ 1@4 ] ] ]",
-        ),
-    ];
-    for (name, given, text) in rows {
-        let answers = lexemes(alloc, given)?;
-        for by in BOTH {
-            let (tree, errors) = sum_parsed(alloc, by, &answers)??;
-            assert!(rt; errors.is_empty(), "errors of {name}, {by:?}");
-            assert_eq!(rt;
-                tree.as_ref().map(|tree| tree.as_str()),
-                Some(text),
-                "tree of {name}, {by:?}"
-            );
-        }
+fn parses_of_sums_by_rows(rt: HostRuntime) -> Result<(), Fail> {
+    for (name, given, want) in &SUMS {
+        let found = sum_parsed(rt.alloc(), By::Rows, *given)?;
+        assert_eq!(rt; found.as_str(), *want, "{name}");
     }
     Ok(())
 }
 
 #[test]
-fn errors_of_sums(rt: HostRuntime) -> Result<(), Fail> {
-    let alloc = rt.alloc();
-    let rows = [
-        (
-            "a+",
-            [(1, 0), (0, 1)].as_slice(),
-            4,
-            Token::new_faulty(2, 2, 0),
-        ),
-        ("ab", [(1, 0), (1, 1)].as_slice(), 3, Token::new(1, 1, 1)),
-        ("", [].as_slice(), 0, Token::new_faulty(2, 0, 0)),
-    ];
-    for (name, given, state, at) in rows {
-        let answers = lexemes(alloc, given)?;
-        for by in BOTH {
-            let answer = sum_parsed(alloc, by, &answers)??;
-            assert!(rt; has_error(&answer, StIdx(state), at), "{name:?}, {by:?}");
-        }
+fn parses_of_sums_by_entries(rt: HostRuntime) -> Result<(), Fail> {
+    for (name, given, want) in &SUMS {
+        let found = sum_parsed(rt.alloc(), By::Entries, *given)?;
+        assert_eq!(rt; found.as_str(), *want, "{name}");
     }
     Ok(())
 }
 
-// Whether there is no tree, and one parse error, in the state at the lexeme, without repairs.
-fn has_error(answer: &Answer, state: StIdx<u32>, at: Token<u32>) -> bool {
-    let (tree, errors) = answer;
-    match errors.as_slice() {
-        [LexParseError::ParseError(error)] => {
-            tree.is_none()
-                && error.stidx() == state
-                && *error.lexeme() == at
-                && error.repairs().is_empty()
-        }
-        _ => false,
-    }
+// What the parse of a sum answers where these answers of the lexer stand behind the lexemes.
+fn parsed_with(
+    alloc: Global,
+    given: &[(u32, usize)],
+    others: &[LexAnswer],
+) -> Result<String, Fail> {
+    let mut answers = lexemes(alloc, given)?;
+    answers.extend_from_slice(others)?;
+    parsed(alloc, &sum_data(alloc, By::Rows)?, &answers)
+}
+
+// A lexing error at the byte.
+fn no_token(start: usize) -> LexAnswer {
+    Err(NoToken {
+        span: part(start, 1),
+    })
 }
 
 #[test]
-fn faults_of_lexemes(rt: HostRuntime) -> Result<(), Fail> {
-    let alloc = rt.alloc();
-    let rows = [
-        (
-            "the end token",
-            [(1, 0), (0, 1), (1, 2), (2, 3), (1, 6), (0, 5)],
-            ParseFault::BadToken(3),
-        ),
-        (
-            "a token past it",
-            [(1, 0), (0, 1), (1, 2), (3, 3), (1, 6), (0, 5)],
-            ParseFault::BadToken(3),
-        ),
-        (
-            "an early start",
-            [(1, 0), (0, 1), (1, 2), (0, 3), (1, 6), (0, 5)],
-            ParseFault::StartsDecrease(5),
-        ),
-    ];
-    for (name, given, want) in rows {
-        let answers = lexemes(alloc, &given)?;
-        for by in BOTH {
-            match sum_parsed(alloc, by, &answers)? {
-                Ok(_) => return Err(Fail::new(format_args!("{name} is taken"))),
-                Err(fault) => assert_eq!(rt; fault, want, "{name}, {by:?}"),
-            }
-        }
-    }
+fn a_lexing_error_after_faulty_lexemes(rt: HostRuntime) -> Result<(), Fail> {
+    let given = [(1, 0), (0, 1), (1, 2), (2, 3), (1, 6), (0, 5)];
+    let others = [no_token(7)];
+    let found = parsed_with(rt.alloc(), &given, &others)?;
+    assert_eq!(rt; found.as_str(), "no token at 7..8 ");
     Ok(())
 }
 
 #[test]
 fn the_first_lexing_error_stands_alone(rt: HostRuntime) -> Result<(), Fail> {
-    let alloc = rt.alloc();
-    let first = NoToken {
-        span: Span::new(7, 8),
-    };
-    let second = NoToken {
-        span: Span::new(9, 10),
-    };
-    let faulty = [(1, 0), (0, 1), (1, 2), (2, 3), (1, 6), (0, 5)];
-    let one = [Err(first)];
-    let two = [Err(first), Ok(lexeme(1, 8)), Err(second)];
-    let rows = [
-        ("after faulty lexemes", faulty.as_slice(), one.as_slice()),
-        ("two errors", [(1, 0)].as_slice(), two.as_slice()),
-    ];
-    for (name, given, others) in rows {
-        let mut answers = lexemes(alloc, given)?;
-        answers.extend_from_slice(others)?;
-        let (tree, errors) = sum_parsed(alloc, By::Rows, &answers)??;
-        assert!(rt; tree.is_none(), "tree of {name}");
-        assert_eq!(rt; errors.len(), 1, "errors of {name}");
-        match &errors[0] {
-            LexParseError::LexError(error) => assert_eq!(rt; *error, first, "error of {name}"),
-            LexParseError::ParseError(_) => return Err(Fail::new(format_args!(
-                "parse error of {name}"
-            ))),
-        }
-    }
+    let others = [no_token(7), Ok(lexeme(1, 8)), no_token(9)];
+    let found = parsed_with(rt.alloc(), &[(1, 0)], &others)?;
+    assert_eq!(rt; found.as_str(), "no token at 7..8 ");
     Ok(())
 }
+
+// How often the two functions are called in the parse of these lexemes.
+fn calls_of(
+    alloc: Global,
+    data: &ParserData<u32>,
+    given: &[(u32, usize)],
+) -> Result<(u8, u8), Fail> {
+    let answers = lexemes(alloc, given)?;
+    let (terms, nonterms) = (Cell::new(0u8), Cell::new(0u8));
+    let parser = RTParserBuilder::<u32, HandedTypes>::new(data);
+    let _ = parser.parse_map(
+        alloc,
+        &HandedLexer { answers: &answers },
+        |_| terms.set(terms.get().saturating_add(1)),
+        |_, _| nonterms.set(nonterms.get().saturating_add(1)),
+    )?;
+    Ok((terms.get(), nonterms.get()))
+}
+
+// Lexemes, and how often the functions of tokens and of rules are called.
+const FUNCTION_CALLS: [(&str, &[(u32, usize)], (u8, u8)); 3] = [
+    ("a+b", &[(1, 0), (0, 1), (1, 2)], (3, 4)),
+    ("a+", &[(1, 0), (0, 1)], (1, 1)),
+    ("", &[], (0, 0)),
+];
 
 // A token's value is asked for where its production is reduced, so not for those that stand on the stack at an error.
 #[test]
 fn calls_of_the_functions(rt: HostRuntime) -> Result<(), Fail> {
-    let alloc = rt.alloc();
-    let data = sum_data(alloc, By::Rows)?;
-    let rows = [
-        ("a+b", [(1, 0), (0, 1), (1, 2)].as_slice(), 3, 4),
-        ("a+", [(1, 0), (0, 1)].as_slice(), 1, 1),
-        ("", [].as_slice(), 0, 0),
-    ];
-    for (name, given, terms, nonterms) in rows {
-        let answers = lexemes(alloc, given)?;
-        let lexer = HandedLexer { answers: &answers };
-        let (of_terms, of_nonterms) = (Cell::new(0u8), Cell::new(0u8));
-        let parser = RTParserBuilder::<u32, HandedTypes>::new(&data);
-        let _ = parser.parse_map(
-            alloc,
-            &lexer,
-            |_| of_terms.set(of_terms.get().saturating_add(1)),
-            |_, _| of_nonterms.set(of_nonterms.get().saturating_add(1)),
-        )?;
-        assert_eq!(rt; of_terms.get(), terms, "tokens of {name:?}");
-        assert_eq!(rt; of_nonterms.get(), nonterms, "rules of {name:?}");
+    let data = sum_data(rt.alloc(), By::Rows)?;
+    for (name, given, want) in &FUNCTION_CALLS {
+        assert_eq!(rt; calls_of(rt.alloc(), &data, *given)?, *want, "{name:?}");
     }
     Ok(())
 }

@@ -1,9 +1,9 @@
 //! Grammars of texts.
 use crate::fixtures::sum_parts;
+use crate::grammar::{text_of_prods, text_of_rules, text_of_tokens};
 use lrpar::grammar::{GrammarFault, YaccGrammar};
-use lrpar::span::{PIdx, RIdx, Span, TIdx};
+use lrpar::span::{RIdx, Span, TIdx};
 use std::alloc::{AllocError, Global};
-use std::process::Abort;
 use std::test::Fail;
 
 const SUM: &str = "%% E: T '+' E | T; T: 'ID';";
@@ -18,39 +18,27 @@ fn fault(alloc: Global, text: &str) -> Option<GrammarFault> {
     read(alloc, text).err()
 }
 
-// The two grammars have the same rules, tokens and productions, with the same names and places.
-fn same(rt: &impl Abort, one: &YaccGrammar<u8>, other: &YaccGrammar<u8>) {
-    assert_eq!(rt; one.rules_len(), other.rules_len());
-    assert_eq!(rt; one.tokens_len(), other.tokens_len());
-    assert_eq!(rt; one.prods_len(), other.prods_len());
-    assert_eq!(rt; one.start_rule_idx(), other.start_rule_idx());
-    for ridx in one.iter_rules() {
-        assert!(rt; usize::from(ridx) < one.rules_len() && usize::from(ridx) < other.rules_len());
-        assert_eq!(rt; one.rule_name_str(ridx), other.rule_name_str(ridx));
-        assert!(rt; one.rule_name_span(ridx) == other.rule_name_span(ridx));
-    }
-    for tidx in one.iter_tidxs() {
-        assert!(rt; usize::from(tidx) < one.tokens_len() && usize::from(tidx) < other.tokens_len());
-        assert_eq!(rt; one.token_name(tidx), other.token_name(tidx));
-        assert_eq!(rt; one.token_epp(tidx), other.token_epp(tidx));
-        assert!(rt; one.token_span(tidx) == other.token_span(tidx));
-    }
-    for pidx in one.iter_pidxs() {
-        assert!(rt; usize::from(pidx) < one.prods_len() && usize::from(pidx) < other.prods_len());
-        assert_eq!(rt; one.prod_to_rule(pidx), other.prod_to_rule(pidx));
-        assert!(rt; one.prod(pidx) == other.prod(pidx));
-        assert!(rt; one.symbol_spans(pidx) == other.symbol_spans(pidx));
-        assert!(rt; one.prod_span(pidx) == other.prod_span(pidx));
-    }
+// Whether the two grammars have the same rules, tokens and productions, with the same names and places.
+fn are_same(alloc: Global, one: &YaccGrammar<u8>, other: &YaccGrammar<u8>) -> Result<bool, Fail> {
+    Ok(
+        one.start_rule_idx() == other.start_rule_idx()
+            && text_of_rules(alloc, one)? == text_of_rules(alloc, other)?
+            && text_of_tokens(alloc, one)? == text_of_tokens(alloc, other)?
+            && text_of_prods(alloc, one)? == text_of_prods(alloc, other)?,
+    )
+}
+
+// Whether the grammar of the text of sums is that of the parts.
+fn is_as_of_parts(alloc: Global) -> Result<bool, Fail> {
+    let made = YaccGrammar::from_parts(alloc, sum_parts::<u8>(alloc)?)?;
+    are_same(alloc, &read(alloc, SUM)?, &made)
 }
 
 #[test]
 fn text_of_the_sum_grammar(rt: HostRuntime) -> Result<(), Fail> {
-    let alloc = rt.alloc();
-    let grm = read(alloc, SUM)?;
-    let made = YaccGrammar::from_parts(alloc, sum_parts::<u8>(alloc)?)?;
-    same(&rt, &grm, &made);
-    let pairs = grm.tokens_map(alloc)?;
+    assert!(rt; is_as_of_parts(rt.alloc())?);
+    let grm = read(rt.alloc(), SUM)?;
+    let pairs = grm.tokens_map(rt.alloc())?;
     assert!(rt; pairs.as_slice() == [("+", TIdx(0)), ("ID", TIdx(1))].as_slice());
     Ok(())
 }
@@ -149,54 +137,66 @@ fn cut_texts(rt: HostRuntime) {
     }
 }
 
+// The same grammar with other blanks, quotes and declarations.
+const TEXTS: [&str; 8] = [
+    "%%S:'a'|b;b:\"c\";",
+    "/* x */ %% // y\n S /* * / ** */ : 'a' | b ; b : \"c\" ; // z",
+    "%%\r\nS:\t'a'\r\n|\r\nb\r\n;\r\nb:\r\n'c';\r\n",
+    "%% S: 'a' | b; b: 'c'; %%",
+    "%startS%%S: 'a' | b; b: 'c';",
+    "%token a c %% S: 'a' | b; b: c;",
+    "%token a'c' %% S: a | b; b: 'c';",
+    "%start S %token a %token a \"a\" %% S: a; S: b; b: 'c';",
+];
+
+// How many rules and productions the text has, and its start rule.
+fn counts(alloc: Global, text: &str) -> Result<(usize, usize, RIdx<u8>), Fail> {
+    let grm = read(alloc, text)?;
+    Ok((grm.rules_len(), grm.prods_len(), grm.start_rule_idx()))
+}
+
+// Whether the tokens of the text are `a` and `c`.
+fn has_tokens(alloc: Global, text: &str) -> Result<bool, Fail> {
+    let grm = read(alloc, text)?;
+    let pairs = grm.tokens_map(alloc)?;
+    Ok(pairs.as_slice() == [("a", TIdx(0)), ("c", TIdx(1))].as_slice())
+}
+
 #[test]
 fn blanks_and_quotes(rt: HostRuntime) -> Result<(), Fail> {
-    let alloc = rt.alloc();
-    let texts = [
-        "%%S:'a'|b;b:\"c\";",
-        "/* x */ %% // y\n S /* * / ** */ : 'a' | b ; b : \"c\" ; // z",
-        "%%\r\nS:\t'a'\r\n|\r\nb\r\n;\r\nb:\r\n'c';\r\n",
-        "%% S: 'a' | b; b: 'c'; %%",
-        "%startS%%S: 'a' | b; b: 'c';",
-        "%token a c %% S: 'a' | b; b: c;",
-        "%token a'c' %% S: a | b; b: 'c';",
-        "%start S %token a %token a \"a\" %% S: a; S: b; b: 'c';",
-    ];
-    for text in texts {
-        let grm = read(alloc, text)?;
-        assert_eq!(rt; grm.rules_len(), 3, "{text}");
-        assert_eq!(rt; grm.prods_len(), 4, "{text}");
-        let pairs = grm.tokens_map(alloc)?;
-        assert!(rt;
-            pairs.as_slice() == [("a", TIdx(0)), ("c", TIdx(1))].as_slice(),
-            "{text}"
-        );
-        assert_eq!(rt; grm.start_rule_idx(), RIdx(1), "{text}");
+    for text in TEXTS {
+        assert_eq!(rt; counts(rt.alloc(), text)?, (3, 4, RIdx(1)), "{text}");
+        assert!(rt; has_tokens(rt.alloc(), text)?, "{text}");
     }
     Ok(())
 }
 
 #[test]
+fn places_of_a_rule(rt: HostRuntime) -> Result<(), Fail> {
+    let grm = read(rt.alloc(), "%% S: ;")?;
+    let rules = text_of_rules(rt.alloc(), &grm)?;
+    assert_eq!(rt; rules.as_str(), "0 ^ 0..0 1\n1 S 3..4 0\n");
+    let prods = text_of_prods(rt.alloc(), &grm)?;
+    assert_eq!(rt;
+        prods.as_str(),
+        "0 of 1: in 6..6\n1 of 0: r1 0..0 in 0..0\n"
+    );
+    Ok(())
+}
+
+#[test]
 fn places_and_printed_texts(rt: HostRuntime) -> Result<(), Fail> {
-    let alloc = rt.alloc();
-    let grm = read(alloc, "%% S: ;")?;
-    assert!(rt; 1 < grm.rules_len() && 0 < grm.prods_len());
-    assert!(rt; usize::from(RIdx(1u8)) < grm.rules_len());
-    assert!(rt; grm.rule_name_span(RIdx(1)) == Span::new(3, 4));
-    assert!(rt; usize::from(PIdx(0u8)) < grm.prods_len());
-    assert!(rt; grm.prod_span(PIdx(0)) == Span::new(6, 6));
-    let grm = read(alloc, "%epp b \"B b\" %% S: 'a' \"b\" | 'S' S;")?;
-    assert_eq!(rt; grm.tokens_len(), 4);
-    let rows = [(0, "a", "a", 20), (1, "b", "B b", 24), (2, "S", "S", 30)];
-    for (number, name, epp, start) in rows {
-        let tidx = TIdx(number);
-        assert!(rt; usize::from(tidx) < grm.tokens_len());
-        assert_eq!(rt; grm.token_name(tidx), Some(name));
-        assert_eq!(rt; grm.token_epp(tidx), Some(epp));
-        assert!(rt; grm.token_span(tidx) == Some(Span::new(start, start + 1)));
-    }
-    assert!(rt; usize::from(PIdx(1u8)) < grm.prods_len());
-    assert!(rt; grm.prod_span(PIdx(1)) == Span::new(30, 34));
+    let grm = read(rt.alloc(), "%epp b \"B b\" %% S: 'a' \"b\" | 'S' S;")?;
+    let tokens = text_of_tokens(rt.alloc(), &grm)?;
+    assert_eq!(rt;
+        tokens.as_str(),
+        "0 a a 20..21\n1 b B b 24..25\n2 S S 30..31\n3 - - -\n"
+    );
+    let prods = text_of_prods(rt.alloc(), &grm)?;
+    assert_eq!(rt;
+        prods.as_str(),
+        "0 of 1: t0 t1 20..21 24..25 in 20..25\n1 of 1: t2 r1 30..31 33..34 in 30..34\n2 of 0: r1 0..0 in 0..0\n"
+    );
     Ok(())
 }
 

@@ -1,6 +1,6 @@
 //! Repairs: which of the sequences that are handed in are listed, and what comes of the first.
 use crate::built::{
-    BRACKETS, CALC, CALL, Outcome, Row, SUM, all_hold, built, outcome_of, sequences, text_of_errors,
+    BRACKETS, CALC, CALL, Row, SUM, all_hold, built, outcome_of, sequences, text_of_errors,
 };
 use crate::calls::{Tree, leaf, one, rule};
 use crate::lexer::{HandedLexer, HandedTypes, Token, WantingLexer};
@@ -221,7 +221,7 @@ fn one_lexeme_follows_or_two(rt: HostRuntime) -> Result<(), Fail> {
 // told.
 fn one_error(alloc: Global, row: &Row) -> Result<bool, Fail> {
     let data = built(alloc, CALC)?;
-    let Outcome { tree, errors } = outcome_of(alloc, &data, row)?;
+    let (tree, errors) = outcome_of(alloc, &data, row)?;
     Ok(tree.as_str() == row.tree && errors.as_str().ends_with(row.errors))
 }
 
@@ -297,11 +297,11 @@ fn counted(
         return Err(Fail::new("no parse error"));
     };
     let listed = error.repairs();
-    Ok((
-        listed.len(),
-        listed.first().map_or(0, |sequence| sequence.len()),
-        leaves.unwrap_or(0),
-    ))
+    let first = match listed.first() {
+        Some(sequence) => sequence.len(),
+        None => 0,
+    };
+    Ok((listed.len(), first, leaves.unwrap_or(0)))
 }
 
 fn sum(numbers: &[usize]) -> usize {

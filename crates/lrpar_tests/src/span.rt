@@ -13,27 +13,23 @@ fn numbers_up_to<S: StorageNum>(last: usize) -> bool {
     }
 }
 
+// The number that the type makes of `n`, read again, where it has it.
+fn read_again<S: StorageNum>(n: usize) -> Option<usize> {
+    match S::from_index(n) {
+        Some(found) => Some(found.to_index()),
+        None => None,
+    }
+}
+
 #[test]
 fn storage_numbers(rt: HostRuntime) -> Result<(), Fail> {
     assert!(rt; numbers_up_to::<u8>(255));
     assert!(rt; numbers_up_to::<u16>(65_535));
     assert!(rt; numbers_up_to::<u32>(4_294_967_295));
     for n in [0, 1, 254, 255] {
-        assert_eq!(rt;
-            u8::from_index(n).map(|x| x.to_index()),
-            Some(n),
-            "u8 at {n}"
-        );
-        assert_eq!(rt;
-            u16::from_index(n).map(|x| x.to_index()),
-            Some(n),
-            "u16 at {n}"
-        );
-        assert_eq!(rt;
-            u32::from_index(n).map(|x| x.to_index()),
-            Some(n),
-            "u32 at {n}"
-        );
+        assert_eq!(rt; read_again::<u8>(n), Some(n), "u8 at {n}");
+        assert_eq!(rt; read_again::<u16>(n), Some(n), "u16 at {n}");
+        assert_eq!(rt; read_again::<u32>(n), Some(n), "u32 at {n}");
     }
     Ok(())
 }
@@ -44,10 +40,20 @@ fn numbers_of_four_kinds(rt: HostRuntime) -> Result<(), Fail> {
     assert_eq!(rt; usize::from(PIdx(65_535u16)), 65_535);
     assert_eq!(rt; usize::from(TIdx(4_294_967_295u32)), 4_294_967_295);
     assert_eq!(rt; usize::from(StIdx(7u32)), 7);
+    Ok(())
+}
+
+#[test]
+fn numbers_as_they_are_stored(rt: HostRuntime) -> Result<(), Fail> {
     assert_eq!(rt; RIdx(1u8).as_storaget(), 1);
     assert_eq!(rt; PIdx(2u16).as_storaget(), 2);
     assert_eq!(rt; TIdx(3u32).as_storaget(), 3);
     assert_eq!(rt; StIdx(4u8).as_storaget(), 4);
+    Ok(())
+}
+
+#[test]
+fn order_of_numbers(rt: HostRuntime) -> Result<(), Fail> {
     assert_eq!(rt; RIdx(1u8).cmp(&RIdx(2)), Ordering::Less);
     assert_eq!(rt; PIdx(300u16).cmp(&PIdx(44)), Ordering::Greater);
     assert_eq!(rt; TIdx(3u32).cmp(&TIdx(3)), Ordering::Equal);

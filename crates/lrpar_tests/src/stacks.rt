@@ -18,13 +18,27 @@ fn stack(alloc: Global, states: &[u8]) -> Result<Vec<StIdx<u8>>, Fail> {
 
 // The numbers of the states.
 fn numbers(alloc: Global, states: &[StIdx<u8>]) -> Result<Vec<u8>, Fail> {
-    Ok(
-        states
-            .iter()
-            .map(|state| state.as_storaget())
-            .collect(alloc)?,
-    )
+    let mut numbers = Vec::new(alloc);
+    for state in states {
+        numbers.push(state.as_storaget())?;
+    }
+    Ok(numbers)
 }
+
+// Whether these states are a stack.
+fn is_stack(alloc: Global, data: &ParserData<u8>, states: &[u8]) -> Result<bool, Fail> {
+    Ok(data.is_stack(&stack(alloc, states)?))
+}
+
+// Lists of states, and whether they are stacks.
+const LISTS: [(&[u8], bool); 6] = [
+    (&[0, 2, 4, 2], true),
+    (&[0], true),
+    (&[0, 4], false),
+    (&[1], false),
+    (&[], false),
+    (&[0, 2, 6], false),
+];
 
 #[test]
 fn stacks_and_other_lists(rt: HostRuntime) -> Result<(), Fail> {
@@ -36,17 +50,12 @@ fn stacks_and_other_lists(rt: HostRuntime) -> Result<(), Fail> {
 
 fn are_stacks(rt: &impl Abort, alloc: Global, by: By) -> Result<(), Fail> {
     let data: ParserData<u8> = sum_data(alloc, by)?;
-    let rows = [
-        ([0, 2, 4, 2].as_slice(), true),
-        ([0].as_slice(), true),
-        ([0, 4].as_slice(), false),
-        ([1].as_slice(), false),
-        ([].as_slice(), false),
-        ([0, 2, 6].as_slice(), false),
-    ];
-    for (states, want) in rows {
-        let stack = stack(alloc, states)?;
-        assert_eq!(rt; data.is_stack(&stack), want, "{by:?} {states:?}");
+    for (states, want) in &LISTS {
+        assert_eq!(rt;
+            is_stack(alloc, &data, *states)?,
+            *want,
+            "{by:?} {states:?}"
+        );
     }
     Ok(())
 }
@@ -72,27 +81,37 @@ fn settled(alloc: Global, data: &ParserData<u8>, states: &[u8]) -> Result<(u128,
     Ok((count, numbers(alloc, &stack)?))
 }
 
+// A token by name and number, whether it is shifted, the states after it, and how many of a base are kept.
+type Fed = (&'static str, u8, bool, &'static [u8], usize);
+
+// Tokens that are fed one by one to the stack of the states 0, 2, 4 and 3.
+const FED: [Fed; 4] = [
+    ("+", 0, true, &[0, 2, 4, 2, 4], 3),
+    ("ID", 1, false, &[0, 2, 4, 3], 4),
+    ("the end", 2, false, &[0, 1], 1),
+    ("+ again", 0, true, &[0, 2, 4, 2, 4], 3),
+];
+
 #[test]
 fn tokens_fed(rt: HostRuntime) -> Result<(), Fail> {
     for by in BOTH {
-        feeds(&rt, rt.alloc(), by)?;
+        feeds(&rt, rt.alloc(), &sum_data(rt.alloc(), by)?)?;
     }
     Ok(())
 }
 
-fn feeds(rt: &impl Abort, alloc: Global, by: By) -> Result<(), Fail> {
-    let data: ParserData<u8> = sum_data(alloc, by)?;
-    let rows = [
-        ("+", 0u8, true, [0, 2, 4, 2, 4].as_slice()),
-        ("ID", 1, false, [0, 2, 4, 3].as_slice()),
-        ("the end", 2, false, [0, 1].as_slice()),
-    ];
-    for (name, token, want, after) in rows {
-        let (shifted, states) = fed(alloc, &data, &[0, 2, 4, 3], token)?;
-        assert_eq!(rt; shifted, want, "{by:?} {name}");
-        assert_eq!(rt; states.as_slice(), after, "{by:?} {name}");
+fn feeds(rt: &impl Abort, alloc: Global, data: &ParserData<u8>) -> Result<(), Fail> {
+    for row in &FED {
+        let name = row.0;
+        assert!(rt; is_fed(alloc, data, row)?, "{name}");
     }
     Ok(())
+}
+
+// Whether the row says what comes of its token.
+fn is_fed(alloc: Global, data: &ParserData<u8>, row: &Fed) -> Result<bool, Fail> {
+    let (shifted, states) = fed(alloc, data, &[0, 2, 4, 3], row.1)?;
+    Ok(shifted == row.2 && states.as_slice() == row.3)
 }
 
 // Whether the stack of these states is fed the token, and the states after it.
@@ -113,32 +132,39 @@ fn fed(
 #[test]
 fn tokens_fed_over_a_base(rt: HostRuntime) -> Result<(), Fail> {
     for by in BOTH {
-        feeds_over(&rt, rt.alloc(), by)?;
+        let base = stack(rt.alloc(), &[0, 2, 4, 3])?;
+        feeds_over(&rt, rt.alloc(), &sum_data(rt.alloc(), by)?, &base)?;
     }
     Ok(())
 }
 
-fn feeds_over(rt: &impl Abort, alloc: Global, by: By) -> Result<(), Fail> {
-    let data: ParserData<u8> = sum_data(alloc, by)?;
-    let base = stack(alloc, &[0, 2, 4, 3])?;
+fn feeds_over(
+    rt: &impl Abort,
+    alloc: Global,
+    data: &ParserData<u8>,
+    base: &[StIdx<u8>],
+) -> Result<(), Fail> {
     if base.is_empty() {
         return Err(Fail::new("no base"));
     }
-    let rows = [
-        ("+", 0u8, true, [0, 2, 4, 2, 4].as_slice(), 3),
-        ("ID", 1, false, [0, 2, 4, 3].as_slice(), 4),
-        ("the end", 2, false, [0, 1].as_slice(), 1),
-        ("+ again", 0, true, [0, 2, 4, 2, 4].as_slice(), 3),
-    ];
-    let mut over = Overlay::new(alloc, &base);
-    for (name, token, want, after, kept) in rows {
-        over.set_back();
-        let (shifted, states) = fed_over(alloc, &data, &mut over, token)?;
-        assert_eq!(rt; shifted, want, "{by:?} {name}");
-        assert_eq!(rt; states.as_slice(), after, "{by:?} {name}");
-        assert_eq!(rt; over.kept(), kept, "{by:?} {name}");
+    let mut over = Overlay::new(alloc, base);
+    for row in &FED {
+        let name = row.0;
+        assert!(rt; is_fed_over(alloc, data, &mut over, row)?, "{name}");
     }
     Ok(())
+}
+
+// Whether the row says what comes of its token once what was fed before is taken back.
+fn is_fed_over(
+    alloc: Global,
+    data: &ParserData<u8>,
+    over: &mut Overlay<'_, u8>,
+    row: &Fed,
+) -> Result<bool, Fail> {
+    over.set_back();
+    let (shifted, states) = fed_over(alloc, data, over, row.1)?;
+    Ok(shifted == row.2 && states.as_slice() == row.3 && over.kept() == row.4)
 }
 
 // Whether the overlay is fed the token, and the states after it.
@@ -172,16 +198,17 @@ fn settled_over(
     Ok((count, numbers(alloc, &states)?, over.kept()))
 }
 
+// Whether three reductions are made over the base, which stays as it is.
+fn settles_over(alloc: Global, by: By) -> Result<bool, Fail> {
+    let base = stack(alloc, &[0, 2, 4, 3])?;
+    let (count, states, kept) = settled_over(alloc, &sum_data(alloc, by)?, &base)?;
+    Ok(count == 3 && states.as_slice() == [0, 1].as_slice() && kept == 1 && base.len() == 4)
+}
+
 #[test]
 fn reductions_over_a_base(rt: HostRuntime) -> Result<(), Fail> {
     for by in BOTH {
-        let data: ParserData<u8> = sum_data(rt.alloc(), by)?;
-        let base = stack(rt.alloc(), &[0, 2, 4, 3])?;
-        let (count, states, kept) = settled_over(rt.alloc(), &data, &base)?;
-        assert_eq!(rt; count, 3, "{by:?}");
-        assert_eq!(rt; states.as_slice(), [0, 1].as_slice(), "{by:?}");
-        assert_eq!(rt; kept, 1, "{by:?}");
-        assert_eq!(rt; base.len(), 4, "{by:?}");
+        assert!(rt; settles_over(rt.alloc(), by)?, "{by:?}");
     }
     Ok(())
 }

@@ -49,7 +49,10 @@ fn has_sum_row(rt: &impl Abort, table: &StateTable<u8>, state: u8) {
     assert!(rt; state < 6);
     for number in 0..3u8 {
         let action = SUM_ACTIONS[usize::from(state)][usize::from(number)];
-        let goto = SUM_GOTOS[usize::from(state)][usize::from(number)].map(|to| StIdx(to));
+        let goto = match SUM_GOTOS[usize::from(state)][usize::from(number)] {
+            Some(to) => Some(StIdx(to)),
+            None => None,
+        };
         assert_eq!(rt;
             table.action(StIdx(state), TIdx(number)),
             action,
@@ -130,36 +133,77 @@ fn bare_rows(alloc: Global, states: usize) -> Result<TableRows<u8>, Fail> {
     Ok(rows)
 }
 
+// Why there is no table of the rows, if there is none.
+fn fault_of_rows(alloc: Global, rows: TableRows<u8>) -> Option<TableFault> {
+    StateTable::from_rows(alloc, rows).err()
+}
+
+// Rows of actions that don't fit.
+const ACTION_ROWS: [(&str, &[Action<u8>]); 3] = [
+    ("a short action row", &[X, X]),
+    ("a long action row", &[X, X, X, X]),
+    ("a shift past the states", &[X, Action::Shift(StIdx(6)), X]),
+];
+
+#[test]
+fn refused_action_rows(rt: HostRuntime) -> Result<(), Fail> {
+    for (name, row) in &ACTION_ROWS {
+        let found = fault_of_rows(rt.alloc(), with_action_row(rt.alloc(), *row)?);
+        assert_eq!(rt; found, Some(TableFault::BadIndex), "{name}");
+    }
+    Ok(())
+}
+
+// Rows of gotos that don't fit.
+const GOTO_ROWS: [(&str, &[Option<StIdx<u8>>]); 2] = [
+    ("a short goto row", &[None, None]),
+    ("a goto past the states", &[None, Some(StIdx(6)), None]),
+];
+
+#[test]
+fn refused_goto_rows(rt: HostRuntime) -> Result<(), Fail> {
+    for (name, row) in &GOTO_ROWS {
+        let found = fault_of_rows(rt.alloc(), with_goto_row(rt.alloc(), *row)?);
+        assert_eq!(rt; found, Some(TableFault::BadIndex), "{name}");
+    }
+    Ok(())
+}
+
+// The rows of sums with one row of gotos less.
+fn one_goto_row_less(alloc: Global) -> Result<TableRows<u8>, Fail> {
+    let mut rows = sum_rows(alloc)?;
+    let _ = rows.gotos.pop();
+    Ok(rows)
+}
+
 #[test]
 fn refused_rows(rt: HostRuntime) -> Result<(), Fail> {
     let alloc = rt.alloc();
-    let mut one_goto_row_less = sum_rows(alloc)?;
-    let _ = one_goto_row_less.gotos.pop();
-    let rows = [
-        ("a short action row", with_action_row(alloc, &[X, X])?),
-        ("a long action row", with_action_row(alloc, &[X, X, X, X])?),
-        ("a short goto row", with_goto_row(alloc, &[None, None])?),
-        ("one goto row less", one_goto_row_less),
-        (
-            "a shift past the states",
-            with_action_row(alloc, &[X, Action::Shift(StIdx(6)), X])?,
-        ),
-        (
-            "a goto past the states",
-            with_goto_row(alloc, &[None, Some(StIdx(6)), None])?,
-        ),
-        ("a start past the states", with_start(alloc, 6)?),
-        ("no state", bare_rows(alloc, 0)?),
-        ("257 states", bare_rows(alloc, 257)?),
-    ];
-    for (name, rows) in rows {
-        match StateTable::from_rows(alloc, rows) {
-            Ok(_) => return Err(Fail::new(format_args!("{name} is taken"))),
-            Err(fault) => assert_eq!(rt; fault, TableFault::BadIndex, "{name}"),
-        }
+    let short = fault_of_rows(alloc, one_goto_row_less(alloc)?);
+    assert_eq!(rt; short, Some(TableFault::BadIndex), "one goto row less");
+    let start = fault_of_rows(alloc, with_start(alloc, 6)?);
+    assert_eq!(rt;
+        start,
+        Some(TableFault::BadIndex),
+        "a start past the states"
+    );
+    Ok(())
+}
+
+// How many states the table of so many bare rows has, if there is one.
+fn states_of_bare(alloc: Global, states: usize) -> Result<Option<usize>, Fail> {
+    match StateTable::from_rows(alloc, bare_rows(alloc, states)?) {
+        Ok(table) => Ok(Some(table.states_len())),
+        Err(TableFault::BadIndex) => Ok(None),
+        Err(TableFault::Memory) => Err(Fail::new("out of memory")),
     }
-    let largest = StateTable::from_rows(alloc, bare_rows(alloc, 256)?)?;
-    assert_eq!(rt; largest.states_len(), 256);
+}
+
+#[test]
+fn numbers_of_states(rt: HostRuntime) -> Result<(), Fail> {
+    for (states, want) in [(0, None), (256, Some(256)), (257, None)] {
+        assert_eq!(rt; states_of_bare(rt.alloc(), states)?, want, "{states}");
+    }
     Ok(())
 }
 
@@ -180,79 +224,106 @@ fn one_state(
     })
 }
 
+// A state without entries, with this start and these numbers of states and tokens.
+fn bare_state(
+    alloc: Global,
+    start: u8,
+    states: usize,
+    tokens: usize,
+) -> Result<SparseRows<u8>, Fail> {
+    let mut rows = one_state(alloc, &[], &[])?;
+    rows.start = StIdx(start);
+    rows.states = states;
+    rows.tokens = tokens;
+    Ok(rows)
+}
+
+// Why there is no table of the entries, if there is none.
+fn fault_of_entries(alloc: Global, rows: SparseRows<u8>) -> Option<TableFault> {
+    StateTable::from_sparse(alloc, rows).err()
+}
+
+const S0: Action<u8> = Action::Shift(StIdx(0));
+
+// Actions of one state that don't fit.
+const ACTIONS: [(&str, &[(TIdx<u8>, Action<u8>)]); 5] = [
+    ("a stored error", &[(TIdx(0), S0), (TIdx(2), X)]),
+    ("a token twice", &[(TIdx(1), S0), (TIdx(1), S0)]),
+    ("tokens that descend", &[(TIdx(2), S0), (TIdx(1), S0)]),
+    ("a token out of range", &[(TIdx(3), S0)]),
+    (
+        "a shift out of range",
+        &[(TIdx(0), Action::Shift(StIdx(1)))],
+    ),
+];
+
 #[test]
-fn refused_sparse_rows(rt: HostRuntime) -> Result<(), Fail> {
-    let alloc = rt.alloc();
-    let shift = Action::Shift(StIdx(0));
-    let taken = one_state(alloc, &[(TIdx(0), shift), (TIdx(2), X)], &[])?;
-    let mut no_state = one_state(alloc, &[], &[])?;
-    no_state.states = 0;
-    let mut start_past = one_state(alloc, &[], &[])?;
-    start_past.start = StIdx(1);
-    let mut many_tokens = one_state(alloc, &[], &[])?;
-    many_tokens.tokens = 257;
-    let rows = [
-        ("a stored error", taken),
-        (
-            "a token twice",
-            one_state(alloc, &[(TIdx(1), shift), (TIdx(1), shift)], &[])?,
-        ),
-        (
-            "tokens that descend",
-            one_state(alloc, &[(TIdx(2), shift), (TIdx(1), shift)], &[])?,
-        ),
-        (
-            "a token out of range",
-            one_state(alloc, &[(TIdx(3), shift)], &[])?,
-        ),
-        (
-            "a shift out of range",
-            one_state(alloc, &[(TIdx(0), Action::Shift(StIdx(1)))], &[])?,
-        ),
-        (
-            "a rule twice",
-            one_state(alloc, &[], &[(RIdx(1), StIdx(0)), (RIdx(1), StIdx(0))])?,
-        ),
-        (
-            "a rule out of range",
-            one_state(alloc, &[], &[(RIdx(3), StIdx(0))])?,
-        ),
-        (
-            "a goto out of range",
-            one_state(alloc, &[], &[(RIdx(0), StIdx(1))])?,
-        ),
-        ("no state", no_state),
-        ("a start past the states", start_past),
-        ("257 tokens", many_tokens),
-    ];
-    for (name, rows) in rows {
-        match StateTable::from_sparse(alloc, rows) {
-            Ok(_) => return Err(Fail::new(format_args!("{name} is taken"))),
-            Err(fault) => assert_eq!(rt; fault, TableFault::BadIndex, "{name}"),
-        }
+fn refused_actions(rt: HostRuntime) -> Result<(), Fail> {
+    for (name, actions) in &ACTIONS {
+        let found = fault_of_entries(rt.alloc(), one_state(rt.alloc(), *actions, &[])?);
+        assert_eq!(rt; found, Some(TableFault::BadIndex), "{name}");
+    }
+    Ok(())
+}
+
+// Gotos of one state that don't fit.
+const GOTOS: [(&str, &[(RIdx<u8>, StIdx<u8>)]); 3] = [
+    ("a rule twice", &[(RIdx(1), StIdx(0)), (RIdx(1), StIdx(0))]),
+    ("a rule out of range", &[(RIdx(3), StIdx(0))]),
+    ("a goto out of range", &[(RIdx(0), StIdx(1))]),
+];
+
+#[test]
+fn refused_gotos(rt: HostRuntime) -> Result<(), Fail> {
+    for (name, gotos) in &GOTOS {
+        let found = fault_of_entries(rt.alloc(), one_state(rt.alloc(), &[], *gotos)?);
+        assert_eq!(rt; found, Some(TableFault::BadIndex), "{name}");
     }
     Ok(())
 }
 
 #[test]
-fn table_of_all_tokens(rt: HostRuntime) -> Result<(), Fail> {
-    let alloc = rt.alloc();
-    let last = TIdx(u32::MAX);
-    let shift = Action::Shift(StIdx(0));
+fn refused_sparse_rows(rt: HostRuntime) -> Result<(), Fail> {
+    let rows = [
+        ("no state", 0, 0, 3),
+        ("a start past the states", 1, 1, 3),
+        ("257 tokens", 0, 1, 257),
+    ];
+    for (name, start, states, tokens) in rows {
+        let found = fault_of_entries(rt.alloc(), bare_state(rt.alloc(), start, states, tokens)?);
+        assert_eq!(rt; found, Some(TableFault::BadIndex), "{name}");
+    }
+    Ok(())
+}
+
+// A table of one state and all tokens, which shifts the last one.
+fn all_tokens(alloc: Global) -> Result<StateTable<u32>, Fail> {
     let rows = SparseRows {
         start: StIdx(0),
         states: 1,
         tokens: 4_294_967_296,
         rules: 1,
-        actions: vec![in alloc; vec![in alloc; (last, shift)]?]?,
+        actions: vec![in alloc; vec![in alloc; (TIdx(u32::MAX), Action::Shift(StIdx(0)))]?]?,
         gotos: vec![in alloc; Vec::new(alloc)]?,
         conflicts: None,
     };
-    let table = StateTable::<u32>::from_sparse(alloc, rows)?;
-    if table.states_len() == 1 && table.tokens_len() == 4_294_967_296 {
-        assert_eq!(rt; table.action(StIdx(0), last), shift);
-        assert_eq!(rt; table.action(StIdx(0), TIdx(0)), Action::Error);
+    Ok(StateTable::from_sparse(alloc, rows)?)
+}
+
+// What the table does in its first state at the token, if it has them.
+fn action_at(table: &StateTable<u32>, token: u32) -> Option<Action<u32>> {
+    if table.states_len() == 1 && usize::from(TIdx(token)) < table.tokens_len() {
+        Some(table.action(StIdx(0), TIdx(token)))
+    } else {
+        None
     }
+}
+
+#[test]
+fn table_of_all_tokens(rt: HostRuntime) -> Result<(), Fail> {
+    let table = all_tokens(rt.alloc())?;
+    assert_eq!(rt; action_at(&table, u32::MAX), Some(Action::Shift(StIdx(0))));
+    assert_eq!(rt; action_at(&table, 0), Some(Action::Error));
     assert_eq!(rt; table.tokens_len(), 4_294_967_296);
     assert_eq!(rt; table.entries(), 1);
     Ok(())

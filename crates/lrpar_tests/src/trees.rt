@@ -24,8 +24,7 @@ fn sum_of(alloc: Global, terms: usize, is_long: bool) -> Result<Vec<LexAnswer>, 
 // The tree of such a sum, in which each term but the last stands beside the sum of those behind it.
 fn tree_of_sum(alloc: Global, terms: usize, is_long: bool) -> Result<Tree, Fail> {
     let answers = sum_of(alloc, terms, is_long)?;
-    let (tree, _) = tree_of(alloc, &answers)??;
-    Ok(tree.ok_or("no tree")?)
+    tree_of(alloc, &answers)
 }
 
 // How many rules the last lexeme lies in.
