@@ -12,6 +12,7 @@ use Rattle.lrpar_check.specs.Checked.{Checked}
 use Rattle.lrpar_check.specs.Path.{NeverSticks}
 use Rattle.lrpar.specs.End.{IsOfTree}
 use Rattle.lrpar_answers.specs.Failure.{Failure}
+use Rattle.lrpar.specs.Mending.{GoesOnBy, IsMended}
 use Rattle.lrpar.specs.Moves.{GoesFar, IsReplayed}
 use Rattle.lrpar.specs.PlainSteps.{plain_sequences, plain_steps}
 use Rattle.lrpar.specs.Recovery.{Point}
@@ -297,6 +298,27 @@ first_none : {A : Type 0} (xs : List A) → ◌≡◌ {A = Option A} None (slice
 first_none [] e = refl
 first_none (y ∷ ys) e = absurd (let no : ⊥ = cc in no)
 
+-- the first of sequences as plain ones
+pub first_sequence : {S A : Type 0} (index : S → ℕ) (listed seen : List (Vec (RepairStep S) A)) (first : Vec (RepairStep S) A) (steps : List (RepairStep S))
+    → seen ≡ listed → ◌≡◌ {A = Option (Vec (RepairStep S) A)} (Some first) (slice_get seen 0) → steps ≡ first.items
+    → (rest : List (List PlainStep)) × (plain_sequences index listed ≡ plain_steps index steps ∷ rest)
+first_sequence {S} {A} index listed seen first steps seen_is some steps_are =
+    let (rest, is) = first_is seen first some in (
+      plain_sequences index rest,
+      ap (λ (l : List (Vec (RepairStep S) A)). plain_sequences index l) (sym seen_is ∙ is) ∙ ap (λ (l : List (RepairStep S)). plain_steps index l ∷ plain_sequences index rest) (sym steps_are),
+    )
+
+pub no_sequence : {S A : Type 0} (index : S → ℕ) (listed seen : List (Vec (RepairStep S) A))
+    → seen ≡ listed → ◌≡◌ {A = Option (Vec (RepairStep S) A)} None (slice_get seen 0) → plain_sequences index listed ≡ []
+no_sequence {S} {A} index listed seen seen_is none = ap (λ (l : List (Vec (RepairStep S) A)). plain_sequences index l) (sym seen_is ∙ first_none seen none)
+
+-- the error of a stop, by the list that was seen of what is listed
+pub told_of : {X S L C A : Type 0} (facts : X → LexemeFacts) (g : Grammar) (lexemes : List X) (index : S → ℕ) (st : List ℕ) (j : ℕ) (listed seen : List (Vec (RepairStep S) A))
+    → seen ≡ listed → (error : LexParseError S L X C) → IsRepairErrorOf facts g lexemes (record { stop = record { stack = st; place = j }; listed = plain_sequences index seen }) error
+    → IsRepairErrorOf facts g lexemes (record { stop = record { stack = st; place = j }; listed = plain_sequences index listed }) error
+told_of {S = S} {A = A} facts g lexemes index st j listed seen same error told =
+    subst (λ (l : List (Vec (RepairStep S) A)). IsRepairErrorOf facts g lexemes (record { stop = record { stack = st; place = j }; listed = plain_sequences index l }) error) same told
+
 -- each stop but the first lies further than where the run went on, so there is less to come
 pub course_smaller : (n place stop next errors more k : ℕ) → more ≡ errors + 1 → place ≤ stop → stop ≤ next → next ≤ n → 0 < k
     → (0 < errors → place + k ≤ stop) → n - next + (1 - more) < n - place + (1 - errors)
@@ -306,15 +328,13 @@ course_smaller n place stop next errors more k count on by within some apart =
       | inr first ↦ omega (arith, first, count, on, by)
     ]
 
--- What a stop comes to, where the recoverer was asked and the error was added.
-module _ {X E S L C A : Type 0} (facts : X → LexemeFacts) (leaf : X → E → Type 0) (node : ℕ → Option E → List E → E → Type 0) (suits : GrammarSymbol → E → Type 0) (d : Checked)
-    (allows : Point X → List (List PlainStep) → Type 0) (k : ℕ) (lexemes : List X) (index : S → ℕ) (never : NeverSticks d.grammar d.table)
+-- What a stop comes to, where its error was added and the first listed sequence was replayed.
+module _ {X E S L C : Type 0} (facts : X → LexemeFacts) (leaf : X → E → Type 0) (node : ℕ → Option E → List E → E → Type 0) (suits : GrammarSymbol → E → Type 0) (d : Checked)
+    (allows : Point X → List (List PlainStep) → Type 0) (k : ℕ) (lexemes : List X) (never : NeverSticks d.grammar d.table)
     (a : Stacked E) (i : ℕ) (stops : List RepairStop) (at : IsThere facts leaf node suits d allows k lexemes a i stops)
     (b : Stacked E) (j : ℕ) (far : GoesFar facts leaf node suits d lexemes a i (Some j) b)
-    (listed seen firsts : List (Vec (RepairStep S) A)) (is : IsListedAt facts allows k d.grammar d.table lexemes (record { stack = b.states; place = j }) (plain_sequences index listed))
-    (seen_is : seen ≡ listed) (firsts_are : firsts ≡ listed)
-    (error : LexParseError S L X C) (told : IsRepairErrorOf facts d.grammar lexemes (record { stop = record { stack = b.states; place = j }; listed = plain_sequences index seen }) error)
-    (errors more : List (LexParseError S L X C)) (zip : AllZip (IsRepairErrorOf facts d.grammar lexemes) stops errors) (more_is : more ≡ errors ++ error ∷ []) where
+    (errors more : List (LexParseError S L X C)) (zip : AllZip (IsRepairErrorOf facts d.grammar lexemes) stops errors)
+    (c : Stacked E) (next : Option ℕ) (by : IsMended facts leaf node suits d allows k lexemes b j errors c more next) where
   abbrev StopHere : List (List PlainStep) → RepairStop
   StopHere sequences = record { stop = record { stack = b.states; place = j }; listed = sequences }
 
@@ -324,60 +344,56 @@ module _ {X E S L C A : Type 0} (facts : X → LexemeFacts) (leaf : X → E → 
   abbrev Lists : List (List PlainStep) → Type 0
   Lists sequences = IsListedAt facts allows k d.grammar d.table lexemes (record { stack = b.states; place = j }) sequences
 
-  -- one more error, that of the stop
-  zips : Zips (plain_sequences index listed)
-  zips =
-      let of_listed = subst (λ (l : List (Vec (RepairStep S) A)). IsRepairErrorOf facts d.grammar lexemes (StopHere (plain_sequences index l)) error) seen_is told in
-      subst (λ (l : List (LexParseError S L X C)). AllZip (IsRepairErrorOf facts d.grammar lexemes) (stops ++ StopHere (plain_sequences index listed) ∷ []) l) (sym more_is)
-      (zip_push (IsRepairErrorOf facts d.grammar lexemes) stops errors (StopHere (plain_sequences index listed)) error zip of_listed)
+  abbrev Goes : List (List PlainStep) → Option ℕ → Type 0
+  Goes sequences to = GoesOnBy facts leaf node suits d allows k lexemes sequences b j c to
 
-  -- no sequence is listed: the run ends here
-  pub stop_ends : {Z : Type 0} (answer : Option E × Vec (LexParseError S L X C) Z) → ◌≡◌ {A = Option (Vec (RepairStep S) A)} None (slice_get firsts 0) → answer.0 ≡ None → answer.1.items ≡ more
+  -- one more error, that of the stop
+  zips : Zips by.listed
+  zips =
+      subst (λ (l : List (LexParseError S L X C)). AllZip (IsRepairErrorOf facts d.grammar lexemes) (stops ++ StopHere by.listed ∷ []) l) (sym by.added)
+      (zip_push (IsRepairErrorOf facts d.grammar lexemes) stops errors (StopHere by.listed) by.error zip by.told)
+
+  -- where the run ends no sequence is listed, and where it goes on a first one is
+  none_listed : (listed : List (List PlainStep)) → Goes listed None → listed ≡ []
+  none_listed [] goes = refl
+  none_listed (first ∷ listed) goes = absurd goes
+
+  first_listed : (m : ℕ) (listed : List (List PlainStep)) → Goes listed (Some m)
+      → (first : List PlainStep) × (rest : List (List PlainStep)) × (listed ≡ first ∷ rest) × IsReplayed facts leaf node suits d lexemes b j first c m
+  first_listed m [] goes = absurd (let no : ⊥ = cc in no)
+  first_listed m (first ∷ listed) goes = (first, listed, refl, goes)
+
+  -- the run ends here
+  pub stop_ends : {Z : Type 0} (answer : Option E × Vec (LexParseError S L X C) Z) → next ≡ None → answer.0 ≡ None → answer.1.items ≡ more
       → IsRepairAnswer d facts allows k (λ a. a.1.items) (HasValue (λ x. (facts x).token) d.grammar (IsOfTree leaf node suits d)) lexemes answer
   stop_ends answer none no_value all =
-      let empty : listed ≡ [] = sym firsts_are ∙ first_none firsts none in
-      let ends = subst (λ (l : List (Vec (RepairStep S) A)). Lists (plain_sequences index l)) empty is in
-      let zipped = subst (λ (l : List (Vec (RepairStep S) A)). Zips (plain_sequences index l)) empty zips in
-      ended_answer facts leaf node suits d allows k lexemes answer never a i stops at b j far ends no_value
-      (subst (λ (l : List (LexParseError S L X C)). AllZip (IsRepairErrorOf facts d.grammar lexemes) (stops ++ StopHere [] ∷ []) l) (sym all) zipped)
+      let empty = none_listed by.listed (subst (λ (o : Option ℕ). Goes by.listed o) none by.goes_on) in
+      ended_answer facts leaf node suits d allows k lexemes answer never a i stops at b j far (subst Lists empty by.is) no_value
+      (subst (λ (l : List (LexParseError S L X C)). AllZip (IsRepairErrorOf facts d.grammar lexemes) (stops ++ StopHere [] ∷ []) l) (sym all) (subst Zips empty zips))
 
-  -- a first one is listed
-  module _ (first : Vec (RepairStep S) A) (steps : List (RepairStep S)) (some : ◌≡◌ {A = Option (Vec (RepairStep S) A)} (Some first) (slice_get firsts 0)) (steps_are : steps ≡ first.items) where
-    abbrev rest : List (Vec (RepairStep S) A)
-    rest = (first_is firsts first some).0
+  module _ (m : ℕ) (some : next ≡ Some m) where
+    found : (first : List PlainStep) × (rest : List (List PlainStep)) × (by.listed ≡ first ∷ rest) × IsReplayed facts leaf node suits d lexemes b j first c m
+    found = first_listed m by.listed (subst (λ (o : Option ℕ). Goes by.listed o) some by.goes_on)
 
-    abbrev those : List (List PlainStep)
-    those = plain_sequences index rest
+    lists : Lists (found.0 ∷ found.1)
+    lists = subst Lists found.2 by.is
 
-    are : plain_sequences index listed ≡ plain_steps index steps ∷ those
-    are =
-        ap (λ (l : List (Vec (RepairStep S) A)). plain_sequences index l) (sym firsts_are ∙ (first_is firsts first some).1)
-        ∙ ap (λ (l : List (RepairStep S)). plain_steps index l ∷ those) (sym steps_are)
+    -- the run goes on from there
+    pub stop_goes_on : (after : List RepairStop) × IsThere facts leaf node suits d allows k lexemes c m after × AllZip (IsRepairErrorOf facts d.grammar lexemes) after more
+    stop_goes_on = (
+      stops ++ StopHere (found.0 ∷ found.1) ∷ [],
+      there_next facts leaf node suits d allows k lexemes never a i stops at b j far found.0 found.1 c m lists found.3,
+      subst Zips found.2 zips,
+    )
 
-    lists : Lists (plain_steps index steps ∷ those)
-    lists = subst Lists are is
+    -- by as many lexemes as have to follow
+    pub stop_feeds : CanGoOn (λ x. (facts x).token) d.grammar d.table lexemes k c.states m
+    stop_feeds = first_goes_on facts leaf node suits d allows k lexemes b c j m found.0 found.1 lists found.3
 
-    -- it can be replayed
-    pub stop_replays : (prods after : List ℕ) × (n : ℕ) × Replays (λ x. (facts x).token) d.grammar d.table lexemes b.states j (plain_steps index steps) prods after n
-    stop_replays = first_replays facts leaf node suits d allows k lexemes b b j j (plain_steps index steps) those lists
-
-    module _ (c : Stacked E) (m : ℕ) (by : IsReplayed facts leaf node suits d lexemes b j (plain_steps index steps) c m) where
-      -- and the run goes on from there
-      pub stop_goes_on : (after : List RepairStop) × IsThere facts leaf node suits d allows k lexemes c m after × AllZip (IsRepairErrorOf facts d.grammar lexemes) after more
-      stop_goes_on = (
-        stops ++ StopHere (plain_steps index steps ∷ those) ∷ [],
-        there_next facts leaf node suits d allows k lexemes never a i stops at b j far (plain_steps index steps) those c m lists by,
-        subst Zips are zips,
-      )
-
-      -- by as many lexemes as have to follow
-      pub stop_feeds : CanGoOn (λ x. (facts x).token) d.grammar d.table lexemes k c.states m
-      stop_feeds = first_goes_on facts leaf node suits d allows k lexemes b c j m (plain_steps index steps) those lists by
-
-      -- so there is less to come
-      pub stop_smaller : 0 < k → m ≤ length lexemes → (0 < length errors → CanGoOn (λ x. (facts x).token) d.grammar d.table lexemes k a.states i)
-          → length lexemes - m + (1 - length more) < length lexemes - i + (1 - length errors)
-      stop_smaller positive within on =
-          course_smaller (length lexemes) i j m (length errors) (length more) k (ap length more_is ∙ length-append errors (error ∷ []))
-          (stops_no_earlier facts leaf node suits d allows k lexemes a b i j far) (replays_no_earlier facts leaf node suits d allows k lexemes b c j m (plain_steps index steps) by)
-          within positive (λ later. stops_further facts leaf node suits d allows k lexemes a b i j (on later) far)
+    -- so there is less to come
+    pub stop_smaller : 0 < k → m ≤ length lexemes → (0 < length errors → CanGoOn (λ x. (facts x).token) d.grammar d.table lexemes k a.states i)
+        → length lexemes - m + (1 - length more) < length lexemes - i + (1 - length errors)
+    stop_smaller positive within on =
+        course_smaller (length lexemes) i j m (length errors) (length more) k (ap length by.added ∙ length-append errors (by.error ∷ []))
+        (stops_no_earlier facts leaf node suits d allows k lexemes a b i j far) (replays_no_earlier facts leaf node suits d allows k lexemes b c j m found.0 found.3)
+        within positive (λ later. stops_further facts leaf node suits d allows k lexemes a b i j (on later) far)

@@ -30,5 +30,6 @@ pub mod RepairRun
 pub mod Parser
 pub mod Moves
 pub mod RepairAnswer
+pub mod Mending
 pub mod RepairLaws
 pub mod TestWork

@@ -1,15 +1,18 @@
 //! The course of a run with repairs: where it stops, the recoverer is asked once, and the run goes on from what the first
 //! sequence gives that works.
-ghost use Rattle.std.specs.Prelude.{◌<◌, ◌≤◌, IfOk, length, map};
+ghost use Rattle.std.specs.Prelude.{◌<◌, ◌≤◌, IfOk, IfSome, OnOk, length, map};
 ghost use Rattle.lrpar_grammar.specs.Sentence.{IsValidList};
 ghost use Rattle.lrpar_check.specs.Stack.{IsStack};
 ghost use Rattle.lrpar.specs.End.{IsOfTree};
 ghost use Rattle.lrpar_answers.specs.Lexemes.{facts_of};
-ghost use Rattle.lrpar.specs.Moves.{StartsRise};
+ghost use Rattle.lrpar.specs.Mended.{start_at};
+ghost use Rattle.lrpar.specs.Mending.{IsMended};
+ghost use Rattle.lrpar.specs.Moves.{RiseUpTo, StartsRise};
 ghost use Rattle.lrpar.specs.PlainSteps.{plain_sequences};
 ghost use Rattle.lrpar.specs.RepairAnswer.{IsRepairAnswer, IsRepairErrorOf};
 ghost use Rattle.lrpar.specs.RepairRun.{IsListedAt};
 ghost use Rattle.lrpar.specs.RunAnswer.{HasValue};
+ghost use Rattle.lrpar.specs.Standing.{IsUpright};
 
 use crate::building::Build;
 use crate::repair::{Recoverer, RecoveryPoint, RepairStep};
@@ -61,9 +64,7 @@ impl<
             self.now.lexemes.now) }
     {
         starts_rise::<StorageT, LexerTypesT::LexemeT>(self.run.checked.grm(), self.lexemes);
-        // Past these the table has no entry, so that a path is a stack.
         let stable = self.run.checked.stable();
-        let (_tokens, _rules) = (stable.tokens_len(), stable.rules_len());
         let mut stack = Stack::new(alloc, stable.start_state())?;
         let mut errors = Vec::new(alloc);
         let mut place = 0;
@@ -71,15 +72,47 @@ impl<
             let Some(stop) = self.run.far(alloc, self.lexemes, &mut stack, place)? else {
                 return Ok((Some(stack.into_entry()), errors));
             };
-            let listed = self.listed(alloc, &stack, stop)?;
-            errors.push(self.error(alloc, &stack, stop, &listed)?)?;
-            let Some(first) = listed.first() else {
+            let Some(next) = self.mend(alloc, &mut stack, stop, &mut errors)? else {
                 return Ok((None, errors));
             };
-            place = self
-                .run
-                .replay(alloc, self.lexemes, &mut stack, stop, first)?;
+            place = next;
         }
+    }
+
+    // Adds the error of the stop, and goes on by the first sequence that works there: answers the place after it. None, where
+    // no sequence works.
+    fn mend(
+        &self,
+        alloc: Global,
+        stack: &mut Stack<StorageT, B::Entry>,
+        stop: usize,
+        errors: &mut Vec<LexParseError<StorageT, LexerTypesT>>,
+    ) -> Result<Option<usize>, AllocError>
+        requires can { B.can_build self.now.run.build.now self.now.run.checked.now.grammar }
+        requires valid { IsValidList self.now.run.checked.now.grammar (map (λ x. facts_of StorageT.index (LexerTypesT.LexemeT.parts x)) self.now.lexemes.now) }
+        requires starts { StartsRise (map (λ x. facts_of StorageT.index (LexerTypesT.LexemeT.parts x)) self.now.lexemes.now) }
+        requires upright { IsUpright (B.suits self.now.run.build.now) self.now.run.checked.now.table stack.old }
+        requires rises { RiseUpTo (B.rises self.now.run.build.now) stack.old.entries
+            (start_at (map (λ x. facts_of StorageT.index (LexerTypesT.LexemeT.parts x)) self.now.lexemes.now) stop) }
+        requires within { stop ≤ length self.now.lexemes.now }
+        ensures upright { OnOk result (IsUpright (B.suits self.now.run.build.now) self.now.run.checked.now.table stack.new) }
+        ensures rises { IfOk result (λ next. IfSome next (λ place. RiseUpTo (B.rises self.now.run.build.now) stack.new.entries
+            (start_at (map (λ x. facts_of StorageT.index (LexerTypesT.LexemeT.parts x)) self.now.lexemes.now) place))) }
+        ensures within { IfOk result (λ next. IfSome next (λ place. place ≤ length self.now.lexemes.now)) }
+        ensures mended { IfOk result (IsMended (λ x. facts_of StorageT.index (LexerTypesT.LexemeT.parts x)) (B.leaf self.now.run.build.now)
+            (B.node self.now.run.build.now self.now.run.checked.now.grammar) (B.suits self.now.run.build.now) self.now.run.checked.now
+            (R.allows self.now.recoverer.now) self.now.shifts self.now.lexemes.now stack.old stop errors.old.items stack.new errors.new.items) }
+    {
+        // Past these the table has no entry, so that a path is a stack.
+        let stable = self.run.checked.stable();
+        let (_tokens, _rules) = (stable.tokens_len(), stable.rules_len());
+        let listed = self.listed(alloc, stack, stop)?;
+        errors.push(self.error(alloc, stack, stop, &listed)?)?;
+        let Some(first) = listed.first() else {
+            return Ok(None);
+        };
+        let next = self.run.replay(alloc, self.lexemes, stack, stop, first)?;
+        Ok(Some(next))
     }
 
     // The sequences that work at the stop, of those that the recoverer hands in, which it is asked for once.

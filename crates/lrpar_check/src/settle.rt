@@ -9,20 +9,11 @@ ghost use Rattle.lrpar_states.specs.PlainRows.{plain_action};
 
 use crate::check::ParserData;
 use crate::overlay::Overlay;
-use crate::stack::{ShiftStack, StateStack};
+use crate::stack::{Settled, ShiftStack, StateStack};
 use crate::step::{Step, take_step};
 use lrpar_grammar::span::{StIdx, StorageIndex, TIdx};
 use lrpar_states::table::Action;
 use std::alloc::AllocError;
-
-/// What comes of all reductions of a stack.
-#[derive(Clone, Copy)]
-pub struct Settled<StorageT> {
-    /// How many were made.
-    pub reductions: u128,
-    /// What the state then on top does.
-    pub action: Action<StorageT>,
-}
 
 impl<StorageT: StorageIndex> ParserData<StorageT> {
     /// Makes all reductions of a stack of any kind under the token, and answers how many these were, and what the state then

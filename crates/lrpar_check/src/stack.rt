@@ -8,6 +8,7 @@ ghost use Rattle.lrpar_check.specs.StackReduction.{StackReduces};
 ghost use Rattle.lrpar_states.specs.Table.{Table};
 
 use lrpar_grammar::span::{PIdx, RIdx, StIdx, StorageIndex};
+use lrpar_states::table::Action;
 use std::alloc::AllocError;
 
 /// A reduction that is due on a stack.
@@ -21,6 +22,15 @@ pub struct Reduction<StorageT> {
     pub symbols: usize,
     /// The state that is pushed.
     pub next: StIdx<StorageT>,
+}
+
+/// What comes of all reductions of a stack.
+#[derive(Clone, Copy)]
+pub struct Settled<StorageT> {
+    /// How many were made.
+    pub reductions: u128,
+    /// What the state then on top does.
+    pub action: Action<StorageT>,
 }
 
 /// A stack of states. Its bottom is state 0 of the list that it stands for.

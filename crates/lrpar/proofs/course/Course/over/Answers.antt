@@ -1,10 +1,9 @@
 use Rattle.std.proofs.Common.{◌≡◌, ◌∙◌, [], None, Some, List, ap, arith, length, refl, subst, sym}
 use Rattle.std.specs.List.{AllZip}
-use Rattle.lrpar_check.proofs.StackLemmas.{path_is_stack}
 use Rattle.lrpar_answers.specs.Lexemes.{facts_of}
 use Rattle.lrpar.specs.RepairAnswer.{IsRepairErrorOf}
 use Rattle.lrpar.specs.Standing.{Stacked}
-use Rattle.lrpar.proofs.CourseLemmas.{accepted_answer, stop_ends, stop_feeds, stop_goes_on, stop_replays, stop_smaller, there_accepts, there_first}
+use Rattle.lrpar.proofs.CourseLemmas.{accepted_answer, stop_ends, stop_feeds, stop_goes_on, stop_smaller, there_accepts, there_first}
 use Rattle.lrpar.proofs.course.Course.over.Goals as goal
 
 pub stops-init : goal.stops-init
@@ -69,20 +68,17 @@ returns-in_default g c =
     accepted_answer facts leaf node suits d allows self.shifts lexemes (Some c.into_entry.result, c.stops.errors) c.stable-stable.ensures.runs c.stops.stack c.stops.place there.0 there.1 c.far.new.stack
     far c.into_entry.result c.into_entry.ensures refl there.2
 
-pub listed-requires-clause-stack : goal.listed-requires-clause-stack
-listed-requires-clause-stack g c =
-    let upright = c.in_ok-stop.ensures.upright in
-    let table = c.stable-stable.ensures.table in
-    path_is_stack c.args.self.now.run.checked.now.table (rw table at c.tokens_len-tokens.ensures.end) (rw table at c.rules_len-rules.ensures.end) upright.symbols c.far.new.stack.states upright.path
+pub mend-requires-clause-upright : goal.mend-requires-clause-upright
+mend-requires-clause-upright g c = c.in_ok-stop.ensures.upright
 
-pub listed-requires-clause-within : goal.listed-requires-clause-within
-listed-requires-clause-within g c = rw c.in-Some.is at c.in_ok-stop.ensures.within
+pub mend-requires-clause-rises : goal.mend-requires-clause-rises
+mend-requires-clause-rises g c = rw c.in-Some.is at c.in_ok-stop.ensures.rises
 
-pub error-requires-clause-within : goal.error-requires-clause-within
-error-requires-clause-within g c = rw c.in-Some.is at c.in_ok-stop.ensures.within
+pub mend-requires-clause-within : goal.mend-requires-clause-within
+mend-requires-clause-within g c = rw c.in-Some.is at c.in_ok-stop.ensures.within
 
-pub returns-in_default-first : goal.returns-in_default-first
-returns-in_default-first g c =
+pub returns-in_default-2 : goal.returns-in_default-2
+returns-in_default-2 g c =
     let index = g.StorageT.StorageIndex.index in
     let facts = λ (x : g.row.LexerTypesT-LexemeT.Denot). facts_of index (g.LexerTypesT.LexemeT.Lexeme.parts x) in
     let self = c.args.self.now in
@@ -95,38 +91,8 @@ returns-in_default-first g c =
     let lexemes = self.lexemes.now in
     let there = c.stops.invariant.there in
     let far = rw c.in-Some.is at c.in_ok-stop.ensures.far in
-    let none = rw c.in_default-first.is at c.first.ensures.value in
-    stop_ends facts leaf node suits d allows self.shifts lexemes index c.stable-stable.ensures.runs c.stops.stack c.stops.place there.0 there.1 c.far.new.stack c.in-Some.stop far
-    c.in_ok-listed.listed.items c.deref.result.now c.deref-in-stops.result.now c.in_ok-listed.ensures.listed c.deref.ensures.value c.deref-in-stops.ensures.value
-    c.in_ok-error.field-0 c.in_ok-error.ensures.error c.stops.errors.items c.push.new.self.items there.2 c.in_ok-push.ensures.items (None, c.push.new.self) none refl refl
-
-pub replay-requires-clause-runs : goal.replay-requires-clause-runs
-replay-requires-clause-runs g c = c.stable-stable.ensures.runs
-
-pub replay-requires-clause-upright : goal.replay-requires-clause-upright
-replay-requires-clause-upright g c = c.in_ok-stop.ensures.upright
-
-pub replay-requires-clause-rises : goal.replay-requires-clause-rises
-replay-requires-clause-rises g c = rw c.in-Some.is at c.in_ok-stop.ensures.rises
-
-pub replay-requires-clause-works : goal.replay-requires-clause-works
-replay-requires-clause-works g c =
-    let index = g.StorageT.StorageIndex.index in
-    let facts = λ (x : g.row.LexerTypesT-LexemeT.Denot). facts_of index (g.LexerTypesT.LexemeT.Lexeme.parts x) in
-    let self = c.args.self.now in
-    let d = self.run.checked.now in
-    let build = self.run.build.now in
-    let leaf = g.B.Build.leaf build in
-    let node = g.B.Build.node build d.grammar in
-    let suits = g.B.Build.suits build in
-    let allows = g.R.Recoverer.allows self.recoverer.now in
-    let lexemes = self.lexemes.now in
-    let there = c.stops.invariant.there in
-    let far = rw c.in-Some.is at c.in_ok-stop.ensures.far in
-    stop_replays facts leaf node suits d allows self.shifts lexemes index c.stable-stable.ensures.runs c.stops.stack c.stops.place there.0 there.1 c.far.new.stack c.in-Some.stop far
-    c.in_ok-listed.listed.items c.deref.result.now c.deref-in-stops.result.now c.in_ok-listed.ensures.listed c.deref.ensures.value c.deref-in-stops.ensures.value
-    c.in_ok-error.field-0 c.in_ok-error.ensures.error c.stops.errors.items c.push.new.self.items there.2 c.in_ok-push.ensures.items
-    c.in-Some-first.first.now c.deref-in-stops-2.result.now c.in-Some-first.ensures.value c.deref-in-stops-2.ensures.value
+    stop_ends facts leaf node suits d allows self.shifts lexemes c.stable-stable.ensures.runs c.stops.stack c.stops.place there.0 there.1 c.far.new.stack c.in-Some.stop far
+    c.stops.errors.items c.mend.new.errors.items there.2 c.mend.new.stack c.in_ok-next.field-0 c.in_ok-next.ensures.mended (None, c.mend.new.errors) c.in_default-2.is refl refl
 
 pub stops-smaller : goal.stops-smaller
 stops-smaller g c =
@@ -142,11 +108,9 @@ stops-smaller g c =
     let lexemes = self.lexemes.now in
     let there = c.stops.invariant.there in
     let far = rw c.in-Some.is at c.in_ok-stop.ensures.far in
-    stop_smaller facts leaf node suits d allows self.shifts lexemes index c.stable-stable.ensures.runs c.stops.stack c.stops.place there.0 there.1 c.far.new.stack c.in-Some.stop far
-    c.in_ok-listed.listed.items c.deref.result.now c.deref-in-stops.result.now c.in_ok-listed.ensures.listed c.deref.ensures.value c.deref-in-stops.ensures.value
-    c.in_ok-error.field-0 c.in_ok-error.ensures.error c.stops.errors.items c.push.new.self.items there.2 c.in_ok-push.ensures.items
-    c.in-Some-first.first.now c.deref-in-stops-2.result.now c.in-Some-first.ensures.value c.deref-in-stops-2.ensures.value
-    c.replay.new.stack c.in_ok-place.place c.in_ok-place.ensures.replayed c.requires.shifts c.in_ok-place.ensures.within c.stops.invariant.on
+    stop_smaller facts leaf node suits d allows self.shifts lexemes c.stable-stable.ensures.runs c.stops.stack c.stops.place there.0 there.1 c.far.new.stack c.in-Some.stop far
+    c.stops.errors.items c.mend.new.errors.items there.2 c.mend.new.stack c.in_ok-next.field-0 c.in_ok-next.ensures.mended c.in-Some-2.next c.in-Some-2.is
+    c.requires.shifts (rw c.in-Some-2.is at c.in_ok-next.ensures.within) c.stops.invariant.on
 
 pub stops-preserved : goal.stops-preserved
 stops-preserved g c =
@@ -162,21 +126,14 @@ stops-preserved g c =
     let lexemes = self.lexemes.now in
     let there = c.stops.invariant.there in
     let far = rw c.in-Some.is at c.in_ok-stop.ensures.far in
-    let next =
-    stop_goes_on facts leaf node suits d allows self.shifts lexemes index c.stable-stable.ensures.runs c.stops.stack c.stops.place there.0 there.1 c.far.new.stack c.in-Some.stop far
-    c.in_ok-listed.listed.items c.deref.result.now c.deref-in-stops.result.now c.in_ok-listed.ensures.listed c.deref.ensures.value c.deref-in-stops.ensures.value
-    c.in_ok-error.field-0 c.in_ok-error.ensures.error c.stops.errors.items c.push.new.self.items there.2 c.in_ok-push.ensures.items
-    c.in-Some-first.first.now c.deref-in-stops-2.result.now c.in-Some-first.ensures.value c.deref-in-stops-2.ensures.value
-    c.replay.new.stack c.in_ok-place.place c.in_ok-place.ensures.replayed in
     record {
-      upright = c.in_ok-place.ensures.upright;
-      rises = c.in_ok-place.ensures.rises;
-      within = c.in_ok-place.ensures.within;
-      there = next;
+      upright = c.in_ok-next.ensures.upright;
+      rises = rw c.in-Some-2.is at c.in_ok-next.ensures.rises;
+      within = rw c.in-Some-2.is at c.in_ok-next.ensures.within;
+      there =
+          stop_goes_on facts leaf node suits d allows self.shifts lexemes c.stable-stable.ensures.runs c.stops.stack c.stops.place there.0 there.1 c.far.new.stack c.in-Some.stop far
+          c.stops.errors.items c.mend.new.errors.items there.2 c.mend.new.stack c.in_ok-next.field-0 c.in_ok-next.ensures.mended c.in-Some-2.next c.in-Some-2.is;
       on = λ _.
-          stop_feeds facts leaf node suits d allows self.shifts lexemes index c.stable-stable.ensures.runs c.stops.stack c.stops.place there.0 there.1 c.far.new.stack c.in-Some.stop far
-          c.in_ok-listed.listed.items c.deref.result.now c.deref-in-stops.result.now c.in_ok-listed.ensures.listed c.deref.ensures.value c.deref-in-stops.ensures.value
-          c.in_ok-error.field-0 c.in_ok-error.ensures.error c.stops.errors.items c.push.new.self.items there.2 c.in_ok-push.ensures.items
-          c.in-Some-first.first.now c.deref-in-stops-2.result.now c.in-Some-first.ensures.value c.deref-in-stops-2.ensures.value
-          c.replay.new.stack c.in_ok-place.place c.in_ok-place.ensures.replayed;
+          stop_feeds facts leaf node suits d allows self.shifts lexemes c.stable-stable.ensures.runs c.stops.stack c.stops.place there.0 there.1 c.far.new.stack c.in-Some.stop far
+          c.stops.errors.items c.mend.new.errors.items there.2 c.mend.new.stack c.in_ok-next.field-0 c.in_ok-next.ensures.mended c.in-Some-2.next c.in-Some-2.is;
     }
