@@ -16,6 +16,7 @@ use lrpar::span::{PIdx, RIdx, Span, Symbol, TIdx};
 use lrpar::{LexParseError, Lexeme, ParserData, RTParserBuilder, action_generictree};
 use std::alloc::{AllocError, Global};
 use std::cell::Cell;
+use std::process::Abort;
 use std::test::Fail;
 
 // Makes trees, as `parse_generictree` does.
@@ -217,8 +218,16 @@ fn a_calculator_of_another_grammar(rt: HostRuntime) -> Result<(), Fail> {
 }
 
 fn places_of(alloc: Global, text: &str, given: &[(u32, usize, usize)]) -> Result<Vec<Place>, Fail> {
-    let answers = long_lexemes(alloc, given)?;
-    let (places, _) = acted(alloc, &built(alloc, text)?, &answers, &Places)??;
+    places_by(alloc, &built(alloc, text)?, &long_lexemes(alloc, given)?)
+}
+
+// The same by a table.
+fn places_by(
+    alloc: Global,
+    data: &ParserData<u32>,
+    answers: &[LexAnswer],
+) -> Result<Vec<Place>, Fail> {
+    let (places, _) = acted(alloc, data, answers, &Places)??;
     Ok(places.ok_or("no value")?)
 }
 
@@ -251,13 +260,15 @@ fn spans_of_rules(rt: HostRuntime) -> Result<(), Fail> {
 }
 
 // Where the rules lie in `(n` of the grammar *brackets*, once a bracket is inserted.
-fn places_of_repaired(alloc: Global) -> Result<Vec<Place>, Fail> {
-    let data = built(alloc, BRACKETS)?;
-    let answers = lexemes(alloc, &[(2, 0), (0, 1)])?;
-    let lexer = HandedLexer { answers: &answers };
+fn places_of_repaired(
+    alloc: Global,
+    data: &ParserData<u32>,
+    answers: &[LexAnswer],
+) -> Result<Vec<Place>, Fail> {
+    let lexer = HandedLexer { answers };
     let close = RepairStep::Insert(TIdx(3));
     let handed = sequences(alloc, &[&[close]])?;
-    let parser = RTParserBuilder::<u32, HandedTypes>::new(&data).recoverer(FixedRecoverer::new(
+    let parser = RTParserBuilder::<u32, HandedTypes>::new(data).recoverer(FixedRecoverer::new(
         handed,
     ));
     if !parser.takes_all(&lexer, &Places) {
@@ -269,7 +280,8 @@ fn places_of_repaired(alloc: Global) -> Result<Vec<Place>, Fail> {
 
 #[test]
 fn spans_of_a_repaired_rule(rt: HostRuntime) -> Result<(), Fail> {
-    let places = places_of_repaired(rt.alloc())?;
+    let answers = lexemes(rt.alloc(), &[(2, 0), (0, 1)])?;
+    let places = places_of_repaired(rt.alloc(), &built(rt.alloc(), BRACKETS)?, &answers)?;
     assert_eq!(rt; places.as_slice(), [(1, 1, 2), (1, 0, 2)].as_slice());
     Ok(())
 }
@@ -297,13 +309,12 @@ const ACTION_CALLS: [(&str, &[(u32, usize)], usize); 3] = [
 
 #[test]
 fn calls_of_actions(rt: HostRuntime) -> Result<(), Fail> {
-    let data = sum_data(rt.alloc(), By::Rows)?;
+    count_calls(&rt, rt.alloc(), &sum_data(rt.alloc(), By::Rows)?)
+}
+
+fn count_calls(rt: &impl Abort, alloc: Global, data: &ParserData<u32>) -> Result<(), Fail> {
     for (name, given, calls) in &ACTION_CALLS {
-        assert_eq!(rt;
-            number_of_calls(rt.alloc(), &data, *given)?,
-            *calls,
-            "{name:?}"
-        );
+        assert_eq!(rt; number_of_calls(alloc, data, *given)?, *calls, "{name:?}");
     }
     Ok(())
 }
@@ -406,9 +417,18 @@ fn all_answer(
     answers: &[LexAnswer],
     want: &str,
 ) -> Result<bool, Fail> {
-    let data = built(alloc, grammar)?;
+    all_answer_by(alloc, &built(alloc, grammar)?, answers, want)
+}
+
+// The same by a table.
+fn all_answer_by(
+    alloc: Global,
+    data: &ParserData<u32>,
+    answers: &[LexAnswer],
+    want: &str,
+) -> Result<bool, Fail> {
     for call in FOUR {
-        if errors_by(alloc, call, &data, answers)?.as_str() != want {
+        if errors_by(alloc, call, data, answers)?.as_str() != want {
             return Ok(false);
         }
     }

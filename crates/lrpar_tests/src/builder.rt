@@ -325,23 +325,26 @@ fn push_conflicts(text: &mut String, conflicts: Option<&Conflicts<u8>>) -> Resul
     Ok(())
 }
 
+// The conflicts as text.
+fn text_of_conflicts(alloc: Global, conflicts: Option<&Conflicts<u8>>) -> Result<String, Fail> {
+    let mut text = String::new(alloc);
+    push_conflicts(&mut text, conflicts)?;
+    Ok(text)
+}
+
 // The conflicts of the text's table as it is built.
 fn conflicts_of_built(alloc: Global, source: &str) -> Result<String, Fail> {
     let (_, stable) = built(alloc, source)?;
-    let mut text = String::new(alloc);
-    push_conflicts(&mut text, stable.conflicts())?;
-    Ok(text)
+    text_of_conflicts(alloc, stable.conflicts())
 }
 
 // The conflicts of the text's table once it is checked with the cap 3, where it passes.
 fn conflicts_of_checked(alloc: Global, source: &str) -> Result<String, Fail> {
     let grm = YaccGrammar::<u8>::new_with_storaget(alloc, source)?;
-    let mut text = String::new(alloc);
     match parser_data(alloc, grm, 100, 3) {
-        Ok(data) => push_conflicts(&mut text, data.stable().conflicts())?,
-        Err(_) => text.push_str("refused")?,
+        Ok(data) => text_of_conflicts(alloc, data.stable().conflicts()),
+        Err(_) => Ok(format!(in alloc; "refused")?),
     }
-    Ok(text)
 }
 
 // A text, the conflicts of its table, and those of its checked table.

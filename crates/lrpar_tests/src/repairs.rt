@@ -9,7 +9,7 @@ use crate::recoverers::{Asked, Noting, Refusing};
 use lrpar::parser::{AStackType, ParseFault};
 use lrpar::repair::{FixedRecoverer, NoRecovery, RepairStep};
 use lrpar::span::{RIdx, Span, TIdx};
-use lrpar::{LexParseError, Lexeme, Node, RTParserBuilder, action_generictree};
+use lrpar::{LexParseError, Lexeme, Node, ParserData, RTParserBuilder, action_generictree};
 use std::alloc::Global;
 use std::cell::Cell;
 use std::test::Fail;
@@ -286,10 +286,19 @@ fn counted(
     alloc: Global,
     handed: Vec<Vec<RepairStep<u32>>>,
 ) -> Result<(usize, usize, usize), Fail> {
-    let data = built(alloc, BRACKETS)?;
     let answers = lexemes(alloc, [(0, 0), (0, 1)].as_slice())?;
-    let lexer = HandedLexer { answers: &answers };
-    let parser = RTParserBuilder::<u32, HandedTypes>::new(&data).recoverer(FixedRecoverer::new(
+    counted_by(alloc, &built(alloc, BRACKETS)?, &answers, handed)
+}
+
+// The same by a table.
+fn counted_by(
+    alloc: Global,
+    data: &ParserData<u32>,
+    answers: &[LexAnswer],
+    handed: Vec<Vec<RepairStep<u32>>>,
+) -> Result<(usize, usize, usize), Fail> {
+    let lexer = HandedLexer { answers };
+    let parser = RTParserBuilder::<u32, HandedTypes>::new(data).recoverer(FixedRecoverer::new(
         handed,
     ));
     let (leaves, errors) = parser.parse_map(alloc, &lexer, |_| 1, |_, below| sum(&below))?;
@@ -350,11 +359,13 @@ fn many_sequences(rt: HostRuntime) -> Result<(), Fail> {
 
 // Two parses of `n)+n+n+n)` with a recoverer that finds no memory at its second call: the fault of the first, and the errors of the
 // second.
-fn parsed_twice(alloc: Global) -> Result<(Option<ParseFault>, String), Fail> {
-    let data = built(alloc, BRACKETS)?;
+fn parsed_twice(
+    alloc: Global,
+    data: &ParserData<u32>,
+) -> Result<(Option<ParseFault>, String), Fail> {
     let answers = lexemes(alloc, &TWICE)?;
     let lexer = HandedLexer { answers: &answers };
-    let parser = RTParserBuilder::<u32, HandedTypes>::new(&data).recoverer(Refusing {
+    let parser = RTParserBuilder::<u32, HandedTypes>::new(data).recoverer(Refusing {
         calls: Cell::new(0),
         fails_at: 2,
     });
@@ -365,7 +376,7 @@ fn parsed_twice(alloc: Global) -> Result<(Option<ParseFault>, String), Fail> {
 
 #[test]
 fn want_of_memory_in_a_recoverer(rt: HostRuntime) -> Result<(), Fail> {
-    let (fault, errors) = parsed_twice(rt.alloc())?;
+    let (fault, errors) = parsed_twice(rt.alloc(), &built(rt.alloc(), BRACKETS)?)?;
     assert_eq!(rt; fault, Some(ParseFault::Memory));
     assert_eq!(rt; errors.as_str(), "2@3:1+1[ d1] 8@3:8+1[ d8] ");
     Ok(())
@@ -413,9 +424,8 @@ fn what_a_recoverer_is_handed(rt: HostRuntime) -> Result<(), Fail> {
 
 // The numbers of lexemes that have to follow a repair: of a new parser, of one with another recoverer, and of one that was refused
 // another number; and the text of the refusal.
-fn shift_counts(alloc: Global) -> Result<([usize; 3], String), Fail> {
-    let data = built(alloc, BRACKETS)?;
-    let new = RTParserBuilder::<u32, HandedTypes>::new(&data);
+fn shift_counts(alloc: Global, data: &ParserData<u32>) -> Result<([usize; 3], String), Fail> {
+    let new = RTParserBuilder::<u32, HandedTypes>::new(data);
     let first = new.shift_count();
     let other = new.shifts(7)?.recoverer(NoRecovery);
     let second = other.shift_count();
@@ -430,7 +440,7 @@ fn shift_counts(alloc: Global) -> Result<([usize; 3], String), Fail> {
 
 #[test]
 fn numbers_of_lexemes_that_follow(rt: HostRuntime) -> Result<(), Fail> {
-    let (counts, text) = shift_counts(rt.alloc())?;
+    let (counts, text) = shift_counts(rt.alloc(), &built(rt.alloc(), BRACKETS)?)?;
     assert_eq!(rt; counts, [3, 7, 7]);
     assert_eq!(rt; text.as_str(), "shifts must be at least 1");
     Ok(())
@@ -442,12 +452,25 @@ fn tree_of(
     given: &[(u32, usize)],
     handed: &[&[RepairStep<u32>]],
 ) -> Result<(Tree, Vec<LexParseError<u32, HandedTypes>>), Fail> {
-    let data = built(alloc, BRACKETS)?;
-    let answers = lexemes(alloc, given)?;
-    let parser = RTParserBuilder::<u32, HandedTypes>::new(&data).recoverer(FixedRecoverer::new(
+    tree_by(
+        alloc,
+        &built(alloc, BRACKETS)?,
+        &lexemes(alloc, given)?,
+        handed,
+    )
+}
+
+// The same by a table.
+fn tree_by(
+    alloc: Global,
+    data: &ParserData<u32>,
+    answers: &[LexAnswer],
+    handed: &[&[RepairStep<u32>]],
+) -> Result<(Tree, Vec<LexParseError<u32, HandedTypes>>), Fail> {
+    let parser = RTParserBuilder::<u32, HandedTypes>::new(data).recoverer(FixedRecoverer::new(
         sequences(alloc, handed)?,
     ));
-    let (tree, errors) = parser.parse_generictree(alloc, &HandedLexer { answers: &answers })?;
+    let (tree, errors) = parser.parse_generictree(alloc, &HandedLexer { answers })?;
     Ok((tree.ok_or("no tree")?, errors))
 }
 
@@ -518,8 +541,17 @@ fn errors_alone(
     answers: &[LexAnswer],
     handed: &[&[RepairStep<u32>]],
 ) -> Result<String, Fail> {
-    let data = built(alloc, grammar)?;
-    let parser = RTParserBuilder::<u32, HandedTypes>::new(&data).recoverer(FixedRecoverer::new(
+    errors_by(alloc, &built(alloc, grammar)?, answers, handed)
+}
+
+// The same by a table.
+fn errors_by(
+    alloc: Global,
+    data: &ParserData<u32>,
+    answers: &[LexAnswer],
+    handed: &[&[RepairStep<u32>]],
+) -> Result<String, Fail> {
+    let parser = RTParserBuilder::<u32, HandedTypes>::new(data).recoverer(FixedRecoverer::new(
         sequences(alloc, handed)?,
     ));
     let errors = parser.parse_noaction(alloc, &HandedLexer { answers })?;

@@ -1,26 +1,43 @@
 //! Texts of trees.
 use crate::built::{AFTER, ARITHMETIC, LIST, Row, SUM as SUM_GRAMMAR, all_hold};
+use crate::calls::Tree;
 use crate::fixtures::{By, sum_data};
 use crate::lexer::{HandedLexer, HandedTypes, Token};
 use crate::parse::lexemes;
+use lrpar::grammar::YaccGrammar;
 use lrpar::span::RIdx;
-use lrpar::{Lexeme, Node, RTParserBuilder};
+use lrpar::{Lexeme, Node, ParserData, RTParserBuilder};
+use std::alloc::Global;
+use std::process::Abort;
 use std::test::Fail;
 
 const SUM: &str = "E\n T\n  ID a\n + +\n E\n  T\n   ID b\n";
 
 #[test]
 fn text_of_a_sum(rt: HostRuntime) -> Result<(), Fail> {
-    let alloc = rt.alloc();
-    let data = sum_data(alloc, By::Entries)?;
+    let data = sum_data(rt.alloc(), By::Entries)?;
+    has_text(
+        &rt,
+        rt.alloc(),
+        data.grm(),
+        &tree_of_a_sum(rt.alloc(), &data)?,
+    )
+}
+
+// The tree of `a+b`.
+fn tree_of_a_sum(alloc: Global, data: &ParserData<u32>) -> Result<Tree, Fail> {
     let answers = lexemes(alloc, &[(1, 0), (0, 1), (1, 2)])?;
-    let lexer = HandedLexer { answers: &answers };
-    let parser = RTParserBuilder::<u32, HandedTypes>::new(&data);
-    let (tree, _) = parser.parse_generictree(alloc, &lexer)?;
-    let Some(tree) = tree else {
-        return Err(Fail::new("no tree"));
-    };
-    let grm = data.grm();
+    let parser = RTParserBuilder::<u32, HandedTypes>::new(data);
+    let (tree, _) = parser.parse_generictree(alloc, &HandedLexer { answers: &answers })?;
+    Ok(tree.ok_or("no tree")?)
+}
+
+fn has_text(
+    rt: &impl Abort,
+    alloc: Global,
+    grm: &YaccGrammar<u32>,
+    tree: &Tree,
+) -> Result<(), Fail> {
     assert!(rt; tree.fits(grm, "a+b"));
     assert_eq!(rt; tree.pp(alloc, grm, "a+b")?.as_str(), SUM);
     assert!(rt; !tree.fits(grm, "a+"), "the input is too short");
