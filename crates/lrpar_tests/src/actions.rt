@@ -259,7 +259,7 @@ fn spans_of_rules(rt: HostRuntime) -> Result<(), Fail> {
     Ok(())
 }
 
-// Where the rules lie in `(n` of the grammar *brackets*, once a bracket is inserted.
+// Where the rules lie in these lexemes of the grammar *brackets*, once a bracket is inserted.
 fn places_of_repaired(
     alloc: Global,
     data: &ParserData<u32>,
@@ -278,10 +278,15 @@ fn places_of_repaired(
     Ok(places.ok_or("no value")?)
 }
 
+// Where they lie in `(n`.
+fn places_of_closed(alloc: Global) -> Result<Vec<Place>, Fail> {
+    let answers = lexemes(alloc, &[(2, 0), (0, 1)])?;
+    places_of_repaired(alloc, &built(alloc, BRACKETS)?, &answers)
+}
+
 #[test]
 fn spans_of_a_repaired_rule(rt: HostRuntime) -> Result<(), Fail> {
-    let answers = lexemes(rt.alloc(), &[(2, 0), (0, 1)])?;
-    let places = places_of_repaired(rt.alloc(), &built(rt.alloc(), BRACKETS)?, &answers)?;
+    let places = places_of_closed(rt.alloc())?;
     assert_eq!(rt; places.as_slice(), [(1, 1, 2), (1, 0, 2)].as_slice());
     Ok(())
 }
