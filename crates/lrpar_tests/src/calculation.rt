@@ -8,7 +8,7 @@ use lrpar::parser::AStackType::ActionType;
 use lrpar::parser::{AStackType, Actions};
 use lrpar::repair::{FixedRecoverer, RepairStep};
 use lrpar::span::{PIdx, RIdx, Span, Symbol, TIdx};
-use lrpar::{Lexeme, Lexer, NonStreamingLexer, ParserData, RTParserBuilder};
+use lrpar::{LexParseError, Lexeme, Lexer, NonStreamingLexer, ParserData, RTParserBuilder};
 use std::alloc::{AllocError, Global};
 use std::test::Fail;
 
@@ -118,12 +118,20 @@ pub(crate) fn calculated(
     let lines = NewlineCache::new(alloc, line)?;
     let lexer = SumLexer { text: line, lines };
     let (number, errors) = parser.parse_actions(alloc, &lexer, &Calculation, &())?;
+    Ok((shown(alloc, &lexer, &errors)?, number.unwrap_or(None)))
+}
+
+// The text of the errors, with `INT` for each token.
+fn shown(
+    alloc: Global,
+    lexer: &SumLexer<'_>,
+    errors: &[LexParseError<u32, TokenTypes>],
+) -> Result<String, Fail> {
     let mut text = String::new(alloc);
-    for error in &errors {
-        if error.fits(line) {
-            let shown = error.pp(alloc, &lexer, |_| Some("INT"))?;
-            writeln!(text, "{shown}")?;
+    for error in errors {
+        if error.fits(lexer.text) {
+            writeln!(text, "{}", error.pp(alloc, lexer, |_| Some("INT"))?)?;
         }
     }
-    Ok((text, number.unwrap_or(None)))
+    Ok(text)
 }

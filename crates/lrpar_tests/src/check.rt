@@ -269,22 +269,33 @@ fn is_mended(
     graph: StateGraph<u8>,
     table: StateTable<u8>,
 ) -> Result<bool, Fail> {
-    let sums = Hand::sums(alloc, by)?;
-    match change {
-        Change::Action(..) | Change::Goto(..) => is_taken(alloc, grm, graph, sums.table(alloc)?),
-        Change::Item(_) => is_taken(alloc, grm, sums.graph(alloc)?, table),
-        Change::State(..) => is_taken(alloc, grm, sums.graph(alloc)?, sums.table(alloc)?),
-    }
+    let (graph, table) = mended(alloc, by, change, graph, table)?;
+    Ok(ParserData::new(alloc, grm, graph, table, 2).is_ok())
 }
 
-// Whether the check takes the parts.
-fn is_taken(
+// The item sets and the table, with those of sums in the place of what was changed.
+fn mended(
     alloc: Global,
-    grm: YaccGrammar<u8>,
+    by: By,
+    change: Change,
     graph: StateGraph<u8>,
     table: StateTable<u8>,
-) -> Result<bool, Fail> {
-    Ok(ParserData::new(alloc, grm, graph, table, 2).is_ok())
+) -> Result<(StateGraph<u8>, StateTable<u8>), Fail> {
+    Ok(match change {
+        Change::Action(..) | Change::Goto(..) => (graph, sums_table(alloc, by)?),
+        Change::Item(_) => (sums_graph(alloc, by)?, table),
+        Change::State(..) => (sums_graph(alloc, by)?, sums_table(alloc, by)?),
+    })
+}
+
+// The item sets of sums.
+fn sums_graph(alloc: Global, by: By) -> Result<StateGraph<u8>, Fail> {
+    Hand::sums(alloc, by)?.graph(alloc)
+}
+
+// The table of sums.
+fn sums_table(alloc: Global, by: By) -> Result<StateTable<u8>, Fail> {
+    Hand::sums(alloc, by)?.table(alloc)
 }
 
 // One state less in the graph than in the table, one token less in the table than in the grammar, and other numbers
