@@ -52,6 +52,29 @@ searched_out ns wanted base size so_far small other there =
           ]
     ]
 
+-- a number between two that stand side by side isn't there
+pub between_sides : (ns : List ℕ) (wanted place : ℕ) → IsStrictlyIncreasing ns → place + 1 < length ns → slice_index ns place < wanted
+    → wanted < slice_index ns (place + 1) → ¬ (Contains ns wanted)
+between_sides ns wanted place up next below above =
+    let none : IsSearched ns wanted (place + 1) 0 = record {
+      within = omega (arith, next);
+      below = λ k h.
+          elim (cases_lt k place) as (λ _. slice_index ns k < wanted) [
+            | inl before ↦ let less = AllPairs-from_increasing ns up k place 0 before (omega (arith, next)) in omega (arith, less, below)
+            | inr not_before ↦
+                let same : k ≡ place = omega (arith, h, not_before) in
+                subst (λ (i : ℕ). slice_index ns i < wanted) (sym same) below
+          ];
+      above = λ k low high.
+          elim (cases_lt (place + 1) k) as (λ _. wanted < slice_index ns k) [
+            | inl after ↦ let more = AllPairs-from_increasing ns up (place + 1) k 0 after high in omega (arith, more, above)
+            | inr not_after ↦
+                let same : k ≡ place + 1 = omega (arith, low, not_after) in
+                subst (λ (i : ℕ). wanted < slice_index ns i) (sym same) above
+          ];
+    } in
+    searched_out ns wanted (place + 1) 0 none (omega arith) (λ one. absurd (omega (arith, one)))
+
 -- the number of an element that was read is the number at its place
 pub number_read : {X : Type 0} (f : X → ℕ) (xs : List X) (i : ℕ) (x : X) → i < length xs → x ≡ slice_index_or xs i x → slice_index (map f xs) i ≡ f x
 number_read f xs i x below is = get_or-map f xs i x 0 below ∙ ap f (sym is)

@@ -1,7 +1,8 @@
-//! Rows of entries, laid out for a search of their keys.
-ghost use Rattle.std.specs.Prelude.{◌≡◌, ◌<◌, ◌≤◌, ◌+◌, ◌++◌, ℕ, [], List, IfOk, OnOk, MatchOption, Contains, length, map, slice_index, slice_index_or, slice_range, sum_by, zip};
+//! Rows of entries, laid out for a look-up of their keys.
+ghost use Rattle.std.specs.Prelude.{◌≡◌, ◌<◌, ◌≤◌, ◌+◌, ◌++◌, ℕ, [], List, IfOk, IsTrue, OnOk, MatchOption, Contains, length, map, slice_index, slice_index_or, slice_range, sum_by, zip};
 ghost use Rattle.std.specs.List.Sorted.{IsStrictlyIncreasing};
 
+use crate::hints::Hints;
 use lrpar_grammar::span::{RIdx, StorageIndex, TIdx};
 use std::alloc::{AllocError, Global};
 use std::marker::Model;
@@ -32,12 +33,14 @@ impl<StorageT: StorageIndex> Key for RIdx<StorageT> {
     }
 }
 
-/// Rows of entries, each a key with its value. All keys stand in one list, row after row, and the values in another.
+/// Rows of entries, each a key with its value. All keys stand in one list, row after row, and the values in another. Where
+/// a key stands in its row can be guessed.
 #[derive(Debug, Drop)]
 pub(crate) struct Entries<K, V> {
     starts: Vec<usize>,
     keys: Vec<K>,
     values: Vec<V>,
+    hints: Hints,
 }
 
 impl<K, V> Model for Entries<K, V> {
@@ -51,23 +54,26 @@ impl<K, V> Model for Entries<K, V> {
     ghost invariant = { λ e. AreParts e.starts.items e.keys.items e.values.items };
 }
 
-impl<K: Copy, V: Copy> Entries<K, V> {
-    /// The entries of these rows, which are copied.
+impl<K: Key, V: Copy> Entries<K, V> {
+    /// The entries of these rows, which are copied. The guesses are good where the keys of each row ascend.
     pub(crate) fn from_rows(alloc: Global, rows: &[Vec<(K, V)>]) -> Result<Self, AllocError>
         ensures { IfOk result (λ entries. entries ≡ map (λ row. row.items) rows.now) }
     {
         let mut starts = Vec::with_capacity(alloc, rows.len() + 1)?;
         let mut keys = Vec::new(alloc);
         let mut values = Vec::new(alloc);
+        let mut hints = Hints::new(alloc);
         starts.push(0)?;
         for row in rows {
             push_row(&mut keys, &mut values, row)?;
+            hints.add_row(row)?;
             starts.push(keys.len())?;
         }
         Ok(Entries {
             starts,
             keys,
             values,
+            hints,
         })
     }
 
@@ -95,6 +101,12 @@ impl<K: Copy, V: Copy> Entries<K, V> {
         let start = self.starts[number];
         let end = self.starts[number + 1];
         parts(&self.keys, &self.values, start, end)
+    }
+
+    /// A guess of where the key of this number stands in its row: any place.
+    #[inline]
+    pub(crate) fn guess(&self, number: usize, wanted: usize) -> Option<usize> {
+        self.hints.guess(number, wanted)
     }
 }
 
@@ -129,10 +141,50 @@ fn push_row<K: Copy, V: Copy>(
     Ok(())
 }
 
+/// The place of the key of this number, if it is one of the keys, which ascend. The key at the guessed place is looked at
+/// first.
+#[inline]
+pub(crate) fn place_by<K: Key>(keys: &[K], wanted: usize, guess: Option<usize>) -> Option<usize>
+    requires { IsStrictlyIncreasing (map K.number keys.now) }
+    ensures { MatchOption result (¬ (Contains (map K.number keys.now) wanted))
+        (λ place. (place < length keys.now) × (slice_index (map K.number keys.now) place ≡ wanted)) }
+{
+    match guess {
+        Some(place) if place < keys.len() && keys[place].to_number() == wanted => Some(place),
+        _ => place_beside(keys, wanted, guess),
+    }
+}
+
+/// The same, where the key at the guessed place is another. If it is the last one that is less, the next key tells that
+/// there is none; otherwise the number is searched for. It is kept out of the callers, which mostly don't come to it.
+#[inline(never)]
+fn place_beside<K: Key>(keys: &[K], wanted: usize, guess: Option<usize>) -> Option<usize>
+    requires { IsStrictlyIncreasing (map K.number keys.now) }
+    ensures { MatchOption result (¬ (Contains (map K.number keys.now) wanted))
+        (λ place. (place < length keys.now) × (slice_index (map K.number keys.now) place ≡ wanted)) }
+{
+    match guess {
+        Some(place) if is_between(keys, wanted, place) => None,
+        _ => place_of(keys, wanted),
+    }
+}
+
+/// Whether the number lies between the key at `place` and the next one. The keys ascend, so that it is none of them.
+fn is_between<K: Key>(keys: &[K], wanted: usize, place: usize) -> bool
+    requires { IsStrictlyIncreasing (map K.number keys.now) }
+    ensures { IsTrue result → ¬ (Contains (map K.number keys.now) wanted) }
+{
+    if place >= keys.len() || place + 1 >= keys.len() {
+        return false;
+    }
+    let below = keys[place].to_number();
+    let above = keys[place + 1].to_number();
+    below < wanted && wanted < above
+}
+
 /// The place of the key of this number, if it is one of the keys, which ascend. The part that is
 /// left is halved until one is, and no branch hangs on a comparison until then.
-#[inline]
-pub(crate) fn place_of<K: Key>(keys: &[K], wanted: usize) -> Option<usize>
+fn place_of<K: Key>(keys: &[K], wanted: usize) -> Option<usize>
     requires { IsStrictlyIncreasing (map K.number keys.now) }
     ensures { MatchOption result (¬ (Contains (map K.number keys.now) wanted))
         (λ place. (place < length keys.now) × (slice_index (map K.number keys.now) place ≡ wanted)) }

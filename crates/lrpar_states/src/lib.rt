@@ -8,6 +8,7 @@ mod entries;
 mod fault;
 mod full;
 mod graph;
+mod hints;
 mod items;
 pub mod laws;
 mod numbers;

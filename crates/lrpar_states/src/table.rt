@@ -9,7 +9,7 @@ ghost use Rattle.lrpar_states.specs.PlainRows.{action_entry, goto_entry, plain_a
 ghost use Rattle.lrpar_states.specs.declared.fault.TableFault.{TableFault};
 
 pub use crate::conflicts::Conflicts;
-use crate::entries::{Entries, place_of};
+use crate::entries::{Entries, place_by};
 pub use crate::fault::TableFault;
 use crate::full::{are_rows, stored_actions, stored_gotos};
 pub use crate::graph::{Core, Item, StateGraph};
@@ -135,7 +135,11 @@ impl<StorageT: StorageIndex> StateTable<StorageT> {
         self.actions.len() as u128 + self.gotos.len() as u128
     }
 
-    /// What state `s` does at token `t`. A search in the state's tokens.
+    /// What state `s` does at token `t`.
+    ///
+    /// Where the state's tokens lie close together, those from the first to the last being at most four times as many
+    /// as it has entries, it looks at one or two of them. Otherwise it is a binary search, in O(log n) for the state's n
+    /// entries, and so it is for a token before its first or after its last.
     #[inline]
     pub fn action(&self, s: StIdx<StorageT>, t: TIdx<StorageT>) -> Action<StorageT>
         requires state { StorageT.index s.0 < states_len self.now }
@@ -144,13 +148,16 @@ impl<StorageT: StorageIndex> StateTable<StorageT> {
         ensures within { IsActionWithin (states_len self.now) (action_of self.now (StorageT.index s.0) (StorageT.index t.0)) }
     {
         let (tokens, actions) = self.actions_of(s);
-        match place_of(tokens, usize::from(t)) {
+        let token = usize::from(t);
+        match place_by(tokens, token, self.actions.guess(usize::from(s), token)) {
             Some(place) => actions[place],
             None => Action::Error,
         }
     }
 
-    /// Where state `s` goes by rule `r`, if it goes anywhere. A search in the state's rules.
+    /// Where state `s` goes by rule `r`, if it goes anywhere.
+    ///
+    /// It is found as an action is: at once where the state's rules lie close together, and otherwise by a binary search.
     #[inline]
     pub fn goto(&self, s: StIdx<StorageT>, r: RIdx<StorageT>) -> Option<StIdx<StorageT>>
         requires state { StorageT.index s.0 < states_len self.now }
@@ -159,7 +166,8 @@ impl<StorageT: StorageIndex> StateTable<StorageT> {
         ensures within { IsGotoWithin (states_len self.now) (goto_of self.now (StorageT.index s.0) (StorageT.index r.0)) }
     {
         let (rules, states) = self.gotos_of(s);
-        match place_of(rules, usize::from(r)) {
+        let rule = usize::from(r);
+        match place_by(rules, rule, self.gotos.guess(usize::from(s), rule)) {
             Some(place) => Some(states[place]),
             None => None,
         }
