@@ -64,9 +64,11 @@ impl<'a, StorageT: StorageIndex, LexemeT: Lexeme<StorageT>> Trial<'a, StorageT, 
         let mut listed = Vec::new(alloc);
         for steps in answer {
             states.set_back();
-            if self.works(&mut states, place, &steps)? {
-                listed.push(steps)?;
+            let works = self.works(&mut states, place, &steps)?;
+            if !works {
+                continue;
             }
+            listed.push(steps)?;
         }
         Ok(listed)
     }

@@ -133,6 +133,18 @@ pub fit_enter : {X S : Type 0} (P : Met X S → Type 0) (below : List (Bor (List
     → left ≡ node ∷ rest.now → AllByRecursion P (left_met below left) → AllByRecursion P (root_at (length (below ++ rest ∷ [])) node ∷ left_met (below ++ rest ∷ []) (nodes_below node))
 fit_enter {X = X} {S = S} P below rest node left is all = let Q : List (Met X S) → Type 0 = AllByRecursion P in subst Q (ap (left_met below) is ∙ left_enter below rest node) all
 
+-- and back: the first tree in hand fits where its root does, and what is left behind that
+pub fit_left : {X S : Type 0} (P : Met X S → Type 0) (below : List (Bor (List (Node X S)))) (rest : Bor (List (Node X S))) (node : Node X S) (left : List (Node X S))
+    → left ≡ node ∷ rest.now → P (root_at (length (below ++ rest ∷ [])) node) → AllByRecursion P (left_met (below ++ rest ∷ []) (nodes_below node))
+    → AllByRecursion P (left_met below left)
+fit_left {X = X} {S = S} P below rest node left is root all =
+    let Q : List (Met X S) → Type 0 = AllByRecursion P in subst Q (sym (ap (left_met below) is ∙ left_enter below rest node)) (root, all)
+
+-- a tree fits where its root does, and what is left behind that
+pub fit_begins : {X S : Type 0} (P : Met X S → Type 0) (node : Node X S) → P (root_at 0 node) → AllByRecursion P (left_met [] (nodes_below node))
+    → AllByRecursion P (met_from node 0)
+fit_begins P node root all = fit_whole P node 0 root (all_front P (all_met 1 (nodes_below node)) [] all)
+
 -- the text of a tree begins with the line of its root
 pub text_begins : {X S : Type 0} (line : Met X S → List ℕ) (node : Node X S) (out : List ℕ) → out ≡ line (root_at 0 node)
     → out ++ flat_map line (left_met [] (nodes_below node)) ≡ flat_map line (met_from node 0)

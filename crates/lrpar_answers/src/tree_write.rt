@@ -2,7 +2,7 @@
 ghost use Rattle.std.specs.Prelude.{OnOk};
 ghost use Rattle.std.specs.Io.KnownBytes.{Appends};
 ghost use Rattle.lrpar_answers.specs.Lexemes.{facts_of};
-ghost use Rattle.lrpar_answers.specs.TreeText.{met_line, root_at, tree_text};
+ghost use Rattle.lrpar_answers.specs.TreeText.{MetFits, TreeFits, met_line, root_at, tree_text};
 
 use crate::lex_api::Lexeme;
 use crate::node::Node;
@@ -27,6 +27,7 @@ impl<LexemeT: Lexeme<StorageT>, StorageT: StorageIndex> Node<LexemeT, StorageT> 
     ) -> io::Result<()>
         ensures text { OnOk result (Appends (W.contents out.old) (W.contents out.new)
             (tree_text (λ x. facts_of StorageT.index (LexemeT.parts x)) StorageT.index grm.now input.now self.now)) }
+        ensures fits { OnOk result (TreeFits (λ x. facts_of StorageT.index (LexemeT.parts x)) StorageT.index grm.now input.now self.now) }
     {
         let mut line = String::new(alloc);
         write_line(out, &mut line, grm, input, 0, self)?;
@@ -57,8 +58,9 @@ fn write_line<LexemeT: Lexeme<StorageT>, StorageT: StorageIndex, W: Write>(
     level: usize,
     node: &Node<LexemeT, StorageT>,
 ) -> io::Result<()>
-    ensures { OnOk result (Appends (W.contents out.old) (W.contents out.new)
+    ensures text { OnOk result (Appends (W.contents out.old) (W.contents out.new)
         (met_line (λ x. facts_of StorageT.index (LexemeT.parts x)) StorageT.index grm.now input.now (root_at level node.now))) }
+    ensures fits { OnOk result (MetFits (λ x. facts_of StorageT.index (LexemeT.parts x)) StorageT.index grm.now input.now (root_at level node.now)) }
 {
     if !root_fits(grm, input, node) {
         return Err(io::Error::from(ErrorKind::InvalidInput));

@@ -1,4 +1,4 @@
-use Rattle.std.proofs.Common.{◌≡◌, ap}
+use Rattle.std.proofs.Common.{◌≡◌, ap, arith}
 use Rattle.lrpar_check.proofs.StackLemmas.{path_is_stack}
 use Rattle.lrpar.specs.ReducingView.{built}
 use Rattle.lrpar.proofs.ReducingLemmas.{builds_settle}
@@ -22,9 +22,8 @@ returns g c =
     let new = c.settle_on.new.stack in
     let settled = builds_settle (λ s. built s) kind.node kind.suits kind.can_build kind.rises d t c.args.self.now.build.now c.args.stack.now _
     c.new-reducing.result c.in_ok-settle_on.field-0.reductions new (rw c.grm.ensures at c.new-reducing.ensures) c.in_ok-settle_on.ensures.settled c.in_ok-settle_on.ensures.suits in
-    let same = c.stack-1.given.1 settled.same in
     record {
-      upright = rw same settled.upright;
-      settles = rw same settled.settles;
-      action = rw same c.in_ok-settle_on.ensures.action;
+      upright = grind (arith, settled.same, settled.upright);
+      settles = grind (arith, settled.same, settled.settles);
+      action = grind (arith, settled.same, c.in_ok-settle_on.ensures.action);
     }

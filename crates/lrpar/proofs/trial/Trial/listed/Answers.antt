@@ -4,8 +4,8 @@ use Rattle.lrpar_check.specs.Stack.{states_of}
 use Rattle.lrpar.proofs.SequenceLemmas.{listed_more, listed_no_more}
 use Rattle.lrpar.proofs.trial.Trial.listed.Goals as goal
 
-pub loop-steps-preserved-in-Continue-branch-2 : goal.loop-steps-preserved-in-Continue-branch-2
-loop-steps-preserved-in-Continue-branch-2 g c =
+pub loop-steps-preserved-then-not-works : goal.loop-steps-preserved-then-not-works
+loop-steps-preserved-then-not-works g c =
     let index = g.StorageT.StorageIndex.index in
     let token = λ (x : g.row.LexemeT.Denot). index (g.LexemeT.Lexeme.parts x).token in
     let d = c.args.self.now.checked.now in
@@ -13,9 +13,9 @@ loop-steps-preserved-in-Continue-branch-2 g c =
     let from = c.set_back.ensures.states ∙ l.invariant.base in
     record {
       base = c.in_ok-works.ensures.base ∙ (ap (λ o. o.base) c.set_back.ensures.made ∙ l.invariant.base);
-      listed = listed_more token d.grammar d.table c.args.self.now.lexemes.now index c.args.self.now.shifts (states_of index c.args.stack.now) c.args.place l.yielded
-          l.listed.items c.push.new.self.items c.in-Some.steps c.deref.result.now (overlaid c.set_back.new.self) _ from c.deref.ensures.value c.in_ok-push.ensures.items
-          c.in_ok-works.ensures.works c.if-branch.true l.invariant.listed;
+      listed = listed_no_more token d.grammar d.table c.args.self.now.lexemes.now index c.args.self.now.shifts (states_of index c.args.stack.now) c.args.place l.yielded
+          l.listed.items c.in-Some.steps c.deref.result.now (overlaid c.set_back.new.self) _ from c.deref.ensures.value
+          c.in_ok-works.ensures.works c.if-not-works.true l.invariant.listed;
     }
 
 pub loop-steps-preserved : goal.loop-steps-preserved
@@ -27,7 +27,7 @@ loop-steps-preserved g c =
     let from = c.set_back.ensures.states ∙ l.invariant.base in
     record {
       base = c.in_ok-works.ensures.base ∙ (ap (λ o. o.base) c.set_back.ensures.made ∙ l.invariant.base);
-      listed = listed_no_more token d.grammar d.table c.args.self.now.lexemes.now index c.args.self.now.shifts (states_of index c.args.stack.now) c.args.place l.yielded
-          l.listed.items c.in-Some.steps c.deref.result.now (overlaid c.set_back.new.self) _ from c.deref.ensures.value
-          c.in_ok-works.ensures.works c.if-branch.false l.invariant.listed;
+      listed = listed_more token d.grammar d.table c.args.self.now.lexemes.now index c.args.self.now.shifts (states_of index c.args.stack.now) c.args.place l.yielded
+          l.listed.items c.push.new.self.items c.in-Some.steps c.deref.result.now (overlaid c.set_back.new.self) _ from c.deref.ensures.value c.in_ok-push.ensures.items
+          c.in_ok-works.ensures.works c.if-not-works.false l.invariant.listed;
     }

@@ -1,15 +1,15 @@
 use Rattle.std.proofs.Common.{◌≡◌, ◌++◌, [], ◌∷◌, length, length-append, ap, refl, sym, ◌∙◌, subst, arith}
-use Rattle.std.specs.List.{flat_map}
+use Rattle.std.specs.List.{AllByRecursion, flat_map}
 use Rattle.std.specs.Io.KnownBytes.{Appends}
 use Rattle.std.proofs.lemmas.List.{nil_from_length}
 use Rattle.lrpar_answers.specs.Lexemes.{facts_of}
-use Rattle.lrpar_answers.specs.TreeText.{met_line, root_at, nodes_below, tree_text}
-use Rattle.lrpar_answers.proofs.TreeTextLemmas.{text_begins, text_enter, left_met, left_turn, left_length}
+use Rattle.lrpar_answers.specs.TreeText.{MetFits, met_line, root_at, nodes_below, tree_text}
+use Rattle.lrpar_answers.proofs.TreeTextLemmas.{fit_begins, fit_left, text_begins, text_enter, left_met, left_turn, left_length}
 use Rattle.lrpar_answers.proofs.WriteLemmas.{appends_both}
 use Rattle.lrpar_answers.proofs.node.Node.write.Goals as goal
 
 pub loop-node-init : goal.loop-node-init
-loop-node-init g c = λ last more.
+loop-node-init g c =
     let index = g.StorageT.StorageIndex.index in
     let facts = λ (x : g.row.LexemeT.Denot). facts_of index (g.LexemeT.Lexeme.parts x) in
     let line = met_line facts index c.args.grm.now c.args.input.now in
@@ -17,11 +17,16 @@ loop-node-init g c = λ last more.
     let contents = g.W.Write.contents in
     let whole : line (root_at 0 self) ++ flat_map line (left_met [] (nodes_below self)) ≡ tree_text facts index c.args.grm.now c.args.input.now self =
     text_begins line self (line (root_at 0 self)) refl in
-    let rest : Appends (contents c.write_line.new.out) last (flat_map line (left_met [] (nodes_below self))) =
-    (rw (c.new-below.ensures.items, c.children-left.ensures) at more) in
-    subst (Appends (contents c.args.out.now) last) whole
-    (appends_both (contents c.args.out.now) (contents c.write_line.new.out) last (line (root_at 0 self)) (flat_map line (left_met [] (nodes_below self)))
-    c.in_ok-write_line.ensures rest)
+    record {
+      text = λ last more.
+          let rest : Appends (contents c.write_line.new.out) last (flat_map line (left_met [] (nodes_below self))) =
+          (rw (c.new-below.ensures.items, c.children-left.ensures) at more) in
+          subst (Appends (contents c.args.out.now) last) whole
+          (appends_both (contents c.args.out.now) (contents c.write_line.new.out) last (line (root_at 0 self)) (flat_map line (left_met [] (nodes_below self)))
+          c.in_ok-write_line.ensures.text rest);
+      fits = λ all.
+          fit_begins (MetFits facts index c.args.grm.now c.args.input.now) self c.in_ok-write_line.ensures.fits (rw (c.new-below.ensures.items, c.children-left.ensures) at all);
+    }
 
 pub loop-node-smaller-in-Some : goal.loop-node-smaller-in-Some
 loop-node-smaller-in-Some g c =
@@ -31,7 +36,7 @@ loop-node-smaller-in-Some g c =
     rw (c.in_ok-push-in-Some.ensures.items, c.children-left-in-Some.ensures) (omega (arith, fewer, length-append below (rest ∷ [])))
 
 pub loop-node-preserved-in-Some : goal.loop-node-preserved-in-Some
-loop-node-preserved-in-Some g c = λ last more.
+loop-node-preserved-in-Some g c =
     let index = g.StorageT.StorageIndex.index in
     let facts = λ (x : g.row.LexemeT.Denot). facts_of index (g.LexemeT.Lexeme.parts x) in
     let line = met_line facts index c.args.grm.now c.args.input.now in
@@ -41,13 +46,20 @@ loop-node-preserved-in-Some g c = λ last more.
     let node = c.in-Some.node.now in
     let inner = left_met (below ++ rest ∷ []) (nodes_below node) in
     let here = line (root_at c.len.result node) in
+    let met = MetFits facts index c.args.grm.now c.args.input.now in
     let level : c.len.result ≡ length (below ++ rest ∷ []) = c.len.ensures ∙ c.push.new.self.ok.0 ∙ ap length c.in_ok-push-in-Some.ensures.items in
     let whole : here ++ flat_map line inner ≡ flat_map line (left_met below c.loop-node.left.now) =
     text_enter line below rest node c.loop-node.left.now [] here c.in-Some.ensures.cases.0 (ap (λ n. line (root_at n node)) level) in
-    let after : Appends (contents c.write_line-in-Some.new.out) last (flat_map line inner) =
-    (rw (c.in_ok-push-in-Some.ensures.items, c.children-left-in-Some.ensures) at more) in
-    c.loop-node.invariant last (subst (Appends (contents c.loop-node.out) last) whole
-    (appends_both (contents c.loop-node.out) (contents c.write_line-in-Some.new.out) last here (flat_map line inner) c.in_ok-write_line-in-Some.ensures after))
+    record {
+      text = λ last more.
+          let after : Appends (contents c.write_line-in-Some.new.out) last (flat_map line inner) =
+          (rw (c.in_ok-push-in-Some.ensures.items, c.children-left-in-Some.ensures) at more) in
+          c.loop-node.invariant.text last (subst (Appends (contents c.loop-node.out) last) whole
+          (appends_both (contents c.loop-node.out) (contents c.write_line-in-Some.new.out) last here (flat_map line inner) c.in_ok-write_line-in-Some.ensures.text after));
+      fits = λ all.
+          c.loop-node.invariant.fits (fit_left met below rest node c.loop-node.left.now c.in-Some.ensures.cases.0
+          (rw level at c.in_ok-write_line-in-Some.ensures.fits) (rw (c.in_ok-push-in-Some.ensures.items, c.children-left-in-Some.ensures) at all));
+    }
 
 pub loop-node-smaller : goal.loop-node-smaller
 loop-node-smaller g c =
@@ -60,7 +72,7 @@ loop-node-smaller g c =
     omega (arith, ap length same, ap length c.in-Some-pop.ensures.items, length-append fs (rest ∷ []))
 
 pub loop-node-preserved : goal.loop-node-preserved
-loop-node-preserved g c = λ end more.
+loop-node-preserved g c =
     let index = g.StorageT.StorageIndex.index in
     let facts = λ (x : g.row.LexemeT.Denot). facts_of index (g.LexemeT.Lexeme.parts x) in
     let line = met_line facts index c.args.grm.now c.args.input.now in
@@ -68,7 +80,10 @@ loop-node-preserved g c = λ end more.
     let fs = c.pop.new.self.items in
     let rest = c.in-Some-pop.rest in
     let left = c.loop-node.left.now in
-    let last = nil_from_length left c.in-None.ensures.cases in
+    let none = nil_from_length left c.in-None.ensures.cases in
     let same : left_met c.loop-node.below.items left ≡ left_met fs rest.now =
-    ap (λ b. left_met b left) c.in-Some-pop.ensures.items ∙ ap (left_met (fs ++ rest ∷ [])) last ∙ left_turn fs rest in
-    c.loop-node.invariant end (subst (λ ms. Appends (contents c.loop-node.out) end (flat_map line ms)) (sym same) more)
+    ap (λ b. left_met b left) c.in-Some-pop.ensures.items ∙ ap (left_met (fs ++ rest ∷ [])) none ∙ left_turn fs rest in
+    record {
+      text = λ last more. c.loop-node.invariant.text last (subst (λ ms. Appends (contents c.loop-node.out) last (flat_map line ms)) (sym same) more);
+      fits = λ all. c.loop-node.invariant.fits (subst (AllByRecursion (MetFits facts index c.args.grm.now c.args.input.now)) (sym same) all);
+    }
