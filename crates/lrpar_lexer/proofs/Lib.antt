@@ -2,3 +2,8 @@ pub mod WinnerLemmas
 pub mod LexingLemmas
 pub mod LexingLawLemmas
 pub mod AnchoredLemmas
+pub mod TrimLemmas
+pub mod MarginLemmas
+pub mod ReadingLemmas
+pub mod RuleFaultLemmas
+pub mod RuleTextLemmas

@@ -2,6 +2,8 @@ pub mod Matching
 pub mod Anchored
 pub mod Matchers
 pub mod Rules
+pub mod RuleLines
+pub mod RuleLineLaws
 pub mod RuleTexts
 pub mod Lexing
 pub mod LexingLaws

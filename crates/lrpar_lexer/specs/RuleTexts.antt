@@ -1,16 +1,65 @@
--- The rules that a text can write for a grammar.
-use Rattle.std.specs.Prelude.{◌≡◌, ℕ, List, Some, IfSome, bytes_eq}
-use Rattle.std.specs.List.{position}
+-- The rules that a text writes for a grammar, one a line.
+use Rattle.std.specs.Prelude.{◌≡◌, ◌≢◌, ℕ, ◌-◌, ◌<◌, List, length, take, ⊤, Option, Some, None, IsSome, bytes_eq, slice_get}
+use Rattle.std.specs.List.{AllZip, position}
+use Rattle.regex.specs.Patterns.{default_config}
+use Rattle.regex.specs.Failures.{IsRightKind}
+use Rattle.regex.specs.Sources.{IsRefusal}
+use Rattle.regex.specs.declared.error.Error.{Error}
+use Rattle.regex.specs.declared.error.Error.TheVariants.{OutOfMemory}
 use Rattle.lrpar_grammar.specs.Grammar.{Grammar}
+use Rattle.lrpar_lexer.specs.RuleLines.{ReadsAs, core_of, cores_of, text_lines}
 use Rattle.lrpar_lexer.specs.Rules.{HasPattern, token_of}
 use Rattle.lrpar_lexer.specs.declared.rule.LexRule.{LexRule}
+use Rattle.lrpar_lexer.specs.declared.rules.RulesFault.{RulesFault}
+use Rattle.lrpar_lexer.specs.declared.rules.RulesFault.TheVariants.{Line, Memory}
 
--- the token is the grammar's first of some name
-abbrev pub IsFirstOfName : Grammar → ℕ → Type 0
-IsFirstOfName grammar token = (name : List ℕ) × (position (λ other. bytes_eq other.name name) grammar.tokens ≡ Some token)
+-- the grammar's first token of a name
+abbrev pub first_named : Grammar → List ℕ → Option ℕ
+first_named grammar name = position (λ token. bytes_eq token.name name) grammar.tokens
 
--- the rule's pattern is what `regex` reads in a text, and its token, if it has one, is the grammar's first of some name
-pub record IsRuleFor (grammar : Grammar) (rule : LexRule) : Type 0 where
-  pub text : List ℕ
-  pub pattern : HasPattern text rule
-  pub token : IfSome (token_of rule) (IsFirstOfName grammar)
+-- the token of a rule: the grammar's first of the name, which there is; none where there's no name
+abbrev pub IsTokenOf : Grammar → Option (List ℕ) → Option ℕ → Type 0
+IsTokenOf grammar None token = token ≡ None
+IsTokenOf grammar (Some name) token = (token ≡ first_named grammar name) × IsSome token
+
+-- the rule is what the line says: its pattern is what `regex` reads in the line's, and its token is that of the line's name
+pub record IsRuleOf (grammar : Grammar) (line : List ℕ) (rule : LexRule) : Type 0 where
+  pub pattern : List ℕ
+  pub name : Option (List ℕ)
+  pub reads : ReadsAs line pattern name
+  pub has_pattern : HasPattern pattern rule
+  pub has_token : IsTokenOf grammar name (token_of rule)
+
+-- there is one rule for each of the lines that counts, in their order, and it is what the line says
+abbrev pub AreRulesOf : Grammar → List (List ℕ) → List LexRule → Type 0
+AreRulesOf grammar lines rules = AllZip (IsRuleOf grammar) (cores_of lines) rules
+
+-- `regex` answers this error for the pattern, and it's no want of memory: one of syntax, as its grammar refuses the pattern; or
+-- another, as that the program would be too big, and then the text is a pattern
+abbrev pub IsRefusalOf : List ℕ → Error → Type 0
+IsRefusalOf pattern error = (error ≢ OutOfMemory) × IsRefusal default_config pattern error × IsRightKind default_config pattern error
+
+-- The line says no rule: it doesn't read as one, or it names no token of the grammar, or `regex` refuses its pattern.
+pub data SaysNoRule (grammar : Grammar) (line : List ℕ) : Type 0 where
+  unread : ((pattern : List ℕ) (name : Option (List ℕ)) → ¬ (ReadsAs line pattern name)) → SaysNoRule grammar line
+  unnamed : (pattern name : List ℕ) → ReadsAs line pattern (Some name) → first_named grammar name ≡ None → SaysNoRule grammar line
+  refused : (pattern : List ℕ) (name : Option (List ℕ)) (error : Error) → ReadsAs line pattern name → IsRefusalOf pattern error → SaysNoRule grammar line
+
+-- line `number`, from 1 on, counts and says no rule, and the lines before it that count say rules
+pub record IsFirstFault (grammar : Grammar) (lines : List (List ℕ)) (number : ℕ) : Type 0 where
+  pub line : List ℕ
+  pub from_one : 0 < number
+  pub is : slice_get lines (number - 1) ≡ Some line
+  pub counts : 0 < length (core_of line)
+  pub says_none : SaysNoRule grammar (core_of line)
+  pub rules : List LexRule
+  pub before : AreRulesOf grammar (take (number - 1) lines) rules
+
+-- the line that a fault names, if it names one, is such
+abbrev pub NamesLine : (ℕ → Type 0) → RulesFault → Type 0
+NamesLine IsSuch (Line number) = IsSuch number
+NamesLine IsSuch Memory = ⊤
+
+-- the fault names the first line that counts and says no rule
+abbrev pub IsFaultOf : Grammar → List ℕ → RulesFault → Type 0
+IsFaultOf grammar text fault = NamesLine (IsFirstFault grammar (text_lines text)) fault

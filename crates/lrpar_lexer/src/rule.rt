@@ -1,7 +1,8 @@
 //! A rule of a lexer.
 ghost use Rattle.std.specs.Prelude.{◌≡◌, IfOk, IfErr, option_map};
 ghost use Rattle.regex.specs.Patterns.{default_config};
-ghost use Rattle.regex.specs.Sources.{IsTextRefusal};
+ghost use Rattle.regex.specs.Failures.{IsRightKind};
+ghost use Rattle.regex.specs.Sources.{IsRefusal};
 ghost use Rattle.regex.specs.Strings.{regex_pattern};
 ghost use Rattle.regex_hir.specs.Meaning.{meaning};
 ghost use Rattle.lrpar_lexer.specs.Anchored.{FindsAtStart, IsBehindStart, behind_start};
@@ -35,7 +36,8 @@ impl LexRule {
     pub fn new(alloc: Global, pattern: &str, token: Option<TIdx<u32>>) -> Result<LexRule, Error>
         ensures pattern { IfOk result (HasPattern pattern.now) }
         ensures token { IfOk result (λ rule. token_of rule ≡ option_map (λ token. token.0) token) }
-        ensures refused { IfErr result (IsTextRefusal default_config pattern.now) }
+        ensures refused { IfErr result (IsRefusal default_config pattern.now) }
+        ensures kind { IfErr result (IsRightKind default_config pattern.now) }
     {
         let regex = Regex::new(alloc, pattern)?;
         let anchored = anchored(alloc, pattern)?;
@@ -59,7 +61,8 @@ impl fmt::Debug for LexRule {
 // The program that finds at the beginning of a text what the pattern finds there.
 fn anchored(alloc: Global, pattern: &str) -> Result<Program, Error>
     ensures read { IfOk result (IsBehindStart pattern.now) }
-    ensures refused { IfErr result (IsTextRefusal default_config pattern.now) }
+    ensures refused { IfErr result (IsRefusal default_config pattern.now) }
+    ensures kind { IfErr result (IsRightKind default_config pattern.now) }
 {
     let Parsed { hir, names } = regex_syntax::parse(alloc, pattern, &Config::default())?;
     let Ok(groups) = u32::try_from(names.len()) else {

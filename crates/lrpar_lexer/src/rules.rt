@@ -1,7 +1,8 @@
 //! The rules of a lexer as a text.
-ghost use Rattle.std.specs.Prelude.{IfOk};
-ghost use Rattle.std.specs.List.{All};
-ghost use Rattle.lrpar_lexer.specs.RuleTexts.{IsFirstOfName, IsRuleFor};
+ghost use Rattle.std.specs.Prelude.{◌≡◌, ◌≢◌, ℕ, List, Option, Some, None, IfErr, IfOk, MatchOption, option_map};
+ghost use Rattle.regex.specs.declared.error.Error.TheVariants.{OutOfMemory};
+ghost use Rattle.lrpar_lexer.specs.RuleLines.{HasEnding, HasGap, ReadsAs, core_of, text_lines};
+ghost use Rattle.lrpar_lexer.specs.RuleTexts.{AreRulesOf, IsFaultOf, IsRuleOf, NamesLine, SaysNoRule, first_named};
 
 use crate::rule::LexRule;
 use lrpar::grammar::YaccGrammar;
@@ -24,28 +25,34 @@ pub enum RulesFault {
 /// The rules of a text, one a line, with the tokens of the grammar. `PATTERN 'NAME'` is the rule of the token NAME, and
 /// `PATTERN ;` the rule of what is skipped; spaces and tabs stand between. At both ends of a line spaces, tabs and carriage
 /// returns count for nothing, and a line that has nothing else is left out. NAME is what stands between the last two quotes.
+///
+/// The rules come in the order of their lines. A fault names the first line that is no rule; the lines before it are.
 pub fn rules_of(
     alloc: Global,
     grm: &YaccGrammar<u32>,
     text: &str,
 ) -> Result<Vec<LexRule>, RulesFault>
-    ensures rules { IfOk result (λ rules. All (IsRuleFor grm.now) rules.items) }
+    ensures rules { IfOk result (λ rules. AreRulesOf grm.now (text_lines text.now) rules.items) }
+    ensures fault { IfErr result (IsFaultOf grm.now text.now) }
 {
     let mut rules = Vec::new(alloc);
-    let mut number = 0usize;
+    let mut number = 0;
     'lines: for line in text.split('\n') {
-        number = number.saturating_add(1);
-        let line = trimmed(line);
-        if !line.is_empty() {
-            rules.push(rule_of(alloc, grm, line, number)?)?;
+        number += 1;
+        let core = core_of(line);
+        if !core.is_empty() {
+            rules.push(rule_of(alloc, grm, core, number)?)?;
         }
     }
     Ok(rules)
 }
 
 // The line without spaces, tabs and carriage returns at its ends.
-fn trimmed(line: &str) -> &str {
-    line.trim_matches([' ', '\t', '\r'])
+fn core_of(line: &str) -> &str
+    ensures { result.now ≡ core_of line.now }
+{
+    line.trim_start_matches([' ', '\t', '\r'])
+        .trim_end_matches([' ', '\t', '\r'])
 }
 
 // The rule of a line, which has this number.
@@ -55,7 +62,8 @@ fn rule_of(
     line: &str,
     number: usize,
 ) -> Result<LexRule, RulesFault>
-    ensures rule { IfOk result (IsRuleFor grm.now) }
+    ensures rule { IfOk result (IsRuleOf grm.now line.now) }
+    ensures fault { IfErr result (NamesLine (λ n. (n ≡ number) × SaysNoRule grm.now line.now)) }
 {
     let Some((pattern, name)) = rule_parts(line) else {
         return Err(RulesFault::Line(number));
@@ -66,14 +74,24 @@ fn rule_of(
     };
     match LexRule::new(alloc, pattern, token) {
         Ok(rule) => Ok(rule),
-        Err(regex::Error::OutOfMemory) => Err(RulesFault::Memory),
-        Err(_) => Err(RulesFault::Line(number)),
+        Err(error) => Err(refusal(&error, number)),
+    }
+}
+
+// The fault of a line whose pattern is refused.
+fn refusal(error: &regex::Error, number: usize) -> RulesFault
+    ensures { NamesLine (λ n. (n ≡ number) × (error.now ≢ OutOfMemory)) result }
+{
+    match error {
+        regex::Error::OutOfMemory => RulesFault::Memory,
+        _ => RulesFault::Line(number),
     }
 }
 
 // The token of that name.
 fn token_named(grm: &YaccGrammar<u32>, name: &str, number: usize) -> Result<TIdx<u32>, RulesFault>
-    ensures token { IfOk result (λ token. IsFirstOfName grm.now token.0) }
+    ensures token { IfOk result (λ token. first_named grm.now name.now ≡ Some token.0) }
+    ensures fault { IfErr result (NamesLine (λ n. (n ≡ number) × (first_named grm.now name.now ≡ None))) }
 {
     match grm.token_idx(name) {
         Some(token) => Ok(token),
@@ -82,18 +100,36 @@ fn token_named(grm: &YaccGrammar<u32>, name: &str, number: usize) -> Result<TIdx
 }
 
 // The pattern of a line, and the name of its token, if it has one.
-fn rule_parts(line: &str) -> Option<(&str, Option<&str>)> {
+fn rule_parts(line: &str) -> Option<(&str, Option<&str>)>
+    ensures { MatchOption result
+        ((pattern : List ℕ) (name : Option (List ℕ)) → ¬ (ReadsAs line.now pattern name))
+        (λ parts. ReadsAs line.now parts.0.now (option_map (λ name. name.now) parts.1)) }
+{
+    let (front, name) = line_parts(line)?;
+    Some((pattern_before_gap(front)?, name))
+}
+
+// What stands in front of the ending of a line, and the name of its token, if the ending has one.
+fn line_parts(line: &str) -> Option<(&str, Option<&str>)>
+    ensures { MatchOption result
+        ((front : List ℕ) (name : Option (List ℕ)) → ¬ (HasEnding line.now front name))
+        (λ parts. HasEnding line.now parts.0.now (option_map (λ name. name.now) parts.1)) }
+{
     match line.strip_suffix('\'') {
         Some(quoted) => {
             let (front, name) = quoted.rsplit_once('\'')?;
-            Some((pattern_before_gap(front)?, Some(name)))
+            Some((front, Some(name)))
         }
-        None => Some((pattern_before_gap(line.strip_suffix(';')?)?, None)),
+        None => Some((line.strip_suffix(';')?, None)),
     }
 }
 
 // The pattern that stands in front of spaces and tabs, of which there has to be one.
-fn pattern_before_gap(front: &str) -> Option<&str> {
+fn pattern_before_gap(front: &str) -> Option<&str>
+    ensures { MatchOption result
+        ((pattern : List ℕ) → ¬ (HasGap front.now pattern))
+        (λ pattern. HasGap front.now pattern.now) }
+{
     let pattern = front.trim_end_matches([' ', '\t']);
     if pattern.is_empty() || pattern.len() == front.len() {
         None

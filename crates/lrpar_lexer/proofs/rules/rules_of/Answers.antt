@@ -1,8 +1,69 @@
-use Rattle.std.proofs.lemmas.List.Elements.{All-push}
-use Rattle.lrpar_lexer.specs.RuleTexts.{IsRuleFor}
+use Rattle.std.proofs.Common.{◌≡◌, ◌+◌, ◌<◌, length, take, get_or, sym, subst, ◌∙◌, ap, lit<, arith}
+use Rattle.std.proofs.lemmas.Bool.Decides.{nat_tests}
+use Rattle.std.proofs.lemmas.Iterator.Consumers.{YieldsList-end, YieldsList-turn}
+use Rattle.std.proofs.lemmas.Iterator.Splits.{YieldsList-from_str_split}
+use Rattle.std.proofs.lemmas.List.{length_push, take_all}
+use Rattle.lrpar_lexer.specs.RuleLines.{text_lines}
+use Rattle.lrpar_lexer.specs.RuleTexts.{AreRulesOf, IsFirstFault, IsRuleOf, SaysNoRule}
+use Rattle.lrpar_lexer.proofs.RuleFaultLemmas.{names_handed}
+use Rattle.lrpar_lexer.proofs.RuleTextLemmas.{fault_here, rule_more, rules_stay}
 use Rattle.lrpar_lexer.proofs.rules.rules_of.Goals as goal
+
+pub returns-in_err-rule_of-clause-fault : goal.returns-in_err-rule_of-clause-fault
+returns-in_err-rule_of-clause-fault c =
+    let grammar = c.args.grm.now in
+    let lines = text_lines c.args.text.now in
+    let number = c.lines.number in
+    let line = c.in-Some.line.now in
+    let core = c.core_of-core.result.now in
+    let at : (number < length lines) × (line ≡ get_or lines number line) =
+    subst (λ n. (n < length lines) × (line ≡ get_or lines n line)) (sym c.lines.invariant.number)
+    (YieldsList-turn (YieldsList-from_str_split 10 c.args.text.now (lit< tt) (cc) (cc) (cc)) c.lines.yielded _ c.lines.yielded_by _ _ c.in-Some.line c.in-Some.is c.next.ensures.steps) in
+    let some : 0 < length core = grind (arith, nat_tests, c.is_empty.ensures, c.if-not-is_empty.true) in
+    names_handed (λ n. (n ≡ number + 1) × SaysNoRule grammar core) (IsFirstFault grammar lines)
+    (λ n said. subst (IsFirstFault grammar lines) (sym said.0)
+    (fault_here grammar lines number line at.0 at.1 c.lines.rules.items (subst (λ l. 0 < length l) c.core_of-core.ensures some)
+    c.lines.invariant.rules (subst (SaysNoRule grammar) c.core_of-core.ensures said.1)))
+    c.in_err-rule_of.field-0.0 c.from_residual.result c.from_residual.ensures.1 c.in_err-rule_of.ensures.fault
 
 pub lines-preserved-in_ok-push : goal.lines-preserved-in_ok-push
 lines-preserved-in_ok-push c =
-    rw c.in_ok-push.ensures.items
-    (All-push (IsRuleFor c.args.grm.now) c.lines.rules.items c.in_ok-rule_of.field-0 c.lines.invariant c.in_ok-rule_of.ensures.rule)
+    let grammar = c.args.grm.now in
+    let lines = text_lines c.args.text.now in
+    let number = c.lines.number in
+    let line = c.in-Some.line.now in
+    let core = c.core_of-core.result.now in
+    let rule = c.in_ok-rule_of.field-0 in
+    let at : (number < length lines) × (line ≡ get_or lines number line) =
+    subst (λ n. (n < length lines) × (line ≡ get_or lines n line)) (sym c.lines.invariant.number)
+    (YieldsList-turn (YieldsList-from_str_split 10 c.args.text.now (lit< tt) (cc) (cc) (cc)) c.lines.yielded _ c.lines.yielded_by _ _ c.in-Some.line c.in-Some.is c.next.ensures.steps) in
+    let some : 0 < length core = grind (arith, nat_tests, c.is_empty.ensures, c.if-not-is_empty.true) in
+    record {
+      number = ap (λ n. n + 1) c.lines.invariant.number ∙ sym (length_push c.lines.yielded c.in-Some.line);
+      rules = subst (AreRulesOf grammar (take (number + 1) lines)) (sym c.in_ok-push.ensures.items)
+          (rule_more grammar lines number line at.0 at.1 c.lines.rules.items rule (subst (λ l. 0 < length l) c.core_of-core.ensures some)
+          c.lines.invariant.rules (subst (λ l. IsRuleOf grammar l rule) c.core_of-core.ensures c.in_ok-rule_of.ensures.rule));
+    }
+
+pub lines-preserved : goal.lines-preserved
+lines-preserved c =
+    let lines = text_lines c.args.text.now in
+    let number = c.lines.number in
+    let line = c.in-Some.line.now in
+    let core = c.core_of-core.result.now in
+    let at : (number < length lines) × (line ≡ get_or lines number line) =
+    subst (λ n. (n < length lines) × (line ≡ get_or lines n line)) (sym c.lines.invariant.number)
+    (YieldsList-turn (YieldsList-from_str_split 10 c.args.text.now (lit< tt) (cc) (cc) (cc)) c.lines.yielded _ c.lines.yielded_by _ _ c.in-Some.line c.in-Some.is c.next.ensures.steps) in
+    let none : length core ≡ 0 = grind (arith, nat_tests, c.is_empty.ensures, c.if-not-is_empty.false) in
+    record {
+      number = ap (λ n. n + 1) c.lines.invariant.number ∙ sym (length_push c.lines.yielded c.in-Some.line);
+      rules = rules_stay c.args.grm.now lines number line at.0 at.1 c.lines.rules.items (ap length (sym c.core_of-core.ensures) ∙ none)
+          c.lines.invariant.rules;
+    }
+
+pub returns-clause-rules : goal.returns-clause-rules
+returns-clause-rules c =
+    let lines = text_lines c.args.text.now in
+    let ended = YieldsList-end (YieldsList-from_str_split 10 c.args.text.now (lit< tt) (cc) (cc) (cc)) c.lines.yielded _ c.lines.yielded_by _ _ c.in-None.is c.next.ensures.steps in
+    let all : c.lines.number ≡ length lines = c.lines.invariant.number ∙ ended.1 in
+    subst (λ ls. AreRulesOf c.args.grm.now ls c.lines.rules.items) (take_all c.lines.number lines (omega arith)) c.lines.invariant.rules

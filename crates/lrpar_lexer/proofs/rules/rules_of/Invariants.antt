@@ -1,7 +1,11 @@
-use Rattle.std.specs.List.{All}
-use Rattle.lrpar_lexer.specs.RuleTexts.{IsRuleFor}
+use Rattle.std.proofs.Common.{◌≡◌, length, take}
+use Rattle.lrpar_lexer.specs.RuleLines.{text_lines}
+use Rattle.lrpar_lexer.specs.RuleTexts.{AreRulesOf}
 use Rattle.lrpar_lexer.proofs.rules.rules_of.Given as goal
 
--- the rules so far are rules for the grammar
+-- the lines so far are counted, and the rules so far are theirs
 abbrev pub invariant-lines : goal.invariant-lines
-invariant-lines l = All (IsRuleFor l.grm) l.rules.items
+invariant-lines l = record {
+  number : l.number ≡ length l.yielded;
+  rules : AreRulesOf l.grm (take l.number (text_lines l.text)) l.rules.items;
+}

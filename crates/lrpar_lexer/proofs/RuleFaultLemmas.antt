@@ -1,0 +1,17 @@
+-- What a fault says of the line that it names.
+use Rattle.std.proofs.Common.{◌≡◌, ℕ, Result, Ok, Err, IfErr, IsErrAnd, sym, subst}
+use Rattle.lrpar_lexer.specs.RuleTexts.{NamesLine}
+use Rattle.lrpar_lexer.specs.declared.rules.RulesFault.{RulesFault}
+use Rattle.lrpar_lexer.specs.declared.rules.RulesFault.TheVariants.{Line, Memory}
+
+module _ (P Q : ℕ → Type 0) (so : (n : ℕ) → P n → Q n) where
+  -- what holds of the line has consequences
+  pub names_weaker : (fault : RulesFault) → NamesLine P fault → NamesLine Q fault
+  names_weaker (Line number) is = so number is
+  names_weaker Memory is = is
+
+  -- the same of a fault that a `?` hands on
+  pub names_handed : {T : Type 0} (fault : RulesFault) (r : Result T RulesFault) → IsErrAnd r (λ y. y ≡ fault) → NamesLine P fault
+      → IfErr r (NamesLine Q)
+  names_handed fault (Ok x) is names = tt
+  names_handed fault (Err y) is names = subst (NamesLine Q) (sym is) (names_weaker fault names)

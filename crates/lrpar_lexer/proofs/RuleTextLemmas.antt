@@ -1,0 +1,64 @@
+-- The rules of the first lines of a text, and of one line more.
+use Rattle.std.proofs.Common.{◌≡◌, ℕ, ◌+◌, ◌-◌, ◌<◌, cond, nat_lt, List, [], ◌∷◌, ◌++◌, length, map, take, get_or, filter, Some, slice_get, sym, subst, ◌∙◌, ap, arith, append-nil, lt-ltb, le-ltb}
+use Rattle.std.specs.List.{AllZip}
+use Rattle.std.proofs.lemmas.List.{map_push, take_more}
+use Rattle.std.proofs.lemmas.List.Elements.{filter-append}
+use Rattle.std.proofs.lemmas.Option.{slice_get-get_or}
+use Rattle.lrpar_grammar.specs.Grammar.{Grammar}
+use Rattle.lrpar_lexer.specs.RuleLines.{core_of, cores_of}
+use Rattle.lrpar_lexer.specs.RuleTexts.{AreRulesOf, IsFirstFault, IsRuleOf, SaysNoRule}
+use Rattle.lrpar_lexer.specs.declared.rule.LexRule.{LexRule}
+
+zip_push : {A B : Type 0} (R : A → B → Type 0) (xs : List A) (ys : List B) (x : A) (y : B) → AllZip R xs ys → R x y
+    → AllZip R (xs ++ x ∷ []) (ys ++ y ∷ [])
+zip_push R [] [] x y all here = (here, tt)
+zip_push R [] (b ∷ ys) x y all here = absurd all
+zip_push R (a ∷ xs) [] x y all here = absurd all
+zip_push R (a ∷ xs) (b ∷ ys) x y (first, rest) here = (first, zip_push R xs ys x y rest here)
+
+-- what counts of one line more
+cores_push : (lines : List (List ℕ)) (line : List ℕ)
+    → cores_of (lines ++ line ∷ []) ≡ cores_of lines ++ cond (nat_lt 0 (length (core_of line))) (core_of line ∷ []) []
+cores_push lines line =
+    ap (filter (λ core. nat_lt 0 (length core))) (map_push core_of lines line)
+    ∙ filter-append (λ core. nat_lt 0 (length core)) (map core_of lines) (core_of line ∷ [])
+
+module _ (grammar : Grammar) (lines : List (List ℕ)) (number : ℕ) (line : List ℕ) (within : number < length lines)
+    (is : line ≡ get_or lines number line) where
+  one_more : take (number + 1) lines ≡ take number lines ++ line ∷ []
+  one_more = take_more lines number line within ∙ ap (λ l. take number lines ++ l ∷ []) (sym is)
+
+  -- a line that counts says one rule more
+  pub rule_more : (rules : List LexRule) (rule : LexRule) → 0 < length (core_of line) → AreRulesOf grammar (take number lines) rules
+      → IsRuleOf grammar (core_of line) rule → AreRulesOf grammar (take (number + 1) lines) (rules ++ rule ∷ [])
+  rule_more rules rule counts are says =
+      let more : cores_of (take (number + 1) lines) ≡ cores_of (take number lines) ++ core_of line ∷ [] =
+      ap cores_of one_more ∙ cores_push (take number lines) line
+      ∙ ap (λ test. cores_of (take number lines) ++ cond test (core_of line ∷ []) []) (lt-ltb 0 (length (core_of line)) counts) in
+      subst (λ cores. AllZip (IsRuleOf grammar) cores (rules ++ rule ∷ [])) (sym more)
+      (zip_push (IsRuleOf grammar) (cores_of (take number lines)) rules (core_of line) rule are says)
+
+  -- one that doesn't count says none
+  pub rules_stay : (rules : List LexRule) → length (core_of line) ≡ 0 → AreRulesOf grammar (take number lines) rules
+      → AreRulesOf grammar (take (number + 1) lines) rules
+  rules_stay rules none are =
+      let more : cores_of (take (number + 1) lines) ≡ cores_of (take number lines) =
+      ap cores_of one_more ∙ cores_push (take number lines) line
+      ∙ ap (λ test. cores_of (take number lines) ++ cond test (core_of line ∷ []) []) (le-ltb 0 (length (core_of line)) (omega arith))
+      ∙ append-nil (cores_of (take number lines)) in
+      subst (λ cores. AllZip (IsRuleOf grammar) cores rules) (sym more) are
+
+  -- a line that counts and says no rule is the first such one, where the lines before it say rules
+  pub fault_here : (rules : List LexRule) → 0 < length (core_of line) → AreRulesOf grammar (take number lines) rules
+      → SaysNoRule grammar (core_of line) → IsFirstFault grammar lines (number + 1)
+  fault_here rules counts are says =
+      let back : (number + 1) - 1 ≡ number = omega arith in
+      record {
+        line = line;
+        from_one = omega arith;
+        is = ap (slice_get lines) back ∙ slice_get-get_or lines number line within ∙ ap Some (sym is);
+        counts = counts;
+        says_none = says;
+        rules = rules;
+        before = subst (λ n. AreRulesOf grammar (take n lines) rules) (sym back) are;
+      }

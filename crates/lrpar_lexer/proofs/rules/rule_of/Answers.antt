@@ -1,0 +1,30 @@
+use Rattle.std.proofs.Common.{◌≡◌, ◌≢◌, ℕ, Option, Some, None, Bor, option_map, subst, List}
+use Rattle.regex.specs.declared.error.Error.TheVariants.{OutOfMemory}
+use Rattle.lrpar_lexer.specs.RuleLines.{ReadsAs}
+use Rattle.lrpar_lexer.specs.RuleTexts.{SaysNoRule, first_named, refused, unnamed}
+use Rattle.lrpar_lexer.proofs.RuleFaultLemmas.{names_handed, names_weaker}
+use Rattle.lrpar_lexer.proofs.rules.rule_of.Goals as goal
+
+pub returns-in_err-token_named-in-Some-name-clause-fault : goal.returns-in_err-token_named-in-Some-name-clause-fault
+returns-in_err-token_named-in-Some-name-clause-fault c =
+    let grammar = c.args.grm.now in
+    let line = c.args.line.now in
+    let pattern = c.in-Some.pattern.now in
+    let name = c.in-Some-name.name.now in
+    let reads : ReadsAs line pattern (Some name) =
+    subst (λ (n : Option (Bor (List ℕ))). ReadsAs line pattern (option_map (λ n. n.now) n)) c.in-Some-name.is c.in-Some.ensures in
+    names_handed (λ n. (n ≡ c.args.number) × (first_named grammar name ≡ None)) (λ n. (n ≡ c.args.number) × SaysNoRule grammar line)
+    (λ n said. (said.0, unnamed pattern name reads said.1)) c.in_err-token_named-in-Some-name.field-0.0 c.from_residual.result
+    c.from_residual.ensures.1 c.in_err-token_named-in-Some-name.ensures.fault
+
+pub returns-in-Err : goal.returns-in-Err
+returns-in-Err c =
+    let grammar = c.args.grm.now in
+    let line = c.args.line.now in
+    let pattern = c.in-Some.pattern.now in
+    let name : Option (List ℕ) = option_map (λ n. n.now) c.in-Some.name in
+    record {
+      rule = tt;
+      fault = names_weaker (λ n. (n ≡ c.args.number) × (c.in-Err.error ≢ OutOfMemory)) (λ n. (n ≡ c.args.number) × SaysNoRule grammar line)
+          (λ n said. (said.0, refused pattern name c.in-Err.error c.in-Some.ensures (said.1, c.in-Err.ensures.refused, c.in-Err.ensures.kind))) c.refusal.result c.refusal.ensures;
+    }

@@ -1,0 +1,64 @@
+-- The lines of a text of rules, and how a line reads.
+use Rattle.std.specs.Prelude.{◌≡◌, ◌≢◌, ℕ, ◌-◌, ◌<◌, ◌==◌, nat_lt, Bool, false, ◌||◌, IsTrue, List, [], ◌∷◌, ◌++◌, length, map, take, drop, filter, Option, Some, None, IfSome}
+use Rattle.std.specs.List.{All, prefix_len, slice_split, suffix_len}
+use Rattle.lrpar_text.specs.Lines.{is_line_feed}
+
+-- the lines of a text: what stands between its line feeds
+abbrev pub text_lines : List ℕ → List (List ℕ)
+text_lines text = slice_split is_line_feed text
+
+-- a space or a tab
+abbrev pub is_blank : ℕ → Bool
+is_blank byte = byte == 32 || byte == 9
+
+-- a space, a tab or a carriage return
+abbrev pub is_margin : ℕ → Bool
+is_margin byte = is_blank byte || byte == 13
+
+-- the text without the bytes at its front that pass a test, all up to the first that doesn't; the same at its end
+abbrev pub without_front : (ℕ → Bool) → List ℕ → List ℕ
+without_front test text = drop (prefix_len test text) text
+
+abbrev pub without_end : (ℕ → Bool) → List ℕ → List ℕ
+without_end test text = take (length text - suffix_len test text) text
+
+-- what counts of a line
+abbrev pub core_of : List ℕ → List ℕ
+core_of line = without_end is_margin (without_front is_margin line)
+
+-- what counts of each line that counts
+abbrev pub cores_of : List (List ℕ) → List (List ℕ)
+cores_of lines = filter (λ core. nat_lt 0 (length core)) (map core_of lines)
+
+abbrev pub quote : ℕ
+quote = 39
+
+abbrev pub semicolon : ℕ
+semicolon = 59
+
+-- how a line ends: with a name between quotes, or with a semicolon
+abbrev pub ending_of : Option (List ℕ) → List ℕ
+ending_of None = semicolon ∷ []
+ending_of (Some name) = quote ∷ name ++ quote ∷ []
+
+-- the line is `front` and then such an ending; no quote is in the name
+pub record HasEnding (line front : List ℕ) (name : Option (List ℕ)) : Type 0 where
+  pub is : line ≡ front ++ ending_of name
+  pub unquoted : IfSome name (All (λ byte. byte ≢ quote))
+
+-- the text is a pattern and then spaces and tabs, of which there is one at least; the pattern isn't empty, and ends with neither
+pub record HasGap (text pattern : List ℕ) : Type 0 where
+  pub gap : List ℕ
+  pub is : text ≡ pattern ++ gap
+  pub some : 0 < length gap
+  pub blank : All (λ byte. IsTrue (is_blank byte)) gap
+  pub front : List ℕ
+  pub last : ℕ
+  pub ends : pattern ≡ front ++ last ∷ []
+  pub solid : is_blank last ≡ false
+
+-- the line reads as a pattern and the name of a token, or none: the pattern, spaces and tabs, and the ending
+pub record ReadsAs (line pattern : List ℕ) (name : Option (List ℕ)) : Type 0 where
+  pub front : List ℕ
+  pub ending : HasEnding line front name
+  pub gap : HasGap front pattern
