@@ -27,5 +27,6 @@ pub mod StatesLemmas
 pub mod NumberLemmas
 pub mod PutLemmas
 pub mod StepLemmas
+pub mod SuccessorLemmas
 pub mod FindLemmas
 pub mod KernelMapLemmas

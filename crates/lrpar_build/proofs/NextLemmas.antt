@@ -3,7 +3,7 @@ use Rattle.std.proofs.Common.{◌≡◌, ◌<◌, ◌≤◌, ◌+◌, ◌↔◌,
 use Rattle.std.specs.List.{filter}
 use Rattle.std.specs.Option.{option_map}
 use Rattle.std.proofs.lemmas.Bool.{cases_Bool, eq-eqb, eqb-true, false≢true}
-use Rattle.std.proofs.lemmas.List.{append-nil, length-map, map-append, map_more}
+use Rattle.std.proofs.lemmas.List.{length-map, map-append, map_more}
 use Rattle.std.proofs.lemmas.List.Elements.{All-filter, All-head, All-map, All-weaker, filter-append, filter_passes}
 use Rattle.std.proofs.lemmas.Option.{slice_get-map, slice_get_past, slice_get_read, slice_get_within}
 use Rattle.lrpar_grammar.specs.Grammar.{Grammar, GrammarSymbol, Nonterminal, Terminal, symbols_of}
@@ -174,22 +174,6 @@ next_more g symbol core_of xs i x low is =
     map_more core_of xs i x low ∙ ap (λ y. early ++ core_of y ∷ []) (sym is) in
     ap (next_kernel g symbol) all ∙ ap (map advanced) (filter-append (before g symbol) early (core_of x ∷ []))
     ∙ map-append advanced (filter (before g symbol) early) (filter (before g symbol) (core_of x ∷ []))
-
--- one that stands before the symbol is put to the kernel, and one that doesn't isn't
-module _ {X : Type 0} (g : Grammar) (symbol : GrammarSymbol) (core_of : X → CoreSet) (xs : List X) (i : ℕ) (x : X) (low : i < length xs)
-    (is : x ≡ get_or xs i x) (kernel : List X) (so_far : map core_of kernel ≡ next_kernel g symbol (map core_of (take i xs))) where
-  pub next_put : (more : List X) (y : X) → is_symbol symbol (symbol_behind g (core_of x)) ≡ true → more ≡ kernel ++ y ∷ [] → core_of y ≡ advanced (core_of x)
-      → map core_of more ≡ next_kernel g symbol (map core_of (take (i + 1) xs))
-  next_put more y stands put core =
-      let before = next_kernel g symbol (map core_of (take i xs)) in
-      ap (map core_of) put ∙ map-append core_of kernel (y ∷ []) ∙ ap (λ cs. cs ++ core_of y ∷ []) so_far ∙ ap (λ c. before ++ c ∷ []) core
-      ∙ ap (λ cs. before ++ cs) (sym (next_one g symbol (core_of x) [] stands)) ∙ sym (next_more g symbol core_of xs i x low is)
-
-  pub next_left : is_symbol symbol (symbol_behind g (core_of x)) ≡ false → map core_of kernel ≡ next_kernel g symbol (map core_of (take (i + 1) xs))
-  next_left apart =
-      let before = next_kernel g symbol (map core_of (take i xs)) in
-      so_far ∙ sym (append-nil before) ∙ ap (λ cs. before ++ cs) (sym (next_none g symbol (core_of x) [] apart))
-      ∙ sym (next_more g symbol core_of xs i x low is)
 
 -- cores with lookaheads have items
 pub some_item : (cores : List CoreSet) → All IsFilled cores → 0 < length cores → (x : ItemOf) × IsAmong cores x

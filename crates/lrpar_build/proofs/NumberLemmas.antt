@@ -11,7 +11,7 @@ use Rattle.lrpar_build.specs.FirstRows.{mark_of}
 use Rattle.lrpar_build.specs.Tokens.{has}
 use Rattle.lrpar_build.specs.ItemSets.{IsAdvanced, IsInClosure, IsReachedBy, IsStartItem}
 use Rattle.lrpar_build.specs.Kernels.{AreCores, AreKept, AreKernels, ComesBefore, GoesTo, IsBegun, IsFilled, IsKernel, IsReachedKernel, kernel_at, next_kernel, path_at}
-use Rattle.lrpar_build.specs.Numbers.{AreNumbered, IsFaultOfStates, IsFound, IsFresh, IsNumberFault, IsNumberOf}
+use Rattle.lrpar_build.specs.Numbers.{AreNumbered, IsFaultOfStates, IsFound, IsFresh, IsNumberFault, IsNumberOf, IsStepFault, IsStepTo}
 use Rattle.lrpar_build.specs.States.{AreExpanded, AreSteps, IsExpanded, StartsRight, StateOf, state_at}
 use Rattle.lrpar_build.specs.declared.fault.BuildFault.{BuildFault}
 use Rattle.lrpar_build.specs.declared.fault.BuildFault.TheVariants.{AcceptReduceConflict, Memory, StorageTooSmall, TooManyStates}
@@ -195,19 +195,45 @@ module _ (g : Grammar) (well : IsWellFormed g) (max limit : ℕ) (kernels : List
       (closure_same g (IsAmong own) there
       (same_via (IsAmong own) here there (next_is g symbol cores) (advanced_same g (IsAmong cores) (IsReachedBy g path) symbol reached)))
 
-  pub step_fault : (fault : BuildFault) → IsNumberFault max limit kernels kernel fault → IsFaultOfStates g max limit fault
+  step_fault : (fault : BuildFault) → IsNumberFault max limit kernels kernel fault → IsFaultOfStates g max limit fault
   step_fault = number_fault g well max limit kernels numbered kernel is_kernel (symbol ∷ path) is_reached
 
   module _ (n : ℕ) (after : List (List CoreSet)) (number : IsNumberOf max limit kernels kernel n after) where
-    pub step_numbered : AreNumbered g max limit after
+    step_numbered : AreNumbered g max limit after
     step_numbered = number_numbered g well max limit kernels numbered kernel is_kernel (symbol ∷ path) is_reached n after number
 
-    pub step_goes : GoesTo g after cores symbol (Some n)
+    step_goes : GoesTo g after cores symbol (Some n)
     step_goes = (
       next_stands g symbol cores are some_next,
       number.found.within,
       subst (λ k. AreSame (IsAmong k) (IsAdvanced g (IsAmong cores) symbol)) (sym (number.found.is ∙ next)) (next_is g symbol cores),
     )
+
+-- cores take a step: the kernels are numbered and kept, and the cores go there
+pub record IsStepDone (g : Grammar) (max limit : ℕ) (before : List (List CoreSet)) (cores : List CoreSet) (symbol : GrammarSymbol) (to : Option ℕ)
+    (after : List (List CoreSet)) : Type 0 where
+  pub numbered : AreNumbered g max limit after
+  pub kept : AreKept before after
+  pub goes : GoesTo g after cores symbol to
+
+module _ (g : Grammar) (well : IsWellFormed g) (max limit : ℕ) (kernels : List (List CoreSet)) (numbered : AreNumbered g max limit kernels)
+    (cores : List CoreSet) (are : AreCores g cores) (path : List GrammarSymbol) (reached : AreSame (IsAmong cores) (IsReachedBy g path))
+    (symbol : GrammarSymbol) (kernel : List CoreSet) (next : kernel ≡ next_kernel g symbol cores) where
+  pub step_done : (to : Option ℕ) (after : List (List CoreSet)) → IsStepTo max limit kernels kernel to after
+      → IsStepDone g max limit kernels cores symbol to after
+  step_done None after step = record {
+    numbered = subst (AreNumbered g max limit) (sym step.1) numbered;
+    kept = subst (AreKept kernels) (sym step.1) (kept_itself kernels);
+    goes = goes_nowhere g after cores symbol (sym (ap (λ (cs : List CoreSet). length cs) next) ∙ step.0);
+  }
+  step_done (Some n) after step = record {
+    numbered = step_numbered g well max limit kernels numbered cores are path reached symbol kernel next step.0 n after step.1;
+    kept = number_kept max limit kernels kernel n after step.1;
+    goes = step_goes g well max limit kernels numbered cores are path reached symbol kernel next step.0 n after step.1;
+  }
+
+  pub step_failed : (fault : BuildFault) → IsStepFault max limit kernels kernel fault → IsFaultOfStates g max limit fault
+  step_failed fault step = step_fault g well max limit kernels numbered cores are path reached symbol kernel next step.0 fault step.1
 
 -- the kernel of the start item
 pub none_numbered : (g : Grammar) (max limit : ℕ) → AreNumbered g max limit []

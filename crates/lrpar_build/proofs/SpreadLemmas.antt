@@ -123,6 +123,14 @@ module _ (g : Grammar) (sets : List TokenSet) (p rule target mark : ℕ) (w : Li
       let now = (new_has t).1 (inr (low_t, in_fresh)) in
       subst (λ n. HasIn (rows_of sets) n t) (same_rule target r w v alike) (subst (λ b. IsTrue (has b t)) (same ∙ old_row) now))
 
+-- where the production's rule has no lookaheads, it brings nothing
+pub spread_nothing : (g : Grammar) (sets : List TokenSet) (p rule : ℕ) (d : TokenSet) → rule ≡ rule_of g p → rule_of g p < rules_len g → HaveRoom g (rows_of sets)
+    → ((t : ℕ) → IsTrue (has (get_or sets rule d).bits.items t) → ⊥) → IsSpreadAt g (rows_of sets) p
+spread_nothing g sets p rule d is low room none r s t w begins has_s first =
+    let count = sets_len g sets room in
+    let row = row_in sets rule d (omega (arith, count, is, low)) ∙ ap (row_at (rows_of sets)) is in
+    absurd (none s (subst (λ b. IsTrue (has b s)) (sym row) has_s))
+
 -- a production whose first symbol was split off
 pub begins_by : {S : Type 0} (index : S → ℕ) (symbols rest : List (Symbol S)) (first shown : Symbol S) → IsFirstAndRest symbols first rest → first ≡ shown
     → map (symbol_of index) symbols ≡ symbol_of index shown ∷ map (symbol_of index) rest

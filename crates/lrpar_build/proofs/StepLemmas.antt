@@ -109,7 +109,7 @@ module _ (g : Grammar) (well : IsWellFormed g) where
             ]
       ]
 
-  stands_below : (p k : ℕ) (symbol : GrammarSymbol) → slice_get (symbols_of g p) k ≡ Some symbol → IsSymbolBelow (rules_len g) (tokens_len g) symbol
+  pub stands_below : (p k : ℕ) (symbol : GrammarSymbol) → slice_get (symbols_of g p) k ≡ Some symbol → IsSymbolBelow (rules_len g) (tokens_len g) symbol
   stands_below p k symbol is =
       let Below = IsSymbolBelow (rules_len g) (tokens_len g) in
       subst Below (get_or_from_slice_get (symbols_of g p) k symbol symbol is)

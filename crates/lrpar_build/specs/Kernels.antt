@@ -70,6 +70,15 @@ next_kernel g symbol cores = map advanced (filter (λ core. is_symbol symbol (sy
 abbrev pub kernel_at : List (List CoreSet) → ℕ → List CoreSet
 kernel_at kernels s = slice_index_or kernels s []
 
+-- the kernels to which cores go by symbols, each at the number of its symbol
+abbrev pub AreNext : Grammar → List CoreSet → (ℕ → GrammarSymbol) → List (List CoreSet) → Type 0
+AreNext g cores symbol kernels = (n : ℕ) → n < length kernels → kernel_at kernels n ≡ next_kernel g (symbol n) cores
+
+-- the core, advanced, was put to the kernel of the symbol that it stands before, if there is one
+pub record ArePutTo (g : Grammar) (core : CoreSet) (symbol : ℕ → GrammarSymbol) (before after : List (List CoreSet)) : Type 0 where
+  pub len : length after ≡ length before
+  pub each : (n : ℕ) → n < length before → kernel_at after n ≡ kernel_at before n ++ next_kernel g (symbol n) (core ∷ [])
+
 -- path s; out of range, the empty one
 abbrev pub path_at : List (List GrammarSymbol) → ℕ → List GrammarSymbol
 path_at paths s = slice_index_or paths s []

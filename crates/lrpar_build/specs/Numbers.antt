@@ -1,5 +1,5 @@
 -- Kernels and their numbers.
-use Rattle.std.specs.Prelude.{◌≡◌, ◌≢◌, ◌<◌, ◌≤◌, ◌⊎◌, ◌++◌, ℕ, List, [], ◌∷◌, length}
+use Rattle.std.specs.Prelude.{◌≡◌, ◌≢◌, ◌<◌, ◌≤◌, ◌⊎◌, ◌++◌, ℕ, List, [], ◌∷◌, Option, Some, None, length}
 use Rattle.lrpar_grammar.specs.Grammar.{Grammar}
 use Rattle.lrpar_build.specs.Canonical.{ReachesMore}
 use Rattle.lrpar_build.specs.Cores.{CoreSet}
@@ -34,6 +34,15 @@ IsNumberFault max limit kernels kernel TooManyStates = IsFresh kernels kernel ×
 IsNumberFault max limit kernels kernel StorageTooSmall = IsFresh kernels kernel × (limit ≤ length kernels)
 IsNumberFault max limit kernels kernel Memory = Unit {0}
 IsNumberFault max limit kernels kernel (AcceptReduceConflict s) = ⊥
+
+-- a step to a kernel leads to its number, by which it was found or pushed, and nowhere where the kernel has no cores
+abbrev pub IsStepTo : ℕ → ℕ → List (List CoreSet) → List CoreSet → Option ℕ → List (List CoreSet) → Type 0
+IsStepTo max limit before kernel None after = (length kernel ≡ 0) × (after ≡ before)
+IsStepTo max limit before kernel (Some number) after = (0 < length kernel) × IsNumberOf max limit before kernel number after
+
+-- the kernel has cores, but gets no number
+abbrev pub IsStepFault : ℕ → ℕ → List (List CoreSet) → List CoreSet → BuildFault → Type 0
+IsStepFault max limit kernels kernel fault = (0 < length kernel) × IsNumberFault max limit kernels kernel fault
 
 -- kernels of sets that are reached, at most as many as both bounds
 pub record AreNumbered (g : Grammar) (max limit : ℕ) (kernels : List (List CoreSet)) : Type 0 where

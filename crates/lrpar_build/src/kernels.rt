@@ -66,14 +66,14 @@ impl<StorageT: StorageIndex> Kernels<StorageT> {
         &mut self,
         alloc: Global,
         max_states: usize,
-        kernel: Vec<CoreItems<StorageT>>,
+        kernel: &[CoreItems<StorageT>],
     ) -> Result<StIdx<StorageT>, BuildFault>
         ensures number { IfOk result (λ state. IsNumberOf max_states StorageT.limit self.old
-            (map (core_set StorageT.index) kernel.items) (StorageT.index state.0) self.new) }
+            (map (core_set StorageT.index) kernel.now) (StorageT.index state.0) self.new) }
         ensures fault { IfErr result (IsNumberFault max_states StorageT.limit self.old
-            (map (core_set StorageT.index) kernel.items)) }
+            (map (core_set StorageT.index) kernel.now)) }
     {
-        if let Some(state) = self.find(&kernel) {
+        if let Some(state) = self.find(kernel) {
             return Ok(state);
         }
         let next = self.kernels.len();
@@ -83,7 +83,8 @@ impl<StorageT: StorageIndex> Kernels<StorageT> {
         match StorageT::from_index(next) {
             None => Err(BuildFault::StorageTooSmall),
             Some(number) => {
-                self.push(alloc, kernel, StIdx(number))?;
+                let kept = copied(alloc, kernel)?;
+                self.push(alloc, kept, StIdx(number))?;
                 Ok(StIdx(number))
             }
         }

@@ -62,8 +62,8 @@ fn spread_all<StorageT: StorageIndex>(
     grown
 }
 
-// Lets the production bring the rule that it begins with, before each lookahead of the production's rule; and tells whether
-// anything was new.
+// Lets the production bring the rule that it begins with, before each lookahead of the production's rule, if that has any; and tells
+// whether anything was new.
 fn spread_from<StorageT: StorageIndex>(
     grm: &YaccGrammar<StorageT>,
     firsts: &[TokenSet],
@@ -90,6 +90,9 @@ fn spread_from<StorageT: StorageIndex>(
     match grm.prod(pidx).split_first() {
         Some((Symbol::Rule(brought), rest)) => {
             let rule = usize::from(grm.prod_to_rule(pidx));
+            if !sets[rule].has_any() {
+                return false;
+            }
             fresh.clear();
             add_first_before(grm, firsts, rest, &sets[rule], front, fresh);
             let target = usize::from(*brought);

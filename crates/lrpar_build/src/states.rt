@@ -1,16 +1,15 @@
 //! The states: the item sets that are reached, each once.
-ghost use Rattle.std.specs.Prelude.{◌≡◌, ◌<◌, ◌≤◌, ◌+◌, ◌^◌, ℕ, List, All, IfErr, IfOk, OnOk, Some, length, map};
-ghost use Rattle.std.specs.Bool.{OnTrue};
+ghost use Rattle.std.specs.Prelude.{◌≡◌, ◌<◌, ◌≤◌, ◌+◌, ◌^◌, ◌∷◌, ◌++◌, ℕ, List, [], All, IfErr, IfOk, OnOk, length, map};
 ghost use Rattle.std.specs.Option.{option_map};
-ghost use Rattle.lrpar_grammar.specs.Grammar.{GrammarSymbol, IsWellFormed, Nonterminal, Terminal};
-ghost use Rattle.lrpar_grammar.specs.Symbols.{symbol_of};
+ghost use Rattle.lrpar_grammar.specs.Grammar.{GrammarSymbol, IsWellFormed, Nonterminal, Terminal, rules_len, tokens_len};
 ghost use Rattle.lrpar_states.specs.PlainRows.{goto_entry};
 ghost use Rattle.lrpar_build.specs.Canonical.{AreSame};
 ghost use Rattle.lrpar_build.specs.Cores.{IsAmong, IsCoreOf, core_set};
 ghost use Rattle.lrpar_build.specs.ItemSets.{IsInClosure, IsReachedBy, IsStartItem};
-ghost use Rattle.lrpar_build.specs.Kernels.{AreCores, AreKept, GoesTo, IsKernel, IsReachedKernel, is_symbol, next_kernel, symbol_behind};
-ghost use Rattle.lrpar_build.specs.Numbers.{AreNumbered, IsFaultOfStates};
-ghost use Rattle.lrpar_build.specs.States.{AreSets, AreStates, AreSteps, IsExpanded, StartsRight, state_of};
+ghost use Rattle.lrpar_build.specs.KernelMap.{kernel_rows};
+ghost use Rattle.lrpar_build.specs.Kernels.{AreCores, AreKept, ArePutTo, IsKernel, IsReachedKernel, advanced, kernel_at};
+ghost use Rattle.lrpar_build.specs.Numbers.{AreNumbered, IsFaultOfStates, IsStepFault, IsStepTo};
+ghost use Rattle.lrpar_build.specs.States.{AreSets, AreStates, AreSteps, AreSuccessors, IsExpanded, StartsRight, state_of};
 ghost use Rattle.lrpar_build.specs.Wanted.{shift_entry};
 
 use crate::closure::closure;
@@ -89,7 +88,7 @@ fn start_kernels<StorageT: StorageIndex>(
 {
     let start = start_kernel(alloc, grm)?;
     let mut kernels = Kernels::new(alloc);
-    let _start = kernels.number(alloc, max_states, start)?;
+    let _start = kernels.number(alloc, max_states, &start)?;
     Ok(kernels)
 }
 
@@ -136,10 +135,11 @@ fn expanded<StorageT: StorageIndex>(
     ensures fault { IfErr result (IsFaultOfStates grm.now max_states StorageT.limit) }
 {
     let items = closed(alloc, grm, sets, kernel)?;
-    let gotos = gotos(alloc, grm, max_states, &items, kernels)?;
-    let shifts = shifts(alloc, grm, max_states, &items, kernels)?;
+    let successors = Successors::new(alloc, grm, items)?;
+    let gotos = gotos(alloc, grm, max_states, &successors, kernels)?;
+    let shifts = shifts(alloc, grm, max_states, &successors, kernels)?;
     Ok(State {
-        items,
+        items: successors.items,
         gotos,
         shifts,
     })
@@ -171,78 +171,115 @@ fn closed<StorageT: StorageIndex>(
     )
 }
 
-// Whether the core stands before the symbol.
-fn stands_before<StorageT: StorageIndex>(
+// A closed item set, by its cores, and the kernels to which it goes: one for each rule and one for each token. That of a symbol
+// which stands behind no dot has no cores.
+#[derive(Debug, Drop)]
+struct Successors<StorageT> {
+    items: Vec<CoreItems<StorageT>>,
+    rules: Vec<Vec<CoreItems<StorageT>>>,
+    tokens: Vec<Vec<CoreItems<StorageT>>>,
+}
+
+impl<StorageT: StorageIndex> Successors<StorageT> {
+    // That of the cores, by one pass over them.
+    fn new(
+        alloc: Global,
+        grm: &YaccGrammar<StorageT>,
+        items: Vec<CoreItems<StorageT>>,
+    ) -> Result<Self, AllocError>
+        requires well_formed { IsWellFormed grm.now }
+        requires cores { All (IsCoreOf grm.now) (map (core_set StorageT.index) items.items) }
+        ensures items { IfOk result (λ successors. successors.items.items ≡ items.items) }
+        ensures successors { IfOk result (AreSuccessors StorageT.index grm.now) }
+    {
+        let mut rules = no_kernels(alloc, grm.rules_len())?;
+        let mut tokens = no_kernels(alloc, grm.tokens_len())?;
+        for core in &items {
+            put_next(alloc, grm, core, &mut rules, &mut tokens)?;
+        }
+        Ok(Successors {
+            items,
+            rules,
+            tokens,
+        })
+    }
+}
+
+// So many kernels without cores.
+fn no_kernels<StorageT: StorageIndex>(
+    alloc: Global,
+    len: usize,
+) -> Result<Vec<Vec<CoreItems<StorageT>>>, AllocError>
+    ensures len { IfOk result (λ kernels. length kernels.items ≡ len) }
+    ensures none { IfOk result (λ kernels. (n : ℕ) → kernel_at (kernel_rows StorageT.index kernels.items) n ≡ []) }
+{
+    let mut kernels = Vec::with_capacity(alloc, len)?;
+    for _ in 0..len {
+        kernels.push(Vec::new(alloc))?;
+    }
+    Ok(kernels)
+}
+
+// Puts the core, advanced, to the kernel of the symbol that it stands before, if it does.
+fn put_next<StorageT: StorageIndex>(
+    alloc: Global,
     grm: &YaccGrammar<StorageT>,
     core: &CoreItems<StorageT>,
-    symbol: Symbol<StorageT>,
-) -> bool
-    requires { IsCoreOf grm.now (core_set StorageT.index core.now) }
-    ensures symbol { result ≡ is_symbol (symbol_of StorageT.index symbol) (symbol_behind grm.now (core_set StorageT.index core.now)) }
-    ensures more { OnTrue result (core.now.dot + 1 < 2 ^ 64) }
+    rules: &mut [Vec<CoreItems<StorageT>>],
+    tokens: &mut [Vec<CoreItems<StorageT>>],
+) -> Result<(), AllocError>
+    requires well_formed { IsWellFormed grm.now }
+    requires core { IsCoreOf grm.now (core_set StorageT.index core.now) }
+    requires rules { length rules.old ≡ rules_len grm.now }
+    requires tokens { length tokens.old ≡ tokens_len grm.now }
+    ensures rules { OnOk result (ArePutTo grm.now (core_set StorageT.index core.now) Nonterminal
+        (kernel_rows StorageT.index rules.old) (kernel_rows StorageT.index rules.new)) }
+    ensures tokens { OnOk result (ArePutTo grm.now (core_set StorageT.index core.now) Terminal
+        (kernel_rows StorageT.index tokens.old) (kernel_rows StorageT.index tokens.new)) }
 {
     match grm.prod(core.prod).get(core.dot) {
-        None => false,
-        Some(behind) => is_same(symbol, *behind),
-    }
-}
-
-// Whether the symbols are the same.
-fn is_same<StorageT: StorageIndex>(symbol: Symbol<StorageT>, other: Symbol<StorageT>) -> bool
-    ensures { result ≡ is_symbol (symbol_of StorageT.index symbol) (Some (symbol_of StorageT.index other)) }
-{
-    match (symbol, other) {
-        (Symbol::Rule(rule), Symbol::Rule(same)) => usize::from(rule) == usize::from(same),
-        (Symbol::Token(token), Symbol::Token(same)) => usize::from(token) == usize::from(same),
-        _ => false,
-    }
-}
-
-// The kernel to which the cores go by the symbol.
-fn next_kernel<StorageT: StorageIndex>(
-    alloc: Global,
-    grm: &YaccGrammar<StorageT>,
-    cores: &[CoreItems<StorageT>],
-    symbol: Symbol<StorageT>,
-) -> Result<Vec<CoreItems<StorageT>>, AllocError>
-    requires { All (IsCoreOf grm.now) (map (core_set StorageT.index) cores.now) }
-    ensures { IfOk result (λ kernel. map (core_set StorageT.index) kernel.items
-        ≡ next_kernel grm.now (symbol_of StorageT.index symbol) (map (core_set StorageT.index) cores.now)) }
-{
-    let mut kernel = Vec::new(alloc);
-    for core in cores {
-        if stands_before(grm, core, symbol) {
-            let tokens = core.tokens.copy(alloc)?;
-            kernel.push(CoreItems {
-                prod: core.prod,
-                dot: core.dot + 1,
-                tokens,
-            })?;
+        None => Ok(()),
+        Some(Symbol::Rule(rule)) => {
+            let target = usize::from(*rule);
+            push_advanced(alloc, core, &mut rules[target])
+        }
+        Some(Symbol::Token(token)) => {
+            let target = usize::from(*token);
+            push_advanced(alloc, core, &mut tokens[target])
         }
     }
-    Ok(kernel)
 }
 
-// Where the cores go by the symbol, if they do: their next kernel gets a number, if it has none.
+// Appends the core, with its dot behind one symbol more.
+fn push_advanced<StorageT: StorageIndex>(
+    alloc: Global,
+    core: &CoreItems<StorageT>,
+    kernel: &mut Vec<CoreItems<StorageT>>,
+) -> Result<(), AllocError>
+    requires { core.now.dot + 1 < 2 ^ 64 }
+    ensures { OnOk result (map (core_set StorageT.index) kernel.new.items
+        ≡ map (core_set StorageT.index) kernel.old.items ++ advanced (core_set StorageT.index core.now) ∷ []) }
+{
+    let tokens = core.tokens.copy(alloc)?;
+    kernel.push(CoreItems {
+        prod: core.prod,
+        dot: core.dot + 1,
+        tokens,
+    })?;
+    Ok(())
+}
+
+// Where the kernel of a step leads, if it has cores: it gets a number, if it has none.
 fn step<StorageT: StorageIndex>(
     alloc: Global,
-    grm: &YaccGrammar<StorageT>,
     max_states: usize,
-    cores: &[CoreItems<StorageT>],
-    symbol: Symbol<StorageT>,
+    kernel: &[CoreItems<StorageT>],
     kernels: &mut Kernels<StorageT>,
 ) -> Result<Option<StIdx<StorageT>>, BuildFault>
-    requires well_formed { IsWellFormed grm.now }
-    requires cores { AreCores grm.now (map (core_set StorageT.index) cores.now) }
-    requires reached { (path : List GrammarSymbol) × AreSame (IsAmong (map (core_set StorageT.index) cores.now)) (IsReachedBy grm.now path) }
-    requires kernels { AreNumbered grm.now max_states StorageT.limit kernels.old }
-    ensures kernels { OnOk result (AreNumbered grm.now max_states StorageT.limit kernels.new) }
-    ensures kept { OnOk result (AreKept kernels.old kernels.new) }
-    ensures goes { IfOk result (λ next. GoesTo grm.now kernels.new (map (core_set StorageT.index) cores.now)
-        (symbol_of StorageT.index symbol) (option_map (λ state. StorageT.index state.0) next)) }
-    ensures fault { IfErr result (IsFaultOfStates grm.now max_states StorageT.limit) }
+    ensures step { IfOk result (λ next. IsStepTo max_states StorageT.limit kernels.old (map (core_set StorageT.index) kernel.now)
+        (option_map (λ state. StorageT.index state.0) next) kernels.new) }
+    ensures fault { IfErr result (IsStepFault max_states StorageT.limit kernels.old (map (core_set StorageT.index) kernel.now)) }
 {
-    let kernel = next_kernel(alloc, grm, cores, symbol)?;
     if kernel.is_empty() {
         return Ok(None);
     }
@@ -250,28 +287,29 @@ fn step<StorageT: StorageIndex>(
     Ok(Some(state))
 }
 
-// Where the cores go by rules, ascending.
+// Where the item set goes by rules, ascending.
 fn gotos<StorageT: StorageIndex>(
     alloc: Global,
     grm: &YaccGrammar<StorageT>,
     max_states: usize,
-    cores: &[CoreItems<StorageT>],
+    successors: &Successors<StorageT>,
     kernels: &mut Kernels<StorageT>,
 ) -> Result<Vec<(RIdx<StorageT>, StIdx<StorageT>)>, BuildFault>
     requires well_formed { IsWellFormed grm.now }
-    requires cores { AreCores grm.now (map (core_set StorageT.index) cores.now) }
-    requires reached { (path : List GrammarSymbol) × AreSame (IsAmong (map (core_set StorageT.index) cores.now)) (IsReachedBy grm.now path) }
+    requires successors { AreSuccessors StorageT.index grm.now successors.now }
+    requires cores { AreCores grm.now (map (core_set StorageT.index) successors.now.items.items) }
+    requires reached { (path : List GrammarSymbol) × AreSame (IsAmong (map (core_set StorageT.index) successors.now.items.items)) (IsReachedBy grm.now path) }
     requires kernels { AreNumbered grm.now max_states StorageT.limit kernels.old }
     ensures kernels { OnOk result (AreNumbered grm.now max_states StorageT.limit kernels.new) }
     ensures kept { OnOk result (AreKept kernels.old kernels.new) }
-    ensures steps { IfOk result (λ rows. AreSteps grm.now kernels.new (map (core_set StorageT.index) cores.now)
+    ensures steps { IfOk result (λ rows. AreSteps grm.now kernels.new (map (core_set StorageT.index) successors.now.items.items)
         Nonterminal (map (goto_entry StorageT.index) rows.items)) }
     ensures fault { IfErr result (IsFaultOfStates grm.now max_states StorageT.limit) }
 {
     let mut rows = Vec::new(alloc);
     for rule in 0..grm.rules_len() {
         let ridx = RIdx(StorageT::from_index(rule).unwrap());
-        let next = step(alloc, grm, max_states, cores, Symbol::Rule(ridx), kernels)?;
+        let next = step(alloc, max_states, &successors.rules[rule], kernels)?;
         match next {
             None => {}
             Some(state) => rows.push((ridx, state))?,
@@ -280,28 +318,29 @@ fn gotos<StorageT: StorageIndex>(
     Ok(rows)
 }
 
-// Where the cores go by tokens, ascending.
+// Where the item set goes by tokens, ascending.
 fn shifts<StorageT: StorageIndex>(
     alloc: Global,
     grm: &YaccGrammar<StorageT>,
     max_states: usize,
-    cores: &[CoreItems<StorageT>],
+    successors: &Successors<StorageT>,
     kernels: &mut Kernels<StorageT>,
 ) -> Result<Vec<(TIdx<StorageT>, StIdx<StorageT>)>, BuildFault>
     requires well_formed { IsWellFormed grm.now }
-    requires cores { AreCores grm.now (map (core_set StorageT.index) cores.now) }
-    requires reached { (path : List GrammarSymbol) × AreSame (IsAmong (map (core_set StorageT.index) cores.now)) (IsReachedBy grm.now path) }
+    requires successors { AreSuccessors StorageT.index grm.now successors.now }
+    requires cores { AreCores grm.now (map (core_set StorageT.index) successors.now.items.items) }
+    requires reached { (path : List GrammarSymbol) × AreSame (IsAmong (map (core_set StorageT.index) successors.now.items.items)) (IsReachedBy grm.now path) }
     requires kernels { AreNumbered grm.now max_states StorageT.limit kernels.old }
     ensures kernels { OnOk result (AreNumbered grm.now max_states StorageT.limit kernels.new) }
     ensures kept { OnOk result (AreKept kernels.old kernels.new) }
-    ensures steps { IfOk result (λ rows. AreSteps grm.now kernels.new (map (core_set StorageT.index) cores.now)
+    ensures steps { IfOk result (λ rows. AreSteps grm.now kernels.new (map (core_set StorageT.index) successors.now.items.items)
         Terminal (map (shift_entry StorageT.index) rows.items)) }
     ensures fault { IfErr result (IsFaultOfStates grm.now max_states StorageT.limit) }
 {
     let mut rows = Vec::new(alloc);
     for token in 0..grm.tokens_len() {
         let tidx = TIdx(StorageT::from_index(token).unwrap());
-        let next = step(alloc, grm, max_states, cores, Symbol::Token(tidx), kernels)?;
+        let next = step(alloc, max_states, &successors.tokens[token], kernels)?;
         match next {
             None => {}
             Some(state) => rows.push((tidx, state))?,

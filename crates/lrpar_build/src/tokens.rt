@@ -64,12 +64,15 @@ impl TokenSet {
         ensures grown { OnTrue result (missing self.new.bits.items < missing self.old.bits.items) }
         ensures same { OnFalse result (self.new.bits.items ≡ self.old.bits.items) }
     {
+        let bits = self.bits.as_mut_slice();
+        let others = other.bits.as_slice();
+        // Without a branch, so that many tokens are united at once.
         let mut grown = false;
         for token in 0..end {
-            if other.bits[token] && !self.bits[token] {
-                self.bits[token] = true;
-                grown = true;
-            }
+            let was = bits[token];
+            let comes = others[token];
+            bits[token] = was || comes;
+            grown = grown || (comes && !was);
         }
         grown
     }

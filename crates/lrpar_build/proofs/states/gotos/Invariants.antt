@@ -14,5 +14,5 @@ invariant-loop-rule g l =
     let kernels = l.kernels in record {
       numbered : AreNumbered l.grm l.max_states g.StorageT.StorageIndex.limit kernels;
       kept : AreKept l.initial.kernels kernels;
-      steps : AreStepsBelow l.grm kernels (map (core_set index) l.cores) Nonterminal (map (goto_entry index) l.rows.items) l.rule;
+      steps : AreStepsBelow l.grm kernels (map (core_set index) l.successors.items.items) Nonterminal (map (goto_entry index) l.rows.items) l.rule;
     }

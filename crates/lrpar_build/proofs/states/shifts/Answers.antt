@@ -6,7 +6,9 @@ use Rattle.lrpar_build.specs.Wanted.{shift_entry}
 use Rattle.lrpar_build.specs.Cores.{core_set}
 use Rattle.lrpar_build.specs.Kernels.{GoesTo}
 use Rattle.lrpar_build.specs.States.{AreStepsBelow}
-use Rattle.lrpar_build.proofs.NumberLemmas.{kept_itself, kept_twice}
+use Rattle.lrpar_build.specs.Numbers.{IsFaultOfStates}
+use Rattle.lrpar_build.proofs.NumberLemmas.{IsStepDone, fault_same, kept_itself, kept_twice, step_done, step_failed}
+use Rattle.lrpar_build.proofs.SuccessorLemmas.{next_at}
 use Rattle.lrpar_build.proofs.StepLemmas.{all_shifts, no_steps, step_none, step_some}
 use Rattle.lrpar_build.proofs.states.shifts.Goals as goal
 use Rattle.lrpar_build.proofs.states.shifts.Goals.{in-None, in-Some+in_ok-push-in-Some}
@@ -16,7 +18,7 @@ loop-token-init g c =
     let index = g.StorageT.StorageIndex.index in
     let grm = c.args.grm.now in
     let kernels = c.args.kernels.now in
-    let cores = map (core_set index) c.args.cores.now in record {
+    let cores = map (core_set index) c.args.successors.now.items.items in record {
       numbered = c.requires.kernels;
       kept = kept_itself kernels;
       steps =
@@ -24,31 +26,54 @@ loop-token-init g c =
           (no_steps grm kernels cores Terminal);
     }
 
+pub returns-in_err-next-clause-fault : goal.returns-in_err-next-clause-fault
+returns-in_err-next-clause-fault g c =
+    let index = g.StorageT.StorageIndex.index in
+    let limit = g.StorageT.StorageIndex.limit in
+    let grm = c.args.grm.now in
+    let cores = map (core_set index) c.args.successors.now.items.items in
+    let low = c.loop-token-test.true in
+    let count = c.tokens_len-token-end.ensures.len in
+    let all = c.requires.successors.tokens_len in
+    fault_same c.from_residual.result (IsFaultOfStates grm c.args.max_states limit) c.in_err-next.field-0.0
+    c.from_residual.ensures.1
+    (step_failed grm c.requires.well_formed c.args.max_states limit c.loop-token.kernels c.loop-token.invariant.numbered cores c.requires.cores
+    c.requires.reached.0 c.requires.reached.1 (Terminal c.loop-token.token) (map (core_set index) c.deref.result.now)
+    (next_at index c.args.successors.now.tokens.items grm cores Terminal c.requires.successors.tokens c.loop-token.token (omega (arith, low, count, all)) c.index.result.now c.index.ensures c.deref.result.now c.deref.ensures.value)
+    c.in_err-next.field-0.0 c.in_err-next.ensures.fault)
+
 pub loop-token-preserved : goal.loop-token-preserved
 loop-token-preserved g c =
     let index = g.StorageT.StorageIndex.index in
+    let limit = g.StorageT.StorageIndex.limit in
     let grm = c.args.grm.now in
     let n = c.loop-token.token in
     let before = c.loop-token.kernels in
     let after = c.step.new.kernels in
-    let cores = map (core_set index) c.args.cores.now in
+    let cores = map (core_set index) c.args.successors.now.items.items in
     let rows = map (shift_entry index) c.loop-token.rows.items in
-    let kept = c.in_ok-next.ensures.kept in
-    let number : index c.unwrap.result ≡ n = rw c.unwrap.ensures at c.from_index.ensures.back in
-    let goes : GoesTo grm after cores (Terminal n) (option_map (λ state. index state.0) c.in_ok-next.next) =
-    subst (λ m. GoesTo grm after cores (Terminal m) (option_map (λ state. index state.0) c.in_ok-next.next)) number c.in_ok-next.ensures.goes in record {
-      numbered = c.in_ok-next.ensures.kernels;
-      kept = kept_twice c.args.kernels.now before after c.loop-token.invariant.kept kept;
+    let to = option_map (λ state. index state.0) c.in_ok-next.next in
+    let low = c.loop-token-test.true in
+    let count = c.tokens_len-token-end.ensures.len in
+    let all = c.requires.successors.tokens_len in
+    let done : IsStepDone grm c.args.max_states limit before cores (Terminal n) to after =
+    step_done grm c.requires.well_formed c.args.max_states limit before c.loop-token.invariant.numbered cores c.requires.cores
+    c.requires.reached.0 c.requires.reached.1 (Terminal n) (map (core_set index) c.deref.result.now)
+    (next_at index c.args.successors.now.tokens.items grm cores Terminal c.requires.successors.tokens n (omega (arith, low, count, all)) c.index.result.now c.index.ensures c.deref.result.now c.deref.ensures.value)
+    to after c.in_ok-next.ensures.step in
+    let number : index c.unwrap.result ≡ n = rw c.unwrap.ensures at c.from_index.ensures.back in record {
+      numbered = done.numbered;
+      kept = kept_twice c.args.kernels.now before after c.loop-token.invariant.kept done.kept;
       steps =
           elim c.match-next.branch [
             | in-None w ↦
                 subst (λ v. AreStepsBelow grm after cores Terminal (map (shift_entry index) v.items) (n + 1)) (sym w.rows-is)
-                (step_none grm before after kept cores Terminal rows n c.loop-token.invariant.steps
-                (subst (λ next. GoesTo grm after cores (Terminal n) (option_map (λ state. index state.0) next)) w.in-None.is goes))
+                (step_none grm before after done.kept cores Terminal rows n c.loop-token.invariant.steps
+                (subst (λ next. GoesTo grm after cores (Terminal n) (option_map (λ state. index state.0) next)) w.in-None.is done.goes))
             | in-Some+in_ok-push-in-Some w ↦
-                step_some grm before after kept cores Terminal rows n c.loop-token.invariant.steps (map (shift_entry index) c.match-next.rows.items)
+                step_some grm before after done.kept cores Terminal rows n c.loop-token.invariant.steps (map (shift_entry index) c.match-next.rows.items)
                 (index w.in-Some.state.0)
-                (subst (λ next. GoesTo grm after cores (Terminal n) (option_map (λ state. index state.0) next)) w.in-Some.is goes)
+                (subst (λ next. GoesTo grm after cores (Terminal n) (option_map (λ state. index state.0) next)) w.in-Some.is done.goes)
                 (ap (λ v. map (shift_entry index) v.items) w.rows-is ∙ ap (map (shift_entry index)) w.in_ok-push-in-Some.ensures.items
                 ∙ map-append (shift_entry index) c.loop-token.rows.items _ ∙ ap (λ (m : ℕ). rows ++ (m, index w.in-Some.state.0) ∷ []) number)
           ];
@@ -58,5 +83,5 @@ pub returns-clause-steps : goal.returns-clause-steps
 returns-clause-steps g c =
     let index = g.StorageT.StorageIndex.index in
     let full : tokens_len c.args.grm.now ≤ c.loop-token.token = omega (arith, c.loop-token-test.false, c.tokens_len-token-end.ensures.len) in
-    all_shifts c.args.grm.now c.requires.well_formed c.loop-token.kernels (map (core_set index) c.args.cores.now)
+    all_shifts c.args.grm.now c.requires.well_formed c.loop-token.kernels (map (core_set index) c.args.successors.now.items.items)
     (map (shift_entry index) c.loop-token.rows.items) c.loop-token.token full c.loop-token.invariant.steps

@@ -14,5 +14,5 @@ invariant-loop-token g l =
     let kernels = l.kernels in record {
       numbered : AreNumbered l.grm l.max_states g.StorageT.StorageIndex.limit kernels;
       kept : AreKept l.initial.kernels kernels;
-      steps : AreStepsBelow l.grm kernels (map (core_set index) l.cores) Terminal (map (shift_entry index) l.rows.items) l.token;
+      steps : AreStepsBelow l.grm kernels (map (core_set index) l.successors.items.items) Terminal (map (shift_entry index) l.rows.items) l.token;
     }

@@ -17,7 +17,9 @@ returns-in_err-_start-clause-fault g c =
     fault_same c.from_residual-in_err-_start.result (IsFaultOfStates grm max limit) fault c.from_residual-in_err-_start.ensures.1
     (number_fault grm c.start_kernel.ensures.well_formed max limit [] (none_numbered grm max limit) kernel c.in_ok-start.ensures.kernel []
     (start_reached grm kernel c.in_ok-start.ensures.start) fault
-    (subst (λ (kernels : List (List CoreSet)). IsNumberFault max limit kernels kernel fault) c.new-kernels.ensures c.in_err-_start.ensures.fault))
+    (subst (λ items. IsNumberFault max limit [] (map (core_set index) items) fault) c.deref.ensures.value
+    (subst (λ (kernels : List (List CoreSet)). IsNumberFault max limit kernels (map (core_set index) c.deref.result.now) fault) c.new-kernels.ensures
+    c.in_err-_start.ensures.fault)))
 
 pub returns-clause-kernels : goal.returns-clause-kernels
 returns-clause-kernels g c =
@@ -30,7 +32,9 @@ returns-clause-kernels g c =
     let after = c.number.new.self in
     number_numbered grm c.start_kernel.ensures.well_formed max limit [] (none_numbered grm max limit) kernel c.in_ok-start.ensures.kernel []
     (start_reached grm kernel c.in_ok-start.ensures.start) n after
-    (subst (λ (kernels : List (List CoreSet)). IsNumberOf max limit kernels kernel n after) c.new-kernels.ensures c.in_ok-_start.ensures.number)
+    (subst (λ items. IsNumberOf max limit [] (map (core_set index) items) n after) c.deref.ensures.value
+    (subst (λ (kernels : List (List CoreSet)). IsNumberOf max limit kernels (map (core_set index) c.deref.result.now) n after) c.new-kernels.ensures
+    c.in_ok-_start.ensures.number))
 
 pub returns-clause-start : goal.returns-clause-start
 returns-clause-start g c =
@@ -43,7 +47,9 @@ returns-clause-start g c =
     let after = c.number.new.self in
     let found =
     first_number max limit kernel n after
-    (subst (λ (kernels : List (List CoreSet)). IsNumberOf max limit kernels kernel n after) c.new-kernels.ensures c.in_ok-_start.ensures.number) in
+    (subst (λ items. IsNumberOf max limit [] (map (core_set index) items) n after) c.deref.ensures.value
+    (subst (λ (kernels : List (List CoreSet)). IsNumberOf max limit kernels (map (core_set index) c.deref.result.now) n after) c.new-kernels.ensures
+    c.in_ok-_start.ensures.number)) in
     record {
       some = found.within;
       is = subst (λ cores. AreSame (IsAmong cores) (IsStartItem grm)) (sym found.is) c.in_ok-start.ensures.start;

@@ -6,9 +6,9 @@ use Rattle.lrpar_build.proofs.tokens.TokenSet.unite_below.Given as goal
 -- the tokens so far are in, and each that is new is one less that is missing
 abbrev pub invariant-loop-token : goal.invariant-loop-token
 invariant-loop-token l =
-    let before = l.initial.self.bits.items in
-    let now = l.self.bits.items in
+    let before = l.initial.bits in
+    let now = l.bits in
     (length now ≡ length before)
-    × ((t : ℕ) → has now t ≡ (has before t || (nat_lt t l.token && has l.other.bits.items t)))
+    × ((t : ℕ) → has now t ≡ (has before t || (nat_lt t l.token && has l.others t)))
     × OnTrue l.grown (missing now < missing before)
     × OnFalse l.grown (now ≡ before)

@@ -1,0 +1,10 @@
+use Rattle.std.proofs.Common.{◌≡◌, ℕ, [], length}
+use Rattle.lrpar_build.specs.KernelMap.{kernel_rows}
+use Rattle.lrpar_build.specs.Kernels.{kernel_at}
+use Rattle.lrpar_build.proofs.states.no_kernels.Given as goal
+
+-- so many kernels are there, and none has a core
+abbrev pub invariant-loop : goal.invariant-loop
+invariant-loop g l =
+    (length l.kernels.items ≡ l.counter)
+    × ((n : ℕ) → kernel_at (kernel_rows g.StorageT.StorageIndex.index l.kernels.items) n ≡ [])
