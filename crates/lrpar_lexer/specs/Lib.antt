@@ -7,3 +7,4 @@ pub mod RuleLineLaws
 pub mod RuleTexts
 pub mod Lexing
 pub mod LexingLaws
+pub mod TokenTexts

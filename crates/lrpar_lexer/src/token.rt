@@ -30,6 +30,10 @@ impl Token<u32> {
 }
 
 impl<StorageT: StorageIndex> fmt::Display for Token<StorageT> {
+    ghost use Rattle.lrpar_lexer.specs.TokenTexts.{token_text};
+
+    ghost output = { token_text StorageT.index };
+
     fn fmt<W: fmt::Write>(&self, f: &mut fmt::Formatter<W>) -> fmt::Result {
         let number = self.number.to_index();
         let start = self.span.start();
@@ -95,6 +99,10 @@ impl NoToken {
 }
 
 impl fmt::Display for NoToken {
+    ghost use Rattle.lrpar_lexer.specs.TokenTexts.{no_token_text};
+
+    ghost output = { no_token_text };
+
     fn fmt<W: fmt::Write>(&self, f: &mut fmt::Formatter<W>) -> fmt::Result {
         let start = self.span.start();
         write!(f, "no token fits at byte {start}")

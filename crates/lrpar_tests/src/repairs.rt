@@ -386,11 +386,20 @@ fn want_of_memory_in_a_recoverer(rt: HostRuntime) -> Result<(), Fail> {
 fn lexed_twice(alloc: Global) -> Result<(Option<ParseFault>, String), Fail> {
     let data = built(alloc, CALL)?;
     let answers = lexemes(alloc, &[(0, 0), (1, 1)])?;
+    wanting_at_first(alloc, &data, &answers)
+}
+
+// The same of any table and lexemes.
+fn wanting_at_first(
+    alloc: Global,
+    data: &ParserData<u32>,
+    answers: &[LexAnswer],
+) -> Result<(Option<ParseFault>, String), Fail> {
     let lexer = WantingLexer {
-        lexer: HandedLexer { answers: &answers },
+        lexer: HandedLexer { answers },
         calls: Cell::new(0),
     };
-    let parser = RTParserBuilder::<u32, HandedTypes>::new(&data);
+    let parser = RTParserBuilder::<u32, HandedTypes>::new(data);
     let fault = parser.parse_noaction(alloc, &lexer).err();
     let errors = parser.parse_noaction(alloc, &lexer)?;
     Ok((fault, text_of_errors(alloc, &errors)?))
