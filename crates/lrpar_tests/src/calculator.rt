@@ -1,6 +1,6 @@
 //! A calculator as a user writes it, over `Expr: Expr '+' Term | Term; Term: Term '*' Factor | Factor; Factor: 'INT';`. A
 //! number is as large as its lexeme is long.
-ghost use Rattle.std.specs.Prelude.{◌↔◌, IfOk, IsSomeAnd, IsTrue, map};
+ghost use Rattle.std.specs.Prelude.{◌≡◌, ◌↔◌, [], ◌∷◌, IfOk, IsSomeAnd, IsTrue, map};
 ghost use Rattle.lrpar_grammar.specs.Grammar.{Nonterminal, Terminal};
 ghost use Rattle.lrpar_grammar.specs.Symbols.{symbol_of};
 ghost use Rattle.lrpar.specs.Arguments.{AreArguments, IsArgument};
@@ -40,28 +40,12 @@ impl<LexemeT: Lexeme<u32>, LexerT> Actions<u32, LexemeT, LexerT> for Calculator 
     fn takes(&self, pidx: PIdx<u32>, ridx: RIdx<u32>, symbols: &[Symbol<u32>]) -> bool
         ensures { IsTrue result ↔ IsTaken pidx.0 ridx.0 (map (symbol_of (λ number. number)) symbols.now) }
     {
-        match (pidx.as_storaget(), ridx.as_storaget(), symbols) {
-            (
-                0,
-                1,
-                [
-                    Symbol::Rule(RIdx(1)),
-                    Symbol::Token(TIdx(0)),
-                    Symbol::Rule(RIdx(2)),
-                ],
-            ) => true,
-            (1, 1, [Symbol::Rule(RIdx(2))]) => true,
-            (
-                2,
-                2,
-                [
-                    Symbol::Rule(RIdx(2)),
-                    Symbol::Token(TIdx(1)),
-                    Symbol::Rule(RIdx(3)),
-                ],
-            ) => true,
-            (3, 2, [Symbol::Rule(RIdx(3))]) => true,
-            (4, 3, [Symbol::Token(TIdx(2))]) => true,
+        match (pidx.as_storaget(), ridx.as_storaget()) {
+            (0, 1) => is_operation(symbols, 1, 0, 2),
+            (1, 1) => is_rule(symbols, 2),
+            (2, 2) => is_operation(symbols, 2, 1, 3),
+            (3, 2) => is_rule(symbols, 3),
+            (4, 3) => is_token(symbols, 2),
             _ => false,
         }
     }
@@ -96,6 +80,35 @@ impl<LexemeT: Lexeme<u32>, LexerT> Actions<u32, LexemeT, LexerT> for Calculator 
             4 => Value::Number(lexeme_of(args.next()).span().len()),
             _ => unreachable!(),
         })
+    }
+}
+
+// Whether the symbols are this rule alone.
+fn is_rule(symbols: &[Symbol<u32>], rule: u32) -> bool
+    ensures { IsTrue result ↔ (map (symbol_of (λ number. number)) symbols.now ≡ Nonterminal rule ∷ []) }
+{
+    matches!(symbols, [Symbol::Rule(RIdx(only))] if *only == rule)
+}
+
+// Whether the symbols are this token alone.
+fn is_token(symbols: &[Symbol<u32>], token: u32) -> bool
+    ensures { IsTrue result ↔ (map (symbol_of (λ number. number)) symbols.now ≡ Terminal token ∷ []) }
+{
+    matches!(symbols, [Symbol::Token(TIdx(only))] if *only == token)
+}
+
+// Whether the symbols are these two rules, with this token between them.
+fn is_operation(symbols: &[Symbol<u32>], left: u32, sign: u32, right: u32) -> bool
+    ensures { IsTrue result ↔ (map (symbol_of (λ number. number)) symbols.now
+        ≡ Nonterminal left ∷ (Terminal sign ∷ (Nonterminal right ∷ []))) }
+{
+    match symbols {
+        [
+            Symbol::Rule(RIdx(first)),
+            Symbol::Token(TIdx(between)),
+            Symbol::Rule(RIdx(last)),
+        ] => *first == left && *between == sign && *last == right,
+        _ => false,
     }
 }
 
