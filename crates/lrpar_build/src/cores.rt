@@ -3,7 +3,7 @@ use crate::tokens::TokenSet;
 use lrpar_grammar::span::PIdx;
 
 /// The items of one core: its production, how many of its symbols stand before the dot, and the set of their lookaheads.
-#[derive(Debug, PartialEq, Eq, PartialOrd, Ord, Drop)]
+#[derive(PartialEq, Eq, PartialOrd, Ord, Drop)]
 pub(crate) struct CoreItems<StorageT> {
     pub(crate) prod: PIdx<StorageT>,
     pub(crate) dot: usize,

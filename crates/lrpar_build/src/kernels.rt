@@ -13,7 +13,7 @@ use std::collections::BTreeMap;
 use std::marker::Model;
 
 /// The kernels that were found, by their numbers; and their numbers, to find them quickly.
-#[derive(Debug, Drop)]
+#[derive(Drop)]
 pub(crate) struct Kernels<StorageT: StorageIndex> {
     kernels: Vec<Vec<CoreItems<StorageT>>>,
     numbers: BTreeMap<Vec<CoreItems<StorageT>>, StIdx<StorageT>>,

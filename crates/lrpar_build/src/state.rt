@@ -4,7 +4,7 @@ use lrpar_grammar::span::{RIdx, StIdx, TIdx};
 
 /// An item set, by its cores, and the states to which it goes by the symbols before which items stand: by rules, ascending, and by
 /// tokens, ascending.
-#[derive(Debug, Drop)]
+#[derive(Drop)]
 pub(crate) struct State<StorageT> {
     pub(crate) items: Vec<CoreItems<StorageT>>,
     pub(crate) gotos: Vec<(RIdx<StorageT>, StIdx<StorageT>)>,

@@ -46,7 +46,7 @@ pub(crate) fn states<StorageT: StorageIndex>(
 }
 
 // The tokens that rules begin with, and sets to work with.
-#[derive(Debug, Drop)]
+#[derive(Drop)]
 struct Sets {
     firsts: Vec<TokenSet>,
     brought: Vec<TokenSet>,
@@ -173,7 +173,7 @@ fn closed<StorageT: StorageIndex>(
 
 // A closed item set, by its cores, and the kernels to which it goes: one for each rule and one for each token. That of a symbol
 // which stands behind no dot has no cores.
-#[derive(Debug, Drop)]
+#[derive(Drop)]
 struct Successors<StorageT> {
     items: Vec<CoreItems<StorageT>>,
     rules: Vec<Vec<CoreItems<StorageT>>>,

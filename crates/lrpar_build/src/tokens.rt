@@ -6,7 +6,7 @@ ghost use Rattle.lrpar_build.specs.Tokens.{has, missing};
 use std::alloc::{AllocError, Global};
 
 /// A set of tokens below a number that it was made with: whether each is in it.
-#[derive(Clone, Debug, PartialEq, Eq, PartialOrd, Ord, Drop)]
+#[derive(PartialEq, Eq, PartialOrd, Ord, Drop)]
 pub(crate) struct TokenSet {
     pub(crate) bits: Vec<bool>,
 }
