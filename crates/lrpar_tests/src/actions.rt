@@ -181,7 +181,15 @@ fn long_lexemes(alloc: Global, given: &[(u32, usize, usize)]) -> Result<Vec<LexA
 
 fn value_of(alloc: Global, given: &[(u32, usize, usize)]) -> Result<Option<Value>, Fail> {
     let answers = long_lexemes(alloc, given)?;
-    let (value, _) = acted(alloc, &built(alloc, ARITHMETIC)?, &answers, &Calculator)??;
+    value_by(alloc, &built(alloc, ARITHMETIC)?, &answers)
+}
+
+fn value_by(
+    alloc: Global,
+    data: &ParserData<u32>,
+    answers: &[LexAnswer],
+) -> Result<Option<Value>, Fail> {
+    let (value, _) = acted(alloc, data, answers, &Calculator)??;
     Ok(value)
 }
 
@@ -218,7 +226,8 @@ fn a_calculator_of_another_grammar(rt: HostRuntime) -> Result<(), Fail> {
 }
 
 fn places_of(alloc: Global, text: &str, given: &[(u32, usize, usize)]) -> Result<Vec<Place>, Fail> {
-    places_by(alloc, &built(alloc, text)?, &long_lexemes(alloc, given)?)
+    let answers = long_lexemes(alloc, given)?;
+    places_by(alloc, &built(alloc, text)?, &answers)
 }
 
 // The same by a table.
@@ -483,14 +492,29 @@ fn a_first_lexing_error_of_each_call(rt: HostRuntime) -> Result<(), Fail> {
 
 // Whether the parse of `a+b` by actions gives its tree and no error.
 fn is_tree_of_actions(alloc: Global, answers: &[LexAnswer]) -> Result<bool, Fail> {
-    let (tree, errors) = acted(alloc, &built(alloc, SUM)?, answers, &TreeActions)??;
+    is_tree_by_actions(alloc, &built(alloc, SUM)?, answers)
+}
+
+fn is_tree_by_actions(
+    alloc: Global,
+    data: &ParserData<u32>,
+    answers: &[LexAnswer],
+) -> Result<bool, Fail> {
+    let (tree, errors) = acted(alloc, data, answers, &TreeActions)??;
     Ok(errors.is_empty() && tree == Some(sum_tree(alloc)?))
 }
 
 // Whether the parse to a tree gives the tree of `a+b`, by the table that is built.
 fn is_sum_tree(alloc: Global, answers: &[LexAnswer]) -> Result<bool, Fail> {
-    let data = built(alloc, SUM)?;
-    let parser = RTParserBuilder::<u32, HandedTypes>::new(&data);
+    is_sum_tree_by(alloc, &built(alloc, SUM)?, answers)
+}
+
+fn is_sum_tree_by(
+    alloc: Global,
+    data: &ParserData<u32>,
+    answers: &[LexAnswer],
+) -> Result<bool, Fail> {
+    let parser = RTParserBuilder::<u32, HandedTypes>::new(data);
     let (tree, _) = parser.parse_generictree(alloc, &HandedLexer { answers })?;
     Ok(tree == Some(sum_tree(alloc)?))
 }

@@ -1,7 +1,7 @@
 //! Tables that are built of grammar texts, and what parses by them give, as text.
 use crate::calls::Tree;
 use crate::lexer::{HandedLexer, HandedTypes, NoToken, Token};
-use crate::parse::lexemes;
+use crate::parse::{LexAnswer, lexemes};
 use lrpar::build::parser_data;
 use lrpar::grammar::YaccGrammar;
 use lrpar::repair::{FixedRecoverer, RepairStep};
@@ -74,14 +74,23 @@ pub(crate) fn outcome_of(
     row: &Row,
 ) -> Result<(String, String), Fail> {
     let answers = lexemes(alloc, row.given)?;
+    let (tree, errors) = parsed(alloc, data, row, &answers)?;
+    let text = text_of_tree(alloc, data, &tree, row.input)?;
+    Ok((text, text_of_errors(alloc, &errors)?))
+}
+
+// The tree of these lexemes, if there is one, and the errors, with what the row hands in.
+fn parsed(
+    alloc: Global,
+    data: &ParserData<u32>,
+    row: &Row,
+    answers: &[LexAnswer],
+) -> Result<(Option<Tree>, Vec<LexParseError<u32, HandedTypes>>), Fail> {
     let handed = sequences(alloc, row.handed)?;
-    let lexer = HandedLexer { answers: &answers };
     let parser = RTParserBuilder::<u32, HandedTypes>::new(data)
         .recoverer(FixedRecoverer::new(handed))
         .shifts(row.shifts)?;
-    let (tree, errors) = parser.parse_generictree(alloc, &lexer)?;
-    let text = text_of_tree(alloc, data, &tree, row.input)?;
-    Ok((text, text_of_errors(alloc, &errors)?))
+    Ok(parser.parse_generictree(alloc, &HandedLexer { answers })?)
 }
 
 // The text of the tree over the input, empty where there is none.
@@ -115,10 +124,18 @@ pub(crate) fn all_hold(
     grammar: &str,
     rows: &[Row],
 ) -> Result<(), Fail> {
-    let data = built(alloc, grammar)?;
+    all_hold_by(rt, alloc, &built(alloc, grammar)?, rows)
+}
+
+fn all_hold_by(
+    rt: &impl Abort,
+    alloc: Global,
+    data: &ParserData<u32>,
+    rows: &[Row],
+) -> Result<(), Fail> {
     for row in rows {
         let (input, shifts) = (row.input, row.shifts);
-        assert!(rt; holds(alloc, &data, row)?, "{input} with {shifts}");
+        assert!(rt; holds(alloc, data, row)?, "{input} with {shifts}");
     }
     Ok(())
 }

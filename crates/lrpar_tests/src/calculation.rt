@@ -112,13 +112,17 @@ pub(crate) fn calculated(
     data: &ParserData<u32>,
     line: &str,
 ) -> Result<(String, Option<u64>), Fail> {
-    let (leave_out, number) = (RepairStep::Delete, RepairStep::Insert(TIdx(4)));
-    let handed = vec![in alloc; vec![in alloc; leave_out]?, vec![in alloc; number]?]?;
-    let parser = RTParserBuilder::new(data).recoverer(FixedRecoverer::new(handed));
+    let parser = RTParserBuilder::new(data).recoverer(FixedRecoverer::new(repairs(alloc)?));
     let lines = NewlineCache::new(alloc, line)?;
     let lexer = SumLexer { text: line, lines };
     let (number, errors) = parser.parse_actions(alloc, &lexer, &Calculation, &())?;
     Ok((shown(alloc, &lexer, &errors)?, number.unwrap_or(None)))
+}
+
+// What is handed in at each error: to leave a lexeme out, or to put a number in.
+fn repairs(alloc: Global) -> Result<Vec<Vec<RepairStep<u32>>>, Fail> {
+    let (leave_out, number) = (RepairStep::Delete, RepairStep::Insert(TIdx(4)));
+    Ok(vec![in alloc; vec![in alloc; leave_out]?, vec![in alloc; number]?]?)
 }
 
 // The text of the errors, with `INT` for each token.

@@ -220,8 +220,11 @@ fn one_lexeme_follows_or_two(rt: HostRuntime) -> Result<(), Fail> {
 // Whether the one error of the row lies at this place and lists these sequences, and the tree ends so. The states of *calc* aren't
 // told.
 fn one_error(alloc: Global, row: &Row) -> Result<bool, Fail> {
-    let data = built(alloc, CALC)?;
-    let (tree, errors) = outcome_of(alloc, &data, row)?;
+    one_error_by(alloc, &built(alloc, CALC)?, row)
+}
+
+fn one_error_by(alloc: Global, data: &ParserData<u32>, row: &Row) -> Result<bool, Fail> {
+    let (tree, errors) = outcome_of(alloc, data, row)?;
     Ok(tree.as_str() == row.tree && errors.as_str().ends_with(row.errors))
 }
 
@@ -384,9 +387,8 @@ fn want_of_memory_in_a_recoverer(rt: HostRuntime) -> Result<(), Fail> {
 
 // Two parses of `f(` with a lexer that finds no memory at its first call: the fault of the first, and the errors of the second.
 fn lexed_twice(alloc: Global) -> Result<(Option<ParseFault>, String), Fail> {
-    let data = built(alloc, CALL)?;
     let answers = lexemes(alloc, &[(0, 0), (1, 1)])?;
-    wanting_at_first(alloc, &data, &answers)
+    wanting_at_first(alloc, &built(alloc, CALL)?, &answers)
 }
 
 // The same of any table and lexemes.
@@ -415,13 +417,14 @@ fn want_of_memory_in_a_lexer(rt: HostRuntime) -> Result<(), Fail> {
 
 // Where the recoverer is asked in `(nn`.
 fn asked(alloc: Global) -> Result<Asked, Fail> {
-    let data = built(alloc, BRACKETS)?;
     let answers = lexemes(alloc, &[(2, 0), (0, 1), (0, 2)])?;
+    asked_by(alloc, &built(alloc, BRACKETS)?, &answers)
+}
+
+fn asked_by(alloc: Global, data: &ParserData<u32>, answers: &[LexAnswer]) -> Result<Asked, Fail> {
     let asked = Cell::new((0, 0, [0, 0, 0]));
-    let parser = RTParserBuilder::<u32, HandedTypes>::new(&data).recoverer(Noting {
-        asked: &asked,
-    });
-    let _ = parser.parse_noaction(alloc, &HandedLexer { answers: &answers })?;
+    let parser = RTParserBuilder::<u32, HandedTypes>::new(data).recoverer(Noting { asked: &asked });
+    let _ = parser.parse_noaction(alloc, &HandedLexer { answers })?;
     Ok(asked.get())
 }
 
@@ -461,12 +464,8 @@ fn tree_of(
     given: &[(u32, usize)],
     handed: &[&[RepairStep<u32>]],
 ) -> Result<(Tree, Vec<LexParseError<u32, HandedTypes>>), Fail> {
-    tree_by(
-        alloc,
-        &built(alloc, BRACKETS)?,
-        &lexemes(alloc, given)?,
-        handed,
-    )
+    let answers = lexemes(alloc, given)?;
+    tree_by(alloc, &built(alloc, BRACKETS)?, &answers, handed)
 }
 
 // The same by a table.
