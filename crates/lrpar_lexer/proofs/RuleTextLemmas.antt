@@ -5,16 +5,10 @@ use Rattle.std.proofs.lemmas.List.{map_push, take_more}
 use Rattle.std.proofs.lemmas.List.Elements.{filter-append}
 use Rattle.std.proofs.lemmas.Option.{slice_get-get_or}
 use Rattle.lrpar_grammar.specs.Grammar.{Grammar}
+use Rattle.lrpar.specs.ZipLaws.{zip_push}
 use Rattle.lrpar_lexer.specs.RuleLines.{core_of, cores_of}
 use Rattle.lrpar_lexer.specs.RuleTexts.{AreRulesOf, IsFirstFault, IsRuleOf, SaysNoRule}
 use Rattle.lrpar_lexer.specs.declared.rule.LexRule.{LexRule}
-
-zip_push : {A B : Type 0} (R : A → B → Type 0) (xs : List A) (ys : List B) (x : A) (y : B) → AllZip R xs ys → R x y
-    → AllZip R (xs ++ x ∷ []) (ys ++ y ∷ [])
-zip_push R [] [] x y all here = (here, tt)
-zip_push R [] (b ∷ ys) x y all here = absurd all
-zip_push R (a ∷ xs) [] x y all here = absurd all
-zip_push R (a ∷ xs) (b ∷ ys) x y (first, rest) here = (first, zip_push R xs ys x y rest here)
 
 -- what counts of one line more
 cores_push : (lines : List (List ℕ)) (line : List ℕ)
