@@ -1,7 +1,7 @@
 -- The kernel to which cores go by a symbol: those that stand before it, each advanced.
-use Rattle.std.proofs.Common.{◌≡◌, ◌<◌, ◌≤◌, ◌+◌, ◌↔◌, ◌⊎◌, ◌∙◌, refl, sym, ap, subst, inl, inr, arith, ℕ, Bool, true, false, cond, List, [], ◌∷◌, ◌++◌, All, Option, Some, None, get_or, length, map, slice_get, take}
-use Rattle.std.specs.List.{filter}
-use Rattle.std.specs.Option.{option_map}
+use Rattle.std.proofs.Common.{Bor, ◌≡◌, ◌<◌, ◌≤◌, ◌+◌, ◌↔◌, ◌⊎◌, ◌∙◌, refl, sym, ap, subst, inl, inr, arith, ℕ, Bool, true, false, cond, List, [], ◌∷◌, ◌++◌, All, IfSome, MatchOption, Option, Some, None, get_or, length, map, slice_get, take}
+use Rattle.std.specs.List.{HoldsAt, filter}
+use Rattle.std.specs.Option.{option_copied, option_map}
 use Rattle.std.proofs.lemmas.Bool.{cases_Bool, eq-eqb, eqb-true, false≢true}
 use Rattle.std.proofs.lemmas.List.{length-map, map-append, map_more}
 use Rattle.std.proofs.lemmas.List.Elements.{All-filter, All-head, All-map, All-weaker, filter-append, filter_passes}
@@ -28,16 +28,14 @@ symbol_itself (Terminal t) = eq-eqb t t refl
 pub symbol_to : (symbol : GrammarSymbol) (behind : Option GrammarSymbol) → behind ≡ Some symbol → is_symbol symbol behind ≡ true
 symbol_to symbol behind is = ap (is_symbol symbol) is ∙ symbol_itself symbol
 
--- what stands in a place of a production, whose symbols are those of a list
-pub behind_past : {X : Type 0} (f : X → GrammarSymbol) (xs : List X) (all : List GrammarSymbol) (k : ℕ) → map f xs ≡ all → length xs ≤ k
-    → slice_get all k ≡ None
-behind_past f xs all k is past =
-    let count = length-map xs f in ap (λ w. slice_get w k) (sym is) ∙ slice_get_past (map f xs) k (omega (arith, count, past))
-
-pub behind_at : {X : Type 0} (f : X → GrammarSymbol) (xs : List X) (all : List GrammarSymbol) (k : ℕ) (x : X) → map f xs ≡ all → k < length xs
-    → x ≡ get_or xs k x → slice_get all k ≡ Some (f x)
-behind_at f xs all k x is low here =
-    ap (λ w. slice_get w k) (sym is) ∙ slice_get-map f xs k ∙ ap (option_map f) (slice_get_read xs (length xs) k x refl low here)
+-- what was read in a place of a production, whose symbols are those of a list
+pub behind_read : {X : Type 0} (f : X → GrammarSymbol) (xs : List X) (all : List GrammarSymbol) (k : ℕ) (found : Option (Bor X)) → map f xs ≡ all
+    → IfSome found (λ x. x.now ≡ get_or xs k x.now) → MatchOption found (length xs ≤ k) (λ x. (k < length xs) × HoldsAt (λ y. x.now ≡ y) xs k)
+    → option_map f (option_copied found) ≡ slice_get all k
+behind_read f xs all k None is value place =
+    let count = length-map xs f in sym (slice_get_past (map f xs) k (omega (arith, count, place))) ∙ ap (λ w. slice_get w k) is
+behind_read f xs all k (Some x) is value place =
+    ap (option_map f) (sym (slice_get_read xs (length xs) k x.now refl place.0 value)) ∙ sym (slice_get-map f xs k) ∙ ap (λ w. slice_get w k) is
 
 module _ (g : Grammar) (symbol : GrammarSymbol) where
   abbrev before : CoreSet → Bool

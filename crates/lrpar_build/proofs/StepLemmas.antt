@@ -1,11 +1,11 @@
 -- Rows of where cores go, one symbol after the other.
-use Rattle.std.proofs.Common.{◌≡◌, ◌≢◌, ◌<◌, ◌≤◌, ◌+◌, ◌∙◌, refl, sym, ap, subst, inl, inr, arith, ℕ, cond, List, [], ◌∷◌, ◌++◌, All, Some, None, nat_eq, slice_get}
+use Rattle.std.proofs.Common.{◌≡◌, ◌≢◌, ◌<◌, ◌≤◌, ◌+◌, ◌∙◌, refl, sym, ap, subst, inl, inr, arith, ℕ, cond, List, [], ◌∷◌, ◌++◌, All, Option, IfSome, Some, None, nat_eq, slice_get}
 use Rattle.std.specs.Map.{keys_of, lookup}
 use Rattle.std.proofs.lemmas.Bool.{cases_eq, cases_lt, cases_order, eq-eqb, ne_eqb}
 use Rattle.std.proofs.lemmas.List.{map-append}
 use Rattle.std.proofs.lemmas.List.Elements.{All-cons, All-get_or, All-head, All-nil, All-push, All-tail, All-weaker}
 use Rattle.std.proofs.lemmas.Option.{get_or_from_slice_get, slice_get_past, slice_get_within}
-use Rattle.std.specs.Option.{option_map_or}
+use Rattle.std.specs.Option.{option_map, option_map_or}
 use Rattle.lrpar_grammar.specs.Grammar.{Grammar, GrammarSymbol, IsListedSymbol, IsWellFormed, Nonterminal, Terminal, end_token, rules_len, start_prod, symbols_of, tokens_len}
 use Rattle.lrpar_build.specs.Cores.{CoreSet}
 use Rattle.lrpar_build.specs.FirstRows.{IsSymbolBelow}
@@ -114,6 +114,11 @@ module _ (g : Grammar) (well : IsWellFormed g) where
       let Below = IsSymbolBelow (rules_len g) (tokens_len g) in
       subst Below (get_or_from_slice_get (symbols_of g p) k symbol symbol is)
       (All-get_or Below (symbols_of g p) k symbol (slice_get_within (symbols_of g p) k symbol is) (all_below p))
+
+  pub symbol_below : {X : Type 0} (f : X → GrammarSymbol) (p k : ℕ) (found : Option X) → option_map f found ≡ slice_get (symbols_of g p) k
+      → IfSome found (λ x. IsSymbolBelow (rules_len g) (tokens_len g) (f x))
+  symbol_below f p k None is = tt
+  symbol_below f p k (Some x) is = stands_below p k (f x) (sym is)
 
   -- by no symbol past the grammar's do cores go anywhere
   all_steps : (kernels : List (List CoreSet)) (cores : List CoreSet) (symbol : ℕ → GrammarSymbol) (rows : List (ℕ × ℕ)) (n : ℕ)

@@ -1,9 +1,9 @@
 -- The kernels to which cores go, one core after the other: it is put to the kernel of the symbol that it stands before.
-use Rattle.std.proofs.Common.{Vec, ◌≡◌, ◌≢◌, ◌<◌, ◌+◌, ◌∙◌, refl, sym, ap, subst, inl, inr, arith, ℕ, zero, suc, true, false, List, [], ◌∷◌, ◌++◌, Result, Ok, Err, OnOk, Some, drop, get_or, length, map, set, take}
+use Rattle.std.proofs.Common.{Vec, ◌≡◌, ◌≢◌, ◌<◌, ◌+◌, ◌∙◌, refl, sym, ap, subst, inl, inr, arith, ℕ, zero, suc, true, false, List, [], ◌∷◌, ◌++◌, Some, drop, get_or, length, map, set, take}
 use Rattle.std.proofs.lemmas.Bool.{cases_eq, ne_eqb}
 use Rattle.std.proofs.lemmas.List.{append-nil, get_or-map, get_or-set_other, get_or-set_same, length-map, length-set, map-set}
 use Rattle.std.proofs.Math.Seq.{take-append_seam}
-use Rattle.lrpar_grammar.specs.Grammar.{Grammar, GrammarSymbol, IsWellFormed, Nonterminal, Terminal}
+use Rattle.lrpar_grammar.specs.Grammar.{Grammar, GrammarSymbol, Nonterminal, Terminal}
 use Rattle.lrpar_build.specs.Cores.{CoreSet, core_set}
 use Rattle.lrpar_build.specs.KernelMap.{kernel_rows}
 use Rattle.lrpar_build.specs.Kernels.{AreNext, ArePutTo, advanced, is_symbol, kernel_at, next_kernel, symbol_behind}
@@ -11,20 +11,11 @@ use Rattle.lrpar_build.specs.declared.cores.CoreItems.{CoreItems}
 use Rattle.lrpar_build.proofs.FindLemmas.{mapped_at}
 use Rattle.lrpar_build.proofs.NextLemmas.{next_more, next_none, next_one, symbol_to}
 
--- what holds, holds at `Ok`
-pub on_ok_always : {T E P : Type 0} (r : Result T E) → P → OnOk r P
-on_ok_always (Ok x) holds = holds
-on_ok_always (Err e) holds = tt
-
 module _ (g : Grammar) (core : CoreSet) (symbol : ℕ → GrammarSymbol) (rows : List (List CoreSet)) where
   left : (n : ℕ) → is_symbol (symbol n) (symbol_behind g core) ≡ false → kernel_at rows n ≡ kernel_at rows n ++ next_kernel g (symbol n) (core ∷ [])
   left n apart = sym (append-nil (kernel_at rows n)) ∙ ap (λ k. kernel_at rows n ++ k) (sym (next_none g (symbol n) core [] apart))
 
-  -- the core stands before none of the symbols
-  pub put_nowhere : ((n : ℕ) → is_symbol (symbol n) (symbol_behind g core) ≡ false) → ArePutTo g core symbol rows rows
-  put_nowhere apart = record { len = refl; each = λ n low. left n (apart n) }
-
-  -- it stands before one of them
+  -- the core stands before one of the symbols
   pub put_there : (target : ℕ) (new : List CoreSet) → target < length rows → new ≡ kernel_at rows target ++ advanced core ∷ []
       → is_symbol (symbol target) (symbol_behind g core) ≡ true → ((n : ℕ) → n ≢ target → is_symbol (symbol n) (symbol_behind g core) ≡ false)
       → ArePutTo g core symbol rows (set rows target new)
@@ -49,7 +40,7 @@ next_core g symbol core_of xs i x rows more low is so_far put n below =
     put.each n early ∙ ap (λ k. k ++ next_kernel g (symbol n) (core_of x ∷ [])) (so_far n early) ∙ sym (next_more g (symbol n) core_of xs i x low is)
 
 -- the kernel of the symbol behind the dot is one of the rows, and has the core behind its others
-module _ {S A : Type 0} (index : S → ℕ) (g : Grammar) (well : IsWellFormed g) (core : CoreSet) (rows : List (Vec (CoreItems S) A)) (target : ℕ)
+module _ {S A : Type 0} (index : S → ℕ) (g : Grammar) (core : CoreSet) (rows : List (Vec (CoreItems S) A)) (target : ℕ)
     (row new : Vec (CoreItems S) A) where
   abbrev cores : Vec (CoreItems S) A → List CoreSet
   cores kernel = map (core_set index) kernel.items

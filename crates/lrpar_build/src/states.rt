@@ -1,13 +1,15 @@
 //! The states: the item sets that are reached, each once.
-ghost use Rattle.std.specs.Prelude.{◌≡◌, ◌<◌, ◌≤◌, ◌+◌, ◌^◌, ◌∷◌, ◌++◌, ℕ, List, [], All, IfErr, IfOk, OnOk, length, map};
+ghost use Rattle.std.specs.Prelude.{◌≡◌, ◌<◌, ◌≤◌, ◌+◌, ◌^◌, ◌∷◌, ◌++◌, ℕ, List, [], All, IfErr, IfOk, IfSome, OnOk, length, map};
 ghost use Rattle.std.specs.Option.{option_map};
 ghost use Rattle.lrpar_grammar.specs.Grammar.{GrammarSymbol, IsWellFormed, Nonterminal, Terminal, rules_len, tokens_len};
+ghost use Rattle.lrpar_grammar.specs.Symbols.{symbol_of};
 ghost use Rattle.lrpar_states.specs.PlainRows.{goto_entry};
 ghost use Rattle.lrpar_build.specs.Canonical.{AreSame};
 ghost use Rattle.lrpar_build.specs.Cores.{IsAmong, IsCoreOf, core_set};
+ghost use Rattle.lrpar_build.specs.FirstRows.{IsSymbolBelow};
 ghost use Rattle.lrpar_build.specs.ItemSets.{IsInClosure, IsReachedBy, IsStartItem};
 ghost use Rattle.lrpar_build.specs.KernelMap.{kernel_rows};
-ghost use Rattle.lrpar_build.specs.Kernels.{AreCores, AreKept, ArePutTo, IsKernel, IsReachedKernel, advanced, kernel_at};
+ghost use Rattle.lrpar_build.specs.Kernels.{AreCores, AreKept, ArePutTo, IsKernel, IsReachedKernel, advanced, kernel_at, symbol_behind};
 ghost use Rattle.lrpar_build.specs.Numbers.{AreNumbered, IsFaultOfStates, IsStepFault, IsStepTo};
 ghost use Rattle.lrpar_build.specs.States.{AreSets, AreStates, AreSteps, AreSuccessors, IsExpanded, StartsRight, state_of};
 ghost use Rattle.lrpar_build.specs.Wanted.{shift_entry};
@@ -237,17 +239,31 @@ fn put_next<StorageT: StorageIndex>(
     ensures tokens { OnOk result (ArePutTo grm.now (core_set StorageT.index core.now) Terminal
         (kernel_rows StorageT.index tokens.old) (kernel_rows StorageT.index tokens.new)) }
 {
-    match grm.prod(core.prod).get(core.dot) {
+    match symbol_behind(grm, core) {
         None => Ok(()),
         Some(Symbol::Rule(rule)) => {
-            let target = usize::from(*rule);
+            let target = usize::from(rule);
             push_advanced(alloc, core, &mut rules[target])
         }
         Some(Symbol::Token(token)) => {
-            let target = usize::from(*token);
+            let target = usize::from(token);
             push_advanced(alloc, core, &mut tokens[target])
         }
     }
+}
+
+// The symbol that the core stands before, if it does: one of the grammar.
+fn symbol_behind<StorageT: StorageIndex>(
+    grm: &YaccGrammar<StorageT>,
+    core: &CoreItems<StorageT>,
+) -> Option<Symbol<StorageT>>
+    requires well_formed { IsWellFormed grm.now }
+    requires core { IsCoreOf grm.now (core_set StorageT.index core.now) }
+    ensures symbol { option_map (symbol_of StorageT.index) result ≡ symbol_behind grm.now (core_set StorageT.index core.now) }
+    ensures listed { IfSome result (λ symbol. IsSymbolBelow (rules_len grm.now) (tokens_len grm.now) (symbol_of StorageT.index symbol)) }
+    ensures next { IfSome result (λ symbol. core.now.dot + 1 < 2 ^ 64) }
+{
+    grm.prod(core.prod).get(core.dot).copied()
 }
 
 // Appends the core, with its dot behind one symbol more.
