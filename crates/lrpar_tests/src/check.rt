@@ -266,26 +266,40 @@ fn is_mended(
     by: By,
     change: Change,
     grm: YaccGrammar<u8>,
-    graph: StateGraph<u8>,
-    table: StateTable<u8>,
+    mut graph: StateGraph<u8>,
+    mut table: StateTable<u8>,
 ) -> Result<bool, Fail> {
-    let (graph, table) = mended(alloc, by, change, graph, table)?;
-    Ok(ParserData::new(alloc, grm, graph, table, 2).is_ok())
+    mend(alloc, by, change, &mut graph, &mut table)?;
+    Ok(is_taken(alloc, grm, graph, table))
 }
 
-// The item sets and the table, with those of sums in the place of what was changed.
-fn mended(
+// Puts those of sums in the place of what was changed.
+fn mend(
     alloc: Global,
     by: By,
     change: Change,
+    graph: &mut StateGraph<u8>,
+    table: &mut StateTable<u8>,
+) -> Result<(), Fail> {
+    match change {
+        Change::Action(..) | Change::Goto(..) => *table = sums_table(alloc, by)?,
+        Change::Item(_) => *graph = sums_graph(alloc, by)?,
+        Change::State(..) => {
+            *graph = sums_graph(alloc, by)?;
+            *table = sums_table(alloc, by)?;
+        }
+    }
+    Ok(())
+}
+
+// Whether the parts are those of a table that is taken, with the cap 2.
+fn is_taken(
+    alloc: Global,
+    grm: YaccGrammar<u8>,
     graph: StateGraph<u8>,
     table: StateTable<u8>,
-) -> Result<(StateGraph<u8>, StateTable<u8>), Fail> {
-    Ok(match change {
-        Change::Action(..) | Change::Goto(..) => (graph, sums_table(alloc, by)?),
-        Change::Item(_) => (sums_graph(alloc, by)?, table),
-        Change::State(..) => (sums_graph(alloc, by)?, sums_table(alloc, by)?),
-    })
+) -> bool {
+    ParserData::new(alloc, grm, graph, table, 2).is_ok()
 }
 
 // The item sets of sums.
