@@ -1,37 +1,11 @@
 //! Rows of entries, laid out for a look-up of their keys.
-ghost use Rattle.std.specs.Prelude.{◌≡◌, ◌<◌, ◌≤◌, ◌+◌, ◌++◌, ℕ, [], List, IfOk, IsTrue, OnOk, MatchOption, Contains, length, map, slice_index, slice_index_or, slice_range, sum_by, zip};
+ghost use Rattle.std.specs.Prelude.{◌≡◌, ◌<◌, ◌≤◌, ◌+◌, ◌++◌, [], List, IfOk, IsTrue, OnOk, MatchOption, Contains, length, map, slice_index, slice_index_or, slice_range, sum_by, zip};
 ghost use Rattle.std.specs.List.Sorted.{IsStrictlyIncreasing};
 
 use crate::hints::Hints;
-use lrpar_grammar::span::{RIdx, StorageIndex, TIdx};
+use crate::key::Key;
 use std::alloc::{AllocError, Global};
 use std::marker::Model;
-
-/// What entries are found by: a number.
-pub(crate) trait Key: Copy {
-    /// The number.
-    ghost number: { Self → ℕ };
-
-    /// The number.
-    fn to_number(self) -> usize
-        ensures { result ≡ number self };
-}
-
-impl<StorageT: StorageIndex> Key for TIdx<StorageT> {
-    ghost number = { λ token. StorageT.index token.0 };
-
-    fn to_number(self) -> usize {
-        self.0.to_index()
-    }
-}
-
-impl<StorageT: StorageIndex> Key for RIdx<StorageT> {
-    ghost number = { λ rule. StorageT.index rule.0 };
-
-    fn to_number(self) -> usize {
-        self.0.to_index()
-    }
-}
 
 /// Rows of entries, each a key with its value. All keys stand in one list, row after row, and the values in another. Where
 /// a key stands in its row can be guessed.

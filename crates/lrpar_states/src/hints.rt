@@ -1,7 +1,7 @@
 //! Guesses of where the keys of a row stand.
 ghost use Rattle.std.specs.Prelude.{◌≡◌, ◌≤◌, ◌+◌, ◌*◌, IfSome, OnOk, length};
 
-use crate::entries::Key;
+use crate::key::Key;
 use std::alloc::{AllocError, Global};
 
 /// How many numbers, at most, the keys of a row span for each of its entries, if there are guesses for it.

@@ -10,6 +10,7 @@ mod full;
 mod graph;
 mod hints;
 mod items;
+mod key;
 pub mod laws;
 mod numbers;
 mod rows;

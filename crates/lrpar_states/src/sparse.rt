@@ -4,7 +4,7 @@ ghost use Rattle.std.specs.List.Sorted.{IsStrictlyIncreasing};
 ghost use Rattle.lrpar_states.specs.PlainRows.{action_entry, goto_entry, sparse_table_of};
 ghost use Rattle.lrpar_states.specs.Table.{AreEntries, IsActionEntry, IsGotoEntry, IsTable};
 
-use crate::entries::Key;
+use crate::key::Key;
 use crate::numbers::has_numbers;
 use crate::rows::{Action, SparseRows};
 use lrpar_grammar::span::{RIdx, StIdx, StorageIndex, TIdx};
