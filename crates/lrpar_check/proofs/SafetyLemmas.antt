@@ -42,6 +42,12 @@ pub core_read : {S : Type 0} (index : S → ℕ) (graph : Graph) (s : ℕ) (core
 core_read index graph s cores i core all below read =
     (all (index core.0.0) core.1).1 (Contains-image (core_of index) cores core (i, below, sym read))
 
+pub begun_read : {S : Type 0} (index : S → ℕ) (graph : Graph) (s : ℕ) (cores : List (PIdx S × ℕ)) (i : ℕ) (core : PIdx S × ℕ)
+    → ((p k : ℕ) → (HasCore graph s p k × (0 < k)) ↔ Contains (map (core_of index) cores) (p, k)) → i < length cores
+    → core ≡ slice_index_or cores i core → HasCore graph s (index core.0.0) core.1
+begun_read index graph s cores i core all below read =
+    ((all (index core.0.0) core.1).1 (Contains-image (core_of index) cores core (i, below, sym read))).0
+
 -- and it is of the grammar where the items are
 pub core_in_shape : (g : Grammar) (graph : Graph) (table : Table) (s p k : ℕ) → HasShape g graph table → HasCore graph s p k
     → (p < prods_len g) × (k ≤ prod_len g p)

@@ -49,9 +49,9 @@ impl<StorageT: StorageIndex> ParserData<StorageT> {
     /// keeps the three parts as they were.
     ///
     /// The conditions take time near the size of the input: with I items and A entries of the table, about (I + A) times
-    /// the logarithm of I, where each entry that leads to a state counts the state's cores. The chains take longer: a state
-    /// has one for each reduction that it stores, and one for each reduction that the state of one of its gotos stores.
-    /// Each is made at most once, and makes at most `cap + 1` reductions.
+    /// the logarithm of I, where each entry that leads to a state counts the state's cores with a dot past 0. The chains
+    /// take longer: a state has one for each reduction that it stores, and one for each reduction that the state of one of
+    /// its gotos stores. Each is made at most once, and makes at most `cap + 1` reductions.
     pub fn new(
         alloc: Global,
         grm: YaccGrammar<StorageT>,

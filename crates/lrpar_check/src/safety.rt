@@ -412,7 +412,7 @@ impl<'a, StorageT: StorageIndex> Parts<'a, StorageT> {
         requires next { StorageT.index next.0 < states_len self.now.stable.now }
         ensures { IsTrue result ↔ CoresFollow self.now.grm.now self.now.sgraph.now (StorageT.index s.0) (symbol_of StorageT.index symbol) (StorageT.index next.0) }
     {
-        for (pidx, dot) in self.sgraph.cores(next) {
+        for (pidx, dot) in self.sgraph.begun_cores(next) {
             if !self.core_follows(s, symbol, *pidx, *dot) {
                 return false;
             }

@@ -1,5 +1,5 @@
 -- What state graphs have, told by tests of lists of items, and by what holds of each item.
-use Rattle.std.proofs.Common.{◌≡◌, ◌<◌, ◌↔◌, ℕ, Bool, true, ◌&&◌, nat_eq, List, [], length, map, All, slice_index_or, subst, refl, ap, arith, inl, inr}
+use Rattle.std.proofs.Common.{◌≡◌, ◌<◌, ◌↔◌, ℕ, zero, suc, Bool, true, ◌&&◌, nat_eq, List, [], length, map, All, slice_index_or, subst, refl, ap, arith, inl, inr}
 use Rattle.std.proofs.lemmas.Bool.{and_from, and_parts, cases_lt, eq-eqb, eqb-true}
 use Rattle.std.proofs.lemmas.List.{get_or_past}
 use Rattle.std.proofs.lemmas.List.Elements.{All-contains, All-contains_itself}
@@ -94,4 +94,24 @@ all_cores {S} index P graph s cores is = (
   λ each i d below.
       let c = slice_index_or cores i d in
       each (index c.0.0) c.1 ((is (index c.0.0) c.1).1 (Contains-image (core_of index) cores c (All-contains_itself cores i d below))),
+)
+
+-- what holds of each core that `begun_cores` answers, and of each with the dot at the front, holds of each core of the state
+begun_holds : {S : Type 0} (index : S → ℕ) (P : ℕ → ℕ → Type 0) (graph : Graph) (s : ℕ) (cores : List (PIdx S × ℕ))
+    → ((p k : ℕ) → (HasCore graph s p k × (0 < k)) ↔ Contains (map (core_of index) cores) (p, k)) → ((p : ℕ) → P p 0)
+    → All (λ c. P (index c.0.0) c.1) cores → (p k : ℕ) → HasCore graph s p k → P p k
+begun_holds index P graph s cores is front all p zero h = front p
+begun_holds {S} index P graph s cores is front all p (suc k) h =
+    let c = Contains-preimage (core_of index) cores (p, suc k) ((is p (suc k)).0 (h, omega arith)) in
+    let holds = All-contains (λ (y : PIdx S × ℕ). P (index y.0.0) y.1) cores c.0 all c.1 in
+    subst (λ (i : ℕ × ℕ). P i.0 i.1) c.2 holds
+
+pub all_begun : {S : Type 0} (index : S → ℕ) (P : ℕ → ℕ → Type 0) (graph : Graph) (s : ℕ) (cores : List (PIdx S × ℕ))
+    → ((p k : ℕ) → (HasCore graph s p k × (0 < k)) ↔ Contains (map (core_of index) cores) (p, k)) → ((p : ℕ) → P p 0)
+    → All (λ c. P (index c.0.0) c.1) cores ↔ ((p k : ℕ) → HasCore graph s p k → P p k)
+all_begun {S} index P graph s cores is front = (
+  begun_holds index P graph s cores is front,
+  λ each i d below.
+      let c = slice_index_or cores i d in
+      each (index c.0.0) c.1 ((is (index c.0.0) c.1).1 (Contains-image (core_of index) cores c (All-contains_itself cores i d below))).0,
 )

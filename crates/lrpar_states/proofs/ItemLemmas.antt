@@ -1,5 +1,5 @@
 -- Items of code and the numbers that they stand for.
-use Rattle.std.proofs.Common.{sym, ◌++◌, ◌&&◌, Bool, true, nat_eq, inl, inr, ◌≡◌, ◌↔◌, ◌∙◌, ℕ, suc, zero, List, [], ◌∷◌, map, slice_index_or, subst, ap, refl, arith}
+use Rattle.std.proofs.Common.{sym, ◌++◌, ◌&&◌, Bool, true, nat_eq, inl, inr, ◌≡◌, ◌<◌, ◌↔◌, ◌∙◌, ℕ, suc, zero, List, [], ◌∷◌, map, slice_index_or, subst, ap, refl, arith}
 use Rattle.std.proofs.Math.ListN.{get_or-map}
 use Rattle.std.proofs.lemmas.List.{length-map}
 use Rattle.std.proofs.lemmas.Bool.{and_parts, eqb-true}
@@ -14,7 +14,7 @@ use Rattle.lrpar_text.specs.declared.span.PIdx.{PIdx}
 use Rattle.lrpar_text.specs.declared.span.TIdx.{TIdx}
 use Rattle.lrpar_states.specs.Ascending.{HaveSame}
 use Rattle.lrpar_states.specs.Graph.{AreWithCore, ItemOf, core_cmp, item_at, item_cmp}
-use Rattle.lrpar_states.specs.PlainItems.{AreCoresOf, core_of, item_of}
+use Rattle.lrpar_states.specs.PlainItems.{AreBegunOf, AreCoresOf, core_of, item_of}
 
 -- what comes before all of a row has its image before all of the row's image
 first_image : {X Y : Type 0} (R : X → X → Ordering) (Q : Y → Y → Ordering) (f : X → Y) → ((x y : X) → R x y ≡ Q (f x) (f y)) → (x : X)
@@ -124,6 +124,50 @@ cores_by_numbers index items cores of p k = (
       let is : item_at (index c.0.0.0) c.0.1 (index t.0.0) ≡ item_at p k (index t.0.0) = cc in
       (index t.0.0, subst (Contains (map (item_of index) items)) is has),
 )
+
+-- and so do the images of items and of the cores whose dot isn't at the front
+pub begun_by_numbers : {S : Type 0} (index : S → ℕ) (items : List (PIdx S × ℕ × TIdx S)) (cores begun : List (PIdx S × ℕ)) → AreCoresOf items cores
+    → AreBegunOf cores begun → (p k : ℕ) → (AreWithCore (map (item_of index) items) p k × (0 < k)) ↔ Contains (map (core_of index) begun) (p, k)
+begun_by_numbers {S} index items cores begun of are p k = (
+  λ h.
+      let c = Contains-preimage (core_of index) cores (p, k) ((cores_by_numbers index items cores of p k).0 h.0) in
+      let some = subst (λ (i : ℕ × ℕ). 0 < i.1) (sym c.2) h.1 in
+      subst (Contains (map (core_of index) begun)) c.2 (Contains-image (core_of index) begun c.0 ((are c.0.0 c.0.1).1 (c.1, some))),
+  λ h.
+      let c = Contains-preimage (core_of index) begun (p, k) h in
+      let has = (are c.0.0 c.0.1).0 c.1 in (
+        (cores_by_numbers index items cores of p k).1 (subst (Contains (map (core_of index) cores)) c.2 (Contains-image (core_of index) cores c.0 has.0)),
+        subst (λ (i : ℕ × ℕ). 0 < i.1) c.2 has.1,
+      ),
+)
+
+-- a core more, whose dot isn't at the front, or is
+module _ {S : Type 0} (seen begun : List (PIdx S × ℕ)) (core : PIdx S × ℕ) (are : AreBegunOf seen begun) where
+  pub begun_more : 0 < core.1 → AreBegunOf (seen ++ core ∷ []) (begun ++ core ∷ [])
+  begun_more some p k = (
+    λ h.
+        elim (Contains-push_cases begun core (p, k) h) as (λ _. Contains (seen ++ core ∷ []) (p, k) × (0 < k)) [
+          | inl before ↦ let has = (are p k).0 before in (Contains-append_left seen (core ∷ []) (p, k) has.0, has.1)
+          | inr last ↦ (subst (Contains (seen ++ core ∷ [])) last (Contains-push seen core), subst (λ (c : PIdx S × ℕ). 0 < c.1) last some)
+        ],
+    λ h.
+        elim (Contains-push_cases seen core (p, k) h.0) as (λ _. Contains (begun ++ core ∷ []) (p, k)) [
+          | inl before ↦ Contains-append_left begun (core ∷ []) (p, k) ((are p k).1 (before, h.1))
+          | inr last ↦ subst (Contains (begun ++ core ∷ [])) last (Contains-push begun core)
+        ],
+  )
+
+  pub begun_no_more : core.1 ≡ 0 → AreBegunOf (seen ++ core ∷ []) begun
+  begun_no_more none p k = (
+    λ h. let has = (are p k).0 h in (Contains-append_left seen (core ∷ []) (p, k) has.0, has.1),
+    λ h.
+        elim (Contains-push_cases seen core (p, k) h.0) as (λ _. Contains begun (p, k)) [
+          | inl before ↦ (are p k).1 (before, h.1)
+          | inr last ↦
+              let zero : k ≡ 0 = sym (ap (λ (c : PIdx S × ℕ). c.1) last) ∙ none in
+              let some = h.1 in absurd (omega (arith, zero, some))
+        ],
+  )
 
 -- one more element on each side
 pub HaveSame-push : {X : Type 0} (xs ys zs : List X) (y : X) → HaveSame xs ys → HaveSame zs (xs ++ y ∷ []) → HaveSame zs (ys ++ y ∷ [])

@@ -1,5 +1,5 @@
 -- What the items of code stand for, by the numbers of their indexes.
-use Rattle.std.specs.Prelude.{◌↔◌, ℕ, List, map}
+use Rattle.std.specs.Prelude.{◌<◌, ◌↔◌, ℕ, List, map}
 use Rattle.std.specs.List.{Contains}
 use Rattle.std.specs.declared.vec.Vec.{Vec}
 use Rattle.lrpar_text.specs.declared.span.PIdx.{PIdx}
@@ -25,3 +25,7 @@ rows_of index rows = map (row_of index) rows.items
 -- the cores are the productions with their dots of the items, and no other
 abbrev pub AreCoresOf : {S : Type 0} → List (PIdx S × ℕ × TIdx S) → List (PIdx S × ℕ) → Type 0
 AreCoresOf {S} items cores = (p : PIdx S) (k : ℕ) → Contains cores (p, k) ↔ ((t : TIdx S) × Contains items (p, k, t))
+
+-- these are the cores whose dot isn't at the front, and no other
+abbrev pub AreBegunOf : {S : Type 0} → List (PIdx S × ℕ) → List (PIdx S × ℕ) → Type 0
+AreBegunOf {S} cores begun = (p : PIdx S) (k : ℕ) → Contains begun (p, k) ↔ (Contains cores (p, k) × (0 < k))

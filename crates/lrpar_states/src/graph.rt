@@ -37,7 +37,8 @@ impl<StorageT: StorageIndex> StateGraph<StorageT> {
     ///
     /// `BadIndex` comes exactly where there are more states than `StorageT` has numbers, before any memory is asked for,
     /// and `Memory` where it doesn't suffice. Rows are moved in and sorted in place, in O(n log n) for n items; besides
-    /// them the graph keeps each core once more. After a refusal they are dropped.
+    /// them the graph keeps each core once more, and twice where its dot isn't at the front. After a refusal they are
+    /// dropped.
     pub fn from_rows(
         alloc: Global,
         rows: Vec<Vec<(PIdx<StorageT>, usize, TIdx<StorageT>)>>,
@@ -107,6 +108,16 @@ impl<StorageT: StorageIndex> StateGraph<StorageT> {
         ensures ascending { IsStrictlySortedBy core_cmp (map (core_of StorageT.index) result.now) }
     {
         self.sets[usize::from(s)].cores()
+    }
+
+    /// The cores of the items of state `s` whose dot isn't at the front, ascending, each once: those to which steps into the state
+    /// have led.
+    pub fn begun_cores(&self, s: StIdx<StorageT>) -> &[Core<StorageT>]
+        requires { StorageT.index s.0 < graph_len self.now }
+        ensures all { (p k : ℕ) → (HasCore self.now (StorageT.index s.0) p k × (0 < k)) ↔ Contains (map (core_of StorageT.index) result.now) (p, k) }
+        ensures ascending { IsStrictlySortedBy core_cmp (map (core_of StorageT.index) result.now) }
+    {
+        self.sets[usize::from(s)].begun()
     }
 }
 

@@ -1,10 +1,10 @@
 //! The items of one state, and their cores.
-ghost use Rattle.std.specs.Prelude.{◌≡◌, ◌↔◌, ℕ, IsTrue, IfOk, map};
+ghost use Rattle.std.specs.Prelude.{◌≡◌, ◌<◌, ◌↔◌, ℕ, IsTrue, IfOk, map};
 ghost use Rattle.std.specs.List.{Contains};
 ghost use Rattle.std.specs.List.Sorted.{IsStrictlySortedBy};
 ghost use Rattle.lrpar_states.specs.Ascending.{HaveSame};
 ghost use Rattle.lrpar_states.specs.Graph.{AreWithCore, core_cmp, item_at, item_cmp};
-ghost use Rattle.lrpar_states.specs.PlainItems.{AreCoresOf, core_of, item_of, row_of};
+ghost use Rattle.lrpar_states.specs.PlainItems.{AreBegunOf, AreCoresOf, core_of, item_of, row_of};
 
 use crate::ascending::{Ascending, push_new};
 use lrpar_grammar::span::{PIdx, StorageIndex, TIdx};
@@ -17,33 +17,39 @@ pub type Item<StorageT> = (PIdx<StorageT>, usize, TIdx<StorageT>);
 /// The core of an item: its production, and how many of its symbols stand before the dot.
 pub type Core<StorageT> = (PIdx<StorageT>, usize);
 
-/// The items of a state, and their cores.
+/// The items of a state, their cores, and those of the cores whose dot isn't at the front.
 #[derive(Debug, Drop)]
 pub(crate) struct ItemSet<StorageT: StorageIndex> {
     items: Ascending<Item<StorageT>>,
     cores: Ascending<Core<StorageT>>,
+    begun: Ascending<Core<StorageT>>,
 }
 
 impl<StorageT: StorageIndex> Model for ItemSet<StorageT> {
     ghost use Rattle.std.specs.Prelude.{List, map};
     ghost use Rattle.lrpar_states.specs.Graph.{ItemOf};
-    ghost use Rattle.lrpar_states.specs.PlainItems.{AreCoresOf, item_of};
+    ghost use Rattle.lrpar_states.specs.PlainItems.{AreBegunOf, AreCoresOf, item_of};
 
     ghost Value = { List ItemOf };
 
     ghost view = { λ set. map (item_of StorageT.index) set.items };
 
-    ghost invariant = { λ set. AreCoresOf set.items set.cores };
+    ghost invariant = { λ set. AreCoresOf set.items set.cores × AreBegunOf set.cores set.begun };
 }
 
 impl<StorageT: StorageIndex> ItemSet<StorageT> {
-    /// The set of the row's items. The row is sorted in place; memory is taken for the cores alone.
+    /// The set of the row's items. The row is sorted in place; memory is taken for the cores.
     pub(crate) fn from_row(alloc: Global, row: Vec<Item<StorageT>>) -> Result<Self, AllocError>
         ensures same { IfOk result (λ set. HaveSame set (row_of StorageT.index row)) }
     {
         let items = Ascending::from_vec(row);
         let cores = cores_of(alloc, items.as_slice())?;
-        Ok(ItemSet { items, cores })
+        let begun = begun_of(alloc, cores.as_slice())?;
+        Ok(ItemSet {
+            items,
+            cores,
+            begun,
+        })
     }
 
     /// Whether the item is one of the set: a binary search.
@@ -75,6 +81,14 @@ impl<StorageT: StorageIndex> ItemSet<StorageT> {
     {
         self.cores.as_slice()
     }
+
+    /// The cores whose dot isn't at the front, ascending, each once.
+    pub(crate) fn begun(&self) -> &[Core<StorageT>]
+        ensures all { (p k : ℕ) → (AreWithCore self.now p k × (0 < k)) ↔ Contains (map (core_of StorageT.index) result.now) (p, k) }
+        ensures ascending { IsStrictlySortedBy core_cmp (map (core_of StorageT.index) result.now) }
+    {
+        self.begun.as_slice()
+    }
 }
 
 /// The cores of the items.
@@ -89,4 +103,20 @@ fn cores_of<StorageT: StorageIndex>(
         push_new(&mut cores, (item.0, item.1))?;
     }
     Ok(Ascending::from_vec(cores))
+}
+
+/// The cores whose dot isn't at the front.
+fn begun_of<StorageT: StorageIndex>(
+    alloc: Global,
+    cores: &[Core<StorageT>],
+) -> Result<Ascending<Core<StorageT>>, AllocError>
+    ensures { IfOk result (λ begun. AreBegunOf cores.now begun) }
+{
+    let mut begun: Vec<Core<StorageT>> = Vec::new(alloc);
+    for core in cores {
+        if core.1 > 0 {
+            begun.push(*core)?;
+        }
+    }
+    Ok(Ascending::from_vec(begun))
 }

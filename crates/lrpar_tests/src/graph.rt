@@ -58,6 +58,35 @@ fn items_and_cores_of_sums(rt: HostRuntime) -> Result<(), Fail> {
     Ok(())
 }
 
+// The cores of the state whose dot isn't at the front: their productions and dots.
+fn begun(alloc: Global, graph: &StateGraph<u8>, state: u8) -> Result<Vec<(u8, usize)>, Fail> {
+    let mut begun = Vec::new(alloc);
+    if usize::from(state) < graph.states_len() {
+        for (prod, dot) in graph.begun_cores(StIdx(state)) {
+            begun.push((prod.as_storaget(), *dot))?;
+        }
+    }
+    Ok(begun)
+}
+
+#[test]
+fn begun_cores_of_sums(rt: HostRuntime) -> Result<(), Fail> {
+    let alloc = rt.alloc();
+    let graph = StateGraph::<u8>::from_rows(alloc, item_rows(alloc, &SUM_ITEMS, 6)?)?;
+    let rows: [(u8, &[(u8, usize)]); 6] = [
+        (0, &[]),
+        (1, &[(3, 1)]),
+        (2, &[(0, 1), (1, 1)]),
+        (3, &[(2, 1)]),
+        (4, &[(0, 2)]),
+        (5, &[(0, 3)]),
+    ];
+    for (state, cores) in rows {
+        assert_eq!(rt; begun(alloc, &graph, state)?.as_slice(), cores, "state {state}");
+    }
+    Ok(())
+}
+
 // A graph of so many states, of which the first have the items of sums.
 fn graph_of(alloc: Global, states: usize) -> Result<Result<StateGraph<u8>, TableFault>, Fail> {
     Ok(StateGraph::from_rows(alloc, item_rows(alloc, &SUM_ITEMS, states)?))

@@ -6,7 +6,7 @@ use Rattle.lrpar_states.proofs.items.ItemSet.cores.Goals as goal
 pub returns-clause-all : goal.returns-clause-all
 returns-clause-all g c = λ p k.
     rw (← c.self.view_is, c.as_slice.ensures.all)
-    (cores_by_numbers g.StorageT.StorageIndex.index c.self.inside.items c.self.inside.cores c.self.invariant p k)
+    (cores_by_numbers g.StorageT.StorageIndex.index c.self.inside.items c.self.inside.cores c.self.invariant.0 p k)
 
 pub returns-clause-ascending : goal.returns-clause-ascending
 returns-clause-ascending g c =

@@ -3,7 +3,7 @@ use Rattle.lrpar_states.proofs.ItemLemmas.{HaveSame-map}
 use Rattle.lrpar_states.proofs.items.ItemSet.from_row.Goals as goal
 
 pub invariant_of-result : goal.invariant_of-result
-invariant_of-result g c = rw c.as_slice.ensures.all at c.in_ok-cores.ensures
+invariant_of-result g c = (rw c.as_slice.ensures.all at c.in_ok-cores.ensures, rw c.as_slice-2.ensures.all at c.in_ok-begun.ensures)
 
 pub returns : goal.returns
 returns g c = record {
