@@ -1,7 +1,8 @@
 -- What the stacks of a run do at a token.
-use Rattle.std.specs.Prelude.{◌≡◌, ◌≤◌, ◌+◌, ◌*◌, ℕ, List, [], ◌∷◌, ◌++◌, length, Option}
+use Rattle.std.specs.Prelude.{◌≡◌, ◌≤◌, ◌+◌, ℕ, List, [], ◌∷◌, ◌++◌, length, Option}
 use Rattle.lrpar_grammar.specs.Grammar.{GrammarSymbol, Terminal}
 use Rattle.lrpar_states.specs.Table.{ShiftTo, Fails}
+use Rattle.lrpar_check.specs.Chain.{most_reductions}
 use Rattle.lrpar_check.specs.Checked.{Checked}
 use Rattle.lrpar_check.specs.Reduction.{IsSettled, top_action}
 use Rattle.lrpar.specs.Standing.{Stacked, ReducesAllTo}
@@ -11,7 +12,7 @@ pub record SettlesTo {E : Type 0} (node : ℕ → Option E → List E → E → 
   pub prods : List ℕ
   pub steps : ReducesAllTo node suits d.grammar d.table t old prods new
   pub settled : IsSettled d.table t new.states
-  pub few : length prods + d.cap * length new.states ≤ d.cap * (length old.states + d.cap + 2)
+  pub few : length prods + most_reductions d.cap (length new.states) ≤ most_reductions d.cap (length old.states + d.cap + 2)
 
 -- all reductions are made at token t, and then the top has no action
 pub record Sticks {E : Type 0} (node : ℕ → Option E → List E → E → Type 0) (suits : GrammarSymbol → E → Type 0) (d : Checked) (t : ℕ) (old new : Stacked E) : Type 0 where

@@ -21,12 +21,12 @@ pub(crate) struct Stack<StorageT: StorageIndex, E: Drop> {
 }
 
 impl<StorageT: StorageIndex, E: Drop> Model for Stack<StorageT, E> {
-    ghost use Rattle.std.specs.Prelude.{map};
+    ghost use Rattle.lrpar_check.specs.Stack.{states_of};
     ghost use Rattle.lrpar.specs.Standing.{Stacked};
 
     ghost Value = { Stacked E };
 
-    ghost view = { λ s. record { states = map (λ x. StorageT.index x.0) s.states.items; entries = s.entries.items } };
+    ghost view = { λ s. record { states = states_of StorageT.index s.states.items; entries = s.entries.items } };
 }
 
 impl<StorageT: StorageIndex, E: Drop> Stack<StorageT, E> {

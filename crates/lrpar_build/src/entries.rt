@@ -3,6 +3,7 @@ ghost use Rattle.std.specs.Prelude.{◌≡◌, ◌<◌, ◌+◌, ◌++◌, ◌�
 ghost use Rattle.std.specs.List.Sorted.{IsNonDecreasingBy, IsPermutation};
 ghost use Rattle.std.specs.Map.{keys_of, lookup};
 ghost use Rattle.lrpar_grammar.specs.Grammar.{prod_len, prods_len, tokens_len};
+ghost use Rattle.lrpar_grammar.specs.Symbols.{prod_numbers};
 ghost use Rattle.lrpar_states.specs.PlainConflicts.{reduce_reduce_of, shift_reduce_of};
 ghost use Rattle.lrpar_states.specs.PlainItems.{item_of};
 ghost use Rattle.lrpar_states.specs.PlainRows.{action_entry, plain_goto};
@@ -99,7 +100,7 @@ fn reductions_at<StorageT: StorageIndex>(
     complete: &[&CoreItems<StorageT>],
     token: usize,
 ) -> Result<Vec<PIdx<StorageT>>, AllocError>
-    ensures { IfOk result (λ prods. map (λ p. StorageT.index p.0) prods.items
+    ensures { IfOk result (λ prods. prod_numbers StorageT.index prods.items
         ≡ prods_at start (map (λ core. core_set StorageT.index core.now) complete.now) token) }
 {
     let mut prods = Vec::new(alloc);
@@ -126,7 +127,7 @@ fn push_conflicts<StorageT: StorageIndex>(
     rr: &mut Vec<ReduceReduce<StorageT>>,
 ) -> Result<(), AllocError>
     ensures { OnOk result (map (reduce_reduce_of StorageT.index) rr.new.items ≡ map (reduce_reduce_of StorageT.index) rr.old.items
-        ++ reduce_conflicts_at (StorageT.index state.now.0) (StorageT.index tidx.now.0) (map (λ p. StorageT.index p.0) prods.now)) }
+        ++ reduce_conflicts_at (StorageT.index state.now.0) (StorageT.index tidx.now.0) (prod_numbers StorageT.index prods.now)) }
 {
     match prods.split_first() {
         Some((least, later)) => push_later(least, later, tidx, state, rr),
@@ -143,7 +144,7 @@ fn push_later<StorageT: StorageIndex>(
     rr: &mut Vec<ReduceReduce<StorageT>>,
 ) -> Result<(), AllocError>
     ensures { OnOk result (map (reduce_reduce_of StorageT.index) rr.new.items ≡ map (reduce_reduce_of StorageT.index) rr.old.items
-        ++ reduce_conflicts_at (StorageT.index state.now.0) (StorageT.index tidx.now.0) (StorageT.index least.now.0 ∷ map (λ p. StorageT.index p.0) later.now)) }
+        ++ reduce_conflicts_at (StorageT.index state.now.0) (StorageT.index tidx.now.0) (StorageT.index least.now.0 ∷ prod_numbers StorageT.index later.now)) }
 {
     for prod in later {
         rr.push((*tidx, *least, *prod, *state))?;
@@ -259,12 +260,12 @@ fn push_token<StorageT: StorageIndex>(
     sr: &mut Vec<ShiftReduce<StorageT>>,
 ) -> Result<(), BuildFault>
     ensures row { OnOk result (map (action_entry StorageT.index) row.new.items ≡ map (action_entry StorageT.index) row.old.items
-        ++ entry_at (StorageT.index tidx.now.0) (wanted (plain_goto StorageT.index shift) (map (λ p. StorageT.index p.0) prods.now) accepting)) }
+        ++ entry_at (StorageT.index tidx.now.0) (wanted (plain_goto StorageT.index shift) (prod_numbers StorageT.index prods.now) accepting)) }
     ensures sr { OnOk result (map (shift_reduce_of StorageT.index) sr.new.items ≡ map (shift_reduce_of StorageT.index) sr.old.items
-        ++ shift_conflicts_at (StorageT.index state.now.0) (StorageT.index tidx.now.0) (plain_goto StorageT.index shift) (map (λ p. StorageT.index p.0) prods.now)) }
-    ensures none { IfOk result (λ _. ¬ (AcceptsBeside (plain_goto StorageT.index shift) (map (λ p. StorageT.index p.0) prods.now) accepting)) }
+        ++ shift_conflicts_at (StorageT.index state.now.0) (StorageT.index tidx.now.0) (plain_goto StorageT.index shift) (prod_numbers StorageT.index prods.now)) }
+    ensures none { IfOk result (λ _. ¬ (AcceptsBeside (plain_goto StorageT.index shift) (prod_numbers StorageT.index prods.now) accepting)) }
     ensures refused { IfErr result (IsRefusal (StorageT.index state.now.0)
-        (AcceptsBeside (plain_goto StorageT.index shift) (map (λ p. StorageT.index p.0) prods.now) accepting)) }
+        (AcceptsBeside (plain_goto StorageT.index shift) (prod_numbers StorageT.index prods.now) accepting)) }
 {
     match shift {
         Some(next) => {
@@ -284,7 +285,7 @@ fn push_shift_conflict<StorageT: StorageIndex>(
     sr: &mut Vec<ShiftReduce<StorageT>>,
 ) -> Result<(), AllocError>
     ensures { OnOk result ((next : ℕ) → map (shift_reduce_of StorageT.index) sr.new.items ≡ map (shift_reduce_of StorageT.index) sr.old.items
-        ++ shift_conflicts_at (StorageT.index state.now.0) (StorageT.index tidx.now.0) (Some next) (map (λ p. StorageT.index p.0) prods.now)) }
+        ++ shift_conflicts_at (StorageT.index state.now.0) (StorageT.index tidx.now.0) (Some next) (prod_numbers StorageT.index prods.now)) }
 {
     match prods.split_first() {
         Some((prod, _)) => {
@@ -304,9 +305,9 @@ fn push_unshifted<StorageT: StorageIndex>(
     row: &mut Vec<(TIdx<StorageT>, Action<StorageT>)>,
 ) -> Result<(), BuildFault>
     ensures row { OnOk result (map (action_entry StorageT.index) row.new.items ≡ map (action_entry StorageT.index) row.old.items
-        ++ entry_at (StorageT.index tidx.now.0) (wanted None (map (λ p. StorageT.index p.0) prods.now) accepting)) }
-    ensures none { IfOk result (λ _. ¬ (AcceptsBeside None (map (λ p. StorageT.index p.0) prods.now) accepting)) }
-    ensures refused { IfErr result (IsRefusal (StorageT.index state.now.0) (AcceptsBeside None (map (λ p. StorageT.index p.0) prods.now) accepting)) }
+        ++ entry_at (StorageT.index tidx.now.0) (wanted None (prod_numbers StorageT.index prods.now) accepting)) }
+    ensures none { IfOk result (λ _. ¬ (AcceptsBeside None (prod_numbers StorageT.index prods.now) accepting)) }
+    ensures refused { IfErr result (IsRefusal (StorageT.index state.now.0) (AcceptsBeside None (prod_numbers StorageT.index prods.now) accepting)) }
 {
     match prods.split_first() {
         Some((prod, _)) => {

@@ -1,8 +1,9 @@
 //! The loop check: whether each chain of reductions under one token is short.
-ghost use Rattle.std.specs.Prelude.{◌≡◌, ◌<◌, ◌+◌, ◌↔◌, ◌∷◌, ℕ, All, IsTrue, IfOk, MatchOption, length, map};
+ghost use Rattle.std.specs.Prelude.{◌≡◌, ◌<◌, ◌+◌, ◌↔◌, ◌∷◌, ℕ, All, IsTrue, IfOk, MatchOption, length};
 ghost use Rattle.std.specs.Option.{option_to_list};
 ghost use Rattle.lrpar_check.specs.Chain.{AreChainsShort, HasReductions, IsLongChain, IsShortUntil};
 ghost use Rattle.lrpar_states.specs.PlainRows.{plain_action, plain_goto};
+ghost use Rattle.lrpar_check.specs.Stack.{states_of};
 ghost use Rattle.lrpar_check.specs.Step.{FitsGrammar};
 ghost use Rattle.lrpar_states.specs.Table.{IsClosed, IsGotoWithin, ReduceBy, states_len};
 
@@ -147,9 +148,9 @@ impl<'a, StorageT: StorageIndex> Chains<'a, StorageT> {
         requires closed { IsClosed self.now.stable.now }
         requires token { StorageT.index t.0 < self.now.stable.now.tokens }
         requires some { 0 < length states.old.items }
-        requires within { All (λ s. s < states_len self.now.stable.now) (map (λ x. StorageT.index x.0) states.old.items) }
+        requires within { All (λ s. s < states_len self.now.stable.now) (states_of StorageT.index states.old.items) }
         ensures { IfOk result (λ long. IsTrue long ↔ HasReductions self.now.grm.now self.now.stable.now (StorageT.index t.0)
-            (map (λ x. StorageT.index x.0) states.old.items) (self.now.cap + 1)) }
+            (states_of StorageT.index states.old.items) (self.now.cap + 1)) }
     {
         for _made in 0..self.cap {
             let (step, _action) = take_step(self.grm, self.stable, states, t)?;

@@ -7,7 +7,7 @@ use Rattle.lrpar_grammar.specs.declared.grammar.parts.RulePart.{RulePart}
 use Rattle.lrpar_grammar.specs.declared.grammar.parts.TokenPart.{TokenPart}
 use Rattle.lrpar_grammar.specs.Parts.{rule_name_of, token_name_of}
 use Rattle.lrpar_grammar.specs.Grammar.{Grammar, Production, added_rule, prods_from, rules_len, tokens_len, prods_len, IsWellFormed}
-use Rattle.lrpar_grammar.specs.Symbols.{symbol_of}
+use Rattle.lrpar_grammar.specs.Symbols.{prod_numbers, symbol_of}
 
 -- a kept production by its numbers
 abbrev pub split_prod_of : {S : Type 0} → (S → ℕ) → SplitProd S → Production
@@ -30,7 +30,7 @@ kept_grammar index rules tokens prods start = record {
 -- row r has the productions of rule r, for each of so many rules
 pub record AreRowsOf {S : Type 0} (index : S → ℕ) (rules : ℕ) (prods : List Production) (rows : List (Vec (PIdx S) Global)) : Type 0 where
   pub len : length rows ≡ rules
-  pub each : (r : ℕ) (d : Vec (PIdx S) Global) → r < rules → map (λ p. index p.0) (slice_index_or rows r d).items ≡ prods_from r 0 prods
+  pub each : (r : ℕ) (d : Vec (PIdx S) Global) → r < rules → prod_numbers index (slice_index_or rows r d).items ≡ prods_from r 0 prods
 
 -- the grammar is well formed, its numbers fit the storage type, and the rows have each rule's productions
 pub record IsKept {S : Type 0} (limit : ℕ) (index : S → ℕ) (g : Grammar) (rows : List (Vec (PIdx S) Global)) : Type 0 where

@@ -3,7 +3,7 @@ ghost use Rattle.std.specs.Prelude.{◌≡◌, ◌<◌, ◌≤◌, ◌+◌, ◌�
 ghost use Rattle.std.specs.List.{range_with_len, slice_get};
 ghost use Rattle.std.specs.Str.{bytes_eq};
 ghost use Rattle.lrpar_grammar.specs.SpansFit.{NamesFit, SpansFit};
-ghost use Rattle.lrpar_grammar.specs.Symbols.{symbol_of};
+ghost use Rattle.lrpar_grammar.specs.Symbols.{prod_numbers, symbol_of};
 
 use super::fit::{prods_fit, rules_fit, tokens_fit};
 use super::numbers::Numbers;
@@ -178,7 +178,7 @@ impl<StorageT: StorageIndex> YaccGrammar<StorageT> {
     /// The productions of a rule, ascending.
     pub fn rule_to_prods(&self, ridx: RIdx<StorageT>) -> &[PIdx<StorageT>]
         requires { StorageT.index ridx.0 < rules_len self.now }
-        ensures { map (λ p. StorageT.index p.0) result.now ≡ prods_of self.now (StorageT.index ridx.0) }
+        ensures { prod_numbers StorageT.index result.now ≡ prods_of self.now (StorageT.index ridx.0) }
     {
         &self.rule_prods[usize::from(ridx)]
     }

@@ -1,5 +1,5 @@
-use Rattle.std.proofs.Common.{◌↔◌, ◌<◌, map, drop}
-use Rattle.lrpar_check.specs.Stack.{AreJoined}
+use Rattle.std.proofs.Common.{◌↔◌, ◌<◌, drop}
+use Rattle.lrpar_check.specs.Stack.{AreJoined, states_of}
 use Rattle.lrpar_states.specs.Table.{states_len}
 use Rattle.lrpar_check.proofs.stacks.are_joined.Given as goal
 
@@ -8,5 +8,5 @@ abbrev pub invariant-loop-next : goal.invariant-loop-next
 invariant-loop-next g l =
     let index = g.StorageT.StorageIndex.index in
     (index l.below.0 < states_len l.table)
-    × (AreJoined l.table (index l.below.0) (map (λ x. index x.0) (drop l.next-index l.above))
-    ↔ AreJoined l.table (index l.fn.bottom.0) (map (λ x. index x.0) l.above))
+    × (AreJoined l.table (index l.below.0) (states_of index (drop l.next-index l.above))
+    ↔ AreJoined l.table (index l.fn.bottom.0) (states_of index l.above))

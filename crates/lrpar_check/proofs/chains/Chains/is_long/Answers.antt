@@ -1,7 +1,8 @@
-use Rattle.std.proofs.Common.{◌≡◌, arith, map, subst}
+use Rattle.std.proofs.Common.{◌≡◌, arith, subst}
 use Rattle.std.proofs.lemmas.List.{length-map}
 use Rattle.lrpar_check.specs.Step.{IsStep}
 use Rattle.lrpar_check.specs.declared.step.Step.{Step}
+use Rattle.lrpar_check.specs.Stack.{states_of}
 use Rattle.lrpar_check.proofs.SafetyLemmas.{accepted, refused}
 use Rattle.lrpar_check.proofs.StepLemmas.{reduced_within, remains_early, remains_first, remains_last, remains_more, remains_none}
 use Rattle.lrpar_check.proofs.chains.Chains.is_long.Goals as goal
@@ -9,7 +10,7 @@ use Rattle.lrpar_check.proofs.chains.Chains.is_long.Goals as goal
 pub loop-made-init : goal.loop-made-init
 loop-made-init g c =
     let index = g.StorageT.StorageIndex.index in
-    let states = map (λ x. index x.0) c.args.states.now.items in
+    let states = states_of index c.args.states.now.items in
     record {
       some = c.requires.some;
       within = c.requires.within;
@@ -26,8 +27,8 @@ pub returns-in-LeavesNone : goal.returns-in-LeavesNone
 returns-in-LeavesNone g c =
     let index = g.StorageT.StorageIndex.index in
     refused (remains_early c.args.self.now.grm.now c.args.self.now.stable.now (index c.args.t.0)
-    (map (λ x. index x.0) c.args.states.now.items) c.args.self.now.cap (map (λ x. index x.0) c.loop-made.states.items)
-    (map (λ x. index x.0) c.take_step.new.states.items) c.loop-made._made c.in_ok-step.step c.loop-made.invariant.remains
+    (states_of index c.args.states.now.items) c.args.self.now.cap (states_of index c.loop-made.states.items)
+    (states_of index c.take_step.new.states.items) c.loop-made._made c.in_ok-step.step c.loop-made.invariant.remains
     c.loop-made-test.true c.in-LeavesNone.is c.in_ok-step.ensures.step)
 
 pub loop-made-preserved : goal.loop-made-preserved
@@ -36,14 +37,14 @@ loop-made-preserved g c =
     let grm = c.args.self.now.grm.now in
     let table = c.args.self.now.stable.now in
     let t = index c.args.t.0 in
-    let states = map (λ x. index x.0) c.loop-made.states.items in
-    let after = map (λ x. index x.0) c.take_step.new.states.items in
+    let states = states_of index c.loop-made.states.items in
+    let after = states_of index c.take_step.new.states.items in
     let reduced = subst (λ (s : Step). IsStep grm table t states s after) c.in-Reduced.is c.in_ok-step.ensures.step in
     let within = reduced_within grm table t states reduced.0 after c.requires.closed c.loop-made.invariant.within reduced.1 in
     record {
       some = rw length-map at within.0;
       within = within.1;
-      remains = remains_more grm table t (map (λ x. index x.0) c.args.states.now.items) c.args.self.now.cap states after
+      remains = remains_more grm table t (states_of index c.args.states.now.items) c.args.self.now.cap states after
           c.loop-made._made c.in_ok-step.step c.loop-made.invariant.remains c.in-Reduced.is c.in_ok-step.ensures.step;
     }
 
@@ -58,8 +59,8 @@ returns-in-Reduced-step g c =
     let index = g.StorageT.StorageIndex.index in
     let end : c.loop-made._made ≡ c.args.self.now.cap = omega (arith, c.loop-made-test.false, c.loop-made.auto._made-end) in
     accepted (remains_last c.args.self.now.grm.now c.args.self.now.stable.now (index c.args.t.0)
-    (map (λ x. index x.0) c.args.states.now.items) c.args.self.now.cap (map (λ x. index x.0) c.loop-made.states.items)
-    (map (λ x. index x.0) c.take_step-2.new.states.items) c.loop-made._made c.in_ok-step-2.step c.loop-made.invariant.remains
+    (states_of index c.args.states.now.items) c.args.self.now.cap (states_of index c.loop-made.states.items)
+    (states_of index c.take_step-2.new.states.items) c.loop-made._made c.in_ok-step-2.step c.loop-made.invariant.remains
     end c.in-Reduced-step.is c.in_ok-step-2.ensures.step)
 
 pub returns-in-Stays : goal.returns-in-Stays
@@ -67,6 +68,6 @@ returns-in-Stays g c =
     let index = g.StorageT.StorageIndex.index in
     let end : c.loop-made._made ≡ c.args.self.now.cap = omega (arith, c.loop-made-test.false, c.loop-made.auto._made-end) in
     refused (remains_none c.args.self.now.grm.now c.args.self.now.stable.now (index c.args.t.0)
-    (map (λ x. index x.0) c.args.states.now.items) c.args.self.now.cap (map (λ x. index x.0) c.loop-made.states.items)
-    (map (λ x. index x.0) c.take_step-2.new.states.items) c.loop-made._made c.in_ok-step-2.step c.loop-made.invariant.remains
+    (states_of index c.args.states.now.items) c.args.self.now.cap (states_of index c.loop-made.states.items)
+    (states_of index c.take_step-2.new.states.items) c.loop-made._made c.in_ok-step-2.step c.loop-made.invariant.remains
     end c.in-Stays.is c.in_ok-step-2.ensures.step)

@@ -1,6 +1,7 @@
-use Rattle.std.proofs.Common.{◌<◌, length, map}
+use Rattle.std.proofs.Common.{◌<◌, length}
 use Rattle.std.specs.List.{All}
 use Rattle.lrpar_states.specs.Table.{states_len}
+use Rattle.lrpar_check.specs.Stack.{states_of}
 use Rattle.lrpar_check.proofs.StepLemmas.{Remains}
 use Rattle.lrpar_check.proofs.chains.Chains.is_long.Given as goal
 
@@ -11,6 +12,6 @@ invariant-loop-made g l =
     let table = l.self.stable.now in
     record {
       some : 0 < length l.states.items;
-      within : All (λ s. s < states_len table) (map (λ x. index x.0) l.states.items);
-      remains : Remains l.self.grm.now table (index l.t.0) (map (λ x. index x.0) l.fn.states.items) l.self.cap (map (λ x. index x.0) l.states.items) l._made;
+      within : All (λ s. s < states_len table) (states_of index l.states.items);
+      remains : Remains l.self.grm.now table (index l.t.0) (states_of index l.fn.states.items) l.self.cap (states_of index l.states.items) l._made;
     }
