@@ -5,18 +5,12 @@ use Rattle.std.proofs.lemmas.Option.{slice_get_past, slice_get_within}
 use Rattle.std.specs.Option.{option_map_or}
 use Rattle.lrpar_grammar.specs.Grammar.{Grammar, GrammarSymbol, Nonterminal, Terminal, end_token, rule_of}
 use Rattle.lrpar_states.specs.Table.{Table, TableAction, ShiftTo, ReduceBy, Accepts, Fails}
-use Rattle.lrpar_check.specs.Reduction.{Feeds, ReducesBy, Reduces, Settles, IsSettled, top_action}
+use Rattle.lrpar_check.specs.Reduction.{Feeds, ReducesBy, Settles, IsSettled, top_action}
 use Rattle.lrpar_check.specs.Path.{IsPath, NeverSticks}
 use Rattle.std.proofs.lemmas.Bool.{cases_lt}
 use Rattle.lrpar_check.proofs.Reductions.{settles_one_way, reduces_to_one}
 use Rattle.lrpar.specs.RunLaws.{Takes, RunsEndOneWay, RunsGoOnOrEnd, KeepOffEnd, EndsByFailing, RunsStopByFailing}
 use Rattle.lrpar.specs.Run.{Comes, Far, FarEnd, Accepted, Stopped, Stop, IsStuck, RunsOneWay, stays, comes_on, comes_through, gives_up, goes_on, accepts, stops, token_at}
-
--- one more reduction
-pub reduces_more : (g : Grammar) (table : Table) (t : ℕ) (st ps mid : List ℕ) (p : ℕ) (after : List ℕ)
-    → ReducesBy g table t st ps mid → Reduces g table t mid p after → ReducesBy g table t st (ps ++ p ∷ []) after
-reduces_more g table t st [] mid p after e reduces = (after, subst (λ w. Reduces g table t w p after) (sym e) reduces, refl)
-reduces_more g table t st (q ∷ ps) mid p after by reduces = (by.0, by.1, reduces_more g table t by.0 ps mid p after by.2 reduces)
 
 -- reductions after which there is none are all
 pub settles_from : (g : Grammar) (table : Table) (t : ℕ) (st ps after : List ℕ)

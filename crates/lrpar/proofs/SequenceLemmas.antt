@@ -1,5 +1,5 @@
 -- Sequences of repairs: which step can be taken in which way, and what that says of whether a sequence works.
-use Rattle.std.proofs.Common.{◌≡◌, ◌≢◌, ◌<◌, ◌≤◌, ◌+◌, ◌-◌, ◌∙◌, ◌↔◌, ◌⊎◌, inl, inr, ℕ, zero, suc, List, [], ◌∷◌, ◌++◌, Bool, true, false, Option, Some, None, slice_get, drop, take, get_or, Vec, vec_len, length, IsTrue, refl, sym, subst, ap, arith}
+use Rattle.std.proofs.Common.{◌≡◌, ◌≢◌, ◌<◌, ◌≤◌, ◌+◌, ◌-◌, ◌∙◌, ◌↔◌, ◌⊎◌, inl, inr, ℕ, suc, List, [], ◌∷◌, ◌++◌, Bool, true, false, Option, Some, None, slice_get, drop, take, get_or, Vec, vec_len, length, IsTrue, refl, sym, subst, ap, arith}
 use Rattle.std.specs.Prelude.{map}
 use Rattle.std.specs.List.{AllZip, each_same}
 use Rattle.std.proofs.lemmas.List.{drop_more, map-append, take_more}
@@ -181,12 +181,6 @@ module _ {X : Type 0} (token : X → ℕ) (g : Grammar) (table : Table) (lexemes
       let first = subst (λ (m : ℕ). CanGoOn token g table lexemes m st i ↔ P) left here in
       ((λ q. first.0 (end.0 (accepts.0 q))), (λ p. accepts.1 (end.1 (first.1 p))))
 
-  -- enough were fed
-  pub go_on_all : (P : Type 0) (k n : ℕ) (st : List ℕ) (i : ℕ) → k ≤ n → CanGoOn token g table lexemes (k - n) st i ↔ P → P
-  go_on_all P k n st i past here =
-      let left : k - n ≡ zero = omega arith in
-      let first = subst (λ (m : ℕ). CanGoOn token g table lexemes m st i ↔ P) left here in first.0 tt
-
   -- So it is of the steps of a sequence, of which those from n on are left. One more was taken.
   pub works_next : {S : Type 0} (index : S → ℕ) (P : Type 0) (k : ℕ) (steps : List (RepairStep S)) (n : ℕ) (step : RepairStep S) (st : List ℕ) (i : ℕ) (o : Option ℕ) (after : List ℕ) (j : ℕ)
       → n < length steps → step ≡ get_or steps n step
@@ -270,12 +264,6 @@ token_fed g table cap t old false new h = λ prods next feeds.
     let by = h.0.1.states in
     let same = settles_one_way g table t (overlaid old) prods by.prods feeds.settled (overlaid new) feeds.settles by.settles in
     h.1 feeds.next (subst (λ (st : List ℕ). top_action table t st ≡ ShiftTo feeds.next) same.1 feeds.shifts)
-
--- and that their base stays
-pub base_stays : (g : Grammar) (table : Table) (cap t : ℕ) (old : Overlaid) (fed : Bool) (new : Overlaid) → IsFedOver g table cap t old fed new
-    → new.base ≡ old.base
-base_stays g table cap t old true new h = h.keeps.base
-base_stays g table cap t old false new h = h.0.1.keeps.base
 
 -- where all reductions are made at the end token, the states accept where the top does
 pub accepts_by_top : (g : Grammar) (table : Table) (cap : ℕ) (old : Overlaid) (count : ℕ) (new : Overlaid)

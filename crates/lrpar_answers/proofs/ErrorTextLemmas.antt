@@ -180,14 +180,3 @@ pub mapped_at : {A B : Type 0} (P : B → Type 0) (f : A → B) (xs : List A) (i
 mapped_at P f [] i x below at all = absurd (omega arith)
 mapped_at {A = A} P f (y ∷ ys) zero x below at all = let Q : A → Type 0 = λ z. P (f z) in subst Q (sym at) all.0
 mapped_at P f (y ∷ ys) (suc i) x below at all = mapped_at P f ys i x (omega arith) at all.1
-
-mapped_push : {A B : Type 0} (P : B → Type 0) (f : A → B) (xs : List A) (x : A) → AllByRecursion P (map f xs) → P (f x) → AllByRecursion P (map f (xs ++ x ∷ []))
-mapped_push P f [] x all last = (last, tt)
-mapped_push P f (y ∷ ys) x all last = (all.0, mapped_push P f ys x all.1 last)
-
-pub mapped_more : {A B : Type 0} (P : B → Type 0) (f : A → B) (xs : List A) (i : ℕ) (x : A) → i < length xs → x ≡ get_or xs i x
-    → AllByRecursion P (map f (take i xs)) → P (f x) → AllByRecursion P (map f (take (i + 1) xs))
-mapped_more P f xs i x below at all last = rw (taken xs i x below at) (mapped_push P f (take i xs) x all last)
-
-pub mapped_whole : {A B : Type 0} (P : B → Type 0) (f : A → B) (xs : List A) (i : ℕ) → length xs ≤ i → AllByRecursion P (map f (take i xs)) → AllByRecursion P (map f xs)
-mapped_whole P f xs i long all = rw (taken_all xs i long) at all

@@ -60,10 +60,6 @@ pub added : {T E : Type 0} (r : Result T E) (new out text whole : List ℕ) → 
 added (Ok x) new out text whole e same = e ∙ same
 added (Err x) new out text whole e same = tt
 
--- from the start of one part of the input to the end of another
-abbrev over : Extent → Extent → Extent
-over a b = record { start = a.start; end = b.end }
-
 -- a text that was added in two parts
 pub added_twice : (old first second between new : List ℕ) → between ≡ old ++ first → new ≡ between ++ second → new ≡ old ++ (first ++ second)
 added_twice old first second between new e₁ e₂ = e₂ ∙ ap (λ o. o ++ second) e₁ ∙ append_assoc old first second
@@ -72,30 +68,6 @@ added_twice old first second between new e₁ e₂ = e₂ ∙ ap (λ o. o ++ sec
 pub err_same : {T E : Type 0} (r : Result T E) (P : E → Type 0) (e : E) → IsErrAnd r (λ f. f ≡ e) → P e → IfErr r P
 err_same (Ok x) P e is holds = tt
 err_same (Err f) P e is holds = subst P (sym is) holds
-
--- Deletions that touch are one.
-touching_cons : (v : Bool) (a b c : Extent) (parts : List Part) → a.end == b.start ≡ true
-    → joined a (cond v (Deletes (over b c) ∷ parts) (Deletes b ∷ Deletes c ∷ parts)) ≡ cond v (Deletes (over a c) ∷ parts) (Deletes (over a b) ∷ Deletes c ∷ parts)
-touching_cons true a b c parts e = ap (λ w. cond w (Deletes (over a c) ∷ parts) (Deletes a ∷ Deletes (over b c) ∷ parts)) e
-touching_cons false a b c parts e = ap (λ w. cond w (Deletes (over a b) ∷ Deletes c ∷ parts) (Deletes a ∷ Deletes b ∷ Deletes c ∷ parts)) e
-
-pub joined_touching : (a b : Extent) (parts : List Part) → a.end == b.start ≡ true → joined a (joined b parts) ≡ joined (over a b) parts
-joined_touching a b [] e = ap (λ w. cond w (Deletes (over a b) ∷ []) (Deletes a ∷ Deletes b ∷ [])) e
-joined_touching a b (Inserts t ∷ parts) e = ap (λ w. cond w (Deletes (over a b) ∷ Inserts t ∷ parts) (Deletes a ∷ Deletes b ∷ Inserts t ∷ parts)) e
-joined_touching a b (Shifts c ∷ parts) e = ap (λ w. cond w (Deletes (over a b) ∷ Shifts c ∷ parts) (Deletes a ∷ Deletes b ∷ Shifts c ∷ parts)) e
-joined_touching a b (Deletes c ∷ parts) e = touching_cons (b.end == c.start) a b c parts e
-
--- Others aren't.
-apart_cons : (v : Bool) (a b c : Extent) (parts : List Part) → a.end == b.start ≡ false
-    → joined a (cond v (Deletes (over b c) ∷ parts) (Deletes b ∷ Deletes c ∷ parts)) ≡ Deletes a ∷ cond v (Deletes (over b c) ∷ parts) (Deletes b ∷ Deletes c ∷ parts)
-apart_cons true a b c parts e = ap (λ w. cond w (Deletes (over a c) ∷ parts) (Deletes a ∷ Deletes (over b c) ∷ parts)) e
-apart_cons false a b c parts e = ap (λ w. cond w (Deletes (over a b) ∷ Deletes c ∷ parts) (Deletes a ∷ Deletes b ∷ Deletes c ∷ parts)) e
-
-pub joined_apart : (a b : Extent) (parts : List Part) → a.end == b.start ≡ false → joined a (joined b parts) ≡ Deletes a ∷ joined b parts
-joined_apart a b [] e = ap (λ w. cond w (Deletes (over a b) ∷ []) (Deletes a ∷ Deletes b ∷ [])) e
-joined_apart a b (Inserts t ∷ parts) e = ap (λ w. cond w (Deletes (over a b) ∷ Inserts t ∷ parts) (Deletes a ∷ Deletes b ∷ Inserts t ∷ parts)) e
-joined_apart a b (Shifts c ∷ parts) e = ap (λ w. cond w (Deletes (over a b) ∷ Shifts c ∷ parts) (Deletes a ∷ Deletes b ∷ Shifts c ∷ parts)) e
-joined_apart a b (Deletes c ∷ parts) e = apart_cons (b.end == c.start) a b c parts e
 
 -- what is printed of a part is printed of the sequence's next part
 abbrev pub IsNamed : (ℕ → Option (List ℕ) → Type 0) → ℕ → Type 0

@@ -1,32 +1,15 @@
 -- What is met in a tree by what a loop has left.
 use denote.Ref.{Bor}
-use Rattle.std.proofs.Common.{rules, ◌≡◌, ℕ, zero, suc, ◌+◌, ◌<◌, ◌≤◌, get_or, List, [], ◌∷◌, ◌++◌, length, take, Vec, refl, ap, sym, ◌∙◌, arith, append_assoc, append-nil, length-append, subst}
+use Rattle.std.proofs.Common.{◌≡◌, ℕ, zero, suc, ◌+◌, ◌<◌, ◌≤◌, get_or, List, [], ◌∷◌, ◌++◌, length, take, refl, ap, sym, ◌∙◌, arith, append_assoc, append-nil, length-append, subst}
 use Rattle.std.specs.List.{AllByRecursion, flat_map}
 use Rattle.std.proofs.lemmas.Grind.{flat_map-append}
 use Rattle.std.proofs.lemmas.List.Folds.{flat_map-map}
-use Rattle.std.specs.declared.alloc.Global.{Global}
-use Rattle.lrpar_text.specs.declared.span.RIdx.{RIdx}
 use Rattle.lrpar_answers.specs.declared.node.Node.{Node}
-use Rattle.lrpar_answers.specs.declared.node.Node.TheVariants.{Term, Nonterm}
 use Rattle.lrpar_answers.specs.declared.node.Node.TheOpen.{Node-F}
-use Rattle.lrpar_answers.specs.declared.node.Node.TheViews.{out-Node, the_lemmas}
+use Rattle.lrpar_answers.specs.declared.node.Node.TheViews.{out-Node}
 use Rattle.lrpar_answers.specs.declared.node.Node.TheFolds.{fold_out-Node, map-Node}
 use Rattle.lrpar_answers.proofs.ErrorTextLemmas.{taken, taken_all}
-use Rattle.lrpar_answers.specs.TreeText.{Met, LeafAt, RuleAt, met_step, met_from, layer_met, root_at, layer_nodes, nodes_below, all_met}
-
--- a node of either kind
-pub root_term : {X S : Type 0} (level : ℕ) (node : Node X S) (x : X) → node ≡ Term x → root_at level node ≡ LeafAt level x
-root_term level node x is = ap (root_at level) is ∙ search (rules, the_lemmas)
-
-pub root_nonterm : {X S : Type 0} (level : ℕ) (node : Node X S) (r : RIdx S) (nodes : Vec (Node X S) Global) → node ≡ Nonterm r nodes
-    → root_at level node ≡ RuleAt level r.0
-root_nonterm level node r nodes is = ap (root_at level) is ∙ search (rules, the_lemmas)
-
-pub below_term : {X S : Type 0} (node : Node X S) (x : X) → node ≡ Term x → nodes_below node ≡ []
-below_term node x is = ap nodes_below is ∙ search (rules, the_lemmas)
-
-pub below_nonterm : {X S : Type 0} (node : Node X S) (r : RIdx S) (nodes : Vec (Node X S) Global) → node ≡ Nonterm r nodes → nodes_below node ≡ nodes.items
-below_nonterm node r nodes is = ap nodes_below is ∙ search (rules, the_lemmas)
+use Rattle.lrpar_answers.specs.TreeText.{Met, RuleAt, met_step, met_from, layer_met, root_at, layer_nodes, nodes_below, all_met}
 
 -- what is met in a tree: its root, and what is met in the trees below it
 layer_from : {X S : Type 0} (layer : Node-F X S (Node X S)) (level : ℕ)

@@ -25,17 +25,6 @@ among_more cores more core x is =
       ],
     )
 
--- one without lookaheads has none
-pub among_none : (cores : List CoreSet) (core : CoreSet) (x : ItemOf) → (((t : ℕ) × IsTrue (has core.tokens t)) → ⊥)
-    → IsAmong cores x ↔ (IsAmong cores x ⊎ IsOfCore core x)
-among_none cores core x none = (
-  λ h. inl h,
-  λ h. elim h [
-    | inl before ↦ before
-    | inr of ↦ absurd (none (x.token, of.2))
-  ],
-)
-
 -- the items of a production more
 pub rows_more : (g : Grammar) (rows : List (List Bool)) (first before after : ItemOf → Type 0) (n : ℕ) (core : CoreSet) (x : ItemOf)
     → core.prod ≡ n → core.dot ≡ 0 → core.tokens ≡ row_at rows (rule_of g n)
@@ -62,16 +51,6 @@ rows_more g rows first before after n core x prod dot tokens so_far one = (
               let in_row = subst (λ p. HasIn rows (rule_of g p) x.token) at of.2 in
               one.1 (inr (prod ∙ sym at, dot ∙ sym of.0, subst (λ b. IsTrue (has b x.token)) (sym tokens) in_row))
         ]
-  ],
-)
-
--- before the first production there are none
-pub rows_none : (g : Grammar) (rows : List (List Bool)) (first : ItemOf → Type 0) (x : ItemOf) → first x ↔ (first x ⊎ IsOfRows g rows 0 x)
-rows_none g rows first x = (
-  λ h. inl h,
-  λ h. elim h [
-    | inl own ↦ own
-    | inr of ↦ let low = of.1 in absurd (omega (arith, low))
   ],
 )
 

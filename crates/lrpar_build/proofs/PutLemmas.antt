@@ -1,17 +1,14 @@
 -- The closure's cores in their order: the kernel's, and then each production that comes with them.
 use Rattle.std.proofs.Common.{◌≡◌, ◌≢◌, ◌<◌, ◌≤◌, ◌+◌, ◌⊎◌, ◌∙◌, sym, ap, subst, inl, inr, arith, ℕ, cond, List, [], ◌∷◌, ◌++◌, All}
-use Rattle.std.proofs.lemmas.Bool.{cases_lt, eq-eqb, ne_eqb}
+use Rattle.std.proofs.lemmas.Bool.{cases_lt, ne_eqb}
 use Rattle.std.proofs.lemmas.List.Elements.{All-head, All-nil, All-push, All-tail, All-weaker}
 use Rattle.lrpar_grammar.specs.Grammar.{Grammar, IsWellFormed, start_prod}
 use Rattle.lrpar_build.specs.Brought.{IsBrought, Given, Brought}
 use Rattle.lrpar_build.specs.Cores.{AreBringing, CoreSet, IsCoreOf}
-use Rattle.lrpar_build.specs.Kernels.{AreCores, AreInOrder, ComesBefore, IsBegun, IsFilled, IsPut, place_of}
+use Rattle.lrpar_build.specs.Kernels.{AreCores, AreInOrder, ComesBefore, IsFilled, IsPut, place_of}
 use Rattle.lrpar_build.proofs.StatesLemmas.{rule_behind_listed}
 
 module _ (g : Grammar) where
-  pub place_start : (p : ℕ) → p ≡ start_prod g → place_of g p ≡ 0
-  place_start p is = ap (λ b. cond b 0 (p + 1)) (eq-eqb p (start_prod g) is)
-
   pub place_other : (p : ℕ) → p ≢ start_prod g → place_of g p ≡ p + 1
   place_other p other = ap (λ b. cond b 0 (p + 1)) (ne_eqb p (start_prod g) other)
 
@@ -26,14 +23,6 @@ module _ (g : Grammar) where
   -- the core is of the kernel, or one of the first n productions
   abbrev pub IsPutBelow : ℕ → CoreSet → Type 0
   IsPutBelow n core = (0 < core.dot) ⊎ (place_of g core.prod ≤ n)
-
-  pub begun_below : (cores : List CoreSet) → All (IsBegun g) cores → All (IsPutBelow 0) cores
-  begun_below cores begun =
-      All-weaker (IsBegun g) (IsPutBelow 0)
-      (λ core h. elim h [
-        | inl front ↦ inl front
-        | inr start ↦ let place = place_start core.prod start in inr (omega (arith, place))
-      ]) cores begun
 
   below_more : (n : ℕ) (core : CoreSet) → IsPutBelow n core → IsPutBelow (n + 1) core
   below_more n core h =

@@ -1,7 +1,6 @@
 -- Reductions of a stack over a table that is checked: they keep it a stack, and none is left where a step makes none.
 use Rattle.std.proofs.Common.{◌≡◌, ◌<◌, ◌≤◌, ◌+◌, ◌-◌, ◌∙◌, ◌⊎◌, inl, inr, sym, subst, arith, ℕ, zero, suc, List, [], ◌∷◌, ◌++◌, length, take, Some, Result, Ok, Err, length-append}
 use Rattle.std.proofs.lemmas.List.Elements.{All-cons, All-nil}
-use Rattle.std.proofs.lemmas.Option.{get_or_from_slice_get, slice_get_within}
 use Rattle.std.specs.List.{All}
 use Rattle.std.specs.Result.{OnErr}
 use Rattle.lrpar_grammar.specs.Grammar.{Grammar, IsWellFormed, prod_len, rule_of}
@@ -33,13 +32,6 @@ pub stack_states : (table : Table) → IsClosed table → (st : List ℕ) → Is
 stack_states table closed [] stack = absurd stack
 stack_states table closed (s ∷ st) stack =
     joined_states table closed s st (subst (λ (s : ℕ). s < states_len table) (sym stack.0) closed.start_within) stack.1
-
--- so its top is
-pub stack_top_within : (table : Table) → IsClosed table → (st : List ℕ) (s : ℕ) → IsStack table st → top_of st ≡ Some s → s < states_len table
-stack_top_within table closed st s stack top =
-    let below = slice_get_within st (length st - 1) s top in
-    let read = get_or_from_slice_get st (length st - 1) s s top in
-    subst (λ (n : ℕ). n < states_len table) read (stack_states table closed st stack (length st - 1) s below)
 
 -- a state joined to the top makes it a stack again
 joined_top : (table : Table) (s : ℕ) (st : List ℕ) (next : ℕ) → AreJoined table s st → IsJoined table (last_of s st) next

@@ -2,7 +2,7 @@
 use Rattle.std.proofs.Common.{◌≡◌, ◌∙◌, refl, sym, ap, ℕ, List, [], ◌∷◌, ◌++◌}
 use Rattle.std.proofs.lemmas.List.{append_assoc}
 use Rattle.lrpar_grammar.specs.Grammar.{Grammar, GrammarSymbol}
-use Rattle.lrpar_grammar.specs.Tree.{Forest, Leaf, Nil, Cons, leaves, forest_leaves, productions, forest_productions, ForestFits}
+use Rattle.lrpar_grammar.specs.Tree.{Forest, Leaf, Nil, Cons, leaves, forest_leaves, ForestFits}
 
 -- one list of trees behind another
 abbrev pub joined : {X : Type 0} → Forest X → Forest X → Forest X
@@ -14,13 +14,6 @@ pub joined_leaves : {X : Type 0} (first others : Forest X) → forest_leaves (jo
 joined_leaves Nil others = refl
 joined_leaves (Cons t ts) others =
     ap (λ xs. leaves t ++ xs) (joined_leaves ts others) ∙ sym (append_assoc (leaves t) (forest_leaves ts) (forest_leaves others))
-
--- the productions of both
-pub joined_productions : {X : Type 0} (first others : Forest X) → forest_productions (joined first others) ≡ forest_productions first ++ forest_productions others
-joined_productions Nil others = refl
-joined_productions (Cons t ts) others =
-    ap (λ ps. productions t ++ ps) (joined_productions ts others)
-    ∙ sym (append_assoc (productions t) (forest_productions ts) (forest_productions others))
 
 -- where each fits a list of symbols, both fit the symbols of both
 pub joined_fits : {X : Type 0} (token : X → ℕ) (g : Grammar) (first others : Forest X) (ss rest : List GrammarSymbol)
@@ -51,11 +44,6 @@ splits token g (Cons t ts) (s ∷ ss) rest fits =
 pub split_leaves : {X : Type 0} (token : X → ℕ) (g : Grammar) (ts : Forest X) (ss rest : List GrammarSymbol) (h : Splits token g ts ss rest)
     → forest_leaves ts ≡ forest_leaves h.first ++ forest_leaves h.others
 split_leaves token g ts ss rest h = ap forest_leaves h.both ∙ joined_leaves h.first h.others
-
--- and so do the productions
-pub split_productions : {X : Type 0} (token : X → ℕ) (g : Grammar) (ts : Forest X) (ss rest : List GrammarSymbol) (h : Splits token g ts ss rest)
-    → forest_productions ts ≡ forest_productions h.first ++ forest_productions h.others
-split_productions token g ts ss rest h = ap forest_productions h.both ∙ joined_productions h.first h.others
 
 -- the trees of these leaves alone
 abbrev pub leaf_forest : {X : Type 0} → List X → Forest X
