@@ -7,8 +7,10 @@ use lrpar_check::check::{ParserData, Refused};
 use lrpar_grammar::grammar::YaccGrammar;
 use lrpar_grammar::span::StorageIndex;
 use std::alloc::Global;
+use std::error::Error;
+use std::fmt;
 
-/// Why there is no checked table of a grammar, with what there is.
+/// Why there is no checked table of a grammar, with what there is. Its text is that of the fault.
 #[derive(Debug, Drop)]
 pub enum Unbuilt<StorageT: StorageIndex> {
     /// No table was built of the grammar, for this reason.
@@ -16,6 +18,20 @@ pub enum Unbuilt<StorageT: StorageIndex> {
     /// The table that was built has a chain of reductions that is too long; or memory was wanting for the check of chains.
     Chains(Refused<StorageT>),
 }
+
+impl<StorageT: StorageIndex> fmt::Display for Unbuilt<StorageT> {
+    fn fmt<W: fmt::Write>(&self, f: &mut fmt::Formatter<W>) -> fmt::Result {
+        match self {
+            Unbuilt::Table(fault, _) => write!(f, "{fault}"),
+            Unbuilt::Chains(refused) => {
+                let fault = refused.fault();
+                write!(f, "{fault}")
+            }
+        }
+    }
+}
+
+impl<StorageT: StorageIndex> Error for Unbuilt<StorageT> {}
 
 /// The checked table of the grammar: its canonical item sets, at most so many, the table that does what they want, and the cap.
 /// What is built is safe, so the chains of reductions alone are checked.

@@ -243,15 +243,17 @@ fn conflicts_that_fit(rt: HostRuntime) -> Result<(), Fail> {
     Ok(())
 }
 
-// Why there is no checked table of the text, empty where there is one.
+// Why there is no checked table of the text, empty where there is one: what wasn't made, and the text of the refusal.
 fn refusal(alloc: Global, text: &str, max_states: usize, cap: u16) -> Result<String, Fail> {
     let grm = YaccGrammar::<u8>::new_with_storaget(alloc, text)?;
     match parser_data(alloc, grm, max_states, cap) {
         Ok(_) => Ok(String::new(alloc)),
-        Err(Unbuilt::Table(fault, _)) => Ok(format!(in alloc; "table: {fault}")?),
-        Err(Unbuilt::Chains(refused)) => {
-            let fault = refused.fault();
-            Ok(format!(in alloc; "chains: {fault}")?)
+        Err(unbuilt) => {
+            let part = match &unbuilt {
+                Unbuilt::Table(..) => "table",
+                Unbuilt::Chains(_) => "chains",
+            };
+            Ok(format!(in alloc; "{part}: {unbuilt}")?)
         }
     }
 }
