@@ -5,7 +5,7 @@ use crate::lexer::{HandedLexer, HandedTypes, Token};
 use crate::parse::{LexAnswer, lexeme, lexemes};
 use lrpar::parser::AStackType;
 use lrpar::span::{RIdx, Span};
-use lrpar::{Node, RTParserBuilder, action_generictree};
+use lrpar::{Node, ParserData, RTParserBuilder, action_generictree};
 use std::alloc::Global;
 use std::test::Fail;
 
@@ -46,8 +46,16 @@ pub(crate) fn sum_tree(alloc: Global) -> Result<Tree, Fail> {
 
 // What the parse to a tree answers: the tree, if there is one, and the errors or the fault as text.
 fn tree_answer(alloc: Global, answers: &[LexAnswer]) -> Result<(Option<Tree>, String), Fail> {
-    let data = sum_data(alloc, By::Entries)?;
-    let parser = RTParserBuilder::<u32, HandedTypes>::new(&data);
+    tree_answer_by(alloc, &sum_data(alloc, By::Entries)?, answers)
+}
+
+// The same by a table.
+fn tree_answer_by(
+    alloc: Global,
+    data: &ParserData<u32>,
+    answers: &[LexAnswer],
+) -> Result<(Option<Tree>, String), Fail> {
+    let parser = RTParserBuilder::<u32, HandedTypes>::new(data);
     match parser.parse_generictree(alloc, &HandedLexer { answers }) {
         Ok((tree, errors)) => Ok((tree, text_of_errors(alloc, &errors)?)),
         Err(fault) => Ok((None, format!(in alloc; "{fault}")?)),
@@ -71,10 +79,18 @@ fn errors_of_tree(alloc: Global, given: &[(u32, usize)]) -> Result<String, Fail>
 
 // The errors or the fault of the parse to errors alone, as text.
 fn errors_alone(alloc: Global, given: &[(u32, usize)]) -> Result<String, Fail> {
-    let data = sum_data(alloc, By::Entries)?;
     let answers = lexemes(alloc, given)?;
-    let parser = RTParserBuilder::<u32, HandedTypes>::new(&data);
-    match parser.parse_noaction(alloc, &HandedLexer { answers: &answers }) {
+    errors_alone_by(alloc, &sum_data(alloc, By::Entries)?, &answers)
+}
+
+// The same by a table.
+fn errors_alone_by(
+    alloc: Global,
+    data: &ParserData<u32>,
+    answers: &[LexAnswer],
+) -> Result<String, Fail> {
+    let parser = RTParserBuilder::<u32, HandedTypes>::new(data);
+    match parser.parse_noaction(alloc, &HandedLexer { answers }) {
         Ok(errors) => text_of_errors(alloc, &errors),
         Err(fault) => Ok(format!(in alloc; "{fault}")?),
     }

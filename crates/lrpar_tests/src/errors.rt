@@ -3,7 +3,7 @@ use crate::fixtures::{By, sum_data};
 use crate::lexer::{HandedLexer, HandedTypes, NoToken, Token};
 use crate::parse::lexemes;
 use lrpar::span::{Span, TIdx};
-use lrpar::{LexParseError, Lexeme, ParseError, ParseRepair, RTParserBuilder};
+use lrpar::{LexParseError, Lexeme, ParseError, ParseRepair, ParserData, RTParserBuilder};
 use std::alloc::Global;
 use std::hash::{DefaultHasher, Hash, Hasher};
 use std::test::Fail;
@@ -12,10 +12,18 @@ type Repair = ParseRepair<Token<u32>, u32>;
 
 // The error of the parse of these lexemes.
 fn error_of(alloc: Global, given: &[(u32, usize)]) -> Result<ParseError<Token<u32>, u32>, Fail> {
-    let data = sum_data(alloc, By::Entries)?;
     let answers = lexemes(alloc, given)?;
-    let lexer = HandedLexer { answers: &answers };
-    let mut errors = RTParserBuilder::<u32, HandedTypes>::new(&data).parse_noaction(alloc, &lexer)?;
+    error_by(alloc, &sum_data(alloc, By::Entries)?, &answers)
+}
+
+// The same by a table.
+fn error_by(
+    alloc: Global,
+    data: &ParserData<u32>,
+    answers: &[LexAnswer],
+) -> Result<ParseError<Token<u32>, u32>, Fail> {
+    let parser = RTParserBuilder::<u32, HandedTypes>::new(data);
+    let mut errors = parser.parse_noaction(alloc, &HandedLexer { answers })?;
     match errors.pop() {
         Some(LexParseError::ParseError(error)) => Ok(error),
         _ => Err(Fail::new("no parse error")),
