@@ -85,8 +85,8 @@ impl<StorageT: StorageIndex> ParserData<StorageT> {
 
     /// As `settle`, over an overlay, whose base stays as it is.
     ///
-    /// Memory is wanted only by a reduction that makes the tail longer, where that is full. `kept` is then that of the
-    /// reductions that were made.
+    /// Memory is wanted only by a reduction that makes the tail longer, where that is full or the stack has 2^64 - 1
+    /// states. `kept` is then that of the reductions that were made.
     pub fn settle_over(
         &self,
         stack: &mut Overlay<'_, StorageT>,
@@ -174,8 +174,8 @@ impl<StorageT: StorageIndex> ParserData<StorageT> {
 
     /// As `feed`, over an overlay, whose base stays as it is.
     ///
-    /// Memory is wanted only by a reduction that makes the tail longer and by the shift, where the tail is full. `kept` is
-    /// then that of the reductions that were made.
+    /// Memory is wanted only by a reduction that makes the tail longer and by the shift, where the tail is full or the stack
+    /// has 2^64 - 1 states. `kept` is then that of the reductions that were made.
     pub fn feed_over(
         &self,
         stack: &mut Overlay<'_, StorageT>,
