@@ -82,7 +82,11 @@ fn begun_cores_of_sums(rt: HostRuntime) -> Result<(), Fail> {
         (5, &[(0, 3)]),
     ];
     for (state, cores) in rows {
-        assert_eq!(rt; begun(alloc, &graph, state)?.as_slice(), cores, "state {state}");
+        assert_eq!(rt;
+            begun(alloc, &graph, state)?.as_slice(),
+            cores,
+            "state {state}"
+        );
     }
     Ok(())
 }
