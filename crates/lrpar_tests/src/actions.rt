@@ -2,14 +2,13 @@
 ghost use Rattle.std.specs.Prelude.{◌↔◌, IfOk, IsTrue, map};
 ghost use Rattle.lrpar.specs.Nodes.{IsNonterm, node_of};
 
-use crate::built::{
-    AFTER, ARITHMETIC, BETWEEN, BRACKETS, CALL, LIST, SUM, built, sequences, text_of_errors,
-};
+use crate::built::{AFTER, ARITHMETIC, BETWEEN, BRACKETS, CALL, LIST, SUM, built, sequences};
 use crate::calculator::{Calculator, Value};
-use crate::calls::{Tree, sum_tree};
+use crate::errors::text_of_errors;
 use crate::fixtures::{By, sum_data};
-use crate::lexer::{HandedLexer, HandedTypes, NoToken, Token};
-use crate::parse::{LexAnswer, lexemes, parsed};
+use crate::lexer::{HandedLexer, HandedTypes, LexAnswer, NoToken, Token, lexemes};
+use crate::nodes::{Tree, sum_tree};
+use crate::parse::parsed;
 use lrpar::parser::{AStackType, Actions, ParseFault};
 use lrpar::repair::{FixedRecoverer, RepairStep};
 use lrpar::span::{PIdx, RIdx, Span, Symbol, TIdx};
@@ -156,6 +155,7 @@ impl<'a> Actions<u32, Token<u32>, HandedLexer<'a>> for Counting {
 // What a parse by actions answers.
 type Acted<V> = Result<(Option<V>, Vec<LexParseError<u32, HandedTypes>>), ParseFault>;
 
+// What the parse of these answers by the actions gives.
 fn acted<'a, A: Actions<u32, Token<u32>, HandedLexer<'a>, ParamT = ()>>(
     alloc: Global,
     data: &ParserData<u32>,
@@ -179,11 +179,13 @@ fn long_lexemes(alloc: Global, given: &[(u32, usize, usize)]) -> Result<Vec<LexA
     Ok(answers)
 }
 
+// The value that the calculator makes of these lexemes, if there is one.
 fn value_of(alloc: Global, given: &[(u32, usize, usize)]) -> Result<Option<Value>, Fail> {
     let answers = long_lexemes(alloc, given)?;
     value_by(alloc, &built(alloc, ARITHMETIC)?, &answers)
 }
 
+// The same by a table.
 fn value_by(
     alloc: Global,
     data: &ParserData<u32>,
@@ -225,6 +227,7 @@ fn a_calculator_of_another_grammar(rt: HostRuntime) -> Result<(), Fail> {
     Ok(())
 }
 
+// Where the rules of the grammar lie in these lexemes.
 fn places_of(alloc: Global, text: &str, given: &[(u32, usize, usize)]) -> Result<Vec<Place>, Fail> {
     let answers = long_lexemes(alloc, given)?;
     places_by(alloc, &built(alloc, text)?, &answers)
@@ -326,6 +329,7 @@ fn calls_of_actions(rt: HostRuntime) -> Result<(), Fail> {
     count_calls(&rt, rt.alloc(), &sum_data(rt.alloc(), By::Rows)?)
 }
 
+// In each row so many actions are called as the row says.
 fn count_calls(rt: &impl Abort, alloc: Global, data: &ParserData<u32>) -> Result<(), Fail> {
     for (name, given, calls) in &ACTION_CALLS {
         assert_eq!(rt; number_of_calls(alloc, data, *given)?, *calls, "{name:?}");
@@ -367,22 +371,26 @@ fn want_of_memory_in_an_action(rt: HostRuntime) -> Result<(), Fail> {
 // The errors of a parse, or its fault.
 type Errors = Result<Vec<LexParseError<u32, HandedTypes>>, ParseFault>;
 
+// Those of the parse by functions.
 fn map_errors(alloc: Global, data: &ParserData<u32>, answers: &[LexAnswer]) -> Errors {
     let parser = RTParserBuilder::<u32, HandedTypes>::new(data);
     let (_, errors) = parser.parse_map(alloc, &HandedLexer { answers }, |_| {}, |_, _| {})?;
     Ok(errors)
 }
 
+// Those of the parse to a tree.
 fn tree_errors(alloc: Global, data: &ParserData<u32>, answers: &[LexAnswer]) -> Errors {
     let parser = RTParserBuilder::<u32, HandedTypes>::new(data);
     let (_, errors) = parser.parse_generictree(alloc, &HandedLexer { answers })?;
     Ok(errors)
 }
 
+// Those of the parse to errors alone.
 fn errors_alone(alloc: Global, data: &ParserData<u32>, answers: &[LexAnswer]) -> Errors {
     RTParserBuilder::<u32, HandedTypes>::new(data).parse_noaction(alloc, &HandedLexer { answers })
 }
 
+// Those of the parse by actions.
 fn action_errors(
     alloc: Global,
     data: &ParserData<u32>,
@@ -495,6 +503,7 @@ fn is_tree_of_actions(alloc: Global, answers: &[LexAnswer]) -> Result<bool, Fail
     is_tree_by_actions(alloc, &built(alloc, SUM)?, answers)
 }
 
+// The same by a table.
 fn is_tree_by_actions(
     alloc: Global,
     data: &ParserData<u32>,
@@ -509,6 +518,7 @@ fn is_sum_tree(alloc: Global, answers: &[LexAnswer]) -> Result<bool, Fail> {
     is_sum_tree_by(alloc, &built(alloc, SUM)?, answers)
 }
 
+// The same by a table.
 fn is_sum_tree_by(
     alloc: Global,
     data: &ParserData<u32>,

@@ -1,11 +1,11 @@
 //! Tables that are built of grammar texts, and what parses by them give, as text.
-use crate::calls::Tree;
-use crate::lexer::{HandedLexer, HandedTypes, NoToken, Token};
-use crate::parse::{LexAnswer, lexemes};
+use crate::errors::text_of_errors;
+use crate::lexer::{HandedLexer, HandedTypes, LexAnswer, lexemes};
+use crate::nodes::Tree;
 use lrpar::build::parser_data;
 use lrpar::grammar::YaccGrammar;
 use lrpar::repair::{FixedRecoverer, RepairStep};
-use lrpar::{LexParseError, Lexeme, ParseError, ParseRepair, ParserData, RTParserBuilder};
+use lrpar::{LexParseError, ParserData, RTParserBuilder};
 use std::alloc::Global;
 use std::process::Abort;
 use std::test::Fail;
@@ -127,6 +127,7 @@ pub(crate) fn all_hold(
     all_hold_by(rt, alloc, &built(alloc, grammar)?, rows)
 }
 
+// The same by a table.
 fn all_hold_by(
     rt: &impl Abort,
     alloc: Global,
@@ -136,70 +137,6 @@ fn all_hold_by(
     for row in rows {
         let (input, shifts) = (row.input, row.shifts);
         assert!(rt; holds(alloc, data, row)?, "{input} with {shifts}");
-    }
-    Ok(())
-}
-
-/// Each lexing error by its place, each parse error as its state, the token, start and length of its lexeme, which ends in `!` where that is faulty, and the
-/// sequences in brackets.
-pub(crate) fn text_of_errors(
-    alloc: Global,
-    errors: &[LexParseError<u32, HandedTypes>],
-) -> Result<String, Fail> {
-    let mut text = String::new(alloc);
-    for error in errors {
-        match error {
-            LexParseError::LexError(error) => push_lexing_error(&mut text, error)?,
-            LexParseError::ParseError(error) => push_error(&mut text, error)?,
-        }
-    }
-    Ok(text)
-}
-
-fn push_lexing_error(text: &mut String, error: &NoToken) -> Result<(), Fail> {
-    let (start, end) = (error.span.start(), error.span.end());
-    Ok(write!(text, "no token at {start}..{end} ")?)
-}
-
-fn push_error(text: &mut String, error: &ParseError<Token<u32>, u32>) -> Result<(), Fail> {
-    let state = error.stidx().as_storaget();
-    let lexeme = error.lexeme();
-    let (token, start, len) = (lexeme.tok_id(), lexeme.span().start(), lexeme.span().len());
-    write!(text, "{state}@{token}:{start}+{len}")?;
-    if lexeme.faulty() {
-        text.push('!')?;
-    }
-    for sequence in error.repairs() {
-        push_sequence(text, sequence)?;
-    }
-    text.push(' ')?;
-    Ok(())
-}
-
-fn push_sequence(text: &mut String, sequence: &[ParseRepair<Token<u32>, u32>]) -> Result<(), Fail> {
-    text.push('[')?;
-    for repair in sequence {
-        push_repair(text, repair)?;
-    }
-    text.push(']')?;
-    Ok(())
-}
-
-// An insertion with its token, others with the start of their lexeme.
-fn push_repair(text: &mut String, repair: &ParseRepair<Token<u32>, u32>) -> Result<(), Fail> {
-    match repair {
-        ParseRepair::Insert(token) => {
-            let token = token.as_storaget();
-            write!(text, " i{token}")?;
-        }
-        ParseRepair::Delete(lexeme) => {
-            let start = lexeme.span().start();
-            write!(text, " d{start}")?;
-        }
-        ParseRepair::Shift(lexeme) => {
-            let start = lexeme.span().start();
-            write!(text, " s{start}")?;
-        }
     }
     Ok(())
 }

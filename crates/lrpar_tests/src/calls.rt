@@ -1,48 +1,13 @@
 //! The parse calls beside `parse_map`: trees, and errors alone.
-use crate::built::text_of_errors;
+use crate::errors::text_of_errors;
 use crate::fixtures::{By, sum_data};
-use crate::lexer::{HandedLexer, HandedTypes, Token};
-use crate::parse::{LexAnswer, lexeme, lexemes};
+use crate::lexer::{HandedLexer, HandedTypes, LexAnswer, lexeme, lexemes};
+use crate::nodes::{Tree, leaf, one, rule, sum_tree};
 use lrpar::parser::AStackType;
 use lrpar::span::{RIdx, Span};
-use lrpar::{Node, ParserData, RTParserBuilder, action_generictree};
+use lrpar::{ParserData, RTParserBuilder, action_generictree};
 use std::alloc::Global;
 use std::test::Fail;
-
-// A tree of the tests.
-pub(crate) type Tree = Node<Token<u32>, u32>;
-
-// The node of the lexeme of this token and start, of one byte.
-pub(crate) fn leaf(token: u32, start: usize) -> Tree {
-    Node::Term {
-        lexeme: lexeme(token, start),
-    }
-}
-
-// The node of a rule over these.
-pub(crate) fn rule(number: u32, nodes: Vec<Tree>) -> Tree {
-    Node::Nonterm {
-        ridx: RIdx(number),
-        nodes,
-    }
-}
-
-// A list of one node.
-pub(crate) fn one(alloc: Global, node: Tree) -> Result<Vec<Tree>, Fail> {
-    let mut nodes = Vec::new(alloc);
-    nodes.push(node)?;
-    Ok(nodes)
-}
-
-// The tree of `a+b`.
-pub(crate) fn sum_tree(alloc: Global) -> Result<Tree, Fail> {
-    let first = rule(2, one(alloc, leaf(1, 0))?);
-    let second = rule(2, one(alloc, leaf(1, 2))?);
-    let mut nodes = one(alloc, first)?;
-    nodes.push(leaf(0, 1))?;
-    nodes.push(rule(1, one(alloc, second)?))?;
-    Ok(rule(1, nodes))
-}
 
 // What the parse to a tree answers: the tree, if there is one, and the errors or the fault as text.
 fn tree_answer(alloc: Global, answers: &[LexAnswer]) -> Result<(Option<Tree>, String), Fail> {

@@ -94,6 +94,7 @@ fn put<Entry: Copy>(rows: &mut [[Entry; 3]], row: usize, at: usize, entry: Entry
     }
 }
 
+// The grammar of sums.
 fn sum_grammar(alloc: Global) -> Result<YaccGrammar<u8>, Fail> {
     Ok(YaccGrammar::from_parts(alloc, sum_parts(alloc)?)?)
 }

@@ -1,14 +1,81 @@
-//! Parse errors and repairs.
+//! Parse errors and repairs, and a text of each for other tests.
 use crate::fixtures::{By, sum_data};
-use crate::lexer::{HandedLexer, HandedTypes, NoToken, Token};
-use crate::parse::lexemes;
+use crate::lexer::{HandedLexer, HandedTypes, LexAnswer, NoToken, Token, lexemes};
 use lrpar::span::{Span, TIdx};
 use lrpar::{LexParseError, Lexeme, ParseError, ParseRepair, ParserData, RTParserBuilder};
 use std::alloc::Global;
 use std::hash::{DefaultHasher, Hash, Hasher};
 use std::test::Fail;
 
+/// A repair of the tests.
 type Repair = ParseRepair<Token<u32>, u32>;
+
+/// Each lexing error by its place, each parse error as its state, the token, start and length of its lexeme, which ends in `!`
+/// where that is faulty, and the sequences in brackets.
+pub(crate) fn text_of_errors(
+    alloc: Global,
+    errors: &[LexParseError<u32, HandedTypes>],
+) -> Result<String, Fail> {
+    let mut text = String::new(alloc);
+    for error in errors {
+        match error {
+            LexParseError::LexError(error) => push_lexing_error(&mut text, error)?,
+            LexParseError::ParseError(error) => push_error(&mut text, error)?,
+        }
+    }
+    Ok(text)
+}
+
+// The lexing error by its place.
+fn push_lexing_error(text: &mut String, error: &NoToken) -> Result<(), Fail> {
+    let (start, end) = (error.span.start(), error.span.end());
+    Ok(write!(text, "no token at {start}..{end} ")?)
+}
+
+// The parse error by its state, its lexeme and its sequences.
+fn push_error(text: &mut String, error: &ParseError<Token<u32>, u32>) -> Result<(), Fail> {
+    let state = error.stidx().as_storaget();
+    let lexeme = error.lexeme();
+    let (token, start, len) = (lexeme.tok_id(), lexeme.span().start(), lexeme.span().len());
+    write!(text, "{state}@{token}:{start}+{len}")?;
+    if lexeme.faulty() {
+        text.push('!')?;
+    }
+    for sequence in error.repairs() {
+        push_sequence(text, sequence)?;
+    }
+    text.push(' ')?;
+    Ok(())
+}
+
+// The sequence in brackets.
+fn push_sequence(text: &mut String, sequence: &[Repair]) -> Result<(), Fail> {
+    text.push('[')?;
+    for repair in sequence {
+        push_repair(text, repair)?;
+    }
+    text.push(']')?;
+    Ok(())
+}
+
+// An insertion with its token, others with the start of their lexeme.
+fn push_repair(text: &mut String, repair: &Repair) -> Result<(), Fail> {
+    match repair {
+        ParseRepair::Insert(token) => {
+            let token = token.as_storaget();
+            write!(text, " i{token}")?;
+        }
+        ParseRepair::Delete(lexeme) => {
+            let start = lexeme.span().start();
+            write!(text, " d{start}")?;
+        }
+        ParseRepair::Shift(lexeme) => {
+            let start = lexeme.span().start();
+            write!(text, " s{start}")?;
+        }
+    }
+    Ok(())
+}
 
 // The error of the parse of these lexemes.
 fn error_of(alloc: Global, given: &[(u32, usize)]) -> Result<ParseError<Token<u32>, u32>, Fail> {
@@ -82,6 +149,7 @@ fn equality_of_errors(rt: HostRuntime) -> Result<(), Fail> {
     Ok(())
 }
 
+// The hash of the repair.
 fn hash_of(repair: &Repair) -> u64 {
     let mut hasher = DefaultHasher::new();
     repair.hash(&mut hasher);

@@ -7,6 +7,7 @@ use std::alloc::{AllocError, Global};
 use std::cell::Cell;
 use std::error::Error;
 use std::fmt;
+use std::test::Fail;
 
 /// A lexeme: its token, where it lies, and whether a repair made it.
 #[derive(Clone, Copy, Debug, PartialEq, Eq, Hash)]
@@ -99,10 +100,27 @@ impl LexerTypes for HandedTypes {
     type LexErrorT = NoToken;
 }
 
+/// What a lexer answers.
+pub(crate) type LexAnswer = Result<Token<u32>, NoToken>;
+
+/// The lexeme of the token, of one byte.
+pub(crate) fn lexeme(token: u32, start: usize) -> Token<u32> {
+    Token::new(token, start.min(1_000), 1)
+}
+
+/// The lexemes of these tokens and starts, of one byte each.
+pub(crate) fn lexemes(alloc: Global, given: &[(u32, usize)]) -> Result<Vec<LexAnswer>, Fail> {
+    let mut answers = Vec::new(alloc);
+    for (token, start) in given {
+        answers.push(Ok(lexeme(*token, *start)))?;
+    }
+    Ok(answers)
+}
+
 /// The lexer.
 #[derive(Drop)]
 pub(crate) struct HandedLexer<'a> {
-    pub(crate) answers: &'a [Result<Token<u32>, NoToken>],
+    pub(crate) answers: &'a [LexAnswer],
 }
 
 impl<'a> Lexer<HandedTypes> for HandedLexer<'a> {

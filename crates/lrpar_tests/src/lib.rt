@@ -29,6 +29,8 @@ mod lines;
 #[cfg(test)]
 mod parse;
 #[cfg(test)]
+mod nodes;
+#[cfg(test)]
 mod reader;
 #[cfg(test)]
 mod readme;

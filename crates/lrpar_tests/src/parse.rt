@@ -1,30 +1,13 @@
 //! Parses by tables that are written by hand.
-use crate::built::text_of_errors;
+use crate::errors::text_of_errors;
 use crate::fixtures::{By, part, sum_data};
-use crate::lexer::{HandedLexer, HandedTypes, NoToken, Token};
+use crate::lexer::{HandedLexer, HandedTypes, LexAnswer, NoToken, Token, lexeme, lexemes};
 use lrpar::parser::ParseFault;
 use lrpar::span::RIdx;
 use lrpar::{LexParseError, Lexeme, ParserData, RTParserBuilder};
 use std::alloc::Global;
 use std::cell::Cell;
 use std::test::Fail;
-
-// What a lexer answers.
-pub(crate) type LexAnswer = Result<Token<u32>, NoToken>;
-
-// The lexeme of the token, of one byte.
-pub(crate) fn lexeme(token: u32, start: usize) -> Token<u32> {
-    Token::new(token, start.min(1_000), 1)
-}
-
-// The lexemes of these tokens and starts, of one byte each.
-pub(crate) fn lexemes(alloc: Global, given: &[(u32, usize)]) -> Result<Vec<LexAnswer>, Fail> {
-    let mut answers = Vec::new(alloc);
-    for (token, start) in given {
-        answers.push(Ok(lexeme(*token, *start)))?;
-    }
-    Ok(answers)
-}
 
 // A tree's text: a lexeme as its token and start, a rule as its number and the texts of its symbols in brackets.
 // Where memory is wanting, the text is none.
@@ -34,6 +17,7 @@ fn term(alloc: Global, lexeme: Token<u32>) -> Option<String> {
     format!(in alloc; "{token}@{start}").ok()
 }
 
+// The text of the rule over these texts.
 fn nonterm(alloc: Global, ridx: RIdx<u32>, nodes: Vec<Option<String>>) -> Option<String> {
     let number = ridx.as_storaget();
     let mut text = format!(in alloc; "{number}[").ok()?;

@@ -2,8 +2,7 @@
 use crate::built::{CALC, built};
 use crate::calculation::calculated;
 use crate::fixtures::{SUM_ITEMS, item_rows, sum_rows};
-use crate::lexer::{HandedLexer, HandedTypes, Token};
-use crate::parse::lexeme;
+use crate::lexer::{HandedLexer, HandedTypes, Token, lexeme};
 use lrpar::check::CheckFault;
 use lrpar::grammar::{GrammarFault, YaccGrammar};
 use lrpar::parser::ParseFault;

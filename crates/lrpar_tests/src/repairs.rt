@@ -1,10 +1,8 @@
 //! Repairs: which of the sequences that are handed in are listed, and what comes of the first.
-use crate::built::{
-    BRACKETS, CALC, CALL, Row, SUM, all_hold, built, outcome_of, sequences, text_of_errors,
-};
-use crate::calls::{Tree, leaf, one, rule};
-use crate::lexer::{HandedLexer, HandedTypes, Token, WantingLexer};
-use crate::parse::{LexAnswer, lexeme, lexemes};
+use crate::built::{BRACKETS, CALC, CALL, Row, SUM, all_hold, built, outcome_of, sequences};
+use crate::errors::text_of_errors;
+use crate::lexer::{HandedLexer, HandedTypes, LexAnswer, Token, WantingLexer, lexeme, lexemes};
+use crate::nodes::{Tree, leaf, one, rule};
 use crate::recoverers::{Asked, Noting, Refusing};
 use lrpar::parser::{AStackType, ParseFault};
 use lrpar::repair::{FixedRecoverer, NoRecovery, RepairStep};
@@ -223,6 +221,7 @@ fn one_error(alloc: Global, row: &Row) -> Result<bool, Fail> {
     one_error_by(alloc, &built(alloc, CALC)?, row)
 }
 
+// The same by a table.
 fn one_error_by(alloc: Global, data: &ParserData<u32>, row: &Row) -> Result<bool, Fail> {
     let (tree, errors) = outcome_of(alloc, data, row)?;
     Ok(tree.as_str() == row.tree && errors.as_str().ends_with(row.errors))
@@ -316,6 +315,7 @@ fn counted_by(
     Ok((listed.len(), first, leaves.unwrap_or(0)))
 }
 
+// The sum of the numbers.
 fn sum(numbers: &[usize]) -> usize {
     let mut sum = 0usize;
     for number in numbers {

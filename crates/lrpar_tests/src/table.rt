@@ -116,6 +116,7 @@ fn with_goto_row(alloc: Global, row: &[Option<StIdx<u8>>]) -> Result<TableRows<u
     Ok(rows)
 }
 
+// The table of sums that starts in this state.
 fn with_start(alloc: Global, start: u8) -> Result<TableRows<u8>, Fail> {
     let mut rows = sum_rows(alloc)?;
     rows.start = StIdx(start);

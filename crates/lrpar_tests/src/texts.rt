@@ -1,9 +1,8 @@
 //! Texts of trees.
 use crate::built::{AFTER, ARITHMETIC, LIST, Row, SUM as SUM_GRAMMAR, all_hold};
-use crate::calls::Tree;
 use crate::fixtures::{By, sum_data};
-use crate::lexer::{HandedLexer, HandedTypes, Token};
-use crate::parse::lexemes;
+use crate::lexer::{HandedLexer, HandedTypes, Token, lexemes};
+use crate::nodes::Tree;
 use lrpar::grammar::YaccGrammar;
 use lrpar::span::RIdx;
 use lrpar::{Lexeme, Node, ParserData, RTParserBuilder};
@@ -32,6 +31,7 @@ fn tree_of_a_sum(alloc: Global, data: &ParserData<u32>) -> Result<Tree, Fail> {
     Ok(tree.ok_or("no tree")?)
 }
 
+// The tree of `a+b` fits that input alone, over which it has its text.
 fn has_text(
     rt: &impl Abort,
     alloc: Global,

@@ -1,7 +1,7 @@
 //! Trees of many levels, and trees that differ in one leaf.
-use crate::calls::{Tree, tree_of};
-use crate::lexer::Token;
-use crate::parse::LexAnswer;
+use crate::calls::tree_of;
+use crate::lexer::{LexAnswer, Token};
+use crate::nodes::Tree;
 use lrpar::{Lexeme, Node};
 use std::alloc::Global;
 use std::test::Fail;
