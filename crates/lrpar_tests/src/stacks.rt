@@ -48,6 +48,7 @@ fn stacks_and_other_lists(rt: HostRuntime) -> Result<(), Fail> {
     Ok(())
 }
 
+// In each row of `LISTS` the list is a stack where the row says so.
 fn are_stacks(rt: &impl Abort, alloc: Global, by: By) -> Result<(), Fail> {
     let data: ParserData<u8> = sum_data(alloc, by)?;
     for (states, want) in &LISTS {
@@ -100,6 +101,7 @@ fn tokens_fed(rt: HostRuntime) -> Result<(), Fail> {
     Ok(())
 }
 
+// Each row says what comes of its token.
 fn feeds(rt: &impl Abort, alloc: Global, data: &ParserData<u8>) -> Result<(), Fail> {
     for row in &FED {
         let name = row.0;
@@ -138,6 +140,7 @@ fn tokens_fed_over_a_base(rt: HostRuntime) -> Result<(), Fail> {
     Ok(())
 }
 
+// Over the base each row says what comes of its token.
 fn feeds_over(
     rt: &impl Abort,
     alloc: Global,
@@ -183,34 +186,70 @@ fn fed_over(
     Ok((shifted, numbers(alloc, &after)?))
 }
 
-// What settling under the end token over the base answers, the states after it, and how many of the base are kept.
-fn settled_over(
-    alloc: Global,
-    data: &ParserData<u8>,
-    base: &[StIdx<u8>],
-) -> Result<(u128, Vec<u8>, usize), Fail> {
-    if base.is_empty() || !data.is_stack(base) || data.stable().tokens_len() != 3 {
-        return Err(Fail::new("no stack of the table of sums"));
-    }
-    let mut over = Overlay::new(alloc, base);
-    let count = data.settle_over(&mut over, TIdx(2))?;
-    let states = over.to_vec()?;
-    Ok((count, numbers(alloc, &states)?, over.kept()))
-}
+// A token by name and number, how many reductions are made under it, the states after them, and how many of a base are kept.
+type Settled = (&'static str, u8, u128, &'static [u8], usize);
 
-// Whether three reductions are made over the base, which stays as it is.
-fn settles_over(alloc: Global, by: By) -> Result<bool, Fail> {
-    let base = stack(alloc, &[0, 2, 4, 3])?;
-    let (count, states, kept) = settled_over(alloc, &sum_data(alloc, by)?, &base)?;
-    Ok(count == 3 && states.as_slice() == [0, 1].as_slice() && kept == 1 && base.len() == 4)
-}
+// Tokens under which the stack of the states 0, 2, 4 and 3 is settled.
+const SETTLED: [Settled; 4] = [
+    ("+", 0, 1, &[0, 2, 4, 2], 3),
+    ("ID", 1, 0, &[0, 2, 4, 3], 4),
+    ("the end", 2, 3, &[0, 1], 1),
+    ("+ again", 0, 1, &[0, 2, 4, 2], 3),
+];
 
 #[test]
 fn reductions_over_a_base(rt: HostRuntime) -> Result<(), Fail> {
     for by in BOTH {
-        assert!(rt; settles_over(rt.alloc(), by)?, "{by:?}");
+        let base = stack(rt.alloc(), &[0, 2, 4, 3])?;
+        settles_over(&rt, rt.alloc(), &sum_data(rt.alloc(), by)?, &base)?;
     }
     Ok(())
+}
+
+// Over the base each row says what comes of its token.
+fn settles_over(
+    rt: &impl Abort,
+    alloc: Global,
+    data: &ParserData<u8>,
+    base: &[StIdx<u8>],
+) -> Result<(), Fail> {
+    if base.is_empty() {
+        return Err(Fail::new("no base"));
+    }
+    let mut over = Overlay::new(alloc, base);
+    for row in &SETTLED {
+        let name = row.0;
+        assert!(rt; is_settled_over(alloc, data, &mut over, row)?, "{name}");
+    }
+    Ok(())
+}
+
+// Whether the row says what comes of its token once the reductions before are taken back.
+fn is_settled_over(
+    alloc: Global,
+    data: &ParserData<u8>,
+    over: &mut Overlay<'_, u8>,
+    row: &Settled,
+) -> Result<bool, Fail> {
+    over.set_back();
+    let (count, states) = settled_over(alloc, data, over, row.1)?;
+    Ok(count == row.2 && states.as_slice() == row.3 && over.kept() == row.4)
+}
+
+// How many reductions are made in the overlay under the token, and the states after them.
+fn settled_over(
+    alloc: Global,
+    data: &ParserData<u8>,
+    over: &mut Overlay<'_, u8>,
+    token: u8,
+) -> Result<(u128, Vec<u8>), Fail> {
+    let states = over.to_vec()?;
+    if !data.is_stack(&states) || usize::from(token) >= data.stable().tokens_len() {
+        return Err(Fail::new("no stack of the table of sums"));
+    }
+    let count = data.settle_over(over, TIdx(token))?;
+    let after = over.to_vec()?;
+    Ok((count, numbers(alloc, &after)?))
 }
 
 #[test]
