@@ -310,16 +310,18 @@ fn grammars_without_a_checked_table(rt: HostRuntime) -> Result<(), Fail> {
     Ok(())
 }
 
-// Each conflict by its numbers: token, productions and state. Where a table has none, that is said.
-fn push_conflicts(text: &mut String, conflicts: Option<&Conflicts<u8>>) -> Result<(), Fail> {
-    let Some(conflicts) = conflicts else {
-        return Ok(text.push_str("none")?);
-    };
+// Each conflict between two reductions by its numbers: token, productions and state.
+fn push_reductions(text: &mut String, conflicts: &Conflicts<u8>) -> Result<(), Fail> {
     for (token, kept, other, state) in conflicts.rr_conflicts() {
         let (token, state) = (token.as_storaget(), state.as_storaget());
         let (kept, other) = (kept.as_storaget(), other.as_storaget());
         write!(text, "rr({token}, {kept}, {other}, {state}) ")?;
     }
+    Ok(())
+}
+
+// Each conflict between a shift and a reduction by its numbers: token, production and state.
+fn push_shifts(text: &mut String, conflicts: &Conflicts<u8>) -> Result<(), Fail> {
     for (token, prod, state) in conflicts.sr_conflicts() {
         let (token, prod, state) = (token.as_storaget(), prod.as_storaget(), state.as_storaget());
         write!(text, "sr({token}, {prod}, {state}) ")?;
@@ -327,10 +329,16 @@ fn push_conflicts(text: &mut String, conflicts: Option<&Conflicts<u8>>) -> Resul
     Ok(())
 }
 
-// The conflicts as text.
+// The conflicts as text. Where a table has none, that is said.
 fn text_of_conflicts(alloc: Global, conflicts: Option<&Conflicts<u8>>) -> Result<String, Fail> {
     let mut text = String::new(alloc);
-    push_conflicts(&mut text, conflicts)?;
+    match conflicts {
+        None => text.push_str("none")?,
+        Some(conflicts) => {
+            push_reductions(&mut text, conflicts)?;
+            push_shifts(&mut text, conflicts)?;
+        }
+    }
     Ok(text)
 }
 

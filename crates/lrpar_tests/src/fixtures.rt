@@ -147,39 +147,65 @@ pub(crate) fn rows<S: StorageIndex>(
     actions: &[[Action<u8>; 3]],
     gotos: &[[Option<u8>; 3]],
 ) -> Result<TableRows<S>, Fail> {
-    let mut action_rows = Vec::new(alloc);
-    for row in actions {
-        let mut made = Vec::new(alloc);
-        for action in row {
-            made.push(action_at(*action)?)?;
-        }
-        action_rows.push(made)?;
-    }
     Ok(TableRows {
         start: StIdx(number(0)?),
         tokens: 3,
         rules: 3,
-        actions: action_rows,
+        actions: action_rows(alloc, actions)?,
         gotos: goto_rows(alloc, gotos)?,
         conflicts: None,
     })
 }
 
+// The rows of actions.
+fn action_rows<S: StorageIndex>(
+    alloc: Global,
+    actions: &[[Action<u8>; 3]],
+) -> Result<Vec<Vec<Action<S>>>, Fail> {
+    let mut made = Vec::new(alloc);
+    for row in actions {
+        made.push(action_row(alloc, row)?)?;
+    }
+    Ok(made)
+}
+
+// The actions of one row.
+fn action_row<S: StorageIndex>(
+    alloc: Global,
+    row: &[Action<u8>; 3],
+) -> Result<Vec<Action<S>>, Fail> {
+    let mut made = Vec::new(alloc);
+    for action in row {
+        made.push(action_at(*action)?)?;
+    }
+    Ok(made)
+}
+
+// The rows of gotos.
 fn goto_rows<S: StorageIndex>(
     alloc: Global,
     gotos: &[[Option<u8>; 3]],
 ) -> Result<Vec<Vec<Option<StIdx<S>>>>, Fail> {
-    let mut made_rows = Vec::new(alloc);
+    let mut made = Vec::new(alloc);
     for row in gotos {
-        let mut made = Vec::new(alloc);
-        for goto in row {
-            made.push(goto_at(*goto)?)?;
-        }
-        made_rows.push(made)?;
+        made.push(goto_row(alloc, row)?)?;
     }
-    Ok(made_rows)
+    Ok(made)
 }
 
+// The gotos of one row.
+fn goto_row<S: StorageIndex>(
+    alloc: Global,
+    row: &[Option<u8>; 3],
+) -> Result<Vec<Option<StIdx<S>>>, Fail> {
+    let mut made = Vec::new(alloc);
+    for goto in row {
+        made.push(goto_at(*goto)?)?;
+    }
+    Ok(made)
+}
+
+// The action in the other storage type.
 fn action_at<S: StorageIndex>(action: Action<u8>) -> Result<Action<S>, Fail> {
     Ok(match action {
         Action::Shift(state) => Action::Shift(StIdx(number(state.0)?)),
@@ -189,6 +215,7 @@ fn action_at<S: StorageIndex>(action: Action<u8>) -> Result<Action<S>, Fail> {
     })
 }
 
+// The goto in the other storage type.
 fn goto_at<S: StorageIndex>(goto: Option<u8>) -> Result<Option<StIdx<S>>, Fail> {
     Ok(match goto {
         Some(state) => Some(StIdx(number(state)?)),
@@ -217,6 +244,7 @@ pub(crate) fn sparse<S: StorageIndex>(
     })
 }
 
+// The rows of actions as they are stored: without errors.
 fn stored_actions<S: StorageIndex>(
     alloc: Global,
     rows: &[Vec<Action<S>>],
@@ -228,6 +256,7 @@ fn stored_actions<S: StorageIndex>(
     Ok(made)
 }
 
+// The actions of one row that are no errors, each with its token.
 fn stored_action_row<S: StorageIndex>(
     alloc: Global,
     row: &[Action<S>],
@@ -244,6 +273,7 @@ fn stored_action_row<S: StorageIndex>(
     Ok(stored)
 }
 
+// The rows of gotos as they are stored: those that are there.
 fn stored_gotos<S: StorageIndex>(
     alloc: Global,
     rows: &[Vec<Option<StIdx<S>>>],
@@ -255,6 +285,7 @@ fn stored_gotos<S: StorageIndex>(
     Ok(made)
 }
 
+// The gotos of one row that are there, each with its rule.
 fn stored_goto_row<S: StorageIndex>(
     alloc: Global,
     row: &[Option<StIdx<S>>],
@@ -302,15 +333,24 @@ pub(crate) fn item_rows<S: StorageIndex>(
 ) -> Result<Vec<Vec<Item<S>>>, Fail> {
     let mut rows = Vec::new(alloc);
     for state in 0..states {
-        let mut row = Vec::new(alloc);
-        for (of, prod, dot, token) in items {
-            if usize::from(*of) == state {
-                row.push((PIdx(number(*prod)?), *dot, TIdx(number(*token)?)))?;
-            }
-        }
-        rows.push(row)?;
+        rows.push(item_row(alloc, items, state)?)?;
     }
     Ok(rows)
+}
+
+// Those of the items that are the state's.
+fn item_row<S: StorageIndex>(
+    alloc: Global,
+    items: &[ItemOf],
+    state: usize,
+) -> Result<Vec<Item<S>>, Fail> {
+    let mut row = Vec::new(alloc);
+    for (of, prod, dot, token) in items {
+        if usize::from(*of) == state {
+            row.push((PIdx(number(*prod)?), *dot, TIdx(number(*token)?)))?;
+        }
+    }
+    Ok(row)
 }
 
 /// By which call a table is made: of its full rows, or of its stored entries.

@@ -1,5 +1,5 @@
 //! Grammars of parts.
-use crate::fixtures::{Placed, prod, rules, sum_parts, tokens};
+use crate::fixtures::{Named, Placed, prod, rules, sum_parts, tokens};
 use lrpar::grammar::{GrammarFault, GrammarParts, YaccGrammar};
 use lrpar::span::{PIdx, RIdx, Span, Symbol, TIdx};
 use std::alloc::Global;
@@ -49,6 +49,7 @@ fn rules_of_the_sum_grammar(rt: HostRuntime) -> Result<(), Fail> {
     Ok(())
 }
 
+// The symbols by their kinds and numbers.
 fn push_symbols(text: &mut String, symbols: &[Symbol<u8>]) -> Result<(), Fail> {
     for symbol in symbols {
         match symbol {
@@ -65,6 +66,7 @@ fn push_symbols(text: &mut String, symbols: &[Symbol<u8>]) -> Result<(), Fail> {
     Ok(())
 }
 
+// The places by where they start and end.
 fn push_spans(text: &mut String, spans: &[Span]) -> Result<(), Fail> {
     for span in spans {
         let (start, end) = (span.start(), span.end());
@@ -168,18 +170,13 @@ fn tokens_by_their_names(rt: HostRuntime) -> Result<(), Fail> {
 
 // The parts of one rule, `A`, and so many tokens, without productions.
 fn many_tokens(alloc: Global, count: usize) -> Result<GrammarParts<u8>, Fail> {
-    let mut parts = GrammarParts {
+    let named: Vec<Named> = vec![in alloc; ("t", 0); count]?;
+    Ok(GrammarParts {
         rules: rules(alloc, &[("A", 0)])?,
-        tokens: Vec::new(alloc),
+        tokens: tokens(alloc, &named)?,
         prods: Vec::new(alloc),
         start: RIdx(1),
-    };
-    for _ in 0..count {
-        for token in tokens(alloc, &[("t", 0)])? {
-            parts.tokens.push(token)?;
-        }
-    }
-    Ok(parts)
+    })
 }
 
 // The parts of sums with another start rule.
@@ -196,6 +193,7 @@ fn with_prod(alloc: Global, rule: u8, placed: &[Placed]) -> Result<GrammarParts<
     Ok(parts)
 }
 
+// Parts of no rule and so many tokens.
 fn without_rules(alloc: Global, tokens: usize) -> Result<GrammarParts<u8>, Fail> {
     let mut parts = many_tokens(alloc, tokens)?;
     parts.rules.clear();

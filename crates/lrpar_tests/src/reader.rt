@@ -1,5 +1,5 @@
 //! Grammars of texts.
-use crate::fixtures::sum_parts;
+use crate::fixtures::{part, sum_parts};
 use crate::grammar::{text_of_prods, text_of_rules, text_of_tokens};
 use lrpar::grammar::{GrammarFault, YaccGrammar};
 use lrpar::span::{RIdx, Span, TIdx};
@@ -51,72 +51,75 @@ fn places_fit_the_text_that_was_read(rt: HostRuntime) -> Result<(), Fail> {
     Ok(())
 }
 
+// A fault with a place, by its kind.
+#[derive(Clone, Copy)]
+enum Kind {
+    Syntax,
+    UnknownRule,
+    UnknownToken,
+    TokenIsRule,
+    RepeatedStart,
+    RepeatedEpp,
+}
+
+// The fault of this kind: at this byte, or with a span of one byte from there on.
+fn fault_at(kind: Kind, at: usize) -> GrammarFault {
+    let span = part(at, 1);
+    match kind {
+        Kind::Syntax => GrammarFault::Syntax(at),
+        Kind::UnknownRule => GrammarFault::UnknownRule(span),
+        Kind::UnknownToken => GrammarFault::UnknownToken(span),
+        Kind::TokenIsRule => GrammarFault::TokenIsRule(span),
+        Kind::RepeatedStart => GrammarFault::RepeatedStart(span),
+        Kind::RepeatedEpp => GrammarFault::RepeatedEpp(span),
+    }
+}
+
+// Texts, and the kind and the place of the fault of each.
+const FAULTS: [(&str, Kind, usize); 22] = [
+    ("%start A %% S: ;", Kind::UnknownRule, 7),
+    ("%start S %start S %% S: ;", Kind::RepeatedStart, 16),
+    ("%token a %% a: ;", Kind::TokenIsRule, 12),
+    ("%token 'a' %% a: ;", Kind::TokenIsRule, 14),
+    ("%epp a \"x\" %% S: 'b';", Kind::UnknownToken, 5),
+    (
+        "%epp a \"x\" %epp a \"y\" %% S: 'a';",
+        Kind::RepeatedEpp,
+        16,
+    ),
+    (
+        "%epp a \"x\" %epp 'a' \"y\" %% S: 'a';",
+        Kind::RepeatedEpp,
+        17,
+    ),
+    ("%% S: 'a' | b;", Kind::UnknownRule, 12),
+    ("%% S: 'a' /*", Kind::Syntax, 10),
+    ("%% S: 'a' /*/", Kind::Syntax, 10),
+    ("%% S: 'a\n';", Kind::Syntax, 6),
+    ("%% S: '';", Kind::Syntax, 6),
+    ("%% 1S: ;", Kind::Syntax, 3),
+    ("%sturt S %% S: ;", Kind::Syntax, 0),
+    ("%% S S: ;", Kind::Syntax, 5),
+    ("%% S: ; %% S: ;", Kind::Syntax, 11),
+    ("%epp a b %% S: 'a';", Kind::Syntax, 7),
+    ("%token %% S: 'a';", Kind::Syntax, 7),
+    (
+        "%start S %start S %epp a \"x\" %epp a \"y\" %%",
+        Kind::RepeatedStart,
+        16,
+    ),
+    ("%epp a \"x\" %epp a \"y\" %%", Kind::RepeatedEpp, 16),
+    ("%token a %epp c \"x\" %% a: b;", Kind::TokenIsRule, 23),
+    ("%epp c \"x\" %% S: b;", Kind::UnknownRule, 17),
+];
+
 #[test]
 fn faults_of_texts(rt: HostRuntime) {
     let alloc = rt.alloc();
-    let rows = [
-        ("%%", GrammarFault::NoRules),
-        (
-            "%start A %% S: ;",
-            GrammarFault::UnknownRule(Span::new(7, 8)),
-        ),
-        (
-            "%start S %start S %% S: ;",
-            GrammarFault::RepeatedStart(Span::new(16, 17)),
-        ),
-        (
-            "%token a %% a: ;",
-            GrammarFault::TokenIsRule(Span::new(12, 13)),
-        ),
-        (
-            "%token 'a' %% a: ;",
-            GrammarFault::TokenIsRule(Span::new(14, 15)),
-        ),
-        (
-            "%epp a \"x\" %% S: 'b';",
-            GrammarFault::UnknownToken(Span::new(5, 6)),
-        ),
-        (
-            "%epp a \"x\" %epp a \"y\" %% S: 'a';",
-            GrammarFault::RepeatedEpp(Span::new(16, 17)),
-        ),
-        (
-            "%epp a \"x\" %epp 'a' \"y\" %% S: 'a';",
-            GrammarFault::RepeatedEpp(Span::new(17, 18)),
-        ),
-        (
-            "%% S: 'a' | b;",
-            GrammarFault::UnknownRule(Span::new(12, 13)),
-        ),
-        ("%% S: 'a' /*", GrammarFault::Syntax(10)),
-        ("%% S: 'a' /*/", GrammarFault::Syntax(10)),
-        ("%% S: 'a\n';", GrammarFault::Syntax(6)),
-        ("%% S: '';", GrammarFault::Syntax(6)),
-        ("%% 1S: ;", GrammarFault::Syntax(3)),
-        ("%sturt S %% S: ;", GrammarFault::Syntax(0)),
-        ("%% S S: ;", GrammarFault::Syntax(5)),
-        ("%% S: ; %% S: ;", GrammarFault::Syntax(11)),
-        ("%epp a b %% S: 'a';", GrammarFault::Syntax(7)),
-        ("%token %% S: 'a';", GrammarFault::Syntax(7)),
-        (
-            "%start S %start S %epp a \"x\" %epp a \"y\" %%",
-            GrammarFault::RepeatedStart(Span::new(16, 17)),
-        ),
-        (
-            "%epp a \"x\" %epp a \"y\" %%",
-            GrammarFault::RepeatedEpp(Span::new(16, 17)),
-        ),
-        (
-            "%token a %epp c \"x\" %% a: b;",
-            GrammarFault::TokenIsRule(Span::new(23, 24)),
-        ),
-        (
-            "%epp c \"x\" %% S: b;",
-            GrammarFault::UnknownRule(Span::new(17, 18)),
-        ),
-    ];
-    for (text, expected) in &rows {
-        assert!(rt; fault(alloc, *text).as_ref() == Some(expected), "{text}");
+    assert!(rt; fault(alloc, "%%") == Some(GrammarFault::NoRules));
+    for (text, kind, at) in &FAULTS {
+        let expected = fault_at(*kind, *at);
+        assert!(rt; fault(alloc, *text) == Some(expected), "{text}");
     }
 }
 
