@@ -1,5 +1,5 @@
 //! Files that can't be read, each at its turn.
-use crate::tests::outcome::outcome_of;
+use crate::tests::outcome::{outcome_of, remove};
 use std::fs;
 use std::test::Fail;
 
@@ -69,8 +69,5 @@ fn unreadable_files(rt: HostRuntime) -> Result<(), Fail> {
         assert_eq!(rt; found.err.as_str(), err, "error output of {words:?}");
         assert_eq!(rt; found.status, status, "status of {words:?}");
     }
-    for path in [BYTES, TEXT, GRAMMAR, LEXER] {
-        fs::remove_file(&rt, path)?;
-    }
-    Ok(())
+    remove(&rt, &[BYTES, TEXT, GRAMMAR, LEXER])
 }

@@ -65,10 +65,16 @@ pub(crate) fn tree_outcome(
         repairs.as_str(),
     ];
     let found = tree_of_paths(rt, shifts, paths)?;
-    for path in paths {
-        fs::remove_file(rt, path)?;
-    }
+    remove(rt, &paths)?;
     Ok(found)
+}
+
+/// Removes these files.
+pub(crate) fn remove(rt: &HostRuntime, paths: &[&str]) -> Result<(), Fail> {
+    for path in paths {
+        fs::remove_file(rt, *path)?;
+    }
+    Ok(())
 }
 
 /// What `check` leaves. The name of its file begins with `tag`.

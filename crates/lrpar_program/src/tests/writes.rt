@@ -1,6 +1,6 @@
 //! Writes that fail, each in turn, and input that can't be read.
 use crate::tests::languages::SUM_TREE;
-use crate::tests::outcome::outcome_of;
+use crate::tests::outcome::{outcome_of, remove};
 use crate::tests::streams::{
     Broken, Failing, status_without_streams, without_errors, without_output,
 };
@@ -85,11 +85,23 @@ const INPUT: &str = "lrpar_tests.writes.input";
 
 const REPAIRS: &str = "lrpar_tests.writes.repairs";
 
-// Commands on these files, and whether they find no error.
-const COMMANDS: &[(&[&str], u8)] = &[
-    (&["tree", GRAMMAR, LEXER, INPUT, REPAIRS], 1),
-    (&["check", GRAMMAR, "1"], 0),
-    (&["check", GRAMMAR, "0"], 2),
+const TREE: &[&str] = &["tree", GRAMMAR, LEXER, INPUT, REPAIRS];
+
+const CHECK: &[&str] = &["check", GRAMMAR, "1"];
+
+const REFUSED: &[&str] = &["check", GRAMMAR, "0"];
+
+// Commands on these files, how many calls of their output don't fail, their error output, and their status. Two calls are all.
+const COMMANDS: &[(&[&str], usize, &str, u8)] = &[
+    (TREE, 0, NO_OUTPUT, 2),
+    (TREE, 1, NO_OUTPUT, 2),
+    (TREE, 2, "", 1),
+    (CHECK, 0, NO_OUTPUT, 2),
+    (CHECK, 1, NO_OUTPUT, 2),
+    (CHECK, 2, "", 0),
+    (REFUSED, 0, NO_OUTPUT, 2),
+    (REFUSED, 1, NO_OUTPUT, 2),
+    (REFUSED, 2, "", 2),
 ];
 
 #[test]
@@ -99,20 +111,12 @@ fn output_on_files_fails(rt: HostRuntime) -> Result<(), Fail> {
     fs::write(&rt, INPUT, "aa")?;
     fs::write(&rt, REPAIRS, "delete")?;
     for row in COMMANDS {
-        let (words, status) = *row;
-        for calls_left in 0..2usize {
-            let found = without_output(&rt, words, "", whole(calls_left))?;
-            assert_eq!(rt; found.text.as_str(), NO_OUTPUT, "{words:?} at {calls_left}");
-            assert_eq!(rt; found.status, 2, "{words:?} at {calls_left}");
-        }
-        let found = without_output(&rt, words, "", whole(2))?;
-        assert_eq!(rt; found.text.as_str(), "", "{words:?}");
-        assert_eq!(rt; found.status, status, "{words:?}");
+        let (words, calls_left, text, status) = *row;
+        let found = without_output(&rt, words, "", whole(calls_left))?;
+        assert_eq!(rt; found.text.as_str(), text, "{words:?} at {calls_left}");
+        assert_eq!(rt; found.status, status, "{words:?} at {calls_left}");
     }
-    for path in [GRAMMAR, LEXER, INPUT, REPAIRS] {
-        fs::remove_file(&rt, path)?;
-    }
-    Ok(())
+    remove(&rt, &[GRAMMAR, LEXER, INPUT, REPAIRS])
 }
 
 #[test]
