@@ -106,14 +106,14 @@ impl<'a> Actions<u32, Token<u32>, HandedLexer<'a>> for Places {
     }
 }
 
-// Counts its calls, and finds no memory at one of them. Of its answers it states nothing.
+/// Counts its calls, and finds no memory at one of them. Of its answers it states nothing.
 #[derive(Drop)]
-struct Counting {
-    calls: Cell<usize>,
-    fails_at: usize,
+pub(crate) struct Counting {
+    pub(crate) calls: Cell<usize>,
+    pub(crate) fails_at: usize,
 }
 
-impl<'a> Actions<u32, Token<u32>, HandedLexer<'a>> for Counting {
+impl<LexerT> Actions<u32, Token<u32>, LexerT> for Counting {
     type ActionT = ();
 
     type ParamT = ();
@@ -135,7 +135,7 @@ impl<'a> Actions<u32, Token<u32>, HandedLexer<'a>> for Counting {
         _alloc: Global,
         _pidx: PIdx<u32>,
         _ridx: RIdx<u32>,
-        _lexer: &HandedLexer<'a>,
+        _lexer: &LexerT,
         _span: Span,
         _args: Vec<AStackType<Token<u32>, ()>>,
         _param: &(),
@@ -403,15 +403,16 @@ fn action_errors(
 }
 
 /// One of the four calls.
-#[derive(Clone, Copy)]
-enum Call {
+#[derive(Clone, Copy, Debug)]
+pub(crate) enum Call {
     Map,
     Actions,
     Tree,
     Errors,
 }
 
-const FOUR: [Call; 4] = [Call::Map, Call::Actions, Call::Tree, Call::Errors];
+/// All of them.
+pub(crate) const FOUR: [Call; 4] = [Call::Map, Call::Actions, Call::Tree, Call::Errors];
 
 // What the call answers, as text.
 fn errors_by(

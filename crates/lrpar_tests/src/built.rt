@@ -16,6 +16,19 @@ pub(crate) const SUM: &str = "%% E: T '+' E | T; T: 'ID';";
 /// The grammar *brackets*: tokens `N` 0, `+` 1, `(` 2, `)` 3.
 pub(crate) const BRACKETS: &str = "%% E : 'N' | E '+' 'N' | '(' E ')';";
 
+/// The lexemes of `n)+n+n+n)` of that grammar, in which a bracket is to be left out twice.
+pub(crate) const TWICE: [(u32, usize); 9] = [
+    (0, 0),
+    (3, 1),
+    (1, 2),
+    (0, 3),
+    (1, 4),
+    (0, 5),
+    (1, 6),
+    (0, 7),
+    (3, 8),
+];
+
 /// The grammar *list*, of at most one name: tokens `ID` 0; rules `S` 1, `L` 2.
 pub(crate) const LIST: &str = "%% S: L; L: 'ID' | ;";
 

@@ -147,19 +147,20 @@ impl<'a, 'input> NonStreamingLexer<'input, HandedTypes> for HandedLexer<'a> {
     }
 }
 
-/// Answers as another lexer does, but finds no memory at its first call.
+/// Answers as another lexer does, counts its calls, and finds no memory at one of them.
 #[derive(Drop)]
-pub(crate) struct WantingLexer<'a> {
+pub(crate) struct CountingLexer<'a> {
     pub(crate) lexer: HandedLexer<'a>,
     pub(crate) calls: Cell<usize>,
+    pub(crate) fails_at: usize,
 }
 
-impl<'a> Lexer<HandedTypes> for WantingLexer<'a> {
+impl<'a> Lexer<HandedTypes> for CountingLexer<'a> {
     ghost allows = { λ _ _. Unit {0} };
 
     fn iter(&self, alloc: Global) -> Result<Vec<Result<Token<u32>, NoToken>>, AllocError> {
         self.calls.set(self.calls.get().saturating_add(1));
-        if self.calls.get() == 1 {
+        if self.calls.get() == self.fails_at {
             Err(AllocError)
         } else {
             self.lexer.iter(alloc)
@@ -167,7 +168,7 @@ impl<'a> Lexer<HandedTypes> for WantingLexer<'a> {
     }
 }
 
-impl<'a, 'input> NonStreamingLexer<'input, HandedTypes> for WantingLexer<'a> {
+impl<'a, 'input> NonStreamingLexer<'input, HandedTypes> for CountingLexer<'a> {
     ghost text = { λ _. [] };
 
     fn span_str(&self, span: Span) -> &'input str {

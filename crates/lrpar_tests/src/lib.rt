@@ -15,6 +15,8 @@ mod calls;
 #[cfg(test)]
 mod check;
 #[cfg(test)]
+mod counts;
+#[cfg(test)]
 mod errors;
 #[cfg(test)]
 mod fixtures;
@@ -27,9 +29,9 @@ mod lexer;
 #[cfg(test)]
 mod lines;
 #[cfg(test)]
-mod parse;
-#[cfg(test)]
 mod nodes;
+#[cfg(test)]
+mod parse;
 #[cfg(test)]
 mod reader;
 #[cfg(test)]

@@ -6,7 +6,6 @@ use lrpar::parser::ParseFault;
 use lrpar::span::RIdx;
 use lrpar::{LexParseError, Lexeme, ParserData, RTParserBuilder};
 use std::alloc::Global;
-use std::cell::Cell;
 use std::test::Fail;
 
 // A tree's text: a lexeme as its token and start, a rule as its number and the texts of its symbols in brackets.
@@ -151,41 +150,6 @@ fn the_first_lexing_error_stands_alone(rt: HostRuntime) -> Result<(), Fail> {
     let others = [no_token(7), Ok(lexeme(1, 8)), no_token(9)];
     let found = parsed_with(rt.alloc(), &[(1, 0)], &others)?;
     assert_eq!(rt; found.as_str(), "no token at 7..8 ");
-    Ok(())
-}
-
-// How often the two functions are called in the parse of these lexemes.
-fn calls_of(
-    alloc: Global,
-    data: &ParserData<u32>,
-    given: &[(u32, usize)],
-) -> Result<(u8, u8), Fail> {
-    let answers = lexemes(alloc, given)?;
-    let (terms, nonterms) = (Cell::new(0u8), Cell::new(0u8));
-    let parser = RTParserBuilder::<u32, HandedTypes>::new(data);
-    let _ = parser.parse_map(
-        alloc,
-        &HandedLexer { answers: &answers },
-        |_| terms.set(terms.get().saturating_add(1)),
-        |_, _| nonterms.set(nonterms.get().saturating_add(1)),
-    )?;
-    Ok((terms.get(), nonterms.get()))
-}
-
-// Lexemes, and how often the functions of tokens and of rules are called.
-const FUNCTION_CALLS: [(&str, &[(u32, usize)], (u8, u8)); 3] = [
-    ("a+b", &[(1, 0), (0, 1), (1, 2)], (3, 4)),
-    ("a+", &[(1, 0), (0, 1)], (1, 1)),
-    ("", &[], (0, 0)),
-];
-
-// A token's value is asked for where its production is reduced, so not for those that stand on the stack at an error.
-#[test]
-fn calls_of_the_functions(rt: HostRuntime) -> Result<(), Fail> {
-    let data = sum_data(rt.alloc(), By::Rows)?;
-    for (name, given, want) in &FUNCTION_CALLS {
-        assert_eq!(rt; calls_of(rt.alloc(), &data, *given)?, *want, "{name:?}");
-    }
     Ok(())
 }
 

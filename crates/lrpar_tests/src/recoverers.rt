@@ -1,4 +1,4 @@
-//! Recoverers: one that finds no memory, and one that notes where it is asked.
+//! Recoverers that count their calls: one that may find no memory, and one that notes where it is asked.
 ghost use Rattle.std.specs.Prelude.{IfOk};
 
 use crate::lexer::Token;
@@ -6,14 +6,14 @@ use lrpar::repair::{Recoverer, RecoveryPoint, RepairStep};
 use std::alloc::{AllocError, Global};
 use std::cell::Cell;
 
-/// Hands in a deletion, and finds no memory at one of its calls.
+/// Hands in a deletion, counts its calls, and finds no memory at one of them.
 #[derive(Drop)]
-pub(crate) struct Refusing {
-    pub(crate) calls: Cell<usize>,
+pub(crate) struct Deleting<'a> {
+    pub(crate) calls: &'a Cell<usize>,
     pub(crate) fails_at: usize,
 }
 
-impl Recoverer<u32, Token<u32>> for Refusing {
+impl<'a> Recoverer<u32, Token<u32>> for Deleting<'a> {
     ghost allows = { λ recoverer point answer. Unit {0} };
 
     fn recover(
@@ -38,9 +38,10 @@ impl Recoverer<u32, Token<u32>> for Refusing {
 /// Where a recoverer is asked: the place, how many lexemes there are, and the states of a stack of three.
 pub(crate) type Asked = (usize, usize, [u32; 3]);
 
-/// Notes where it is asked, and hands in nothing.
+/// Counts its calls, notes where it is asked, and hands in nothing.
 #[derive(Drop)]
 pub(crate) struct Noting<'a> {
+    pub(crate) calls: &'a Cell<usize>,
     pub(crate) asked: &'a Cell<Asked>,
 }
 
@@ -54,6 +55,7 @@ impl<'a> Recoverer<u32, Token<u32>> for Noting<'a> {
     ) -> Result<Vec<Vec<RepairStep<u32>>>, AllocError>
         ensures allowed { IfOk result (λ _. Unit {0}) }
     {
+        self.calls.set(self.calls.get().saturating_add(1));
         if let [bottom, middle, top] = point.stack() {
             let states = [
                 bottom.as_storaget(),

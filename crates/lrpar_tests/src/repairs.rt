@@ -1,9 +1,9 @@
 //! Repairs: which of the sequences that are handed in are listed, and what comes of the first.
-use crate::built::{BRACKETS, CALC, CALL, Row, SUM, all_hold, built, outcome_of, sequences};
+use crate::built::{BRACKETS, CALC, CALL, Row, SUM, TWICE, all_hold, built, outcome_of, sequences};
 use crate::errors::text_of_errors;
-use crate::lexer::{HandedLexer, HandedTypes, LexAnswer, Token, WantingLexer, lexeme, lexemes};
+use crate::lexer::{CountingLexer, HandedLexer, HandedTypes, LexAnswer, Token, lexeme, lexemes};
 use crate::nodes::{Tree, leaf, one, rule};
-use crate::recoverers::{Asked, Noting, Refusing};
+use crate::recoverers::{Asked, Deleting, Noting};
 use lrpar::parser::{AStackType, ParseFault};
 use lrpar::repair::{FixedRecoverer, NoRecovery, RepairStep};
 use lrpar::span::{RIdx, Span, TIdx};
@@ -57,19 +57,6 @@ const CALLS: [Row; 3] = [
 fn calls_without_recovery(rt: HostRuntime) -> Result<(), Fail> {
     all_hold(&rt, rt.alloc(), CALL, &CALLS)
 }
-
-// The lexemes of `n)+n+n+n)`, in which a bracket is to be left out twice.
-const TWICE: [(u32, usize); 9] = [
-    (0, 0),
-    (3, 1),
-    (1, 2),
-    (0, 3),
-    (1, 4),
-    (0, 5),
-    (1, 6),
-    (0, 7),
-    (3, 8),
-];
 
 const THREE: [Row; 11] = [
     Row {
@@ -362,14 +349,21 @@ fn many_sequences(rt: HostRuntime) -> Result<(), Fail> {
 
 // Two parses of `n)+n+n+n)` with a recoverer that finds no memory at its second call: the fault of the first, and the errors of the
 // second.
-fn parsed_twice(
+fn parsed_twice(alloc: Global) -> Result<(Option<ParseFault>, String), Fail> {
+    let answers = lexemes(alloc, &TWICE)?;
+    wanting_at_second(alloc, &built(alloc, BRACKETS)?, &answers)
+}
+
+// The same of any table and lexemes.
+fn wanting_at_second(
     alloc: Global,
     data: &ParserData<u32>,
+    answers: &[LexAnswer],
 ) -> Result<(Option<ParseFault>, String), Fail> {
-    let answers = lexemes(alloc, &TWICE)?;
-    let lexer = HandedLexer { answers: &answers };
-    let parser = RTParserBuilder::<u32, HandedTypes>::new(data).recoverer(Refusing {
-        calls: Cell::new(0),
+    let lexer = HandedLexer { answers };
+    let calls = Cell::new(0);
+    let parser = RTParserBuilder::<u32, HandedTypes>::new(data).recoverer(Deleting {
+        calls: &calls,
         fails_at: 2,
     });
     let fault = parser.parse_noaction(alloc, &lexer).err();
@@ -379,7 +373,7 @@ fn parsed_twice(
 
 #[test]
 fn want_of_memory_in_a_recoverer(rt: HostRuntime) -> Result<(), Fail> {
-    let (fault, errors) = parsed_twice(rt.alloc(), &built(rt.alloc(), BRACKETS)?)?;
+    let (fault, errors) = parsed_twice(rt.alloc())?;
     assert_eq!(rt; fault, Some(ParseFault::Memory));
     assert_eq!(rt; errors.as_str(), "2@3:1+1[ d1] 8@3:8+1[ d8] ");
     Ok(())
@@ -397,9 +391,10 @@ fn wanting_at_first(
     data: &ParserData<u32>,
     answers: &[LexAnswer],
 ) -> Result<(Option<ParseFault>, String), Fail> {
-    let lexer = WantingLexer {
+    let lexer = CountingLexer {
         lexer: HandedLexer { answers },
         calls: Cell::new(0),
+        fails_at: 1,
     };
     let parser = RTParserBuilder::<u32, HandedTypes>::new(data);
     let fault = parser.parse_noaction(alloc, &lexer).err();
@@ -415,22 +410,30 @@ fn want_of_memory_in_a_lexer(rt: HostRuntime) -> Result<(), Fail> {
     Ok(())
 }
 
-// Where the recoverer is asked in `(nn`.
-fn asked(alloc: Global) -> Result<Asked, Fail> {
+// How often and where a recoverer that hands in nothing is asked in `(nn`.
+fn asked(alloc: Global) -> Result<(usize, Asked), Fail> {
     let answers = lexemes(alloc, &[(2, 0), (0, 1), (0, 2)])?;
     asked_by(alloc, &built(alloc, BRACKETS)?, &answers)
 }
 
-fn asked_by(alloc: Global, data: &ParserData<u32>, answers: &[LexAnswer]) -> Result<Asked, Fail> {
-    let asked = Cell::new((0, 0, [0, 0, 0]));
-    let parser = RTParserBuilder::<u32, HandedTypes>::new(data).recoverer(Noting { asked: &asked });
+// The same by a table and for any lexemes.
+fn asked_by(
+    alloc: Global,
+    data: &ParserData<u32>,
+    answers: &[LexAnswer],
+) -> Result<(usize, Asked), Fail> {
+    let (calls, asked) = (Cell::new(0), Cell::new((0, 0, [0, 0, 0])));
+    let parser = RTParserBuilder::<u32, HandedTypes>::new(data).recoverer(Noting {
+        calls: &calls,
+        asked: &asked,
+    });
     let _ = parser.parse_noaction(alloc, &HandedLexer { answers })?;
-    Ok(asked.get())
+    Ok((calls.get(), asked.get()))
 }
 
 #[test]
 fn what_a_recoverer_is_handed(rt: HostRuntime) -> Result<(), Fail> {
-    assert_eq!(rt; asked(rt.alloc())?, (2, 3, [0, 3, 6]));
+    assert_eq!(rt; asked(rt.alloc())?, (1, (2, 3, [0, 3, 6])));
     Ok(())
 }
 
