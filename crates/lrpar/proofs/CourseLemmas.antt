@@ -350,8 +350,8 @@ module _ {X E S L C : Type 0} (facts : X → LexemeFacts) (leaf : X → E → Ty
   -- one more error, that of the stop
   zips : Zips by.listed
   zips =
-      subst (λ (l : List (LexParseError S L X C)). AllZip (IsRepairErrorOf facts d.grammar lexemes) (stops ++ StopHere by.listed ∷ []) l) (sym by.added)
-      (zip_push (IsRepairErrorOf facts d.grammar lexemes) stops errors (StopHere by.listed) by.error zip by.told)
+      subst (λ (l : List (LexParseError S L X C)). AllZip (IsRepairErrorOf facts d.grammar lexemes) (stops ++ StopHere by.listed ∷ []) l) (sym by.noted.added)
+      (zip_push (IsRepairErrorOf facts d.grammar lexemes) stops errors (StopHere by.listed) by.noted.error zip by.noted.told)
 
   -- where the run ends no sequence is listed, and where it goes on a first one is
   none_listed : (listed : List (List PlainStep)) → Goes listed None → listed ≡ []
@@ -368,7 +368,7 @@ module _ {X E S L C : Type 0} (facts : X → LexemeFacts) (leaf : X → E → Ty
       → IsRepairAnswer d facts allows k (λ a. a.1.items) (HasValue (λ x. (facts x).token) d.grammar (IsOfTree leaf node suits d)) lexemes answer
   stop_ends answer none no_value all =
       let empty = none_listed by.listed (subst (λ (o : Option ℕ). Goes by.listed o) none by.goes_on) in
-      ended_answer facts leaf node suits d allows k lexemes answer never a i stops at b j far (subst Lists empty by.is) no_value
+      ended_answer facts leaf node suits d allows k lexemes answer never a i stops at b j far (subst Lists empty by.noted.is) no_value
       (subst (λ (l : List (LexParseError S L X C)). AllZip (IsRepairErrorOf facts d.grammar lexemes) (stops ++ StopHere [] ∷ []) l) (sym all) (subst Zips empty zips))
 
   module _ (m : ℕ) (some : next ≡ Some m) where
@@ -376,7 +376,7 @@ module _ {X E S L C : Type 0} (facts : X → LexemeFacts) (leaf : X → E → Ty
     found = first_listed m by.listed (subst (λ (o : Option ℕ). Goes by.listed o) some by.goes_on)
 
     lists : Lists (found.0 ∷ found.1)
-    lists = subst Lists found.2 by.is
+    lists = subst Lists found.2 by.noted.is
 
     -- the run goes on from there
     pub stop_goes_on : (after : List RepairStop) × IsThere facts leaf node suits d allows k lexemes c m after × AllZip (IsRepairErrorOf facts d.grammar lexemes) after more
@@ -394,6 +394,6 @@ module _ {X E S L C : Type 0} (facts : X → LexemeFacts) (leaf : X → E → Ty
     pub stop_smaller : 0 < k → m ≤ length lexemes → (0 < length errors → CanGoOn (λ x. (facts x).token) d.grammar d.table lexemes k a.states i)
         → length lexemes - m + (1 - length more) < length lexemes - i + (1 - length errors)
     stop_smaller positive within on =
-        course_smaller (length lexemes) i j m (length errors) (length more) k (ap length by.added ∙ length-append errors (by.error ∷ []))
+        course_smaller (length lexemes) i j m (length errors) (length more) k (ap length by.noted.added ∙ length-append errors (by.noted.error ∷ []))
         (stops_no_earlier facts leaf node suits d allows k lexemes a b i j far) (replays_no_earlier facts leaf node suits d allows k lexemes b c j m found.0 found.3)
         within positive (λ later. stops_further facts leaf node suits d allows k lexemes a b i j (on later) far)

@@ -8,8 +8,18 @@ use Rattle.lrpar.specs.Moves.{IsReplayed}
 use Rattle.lrpar.specs.Recovery.{Point}
 use Rattle.lrpar.specs.RepairAnswer.{IsRepairErrorOf}
 use Rattle.lrpar.specs.RepairRun.{IsListedAt}
+use Rattle.lrpar.specs.Run.{Stop}
 use Rattle.lrpar.specs.Sequences.{PlainStep}
 use Rattle.lrpar.specs.Standing.{Stacked}
+
+-- At a stop with this stack its error is added, which lists these sequences: those that work there, of an answer that the recoverer
+-- allows.
+pub record IsNoted {X S L C : Type 0} (facts : X → LexemeFacts) (d : Checked) (allows : Point X → List (List PlainStep) → Type 0) (k : ℕ) (lexemes : List X)
+    (stop : Stop) (errors more : List (LexParseError S L X C)) (listed : List (List PlainStep)) : Type 0 where
+  pub is : IsListedAt facts allows k d.grammar d.table lexemes stop listed
+  pub error : LexParseError S L X C
+  pub told : IsRepairErrorOf facts d.grammar lexemes (record { stop = stop; listed = listed }) error
+  pub added : more ≡ errors ++ error ∷ []
 
 module _ {X E : Type 0} (facts : X → LexemeFacts) (leaf : X → E → Type 0) (node : ℕ → Option E → List E → E → Type 0) (suits : GrammarSymbol → E → Type 0) (d : Checked)
     (allows : Point X → List (List PlainStep) → Type 0) (k : ℕ) (lexemes : List X) where
@@ -22,8 +32,5 @@ module _ {X E : Type 0} (facts : X → LexemeFacts) (leaf : X → E → Type 0) 
   -- from a stop with these stacks at a place: its error is added, and the run ends there, or goes on by what is listed
   pub record IsMended {S L C : Type 0} (old : Stacked E) (place : ℕ) (errors : List (LexParseError S L X C)) (new : Stacked E) (more : List (LexParseError S L X C)) (next : Option ℕ) : Type 0 where
     pub listed : List (List PlainStep)
-    pub is : IsListedAt facts allows k d.grammar d.table lexemes (record { stack = old.states; place = place }) listed
-    pub error : LexParseError S L X C
-    pub told : IsRepairErrorOf facts d.grammar lexemes (record { stop = record { stack = old.states; place = place }; listed = listed }) error
-    pub added : more ≡ errors ++ error ∷ []
+    pub noted : IsNoted facts d allows k lexemes (record { stack = old.states; place = place }) errors more listed
     pub goes_on : GoesOnBy listed old place new next

@@ -6,7 +6,7 @@ ghost use Rattle.lrpar_check.specs.Stack.{IsStack};
 ghost use Rattle.lrpar.specs.End.{IsOfTree};
 ghost use Rattle.lrpar_answers.specs.Lexemes.{facts_of};
 ghost use Rattle.lrpar.specs.Mended.{start_at};
-ghost use Rattle.lrpar.specs.Mending.{IsMended};
+ghost use Rattle.lrpar.specs.Mending.{IsMended, IsNoted};
 ghost use Rattle.lrpar.specs.Moves.{RiseUpTo, StartsRise};
 ghost use Rattle.lrpar.specs.PlainSteps.{plain_sequences};
 ghost use Rattle.lrpar.specs.RepairAnswer.{IsRepairAnswer, IsRepairErrorOf};
@@ -106,13 +106,33 @@ impl<
         // Past these the table has no entry, so that a path is a stack.
         let stable = self.run.checked.stable();
         let (_tokens, _rules) = (stable.tokens_len(), stable.rules_len());
-        let listed = self.listed(alloc, stack, stop)?;
-        errors.push(self.error(alloc, stack, stop, &listed)?)?;
+        let listed = self.noted(alloc, stack, stop, errors)?;
         let Some(first) = listed.first() else {
             return Ok(None);
         };
         let next = self.run.replay(alloc, self.lexemes, stack, stop, first)?;
         Ok(Some(next))
+    }
+
+    // Adds the error of the stop, and answers the sequences that it lists.
+    fn noted(
+        &self,
+        alloc: Global,
+        stack: &Stack<StorageT, B::Entry>,
+        place: usize,
+        errors: &mut Vec<LexParseError<StorageT, LexerTypesT>>,
+    ) -> Result<Vec<Vec<RepairStep<StorageT>>>, AllocError>
+        requires valid { IsValidList self.now.run.checked.now.grammar (map (λ x. facts_of StorageT.index (LexerTypesT.LexemeT.parts x)) self.now.lexemes.now) }
+        requires stack { IsStack self.now.run.checked.now.table stack.now.states }
+        requires some { 0 < length stack.now.states }
+        requires within { place ≤ length self.now.lexemes.now }
+        ensures noted { IfOk result (λ listed. IsNoted (λ x. facts_of StorageT.index (LexerTypesT.LexemeT.parts x)) self.now.run.checked.now
+            (R.allows self.now.recoverer.now) self.now.shifts self.now.lexemes.now (record { stack = stack.now.states; place = place })
+            errors.old.items errors.new.items (plain_sequences StorageT.index listed.items)) }
+    {
+        let listed = self.listed(alloc, stack, place)?;
+        errors.push(self.error(alloc, stack, place, &listed)?)?;
+        Ok(listed)
     }
 
     // The sequences that work at the stop, of those that the recoverer hands in, which it is asked for once.

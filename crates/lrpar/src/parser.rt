@@ -1,7 +1,8 @@
 //! Parses: the calls that take a lexer and answer a value and the errors.
-ghost use Rattle.std.specs.Prelude.{◌≡◌, ◌<◌, ◌∷◌, ◌↔◌, [], List, Result, IfErr, IfOk, IfSome, IsOk, IsTrue, option_map};
+ghost use Rattle.std.specs.Prelude.{◌≡◌, ◌<◌, ◌∷◌, ◌↔◌, [], List, Result, IfErr, IfOk, IfSome, IsOk, IsTrue, map, option_map};
 ghost use Rattle.lrpar_check.specs.Checked.{IsChecked};
 ghost use Rattle.lrpar_grammar.specs.Grammar.{rule_of};
+ghost use Rattle.lrpar_grammar.specs.Sentence.{IsValidList};
 ghost use Rattle.lrpar.specs.Acted.{IsActedValue};
 ghost use Rattle.lrpar.specs.Arguments.{TakesAll};
 ghost use Rattle.lrpar.specs.End.{IsOfTree};
@@ -12,6 +13,8 @@ ghost use Rattle.lrpar_answers.specs.Lexemes.{facts_of};
 ghost use Rattle.lrpar.specs.Made.{made_by};
 ghost use Rattle.lrpar.specs.Nodes.{IsNonterm, IsTerm};
 ghost use Rattle.lrpar.specs.Parse.{ParsesTo, ParsesToErrors};
+ghost use Rattle.lrpar.specs.RepairAnswer.{IsRepairAnswer};
+ghost use Rattle.lrpar.specs.RunAnswer.{HasValue};
 
 pub use crate::actions::Actions;
 use crate::actions::{Acting, Placed};
@@ -296,17 +299,32 @@ impl<
             Err(error) => Ok((None, one_error(alloc, LexParseError::LexError(error))?)),
             Ok(lexemes) => match lexeme_fault(self.checked.grm(), &lexemes) {
                 Some(fault) => Err(fault),
-                None => {
-                    let course = Course {
-                        run: Run::new(self.checked, build),
-                        lexemes: &lexemes,
-                        recoverer: &self.recoverer,
-                        shifts: self.shift_count(),
-                    };
-                    Ok(course.over(alloc)?)
-                }
+                None => Ok(self.ran(alloc, &lexemes, build)?),
             },
         }
+    }
+
+    // Runs over valid lexemes.
+    fn ran<B: Build<StorageT, LexerTypesT::LexemeT>>(
+        &self,
+        alloc: Global,
+        lexemes: &[LexerTypesT::LexemeT],
+        build: &B,
+    ) -> Result<Answer<StorageT, LexerTypesT, B::Entry>, AllocError>
+        requires can { B.can_build build.now self.now.checked.grammar }
+        requires valid { IsValidList self.now.checked.grammar (map (λ x. facts_of StorageT.index (LexerTypesT.LexemeT.parts x)) lexemes.now) }
+        ensures ran { IfOk result (IsRepairAnswer self.now.checked (λ x. facts_of StorageT.index (LexerTypesT.LexemeT.parts x))
+            (R.allows self.now.recoverer) self.now.shifts (λ answer. answer.1.items)
+            (HasValue (λ x. StorageT.index (LexerTypesT.LexemeT.parts x).token) self.now.checked.grammar
+            (IsOfTree (B.leaf build.now) (B.node build.now self.now.checked.grammar) (B.suits build.now) self.now.checked)) lexemes.now) }
+    {
+        let course = Course {
+            run: Run::new(self.checked, build),
+            lexemes,
+            recoverer: &self.recoverer,
+            shifts: self.shift_count(),
+        };
+        course.over(alloc)
     }
 }
 

@@ -1,12 +1,11 @@
-//! Parses by actions, and all four calls side by side.
+//! Parses by actions, and trees.
 ghost use Rattle.std.specs.Prelude.{◌↔◌, IfOk, IsTrue, map};
 ghost use Rattle.lrpar.specs.Nodes.{IsNonterm, node_of};
 
 use crate::built::{AFTER, ARITHMETIC, BETWEEN, BRACKETS, CALL, LIST, SUM, built, sequences};
 use crate::calculator::{Calculator, Value};
-use crate::errors::text_of_errors;
 use crate::fixtures::{By, sum_data};
-use crate::lexer::{HandedLexer, HandedTypes, LexAnswer, NoToken, Token, lexemes};
+use crate::lexer::{HandedLexer, HandedTypes, LexAnswer, Token, lexemes};
 use crate::nodes::{Tree, sum_tree};
 use crate::parse::parsed;
 use lrpar::parser::{AStackType, Actions, ParseFault};
@@ -365,137 +364,6 @@ fn want_of_memory_in_an_action(rt: HostRuntime) -> Result<(), Fail> {
     let answers = lexemes(alloc, [(1, 0), (0, 1), (1, 2)].as_slice())?;
     let found = parsed_twice(alloc, &sum_data(alloc, By::Rows)?, &answers)?;
     assert_eq!(rt; found, (Some(ParseFault::Memory), 2, Some(())));
-    Ok(())
-}
-
-// The errors of a parse, or its fault.
-type Errors = Result<Vec<LexParseError<u32, HandedTypes>>, ParseFault>;
-
-// Those of the parse by functions.
-fn map_errors(alloc: Global, data: &ParserData<u32>, answers: &[LexAnswer]) -> Errors {
-    let parser = RTParserBuilder::<u32, HandedTypes>::new(data);
-    let (_, errors) = parser.parse_map(alloc, &HandedLexer { answers }, |_| {}, |_, _| {})?;
-    Ok(errors)
-}
-
-// Those of the parse to a tree.
-fn tree_errors(alloc: Global, data: &ParserData<u32>, answers: &[LexAnswer]) -> Errors {
-    let parser = RTParserBuilder::<u32, HandedTypes>::new(data);
-    let (_, errors) = parser.parse_generictree(alloc, &HandedLexer { answers })?;
-    Ok(errors)
-}
-
-// Those of the parse to errors alone.
-fn errors_alone(alloc: Global, data: &ParserData<u32>, answers: &[LexAnswer]) -> Errors {
-    RTParserBuilder::<u32, HandedTypes>::new(data).parse_noaction(alloc, &HandedLexer { answers })
-}
-
-// Those of the parse by actions.
-fn action_errors(
-    alloc: Global,
-    data: &ParserData<u32>,
-    answers: &[LexAnswer],
-) -> Result<Errors, Fail> {
-    match acted(alloc, data, answers, &TreeActions)? {
-        Ok((_, errors)) => Ok(Ok(errors)),
-        Err(fault) => Ok(Err(fault)),
-    }
-}
-
-/// One of the four calls.
-#[derive(Clone, Copy, Debug)]
-pub(crate) enum Call {
-    Map,
-    Actions,
-    Tree,
-    Errors,
-}
-
-/// All of them.
-pub(crate) const FOUR: [Call; 4] = [Call::Map, Call::Actions, Call::Tree, Call::Errors];
-
-// What the call answers, as text.
-fn errors_by(
-    alloc: Global,
-    call: Call,
-    data: &ParserData<u32>,
-    answers: &[LexAnswer],
-) -> Result<String, Fail> {
-    let errors = match call {
-        Call::Map => map_errors(alloc, data, answers),
-        Call::Actions => action_errors(alloc, data, answers)?,
-        Call::Tree => tree_errors(alloc, data, answers),
-        Call::Errors => errors_alone(alloc, data, answers),
-    };
-    match errors {
-        Ok(errors) => text_of_errors(alloc, &errors),
-        Err(fault) => Ok(format!(in alloc; "{fault}")?),
-    }
-}
-
-// Whether each of the four calls answers this text.
-fn all_answer(
-    alloc: Global,
-    grammar: &str,
-    answers: &[LexAnswer],
-    want: &str,
-) -> Result<bool, Fail> {
-    all_answer_by(alloc, &built(alloc, grammar)?, answers, want)
-}
-
-// The same by a table.
-fn all_answer_by(
-    alloc: Global,
-    data: &ParserData<u32>,
-    answers: &[LexAnswer],
-    want: &str,
-) -> Result<bool, Fail> {
-    for call in FOUR {
-        if errors_by(alloc, call, data, answers)?.as_str() != want {
-            return Ok(false);
-        }
-    }
-    Ok(true)
-}
-
-// A grammar, lexemes, and what each of the four calls answers.
-const ANSWERS: [(&str, &[(u32, usize)], &str); 5] = [
-    (
-        SUM,
-        &[(1, 0), (0, 1), (1, 2), (2, 3), (1, 6), (0, 5)],
-        "bad token at lexeme 3",
-    ),
-    (
-        SUM,
-        &[(1, 0), (0, 1), (1, 2), (0, 3), (1, 6), (0, 5)],
-        "start decreases at lexeme 5",
-    ),
-    (CALL, &[(0, 0), (1, 1)], "3@3:2+0! "),
-    (CALL, &[(0, 0), (1, 1), (0, 2), (1, 3)], "3@0:2+1 "),
-    (SUM, &[(1, 0), (0, 1), (1, 2)], ""),
-];
-
-#[test]
-fn errors_and_faults_of_each_call(rt: HostRuntime) -> Result<(), Fail> {
-    for (grammar, given, want) in &ANSWERS {
-        let answers = lexemes(rt.alloc(), *given)?;
-        assert!(rt;
-            all_answer(rt.alloc(), *grammar, &answers, *want)?,
-            "{want:?}"
-        );
-    }
-    Ok(())
-}
-
-#[test]
-fn a_first_lexing_error_of_each_call(rt: HostRuntime) -> Result<(), Fail> {
-    let first = NoToken {
-        span: Span::new(7, 8),
-    };
-    let given = [(1, 0), (0, 1), (1, 2), (2, 3), (1, 6), (0, 5)];
-    let mut answers = lexemes(rt.alloc(), &given)?;
-    answers.push(Err(first))?;
-    assert!(rt; all_answer(rt.alloc(), SUM, &answers, "no token at 7..8 ")?);
     Ok(())
 }
 

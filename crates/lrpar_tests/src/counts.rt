@@ -1,54 +1,15 @@
 //! How often a parse asks its lexer and its recoverer, and in which order it calls the functions of its caller.
-use crate::actions::{Call, Counting, FOUR};
 use crate::built::{BRACKETS, TWICE, built};
 use crate::errors::text_of_errors;
 use crate::fixtures::{By, sum_data};
-use crate::lexer::{CountingLexer, HandedLexer, HandedTypes, LexAnswer, Token, lexemes};
+use crate::four::{Call, FOUR, counting, errors_by};
+use crate::lexer::{HandedLexer, HandedTypes, LexAnswer, Token, lexemes};
 use crate::recoverers::Deleting;
-use lrpar::parser::ParseFault;
-use lrpar::{LexParseError, Lexeme, ParserData, RTParserBuilder};
+use lrpar::{Lexeme, ParserData, RTParserBuilder};
 use std::alloc::Global;
 use std::cell::Cell;
 use std::process::Abort;
 use std::test::Fail;
-
-/// A parser that is handed a deletion at each error.
-type Parser<'a> = RTParserBuilder<'a, u32, HandedTypes, Deleting<'a>>;
-
-/// The errors of a parse, or its fault.
-type Errors = Result<Vec<LexParseError<u32, HandedTypes>>, ParseFault>;
-
-// The errors of the parse by functions.
-fn map_errors(alloc: Global, parser: &Parser<'_>, lexer: &CountingLexer<'_>) -> Errors {
-    let (_, errors) = parser.parse_map(alloc, lexer, |_| {}, |_, _| {})?;
-    Ok(errors)
-}
-
-// The errors of the parse by actions.
-fn action_errors(alloc: Global, parser: &Parser<'_>, lexer: &CountingLexer<'_>) -> Errors {
-    let counting = Counting {
-        calls: Cell::new(0),
-        fails_at: 0,
-    };
-    let (_, errors) = parser.parse_actions(alloc, lexer, &counting, &())?;
-    Ok(errors)
-}
-
-// The errors of the parse to a tree.
-fn tree_errors(alloc: Global, parser: &Parser<'_>, lexer: &CountingLexer<'_>) -> Errors {
-    let (_, errors) = parser.parse_generictree(alloc, lexer)?;
-    Ok(errors)
-}
-
-// The errors of the parse by the call.
-fn errors_by(alloc: Global, call: Call, parser: &Parser<'_>, lexer: &CountingLexer<'_>) -> Errors {
-    match call {
-        Call::Map => map_errors(alloc, parser, lexer),
-        Call::Actions => action_errors(alloc, parser, lexer),
-        Call::Tree => tree_errors(alloc, parser, lexer),
-        Call::Errors => parser.parse_noaction(alloc, lexer),
-    }
-}
 
 // The errors of the call as text, and how often it asks the lexer and the recoverer.
 fn asks(
@@ -57,11 +18,7 @@ fn asks(
     data: &ParserData<u32>,
     answers: &[LexAnswer],
 ) -> Result<(String, usize, usize), Fail> {
-    let lexer = CountingLexer {
-        lexer: HandedLexer { answers },
-        calls: Cell::new(0),
-        fails_at: 0,
-    };
+    let lexer = counting(answers);
     let deletions = Cell::new(0);
     let parser = RTParserBuilder::<u32, HandedTypes>::new(data).recoverer(Deleting {
         calls: &deletions,

@@ -21,6 +21,8 @@ mod errors;
 #[cfg(test)]
 mod fixtures;
 #[cfg(test)]
+mod four;
+#[cfg(test)]
 mod grammar;
 #[cfg(test)]
 mod graph;

@@ -9,6 +9,7 @@ use lrpar::parser::ParseFault;
 use lrpar::table::{Item, StateGraph, StateTable, TableFault, TableRows};
 use lrpar::{LexParseError, Node, ParserData, RTParserBuilder};
 use std::alloc::Global;
+use std::process::Abort;
 use std::test::Fail;
 use thiserror::Error;
 
@@ -96,14 +97,15 @@ fn holds(
     Ok(found.0.as_str() == errors && found.1 == number)
 }
 
-#[test]
-fn lines_of_a_calculator(rt: HostRuntime) -> Result<(), Fail> {
-    let data = built(rt.alloc(), CALC)?;
+// Whether each line has its errors and its number.
+fn lines_hold(rt: &impl Abort, alloc: Global, data: &ParserData<u32>) -> Result<(), Fail> {
     for (line, errors, number) in &LINES {
-        assert!(rt;
-            holds(rt.alloc(), &data, *line, *errors, *number)?,
-            "{line}"
-        );
+        assert!(rt; holds(alloc, data, *line, *errors, *number)?, "{line}");
     }
     Ok(())
+}
+
+#[test]
+fn lines_of_a_calculator(rt: HostRuntime) -> Result<(), Fail> {
+    lines_hold(&rt, rt.alloc(), &built(rt.alloc(), CALC)?)
 }

@@ -61,87 +61,80 @@ fn are_stacks(rt: &impl Abort, alloc: Global, by: By) -> Result<(), Fail> {
     Ok(())
 }
 
-#[test]
-fn reductions_at_the_end(rt: HostRuntime) -> Result<(), Fail> {
-    for by in BOTH {
-        let data: ParserData<u8> = sum_data(rt.alloc(), by)?;
-        let (count, states) = settled(rt.alloc(), &data, &[0, 2, 4, 3])?;
-        assert_eq!(rt; count, 3, "{by:?}");
-        assert_eq!(rt; states.as_slice(), [0, 1].as_slice(), "{by:?}");
-    }
-    Ok(())
+/// What a call answers: how many reductions it made, or whether it shifted.
+#[derive(Clone, Copy, Debug, PartialEq, Eq)]
+enum Answer {
+    Settled(u128),
+    Fed(bool),
 }
 
-// What settling the stack of these states under the end token answers, and the states after it.
-fn settled(alloc: Global, data: &ParserData<u8>, states: &[u8]) -> Result<(u128, Vec<u8>), Fail> {
-    let mut stack = stack(alloc, states)?;
-    if !data.is_stack(&stack) || data.stable().tokens_len() != 3 {
-        return Err(Fail::new("no stack of the table of sums"));
-    }
-    let count = data.settle(&mut stack, TIdx(2))?;
-    Ok((count, numbers(alloc, &stack)?))
-}
+// A token by name and number, what the call by it answers, the states after it, and how many of a base are kept.
+type Row = (&'static str, u8, Answer, &'static [u8], usize);
 
-// A token by name and number, whether it is shifted, the states after it, and how many of a base are kept.
-type Fed = (&'static str, u8, bool, &'static [u8], usize);
-
-// Tokens that are fed one by one to the stack of the states 0, 2, 4 and 3.
-const FED: [Fed; 4] = [
-    ("+", 0, true, &[0, 2, 4, 2, 4], 3),
-    ("ID", 1, false, &[0, 2, 4, 3], 4),
-    ("the end", 2, false, &[0, 1], 1),
-    ("+ again", 0, true, &[0, 2, 4, 2, 4], 3),
+// Tokens by which the stack of the states 0, 2, 4 and 3 is settled, and fed.
+const ROWS: [Row; 8] = [
+    ("+", 0, Answer::Settled(1), &[0, 2, 4, 2], 3),
+    ("ID", 1, Answer::Settled(0), &[0, 2, 4, 3], 4),
+    ("the end", 2, Answer::Settled(3), &[0, 1], 1),
+    ("+ again", 0, Answer::Settled(1), &[0, 2, 4, 2], 3),
+    ("+", 0, Answer::Fed(true), &[0, 2, 4, 2, 4], 3),
+    ("ID", 1, Answer::Fed(false), &[0, 2, 4, 3], 4),
+    ("the end", 2, Answer::Fed(false), &[0, 1], 1),
+    ("+ again", 0, Answer::Fed(true), &[0, 2, 4, 2, 4], 3),
 ];
 
 #[test]
-fn tokens_fed(rt: HostRuntime) -> Result<(), Fail> {
+fn tokens_at_a_stack(rt: HostRuntime) -> Result<(), Fail> {
     for by in BOTH {
-        feeds(&rt, rt.alloc(), &sum_data(rt.alloc(), by)?)?;
+        rows_hold(&rt, rt.alloc(), &sum_data(rt.alloc(), by)?)?;
     }
     Ok(())
 }
 
-// Each row says what comes of its token.
-fn feeds(rt: &impl Abort, alloc: Global, data: &ParserData<u8>) -> Result<(), Fail> {
-    for row in &FED {
-        let name = row.0;
-        assert!(rt; is_fed(alloc, data, row)?, "{name}");
+// Each row says what comes of its call.
+fn rows_hold(rt: &impl Abort, alloc: Global, data: &ParserData<u8>) -> Result<(), Fail> {
+    for row in &ROWS {
+        let (name, _, want, _, _) = row;
+        assert!(rt; holds(alloc, data, row)?, "{name} {want:?}");
     }
     Ok(())
 }
 
-// Whether the row says what comes of its token.
-fn is_fed(alloc: Global, data: &ParserData<u8>, row: &Fed) -> Result<bool, Fail> {
-    let (shifted, states) = fed(alloc, data, &[0, 2, 4, 3], row.1)?;
-    Ok(shifted == row.2 && states.as_slice() == row.3)
+// Whether the row says what comes of its call.
+fn holds(alloc: Global, data: &ParserData<u8>, row: &Row) -> Result<bool, Fail> {
+    let (answer, states) = answered(alloc, data, row.1, row.2)?;
+    Ok(answer == row.2 && states.as_slice() == row.3)
 }
 
-// Whether the stack of these states is fed the token, and the states after it.
-fn fed(
+// What the call of that kind answers at the stack, and the states after it.
+fn answered(
     alloc: Global,
     data: &ParserData<u8>,
-    states: &[u8],
     token: u8,
-) -> Result<(bool, Vec<u8>), Fail> {
-    let mut stack = stack(alloc, states)?;
+    kind: Answer,
+) -> Result<(Answer, Vec<u8>), Fail> {
+    let mut stack = stack(alloc, &[0, 2, 4, 3])?;
     if !data.is_stack(&stack) || usize::from(token) >= data.stable().tokens_len() {
         return Err(Fail::new("no stack of the table of sums"));
     }
-    let shifted = data.feed(&mut stack, TIdx(token))?;
-    Ok((shifted, numbers(alloc, &stack)?))
+    let answer = match kind {
+        Answer::Settled(_) => Answer::Settled(data.settle(&mut stack, TIdx(token))?),
+        Answer::Fed(_) => Answer::Fed(data.feed(&mut stack, TIdx(token))?),
+    };
+    Ok((answer, numbers(alloc, &stack)?))
 }
 
 #[test]
-fn tokens_fed_over_a_base(rt: HostRuntime) -> Result<(), Fail> {
+fn tokens_over_a_base(rt: HostRuntime) -> Result<(), Fail> {
     for by in BOTH {
         let base = stack(rt.alloc(), &[0, 2, 4, 3])?;
-        feeds_over(&rt, rt.alloc(), &sum_data(rt.alloc(), by)?, &base)?;
+        rows_hold_over(&rt, rt.alloc(), &sum_data(rt.alloc(), by)?, &base)?;
     }
     Ok(())
 }
 
-// Over the base each row says what comes of its token.
-fn feeds_over(
+// Over the base each row says what comes of its call.
+fn rows_hold_over(
     rt: &impl Abort,
     alloc: Global,
     data: &ParserData<u8>,
@@ -151,105 +144,43 @@ fn feeds_over(
         return Err(Fail::new("no base"));
     }
     let mut over = Overlay::new(alloc, base);
-    for row in &FED {
-        let name = row.0;
-        assert!(rt; is_fed_over(alloc, data, &mut over, row)?, "{name}");
+    for row in &ROWS {
+        let (name, _, want, _, _) = row;
+        assert!(rt; holds_over(alloc, data, &mut over, row)?, "{name} {want:?}");
     }
     Ok(())
 }
 
-// Whether the row says what comes of its token once what was fed before is taken back.
-fn is_fed_over(
+// Whether the row says what comes of its call once what was done before is taken back.
+fn holds_over(
     alloc: Global,
     data: &ParserData<u8>,
     over: &mut Overlay<'_, u8>,
-    row: &Fed,
+    row: &Row,
 ) -> Result<bool, Fail> {
     over.set_back();
-    let (shifted, states) = fed_over(alloc, data, over, row.1)?;
-    Ok(shifted == row.2 && states.as_slice() == row.3 && over.kept() == row.4)
+    let (answer, states) = answered_over(alloc, data, over, row.1, row.2)?;
+    Ok(answer == row.2 && states.as_slice() == row.3 && over.kept() == row.4)
 }
 
-// Whether the overlay is fed the token, and the states after it.
-fn fed_over(
+// What the call of that kind answers at the overlay, and the states after it.
+fn answered_over(
     alloc: Global,
     data: &ParserData<u8>,
     over: &mut Overlay<'_, u8>,
     token: u8,
-) -> Result<(bool, Vec<u8>), Fail> {
+    kind: Answer,
+) -> Result<(Answer, Vec<u8>), Fail> {
     let states = over.to_vec()?;
     if !data.is_stack(&states) || usize::from(token) >= data.stable().tokens_len() {
         return Err(Fail::new("no stack of the table of sums"));
     }
-    let shifted = data.feed_over(over, TIdx(token))?;
+    let answer = match kind {
+        Answer::Settled(_) => Answer::Settled(data.settle_over(over, TIdx(token))?),
+        Answer::Fed(_) => Answer::Fed(data.feed_over(over, TIdx(token))?),
+    };
     let after = over.to_vec()?;
-    Ok((shifted, numbers(alloc, &after)?))
-}
-
-// A token by name and number, how many reductions are made under it, the states after them, and how many of a base are kept.
-type Settled = (&'static str, u8, u128, &'static [u8], usize);
-
-// Tokens under which the stack of the states 0, 2, 4 and 3 is settled.
-const SETTLED: [Settled; 4] = [
-    ("+", 0, 1, &[0, 2, 4, 2], 3),
-    ("ID", 1, 0, &[0, 2, 4, 3], 4),
-    ("the end", 2, 3, &[0, 1], 1),
-    ("+ again", 0, 1, &[0, 2, 4, 2], 3),
-];
-
-#[test]
-fn reductions_over_a_base(rt: HostRuntime) -> Result<(), Fail> {
-    for by in BOTH {
-        let base = stack(rt.alloc(), &[0, 2, 4, 3])?;
-        settles_over(&rt, rt.alloc(), &sum_data(rt.alloc(), by)?, &base)?;
-    }
-    Ok(())
-}
-
-// Over the base each row says what comes of its token.
-fn settles_over(
-    rt: &impl Abort,
-    alloc: Global,
-    data: &ParserData<u8>,
-    base: &[StIdx<u8>],
-) -> Result<(), Fail> {
-    if base.is_empty() {
-        return Err(Fail::new("no base"));
-    }
-    let mut over = Overlay::new(alloc, base);
-    for row in &SETTLED {
-        let name = row.0;
-        assert!(rt; is_settled_over(alloc, data, &mut over, row)?, "{name}");
-    }
-    Ok(())
-}
-
-// Whether the row says what comes of its token once the reductions before are taken back.
-fn is_settled_over(
-    alloc: Global,
-    data: &ParserData<u8>,
-    over: &mut Overlay<'_, u8>,
-    row: &Settled,
-) -> Result<bool, Fail> {
-    over.set_back();
-    let (count, states) = settled_over(alloc, data, over, row.1)?;
-    Ok(count == row.2 && states.as_slice() == row.3 && over.kept() == row.4)
-}
-
-// How many reductions are made in the overlay under the token, and the states after them.
-fn settled_over(
-    alloc: Global,
-    data: &ParserData<u8>,
-    over: &mut Overlay<'_, u8>,
-    token: u8,
-) -> Result<(u128, Vec<u8>), Fail> {
-    let states = over.to_vec()?;
-    if !data.is_stack(&states) || usize::from(token) >= data.stable().tokens_len() {
-        return Err(Fail::new("no stack of the table of sums"));
-    }
-    let count = data.settle_over(over, TIdx(token))?;
-    let after = over.to_vec()?;
-    Ok((count, numbers(alloc, &after)?))
+    Ok((answer, numbers(alloc, &after)?))
 }
 
 #[test]

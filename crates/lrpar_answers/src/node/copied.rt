@@ -7,6 +7,19 @@ use crate::node::Node;
 use lrpar_grammar::span::RIdx;
 use std::alloc::{AllocError, Global};
 
+impl<LexemeT: Copy, StorageT: Copy> Node<LexemeT, StorageT> {
+    /// The same tree again. It fails only where memory is wanting, and takes one allocation for each rule with children
+    /// and a list with an entry for each level.
+    pub fn clone(&self, alloc: Global) -> Result<Self, AllocError>
+        ensures equal { IfOk result (λ node. walk node ≡ walk self.now) }
+    {
+        match self {
+            Node::Term { lexeme } => Ok(Node::Term { lexeme: *lexeme }),
+            Node::Nonterm { ridx, nodes } => copied(alloc, *ridx, nodes),
+        }
+    }
+}
+
 // A rule whose trees are being made again: those that are there, and those that are left.
 #[derive(Drop)]
 struct Growing<'a, LexemeT, StorageT> {
@@ -16,7 +29,7 @@ struct Growing<'a, LexemeT, StorageT> {
 }
 
 // The node of the rule over the same trees again. A list holds the rules that the tree in hand lies in, an entry a level.
-pub(crate) fn copied<'a, LexemeT: Copy, StorageT: Copy>(
+fn copied<'a, LexemeT: Copy, StorageT: Copy>(
     alloc: Global,
     mut ridx: RIdx<StorageT>,
     nodes: &'a [Node<LexemeT, StorageT>],

@@ -1,9 +1,73 @@
-//! Equality of lists of nodes.
+//! Equality of trees.
 ghost use Rattle.std.specs.Prelude.{◌≡◌, length};
 ghost use Rattle.lrpar_answers.specs.Walks.{nodes_eq};
 
 use crate::node::Node;
 use std::alloc::Global;
+
+impl<LexemeT: PartialEq, StorageT: PartialEq> PartialEq for Node<LexemeT, StorageT> {
+    ghost use Rattle.lrpar_answers.specs.Walks.{node_eq};
+    ghost use Rattle.lrpar_answers.specs.WalkLaws.{node_per};
+
+    ghost eq = { node_eq LexemeT.PartialEq.eq StorageT.PartialEq.eq };
+
+    ghost laws = { node_per LexemeT.PartialEq.laws StorageT.PartialEq.laws };
+
+    // A list holds what is left to compare, by the allocator of the tree's own lists. Where it can't grow, the comparison
+    // takes stack for that level.
+    fn eq(&self, other: &Self) -> bool {
+        if !self.is_like(other) {
+            return false;
+        }
+        match self {
+            Node::Term { lexeme: _ } => true,
+            Node::Nonterm { ridx: _, nodes } => {
+                are_equal(*nodes.allocator(), nodes, other.children())
+            }
+        }
+    }
+}
+
+impl<LexemeT: Eq, StorageT: Eq> Eq for Node<LexemeT, StorageT> {
+    ghost use Rattle.lrpar_answers.specs.WalkLaws.{node_equiv};
+
+    ghost laws = { node_equiv LexemeT.Eq.laws StorageT.Eq.laws };
+}
+
+impl<LexemeT, StorageT> Node<LexemeT, StorageT> {
+    ghost use Rattle.lrpar_answers.specs.Visits.{visit_eq};
+    ghost use Rattle.lrpar_answers.specs.Walks.{visit, children};
+
+    // The trees of the node's symbols. A lexeme has none.
+    fn children(&self) -> &[Node<LexemeT, StorageT>]
+        ensures children { result.now ≡ children self.now }
+    {
+        match self {
+            Node::Term { lexeme: _ } => &[],
+            Node::Nonterm { ridx: _, nodes } => nodes,
+        }
+    }
+
+    // Whether the nodes have equal lexemes, or equal rules and as many children.
+    fn is_like(&self, other: &Self) -> bool
+    where
+        LexemeT: PartialEq,
+        StorageT: PartialEq,
+        ensures like { result ≡ visit_eq LexemeT.PartialEq.eq StorageT.PartialEq.eq (visit self.now) (visit other.now) }
+    {
+        match (self, other) {
+            (Node::Term { lexeme }, Node::Term { lexeme: other }) => lexeme == other,
+            (
+                Node::Nonterm { ridx, nodes },
+                Node::Nonterm {
+                    ridx: other_ridx,
+                    nodes: others,
+                },
+            ) => ridx == other_ridx && nodes.len() == others.len(),
+            _ => false,
+        }
+    }
+}
 
 // Lists of as many nodes, which are still to be compared.
 #[derive(Drop)]
@@ -14,7 +78,7 @@ struct Pair<'a, LexemeT, StorageT> {
 
 // Whether as many nodes are equal one by one. A list holds what is left to compare, an entry a level. Where it can't grow,
 // the call goes on by itself, one level down.
-pub(crate) fn are_equal<'a, LexemeT: PartialEq, StorageT: PartialEq>(
+fn are_equal<'a, LexemeT: PartialEq, StorageT: PartialEq>(
     alloc: Global,
     mut nodes: &'a [Node<LexemeT, StorageT>],
     mut others: &'a [Node<LexemeT, StorageT>],

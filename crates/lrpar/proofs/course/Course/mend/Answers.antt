@@ -5,11 +5,11 @@ use Rattle.lrpar.specs.Mending.{GoesOnBy}
 use Rattle.lrpar.specs.PlainSteps.{plain_sequences, plain_steps}
 use Rattle.lrpar.specs.RepairRun.{IsListedAt}
 use Rattle.lrpar.specs.Sequences.{PlainStep}
-use Rattle.lrpar.proofs.CourseLemmas.{first_replays, first_sequence, no_sequence, told_of}
+use Rattle.lrpar.proofs.CourseLemmas.{first_replays, first_sequence, no_sequence}
 use Rattle.lrpar.proofs.course.Course.mend.Goals as goal
 
-pub listed-requires-clause-stack : goal.listed-requires-clause-stack
-listed-requires-clause-stack g c =
+pub noted-requires-clause-stack : goal.noted-requires-clause-stack
+noted-requires-clause-stack g c =
     let upright = c.requires.upright in
     let table = c.stable-stable.ensures.table in
     path_is_stack c.args.self.now.run.checked.now.table (rw table at c.tokens_len-tokens.ensures.end) (rw table at c.rules_len-rules.ensures.end) upright.symbols c.args.stack.now.states upright.path
@@ -22,13 +22,10 @@ returns-in_default-clause-mended g c =
     let d = self.run.checked.now in
     let build = self.run.build.now in
     let old = c.args.stack.now in
-    let empty = no_sequence index c.in_ok-listed.listed.items c.deref-2.result.now c.deref-2.ensures.value (rw c.in_default.is at c.first.ensures.value) in
+    let empty = no_sequence index c.in_ok-listed.listed.items c.deref.result.now c.deref.ensures.value (rw c.in_default.is at c.first.ensures.value) in
     record {
       listed = plain_sequences index c.in_ok-listed.listed.items;
-      is = c.in_ok-listed.ensures.listed;
-      error = c.in_ok-error.field-0;
-      told = told_of facts d.grammar self.lexemes.now index old.states c.args.stop c.in_ok-listed.listed.items c.deref.result.now c.deref.ensures.value c.in_ok-error.field-0 c.in_ok-error.ensures.error;
-      added = c.in_ok-push.ensures.items;
+      noted = c.in_ok-listed.ensures.noted;
       goes_on =
           let Goes : List (List PlainStep) → Type 0 =
           λ l. GoesOnBy facts (g.B.Build.leaf build) (g.B.Build.node build d.grammar) (g.B.Build.suits build) d (g.R.Recoverer.allows self.recoverer.now) self.shifts self.lexemes.now l old c.args.stop old None in
@@ -45,11 +42,11 @@ replay-requires-clause-works g c =
     let allows = g.R.Recoverer.allows self.recoverer.now in
     let old = c.args.stack.now in
     let first = c.in-Some.first.now in
-    let are = first_sequence index c.in_ok-listed.listed.items c.deref-2.result.now first c.deref-3.result.now c.deref-2.ensures.value c.in-Some.ensures.value c.deref-3.ensures.value in
+    let are = first_sequence index c.in_ok-listed.listed.items c.deref.result.now first c.deref-2.result.now c.deref.ensures.value c.in-Some.ensures.value c.deref-2.ensures.value in
     let Lists : List (List PlainStep) → Type 0 =
     λ l. IsListedAt facts allows self.shifts d.grammar d.table self.lexemes.now (record { stack = old.states; place = c.args.stop }) l in
     first_replays facts (g.B.Build.leaf build) (g.B.Build.node build d.grammar) (g.B.Build.suits build) d allows self.shifts self.lexemes.now old old c.args.stop c.args.stop
-    (plain_steps index c.deref-3.result.now) are.0 (subst Lists are.1 c.in_ok-listed.ensures.listed)
+    (plain_steps index c.deref-2.result.now) are.0 (subst Lists are.1 c.in_ok-listed.ensures.noted.is)
 
 pub returns-clause-mended : goal.returns-clause-mended
 returns-clause-mended g c =
@@ -60,13 +57,10 @@ returns-clause-mended g c =
     let build = self.run.build.now in
     let old = c.args.stack.now in
     let first = c.in-Some.first.now in
-    let are = first_sequence index c.in_ok-listed.listed.items c.deref-2.result.now first c.deref-3.result.now c.deref-2.ensures.value c.in-Some.ensures.value c.deref-3.ensures.value in
+    let are = first_sequence index c.in_ok-listed.listed.items c.deref.result.now first c.deref-2.result.now c.deref.ensures.value c.in-Some.ensures.value c.deref-2.ensures.value in
     record {
       listed = plain_sequences index c.in_ok-listed.listed.items;
-      is = c.in_ok-listed.ensures.listed;
-      error = c.in_ok-error.field-0;
-      told = told_of facts d.grammar self.lexemes.now index old.states c.args.stop c.in_ok-listed.listed.items c.deref.result.now c.deref.ensures.value c.in_ok-error.field-0 c.in_ok-error.ensures.error;
-      added = c.in_ok-push.ensures.items;
+      noted = c.in_ok-listed.ensures.noted;
       goes_on =
           let Goes : List (List PlainStep) → Type 0 =
           λ l. GoesOnBy facts (g.B.Build.leaf build) (g.B.Build.node build d.grammar) (g.B.Build.suits build) d (g.R.Recoverer.allows self.recoverer.now) self.shifts self.lexemes.now l old c.args.stop c.replay.new.stack (Some c.in_ok-next.next) in

@@ -26,22 +26,16 @@ returns-in-Some g c =
       );
     }
 
-pub over-requires-clause-can : goal.over-requires-clause-can
-over-requires-clause-can g c =
-    let checked : c.self.inside.checked.now ≡ c.args.self.now.checked = ap (λ v. v.checked) c.self.view_is in
-    rw (c.new.ensures.build, c.new.ensures.checked, checked) c.requires.can
-
 pub returns : goal.returns
 returns g c =
     let lexed = rw c.in-Ok.is at c.in_ok-error.ensures in
-    let checked : c.self.inside.checked.now ≡ c.args.self.now.checked = ap (λ v. v.checked) c.self.view_is in
-    let recoverer : c.self.inside.recoverer ≡ c.args.self.now.recoverer = ap (λ v. v.recoverer) c.self.view_is in
-    let of_run = rw (c.new.ensures.checked, c.new.ensures.build, c.deref-in-None.ensures.value, checked, recoverer, c.shift_count.ensures.count) at c.in_ok-over-in-None.ensures in
+    let grammar : c.self.inside.checked.now.grammar ≡ c.args.self.now.checked.grammar = ap (λ v. v.checked.grammar) c.self.view_is in
     record {
       parse = inr (
         c.in_ok-answers.answers.items,
         c.in_ok-answers.ensures.allowed,
-        run_is_parse _ _ _ _ _ _ c.in_ok-answers.answers.items c.in-Ok.lexemes.items c.in_ok-over-in-None.field-0 lexed.0 lexed.1
-            (rw (c.deref.ensures.value, c.grm.ensures, ap (λ d. d.grammar) checked) at c.in-None.ensures) of_run,
+        run_is_parse _ _ _ _ _ _ c.in_ok-answers.answers.items c.in-Ok.lexemes.items c.in_ok-ran-in-None.field-0 lexed.0 lexed.1
+            (rw (c.deref.ensures.value, c.grm.ensures, grammar) at c.in-None.ensures)
+            (rw (c.deref-in-None.ensures.value) at c.in_ok-ran-in-None.ensures.ran),
       );
     }
