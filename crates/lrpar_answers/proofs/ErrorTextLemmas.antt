@@ -125,29 +125,27 @@ sequence_fits index span input (y ∷ ys) (suc i) x below at fits = sequence_fit
 
 -- one more sequence is listed
 pub listed_next : {X S A : Type 0} (index : S → ℕ) (span : X → Extent) (names : ℕ → Option (List ℕ) → Type 0) (input : List ℕ) (most : ℕ)
-    (sequences : List (Vec (ParseRepair X S) A)) (i : ℕ) (x : Vec (ParseRepair X S) A) (repairs : List (ParseRepair X S)) (old out first text second : List ℕ)
-    → i < length sequences → x ≡ get_or sequences i x → repairs ≡ x.items → AreListed names input most (all_parts index span (take i sequences)) old out
-    → IsPartsText names input (sequence_parts index span repairs) text → first ≡ out ++ numbering most (i + 1) → second ≡ first ++ text
+    (sequences : List (Vec (ParseRepair X S) A)) (i : ℕ) (x : Vec (ParseRepair X S) A) (old out first text second : List ℕ)
+    → i < length sequences → x ≡ get_or sequences i x → AreListed names input most (all_parts index span (take i sequences)) old out
+    → IsPartsText names input (sequence_parts index span x.items) text → first ≡ out ++ numbering most (i + 1) → second ≡ first ++ text
     → AreListed names input most (all_parts index span (take (i + 1) sequences)) old second
-listed_next index span names input most sequences i x repairs old out first text second below at same so_far is e₁ e₂ =
+listed_next index span names input most sequences i x old out first text second below at so_far is e₁ e₂ =
     let count : length (all_parts index span (take i sequences)) ≡ i = all_parts_length index span (take i sequences) ∙ taken_length sequences i below in
-    let own : IsPartsText names input (sequence_parts index span x.items) text = rw (sym same) is in
-    let more = listed_more names input most i (all_parts index span (take i sequences)) (sequence_parts index span x.items) old out first text second so_far count own e₁ e₂ in
+    let more = listed_more names input most i (all_parts index span (take i sequences)) (sequence_parts index span x.items) old out first text second so_far count is e₁ e₂ in
     rw (taken sequences i x below at, all_parts_append index span (take i sequences) (x ∷ [])) more
 
 -- what a fault says of a sequence, it says of all
 pub fault_listed : {X S A : Type 0} (index : S → ℕ) (span : X → Extent) (names : ℕ → Option (List ℕ) → Type 0) (input : List ℕ) (most : ℕ)
-    (sequences : List (Vec (ParseRepair X S) A)) (i : ℕ) (x : Vec (ParseRepair X S) A) (repairs : List (ParseRepair X S)) (old out : List ℕ) (fault : PpFault S)
-    → i < length sequences → x ≡ get_or sequences i x → repairs ≡ x.items → AreListed names input most (all_parts index span (take i sequences)) old out
-    → IsPpFault index names (inserted (sequence_parts index span repairs)) fault → IsPpFault index names (tokens_of span (repairs_of index sequences)) fault
-fault_listed index span names input most sequences i x repairs old out (NoPrintedName t) below at same so_far first =
+    (sequences : List (Vec (ParseRepair X S) A)) (i : ℕ) (x : Vec (ParseRepair X S) A) (old out : List ℕ) (fault : PpFault S)
+    → i < length sequences → x ≡ get_or sequences i x → AreListed names input most (all_parts index span (take i sequences)) old out
+    → IsPpFault index names (inserted (sequence_parts index span x.items)) fault → IsPpFault index names (tokens_of span (repairs_of index sequences)) fault
+fault_listed index span names input most sequences i x old out (NoPrintedName t) below at so_far first =
     let whole : all_parts index span sequences ≡ all_parts index span (take i sequences) ++ (sequence_parts index span x.items ∷ all_parts index span (drop (i + 1) sequences)) =
     ap (all_parts index span) (around sequences i x below at) ∙ all_parts_append index span (take i sequences) (x ∷ drop (i + 1) sequences) in
-    let own : IsFirstUnnamed names (inserted (sequence_parts index span x.items)) (index t.0) = rw (sym same) first in
     let P : List (List Part) → Type 0 = λ ps. IsFirstUnnamed names (flat_map inserted ps) (index t.0) in
     subst P (sym whole) (unnamed_sequence names input most (all_parts index span (take i sequences)) (all_parts index span (drop (i + 1) sequences))
-    (sequence_parts index span x.items) old out (index t.0) so_far own)
-fault_listed index span names input most sequences i x repairs old out Memory below at same so_far first = tt
+    (sequence_parts index span x.items) old out (index t.0) so_far first)
+fault_listed index span names input most sequences i x old out Memory below at so_far first = tt
 
 -- all sequences are listed
 repaired : (most : ℕ) (texts : List (List ℕ)) → 0 < length texts → most ≡ digits (length texts) → codes " Repair sequences found:" ++ numbered most 1 texts ≡ repairs_text texts

@@ -15,8 +15,7 @@ push_sequence-requires g c κs =
       (refl, tt),
       (
         c.requires.epp,
-        rw c.deref.ensures.value
-            (sequence_fits index span (g.L.NonStreamingLexer.text c.args.lexer.now) c.args.sequences.now c.loop-i.i c.index-sequences-i.result c.loop-i-test.true c.index-sequences-i.is c.requires.fits),
+        sequence_fits index span (g.L.NonStreamingLexer.text c.args.lexer.now) c.args.sequences.now c.loop-i.i c.index-sequences-i.result c.loop-i-test.true c.index-sequences-i.is c.requires.fits,
       ),
     )
 
@@ -26,8 +25,8 @@ returns-in_err-push_sequence-clause-fault g c =
     let span = λ (x : g.row.LexerTypesT-LexemeT.Denot). (g.LexerTypesT.LexemeT.Lexeme.parts x).span in
     err_same c.from_residual-in_err-push_sequence.result _ c.in_err-push_sequence.field-0.0 c.from_residual-in_err-push_sequence.ensures.1
     (fault_listed index span (printed_by index (λ t name. g.F.Fn.post c.args.epp.now (t, tt) name)) (g.L.NonStreamingLexer.text c.args.lexer.now) c.args.most
-    c.args.sequences.now c.loop-i.i c.index-sequences-i.result c.deref.result.now (string_bytes c.args.out.now) (string_bytes c.loop-i.out) c.in_err-push_sequence.field-0.0
-    c.loop-i-test.true c.index-sequences-i.is c.deref.ensures.value c.loop-i.invariant c.in_err-push_sequence.ensures.fault)
+    c.args.sequences.now c.loop-i.i c.index-sequences-i.result (string_bytes c.args.out.now) (string_bytes c.loop-i.out) c.in_err-push_sequence.field-0.0
+    c.loop-i-test.true c.index-sequences-i.is c.loop-i.invariant c.in_err-push_sequence.ensures.fault)
 
 pub loop-i-preserved : goal.loop-i-preserved
 loop-i-preserved g c =
@@ -35,9 +34,9 @@ loop-i-preserved g c =
     let span = λ (x : g.row.LexerTypesT-LexemeT.Denot). (g.LexerTypesT.LexemeT.Lexeme.parts x).span in
     let text = c.in_ok-push_sequence.ensures.text in
     listed_next index span (printed_by index (λ t name. g.F.Fn.post c.args.epp.now (t, tt) name)) (g.L.NonStreamingLexer.text c.args.lexer.now) c.args.most
-    c.args.sequences.now c.loop-i.i c.index-sequences-i.result c.deref.result.now (string_bytes c.args.out.now) (string_bytes c.loop-i.out) (string_bytes c.push_numbering.new.out)
+    c.args.sequences.now c.loop-i.i c.index-sequences-i.result (string_bytes c.args.out.now) (string_bytes c.loop-i.out) (string_bytes c.push_numbering.new.out)
     text.0 (string_bytes c.push_sequence.new.out)
-    c.loop-i-test.true c.index-sequences-i.is c.deref.ensures.value c.loop-i.invariant text.2 c.in_ok-push_numbering.ensures text.1
+    c.loop-i-test.true c.index-sequences-i.is c.loop-i.invariant text.2 c.in_ok-push_numbering.ensures text.1
 
 pub returns-clause-text : goal.returns-clause-text
 returns-clause-text g c =

@@ -19,7 +19,7 @@ invariant-loop-part g l =
       utf8 : shadow (Utf8 l.separator);
       fits : AllByRecursion (PartFits input) (sequence_parts index span l.rest);
       printed : IsPrintedSoFar (printed_by index (λ t name. g.F.Fn.post l.epp (t, tt) name)) input
-          (sequence_parts index span l.fn.sequence) (sequence_parts index span l.rest) (string_bytes l.initial.out) (string_bytes l.out) l.separator;
+          (sequence_parts index span l.fn.sequence.items) (sequence_parts index span l.rest) (string_bytes l.initial.out) (string_bytes l.out) l.separator;
     }
 
 abbrev pub decreases-loop-part : goal.decreases-loop-part
