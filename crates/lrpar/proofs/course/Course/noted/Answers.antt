@@ -1,5 +1,4 @@
 use Rattle.lrpar_answers.specs.Lexemes.{facts_of}
-use Rattle.lrpar.specs.PlainSteps.{plain_sequences}
 use Rattle.lrpar.proofs.CourseLemmas.{told_of}
 use Rattle.lrpar.proofs.course.Course.noted.Goals as goal
 

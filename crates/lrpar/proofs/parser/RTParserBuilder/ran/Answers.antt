@@ -10,4 +10,4 @@ pub returns : goal.returns
 returns g c =
     let checked : c.self.inside.checked.now ≡ c.args.self.now.checked = ap (λ v. v.checked) c.self.view_is in
     let recoverer : c.self.inside.recoverer ≡ c.args.self.now.recoverer = ap (λ v. v.recoverer) c.self.view_is in
-    record { ran = rw (c.new.ensures.checked, c.new.ensures.build, checked, recoverer, c.shift_count.ensures.count) at c.over.ensures; }
+    record { ran = rw (c.new.ensures.checked, c.new.ensures.build, checked, recoverer, c.shift_count.ensures.count) at c.over.ensures }
