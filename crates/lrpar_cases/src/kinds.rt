@@ -1,0 +1,26 @@
+//! The kinds of cases: what says what is done in each, and what comes of it.
+use crate::cases::Case;
+use crate::fault::Fault;
+use crate::subject::Subject;
+use std::alloc::Global;
+use std::rt::Files;
+
+/// The keys of the lines that say what is done in a case of this kind. All others say what has to come.
+pub(crate) fn inputs_of(kind: &str) -> &'static [&'static str] {
+    match kind {
+        _ => &[],
+    }
+}
+
+/// What comes of the case, a line `KEY VALUE` for each thing, in the order in which the case has to want them.
+pub(crate) fn outcome<R: Files>(
+    _rt: &R,
+    alloc: Global,
+    _subject: Option<Subject<'_, '_, '_>>,
+    case: Case<'_, '_>,
+) -> Result<String, Fault> {
+    match case.kind {
+        "nothing" => Ok(String::new(alloc)),
+        _ => Err(Fault::Line(case.number, "a kind of case that isn't known")),
+    }
+}

@@ -1,0 +1,17 @@
+//! A program that runs the case files that it is told, and prints how many cases each has.
+#![tactic(auto)]
+
+mod cases;
+mod fault;
+mod kinds;
+mod line;
+mod runner;
+mod subject;
+mod text;
+mod verdict;
+
+use std::process::ExitCode;
+
+fn main(rt: HostRuntime) -> ExitCode {
+    runner::run_of_process(&rt)
+}
