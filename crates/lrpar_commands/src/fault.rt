@@ -1,7 +1,8 @@
 //! Why a command ends without an answer, and the line that says so.
 ghost use Rattle.std.specs.Prelude.{◌≡◌};
-ghost use Rattle.lrpar_program.specs.declared.fault.Fault.TheVariants.{Memory};
+ghost use Rattle.lrpar_commands.specs.declared.fault.Fault.TheVariants.{Memory};
 
+use crate::repairs::RepairsFault;
 use lrpar::build::BuildFault;
 use lrpar::check::CheckFault;
 use lrpar::grammar::GrammarFault;
@@ -149,6 +150,15 @@ impl From<RulesFault> for Fault {
         match fault {
             RulesFault::Memory => Fault::Memory,
             RulesFault::Line(number) => Fault::Lexer(number),
+        }
+    }
+}
+
+impl From<RepairsFault> for Fault {
+    fn from(fault: RepairsFault) -> Fault {
+        match fault {
+            RepairsFault::Memory => Fault::Memory,
+            RepairsFault::Line(number) => Fault::Repairs(number),
         }
     }
 }

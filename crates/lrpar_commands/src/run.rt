@@ -1,4 +1,6 @@
 //! The whole program: its words to commands, their answers to standard output, their faults to a line and a status.
+ghost use Rattle.std.specs.Prelude.{◌≤◌, IfOk};
+
 use crate::arguments::{Command, TreePaths, command_of};
 use crate::calc::calc;
 use crate::check::check;
@@ -20,9 +22,11 @@ const ERRORS: u8 = 1;
 /// The status of a command that has no answer.
 const FAULT: u8 = 2;
 
-/// Runs the program on the process's own arguments and streams, and answers its exit status. An argument that isn't
-/// UTF-8 is a wrong one.
-pub(crate) fn run_of_process(rt: &HostRuntime) -> u8 {
+/// Runs the program on the process's own arguments and streams, and answers its exit status, as [`run`] does. An argument that
+/// isn't UTF-8 is a wrong one.
+pub fn run_of_process(rt: &HostRuntime) -> u8
+    ensures status { result ≤ 2 }
+{
     match words(rt) {
         Ok(args) => run(rt, rt.alloc(), &args, rt.stdin(), rt.stdout(), rt.stderr()),
         Err(error) => refused(&Fault::of_arguments(&error), &mut rt.stderr()),
@@ -30,20 +34,22 @@ pub(crate) fn run_of_process(rt: &HostRuntime) -> u8 {
 }
 
 /// Runs the program and answers its exit status: 0 for an answer, 1 for an answer on an input with errors, 2 for no
-/// answer. `args` are the words after the program's name.
+/// answer. `args` are the words after the program's name, and the files that they name are read by `rt`.
 ///
 /// Answers are written to `out`. A command that gives none, as its words are wrong, memory is wanting or `out` fails,
 /// writes one line to `err`, which says why; that `err` fails changes nothing.
 ///
 /// What is written to `out` is kept back until much of it is there, or something is written to `err`, or the program ends.
-pub(crate) fn run<R: Files, I: Read + Drop, O: Write + Drop, E: Write + Drop>(
+pub fn run<R: Files, I: Read + Drop, O: Write + Drop, E: Write + Drop>(
     rt: &R,
     alloc: Global,
     args: &[String],
     input: I,
     out: O,
     mut err: E,
-) -> u8 {
+) -> u8
+    ensures status { result ≤ 2 }
+{
     match written(rt, alloc, args, input, out, &mut err) {
         Ok(status) => status,
         Err(fault) => refused(&fault, &mut err),
@@ -63,7 +69,9 @@ fn written<R: Files, I: Read + Drop, O: Write + Drop, E: Write>(
     input: I,
     out: O,
     err: &mut E,
-) -> Result<u8, Fault> {
+) -> Result<u8, Fault>
+    ensures { IfOk result (λ status. status ≤ 2) }
+{
     match BufWriter::new(alloc, out) {
         Ok(mut out) => {
             let status = printed(rt, alloc, args, input, &mut out, err);
@@ -81,7 +89,9 @@ fn printed<R: Files, I: Read + Drop, O: Write, E: Write>(
     input: I,
     out: &mut O,
     err: &mut E,
-) -> Result<u8, Fault> {
+) -> Result<u8, Fault>
+    ensures { IfOk result (λ status. status ≤ 2) }
+{
     match command_of(args)? {
         Command::Demo { text } => Ok(status_of(demo(alloc, text, out)?, ERRORS)),
         Command::Tree { shifts, paths } => {
@@ -146,15 +156,18 @@ fn calc_input<R: Files, I: Read + Drop, O: Write, E: Write>(
 }
 
 // The status of a command that is well, or else another one.
-fn status_of(is_well: bool, other: u8) -> u8 {
+fn status_of(is_well: bool, other: u8) -> u8
+    requires { other ≤ 2 }
+    ensures { result ≤ 2 }
+{
     if is_well { SUCCESS } else { other }
 }
 
 // The status, once all that was printed is written. What `out` doesn't take isn't tried again.
-fn finished<O: Write + Drop>(
-    status: Result<u8, Fault>,
-    mut out: BufWriter<O>,
-) -> Result<u8, Fault> {
+fn finished<O: Write + Drop>(status: Result<u8, Fault>, mut out: BufWriter<O>) -> Result<u8, Fault>
+    requires { IfOk status (λ status. status ≤ 2) }
+    ensures { IfOk result (λ status. status ≤ 2) }
+{
     let status = flushed(status, &mut out);
     if status.is_err() {
         let _ = out.into_parts();
@@ -163,7 +176,10 @@ fn finished<O: Write + Drop>(
 }
 
 // The status, once all that was printed is written.
-fn flushed<O: Write>(status: Result<u8, Fault>, out: &mut O) -> Result<u8, Fault> {
+fn flushed<O: Write>(status: Result<u8, Fault>, out: &mut O) -> Result<u8, Fault>
+    requires { IfOk status (λ status. status ≤ 2) }
+    ensures { IfOk result (λ status. status ≤ 2) }
+{
     let written = out.flush();
     match (status, written) {
         (Ok(status), Ok(())) => Ok(status),
@@ -173,7 +189,9 @@ fn flushed<O: Write>(status: Result<u8, Fault>, out: &mut O) -> Result<u8, Fault
 }
 
 // Writes the fault's line, as far as that can be done, and answers its status.
-fn refused<E: Write>(fault: &Fault, err: &mut E) -> u8 {
+fn refused<E: Write>(fault: &Fault, err: &mut E) -> u8
+    ensures { result ≤ 2 }
+{
     if writeln!(err, "{fault}").is_ok() {
         let _ = err.flush();
     }
