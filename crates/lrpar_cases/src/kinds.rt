@@ -1,6 +1,7 @@
 //! The kinds of cases: what says what is done in each, and what comes of it.
 use crate::cases::Case;
 use crate::fault::Fault;
+use crate::parse;
 use crate::subject::Subject;
 use std::alloc::Global;
 use std::rt::Files;
@@ -8,6 +9,7 @@ use std::rt::Files;
 /// The keys of the lines that say what is done in a case of this kind. All others say what has to come.
 pub(crate) fn inputs_of(kind: &str) -> &'static [&'static str] {
     match kind {
+        "parse" => parse::INPUTS,
         _ => &[],
     }
 }
@@ -16,10 +18,11 @@ pub(crate) fn inputs_of(kind: &str) -> &'static [&'static str] {
 pub(crate) fn outcome<R: Files>(
     _rt: &R,
     alloc: Global,
-    _subject: Option<Subject<'_, '_, '_>>,
+    subject: Option<Subject<'_, '_, '_>>,
     case: Case<'_, '_>,
 ) -> Result<String, Fault> {
     match case.kind {
+        "parse" => parse::outcome(alloc, subject, case),
         "nothing" => Ok(String::new(alloc)),
         _ => Err(Fault::Line(case.number, "a kind of case that isn't known")),
     }

@@ -4,8 +4,12 @@
 mod cases;
 mod fault;
 mod kinds;
+mod lexemes;
 mod line;
+mod parse;
 mod runner;
+mod shown;
+mod steps;
 mod subject;
 mod text;
 mod verdict;
