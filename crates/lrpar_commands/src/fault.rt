@@ -2,7 +2,6 @@
 ghost use Rattle.std.specs.Prelude.{◌≡◌};
 ghost use Rattle.lrpar_commands.specs.declared.fault.Fault.TheVariants.{Memory};
 
-use crate::repairs::RepairsFault;
 use lrpar::build::BuildFault;
 use lrpar::check::CheckFault;
 use lrpar::grammar::GrammarFault;
@@ -150,15 +149,6 @@ impl From<RulesFault> for Fault {
         match fault {
             RulesFault::Memory => Fault::Memory,
             RulesFault::Line(number) => Fault::Lexer(number),
-        }
-    }
-}
-
-impl From<RepairsFault> for Fault {
-    fn from(fault: RepairsFault) -> Fault {
-        match fault {
-            RepairsFault::Memory => Fault::Memory,
-            RepairsFault::Line(number) => Fault::Repairs(number),
         }
     }
 }

@@ -9,11 +9,10 @@ mod fault;
 mod files;
 mod lexer;
 mod parsing;
+mod program;
 mod repairs;
-mod run;
 mod sum;
 mod tables;
 mod tree;
 
-pub use repairs::{RepairsFault, recoverer_of};
-pub use run::{run, run_of_process};
+pub use program::{run, run_of_process};

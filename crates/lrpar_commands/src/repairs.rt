@@ -1,23 +1,9 @@
 //! Sequences of repairs as a text.
-ghost use Rattle.std.specs.Prelude.{◌≡◌};
-ghost use Rattle.lrpar_commands.specs.declared.repairs.RepairsFault.TheVariants.{Memory};
-
+use crate::fault::Fault;
 use lrpar::grammar::YaccGrammar;
 use lrpar::repair::{FixedRecoverer, RepairStep};
 use lrpar::span::TIdx;
-use std::alloc::{AllocError, AllocFailed, Global};
-use thiserror::Error;
-
-/// Why a text isn't one of sequences of repairs.
-#[derive(Debug, Drop, Error)]
-pub enum RepairsFault {
-    /// The line of this number, counted from 1, is no sequence: it isn't written as one, or names no token of the grammar.
-    #[error("line {0}")]
-    Line(usize),
-    /// Memory was wanting.
-    #[error("out of memory")]
-    Memory,
-}
+use std::alloc::Global;
 
 /// A step, and the text after it.
 type StepAndRest<'a> = (RepairStep<u32>, &'a str);
@@ -25,13 +11,11 @@ type StepAndRest<'a> = (RepairStep<u32>, &'a str);
 /// The recoverer of a text: a sequence a line, of steps `insert 'NAME'` or `insert "NAME"`, `delete` and `shift`, with spaces or
 /// tabs between. At both ends of a line spaces, tabs and carriage returns count for nothing, and a line that has nothing else is
 /// left out.
-///
-/// The sequences come in the order of their lines. A fault names the first line that is no sequence.
-pub fn recoverer_of(
+pub(crate) fn recoverer_of(
     alloc: Global,
     grm: &YaccGrammar<u32>,
     text: &str,
-) -> Result<FixedRecoverer<u32>, RepairsFault> {
+) -> Result<FixedRecoverer<u32>, Fault> {
     let mut sequences = Vec::new(alloc);
     let mut number = 0usize;
     for line in text.split('\n') {
@@ -50,7 +34,7 @@ fn sequence_of(
     grm: &YaccGrammar<u32>,
     line: &str,
     number: usize,
-) -> Result<Vec<RepairStep<u32>>, RepairsFault> {
+) -> Result<Vec<RepairStep<u32>>, Fault> {
     let mut steps = Vec::new(alloc);
     let mut rest = line;
     for _ in 0..line.len() {
@@ -58,7 +42,7 @@ fn sequence_of(
             break;
         }
         let Some((step, after)) = step_of(grm, rest) else {
-            return Err(RepairsFault::Line(number));
+            return Err(Fault::Repairs(number));
         };
         steps.push(step)?;
         rest = after;
@@ -104,21 +88,5 @@ fn after_gap(text: &str) -> Option<&str> {
         Some(after)
     } else {
         None
-    }
-}
-
-impl From<AllocError> for RepairsFault {
-    ghost from_gives = { λ _ fault. fault ≡ Memory };
-
-    fn from(_: AllocError) -> RepairsFault {
-        RepairsFault::Memory
-    }
-}
-
-impl<T: Drop> From<AllocFailed<T>> for RepairsFault {
-    ghost from_gives = { λ _ fault. fault ≡ Memory };
-
-    fn from(_: AllocFailed<T>) -> RepairsFault {
-        RepairsFault::Memory
     }
 }
