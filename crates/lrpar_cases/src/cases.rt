@@ -137,8 +137,19 @@ pub(crate) fn value_of<'a>(lines: &[Line<'a>]) -> Option<(&'a str, usize)> {
 /// behind each.
 pub(crate) fn bytes_of(alloc: Global, lines: &[Line<'_>]) -> Result<Vec<u8>, Fault> {
     let (value, number) = value_of(lines).unwrap_or(("", 0));
+    bytes_below(alloc, value, number, lines.get(1..).unwrap_or(&[]))
+}
+
+/// The text of a value in the line of this number, in which escapes are read, and then the lines of text with which those below it
+/// begin, with a line feed behind each.
+pub(crate) fn bytes_below(
+    alloc: Global,
+    value: &str,
+    number: usize,
+    below: &[Line<'_>],
+) -> Result<Vec<u8>, Fault> {
     let mut bytes = unescaped(alloc, value, number)?;
-    for line in lines.get(1..).unwrap_or(&[]) {
+    for line in below {
         let Content::Text(text) = line.content else {
             break;
         };

@@ -1,5 +1,6 @@
 //! The kinds of cases: what says what is done in each, and what comes of it.
 use crate::cases::Case;
+use crate::commands;
 use crate::fault::Fault;
 use crate::parse;
 use crate::subject::Subject;
@@ -10,19 +11,21 @@ use std::rt::Files;
 pub(crate) fn inputs_of(kind: &str) -> &'static [&'static str] {
     match kind {
         "parse" => parse::INPUTS,
+        "run" => commands::INPUTS,
         _ => &[],
     }
 }
 
 /// What comes of the case, a line `KEY VALUE` for each thing, in the order in which the case has to want them.
 pub(crate) fn outcome<R: Files>(
-    _rt: &R,
+    rt: &R,
     alloc: Global,
     subject: Option<Subject<'_, '_, '_>>,
     case: Case<'_, '_>,
 ) -> Result<String, Fault> {
     match case.kind {
         "parse" => parse::outcome(alloc, subject, case),
+        "run" => commands::outcome(rt, alloc, case),
         "nothing" => Ok(String::new(alloc)),
         _ => Err(Fault::Line(case.number, "a kind of case that isn't known")),
     }

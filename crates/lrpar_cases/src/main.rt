@@ -2,6 +2,7 @@
 #![tactic(auto)]
 
 mod cases;
+mod commands;
 mod fault;
 mod kinds;
 mod lexemes;
