@@ -11,8 +11,6 @@ mod built;
 mod calculation;
 pub mod calculator;
 #[cfg(test)]
-mod calls;
-#[cfg(test)]
 mod check;
 #[cfg(test)]
 mod counts;
@@ -20,8 +18,6 @@ mod counts;
 mod errors;
 #[cfg(test)]
 mod fixtures;
-#[cfg(test)]
-mod four;
 #[cfg(test)]
 mod grammar;
 #[cfg(test)]
@@ -31,15 +27,11 @@ mod lexer;
 #[cfg(test)]
 mod lines;
 #[cfg(test)]
-mod nodes;
-#[cfg(test)]
-mod parse;
-#[cfg(test)]
 mod reader;
 #[cfg(test)]
 mod readme;
 #[cfg(test)]
-mod recoverers;
+mod recoverer;
 #[cfg(test)]
 mod repairs;
 #[cfg(test)]
@@ -48,7 +40,5 @@ mod span;
 mod stacks;
 #[cfg(test)]
 mod table;
-#[cfg(test)]
-mod texts;
 #[cfg(test)]
 mod trees;
