@@ -2,6 +2,7 @@
 #![tactic(auto)]
 
 mod built;
+mod calls;
 mod cases;
 mod checks;
 mod commands;
