@@ -4,16 +4,12 @@
 #[cfg(test)]
 mod actions;
 #[cfg(test)]
-mod builder;
-#[cfg(test)]
 mod built;
 #[cfg(test)]
 mod calculation;
 pub mod calculator;
 #[cfg(test)]
 mod calls;
-#[cfg(test)]
-mod check;
 #[cfg(test)]
 mod counts;
 #[cfg(test)]
@@ -23,10 +19,6 @@ mod fixtures;
 #[cfg(test)]
 mod four;
 #[cfg(test)]
-mod grammar;
-#[cfg(test)]
-mod graph;
-#[cfg(test)]
 mod lexer;
 #[cfg(test)]
 mod lines;
@@ -35,17 +27,15 @@ mod nodes;
 #[cfg(test)]
 mod parse;
 #[cfg(test)]
-mod reader;
-#[cfg(test)]
 mod readme;
 #[cfg(test)]
 mod recoverers;
 #[cfg(test)]
 mod repairs;
 #[cfg(test)]
-mod span;
+mod sizes;
 #[cfg(test)]
-mod stacks;
+mod span;
 #[cfg(test)]
 mod table;
 #[cfg(test)]
