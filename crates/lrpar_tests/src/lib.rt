@@ -13,8 +13,6 @@ mod counts;
 #[cfg(test)]
 mod errors;
 #[cfg(test)]
-mod fixtures;
-#[cfg(test)]
 mod lexer;
 #[cfg(test)]
 mod lines;
