@@ -144,9 +144,10 @@ def names_at(crate, place, known):
     module = re.sub(r"^src/|\.rt$", "", path).replace("/", "::")
     module = crate if module in ("lib", "main") else f"{crate}::{module}"
     owner = owner_of(lines, head) if indent else ""
-    found = [it for it in known if re.fullmatch(rf"{module}::{owner}{function}", it)]
-    # (the name of an impl for a type without a name is rattle's own)
-    return found or [it for it in known if re.fullmatch(rf"{module}::\w+::{function}", it)]
+    # A check names a method by the module of its type, and one of an impl for a type without a name in a way of its own.
+    patterns = [f"{module}::{owner}{function}", rf"{crate}::(?:\w+::)*{owner}{function}", rf"{module}::\w+::{function}"]
+    found = [[it for it in known if re.fullmatch(pattern, it)] for pattern in patterns]
+    return next((it for it in found if it), [])
 
 
 def is_within(lines, head, at):
@@ -167,7 +168,7 @@ def owner_of(lines, at):
         head, was = re.sub(r"<[^<>]*>", "", head), head
         if head == was:
             break
-    words = re.sub(r"^.*?\b(?:impl|trait)\b|\bwhere\b.*|:[^:].*|\{.*", "", head).split(" for ")
+    words = re.sub(r"^.*?\b(?:impl|trait)\b|\bwhere\b.*|(?<!:):(?!:).*|\{.*", "", head).split(" for ")
     kind, trait = ["".join(re.findall(r"\w+", it)[-1:]) for it in (words[-1], words[0])]
     kind = kind[:1].upper() + kind[1:]
     if len(words) == 1:
@@ -178,14 +179,15 @@ def owner_of(lines, at):
 # ---- Copies
 
 
-def copy_repository(source, to):
-    """Copies what a check reads: the crates, and the libraries that they made."""
+def copy_repository(source, to, parts):
+    """Copies what a check reads: the crates, and these parts of what was made of them."""
     os.makedirs(to)
     for name in ("crates.txt", "HANDLES"):
         shutil.copyfile(f"{source}/{name}", f"{to}/{name}")
     shutil.copytree(f"{source}/crates", f"{to}/crates", ignore=shutil.ignore_patterns("out", "must-fail"))
     for crate in os.listdir(f"{source}/crates"):
-        link(f"{source}/crates/{crate}/out/rlib", f"{to}/crates/{crate}/out/rlib")
+        for part in parts:
+            link(f"{source}/crates/{crate}/out/{part}", f"{to}/crates/{crate}/out/{part}")
 
 
 def link(source, to):
@@ -275,7 +277,6 @@ def try_crate(crate, files, room, workers):
         say(f"{crate}: NOT TRIED: there is no such crate")
         return 0
     kept = f"{first}/crates/{crate}/out/incremental"
-    link(f"{ROOT}/crates/{crate}/out/incremental", kept)
     status, lines = check(f"{first}/crates/{crate}", workers)
     if status != 0:
         say("\n".join([f"{crate}: NOT TRIED: the unedited crate isn't proved", *lines[-20:]]))
@@ -283,19 +284,22 @@ def try_crate(crate, files, room, workers):
     known = [it[1] for it in (re.match(r"fn (\S+): proved", line) for line in lines) if it]
     copies = queue.SimpleQueue()
     for at in range(min(workers, len(files))):
-        copy_repository(first, f"{room}/{at}")
+        copy_repository(first, f"{room}/{at}", ["rlib"])
         link(kept, f"{room}/{at}/crates/{crate}/out/incremental")
         copies.put(f"{room}/{at}")
     refused = 0
-    with ThreadPoolExecutor(workers) as pool:
+    pool = ThreadPoolExecutor(workers)
+    try:
         tasks = [pool.submit(try_file, crate, it, copies, kept, known) for it in files]
         for it in as_completed(tasks):
             is_refused, text = it.result()
             say(text)
             refused += is_refused
+    finally:
+        # (after a signal those that are being tried still end)
+        pool.shutdown(cancel_futures=True)
     for at in range(min(workers, len(files))):
         shutil.rmtree(f"{room}/{at}")
-    shutil.rmtree(kept)
     return refused
 
 
@@ -328,7 +332,7 @@ def main():
         say(f"{word}: NOT TRIED: there is no such edit")
     passed = 0
     with tempfile.TemporaryDirectory(prefix="planted-") as room:
-        copy_repository(ROOT, f"{room}/first")
+        copy_repository(ROOT, f"{room}/first", ["rlib", "incremental"])
         for crate, files in found.items():
             if files:
                 passed += try_crate(crate, files, room, max(given.workers, 1))

@@ -1,6 +1,7 @@
 //! Cases `parse`: what the four calls answer by both tables, which has to be the same.
-ghost use Rattle.std.specs.Prelude.{◌≡◌, ◌↔◌, IfOk, IsTrue};
+ghost use Rattle.std.specs.Prelude.{◌≡◌};
 
+use crate::calls::{Answer, CALLS, Call, Parser, Places, answer_by};
 use crate::cases::Case;
 use crate::fault::Fault;
 use crate::lexemes::{Given, HandedLexer, given_of};
@@ -9,108 +10,17 @@ use crate::steps::sequences_of;
 use crate::subject::{Subject, Tables};
 use crate::text::push_text;
 use lrpar::grammar::YaccGrammar;
-use lrpar::parser::{AStackType, Actions, ParseFault, PpFault};
+use lrpar::parser::PpFault;
 use lrpar::repair::FixedRecoverer;
-use lrpar::span::{PIdx, RIdx, Span, Symbol, TIdx};
-use lrpar::{Node, NonStreamingLexer, ParserData, RTParserBuilder, action_generictree};
-use lrpar_lexer::{RuleLexer, Token, TokenTypes};
-use std::alloc::{AllocError, Global};
+use lrpar::span::TIdx;
+use lrpar::{NonStreamingLexer, ParserData, RTParserBuilder};
+use lrpar_lexer::{RuleLexer, TokenTypes};
+use std::alloc::Global;
 use std::cell::RefCell;
 
 pub(crate) const INPUTS: &[&str] = &[
     "lexemes", "shifts", "repairs", "input", "print", "show", "hide",
 ];
-
-/// A parser of a case.
-type Parser<'a> = RTParserBuilder<'a, u32, TokenTypes, FixedRecoverer<u32>>;
-
-/// What a parse answers.
-type Answer = Result<(Option<Tree>, Vec<CaseError>), ParseFault>;
-
-/// Where rules lie, in the order of the reductions.
-type Places = RefCell<Vec<(RIdx<u32>, Span)>>;
-
-/// One of the four calls.
-#[derive(Clone, Copy, Debug)]
-enum Call {
-    ParseMap,
-    ParseActions,
-    ParseGenerictree,
-    ParseNoaction,
-}
-
-/// All of them.
-const CALLS: [Call; 4] = [
-    Call::ParseMap,
-    Call::ParseActions,
-    Call::ParseGenerictree,
-    Call::ParseNoaction,
-];
-
-/// Makes trees, and notes where their rules lie. Of its answers it states nothing.
-#[derive(Drop)]
-struct Noting;
-
-impl<'a> Actions<u32, Token<u32>, HandedLexer<'a>> for Noting {
-    type ActionT = Tree;
-
-    type ParamT = Places;
-
-    ghost taken = { λ _ _ _ _. Unit {0} };
-
-    ghost fact = { λ _ _ _. Unit {0} };
-
-    ghost answers = { λ _ _ _ _ _ _ _ _. Unit {0} };
-
-    fn takes(&self, _: PIdx<u32>, _: RIdx<u32>, _: &[Symbol<u32>]) -> bool
-        ensures { IsTrue result ↔ Unit {0} }
-    {
-        true
-    }
-
-    fn act(
-        &self,
-        alloc: Global,
-        _: PIdx<u32>,
-        ridx: RIdx<u32>,
-        lexer: &HandedLexer<'a>,
-        span: Span,
-        args: Vec<AStackType<Token<u32>, Tree>>,
-        places: &Places,
-    ) -> Result<Tree, AllocError>
-        ensures fact { IfOk result (λ _. Unit {0}) }
-        ensures answers { IfOk result (λ _. Unit {0}) }
-    {
-        if let Ok(mut noted) = places.try_borrow_mut() {
-            noted.push((ridx, span))?;
-        }
-        action_generictree::<u32, TokenTypes, HandedLexer<'a>>(alloc, ridx, lexer, span, args, &())
-    }
-}
-
-// What the call answers. Where it has actions, they note where the rules lie.
-fn answer_by(
-    alloc: Global,
-    call: Call,
-    parser: &Parser<'_>,
-    lexer: &HandedLexer<'_>,
-    places: &Places,
-) -> Answer {
-    match call {
-        Call::ParseMap => parser.parse_map(
-            alloc,
-            lexer,
-            |lexeme| Node::Term { lexeme },
-            |ridx, nodes| Node::Nonterm { ridx, nodes },
-        ),
-        Call::ParseActions => parser.parse_actions(alloc, lexer, &Noting, places),
-        Call::ParseGenerictree => parser.parse_generictree(alloc, lexer),
-        Call::ParseNoaction => match parser.parse_noaction(alloc, lexer) {
-            Ok(errors) => Ok((None, errors)),
-            Err(fault) => Err(fault),
-        },
-    }
-}
 
 /// What comes of a parse.
 #[derive(Drop)]
