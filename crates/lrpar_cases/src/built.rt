@@ -128,13 +128,21 @@ fn push_handed_back<S: StorageIndex>(
     }
     let (grm, graph, table) = refused.into_parts();
     match ParserData::new(alloc, grm, graph, table, cap_at(case, "then-cap")?) {
-        Ok(data) => {
-            came.push_str("then checked\n")?;
-            Ok(came.push_str(text_of_data(alloc, &data)?.as_str())?)
-        }
+        Ok(data) => push_rows(came, alloc, &data),
         Err(refused) => {
             let fault = refused.fault();
             Ok(writeln!(came, "then refused {fault}")?)
         }
     }
+}
+
+// That the table is checked with the other cap, and its rows.
+fn push_rows<S: StorageIndex>(
+    came: &mut String,
+    alloc: Global,
+    data: &ParserData<S>,
+) -> Result<(), Fault> {
+    let text = text_of_data(alloc, data)?;
+    came.push_str("then checked\n")?;
+    Ok(came.push_str(text.as_str())?)
 }

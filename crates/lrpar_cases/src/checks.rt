@@ -2,9 +2,8 @@
 use crate::cases::Case;
 use crate::fault::Fault;
 use crate::hand::{By, Hand};
-use crate::line::Line;
 use crate::read::CAP;
-use crate::rows::{agreed, text_of, text_of_data};
+use crate::rows::{agreed, text_of};
 use crate::subject::Subject;
 use lrpar::ParserData;
 use lrpar::check::Refused;
@@ -26,18 +25,19 @@ pub(crate) fn outcome(
     case: Case<'_, '_>,
 ) -> Result<String, Fault> {
     match subject {
-        None => outcome_of(alloc, case, &[]),
-        Some(subject) => outcome_of(alloc, subject.case, case.lines),
+        None => outcome_of(alloc, Hand::of(case)),
+        Some(subject) => outcome_of(
+            alloc,
+            Hand {
+                table: subject.case,
+                changes: case.lines,
+            },
+        ),
     }
 }
 
 // What comes of it by each of the two calls.
-fn outcome_of<'t, 'a>(
-    alloc: Global,
-    table: Case<'t, 'a>,
-    changes: &'t [Line<'a>],
-) -> Result<String, Fault> {
-    let hand = Hand { table, changes };
+fn outcome_of(alloc: Global, hand: Hand<'_, '_>) -> Result<String, Fault> {
     agreed(
         outcome_by(alloc, hand, By::Rows)?,
         outcome_by(alloc, hand, By::Entries)?,
@@ -54,20 +54,37 @@ fn outcome_by(alloc: Global, hand: Hand<'_, '_>, by: By) -> Result<String, Fault
 // What comes of the check of the table that this call makes.
 fn push_checked(came: &mut String, alloc: Global, hand: Hand<'_, '_>, by: By) -> Result<(), Fault> {
     let grm = hand.grammar(alloc)?;
-    let (graph, table) = (hand.graph(alloc, &grm)?, hand.table(alloc, &grm, by)?);
+    let graph = hand.graph(alloc, &grm)?;
+    let table = hand.table(alloc, &grm, by)?;
     let was = text_of(alloc, &grm, &graph, &table)?;
     match ParserData::new(alloc, grm, graph, table, hand.cap("cap", CAP)?) {
-        Ok(data) => {
-            came.push_str("checked\n")?;
-            push_kept(came, was.as_str(), &text_of_data(alloc, &data)?)
-        }
+        Ok(data) => push_taken(came, alloc, &data, was.as_str()),
         Err(refused) => push_refusal(came, alloc, hand, by, refused, was.as_str()),
     }
 }
 
-// Says where what is handed back isn't as it was.
-fn push_kept(came: &mut String, was: &str, kept: &String) -> Result<(), Fault> {
-    if kept.as_str() == was {
+// That the table is taken, and whether it keeps its parts.
+fn push_taken(
+    came: &mut String,
+    alloc: Global,
+    data: &ParserData<u32>,
+    was: &str,
+) -> Result<(), Fault> {
+    came.push_str("checked\n")?;
+    push_kept(came, alloc, data.grm(), data.sgraph(), data.stable(), was)
+}
+
+// Says where the parts aren't as they were.
+fn push_kept(
+    came: &mut String,
+    alloc: Global,
+    grm: &YaccGrammar<u32>,
+    graph: &StateGraph<u32>,
+    table: &StateTable<u32>,
+    was: &str,
+) -> Result<(), Fault> {
+    let is = text_of(alloc, grm, graph, table)?;
+    if is.as_str() == was {
         Ok(())
     } else {
         Ok(came.push_str("lost\n")?)
@@ -84,9 +101,9 @@ fn push_refusal(
     was: &str,
 ) -> Result<(), Fault> {
     let fault = refused.fault();
-    let (grm, graph, table) = refused.into_parts();
     writeln!(came, "refused {fault}")?;
-    push_kept(came, was, &text_of(alloc, &grm, &graph, &table)?)?;
+    let (grm, graph, table) = refused.into_parts();
+    push_kept(came, alloc, &grm, &graph, &table, was)?;
     push_mended(came, alloc, hand, by, grm, graph, table)
 }
 

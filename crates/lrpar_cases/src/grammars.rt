@@ -25,10 +25,12 @@ pub(crate) fn shown(
     case: Case<'_, '_>,
     made: Result<YaccGrammar<u8>, GrammarFault>,
 ) -> Result<String, Fault> {
+    let mut came = String::new(alloc);
     match made {
-        Ok(grm) => about(alloc, case, &grm),
-        Err(fault) => text_of_fault(alloc, &fault),
+        Ok(grm) => push_shown(&mut came, alloc, case, &grm)?,
+        Err(fault) => push_fault(&mut came, &fault)?,
     }
+    Ok(came)
 }
 
 /// Why there is no grammar of each beginning of a text.
@@ -37,23 +39,23 @@ pub(crate) fn outcome_of_cuts(alloc: Global, case: Case<'_, '_>) -> Result<Strin
     let mut came = String::new(alloc);
     for (len, _) in text.as_str().char_indices() {
         let cut = text.as_str().get(..len).unwrap_or("");
+        write!(came, "cut {len}: ")?;
         push_cut(&mut came, alloc, cut)?;
     }
     Ok(came)
 }
 
-// How long the text is, and why it is no grammar.
+// Why the text is no grammar.
 fn push_cut(came: &mut String, alloc: Global, cut: &str) -> Result<(), Fault> {
-    let len = cut.len();
-    write!(came, "cut {len}: ")?;
     match YaccGrammar::<u8>::new_with_storaget(alloc, cut) {
         Ok(_) => Ok(came.push_str("a grammar\n")?),
-        Err(fault) => Ok(came.push_str(text_of_fault(alloc, &fault)?.as_str())?),
+        Err(fault) => push_fault(came, &fault),
     }
 }
 
 // The fault, with where its span ends, if it has one.
-fn text_of_fault(alloc: Global, fault: &GrammarFault) -> Result<String, Fault> {
+fn push_fault(came: &mut String, fault: &GrammarFault) -> Result<(), Fault> {
+    write!(came, "fault {fault}")?;
     match fault {
         GrammarFault::UnknownRule(span)
         | GrammarFault::UnknownToken(span)
@@ -61,24 +63,28 @@ fn text_of_fault(alloc: Global, fault: &GrammarFault) -> Result<String, Fault> {
         | GrammarFault::RepeatedStart(span)
         | GrammarFault::RepeatedEpp(span) => {
             let end = span.end();
-            Ok(format!(in alloc; "fault {fault}..{end}\n")?)
+            Ok(writeln!(came, "..{end}")?)
         }
         GrammarFault::BadSymbol
         | GrammarFault::BadStart
         | GrammarFault::NoRules
         | GrammarFault::StorageTooSmall
         | GrammarFault::Syntax(_)
-        | GrammarFault::Memory => Ok(format!(in alloc; "fault {fault}\n")?),
+        | GrammarFault::Memory => Ok(came.push('\n')?),
     }
 }
 
 // What is asked for of the grammar.
-fn about(alloc: Global, case: Case<'_, '_>, grm: &YaccGrammar<u8>) -> Result<String, Fault> {
-    let mut came = String::new(alloc);
+fn push_shown(
+    came: &mut String,
+    alloc: Global,
+    case: Case<'_, '_>,
+    grm: &YaccGrammar<u8>,
+) -> Result<(), Fault> {
     for word in case.value_or_nothing("show").split(' ') {
-        push_about(&mut came, alloc, case, grm, word)?;
+        push_about(came, alloc, case, grm, word)?;
     }
-    Ok(came)
+    Ok(())
 }
 
 // What one word asks for.

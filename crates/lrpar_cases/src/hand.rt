@@ -32,7 +32,7 @@ impl<'t, 'a> Hand<'t, 'a> {
     pub(crate) fn of(table: Case<'t, 'a>) -> Self {
         Hand {
             table,
-            changes: &[],
+            changes: &table.lines[..0],
         }
     }
 

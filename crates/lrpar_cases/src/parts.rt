@@ -20,6 +20,9 @@ pub(crate) const INPUTS: &[&str] = &[
     "find",
 ];
 
+/// What is said where a span can't be read.
+const NO_SPAN: &str = "a span is wanted, as 3..4";
+
 /// The grammar of the parts, in the smallest storage type.
 pub(crate) fn outcome(alloc: Global, case: Case<'_, '_>) -> Result<String, Fault> {
     let parts = parts_of(alloc, case)?;
@@ -71,7 +74,10 @@ fn add_rule(
     line: usize,
 ) -> Result<(), Fault> {
     let (name, place) = in_two(value);
-    let (name, span) = (String::from_str(alloc, name)?, span_of(place, line)?);
+    let Some(span) = span_of(place) else {
+        return Err(Fault::Line(line, NO_SPAN));
+    };
+    let name = String::from_str(alloc, name)?;
     Ok(rules.push(RulePart { name, span })?)
 }
 
@@ -84,7 +90,10 @@ fn add_token(
 ) -> Result<(), Fault> {
     let (name, rest) = in_two(value);
     let (place, printed) = in_two(rest);
-    push_token(tokens, alloc, name, span_of(place, line)?, printed)
+    match span_of(place) {
+        Some(span) => push_token(tokens, alloc, name, span, printed),
+        None => Err(Fault::Line(line, NO_SPAN)),
+    }
 }
 
 // Adds so many tokens, all of one name.
@@ -103,11 +112,11 @@ fn push_token(
     span: Span,
     printed: &str,
 ) -> Result<(), Fault> {
-    let name = String::from_str(alloc, name)?;
     let epp = match printed.is_empty() {
         true => None,
         false => Some(String::from_str(alloc, printed)?),
     };
+    let name = String::from_str(alloc, name)?;
     Ok(tokens.push(TokenPart { name, epp, span })?)
 }
 
@@ -120,8 +129,12 @@ fn add_prod(
 ) -> Result<(), Fault> {
     let (head, list) = value.split_once(':').unwrap_or((value, ""));
     let (rule, place) = in_two(head);
-    let (rule, span) = (RIdx(index_of(rule, line)?), span_of(place, line)?);
-    let symbols = symbols_of(alloc, list, line)?;
+    let rule = RIdx(index_of(rule, line)?);
+    let Some(span) = span_of(place) else {
+        return Err(Fault::Line(line, NO_SPAN));
+    };
+    let mut symbols = Vec::new(alloc);
+    push_symbols(&mut symbols, list, line)?;
     Ok(prods.push(ProdPart {
         rule,
         symbols,
@@ -129,25 +142,30 @@ fn add_prod(
     })?)
 }
 
-// The symbols of a list.
-fn symbols_of(alloc: Global, list: &str, line: usize) -> Result<Vec<(Symbol<u8>, Span)>, Fault> {
-    let mut symbols = Vec::new(alloc);
+// Adds the symbols of a list.
+fn push_symbols(
+    symbols: &mut Vec<(Symbol<u8>, Span)>,
+    list: &str,
+    line: usize,
+) -> Result<(), Fault> {
     for entry in list.split(',') {
-        if !entry.is_empty() {
-            symbols.push(symbol_of(entry, line)?)?;
+        match symbol_of(entry) {
+            Some(symbol) => symbols.push(symbol)?,
+            None if entry.is_empty() => {}
+            None => return Err(Fault::Line(line, "a symbol is wanted, as rule 1 3..4")),
         }
     }
-    Ok(symbols)
+    Ok(())
 }
 
-// The symbol `rule NUMBER START..END` or `token NUMBER START..END`.
-fn symbol_of(entry: &str, line: usize) -> Result<(Symbol<u8>, Span), Fault> {
+// The symbol `rule NUMBER START..END` or `token NUMBER START..END`, if it is one.
+fn symbol_of(entry: &str) -> Option<(Symbol<u8>, Span)> {
     let (kind, rest) = in_two(entry);
     let (number, place) = in_two(rest);
-    let (number, span) = (index_of(number, line)?, span_of(place, line)?);
-    match kind {
-        "rule" => Ok((Symbol::Rule(RIdx(number)), span)),
-        "token" => Ok((Symbol::Token(TIdx(number)), span)),
-        _ => Err(Fault::Line(line, "a rule or a token is wanted")),
+    let span = span_of(place)?;
+    match (kind, number.parse::<u8>()) {
+        ("rule", Ok(number)) => Some((Symbol::Rule(RIdx(number)), span)),
+        ("token", Ok(number)) => Some((Symbol::Token(TIdx(number)), span)),
+        _ => None,
     }
 }

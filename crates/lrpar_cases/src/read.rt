@@ -46,17 +46,13 @@ pub(crate) fn index_of<S: StorageIndex>(word: &str, line: usize) -> Result<S, Fa
     }
 }
 
-/// The span `START..END`.
-pub(crate) fn span_of(text: &str, line: usize) -> Result<Span, Fault> {
-    let wanted = Fault::Line(line, "a span is wanted, as 3..4");
-    let Some((start, end)) = text.split_once("..") else {
-        return Err(wanted);
-    };
-    let (start, end) = (number_of(start, line)?, number_of(end, line)?);
-    if start > end {
-        return Err(wanted);
+/// The span `START..END`, if it is one.
+pub(crate) fn span_of(text: &str) -> Option<Span> {
+    let (start, end) = text.split_once("..")?;
+    match (start.parse::<usize>(), end.parse::<usize>()) {
+        (Ok(start), Ok(end)) if start <= end => Some(Span::new(start, end)),
+        _ => None,
     }
-    Ok(Span::new(start, end))
 }
 
 /// The action `shift STATE`, `reduce PRODUCTION`, `accept` or `error`.

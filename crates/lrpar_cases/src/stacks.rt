@@ -159,7 +159,8 @@ fn by_overlay(
     call: Call,
 ) -> Result<String, Fault> {
     let answer = called_over(data, over, call)?;
-    text_of(alloc, answer, &over.to_vec()?)
+    let states = over.to_vec()?;
+    text_of(alloc, answer, &states)
 }
 
 // What the call answers at the overlay.
@@ -169,7 +170,8 @@ fn called_over(
     call: Call,
 ) -> Result<Answer, AllocError> {
     let tokens = data.stable().tokens_len();
-    if !data.is_stack(&over.to_vec()?) {
+    let states = over.to_vec()?;
+    if !data.is_stack(&states) {
         return Ok(Answer::Nothing);
     }
     match call {
