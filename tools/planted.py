@@ -144,8 +144,9 @@ def names_at(crate, place, known):
     module = re.sub(r"^src/|\.rt$", "", path).replace("/", "::")
     module = crate if module in ("lib", "main") else f"{crate}::{module}"
     owner = owner_of(lines, head) if indent else ""
-    # A check names a method by the module of its type, and one of an impl for a type without a name in a way of its own.
-    patterns = [f"{module}::{owner}{function}", rf"{crate}::(?:\w+::)*{owner}{function}", rf"{module}::\w+::{function}"]
+    # A check names a method by the module of its type, with the arguments of an impl for some types alone, and one of an impl for
+    # a type without a name in a way of its own.
+    patterns = [f"{module}::{owner}{function}", rf"{crate}::(?:\w+::)*{owner}{function}", rf"{module}::[+\w]+::{function}"]
     found = [[it for it in known if re.fullmatch(pattern, it)] for pattern in patterns]
     return next((it for it in found if it), [])
 
@@ -172,7 +173,7 @@ def owner_of(lines, at):
     kind, trait = ["".join(re.findall(r"\w+", it)[-1:]) for it in (words[-1], words[0])]
     kind = kind[:1].upper() + kind[1:]
     if len(words) == 1:
-        return f"{kind}::"
+        return f"{kind}(?:\\+[+\\w]+)?::"
     return f"{kind}{trait}(?:{argument[1]})?::" if argument else f"{kind}{trait}\\w*::"
 
 
