@@ -2,13 +2,13 @@
 ghost use Rattle.std.specs.Prelude.{◌≡◌, ◌↔◌, IfOk, IsTrue, length};
 ghost use Rattle.lrpar_text.specs.Lines.{line_table};
 
-use crate::lexer::{HandedTypes as TokenTypes, NoToken, Token};
 use lrpar::lines::NewlineCache;
 use lrpar::parser::AStackType::ActionType;
 use lrpar::parser::{AStackType, Actions};
 use lrpar::repair::{FixedRecoverer, RepairStep};
 use lrpar::span::{PIdx, RIdx, Span, Symbol, TIdx};
 use lrpar::{LexParseError, Lexeme, Lexer, NonStreamingLexer, ParserData, RTParserBuilder};
+use lrpar_lexer::{NoToken, Token, TokenTypes};
 use std::alloc::{AllocError, Global};
 use std::test::Fail;
 

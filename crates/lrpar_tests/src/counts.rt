@@ -1,47 +1,101 @@
-//! How often a parse asks its lexer and its recoverer, and in which order it calls the functions of its caller.
-use crate::built::{BRACKETS, TWICE, built};
-use crate::errors::text_of_errors;
-use crate::fixtures::{By, sum_data};
-use crate::four::{Call, FOUR, counting, errors_by};
-use crate::lexer::{HandedLexer, HandedTypes, LexAnswer, Token, lexemes};
-use crate::recoverers::Deleting;
-use lrpar::{Lexeme, ParserData, RTParserBuilder};
+//! How often a parse asks its lexer and its recoverer, in which order it calls the functions of its caller, and what comes where one
+//! of them finds no memory.
+use crate::actions::Counting;
+use crate::built::{BRACKETS, SUM, TWICE, built};
+use crate::lexer::{Given, HandedLexer, lexer_of};
+use crate::recoverer::{Asked, Deleting};
+use lrpar::parser::ParseFault;
+use lrpar::{LexParseError, Lexeme, ParserData, RTParserBuilder};
+use lrpar_lexer::{Token, TokenTypes};
 use std::alloc::Global;
 use std::cell::Cell;
 use std::process::Abort;
 use std::test::Fail;
 
-// The errors of the call as text, and how often it asks the lexer and the recoverer.
-fn asks(
-    alloc: Global,
-    call: Call,
-    data: &ParserData<u32>,
-    answers: &[LexAnswer],
-) -> Result<(String, usize, usize), Fail> {
-    let lexer = counting(answers);
-    let deletions = Cell::new(0);
-    let parser = RTParserBuilder::<u32, HandedTypes>::new(data).recoverer(Deleting {
-        calls: &deletions,
-        fails_at: 0,
-    });
-    let errors = errors_by(alloc, call, &parser, &lexer)?;
-    Ok((
-        text_of_errors(alloc, &errors)?,
-        lexer.calls.get(),
-        deletions.get(),
-    ))
+/// One of the four calls.
+#[derive(Clone, Copy, Debug)]
+enum Call {
+    Map,
+    Actions,
+    Tree,
+    Errors,
 }
 
-/// Lexemes, the errors of their parse, and how often the recoverer is asked.
-type Row = (&'static [(u32, usize)], &'static str, usize);
+/// All of them.
+const FOUR: [Call; 4] = [Call::Map, Call::Actions, Call::Tree, Call::Errors];
 
-// Texts of the grammar *brackets*: without an error; with one that a deletion mends, and with two; and with one that none mends, in
-// front of another.
-const ROWS: [Row; 4] = [
-    (&[(0, 0)], "", 0),
-    (&[(0, 0), (0, 1)], "2@0:1+1[ d1] ", 1),
-    (&TWICE, "2@3:1+1[ d1] 8@3:8+1[ d8] ", 2),
-    (&[(0, 0), (0, 1), (1, 2), (0, 3), (3, 4)], "2@0:1+1 ", 1),
+/// The errors of a parse, or its fault.
+type Errors = Result<Vec<LexParseError<u32, TokenTypes>>, ParseFault>;
+
+/// A parser with a recoverer that counts.
+type Parser<'a> = RTParserBuilder<'a, u32, TokenTypes, Deleting<'a>>;
+
+// The errors of the parse by the call.
+fn errors_by(alloc: Global, call: Call, parser: &Parser<'_>, lexer: &HandedLexer<'_>) -> Errors {
+    match call {
+        Call::Map => errors_of(parser.parse_map(alloc, lexer, |_| {}, |_, _| {})),
+        Call::Actions => {
+            let counting = Counting {
+                calls: Cell::new(0),
+                fails_at: 0,
+            };
+            errors_of(parser.parse_actions(alloc, lexer, &counting, &()))
+        }
+        Call::Tree => errors_of(parser.parse_generictree(alloc, lexer)),
+        Call::Errors => parser.parse_noaction(alloc, lexer),
+    }
+}
+
+// The errors of an answer.
+fn errors_of<V: Drop>(
+    answer: Result<(Option<V>, Vec<LexParseError<u32, TokenTypes>>), ParseFault>,
+) -> Errors {
+    let (_, errors) = answer?;
+    Ok(errors)
+}
+
+// Adds the state and the start of each parse error, or the fault.
+fn push_told(text: &mut String, answer: &Errors) -> Result<(), Fail> {
+    match answer {
+        Err(fault) => write!(text, "{fault} ")?,
+        Ok(errors) => {
+            for error in errors {
+                if let LexParseError::ParseError(error) = error {
+                    let (state, start) = (
+                        error.stidx().as_storaget(),
+                        error.lexeme().span().start(),
+                    );
+                    write!(text, "{state}@{start} ")?;
+                }
+            }
+        }
+    }
+    Ok(())
+}
+
+/// Lexemes of the grammar *brackets*, the calls at which the lexer and the recoverer find no memory, what comes of two parses, and how
+/// often the lexer and the recoverer are asked in both.
+type Row = (
+    &'static [Given],
+    (usize, usize),
+    &'static str,
+    (usize, usize),
+);
+
+// Without an error; with one that a deletion mends, and with two; with one that none mends, in front of another; and with two where
+// memory is wanting once.
+const ROWS: [Row; 6] = [
+    (&[(0, 1)], (0, 0), "", (2, 0)),
+    (&[(0, 1), (0, 1)], (0, 0), "2@1 2@1 ", (2, 2)),
+    (&TWICE, (0, 0), "2@1 8@8 2@1 8@8 ", (2, 4)),
+    (
+        &[(0, 1), (0, 1), (1, 1), (0, 1), (3, 1)],
+        (0, 0),
+        "2@1 2@1 ",
+        (2, 2),
+    ),
+    (&TWICE, (1, 0), "out of memory 2@1 8@8 ", (2, 2)),
+    (&TWICE, (0, 2), "out of memory 2@1 8@8 ", (2, 4)),
 ];
 
 #[test]
@@ -57,19 +111,75 @@ fn all_ask(rt: &impl Abort, alloc: Global, data: &ParserData<u32>) -> Result<(),
     Ok(())
 }
 
-// Each of the four calls asks its lexer once, and the recoverer once for each error.
+// Each of the four calls asks as often as the row says.
 fn each_asks(
     rt: &impl Abort,
     alloc: Global,
     data: &ParserData<u32>,
     row: &Row,
 ) -> Result<(), Fail> {
-    let answers = lexemes(alloc, row.0)?;
+    let (_, _, want, asked) = *row;
     for call in FOUR {
-        let (errors, asked, handed) = asks(alloc, call, data, &answers)?;
-        assert_eq!(rt; errors.as_str(), row.1, "{call:?}");
-        assert_eq!(rt; (asked, handed), (1, row.2), "{call:?} {errors}");
+        let (text, found) = asks(alloc, call, data, row)?;
+        assert_eq!(rt; text.as_str(), want, "{call:?}");
+        assert_eq!(rt; found, asked, "{call:?} {text}");
     }
+    Ok(())
+}
+
+// What comes of two parses of the row by the call, and how often they ask.
+fn asks(
+    alloc: Global,
+    call: Call,
+    data: &ParserData<u32>,
+    row: &Row,
+) -> Result<(String, (usize, usize)), Fail> {
+    let (given, (lexing, recovery), _, _) = *row;
+    let (calls, asked) = (Cell::new(0), Cell::new((0, 0, [0, 0, 0])));
+    let lexer = HandedLexer {
+        given,
+        calls: Cell::new(0),
+        fails_at: lexing,
+    };
+    let parser = RTParserBuilder::new(data).recoverer(Deleting {
+        calls: &calls,
+        asked: &asked,
+        fails_at: recovery,
+    });
+    let text = told_twice(alloc, call, &parser, &lexer)?;
+    Ok((text, (lexer.calls.get(), calls.get())))
+}
+
+// What comes of two parses by one parser.
+fn told_twice(
+    alloc: Global,
+    call: Call,
+    parser: &Parser<'_>,
+    lexer: &HandedLexer<'_>,
+) -> Result<String, Fail> {
+    let mut text = String::new(alloc);
+    push_told(&mut text, &errors_by(alloc, call, parser, lexer))?;
+    push_told(&mut text, &errors_by(alloc, call, parser, lexer))?;
+    Ok(text)
+}
+
+// How often and where the recoverer is asked.
+fn asked(alloc: Global, data: &ParserData<u32>, given: &[Given]) -> Result<(usize, Asked), Fail> {
+    let (calls, asked) = (Cell::new(0), Cell::new((0, 0, [0, 0, 0])));
+    let parser = RTParserBuilder::<u32, TokenTypes>::new(data).recoverer(Deleting {
+        calls: &calls,
+        asked: &asked,
+        fails_at: 0,
+    });
+    let _ = parser.parse_noaction(alloc, &lexer_of(given))?;
+    Ok((calls.get(), asked.get()))
+}
+
+#[test]
+fn what_a_recoverer_is_handed(rt: HostRuntime) -> Result<(), Fail> {
+    let data = built(rt.alloc(), BRACKETS)?;
+    let found = asked(rt.alloc(), &data, &[(2, 1), (0, 1), (0, 1)])?;
+    assert_eq!(rt; found, (1, (2, 3, [0, 3, 6])));
     Ok(())
 }
 
@@ -93,28 +203,26 @@ fn note(calls: &Cell<Calls>, call: Called) {
 }
 
 // The calls of the two functions in the parse of these lexemes.
-fn calls_of(alloc: Global, data: &ParserData<u32>, given: &[(u32, usize)]) -> Result<Calls, Fail> {
-    let answers = lexemes(alloc, given)?;
+fn calls_of(alloc: Global, data: &ParserData<u32>, given: &[Given]) -> Result<Calls, Fail> {
     let calls = Cell::new((0, [Called::Rule(0); 8]));
-    let parser = RTParserBuilder::<u32, HandedTypes>::new(data);
+    let parser = RTParserBuilder::<u32, TokenTypes>::new(data);
     let _ = parser.parse_map(
         alloc,
-        &HandedLexer { answers: &answers },
+        &lexer_of(given),
         |lexeme: Token<u32>| note(&calls, Called::Lexeme(lexeme.span().start())),
         |rule, _| note(&calls, Called::Rule(rule.as_storaget())),
     )?;
     Ok(calls.get())
 }
 
-/// A text, its lexemes, and the calls of the functions in their order.
-type Order = (&'static str, &'static [(u32, usize)], &'static [Called]);
+/// Lexemes, and the calls of the functions in their order.
+type Order = (&'static [Given], &'static [Called]);
 
-// Sums, in which the rule `E` is 1, and `T` is 2. A token's value is asked for where its production is reduced, so not for those that
-// stand on the stack at an error; and there is no call for the rule that is added.
+// The sums `a+b`, `a+` and the empty one. A token's value is asked for where its production is reduced, so not for those that stand on
+// the stack at an error; and there is no call for the rule that is added.
 const SUMS: [Order; 3] = [
     (
-        "a+b",
-        &[(1, 0), (0, 1), (1, 2)],
+        &[(1, 1), (0, 1), (1, 1)],
         &[
             Called::Lexeme(0),
             Called::Rule(2),
@@ -125,23 +233,13 @@ const SUMS: [Order; 3] = [
             Called::Rule(1),
         ],
     ),
-    (
-        "a+",
-        &[(1, 0), (0, 1)],
-        &[Called::Lexeme(0), Called::Rule(2)],
-    ),
-    ("", &[], &[]),
+    (&[(1, 1), (0, 1)], &[Called::Lexeme(0), Called::Rule(2)]),
+    (&[], &[]),
 ];
 
-#[test]
-fn calls_of_the_functions(rt: HostRuntime) -> Result<(), Fail> {
-    are_called(&rt, rt.alloc(), &sum_data(rt.alloc(), By::Rows)?, &SUMS)
-}
-
-// The lexemes of one right side, from left to right.
+// The lexemes of one right side, from left to right: `(n)`.
 const IN_BRACKETS: [Order; 1] = [(
-    "(n)",
-    &[(2, 0), (0, 1), (3, 2)],
+    &[(2, 1), (0, 1), (3, 1)],
     &[
         Called::Lexeme(1),
         Called::Rule(1),
@@ -152,7 +250,8 @@ const IN_BRACKETS: [Order; 1] = [(
 )];
 
 #[test]
-fn calls_from_left_to_right(rt: HostRuntime) -> Result<(), Fail> {
+fn calls_of_the_functions(rt: HostRuntime) -> Result<(), Fail> {
+    are_called(&rt, rt.alloc(), &built(rt.alloc(), SUM)?, &SUMS)?;
     are_called(&rt, rt.alloc(), &built(rt.alloc(), BRACKETS)?, &IN_BRACKETS)
 }
 
@@ -163,9 +262,9 @@ fn are_called(
     data: &ParserData<u32>,
     rows: &[Order],
 ) -> Result<(), Fail> {
-    for (text, given, want) in rows {
+    for (given, want) in rows {
         let (count, noted) = calls_of(alloc, data, *given)?;
-        assert_eq!(rt; noted.get(..count), Some(*want), "{text:?}");
+        assert_eq!(rt; noted.get(..count), Some(*want));
     }
     Ok(())
 }

@@ -1,8 +1,8 @@
-//! Parse errors and repairs, and a text of each for other tests.
-use crate::fixtures::{By, sum_data};
-use crate::lexer::{HandedLexer, HandedTypes, LexAnswer, NoToken, Token, lexemes};
-use lrpar::span::{Span, TIdx};
-use lrpar::{LexParseError, Lexeme, ParseError, ParseRepair, ParserData, RTParserBuilder};
+//! Parse errors and repairs: their texts, equality, hashes and clones.
+use lrpar::parser::{ParseFault, PpFault};
+use lrpar::span::{Span, StIdx, TIdx};
+use lrpar::{LexParseError, Lexeme, ParseError, ParseRepair};
+use lrpar_lexer::{NoToken, Token, TokenTypes};
 use std::alloc::Global;
 use std::hash::{DefaultHasher, Hash, Hasher};
 use std::process::Abort;
@@ -11,142 +11,61 @@ use std::test::Fail;
 /// A repair of the tests.
 type Repair = ParseRepair<Token<u32>, u32>;
 
-/// Each lexing error by its place, each parse error as its state, the token, start and length of its lexeme, which ends in `!`
-/// where that is faulty, and the sequences in brackets.
-pub(crate) fn text_of_errors(
+// The lexeme of the token 1 at the byte.
+fn lexeme(start: usize) -> Token<u32> {
+    Token::new(1, start.min(1_000), 1)
+}
+
+// The error in this state at the lexeme of this byte, with so many sequences of no steps.
+fn error(
     alloc: Global,
-    errors: &[LexParseError<u32, HandedTypes>],
-) -> Result<String, Fail> {
-    let mut text = String::new(alloc);
-    for error in errors {
-        match error {
-            LexParseError::LexError(error) => push_lexing_error(&mut text, error)?,
-            LexParseError::ParseError(error) => push_error(&mut text, error)?,
-        }
-    }
-    Ok(text)
-}
-
-// The lexing error by its place.
-fn push_lexing_error(text: &mut String, error: &NoToken) -> Result<(), Fail> {
-    let (start, end) = (error.span.start(), error.span.end());
-    Ok(write!(text, "no token at {start}..{end} ")?)
-}
-
-// The parse error by its state, its lexeme and its sequences.
-fn push_error(text: &mut String, error: &ParseError<Token<u32>, u32>) -> Result<(), Fail> {
-    let state = error.stidx().as_storaget();
-    let lexeme = error.lexeme();
-    let (token, start, len) = (lexeme.tok_id(), lexeme.span().start(), lexeme.span().len());
-    write!(text, "{state}@{token}:{start}+{len}")?;
-    if lexeme.faulty() {
-        text.push('!')?;
-    }
-    for sequence in error.repairs() {
-        push_sequence(text, sequence)?;
-    }
-    text.push(' ')?;
-    Ok(())
-}
-
-// The sequence in brackets.
-fn push_sequence(text: &mut String, sequence: &[Repair]) -> Result<(), Fail> {
-    text.push('[')?;
-    for repair in sequence {
-        push_repair(text, repair)?;
-    }
-    text.push(']')?;
-    Ok(())
-}
-
-// An insertion with its token, others with the start of their lexeme.
-fn push_repair(text: &mut String, repair: &Repair) -> Result<(), Fail> {
-    match repair {
-        ParseRepair::Insert(token) => {
-            let token = token.as_storaget();
-            write!(text, " i{token}")?;
-        }
-        ParseRepair::Delete(lexeme) => {
-            let start = lexeme.span().start();
-            write!(text, " d{start}")?;
-        }
-        ParseRepair::Shift(lexeme) => {
-            let start = lexeme.span().start();
-            write!(text, " s{start}")?;
-        }
-    }
-    Ok(())
-}
-
-// The error of the parse of these lexemes.
-fn error_of(alloc: Global, given: &[(u32, usize)]) -> Result<ParseError<Token<u32>, u32>, Fail> {
-    let answers = lexemes(alloc, given)?;
-    error_by(alloc, &sum_data(alloc, By::Entries)?, &answers)
-}
-
-// The same by a table.
-fn error_by(
-    alloc: Global,
-    data: &ParserData<u32>,
-    answers: &[LexAnswer],
+    state: u32,
+    start: usize,
+    sequences: usize,
 ) -> Result<ParseError<Token<u32>, u32>, Fail> {
-    let parser = RTParserBuilder::<u32, HandedTypes>::new(data);
-    let mut errors = parser.parse_noaction(alloc, &HandedLexer { answers })?;
-    match errors.pop() {
-        Some(LexParseError::ParseError(error)) => Ok(error),
-        _ => Err(Fail::new("no parse error")),
+    let mut listed = Vec::new(alloc);
+    for _ in 0..sequences {
+        listed.push(Vec::new(alloc))?;
     }
-}
-
-// The texts of the error at two lexemes `ID`, by itself and as an error of either kind.
-fn texts(alloc: Global) -> Result<(String, String), Fail> {
-    let error = error_of(alloc, &[(1, 0), (1, 1)])?;
-    let text = format!(in alloc; "{error}")?;
-    let error: LexParseError<u32, HandedTypes> = LexParseError::from(error);
-    Ok((text, format!(in alloc; "{error}")?))
+    Ok(ParseError::new(StIdx(state), lexeme(start), listed))
 }
 
 #[test]
 fn texts_of_errors(rt: HostRuntime) -> Result<(), Fail> {
     let alloc = rt.alloc();
-    let lexeme: Token<u32> = Token::new(1, 1, 1);
+    let lexeme = lexeme(1);
     let want = format!(in alloc; "Parse error at lexeme {lexeme:?}")?;
-    let (text, again) = texts(alloc)?;
-    assert_eq!(rt; text.as_str(), want.as_str());
-    assert_eq!(rt; again.as_str(), want.as_str());
-    Ok(())
-}
-
-#[test]
-fn texts_of_lexing_errors(rt: HostRuntime) -> Result<(), Fail> {
-    let no_token = NoToken {
-        span: Span::new(7, 8),
-    };
-    let error: LexParseError<u32, HandedTypes> = LexParseError::from(no_token);
+    let error = error(alloc, 3, 1, 0)?;
+    assert_eq!(rt; format!(in alloc; "{error}")?.as_str(), want.as_str());
+    let error: LexParseError<u32, TokenTypes> = LexParseError::from(error);
+    assert_eq!(rt; format!(in alloc; "{error}")?.as_str(), want.as_str());
+    let error: LexParseError<u32, TokenTypes> = LexParseError::from(NoToken::new(Span::new(7, 8)));
     assert_eq!(rt;
-        format!(in rt.alloc(); "{error}")?.as_str(),
+        format!(in alloc; "{error}")?.as_str(),
         "no token fits at byte 7"
     );
+    let text = format!(in alloc; "{}, {}", ParseFault::Memory, PpFault::<u32>::Memory)?;
+    assert_eq!(rt; text.as_str(), "out of memory, out of memory");
     Ok(())
 }
 
-// Whether the error at two lexemes `ID` equals that of these.
-fn equals(alloc: Global, given: &[(u32, usize)]) -> Result<bool, Fail> {
-    Ok(error_of(alloc, &[(1, 0), (1, 1)])? == error_of(alloc, given)?)
-}
+// The state, the start and the number of sequences of errors; the first is that of each other row.
+const ERRORS: [(u32, usize, usize); 4] = [(3, 1, 2), (4, 1, 2), (3, 2, 2), (3, 1, 1)];
 
-// Whether the error equals its clone.
-fn equals_its_clone(alloc: Global) -> Result<bool, Fail> {
-    let error = error_of(alloc, &[(1, 0), (1, 1)])?;
-    Ok(error.clone()? == error)
+// Whether the first error equals that of the row, and its own clone.
+fn equals(alloc: Global, row: (u32, usize, usize)) -> Result<(bool, bool), Fail> {
+    let first = error(alloc, 3, 1, 2)?;
+    let (state, start, sequences) = row;
+    let other = error(alloc, state, start, sequences)?;
+    Ok((first == other, first == first.clone()?))
 }
 
 #[test]
 fn equality_of_errors(rt: HostRuntime) -> Result<(), Fail> {
-    assert!(rt; equals_its_clone(rt.alloc())?);
-    assert!(rt; equals(rt.alloc(), &[(1, 0), (1, 1)])?);
-    assert!(rt; !equals(rt.alloc(), &[(1, 0), (1, 2)])?);
-    assert!(rt; !equals(rt.alloc(), &[])?);
+    for row in ERRORS {
+        let found = equals(rt.alloc(), row)?;
+        assert_eq!(rt; found, (row == (3, 1, 2), true), "{row:?}");
+    }
     Ok(())
 }
 
@@ -162,9 +81,9 @@ fn repair(number: usize) -> Repair {
     match number {
         0 => ParseRepair::Insert(TIdx(0)),
         1 => ParseRepair::Insert(TIdx(1)),
-        2 => ParseRepair::Delete(Token::new(1, 0, 1)),
-        3 => ParseRepair::Shift(Token::new(1, 0, 1)),
-        _ => ParseRepair::Shift(Token::new(1, 1, 1)),
+        2 => ParseRepair::Delete(lexeme(0)),
+        3 => ParseRepair::Shift(lexeme(0)),
+        _ => ParseRepair::Shift(lexeme(1)),
     }
 }
 

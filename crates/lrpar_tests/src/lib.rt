@@ -4,51 +4,29 @@
 #[cfg(test)]
 mod actions;
 #[cfg(test)]
-mod builder;
-#[cfg(test)]
 mod built;
 #[cfg(test)]
 mod calculation;
 pub mod calculator;
 #[cfg(test)]
-mod calls;
-#[cfg(test)]
-mod check;
-#[cfg(test)]
 mod counts;
 #[cfg(test)]
 mod errors;
-#[cfg(test)]
-mod fixtures;
-#[cfg(test)]
-mod four;
-#[cfg(test)]
-mod grammar;
-#[cfg(test)]
-mod graph;
 #[cfg(test)]
 mod lexer;
 #[cfg(test)]
 mod lines;
 #[cfg(test)]
-mod nodes;
-#[cfg(test)]
-mod parse;
-#[cfg(test)]
-mod reader;
-#[cfg(test)]
 mod readme;
 #[cfg(test)]
-mod recoverers;
+mod recoverer;
 #[cfg(test)]
 mod repairs;
 #[cfg(test)]
+mod sizes;
+#[cfg(test)]
 mod span;
 #[cfg(test)]
-mod stacks;
-#[cfg(test)]
 mod table;
-#[cfg(test)]
-mod texts;
 #[cfg(test)]
 mod trees;

@@ -1,15 +1,15 @@
 //! Lines and columns of a text, and places that fit one.
-use crate::fixtures::{Placed, prod, r, rules, sum_parts, t, tokens};
-use lrpar::grammar::{GrammarParts, YaccGrammar};
+use lrpar::grammar::{GrammarParts, ProdPart, RulePart, TokenPart, YaccGrammar};
 use lrpar::lines::NewlineCache;
-use lrpar::span::{RIdx, Span};
+use lrpar::span::{RIdx, Span, Symbol, TIdx};
 use std::alloc::Global;
 use std::test::Fail;
 
+const TEXT: &str = "ab\n\ncé\n";
+
 #[test]
 fn lines_and_columns(rt: HostRuntime) -> Result<(), Fail> {
-    let text = "ab\n\ncé\n";
-    let cache = NewlineCache::new(rt.alloc(), text)?;
+    let cache = NewlineCache::new(rt.alloc(), TEXT)?;
     let rows = [
         (0, Some(1), Some((1, 1))),
         (2, Some(1), Some((1, 3))),
@@ -22,20 +22,18 @@ fn lines_and_columns(rt: HostRuntime) -> Result<(), Fail> {
         (9, None, None),
     ];
     for (byte, line, place) in rows {
-        assert_eq!(rt; cache.byte_to_line_num(byte), line, "line of byte {byte}");
-        assert_eq!(rt;
-            cache.byte_to_line_num_and_col_num(text, byte),
-            place,
-            "place of byte {byte}"
+        let found = (
+            cache.byte_to_line_num(byte),
+            cache.byte_to_line_num_and_col_num(TEXT, byte),
         );
+        assert_eq!(rt; found, (line, place), "byte {byte}");
     }
     Ok(())
 }
 
 #[test]
 fn bytes_of_lines(rt: HostRuntime) -> Result<(), Fail> {
-    let text = "ab\n\ncé\n";
-    let cache = NewlineCache::new(rt.alloc(), text)?;
+    let cache = NewlineCache::new(rt.alloc(), TEXT)?;
     let rows = [
         (0, 0, (0, 2)),
         (2, 2, (0, 2)),
@@ -46,19 +44,16 @@ fn bytes_of_lines(rt: HostRuntime) -> Result<(), Fail> {
     ];
     for (start, end, bytes) in rows {
         assert!(rt; start <= end);
-        assert!(rt; end <= text.len());
-        assert_eq!(rt;
-            cache.span_line_bytes(Span::new(start, end)),
-            bytes,
-            "lines of {start}..{end}"
-        );
+        assert!(rt; end <= TEXT.len());
+        let found = cache.span_line_bytes(Span::new(start, end));
+        assert_eq!(rt; found, bytes, "lines of {start}..{end}");
     }
     Ok(())
 }
 
 #[test]
 fn places_of_sums_fit_their_text(rt: HostRuntime) -> Result<(), Fail> {
-    let grm = YaccGrammar::from_parts(rt.alloc(), sum_parts::<u8>(rt.alloc())?)?;
+    let grm = YaccGrammar::<u8>::new_with_storaget(rt.alloc(), "%% E: T '+' E | T; T: 'ID';")?;
     let rows = [
         ("%% E: T '+' E | T; T: 'ID';", true),
         ("%% E: T\n'+' E | T; T: 'ID';", true),
@@ -74,37 +69,61 @@ fn places_of_sums_fit_their_text(rt: HostRuntime) -> Result<(), Fail> {
     Ok(())
 }
 
-// A grammar of one rule, one token and one production at the bytes 0 to 5.
-fn one_prod(alloc: Global, placed: &[Placed]) -> Result<YaccGrammar<u8>, Fail> {
-    let mut prods = Vec::new(alloc);
-    prods.push(prod(alloc, 1, placed, 0, 5)?)?;
+/// A symbol, and where it starts and ends.
+type Placed = (Symbol<u8>, usize, usize);
+
+// The production of these symbols at the bytes 0 to 5.
+fn prod_of(alloc: Global, placed: &[Placed]) -> Result<ProdPart<u8>, Fail> {
+    let mut symbols = Vec::new(alloc);
+    for (symbol, start, end) in placed {
+        symbols.push((*symbol, Span::new(*start, (*end).max(*start))))?;
+    }
+    Ok(ProdPart {
+        rule: RIdx(1),
+        symbols,
+        span: Span::new(0, 5),
+    })
+}
+
+// A grammar of one rule and one token, both at the first byte, and one production.
+fn grammar_of(alloc: Global, prod: ProdPart<u8>) -> Result<YaccGrammar<u8>, Fail> {
+    let (name, span) = (String::from_str(alloc, "A")?, Span::new(0, 1));
+    let rule = RulePart { name, span };
+    let (name, epp) = (String::from_str(alloc, "a")?, None);
+    let token = TokenPart { name, epp, span };
     let parts = GrammarParts {
-        rules: rules(alloc, &[("A", 0)])?,
-        tokens: tokens(alloc, &[("a", 0)])?,
-        prods,
+        rules: vec![in alloc; rule]?,
+        tokens: vec![in alloc; token]?,
+        prods: vec![in alloc; prod]?,
         start: RIdx(1),
     };
     Ok(YaccGrammar::from_parts(alloc, parts)?)
 }
 
+// Whether the places of the grammar of these symbols fit the text.
+fn fit(alloc: Global, placed: &[Placed], text: &str) -> Result<bool, Fail> {
+    let grm = grammar_of(alloc, prod_of(alloc, placed)?)?;
+    Ok(grm.spans_fit(text))
+}
+
+const A: Symbol<u8> = Symbol::Rule(RIdx(1));
+
+const B: Symbol<u8> = Symbol::Token(TIdx(0));
+
+// The symbols of a production, a text, and whether they fit it: symbols that touch, in the other order, and that overlap; and none.
+const SYMBOLS: [(&[Placed], &str, bool); 6] = [
+    (&[(A, 0, 1), (B, 1, 2)], "aa\naa", true),
+    (&[(A, 0, 1), (B, 1, 2)], "a\naaa", false),
+    (&[(A, 1, 2), (B, 0, 1)], "aaaaa", false),
+    (&[(A, 0, 2), (B, 1, 2)], "aaaaa", false),
+    (&[], "aaaaa", true),
+    (&[], "aa\naa", false),
+];
+
 #[test]
 fn symbols_are_in_order(rt: HostRuntime) -> Result<(), Fail> {
-    let alloc = rt.alloc();
-    let touching = [(r(1), 0, 1), (t(0), 1, 1)];
-    let turned = [(r(1), 1, 1), (t(0), 0, 1)];
-    let overlapping = [(r(1), 0, 2), (t(0), 1, 1)];
-    let none: [Placed; 0] = [];
-    let rows = [
-        (touching.as_slice(), "aa\naa", true),
-        (touching.as_slice(), "a\naaa", false),
-        (turned.as_slice(), "aaaaa", false),
-        (overlapping.as_slice(), "aaaaa", false),
-        (none.as_slice(), "aaaaa", true),
-        (none.as_slice(), "aa\naa", false),
-    ];
-    for (placed, text, fits) in rows {
-        let grm = one_prod(alloc, placed)?;
-        assert_eq!(rt; grm.spans_fit(text), fits, "{text:?}");
+    for (placed, text, fits) in SYMBOLS {
+        assert_eq!(rt; fit(rt.alloc(), placed, text)?, fits, "{text:?}");
     }
     Ok(())
 }

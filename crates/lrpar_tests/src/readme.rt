@@ -1,13 +1,14 @@
 //! The examples of the README, as a user writes them.
-use crate::built::{CALC, built};
+use crate::built::{CALC, built, lists};
 use crate::calculation::calculated;
-use crate::fixtures::{SUM_ITEMS, item_rows, sum_rows};
-use crate::lexer::{HandedLexer, HandedTypes, Token, lexeme};
+use crate::lexer::{HandedLexer, lexer_of};
 use lrpar::check::CheckFault;
 use lrpar::grammar::{GrammarFault, YaccGrammar};
 use lrpar::parser::ParseFault;
-use lrpar::table::{Item, StateGraph, StateTable, TableFault, TableRows};
+use lrpar::span::{PIdx, StIdx, TIdx};
+use lrpar::table::{Action, Item, StateGraph, StateTable, TableFault, TableRows};
 use lrpar::{LexParseError, Node, ParserData, RTParserBuilder};
+use lrpar_lexer::{Token, TokenTypes};
 use std::alloc::Global;
 use std::process::Abort;
 use std::test::Fail;
@@ -29,7 +30,7 @@ enum Failed {
 /// A tree, if there is one, and the errors.
 type Answer = (
     Option<Node<Token<u32>, u32>>,
-    Vec<LexParseError<u32, HandedTypes>>,
+    Vec<LexParseError<u32, TokenTypes>>,
 );
 
 // The tree of what the lexer answers, by a grammar text, item sets and rows.
@@ -47,16 +48,39 @@ fn tree_of(
     Ok(RTParserBuilder::new(&data).parse_generictree(alloc, lexer)?)
 }
 
+// The items, the actions and the gotos of the three states of `%% S: 'a';`, whose end token is 1.
+const ITEMS: [&[Item<u32>]; 3] = [
+    &[(PIdx(1), 0, TIdx(1)), (PIdx(0), 0, TIdx(1))],
+    &[(PIdx(1), 1, TIdx(1))],
+    &[(PIdx(0), 1, TIdx(1))],
+];
+
+const ACTIONS: [&[Action<u32>]; 3] = [
+    &[Action::Shift(StIdx(2)), Action::Error],
+    &[Action::Error, Action::Accept],
+    &[Action::Error, Action::Reduce(PIdx(0))],
+];
+
+const GOTOS: [&[Option<StIdx<u32>>]; 3] = [&[None, Some(StIdx(1))], &[None, None], &[None, None]];
+
+// The rows of these states.
+fn rows(alloc: Global) -> Result<TableRows<u32>, Fail> {
+    Ok(TableRows {
+        start: StIdx(0),
+        tokens: 2,
+        rules: 2,
+        actions: lists(alloc, &ACTIONS)?,
+        gotos: lists(alloc, &GOTOS)?,
+        conflicts: None,
+    })
+}
+
 #[test]
-fn tree_of_a_sum(rt: HostRuntime) -> Result<(), Fail> {
+fn tree_of_a_token(rt: HostRuntime) -> Result<(), Fail> {
     let alloc = rt.alloc();
-    let answers = [Ok(lexeme(1, 0)), Ok(lexeme(0, 1)), Ok(lexeme(1, 2))];
-    let lexer = HandedLexer { answers: &answers };
-    let items = item_rows(alloc, &SUM_ITEMS, 6)?;
-    let rows = sum_rows(alloc)?;
-    let (tree, errors) = tree_of(alloc, "%% E: T '+' E | T; T: 'ID';", items, rows, &lexer)?;
-    assert!(rt; tree.is_some());
-    assert!(rt; errors.is_empty());
+    let (items, rows) = (lists(alloc, &ITEMS)?, rows(alloc)?);
+    let (tree, errors) = tree_of(alloc, "%% S: 'a';", items, rows, &lexer_of(&[(0, 1)]))?;
+    assert!(rt; tree.is_some() && errors.is_empty());
     Ok(())
 }
 

@@ -1,16 +1,13 @@
 //! Spans and the numbers of rules, productions, tokens and states.
-use lrpar::span::{PIdx, RIdx, Span, StIdx, StorageIndex, StorageNum, TIdx};
+use lrpar::span::{PIdx, RIdx, Span, StIdx, StorageNum, TIdx};
 use std::cmp::Ordering;
 use std::test::Fail;
 
-// Whether the type has the number `last`, by itself, and not the one after it.
-fn numbers_up_to<S: StorageNum>(last: usize) -> bool {
-    match S::from_index(last) {
-        Some(found) => {
-            found.to_index() == last && S::from_index(last.saturating_add(1)).is_none()
-        }
-        None => false,
-    }
+// Whether the type has these numbers, each by itself, and not the one after the last.
+fn has_numbers<S: StorageNum>(numbers: &[usize], last: usize) -> bool {
+    numbers.iter().all(|n| read_again::<S>(*n) == Some(*n))
+        && read_again::<S>(last) == Some(last)
+        && read_again::<S>(last.saturating_add(1)).is_none()
 }
 
 // The number that the type makes of `n`, read again, where it has it.
@@ -23,41 +20,42 @@ fn read_again<S: StorageNum>(n: usize) -> Option<usize> {
 
 #[test]
 fn storage_numbers(rt: HostRuntime) -> Result<(), Fail> {
-    assert!(rt; numbers_up_to::<u8>(255));
-    assert!(rt; numbers_up_to::<u16>(65_535));
-    assert!(rt; numbers_up_to::<u32>(4_294_967_295));
-    for n in [0, 1, 254, 255] {
-        assert_eq!(rt; read_again::<u8>(n), Some(n), "u8 at {n}");
-        assert_eq!(rt; read_again::<u16>(n), Some(n), "u16 at {n}");
-        assert_eq!(rt; read_again::<u32>(n), Some(n), "u32 at {n}");
-    }
+    let numbers = [0, 1, 254, 255];
+    assert!(rt; has_numbers::<u8>(&numbers, 255), "u8");
+    assert!(rt; has_numbers::<u16>(&numbers, 65_535), "u16");
+    assert!(rt; has_numbers::<u32>(&numbers, 4_294_967_295), "u32");
     Ok(())
 }
 
 #[test]
 fn numbers_of_four_kinds(rt: HostRuntime) -> Result<(), Fail> {
-    assert_eq!(rt; usize::from(RIdx(255u8)), 255);
-    assert_eq!(rt; usize::from(PIdx(65_535u16)), 65_535);
-    assert_eq!(rt; usize::from(TIdx(4_294_967_295u32)), 4_294_967_295);
-    assert_eq!(rt; usize::from(StIdx(7u32)), 7);
-    Ok(())
-}
-
-#[test]
-fn numbers_as_they_are_stored(rt: HostRuntime) -> Result<(), Fail> {
-    assert_eq!(rt; RIdx(1u8).as_storaget(), 1);
-    assert_eq!(rt; PIdx(2u16).as_storaget(), 2);
-    assert_eq!(rt; TIdx(3u32).as_storaget(), 3);
-    assert_eq!(rt; StIdx(4u8).as_storaget(), 4);
-    Ok(())
-}
-
-#[test]
-fn order_of_numbers(rt: HostRuntime) -> Result<(), Fail> {
-    assert_eq!(rt; RIdx(1u8).cmp(&RIdx(2)), Ordering::Less);
-    assert_eq!(rt; PIdx(300u16).cmp(&PIdx(44)), Ordering::Greater);
-    assert_eq!(rt; TIdx(3u32).cmp(&TIdx(3)), Ordering::Equal);
-    assert!(rt; StIdx(0u8) < StIdx(255));
+    let found = [
+        usize::from(RIdx(255u8)),
+        usize::from(PIdx(65_535u16)),
+        usize::from(TIdx(4_294_967_295u32)),
+        usize::from(StIdx(7u32)),
+    ];
+    assert_eq!(rt; found, [255, 65_535, 4_294_967_295, 7]);
+    let found = (
+        RIdx(1u8).as_storaget(),
+        PIdx(2u16).as_storaget(),
+        TIdx(3u32).as_storaget(),
+        StIdx(4u8).as_storaget(),
+    );
+    assert_eq!(rt; found, (1, 2, 3, 4));
+    let found = [
+        RIdx(1u8).cmp(&RIdx(2)),
+        PIdx(300u16).cmp(&PIdx(44)),
+        TIdx(3u32).cmp(&TIdx(3)),
+        StIdx(0u8).cmp(&StIdx(255)),
+    ];
+    let want = [
+        Ordering::Less,
+        Ordering::Greater,
+        Ordering::Equal,
+        Ordering::Less,
+    ];
+    assert_eq!(rt; found, want);
     Ok(())
 }
 
@@ -66,12 +64,9 @@ fn spans(rt: HostRuntime) -> Result<(), Fail> {
     for (start, end, len, is_empty) in [(0, 0, 0, true), (3, 7, 4, false), (5, 5, 0, true)] {
         assert!(rt; start <= end);
         let span = Span::new(start, end);
-        assert_eq!(rt; span.start(), start, "start of {start}..{end}");
-        assert_eq!(rt; span.end(), end, "end of {start}..{end}");
-        assert_eq!(rt; span.len(), len, "length of {start}..{end}");
-        assert_eq!(rt; span.is_empty(), is_empty, "emptiness of {start}..{end}");
+        let found = (span.start(), span.end(), span.len(), span.is_empty());
+        assert_eq!(rt; found, (start, end, len, is_empty));
+        assert_eq!(rt; span == Span::new(3, 7), start == 3, "{start}..{end}");
     }
-    assert!(rt; Span::new(1, 2) == Span::new(1, 2));
-    assert!(rt; Span::new(1, 2) != Span::new(1, 3));
     Ok(())
 }

@@ -1,30 +1,45 @@
-//! Trees of many levels, and trees that differ in one leaf.
-use crate::calls::tree_of;
-use crate::lexer::{LexAnswer, Token};
-use crate::nodes::Tree;
-use lrpar::{Lexeme, Node};
+//! Trees: of many levels, of no grammar, and those that an action makes.
+use crate::built::{SUM, built};
+use crate::lexer::{Given, lexer_of};
+use lrpar::parser::AStackType;
+use lrpar::span::{RIdx, Span};
+use lrpar::{Lexeme, Node, ParserData, RTParserBuilder, action_generictree};
+use lrpar_lexer::{Token, TokenTypes};
 use std::alloc::Global;
 use std::test::Fail;
+
+/// A tree of the tests.
+type Tree = Node<Token<u32>, u32>;
 
 // A level for each: the first that a drop, a comparison and a clone by recursion have no stack for.
 const LEVELS: usize = 200_000;
 
-// A sum of so many terms, the last of which is long or short.
-fn sum_of(alloc: Global, terms: usize, is_long: bool) -> Result<Vec<LexAnswer>, Fail> {
-    let mut answers = Vec::new(alloc);
+// The lexemes of a sum of so many terms, of which the last one has so many bytes.
+fn sum_of(alloc: Global, terms: usize, len: usize) -> Result<Vec<Given>, Fail> {
+    let mut given = Vec::new(alloc);
     for _ in 1..terms {
-        answers.push(Ok(Token::new(1, 0, 1)))?;
-        answers.push(Ok(Token::new(0, 0, 1)))?;
+        given.push((1, 1))?;
+        given.push((0, 1))?;
     }
-    let len = if is_long { 2 } else { 1 };
-    answers.push(Ok(Token::new(1, 0, len)))?;
-    Ok(answers)
+    given.push((1, len))?;
+    Ok(given)
+}
+
+// The tree of these lexemes.
+fn tree_of(alloc: Global, data: &ParserData<u32>, given: &[Given]) -> Result<Tree, Fail> {
+    let parser = RTParserBuilder::<u32, TokenTypes>::new(data);
+    let (tree, _) = parser.parse_generictree(alloc, &lexer_of(given))?;
+    Ok(tree.ok_or("no tree")?)
 }
 
 // The tree of such a sum, in which each term but the last stands beside the sum of those behind it.
-fn tree_of_sum(alloc: Global, terms: usize, is_long: bool) -> Result<Tree, Fail> {
-    let answers = sum_of(alloc, terms, is_long)?;
-    tree_of(alloc, &answers)
+fn tree_of_sum(
+    alloc: Global,
+    data: &ParserData<u32>,
+    terms: usize,
+    len: usize,
+) -> Result<Tree, Fail> {
+    tree_of(alloc, data, &sum_of(alloc, terms, len)?)
 }
 
 // How many rules the last lexeme lies in.
@@ -41,27 +56,73 @@ fn levels(tree: &Tree) -> usize {
     levels
 }
 
+// A clone of the tree, which has to equal it and outlives it.
+fn cloned(alloc: Global, tree: Tree) -> Result<Tree, Fail> {
+    let again = tree.clone(alloc)?;
+    if again != tree {
+        return Err(Fail::new("a clone that differs"));
+    }
+    Ok(again)
+}
+
 #[test]
 fn deep_trees(rt: HostRuntime) -> Result<(), Fail> {
     let alloc = rt.alloc();
-    let tree = tree_of_sum(alloc, LEVELS, false)?;
+    let data = built(alloc, SUM)?;
+    let tree = cloned(alloc, tree_of_sum(alloc, &data, LEVELS, 1)?)?;
     assert_eq!(rt; levels(&tree), LEVELS + 1);
-    let again = tree.clone(alloc)?;
-    assert!(rt; again == tree, "a clone");
-    drop(tree);
-    assert_eq!(rt; levels(&again), LEVELS + 1);
-    let other = tree_of_sum(alloc, LEVELS, true)?;
-    assert!(rt; again != other, "another last leaf");
+    let other = tree_of_sum(alloc, &data, LEVELS, 2)?;
+    assert!(rt; tree != other, "another last leaf");
     Ok(())
+}
+
+// Whether the sum of three terms has the tree of this one.
+fn equals(alloc: Global, data: &ParserData<u32>, terms: usize, len: usize) -> Result<bool, Fail> {
+    let tree = tree_of_sum(alloc, data, 3, 1)?;
+    Ok(tree == tree_of_sum(alloc, data, terms, len)?)
 }
 
 #[test]
 fn trees_that_differ(rt: HostRuntime) -> Result<(), Fail> {
-    let alloc = rt.alloc();
-    let tree = tree_of_sum(alloc, 3, false)?;
-    assert!(rt; tree == tree.clone(alloc)?, "a clone");
-    assert!(rt; tree == tree_of_sum(alloc, 3, false)?, "the same sum");
-    assert!(rt; tree != tree_of_sum(alloc, 3, true)?, "another last leaf");
-    assert!(rt; tree != tree_of_sum(alloc, 2, false)?, "fewer terms");
+    let data = built(rt.alloc(), SUM)?;
+    for (terms, len, want) in [(3, 1, true), (3, 2, false), (2, 1, false)] {
+        assert_eq!(rt; equals(rt.alloc(), &data, terms, len)?, want);
+    }
+    Ok(())
+}
+
+#[test]
+fn trees_of_no_grammar(rt: HostRuntime) -> Result<(), Fail> {
+    let data = built(rt.alloc(), SUM)?;
+    let leaf: Tree = Node::Term {
+        lexeme: Token::new(2, 0, 1),
+    };
+    assert!(rt; !leaf.fits(data.grm(), "a"), "the end token has no name");
+    let rule: Tree = Node::Nonterm {
+        ridx: RIdx(3),
+        nodes: Vec::new(rt.alloc()),
+    };
+    assert!(rt; !rule.fits(data.grm(), "a"), "the grammar has three rules");
+    Ok(())
+}
+
+// The node that an action makes of the rule 1 and the lexeme.
+fn acted_leaf(alloc: Global, lexeme: Token<u32>) -> Result<Tree, Fail> {
+    let mut args = Vec::new(alloc);
+    args.push(AStackType::Lexeme(lexeme))?;
+    let (rule, lexer) = (RIdx(1), lexer_of(&[]));
+    Ok(action_generictree(alloc, rule, &lexer, Span::new(0, 1), args, &())?)
+}
+
+#[test]
+fn an_action_makes_a_node(rt: HostRuntime) -> Result<(), Fail> {
+    let lexeme: Token<u32> = Token::new(3, 0, 1);
+    let mut nodes = Vec::new(rt.alloc());
+    nodes.push(Node::Term { lexeme })?;
+    let rule = Node::Nonterm {
+        ridx: RIdx(1),
+        nodes,
+    };
+    assert!(rt; acted_leaf(rt.alloc(), lexeme)? == rule);
     Ok(())
 }

@@ -1,0 +1,153 @@
+//! Case files: each is read, and its cases are run and counted.
+use crate::cases::{Case, first_case, until_subject};
+use crate::fault::Fault;
+use crate::kinds::{inputs_of, outcome};
+use crate::line::{Line, lines_of};
+use crate::subject::{Subject, Tables, tables_of};
+use crate::verdict::wrong_of;
+use std::alloc::Global;
+use std::process::ExitCode;
+use std::rt::Files;
+use std::{env, fs, io};
+
+/// What is told of the cases so far.
+#[derive(Debug, Drop)]
+struct Report {
+    /// How many cases of the file were run.
+    cases: usize,
+    /// What is wrong, a line each.
+    wrong: String,
+}
+
+/// Runs the case files that the process's arguments name. Prints for each how many cases it has, and on standard error what is wrong.
+/// The status says whether nothing is.
+pub(crate) fn run_of_process(rt: &HostRuntime) -> ExitCode {
+    match run_files(rt) {
+        Ok(wrong) if wrong.is_empty() => ExitCode::SUCCESS,
+        Ok(wrong) => told(rt, wrong.as_str()),
+        Err(fault) => told_fault(rt, &fault),
+    }
+}
+
+// Says on standard error what is wrong.
+fn told(rt: &HostRuntime, wrong: &str) -> ExitCode {
+    let _ = eprint!(rt; "{wrong}");
+    ExitCode::FAILURE
+}
+
+// Says on standard error why there are no more cases.
+fn told_fault(rt: &HostRuntime, fault: &Fault) -> ExitCode {
+    let _ = eprintln!(rt; "{fault}");
+    ExitCode::FAILURE
+}
+
+// What is wrong in the files that the process's arguments name.
+fn run_files(rt: &HostRuntime) -> Result<String, Fault> {
+    let mut wrong = String::new(rt.alloc());
+    for name in env::args(rt)?.skip(1) {
+        let report = run_file(rt, rt.alloc(), name.as_str())?;
+        let cases = report.cases;
+        println!(rt; "{name}: {cases} cases")?;
+        wrong.push_str(report.wrong.as_str())?;
+    }
+    Ok(wrong)
+}
+
+// What comes of the cases of a file.
+fn run_file<R: Files>(rt: &R, alloc: Global, name: &str) -> Result<Report, Fault> {
+    let text = io::read_to_string(alloc, fs::open(rt, name)?)?;
+    let lines = lines_of(alloc, text.as_str())?;
+    run_lines(rt, alloc, name, &lines)
+}
+
+// What comes of the cases of a file's lines.
+fn run_lines<R: Files>(
+    rt: &R,
+    alloc: Global,
+    name: &str,
+    lines: &[Line<'_>],
+) -> Result<Report, Fault> {
+    let mut report = Report {
+        cases: 0,
+        wrong: String::new(alloc),
+    };
+    let mut rest = lines;
+    for _ in 0..lines.len() {
+        let Some((case, others)) = first_case(rest) else {
+            break;
+        };
+        rest = run_section(rt, alloc, name, case, others, &mut report)?;
+    }
+    Ok(report)
+}
+
+// Runs a case, or all that are about the subject that it is. Gives the lines behind.
+fn run_section<'t, 'a, R: Files>(
+    rt: &R,
+    alloc: Global,
+    name: &str,
+    case: Case<'t, 'a>,
+    others: &'t [Line<'a>],
+    report: &mut Report,
+) -> Result<&'t [Line<'a>], Fault> {
+    if !case.is_subject() {
+        run_case(rt, alloc, name, None, case, report)?;
+        return Ok(others);
+    }
+    let (section, behind) = until_subject(others);
+    match tables_of(alloc, case) {
+        Ok(tables) => run_about(rt, alloc, name, case, &tables, section, report)?,
+        Err(fault) => {
+            let text = format!(in alloc; "{fault}")?;
+            report.add(name, case, text.as_str())?;
+        }
+    }
+    Ok(behind)
+}
+
+// Runs the cases that are about these tables.
+fn run_about<R: Files>(
+    rt: &R,
+    alloc: Global,
+    name: &str,
+    case: Case<'_, '_>,
+    tables: &Tables,
+    section: &[Line<'_>],
+    report: &mut Report,
+) -> Result<(), Fault> {
+    let mut rest = section;
+    for _ in 0..section.len() {
+        let Some((about, others)) = first_case(rest) else {
+            break;
+        };
+        let subject = Subject { case, tables };
+        run_case(rt, alloc, name, Some(subject), about, report)?;
+        rest = others;
+    }
+    Ok(())
+}
+
+// Runs a case.
+fn run_case<R: Files>(
+    rt: &R,
+    alloc: Global,
+    name: &str,
+    subject: Option<Subject<'_, '_, '_>>,
+    case: Case<'_, '_>,
+    report: &mut Report,
+) -> Result<(), Fault> {
+    report.cases = report.cases.saturating_add(1);
+    let came = outcome(rt, alloc, subject, case);
+    match wrong_of(alloc, case, inputs_of(case.kind), came)? {
+        None => Ok(()),
+        Some(text) => report.add(name, case, text.as_str()),
+    }
+}
+
+impl Report {
+    // Adds what is wrong with a case.
+    fn add(&mut self, file: &str, case: Case<'_, '_>, text: &str) -> Result<(), Fault> {
+        let (line, kind, name) = (case.number, case.kind, case.name);
+        Ok(writeln!(self.wrong, "{file}:{line}: {kind} {name}: {text}")?)
+    }
+}
