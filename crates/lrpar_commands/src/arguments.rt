@@ -2,7 +2,7 @@
 use crate::fault::Fault;
 
 /// A command, with its words.
-#[derive(Clone, Copy, Debug)]
+#[derive(Clone, Copy)]
 pub(crate) enum Command<'a> {
     /// Parses the text as a sum.
     Demo {
@@ -26,7 +26,7 @@ pub(crate) enum Command<'a> {
 }
 
 /// The paths of the files that `tree` reads.
-#[derive(Clone, Copy, Debug)]
+#[derive(Clone, Copy)]
 pub(crate) struct TreePaths<'a> {
     pub(crate) grammar: &'a str,
     pub(crate) lexer: &'a str,

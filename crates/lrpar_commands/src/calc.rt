@@ -18,14 +18,14 @@ const GRAMMAR: &str =
 const LEXER: &str = "[0-9]+ 'INT'\n\\+ '+'\n\\* '*'\n\\( '('\n\\) ')'\n[\\t ]+ ;\n";
 
 /// What a symbol stands for: a sign, or a number, which there may be none of.
-#[derive(Clone, Copy, Debug)]
+#[derive(Clone, Copy)]
 enum Part {
     Sign(Sign),
     Number(Option<u64>),
 }
 
 /// A sign.
-#[derive(Clone, Copy, Debug, PartialEq, Eq)]
+#[derive(Clone, Copy)]
 enum Sign {
     Plus,
     Times,
@@ -33,7 +33,7 @@ enum Sign {
 }
 
 /// What a line gives.
-#[derive(Clone, Copy, Debug)]
+#[derive(Clone, Copy)]
 struct Found {
     number: Option<u64>,
     has_errors: bool,

@@ -10,7 +10,7 @@ use std::alloc::Global;
 use std::io::Write;
 
 /// A grammar, and what the check says against its table.
-#[derive(Debug, Drop)]
+#[derive(Drop)]
 struct Refusal {
     grm: YaccGrammar<u32>,
     fault: CheckFault,

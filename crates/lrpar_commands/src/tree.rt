@@ -8,7 +8,7 @@ use std::alloc::Global;
 use std::io::Write;
 
 /// The texts that `tree` reads.
-#[derive(Debug, Drop)]
+#[derive(Drop)]
 pub(crate) struct TreeTexts {
     pub(crate) grammar: String,
     pub(crate) lexer: String,
