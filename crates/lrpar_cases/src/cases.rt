@@ -39,18 +39,14 @@ pub(crate) fn first_case<'t, 'a>(lines: &'t [Line<'a>]) -> Option<(Case<'t, 'a>,
 
 // The lines in front of the next case, and the others.
 fn until_header<'t, 'a>(lines: &'t [Line<'a>]) -> (&'t [Line<'a>], &'t [Line<'a>]) {
-    match lines.iter().position(|line| is_header(*line)) {
-        Some(count) => (&lines[..count], &lines[count..]),
-        None => (lines, &[]),
-    }
+    let count = lines.iter().position(|line| is_header(*line));
+    lines.split_at(count.unwrap_or(lines.len()).min(lines.len()))
 }
 
 /// The lines in front of the next case that is a subject, and the others.
 pub(crate) fn until_subject<'t, 'a>(lines: &'t [Line<'a>]) -> (&'t [Line<'a>], &'t [Line<'a>]) {
-    match lines.iter().position(|line| begins_subject(*line)) {
-        Some(count) => (&lines[..count], &lines[count..]),
-        None => (lines, &[]),
-    }
+    let count = lines.iter().position(|line| begins_subject(*line));
+    lines.split_at(count.unwrap_or(lines.len()).min(lines.len()))
 }
 
 // Whether a case that is a subject begins with the line.
@@ -111,10 +107,8 @@ impl<'t, 'a> Case<'t, 'a> {
 
 /// The lines from the first one with this key on; none, if there is none.
 pub(crate) fn from_key<'t, 'a>(lines: &'t [Line<'a>], key: &str) -> &'t [Line<'a>] {
-    match lines.iter().position(|line| has_key(*line, key)) {
-        Some(at) => &lines[at..],
-        None => &[],
-    }
+    let at = lines.iter().position(|line| has_key(*line, key));
+    &lines[at.unwrap_or(lines.len()).min(lines.len())..]
 }
 
 // Whether the line has this key.
@@ -137,8 +131,19 @@ pub(crate) fn value_of<'a>(lines: &[Line<'a>]) -> Option<(&'a str, usize)> {
 /// behind each.
 pub(crate) fn bytes_of(alloc: Global, lines: &[Line<'_>]) -> Result<Vec<u8>, Fault> {
     let (value, number) = value_of(lines).unwrap_or(("", 0));
+    bytes_below(alloc, value, number, lines.get(1..).unwrap_or(&[]))
+}
+
+/// The text of a value in the line of this number, in which escapes are read, and then the lines of text with which those below it
+/// begin, with a line feed behind each.
+pub(crate) fn bytes_below(
+    alloc: Global,
+    value: &str,
+    number: usize,
+    below: &[Line<'_>],
+) -> Result<Vec<u8>, Fault> {
     let mut bytes = unescaped(alloc, value, number)?;
-    for line in lines.get(1..).unwrap_or(&[]) {
+    for line in below {
         let Content::Text(text) = line.content else {
             break;
         };

@@ -1,8 +1,8 @@
 //! The kinds of cases: what says what is done in each, and what comes of it.
 use crate::cases::Case;
 use crate::fault::Fault;
-use crate::parse;
 use crate::subject::Subject;
+use crate::{built, checks, commands, grammars, parse, parts, refusals, rows, stacks};
 use std::alloc::Global;
 use std::rt::Files;
 
@@ -10,20 +10,38 @@ use std::rt::Files;
 pub(crate) fn inputs_of(kind: &str) -> &'static [&'static str] {
     match kind {
         "parse" => parse::INPUTS,
+        "run" => commands::INPUTS,
+        "text" | "cuts" => grammars::INPUTS,
+        "parts" => parts::INPUTS,
+        "build" => built::INPUTS,
+        "check" => checks::INPUTS,
+        "stack" => stacks::INPUTS,
+        "full" | "stored" | "sets" => refusals::INPUTS,
         _ => &[],
     }
 }
 
 /// What comes of the case, a line `KEY VALUE` for each thing, in the order in which the case has to want them.
 pub(crate) fn outcome<R: Files>(
-    _rt: &R,
+    rt: &R,
     alloc: Global,
     subject: Option<Subject<'_, '_, '_>>,
     case: Case<'_, '_>,
 ) -> Result<String, Fault> {
     match case.kind {
         "parse" => parse::outcome(alloc, subject, case),
+        "run" => commands::outcome(rt, alloc, case),
         "nothing" => Ok(String::new(alloc)),
+        "text" => grammars::outcome(alloc, case),
+        "cuts" => grammars::outcome_of_cuts(alloc, case),
+        "parts" => parts::outcome(alloc, case),
+        "build" => built::outcome(alloc, case),
+        "rows" => rows::outcome(alloc, subject, case),
+        "check" => checks::outcome(alloc, subject, case),
+        "stack" => stacks::outcome(alloc, subject, case),
+        "full" => refusals::outcome_of_rows(alloc, case),
+        "stored" => refusals::outcome_of_entries(alloc, case),
+        "sets" => refusals::outcome_of_sets(alloc, case),
         _ => Err(Fault::Line(case.number, "a kind of case that isn't known")),
     }
 }

@@ -1,6 +1,8 @@
 //! What cases of parses and of tables are about: a grammar, and its checked table.
 use crate::cases::Case;
 use crate::fault::Fault;
+use crate::hand::tables_by_hand;
+use crate::read::cap_at;
 use lrpar::ParserData;
 use lrpar::build::parser_data;
 use lrpar::grammar::YaccGrammar;
@@ -10,9 +12,6 @@ use std::alloc::Global;
 
 /// How many states a table may have.
 const MAX_STATES: usize = 10_000;
-
-/// The cap of a table whose case names none.
-const CAP: u16 = 10;
 
 /// What cases are about.
 #[derive(Clone, Copy, Debug)]
@@ -34,7 +33,10 @@ pub(crate) struct Tables {
 
 /// The tables of a case that is a subject.
 pub(crate) fn tables_of(alloc: Global, case: Case<'_, '_>) -> Result<Tables, Fault> {
-    tables_of_grammar(alloc, case)
+    match case.kind {
+        "table" => tables_by_hand(alloc, case),
+        _ => tables_of_grammar(alloc, case),
+    }
 }
 
 // The tables of a case `grammar`: `text` is the grammar's text, and `cap` the cap.
@@ -60,17 +62,15 @@ fn tables_of_text(
 
 /// The cap that a case names.
 pub(crate) fn cap_of(case: Case<'_, '_>) -> Result<u16, Fault> {
-    match case.value("cap") {
-        None => Ok(CAP),
-        Some((value, number)) => match value.parse::<u16>() {
-            Ok(cap) => Ok(cap),
-            Err(_) => Err(Fault::Line(number, "a cap is wanted")),
-        },
-    }
+    cap_at(case, "cap")
 }
 
-// The grammar of a text.
-fn grammar_of(alloc: Global, case: Case<'_, '_>, text: &str) -> Result<YaccGrammar<u32>, Fault> {
+/// The grammar of a text.
+pub(crate) fn grammar_of(
+    alloc: Global,
+    case: Case<'_, '_>,
+    text: &str,
+) -> Result<YaccGrammar<u32>, Fault> {
     match YaccGrammar::new_with_storaget(alloc, text) {
         Ok(grm) => Ok(grm),
         Err(_) => Err(Fault::Line(case.number, "the text is no grammar")),

@@ -40,7 +40,7 @@ fn escaped(letter: u8) -> Option<u8> {
 
 // The byte of two hexadecimal digits.
 fn byte_of(high: u8, low: u8) -> Option<u8> {
-    Some(digit_of(high)? * 16 + digit_of(low)?)
+    digit_of(high)?.checked_mul(16)?.checked_add(digit_of(low)?)
 }
 
 // The number of a hexadecimal digit.

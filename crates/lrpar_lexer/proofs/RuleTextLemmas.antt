@@ -4,8 +4,8 @@ use Rattle.std.specs.List.{AllZip}
 use Rattle.std.proofs.lemmas.List.{map_push, take_more}
 use Rattle.std.proofs.lemmas.List.Elements.{filter-append}
 use Rattle.std.proofs.lemmas.Option.{slice_get-get_or}
+use Rattle.std.proofs.lemmas.Slice.Zip.{all_zipped_more}
 use Rattle.lrpar_grammar.specs.Grammar.{Grammar}
-use Rattle.lrpar.specs.ZipLaws.{zip_push}
 use Rattle.lrpar_lexer.specs.RuleLines.{core_of, cores_of}
 use Rattle.lrpar_lexer.specs.RuleTexts.{AreRulesOf, IsFirstFault, IsRuleOf, SaysNoRule}
 use Rattle.lrpar_lexer.specs.declared.rule.LexRule.{LexRule}
@@ -30,7 +30,7 @@ module _ (grammar : Grammar) (lines : List (List ℕ)) (number : ℕ) (line : Li
       ap cores_of one_more ∙ cores_push (take number lines) line
       ∙ ap (λ test. cores_of (take number lines) ++ cond test (core_of line ∷ []) []) (lt-ltb 0 (length (core_of line)) counts) in
       subst (λ cores. AllZip (IsRuleOf grammar) cores (rules ++ rule ∷ [])) (sym more)
-      (zip_push (IsRuleOf grammar) (cores_of (take number lines)) rules (core_of line) rule are says)
+      (all_zipped_more (IsRuleOf grammar) (cores_of (take number lines)) rules (core_of line) rule are says)
 
   -- one that doesn't count says none
   pub rules_stay : (rules : List LexRule) → length (core_of line) ≡ 0 → AreRulesOf grammar (take number lines) rules

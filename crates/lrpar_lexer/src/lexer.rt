@@ -8,9 +8,9 @@ ghost use Rattle.lrpar_lexer.specs.Rules.{plain_rules};
 use crate::lexing::answers;
 use crate::rule::LexRule;
 use crate::token::{NoToken, Token, TokenTypes};
-use lrpar::lines::NewlineCache;
-use lrpar::span::Span;
-use lrpar::{Lexer, NonStreamingLexer};
+use lrpar_answers::{Lexer, NonStreamingLexer};
+use lrpar_text::lines::NewlineCache;
+use lrpar_text::span::Span;
 use std::alloc::{AllocError, Global};
 
 /// The lexer of a text by rules. At each place the rule wins whose pattern matches most of what follows, and the first such

@@ -7,7 +7,7 @@ ghost use Rattle.regex.specs.Strings.{regex_pattern};
 ghost use Rattle.regex_hir.specs.Meaning.{meaning};
 ghost use Rattle.lrpar_lexer.specs.Anchored.{FindsAtStart, IsBehindStart, behind_start};
 
-use lrpar::span::TIdx;
+use lrpar_text::span::TIdx;
 use regex::{Error, Regex};
 use regex_hir::{Hir, Look};
 use regex_meta::Program;

@@ -5,8 +5,8 @@ ghost use Rattle.lrpar_lexer.specs.RuleLines.{HasEnding, HasGap, ReadsAs, core_o
 ghost use Rattle.lrpar_lexer.specs.RuleTexts.{AreRulesOf, IsFaultOf, IsRuleOf, NamesLine, SaysNoRule, first_named};
 
 use crate::rule::LexRule;
-use lrpar::grammar::YaccGrammar;
-use lrpar::span::TIdx;
+use lrpar_grammar::grammar::YaccGrammar;
+use lrpar_text::span::TIdx;
 use std::alloc::{AllocError, AllocFailed, Global};
 use thiserror::Error;
 

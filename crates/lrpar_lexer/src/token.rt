@@ -2,8 +2,8 @@
 ghost use Rattle.std.specs.Prelude.{◌≡◌, ◌+◌, ◌≤◌};
 ghost use Rattle.lrpar_lexer.specs.Lexing.{lexeme_of, nothing_at};
 
-use lrpar::span::{Span, StorageIndex};
-use lrpar::{LexError, Lexeme, LexerTypes};
+use lrpar_answers::{LexError, Lexeme, LexerTypes};
+use lrpar_text::span::{Span, StorageIndex};
 use std::error::Error;
 use std::fmt;
 

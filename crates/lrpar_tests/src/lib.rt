@@ -4,30 +4,18 @@
 #[cfg(test)]
 mod actions;
 #[cfg(test)]
-mod builder;
-#[cfg(test)]
 mod built;
 #[cfg(test)]
 mod calculation;
 pub mod calculator;
 #[cfg(test)]
-mod check;
-#[cfg(test)]
 mod counts;
 #[cfg(test)]
 mod errors;
 #[cfg(test)]
-mod fixtures;
-#[cfg(test)]
-mod grammar;
-#[cfg(test)]
-mod graph;
-#[cfg(test)]
 mod lexer;
 #[cfg(test)]
 mod lines;
-#[cfg(test)]
-mod reader;
 #[cfg(test)]
 mod readme;
 #[cfg(test)]
@@ -35,9 +23,9 @@ mod recoverer;
 #[cfg(test)]
 mod repairs;
 #[cfg(test)]
-mod span;
+mod sizes;
 #[cfg(test)]
-mod stacks;
+mod span;
 #[cfg(test)]
 mod table;
 #[cfg(test)]

@@ -1,0 +1,18 @@
+//! The commands of the program: from words, files and streams to what is printed and an exit status.
+#![tactic(auto)]
+
+mod arguments;
+mod calc;
+mod check;
+mod demo;
+mod fault;
+mod files;
+mod lexer;
+mod parsing;
+mod program;
+mod repairs;
+mod sum;
+mod tables;
+mod tree;
+
+pub use program::{run, run_of_process};

@@ -1,0 +1,199 @@
+//! The whole program: its words to commands, their answers to standard output, their faults to a line and a status.
+ghost use Rattle.std.specs.Prelude.{◌≤◌, IfOk};
+
+use crate::arguments::{Command, TreePaths, command_of};
+use crate::calc::calc;
+use crate::check::check;
+use crate::demo::demo;
+use crate::fault::Fault;
+use crate::files::{file_text, text_if_any};
+use crate::tree::{TreeTexts, tree};
+use std::alloc::Global;
+use std::io::{BufWriter, Read, Write};
+use std::rt::Files;
+use std::{env, io};
+
+/// The status of a command that has its answer.
+const SUCCESS: u8 = 0;
+
+/// The status of a command that found errors in its input.
+const ERRORS: u8 = 1;
+
+/// The status of a command that has no answer.
+const FAULT: u8 = 2;
+
+/// Runs the program on the process's own arguments and streams, and answers its exit status, as [`run`] does. An argument that
+/// isn't UTF-8 is a wrong one.
+pub fn run_of_process(rt: &HostRuntime) -> u8
+    ensures status { result ≤ 2 }
+{
+    match words(rt) {
+        Ok(args) => run(rt, rt.alloc(), &args, rt.stdin(), rt.stdout(), rt.stderr()),
+        Err(error) => refused(&Fault::of_arguments(&error), &mut rt.stderr()),
+    }
+}
+
+/// Runs the program and answers its exit status: 0 for an answer, 1 for an answer on an input with errors, 2 for no
+/// answer. `args` are the words after the program's name, and the files that they name are read by `rt`.
+///
+/// Answers are written to `out`. A command that gives none, as its words are wrong, memory is wanting or `out` fails,
+/// writes one line to `err`, which says why; that `err` fails changes nothing.
+///
+/// What is written to `out` is kept back until much of it is there, or something is written to `err`, or the program ends.
+pub fn run<R: Files, I: Read + Drop, O: Write + Drop, E: Write + Drop>(
+    rt: &R,
+    alloc: Global,
+    args: &[String],
+    input: I,
+    out: O,
+    mut err: E,
+) -> u8
+    ensures status { result ≤ 2 }
+{
+    match written(rt, alloc, args, input, out, &mut err) {
+        Ok(status) => status,
+        Err(fault) => refused(&fault, &mut err),
+    }
+}
+
+// The words after the program's name.
+fn words(rt: &HostRuntime) -> io::Result<Vec<String>> {
+    Ok(env::args(rt)?.skip(1).collect(rt.alloc())?)
+}
+
+// The status of the command, once all that it prints is written.
+fn written<R: Files, I: Read + Drop, O: Write + Drop, E: Write>(
+    rt: &R,
+    alloc: Global,
+    args: &[String],
+    input: I,
+    out: O,
+    err: &mut E,
+) -> Result<u8, Fault>
+    ensures { IfOk result (λ status. status ≤ 2) }
+{
+    match BufWriter::new(alloc, out) {
+        Ok(mut out) => {
+            let status = printed(rt, alloc, args, input, &mut out, err);
+            finished(status, out)
+        }
+        Err(_) => Err(Fault::Memory),
+    }
+}
+
+// The status of the command, which prints its answer.
+fn printed<R: Files, I: Read + Drop, O: Write, E: Write>(
+    rt: &R,
+    alloc: Global,
+    args: &[String],
+    input: I,
+    out: &mut O,
+    err: &mut E,
+) -> Result<u8, Fault>
+    ensures { IfOk result (λ status. status ≤ 2) }
+{
+    match command_of(args)? {
+        Command::Demo { text } => Ok(status_of(demo(alloc, text, out)?, ERRORS)),
+        Command::Tree { shifts, paths } => {
+            Ok(status_of(tree_of_files(rt, alloc, paths, shifts, out)?, ERRORS))
+        }
+        Command::Check { grammar, cap } => {
+            Ok(status_of(check_file(rt, alloc, grammar, cap, out)?, FAULT))
+        }
+        Command::Calc { shifts, repairs } => {
+            let clean = calc_input(rt, alloc, repairs, shifts, input, out, err)?;
+            Ok(status_of(clean, ERRORS))
+        }
+    }
+}
+
+// Prints the errors and the tree of a file. Answers whether there is a tree, and no error.
+fn tree_of_files<R: Files, O: Write>(
+    rt: &R,
+    alloc: Global,
+    paths: TreePaths<'_>,
+    shifts: Option<usize>,
+    out: &mut O,
+) -> Result<bool, Fault> {
+    let texts = tree_texts(rt, alloc, paths)?;
+    tree(alloc, &texts, shifts, out)
+}
+
+// The texts of the files that `tree` reads.
+fn tree_texts<R: Files>(rt: &R, alloc: Global, paths: TreePaths<'_>) -> Result<TreeTexts, Fault> {
+    Ok(TreeTexts {
+        grammar: file_text(rt, alloc, paths.grammar)?,
+        lexer: file_text(rt, alloc, paths.lexer)?,
+        input: file_text(rt, alloc, paths.input)?,
+        repairs: text_if_any(rt, alloc, paths.repairs)?,
+    })
+}
+
+// Checks the table of a file's grammar, and prints what the check says. Answers whether it passes.
+fn check_file<R: Files, O: Write>(
+    rt: &R,
+    alloc: Global,
+    grammar: &str,
+    cap: u16,
+    out: &mut O,
+) -> Result<bool, Fault> {
+    let grammar = file_text(rt, alloc, grammar)?;
+    check(alloc, grammar.as_str(), cap, out)
+}
+
+// Computes the lines of standard input, with the repairs of a file. Answers whether each has a number, and no error.
+fn calc_input<R: Files, I: Read + Drop, O: Write, E: Write>(
+    rt: &R,
+    alloc: Global,
+    repairs: Option<&str>,
+    shifts: Option<usize>,
+    input: I,
+    out: &mut O,
+    err: &mut E,
+) -> Result<bool, Fault> {
+    let repairs = text_if_any(rt, alloc, repairs)?;
+    calc(alloc, repairs.as_str(), shifts, input, out, err)
+}
+
+// The status of a command that is well, or else another one.
+fn status_of(is_well: bool, other: u8) -> u8
+    requires { other ≤ 2 }
+    ensures { result ≤ 2 }
+{
+    if is_well { SUCCESS } else { other }
+}
+
+// The status, once all that was printed is written. What `out` doesn't take isn't tried again.
+fn finished<O: Write + Drop>(status: Result<u8, Fault>, mut out: BufWriter<O>) -> Result<u8, Fault>
+    requires { IfOk status (λ status. status ≤ 2) }
+    ensures { IfOk result (λ status. status ≤ 2) }
+{
+    let status = flushed(status, &mut out);
+    if status.is_err() {
+        let _ = out.into_parts();
+    }
+    status
+}
+
+// The status, once all that was printed is written.
+fn flushed<O: Write>(status: Result<u8, Fault>, out: &mut O) -> Result<u8, Fault>
+    requires { IfOk status (λ status. status ≤ 2) }
+    ensures { IfOk result (λ status. status ≤ 2) }
+{
+    let written = out.flush();
+    match (status, written) {
+        (Ok(status), Ok(())) => Ok(status),
+        (Ok(_), Err(error)) => Err(Fault::of_write(&error)),
+        (Err(fault), _) => Err(fault),
+    }
+}
+
+// Writes the fault's line, as far as that can be done, and answers its status.
+fn refused<E: Write>(fault: &Fault, err: &mut E) -> u8
+    ensures { result ≤ 2 }
+{
+    if writeln!(err, "{fault}").is_ok() {
+        let _ = err.flush();
+    }
+    FAULT
+}

@@ -1,0 +1,346 @@
+"""Tries wrong bodies that the prover has to refuse, outside the gate: planted.sh [--workers N] [CRATE | CRATE/EDIT]..
+
+An edit is a file tools/planted/CRATE/EDIT.edit in the format of must-fail: a line 'file: src/..' and pairs of lines 'old: TEXT'
+and 'new: TEXT', each old TEXT standing once in that file. A line 'only: MODULE::FUNCTION', which must-fail passes over, names
+what to check; there may be several. Without one it is each function that the edit changes.
+
+An edit is tried by 'rt check --only' of that, over the kept proofs of the crate, which is checked unedited first. What passes is
+tried on the whole crate before it counts as not refused. At most N edits are tried side by side (four, if N isn't given), each in
+a copy of the repository of its own, whose made files are hard links: rattle never writes into a file that it made, but puts
+another one in its place.
+"""
+import argparse
+import os
+import queue
+import re
+import shutil
+import signal
+import subprocess
+import sys
+import tempfile
+from concurrent.futures import ThreadPoolExecutor, as_completed
+from dataclasses import dataclass
+
+ROOT = os.path.dirname(os.path.dirname(os.path.realpath(__file__)))
+PLANTED = f"{ROOT}/tools/planted"
+# The seconds that the check of one edit may take.
+LIMIT = 1800
+
+FUNCTION = re.compile(r"( *)(?:pub(?:\(\w+\))? )?(?:const )?(?:unsafe )?fn (\w+)")
+OWNER = re.compile(r"(?:unsafe )?impl\b|(?:pub(?:\(\w+\))? )?trait\b")
+# What rattle prints of a place in a file.
+PLACE = re.compile(r"(note: )?\S+:\d+:\d+:")
+# An error in a proof file that names what the edit took away, or in what cites that proof.
+TAKEN_AWAY = re.compile(r"(\./)?proofs/.*(has no field|is not in scope|has no `|was not admitted)")
+UNREAD = re.compile(r"is not in scope|has no field|is no name|operand is missing|expected the end|cannot continue")
+
+
+class BadEdit(Exception):
+    """Why an edit can't be tried."""
+
+
+@dataclass
+class Edit:
+    crate: str
+    name: str
+    # What to check, where the edit says so.
+    only: list
+    # The texts of the files that it changes, by their path in the crate.
+    texts: dict
+    # Where it changes them: a path, the lines of that file and the line's number, a pair each.
+    places: list
+
+
+# ---- Reading edits
+
+
+def edits_named(words):
+    """Returns the files of the edits that the words name, by crate, and the words that name none."""
+    found, lost = {}, []
+    for word in words or sorted(os.listdir(PLANTED)):
+        crate, _, name = word.partition("/")
+        name = name.removesuffix(".edit")
+        folders = [f"{PLANTED}/{crate}", f"{ROOT}/crates/{crate}/must-fail"]
+        if name:
+            files = [it for it in (f"{folder}/{name}.edit" for folder in folders) if os.path.isfile(it)][:1]
+        else:
+            files = edit_files(folders[0])
+        if not files:
+            lost.append(word)
+        found.setdefault(crate, []).extend(it for it in files if it not in found.get(crate, []))
+    return found, lost
+
+
+def edit_files(folder):
+    """Returns the edits of a folder in the order of their names, none where there is no such folder."""
+    names = sorted(os.listdir(folder)) if os.path.isdir(folder) else []
+    return [f"{folder}/{it}" for it in names if it.endswith(".edit")]
+
+
+def read_edit(file, crate):
+    """Returns the edit of a file, as it applies to the crate."""
+    edit = Edit(crate, os.path.basename(file).removesuffix(".edit"), [], {}, [])
+    path, old = "", None
+    for line in text_of(file).split("\n"):
+        word, _, rest = line.partition(":")
+        rest = rest.removeprefix(" ")
+        if word == "file":
+            path = rest.strip()
+        elif word == "only":
+            edit.only.append(rest.strip())
+        elif word == "old":
+            old = rest
+        elif word == "new":
+            apply(edit, path, old, rest)
+            old = None
+    if not edit.texts:
+        raise BadEdit("it has no 'old:' and 'new:' pair")
+    return edit
+
+
+def apply(edit, path, old, new):
+    """Puts the new text in place of the old one, which has to stand once in the file."""
+    if not path.startswith(("src/", "specs/", "proofs/")):
+        raise BadEdit("no 'file:' line names a file of src/, specs/ or proofs/")
+    if not old:
+        raise BadEdit("a 'new:' line has no 'old:' line")
+    if path not in edit.texts:
+        edit.texts[path] = text_of(f"{ROOT}/crates/{edit.crate}/{path}")
+    text = edit.texts[path]
+    if text.count(old) != 1:
+        raise BadEdit(f"an 'old:' text is in {path} {text.count(old)} times, and not once")
+    edit.places.append((path, text.split("\n"), text[: text.index(old)].count("\n")))
+    edit.texts[path] = text.replace(old, new)
+
+
+def text_of(file):
+    try:
+        with open(file, encoding="utf-8") as it:
+            return it.read()
+    except (OSError, UnicodeDecodeError) as error:
+        raise BadEdit(f"{os.path.relpath(file, ROOT)} can't be read") from error
+
+
+# ---- What an edit changes
+
+
+def names_to_check(edit, known):
+    """Returns what --only is to name: what the edit says, or else the functions that it changes, of those that are known."""
+    if edit.only:
+        return edit.only
+    found = [name for place in edit.places for name in names_at(edit.crate, place, known)]
+    if not found:
+        raise BadEdit("it changes no function: name what to check by a line 'only: MODULE::FUNCTION'")
+    return list(dict.fromkeys(found))
+
+
+def names_at(crate, place, known):
+    """Returns the names under which a check knows the innermost function around the place, none outside of functions."""
+    path, lines, at = place
+    head = next((it for it in range(at, -1, -1) if is_within(lines, it, at)), None)
+    if head is None or not path.startswith("src/"):
+        return []
+    indent, function = FUNCTION.match(lines[head]).groups()
+    module = re.sub(r"^src/|\.rt$", "", path).replace("/", "::")
+    module = crate if module in ("lib", "main") else f"{crate}::{module}"
+    owner = owner_of(lines, head) if indent else ""
+    # A check names a method by the module of its type, with the arguments of an impl for some types alone, and one of an impl for
+    # a type without a name in a way of its own.
+    patterns = [f"{module}::{owner}{function}", rf"{crate}::(?:\w+::)*{owner}{function}", rf"{module}::[+\w]+::{function}"]
+    found = [[it for it in known if re.fullmatch(pattern, it)] for pattern in patterns]
+    return next((it for it in found if it), [])
+
+
+def is_within(lines, head, at):
+    """Returns whether a function begins at the line of this number and hasn't ended before the other one, or in it."""
+    function = FUNCTION.match(lines[head])
+    if not function or f"{function[1]}}}" in lines[head:at]:
+        return False
+    return all(it.startswith(function[1]) for it in lines[head : at + 1] if it)
+
+
+def owner_of(lines, at):
+    """Returns a pattern of what stands before the name of a method: the type, and the trait with the type that it is for."""
+    start = next((it for it in range(at, -1, -1) if OWNER.match(lines[it])), at)
+    end = next((it for it in range(start, at) if lines[it].endswith("{")), at)
+    head = " ".join(lines[start : end + 1]).replace("->", " ")
+    argument = re.search(r"<(?:[^<>]*\W)?(\w+)(?:<[^<>]*>)?> for ", head)
+    while "<" in head:
+        head, was = re.sub(r"<[^<>]*>", "", head), head
+        if head == was:
+            break
+    words = re.sub(r"^.*?\b(?:impl|trait)\b|\bwhere\b.*|(?<!:):(?!:).*|\{.*", "", head).split(" for ")
+    kind, trait = ["".join(re.findall(r"\w+", it)[-1:]) for it in (words[-1], words[0])]
+    kind = kind[:1].upper() + kind[1:]
+    if len(words) == 1:
+        return f"{kind}(?:\\+[+\\w]+)?::"
+    return f"{kind}{trait}(?:{argument[1]})?::" if argument else f"{kind}{trait}\\w*::"
+
+
+# ---- Copies
+
+
+def copy_repository(source, to, parts):
+    """Copies what a check reads: the crates, and these parts of what was made of them."""
+    os.makedirs(to)
+    for name in ("crates.txt", "HANDLES"):
+        shutil.copyfile(f"{source}/{name}", f"{to}/{name}")
+    shutil.copytree(f"{source}/crates", f"{to}/crates", ignore=shutil.ignore_patterns("out", "must-fail"))
+    for crate in os.listdir(f"{source}/crates"):
+        for part in parts:
+            link(f"{source}/crates/{crate}/out/{part}", f"{to}/crates/{crate}/out/{part}")
+
+
+def link(source, to):
+    """Has a folder of made files at another place too, in place of what stands there: by hard links, or on another disk by copies."""
+    shutil.rmtree(to, ignore_errors=True)
+    if not os.path.isdir(source):
+        return
+    try:
+        shutil.copytree(source, to, copy_function=os.link)
+    except (OSError, shutil.Error):
+        shutil.rmtree(to, ignore_errors=True)
+        shutil.copytree(source, to)
+
+
+def write(folder, texts):
+    for path, text in texts.items():
+        with open(f"{folder}/{path}", "w", encoding="utf-8") as it:
+            it.write(text)
+
+
+# ---- Checks
+
+
+def check(folder, jobs, only=()):
+    """Returns the status of a check of the crate in the folder, none after too long a time, and the lines that it printed."""
+    words = ["rt", "check", "--jobs", str(jobs), *(word for it in only for word in ("--only", it))]
+    how = {"cwd": folder, "stdin": subprocess.DEVNULL, "stdout": subprocess.PIPE, "stderr": subprocess.STDOUT}
+    with subprocess.Popen(words, **how, text=True, errors="replace") as ran:
+        try:
+            said, _ = ran.communicate(timeout=LIMIT)
+        except subprocess.TimeoutExpired:
+            ran.terminate()
+            return None, ran.communicate()[0].split("\n")
+        return ran.returncode, said.rstrip("\n").split("\n")
+
+
+def try_edit(edit, copy, kept, only):
+    """Returns whether the prover refuses the crate with this edit, and what to say."""
+    folder = f"{copy}/crates/{edit.crate}"
+    were = {path: text_of(f"{folder}/{path}") for path in edit.texts}
+    try:
+        write(folder, edit.texts)
+        refused, text = judged(edit, *check(folder, 1, only))
+        if refused is None:
+            refused, text = judged(edit, *check(folder, 1))
+            text = f"refused, but not by {', '.join(only)}{text.removeprefix('refused')}" if refused else text
+        return bool(refused), text
+    finally:
+        write(folder, were)
+        link(kept, f"{folder}/out/incremental")
+
+
+def judged(edit, status, lines):
+    """Returns whether a check refused the edit, none where it passed, and what to say."""
+    ends = [it for it in lines if re.match(r"only=|logic=|rattle: no verdict", it)]
+    bad = next((it for it in lines if is_unread(it, edit.texts)), "")
+    if bad:
+        return False, f"BAD EDIT: the prover can't read the edited text, so no contract was tried: {bad[:160]}"
+    if status == 0:
+        return None, "NOT REFUSED"
+    if status != 1 or not ends or not ends[-1].startswith(("only=", "logic=not-proved")):
+        why = "it took too long" if status is None else f"status {status}"
+        said = next((it for it in lines if "error" in it), lines[-1])
+        return False, f"BAD EDIT: the check came to no verdict ({why}): {said[:160]}"
+    told = [it for it in lines if PLACE.match(it) and (": error" in it or it.startswith("note: "))]
+    first = next((it for it in told if not TAKEN_AWAY.match(it)), "")
+    if told and not first:
+        return True, f"refused (only because a proof file names what the edit took away: change a value and keep the names): {told[0][:160]}"
+    return True, f"refused: {first[:160]}"
+
+
+def is_unread(line, changed):
+    """Returns whether the line says that a text of src/, of specs/ or of an edited file can't be read."""
+    at = re.match(r"(?:\./)?(\S+?):\d+:\d+: error: (?:(`[^`]*`): )?(.*)", line)
+    if not at or at[1] not in changed and not at[1].startswith(("src/", "specs/")):
+        return False
+    return not at[2] or bool(UNREAD.search(re.sub(r"`[^`]*`", "", at[3])))
+
+
+# ---- The whole
+
+
+def try_crate(crate, files, room, workers):
+    """Tries the edits of a crate, prints the verdict of each as it comes, and returns how many are refused."""
+    first = f"{room}/first"
+    if not os.path.isdir(f"{ROOT}/crates/{crate}"):
+        say(f"{crate}: NOT TRIED: there is no such crate")
+        return 0
+    kept = f"{first}/crates/{crate}/out/incremental"
+    status, lines = check(f"{first}/crates/{crate}", workers)
+    if status != 0:
+        say("\n".join([f"{crate}: NOT TRIED: the unedited crate isn't proved", *lines[-20:]]))
+        return 0
+    known = [it[1] for it in (re.match(r"fn (\S+): proved", line) for line in lines) if it]
+    copies = queue.SimpleQueue()
+    for at in range(min(workers, len(files))):
+        copy_repository(first, f"{room}/{at}", ["rlib"])
+        link(kept, f"{room}/{at}/crates/{crate}/out/incremental")
+        copies.put(f"{room}/{at}")
+    refused = 0
+    pool = ThreadPoolExecutor(workers)
+    try:
+        tasks = [pool.submit(try_file, crate, it, copies, kept, known) for it in files]
+        for it in as_completed(tasks):
+            is_refused, text = it.result()
+            say(text)
+            refused += is_refused
+    finally:
+        # (after a signal those that are being tried still end)
+        pool.shutdown(cancel_futures=True)
+    for at in range(min(workers, len(files))):
+        shutil.rmtree(f"{room}/{at}")
+    return refused
+
+
+def try_file(crate, file, copies, kept, known):
+    """Tries the edit of a file in a copy that is free, and returns whether it is refused, and its line."""
+    copy = copies.get()
+    try:
+        edit = read_edit(file, crate)
+        refused, text = try_edit(edit, copy, kept, names_to_check(edit, known))
+    except BadEdit as why:
+        refused, text = False, f"BAD EDIT: {why}"
+    finally:
+        copies.put(copy)
+    return refused, f"{crate}/{os.path.basename(file).removesuffix('.edit')}: {text}"
+
+
+def say(text):
+    print(text, flush=True)
+
+
+def main():
+    words = argparse.ArgumentParser(prog="planted.sh", description="Tries wrong bodies that the prover has to refuse.")
+    words.add_argument("--workers", type=int, default=4, metavar="N", help="how many edits are tried side by side (4)")
+    words.add_argument("edits", nargs="*", metavar="CRATE | CRATE/EDIT", help="whose edits, or which one; each crate's, if there is none")
+    given = words.parse_args()
+    # (so that the copies are removed)
+    signal.signal(signal.SIGTERM, lambda *_: sys.exit(1))
+    found, lost = edits_named(given.edits)
+    for word in lost:
+        say(f"{word}: NOT TRIED: there is no such edit")
+    passed = 0
+    with tempfile.TemporaryDirectory(prefix="planted-") as room:
+        copy_repository(ROOT, f"{room}/first", ["rlib", "incremental"])
+        for crate, files in found.items():
+            if files:
+                passed += try_crate(crate, files, room, max(given.workers, 1))
+    failed = sum(len(it) for it in found.values()) + len(lost) - passed
+    say(f"{passed} passed, {failed} failed")
+    return 1 if failed else 0
+
+
+if __name__ == "__main__":
+    sys.exit(main())
