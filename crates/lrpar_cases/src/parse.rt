@@ -56,7 +56,7 @@ fn by_lexemes<'a>(
     let lexer = HandedLexer::new(alloc, given, input)?;
     let by_rows = parser_of(alloc, &tables.by_rows, case)?;
     let by_entries = parser_of(alloc, &tables.by_entries, case)?;
-    by_parsers(alloc, case, [&by_rows, &by_entries], &lexer, input)
+    by_parsers(alloc, case, &by_rows, &by_entries, &lexer, input)
 }
 
 // The parser of the case by a table.
@@ -80,18 +80,18 @@ fn parser_of<'a>(
 fn by_parsers(
     alloc: Global,
     case: Case<'_, '_>,
-    parsers: [&Parser<'_>; 2],
+    first: &Parser<'_>,
+    second: &Parser<'_>,
     lexer: &HandedLexer<'_>,
     input: &str,
 ) -> Result<String, Fault> {
-    let [first, _] = parsers;
     let places = RefCell::new(Vec::new(alloc));
     let answer = answer_by(alloc, Call::ParseActions, first, lexer, &places);
     let mut came = String::new(alloc);
     push_answer(alloc, &mut came, case, first.grammar(), &answer)?;
     push_noted(&mut came, case, first.grammar(), &places)?;
     push_printed(alloc, &mut came, case, first.grammar(), input, &answer)?;
-    push_differing(alloc, &mut came, case, &answer, parsers, lexer)?;
+    push_differing(alloc, &mut came, case, &answer, first, second, lexer)?;
     Ok(came)
 }
 
@@ -231,10 +231,10 @@ fn push_differing(
     out: &mut String,
     case: Case<'_, '_>,
     answer: &Answer,
-    parsers: [&Parser<'_>; 2],
+    first: &Parser<'_>,
+    second: &Parser<'_>,
     lexer: &HandedLexer<'_>,
 ) -> Result<(), Fault> {
-    let [first, second] = parsers;
     let wanted = told_of(alloc, case, first.grammar(), answer)?;
     for call in CALLS {
         push_difference(alloc, out, case, &wanted, call, first, lexer)?;
