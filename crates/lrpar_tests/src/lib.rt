@@ -23,10 +23,16 @@ mod recoverer;
 #[cfg(test)]
 mod repairs;
 #[cfg(test)]
+mod rules;
+#[cfg(test)]
 mod sizes;
 #[cfg(test)]
 mod span;
 #[cfg(test)]
+mod streams;
+#[cfg(test)]
 mod table;
 #[cfg(test)]
 mod trees;
+#[cfg(test)]
+mod writes;

@@ -1,6 +1,7 @@
-//! Trees: of many levels, of no grammar, and those that an action makes.
+//! Trees: of many levels, of no grammar, those that an action makes, and how they are written.
 use crate::built::{SUM, built};
 use crate::lexer::{Given, lexer_of};
+use lrpar::grammar::YaccGrammar;
 use lrpar::parser::AStackType;
 use lrpar::span::{RIdx, Span};
 use lrpar::{Lexeme, Node, ParserData, RTParserBuilder, action_generictree};
@@ -124,5 +125,33 @@ fn an_action_makes_a_node(rt: HostRuntime) -> Result<(), Fail> {
         nodes,
     };
     assert!(rt; acted_leaf(rt.alloc(), lexeme)? == rule);
+    Ok(())
+}
+
+// Whether the tree is written over this text as it is printed, and isn't written over no text.
+fn is_written(
+    alloc: Global,
+    grm: &YaccGrammar<u32>,
+    tree: &Tree,
+    text: &str,
+) -> Result<bool, Fail> {
+    if !tree.fits(grm, text) {
+        return Err(Fail::new("a tree outside the text"));
+    }
+    let printed = tree.pp(alloc, grm, text)?;
+    let mut written = Vec::new(alloc);
+    tree.write(alloc, grm, text, &mut written)?;
+    let is_refused = tree.write(alloc, grm, "", &mut Vec::new(alloc)).is_err();
+    Ok(is_refused && written.as_slice() == printed.as_bytes())
+}
+
+#[test]
+fn trees_are_written_over_their_text(rt: HostRuntime) -> Result<(), Fail> {
+    let data = built(rt.alloc(), SUM)?;
+    for (terms, text) in [(1, "a"), (2, "a+b"), (3, "a+b+c")] {
+        let tree = tree_of_sum(rt.alloc(), &data, terms, 1)?;
+        let grm = data.grm();
+        assert!(rt; is_written(rt.alloc(), grm, &tree, text)?, "{text}");
+    }
     Ok(())
 }
