@@ -13,8 +13,8 @@ use lrpar::grammar::YaccGrammar;
 use lrpar::parser::PpFault;
 use lrpar::repair::FixedRecoverer;
 use lrpar::span::TIdx;
-use lrpar::{NonStreamingLexer, ParserData, RTParserBuilder};
-use lrpar_lexer::{RuleLexer, TokenTypes};
+use lrpar::{ParserData, RTParserBuilder};
+use lrpar_lexer::RuleLexer;
 use std::alloc::Global;
 use std::cell::RefCell;
 
@@ -46,17 +46,17 @@ pub(crate) fn outcome(
 }
 
 // What comes of these lexemes.
-fn by_lexemes(
+fn by_lexemes<'a>(
     alloc: Global,
     tables: &Tables,
     case: Case<'_, '_>,
-    given: &[Given],
-    input: &str,
+    given: &'a [Given],
+    input: &'a str,
 ) -> Result<String, Fault> {
     let lexer = HandedLexer::new(alloc, given, input)?;
     let by_rows = parser_of(alloc, &tables.by_rows, case)?;
     let by_entries = parser_of(alloc, &tables.by_entries, case)?;
-    by_parsers(alloc, case, [&by_rows, &by_entries], &lexer, input)
+    by_parsers(alloc, case, &by_rows, &by_entries, &lexer, input)
 }
 
 // The parser of the case by a table.
@@ -80,18 +80,18 @@ fn parser_of<'a>(
 fn by_parsers(
     alloc: Global,
     case: Case<'_, '_>,
-    parsers: [&Parser<'_>; 2],
+    first: &Parser<'_>,
+    second: &Parser<'_>,
     lexer: &HandedLexer<'_>,
     input: &str,
 ) -> Result<String, Fault> {
-    let [first, _] = parsers;
     let places = RefCell::new(Vec::new(alloc));
     let answer = answer_by(alloc, Call::ParseActions, first, lexer, &places);
     let mut came = String::new(alloc);
     push_answer(alloc, &mut came, case, first.grammar(), &answer)?;
     push_noted(&mut came, case, first.grammar(), &places)?;
     push_printed(alloc, &mut came, case, first.grammar(), input, &answer)?;
-    push_differing(alloc, &mut came, case, &answer, parsers, lexer)?;
+    push_differing(alloc, &mut came, case, &answer, first, second, lexer)?;
     Ok(came)
 }
 
@@ -142,12 +142,12 @@ fn push_noted(
 }
 
 // Adds the texts of the errors and of the tree, where the case asks.
-fn push_printed(
+fn push_printed<'a>(
     alloc: Global,
     out: &mut String,
     case: Case<'_, '_>,
-    grm: &YaccGrammar<u32>,
-    input: &str,
+    grm: &'a YaccGrammar<u32>,
+    input: &'a str,
     answer: &Answer,
 ) -> Result<(), Fault> {
     if let (Some((value, _)), Ok((tree, errors))) = (case.value("print"), answer) {
@@ -161,44 +161,43 @@ fn push_printed(
 }
 
 // Adds the texts of errors, where all tokens but this one have a printed name.
-fn push_texts(
-    alloc: Global,
-    out: &mut String,
-    grm: &YaccGrammar<u32>,
-    without: &str,
-    input: &str,
-    errors: &[CaseError],
-) -> Result<(), Fault> {
-    let lexer = RuleLexer::new(alloc, &[], input)?;
-    for error in errors {
-        push_error_text(alloc, out, grm, without, &lexer, input, error)?;
-    }
-    Ok(())
-}
-
-// Adds the text of an error.
-fn push_error_text<'a, L: NonStreamingLexer<'a, TokenTypes>>(
+fn push_texts<'a>(
     alloc: Global,
     out: &mut String,
     grm: &'a YaccGrammar<u32>,
     without: &str,
-    lexer: &L,
-    input: &str,
+    input: &'a str,
+    errors: &[CaseError],
+) -> Result<(), Fault> {
+    let lexer = RuleLexer::new(alloc, &[], input)?;
+    for error in errors {
+        match error_text(alloc, grm, without, &lexer, input, error) {
+            Ok(Some(text)) => push_text(out, "text", text.as_str())?,
+            Ok(None) => out.push_str("unfit error\n")?,
+            Err(PpFault::Memory) => return Err(Fault::Memory),
+            Err(fault) => writeln!(out, "{fault}")?,
+        }
+    }
+    Ok(())
+}
+
+// The text of an error, and a line feed; none where it doesn't fit the input.
+fn error_text<'a>(
+    alloc: Global,
+    grm: &'a YaccGrammar<u32>,
+    without: &str,
+    lexer: &RuleLexer<'a, 'a>,
+    input: &'a str,
     error: &CaseError,
-) -> Result<(), Fault>
-    requires { L.text lexer.now ≡ input.now }
+) -> Result<Option<String>, PpFault<u32>>
+    requires { lexer.now.input.now ≡ input.now }
 {
     if !error.fits(input) {
-        return Ok(out.push_str("unfit error\n")?);
+        return Ok(None);
     }
-    match error.pp(alloc, lexer, |token| printed_name(grm, without, token)) {
-        Ok(mut text) => {
-            text.push('\n')?;
-            push_text(out, "text", text.as_str())
-        }
-        Err(PpFault::Memory) => Err(Fault::Memory),
-        Err(fault) => Ok(writeln!(out, "{fault}")?),
-    }
+    let mut text = error.pp(alloc, lexer, |token| printed_name(grm, without, token))?;
+    text.push('\n')?;
+    Ok(Some(text))
 }
 
 // What is printed for a token, if it isn't the one without a printed name.
@@ -232,10 +231,10 @@ fn push_differing(
     out: &mut String,
     case: Case<'_, '_>,
     answer: &Answer,
-    parsers: [&Parser<'_>; 2],
+    first: &Parser<'_>,
+    second: &Parser<'_>,
     lexer: &HandedLexer<'_>,
 ) -> Result<(), Fault> {
-    let [first, second] = parsers;
     let wanted = told_of(alloc, case, first.grammar(), answer)?;
     for call in CALLS {
         push_difference(alloc, out, case, &wanted, call, first, lexer)?;

@@ -135,11 +135,11 @@ pub(crate) fn push_tree(
         Node::Term { lexeme } => push_lexeme(out, grm, *lexeme),
         Node::Nonterm { ridx, nodes } => {
             out.push_str(rule_name(grm, *ridx))?;
-            let mut mark = "(";
+            let mut mark = '(';
             for node in nodes {
-                out.push_str(mark)?;
+                out.push(mark)?;
                 push_tree(out, grm, node)?;
-                mark = " ";
+                mark = ' ';
             }
             Ok(out.push_str(if nodes.is_empty() { "()" } else { ")" })?)
         }

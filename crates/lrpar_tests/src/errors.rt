@@ -16,7 +16,7 @@ fn lexeme(start: usize) -> Token<u32> {
     Token::new(1, start.min(1_000), 1)
 }
 
-// The error in this state at the lexeme of this byte, with so many sequences of no steps.
+// The error in this state at the lexeme of this byte, with so many sequences of one deletion.
 fn error(
     alloc: Global,
     state: u32,
@@ -25,7 +25,7 @@ fn error(
 ) -> Result<ParseError<Token<u32>, u32>, Fail> {
     let mut listed = Vec::new(alloc);
     for _ in 0..sequences {
-        listed.push(Vec::new(alloc))?;
+        listed.push(vec![in alloc; ParseRepair::Delete(lexeme(start))]?)?;
     }
     Ok(ParseError::new(StIdx(state), lexeme(start), listed))
 }
