@@ -1,7 +1,8 @@
 //! Tables that are built of grammar texts, and texts of which none is.
 use crate::cases::Case;
+use crate::checks::push_told;
 use crate::fault::Fault;
-use crate::read::{cap_at, number_at};
+use crate::read::{cap_of, number_at, number_of};
 use crate::rows::{push_conflicts, text_of_data};
 use lrpar::ParserData;
 use lrpar::build::{Unbuilt, from_yacc, parser_data};
@@ -9,32 +10,66 @@ use lrpar::check::Refused;
 use lrpar::grammar::YaccGrammar;
 use lrpar::span::StorageIndex;
 use lrpar::table::{StateGraph, StateTable};
-use std::alloc::Global;
+use std::alloc::{AllocError, Global};
 
 /// The keys that say what is done.
 pub(crate) const INPUTS: &[&str] = &["text", "symbols", "storage", "most", "cap", "then-cap"];
 
+// What is allowed.
+#[derive(Clone, Copy)]
+struct Limits {
+    // The most states.
+    most: usize,
+    // The cap of the check, if there is one.
+    cap: Option<u16>,
+    // The cap of the check of what a refusal hands back, if there is one.
+    then: Option<u16>,
+}
+
 /// What is built of the text: in the smallest storage type, or in that which is named.
 pub(crate) fn outcome(alloc: Global, case: Case<'_, '_>) -> Result<String, Fault> {
+    let limits = limits_of(case)?;
     let text = source(alloc, case)?;
     let mut came = String::new(alloc);
     match case.value_or_nothing("storage") {
-        "u16" => push_built::<u16>(&mut came, alloc, case, text.as_str())?,
-        _ => push_built::<u8>(&mut came, alloc, case, text.as_str())?,
+        "u16" => push_built::<u16>(&mut came, alloc, case, text.as_str(), limits)?,
+        _ => push_built::<u8>(&mut came, alloc, case, text.as_str(), limits)?,
     }
     Ok(came)
 }
 
+// What the case allows.
+fn limits_of(case: Case<'_, '_>) -> Result<Limits, Fault> {
+    Ok(Limits {
+        most: number_at(case, "most", 100)?,
+        cap: cap_beside(case, "cap")?,
+        then: cap_beside(case, "then-cap")?,
+    })
+}
+
+// The cap beside this key, if there is one.
+fn cap_beside(case: Case<'_, '_>, key: &str) -> Result<Option<u16>, Fault> {
+    match case.value(key) {
+        None => Ok(None),
+        Some((value, line)) => Ok(Some(cap_of(number_of(value, line)?, line)?)),
+    }
+}
+
 // The text, or that of one rule of so many symbols.
 fn source(alloc: Global, case: Case<'_, '_>) -> Result<String, Fault> {
-    let mut text = case.text(alloc, "text")?;
-    if text.is_empty() {
-        text.push_str("%% S:")?;
-        for _ in 0..number_at(case, "symbols", 0)? {
-            text.push_str(" 'a'")?;
-        }
-        text.push(';')?;
+    match case.value("symbols") {
+        None => case.text(alloc, "text"),
+        Some((value, line)) => Ok(long_rule(alloc, number_of(value, line)?)?),
     }
+}
+
+// The text of one rule of so many symbols.
+fn long_rule(alloc: Global, symbols: usize) -> Result<String, AllocError> {
+    let mut text = String::from_str(alloc, "%% S:")?;
+    for _ in 0..symbols {
+        text.push_str(" 'a'")?;
+    }
+    text.push(';')?;
     Ok(text)
 }
 
@@ -56,16 +91,26 @@ fn push_built<S: StorageIndex>(
     alloc: Global,
     case: Case<'_, '_>,
     text: &str,
+    limits: Limits,
 ) -> Result<(), Fault> {
     let grm = grammar::<S>(alloc, case, text)?;
-    let most = number_at(case, "most", 100)?;
-    match from_yacc(alloc, &grm, most) {
-        Err(fault) => writeln!(came, "fault {fault}")?,
-        Ok((graph, table)) => push_table(came, &grm, &graph, &table)?,
-    }
-    match case.value("cap") {
+    push_table_of(came, alloc, &grm, limits.most)?;
+    match limits.cap {
         None => Ok(()),
-        Some(_) => push_checked(came, alloc, case, grm, most),
+        Some(cap) => push_checked(came, alloc, grm, cap, limits),
+    }
+}
+
+// What is built of the grammar.
+fn push_table_of<S: StorageIndex>(
+    came: &mut String,
+    alloc: Global,
+    grm: &YaccGrammar<S>,
+    most: usize,
+) -> Result<(), Fault> {
+    match from_yacc(alloc, grm, most) {
+        Err(fault) => Ok(writeln!(came, "fault {fault}")?),
+        Ok((graph, table)) => push_table(came, grm, &graph, &table),
     }
 }
 
@@ -85,18 +130,14 @@ fn push_table<S: StorageIndex>(
 fn push_checked<S: StorageIndex>(
     came: &mut String,
     alloc: Global,
-    case: Case<'_, '_>,
     grm: YaccGrammar<S>,
-    most: usize,
+    cap: u16,
+    limits: Limits,
 ) -> Result<(), Fault> {
-    match parser_data(alloc, grm, most, cap_at(case, "cap")?) {
+    match parser_data(alloc, grm, limits.most, cap) {
         Ok(data) => push_data(came, alloc, &data),
         Err(Unbuilt::Table(fault, _)) => Ok(writeln!(came, "refused table: {fault}")?),
-        Err(Unbuilt::Chains(refused)) => {
-            let fault = refused.fault();
-            writeln!(came, "refused chains: {fault}")?;
-            push_handed_back(came, alloc, case, refused)
-        }
+        Err(Unbuilt::Chains(refused)) => push_refusal(came, alloc, refused, limits.then),
     }
 }
 
@@ -116,23 +157,32 @@ fn push_data<S: StorageIndex>(
     Ok(())
 }
 
-// What comes of the check of what was handed back, where another cap is named.
-fn push_handed_back<S: StorageIndex>(
+// Which chain is too long, and where another cap is named, what comes of the check of what is handed back.
+fn push_refusal<S: StorageIndex>(
     came: &mut String,
     alloc: Global,
-    case: Case<'_, '_>,
     refused: Refused<S>,
+    then: Option<u16>,
 ) -> Result<(), Fault> {
-    if case.value("then-cap").is_none() {
-        return Ok(());
+    let fault = refused.fault();
+    writeln!(came, "refused chains: {fault}")?;
+    match then {
+        None => Ok(()),
+        Some(cap) => push_again(came, alloc, refused, cap),
     }
+}
+
+// What comes of the check of what is handed back.
+fn push_again<S: StorageIndex>(
+    came: &mut String,
+    alloc: Global,
+    refused: Refused<S>,
+    cap: u16,
+) -> Result<(), Fault> {
     let (grm, graph, table) = refused.into_parts();
-    match ParserData::new(alloc, grm, graph, table, cap_at(case, "then-cap")?) {
+    match ParserData::new(alloc, grm, graph, table, cap) {
         Ok(data) => push_rows(came, alloc, &data),
-        Err(refused) => {
-            let fault = refused.fault();
-            Ok(writeln!(came, "then refused {fault}")?)
-        }
+        Err(refused) => push_told(came, Some(refused.fault())),
     }
 }
 
@@ -143,6 +193,6 @@ fn push_rows<S: StorageIndex>(
     data: &ParserData<S>,
 ) -> Result<(), Fault> {
     let text = text_of_data(alloc, data)?;
-    came.push_str("then checked\n")?;
+    push_told(came, None)?;
     Ok(came.push_str(text.as_str())?)
 }

@@ -6,7 +6,7 @@ use crate::read::CAP;
 use crate::rows::{agreed, text_of};
 use crate::subject::Subject;
 use lrpar::ParserData;
-use lrpar::check::Refused;
+use lrpar::check::{CheckFault, Refused};
 use lrpar::grammar::YaccGrammar;
 use lrpar::table::{StateGraph, StateTable};
 use std::alloc::Global;
@@ -46,20 +46,53 @@ fn outcome_of(alloc: Global, hand: Hand<'_, '_>) -> Result<String, Fault> {
 
 // What comes of it by this call.
 fn outcome_by(alloc: Global, hand: Hand<'_, '_>, by: By) -> Result<String, Fault> {
+    let cap = hand.cap("cap", CAP)?;
+    let then = hand.cap("then-cap", Hand::of(hand.table).cap("cap", CAP)?)?;
     let mut came = String::new(alloc);
-    push_checked(&mut came, alloc, hand, by)?;
+    push_made(
+        &mut came,
+        alloc,
+        Trial {
+            hand,
+            by,
+            cap,
+            then,
+        },
+    )?;
     Ok(came)
 }
 
-// What comes of the check of the table that this call makes.
-fn push_checked(came: &mut String, alloc: Global, hand: Hand<'_, '_>, by: By) -> Result<(), Fault> {
-    let grm = hand.grammar(alloc)?;
-    let graph = hand.graph(alloc, &grm)?;
-    let table = hand.table(alloc, &grm, by)?;
+// What is tried: a table by hand, made by this call; and the caps of its check, and of that of what is handed back.
+#[derive(Clone, Copy)]
+struct Trial<'t, 'a> {
+    hand: Hand<'t, 'a>,
+    by: By,
+    cap: u16,
+    then: u16,
+}
+
+// What comes of the check of the table that is made.
+fn push_made(came: &mut String, alloc: Global, trial: Trial<'_, '_>) -> Result<(), Fault> {
+    let grm = trial.hand.grammar(alloc)?;
+    let graph = trial.hand.graph(alloc, &grm)?;
+    let table = trial.hand.table(alloc, &grm, trial.by)?;
     let was = text_of(alloc, &grm, &graph, &table)?;
-    match ParserData::new(alloc, grm, graph, table, hand.cap("cap", CAP)?) {
-        Ok(data) => push_taken(came, alloc, &data, was.as_str()),
-        Err(refused) => push_refusal(came, alloc, hand, by, refused, was.as_str()),
+    push_checked(came, alloc, trial, was.as_str(), grm, graph, table)
+}
+
+// What comes of the check of these parts, of which this is the text.
+fn push_checked(
+    came: &mut String,
+    alloc: Global,
+    trial: Trial<'_, '_>,
+    was: &str,
+    grm: YaccGrammar<u32>,
+    graph: StateGraph<u32>,
+    table: StateTable<u32>,
+) -> Result<(), Fault> {
+    match ParserData::new(alloc, grm, graph, table, trial.cap) {
+        Ok(data) => push_taken(came, alloc, &data, was),
+        Err(refused) => push_refusal(came, alloc, trial, was, refused),
     }
 }
 
@@ -95,41 +128,52 @@ fn push_kept(
 fn push_refusal(
     came: &mut String,
     alloc: Global,
-    hand: Hand<'_, '_>,
-    by: By,
-    refused: Refused<u32>,
+    trial: Trial<'_, '_>,
     was: &str,
+    refused: Refused<u32>,
 ) -> Result<(), Fault> {
     let fault = refused.fault();
     writeln!(came, "refused {fault}")?;
-    let (grm, graph, table) = refused.into_parts();
-    push_kept(came, alloc, &grm, &graph, &table, was)?;
-    push_mended(came, alloc, hand, by, grm, graph, table)
+    let (grm, mut graph, mut table) = refused.into_parts();
+    push_back(came, alloc, trial, was, &grm, &mut graph, &mut table)?;
+    let fault = fault_of(alloc, grm, graph, table, trial.then);
+    push_told(came, fault)
 }
 
-// What comes of the check of what was handed back, once what was changed is mended.
-fn push_mended(
+// Says where what is handed back isn't as it was, and mends what was changed.
+fn push_back(
     came: &mut String,
     alloc: Global,
-    hand: Hand<'_, '_>,
-    by: By,
-    grm: YaccGrammar<u32>,
-    mut graph: StateGraph<u32>,
-    mut table: StateTable<u32>,
+    trial: Trial<'_, '_>,
+    was: &str,
+    grm: &YaccGrammar<u32>,
+    graph: &mut StateGraph<u32>,
+    table: &mut StateTable<u32>,
 ) -> Result<(), Fault> {
-    mend(alloc, hand, by, &grm, &mut graph, &mut table)?;
-    match ParserData::new(alloc, grm, graph, table, then_cap(hand)?) {
-        Ok(_) => Ok(came.push_str("then checked\n")?),
-        Err(refused) => {
-            let fault = refused.fault();
-            Ok(writeln!(came, "then refused {fault}")?)
-        }
+    push_kept(came, alloc, grm, graph, table, was)?;
+    mend(alloc, trial.hand, trial.by, grm, graph, table)
+}
+
+// For what the parts are refused with the cap, if they are.
+fn fault_of(
+    alloc: Global,
+    grm: YaccGrammar<u32>,
+    graph: StateGraph<u32>,
+    table: StateTable<u32>,
+    cap: u16,
+) -> Option<CheckFault> {
+    match ParserData::new(alloc, grm, graph, table, cap) {
+        Ok(_) => None,
+        Err(refused) => Some(refused.fault()),
     }
 }
 
-// The cap of the second check: that beside `then-cap`, or else the table's.
-fn then_cap(hand: Hand<'_, '_>) -> Result<u16, Fault> {
-    hand.cap("then-cap", Hand::of(hand.table).cap("cap", CAP)?)
+/// Adds what comes of the second check.
+pub(crate) fn push_told(came: &mut String, fault: Option<CheckFault>) -> Result<(), Fault> {
+    match fault {
+        None => Ok(came.push_str("then checked\n")?),
+        Some(fault) => Ok(writeln!(came, "then refused {fault}")?),
+    }
 }
 
 // Puts the table's own parts in the place of those that were changed.

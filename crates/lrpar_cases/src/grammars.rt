@@ -47,9 +47,10 @@ pub(crate) fn outcome_of_cuts(alloc: Global, case: Case<'_, '_>) -> Result<Strin
 
 // Why the text is no grammar.
 fn push_cut(came: &mut String, alloc: Global, cut: &str) -> Result<(), Fault> {
-    match YaccGrammar::<u8>::new_with_storaget(alloc, cut) {
-        Ok(_) => Ok(came.push_str("a grammar\n")?),
-        Err(fault) => push_fault(came, &fault),
+    let fault = YaccGrammar::<u8>::new_with_storaget(alloc, cut).err();
+    match fault {
+        None => Ok(came.push_str("a grammar\n")?),
+        Some(fault) => push_fault(came, &fault),
     }
 }
 

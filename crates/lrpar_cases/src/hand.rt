@@ -12,14 +12,14 @@ use lrpar::table::{Action, Item, SparseRows, StateGraph, StateTable};
 use std::alloc::Global;
 
 /// By which call a table is made: of its full rows, or of its stored entries.
-#[derive(Clone, Copy, Debug)]
+#[derive(Clone, Copy)]
 pub(crate) enum By {
     Rows,
     Entries,
 }
 
 /// A table by hand.
-#[derive(Clone, Copy, Debug)]
+#[derive(Clone, Copy)]
 pub(crate) struct Hand<'t, 'a> {
     /// The case whose lines it is.
     pub(crate) table: Case<'t, 'a>,

@@ -140,7 +140,7 @@ fn push_gotos<S: StorageIndex>(
 }
 
 // A line of entries of a state, as far as it is written.
-#[derive(Clone, Copy, Debug)]
+#[derive(Clone, Copy)]
 struct Entries {
     key: &'static str,
     state: usize,

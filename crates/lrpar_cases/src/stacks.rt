@@ -79,14 +79,14 @@ fn push_tokens(
 }
 
 // What is called.
-#[derive(Clone, Copy, Debug)]
+#[derive(Clone, Copy)]
 enum Call {
     Settle(TIdx<u32>),
     Feed(TIdx<u32>),
 }
 
 // What a call answers: how many reductions it made, or whether it shifted.
-#[derive(Clone, Copy, Debug)]
+#[derive(Clone, Copy)]
 enum Answer {
     Settled(u128),
     Fed(bool),
