@@ -5,7 +5,7 @@ use crate::text::unescaped;
 use std::alloc::Global;
 
 /// A case: its first line, and the lines below it.
-#[derive(Clone, Copy, Debug)]
+#[derive(Clone, Copy)]
 pub(crate) struct Case<'t, 'a> {
     /// The number of its first line.
     pub(crate) number: usize,

@@ -3,21 +3,27 @@ ghost use Rattle.std.specs.Prelude.{◌≡◌};
 ghost use Rattle.lrpar_cases.specs.declared.fault.Fault.TheVariants.{Memory};
 
 use std::alloc::{AllocError, AllocFailed};
-use std::io;
-use thiserror::Error;
+use std::{fmt, io};
 
 /// Why a case has no outcome, or why there are no more cases.
-#[derive(Debug, Drop, Error)]
+#[derive(Drop)]
 pub(crate) enum Fault {
     /// What stands in this line of the file can't be read as what is said here.
-    #[error("line {0}: {1}")]
     Line(usize, &'static str),
     /// A file can't be read or written, or a stream takes no more.
-    #[error("{0}")]
     Io(io::Error),
     /// Memory was wanting.
-    #[error("out of memory")]
     Memory,
+}
+
+impl fmt::Display for Fault {
+    fn fmt<W: fmt::Write>(&self, f: &mut fmt::Formatter<W>) -> fmt::Result {
+        match self {
+            Fault::Line(number, text) => write!(f, "line {number}: {text}"),
+            Fault::Io(error) => write!(f, "{error}"),
+            Fault::Memory => write!(f, "out of memory"),
+        }
+    }
 }
 
 impl From<io::Error> for Fault {

@@ -10,7 +10,7 @@ use lrpar_lexer::{NoToken, RuleLexer, Token, TokenTypes};
 use std::alloc::{AllocError, Global};
 
 /// What a lexer answers.
-#[derive(Clone, Copy, Debug)]
+#[derive(Clone, Copy)]
 pub(crate) enum Given {
     /// A lexeme.
     Lexeme(Token<u32>),

@@ -3,14 +3,14 @@ use crate::fault::Fault;
 use std::alloc::Global;
 
 /// A line that counts: its number, from 1, and what it has.
-#[derive(Clone, Copy, Debug)]
+#[derive(Clone, Copy)]
 pub(crate) struct Line<'a> {
     pub(crate) number: usize,
     pub(crate) content: Content<'a>,
 }
 
 /// What a line has.
-#[derive(Clone, Copy, Debug)]
+#[derive(Clone, Copy)]
 pub(crate) enum Content<'a> {
     /// The first line of a case: `KIND NAME`.
     Header { kind: &'a str, name: &'a str },

@@ -11,7 +11,7 @@ use std::rt::Files;
 use std::{env, fs, io};
 
 /// What is told of the cases so far.
-#[derive(Debug, Drop)]
+#[derive(Drop)]
 struct Report {
     /// How many cases of the file were run.
     cases: usize,

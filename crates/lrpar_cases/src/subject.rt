@@ -14,7 +14,7 @@ use std::alloc::Global;
 const MAX_STATES: usize = 10_000;
 
 /// What cases are about.
-#[derive(Clone, Copy, Debug)]
+#[derive(Clone, Copy)]
 pub(crate) struct Subject<'d, 't, 'a> {
     /// The case that says what it is.
     pub(crate) case: Case<'t, 'a>,
@@ -23,7 +23,7 @@ pub(crate) struct Subject<'d, 't, 'a> {
 }
 
 /// One checked table, made by each of the two calls.
-#[derive(Debug, Drop)]
+#[derive(Drop)]
 pub(crate) struct Tables {
     /// Of full rows.
     pub(crate) by_rows: ParserData<u32>,
