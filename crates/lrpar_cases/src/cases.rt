@@ -17,36 +17,43 @@ pub(crate) struct Case<'t, 'a> {
     pub(crate) lines: &'t [Line<'a>],
 }
 
-/// The first case of these lines, and the lines behind it. Lines in front of the first case are a case without a kind.
-pub(crate) fn first_case<'t, 'a>(lines: &'t [Line<'a>]) -> Option<(Case<'t, 'a>, &'t [Line<'a>])> {
-    let (first, below) = lines.split_first()?;
-    let (lines, others) = until_header(below);
-    let (kind, name) = match first.content {
-        Content::Header { kind, name } => (kind, name),
-        Content::Field { key: _, value: _ } | Content::Text(_) => ("", ""),
-    };
+/// The case that begins with the line of this place, if one does. Lines in front of the first case are a case without a kind.
+pub(crate) fn case_at<'t, 'a>(lines: &'t [Line<'a>], at: usize) -> Option<Case<'t, 'a>> {
+    let (first, below) = lines.get(at..)?.split_first()?;
     let number = first.number;
-    Some((
-        Case {
+    let lines = until_header(below);
+    match first.content {
+        Content::Header { kind, name } => Some(Case {
             number,
             kind,
             name,
             lines,
-        },
-        others,
-    ))
+        }),
+        Content::Field { .. } | Content::Text(_) if at > 0 => None,
+        Content::Field { .. } | Content::Text(_) => Some(Case {
+            number,
+            kind: "",
+            name: "",
+            lines,
+        }),
+    }
 }
 
-// The lines in front of the next case, and the others.
-fn until_header<'t, 'a>(lines: &'t [Line<'a>]) -> (&'t [Line<'a>], &'t [Line<'a>]) {
+/// The lines behind this place, up to the next case that is a subject.
+pub(crate) fn section_behind<'t, 'a>(lines: &'t [Line<'a>], at: usize) -> &'t [Line<'a>] {
+    until_subject(&lines[at.saturating_add(1).min(lines.len())..])
+}
+
+// The lines in front of the next case.
+fn until_header<'t, 'a>(lines: &'t [Line<'a>]) -> &'t [Line<'a>] {
     let count = lines.iter().position(|line| is_header(*line));
-    lines.split_at(count.unwrap_or(lines.len()).min(lines.len()))
+    &lines[..count.unwrap_or(lines.len()).min(lines.len())]
 }
 
-/// The lines in front of the next case that is a subject, and the others.
-pub(crate) fn until_subject<'t, 'a>(lines: &'t [Line<'a>]) -> (&'t [Line<'a>], &'t [Line<'a>]) {
+// The lines in front of the next case that is a subject.
+fn until_subject<'t, 'a>(lines: &'t [Line<'a>]) -> &'t [Line<'a>] {
     let count = lines.iter().position(|line| begins_subject(*line));
-    lines.split_at(count.unwrap_or(lines.len()).min(lines.len()))
+    &lines[..count.unwrap_or(lines.len()).min(lines.len())]
 }
 
 // Whether a case that is a subject begins with the line.

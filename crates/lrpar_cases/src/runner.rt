@@ -1,5 +1,5 @@
 //! Case files: each is read, and its cases are run and counted.
-use crate::cases::{Case, first_case, until_subject};
+use crate::cases::{Case, case_at, section_behind};
 use crate::fault::Fault;
 use crate::kinds::{inputs_of, outcome};
 use crate::line::{Line, lines_of};
@@ -71,38 +71,37 @@ fn run_lines<R: Files>(
         cases: 0,
         wrong: String::new(alloc),
     };
-    let mut rest = lines;
-    for _ in 0..lines.len() {
-        let Some((case, others)) = first_case(rest) else {
-            break;
-        };
-        rest = run_section(rt, alloc, name, case, others, &mut report)?;
+    let mut has_subject = false;
+    for at in 0..lines.len() {
+        if let Some(case) = case_at(lines, at) {
+            has_subject = has_subject || case.is_subject();
+            if case.is_subject() {
+                let section = section_behind(lines, at.saturating_add(case.lines.len()));
+                run_section(rt, alloc, name, case, section, &mut report)?;
+            } else if !has_subject {
+                run_case(rt, alloc, name, None, case, &mut report)?;
+            }
+        }
     }
     Ok(report)
 }
 
-// Runs a case, or all that are about the subject that it is. Gives the lines behind.
-fn run_section<'t, 'a, R: Files>(
+// Runs the cases that are about the subject that a case is.
+fn run_section<R: Files>(
     rt: &R,
     alloc: Global,
     name: &str,
-    case: Case<'t, 'a>,
-    others: &'t [Line<'a>],
+    case: Case<'_, '_>,
+    section: &[Line<'_>],
     report: &mut Report,
-) -> Result<&'t [Line<'a>], Fault> {
-    if !case.is_subject() {
-        run_case(rt, alloc, name, None, case, report)?;
-        return Ok(others);
-    }
-    let (section, behind) = until_subject(others);
+) -> Result<(), Fault> {
     match tables_of(alloc, case) {
-        Ok(tables) => run_about(rt, alloc, name, case, &tables, section, report)?,
+        Ok(tables) => run_about(rt, alloc, name, case, &tables, section, report),
         Err(fault) => {
             let text = format!(in alloc; "{fault}")?;
-            report.add(name, case, text.as_str())?;
+            report.add(name, case, text.as_str())
         }
     }
-    Ok(behind)
 }
 
 // Runs the cases that are about these tables.
@@ -115,14 +114,11 @@ fn run_about<R: Files>(
     section: &[Line<'_>],
     report: &mut Report,
 ) -> Result<(), Fault> {
-    let mut rest = section;
-    for _ in 0..section.len() {
-        let Some((about, others)) = first_case(rest) else {
-            break;
-        };
-        let subject = Subject { case, tables };
-        run_case(rt, alloc, name, Some(subject), about, report)?;
-        rest = others;
+    let subject = Subject { case, tables };
+    for at in 0..section.len() {
+        if let Some(about) = case_at(section, at) {
+            run_case(rt, alloc, name, Some(subject), about, report)?;
+        }
     }
     Ok(())
 }

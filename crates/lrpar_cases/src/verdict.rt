@@ -57,20 +57,40 @@ fn difference(
     inputs: &[&str],
     came: &str,
 ) -> Result<Option<String>, Fault> {
-    let mut came = came.lines();
+    let wanted = wanted_of(alloc, case, inputs)?;
+    for (line, found) in wanted.iter().zip(came.lines()) {
+        if !is_line(*line, found) {
+            return Ok(Some(told_difference(alloc, *line, found)?));
+        }
+    }
+    told_length(alloc, &wanted, came)
+}
+
+// The lines of the case that say what has to come.
+fn wanted_of<'a>(
+    alloc: Global,
+    case: Case<'_, 'a>,
+    inputs: &[&str],
+) -> Result<Vec<Line<'a>>, Fault> {
+    let mut wanted = Vec::new(alloc);
     let mut counts = false;
     for line in case.lines {
         counts = is_wanted(*line, inputs, counts);
         if counts {
-            let found = came.next();
-            if !is_line(*line, found) {
-                return Ok(Some(told_difference(alloc, Some(*line), found)?));
-            }
+            wanted.push(*line)?;
         }
     }
-    match came.next() {
+    Ok(wanted)
+}
+
+// The first line that is wanted and didn't come, or came and isn't wanted, as a text; none where as many came as are wanted.
+fn told_length(alloc: Global, wanted: &[Line<'_>], came: &str) -> Result<Option<String>, Fault> {
+    if let Some(line) = wanted.get(came.lines().count()) {
+        return Ok(Some(told_difference(alloc, *line, "nothing")?));
+    }
+    match came.lines().nth(wanted.len()) {
+        Some(found) => Ok(Some(format!(in alloc; "wanted nothing more, came: {found}")?)),
         None => Ok(None),
-        found => Ok(Some(told_difference(alloc, None, found)?)),
     }
 }
 
@@ -84,10 +104,7 @@ fn is_wanted(line: Line<'_>, inputs: &[&str], above: bool) -> bool {
 }
 
 // Whether the line that came is this one.
-fn is_line(line: Line<'_>, found: Option<&str>) -> bool {
-    let Some(found) = found else {
-        return false;
-    };
+fn is_line(line: Line<'_>, found: &str) -> bool {
     match line.content {
         Content::Field { key, value: "" } => found == key,
         Content::Field { key, value } => is_field(found, key, value),
@@ -105,20 +122,10 @@ fn is_field(found: &str, key: &str, value: &str) -> bool {
 }
 
 // A difference as a text.
-fn told_difference(
-    alloc: Global,
-    wanted: Option<Line<'_>>,
-    found: Option<&str>,
-) -> Result<String, Fault> {
-    let found = found.unwrap_or("nothing");
-    Ok(match wanted {
-        None => format!(in alloc; "wanted nothing more, came: {found}")?,
-        Some(line) => {
-            let number = line.number;
-            let wanted = shown(alloc, line)?;
-            format!(in alloc; "line {number}: wanted: {wanted}, came: {found}")?
-        }
-    })
+fn told_difference(alloc: Global, line: Line<'_>, found: &str) -> Result<String, Fault> {
+    let number = line.number;
+    let wanted = shown(alloc, line)?;
+    Ok(format!(in alloc; "line {number}: wanted: {wanted}, came: {found}")?)
 }
 
 // The line as it stands in the file, without the blanks around it.
