@@ -304,7 +304,7 @@ impl<
         }
     }
 
-    // Runs over valid lexemes.
+    // What the run over valid lexemes comes to: an entry, if it accepts, and the errors of its stops.
     fn ran<B: Build<StorageT, LexerTypesT::LexemeT>>(
         &self,
         alloc: Global,

@@ -1,4 +1,4 @@
-//! A tree again.
+//! Copies of trees.
 ghost use Rattle.std.specs.Prelude.{◌≡◌, ◌∷◌, IfOk, length};
 ghost use Rattle.lrpar_answers.specs.Visits.{Entered};
 ghost use Rattle.lrpar_answers.specs.Walks.{walk, walks};
