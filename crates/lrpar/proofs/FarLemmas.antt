@@ -1,20 +1,21 @@
 -- How far a run comes from a place: lexeme by lexeme, to where it stops or accepts.
-use Rattle.std.proofs.Common.{◌≡◌, ◌<◌, ◌≤◌, ◌+◌, ◌-◌, ◌∙◌, ℕ, List, [], ◌∷◌, ◌++◌, None, Option, Some, drop, get_or, length, take, ap, arith, subst, sym}
+use Rattle.std.proofs.Common.{◌≡◌, ◌<◌, ◌≤◌, ◌+◌, ◌-◌, ◌∙◌, ℕ, List, [], ◌∷◌, ◌++◌, None, Some, drop, get_or, length, take, ap, arith, subst, sym}
 use Rattle.std.proofs.lemmas.List.{get_or-drop, length-append, length-drop, take_all, take_more}
 use Rattle.std.proofs.lemmas.Option.{get_or_from_slice_get, slice_get_within}
 use Rattle.std.specs.List.{slice_get}
-use Rattle.lrpar_grammar.specs.Grammar.{GrammarSymbol, end_token}
+use Rattle.lrpar_grammar.specs.Grammar.{end_token}
 use Rattle.lrpar_grammar.specs.Sentence.{LexemeFacts}
 use Rattle.lrpar_states.specs.Table.{Accepts, Fails}
 use Rattle.lrpar_check.specs.Checked.{Checked}
 use Rattle.lrpar_check.specs.Reduction.{top_action}
+use Rattle.lrpar.specs.Building.{Building}
 use Rattle.lrpar.specs.Moves.{GoesFar, Moves, and_settles, and_shifts, rests}
 use Rattle.lrpar.specs.RepairRun.{fed_between}
-use Rattle.lrpar.specs.Run.{Comes, stays}
+use Rattle.lrpar_check.specs.Run.{Comes, stays}
 use Rattle.lrpar.specs.Stacked.{SettlesTo, Shifts, Sticks}
 use Rattle.lrpar.specs.Standing.{Stacked}
 use Rattle.lrpar.proofs.StackedLemmas.{states_settle}
-use Rattle.lrpar.proofs.RunLemmas.{comes_by, comes_to_accept, comes_to_end, comes_to_stop}
+use Rattle.lrpar_check.proofs.RunLemmas.{comes_by, comes_to_accept, comes_to_end, comes_to_stop}
 
 -- no lexeme is fed between a place and itself
 fed_none : {X : Type 0} (lexemes : List X) (i : ℕ) → fed_between lexemes i i ≡ []
@@ -37,13 +38,13 @@ fed_all lexemes i j is =
     let count : length (drop i lexemes) ≡ length lexemes - i = length-drop i lexemes in
     take_all (j - i) (drop i lexemes) (omega (arith, is, count))
 
-module _ {X E : Type 0} (facts : X → LexemeFacts) (leaf : X → E → Type 0) (node : ℕ → Option E → List E → E → Type 0) (suits : GrammarSymbol → E → Type 0) (d : Checked) (lexemes : List X) where
+module _ {X E : Type 0} (facts : X → LexemeFacts) (builds : Building X E) (d : Checked) (lexemes : List X) where
   -- the token of a lexeme
   abbrev token : X → ℕ
   token x = (facts x).token
 
   abbrev Moved : Stacked E → List X → List ℕ → ℕ → Stacked E → Type 0
-  Moved old xs ps n new = Moves facts leaf node suits d old xs ps n new
+  Moved old xs ps n new = Moves facts builds d old xs ps n new
 
   -- from the old stacks at place i the run has come to place j
   pub record HasCome (old : Stacked E) (i : ℕ) (stack : Stacked E) (j : ℕ) : Type 0 where
@@ -61,7 +62,7 @@ module _ {X E : Type 0} (facts : X → LexemeFacts) (leaf : X → E → Type 0) 
 
   module _ (old : Stacked E) (i : ℕ) (stack : Stacked E) (j : ℕ) (come : HasCome old i stack j) where
     -- a lexeme is shifted
-    pub come_more : (new : Stacked E) (x : X) → i ≤ j → slice_get lexemes j ≡ Some x → Shifts leaf node suits d (token x) x stack new → HasCome old i new (j + 1)
+    pub come_more : (new : Stacked E) (x : X) → i ≤ j → slice_get lexemes j ≡ Some x → Shifts builds d (token x) x stack new → HasCome old i new (j + 1)
     come_more new x le is by =
         let qs = by.settles.prods in
         let fed = fed_between lexemes i j in
@@ -70,47 +71,47 @@ module _ {X E : Type 0} (facts : X → LexemeFacts) (leaf : X → E → Type 0) 
           prods = come.prods ++ qs;
           comes = subst (λ (w : List ℕ). Comes token d.grammar d.table lexemes old.states i (come.prods ++ qs) w (j + 1)) (sym by.of_states)
               (comes_by token d.grammar d.table lexemes old.states i come.prods stack.states j x qs by.mid.states by.next come.comes is
-              (states_settle node suits d (token x) stack by.mid by.settles) by.shifts);
+              (states_settle builds d (token x) stack by.mid by.settles) by.shifts);
           moves = subst (λ (w : List X). Moved old w (come.prods ++ qs) (length w) new) (sym (fed_more lexemes i j x le is))
               (subst (λ (n : ℕ). Moved old (fed ++ x ∷ []) (come.prods ++ qs) n new) count
               (and_shifts fed come.prods (length fed) stack x new come.moves by));
         }
 
     -- it stops at a lexeme
-    pub come_to_stop : (new : Stacked E) (x : X) → slice_get lexemes j ≡ Some x → Sticks node suits d (token x) stack new
-        → GoesFar facts leaf node suits d lexemes old i (Some j) new
+    pub come_to_stop : (new : Stacked E) (x : X) → slice_get lexemes j ≡ Some x → Sticks builds d (token x) stack new
+        → GoesFar facts builds d lexemes old i (Some j) new
     come_to_stop new x is by =
         let fed = fed_between lexemes i j in
         record {
           prods = come.prods ++ by.settles.prods;
           far = comes_to_stop token d.grammar d.table lexemes old.states i come.prods stack.states j x by.settles.prods new.states come.comes is
-              (states_settle node suits d (token x) stack new by.settles) by.fails;
+              (states_settle builds d (token x) stack new by.settles) by.fails;
           moves = and_settles fed come.prods (length fed) stack (token x) new come.moves by.settles;
           accepts = λ none. absurd (let no : ⊥ = cc in no);
         }
 
     -- it stops at the end
-    pub come_to_last : (new : Stacked E) → j ≡ length lexemes → SettlesTo node suits d (end_token d.grammar) stack new
-        → top_action d.table (end_token d.grammar) new.states ≡ Fails → GoesFar facts leaf node suits d lexemes old i (Some j) new
+    pub come_to_last : (new : Stacked E) → j ≡ length lexemes → SettlesTo builds d (end_token d.grammar) stack new
+        → top_action d.table (end_token d.grammar) new.states ≡ Fails → GoesFar facts builds d lexemes old i (Some j) new
     come_to_last new last settles fails =
         let fed = fed_between lexemes i j in
         record {
           prods = come.prods ++ settles.prods;
           far = comes_to_end token d.grammar d.table lexemes old.states i come.prods stack.states j settles.prods new.states come.comes last
-              (states_settle node suits d (end_token d.grammar) stack new settles) fails;
+              (states_settle builds d (end_token d.grammar) stack new settles) fails;
           moves = and_settles fed come.prods (length fed) stack (end_token d.grammar) new come.moves settles;
           accepts = λ none. absurd (let no : ⊥ = cc in no);
         }
 
     -- it accepts
-    pub come_to_accept : (new : Stacked E) → j ≡ length lexemes → SettlesTo node suits d (end_token d.grammar) stack new
-        → top_action d.table (end_token d.grammar) new.states ≡ Accepts → GoesFar facts leaf node suits d lexemes old i None new
+    pub come_to_accept : (new : Stacked E) → j ≡ length lexemes → SettlesTo builds d (end_token d.grammar) stack new
+        → top_action d.table (end_token d.grammar) new.states ≡ Accepts → GoesFar facts builds d lexemes old i None new
     come_to_accept new last settles accepts =
         let fed = fed_between lexemes i j in
         record {
           prods = come.prods ++ settles.prods;
           far = comes_to_accept token d.grammar d.table lexemes old.states i come.prods stack.states j settles.prods new.states come.comes last
-              (states_settle node suits d (end_token d.grammar) stack new settles) accepts;
+              (states_settle builds d (end_token d.grammar) stack new settles) accepts;
           moves = subst (λ (w : List X). Moved old w (come.prods ++ settles.prods) (length w + 1) new) (fed_all lexemes i j last)
               (and_settles fed come.prods (length fed) stack (end_token d.grammar) new come.moves settles);
           accepts = λ _. accepts;

@@ -2,18 +2,16 @@
 use Rattle.std.proofs.Common.{◌≡◌, ◌∙◌, ℕ, IfSome, List, [], ◌∷◌, None, Ok, Err, Option, Result, Some, Vec, ap, inl, inr, option_map, refl, subst, sym}
 use Rattle.std.proofs.lemmas.Option.{same_Some}
 use Rattle.std.specs.List.{AllZip}
-use Rattle.lrpar_grammar.specs.Grammar.{Grammar, GrammarSymbol, Nonterminal, rule_of}
+use Rattle.lrpar_grammar.specs.Grammar.{Grammar, Nonterminal, rule_of}
 use Rattle.lrpar_grammar.specs.Tree.{Tree, Forest, Leaf, Branch, Nil, Cons}
-use Rattle.lrpar_grammar.specs.Sentence.{LexemeFacts}
-use Rattle.lrpar_check.specs.Checked.{Checked}
+use Rattle.lrpar.specs.Building.{Building}
 use Rattle.lrpar.specs.End.{IsOfTree}
 use Rattle.lrpar.specs.Entries.{Gives, HasValueEntry, IsLexemeEntry, IsMadeEntry}
 use Rattle.lrpar.specs.Folds.{Folds, ForestFolds}
 use Rattle.lrpar.specs.Lexed.{first_error}
 use Rattle.lrpar.specs.Nodes.{IsNonterm, IsTerm}
 use Rattle.lrpar.specs.Parse.{ParsesTo}
-use Rattle.lrpar.specs.Recovery.{Point}
-use Rattle.lrpar.specs.Sequences.{PlainStep}
+use Rattle.lrpar.specs.Subject.{Subject}
 use Rattle.lrpar_answers.specs.declared.errors.LexParseError.{LexParseError}
 use Rattle.lrpar.specs.declared.values.AStackType.{AStackType}
 use Rattle.lrpar.specs.declared.values.AStackType.TheVariants.{ActionType}
@@ -80,12 +78,12 @@ mapped_value token g Tells TellsOf f (Some x) (Some xs) prods one other is other
     )
 
 -- the value that a parse answers is told by a tree
-pub value_told : {X V S L C Z : Type 0} (d : Checked) (facts : X → LexemeFacts) (allows : Point X → List (List PlainStep) → Type 0) (k : ℕ) (lexes : List (Result X C) → Type 0) (Tells : Tree X → V → Type 0) (answer : Option V × Vec (LexParseError S L X C) Z) (v : V)
-    → ParsesTo d facts allows k lexes Tells (Ok answer) → answer.0 ≡ Some v → (t : Tree X) × Tells t v
-value_told d facts allows k lexes Tells answer v (inl memory) some = absurd (let no : ⊥ = cc in no)
-value_told {X = X} {C = C} d facts allows k lexes Tells answer v (inr (lexed, allowed, is)) some = by_error (first_error lexed) refl
+pub value_told : {X V S L C Z : Type 0} (about : Subject X) (lexes : List (Result X C) → Type 0) (Tells : Tree X → V → Type 0) (answer : Option V × Vec (LexParseError S L X C) Z) (v : V)
+    → ParsesTo about lexes Tells (Ok answer) → answer.0 ≡ Some v → (t : Tree X) × Tells t v
+value_told about lexes Tells answer v (inl memory) some = absurd (let no : ⊥ = cc in no)
+value_told {X = X} {C = C} about lexes Tells answer v (inr (lexed, allowed, is)) some = by_error (first_error lexed) refl
   where
-    by_run : (consumed : Option (List X)) (prods : List ℕ) → HasValue (λ x. (facts x).token) d.grammar Tells consumed prods answer → (t : Tree X) × Tells t v
+    by_run : (consumed : Option (List X)) (prods : List ℕ) → HasValue (λ x. (about.facts x).token) about.checked.grammar Tells consumed prods answer → (t : Tree X) × Tells t v
     by_run None prods none = absurd (let differ : ◌≡◌ {A = Option _} None (Some v) = sym none ∙ some in let no : ⊥ = cc in no)
     by_run (Some xs) prods (value, has, told) = (told.tree, subst (Tells told.tree) (same_Some value v (sym has ∙ some)) told.tells)
 
@@ -94,22 +92,22 @@ value_told {X = X} {C = C} d facts allows k lexes Tells answer v (inr (lexed, al
     by_error (Some error) first = by_run None [] (is.lexing_error error first).1
 
 -- so the entry that a parse comes to is a value, where only values suit the start rule
-pub has_value_entry : {X W S L C Z : Type 0} (d : Checked) (facts : X → LexemeFacts) (allows : Point X → List (List PlainStep) → Type 0) (k : ℕ) (lexes : List (Result X C) → Type 0) (leaf : X → AStackType X W → Type 0) (node : ℕ → Option (AStackType X W) → List (AStackType X W) → AStackType X W → Type 0) (suits : GrammarSymbol → AStackType X W → Type 0) (answer : Option (AStackType X W) × Vec (LexParseError S L X C) Z)
-    → ((e : AStackType X W) → suits (Nonterminal d.grammar.start) e → HasValueEntry e)
-    → ParsesTo d facts allows k lexes (IsOfTree leaf node suits d) (Ok answer) → IfSome answer.0 HasValueEntry
-has_value_entry {X = X} {W = W} d facts allows k lexes leaf node suits answer values parses = by_entry answer.0 refl
+pub has_value_entry : {X W S L C Z : Type 0} (about : Subject X) (lexes : List (Result X C) → Type 0) (builds : Building X (AStackType X W)) (answer : Option (AStackType X W) × Vec (LexParseError S L X C) Z)
+    → ((e : AStackType X W) → builds.suits (Nonterminal about.checked.grammar.start) e → HasValueEntry e)
+    → ParsesTo about lexes (IsOfTree builds about.checked) (Ok answer) → IfSome answer.0 HasValueEntry
+has_value_entry {X = X} {W = W} about lexes builds answer values parses = by_entry answer.0 refl
   where
     by_entry : (o : Option (AStackType X W)) → answer.0 ≡ o → IfSome o HasValueEntry
     by_entry None none = tt
-    by_entry (Some e) some = values e (value_told d facts allows k lexes (IsOfTree leaf node suits d) answer e parses some).1.suit
+    by_entry (Some e) some = values e (value_told about lexes (IsOfTree builds about.checked) answer e parses some).1.suit
 
 -- a parse of a value is one of what it was made of
-pub parse_mapped : {X V W S L C Z : Type 0} (d : Checked) (facts : X → LexemeFacts) (allows : Point X → List (List PlainStep) → Type 0) (k : ℕ) (lexes : List (Result X C) → Type 0) (Tells : Tree X → V → Type 0) (TellsOf : Tree X → W → Type 0) (f : W → V) (v : Option V) (w : Option W) (errors : Vec (LexParseError S L X C) Z)
+pub parse_mapped : {X V W S L C Z : Type 0} (about : Subject X) (lexes : List (Result X C) → Type 0) (Tells : Tree X → V → Type 0) (TellsOf : Tree X → W → Type 0) (f : W → V) (v : Option V) (w : Option W) (errors : Vec (LexParseError S L X C) Z)
     → v ≡ option_map f w → ((t : Tree X) (x : W) → Tells t (f x) → TellsOf t x)
-    → ParsesTo d facts allows k lexes Tells (Ok (v, errors)) → ParsesTo d facts allows k lexes TellsOf (Ok (w, errors))
-parse_mapped d facts allows k lexes Tells TellsOf f v w errors is tells parses =
-    parse_as d facts allows k lexes (λ answer. answer.1.items) (λ answer. answer.1.items) (HasValue (λ x. (facts x).token) d.grammar Tells) (HasValue (λ x. (facts x).token) d.grammar TellsOf) (v, errors) (w, errors) refl
-    (λ consumed prods has. mapped_value (λ x. (facts x).token) d.grammar Tells TellsOf f w consumed prods (v, errors) (w, errors) is refl tells has) parses
+    → ParsesTo about lexes Tells (Ok (v, errors)) → ParsesTo about lexes TellsOf (Ok (w, errors))
+parse_mapped about lexes Tells TellsOf f v w errors is tells parses =
+    parse_as about lexes (λ answer. answer.1.items) (λ answer. answer.1.items) (HasValue (λ x. (about.facts x).token) about.checked.grammar Tells) (HasValue (λ x. (about.facts x).token) about.checked.grammar TellsOf) (v, errors) (w, errors) refl
+    (λ consumed prods has. mapped_value (λ x. (about.facts x).token) about.checked.grammar Tells TellsOf f w consumed prods (v, errors) (w, errors) is refl tells has) parses
 
 -- What is told of a value is told of what is made of it.
 mapped_on : {X V W F Z Y : Type 0} (token : X → ℕ) (g : Grammar) (Tells : Tree X → V → Type 0) (TellsOf : Tree X → W → Type 0) (f : V → W) (consumed : Option (List X)) (prods : List ℕ) (one : Option V × Vec F Z) (other : Option W × Vec F Y)
@@ -122,24 +120,24 @@ mapped_on token g Tells TellsOf f (Some xs) prods one other is tells (value, has
 )
 
 -- so a parse of a value is one of what is made of it
-pub parse_mapped_on : {X V W S L C Z : Type 0} (d : Checked) (facts : X → LexemeFacts) (allows : Point X → List (List PlainStep) → Type 0) (k : ℕ) (lexes : List (Result X C) → Type 0) (Tells : Tree X → V → Type 0) (TellsOf : Tree X → W → Type 0) (f : V → W) (v : Option V) (w : Option W) (errors : Vec (LexParseError S L X C) Z)
+pub parse_mapped_on : {X V W S L C Z : Type 0} (about : Subject X) (lexes : List (Result X C) → Type 0) (Tells : Tree X → V → Type 0) (TellsOf : Tree X → W → Type 0) (f : V → W) (v : Option V) (w : Option W) (errors : Vec (LexParseError S L X C) Z)
     → w ≡ option_map f v → ((t : Tree X) (x : V) → Tells t x → TellsOf t (f x))
-    → ParsesTo d facts allows k lexes Tells (Ok (v, errors)) → ParsesTo d facts allows k lexes TellsOf (Ok (w, errors))
-parse_mapped_on d facts allows k lexes Tells TellsOf f v w errors is tells parses =
-    parse_as d facts allows k lexes (λ answer. answer.1.items) (λ answer. answer.1.items) (HasValue (λ x. (facts x).token) d.grammar Tells) (HasValue (λ x. (facts x).token) d.grammar TellsOf) (v, errors) (w, errors) refl
-    (λ consumed prods has. mapped_on (λ x. (facts x).token) d.grammar Tells TellsOf f consumed prods (v, errors) (w, errors) is tells has) parses
+    → ParsesTo about lexes Tells (Ok (v, errors)) → ParsesTo about lexes TellsOf (Ok (w, errors))
+parse_mapped_on about lexes Tells TellsOf f v w errors is tells parses =
+    parse_as about lexes (λ answer. answer.1.items) (λ answer. answer.1.items) (HasValue (λ x. (about.facts x).token) about.checked.grammar Tells) (HasValue (λ x. (about.facts x).token) about.checked.grammar TellsOf) (v, errors) (w, errors) refl
+    (λ consumed prods has. mapped_on (λ x. (about.facts x).token) about.checked.grammar Tells TellsOf f consumed prods (v, errors) (w, errors) is tells has) parses
 
 -- the same value told by other trees, whatever the parse answers
-pub parse_told : {X V S L C Z : Type 0} (d : Checked) (facts : X → LexemeFacts) (allows : Point X → List (List PlainStep) → Type 0) (k : ℕ) (lexes : List (Result X C) → Type 0) (Tells TellsOf : Tree X → V → Type 0) (result : Result (Option V × Vec (LexParseError S L X C) Z) ParseFault)
-    → ((t : Tree X) (v : V) → Tells t v → TellsOf t v) → ParsesTo d facts allows k lexes Tells result → ParsesTo d facts allows k lexes TellsOf result
-parse_told {V} d facts allows k lexes Tells TellsOf (Ok (v, errors)) tells parses =
-    parse_mapped d facts allows k lexes Tells TellsOf (λ (x : V). x) v v errors (same v) tells parses
+pub parse_told : {X V S L C Z : Type 0} (about : Subject X) (lexes : List (Result X C) → Type 0) (Tells TellsOf : Tree X → V → Type 0) (result : Result (Option V × Vec (LexParseError S L X C) Z) ParseFault)
+    → ((t : Tree X) (v : V) → Tells t v → TellsOf t v) → ParsesTo about lexes Tells result → ParsesTo about lexes TellsOf result
+parse_told {V} about lexes Tells TellsOf (Ok (v, errors)) tells parses =
+    parse_mapped about lexes Tells TellsOf (λ (x : V). x) v v errors (same v) tells parses
   where
     same : (o : Option V) → o ≡ option_map (λ (x : V). x) o
     same None = refl
     same (Some x) = refl
-parse_told d facts allows k lexes Tells TellsOf (Err fault) tells parses =
-    refusal_as d facts allows k lexes (λ answer. answer.1.items) (λ answer. answer.1.items) (HasValue (λ x. (facts x).token) d.grammar Tells) (HasValue (λ x. (facts x).token) d.grammar TellsOf) fault parses
+parse_told about lexes Tells TellsOf (Err fault) tells parses =
+    refusal_as about lexes (λ answer. answer.1.items) (λ answer. answer.1.items) (HasValue (λ x. (about.facts x).token) about.checked.grammar Tells) (HasValue (λ x. (about.facts x).token) about.checked.grammar TellsOf) fault parses
 
 -- the entries of trees: a tree folds to its entry
 pub tree_fold : {X S : Type 0} (index : S → ℕ) (g : Grammar) (before : Option (Node X S)) (t : Tree X) (n : Node X S)

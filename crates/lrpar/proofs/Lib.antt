@@ -1,7 +1,8 @@
 pub mod LexemeLemmas
 pub mod ListLemmas
+pub mod ReadLemmas
+pub mod StartLemmas
 pub mod ListedLemmas
-pub mod RunLemmas
 pub mod ReducingLemmas
 pub mod StackedLemmas
 pub mod StandingLemmas
@@ -19,4 +20,7 @@ pub mod RepairRunLemmas
 pub mod TestWorkLemmas
 pub mod StopStackLemmas
 pub mod RepairWayLemmas
+pub mod CompleteAnswerLemmas
 pub mod CourseLemmas
+pub mod ComparisonLemmas
+pub mod TrialLemmas

@@ -1,7 +1,7 @@
 -- The repairs by which an error lists sequences, one step and one sequence after the other.
-use Rattle.std.proofs.Common.{◌≡◌, ◌<◌, ◌+◌, ◌-◌, ◌∙◌, ℕ, List, [], ◌∷◌, ◌++◌, Vec, ap, drop, get_or, length, sym, take}
+use Rattle.std.proofs.Common.{◌≡◌, ◌<◌, ◌≤◌, ◌+◌, ◌-◌, ◌∙◌, ℕ, List, [], ◌∷◌, ◌++◌, Vec, ap, drop, get_or, length, sym, take}
 use Rattle.std.specs.Prelude.{map}
-use Rattle.std.proofs.lemmas.List.{append_assoc, drop_more, map-append, take_more, take_rest}
+use Rattle.std.proofs.lemmas.List.{append-nil, append_assoc, drop_all, drop_more, map-append, take_more, take_rest}
 use Rattle.lrpar_answers.specs.Failure.{Repair}
 use Rattle.lrpar_answers.specs.Repairs.{repair_of, repairs_of}
 use Rattle.lrpar_answers.specs.declared.errors.ParseRepair.{ParseRepair}
@@ -27,6 +27,23 @@ module _ {X S : Type 0} (index : S → ℕ) where
       ∙ ap (λ (xs : List (Repair X)). front ++ xs) (sym (one later))
       ∙ ap (λ (xs : List (RepairStep S)). front ++ repairs_over rest (plain_steps index xs)) (sym steps_left)
       ∙ so_far
+
+  -- no step is left: the repairs so far are all
+  pub step_end : (rest : List X) (steps : List (RepairStep S)) (i : ℕ) (done : List (ParseRepair X S)) (all : List (Repair X)) → length steps ≤ i
+      → map (repair_of index) done ++ repairs_over rest (plain_steps index (drop i steps)) ≡ all → map (repair_of index) done ≡ all
+  step_end rest steps i done all past so_far =
+      let front = map (repair_of index) done in
+      sym (append-nil front) ∙ ap (λ (xs : List (RepairStep S)). front ++ repairs_over rest (plain_steps index xs)) (sym (drop_all i steps past)) ∙ so_far
+
+  -- the next step has no lexeme: the repairs so far are all
+  pub step_none : (rest : List X) (steps : List (RepairStep S)) (i : ℕ) (step : RepairStep S) (done : List (ParseRepair X S)) (all : List (Repair X))
+      → i < length steps → step ≡ get_or steps i step → ((later : List PlainStep) → repairs_over rest (plain_step index step ∷ later) ≡ [])
+      → map (repair_of index) done ++ repairs_over rest (plain_steps index (drop i steps)) ≡ all → map (repair_of index) done ≡ all
+  step_none rest steps i step done all below is none so_far =
+      let front = map (repair_of index) done in
+      let steps_left : drop i steps ≡ step ∷ drop (i + 1) steps = drop_more steps i step below ∙ ap (λ s. s ∷ drop (i + 1) steps) (sym is) in
+      sym (append-nil front) ∙ ap (λ (xs : List (Repair X)). front ++ xs) (sym (none (plain_steps index (drop (i + 1) steps))))
+      ∙ ap (λ (xs : List (RepairStep S)). front ++ repairs_over rest (plain_steps index xs)) (sym steps_left) ∙ so_far
 
   -- the repairs of the sequences so far and of the next one are those of one sequence more
   pub sequence_more : {A : Type 0} (lexemes : List X) (place : ℕ) (listed : List (Vec (RepairStep S) A)) (i : ℕ) (steps : Vec (RepairStep S) A)

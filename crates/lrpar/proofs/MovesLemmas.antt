@@ -1,28 +1,29 @@
 -- What the stacks of a run do between two places: what stands on them after that, how many reductions were made, and what the
 -- steps of a sequence of repairs give.
 use Rattle.std.proofs.Common.{◌≡◌, ◌<◌, ◌≤◌, ◌+◌, ◌*◌, ◌∙◌, ℕ, List, [], ◌∷◌, ◌++◌, Option, Some, length, map, ap, arith, refl, subst, sym}
-use Rattle.std.proofs.lemmas.List.{append_assoc, append-nil, length-append}
-use Rattle.std.proofs.lemmas.Option.{slice_get-map}
+use Rattle.std.proofs.lemmas.List.{append_assoc, append-nil, length-append, length-map}
+use Rattle.std.proofs.lemmas.Option.{slice_get-map, slice_get_within}
 use Rattle.std.specs.List.{slice_get}
 use Rattle.std.specs.Option.{option_map, option_map_or}
-use Rattle.lrpar_grammar.specs.Grammar.{GrammarSymbol, end_token}
+use Rattle.lrpar_grammar.specs.Grammar.{end_token}
 use Rattle.lrpar_grammar.specs.Sentence.{LexemeFacts}
 use Rattle.lrpar_states.specs.Table.{Fails, ShiftTo}
 use Rattle.lrpar_check.specs.Checked.{Checked}
 use Rattle.lrpar_check.specs.Path.{NeverSticks}
 use Rattle.lrpar_check.specs.Reduction.{Feeds, top_action}
 use Rattle.lrpar_check.proofs.Reductions.{settles_one_way}
-use Rattle.lrpar_answers.specs.Lexemes.{last_end}
+use Rattle.lrpar_lexemes.specs.Lexemes.{last_end}
+use Rattle.lrpar.specs.Building.{Building}
 use Rattle.lrpar.specs.Mended.{Consumes, inserted_at, start_at}
-use Rattle.lrpar.specs.Moves.{IsReplayed, Moves, RiseUpTo, and_settles, and_shifts, rests}
+use Rattle.lrpar.specs.Moves.{IsReplayed, Moves, RiseUpTo, StartsRise, and_settles, and_shifts, rests}
 use Rattle.lrpar.specs.Rising.{KeepsRising}
-use Rattle.lrpar.specs.Run.{token_at}
+use Rattle.lrpar_check.specs.Run.{token_at}
 use Rattle.lrpar.specs.Sequences.{PlainStep, PlainInsert, PlainDelete, PlainShift, Replays}
 use Rattle.lrpar.specs.Stacked.{SettlesTo, Shifts, Sticks}
 use Rattle.lrpar.specs.Standing.{Stacked}
 use Rattle.lrpar.proofs.StackedLemmas.{states_settle}
 use Rattle.lrpar.proofs.RisingLemmas.{rise_reduce_all}
-use Rattle.lrpar.proofs.RunLemmas.{token_at_lexeme}
+use Rattle.lrpar_check.proofs.RunLemmas.{token_at_lexeme}
 use Rattle.lrpar.proofs.SequenceLemmas.{steps_one_way}
 use Rattle.lrpar.proofs.StandingLemmas.{IsStanding, standing_reduce_all, standing_shift}
 
@@ -41,16 +42,16 @@ pub start_at_is : {X : Type 0} (facts : X → LexemeFacts) (lexemes : List X) (i
 start_at_is facts lexemes i x is =
     ap (λ (o : Option LexemeFacts). option_map_or (λ x. x.span.start) o (last_end (map facts lexemes))) (slice_get-map facts lexemes i ∙ ap (option_map facts) is)
 
-module _ {X E : Type 0} (facts : X → LexemeFacts) (leaf : X → E → Type 0) (node : ℕ → Option E → List E → E → Type 0) (suits : GrammarSymbol → E → Type 0) (d : Checked) where
+module _ {X E : Type 0} (facts : X → LexemeFacts) (builds : Building X E) (d : Checked) where
   -- the token of a lexeme
   abbrev token : X → ℕ
   token x = (facts x).token
 
   abbrev Moved : Stacked E → List X → List ℕ → ℕ → Stacked E → Type 0
-  Moved old xs ps n new = Moves facts leaf node suits d old xs ps n new
+  Moved old xs ps n new = Moves facts builds d old xs ps n new
 
   abbrev Stands : Stacked E → List X → List ℕ → Type 0
-  Stands stack xs ps = IsStanding token leaf node suits d.grammar d.table stack xs ps
+  Stands stack xs ps = IsStanding token builds.leaf (builds.node d.grammar) builds.suits d.grammar d.table stack xs ps
 
   -- one after the other
   pub moves_then : (a b c : Stacked E) (xs : List X) (ps : List ℕ) (n : ℕ) (ys : List X) (qs : List ℕ) (m : ℕ)
@@ -79,13 +80,13 @@ module _ {X E : Type 0} (facts : X → LexemeFacts) (leaf : X → E → Type 0) 
   moves_stand never old _ _ _ _ c b stands (and_settles xs ps n mid t new first last) =
       let before = moves_stand never old mid xs ps n c b stands first in
       subst (λ (w : List ℕ). Stands new (c ++ xs) w) (append_assoc b ps last.prods)
-      (standing_reduce_all token leaf node suits d.grammar d.table never t mid last.prods new (c ++ xs) (b ++ ps) before last.steps)
+      (standing_reduce_all token builds.leaf (builds.node d.grammar) builds.suits d.grammar d.table never t mid last.prods new (c ++ xs) (b ++ ps) before last.steps)
   moves_stand never old _ _ _ _ c b stands (and_shifts xs ps n mid x new first last) =
       let before = moves_stand never old mid xs ps n c b stands first in
       let qs = last.settles.prods in
-      let settled = standing_reduce_all token leaf node suits d.grammar d.table never (token x) mid qs last.mid (c ++ xs) (b ++ ps) before last.settles.steps in
+      let settled = standing_reduce_all token builds.leaf (builds.node d.grammar) builds.suits d.grammar d.table never (token x) mid qs last.mid (c ++ xs) (b ++ ps) before last.settles.steps in
       let path = (never.shifts settled.symbols last.mid.states (token x) last.next settled.path last.shifts).1 in
-      let shifted = standing_shift token leaf node suits d.grammar d.table last.mid new (c ++ xs) ((b ++ ps) ++ qs) x last.entry last.next settled path last.made last.suit last.of_states last.of_entries in
+      let shifted = standing_shift token builds.leaf (builds.node d.grammar) builds.suits d.grammar d.table last.mid new (c ++ xs) ((b ++ ps) ++ qs) x last.entry last.next settled path last.made last.suit last.of_states last.of_entries in
       subst (λ (w : List X). Stands new w (b ++ (ps ++ qs))) (append_assoc c xs (x ∷ []))
       (subst (λ (w : List ℕ). Stands new ((c ++ xs) ++ x ∷ []) w) (append_assoc b ps qs) shifted)
 
@@ -104,35 +105,53 @@ module _ {X E : Type 0} (facts : X → LexemeFacts) (leaf : X → E → Type 0) 
       (shift_more d.cap (length ps) (length last.settles.prods) (length mid.states) (length last.mid.states) (length old.states) (length xs) n (moves_bound old mid xs ps n first) last.settles.few)
 
   -- a lexeme that is shifted is fed
-  pub feeds_by_shift : (t : ℕ) (x : X) (old new : Stacked E) → (s : Shifts leaf node suits d t x old new) → Feeds d.grammar d.table t old.states s.settles.prods new.states
+  pub feeds_by_shift : (t : ℕ) (x : X) (old new : Stacked E) → (s : Shifts builds d t x old new) → Feeds d.grammar d.table t old.states s.settles.prods new.states
   feeds_by_shift t x old new s = record {
     settled = s.mid.states;
-    settles = states_settle node suits d t old s.mid s.settles;
+    settles = states_settle builds d t old s.mid s.settles;
     next = s.next;
     shifts = s.shifts;
     pushed = s.of_states;
   }
 
   -- and where one can be fed, the stacks don't stick
-  pub feeds_not_sticks : (t : ℕ) (old new : Stacked E) (ps next : List ℕ) → Feeds d.grammar d.table t old.states ps next → Sticks node suits d t old new → ⊥
+  pub feeds_not_sticks : (t : ℕ) (old new : Stacked E) (ps next : List ℕ) → Feeds d.grammar d.table t old.states ps next → Sticks builds d t old new → ⊥
   feeds_not_sticks t old new ps next f s =
-      let same = settles_one_way d.grammar d.table t old.states ps s.settles.prods f.settled new.states f.settles (states_settle node suits d t old new s.settles) in
+      let same = settles_one_way d.grammar d.table t old.states ps s.settles.prods f.settled new.states f.settles (states_settle builds d t old new s.settles) in
       let shifts : top_action d.table t new.states ≡ ShiftTo f.next = subst (λ w. top_action d.table t w ≡ ShiftTo f.next) same.1 f.shifts in
       let e : ShiftTo f.next ≡ Fails = sym shifts ∙ s.fails in
       absurd (let no : ⊥ = cc in no)
 
-  -- the entries lie in order where a lexeme is shifted that starts no earlier
-  pub rise_by_shift : (start : X → ℕ) (rises : List E → ℕ → Type 0) → KeepsRising start leaf node rises
-      → (t : ℕ) (x : X) (old new : Stacked E) → Shifts leaf node suits d t x old new → RiseUpTo rises old.entries (start x) → rises new.entries (start x)
-  rise_by_shift start rises keeps t x old new s (low, least, rise) =
-      let settled = rise_reduce_all start leaf node suits rises keeps d.grammar d.table t s.settles.prods old s.mid low s.settles.steps rise in
-      subst (λ (es : List E). rises es (start x)) (sym s.of_entries) (keeps.by_leaf s.mid.entries low x s.entry settled least s.made)
+  -- where a lexeme starts
+  abbrev start : X → ℕ
+  start x = (facts x).span.start
 
-  -- and where it is settled
-  pub rise_by_settle : (start : X → ℕ) (rises : List E → ℕ → Type 0) → KeepsRising start leaf node rises
-      → (t most : ℕ) (old new : Stacked E) → SettlesTo node suits d t old new → RiseUpTo rises old.entries most → RiseUpTo rises new.entries most
-  rise_by_settle start rises keeps t most old new s (low, least, rise) =
-      (low, least, rise_reduce_all start leaf node suits rises keeps d.grammar d.table t s.prods old new low s.steps rise)
+  module _ (keeps : KeepsRising start builds.leaf (builds.node d.grammar) builds.rises) where
+    -- the entries lie in order where a lexeme is shifted that starts no earlier
+    pub rise_by_shift : (t : ℕ) (x : X) (old new : Stacked E) → Shifts builds d t x old new → RiseUpTo builds.rises old.entries (start x) → builds.rises new.entries (start x)
+    rise_by_shift t x old new s (low, least, rise) =
+        let settled = rise_reduce_all start builds.leaf (builds.node d.grammar) builds.suits builds.rises keeps d.grammar d.table t s.settles.prods old s.mid low s.settles.steps rise in
+        subst (λ (es : List E). builds.rises es (start x)) (sym s.of_entries) (keeps.by_leaf s.mid.entries low x s.entry settled least s.made)
+
+    -- and where it is settled
+    pub rise_by_settle : (t most : ℕ) (old new : Stacked E) → SettlesTo builds d t old new → RiseUpTo builds.rises old.entries most → RiseUpTo builds.rises new.entries most
+    rise_by_settle t most old new s (low, least, rise) =
+        (low, least, rise_reduce_all start builds.leaf (builds.node d.grammar) builds.suits builds.rises keeps d.grammar d.table t s.prods old new low s.steps rise)
+
+    -- where lexeme i is shifted, they lie in order up to the next one
+    pub rise_to_next : (lexemes : List X) (i : ℕ) (x : X) (old new : Stacked E) → StartsRise (map facts lexemes) → slice_get lexemes i ≡ Some x
+        → Shifts builds d (token x) x old new → RiseUpTo builds.rises old.entries (start_at (map facts lexemes) i) → RiseUpTo builds.rises new.entries (start_at (map facts lexemes) (i + 1))
+    rise_to_next lexemes i x old new starts is s (low, least, rise) =
+        let within : i < length lexemes = slice_get_within lexemes i x is in
+        let start_is : start_at (map facts lexemes) i ≡ start x = start_at_is facts lexemes i x is in
+        let next = starts i (rw length-map within) in
+        (start x, omega (arith, start_is, next), rise_by_shift (token x) x old new s (low, omega (arith, start_is, least), rise))
+
+    -- where a lexeme is shifted that starts where lexeme i does, they lie in order up to there
+    pub rise_to_same : (most : ℕ) (x : X) (old new : Stacked E) → start x ≡ most
+        → Shifts builds d (token x) x old new → RiseUpTo builds.rises old.entries most → RiseUpTo builds.rises new.entries most
+    rise_to_same most x old new start_is s (low, least, rise) =
+        (start x, omega (arith, start_is), rise_by_shift (token x) x old new s (low, omega (arith, start_is, least), rise))
 
   module _ (lexemes : List X) where
     abbrev Replayed : List ℕ → ℕ → List PlainStep → List ℕ → List ℕ → ℕ → Type 0
@@ -165,7 +184,7 @@ module _ {X E : Type 0} (facts : X → LexemeFacts) (leaf : X → E → Type 0) 
         (x.0, subst (λ (m : ℕ). Consumes facts lexemes m (steps ++ more) (xs ++ ys)) r.4.2 (consumes_then r.1 r.2 steps r.3 mid j xs more ys r.5 there y))
 
     abbrev IsDone : Stacked E → ℕ → List PlainStep → Stacked E → ℕ → Type 0
-    IsDone old i steps new j = IsReplayed facts leaf node suits d lexemes old i steps new j
+    IsDone old i steps new j = IsReplayed facts builds d lexemes old i steps new j
 
     -- no step is replayed
     pub replayed_none : (stack : Stacked E) (i : ℕ) → IsDone stack i [] stack i
@@ -204,7 +223,7 @@ module _ {X E : Type 0} (facts : X → LexemeFacts) (leaf : X → E → Type 0) 
     }
 
     -- a Shift is replayed
-    pub replayed_shift : (old new : Stacked E) (i : ℕ) (x : X) → i < length lexemes → slice_get lexemes i ≡ Some x → Shifts leaf node suits d (token x) x old new
+    pub replayed_shift : (old new : Stacked E) (i : ℕ) (x : X) → i < length lexemes → slice_get lexemes i ≡ Some x → Shifts builds d (token x) x old new
         → IsDone old i (PlainShift ∷ []) new (i + 1)
     replayed_shift old new i x within is s =
         let ps = s.settles.prods in
@@ -220,7 +239,7 @@ module _ {X E : Type 0} (facts : X → LexemeFacts) (leaf : X → E → Type 0) 
 
     -- an Insert is replayed
     pub replayed_insert : (old new : Stacked E) (i t : ℕ) (x : X) → t < end_token d.grammar → facts x ≡ inserted_at t (map facts lexemes) i
-        → Shifts leaf node suits d (token x) x old new → IsDone old i (PlainInsert t ∷ []) new i
+        → Shifts builds d (token x) x old new → IsDone old i (PlainInsert t ∷ []) new i
     replayed_insert old new i t x listed made s =
         let ps = s.settles.prods in
         let same : token x ≡ t = ap (λ (f : LexemeFacts). f.token) made in

@@ -1,15 +1,14 @@
 -- The answers of a parse: by its run, by its lexing error or by a fault of its lexemes; and seen as another answer.
 use Rattle.std.proofs.Common.{◌≡◌, ◌∙◌, ℕ, List, [], ◌∷◌, map, Option, Some, None, Result, Ok, Err, inl, inr, sym, subst, ap, refl}
 use Rattle.std.specs.List.{AllZip}
-use Rattle.lrpar_grammar.specs.Sentence.{LexemeFacts, IsFirstBadToken, IsFirstEarlyStart}
-use Rattle.lrpar_check.specs.Checked.{Checked}
+use Rattle.lrpar_grammar.specs.Sentence.{IsFirstBadToken, IsFirstEarlyStart}
+use Rattle.lrpar.proofs.CompleteAnswerLemmas.{errors_as}
 use Rattle.lrpar.specs.Lexed.{first_error, lexemes_of}
 use Rattle.lrpar.specs.LexemeFault.{IsLexemeFault}
 use Rattle.lrpar.specs.Parse.{IsParse, Parses, lexeme_facts}
-use Rattle.lrpar.specs.Recovery.{Point}
 use Rattle.lrpar.specs.RepairAnswer.{IsRepairAnswer, IsRepairErrorOf}
 use Rattle.lrpar.specs.RunAnswer.{IsOneWay}
-use Rattle.lrpar.specs.Sequences.{PlainStep}
+use Rattle.lrpar.specs.Subject.{Subject}
 use Rattle.lrpar_answers.specs.declared.errors.LexParseError.{LexParseError}
 use Rattle.lrpar_answers.specs.declared.errors.LexParseError.TheVariants.{LexError}
 use Rattle.lrpar.specs.declared.fault.ParseFault.{ParseFault}
@@ -32,47 +31,47 @@ same_fault f g e = cc
 same_some : {A : Type 0} (x y : A) → ◌≡◌ {A = Option A} (Some x) (Some y) → x ≡ y
 same_some x y e = cc
 
-module _ {T S L B C : Type 0} (d : Checked) (facts : B → LexemeFacts) (allows : Point B → List (List PlainStep) → Type 0) (k : ℕ) (errors_of : T → List (LexParseError S L B C)) (IsValued : Option (List B) → List ℕ → T → Type 0) (lexed : List (Result B C)) where
+module _ {T S L B C : Type 0} (about : Subject B) (errors_of : T → List (LexParseError S L B C)) (IsValued : Option (List B) → List ℕ → T → Type 0) (lexed : List (Result B C)) where
   -- a fault of a lexeme is answered
   pub fault_is_parse : (lexemes : List B) (fault : ParseFault) → first_error lexed ≡ None → lexemes ≡ lexemes_of lexed
-      → IsLexemeFault d.grammar (map facts lexemes) (Some fault) → IsParse d facts allows k errors_of IsValued lexed (Err fault)
+      → IsLexemeFault about.checked.grammar (map about.facts lexemes) (Some fault) → IsParse about errors_of IsValued lexed (Err fault)
   fault_is_parse lexemes fault none are is =
-      let facts_are : map facts lexemes ≡ lexeme_facts facts lexed = ap (map facts) are in
+      let facts_are : map about.facts lexemes ≡ lexeme_facts about.facts lexed = ap (map about.facts) are in
       record {
         lexing_error = λ error some. absurd (none_not_some (first_error lexed) error none some);
         run = λ _. tt;
         bad_token = λ i. (
-          λ e. (none, subst (λ w. IsFirstBadToken d.grammar w i) facts_are ((is.bad_token i).0 (ap Some (same_fault fault (BadToken i) e)))),
-          λ h. ap Err (same_some fault (BadToken i) ((is.bad_token i).1 (subst (λ w. IsFirstBadToken d.grammar w i) (sym facts_are) h.1))),
+          λ e. (none, subst (λ w. IsFirstBadToken about.checked.grammar w i) facts_are ((is.bad_token i).0 (ap Some (same_fault fault (BadToken i) e)))),
+          λ h. ap Err (same_some fault (BadToken i) ((is.bad_token i).1 (subst (λ w. IsFirstBadToken about.checked.grammar w i) (sym facts_are) h.1))),
         );
         starts_decrease = λ i. (
-          λ e. (none, subst (λ w. IsFirstEarlyStart d.grammar w i) facts_are ((is.starts_decrease i).0 (ap Some (same_fault fault (StartsDecrease i) e)))),
-          λ h. ap Err (same_some fault (StartsDecrease i) ((is.starts_decrease i).1 (subst (λ w. IsFirstEarlyStart d.grammar w i) (sym facts_are) h.1))),
+          λ e. (none, subst (λ w. IsFirstEarlyStart about.checked.grammar w i) facts_are ((is.starts_decrease i).0 (ap Some (same_fault fault (StartsDecrease i) e)))),
+          λ h. ap Err (same_some fault (StartsDecrease i) ((is.starts_decrease i).1 (subst (λ w. IsFirstEarlyStart about.checked.grammar w i) (sym facts_are) h.1))),
         );
       }
 
   -- the answer of a run over valid lexemes
-  pub run_is_parse : (lexemes : List B) (answer : T) → first_error lexed ≡ None → lexemes ≡ lexemes_of lexed → IsLexemeFault d.grammar (map facts lexemes) None
-      → IsRepairAnswer d facts allows k errors_of IsValued lexemes answer → IsParse d facts allows k errors_of IsValued lexed (Ok answer)
+  pub run_is_parse : (lexemes : List B) (answer : T) → first_error lexed ≡ None → lexemes ≡ lexemes_of lexed → IsLexemeFault about.checked.grammar (map about.facts lexemes) None
+      → IsRepairAnswer about errors_of IsValued lexemes answer → IsParse about errors_of IsValued lexed (Ok answer)
   run_is_parse lexemes answer none are is of_run =
-      let facts_are : map facts lexemes ≡ lexeme_facts facts lexed = ap (map facts) are in
+      let facts_are : map about.facts lexemes ≡ lexeme_facts about.facts lexed = ap (map about.facts) are in
       let valid = is.none.0 refl in
       record {
         lexing_error = λ error some. absurd (none_not_some (first_error lexed) error none some);
-        run = λ _. subst (λ (xs : List B). IsRepairAnswer d facts allows k errors_of IsValued xs answer) are of_run;
+        run = λ _. subst (λ (xs : List B). IsRepairAnswer about errors_of IsValued xs answer) are of_run;
         bad_token = λ i. (
           λ e. absurd (ok_not_err answer (BadToken i) e),
-          λ h. absurd (valid_not_bad d.grammar (map facts lexemes) i valid (subst (λ w. IsFirstBadToken d.grammar w i) (sym facts_are) h.1)),
+          λ h. absurd (valid_not_bad about.checked.grammar (map about.facts lexemes) i valid (subst (λ w. IsFirstBadToken about.checked.grammar w i) (sym facts_are) h.1)),
         );
         starts_decrease = λ i. (
           λ e. absurd (ok_not_err answer (StartsDecrease i) e),
-          λ h. absurd (valid_not_early d.grammar (map facts lexemes) i valid (subst (λ w. IsFirstEarlyStart d.grammar w i) (sym facts_are) h.1)),
+          λ h. absurd (valid_not_early about.checked.grammar (map about.facts lexemes) i valid (subst (λ w. IsFirstEarlyStart about.checked.grammar w i) (sym facts_are) h.1)),
         );
       }
 
   -- the first lexing error is answered
   pub error_is_parse : (error : C) (answer : T) → first_error lexed ≡ Some error → errors_of answer ≡ LexError error ∷ [] → IsValued None [] answer
-      → IsParse d facts allows k errors_of IsValued lexed (Ok answer)
+      → IsParse about errors_of IsValued lexed (Ok answer)
   error_is_parse error answer some errors valued = record {
     lexing_error = λ other is.
         (errors ∙ ap (λ e. LexError e ∷ []) (same_some error other (sym some ∙ is)), valued);
@@ -82,22 +81,25 @@ module _ {T S L B C : Type 0} (d : Checked) (facts : B → LexemeFacts) (allows 
   }
 
 -- An answer as another one of the same errors, where what is known of the value of one tells that of the other.
-module _ {T U S L B C : Type 0} (d : Checked) (facts : B → LexemeFacts) (allows : Point B → List (List PlainStep) → Type 0) (k : ℕ) (lexes : List (Result B C) → Type 0) (errors_of : T → List (LexParseError S L B C)) (errors_are : U → List (LexParseError S L B C)) (IsValued : Option (List B) → List ℕ → T → Type 0) (HasBecome : Option (List B) → List ℕ → U → Type 0) where
+module _ {T U S L B C : Type 0} (about : Subject B) (lexes : List (Result B C) → Type 0) (errors_of : T → List (LexParseError S L B C)) (errors_are : U → List (LexParseError S L B C)) (IsValued : Option (List B) → List ℕ → T → Type 0) (HasBecome : Option (List B) → List ℕ → U → Type 0) where
   -- of a run
   run_as : (lexemes : List B) (t : T) (u : U) → errors_are u ≡ errors_of t → ((consumed : Option (List B)) (prods : List ℕ) → IsValued consumed prods t → HasBecome consumed prods u)
-      → IsRepairAnswer d facts allows k errors_of IsValued lexemes t → IsRepairAnswer d facts allows k errors_are HasBecome lexemes u
+      → IsRepairAnswer about errors_of IsValued lexemes t → IsRepairAnswer about errors_are HasBecome lexemes u
   run_as lexemes t u same becomes is = record {
     course = is.course;
-    errors = subst (AllZip (IsRepairErrorOf facts d.grammar lexemes) is.course.stops) (sym same) is.errors;
+    errors = subst (AllZip (IsRepairErrorOf about lexemes) is.course.stops) (sym same) is.errors;
     one_way = λ none. subst (IsOneWay is.course.consumed) (sym same) (is.one_way none);
     sentence = λ none. is.sentence (sym same ∙ none);
     value = becomes is.course.consumed is.course.prods is.value;
     bound = is.bound;
+    complete = λ complete.
+        errors_as (λ x. (about.facts x).token) about.checked lexemes is.course.stops is.course.consumed is.course.prods (errors_of t) (errors_are u)
+        (λ none. same ∙ none) (λ none. sym same ∙ none) (is.complete complete);
   }
 
   -- of a parse
   pub parse_as : (t : T) (u : U) → errors_are u ≡ errors_of t → ((consumed : Option (List B)) (prods : List ℕ) → IsValued consumed prods t → HasBecome consumed prods u)
-      → Parses d facts allows k lexes errors_of IsValued (Ok t) → Parses d facts allows k lexes errors_are HasBecome (Ok u)
+      → Parses about lexes errors_of IsValued (Ok t) → Parses about lexes errors_are HasBecome (Ok u)
   parse_as t u same becomes (inl memory) = absurd (ok_not_err t Memory memory)
   parse_as t u same becomes (inr (lexed, allowed, is)) = inr (
     lexed,
@@ -111,7 +113,7 @@ module _ {T U S L B C : Type 0} (d : Checked) (facts : B → LexemeFacts) (allow
   )
 
   -- a refusal is the same for both
-  pub refusal_as : (fault : ParseFault) → Parses d facts allows k lexes errors_of IsValued (Err fault) → Parses d facts allows k lexes errors_are HasBecome (Err fault)
+  pub refusal_as : (fault : ParseFault) → Parses about lexes errors_of IsValued (Err fault) → Parses about lexes errors_are HasBecome (Err fault)
   refusal_as fault (inl memory) = inl (ap Err (same_fault fault Memory memory))
   refusal_as fault (inr (lexed, allowed, is)) = inr (
     lexed,

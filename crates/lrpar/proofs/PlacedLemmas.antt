@@ -1,7 +1,6 @@
 -- A tree for which an entry with a span stands folds to its argument, and lies at its span.
-use Rattle.std.proofs.Common.{◌≡◌, ◌<◌, ◌≤◌, ◌+◌, ◌-◌, ◌∙◌, ℕ, suc, List, [], ◌∷◌, ◌++◌, Option, Some, length, nat_eq, take, drop, slice_index_or, get_or, true, false, ap, arith, refl, subst, sym}
+use Rattle.std.proofs.Common.{◌≡◌, ◌≤◌, ◌-◌, ◌∙◌, ℕ, suc, List, [], ◌∷◌, ◌++◌, Option, Some, length, nat_eq, drop, slice_index_or, true, false, ap, arith, refl, subst, sym}
 use Rattle.std.proofs.lemmas.Bool.{eqb-true}
-use Rattle.std.proofs.lemmas.List.{map-append, take_more}
 use Rattle.std.specs.List.{AllZip, last_or, slice_get}
 use Rattle.lrpar_text.specs.Span.{Extent}
 use Rattle.lrpar_grammar.specs.Tree.{Tree, Forest, Leaf, Branch, Nil, Cons}
@@ -131,10 +130,3 @@ zip_arguments R (s ∷ symbols) (e ∷ es) all = (all.0, zip_arguments R symbols
 pub own_arguments : {S T : Type 0} (R : S → T → Type 0) (symbols : List S) (es : List (Placed T)) (count : ℕ) (args : List T)
     → args ≡ arguments_of (drop (length es - count) es) → AllZip (λ s e. R s e.argument) symbols (drop (length es - count) es) → AllZip R symbols args
 own_arguments R symbols es count args args_are suit = subst (AllZip R symbols) (sym args_are) (zip_arguments R symbols (drop (length es - count) es) suit)
-
--- one more argument of entries that are taken from their front
-pub arguments_more : {T : Type 0} (all : List (Placed T)) (args : List T) (i : ℕ) (x : Placed T) → i < length all → x ≡ get_or all i x
-    → args ≡ arguments_of (take i all) → args ++ x.argument ∷ [] ≡ arguments_of (take (i + 1) all)
-arguments_more {T} all args i x more is made =
-    let front : take (i + 1) all ≡ take i all ++ x ∷ [] = take_more all i x more ∙ ap (λ (y : Placed T). take i all ++ y ∷ []) (sym is) in
-    ap (λ (w : List T). w ++ x.argument ∷ []) made ∙ sym (ap (λ (es : List (Placed T)). arguments_of es) front ∙ map-append (λ (e : Placed T). e.argument) (take i all) (x ∷ []))

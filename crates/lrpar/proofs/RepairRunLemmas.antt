@@ -11,9 +11,9 @@ use Rattle.lrpar_check.specs.Reduction.{IsSettled}
 use Rattle.lrpar.specs.Recovery.{Point}
 use Rattle.lrpar.specs.RepairLaws.{InsertsListed, IsSound, ListsSound, StopsLieApart, AcceptsWhereRepaired, ReplaysOneWay, RunsWithoutRepairs, WorksByReplay, places_of}
 use Rattle.lrpar.specs.RepairRun.{IsListedAt, RepairRun, RepairStop, ends_there, is_repaired, runs_through}
-use Rattle.lrpar.specs.Run.{Far, FarEnd, Accepted, Stopped, IsStuck, Run, Stop, accepts, comes_through, gives_up, goes_on, stops, token_at}
+use Rattle.lrpar_check.specs.Run.{Far, FarEnd, Accepted, Stopped, IsStuck, Run, Stop, accepts, comes_through, gives_up, goes_on, stops, token_at}
 use Rattle.lrpar.specs.Sequences.{PlainStep, PlainInsert, PlainDelete, PlainShift, AreThoseWith, CanGoOn, Replays, StepsTo, Works}
-use Rattle.lrpar.proofs.RunLemmas.{accepts_not_stuck, feeds_not_stuck, feeds_one_way, settles_settled}
+use Rattle.lrpar_check.proofs.RunLemmas.{accepts_not_stuck, feeds_not_stuck, feeds_one_way, settles_settled}
 use Rattle.lrpar.proofs.SequenceLemmas.{steps_one_way, steps_within}
 
 -- all of those with P have P

@@ -9,10 +9,10 @@ use Rattle.lrpar.specs.Mended.{Consumes}
 use Rattle.lrpar.specs.Recovery.{Point}
 use Rattle.lrpar.specs.RepairLaws.{HandsInOne, RepairRunsOneWay}
 use Rattle.lrpar.specs.RepairRun.{IsListedAt, RepairRun, RepairStop, ends_there, fed_between, is_repaired, runs_through}
-use Rattle.lrpar.specs.Run.{Accepted, Stop, Stopped}
+use Rattle.lrpar_check.specs.Run.{Accepted, Stop, Stopped}
 use Rattle.lrpar.specs.Sequences.{PlainStep, PlainInsert, PlainDelete, PlainShift, AreThoseWith, Replays, Works}
 use Rattle.lrpar.proofs.RepairRunLemmas.{replay_one_way}
-use Rattle.lrpar.proofs.RunLemmas.{runs_one_way}
+use Rattle.lrpar_check.proofs.RunLemmas.{runs_one_way}
 
 -- of one list there is one list of those that have P
 those_one_way : {A : Type 0} (P : A → Type 0) (xs ys zs : List A) → AreThoseWith P xs ys → AreThoseWith P xs zs → ys ≡ zs

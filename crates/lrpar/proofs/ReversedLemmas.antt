@@ -31,3 +31,10 @@ all_taken {A} P all left at count i whole end is holds =
     let kept = is ∙ ap (λ (xs : List A). take at all ++ reverse xs) (drop_all i (drop at all) short) ∙ append-nil (take at all) in
     let taken = subst P (take_all i (drop at all) short) holds in
     (subst (λ (n : ℕ). left ≡ take n all) from kept, subst (λ (n : ℕ). P (drop n all)) from taken)
+
+-- items that go together by one relation go together by a wider one
+pub zip_wider : {A B : Type 0} (R Q : A → B → Type 0) → ((x : A) (y : B) → R x y → Q x y) → (xs : List A) (ys : List B) → AllZip R xs ys → AllZip Q xs ys
+zip_wider R Q wider [] [] h = tt
+zip_wider R Q wider [] (y ∷ ys) h = absurd h
+zip_wider R Q wider (x ∷ xs) [] h = absurd h
+zip_wider R Q wider (x ∷ xs) (y ∷ ys) h = (wider x y h.0, zip_wider R Q wider xs ys h.1)

@@ -15,10 +15,10 @@ use Rattle.lrpar_check.specs.Reduction.{Feeds, top_action}
 use Rattle.lrpar_check.specs.Overlay.{Overlaid, IsFedOver, IsSettledOver, overlaid}
 use Rattle.lrpar_check.proofs.Reductions.{settles_one_way}
 use Rattle.lrpar.specs.PlainSteps.{plain_sequences, plain_step, plain_steps}
-use Rattle.lrpar.specs.Run.{token_at}
+use Rattle.lrpar_check.specs.Run.{token_at}
 use Rattle.lrpar.specs.Sequences.{PlainStep, PlainInsert, PlainDelete, PlainShift, AcceptsAtEnd, AreThoseWith, CanGoOn, IsStepTaken, IsTokenFed, StepsTo, Works}
 use Rattle.lrpar.specs.declared.repair.RepairStep.{RepairStep}
-use Rattle.lrpar.proofs.RunLemmas.{feeds_one_way, token_at_lexeme}
+use Rattle.lrpar_check.proofs.RunLemmas.{feeds_one_way, token_at_lexeme}
 
 -- clones of sequences are the same sequences
 pub sequences_clone : {S A : Type 0} (index : S → ℕ) (xs ys : List (Vec (RepairStep S) A))

@@ -9,6 +9,7 @@ use Rattle.lrpar_check.specs.Checked.{Checked}
 use Rattle.lrpar_check.specs.Path.{IsPath, ReducesAlong, NeverSticks}
 use Rattle.lrpar_check.proofs.Reductions.{reduces_to_one}
 use Rattle.std.proofs.lemmas.Slice.Zip.{AllZip-long}
+use Rattle.lrpar.specs.Building.{Building}
 use Rattle.lrpar.specs.End.{IsOfTree}
 use Rattle.lrpar.specs.RunAnswer.{IsValueOf}
 use Rattle.lrpar.specs.Standing.{AllStand, StandsFor, Stacked, ReducesTo, ReducesAllTo, kept_by, popped_by}
@@ -185,12 +186,12 @@ one_tree token leaf node g s (Cons u Nil) (e ∷ []) fits stands = (u, e, refl, 
 one_tree token leaf node g s (Cons u Nil) (e ∷ x ∷ entries) fits stands = absurd stands.1
 
 -- the run accepts, with the start rule alone on the stack
-pub standing_accept : {X E : Type 0} (token : X → ℕ) (leaf : X → E → Type 0) (node : ℕ → Option E → List E → E → Type 0) (suits : GrammarSymbol → E → Type 0) (d : Checked) (stack : Stacked E) (consumed : List X) (prods : List ℕ)
-    → (h : IsStanding token leaf node suits d.grammar d.table stack consumed prods) → h.symbols ≡ Nonterminal d.grammar.start ∷ []
-    → (e : E) × (stack.entries ≡ e ∷ []) × IsValueOf token d.grammar (IsOfTree leaf node suits d) consumed prods e
-standing_accept {X} {E} token leaf node suits d stack consumed prods h alone =
-    let one = one_tree token leaf node d.grammar (Nonterminal d.grammar.start) h.trees stack.entries (subst (ForestFits token d.grammar h.trees) alone h.fits) h.stands in
-    let suit = zip_one suits (Nonterminal d.grammar.start) stack.entries (subst (λ (symbols : List GrammarSymbol). AllZip suits symbols stack.entries) alone h.suit) in
+pub standing_accept : {X E : Type 0} (token : X → ℕ) (builds : Building X E) (d : Checked) (stack : Stacked E) (consumed : List X) (prods : List ℕ)
+    → (h : IsStanding token builds.leaf (builds.node d.grammar) builds.suits d.grammar d.table stack consumed prods) → h.symbols ≡ Nonterminal d.grammar.start ∷ []
+    → (e : E) × (stack.entries ≡ e ∷ []) × IsValueOf token d.grammar (IsOfTree builds d) consumed prods e
+standing_accept {X} {E} token builds d stack consumed prods h alone =
+    let one = one_tree token builds.leaf (builds.node d.grammar) d.grammar (Nonterminal d.grammar.start) h.trees stack.entries (subst (ForestFits token d.grammar h.trees) alone h.fits) h.stands in
+    let suit = zip_one builds.suits (Nonterminal d.grammar.start) stack.entries (subst (λ (symbols : List GrammarSymbol). AllZip builds.suits symbols stack.entries) alone h.suit) in
     let same : suit.0 ≡ one.1 = let e : suit.0 ∷ [] ≡ one.1 ∷ [] = sym suit.1 ∙ one.3 in cc in (
       one.1,
       one.3,
@@ -199,6 +200,6 @@ standing_accept {X} {E} token leaf node suits d stack consumed prods h alone =
         fits = one.4;
         leaves_are = sym (append-nil (leaves one.0)) ∙ ap forest_leaves (sym one.2) ∙ h.leaves_are;
         productions_are = sym (append-nil (productions one.0)) ∙ ap forest_productions (sym one.2) ∙ h.productions_are;
-        tells = record { stands = one.5; suit = subst (suits (Nonterminal d.grammar.start)) same suit.2 };
+        tells = record { stands = one.5; suit = subst (builds.suits (Nonterminal d.grammar.start)) same suit.2 };
       },
     )

@@ -16,11 +16,11 @@ use Rattle.lrpar_check.proofs.StackLemmas.{stack_has_path}
 use Rattle.lrpar.specs.Recovery.{Point}
 use Rattle.lrpar.specs.RepairLaws.{StopsAtStacks, StopsByFailing}
 use Rattle.lrpar.specs.RepairRun.{RepairRun, RepairStop, ends_there, is_repaired, runs_through}
-use Rattle.lrpar.specs.RunLaws.{KeepOffEnd}
-use Rattle.lrpar.specs.Run.{Far, FarEnd, Accepted, Stopped, accepts, goes_on, stops, token_at}
+use Rattle.lrpar_check.specs.RunLaws.{KeepOffEnd}
+use Rattle.lrpar_check.specs.Run.{Far, FarEnd, Accepted, Stopped, accepts, goes_on, stops, token_at}
 use Rattle.lrpar.specs.Sequences.{PlainStep, PlainInsert, PlainDelete, PlainShift, Replays, StepsTo}
 use Rattle.lrpar.proofs.LexemeLemmas.{good_token}
-use Rattle.lrpar.proofs.RunLemmas.{far_ends_by_failing, token_at_end, token_at_lexeme}
+use Rattle.lrpar_check.proofs.RunLemmas.{far_ends_by_failing, token_at_end, token_at_lexeme}
 
 module _ (g : Grammar) (table : Table) (cap : ℕ) (run : IsRun g table cap) where
   -- all reductions at a token keep a stack one

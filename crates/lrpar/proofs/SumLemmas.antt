@@ -4,7 +4,7 @@ use Rattle.lrpar_check.specs.Reduction.{Feeds, Reduces}
 use Rattle.lrpar_grammar.specs.Sum.{sum_grammar}
 use Rattle.lrpar_states.specs.Sum.{sum_table}
 use Rattle.lrpar_states.specs.Table.{Accepts, ReduceBy, ShiftTo}
-use Rattle.lrpar.specs.Run.{Far, Accepted, accepts, comes_through, goes_on}
+use Rattle.lrpar_check.specs.Run.{Far, Accepted, accepts, comes_through, goes_on}
 use Rattle.lrpar_states.specs.Table.{action_of, goto_of}
 use Rattle.lrpar.specs.SumRun.{SumRunsThrough, sum_tokens}
 

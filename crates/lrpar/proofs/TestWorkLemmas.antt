@@ -6,10 +6,10 @@ use Rattle.lrpar_states.specs.Table.{Table}
 use Rattle.lrpar_check.specs.Chain.{IsBounded}
 use Rattle.lrpar_check.specs.Path.{NeverSticks}
 use Rattle.lrpar_check.specs.Reduction.{Feeds, Settles}
-use Rattle.lrpar.specs.Run.{token_at}
+use Rattle.lrpar_check.specs.Run.{token_at}
 use Rattle.lrpar.specs.Sequences.{PlainStep, PlainInsert, PlainDelete, PlainShift, StepsTo}
 use Rattle.lrpar.specs.TestWork.{BoundsTests, EndsBy, GoesOnBy, TestedBy}
-use Rattle.lrpar.proofs.RunLemmas.{HasPath, feeds_path, settles_reduces}
+use Rattle.lrpar_check.proofs.RunLemmas.{HasPath, feeds_path, settles_reduces}
 
 -- the sums: a lookahead that is fed, and what comes after it
 sum_fed : (cap m f r a b : ℕ) → f + cap * b ≤ cap * (a + cap + 3) → r ≤ cap * (b + (m + 1) * (cap + 3)) → f + r ≤ cap * (a + (m + 1 + 1) * (cap + 3))

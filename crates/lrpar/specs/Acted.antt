@@ -1,5 +1,6 @@
 -- Folds of a derivation tree by actions, which are handed where each node lies.
 use Rattle.std.specs.Prelude.{◌≡◌, ℕ, List, [], ◌∷◌}
+use Rattle.lrpar_grammar.specs.Grammar.{Grammar, rule_of}
 use Rattle.lrpar_grammar.specs.Tree.{Tree, Forest, Leaf, Branch, Nil, Cons}
 use Rattle.lrpar_text.specs.Span.{Extent, nowhere}
 use Rattle.lrpar.specs.Spans.{span_after}
@@ -23,7 +24,12 @@ abbrev mutual
   AllActedTo span acts before (Cons t ts) [] = ⊥
   AllActedTo span acts before (Cons t ts) (arg ∷ args) = ActedTo span acts before t arg × AllActedTo span acts (span_after span before t) ts args
 
--- the tree, with nothing in front of it, folds to the value, which has this fact
-pub record IsActedValue {X V : Type 0} (span : X → Extent) (acts : ℕ → Extent → List (AStackType X V) → V → Type 0) (fact : V → Type 0) (tree : Tree X) (value : V) : Type 0 where
-  pub folds : ActedTo span acts nowhere tree (ActionType value)
-  pub kept : fact value
+-- the values that the actions may answer for a production of the grammar, over this lexer and with this parameter; `answers` are
+-- those for its rule
+abbrev pub acts_by : {X V L P : Type 0} → (ℕ → ℕ → L → Extent → List (AStackType X V) → P → V → Type 0) → Grammar → L → P → ℕ → Extent → List (AStackType X V) → V → Type 0
+acts_by answers g lexer param p span args v = answers p (rule_of g p) lexer span args param v
+
+-- the tree, with nothing in front of it, folds to the value, which has the fact of the start rule
+pub record IsActedValue {X V L P : Type 0} (span : X → Extent) (answers : ℕ → ℕ → L → Extent → List (AStackType X V) → P → V → Type 0) (fact : ℕ → V → Type 0) (g : Grammar) (lexer : L) (param : P) (tree : Tree X) (value : V) : Type 0 where
+  pub folds : ActedTo span (acts_by answers g lexer param) nowhere tree (ActionType value)
+  pub kept : fact g.start value

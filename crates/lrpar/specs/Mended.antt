@@ -3,7 +3,7 @@ use Rattle.std.specs.Prelude.{◌≡◌, ◌+◌, ℕ, List, [], ◌∷◌, map,
 use Rattle.std.specs.Option.{option_map_or}
 use Rattle.lrpar_grammar.specs.Sentence.{LexemeFacts}
 use Rattle.lrpar_answers.specs.Failure.{Repair, Inserted, Deleted, Shifted}
-use Rattle.lrpar_answers.specs.Lexemes.{last_end}
+use Rattle.lrpar_lexemes.specs.Lexemes.{last_end}
 use Rattle.lrpar.specs.Sequences.{PlainStep, PlainInsert, PlainDelete, PlainShift}
 
 -- where lexeme i starts; past the last one, where that ends

@@ -1,14 +1,15 @@
 -- What the stacks of a run do between two places: they settle at tokens, and shift lexemes.
 use Rattle.std.specs.Prelude.{◌≡◌, ◌≤◌, ◌<◌, ◌+◌, ℕ, List, [], ◌∷◌, ◌++◌, drop, length, Option, Some, None}
-use Rattle.lrpar_grammar.specs.Grammar.{GrammarSymbol, end_token}
+use Rattle.lrpar_grammar.specs.Grammar.{end_token}
 use Rattle.lrpar_grammar.specs.Sentence.{LexemeFacts}
 use Rattle.lrpar_check.specs.Checked.{Checked}
 use Rattle.lrpar_check.specs.Reduction.{top_action}
 use Rattle.lrpar_states.specs.Table.{Accepts}
+use Rattle.lrpar.specs.Building.{Building}
 use Rattle.lrpar.specs.Mended.{Consumes, start_at}
 use Rattle.lrpar.specs.RepairRun.{fed_between}
-use Rattle.lrpar.specs.Run.{Accepted, Far, FarEnd, Stopped}
-use Rattle.lrpar.specs.Sequences.{PlainStep, Replays}
+use Rattle.lrpar_check.specs.Run.{Accepted, Far, FarEnd, Stopped}
+use Rattle.lrpar.specs.Sequences.{PlainStep, Replays, StepsTo}
 use Rattle.lrpar.specs.Stacked.{SettlesTo, Shifts}
 use Rattle.lrpar.specs.Standing.{Stacked}
 
@@ -30,17 +31,27 @@ abbrev pub fed_up_to : {X : Type 0} → List X → ℕ → Option ℕ → List X
 fed_up_to lexemes i None = drop i lexemes
 fed_up_to lexemes i (Some j) = fed_between lexemes i j
 
-module _ {X E : Type 0} (facts : X → LexemeFacts) (leaf : X → E → Type 0) (node : ℕ → Option E → List E → E → Type 0) (suits : GrammarSymbol → E → Type 0) (d : Checked) where
+-- from the stack at place i the step can be taken
+abbrev pub CanStep : {X : Type 0} → (X → LexemeFacts) → Checked → List X → List ℕ → ℕ → PlainStep → Type 0
+CanStep facts d lexemes st i step =
+    (prods next : List ℕ) × (j : ℕ) × StepsTo (λ x. (facts x).token) d.grammar d.table lexemes st i step prods next j
+
+-- from the stack at place i the steps can be taken in turn
+abbrev pub CanReplay : {X : Type 0} → (X → LexemeFacts) → Checked → List X → List ℕ → ℕ → List PlainStep → Type 0
+CanReplay facts d lexemes st i steps =
+    (prods after : List ℕ) × (j : ℕ) × Replays (λ x. (facts x).token) d.grammar d.table lexemes st i steps prods after j
+
+module _ {X E : Type 0} (facts : X → LexemeFacts) (builds : Building X E) (d : Checked) where
   -- From the old stacks to the new ones these lexemes are shifted, these reductions are made, and it is settled so often.
   pub data Moves (old : Stacked E) : List X → List ℕ → ℕ → Stacked E → Type 0 where
     -- nothing is done
     rests : Moves old [] [] 0 old
     -- last it was settled at a token
     and_settles : (xs : List X) (ps : List ℕ) (n : ℕ) (mid : Stacked E) (t : ℕ) (new : Stacked E) → Moves old xs ps n mid
-        → (last : SettlesTo node suits d t mid new) → Moves old xs (ps ++ last.prods) (n + 1) new
+        → (last : SettlesTo builds d t mid new) → Moves old xs (ps ++ last.prods) (n + 1) new
     -- last a lexeme was shifted
     and_shifts : (xs : List X) (ps : List ℕ) (n : ℕ) (mid : Stacked E) (x : X) (new : Stacked E) → Moves old xs ps n mid
-        → (last : Shifts leaf node suits d (facts x).token x mid new) → Moves old (xs ++ x ∷ []) (ps ++ last.settles.prods) (n + 1) new
+        → (last : Shifts builds d (facts x).token x mid new) → Moves old (xs ++ x ∷ []) (ps ++ last.settles.prods) (n + 1) new
 
   module _ (lexemes : List X) where
     -- from the old stacks at place i the steps are replayed, which gives the new stacks at place j

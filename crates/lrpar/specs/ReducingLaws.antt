@@ -1,5 +1,5 @@
--- What a reduction that is due asks of the stacks of a run holds, and it leaves them upright and in order.
-use Rattle.std.proofs.Common.{◌≡◌, ◌+◌, ◌-◌, ◌∙◌, ℕ, List, [], ◌∷◌, ◌++◌, Option, length, take, drop, ap, arith, refl, subst, sym}
+-- What a reduction that is due asks of the stacks of a run holds, and it leaves stacks of a run, their entries in order.
+use Rattle.std.proofs.Common.{◌≡◌, ◌+◌, ◌-◌, ◌∙◌, ℕ, List, [], ◌∷◌, ◌++◌, length, take, drop, ap, arith, refl, subst, sym}
 use Rattle.std.specs.List.{AllZip}
 use Rattle.std.proofs.lemmas.List.{length-append, take-append-drop}
 use Rattle.std.proofs.lemmas.Slice.Zip.{AllZip-long}
@@ -8,19 +8,20 @@ use Rattle.lrpar_states.specs.Table.{Table}
 use Rattle.lrpar_check.specs.Path.{IsPath, ReducesAlong}
 use Rattle.lrpar_check.specs.Reduction.{Reduces}
 use Rattle.lrpar_check.proofs.Reductions.{reduces_to_one}
+use Rattle.lrpar.specs.Building.{Building}
 use Rattle.lrpar.specs.Reducing.{Builds, Built, CanBuild, SuitsRun}
 use Rattle.lrpar.specs.Rising.{KeepsRising}
-use Rattle.lrpar.specs.Standing.{IsUpright, Stacked, kept_by, popped_by}
+use Rattle.lrpar.specs.Standing.{IsRunStack, Stacked, kept_by, popped_by}
 use Rattle.lrpar.specs.ZipLaws.{zip_drop, zip_push, zip_take}
 
 -- What a reduction by p at token t knows of the stacks before it.
-module _ {E : Type 0} (suits : GrammarSymbol → E → Type 0) (g : Grammar) (table : Table) (stack : Stacked E) (upright : IsUpright suits table stack) (t p : ℕ) (along : ReducesAlong g table upright.symbols stack.states t p) where
+module _ {E : Type 0} (suits : GrammarSymbol → E → Type 0) (g : Grammar) (table : Table) (stack : Stacked E) (run_stack : IsRunStack suits table stack) (t p : ℕ) (along : ReducesAlong g table run_stack.symbols stack.states t p) where
   -- there is an entry for each symbol
   entries_are : length stack.entries ≡ length along.below + prod_len g p
-  entries_are = AllZip-long suits upright.symbols stack.entries upright.suit ∙ ap length along.split ∙ length-append along.below (symbols_of g p)
+  entries_are = AllZip-long suits run_stack.symbols stack.entries run_stack.suit ∙ ap length along.split ∙ length-append along.below (symbols_of g p)
 
   suit_split : AllZip suits (along.below ++ symbols_of g p) stack.entries
-  suit_split = subst (λ (symbols : List GrammarSymbol). AllZip suits symbols stack.entries) along.split upright.suit
+  suit_split = subst (λ (symbols : List GrammarSymbol). AllZip suits symbols stack.entries) along.split run_stack.suit
 
   below_are : length along.below ≡ length stack.entries - prod_len g p
   below_are = omega (arith, entries_are)
@@ -33,13 +34,13 @@ module _ {E : Type 0} (suits : GrammarSymbol → E → Type 0) (g : Grammar) (ta
   popped_suit : AllZip suits (symbols_of g p) (popped_by g p stack.entries)
   popped_suit = subst (λ (n : ℕ). AllZip suits (symbols_of g p) (drop n stack.entries)) below_are (zip_drop suits along.below (symbols_of g p) stack.entries suit_split)
 
-module _ {B E : Type 0} (can_build : B → Grammar → Type 0) (suits : B → GrammarSymbol → E → Type 0) (rises : B → List E → ℕ → Type 0) (g : Grammar) (table : Table) (t : ℕ) where
+module _ {B X E : Type 0} (builds : B → Building X E) (g : Grammar) (table : Table) (t : ℕ) where
   -- a reduction that is due can be built
-  pub due_can_build : (s : Built B E) (p : ℕ) (after : List ℕ) → SuitsRun can_build suits rises g table s → Reduces g table t s.stack.states p after
-      → CanBuild can_build suits rises s p (rule_of g p) (prod_len g p)
+  pub due_can_build : (s : Built B E) (p : ℕ) (after : List ℕ) → SuitsRun builds g table s → Reduces g table t s.stack.states p after
+      → CanBuild builds s p (rule_of g p) (prod_len g p)
   due_can_build s p after is due =
-      let along = is.runs.reduces is.upright.symbols s.stack.states t p is.upright.path due.action in
-      let len = entries_are (suits s.build) g table s.stack is.upright t p along in
+      let along = is.runs.reduces is.run_stack.symbols s.stack.states t p is.run_stack.path due.action in
+      let len = entries_are (builds s.build).suits g table s.stack is.run_stack t p along in
       let known = along.reduces.known in
       let differ = along.listed in
       let same = is.grammar in
@@ -49,37 +50,36 @@ module _ {B E : Type 0} (can_build : B → Grammar → Type 0) (suits : B → Gr
         rule = rw same refl;
         symbols = rw same refl;
         deep = omega (arith, len);
-        suit = rw same (popped_suit (suits s.build) g table s.stack is.upright t p along);
+        suit = rw same (popped_suit (builds s.build).suits g table s.stack is.run_stack t p along);
         rising = is.rising;
       }
 
-  module _ {X : Type 0} (start : X → ℕ) (leaf : B → X → E → Type 0) (node : B → Grammar → ℕ → Option E → List E → E → Type 0)
-      (keeps : (b : B) (h : Grammar) → KeepsRising start (leaf b) (node b h) (rises b)) where
-    -- and it leaves the stacks upright and in order
-    pub builds_suit : (old : Built B E) (p : ℕ) (new : Built B E) → SuitsRun can_build suits rises g table old
-        → Reduces g table t old.stack.states p new.stack.states → Builds node suits old p (rule_of g p) (prod_len g p) new → SuitsRun can_build suits rises g table new
+  module _ (start : X → ℕ) (keeps : (b : B) (h : Grammar) → KeepsRising start (builds b).leaf ((builds b).node h) (builds b).rises) where
+    -- and it leaves stacks of a run, their entries in order
+    pub builds_suit : (old : Built B E) (p : ℕ) (new : Built B E) → SuitsRun builds g table old
+        → Reduces g table t old.stack.states p new.stack.states → Builds builds old p (rule_of g p) (prod_len g p) new → SuitsRun builds g table new
     builds_suit old p new is of_states by =
-        let along = is.runs.reduces is.upright.symbols old.stack.states t p is.upright.path of_states.action in
-        let Suits : GrammarSymbol → E → Type 0 = suits old.build in
+        let along = is.runs.reduces is.run_stack.symbols old.stack.states t p is.run_stack.path of_states.action in
+        let Suits : GrammarSymbol → E → Type 0 = (builds old.build).suits in
         let kept = kept_by g p old.stack.entries in
         let popped = popped_by g p old.stack.entries in
         let symbols : List GrammarSymbol = along.below ++ Nonterminal (rule_of g p) ∷ [] in
         let made = by.of_entries in
         let pushed : AllZip Suits symbols (kept ++ made.entry ∷ []) =
-        zip_push Suits along.below kept (Nonterminal (rule_of g p)) made.entry (kept_suit Suits g table old.stack is.upright t p along) made.suit in
+        zip_push Suits along.below kept (Nonterminal (rule_of g p)) made.entry (kept_suit Suits g table old.stack is.run_stack t p along) made.suit in
         let reduced : along.after ≡ new.stack.states =
         reduces_to_one g table t old.stack.states p p along.after new.stack.states along.reduces of_states in
         let n = is.rising.0 in
         let whole : kept ++ popped ≡ old.stack.entries = take-append-drop (length old.stack.entries - prod_len g p) old.stack.entries in
-        let risen : rises old.build (kept ++ made.entry ∷ []) n =
-        (keeps old.build old.grammar).by_node kept popped n p made.entry (subst (λ (es : List E). rises old.build es n) (sym whole) is.rising.1) made.made in
+        let risen : (builds old.build).rises (kept ++ made.entry ∷ []) n =
+        (keeps old.build old.grammar).by_node kept popped n p made.entry (subst (λ (es : List E). (builds old.build).rises es n) (sym whole) is.rising.1) made.made in
         let same = by.same in
         record {
           grammar = same.grammar ∙ is.grammar;
-          can = subst (λ (b : B). can_build b g) (sym same.build) is.can;
+          can = subst (λ (b : B). (builds b).can_build g) (sym same.build) is.can;
           runs = is.runs;
-          upright = subst (λ (b : B). IsUpright (suits b) table new.stack) (sym same.build)
+          run_stack = subst (λ (b : B). IsRunStack (builds b).suits table new.stack) (sym same.build)
               (record { symbols = symbols; path = subst (IsPath table symbols) reduced along.path; suit = subst (AllZip Suits symbols) (sym made.of_entries) pushed });
-          rising = subst (λ (b : B). (from : ℕ) × rises b new.stack.entries from) (sym same.build)
-              (n, subst (λ (es : List E). rises old.build es n) (sym made.of_entries) risen);
+          rising = subst (λ (b : B). (from : ℕ) × (builds b).rises new.stack.entries from) (sym same.build)
+              (n, subst (λ (es : List E). (builds old.build).rises es n) (sym made.of_entries) risen);
         }

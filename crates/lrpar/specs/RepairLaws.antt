@@ -9,7 +9,7 @@ use Rattle.lrpar_check.specs.Reduction.{top_action}
 use Rattle.lrpar_check.specs.Stack.{IsStack}
 use Rattle.lrpar.specs.Recovery.{Point}
 use Rattle.lrpar.specs.RepairRun.{RepairRun, RepairStop}
-use Rattle.lrpar.specs.Run.{Run, Stop, token_at}
+use Rattle.lrpar_check.specs.Run.{Run, Stop, token_at}
 use Rattle.lrpar.specs.Sequences.{PlainStep, PlainInsert, PlainDelete, PlainShift, CanGoOn, Replays, Works}
 
 -- a sequence works exactly where it can be replayed, and k lexemes can be fed after that

@@ -8,7 +8,7 @@ use Rattle.lrpar_check.specs.Stack.{top_of}
 use Rattle.lrpar_answers.specs.Failure.{Failure}
 use Rattle.lrpar.specs.Mended.{Consumes, repairs_over}
 use Rattle.lrpar.specs.Recovery.{Point}
-use Rattle.lrpar.specs.Run.{Far, Accepted, Stopped, Stop}
+use Rattle.lrpar_check.specs.Run.{Far, Accepted, Stopped, Stop}
 use Rattle.lrpar.specs.RunAnswer.{IsLexemeAt}
 use Rattle.lrpar.specs.Sequences.{PlainStep, AreThoseWith, Replays, Works}
 

@@ -5,7 +5,7 @@ use Rattle.lrpar_grammar.specs.Grammar.{Grammar, Nonterminal, end_token}
 use Rattle.lrpar_grammar.specs.Sentence.{LexemeFacts}
 use Rattle.lrpar_grammar.specs.Tree.{Tree, Fits, leaves, productions}
 use Rattle.lrpar_answers.specs.Failure.{Failure}
-use Rattle.lrpar_answers.specs.Lexemes.{lexeme_past}
+use Rattle.lrpar_lexemes.specs.Lexemes.{lexeme_past}
 use Rattle.lrpar_answers.specs.declared.errors.LexParseError.{LexParseError}
 use Rattle.lrpar_answers.specs.declared.errors.LexParseError.TheVariants.{ParseError}
 

@@ -4,7 +4,7 @@ use Rattle.std.specs.Prelude.{◌≡◌, ◌<◌, ◌+◌, ◌⊎◌, ℕ, zero,
 use Rattle.lrpar_grammar.specs.Grammar.{Grammar, end_token}
 use Rattle.lrpar_states.specs.Table.{Table, Accepts}
 use Rattle.lrpar_check.specs.Reduction.{Feeds, Settles, top_action}
-use Rattle.lrpar.specs.Run.{token_at}
+use Rattle.lrpar_check.specs.Run.{token_at}
 
 -- a step that is handed in: a lexeme of this token is put in front of the input that is left, the next lexeme of the input
 -- is left out, or it is taken as it is

@@ -37,7 +37,7 @@ module _ {X E : Type 0} (leaf : X → E → Type 0) (node : ℕ → Option E →
     AllStand before (Cons t ts) (e ∷ es) = StandsFor before t e × AllStand (Some e) ts es
 
 -- the states are joined by symbols, and for each of them there is an entry that suits it
-pub record IsUpright {E : Type 0} (suits : GrammarSymbol → E → Type 0) (table : Table) (stack : Stacked E) : Type 0 where
+pub record IsRunStack {E : Type 0} (suits : GrammarSymbol → E → Type 0) (table : Table) (stack : Stacked E) : Type 0 where
   pub symbols : List GrammarSymbol
   pub path : IsPath table symbols stack.states
   pub suit : AllZip suits symbols stack.entries

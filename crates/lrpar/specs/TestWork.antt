@@ -5,7 +5,7 @@ use Rattle.lrpar_states.specs.Table.{Table}
 use Rattle.lrpar_check.specs.Chain.{IsBounded}
 use Rattle.lrpar_check.specs.Path.{IsPath, NeverSticks}
 use Rattle.lrpar_check.specs.Reduction.{Feeds, Settles}
-use Rattle.lrpar.specs.Run.{token_at}
+use Rattle.lrpar_check.specs.Run.{token_at}
 use Rattle.lrpar.specs.Sequences.{PlainStep, PlainInsert, PlainDelete, PlainShift, StepsTo}
 
 module _ {X : Type 0} (token : X → ℕ) (g : Grammar) (table : Table) (lexemes : List X) where

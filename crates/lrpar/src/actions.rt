@@ -2,19 +2,22 @@
 ghost use Rattle.std.specs.Prelude.{◌≡◌, ◌≤◌, ◌-◌, ◌++◌, ◌↔◌, ℕ, List, IfOk, IsTrue, OnOk, drop, length, map, take};
 ghost use Rattle.std.specs.List.{last_or};
 ghost use Rattle.lrpar_text.specs.Span.{Extent};
-ghost use Rattle.lrpar_grammar.specs.Grammar.{GrammarSymbol, rule_of};
+ghost use Rattle.lrpar_grammar.specs.Grammar.{GrammarSymbol};
 ghost use Rattle.lrpar_grammar.specs.Symbols.{symbol_of};
 ghost use Rattle.lrpar.specs.declared.values.AStackType.{AStackType};
+ghost use Rattle.lrpar.specs.Acted.{acts_by};
 ghost use Rattle.lrpar.specs.Arguments.{AreArguments, IsArgument, TakesAll};
+ghost use Rattle.lrpar.specs.Known.{span_by, token_by};
 ghost use Rattle.lrpar.specs.Placed.{IsPlacedLexeme, IsPlacedValue, arguments_of, span_before, spans_of};
 ghost use Rattle.lrpar.specs.PlacedRising.{placed_rise};
 ghost use Rattle.lrpar.specs.Spans.{Rise, span_over};
 
 use crate::building::Build;
+use crate::top::made_of_top;
 use crate::values::AStackType;
-use lrpar_answers::lex_api::Lexeme;
 use lrpar_grammar::grammar::YaccGrammar;
 use lrpar_grammar::span::{PIdx, RIdx, Span, StorageIndex, Symbol};
+use lrpar_lexemes::lex_api::Lexeme;
 use std::alloc::{AllocError, Global};
 
 /// What makes the values of a parse by `parse_actions`, production by production. An implementation states three things:
@@ -88,16 +91,13 @@ impl<
 > Build<StorageT, LexemeT> for Acting<'a, LexerT, A, A::ParamT> {
     type Entry = Placed<AStackType<LexemeT, A::ActionT>>;
 
-    ghost can_build = { λ b g. TakesAll (A.taken b.actions.now) g };
-
-    ghost suits = { λ b s e. IsArgument (λ x. StorageT.index (LexemeT.parts x).token) (A.fact b.actions.now) s e.argument };
-
-    ghost leaf = { λ b x e. IsPlacedLexeme (λ x. (LexemeT.parts x).span) x e };
-
-    ghost node = { λ b g p before es e. IsPlacedValue
-        (λ span args v. A.answers b.actions.now p (rule_of g p) b.lexer.now span args b.param.now v) before es e };
-
-    ghost rises = { λ b es n. Rise 0 (spans_of es) n };
+    ghost builds = { λ b. record {
+      can_build = λ g. TakesAll (A.taken b.actions.now) g;
+      suits = λ s e. IsArgument (token_by StorageT.index LexemeT.parts) (A.fact b.actions.now) s e.argument;
+      leaf = λ x e. IsPlacedLexeme (span_by LexemeT.parts) x e;
+      node = λ g p before es e. IsPlacedValue (acts_by (A.answers b.actions.now) g b.lexer.now b.param.now p) before es e;
+      rises = λ es n. Rise 0 (spans_of es) n;
+    } };
 
     fn shifted(&self, lexeme: LexemeT) -> Self::Entry {
         Placed {
@@ -127,8 +127,7 @@ impl<
         })
     }
 
-    ghost rising = { λ b g. placed_rise (λ x. (LexemeT.parts x).span)
-        (λ p span args v. A.answers b.actions.now p (rule_of g p) b.lexer.now span args b.param.now v) };
+    ghost rising = { λ b g. placed_rise (span_by LexemeT.parts) (acts_by (A.answers b.actions.now) g b.lexer.now b.param.now) };
 }
 
 // The span of a production over its own entries, to the right of the others.
@@ -146,8 +145,7 @@ fn span_of<T>(before: &[Placed<T>], own: &[Placed<T>]) -> Span
     }
 }
 
-// The arguments that the top `count` entries are, which are taken off, the lowest first. They are turned round on their
-// place, so that the list of the arguments is the only one that is made.
+// The arguments that the top `count` entries are, which are taken off, the lowest first.
 fn arguments_of<T: Drop>(
     alloc: Global,
     count: usize,
@@ -157,12 +155,5 @@ fn arguments_of<T: Drop>(
     ensures kept { OnOk result (entries.new.items ≡ take (length entries.old.items - count) entries.old.items) }
     ensures arguments { IfOk result (λ args. args.items ≡ arguments_of (drop (length entries.old.items - count) entries.old.items)) }
 {
-    let mut args = Vec::with_capacity(alloc, count)?;
-    let at = entries.len() - count;
-    entries[at..].reverse();
-    for _i in 0..count {
-        let entry = entries.pop().unwrap();
-        args.push(entry.argument)?;
-    }
-    Ok(args)
+    made_of_top(alloc, count, entries, &|entry: Placed<T>| entry.argument)
 }

@@ -1,28 +1,27 @@
 //! The course of a run with repairs: where it stops, the recoverer is asked once, and the run goes on from what the first
 //! sequence gives that works.
-ghost use Rattle.std.specs.Prelude.{◌<◌, ◌≤◌, IfOk, IfSome, OnOk, length, map};
+ghost use Rattle.std.specs.Prelude.{◌<◌, ◌≤◌, IfOk, IfSome, OnOk, length};
 ghost use Rattle.lrpar_grammar.specs.Sentence.{IsValidList};
 ghost use Rattle.lrpar_check.specs.Stack.{IsStack};
-ghost use Rattle.lrpar.specs.End.{IsOfTree};
-ghost use Rattle.lrpar_answers.specs.Lexemes.{facts_of};
+ghost use Rattle.lrpar.specs.Known.{known};
 ghost use Rattle.lrpar.specs.Mended.{start_at};
-ghost use Rattle.lrpar.specs.Mending.{IsMended, IsNoted};
+ghost use Rattle.lrpar.specs.Mending.{IsListedBy, IsMended, IsNoted};
 ghost use Rattle.lrpar.specs.Moves.{RiseUpTo, StartsRise};
 ghost use Rattle.lrpar.specs.PlainSteps.{plain_sequences};
-ghost use Rattle.lrpar.specs.RepairAnswer.{IsRepairAnswer, IsRepairErrorOf};
-ghost use Rattle.lrpar.specs.RepairRun.{IsListedAt};
-ghost use Rattle.lrpar.specs.RunAnswer.{HasValue};
-ghost use Rattle.lrpar.specs.Standing.{IsUpright};
+ghost use Rattle.lrpar.specs.RepairAnswer.{IsRepairErrorOf};
+ghost use Rattle.lrpar_check.specs.Run.{stop_at};
+ghost use Rattle.lrpar.specs.Standing.{IsRunStack};
+ghost use Rattle.lrpar.specs.TreeAnswer.{IsTreeAnswer};
 
 use crate::building::Build;
 use crate::repair::{Recoverer, RecoveryPoint, RepairStep};
 use crate::run::{Run, end_lexeme};
-use crate::stack::Stack;
+use crate::run_stack::Stack;
 use crate::trial::Trial;
 use lrpar_answers::errors::{LexParseError, ParseError};
-use lrpar_answers::lex_api::{Lexeme, LexerTypes};
 use lrpar_grammar::grammar::YaccGrammar;
 use lrpar_grammar::span::StorageIndex;
+use lrpar_lexemes::lex_api::{Lexeme, LexerTypes};
 use std::alloc::{AllocError, Global};
 
 /// What the course of a run is made by: what goes on and what is built, the lexemes, the recoverer, and how many lexemes
@@ -48,20 +47,19 @@ impl<
     B: Build<StorageT, LexerTypesT::LexemeT>,
     R: Recoverer<StorageT, LexerTypesT::LexemeT>,
 > Course<'a, StorageT, LexerTypesT, B, R> {
+    ghost use Rattle.lrpar.specs.CourseView.{subject};
+
     /// Runs from the first lexeme, to where the run accepts, or to a stop for which no sequence works. Each later stop lies so
     /// many lexemes further as have to follow a repair, so it ends.
     pub(crate) fn over(
         &self,
         alloc: Global,
     ) -> Result<(Option<B::Entry>, Vec<LexParseError<StorageT, LexerTypesT>>), AllocError>
-        requires can { B.can_build self.now.run.build.now self.now.run.checked.now.grammar }
-        requires valid { IsValidList self.now.run.checked.now.grammar (map (λ x. facts_of StorageT.index (LexerTypesT.LexemeT.parts x)) self.now.lexemes.now) }
+        requires can { (B.builds self.now.run.build.now).can_build self.now.run.checked.now.grammar }
+        requires valid { IsValidList self.now.run.checked.now.grammar (known StorageT.index LexerTypesT.LexemeT.parts self.now.lexemes.now) }
         requires shifts { 0 < self.now.shifts }
-        ensures { IfOk result (IsRepairAnswer self.now.run.checked.now (λ x. facts_of StorageT.index (LexerTypesT.LexemeT.parts x))
-            (R.allows self.now.recoverer.now) self.now.shifts (λ answer. answer.1.items)
-            (HasValue (λ x. StorageT.index (LexerTypesT.LexemeT.parts x).token) self.now.run.checked.now.grammar
-            (IsOfTree (B.leaf self.now.run.build.now) (B.node self.now.run.build.now self.now.run.checked.now.grammar) (B.suits self.now.run.build.now) self.now.run.checked.now))
-            self.now.lexemes.now) }
+        ensures { IfOk result (IsTreeAnswer (subject StorageT.index LexerTypesT.LexemeT.parts R.allows self.now)
+            (B.builds self.now.run.build.now) self.now.lexemes.now) }
     {
         starts_rise::<StorageT, LexerTypesT::LexemeT>(self.run.checked.grm(), self.lexemes);
         let stable = self.run.checked.stable();
@@ -88,20 +86,19 @@ impl<
         stop: usize,
         errors: &mut Vec<LexParseError<StorageT, LexerTypesT>>,
     ) -> Result<Option<usize>, AllocError>
-        requires can { B.can_build self.now.run.build.now self.now.run.checked.now.grammar }
-        requires valid { IsValidList self.now.run.checked.now.grammar (map (λ x. facts_of StorageT.index (LexerTypesT.LexemeT.parts x)) self.now.lexemes.now) }
-        requires starts { StartsRise (map (λ x. facts_of StorageT.index (LexerTypesT.LexemeT.parts x)) self.now.lexemes.now) }
-        requires upright { IsUpright (B.suits self.now.run.build.now) self.now.run.checked.now.table stack.old }
-        requires rises { RiseUpTo (B.rises self.now.run.build.now) stack.old.entries
-            (start_at (map (λ x. facts_of StorageT.index (LexerTypesT.LexemeT.parts x)) self.now.lexemes.now) stop) }
+        requires can { (B.builds self.now.run.build.now).can_build self.now.run.checked.now.grammar }
+        requires valid { IsValidList self.now.run.checked.now.grammar (known StorageT.index LexerTypesT.LexemeT.parts self.now.lexemes.now) }
+        requires starts { StartsRise (known StorageT.index LexerTypesT.LexemeT.parts self.now.lexemes.now) }
+        requires run_stack { IsRunStack (B.builds self.now.run.build.now).suits self.now.run.checked.now.table stack.old }
+        requires rises { RiseUpTo (B.builds self.now.run.build.now).rises stack.old.entries
+            (start_at (known StorageT.index LexerTypesT.LexemeT.parts self.now.lexemes.now) stop) }
         requires within { stop ≤ length self.now.lexemes.now }
-        ensures upright { OnOk result (IsUpright (B.suits self.now.run.build.now) self.now.run.checked.now.table stack.new) }
-        ensures rises { IfOk result (λ next. IfSome next (λ place. RiseUpTo (B.rises self.now.run.build.now) stack.new.entries
-            (start_at (map (λ x. facts_of StorageT.index (LexerTypesT.LexemeT.parts x)) self.now.lexemes.now) place))) }
+        ensures run_stack { OnOk result (IsRunStack (B.builds self.now.run.build.now).suits self.now.run.checked.now.table stack.new) }
+        ensures rises { IfOk result (λ next. IfSome next (λ place. RiseUpTo (B.builds self.now.run.build.now).rises stack.new.entries
+            (start_at (known StorageT.index LexerTypesT.LexemeT.parts self.now.lexemes.now) place))) }
         ensures within { IfOk result (λ next. IfSome next (λ place. place ≤ length self.now.lexemes.now)) }
-        ensures mended { IfOk result (IsMended (λ x. facts_of StorageT.index (LexerTypesT.LexemeT.parts x)) (B.leaf self.now.run.build.now)
-            (B.node self.now.run.build.now self.now.run.checked.now.grammar) (B.suits self.now.run.build.now) self.now.run.checked.now
-            (R.allows self.now.recoverer.now) self.now.shifts self.now.lexemes.now stack.old stop errors.old.items stack.new errors.new.items) }
+        ensures mended { IfOk result (IsMended (subject StorageT.index LexerTypesT.LexemeT.parts R.allows self.now) (B.builds self.now.run.build.now)
+            self.now.lexemes.now stack.old stop errors.old.items stack.new errors.new.items) }
     {
         // Past these the table has no entry, so that a path is a stack.
         let stable = self.run.checked.stable();
@@ -122,13 +119,12 @@ impl<
         place: usize,
         errors: &mut Vec<LexParseError<StorageT, LexerTypesT>>,
     ) -> Result<Vec<Vec<RepairStep<StorageT>>>, AllocError>
-        requires valid { IsValidList self.now.run.checked.now.grammar (map (λ x. facts_of StorageT.index (LexerTypesT.LexemeT.parts x)) self.now.lexemes.now) }
+        requires valid { IsValidList self.now.run.checked.now.grammar (known StorageT.index LexerTypesT.LexemeT.parts self.now.lexemes.now) }
         requires stack { IsStack self.now.run.checked.now.table stack.now.states }
         requires some { 0 < length stack.now.states }
         requires within { place ≤ length self.now.lexemes.now }
-        ensures noted { IfOk result (λ listed. IsNoted (λ x. facts_of StorageT.index (LexerTypesT.LexemeT.parts x)) self.now.run.checked.now
-            (R.allows self.now.recoverer.now) self.now.shifts self.now.lexemes.now (record { stack = stack.now.states; place = place })
-            errors.old.items errors.new.items (plain_sequences StorageT.index listed.items)) }
+        ensures noted { IfOk result (λ listed. IsNoted (subject StorageT.index LexerTypesT.LexemeT.parts R.allows self.now) self.now.lexemes.now
+            (stop_at stack.now.states place) errors.old.items errors.new.items (plain_sequences StorageT.index listed.items)) }
     {
         let listed = self.listed(alloc, stack, place)?;
         errors.push(self.error(alloc, stack, place, &listed)?)?;
@@ -142,12 +138,11 @@ impl<
         stack: &Stack<StorageT, B::Entry>,
         place: usize,
     ) -> Result<Vec<Vec<RepairStep<StorageT>>>, AllocError>
-        requires valid { IsValidList self.now.run.checked.now.grammar (map (λ x. facts_of StorageT.index (LexerTypesT.LexemeT.parts x)) self.now.lexemes.now) }
+        requires valid { IsValidList self.now.run.checked.now.grammar (known StorageT.index LexerTypesT.LexemeT.parts self.now.lexemes.now) }
         requires stack { IsStack self.now.run.checked.now.table stack.now.states }
         requires within { place ≤ length self.now.lexemes.now }
-        ensures listed { IfOk result (λ listed. IsListedAt (λ x. facts_of StorageT.index (LexerTypesT.LexemeT.parts x))
-            (R.allows self.now.recoverer.now) self.now.shifts self.now.run.checked.now.grammar self.now.run.checked.now.table self.now.lexemes.now
-            (record { stack = stack.now.states; place = place }) (plain_sequences StorageT.index listed.items)) }
+        ensures listed { IfOk result (λ listed. IsListedBy (subject StorageT.index LexerTypesT.LexemeT.parts R.allows self.now) self.now.lexemes.now
+            (stop_at stack.now.states place) (plain_sequences StorageT.index listed.items)) }
     {
         let point = RecoveryPoint::new(self.lexemes, place, stack.states());
         let answer = self.recoverer.recover(alloc, &point)?;
@@ -169,8 +164,8 @@ impl<
     ) -> Result<LexParseError<StorageT, LexerTypesT>, AllocError>
         requires some { 0 < length stack.now.states }
         requires within { place ≤ length self.now.lexemes.now }
-        ensures error { IfOk result (IsRepairErrorOf (λ x. facts_of StorageT.index (LexerTypesT.LexemeT.parts x)) self.now.run.checked.now.grammar
-            self.now.lexemes.now (record { stop = record { stack = stack.now.states; place = place }; listed = plain_sequences StorageT.index listed.now })) }
+        ensures error { IfOk result (IsRepairErrorOf (subject StorageT.index LexerTypesT.LexemeT.parts R.allows self.now) self.now.lexemes.now
+            (record { stop = stop_at stack.now.states place; listed = plain_sequences StorageT.index listed.now })) }
     {
         let repairs = Trial::new(self.run.checked, self.lexemes, self.shifts).repairs(
             alloc, place, listed,
@@ -188,8 +183,8 @@ fn starts_rise<StorageT: StorageIndex, LexemeT: Lexeme<StorageT>>(
     grm: &YaccGrammar<StorageT>,
     lexemes: &[LexemeT],
 )
-    requires { IsValidList grm.now (map (λ x. facts_of StorageT.index (LexemeT.parts x)) lexemes.now) }
-    ensures { StartsRise (map (λ x. facts_of StorageT.index (LexemeT.parts x)) lexemes.now) }
+    requires { IsValidList grm.now (known StorageT.index LexemeT.parts lexemes.now) }
+    ensures { StartsRise (known StorageT.index LexemeT.parts lexemes.now) }
 {
     if let Some(last) = lexemes.last() {
         let _start = last.span().start();

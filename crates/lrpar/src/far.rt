@@ -1,16 +1,16 @@
 //! How far a run comes from a place, without repairs.
-ghost use Rattle.std.specs.Prelude.{◌<◌, ◌≤◌, IfOk, IfSome, OnOk, length, map};
+ghost use Rattle.std.specs.Prelude.{◌<◌, ◌≤◌, IfOk, IfSome, OnOk, length};
 ghost use Rattle.lrpar_grammar.specs.Sentence.{IsValidList};
-ghost use Rattle.lrpar_answers.specs.Lexemes.{facts_of};
+ghost use Rattle.lrpar.specs.Known.{facts_by, known};
 ghost use Rattle.lrpar.specs.Mended.{start_at};
 ghost use Rattle.lrpar.specs.Moves.{GoesFar, RiseUpTo, StartsRise};
-ghost use Rattle.lrpar.specs.Standing.{IsUpright};
+ghost use Rattle.lrpar.specs.Standing.{IsRunStack};
 
 use crate::building::Build;
 use crate::run::Run;
-use crate::stack::Stack;
-use lrpar_answers::lex_api::Lexeme;
+use crate::run_stack::Stack;
 use lrpar_grammar::span::StorageIndex;
+use lrpar_lexemes::lex_api::Lexeme;
 use lrpar_table::table::Action;
 use std::alloc::{AllocError, Global};
 
@@ -28,18 +28,17 @@ impl<'a, StorageT: StorageIndex, LexemeT: Lexeme<StorageT>, B: Build<StorageT, L
         stack: &mut Stack<StorageT, B::Entry>,
         place: usize,
     ) -> Result<Option<usize>, AllocError>
-        requires can { B.can_build self.now.build.now self.now.checked.now.grammar }
-        requires valid { IsValidList self.now.checked.now.grammar (map (λ x. facts_of StorageT.index (LexemeT.parts x)) lexemes.now) }
-        requires starts { StartsRise (map (λ x. facts_of StorageT.index (LexemeT.parts x)) lexemes.now) }
-        requires upright { IsUpright (B.suits self.now.build.now) self.now.checked.now.table stack.old }
-        requires rises { RiseUpTo (B.rises self.now.build.now) stack.old.entries (start_at (map (λ x. facts_of StorageT.index (LexemeT.parts x)) lexemes.now) place) }
+        requires can { (B.builds self.now.build.now).can_build self.now.checked.now.grammar }
+        requires valid { IsValidList self.now.checked.now.grammar (known StorageT.index LexemeT.parts lexemes.now) }
+        requires starts { StartsRise (known StorageT.index LexemeT.parts lexemes.now) }
+        requires run_stack { IsRunStack (B.builds self.now.build.now).suits self.now.checked.now.table stack.old }
+        requires rises { RiseUpTo (B.builds self.now.build.now).rises stack.old.entries (start_at (known StorageT.index LexemeT.parts lexemes.now) place) }
         requires within { place ≤ length lexemes.now }
-        ensures upright { OnOk result (IsUpright (B.suits self.now.build.now) self.now.checked.now.table stack.new) }
-        ensures rises { IfOk result (λ stop. IfSome stop (λ next. RiseUpTo (B.rises self.now.build.now) stack.new.entries
-            (start_at (map (λ x. facts_of StorageT.index (LexemeT.parts x)) lexemes.now) next))) }
+        ensures run_stack { OnOk result (IsRunStack (B.builds self.now.build.now).suits self.now.checked.now.table stack.new) }
+        ensures rises { IfOk result (λ stop. IfSome stop (λ next. RiseUpTo (B.builds self.now.build.now).rises stack.new.entries
+            (start_at (known StorageT.index LexemeT.parts lexemes.now) next))) }
         ensures within { IfOk result (λ stop. IfSome stop (λ next. next ≤ length lexemes.now)) }
-        ensures far { IfOk result (λ stop. GoesFar (λ x. facts_of StorageT.index (LexemeT.parts x)) (B.leaf self.now.build.now)
-            (B.node self.now.build.now self.now.checked.now.grammar) (B.suits self.now.build.now) self.now.checked.now lexemes.now
+        ensures far { IfOk result (λ stop. GoesFar (facts_by StorageT.index LexemeT.parts) (B.builds self.now.build.now) self.now.checked.now lexemes.now
             stack.old place stop stack.new) }
     {
         // A checked table never sticks.

@@ -1,19 +1,26 @@
 //! Laws about the definitions that contracts cite: each function has one as its contract, and does nothing.
-ghost use Rattle.std.specs.Prelude.{◌≡◌};
+ghost use Rattle.std.specs.Prelude.{◌≡◌, ◌↔◌, IsTrue};
+ghost use Rattle.lrpar_text.specs.Comparisons.{HashesAs};
 ghost use Rattle.lrpar_check.specs.Chain.{most_productions};
 ghost use Rattle.lrpar_grammar.specs.Sentence.{LexemeFacts};
-ghost use Rattle.lrpar.specs.Run.{RunsOneWay};
-ghost use Rattle.lrpar_answers.specs.Lexemes.{facts_of};
+ghost use Rattle.lrpar.specs.declared.fault.ParseFault.{ParseFault};
+ghost use Rattle.lrpar.specs.declared.repair.RepairStep.{RepairStep};
+ghost use Rattle.lrpar.specs.PlainSteps.{plain_step};
+ghost use Rattle.lrpar_check.specs.Run.{RunsOneWay};
+ghost use Rattle.lrpar.specs.Known.{facts_by};
 ghost use Rattle.lrpar.specs.RepairLaws.{AcceptsWhereRepaired, ListsSound, RepairRunsOneWay, ReplaysOneWay, RunsWithoutRepairs, StopsAtStacks, StopsByFailing, StopsLieApart, WorksByReplay};
-ghost use Rattle.lrpar.specs.RunLaws.{RunsEndOneWay, RunsGoOnOrEnd, RunsStopByFailing};
+ghost use Rattle.lrpar_check.specs.RunLaws.{RunsEndOneWay, RunsGoOnOrEnd, RunsStopByFailing};
 ghost use Rattle.lrpar.specs.Spans.{SpansAreWorkedOut};
+ghost use Rattle.lrpar.specs.StepComparisons.{step_input};
 ghost use Rattle.lrpar.specs.SumRun.{SumRunsThrough};
 ghost use Rattle.lrpar.specs.TestWork.{BoundsTests};
 
-use crate::repair::Recoverer;
+use crate::fault::ParseFault;
+use crate::repair::{Recoverer, RepairStep};
 pub use lrpar_answers::laws::repairs_are_compared_by_contents;
-use lrpar_answers::lex_api::Lexeme;
 use lrpar_grammar::span::StorageIndex;
+use lrpar_lexemes::lex_api::Lexeme;
+use std::hash::Hash;
 
 /// From a stack at a place there is at most one way to run, over lexemes of any type and over those that contracts speak
 /// of: two runs make the same reductions and end alike, so they have the same stops and consume the same lexemes.
@@ -63,11 +70,11 @@ pub fn runs_with_repairs_are_sound<
     LexemeT: Lexeme<StorageT>,
     R: Recoverer<StorageT, LexemeT>,
 >()
-    ensures sound { (r : R) → ListsSound (λ x. facts_of StorageT.index (LexemeT.parts x)) (R.allows r) }
-    ensures apart { (r : R) → StopsLieApart (λ x. facts_of StorageT.index (LexemeT.parts x)) (R.allows r) }
-    ensures accepts { (r : R) → AcceptsWhereRepaired (λ x. facts_of StorageT.index (LexemeT.parts x)) (R.allows r) }
-    ensures stacks { (r : R) → StopsAtStacks (λ x. facts_of StorageT.index (LexemeT.parts x)) (R.allows r) }
-    ensures fails { (r : R) → StopsByFailing (λ x. facts_of StorageT.index (LexemeT.parts x)) (R.allows r) }
+    ensures sound { (r : R) → ListsSound (facts_by StorageT.index LexemeT.parts) (R.allows r) }
+    ensures apart { (r : R) → StopsLieApart (facts_by StorageT.index LexemeT.parts) (R.allows r) }
+    ensures accepts { (r : R) → AcceptsWhereRepaired (facts_by StorageT.index LexemeT.parts) (R.allows r) }
+    ensures stacks { (r : R) → StopsAtStacks (facts_by StorageT.index LexemeT.parts) (R.allows r) }
+    ensures fails { (r : R) → StopsByFailing (facts_by StorageT.index LexemeT.parts) (R.allows r) }
 {}
 
 /// Where a recoverer has at most one answer at each point, a run with repairs has one answer: two runs from one stack and place
@@ -78,7 +85,7 @@ pub fn runs_with_repairs_have_one_answer<
     LexemeT: Lexeme<StorageT>,
     R: Recoverer<StorageT, LexemeT>,
 >()
-    ensures { (r : R) → RepairRunsOneWay (λ x. facts_of StorageT.index (LexemeT.parts x)) (R.allows r) }
+    ensures { (r : R) → RepairRunsOneWay (facts_by StorageT.index LexemeT.parts) (R.allows r) }
 {}
 
 /// Where nothing is handed in, a run with repairs is a run without them.
@@ -98,4 +105,17 @@ pub fn tests_of_sequences_are_bounded<LexemeT>()
 /// The spans of trees whose nodes have no children somewhere: what stands in front of such a node is where it is.
 pub fn spans_are_worked_out()
     ensures { SpansAreWorkedOut }
+{}
+
+/// Two steps are equal exactly where they are of one kind, and insertions have tokens of one number. A hasher is fed which of the
+/// three a step is, and after that, of an insertion, what it is fed of the token's number.
+pub fn steps_are_compared_by_contents<StorageT: StorageIndex>()
+    ensures equal { (x y : RepairStep StorageT) → IsTrue (⟦<RepairStep<StorageT> as PartialEq>⟧.eq x y)
+        ↔ (plain_step StorageT.index x ≡ plain_step StorageT.index y) }
+    ensures hash { HashesAs (step_input StorageT.hash_input) ⟦<RepairStep<StorageT> as PartialEq>⟧.eq ⟦<RepairStep<StorageT> as Hash>⟧.hash_input }
+{}
+
+/// Two faults of a parse are equal exactly where they are of one kind and name the same lexeme.
+pub fn faults_are_compared_by_contents()
+    ensures { (x y : ParseFault) → IsTrue (⟦<ParseFault as PartialEq>⟧.eq x y) ↔ (x ≡ y) }
 {}

@@ -1,13 +1,13 @@
 //! A lexer's answer: its lexemes or its first error, and the faults of its lexemes.
-ghost use Rattle.std.specs.Prelude.{◌≡◌, IfOk, MatchResult, Some, None, map};
+ghost use Rattle.std.specs.Prelude.{◌≡◌, IfOk, MatchResult, Some, None};
 ghost use Rattle.lrpar.specs.Lexed.{first_error, lexemes_of};
 ghost use Rattle.lrpar.specs.LexemeFault.{IsLexemeFault};
-ghost use Rattle.lrpar_answers.specs.Lexemes.{facts_of};
+ghost use Rattle.lrpar.specs.Known.{known};
 
 use crate::fault::ParseFault;
-use lrpar_answers::lex_api::Lexeme;
 use lrpar_grammar::grammar::YaccGrammar;
 use lrpar_grammar::span::StorageIndex;
+use lrpar_lexemes::lex_api::Lexeme;
 use std::alloc::{AllocError, Global};
 
 // The lexemes, or the first lexing error, wherever it stands.
@@ -35,7 +35,7 @@ pub(crate) fn lexeme_fault<LexemeT: Lexeme<StorageT>, StorageT: StorageIndex>(
     grm: &YaccGrammar<StorageT>,
     lexemes: &[LexemeT],
 ) -> Option<ParseFault>
-    ensures { IsLexemeFault grm.now (map (λ x. facts_of StorageT.index (LexemeT.parts x)) lexemes.now) result }
+    ensures { IsLexemeFault grm.now (known StorageT.index LexemeT.parts lexemes.now) result }
 {
     let end = grm.tokens_len() - 1;
     let mut previous = 0;

@@ -3,6 +3,7 @@
 
 mod actions;
 mod building;
+mod counter;
 mod course;
 mod far;
 mod fault;
@@ -14,17 +15,16 @@ mod reducing;
 pub mod repair;
 mod replay;
 mod run;
+mod run_stack;
 mod shifts;
-mod stack;
+mod top;
 mod trees;
 mod trial;
 mod values;
 
-pub use lrpar_answers::{
-    LexError, LexParseError, Lexeme, Lexer, LexerTypes, Node, NonStreamingLexer, ParseError,
-    ParseRepair, errors, lex_api,
-};
+pub use lrpar_answers::{LexParseError, Node, ParseError, ParseRepair, errors};
 pub use lrpar_grammar::{grammar, lines, span};
+pub use lrpar_lexemes::{LexError, Lexeme, Lexer, LexerTypes, NonStreamingLexer, lex_api};
 pub use lrpar_table::check::ParserData;
 pub use lrpar_table::{build, check, table};
 pub use parser::RTParserBuilder;

@@ -2,9 +2,9 @@
 ghost use Rattle.std.specs.Prelude.{◌≡◌, ◌≤◌, ◌-◌, OnOk, length, take};
 
 use crate::building::Build;
-use lrpar_answers::lex_api::Lexeme;
 use lrpar_grammar::grammar::YaccGrammar;
 use lrpar_grammar::span::{PIdx, StorageIndex};
+use lrpar_lexemes::lex_api::Lexeme;
 use std::alloc::{AllocError, Global};
 
 /// Builds nothing, and makes no list.
@@ -14,15 +14,13 @@ pub(crate) struct Nothing;
 impl<StorageT: StorageIndex, LexemeT: Lexeme<StorageT>> Build<StorageT, LexemeT> for Nothing {
     type Entry = ();
 
-    ghost can_build = { λ b g. Unit {0} };
-
-    ghost suits = { λ b s e. Unit {0} };
-
-    ghost leaf = { λ b x e. Unit {0} };
-
-    ghost node = { λ b g p before es e. Unit {0} };
-
-    ghost rises = { λ b es n. Unit {0} };
+    ghost builds = { λ b. record {
+      can_build = λ g. Unit {0};
+      suits = λ s e. Unit {0};
+      leaf = λ x e. Unit {0};
+      node = λ g p before es e. Unit {0};
+      rises = λ es n. Unit {0};
+    } };
 
     fn shifted(&self, _lexeme: LexemeT) {}
 

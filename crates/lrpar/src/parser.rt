@@ -1,7 +1,6 @@
 //! Parses: the calls that take a lexer and answer a value and the errors.
-ghost use Rattle.std.specs.Prelude.{◌≡◌, ◌<◌, ◌∷◌, ◌↔◌, [], List, Result, IfErr, IfOk, IfSome, IsOk, IsTrue, map, option_map};
+ghost use Rattle.std.specs.Prelude.{◌≡◌, ◌<◌, ◌∷◌, ◌↔◌, [], List, Result, IfErr, IfOk, IfSome, IsOk, IsTrue, option_map};
 ghost use Rattle.lrpar_check.specs.Checked.{IsChecked};
-ghost use Rattle.lrpar_grammar.specs.Grammar.{rule_of};
 ghost use Rattle.lrpar_grammar.specs.Sentence.{IsValidList};
 ghost use Rattle.lrpar.specs.Acted.{IsActedValue};
 ghost use Rattle.lrpar.specs.Arguments.{TakesAll};
@@ -9,12 +8,12 @@ ghost use Rattle.lrpar.specs.End.{IsOfTree};
 ghost use Rattle.lrpar.specs.Entries.{HasValueEntry};
 ghost use Rattle.lrpar.specs.Folds.{Folds};
 ghost use Rattle.lrpar.specs.declared.values.AStackType.TheVariants.{ActionType};
-ghost use Rattle.lrpar_answers.specs.Lexemes.{facts_of};
+ghost use Rattle.lrpar.specs.Known.{known, span_by};
 ghost use Rattle.lrpar.specs.Made.{made_by};
 ghost use Rattle.lrpar.specs.Nodes.{IsNonterm, IsTerm};
 ghost use Rattle.lrpar.specs.Parse.{ParsesTo, ParsesToErrors};
-ghost use Rattle.lrpar.specs.RepairAnswer.{IsRepairAnswer};
-ghost use Rattle.lrpar.specs.RunAnswer.{HasValue};
+ghost use Rattle.lrpar.specs.Parser.{subject};
+ghost use Rattle.lrpar.specs.TreeAnswer.{IsTreeAnswer};
 
 pub use crate::actions::Actions;
 use crate::actions::{Acting, Placed};
@@ -30,10 +29,10 @@ use crate::trees::Trees;
 pub use crate::trees::action_generictree;
 pub use crate::values::AStackType;
 use crate::values::Functions;
-use lrpar_answers::lex_api::{LexerTypes, NonStreamingLexer};
 pub use lrpar_answers::{LexParseError, Node, ParseError, ParseRepair, PpFault};
 use lrpar_grammar::grammar::YaccGrammar;
 use lrpar_grammar::span::{PIdx, RIdx, StorageIndex};
+use lrpar_lexemes::lex_api::{LexerTypes, NonStreamingLexer};
 use lrpar_table::check::ParserData;
 use std::alloc::{AllocError, Global};
 use std::marker::{Model, PhantomData};
@@ -117,7 +116,7 @@ impl<
     /// refusal hands the parser back as it was.
     pub fn shifts(self, count: usize) -> Result<Self, ZeroShifts<Self>>
         ensures set { IfOk result (λ p. p ≡ record { checked = self.entry.checked; recoverer = self.entry.recoverer; shifts = count }) }
-        ensures back { IfErr result (λ refused. refused.builder ≡ self.entry) }
+        ensures back { IfErr result (λ refused. refused ≡ self.entry) }
         ensures exact { IsOk result ↔ (0 < count) }
     {
         if count == 0 {
@@ -171,7 +170,7 @@ impl<
         requires fterm { F.IsAlwaysCallable fterm }
         requires fnonterm { G.IsAlwaysCallable fnonterm }
         // Memory was wanting, or there is an answer that the lexer allows, and this is the parse over it.
-        ensures parse { ParsesTo self.now.checked (λ x. facts_of StorageT.index (LexerTypesT.LexemeT.parts x)) (R.allows self.now.recoverer) self.now.shifts (L.allows lexer.now)
+        ensures parse { ParsesTo (subject StorageT.index LexerTypesT.LexemeT.parts R.allows self.now) (L.allows lexer.now)
             (Folds (F.post fterm) (made_by StorageT.index (G.post fnonterm)) self.now.checked.grammar) result }
     {
         let functions = Functions {
@@ -207,10 +206,9 @@ impl<
     ) -> Result<Answer<StorageT, LexerTypesT, A::ActionT>, ParseFault>
         requires taken { TakesAll (A.taken actions.now) self.now.checked.grammar }
         // Memory was wanting, or there is an answer that the lexer allows, and this is the parse over it.
-        ensures parse { ParsesTo self.now.checked (λ x. facts_of StorageT.index (LexerTypesT.LexemeT.parts x)) (R.allows self.now.recoverer) self.now.shifts (L.allows lexer.now)
-            (IsActedValue (λ x. (LexerTypesT.LexemeT.parts x).span)
-            (λ p span args v. A.answers actions.now p (rule_of self.now.checked.grammar p) lexer.now span args param.now v)
-            (A.fact actions.now self.now.checked.grammar.start)) result }
+        ensures parse { ParsesTo (subject StorageT.index LexerTypesT.LexemeT.parts R.allows self.now) (L.allows lexer.now)
+            (IsActedValue (span_by LexerTypesT.LexemeT.parts) (A.answers actions.now) (A.fact actions.now) self.now.checked.grammar lexer.now param.now)
+            result }
     {
         let acting = Acting {
             actions,
@@ -256,7 +254,7 @@ impl<
         lexer: &L,
     ) -> Result<Answer<StorageT, LexerTypesT, Node<LexerTypesT::LexemeT, StorageT>>, ParseFault>
         // Memory was wanting, or there is an answer that the lexer allows, and this is the parse over it.
-        ensures parse { ParsesTo self.now.checked (λ x. facts_of StorageT.index (LexerTypesT.LexemeT.parts x)) (R.allows self.now.recoverer) self.now.shifts (L.allows lexer.now)
+        ensures parse { ParsesTo (subject StorageT.index LexerTypesT.LexemeT.parts R.allows self.now) (L.allows lexer.now)
             (Folds IsTerm (IsNonterm StorageT.index) self.now.checked.grammar) result }
     {
         self.parsed(alloc, lexer, &Trees)
@@ -271,7 +269,7 @@ impl<
         lexer: &L,
     ) -> Result<Vec<LexParseError<StorageT, LexerTypesT>>, ParseFault>
         // Memory was wanting, or there is an answer that the lexer allows, and these are the errors of the parse over it.
-        ensures parse { ParsesToErrors self.now.checked (λ x. facts_of StorageT.index (LexerTypesT.LexemeT.parts x)) (R.allows self.now.recoverer) self.now.shifts (L.allows lexer.now) result }
+        ensures parse { ParsesToErrors (subject StorageT.index LexerTypesT.LexemeT.parts R.allows self.now) (L.allows lexer.now) result }
     {
         match self.parsed(alloc, lexer, &Nothing) {
             Ok((_, errors)) => Ok(errors),
@@ -290,9 +288,9 @@ impl<
         lexer: &L,
         build: &B,
     ) -> Result<Answer<StorageT, LexerTypesT, B::Entry>, ParseFault>
-        requires can { B.can_build build.now self.now.checked.grammar }
-        ensures parse { ParsesTo self.now.checked (λ x. facts_of StorageT.index (LexerTypesT.LexemeT.parts x)) (R.allows self.now.recoverer) self.now.shifts (L.allows lexer.now)
-            (IsOfTree (B.leaf build.now) (B.node build.now self.now.checked.grammar) (B.suits build.now) self.now.checked) result }
+        requires can { (B.builds build.now).can_build self.now.checked.grammar }
+        ensures parse { ParsesTo (subject StorageT.index LexerTypesT.LexemeT.parts R.allows self.now) (L.allows lexer.now)
+            (IsOfTree (B.builds build.now) self.now.checked) result }
     {
         let answers = lexer.iter(alloc)?;
         match lexemes_or_error(alloc, answers)? {
@@ -311,12 +309,10 @@ impl<
         lexemes: &[LexerTypesT::LexemeT],
         build: &B,
     ) -> Result<Answer<StorageT, LexerTypesT, B::Entry>, AllocError>
-        requires can { B.can_build build.now self.now.checked.grammar }
-        requires valid { IsValidList self.now.checked.grammar (map (λ x. facts_of StorageT.index (LexerTypesT.LexemeT.parts x)) lexemes.now) }
-        ensures ran { IfOk result (IsRepairAnswer self.now.checked (λ x. facts_of StorageT.index (LexerTypesT.LexemeT.parts x))
-            (R.allows self.now.recoverer) self.now.shifts (λ answer. answer.1.items)
-            (HasValue (λ x. StorageT.index (LexerTypesT.LexemeT.parts x).token) self.now.checked.grammar
-            (IsOfTree (B.leaf build.now) (B.node build.now self.now.checked.grammar) (B.suits build.now) self.now.checked)) lexemes.now) }
+        requires can { (B.builds build.now).can_build self.now.checked.grammar }
+        requires valid { IsValidList self.now.checked.grammar (known StorageT.index LexerTypesT.LexemeT.parts lexemes.now) }
+        ensures ran { IfOk result (IsTreeAnswer (subject StorageT.index LexerTypesT.LexemeT.parts R.allows self.now)
+            (B.builds build.now) lexemes.now) }
     {
         let course = Course {
             run: Run::new(self.checked, build),

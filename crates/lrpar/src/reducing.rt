@@ -2,11 +2,11 @@
 ghost use Rattle.std.specs.Prelude.{◌≡◌, ◌<◌, ◌-◌, [], ◌∷◌, ◌++◌, length, take, OnOk, OnErr};
 
 use crate::building::Build;
-use crate::stack::Stack;
-use lrpar_answers::lex_api::Lexeme;
-use lrpar_check::stack::{Reduction, StateStack};
+use crate::run_stack::Stack;
+use lrpar_check::state_stack::{Reduction, StateStack};
 use lrpar_grammar::grammar::YaccGrammar;
 use lrpar_grammar::span::{StIdx, StorageIndex};
+use lrpar_lexemes::lex_api::Lexeme;
 use std::alloc::{AllocError, Global};
 use std::marker::PhantomData;
 
@@ -62,11 +62,11 @@ impl<'a, StorageT: StorageIndex, LexemeT: Lexeme<StorageT>, B: Build<StorageT, L
 
     ghost states = { λ s. s.stack.now.states };
 
-    ghost suits = { λ g table s. SuitsRun B.can_build B.suits B.rises g table (built s) };
+    ghost suits = { λ g table s. SuitsRun B.builds g table (built s) };
 
-    ghost can_reduce = { λ s p r n. CanBuild B.can_build B.suits B.rises (built s) p r n };
+    ghost can_reduce = { λ s p r n. CanBuild B.builds (built s) p r n };
 
-    ghost reduces = { λ old p r n new. Builds B.node B.suits (built old) p r n (built new) };
+    ghost reduces = { λ old p r n new. Builds B.builds (built old) p r n (built new) };
 
     ghost fails = { λ old _ new. KeepsRest (built old) (built new) };
 
@@ -83,19 +83,19 @@ impl<'a, StorageT: StorageIndex, LexemeT: Lexeme<StorageT>, B: Build<StorageT, L
     }
 
     fn reduce(&mut self, by: Reduction<StorageT>) -> Result<(), AllocError>
-        requires can { CanBuild B.can_build B.suits B.rises (built self.old) (StorageT.index by.prod.0) (StorageT.index by.rule.0) by.symbols }
+        requires can { CanBuild B.builds (built self.old) (StorageT.index by.prod.0) (StorageT.index by.rule.0) by.symbols }
         requires deep { by.symbols < length self.old.stack.now.states }
         ensures states { OnOk result (self.new.stack.now.states
             ≡ take (length self.old.stack.now.states - by.symbols) self.old.stack.now.states ++ StorageT.index by.next.0 ∷ []) }
-        ensures reduces { OnOk result (Builds B.node B.suits (built self.old) (StorageT.index by.prod.0) (StorageT.index by.rule.0) by.symbols (built self.new)) }
+        ensures reduces { OnOk result (Builds B.builds (built self.old) (StorageT.index by.prod.0) (StorageT.index by.rule.0) by.symbols (built self.new)) }
         ensures unchanged { OnErr result (self.new.stack.now.states ≡ self.old.stack.now.states) }
         ensures fails { OnErr result (KeepsRest (built self.old) (built self.new)) }
     {
         self.stack.reduce(self.alloc, self.build, self.grm, by)
     }
 
-    ghost due_can = { λ g table t s p after suit due. due_can_build B.can_build B.suits B.rises g table t (built s) p after suit due };
+    ghost due_can = { λ g table t s p after suit due. due_can_build B.builds g table t (built s) p after suit due };
 
-    ghost reduced_suits = { λ g table t old p new suit reduces. builds_suit B.can_build B.suits B.rises g table t (λ x. (LexemeT.parts x).span.start) B.leaf B.node B.rising
-        (built old) p (built new) suit reduces.of_states reduces.of_rest };
+    ghost reduced_suits = { λ g table t old p new suit reduces. builds_suit B.builds g table t
+        (λ x. (LexemeT.parts x).span.start) B.rising (built old) p (built new) suit reduces.of_states reduces.of_rest };
 }

@@ -1,23 +1,23 @@
 //! The replay of a sequence of repairs on the stacks of a run.
-ghost use Rattle.std.specs.Prelude.{◌≡◌, ◌<◌, ◌≤◌, ℕ, length, List, IfOk, OnOk, [], ◌∷◌, map};
+ghost use Rattle.std.specs.Prelude.{◌≡◌, ◌<◌, ◌≤◌, ℕ, length, List, IfOk, OnOk, [], ◌∷◌};
 ghost use Rattle.lrpar_grammar.specs.Grammar.{end_token};
 ghost use Rattle.lrpar_grammar.specs.Sentence.{IsValidList};
 ghost use Rattle.lrpar_check.specs.Path.{NeverSticks};
 ghost use Rattle.lrpar_check.specs.Reduction.{Feeds};
-ghost use Rattle.lrpar_answers.specs.Lexemes.{facts_of, last_end};
+ghost use Rattle.lrpar_lexemes.specs.Lexemes.{last_end};
+ghost use Rattle.lrpar.specs.Known.{facts_by, known};
 ghost use Rattle.lrpar.specs.Mended.{start_at};
-ghost use Rattle.lrpar.specs.Moves.{IsReplayed, RiseUpTo, StartsRise};
+ghost use Rattle.lrpar.specs.Moves.{CanReplay, CanStep, IsReplayed, RiseUpTo, StartsRise};
 ghost use Rattle.lrpar.specs.PlainSteps.{plain_step, plain_steps};
-ghost use Rattle.lrpar.specs.Sequences.{Replays, StepsTo};
 ghost use Rattle.lrpar.specs.Stacked.{Shifts};
-ghost use Rattle.lrpar.specs.Standing.{IsUpright};
+ghost use Rattle.lrpar.specs.Standing.{IsRunStack};
 
 use crate::building::Build;
 use crate::repair::RepairStep;
 use crate::run::Run;
-use crate::stack::Stack;
-use lrpar_answers::lex_api::Lexeme;
+use crate::run_stack::Stack;
 use lrpar_grammar::span::StorageIndex;
+use lrpar_lexemes::lex_api::Lexeme;
 use std::alloc::{AllocError, Global};
 
 impl<'a, StorageT: StorageIndex, LexemeT: Lexeme<StorageT>, B: Build<StorageT, LexemeT>> Run<
@@ -36,21 +36,20 @@ impl<'a, StorageT: StorageIndex, LexemeT: Lexeme<StorageT>, B: Build<StorageT, L
         place: usize,
         steps: &[RepairStep<StorageT>],
     ) -> Result<usize, AllocError>
-        requires can { B.can_build self.now.build.now self.now.checked.now.grammar }
+        requires can { (B.builds self.now.build.now).can_build self.now.checked.now.grammar }
         requires runs { NeverSticks self.now.checked.now.grammar self.now.checked.now.table }
-        requires valid { IsValidList self.now.checked.now.grammar (map (λ x. facts_of StorageT.index (LexemeT.parts x)) lexemes.now) }
-        requires starts { StartsRise (map (λ x. facts_of StorageT.index (LexemeT.parts x)) lexemes.now) }
-        requires upright { IsUpright (B.suits self.now.build.now) self.now.checked.now.table stack.old }
-        requires rises { RiseUpTo (B.rises self.now.build.now) stack.old.entries (start_at (map (λ x. facts_of StorageT.index (LexemeT.parts x)) lexemes.now) place) }
+        requires valid { IsValidList self.now.checked.now.grammar (known StorageT.index LexemeT.parts lexemes.now) }
+        requires starts { StartsRise (known StorageT.index LexemeT.parts lexemes.now) }
+        requires run_stack { IsRunStack (B.builds self.now.build.now).suits self.now.checked.now.table stack.old }
+        requires rises { RiseUpTo (B.builds self.now.build.now).rises stack.old.entries (start_at (known StorageT.index LexemeT.parts lexemes.now) place) }
         requires within { place ≤ length lexemes.now }
-        requires works { (prods after : List ℕ) × (j : ℕ) × Replays (λ x. StorageT.index (LexemeT.parts x).token) self.now.checked.now.grammar
-            self.now.checked.now.table lexemes.now stack.old.states place (plain_steps StorageT.index steps.now) prods after j }
-        ensures upright { OnOk result (IsUpright (B.suits self.now.build.now) self.now.checked.now.table stack.new) }
-        ensures rises { IfOk result (λ next. RiseUpTo (B.rises self.now.build.now) stack.new.entries
-            (start_at (map (λ x. facts_of StorageT.index (LexemeT.parts x)) lexemes.now) next)) }
+        requires works { CanReplay (facts_by StorageT.index LexemeT.parts) self.now.checked.now lexemes.now stack.old.states place
+            (plain_steps StorageT.index steps.now) }
+        ensures run_stack { OnOk result (IsRunStack (B.builds self.now.build.now).suits self.now.checked.now.table stack.new) }
+        ensures rises { IfOk result (λ next. RiseUpTo (B.builds self.now.build.now).rises stack.new.entries
+            (start_at (known StorageT.index LexemeT.parts lexemes.now) next)) }
         ensures within { IfOk result (λ next. next ≤ length lexemes.now) }
-        ensures replayed { IfOk result (IsReplayed (λ x. facts_of StorageT.index (LexemeT.parts x)) (B.leaf self.now.build.now)
-            (B.node self.now.build.now self.now.checked.now.grammar) (B.suits self.now.build.now) self.now.checked.now lexemes.now
+        ensures replayed { IfOk result (IsReplayed (facts_by StorageT.index LexemeT.parts) (B.builds self.now.build.now) self.now.checked.now lexemes.now
             stack.old place (plain_steps StorageT.index steps.now) stack.new) }
     {
         let mut at = place;
@@ -69,21 +68,20 @@ impl<'a, StorageT: StorageIndex, LexemeT: Lexeme<StorageT>, B: Build<StorageT, L
         place: usize,
         step: RepairStep<StorageT>,
     ) -> Result<usize, AllocError>
-        requires can { B.can_build self.now.build.now self.now.checked.now.grammar }
+        requires can { (B.builds self.now.build.now).can_build self.now.checked.now.grammar }
         requires runs { NeverSticks self.now.checked.now.grammar self.now.checked.now.table }
-        requires valid { IsValidList self.now.checked.now.grammar (map (λ x. facts_of StorageT.index (LexemeT.parts x)) lexemes.now) }
-        requires starts { StartsRise (map (λ x. facts_of StorageT.index (LexemeT.parts x)) lexemes.now) }
-        requires upright { IsUpright (B.suits self.now.build.now) self.now.checked.now.table stack.old }
-        requires rises { RiseUpTo (B.rises self.now.build.now) stack.old.entries (start_at (map (λ x. facts_of StorageT.index (LexemeT.parts x)) lexemes.now) place) }
+        requires valid { IsValidList self.now.checked.now.grammar (known StorageT.index LexemeT.parts lexemes.now) }
+        requires starts { StartsRise (known StorageT.index LexemeT.parts lexemes.now) }
+        requires run_stack { IsRunStack (B.builds self.now.build.now).suits self.now.checked.now.table stack.old }
+        requires rises { RiseUpTo (B.builds self.now.build.now).rises stack.old.entries (start_at (known StorageT.index LexemeT.parts lexemes.now) place) }
         requires within { place ≤ length lexemes.now }
-        requires works { (prods next : List ℕ) × (j : ℕ) × StepsTo (λ x. StorageT.index (LexemeT.parts x).token) self.now.checked.now.grammar
-            self.now.checked.now.table lexemes.now stack.old.states place (plain_step StorageT.index step) prods next j }
-        ensures upright { OnOk result (IsUpright (B.suits self.now.build.now) self.now.checked.now.table stack.new) }
-        ensures rises { IfOk result (λ next. RiseUpTo (B.rises self.now.build.now) stack.new.entries
-            (start_at (map (λ x. facts_of StorageT.index (LexemeT.parts x)) lexemes.now) next)) }
+        requires works { CanStep (facts_by StorageT.index LexemeT.parts) self.now.checked.now lexemes.now stack.old.states place
+            (plain_step StorageT.index step) }
+        ensures run_stack { OnOk result (IsRunStack (B.builds self.now.build.now).suits self.now.checked.now.table stack.new) }
+        ensures rises { IfOk result (λ next. RiseUpTo (B.builds self.now.build.now).rises stack.new.entries
+            (start_at (known StorageT.index LexemeT.parts lexemes.now) next)) }
         ensures within { IfOk result (λ next. next ≤ length lexemes.now) }
-        ensures replayed { IfOk result (IsReplayed (λ x. facts_of StorageT.index (LexemeT.parts x)) (B.leaf self.now.build.now)
-            (B.node self.now.build.now self.now.checked.now.grammar) (B.suits self.now.build.now) self.now.checked.now lexemes.now
+        ensures replayed { IfOk result (IsReplayed (facts_by StorageT.index LexemeT.parts) (B.builds self.now.build.now) self.now.checked.now lexemes.now
             stack.old place (plain_step StorageT.index step ∷ []) stack.new) }
     {
         match step {
@@ -107,16 +105,15 @@ impl<'a, StorageT: StorageIndex, LexemeT: Lexeme<StorageT>, B: Build<StorageT, L
         stack: &mut Stack<StorageT, B::Entry>,
         lexeme: LexemeT,
     ) -> Result<(), AllocError>
-        requires can { B.can_build self.now.build.now self.now.checked.now.grammar }
+        requires can { (B.builds self.now.build.now).can_build self.now.checked.now.grammar }
         requires runs { NeverSticks self.now.checked.now.grammar self.now.checked.now.table }
         requires token { StorageT.index (LexemeT.parts lexeme).token < end_token self.now.checked.now.grammar }
-        requires upright { IsUpright (B.suits self.now.build.now) self.now.checked.now.table stack.old }
-        requires rises { (start : ℕ) × B.rises self.now.build.now stack.old.entries start }
+        requires run_stack { IsRunStack (B.builds self.now.build.now).suits self.now.checked.now.table stack.old }
+        requires rises { (start : ℕ) × (B.builds self.now.build.now).rises stack.old.entries start }
         requires works { (prods next : List ℕ) × Feeds self.now.checked.now.grammar self.now.checked.now.table
             (StorageT.index (LexemeT.parts lexeme).token) stack.old.states prods next }
-        ensures upright { OnOk result (IsUpright (B.suits self.now.build.now) self.now.checked.now.table stack.new) }
-        ensures shifts { OnOk result (Shifts (B.leaf self.now.build.now)
-            (B.node self.now.build.now self.now.checked.now.grammar) (B.suits self.now.build.now) self.now.checked.now
+        ensures run_stack { OnOk result (IsRunStack (B.builds self.now.build.now).suits self.now.checked.now.table stack.new) }
+        ensures shifts { OnOk result (Shifts (B.builds self.now.build.now) self.now.checked.now
             (StorageT.index (LexemeT.parts lexeme).token) lexeme stack.old stack.new) }
     {
         // A checked table has the grammar's tokens.
@@ -133,7 +130,7 @@ pub(crate) fn start_of<StorageT: StorageIndex, LexemeT: Lexeme<StorageT>>(
     lexemes: &[LexemeT],
     place: usize,
 ) -> usize
-    ensures { result ≡ start_at (map (λ x. facts_of StorageT.index (LexemeT.parts x)) lexemes.now) place }
+    ensures { result ≡ start_at (known StorageT.index LexemeT.parts lexemes.now) place }
 {
     match lexemes.get(place) {
         Some(lexeme) => lexeme.span().start(),
@@ -145,7 +142,7 @@ pub(crate) fn start_of<StorageT: StorageIndex, LexemeT: Lexeme<StorageT>>(
 pub(crate) fn end_of<StorageT: StorageIndex, LexemeT: Lexeme<StorageT>>(
     lexemes: &[LexemeT],
 ) -> usize
-    ensures { result ≡ last_end (map (λ x. facts_of StorageT.index (LexemeT.parts x)) lexemes.now) }
+    ensures { result ≡ last_end (known StorageT.index LexemeT.parts lexemes.now) }
 {
     match lexemes.last() {
         Some(lexeme) => lexeme.span().end(),

@@ -1,18 +1,20 @@
 //! The run: shifts and reductions over lexemes that have no fault, by a checked table.
-ghost use Rattle.std.specs.Prelude.{◌≡◌, ◌≢◌, ◌<◌, ℕ, IfOk, OnOk, IsTrue, IsFalse, map};
+ghost use Rattle.std.specs.Prelude.{◌≡◌, ◌≢◌, ◌<◌, ℕ, IfOk, OnOk, IsTrue, IsFalse};
 ghost use Rattle.lrpar_grammar.specs.Grammar.{end_token};
 ghost use Rattle.lrpar_check.specs.Path.{NeverSticks};
 ghost use Rattle.lrpar_check.specs.Reduction.{top_action};
 ghost use Rattle.lrpar_states.specs.PlainRows.{plain_action};
-ghost use Rattle.lrpar_answers.specs.Lexemes.{facts_of, lexeme_past};
-ghost use Rattle.lrpar.specs.Standing.{IsUpright};
+ghost use Rattle.lrpar_lexemes.specs.Lexemes.{lexeme_past};
+ghost use Rattle.lrpar.specs.Known.{facts_by, known};
+ghost use Rattle.lrpar.specs.Standing.{IsRunStack};
 ghost use Rattle.lrpar.specs.Stacked.{SettlesTo, Shifts, Sticks};
 
 use crate::building::Build;
 use crate::reducing::Reducing;
-use crate::stack::Stack;
-use lrpar_answers::lex_api::Lexeme;
+use crate::replay::end_of;
+use crate::run_stack::Stack;
 use lrpar_grammar::span::{StorageIndex, TIdx};
+use lrpar_lexemes::lex_api::Lexeme;
 use lrpar_table::check::ParserData;
 use lrpar_table::table::Action;
 use std::alloc::{AllocError, Global};
@@ -50,18 +52,17 @@ impl<'a, StorageT: StorageIndex, LexemeT: Lexeme<StorageT>, B: Build<StorageT, L
         stack: &mut Stack<StorageT, B::Entry>,
         lexeme: LexemeT,
     ) -> Result<bool, AllocError>
-        requires can { B.can_build self.now.build.now self.now.checked.now.grammar }
+        requires can { (B.builds self.now.build.now).can_build self.now.checked.now.grammar }
         requires runs { NeverSticks self.now.checked.now.grammar self.now.checked.now.table }
         requires token { StorageT.index (LexemeT.parts lexeme).token < self.now.checked.now.table.tokens }
         requires inner { StorageT.index (LexemeT.parts lexeme).token ≢ end_token self.now.checked.now.grammar }
-        requires upright { IsUpright (B.suits self.now.build.now) self.now.checked.now.table stack.old }
-        requires rises { (start : ℕ) × B.rises self.now.build.now stack.old.entries start }
-        ensures upright { OnOk result (IsUpright (B.suits self.now.build.now) self.now.checked.now.table stack.new) }
-        ensures shifts { IfOk result (λ shifted. IsTrue shifted → Shifts (B.leaf self.now.build.now)
-            (B.node self.now.build.now self.now.checked.now.grammar) (B.suits self.now.build.now) self.now.checked.now
+        requires run_stack { IsRunStack (B.builds self.now.build.now).suits self.now.checked.now.table stack.old }
+        requires rises { (start : ℕ) × (B.builds self.now.build.now).rises stack.old.entries start }
+        ensures run_stack { OnOk result (IsRunStack (B.builds self.now.build.now).suits self.now.checked.now.table stack.new) }
+        ensures shifts { IfOk result (λ shifted. IsTrue shifted → Shifts (B.builds self.now.build.now) self.now.checked.now
             (StorageT.index (LexemeT.parts lexeme).token) lexeme stack.old stack.new) }
         ensures sticks { IfOk result (λ shifted. IsFalse shifted → Sticks
-            (B.node self.now.build.now self.now.checked.now.grammar) (B.suits self.now.build.now) self.now.checked.now
+            (B.builds self.now.build.now) self.now.checked.now
             (StorageT.index (LexemeT.parts lexeme).token) stack.old stack.new) }
     {
         match self.settle(alloc, stack, TIdx(lexeme.tok_id()))? {
@@ -81,13 +82,12 @@ impl<'a, StorageT: StorageIndex, LexemeT: Lexeme<StorageT>, B: Build<StorageT, L
         stack: &mut Stack<StorageT, B::Entry>,
         token: TIdx<StorageT>,
     ) -> Result<Action<StorageT>, AllocError>
-        requires can { B.can_build self.now.build.now self.now.checked.now.grammar }
+        requires can { (B.builds self.now.build.now).can_build self.now.checked.now.grammar }
         requires token { StorageT.index token.0 < self.now.checked.now.table.tokens }
-        requires upright { IsUpright (B.suits self.now.build.now) self.now.checked.now.table stack.old }
-        requires rises { (start : ℕ) × B.rises self.now.build.now stack.old.entries start }
-        ensures upright { OnOk result (IsUpright (B.suits self.now.build.now) self.now.checked.now.table stack.new) }
-        ensures settles { OnOk result (SettlesTo (B.node self.now.build.now self.now.checked.now.grammar) (B.suits self.now.build.now)
-            self.now.checked.now (StorageT.index token.0) stack.old stack.new) }
+        requires run_stack { IsRunStack (B.builds self.now.build.now).suits self.now.checked.now.table stack.old }
+        requires rises { (start : ℕ) × (B.builds self.now.build.now).rises stack.old.entries start }
+        ensures run_stack { OnOk result (IsRunStack (B.builds self.now.build.now).suits self.now.checked.now.table stack.new) }
+        ensures settles { OnOk result (SettlesTo (B.builds self.now.build.now) self.now.checked.now (StorageT.index token.0) stack.old stack.new) }
         ensures action { IfOk result (λ action. plain_action StorageT.index action ≡ top_action self.now.checked.now.table (StorageT.index token.0) stack.new.states) }
     {
         let stable = self.checked.stable();
@@ -103,12 +103,9 @@ pub(crate) fn end_lexeme<StorageT: StorageIndex, LexemeT: Lexeme<StorageT>>(
     end: TIdx<StorageT>,
     lexemes: &[LexemeT],
 ) -> LexemeT
-    ensures { facts_of StorageT.index (LexemeT.parts result)
-        ≡ lexeme_past (StorageT.index end.0) (map (λ x. facts_of StorageT.index (LexemeT.parts x)) lexemes.now) }
+    ensures { facts_by StorageT.index LexemeT.parts result
+        ≡ lexeme_past (StorageT.index end.0) (known StorageT.index LexemeT.parts lexemes.now) }
 {
-    let place = match lexemes.last() {
-        Some(lexeme) => lexeme.span().end(),
-        None => 0,
-    };
+    let place = end_of::<StorageT, LexemeT>(lexemes);
     LexemeT::new_faulty(end.0, place, 0)
 }

@@ -3,6 +3,7 @@ ghost use Rattle.std.specs.Prelude.{◌≡◌};
 
 use std::error::Error;
 use std::fmt;
+use std::marker::Model;
 
 /// The number was 0: some lexeme has to follow a repair.
 #[derive(Drop)]
@@ -10,10 +11,16 @@ pub struct ZeroShifts<B> {
     pub(crate) builder: B,
 }
 
+impl<B> Model for ZeroShifts<B> {
+    ghost Value = { B };
+
+    ghost view = { λ refused. refused.builder };
+}
+
 impl<B> ZeroShifts<B> {
     /// The builder, as it was.
     pub fn into_builder(self) -> B
-        ensures { result ≡ self.builder }
+        ensures { result ≡ self }
     {
         self.builder
     }

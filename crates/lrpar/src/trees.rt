@@ -5,10 +5,10 @@ ghost use Rattle.lrpar.specs.Nodes.{IsNonterm, IsTerm, node_of};
 
 use crate::building::Build;
 use crate::values::AStackType;
-use lrpar_answers::lex_api::{Lexeme, LexerTypes, NonStreamingLexer};
 use lrpar_answers::node::Node;
 use lrpar_grammar::grammar::YaccGrammar;
 use lrpar_grammar::span::{PIdx, RIdx, Span, StorageIndex};
+use lrpar_lexemes::lex_api::{Lexeme, LexerTypes, NonStreamingLexer};
 use std::alloc::{AllocError, Global};
 
 /// Builds the tree of the parse.
@@ -18,15 +18,13 @@ pub(crate) struct Trees;
 impl<StorageT: StorageIndex, LexemeT: Lexeme<StorageT>> Build<StorageT, LexemeT> for Trees {
     type Entry = Node<LexemeT, StorageT>;
 
-    ghost can_build = { λ b g. Unit {0} };
-
-    ghost suits = { λ b s e. Unit {0} };
-
-    ghost leaf = { λ b x e. IsTerm x e };
-
-    ghost node = { λ b g p before es e. IsNonterm StorageT.index (rule_of g p) es e };
-
-    ghost rises = { λ b es n. Unit {0} };
+    ghost builds = { λ b. record {
+      can_build = λ g. Unit {0};
+      suits = λ s e. Unit {0};
+      leaf = λ x e. IsTerm x e;
+      node = λ g p before es e. IsNonterm StorageT.index (rule_of g p) es e;
+      rises = λ es n. Unit {0};
+    } };
 
     fn shifted(&self, lexeme: LexemeT) -> Node<LexemeT, StorageT> {
         Node::Term { lexeme }

@@ -1,21 +1,21 @@
 //! The test of sequences of repairs, over the states of a parse, which are borrowed.
-ghost use Rattle.std.specs.Prelude.{◌≡◌, ◌<◌, ◌≤◌, ◌↔◌, [], ◌∷◌, List, drop, length, map, IfOk, IfSome, OnOk, IsTrue, None};
+ghost use Rattle.std.specs.Prelude.{◌≡◌, ◌<◌, ◌≤◌, ◌+◌, ◌↔◌, [], ◌∷◌, List, drop, length, map, IfOk, IfSome, OnOk, IsTrue, None};
 ghost use Rattle.lrpar_check.specs.Overlay.{overlaid};
 ghost use Rattle.lrpar_check.specs.Stack.{IsStack, states_of};
-ghost use Rattle.lrpar_grammar.specs.Grammar.{tokens_len};
 ghost use Rattle.lrpar_grammar.specs.Sentence.{IsValidList};
-ghost use Rattle.lrpar_answers.specs.Lexemes.{facts_of};
+ghost use Rattle.lrpar.specs.Counting.{CostsAtMost, most_listed};
+ghost use Rattle.lrpar.specs.Known.{known};
 ghost use Rattle.lrpar.specs.Mended.{repairs_over};
 ghost use Rattle.lrpar.specs.PlainSteps.{plain_sequences, plain_step, plain_steps};
 ghost use Rattle.lrpar_answers.specs.Repairs.{repair_of, repairs_of};
-ghost use Rattle.lrpar.specs.Sequences.{PlainInsert, PlainShift, PlainStep, AcceptsAtEnd, AreThoseWith, CanGoOn, IsStepTaken, IsTokenFed, Works};
+ghost use Rattle.lrpar.specs.Sequences.{PlainInsert, PlainShift, PlainStep, AreThoseWith};
 
+use crate::counter::Counter;
 use crate::repair::RepairStep;
 use lrpar_answers::errors::ParseRepair;
-use lrpar_answers::lex_api::Lexeme;
 use lrpar_grammar::span::{StIdx, StorageIndex, TIdx};
-use lrpar_table::check::{Overlay, ParserData};
-use lrpar_table::table::Action;
+use lrpar_lexemes::lex_api::Lexeme;
+use lrpar_table::check::ParserData;
 use std::alloc::{AllocError, Global};
 
 /// What sequences are tested by: the checked table and the lexemes of a parse, and how many lexemes have to follow a repair.
@@ -27,6 +27,8 @@ pub(crate) struct Trial<'a, StorageT: StorageIndex, LexemeT> {
 }
 
 impl<'a, StorageT: StorageIndex, LexemeT: Lexeme<StorageT>> Trial<'a, StorageT, LexemeT> {
+    ghost use Rattle.lrpar.specs.TrialView.{GoesOnFrom, IsTakenBy, WorksBy};
+
     pub(crate) fn new(
         checked: &'a ParserData<StorageT>,
         lexemes: &'a [LexemeT],
@@ -53,18 +55,40 @@ impl<'a, StorageT: StorageIndex, LexemeT: Lexeme<StorageT>> Trial<'a, StorageT, 
         place: usize,
         answer: Vec<Vec<RepairStep<StorageT>>>,
     ) -> Result<Vec<Vec<RepairStep<StorageT>>>, AllocError>
-        requires valid { IsValidList self.now.checked.now.grammar (map (λ x. facts_of StorageT.index (LexemeT.parts x)) self.now.lexemes.now) }
+        requires valid { IsValidList self.now.checked.now.grammar (known StorageT.index LexemeT.parts self.now.lexemes.now) }
         requires stack { IsStack self.now.checked.now.table (states_of StorageT.index stack.now) }
         requires within { place ≤ length self.now.lexemes.now }
         ensures listed { IfOk result (λ listed. AreThoseWith
-            (Works (λ x. StorageT.index (LexemeT.parts x).token) self.now.checked.now.grammar self.now.checked.now.table self.now.lexemes.now self.now.shifts
-            (states_of StorageT.index stack.now) place) (plain_sequences StorageT.index answer.items) (plain_sequences StorageT.index listed.items)) }
+            (WorksBy StorageT.index LexemeT.parts self.now (states_of StorageT.index stack.now) place)
+            (plain_sequences StorageT.index answer.items) (plain_sequences StorageT.index listed.items)) }
     {
-        let mut states = Overlay::new(alloc, stack);
+        let mut states = Counter::new(alloc, stack);
+        self.tested(alloc, &mut states, place, answer)
+    }
+
+    // The sequences of the answer that work from the states that are borrowed, at the place. Each is tested once.
+    fn tested(
+        &self,
+        alloc: Global,
+        states: &mut Counter<'_, StorageT>,
+        place: usize,
+        answer: Vec<Vec<RepairStep<StorageT>>>,
+    ) -> Result<Vec<Vec<RepairStep<StorageT>>>, AllocError>
+        requires valid { IsValidList self.now.checked.now.grammar (known StorageT.index LexemeT.parts self.now.lexemes.now) }
+        requires stack { IsStack self.now.checked.now.table states.old.stack.base }
+        requires within { place ≤ length self.now.lexemes.now }
+        ensures listed { IfOk result (λ listed. AreThoseWith
+            (WorksBy StorageT.index LexemeT.parts self.now states.old.stack.base place)
+            (plain_sequences StorageT.index answer.items) (plain_sequences StorageT.index listed.items)) }
+
+        // The tests make no more reductions than the sequences may cost.
+        ensures bounded { OnOk result (states.new.reductions
+            ≤ states.old.reductions + most_listed self.now.checked.now.cap (length states.old.stack.base) self.now.shifts (plain_sequences StorageT.index answer.items)) }
+    {
         let mut listed = Vec::new(alloc);
         for steps in answer {
             states.set_back();
-            let works = self.works(&mut states, place, &steps)?;
+            let works = self.works(states, place, &steps)?;
             if !works {
                 continue;
             }
@@ -95,17 +119,17 @@ impl<'a, StorageT: StorageIndex, LexemeT: Lexeme<StorageT>> Trial<'a, StorageT, 
     // Whether the sequence works from the states at the place.
     fn works(
         &self,
-        states: &mut Overlay<'_, StorageT>,
+        states: &mut Counter<'_, StorageT>,
         place: usize,
         steps: &[RepairStep<StorageT>],
     ) -> Result<bool, AllocError>
-        requires valid { IsValidList self.now.checked.now.grammar (map (λ x. facts_of StorageT.index (LexemeT.parts x)) self.now.lexemes.now) }
-        requires stack { IsStack self.now.checked.now.table (overlaid states.old) }
+        requires valid { IsValidList self.now.checked.now.grammar (known StorageT.index LexemeT.parts self.now.lexemes.now) }
+        requires stack { IsStack self.now.checked.now.table (overlaid states.old.stack) }
         requires within { place ≤ length self.now.lexemes.now }
         ensures works { IfOk result (λ works. IsTrue works ↔
-            Works (λ x. StorageT.index (LexemeT.parts x).token) self.now.checked.now.grammar self.now.checked.now.table self.now.lexemes.now self.now.shifts
-            (overlaid states.old) place (plain_steps StorageT.index steps.now)) }
-        ensures base { OnOk result (states.new.base ≡ states.old.base) }
+            WorksBy StorageT.index LexemeT.parts self.now (overlaid states.old.stack) place (plain_steps StorageT.index steps.now)) }
+        ensures base { OnOk result (states.new.stack.base ≡ states.old.stack.base) }
+        ensures cost { OnOk result (CostsAtMost self.now.checked.now.cap (length steps.now + self.now.shifts) states.old states.new) }
     {
         let mut at = place;
         for step in steps {
@@ -121,21 +145,21 @@ impl<'a, StorageT: StorageIndex, LexemeT: Lexeme<StorageT>> Trial<'a, StorageT, 
     // the states then accept.
     fn can_go_on(
         &self,
-        states: &mut Overlay<'_, StorageT>,
+        states: &mut Counter<'_, StorageT>,
         place: usize,
     ) -> Result<bool, AllocError>
-        requires valid { IsValidList self.now.checked.now.grammar (map (λ x. facts_of StorageT.index (LexemeT.parts x)) self.now.lexemes.now) }
-        requires stack { IsStack self.now.checked.now.table (overlaid states.old) }
+        requires valid { IsValidList self.now.checked.now.grammar (known StorageT.index LexemeT.parts self.now.lexemes.now) }
+        requires stack { IsStack self.now.checked.now.table (overlaid states.old.stack) }
         requires within { place ≤ length self.now.lexemes.now }
         ensures goes_on { IfOk result (λ goes_on. IsTrue goes_on ↔
-            CanGoOn (λ x. StorageT.index (LexemeT.parts x).token) self.now.checked.now.grammar self.now.checked.now.table self.now.lexemes.now self.now.shifts
-            (overlaid states.old) place) }
-        ensures base { OnOk result (states.new.base ≡ states.old.base) }
+            GoesOnFrom StorageT.index LexemeT.parts self.now (overlaid states.old.stack) place) }
+        ensures base { OnOk result (states.new.stack.base ≡ states.old.stack.base) }
+        ensures cost { OnOk result (CostsAtMost self.now.checked.now.cap self.now.shifts states.old states.new) }
     {
         let mut at = place;
         'lexemes: for _ in 0..self.shifts {
             if at == self.lexemes.len() {
-                return self.accepts(states);
+                return states.accepts(self.checked);
             }
             match self.shift(states, at)? {
                 None => return Ok(false),
@@ -148,17 +172,17 @@ impl<'a, StorageT: StorageIndex, LexemeT: Lexeme<StorageT>> Trial<'a, StorageT, 
     // Takes the step from the states at the place, and answers the place after it; none, where it can't be taken.
     fn take(
         &self,
-        states: &mut Overlay<'_, StorageT>,
+        states: &mut Counter<'_, StorageT>,
         place: usize,
         step: RepairStep<StorageT>,
     ) -> Result<Option<usize>, AllocError>
-        requires valid { IsValidList self.now.checked.now.grammar (map (λ x. facts_of StorageT.index (LexemeT.parts x)) self.now.lexemes.now) }
-        requires stack { IsStack self.now.checked.now.table (overlaid states.old) }
-        ensures taken { IfOk result (IsStepTaken
-            (λ x. StorageT.index (LexemeT.parts x).token) self.now.checked.now.grammar self.now.checked.now.table self.now.lexemes.now
-            (overlaid states.old) place (plain_step StorageT.index step) (overlaid states.new)) }
-        ensures stack { IsStack self.now.checked.now.table (overlaid states.new) }
-        ensures base { OnOk result (states.new.base ≡ states.old.base) }
+        requires valid { IsValidList self.now.checked.now.grammar (known StorageT.index LexemeT.parts self.now.lexemes.now) }
+        requires stack { IsStack self.now.checked.now.table (overlaid states.old.stack) }
+        ensures taken { IfOk result (IsTakenBy StorageT.index LexemeT.parts self.now
+            (overlaid states.old.stack) place (plain_step StorageT.index step) (overlaid states.new.stack)) }
+        ensures stack { IsStack self.now.checked.now.table (overlaid states.new.stack) }
+        ensures base { OnOk result (states.new.stack.base ≡ states.old.stack.base) }
+        ensures cost { OnOk result (CostsAtMost self.now.checked.now.cap 1 states.old states.new) }
     {
         match step {
             RepairStep::Insert(token) => self.insert(states, place, token),
@@ -176,19 +200,19 @@ impl<'a, StorageT: StorageIndex, LexemeT: Lexeme<StorageT>> Trial<'a, StorageT, 
     // Feeds the token, where it is one of the grammar other than the end token; the place stays.
     fn insert(
         &self,
-        states: &mut Overlay<'_, StorageT>,
+        states: &mut Counter<'_, StorageT>,
         place: usize,
         token: TIdx<StorageT>,
     ) -> Result<Option<usize>, AllocError>
-        requires stack { IsStack self.now.checked.now.table (overlaid states.old) }
-        ensures taken { IfOk result (IsStepTaken
-            (λ x. StorageT.index (LexemeT.parts x).token) self.now.checked.now.grammar self.now.checked.now.table self.now.lexemes.now
-            (overlaid states.old) place (PlainInsert (StorageT.index token.0)) (overlaid states.new)) }
-        ensures stack { IsStack self.now.checked.now.table (overlaid states.new) }
-        ensures base { OnOk result (states.new.base ≡ states.old.base) }
+        requires stack { IsStack self.now.checked.now.table (overlaid states.old.stack) }
+        ensures taken { IfOk result (IsTakenBy StorageT.index LexemeT.parts self.now
+            (overlaid states.old.stack) place (PlainInsert (StorageT.index token.0)) (overlaid states.new.stack)) }
+        ensures stack { IsStack self.now.checked.now.table (overlaid states.new.stack) }
+        ensures base { OnOk result (states.new.stack.base ≡ states.old.stack.base) }
+        ensures cost { OnOk result (CostsAtMost self.now.checked.now.cap 1 states.old states.new) }
     {
         let end = self.checked.grm().eof_token_idx();
-        if usize::from(token) < usize::from(end) && self.feed(states, token)? {
+        if usize::from(token) < usize::from(end) && states.feed(self.checked, token)? {
             Ok(Some(place))
         } else {
             Ok(None)
@@ -198,56 +222,24 @@ impl<'a, StorageT: StorageIndex, LexemeT: Lexeme<StorageT>> Trial<'a, StorageT, 
     // Feeds the token of the lexeme at the place, where there is one; the next place comes after it.
     fn shift(
         &self,
-        states: &mut Overlay<'_, StorageT>,
+        states: &mut Counter<'_, StorageT>,
         place: usize,
     ) -> Result<Option<usize>, AllocError>
-        requires valid { IsValidList self.now.checked.now.grammar (map (λ x. facts_of StorageT.index (LexemeT.parts x)) self.now.lexemes.now) }
-        requires stack { IsStack self.now.checked.now.table (overlaid states.old) }
-        ensures taken { IfOk result (IsStepTaken
-            (λ x. StorageT.index (LexemeT.parts x).token) self.now.checked.now.grammar self.now.checked.now.table self.now.lexemes.now
-            (overlaid states.old) place PlainShift (overlaid states.new)) }
-        ensures stack { IsStack self.now.checked.now.table (overlaid states.new) }
-        ensures base { OnOk result (states.new.base ≡ states.old.base) }
+        requires valid { IsValidList self.now.checked.now.grammar (known StorageT.index LexemeT.parts self.now.lexemes.now) }
+        requires stack { IsStack self.now.checked.now.table (overlaid states.old.stack) }
+        ensures taken { IfOk result (IsTakenBy StorageT.index LexemeT.parts self.now
+            (overlaid states.old.stack) place PlainShift (overlaid states.new.stack)) }
+        ensures stack { IsStack self.now.checked.now.table (overlaid states.new.stack) }
+        ensures base { OnOk result (states.new.stack.base ≡ states.old.stack.base) }
+        ensures cost { OnOk result (CostsAtMost self.now.checked.now.cap 1 states.old states.new) }
     {
         let Some(lexeme) = self.lexemes.get(place) else {
             return Ok(None);
         };
-        if self.feed(states, TIdx(lexeme.tok_id()))? {
+        if states.feed(self.checked, TIdx(lexeme.tok_id()))? {
             Ok(Some(place + 1))
         } else {
             Ok(None)
-        }
-    }
-
-    // Feeds the token, which is one of the grammar; answers whether it was fed.
-    fn feed(
-        &self,
-        states: &mut Overlay<'_, StorageT>,
-        token: TIdx<StorageT>,
-    ) -> Result<bool, AllocError>
-        requires token { StorageT.index token.0 < tokens_len self.now.checked.now.grammar }
-        requires stack { IsStack self.now.checked.now.table (overlaid states.old) }
-        ensures fed { IfOk result (IsTokenFed self.now.checked.now.grammar self.now.checked.now.table (StorageT.index token.0) (overlaid states.old) (overlaid states.new)) }
-        ensures stack { IsStack self.now.checked.now.table (overlaid states.new) }
-        ensures base { OnOk result (states.new.base ≡ states.old.base) }
-    {
-        // A checked table has the grammar's tokens.
-        let _table = self.checked.stable();
-        self.checked.feed_over(states, token)
-    }
-
-    // Whether the states accept at the end token.
-    fn accepts(&self, states: &mut Overlay<'_, StorageT>) -> Result<bool, AllocError>
-        requires stack { IsStack self.now.checked.now.table (overlaid states.old) }
-        ensures accepts { IfOk result (λ accepts. IsTrue accepts ↔ AcceptsAtEnd self.now.checked.now.grammar self.now.checked.now.table (overlaid states.old)) }
-        ensures base { OnOk result (states.new.base ≡ states.old.base) }
-    {
-        // Checked: the table has the grammar's end token.
-        let (_table, end) = (self.checked.stable(), self.checked.grm().eof_token_idx());
-        let action = self.checked.settle_on(states, end)?.action;
-        match action {
-            Action::Accept => Ok(true),
-            Action::Shift(_) | Action::Reduce(_) | Action::Error => Ok(false),
         }
     }
 }

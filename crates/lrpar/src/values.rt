@@ -6,9 +6,10 @@ ghost use Rattle.lrpar.specs.Entries.{Gives, IsLexemeEntry, IsMadeEntry, SuitsSy
 ghost use Rattle.lrpar.specs.Made.{made_by};
 
 use crate::building::Build;
-use lrpar_answers::lex_api::Lexeme;
+use crate::top::made_of_top;
 use lrpar_grammar::grammar::YaccGrammar;
 use lrpar_grammar::span::{PIdx, RIdx, StorageIndex};
+use lrpar_lexemes::lex_api::Lexeme;
 use std::alloc::{AllocError, Global};
 use std::marker::PhantomData;
 
@@ -39,15 +40,13 @@ impl<
 > Build<StorageT, LexemeT> for Functions<'a, V, F, G> {
     type Entry = AStackType<LexemeT, V>;
 
-    ghost can_build = { λ b g. F.IsAlwaysCallable b.fterm.now × G.IsAlwaysCallable b.fnonterm.now };
-
-    ghost suits = { λ b s e. SuitsSymbol s e };
-
-    ghost leaf = { λ b x e. IsLexemeEntry x e };
-
-    ghost node = { λ b g p before es e. IsMadeEntry (F.post b.fterm.now) (made_by StorageT.index (G.post b.fnonterm.now)) (rule_of g p) es e };
-
-    ghost rises = { λ b es n. Unit {0} };
+    ghost builds = { λ b. record {
+      can_build = λ g. F.IsAlwaysCallable b.fterm.now × G.IsAlwaysCallable b.fnonterm.now;
+      suits = λ s e. SuitsSymbol s e;
+      leaf = λ x e. IsLexemeEntry x e;
+      node = λ g p before es e. IsMadeEntry (F.post b.fterm.now) (made_by StorageT.index (G.post b.fnonterm.now)) (rule_of g p) es e;
+      rises = λ es n. Unit {0};
+    } };
 
     fn shifted(&self, lexeme: LexemeT) -> Self::Entry {
         AStackType::Lexeme(lexeme)
@@ -78,8 +77,7 @@ impl<
     ghost rising = { λ b g. record { with_none = tt; by_leaf = λ es n x e rise low is. tt; by_node = λ kept es n p e rise is. tt } };
 }
 
-// The values of the top `count` entries, which are taken off, the lowest first. They are turned round on their place, so
-// that the list of the values is the only one that is made.
+// The values of the top `count` entries, which are taken off, the lowest first.
 fn values_of<LexemeT: Copy, V: Drop, F: Fn(LexemeT) -> V>(
     alloc: Global,
     fterm: &F,
@@ -91,15 +89,14 @@ fn values_of<LexemeT: Copy, V: Drop, F: Fn(LexemeT) -> V>(
     ensures kept { OnOk result (entries.new.items ≡ take (length entries.old.items - count) entries.old.items) }
     ensures values { IfOk result (λ values. AllZip (Gives (F.post fterm.now)) (drop (length entries.old.items - count) entries.old.items) values.items) }
 {
-    let mut values = Vec::with_capacity(alloc, count)?;
-    let at = entries.len() - count;
-    entries[at..].reverse();
-    for _i in 0..count {
-        let entry = entries.pop().unwrap();
-        values.push(match entry {
+    let value_of = |entry: AStackType<LexemeT, V>| -> V
+        requires { F.IsAlwaysCallable fterm.now }
+        ensures { Gives (F.post fterm.entry.now) entry result }
+    {
+        match entry {
             AStackType::ActionType(value) => value,
             AStackType::Lexeme(lexeme) => fterm(lexeme),
-        })?;
-    }
-    Ok(values)
+        }
+    };
+    made_of_top(alloc, count, entries, &value_of)
 }

@@ -12,7 +12,7 @@ use Rattle.lrpar_answers.specs.SequenceText.{Part, IsPartsText, RepairsFit, inse
 use Rattle.lrpar_answers.specs.ErrorText.{digits, numbering, numbered, repairs_text, tokens_of}
 use Rattle.lrpar_answers.specs.declared.pp_fault.PpFault.{PpFault}
 use Rattle.lrpar_answers.specs.declared.pp_fault.PpFault.TheVariants.{NoPrintedName, Memory}
-use Rattle.lrpar_answers.proofs.SequenceTextLemmas.{IsNamed, named_append, named_parts, unnamed_within}
+use Rattle.lrpar_answers.proofs.SequenceTextLemmas.{IsInRange, named_append, named_parts, unnamed_within}
 
 -- one more sequence behind its number
 numbered_more : (most i : ℕ) (texts : List (List ℕ)) (text : List ℕ)
@@ -67,7 +67,7 @@ listed_more names input most i sequences parts old out first text second so_far 
 
 -- the tokens of sequences that are printed have names
 named_sequences : (names : ℕ → Option (List ℕ) → Type 0) (input : List ℕ) (sequences : List (List Part)) (texts : List (List ℕ))
-    → AllZip (IsPartsText names input) sequences texts → AllByRecursion (IsNamed names) (flat_map inserted sequences)
+    → AllZip (IsPartsText names input) sequences texts → AllByRecursion (IsInRange names) (flat_map inserted sequences)
 named_sequences names input [] texts each = tt
 named_sequences names input (parts ∷ sequences) [] each = absurd each
 named_sequences names input (parts ∷ sequences) (text ∷ texts) each =

@@ -5,5 +5,6 @@ pub mod PairLemmas
 pub mod GrowingLemmas
 pub mod SequenceTextLemmas
 pub mod TreeTextLemmas
+pub mod FitsLemmas
 pub mod ErrorTextLemmas
 pub mod WriteLemmas

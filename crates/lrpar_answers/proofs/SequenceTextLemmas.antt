@@ -70,17 +70,17 @@ err_same (Ok x) P e is holds = tt
 err_same (Err f) P e is holds = subst P (sym is) holds
 
 -- what is printed of a part is printed of the sequence's next part
-abbrev pub IsNamed : (ℕ → Option (List ℕ) → Type 0) → ℕ → Type 0
-IsNamed names t = (name : List ℕ) × names t (Some name)
+abbrev pub IsInRange : (ℕ → Option (List ℕ) → Type 0) → ℕ → Type 0
+IsInRange names t = (name : List ℕ) × names t (Some name)
 
 pub named_append : (names : ℕ → Option (List ℕ) → Type 0) (xs ys : List ℕ)
-    → AllByRecursion (IsNamed names) xs → AllByRecursion (IsNamed names) ys → AllByRecursion (IsNamed names) (xs ++ ys)
+    → AllByRecursion (IsInRange names) xs → AllByRecursion (IsInRange names) ys → AllByRecursion (IsInRange names) (xs ++ ys)
 named_append names [] ys hs ks = ks
 named_append names (x ∷ xs) ys hs ks = (hs.0, named_append names xs ys hs.1 ks)
 
 -- the parts with texts have names
 pub named_parts : (names : ℕ → Option (List ℕ) → Type 0) (input : List ℕ) (parts : List Part) (texts : List (List ℕ))
-    → AllZip (IsPartText names input) parts texts → AllByRecursion (IsNamed names) (inserted parts)
+    → AllZip (IsPartText names input) parts texts → AllByRecursion (IsInRange names) (inserted parts)
 named_parts names input [] texts each = tt
 named_parts names input (p ∷ parts) [] each = absurd each
 named_parts names input (Inserts t ∷ parts) (text ∷ texts) each = ((each.0.0, each.0.1), named_parts names input parts texts each.1)
@@ -89,7 +89,7 @@ named_parts names input (Shifts a ∷ parts) (text ∷ texts) each = named_parts
 
 -- the first token without a name among some is the first among more, where those in front have names
 pub unnamed_within : (names : ℕ → Option (List ℕ) → Type 0) (front tokens behind : List ℕ) (t : ℕ)
-    → AllByRecursion (IsNamed names) front → IsFirstUnnamed names tokens t → IsFirstUnnamed names (front ++ (tokens ++ behind)) t
+    → AllByRecursion (IsInRange names) front → IsFirstUnnamed names tokens t → IsFirstUnnamed names (front ++ (tokens ++ behind)) t
 unnamed_within names front tokens behind t named first = record {
   before = front ++ first.before;
   after = first.after ++ behind;

@@ -1,14 +1,12 @@
 -- What is met in a tree by what a loop has left.
 use denote.Ref.{Bor}
-use Rattle.std.proofs.Common.{◌≡◌, ℕ, zero, suc, ◌+◌, ◌<◌, ◌≤◌, get_or, List, [], ◌∷◌, ◌++◌, length, take, refl, ap, sym, ◌∙◌, arith, append_assoc, append-nil, length-append, subst}
+use Rattle.std.proofs.Common.{◌≡◌, ℕ, suc, ◌+◌, List, [], ◌∷◌, ◌++◌, length, refl, ap, sym, ◌∙◌, arith, append_assoc, append-nil, length-append, subst}
 use Rattle.std.specs.List.{AllByRecursion, flat_map}
-use Rattle.std.proofs.lemmas.Grind.{flat_map-append}
 use Rattle.std.proofs.lemmas.List.Folds.{flat_map-map}
 use Rattle.lrpar_answers.specs.declared.node.Node.{Node}
 use Rattle.lrpar_answers.specs.declared.node.Node.TheOpen.{Node-F}
 use Rattle.lrpar_answers.specs.declared.node.Node.TheViews.{out-Node}
 use Rattle.lrpar_answers.specs.declared.node.Node.TheFolds.{fold_out-Node, map-Node}
-use Rattle.lrpar_answers.proofs.ErrorTextLemmas.{taken, taken_all}
 use Rattle.lrpar_answers.specs.TreeText.{Met, RuleAt, met_step, met_from, layer_met, root_at, layer_nodes, nodes_below, all_met}
 
 -- what is met in a tree: its root, and what is met in the trees below it
@@ -84,23 +82,6 @@ fit_below P node level all = let both = rw (met_out node level) at all in both.1
 pub fit_whole : {X S : Type 0} (P : Met X S → Type 0) (node : Node X S) (level : ℕ) → P (root_at level node) → AllByRecursion P (all_met (level + 1) (nodes_below node))
     → AllByRecursion P (met_from node level)
 fit_whole P node level root below = rw (met_out node level) (root, below)
-
--- of all nodes of several trees
-pub fit_at : {X S : Type 0} (P : Met X S → Type 0) (nodes : List (Node X S)) (level i : ℕ) (node : Node X S) → i < length nodes → node ≡ get_or nodes i node
-    → AllByRecursion P (all_met level nodes) → AllByRecursion P (met_from node level)
-fit_at P [] level i node below at all = absurd (omega arith)
-fit_at {X = X} {S = S} P (n ∷ ns) level zero node below at all =
-    let Q : Node X S → Type 0 = λ m. AllByRecursion P (met_from m level) in
-    subst Q (sym at) (all_front P (met_from n level) (all_met level ns) all)
-fit_at P (n ∷ ns) level (suc i) node below at all = fit_at P ns level i node (omega arith) at (all_back P (met_from n level) (all_met level ns) all)
-
-pub fit_more : {X S : Type 0} (P : Met X S → Type 0) (nodes : List (Node X S)) (level i : ℕ) (node : Node X S) → i < length nodes → node ≡ get_or nodes i node
-    → AllByRecursion P (all_met level (take i nodes)) → AllByRecursion P (met_from node level) → AllByRecursion P (all_met level (take (i + 1) nodes))
-fit_more P nodes level i node below at front last =
-    rw (taken nodes i node below at, flat_map-append) (all_both P (all_met level (take i nodes)) (met_from node level ++ []) front (rw (append-nil (met_from node level)) last))
-
-pub fit_all : {X S : Type 0} (P : Met X S → Type 0) (nodes : List (Node X S)) (level i : ℕ) → length nodes ≤ i → AllByRecursion P (all_met level (take i nodes)) → AllByRecursion P (all_met level nodes)
-fit_all P nodes level i long all = rw (taken_all nodes i long) at all
 
 -- the first tree in hand is printed
 pub text_enter : {X S : Type 0} (line : Met X S → List ℕ) (below : List (Bor (List (Node X S)))) (rest : Bor (List (Node X S))) (node : Node X S) (left : List (Node X S)) (out first : List ℕ)

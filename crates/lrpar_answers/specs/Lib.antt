@@ -1,4 +1,3 @@
-pub mod Lexemes
 pub mod Failure
 pub mod FailureLaws
 pub mod Repairs

@@ -10,10 +10,10 @@ ghost use Rattle.lrpar_grammar.specs.SpansFit.{IsPartOf};
 ghost use Rattle.lrpar_answers.specs.SequenceText.{IsPartsText, RepairFits, RepairsFit, parts_of};
 
 use crate::errors::{LexParseError, ParseRepair};
-use crate::lex_api::{LexError, Lexeme, LexerTypes, NonStreamingLexer};
 use crate::pp_fault::PpFault;
 use crate::sequence_text::push_sequence;
 use lrpar_grammar::span::{Span, StorageIndex, TIdx};
+use lrpar_lexemes::lex_api::{LexError, Lexeme, LexerTypes, NonStreamingLexer};
 use std::alloc::{AllocError, Global};
 
 impl<StorageT: StorageIndex, LexerTypesT: LexerTypes<StorageT = StorageT>> LexParseError<

@@ -3,9 +3,9 @@ ghost use Rattle.std.specs.Prelude.{◌≡◌, ⊤};
 ghost use Rattle.lrpar_answers.specs.Failure.{failure_text};
 ghost use Rattle.lrpar_answers.specs.Repairs.{repairs_of};
 
-use crate::lex_api::{LexError, Lexeme, LexerTypes};
 pub use crate::pp_fault::PpFault;
 use lrpar_grammar::span::{StIdx, StorageIndex, TIdx};
+use lrpar_lexemes::lex_api::{LexError, Lexeme, LexerTypes};
 use std::alloc::AllocError;
 use std::error::Error;
 use std::fmt;

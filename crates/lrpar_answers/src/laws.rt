@@ -1,13 +1,16 @@
 //! Laws about the definitions that contracts cite: each function has one as its contract, and does nothing.
-ghost use Rattle.std.specs.Prelude.{◌≡◌};
+ghost use Rattle.std.specs.Prelude.{◌≡◌, ◌↔◌, IsTrue};
 ghost use Rattle.lrpar_text.specs.Comparisons.{HashesAs};
 ghost use Rattle.lrpar_answers.specs.Failure.{repair_eq};
+ghost use Rattle.lrpar_answers.specs.FaultText.{IsSameFault};
 ghost use Rattle.lrpar_answers.specs.Repairs.{repair_input, repair_of};
 ghost use Rattle.lrpar_answers.specs.declared.errors.ParseRepair.{ParseRepair};
+ghost use Rattle.lrpar_answers.specs.declared.pp_fault.PpFault.{PpFault};
 
 use crate::errors::ParseRepair;
-use crate::lex_api::Lexeme;
+use crate::pp_fault::PpFault;
 use lrpar_grammar::span::StorageIndex;
+use lrpar_lexemes::lex_api::Lexeme;
 use std::hash::Hash;
 
 /// Two repairs are equal exactly where they are of one kind, and their tokens or lexemes are equal. A hasher is fed which of the
@@ -16,4 +19,9 @@ pub fn repairs_are_compared_by_contents<StorageT: StorageIndex, LexemeT: Lexeme<
     ensures equal { (x y : ParseRepair LexemeT StorageT) → ⟦<ParseRepair<LexemeT, StorageT> as PartialEq>⟧.eq x y
         ≡ repair_eq LexemeT.PartialEq.eq (repair_of StorageT.index x) (repair_of StorageT.index y) }
     ensures hash { HashesAs (repair_input StorageT.hash_input LexemeT.hash_input) ⟦<ParseRepair<LexemeT, StorageT> as PartialEq>⟧.eq ⟦<ParseRepair<LexemeT, StorageT> as Hash>⟧.hash_input }
+{}
+
+/// Two faults of a text are equal exactly where both name one token, or both are a want of memory.
+pub fn pp_faults_are_compared_by_contents<StorageT: StorageIndex>()
+    ensures { (x y : PpFault StorageT) → IsTrue (⟦<PpFault<StorageT> as PartialEq>⟧.eq x y) ↔ IsSameFault StorageT.index x y }
 {}

@@ -9,9 +9,9 @@ use std::mem;
 
 /// A tree of lexemes and rules.
 ///
-/// A tree can be as deep as memory allows: `clone`, `==` and the drop take time linear in the nodes, and no stack for a
-/// level. `clone` and `==` keep a list with an entry for each level; the drop takes no memory. Where memory is wanting,
-/// `clone` answers so, and `==` takes stack in place of an entry. `Debug` takes stack for each level.
+/// A tree can be as deep as memory allows: `clone`, `==`, `fits` and the drop take time linear in the nodes, and no stack for
+/// a level. The drop takes no memory, the others keep a list with an entry for each level. Where memory is wanting, `clone`
+/// answers so, and `==` and `fits` take stack in place of an entry. `Debug` takes stack for each level.
 ///
 /// As the type has a drop of its own, a pattern looks at a node by reference. `mem::replace` takes the trees out of it.
 #[derive(Debug)]

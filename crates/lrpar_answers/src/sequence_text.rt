@@ -7,9 +7,9 @@ ghost use Rattle.lrpar_answers.specs.PrintedParts.{part_of, sequence_parts};
 ghost use Rattle.std.specs.String.{string_bytes};
 
 use crate::errors::ParseRepair;
-use crate::lex_api::{Lexeme, LexerTypes, NonStreamingLexer};
 use crate::pp_fault::PpFault;
 use lrpar_grammar::span::{Span, StorageIndex, TIdx};
+use lrpar_lexemes::lex_api::{Lexeme, LexerTypes, NonStreamingLexer};
 use std::alloc::AllocError;
 
 /// A part of a printed sequence.

@@ -2,40 +2,31 @@
 ghost use Rattle.std.specs.Prelude.{◌≡◌, ◌++◌, ◌↔◌, ℕ, IfOk, IsTrue, OnOk};
 ghost use Rattle.std.specs.List.{AllByRecursion};
 ghost use Rattle.std.specs.String.{string_bytes};
-ghost use Rattle.lrpar_answers.specs.Lexemes.{facts_of};
-ghost use Rattle.lrpar_answers.specs.TreeText.{MetFits, TreeFits, met_from, met_line, nodes_below, root_at, tree_text};
+ghost use Rattle.lrpar_lexemes.specs.Lexemes.{facts_of};
+ghost use Rattle.lrpar_answers.specs.TreeText.{MetFits, TreeFits, all_met, met_line, nodes_below, root_at, tree_text};
 
 use crate::error_text::push_spaces;
-use crate::lex_api::Lexeme;
 use crate::node::Node;
 use lrpar_grammar::grammar::YaccGrammar;
 use lrpar_grammar::span::{StorageIndex, TIdx};
+use lrpar_lexemes::lex_api::Lexeme;
 use std::alloc::{AllocError, Global};
 
 impl<LexemeT: Lexeme<StorageT>, StorageT: StorageIndex> Node<LexemeT, StorageT> {
     /// Whether the tree is one of the grammar over the input: its rules are the grammar's, its lexemes have tokens of the
     /// grammar other than the end token, and each lexeme starts and ends between two characters of the input. Takes time
-    /// linear in the tree and no memory, and for that some of the stack for each level of the tree.
+    /// linear in the tree and no stack for a level; it keeps a list with an entry for each level, and where memory is wanting
+    /// takes stack in place of an entry.
     pub fn fits(&self, grm: &YaccGrammar<StorageT>, input: &str) -> bool
         ensures { IsTrue result ↔ TreeFits (λ x. facts_of StorageT.index (LexemeT.parts x)) StorageT.index grm.now input.now self.now }
-    {
-        self.fits_from(grm, input)
-    }
-
-    // The same, at whichever level the tree stands.
-    fn fits_from(&self, grm: &YaccGrammar<StorageT>, input: &str) -> bool
-        ensures { (level : ℕ) → IsTrue result ↔ AllByRecursion (MetFits (λ x. facts_of StorageT.index (LexemeT.parts x)) StorageT.index grm.now input.now)
-            (met_from self.now level) }
     {
         if !root_fits(grm, input, self) {
             return false;
         }
-        for node in children(self) {
-            if !node.fits_from(grm, input) {
-                return false;
-            }
+        match self {
+            Node::Term { lexeme: _ } => true,
+            Node::Nonterm { ridx: _, nodes } => all_fit(*nodes.allocator(), grm, input, nodes),
         }
-        true
     }
 
     /// The text of the tree: a line for each node in front of those of its children, indented by one space a level. A
@@ -70,6 +61,42 @@ impl<LexemeT: Lexeme<StorageT>, StorageT: StorageIndex> Node<LexemeT, StorageT> 
                     None => return Ok(out),
                 },
             }
+        }
+    }
+}
+
+// Whether these trees fit. A list holds what is left of them, an entry a level. Where it can't grow, the call goes on by itself,
+// one level down.
+fn all_fit<'a, LexemeT: Lexeme<StorageT>, StorageT: StorageIndex>(
+    alloc: Global,
+    grm: &YaccGrammar<StorageT>,
+    input: &str,
+    mut nodes: &'a [Node<LexemeT, StorageT>],
+) -> bool
+    ensures { IsTrue result ↔ AllByRecursion (MetFits (λ x. facts_of StorageT.index (LexemeT.parts x)) StorageT.index grm.now input.now)
+        (all_met 1 nodes.entry.now) }
+{
+    let mut left = Vec::new(alloc);
+    loop {
+        match nodes.split_first() {
+            Some((node, rest)) => {
+                if !root_fits(grm, input, node) {
+                    return false;
+                }
+                match left.push(rest) {
+                    Ok(()) => nodes = children(node),
+                    Err(_) => {
+                        if !all_fit(alloc, grm, input, children(node)) {
+                            return false;
+                        }
+                        nodes = rest;
+                    }
+                }
+            }
+            None => match left.pop() {
+                Some(rest) => nodes = rest,
+                None => return true,
+            },
         }
     }
 }

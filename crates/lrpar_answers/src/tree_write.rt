@@ -1,14 +1,14 @@
 //! The text of a tree, written line by line.
 ghost use Rattle.std.specs.Prelude.{OnOk};
 ghost use Rattle.std.specs.Io.KnownBytes.{Appends};
-ghost use Rattle.lrpar_answers.specs.Lexemes.{facts_of};
+ghost use Rattle.lrpar_lexemes.specs.Lexemes.{facts_of};
 ghost use Rattle.lrpar_answers.specs.TreeText.{MetFits, TreeFits, met_line, root_at, tree_text};
 
-use crate::lex_api::Lexeme;
 use crate::node::Node;
 use crate::tree_text::{children, push_line, root_fits};
 use lrpar_grammar::grammar::YaccGrammar;
 use lrpar_grammar::span::StorageIndex;
+use lrpar_lexemes::lex_api::Lexeme;
 use std::alloc::Global;
 use std::io::{self, ErrorKind, Write};
 

@@ -4,8 +4,8 @@ use Rattle.std.proofs.lemmas.Bool.{cases_lt}
 use Rattle.std.proofs.lemmas.List.Elements.{Contains-append_left, Contains-push, Contains-push_cases}
 use Rattle.lrpar_grammar.specs.Grammar.{Grammar, prods_len, rule_of}
 use Rattle.lrpar_states.specs.Graph.{ItemOf}
-use Rattle.lrpar_build.specs.FirstRows.{row_at}
-use Rattle.lrpar_build.specs.Tokens.{has}
+use Rattle.lrpar_first.specs.FirstRows.{row_at}
+use Rattle.lrpar_first.specs.Tokens.{has}
 use Rattle.lrpar_build.specs.Brought.{HasIn, IsBrought}
 use Rattle.lrpar_build.specs.Cores.{AreBringing, CoreSet, IsAmong, IsOfCore, IsOfRows}
 use Rattle.lrpar_build.specs.ItemSets.{IsInClosure}

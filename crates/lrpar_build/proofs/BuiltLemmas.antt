@@ -9,7 +9,7 @@ use Rattle.lrpar_states.specs.Table.{IsTable}
 use Rattle.lrpar_states.proofs.EntryLemmas.{no_action_after, no_action_past, no_goto_past}
 use Rattle.lrpar_build.specs.BuilderLaws.{AcceptAlone, IsWantedTable}
 use Rattle.lrpar_build.specs.Built.{IsBuildRefusal, IsBuilt}
-use Rattle.lrpar_build.specs.Canonical.{AreCanonical, AreSame, IsAcceptConflict, IsCanonical, IsStep, WantsAccept, sets_of}
+use Rattle.lrpar_build.specs.Canonical.{AreCanonical, AreSame, IsAcceptConflict, IsCanonical, IsTransition, WantsAccept, sets_of}
 use Rattle.lrpar_build.specs.StateRows.{IsRefusalOf, IsRefusedState, item_rows, table_of_states}
 use Rattle.lrpar_build.specs.States.{AreStates, StateOf, sets_at, state_at}
 use Rattle.lrpar_build.specs.Wanted.{IsAcceptReduce, is_complete_at, reductions}
@@ -36,8 +36,8 @@ one_of (k ∷ ks) some = (k, member_first k ks)
 module _ (g : Grammar) (well : IsWellFormed g) (states : List StateOf) (are : AreStates g states) (sets : ℕ → ItemOf → Type 0)
     (same : (s : ℕ) → AreSame (sets s) (sets_at states s)) where
   -- a state that wants to accept does so at the end token
-  accepts_at_end : (s t : ℕ) → s < length states → WantsAccept g sets s t → t ≡ end_token g
-  accepts_at_end s t below wants =
+  accepts_only_at_end : (s t : ℕ) → s < length states → WantsAccept g sets s t → t ≡ end_token g
+  accepts_only_at_end s t below wants =
       let item = item_at (start_prod g) 1 t in
       let reached = are.canonical.reached s below in
       reached_at_end g well reached.0 item ((reached.1 item).0 ((same s item).0 wants)) refl
@@ -50,13 +50,13 @@ module _ (g : Grammar) (well : IsWellFormed g) (states : List StateOf) (are : Ar
       let cores = (state_at states s).cores in
       let known = are.cores s below in
       let wants = (accept_is g sets s cores known (same s) t (start_len g well)).1 beside.accept in
-      let end = accepts_at_end s t below wants in
+      let end = accepts_only_at_end s t below wants in
       let one = one_of (reductions g cores t) beside.some in
       let there = subst (λ n. Contains (reductions g cores n) one.0) end one.1 in
       (subst (WantsAccept g sets s) end wants, (one.0, (wants_is g sets s cores known (same s) (end_token g) one.0).1 there))
 
   -- no step is by the end token
-  no_step_at_end : (s : ℕ) (step : Option ℕ) → IsStep g (length states) (sets_at states) s (Terminal (end_token g)) step → step ≡ None
+  no_step_at_end : (s : ℕ) (step : Option ℕ) → IsTransition g (length states) (sets_at states) s (Terminal (end_token g)) step → step ≡ None
   no_step_at_end s None h = refl
   no_step_at_end s (Some next) h =
       let before = h.0 in absurd (no_end_token g well before.0.prod before.0.dot (end_token g) refl before.2)

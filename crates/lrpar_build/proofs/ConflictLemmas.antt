@@ -10,7 +10,7 @@ use Rattle.lrpar_states.specs.Graph.{Graph, ItemOf, graph_len, item_at}
 use Rattle.lrpar_states.specs.Safe.{IsItem}
 use Rattle.lrpar_states.specs.Table.{Accepts, ConflictLists, Fails, ReduceBy, ReduceReduce, ShiftReduce, ShiftTo}
 use Rattle.lrpar_build.specs.BuilderLaws.{AcceptAlone, AreConflictsOf, CanonicalConflictsFit, NoConflictsAreOneAction, WantOneAction, lists_in}
-use Rattle.lrpar_build.specs.Canonical.{IsCanonical, IsStep, StandsBefore, WantsAccept, WantsFirst, WantsReduce, sets_of}
+use Rattle.lrpar_build.specs.Canonical.{IsCanonical, IsTransition, StandsBefore, WantsAccept, WantsFirst, WantsReduce, sets_of}
 use Rattle.lrpar_build.specs.ItemSets.{IsReachedBy, Own}
 use Rattle.lrpar_build.proofs.DecidedLemmas.{first_wanted}
 use Rattle.lrpar_build.proofs.ReachedLemmas.{no_end_token, reached_at_end, reached_items, symbol_listed}
@@ -36,7 +36,7 @@ module _ (g : Grammar) (graph : Graph) (well : IsWellFormed g) (canonical : IsCa
 
   -- where an item stands before a token, the state goes on by it
   next_state : (s t : ℕ) → s < graph_len graph → StandsBefore g (sets_of graph) s (Terminal t)
-      → (next : ℕ) × IsStep g (graph_len graph) (sets_of graph) s (Terminal t) (Some next)
+      → (next : ℕ) × IsTransition g (graph_len graph) (sets_of graph) s (Terminal t) (Some next)
   next_state s t within before =
       let reached = canonical.reached s within in
       let x = before.0 in
@@ -55,8 +55,8 @@ module _ (g : Grammar) (graph : Graph) (well : IsWellFormed g) (canonical : IsCa
       )
 
   -- a state goes to one state by a token
-  one_next : (s t n m : ℕ) → IsStep g (graph_len graph) (sets_of graph) s (Terminal t) (Some n)
-      → IsStep g (graph_len graph) (sets_of graph) s (Terminal t) (Some m) → n ≡ m
+  one_next : (s t n m : ℕ) → IsTransition g (graph_len graph) (sets_of graph) s (Terminal t) (Some n)
+      → IsTransition g (graph_len graph) (sets_of graph) s (Terminal t) (Some m) → n ≡ m
   one_next s t n m to other =
       canonical.once n m to.1 other.1 (λ x. (λ h. (other.2 x).1 ((to.2 x).0 h), λ h. (to.2 x).1 ((other.2 x).0 h)))
 

@@ -9,9 +9,9 @@ use Rattle.lrpar_grammar.specs.Grammar.{Grammar}
 use Rattle.lrpar_states.specs.Graph.{ItemOf}
 use Rattle.lrpar_build.specs.Canonical.{AreSame}
 use Rattle.lrpar_build.specs.Cores.{CoreSet, IsAmong, IsOfCore}
-use Rattle.lrpar_build.specs.FirstRows.{mark_of}
-use Rattle.lrpar_build.specs.Kernels.{AreCores, AreInOrder, ComesBefore, IsFilled, Precedes, place_of}
-use Rattle.lrpar_build.specs.Tokens.{has}
+use Rattle.lrpar_first.specs.FirstRows.{mark_of}
+use Rattle.lrpar_build.specs.Kernels.{AreCores, AreCoresInOrder, ComesBefore, IsFilled, Precedes, place_of}
+use Rattle.lrpar_first.specs.Tokens.{has}
 use Rattle.lrpar_build.specs.Wanted.{AreOnce}
 
 -- nothing is among no cores
@@ -94,7 +94,7 @@ module _ (g : Grammar) where
       subst (λ k. Precedes g core.prod core.dot x.prod k) h.2.1 (subst (λ p. Precedes g core.prod core.dot p h.0.dot) h.2.0 before)
 
   -- where all items of one list are among another, the other's first core is the one's, or comes before it
-  leads : (a b : CoreSet) (xs ys : List CoreSet) → IsFilled a → AreInOrder g (b ∷ ys) → ((x : ItemOf) → IsAmong (a ∷ xs) x → IsAmong (b ∷ ys) x)
+  leads : (a b : CoreSet) (xs ys : List CoreSet) → IsFilled a → AreCoresInOrder g (b ∷ ys) → ((x : ItemOf) → IsAmong (a ∷ xs) x → IsAmong (b ∷ ys) x)
       → ((b.prod ≡ a.prod) × (b.dot ≡ a.dot)) ⊎ ComesBefore g b a
   leads a b xs ys filled order to =
       let x : ItemOf = record { prod = a.prod; dot = a.dot; token = filled.0 } in
@@ -103,7 +103,7 @@ module _ (g : Grammar) where
         | inr behind ↦ inr (later b ys x order.0 behind)
       ]
 
-  module _ (a b : CoreSet) (xs ys : List CoreSet) (prod : a.prod ≡ b.prod) (dot : a.dot ≡ b.dot) (order : AreInOrder g (a ∷ xs)) (other : AreInOrder g (b ∷ ys))
+  module _ (a b : CoreSet) (xs ys : List CoreSet) (prod : a.prod ≡ b.prod) (dot : a.dot ≡ b.dot) (order : AreCoresInOrder g (a ∷ xs)) (other : AreCoresInOrder g (b ∷ ys))
       (to : (x : ItemOf) → IsAmong (a ∷ xs) x → IsAmong (b ∷ ys) x) where
     -- then, where it is the one's, it has the one's lookaheads
     first_tokens : (t : ℕ) → IsTrue (has a.tokens t) → IsTrue (has b.tokens t)
@@ -123,7 +123,7 @@ module _ (g : Grammar) where
         ]
 
   -- cores with the same items are the same
-  cores_is : (n : ℕ) (xs ys : List CoreSet) → AreInOrder g xs → AreInOrder g ys → All IsFilled xs → All IsFilled ys
+  cores_is : (n : ℕ) (xs ys : List CoreSet) → AreCoresInOrder g xs → AreCoresInOrder g ys → All IsFilled xs → All IsFilled ys
       → All (λ core. length core.tokens ≡ n) xs → All (λ core. length core.tokens ≡ n) ys → AreSame (IsAmong xs) (IsAmong ys) → xs ≡ ys
   cores_is n [] [] order other filled full wide broad same = refl
   cores_is n [] (b ∷ ys) order other filled full wide broad same =
@@ -177,7 +177,7 @@ module _ (g : Grammar) where
         | inr other ↦ sum_by-cons (λ c. cond (is_core p k c) 1 0) core cores ∙ ap (λ b. cond b 1 0 + count_by (is_core p k) cores) other ∙ zero-add (count_by (is_core p k) cores) ∙ rest
       ]
 
-  pub once_in_order : (cores : List CoreSet) → AreInOrder g cores → AreOnce cores
+  pub once_in_order : (cores : List CoreSet) → AreCoresInOrder g cores → AreOnce cores
   once_in_order [] order p k = omega arith
   once_in_order (core ∷ cores) order p k =
       let rest = once_in_order cores order.1 p k in

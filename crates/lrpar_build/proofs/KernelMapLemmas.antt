@@ -15,7 +15,7 @@ use Rattle.std.proofs.lemmas.Map.Lookups.{exact_unsigned}
 use Rattle.lrpar_text.specs.declared.span.StIdx.{StIdx}
 use Rattle.lrpar_states.specs.Ascending.{TellsApart}
 use Rattle.lrpar_build.specs.Cores.{CoreSet, core_set}
-use Rattle.lrpar_build.specs.KernelMap.{HasNumbers, core_cmp, kernel_rows, key_cmp}
+use Rattle.lrpar_build.specs.KernelMap.{NumbersKernels, core_cmp, kernel_rows, key_cmp}
 use Rattle.lrpar_build.specs.Kernels.{kernel_at}
 use Rattle.lrpar_build.specs.Numbers.{IsFresh}
 use Rattle.lrpar_build.specs.declared.cores.CoreItems.{CoreItems}
@@ -86,14 +86,14 @@ module _ {S A : Type 0} (index : S → ℕ) (cmp : S → S → Ordering) (law : 
     pub at_kernel : get_by (λ key. slice_cmp (order_of cmp) cores key.items) numbers ≡ get_by (key_cmp index (map (core_set index) cores)) numbers
     at_kernel = λ i. get_by (λ key. key_order key i) numbers
 
-    module _ (rows kernels : List (List CoreSet)) (are : rows ≡ kernels) (has : HasNumbers index rows numbers) where
+    module _ (rows kernels : List (List CoreSet)) (are : rows ≡ kernels) (has : NumbersKernels index rows numbers) where
       -- where a kernel has a number, the map has that one
       number_of : (s : ℕ) → s < length kernels → kernel_at kernels s ≡ map (core_set index) cores
           → option_map (λ state. index state.0) (get_by (λ key. slice_cmp (order_of cmp) cores key.items) numbers) ≡ Some s
       number_of s below same =
           ap (option_map (λ state. index state.0)) at_kernel
           ∙ subst (λ k. option_map (λ state. index state.0) (get_by (key_cmp index k) numbers) ≡ Some s) same
-          (subst (λ found. HasNumbers index found numbers) are has s below)
+          (subst (λ found. NumbersKernels index found numbers) are has s below)
 
       -- so where the map has none, the kernel is new
       pub new_without : None ≡ get_by (λ key. slice_cmp (order_of cmp) cores key.items) numbers → IsFresh kernels (map (core_set index) cores)
@@ -116,13 +116,13 @@ tie_is Greater h = absurd (cc)
 
 -- a map with the entries of another one has the numbers that it has
 pub same_numbers : {S A : Type 0} (index : S → ℕ) (kernels : List (List CoreSet)) (before after : BTreeMap (Vec (CoreItems S) A) (StIdx S))
-    → after.entries ≡ before.entries → HasNumbers index kernels before → HasNumbers index kernels after
+    → after.entries ≡ before.entries → NumbersKernels index kernels before → NumbersKernels index kernels after
 same_numbers index kernels before after same has s below =
     subst (λ entries. option_map (λ state. index state.0) (lookup (is_at (key_cmp index (kernel_at kernels s))) entries) ≡ Some s) (sym same) (has s below)
 
 module _ {S A : Type 0} (index : S → ℕ) (cmp : S → S → Ordering) (law : (a b : S) → cmp a b ≡ nat_cmp (index a) (index b))
     (kernels : List (Vec (CoreItems S) A)) (before after : BTreeMap (Vec (CoreItems S) A) (StIdx S))
-    (has : HasNumbers index (kernel_rows index kernels) before) (rows : List (List CoreSet)) (are : kernel_rows index kernels ≡ rows)
+    (has : NumbersKernels index (kernel_rows index kernels) before) (rows : List (List CoreSet)) (are : kernel_rows index kernels ≡ rows)
     (kernel key : Vec (CoreItems S) A) (copy : map (core_set index) key.items ≡ map (core_set index) kernel.items) (state : StIdx S)
     (fresh : IsFresh rows (map (core_set index) kernel.items))
     (updates : Updates (λ a b. slice_cmp (order_of cmp) a.items b.items) before after key (Some state)) where
@@ -135,7 +135,7 @@ module _ {S A : Type 0} (index : S → ℕ) (cmp : S → S → Ordering) (law : 
   new_key = subst (λ k. IsFresh (kernel_rows index kernels) k) (sym copy) (subst (λ found. IsFresh found (map (core_set index) kernel.items)) (sym are) fresh)
 
   -- so the map has the others' numbers still
-  pub others_stay : HasNumbers index (kernel_rows index kernels) after
+  pub others_stay : NumbersKernels index (kernel_rows index kernels) after
   others_stay s below =
       let other = get_or kernels s key in
       let count = length-map kernels (λ (row : Vec (CoreItems S) A). map (core_set index) row.items) in
@@ -154,7 +154,7 @@ module _ {S A : Type 0} (index : S → ℕ) (cmp : S → S → Ordering) (law : 
       ∙ subst (λ k. option_map (λ state. index state.0) (get_by (key_cmp index k) before) ≡ Some s) at (has s below))
 
   -- and the new one's, where it stands behind them
-  pub new_stands : index state.0 ≡ length rows → HasNumbers index (kernel_rows index (kernels ++ kernel ∷ [])) after
+  pub new_stands : index state.0 ≡ length rows → NumbersKernels index (kernel_rows index (kernels ++ kernel ∷ [])) after
   new_stands next s below =
       let before = kernel_rows index kernels in
       let last = map (core_set index) kernel.items in

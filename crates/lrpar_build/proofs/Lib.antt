@@ -1,7 +1,3 @@
-pub mod FirstLemmas
-pub mod RowLemmas
-pub mod GrowthLemmas
-pub mod BeforeLemmas
 pub mod BroughtLemmas
 pub mod SpreadLemmas
 pub mod ClosureLemmas
@@ -24,6 +20,7 @@ pub mod TablesLemmas
 pub mod KernelLemmas
 pub mod NextLemmas
 pub mod StatesLemmas
+pub mod FaultLemmas
 pub mod NumberLemmas
 pub mod PutLemmas
 pub mod StepLemmas

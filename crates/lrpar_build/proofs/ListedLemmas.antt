@@ -13,7 +13,7 @@ use Rattle.lrpar_states.specs.Table.{ConflictLists, ReduceReduce, ShiftReduce}
 use Rattle.lrpar_states.proofs.ItemLemmas.{Contains-image, Contains-preimage}
 use Rattle.lrpar_build.specs.BuilderLaws.{AreConflictsOf, lists_in}
 use Rattle.lrpar_build.specs.Built.{StandInOrder, reduce_reduce_cmp, shift_reduce_cmp}
-use Rattle.lrpar_build.specs.Canonical.{AreSame, IsReduceConflict, IsShiftConflict, IsStep, StandsBefore, WantsFirst, sets_of}
+use Rattle.lrpar_build.specs.Canonical.{AreSame, IsReduceConflict, IsShiftConflict, IsTransition, StandsBefore, WantsFirst, sets_of}
 use Rattle.lrpar_build.specs.Cores.{CoreSet, IsAmong, IsCoreOf}
 use Rattle.lrpar_build.specs.StateRows.{reduce_conflicts_below, shift_conflicts_below, unless_empty}
 use Rattle.lrpar_build.specs.States.{AreStates, StateOf, sets_at, state_at}
@@ -305,12 +305,12 @@ first_splits g sets s cores known is t p first =
     cases (reductions g cores t) refl
 
 -- an item stands before a token just where there is a step by it
-step_before : (g : Grammar) (sets : ℕ → ItemOf → Type 0) (len s t : ℕ) (step : Option ℕ) (next : ℕ) → IsStep g len sets s (Terminal t) step → step ≡ Some next
+step_before : (g : Grammar) (sets : ℕ → ItemOf → Type 0) (len s t : ℕ) (step : Option ℕ) (next : ℕ) → IsTransition g len sets s (Terminal t) step → step ≡ Some next
     → StandsBefore g sets s (Terminal t)
 step_before g sets len s t None next h is = absurd (cc)
 step_before g sets len s t (Some other) next h is = h.0
 
-before_step : (g : Grammar) (sets : ℕ → ItemOf → Type 0) (len s t : ℕ) (step : Option ℕ) → IsStep g len sets s (Terminal t) step
+before_step : (g : Grammar) (sets : ℕ → ItemOf → Type 0) (len s t : ℕ) (step : Option ℕ) → IsTransition g len sets s (Terminal t) step
     → StandsBefore g sets s (Terminal t) → (next : ℕ) × (step ≡ Some next)
 before_step g sets len s t None h before = absurd (h before)
 before_step g sets len s t (Some next) h before = (next, refl)

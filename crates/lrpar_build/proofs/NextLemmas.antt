@@ -10,7 +10,7 @@ use Rattle.lrpar_grammar.specs.Grammar.{Grammar, GrammarSymbol, Nonterminal, Ter
 use Rattle.lrpar_states.specs.Graph.{ItemOf, item_at}
 use Rattle.lrpar_build.specs.Cores.{CoreSet, IsAmong, IsCoreOf, IsOfCore}
 use Rattle.lrpar_build.specs.ItemSets.{IsAdvanced}
-use Rattle.lrpar_build.specs.Kernels.{AreCores, AreInOrder, ComesBefore, IsBegun, IsFilled, IsKernel, StandBefore, advanced, is_symbol, next_kernel, symbol_behind}
+use Rattle.lrpar_build.specs.Kernels.{AreCores, AreCoresInOrder, ComesBefore, IsBegun, IsFilled, IsKernel, StandBefore, advanced, is_symbol, next_kernel, symbol_behind}
 use Rattle.lrpar_build.proofs.KernelLemmas.{among_cons, among_nil}
 
 -- the test of a symbol holds where it is that symbol
@@ -121,18 +121,18 @@ module _ (g : Grammar) (symbol : GrammarSymbol) where
         | inr after ↦ inr (ap (λ k. k + 1) after.0, after.1)
       ]
 
-  next_order : (cores : List CoreSet) → AreInOrder g cores → AreInOrder g (next_kernel g symbol cores)
+  next_order : (cores : List CoreSet) → AreCoresInOrder g cores → AreCoresInOrder g (next_kernel g symbol cores)
   next_order [] order = tt
   next_order (core ∷ cores) order =
       elim (cases_Bool (before core)) [
         | inl here ↦
-            subst (AreInOrder g) (sym (next_one core cores here)) (
+            subst (AreCoresInOrder g) (sym (next_one core cores here)) (
               All-map (ComesBefore g (advanced core)) advanced (filter before cores)
                   (All-weaker (ComesBefore g core) (λ c. ComesBefore g (advanced core) (advanced c)) (later_advanced core) (filter before cores)
                   (All-filter before (ComesBefore g core) cores order.0)),
               next_order cores order.1,
             )
-        | inr apart ↦ subst (AreInOrder g) (sym (next_none core cores apart)) (next_order cores order.1)
+        | inr apart ↦ subst (AreCoresInOrder g) (sym (next_none core cores apart)) (next_order cores order.1)
       ]
 
   advanced_of_grammar : (core : CoreSet) → IsCoreOf g core → before core ≡ true → IsCoreOf g (advanced core)

@@ -1,5 +1,5 @@
 -- Kernels that are numbered, one after the other.
-use Rattle.std.proofs.Common.{◌≡◌, ◌≢◌, ◌<◌, ◌≤◌, ◌+◌, ◌==◌, ◌∙◌, refl, sym, ap, subst, inl, inr, arith, ℕ, true, false, List, [], ◌∷◌, ◌++◌, Option, Some, None, Result, Ok, Err, IsErrAnd, IfErr, length, map}
+use Rattle.std.proofs.Common.{◌≡◌, ◌≢◌, ◌<◌, ◌≤◌, ◌+◌, ◌==◌, ◌∙◌, refl, sym, ap, subst, inl, inr, arith, ℕ, true, false, List, [], ◌∷◌, ◌++◌, Option, Some, None, length, map}
 use Rattle.std.proofs.lemmas.Bool.{cases_lt, eq-eqb, eqb-true, false≢true}
 use Rattle.std.proofs.lemmas.List.{get_or_append_left, get_or_push, length-map, length_push}
 use Rattle.std.proofs.lemmas.List.Elements.{All-cons, All-nil}
@@ -7,8 +7,8 @@ use Rattle.lrpar_grammar.specs.Grammar.{Grammar, GrammarSymbol, IsWellFormed, en
 use Rattle.lrpar_states.specs.Graph.{item_at}
 use Rattle.lrpar_build.specs.Canonical.{AreSame, ReachesMore}
 use Rattle.lrpar_build.specs.Cores.{CoreSet, IsAmong, IsCoreOf}
-use Rattle.lrpar_build.specs.FirstRows.{mark_of}
-use Rattle.lrpar_build.specs.Tokens.{has}
+use Rattle.lrpar_first.specs.FirstRows.{mark_of}
+use Rattle.lrpar_first.specs.Tokens.{has}
 use Rattle.lrpar_build.specs.ItemSets.{IsAdvanced, IsInClosure, IsReachedBy, IsStartItem}
 use Rattle.lrpar_build.specs.Kernels.{AreCores, AreKept, AreKernels, ComesBefore, GoesTo, IsBegun, IsFilled, IsKernel, IsReachedKernel, kernel_at, next_kernel, path_at}
 use Rattle.lrpar_build.specs.Numbers.{AreNumbered, IsFaultOfStates, IsFound, IsFresh, IsNumberFault, IsNumberOf, IsStepFault, IsStepTo}
@@ -18,11 +18,6 @@ use Rattle.lrpar_build.specs.declared.fault.BuildFault.TheVariants.{AcceptReduce
 use Rattle.lrpar_build.proofs.KernelLemmas.{among_cons, among_nil}
 use Rattle.lrpar_build.proofs.NextLemmas.{next_is, next_kernel_is, next_some, next_stands}
 use Rattle.lrpar_build.proofs.StatesLemmas.{advanced_same, closure_same, reaches_more, same_via}
-
--- the fault that a `?` hands on
-pub fault_same : {T : Type 0} (r : Result T BuildFault) (P : BuildFault → Type 0) (fault : BuildFault) → IsErrAnd r (λ other. other ≡ fault) → P fault → IfErr r P
-fault_same (Ok x) P fault is holds = tt
-fault_same (Err other) P fault is holds = subst P (sym is) holds
 
 -- a list that is tested for being empty
 pub none_tested : {X Y : Type 0} (f : X → Y) (xs : List X) (len : ℕ) → length xs ≡ len → (len == 0) ≡ true → length (map f xs) ≡ 0

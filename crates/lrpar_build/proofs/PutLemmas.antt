@@ -5,7 +5,7 @@ use Rattle.std.proofs.lemmas.List.Elements.{All-head, All-nil, All-push, All-tai
 use Rattle.lrpar_grammar.specs.Grammar.{Grammar, IsWellFormed, start_prod}
 use Rattle.lrpar_build.specs.Brought.{IsBrought, Given, Brought}
 use Rattle.lrpar_build.specs.Cores.{AreBringing, CoreSet, IsCoreOf}
-use Rattle.lrpar_build.specs.Kernels.{AreCores, AreInOrder, ComesBefore, IsFilled, IsPut, place_of}
+use Rattle.lrpar_build.specs.Kernels.{AreCores, AreCoresInOrder, ComesBefore, IsFilled, IsPut, place_of}
 use Rattle.lrpar_build.proofs.StatesLemmas.{rule_behind_listed}
 
 module _ (g : Grammar) where
@@ -13,7 +13,7 @@ module _ (g : Grammar) where
   place_other p other = ap (λ b. cond b 0 (p + 1)) (ne_eqb p (start_prod g) other)
 
   -- a core that all others come before
-  pub order_push : (cores : List CoreSet) (core : CoreSet) → AreInOrder g cores → All (λ c. ComesBefore g c core) cores → AreInOrder g (cores ++ core ∷ [])
+  pub order_push : (cores : List CoreSet) (core : CoreSet) → AreCoresInOrder g cores → All (λ c. ComesBefore g c core) cores → AreCoresInOrder g (cores ++ core ∷ [])
   order_push [] core order before = (All-nil (ComesBefore g core), tt)
   order_push (first ∷ cores) core order before = (
     All-push (ComesBefore g first) cores core order.0 (All-head (λ c. ComesBefore g c core) first cores before),

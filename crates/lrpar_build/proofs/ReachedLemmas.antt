@@ -7,10 +7,10 @@ use Rattle.std.proofs.lemmas.Option.{get_or_from_slice_get, slice_get_cases, sli
 use Rattle.lrpar_grammar.specs.Grammar.{Grammar, GrammarSymbol, IsListedSymbol, IsWellFormed, Nonterminal, Terminal, end_token, prods_len, rule_of, rules_len, start_prod, symbols_of, tokens_len}
 use Rattle.lrpar_states.specs.Graph.{ItemOf, item_at}
 use Rattle.lrpar_states.specs.Safe.{IsItem}
-use Rattle.lrpar_build.specs.First.{IsFirst, Behind, Rule, Token}
+use Rattle.lrpar_first.specs.First.{IsFirst, Behind, Rule, Token}
 use Rattle.lrpar_build.specs.ItemSets.{Adds, Added, IsAdvanced, IsInClosure, IsReachedBy, IsStartItem, Own}
-use Rattle.lrpar_build.proofs.FirstLemmas.{AreBelow, AreBelow-append}
-use Rattle.lrpar_build.proofs.GrowthLemmas.{prods_below}
+use Rattle.lrpar_first.proofs.FirstLemmas.{AreBelow, AreBelow-append}
+use Rattle.lrpar_first.proofs.GrowthLemmas.{prods_below}
 
 -- the first of what is left of a list
 pub head_after : {X : Type 0} (xs : List X) (n : ℕ) (x : X) (rest : List X) → drop n xs ≡ x ∷ rest → slice_get xs n ≡ Some x

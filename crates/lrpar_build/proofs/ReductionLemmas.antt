@@ -7,9 +7,9 @@ use Rattle.std.proofs.lemmas.List.Folds.{Any-from_list_any, list_any-from_Any}
 use Rattle.lrpar_grammar.specs.Grammar.{Grammar, Nonterminal, Terminal, prod_len, start_prod}
 use Rattle.lrpar_states.specs.Graph.{ItemOf, item_at}
 use Rattle.lrpar_states.specs.Table.{ReduceBy, Table, action_of, goto_of}
-use Rattle.lrpar_build.specs.Canonical.{ActsAsWanted, AreSame, GoesAsWanted, IsStep, WantsAccept, WantsFirst, WantsReduce}
+use Rattle.lrpar_build.specs.Canonical.{ActsAsWanted, AreSame, GoesAsWanted, IsTransition, WantsAccept, WantsFirst, WantsReduce}
 use Rattle.lrpar_build.specs.Cores.{CoreSet, IsAmong, IsCoreOf}
-use Rattle.lrpar_build.specs.Tokens.{has}
+use Rattle.lrpar_first.specs.Tokens.{has}
 use Rattle.lrpar_build.specs.Wanted.{AscendFrom, is_complete, is_complete_at, reductions, wanted}
 use Rattle.lrpar_build.proofs.MemberLemmas.{filter_has, filter_member, member_cases, member_first, member_none, range_has, range_member}
 use Rattle.lrpar_build.proofs.WantedLemmas.{ascend_lower}
@@ -111,7 +111,7 @@ module _ (g : Grammar) (sets : ℕ → ItemOf → Type 0) (s : ℕ) (cores : Lis
 
   -- so a table that does what is told by the cores and the shifts does what is wanted
   pub acts_as_wanted : (len t : ℕ) (table : Table) (shift : Option ℕ) (prods : List ℕ) (accepts : Bool) → prod_len g (start_prod g) ≡ 1
-      → IsStep g len sets s (Terminal t) shift → reductions g cores t ≡ prods → is_complete_at g cores t (start_prod g) ≡ accepts
+      → IsTransition g len sets s (Terminal t) shift → reductions g cores t ≡ prods → is_complete_at g cores t (start_prod g) ≡ accepts
       → action_of table s t ≡ wanted shift prods accepts → ActsAsWanted g sets table s t
   acts_as_wanted len t table (Some next) prods accepts one step reduces ends does = record {
     shifts = λ _. (next, does, step.2);
@@ -142,6 +142,6 @@ module _ (g : Grammar) (sets : ℕ → ItemOf → Type 0) (s : ℕ) (cores : Lis
 
 -- and so does one that goes where the steps are
 pub goes_as_wanted : (g : Grammar) (sets : ℕ → ItemOf → Type 0) (len s r : ℕ) (table : Table) (goto : Option ℕ)
-    → IsStep g len sets s (Nonterminal r) goto → goto_of table s r ≡ goto → GoesAsWanted g sets table s r
+    → IsTransition g len sets s (Nonterminal r) goto → goto_of table s r ≡ goto → GoesAsWanted g sets table s r
 goes_as_wanted g sets len s r table None step does = record { goes = λ before. absurd (step before); stays = λ none. does }
 goes_as_wanted g sets len s r table (Some next) step does = record { goes = λ before. (next, does, step.2); stays = λ none. absurd (none step.0) }

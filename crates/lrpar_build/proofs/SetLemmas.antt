@@ -7,12 +7,12 @@ use Rattle.std.proofs.lemmas.List.{get_or-map, get_or_past, length-map}
 use Rattle.lrpar_grammar.specs.Grammar.{Grammar, GrammarSymbol, IsWellFormed, tokens_len}
 use Rattle.lrpar_states.specs.Graph.{Graph, HasItem, ItemOf, item_at, items_of}
 use Rattle.lrpar_states.proofs.ItemLemmas.{Contains-image, Contains-preimage}
-use Rattle.lrpar_build.specs.Canonical.{AreCanonical, AreSame, IsStep, LeadsTo, StandsBefore, sets_of}
+use Rattle.lrpar_build.specs.Canonical.{AreCanonical, AreSame, IsTransition, LeadsTo, StandsBefore, sets_of}
 use Rattle.lrpar_build.specs.Cores.{CoreSet, IsAmong}
 use Rattle.lrpar_build.specs.ItemSets.{Added, IsAdvanced, IsInClosure, IsInNext, IsReachedBy, Own}
 use Rattle.lrpar_build.specs.StateRows.{item_rows}
 use Rattle.lrpar_build.specs.States.{StateOf, sets_at, state_at}
-use Rattle.lrpar_build.specs.Tokens.{has}
+use Rattle.lrpar_first.specs.Tokens.{has}
 use Rattle.lrpar_build.specs.Wanted.{items_of_core, items_of_cores}
 use Rattle.lrpar_build.proofs.MemberLemmas.{filter_has, filter_member, joined_has, joined_member, member_none, range_has, range_member}
 use Rattle.lrpar_build.proofs.ReachedLemmas.{reached_items}
@@ -51,7 +51,7 @@ module _ (g : Grammar) (sets others : ℕ → ItemOf → Type 0) (same : (s : �
     λ there. (same next x).1 ((h x).1 (next_more g (sets s) (others s) symbol (λ y. (same s y).0) x there)),
   )
 
-  pub step_same : (len s : ℕ) (symbol : GrammarSymbol) (step : Option ℕ) → IsStep g len others s symbol step → IsStep g len sets s symbol step
+  pub step_same : (len s : ℕ) (symbol : GrammarSymbol) (step : Option ℕ) → IsTransition g len others s symbol step → IsTransition g len sets s symbol step
   step_same len s symbol None none = λ before. none (before_other s symbol before)
   step_same len s symbol (Some next) h = (before_same s symbol h.0, h.1, leads_same s symbol next h.2)
 

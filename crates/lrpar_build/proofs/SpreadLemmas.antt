@@ -1,21 +1,19 @@
 -- One production brings the rule that it begins with: what was worked out is put into the set of that rule.
-use Rattle.std.proofs.Common.{◌≡◌, ◌<◌, ◌≤◌, ◌+◌, ◌-◌, ◌||◌, ◌&&◌, ◌↔◌, ◌⊎◌, ◌∙◌, sym, ap, subst, inl, inr, arith, ℕ, suc, Bool, false, List, [], ◌∷◌, All, length, map, set, get_or, drop, take, nat_lt, IsTrue}
+use Rattle.std.proofs.Common.{◌≡◌, ◌<◌, ◌+◌, ◌-◌, ◌||◌, ◌&&◌, ◌↔◌, ◌⊎◌, ◌∙◌, sym, ap, subst, inl, inr, arith, ℕ, Bool, false, List, [], ◌∷◌, All, length, set, get_or, drop, nat_lt, IsTrue}
 use Rattle.std.proofs.lemmas.Bool.{OnFalse_at, OnTrue_at, cases_Bool, cases_eq, cases_lt, false≢true}
-use Rattle.std.proofs.lemmas.List.{drop-map, length-drop, length-map, take_all, get_or-set_other, get_or-set_same, set-get_or}
-use Rattle.std.proofs.lemmas.List.Elements.{All-cons, All-get_or, All-nil, All-weaker}
+use Rattle.std.proofs.lemmas.List.{get_or-set_other, get_or-set_same, set-get_or}
+use Rattle.std.proofs.lemmas.List.Elements.{All-drop, All-get_or, All-head, All-tail}
 use Rattle.std.specs.Bool.{OnFalse, OnTrue}
-use Rattle.std.specs.List.{IsFirstAndRest}
-use Rattle.lrpar_text.specs.declared.span.Symbol.{Symbol}
-use Rattle.lrpar_grammar.specs.Grammar.{Grammar, GrammarSymbol, IsListedSymbol, IsWellFormed, Nonterminal, Terminal, end_token, prods_len, rule_of, rules_len, start_prod, symbols_of, tokens_len}
-use Rattle.lrpar_grammar.specs.Symbols.{symbol_of}
-use Rattle.lrpar_build.specs.First.{IsFirst}
-use Rattle.lrpar_build.specs.FirstRows.{HaveRoom, IsFirstBefore, IsSymbolBelow, mark_of, row_at, rows_of, total_missing}
-use Rattle.lrpar_build.specs.Tokens.{has, missing}
+use Rattle.lrpar_grammar.specs.Grammar.{Grammar, GrammarSymbol, IsWellFormed, Nonterminal, Terminal, prods_len, rule_of, rules_len, symbols_of, tokens_len}
+use Rattle.lrpar_first.specs.First.{IsFirst}
+use Rattle.lrpar_first.specs.FirstRows.{HaveRoom, IsFirstBefore, IsSymbolBelow, mark_of, row_at, rows_of, total_missing}
+use Rattle.lrpar_first.specs.Tokens.{has, missing}
 use Rattle.lrpar_build.specs.Brought.{IsBrought, Given, Brought, AreBroughtFrom, HasIn, IsSpreadAt, Keeps}
-use Rattle.lrpar_build.specs.declared.tokens.TokenSet.{TokenSet}
-use Rattle.lrpar_build.proofs.BeforeLemmas.{united}
+use Rattle.lrpar_first.specs.declared.tokens.TokenSet.{TokenSet}
+use Rattle.lrpar_first.proofs.BeforeLemmas.{united}
 use Rattle.lrpar_build.proofs.BroughtLemmas.{brought_twice, closed_brought}
-use Rattle.lrpar_build.proofs.GrowthLemmas.{has_room, missing_set, room_set, row_in, rows-set, sets_len}
+use Rattle.lrpar_first.proofs.SymbolLemmas.{prod_symbols}
+use Rattle.lrpar_first.proofs.GrowthLemmas.{has_room, missing_set, room_set, row_in, rows-set, sets_len}
 
 -- what was given comes
 pub brought_itself : (g : Grammar) (rows : List (List Bool)) → AreBroughtFrom g rows rows
@@ -34,9 +32,14 @@ same_rule r s v w e = ap first_rule e
 pub same_rest : (r s : ℕ) (v w : List GrammarSymbol) → Nonterminal r ∷ v ≡ Nonterminal s ∷ w → v ≡ w
 same_rest r s v w e = ap (drop 1) e
 
--- an empty list begins with no rule
-pub none_first : (r : ℕ) (all w : List GrammarSymbol) → length all ≡ 0 → all ≡ Nonterminal r ∷ w → ⊥
-none_first r all w none e = let some = ap length e in absurd (omega (arith, none, some))
+-- what holds where a production has put what it brings to the set of the rule that it begins with
+pub record IsSpreadTo (g : Grammar) (sets : List TokenSet) (p target : ℕ) (old new : TokenSet) : Type 0 where
+  pub room : HaveRoom g (rows_of (set sets target new))
+  pub kept : Keeps (rows_of sets) (rows_of (set sets target new))
+  pub sound : AreBroughtFrom g (rows_of sets) (rows_of (set sets target new))
+  pub grown : missing new.bits.items < missing (get_or sets target old).bits.items → total_missing (rows_of (set sets target new)) < total_missing (rows_of sets)
+  pub same : new.bits.items ≡ (get_or sets target old).bits.items → rows_of (set sets target new) ≡ rows_of sets
+  pub closed : new.bits.items ≡ (get_or sets target old).bits.items → IsSpreadAt g (rows_of (set sets target new)) p
 
 module _ (g : Grammar) (sets : List TokenSet) (p rule target mark : ℕ) (w : List GrammarSymbol) (known : p < prods_len g) (is : rule ≡ rule_of g p)
     (rule_low : rule_of g p < rules_len g) (begins : symbols_of g p ≡ Nonterminal target ∷ w) (low : target < rules_len g) (marked : mark ≡ mark_of g)
@@ -74,12 +77,12 @@ module _ (g : Grammar) (sets : List TokenSet) (p rule target mark : ℕ) (w : Li
     λ first. (came t).1 (inr (subst (λ b. IsFirstBefore g b w t) (sym from_row) first)),
   )
 
-  pub spread_room : HaveRoom g (rows_of (set sets target new))
+  spread_room : HaveRoom g (rows_of (set sets target new))
   spread_room =
       let old_wide = All-get_or (λ row. length row ≡ mark_of g + 1) (rows_of sets) target [] inside room.wide in
       subst (HaveRoom g) (sym new_rows) (room_set g (rows_of sets) target new.bits.items room (wide ∙ ap length old_row ∙ old_wide))
 
-  pub spread_keeps : Keeps (rows_of sets) (rows_of (set sets target new))
+  spread_keeps : Keeps (rows_of sets) (rows_of (set sets target new))
   spread_keeps r t h =
       subst (λ rows. HasIn rows r t) (sym new_rows)
       (elim (cases_eq r target) as (λ _. HasIn (set (rows_of sets) target new.bits.items) r t) [
@@ -89,7 +92,7 @@ module _ (g : Grammar) (sets : List TokenSet) (p rule target mark : ℕ) (w : Li
         | inr other ↦ subst (λ b. IsTrue (has b t)) (sym (get_or-set_other (rows_of sets) target r new.bits.items [] other)) h
       ])
 
-  pub spread_sound : AreBroughtFrom g (rows_of sets) (rows_of (set sets target new))
+  spread_sound : AreBroughtFrom g (rows_of sets) (rows_of (set sets target new))
   spread_sound r t h =
       let h' = subst (λ rows. HasIn rows r t) new_rows h in
       elim (cases_eq r target) as (λ _. IsBrought g (HasIn (rows_of sets)) r t) [
@@ -104,15 +107,15 @@ module _ (g : Grammar) (sets : List TokenSet) (p rule target mark : ℕ) (w : Li
         | inr other ↦ Given r t (subst (λ b. IsTrue (has b t)) (get_or-set_other (rows_of sets) target r new.bits.items [] other) h')
       ]
 
-  pub spread_less : missing new.bits.items < missing (get_or sets target d').bits.items → total_missing (rows_of (set sets target new)) < total_missing (rows_of sets)
+  spread_less : missing new.bits.items < missing (get_or sets target d').bits.items → total_missing (rows_of (set sets target new)) < total_missing (rows_of sets)
   spread_less less =
       let less' = subst (λ b. missing new.bits.items < missing b) old_row less in
       subst (λ rows. total_missing rows < total_missing (rows_of sets)) (sym new_rows) (missing_set (rows_of sets) target new.bits.items inside less')
 
-  pub spread_same : new.bits.items ≡ (get_or sets target d').bits.items → rows_of (set sets target new) ≡ rows_of sets
+  spread_same : new.bits.items ≡ (get_or sets target d').bits.items → rows_of (set sets target new) ≡ rows_of sets
   spread_same same = new_rows ∙ ap (set (rows_of sets) target) (same ∙ old_row) ∙ set-get_or (rows_of sets) target []
 
-  pub spread_closed : new.bits.items ≡ (get_or sets target d').bits.items → IsSpreadAt g (rows_of (set sets target new)) p
+  spread_closed : new.bits.items ≡ (get_or sets target d').bits.items → IsSpreadAt g (rows_of (set sets target new)) p
   spread_closed same =
       subst (λ rows. IsSpreadAt g rows p) (sym (spread_same same)) (λ r s t v begins' has_s first.
       let alike = sym begins ∙ begins' in
@@ -123,6 +126,9 @@ module _ (g : Grammar) (sets : List TokenSet) (p rule target mark : ℕ) (w : Li
       let now = (new_has t).1 (inr (low_t, in_fresh)) in
       subst (λ n. HasIn (rows_of sets) n t) (same_rule target r w v alike) (subst (λ b. IsTrue (has b t)) (same ∙ old_row) now))
 
+  pub spread_to : IsSpreadTo g sets p target d' new
+  spread_to = record { room = spread_room; kept = spread_keeps; sound = spread_sound; grown = spread_less; same = spread_same; closed = spread_closed }
+
 -- where the production's rule has no lookaheads, it brings nothing
 pub spread_nothing : (g : Grammar) (sets : List TokenSet) (p rule : ℕ) (d : TokenSet) → rule ≡ rule_of g p → rule_of g p < rules_len g → HaveRoom g (rows_of sets)
     → ((t : ℕ) → IsTrue (has (get_or sets rule d).bits.items t) → ⊥) → IsSpreadAt g (rows_of sets) p
@@ -131,50 +137,13 @@ spread_nothing g sets p rule d is low room none r s t w begins has_s first =
     let row = row_in sets rule d (omega (arith, count, is, low)) ∙ ap (row_at (rows_of sets)) is in
     absurd (none s (subst (λ b. IsTrue (has b s)) (sym row) has_s))
 
--- a production whose first symbol was split off
-pub begins_by : {S : Type 0} (index : S → ℕ) (symbols rest : List (Symbol S)) (first shown : Symbol S) → IsFirstAndRest symbols first rest → first ≡ shown
-    → map (symbol_of index) symbols ≡ symbol_of index shown ∷ map (symbol_of index) rest
-begins_by index symbols rest first shown split shows = ap (map (symbol_of index)) split.0 ∙ ap (λ s. symbol_of index s ∷ map (symbol_of index) rest) shows
-
--- the symbols of a production from a place on, the first of which was split off
-pub behind_by : {S : Type 0} (index : S → ℕ) (symbols rest : List (Symbol S)) (first shown : Symbol S) (all : List GrammarSymbol) (k : ℕ)
-    → map (symbol_of index) symbols ≡ all → IsFirstAndRest (take (length symbols - k) (drop k symbols)) first rest → first ≡ shown
-    → drop k all ≡ symbol_of index shown ∷ map (symbol_of index) rest
-behind_by index symbols rest first shown all k is split shows =
-    let long : length (drop k symbols) ≤ length symbols - k = let exact = length-drop k symbols in omega (arith, exact) in
-    let whole = take_all (length symbols - k) (drop k symbols) long in
-    ap (drop k) (sym is) ∙ drop-map (symbol_of index) k symbols ∙ begins_by index (drop k symbols) rest first shown (subst (λ xs. IsFirstAndRest xs first rest) whole split) shows
-
--- nothing is left of them, or a token comes first: then no rule does
-pub nothing_behind : {S : Type 0} (index : S → ℕ) (symbols : List (Symbol S)) (all : List GrammarSymbol) (k : ℕ) → map (symbol_of index) symbols ≡ all
-    → length (take (length symbols - k) (drop k symbols)) ≡ 0 → (r : ℕ) (w : List GrammarSymbol) → drop k all ≡ Nonterminal r ∷ w → ⊥
-nothing_behind index symbols all k is none r w begins =
-    let long : length (drop k symbols) ≤ length symbols - k = let exact = length-drop k symbols in omega (arith, exact) in
-    let whole = take_all (length symbols - k) (drop k symbols) long in
-    let shown : length (drop k symbols) ≡ 0 = subst (λ xs. length xs ≡ 0) whole none in
-    let one : length (drop k symbols) ≡ suc (length w) =
-    sym (length-map (drop k symbols) (symbol_of index)) ∙ ap length (sym (drop-map (symbol_of index) k symbols) ∙ ap (drop k) is ∙ begins) in
-    omega (arith, shown, one)
-
-pub token_behind : (k t : ℕ) (all rest : List GrammarSymbol) → drop k all ≡ Terminal t ∷ rest → (r : ℕ) (w : List GrammarSymbol) → drop k all ≡ Nonterminal r ∷ w → ⊥
-token_behind k t all rest begins r w begins' = let both = sym begins ∙ begins' in absurd cc
-
-symbol_weaker : (rules tokens : ℕ) (s : GrammarSymbol) → IsListedSymbol rules tokens s → IsSymbolBelow rules (tokens + 1) s
-symbol_weaker rules tokens (Nonterminal r) h = h.1
-symbol_weaker rules tokens (Terminal t) h = omega (arith, h)
-
--- all symbols of a production are below the mark, and so are all but the first
-pub prod_symbols : (g : Grammar) → IsWellFormed g → (p : ℕ) → p < prods_len g → All (IsSymbolBelow (rules_len g) (tokens_len g)) (symbols_of g p)
-prod_symbols g well p known =
-    let weaker : (s : GrammarSymbol) → IsListedSymbol (rules_len g) (end_token g) s → IsSymbolBelow (rules_len g) (tokens_len g) s = symbol_weaker (rules_len g) (end_token g) in
-    elim (cases_lt p (start_prod g)) [
-      | inl listed ↦ All-weaker (IsListedSymbol (rules_len g) (end_token g)) (IsSymbolBelow (rules_len g) (tokens_len g)) weaker (symbols_of g p) (well.symbols p listed)
-      | inr last ↦
-          let is : start_prod g ≡ p = omega (arith, known, last) in
-          subst (λ n. All (IsSymbolBelow (rules_len g) (tokens_len g)) (symbols_of g n)) is
-          (subst (All (IsSymbolBelow (rules_len g) (tokens_len g))) (sym well.last_symbols)
-          (All-cons (IsSymbolBelow (rules_len g) (tokens_len g)) (Nonterminal g.start) [] well.start_within (All-nil (IsSymbolBelow (rules_len g) (tokens_len g)))))
-    ]
+-- a rule that stands in a production is one of the grammar, and so are the symbols behind it
+pub behind_listed : (g : Grammar) → IsWellFormed g → (p k r : ℕ) (w : List GrammarSymbol) → p < prods_len g → drop k (symbols_of g p) ≡ Nonterminal r ∷ w
+    → (r < rules_len g) × All (IsSymbolBelow (rules_len g) (tokens_len g)) w
+behind_listed g well p k r w known begins =
+    let below = IsSymbolBelow (rules_len g) (tokens_len g) in
+    let all : All below (Nonterminal r ∷ w) = subst (All below) begins (All-drop below k (symbols_of g p) (prod_symbols g well p known)) in
+    (All-head below (Nonterminal r) w all, All-tail below (Nonterminal r) w all)
 
 -- one spread after another
 pub brought_on : (g : Grammar) (one two three : List (List Bool)) → AreBroughtFrom g one two → AreBroughtFrom g two three → AreBroughtFrom g one three

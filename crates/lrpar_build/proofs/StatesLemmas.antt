@@ -8,7 +8,7 @@ use Rattle.std.proofs.lemmas.Option.{slice_get_past}
 use Rattle.std.specs.Option.{option_map_or}
 use Rattle.lrpar_grammar.specs.Grammar.{Grammar, GrammarSymbol, IsListedSymbol, IsWellFormed, Nonterminal, Terminal, end_token, rule_of, rules_len, start_prod, symbols_of}
 use Rattle.lrpar_states.specs.Graph.{ItemOf}
-use Rattle.lrpar_build.specs.Canonical.{AreCanonical, AreSame, IsStep, ReachesMore}
+use Rattle.lrpar_build.specs.Canonical.{AreCanonical, AreSame, IsTransition, ReachesMore}
 use Rattle.lrpar_build.specs.Cores.{CoreSet, IsAmong}
 use Rattle.lrpar_build.specs.ItemSets.{IsAdvanced, IsInClosure, Own, Added, IsReachedBy, IsStartItem}
 use Rattle.lrpar_build.specs.Kernels.{AreKernels, GoesTo, IsBegun, IsKernel, kernel_at, path_at}
@@ -149,7 +149,7 @@ module _ (g : Grammar) where
 
     -- where a state goes by a symbol, its items do
     step_is : (s : ℕ) (symbol : GrammarSymbol) (next : Option ℕ) → GoesTo g kernels (state_at states s).cores symbol next
-        → IsStep g (length states) (sets_at states) s symbol next
+        → IsTransition g (length states) (sets_at states) s symbol next
     step_is s symbol None goes = goes
     step_is s symbol (Some next) goes =
         let advanced = IsAdvanced g (sets_at states s) symbol in (
@@ -160,7 +160,7 @@ module _ (g : Grammar) where
         )
 
     steps_of : (s : ℕ) → s < length states → (symbol : GrammarSymbol)
-        → (next : Option ℕ) × IsStep g (length states) (sets_at states) s symbol next
+        → (next : Option ℕ) × IsTransition g (length states) (sets_at states) s symbol next
     steps_of s low (Nonterminal r) =
         (lookup (nat_eq r) (state_at states s).gotos, step_is s (Nonterminal r) (lookup (nat_eq r) (state_at states s).gotos) ((expanded s low).gotos.goes r))
     steps_of s low (Terminal t) =
@@ -173,7 +173,7 @@ module _ (g : Grammar) where
 
     -- each set that is reached is some state's: along the path, from the start on
     step_reached : (path : List GrammarSymbol) (symbol : GrammarSymbol) (s : ℕ) → AreSame (sets_at states s) (IsReachedBy g path)
-        → (next : Option ℕ) → IsStep g (length states) (sets_at states) s symbol next → (x : ItemOf) → IsReachedBy g (symbol ∷ path) x
+        → (next : Option ℕ) → IsTransition g (length states) (sets_at states) s symbol next → (x : ItemOf) → IsReachedBy g (symbol ∷ path) x
         → (t : ℕ) × (t < length states) × AreSame (sets_at states t) (IsReachedBy g (symbol ∷ path))
     step_reached path symbol s same None step x h =
         let before = closure_of_some (IsAdvanced g (IsReachedBy g path) symbol) x h in

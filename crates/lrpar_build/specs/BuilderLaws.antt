@@ -5,7 +5,7 @@ use Rattle.lrpar_states.specs.ConflictsFit.{ConflictsFit}
 use Rattle.lrpar_states.specs.Graph.{Graph, ItemOf, graph_len}
 use Rattle.lrpar_states.specs.Safe.{IsSafe}
 use Rattle.lrpar_states.specs.Table.{ConflictLists, ReduceReduce, ShiftReduce, Table, TableAction, ShiftTo, ReduceBy, Accepts, Fails, action_of, goto_of, states_len}
-use Rattle.lrpar_build.specs.Canonical.{ActsAsWanted, GoesAsWanted, IsAcceptConflict, IsCanonical, IsReduceConflict, IsShiftConflict, IsStep, WantsAccept, WantsReduce, sets_of}
+use Rattle.lrpar_build.specs.Canonical.{ActsAsWanted, GoesAsWanted, IsAcceptConflict, IsCanonical, IsReduceConflict, IsShiftConflict, IsTransition, WantsAccept, WantsReduce, sets_of}
 
 -- the table has a state for each set of the graph, and starts in number 0; it has the grammar's tokens and rules; in each state it
 -- does and goes as the set wants; and past its states, its tokens and its rules it does nothing
@@ -28,7 +28,7 @@ CanonicalTablesAreSafe =
 
 -- set s, one of len, wants the action at token t
 abbrev pub Wants : Grammar → ℕ → (ℕ → ItemOf → Type 0) → ℕ → ℕ → TableAction → Type 0
-Wants g len sets s t (ShiftTo next) = IsStep g len sets s (Terminal t) (Some next)
+Wants g len sets s t (ShiftTo next) = IsTransition g len sets s (Terminal t) (Some next)
 Wants g len sets s t (ReduceBy p) = WantsReduce g sets s t p
 Wants g len sets s t Accepts = WantsAccept g sets s t
 Wants g len sets s t Fails = ⊥

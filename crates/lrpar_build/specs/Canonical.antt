@@ -36,9 +36,9 @@ abbrev pub LeadsTo : Grammar → (ℕ → ItemOf → Type 0) → ℕ → Grammar
 LeadsTo g sets s symbol next = AreSame (sets next) (IsInNext g (sets s) symbol)
 
 -- this is where set s goes by a symbol: to one of the len sets if an item stands before it, and else nowhere
-abbrev pub IsStep : Grammar → ℕ → (ℕ → ItemOf → Type 0) → ℕ → GrammarSymbol → Option ℕ → Type 0
-IsStep g len sets s symbol None = ¬ (StandsBefore g sets s symbol)
-IsStep g len sets s symbol (Some next) = StandsBefore g sets s symbol × (next < len) × LeadsTo g sets s symbol next
+abbrev pub IsTransition : Grammar → ℕ → (ℕ → ItemOf → Type 0) → ℕ → GrammarSymbol → Option ℕ → Type 0
+IsTransition g len sets s symbol None = ¬ (StandsBefore g sets s symbol)
+IsTransition g len sets s symbol (Some next) = StandsBefore g sets s symbol × (next < len) × LeadsTo g sets s symbol next
 
 -- at token t set s has a complete item `A: v .` of production p, which isn't the start production
 abbrev pub WantsReduce : Grammar → (ℕ → ItemOf → Type 0) → ℕ → ℕ → ℕ → Type 0

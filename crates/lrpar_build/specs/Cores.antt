@@ -2,9 +2,9 @@
 use Rattle.std.specs.Prelude.{◌≡◌, ◌<◌, ◌≤◌, ◌+◌, ℕ, Bool, IsTrue, List, ◌∷◌, Contains, drop, length}
 use Rattle.lrpar_grammar.specs.Grammar.{Grammar, GrammarSymbol, Nonterminal, prod_len, prods_len, rule_of, symbols_of}
 use Rattle.lrpar_states.specs.Graph.{ItemOf}
-use Rattle.lrpar_build.specs.FirstRows.{IsFirstBefore, mark_of}
+use Rattle.lrpar_first.specs.FirstRows.{IsFirstBefore, mark_of}
 use Rattle.lrpar_build.specs.Brought.{HasIn}
-use Rattle.lrpar_build.specs.Tokens.{has}
+use Rattle.lrpar_first.specs.Tokens.{has}
 use Rattle.lrpar_build.specs.declared.cores.CoreItems.{CoreItems}
 
 -- the items of one core: its production, its dot, and whether each token is a lookahead

@@ -3,7 +3,7 @@
 use Rattle.std.specs.Prelude.{◌≡◌, ◌<◌, ◌+◌, ℕ, List, [], ◌∷◌, Some, drop, slice_get}
 use Rattle.lrpar_grammar.specs.Grammar.{Grammar, GrammarSymbol, Nonterminal, end_token, prods_len, rule_of, start_prod, symbols_of}
 use Rattle.lrpar_states.specs.Graph.{ItemOf, item_at}
-use Rattle.lrpar_build.specs.First.{IsFirst}
+use Rattle.lrpar_first.specs.First.{IsFirst}
 
 -- what an item `A: v . B w  {t}` adds to its set: each item `B: . u  {b}`, for a production of B and a token b of First(w, t)
 pub record Adds (g : Grammar) (x y : ItemOf) : Type 0 where

@@ -24,6 +24,6 @@ abbrev pub key_cmp : {S A : Type 0} → (S → ℕ) → List CoreSet → Vec (Co
 key_cmp index kernel key = slice_cmp core_cmp kernel (map (core_set index) key.items)
 
 -- the map has each kernel, with its number
-abbrev pub HasNumbers : {S A : Type 0} → (S → ℕ) → List (List CoreSet) → BTreeMap (Vec (CoreItems S) A) (StIdx S) → Type 0
-HasNumbers index kernels numbers =
+abbrev pub NumbersKernels : {S A : Type 0} → (S → ℕ) → List (List CoreSet) → BTreeMap (Vec (CoreItems S) A) (StIdx S) → Type 0
+NumbersKernels index kernels numbers =
     (s : ℕ) → s < length kernels → option_map (λ state. index state.0) (get_by (key_cmp index (kernel_at kernels s)) numbers) ≡ Some s

@@ -6,7 +6,7 @@ use Rattle.lrpar_states.specs.Graph.{ItemOf}
 use Rattle.lrpar_build.specs.Canonical.{AreSame}
 use Rattle.lrpar_build.specs.Cores.{CoreSet, IsAmong, IsCoreOf}
 use Rattle.lrpar_build.specs.ItemSets.{IsAdvanced, IsInClosure, IsReachedBy}
-use Rattle.lrpar_build.specs.Tokens.{has}
+use Rattle.lrpar_first.specs.Tokens.{has}
 
 -- the place of a production in the order: the start production's is the first, then the others as they are numbered
 abbrev pub place_of : Grammar → ℕ → ℕ
@@ -22,9 +22,9 @@ abbrev pub ComesBefore : Grammar → CoreSet → CoreSet → Type 0
 ComesBefore g a b = Precedes g a.prod a.dot b.prod b.dot
 
 -- each core comes before all behind it
-abbrev pub AreInOrder : Grammar → List CoreSet → Type 0
-AreInOrder g [] = Unit {0}
-AreInOrder g (core ∷ cores) = All (ComesBefore g core) cores × AreInOrder g cores
+abbrev pub AreCoresInOrder : Grammar → List CoreSet → Type 0
+AreCoresInOrder g [] = Unit {0}
+AreCoresInOrder g (core ∷ cores) = All (ComesBefore g core) cores × AreCoresInOrder g cores
 
 -- the core has some lookahead
 abbrev pub IsFilled : CoreSet → Type 0
@@ -36,7 +36,7 @@ IsBegun g core = (0 < core.dot) ⊎ (core.prod ≡ start_prod g)
 
 -- cores of the grammar in their order, each with some lookahead
 pub record AreCores (g : Grammar) (cores : List CoreSet) : Type 0 where
-  pub in_order : AreInOrder g cores
+  pub in_order : AreCoresInOrder g cores
   pub of_grammar : All (IsCoreOf g) cores
   pub filled : All IsFilled cores
 

@@ -4,14 +4,14 @@ use Rattle.std.specs.Map.{keys_of, lookup}
 use Rattle.lrpar_grammar.specs.Grammar.{Grammar, GrammarSymbol, Nonterminal, Terminal, rules_len, tokens_len}
 use Rattle.lrpar_states.specs.Graph.{ItemOf}
 use Rattle.lrpar_states.specs.PlainRows.{goto_entry}
-use Rattle.lrpar_build.specs.Canonical.{AreCanonical, AreSame, IsStep}
+use Rattle.lrpar_build.specs.Canonical.{AreCanonical, AreSame, IsTransition}
 use Rattle.lrpar_build.specs.Cores.{CoreSet, IsAmong, IsCoreOf, core_set}
 use Rattle.lrpar_build.specs.ItemSets.{IsInClosure, IsStartItem}
 use Rattle.lrpar_build.specs.KernelMap.{kernel_rows}
 use Rattle.lrpar_build.specs.Kernels.{AreCores, AreNext, GoesTo, kernel_at}
 use Rattle.lrpar_build.specs.Wanted.{AreOnce, AscendFrom, shift_entry}
-use Rattle.lrpar_build.specs.FirstRows.{AreFirsts, HaveRoom, mark_of, rows_of}
-use Rattle.lrpar_build.specs.declared.state.State.{State}
+use Rattle.lrpar_first.specs.FirstRows.{AreFirsts, HaveRoom, mark_of, rows_of}
+use Rattle.lrpar_build.specs.declared.item_set.State.{State}
 use Rattle.lrpar_build.specs.declared.states.Sets.{Sets}
 use Rattle.lrpar_build.specs.declared.states.Successors.{Successors}
 
@@ -45,9 +45,9 @@ pub record AreStates (g : Grammar) (states : List StateOf) : Type 0 where
   pub gotos_ascend : (s : ℕ) → s < length states → AscendFrom 0 (keys_of (state_at states s).gotos)
   pub shifts_ascend : (s : ℕ) → s < length states → AscendFrom 0 (keys_of (state_at states s).shifts)
   pub gotos : (s r : ℕ) → s < length states
-      → IsStep g (length states) (sets_at states) s (Nonterminal r) (lookup (nat_eq r) (state_at states s).gotos)
+      → IsTransition g (length states) (sets_at states) s (Nonterminal r) (lookup (nat_eq r) (state_at states s).gotos)
   pub shifts : (s t : ℕ) → s < length states
-      → IsStep g (length states) (sets_at states) s (Terminal t) (lookup (nat_eq t) (state_at states s).shifts)
+      → IsTransition g (length states) (sets_at states) s (Terminal t) (lookup (nat_eq t) (state_at states s).shifts)
 
 -- rows of the numbers of symbols, ascending, with where cores go by each: to one of the kernels, or nowhere
 pub record AreSteps (g : Grammar) (kernels : List (List CoreSet)) (cores : List CoreSet) (symbol : ℕ → GrammarSymbol) (rows : List (ℕ × ℕ)) : Type 0 where

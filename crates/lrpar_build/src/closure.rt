@@ -1,20 +1,19 @@
 //! The closure of a set of items.
-ghost use Rattle.std.specs.Prelude.{◌≡◌, ◌≢◌, ◌+◌, ◌↔◌, ◌⊎◌, ◌∷◌, ℕ, List, All, IfOk, MatchOption, OnOk, drop, length, map};
-ghost use Rattle.lrpar_grammar.specs.Grammar.{GrammarSymbol, IsWellFormed, Nonterminal, prods_len, symbols_of};
+ghost use Rattle.std.specs.Prelude.{◌≡◌, ◌+◌, ◌↔◌, ◌⊎◌, ℕ, All, IfOk, OnOk, length, map};
+ghost use Rattle.lrpar_grammar.specs.Grammar.{IsWellFormed, prods_len};
 ghost use Rattle.lrpar_states.specs.Graph.{ItemOf};
-ghost use Rattle.lrpar_grammar.specs.Symbols.{symbol_of};
-ghost use Rattle.lrpar_build.specs.FirstRows.{AreFirsts, HaveRoom, HoldNothing, mark_of, rows_of};
+ghost use Rattle.lrpar_first.specs.FirstRows.{AreFirsts, HaveRoom, mark_of, rows_of};
 ghost use Rattle.lrpar_build.specs.Brought.{HasIn, IsBrought};
 ghost use Rattle.lrpar_build.specs.Cores.{AreBringing, Brings, IsAmong, IsCoreOf, IsOfCore, IsOfRows, core_set};
 ghost use Rattle.lrpar_build.specs.ItemSets.{IsInClosure};
 ghost use Rattle.lrpar_build.specs.Kernels.{AreCores, IsKernel, IsPut};
 
 use crate::cores::CoreItems;
-use crate::first::add_first_before;
-use crate::reach::spread;
-use crate::tokens::TokenSet;
+use crate::reach::{rule_behind, spread};
+use lrpar_first::first::{add_first_before, clear_all};
+use lrpar_first::tokens::TokenSet;
 use lrpar_grammar::grammar::YaccGrammar;
-use lrpar_grammar::span::{PIdx, RIdx, StorageIndex, Symbol};
+use lrpar_grammar::span::{PIdx, StorageIndex};
 use std::alloc::{AllocError, Global};
 
 /// The closure of the kernel's cores: they themselves, and with its lookaheads each production of each rule that comes with them. The last
@@ -123,16 +122,6 @@ pub(crate) fn bring<StorageT: StorageIndex>(
     spread(grm, firsts, brought, front, fresh);
 }
 
-// Takes everything out of the sets.
-fn clear_all(sets: &mut [TokenSet])
-    ensures none { HoldNothing (rows_of sets.new) }
-    ensures room { map (λ row. length row) (rows_of sets.new) ≡ map (λ row. length row) (rows_of sets.old) }
-{
-    for rule in 0..sets.len() {
-        sets[rule].clear();
-    }
-}
-
 // Puts to what is brought the rule that the core stands before, if it does, with its lookaheads. `front` is a set to work with.
 fn bring_one<StorageT: StorageIndex>(
     grm: &YaccGrammar<StorageT>,
@@ -151,31 +140,11 @@ fn bring_one<StorageT: StorageIndex>(
     ensures exact { (r t : ℕ) → HasIn (rows_of brought.new) r t
         ↔ (HasIn (rows_of brought.old) r t ⊎ Brings grm.now (core_set StorageT.index core.now) r t) }
 {
-    match rule_behind(grm, core) {
+    match rule_behind(grm, core.prod, core.dot) {
         None => {}
         Some((rule, rest)) => {
             let target = usize::from(rule);
             add_first_before(grm, firsts, rest, &core.tokens, front, &mut brought[target]);
         }
-    }
-}
-
-// The rule that the core stands before, and the symbols behind it.
-fn rule_behind<'a, StorageT: StorageIndex>(
-    grm: &'a YaccGrammar<StorageT>,
-    core: &CoreItems<StorageT>,
-) -> Option<(RIdx<StorageT>, &'a [Symbol<StorageT>])>
-    requires { IsCoreOf grm.now (core_set StorageT.index core.now) }
-    ensures { let behind = drop core.now.dot (symbols_of grm.now (StorageT.index core.now.prod.0)) in
-        MatchOption result ((r : ℕ) (w : List GrammarSymbol) → behind ≢ Nonterminal r ∷ w)
-        (λ found. behind ≡ Nonterminal (StorageT.index found.0.0) ∷ map (symbol_of StorageT.index) found.1.now) }
-{
-    let symbols = &grm.prod(core.prod)[core.dot..];
-    match symbols.split_first() {
-        None => None,
-        Some((first, rest)) => match *first {
-            Symbol::Rule(rule) => Some((rule, rest)),
-            Symbol::Token(_) => None,
-        },
     }
 }

@@ -1,5 +1,5 @@
 //! Items by their cores.
-use crate::tokens::TokenSet;
+use lrpar_first::tokens::TokenSet;
 use lrpar_grammar::span::PIdx;
 
 /// The items of one core: its production, how many of its symbols stand before the dot, and the set of their lookaheads.

@@ -22,13 +22,13 @@ pub(crate) struct Kernels<StorageT: StorageIndex> {
 impl<StorageT: StorageIndex> Model for Kernels<StorageT> {
     ghost use Rattle.std.specs.Prelude.{List};
     ghost use Rattle.lrpar_build.specs.Cores.{CoreSet};
-    ghost use Rattle.lrpar_build.specs.KernelMap.{HasNumbers, kernel_rows};
+    ghost use Rattle.lrpar_build.specs.KernelMap.{NumbersKernels, kernel_rows};
 
     ghost Value = { List (List CoreSet) };
 
     ghost view = { λ found. kernel_rows StorageT.index found.kernels.items };
 
-    ghost invariant = { λ found. HasNumbers StorageT.index (kernel_rows StorageT.index found.kernels.items) found.numbers };
+    ghost invariant = { λ found. NumbersKernels StorageT.index (kernel_rows StorageT.index found.kernels.items) found.numbers };
 }
 
 impl<StorageT: StorageIndex> Kernels<StorageT> {
@@ -76,7 +76,7 @@ impl<StorageT: StorageIndex> Kernels<StorageT> {
         if let Some(state) = self.find(kernel) {
             return Ok(state);
         }
-        let next = self.kernels.len();
+        let next = self.len();
         if next >= max_states {
             return Err(BuildFault::TooManyStates);
         }

@@ -4,13 +4,11 @@
 pub mod build;
 mod closure;
 mod cores;
-mod entries;
 mod fault;
-mod first;
+mod item_set;
 mod kernels;
 pub mod laws;
 mod reach;
-mod state;
 mod states;
 mod tables;
-mod tokens;
+mod wants;

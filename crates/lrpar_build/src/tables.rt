@@ -3,7 +3,7 @@ ghost use Rattle.std.specs.Prelude.{◌≡◌, ◌≢◌, ◌<◌, ◌≤◌, �
 ghost use Rattle.lrpar_grammar.specs.Grammar.{tokens_len};
 ghost use Rattle.lrpar_states.specs.Graph.{HasItem, graph_len};
 ghost use Rattle.lrpar_states.specs.PlainConflicts.{reduce_reduce_of, shift_reduce_of};
-ghost use Rattle.lrpar_states.specs.PlainItems.{rows_of};
+ghost use Rattle.lrpar_states.specs.PlainItems.{graph_of_rows};
 ghost use Rattle.lrpar_states.specs.PlainRows.{action_entry, goto_entry, sparse_table_of};
 ghost use Rattle.lrpar_states.specs.Table.{IsTable};
 ghost use Rattle.lrpar_build.specs.Built.{IsBuilt};
@@ -13,9 +13,9 @@ ghost use Rattle.lrpar_build.specs.Wanted.{IsAcceptReduce};
 ghost use Rattle.lrpar_build.specs.declared.fault.BuildFault.TheVariants.{Memory};
 ghost use Rattle.lrpar_states.specs.declared.fault.TableFault.{TableFault};
 
-use crate::entries::{ReduceReduce, ShiftReduce, single_items, state_row};
 use crate::fault::BuildFault;
-use crate::state::State;
+use crate::item_set::State;
+use crate::wants::{ReduceReduce, ShiftReduce, single_items, state_row};
 use lrpar_grammar::grammar::YaccGrammar;
 use lrpar_grammar::span::{RIdx, StIdx, StorageIndex, TIdx};
 use lrpar_states::table::{
@@ -119,7 +119,7 @@ fn rows_of_items<StorageT: StorageIndex>(
     grm: &YaccGrammar<StorageT>,
     states: &[State<StorageT>],
 ) -> Result<Vec<Vec<Item<StorageT>>>, AllocError>
-    ensures { IfOk result (λ rows. rows_of StorageT.index rows ≡ item_rows grm.now (map (state_of StorageT.index) states.now)) }
+    ensures { IfOk result (λ rows. graph_of_rows StorageT.index rows ≡ item_rows grm.now (map (state_of StorageT.index) states.now)) }
 {
     let mut rows = Vec::with_capacity(alloc, states.len())?;
     for state in states {

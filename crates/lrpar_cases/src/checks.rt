@@ -6,7 +6,7 @@ use crate::read::CAP;
 use crate::rows::{agreed, text_of};
 use crate::subject::Subject;
 use lrpar::ParserData;
-use lrpar::check::{CheckFault, Refused};
+use lrpar::check::{CheckFault, CompleteFault, Refused};
 use lrpar::grammar::YaccGrammar;
 use lrpar::table::{StateGraph, StateTable};
 use std::alloc::Global;
@@ -96,7 +96,7 @@ fn push_checked(
     }
 }
 
-// That the table is taken, and whether it keeps its parts.
+// That the table is taken, whether it is complete, and whether it keeps its parts.
 fn push_taken(
     came: &mut String,
     alloc: Global,
@@ -104,7 +104,17 @@ fn push_taken(
     was: &str,
 ) -> Result<(), Fault> {
     came.push_str("checked\n")?;
+    push_completeness(came, data.check_complete(alloc))?;
     push_kept(came, alloc, data.grm(), data.sgraph(), data.stable(), was)
+}
+
+// Whether the table is complete.
+fn push_completeness(came: &mut String, told: Result<(), CompleteFault>) -> Result<(), Fault> {
+    match told {
+        Ok(()) => Ok(came.push_str("complete\n")?),
+        Err(CompleteFault::Memory) => Err(Fault::Memory),
+        Err(fault) => Ok(writeln!(came, "incomplete {fault}")?),
+    }
 }
 
 // Says where the parts aren't as they were.

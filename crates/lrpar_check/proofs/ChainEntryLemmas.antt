@@ -1,6 +1,6 @@
 -- Where a chain of a state is first too long, told by the stored entries: it makes a reduction, which its top stores.
-use Rattle.std.proofs.Common.{◌≡◌, ◌≢◌, ◌<◌, ◌≤◌, ◌+◌, ◌↔◌, ◌∙◌, inl, inr, refl, sym, ap, subst, arith, add-one, ℕ, suc, List, [], ◌∷◌, length, Option, Some, None, slice_index_or}
-use Rattle.std.specs.List.{Contains}
+use Rattle.std.proofs.Common.{◌≡◌, ◌≢◌, ◌<◌, ◌≤◌, ◌+◌, ◌↔◌, ◌∙◌, inl, inr, refl, sym, ap, subst, arith, add-one, ℕ, suc, List, [], ◌∷◌, length, Option, Some, None, slice_index_or, All, map}
+use Rattle.std.specs.List.{Contains, zip}
 use Rattle.std.specs.List.Sorted.{IsStrictlyIncreasing}
 use Rattle.std.specs.Map.{keys_of}
 use Rattle.std.specs.Option.{option_to_list, unwrap_or}
@@ -9,15 +9,18 @@ use Rattle.std.proofs.lemmas.List.{get_or-map, length-map}
 use Rattle.std.proofs.lemmas.List.Kept.{AllPairs-from_increasing}
 use Rattle.lrpar_grammar.specs.Grammar.{Grammar}
 use Rattle.lrpar_text.specs.declared.span.StIdx.{StIdx}
+use Rattle.lrpar_text.specs.declared.span.TIdx.{TIdx}
 use Rattle.lrpar_check.specs.Chain.{HasReductions, IsLongChain, IsShortUntil}
 use Rattle.lrpar_check.specs.Stack.{top_of}
+use Rattle.lrpar_check.proofs.EntryTests.{entries_len, entry_read}
 use Rattle.lrpar_check.proofs.SafetyLemmas.{each_more}
 use Rattle.lrpar_check.proofs.StepLemmas.{action_by_top}
-use Rattle.lrpar_states.specs.PlainRows.{plain_goto}
-use Rattle.lrpar_states.specs.Table.{Table, TableAction, ReduceBy, Fails, action_of, goto_of}
+use Rattle.lrpar_states.specs.PlainRows.{action_entry, plain_action, plain_goto}
+use Rattle.lrpar_states.specs.Table.{IsActionEntry, Table, TableAction, ReduceBy, Fails, action_of, actions_at, goto_of, states_len}
+use Rattle.lrpar_states.specs.declared.rows.Action.{Action}
 
 -- a chain that makes a reduction begins with one of its top
-pub top_reduces : (g : Grammar) (table : Table) (cap s : ℕ) (st : List ℕ) → top_of st ≡ Some s → (t : ℕ) → HasReductions g table t st (cap + 1)
+top_reduces : (g : Grammar) (table : Table) (cap s : ℕ) (st : List ℕ) → top_of st ≡ Some s → (t : ℕ) → HasReductions g table t st (cap + 1)
     → (p : ℕ) × (action_of table s t ≡ ReduceBy p)
 top_reduces g table cap s st top t long =
     let made : HasReductions g table t st (suc cap) = rw add-one at long in
@@ -28,7 +31,7 @@ top_reduces g table cap s st top t long =
     ]
 
 -- the top of a chain's start
-pub start_top : {S : Type 0} (index : S → ℕ) (s top : StIdx S) (above : Option (StIdx S)) → top ≡ unwrap_or above s
+start_top : {S : Type 0} (index : S → ℕ) (s top : StIdx S) (above : Option (StIdx S)) → top ≡ unwrap_or above s
     → top_of (index s.0 ∷ option_to_list (plain_goto index above)) ≡ Some (index top.0)
 start_top index s top None is = ap (λ x. Some (index x.0)) (sym is)
 start_top index s top (Some next) is = ap (λ x. Some (index x.0)) (sym is)
@@ -46,14 +49,14 @@ module _ (table : Table) (s : ℕ) (es : List (ℕ × TableAction))
   stored t holds = let r = reduces t holds in (r.0, (exact t (ReduceBy r.0)).1 (r.1, λ h. absurd cc))
 
   -- where it holds at the token of no entry, it never does
-  pub never_stored : (i : ℕ) → length es ≤ i → ((k : ℕ) (d : ℕ × TableAction) → k < i → ¬ (P (slice_index_or es k d).0)) → (t : ℕ) → ¬ (P t)
+  never_stored : (i : ℕ) → length es ≤ i → ((k : ℕ) (d : ℕ × TableAction) → k < i → ¬ (P (slice_index_or es k d).0)) → (t : ℕ) → ¬ (P t)
   never_stored i end fails t holds =
       let there = stored t holds in
       let at : P (slice_index_or es there.1.0 (t, ReduceBy there.0)).0 = subst (λ (e : ℕ × TableAction). P e.0) (sym there.1.2) holds in
       fails there.1.0 (t, ReduceBy there.0) (omega (arith, there.1.1, end)) at
 
   -- where it holds at the token of no entry before one, it doesn't below the token of that
-  pub not_before : IsStrictlyIncreasing (keys_of es) → (i : ℕ) (e : ℕ × TableAction) → i < length es → e ≡ slice_index_or es i e
+  not_before : IsStrictlyIncreasing (keys_of es) → (i : ℕ) (e : ℕ × TableAction) → i < length es → e ≡ slice_index_or es i e
       → ((k : ℕ) (d : ℕ × TableAction) → k < i → ¬ (P (slice_index_or es k d).0)) → (t : ℕ) → t < e.0 → ¬ (P t)
   not_before up i e below read fails t before holds =
       let there = stored t holds in
@@ -75,6 +78,63 @@ module _ (table : Table) (s : ℕ) (es : List (ℕ × TableAction))
                   omega (arith, here, key, less, before)
             ]
       ]
+
+-- what is known at an entry of the row of a chain's top, where the chain is too long at the token of none before it
+pub record IsAtEntry (Long : ℕ → Type 0) (tokens token : ℕ) (action : TableAction) (es more : List (ℕ × TableAction)) (place : ℕ) : Type 0 where
+  pub within : token < tokens
+  pub before : (t : ℕ) → t < token → ¬ (Long t)
+  pub reduces : Long token → (p : ℕ) × (action ≡ ReduceBy p)
+  pub more_fail : ¬ (Long token) → (k : ℕ) (d : ℕ × TableAction) → k < place + 1 → ¬ (Long (slice_index_or more k d).0)
+
+module _ {S : Type 0} (index : S → ℕ) (g : Grammar) (table : Table) (cap : ℕ) (s top : StIdx S) (above : Option (StIdx S)) (is : top ≡ unwrap_or above s)
+    (ts : List (TIdx S)) (actions : List (Action S)) (entries : map (action_entry index) (zip ts actions) ≡ actions_at table (index top.0))
+    (paired : length actions ≡ length ts)
+    (exact : (t : ℕ) (action : TableAction) → Contains (actions_at table (index top.0)) (t, action) ↔ ((action_of table (index top.0) t ≡ action) × (action ≢ Fails)))
+    (place : ℕ)
+    (fails : (k : ℕ) (d : ℕ × TableAction) → k < place
+    → ¬ (HasReductions g table (slice_index_or (actions_at table (index (unwrap_or above s).0)) k d).0 (index s.0 ∷ option_to_list (plain_goto index above)) (cap + 1))) where
+  abbrev chain : List ℕ
+  chain = index s.0 ∷ option_to_list (plain_goto index above)
+
+  abbrev Long : ℕ → Type 0
+  Long t = HasReductions g table t chain (cap + 1)
+
+  abbrev row : List (ℕ × TableAction)
+  row = actions_at table (index top.0)
+
+  long_reduces : (t : ℕ) → Long t → (p : ℕ) × (action_of table (index top.0) t ≡ ReduceBy p)
+  long_reduces = top_reduces g table cap (index top.0) chain (start_top index s top above is)
+
+  row_is : index top.0 ≡ index (unwrap_or above s).0
+  row_is = ap (λ (x : StIdx S). index x.0) is
+
+  row_fails : (k : ℕ) (d : ℕ × TableAction) → k < place → ¬ (Long (slice_index_or row k d).0)
+  row_fails = subst (λ (r : ℕ). (k : ℕ) (d : ℕ × TableAction) → k < place → ¬ (Long (slice_index_or (actions_at table r) k d).0)) (sym row_is) fails
+
+  row_len : length row ≡ length ts
+  row_len = entries_len (λ t. index t.0) (plain_action index) ts actions row paired entries
+
+  -- past the last entry it is too long at no token
+  pub row_ended : length ts ≤ place → (t : ℕ) → ¬ (Long t)
+  row_ended past = never_stored table (index top.0) row exact Long long_reduces place (omega (arith, row_len, past)) row_fails
+
+  pub row_entry : IsStrictlyIncreasing (keys_of row) → All (IsActionEntry table.tokens (states_len table)) row → (t : TIdx S) (action : Action S) → place < length ts
+      → t ≡ slice_index_or ts place t → action ≡ slice_index_or actions place action
+      → IsAtEntry Long table.tokens (index t.0) (plain_action index action) row (actions_at table (index (unwrap_or above s).0)) place
+  row_entry ascending good t action low t_at action_at =
+      let e : ℕ × TableAction = (index t.0, plain_action index action) in
+      let read = entry_read (λ x. index x.0) (plain_action index) ts actions row paired entries place t action low t_at action_at in
+      let below : place < length row = omega (arith, row_len, low) in
+      let entry = subst (IsActionEntry table.tokens table.states) (sym read) (good place e below) in
+      let there : Contains row e = (place, below, sym read) in
+      record {
+        within = entry.token;
+        before = not_before table (index top.0) row exact Long long_reduces ascending place e below read row_fails;
+        reduces = λ long. let made = long_reduces e.0 long in (made.0, sym ((exact e.0 e.1).0 there).0 ∙ made.1);
+        more_fail = λ short.
+            subst (λ (r : ℕ). (k : ℕ) (d : ℕ × TableAction) → k < place + 1 → ¬ (Long (slice_index_or (actions_at table r) k d).0)) row_is
+            (each_more (λ (x : ℕ × TableAction). ¬ (Long x.0)) row place e below read short row_fails);
+      }
 
 -- At the tokens below `end` neither the chain that begins with s alone is too long, nor one that begins with one of its
 -- first gotos; and at `end` one is, if that is a token.

@@ -21,7 +21,7 @@ use Rattle.lrpar_states.specs.Table.{Table, ReduceBy, Fails, IsClosed, action_of
 use Rattle.lrpar_check.proofs.PathLemmas.{goes_within}
 
 -- the top of a stack is that of its upper states
-top_over : (below short : List ℕ) → 0 < length short → top_of (below ++ short) ≡ top_of short
+pub top_over : (below short : List ℕ) → 0 < length short → top_of (below ++ short) ≡ top_of short
 top_over [] short some = refl
 top_over (s ∷ below) short some =
     let e : length (s ∷ below ++ short) - 1 ≡ suc (length (below ++ short) - 1) = omega (arith, length-append below short) in

@@ -6,11 +6,11 @@ use Rattle.std.proofs.lemmas.List.Elements.{All-contains}
 use Rattle.std.proofs.lemmas.Slice.Zip.{get_or-zip, length-zip}
 use Rattle.lrpar_grammar.specs.Grammar.{Grammar, GrammarSymbol, Nonterminal, Terminal, end_token, prods_len}
 use Rattle.lrpar_states.specs.Graph.{Graph}
-use Rattle.lrpar_states.specs.Safe.{AcceptsAtEnd, GoesBy, KeepsEnd, ReducesComplete, StepsFromCores}
+use Rattle.lrpar_states.specs.Safe.{AcceptsOnlyAtEnd, GoesBy, NeverShiftsEnd, ReducesComplete, StepsFromCores}
 use Rattle.lrpar_states.specs.Table.{Table, TableAction, ShiftTo, ReduceBy, Accepts, Fails, action_of, goto_of}
 use Rattle.lrpar_states.specs.declared.condition.SafetyCondition.{SafetyCondition}
 use Rattle.lrpar_states.specs.declared.condition.SafetyCondition.TheVariants.{S3, S4, S5, S7, S8}
-use Rattle.lrpar_check.specs.Entrywise.{AcceptHolds, ActionHolds, GotoHolds, IsNamed, ReduceHolds, ShiftHolds}
+use Rattle.lrpar_check.specs.Entrywise.{AcceptHolds, ActionHolds, GotoHolds, IsInRange, ReduceHolds, ShiftHolds}
 use Rattle.lrpar_check.proofs.SafetyLemmas.{never_by_kind, steps_by_kind}
 
 -- keys and values side by side, which are the entries of a state
@@ -104,10 +104,10 @@ goto_unasked g graph table _ s r next not_fourth not_eighth = tt
 
 module _ (g : Grammar) (graph : Graph) (table : Table) (s : ℕ) where
   -- S3 by actions
-  pub keeps_end_each : ((t : ℕ) (action : TableAction) → action_of table s t ≡ action → ActionHolds g graph table S3 s t action) ↔ KeepsEnd g table s
-  keeps_end_each = (λ each next at. each (end_token g) (ShiftTo next) at refl, λ keeps t action at. kept keeps t action at)
+  pub never_shifts_end_each : ((t : ℕ) (action : TableAction) → action_of table s t ≡ action → ActionHolds g graph table S3 s t action) ↔ NeverShiftsEnd g table s
+  never_shifts_end_each = (λ each next at. each (end_token g) (ShiftTo next) at refl, λ keeps t action at. kept keeps t action at)
     where
-      kept : KeepsEnd g table s → (t : ℕ) (action : TableAction) → action_of table s t ≡ action → ActionHolds g graph table S3 s t action
+      kept : NeverShiftsEnd g table s → (t : ℕ) (action : TableAction) → action_of table s t ≡ action → ActionHolds g graph table S3 s t action
       kept keeps t (ShiftTo next) at = λ end. keeps next (subst (λ (k : ℕ). action_of table s k ≡ ShiftTo next) end at)
       kept keeps t (ReduceBy p) at = tt
       kept keeps t Accepts at = tt
@@ -136,10 +136,10 @@ module _ (g : Grammar) (graph : Graph) (table : Table) (s : ℕ) where
       holds complete t Fails at = tt
 
   -- S7 by actions
-  pub accepts_each : ((t : ℕ) (action : TableAction) → action_of table s t ≡ action → ActionHolds g graph table S7 s t action) ↔ AcceptsAtEnd g graph table s
+  pub accepts_each : ((t : ℕ) (action : TableAction) → action_of table s t ≡ action → ActionHolds g graph table S7 s t action) ↔ AcceptsOnlyAtEnd g graph table s
   accepts_each = (λ each t at. each t Accepts at, λ accepts t action at. holds accepts t action at)
     where
-      holds : AcceptsAtEnd g graph table s → (t : ℕ) (action : TableAction) → action_of table s t ≡ action → ActionHolds g graph table S7 s t action
+      holds : AcceptsOnlyAtEnd g graph table s → (t : ℕ) (action : TableAction) → action_of table s t ≡ action → ActionHolds g graph table S7 s t action
       holds accepts t (ShiftTo next) at = tt
       holds accepts t (ReduceBy p) at = tt
       holds accepts t Accepts at = accepts t at
@@ -166,7 +166,7 @@ module _ (g : Grammar) (graph : Graph) (table : Table) (s : ℕ) where
 
   -- that its reductions are named, by actions
   pub named_each : ((t p : ℕ) → action_of table s t ≡ ReduceBy p → p < prods_len g) → (t : ℕ) (action : TableAction) → action_of table s t ≡ action
-      → IsNamed g action
+      → IsInRange g action
   named_each named t (ShiftTo next) at = tt
   named_each named t (ReduceBy p) at = named t p at
   named_each named t Accepts at = tt

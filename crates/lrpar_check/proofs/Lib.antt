@@ -11,3 +11,9 @@ pub mod StackReductionLemmas
 pub mod OverlayLemmas
 pub mod OverSettleLemmas
 pub mod EntryTests
+pub mod RunLemmas
+pub mod OneTreeLemmas
+pub mod FirstTokenLemmas
+pub mod CompleteLemmas
+pub mod SentenceLemmas
+pub mod ItemwiseLemmas

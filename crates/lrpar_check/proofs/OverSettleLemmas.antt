@@ -4,10 +4,10 @@ use Rattle.std.proofs.lemmas.List.{length-take-le}
 use Rattle.lrpar_grammar.specs.Grammar.{Grammar, prod_len}
 use Rattle.lrpar_states.specs.Table.{Table, ShiftTo}
 use Rattle.lrpar_check.specs.Chain.{most_reductions}
-use Rattle.lrpar_check.specs.Overlay.{IsFedOver, IsFull, IsHeldUpOver, IsSettledOver, IsShiftHeldUpOver, KeepsBy, Overlaid, OverlayFails, OverlayReduces, OverlayShifts, OverlayStays, kept_by, overlaid}
+use Rattle.lrpar_check.specs.Overlay.{IsFedOver, IsShortOfMemoryOver, IsSettledOver, IsShiftShortOfMemoryOver, KeepsBy, Overlaid, OverlayFails, OverlayReduces, OverlayShifts, OverlayStays, kept_by, overlaid}
 use Rattle.lrpar_check.specs.Reduction.{Reduces, Settles, left_by, top_action}
 use Rattle.lrpar_check.specs.Stack.{IsStack}
-use Rattle.lrpar_check.specs.StackReduction.{IsStackFedBy, IsStackHeldUp, IsStackSettledBy, IsStackShiftHeldUp, StackReducesBy}
+use Rattle.lrpar_check.specs.StackReduction.{IsStackFedBy, IsStackShortOfMemory, IsStackSettledBy, IsStackShiftShortOfMemory, StackReducesBy}
 use Rattle.lrpar_check.proofs.StackReductionLemmas.{states_reduce_by}
 
 -- how high a reduction leaves the stack
@@ -49,18 +49,8 @@ module _ (g : Grammar) (table : Table) (t : ℕ) where
     room = omega (arith, keeps.room, stays.room);
   }
 
-  -- and it is full
-  full_still : (prods : List ℕ) (old mid new : Overlaid) → KeepsBy g prods old mid → OverlayStays mid new → overlaid new ≡ overlaid mid
-      → IsFull old.room new
-  full_still prods old mid new keeps stays same =
-      let tail : length new.tail ≡ length mid.tail = ap (λ (st : List ℕ). length st) stays.tail in
-      elim stays.full as (λ _. IsFull old.room new) [
-        | inl room ↦ inl (omega (arith, tail, room, keeps.room))
-        | inr most ↦ inr (ap (λ (st : List ℕ). length st + 1) same ∙ most)
-      ]
-
-  pub held_up_over : (old new : Overlaid) → IsStackHeldUp overlaid rest_of OverlayFails g table t old new → IsHeldUpOver g table t old new
-  held_up_over old new h =
+  pub short_of_memory_over : (old new : Overlaid) → IsStackShortOfMemory overlaid rest_of OverlayFails g table t old new → IsShortOfMemoryOver g table t old new
+  short_of_memory_over old new h =
       let keeps = keeps_by old h.prods h.mid h.by in
       let stays = h.next.of_rest.stays in
       record {
@@ -71,12 +61,12 @@ module _ (g : Grammar) (table : Table) (t : ℕ) where
         next = h.next.after;
         due = subst (λ (st : List ℕ). Reduces g table t st h.next.prod h.next.after) (sym h.next.stays) h.next.due;
         longer = elim h.next.of_rest.longer as (λ _. (prod_len g h.next.prod ≡ 0) ⊎ (new.tail ≡ [])) [ inl none ↦ inl none | inr empty ↦ inr (stays.tail ∙ empty) ];
-        full = full_still h.prods old h.mid new keeps stays h.next.stays;
+        full = stays.full;
       }
 
-  shift_held_up_over : (cap : ℕ) (old new : Overlaid) → IsStackShiftHeldUp overlaid rest_of OverlayStays g table cap t old new
-      → IsShiftHeldUpOver g table cap t old new
-  shift_held_up_over cap old new h =
+  shift_short_of_memory_over : (cap : ℕ) (old new : Overlaid) → IsStackShiftShortOfMemory overlaid rest_of OverlayStays g table cap t old new
+      → IsShiftShortOfMemoryOver g table cap t old new
+  shift_short_of_memory_over cap old new h =
       let prods = h.settles.of_states.prods in
       let keeps = keeps_by old prods h.settled h.settles.by in
       let by = h.settles.of_states in
@@ -96,7 +86,7 @@ module _ (g : Grammar) (table : Table) (t : ℕ) where
         };
         next = h.next;
         due = subst (λ (st : List ℕ). top_action table t st ≡ ShiftTo h.next) same h.due;
-        full = full_still prods old h.settled new keeps h.of_rest h.stays;
+        full = h.of_rest.full;
       }
 
   pub fed_over : (cap : ℕ) (old : Overlaid) (shifted : Bool) (new : Overlaid) → IsStackFedBy overlaid rest_of OverlayShifts g table cap t old shifted new
@@ -115,8 +105,8 @@ module _ (g : Grammar) (table : Table) (t : ℕ) where
       }
   fed_over cap old false new h = ((h.0.0, settled_over cap old h.0.0 new h.0.1), h.1)
 
-  pub feed_held_up_over : (cap : ℕ) (old new : Overlaid)
-      → IsStackHeldUp overlaid rest_of OverlayFails g table t old new ⊎ IsStackShiftHeldUp overlaid rest_of OverlayStays g table cap t old new
-      → IsHeldUpOver g table t old new ⊎ IsShiftHeldUpOver g table cap t old new
-  feed_held_up_over cap old new (inl h) = inl (held_up_over old new h)
-  feed_held_up_over cap old new (inr h) = inr (shift_held_up_over cap old new h)
+  pub feed_short_of_memory_over : (cap : ℕ) (old new : Overlaid)
+      → IsStackShortOfMemory overlaid rest_of OverlayFails g table t old new ⊎ IsStackShiftShortOfMemory overlaid rest_of OverlayStays g table cap t old new
+      → IsShortOfMemoryOver g table t old new ⊎ IsShiftShortOfMemoryOver g table cap t old new
+  feed_short_of_memory_over cap old new (inl h) = inl (short_of_memory_over old new h)
+  feed_short_of_memory_over cap old new (inr h) = inr (shift_short_of_memory_over cap old new h)

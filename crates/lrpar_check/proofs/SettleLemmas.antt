@@ -11,7 +11,7 @@ use Rattle.lrpar_check.specs.Path.{NeverSticks}
 use Rattle.lrpar_check.specs.Reduction.{Reduces, ReducesBy, Settles, IsSettled, top_action, left_by, top_goto}
 use Rattle.lrpar_check.specs.Stack.{AreJoined, IsJoined, IsStack, top_of}
 use Rattle.lrpar_check.specs.StackReduction.{IsStackSettledBy, StackReducesBy}
-use Rattle.lrpar_check.specs.Step.{FitsGrammar, IsStackStep, IsStep}
+use Rattle.lrpar_check.specs.Step.{FitsGrammar, IsStackStep, IsStepOf}
 use Rattle.lrpar_states.specs.Table.{Table, ShiftTo, IsClosed, goto_of, states_len}
 use Rattle.lrpar_check.specs.declared.step.Step.{Step}
 use Rattle.lrpar_check.specs.declared.step.Step.TheVariants.{Reduced, LeavesNone, Stays}
@@ -100,17 +100,17 @@ module _ (g : Grammar) (table : Table) (cap : ℕ) (run : IsRun g table cap) (t 
       stack_more table st next stack (λ s top. inl (t, token, sym (action_by_top table t st s top) ∙ shift))
 
   -- a step that makes no reduction leaves the stack as it is, with none to make
-  pub settled_by_step : (st after : List ℕ) (step : Step) → IsStack table st → (step ≡ LeavesNone) ⊎ (step ≡ Stays) → IsStep g table t st step after
+  pub settled_by_step : (st after : List ℕ) (step : Step) → IsStack table st → (step ≡ LeavesNone) ⊎ (step ≡ Stays) → IsStepOf g table t st step after
       → (after ≡ st) × IsSettled table t st
   settled_by_step st after step stack is h =
       let path = stack_has_path table st stack in
       elim is as (λ _. (after ≡ st) × IsSettled table t st) [
         | inl leaves ↦
-            let drops = subst (λ (s : Step). IsStep g table t st s after) leaves h in
+            let drops = subst (λ (s : Step). IsStepOf g table t st s after) leaves h in
             let along = run.runs.reduces path.0 st t drops.0.0 path.1 drops.0.1 in
             absurd (omega (arith, along.reduces.deep, drops.0.2))
         | inr stays ↦
-            let none = subst (λ (s : Step). IsStep g table t st s after) stays h in (
+            let none = subst (λ (s : Step). IsStepOf g table t st s after) stays h in (
               none.2,
               λ p action.
                   let along = run.runs.reduces path.0 st t p path.1 action in none.0 p along.after along.reduces,
@@ -134,7 +134,7 @@ module _ (g : Grammar) (table : Table) (cap : ℕ) (run : IsRun g table cap) (t 
     -- and it ends them
     pub stack_settled_by : (old mid new : X) (prods : List ℕ) (count : ℕ) (step : Step) → IsStack table (states old) → IsStack table (states mid)
         → StackReducesBy states reduces g table t old prods mid → count ≡ length prods → (step ≡ LeavesNone) ⊎ (step ≡ Stays)
-        → IsStep g table t (states mid) step (states new) → IsStackStep states reduces g table t mid step new
+        → IsStepOf g table t (states mid) step (states new) → IsStackStep states reduces g table t mid step new
         → IsStackSettledBy states reduces g table cap t old count new
     stack_settled_by old mid new prods count step stack_old stack_mid made counted is of_states of_stack =
         let settled = settled_by_step (states mid) (states new) step stack_mid is of_states in

@@ -3,8 +3,8 @@ use Rattle.std.proofs.Common.{◌≡◌, ◌≤◌, ◌⊎◌, inl, inr, sym, su
 use Rattle.lrpar_grammar.specs.Grammar.{Grammar, prod_len, rule_of}
 use Rattle.lrpar_states.specs.Table.{Table}
 use Rattle.lrpar_check.specs.Reduction.{ReducesBy}
-use Rattle.lrpar_check.specs.Settled.{IsHeldUp, IsShiftHeldUp}
-use Rattle.lrpar_check.specs.StackReduction.{IsStackHeldUp, IsStackShiftHeldUp, StackReduces, StackReducesBy}
+use Rattle.lrpar_check.specs.Settled.{IsShortOfMemory, IsShiftShortOfMemory}
+use Rattle.lrpar_check.specs.StackReduction.{IsStackShortOfMemory, IsStackShiftShortOfMemory, StackReduces, StackReducesBy}
 
 module _ {X : Type 0} (states : X → List ℕ) (reduces : X → ℕ → ℕ → ℕ → X → Type 0) (g : Grammar) (table : Table) (t : ℕ) where
   -- reductions, and one more
@@ -28,14 +28,16 @@ module _ {X : Type 0} (states : X → List ℕ) (reduces : X → ℕ → ℕ →
       omega (arith, grows old p (rule_of g p) (prod_len g p) all.0 all.1.of_rest, grows_by room grows all.0 prods new all.2)
 
   module _ (fails : X → ℕ → X → Type 0) (shift_fails : X → X → Type 0) (room : X → ℕ) (grows : (a : X) (p r n : ℕ) (b : X) → reduces a p r n b → room a ≤ room b)
-      (full : (a : X) (n : ℕ) (b : X) → fails a n b → (n ≡ 0) × (room a ≤ length (states a)))
-      (shift_full : (a b : X) → shift_fails a b → room a ≤ length (states a)) where
-    -- a list of states is held up where it is full
-    pub list_held_up : (old new : X) → IsStackHeldUp states reduces fails g table t old new → IsHeldUp g table t (states old) (room old) (states new)
-    list_held_up old new h =
+      (full : (a : X) (n : ℕ) (b : X) → fails a n b → (n ≡ 0) × (room a ≤ room b) × (room b ≤ length (states b)))
+      (shift_full : (a b : X) → shift_fails a b → (room a ≤ room b) × (room b ≤ length (states b))) where
+    -- memory is wanting for a list of states where it is full
+    pub list_short_of_memory : (old new : X) → IsStackShortOfMemory states reduces fails g table t old new
+        → IsShortOfMemory g table t (states old) (room old) (states new) (room new)
+    list_short_of_memory old new h =
         let here = full h.mid (prod_len g h.next.prod) new h.next.of_rest in
         let more = grows_by room grows old h.prods h.mid h.by in
-        let P : List ℕ → Type 0 = λ st. IsHeldUp g table t (states old) (room old) st in
+        let same : length (states new) ≡ length (states h.mid) = ap (λ (st : List ℕ). length st) h.next.stays in
+        let P : List ℕ → Type 0 = λ st. IsShortOfMemory g table t (states old) (room old) st (room new) in
         subst P (sym h.next.stays) (record {
           prods = h.prods;
           reduced = states_reduce_by old h.prods h.mid h.by;
@@ -43,20 +45,30 @@ module _ {X : Type 0} (states : X → List ℕ) (reduces : X → ℕ → ℕ →
           next = h.next.after;
           due = h.next.due;
           empty = here.0;
-          full = omega (arith, more, here.1);
+          grown = omega (arith, more, here.1);
+          full = omega (arith, same, here.2);
         })
 
-    list_shift_held_up : (cap : ℕ) (old new : X) → IsStackShiftHeldUp states reduces shift_fails g table cap t old new
-        → IsShiftHeldUp g table cap t (states old) (room old) (states new)
-    list_shift_held_up cap old new h =
+    list_shift_short_of_memory : (cap : ℕ) (old new : X) → IsStackShiftShortOfMemory states reduces shift_fails g table cap t old new
+        → IsShiftShortOfMemory g table cap t (states old) (room old) (states new) (room new)
+    list_shift_short_of_memory cap old new h =
         let here = shift_full h.settled new h.of_rest in
         let more = grows_by room grows old h.settles.of_states.prods h.settled h.settles.by in
-        let P : List ℕ → Type 0 = λ st. IsShiftHeldUp g table cap t (states old) (room old) st in
-        subst P (sym h.stays) (record { count = h.count; settled = h.settles.of_states; next = h.next; due = h.due; full = omega (arith, more, here) })
+        let same : length (states new) ≡ length (states h.settled) = ap (λ (st : List ℕ). length st) h.stays in
+        let P : List ℕ → Type 0 = λ st. IsShiftShortOfMemory g table cap t (states old) (room old) st (room new) in
+        subst P (sym h.stays) (record {
+          count = h.count;
+          settled = h.settles.of_states;
+          next = h.next;
+          due = h.due;
+          grown = omega (arith, more, here.0);
+          full = omega (arith, same, here.1);
+        })
 
     -- and so it is where it is fed
-    pub list_feed_held_up : (cap : ℕ) (old new : X)
-        → IsStackHeldUp states reduces fails g table t old new ⊎ IsStackShiftHeldUp states reduces shift_fails g table cap t old new
-        → IsHeldUp g table t (states old) (room old) (states new) ⊎ IsShiftHeldUp g table cap t (states old) (room old) (states new)
-    list_feed_held_up cap old new (inl h) = inl (list_held_up old new h)
-    list_feed_held_up cap old new (inr h) = inr (list_shift_held_up cap old new h)
+    pub list_feed_short_of_memory : (cap : ℕ) (old new : X)
+        → IsStackShortOfMemory states reduces fails g table t old new ⊎ IsStackShiftShortOfMemory states reduces shift_fails g table cap t old new
+        → IsShortOfMemory g table t (states old) (room old) (states new) (room new)
+        ⊎ IsShiftShortOfMemory g table cap t (states old) (room old) (states new) (room new)
+    list_feed_short_of_memory cap old new (inl h) = inl (list_short_of_memory old new h)
+    list_feed_short_of_memory cap old new (inr h) = inr (list_shift_short_of_memory cap old new h)

@@ -1,20 +1,45 @@
 -- What one step makes of a list of states, and of the chain that goes on from them.
-use Rattle.std.proofs.Common.{◌≡◌, ◌<◌, ◌≤◌, ◌+◌, ◌-◌, ◌∙◌, ◌↔◌, ◌⊎◌, inl, inr, refl, sym, ap, subst, arith, ℕ, zero, suc, List, [], ◌∷◌, ◌++◌, length, map, take, slice_get, Option, Some, None}
+use Rattle.std.proofs.Common.{◌≡◌, ◌<◌, ◌≤◌, ◌+◌, ◌-◌, ◌∙◌, ◌↔◌, ◌⊎◌, inl, inr, refl, sym, ap, subst, arith, ℕ, zero, suc, List, [], ◌∷◌, ◌++◌, length, map, take, slice_get, Option, Some, None, Result, Ok, Err, IfOk, OnOk}
 use Rattle.std.proofs.lemmas.List.{length-append, length-map, length-take-le, map-append, take-map}
 use Rattle.std.proofs.lemmas.List.Elements.{All-push, All-take}
-use Rattle.std.proofs.lemmas.Option.{none-some}
+use Rattle.std.proofs.lemmas.Option.{get_or_from_slice_get, none-some, slice_get_within}
 use Rattle.std.specs.List.{All}
+use Rattle.std.specs.Result.{IsErrAnd}
 use Rattle.std.specs.Option.{MatchOption, option_and_then, option_map_or}
 use Rattle.lrpar_grammar.specs.Grammar.{Grammar, prods_len, prod_len, rule_of}
 use Rattle.lrpar_check.specs.Chain.{DropsAll, HasReductions}
 use Rattle.lrpar_check.specs.Reduction.{Reduces, top_action, top_goto, left_by}
 use Rattle.lrpar_check.specs.Stack.{top_of}
-use Rattle.lrpar_check.specs.StackReduction.{IsStepHeldUp}
-use Rattle.lrpar_check.specs.Step.{CanReduce, IsStep}
+use Rattle.lrpar_check.specs.StackReduction.{IsStepShortOfMemory}
+use Rattle.lrpar_check.specs.Step.{CanReduce, IsStepOf}
 use Rattle.lrpar_states.specs.Table.{Table, Fails, ReduceBy, IsClosed, action_of, goto_of, states_len}
 use Rattle.lrpar_check.specs.declared.step.Step.{Step}
 use Rattle.lrpar_check.specs.declared.step.Step.TheVariants.{Reduced, LeavesNone, Stays}
 use Rattle.lrpar_check.proofs.Reductions.{reduces_to_one}
+
+-- where an error is handed on, there is no value
+pub no_value : {T E : Type 0} (r : Result T E) (P : T → Type 0) (Q : E → Type 0) → IsErrAnd r Q → IfOk r P
+no_value (Ok x) P Q failed = absurd failed
+no_value (Err e) P Q failed = tt
+
+pub nothing_done : {T E : Type 0} (r : Result T E) (P : Type 0) (Q : E → Type 0) → IsErrAnd r Q → OnOk r P
+nothing_done (Ok x) P Q failed = absurd failed
+nothing_done (Err e) P Q failed = tt
+
+-- below more symbols than there are, or as many, no state is left; and below less, one is
+pub too_few : (height symbols states len : ℕ) → height ≡ states → symbols ≡ len → height ≤ symbols → states ≤ len
+too_few height symbols states len at is few = omega arith
+
+pub one_left : (height symbols : ℕ) → symbols < height → 1 ≤ height - symbols
+one_left height symbols deep = omega arith
+
+pub place_left : (height symbols states : ℕ) → height ≡ states → symbols < height → height - symbols - 1 < states
+place_left height symbols states at deep = omega arith
+
+-- a state that was read is one of those
+pub within_at : (bound : ℕ) (st : List ℕ) (at s : ℕ) → All (λ s. s < bound) st → slice_get st at ≡ Some s → s < bound
+within_at bound st at s all read =
+    subst (λ (s : ℕ). s < bound) (get_or_from_slice_get st at s s read) (all at s (slice_get_within st at s read))
 
 -- the lower elements stay where they are
 slice_get-take : (n i : ℕ) (st : List ℕ) → i < n → slice_get (take n st) i ≡ slice_get st i
@@ -107,7 +132,7 @@ goes_on_dropped g table t st n drops h =
     ]
 
 -- a chain that stays makes none
-pub goes_on_stays : (g : Grammar) (table : Table) (t : ℕ) (st after : List ℕ) (n : ℕ) → IsStep g table t st Stays after
+pub goes_on_stays : (g : Grammar) (table : Table) (t : ℕ) (st after : List ℕ) (n : ℕ) → IsStepOf g table t st Stays after
     → ¬ (HasReductions g table t st (suc n))
 goes_on_stays g table t st after n stays h =
     elim h as (λ _. ⊥) [ inl more ↦ stays.0 more.0 more.1 more.2 | inr last ↦ stays.1 last.0 ]
@@ -127,43 +152,43 @@ module _ (g : Grammar) (table : Table) (t : ℕ) (start : List ℕ) (cap : ℕ) 
 
   -- one step more
   pub remains_more : (st after : List ℕ) (made : ℕ) (step : Step) → Remains g table t start cap st made → step ≡ Reduced
-      → IsStep g table t st step after → Remains g table t start cap after (made + 1)
+      → IsStepOf g table t st step after → Remains g table t start cap after (made + 1)
   remains_more st after made step remains is reduced left many =
-      let h = subst (λ (s : Step). IsStep g table t st s after) is reduced in
+      let h = subst (λ (s : Step). IsStepOf g table t st s after) is reduced in
       let here = remains (suc left) (omega arith) in
       let on = goes_on_reduced g table t st h.0 after left h.1 in
       (λ all. on.0 (here.0 all), λ rest. here.1 (on.1 rest))
 
   -- a chain that ends early is short
   pub remains_early : (st after : List ℕ) (made : ℕ) (step : Step) → Remains g table t start cap st made → made < cap
-      → (step ≡ LeavesNone) ⊎ (step ≡ Stays) → IsStep g table t st step after → ¬ (HasReductions g table t start (cap + 1))
+      → (step ≡ LeavesNone) ⊎ (step ≡ Stays) → IsStepOf g table t st step after → ¬ (HasReductions g table t start (cap + 1))
   remains_early st after made step remains early is h all =
       let rest = (remains (suc (cap - made)) (omega arith)).0 all in
       elim is as (λ _. ⊥) [
         | inl leaves ↦
-            let drops = subst (λ (s : Step). IsStep g table t st s after) leaves h in
+            let drops = subst (λ (s : Step). IsStepOf g table t st s after) leaves h in
             omega (arith, goes_on_dropped g table t st (cap - made) drops.0 rest)
         | inr stays ↦
-            goes_on_stays g table t st after (cap - made) (subst (λ (s : Step). IsStep g table t st s after) stays h) rest
+            goes_on_stays g table t st after (cap - made) (subst (λ (s : Step). IsStepOf g table t st s after) stays h) rest
       ]
 
   -- where one reduction is still wanted, a step that makes one or would drop all states gives it
   pub remains_last : (st after : List ℕ) (made : ℕ) (step : Step) → Remains g table t start cap st made → made ≡ cap
-      → (step ≡ Reduced) ⊎ (step ≡ LeavesNone) → IsStep g table t st step after → HasReductions g table t start (cap + 1)
+      → (step ≡ Reduced) ⊎ (step ≡ LeavesNone) → IsStepOf g table t st step after → HasReductions g table t start (cap + 1)
   remains_last st after made step remains end is h =
       let rest = (remains 1 (omega arith)).1 in
       elim is as (λ _. HasReductions g table t start (cap + 1)) [
         | inl reduced ↦
-            let more = subst (λ (s : Step). IsStep g table t st s after) reduced h in rest (inl (more.0, after, more.1, tt))
+            let more = subst (λ (s : Step). IsStepOf g table t st s after) reduced h in rest (inl (more.0, after, more.1, tt))
         | inr leaves ↦
-            let drops = subst (λ (s : Step). IsStep g table t st s after) leaves h in rest (inr (drops.0, refl))
+            let drops = subst (λ (s : Step). IsStepOf g table t st s after) leaves h in rest (inr (drops.0, refl))
       ]
 
   -- and no other does
   pub remains_none : (st after : List ℕ) (made : ℕ) (step : Step) → Remains g table t start cap st made → made ≡ cap → step ≡ Stays
-      → IsStep g table t st step after → ¬ (HasReductions g table t start (cap + 1))
+      → IsStepOf g table t st step after → ¬ (HasReductions g table t start (cap + 1))
   remains_none st after made step remains end is h all =
-      goes_on_stays g table t st after 0 (subst (λ (s : Step). IsStep g table t st s after) is h) ((remains 1 (omega arith)).0 all)
+      goes_on_stays g table t st after 0 (subst (λ (s : Step). IsStepOf g table t st s after) is h) ((remains 1 (omega arith)).0 all)
 
 -- a reduction that can be made, and is the top's action, is due
 pub reduces_where_can : (g : Grammar) (table : Table) (t p : ℕ) (st : List ℕ) → top_action table t st ≡ ReduceBy p → p < prods_len g
@@ -178,10 +203,10 @@ reduces_where_can g table t p st action known can = record {
 }
 
 -- and it is held up where memory was wanting for it
-pub held_up_at : {X : Type 0} (states : X → List ℕ) (fails : X → ℕ → X → Type 0) (g : Grammar) (table : Table) (t p : ℕ) (old new : X)
+pub short_of_memory_at : {X : Type 0} (states : X → List ℕ) (fails : X → ℕ → X → Type 0) (g : Grammar) (table : Table) (t p : ℕ) (old new : X)
     → top_action table t (states old) ≡ ReduceBy p → p < prods_len g → CanReduce g table p (states old) → fails old (prod_len g p) new
-    → states new ≡ states old → IsStepHeldUp states fails g table t old new
-held_up_at states fails g table t p old new action known can rest stays = record {
+    → states new ≡ states old → IsStepShortOfMemory states fails g table t old new
+short_of_memory_at states fails g table t p old new action known can rest stays = record {
   prod = p;
   after = left_by g p (states old) ++ can.1.0 ∷ [];
   due = reduces_where_can g table t p (states old) action known can;

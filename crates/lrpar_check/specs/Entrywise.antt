@@ -38,8 +38,8 @@ GotoHolds g graph table S8 s r next = next ≢ table.start
 GotoHolds g graph table _ s r next = Unit {0}
 
 -- a reduction, if it is one, is by a production of the grammar
-abbrev pub IsNamed : Grammar → TableAction → Type 0
-IsNamed g (ShiftTo next) = Unit {0}
-IsNamed g (ReduceBy p) = p < prods_len g
-IsNamed g Accepts = Unit {0}
-IsNamed g Fails = Unit {0}
+abbrev pub IsInRange : Grammar → TableAction → Type 0
+IsInRange g (ShiftTo next) = Unit {0}
+IsInRange g (ReduceBy p) = p < prods_len g
+IsInRange g Accepts = Unit {0}
+IsInRange g Fails = Unit {0}

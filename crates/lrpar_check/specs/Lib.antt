@@ -8,3 +8,9 @@ pub mod StackReduction
 pub mod Entrywise
 pub mod Checked
 pub mod Overlay
+pub mod Run
+pub mod RunLaws
+pub mod Completeness
+pub mod Complete
+pub mod CompleteRuns
+pub mod Itemwise

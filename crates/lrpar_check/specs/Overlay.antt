@@ -28,9 +28,9 @@ pub record KeepsBy (g : Grammar) (prods : List ℕ) (old new : Overlaid) : Type 
   pub kept : new.kept ≡ kept_by g prods (length (overlaid old)) old.kept
   pub room : old.room ≤ new.room
 
--- the tail fills a room for so many states; or one state more would be more than can be counted
-abbrev pub IsFull : ℕ → Overlaid → Type 0
-IsFull room o = (room ≤ length o.tail) ⊎ (length (overlaid o) + 1 ≡ 2 ^ 64)
+-- the tail fills its room; or one state more would be more than can be counted
+abbrev pub IsFull : Overlaid → Type 0
+IsFull o = (o.room ≤ length o.tail) ⊎ (length (overlaid o) + 1 ≡ 2 ^ 64)
 
 -- at token t the overlay makes all reductions, so many of them
 pub record IsSettledOver (g : Grammar) (table : Table) (cap t : ℕ) (old : Overlaid) (count : ℕ) (new : Overlaid) : Type 0 where
@@ -50,8 +50,8 @@ IsFedOver g table cap t old false new =
     ((count : ℕ) × IsSettledOver g table cap t old count new) × ((next : ℕ) → top_action table t (overlaid new) ≢ ShiftTo next)
 
 -- Memory was wanting. At token t the overlay makes some first reductions; the next one is due, and would make the tail
--- longer, since it is of no symbols, or the tail is empty; and the tail is full.
-pub record IsHeldUpOver (g : Grammar) (table : Table) (t : ℕ) (old new : Overlaid) : Type 0 where
+-- longer, since it is of no symbols, or the tail is empty; and the tail, as it then stands, is full.
+pub record IsShortOfMemoryOver (g : Grammar) (table : Table) (t : ℕ) (old new : Overlaid) : Type 0 where
   pub prods : List ℕ
   pub reduced : ReducesBy g table t (overlaid old) prods (overlaid new)
   pub keeps : KeepsBy g prods old new
@@ -59,15 +59,16 @@ pub record IsHeldUpOver (g : Grammar) (table : Table) (t : ℕ) (old new : Overl
   pub next : List ℕ
   pub due : Reduces g table t (overlaid new) prod next
   pub longer : (prod_len g prod ≡ 0) ⊎ (new.tail ≡ [])
-  pub full : IsFull old.room new
+  pub full : IsFull new
 
--- Memory was wanting. At token t the overlay makes all reductions; the top then shifts the token; and the tail is full.
-pub record IsShiftHeldUpOver (g : Grammar) (table : Table) (cap t : ℕ) (old new : Overlaid) : Type 0 where
+-- Memory was wanting. At token t the overlay makes all reductions; the top then shifts the token; and the tail, as it then
+-- stands, is full.
+pub record IsShiftShortOfMemoryOver (g : Grammar) (table : Table) (cap t : ℕ) (old new : Overlaid) : Type 0 where
   pub count : ℕ
   pub settled : IsSettledOver g table cap t old count new
   pub next : ℕ
   pub due : top_action table t (overlaid new) ≡ ShiftTo next
-  pub full : IsFull old.room new
+  pub full : IsFull new
 
 -- a reduction of so many symbols keeps of the same base what it leaves of it, and no room is given back
 pub record OverlayReduces (old : Overlaid) (symbols : ℕ) (new : Overlaid) : Type 0 where
@@ -81,13 +82,13 @@ pub record OverlayShifts (old new : Overlaid) : Type 0 where
   pub kept : new.kept ≡ old.kept
   pub room : old.room ≤ new.room
 
--- the same states of the base and of the tail stay, where there is no room for one more
+-- the same states of the base and of the tail stay, no room is given back, and there is none for one more
 pub record OverlayStays (old new : Overlaid) : Type 0 where
   pub base : new.base ≡ old.base
   pub kept : new.kept ≡ old.kept
   pub tail : new.tail ≡ old.tail
   pub room : old.room ≤ new.room
-  pub full : IsFull old.room old
+  pub full : IsFull new
 
 -- so it is where memory was wanting for a reduction of so many symbols, which would have made the tail longer
 pub record OverlayFails (old : Overlaid) (symbols : ℕ) (new : Overlaid) : Type 0 where

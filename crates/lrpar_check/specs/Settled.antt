@@ -23,22 +23,26 @@ IsFedBy g table cap t st true after = (prods : List ℕ) × Feeds g table t st p
 IsFedBy g table cap t st false after =
     ((count : ℕ) × IsSettledBy g table cap t st count after) × ((next : ℕ) → top_action table t after ≢ ShiftTo next)
 
--- Memory was wanting for a list with room for so many states. At token t the stack makes some first reductions, which give
--- the stack `after`; the next one is due, by a production without symbols; and `after` fills the room.
-pub record IsHeldUp (g : Grammar) (table : Table) (t : ℕ) (st : List ℕ) (room : ℕ) (after : List ℕ) : Type 0 where
+-- Memory was wanting for a list that had room for so many states, and then has it for so many. At token t the stack makes
+-- some first reductions, which give the stack `after`; the next one is due, by a production without symbols; no room was
+-- given back; and `after` fills what there is.
+pub record IsShortOfMemory (g : Grammar) (table : Table) (t : ℕ) (st : List ℕ) (room : ℕ) (after : List ℕ) (room_after : ℕ) : Type 0 where
   pub prods : List ℕ
   pub reduced : ReducesBy g table t st prods after
   pub prod : ℕ
   pub next : List ℕ
   pub due : Reduces g table t after prod next
   pub empty : prod_len g prod ≡ 0
-  pub full : room ≤ length after
+  pub grown : room ≤ room_after
+  pub full : room_after ≤ length after
 
--- Memory was wanting for a list with room for so many states. At token t the stack makes all reductions, which give the
--- stack `after`; its top shifts the token; and `after` fills the room.
-pub record IsShiftHeldUp (g : Grammar) (table : Table) (cap t : ℕ) (st : List ℕ) (room : ℕ) (after : List ℕ) : Type 0 where
+-- Memory was wanting for a list that had room for so many states, and then has it for so many. At token t the stack makes
+-- all reductions, which give the stack `after`; its top shifts the token; no room was given back; and `after` fills what
+-- there is.
+pub record IsShiftShortOfMemory (g : Grammar) (table : Table) (cap t : ℕ) (st : List ℕ) (room : ℕ) (after : List ℕ) (room_after : ℕ) : Type 0 where
   pub count : ℕ
   pub settled : IsSettledBy g table cap t st count after
   pub next : ℕ
   pub due : top_action table t after ≡ ShiftTo next
-  pub full : room ≤ length after
+  pub grown : room ≤ room_after
+  pub full : room_after ≤ length after

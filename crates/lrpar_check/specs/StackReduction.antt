@@ -24,7 +24,7 @@ pub record IsStackSettledBy {X : Type 0} (states : X → List ℕ) (reduces : X 
 
 -- At token t the stack has a reduction to make, for which memory was wanting. Its states stay; of the rest, what `fails`
 -- says for that many symbols is left.
-pub record IsStepHeldUp {X : Type 0} (states : X → List ℕ) (fails : X → ℕ → X → Type 0) (g : Grammar) (table : Table) (t : ℕ) (old new : X) : Type 0 where
+pub record IsStepShortOfMemory {X : Type 0} (states : X → List ℕ) (fails : X → ℕ → X → Type 0) (g : Grammar) (table : Table) (t : ℕ) (old new : X) : Type 0 where
   pub prod : ℕ
   pub after : List ℕ
   pub due : Reduces g table t (states old) prod after
@@ -32,11 +32,11 @@ pub record IsStepHeldUp {X : Type 0} (states : X → List ℕ) (fails : X → �
   pub of_rest : fails old (prod_len g prod) new
 
 -- at token t the stack makes some first reductions, and for the next one memory was wanting
-pub record IsStackHeldUp {X : Type 0} (states : X → List ℕ) (reduces : X → ℕ → ℕ → ℕ → X → Type 0) (fails : X → ℕ → X → Type 0) (g : Grammar) (table : Table) (t : ℕ) (old new : X) : Type 0 where
+pub record IsStackShortOfMemory {X : Type 0} (states : X → List ℕ) (reduces : X → ℕ → ℕ → ℕ → X → Type 0) (fails : X → ℕ → X → Type 0) (g : Grammar) (table : Table) (t : ℕ) (old new : X) : Type 0 where
   pub prods : List ℕ
   pub mid : X
   pub by : StackReducesBy states reduces g table t old prods mid
-  pub next : IsStepHeldUp states fails g table t mid new
+  pub next : IsStepShortOfMemory states fails g table t mid new
 
 -- At token t the stack makes all reductions, which give the stack `settled`; the top of that shifts the token to a state,
 -- which is pushed; and of the rest, `shifts` says what comes of it.
@@ -57,7 +57,7 @@ IsStackFedBy states reduces shifts g table cap t old false new =
 
 -- At token t the stack makes all reductions, and for the shift that is due then memory was wanting. The states stay; of the
 -- rest, what `fails` says is left.
-pub record IsStackShiftHeldUp {X : Type 0} (states : X → List ℕ) (reduces : X → ℕ → ℕ → ℕ → X → Type 0) (fails : X → X → Type 0) (g : Grammar) (table : Table) (cap t : ℕ) (old new : X) : Type 0 where
+pub record IsStackShiftShortOfMemory {X : Type 0} (states : X → List ℕ) (reduces : X → ℕ → ℕ → ℕ → X → Type 0) (fails : X → X → Type 0) (g : Grammar) (table : Table) (cap t : ℕ) (old new : X) : Type 0 where
   pub settled : X
   pub count : ℕ
   pub settles : IsStackSettledBy states reduces g table cap t old count settled

@@ -24,10 +24,10 @@ IsReduction g table p st Stays after = (prod_len g p < length st) × (top_goto t
 
 -- At token t the states make a reduction, which gives the states `after`; or their reduction would drop them all; or there
 -- is none.
-abbrev pub IsStep : Grammar → Table → ℕ → List ℕ → Step → List ℕ → Type 0
-IsStep g table t st Reduced after = (p : ℕ) × Reduces g table t st p after
-IsStep g table t st LeavesNone after = DropsAll g table t st × (after ≡ st)
-IsStep g table t st Stays after = ((p : ℕ) (next : List ℕ) → ¬ (Reduces g table t st p next)) × ¬ (DropsAll g table t st) × (after ≡ st)
+abbrev pub IsStepOf : Grammar → Table → ℕ → List ℕ → Step → List ℕ → Type 0
+IsStepOf g table t st Reduced after = (p : ℕ) × Reduces g table t st p after
+IsStepOf g table t st LeavesNone after = DropsAll g table t st × (after ≡ st)
+IsStepOf g table t st Stays after = ((p : ℕ) (next : List ℕ) → ¬ (Reduces g table t st p next)) × ¬ (DropsAll g table t st) × (after ≡ st)
 
 -- p has less symbols than there are states, and the state that it leaves has a goto
 abbrev pub CanReduce : Grammar → Table → ℕ → List ℕ → Type 0

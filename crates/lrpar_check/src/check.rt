@@ -10,6 +10,8 @@ ghost use Rattle.lrpar_check.specs.Step.{FitsGrammar};
 ghost use Rattle.lrpar_check.specs.declared.fault.CheckFault.TheVariants.{Memory};
 
 use crate::chains::Chains;
+pub use crate::complete_fault::CompleteFault;
+pub use crate::completeness::CompletenessCondition;
 pub use crate::fault::CheckFault;
 pub use crate::overlay::Overlay;
 use crate::safety::Parts;

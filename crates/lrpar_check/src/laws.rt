@@ -1,8 +1,10 @@
 //! Laws about the definitions that contracts cite: each function has one as its contract, and does nothing.
 ghost use Rattle.std.specs.Prelude.{◌≡◌, ◌≤◌, ◌^◌, ℕ, List, ◌∷◌, [], Some, None};
 ghost use Rattle.lrpar_grammar.specs.Grammar.{GrammarSymbol, Nonterminal, Terminal};
+ghost use Rattle.lrpar_grammar.specs.Sentence.{LexemeFacts};
 ghost use Rattle.lrpar_grammar.specs.Sum.{sum_grammar};
 ghost use Rattle.lrpar_check.specs.Chain.{AreChainsShort, BoundsReductions, IsLongChain};
+ghost use Rattle.lrpar_check.specs.CompleteRuns.{CompleteTablesTakeSentences};
 ghost use Rattle.lrpar_check.specs.Path.{CheckedRunsNeverStick, IsPath};
 ghost use Rattle.lrpar_check.specs.Reduction.{SettlesOneWay, Settles};
 ghost use Rattle.lrpar_check.specs.Stack.{IsStack};
@@ -58,4 +60,13 @@ pub fn reductions_are_bounded()
 pub fn sum_table_has_chains()
     ensures long { IsLongChain sum_grammar sum_table 1 4 2 }
     ensures short { AreChainsShort sum_grammar sum_table 2 }
+{}
+
+/// Over lexemes of any type, and over those that contracts speak of, the runs of a checked table that is complete take the
+/// sentences, and each by its only tree: the run over a tree's leaves reduces its productions and comes to accept; where a run
+/// comes to accept, its lexemes are a sentence; two trees with the same leaves are equal; and no sentence begins with the lexemes
+/// up to and including the one where a run stops.
+pub fn complete_tables_take_sentences<LexemeT>()
+    ensures takes { CompleteTablesTakeSentences LexemeT }
+    ensures facts_taken { CompleteTablesTakeSentences LexemeFacts }
 {}

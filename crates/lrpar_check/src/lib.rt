@@ -3,11 +3,14 @@
 
 mod chains;
 pub mod check;
+mod complete;
+mod complete_fault;
+mod completeness;
 mod fault;
 pub mod laws;
 mod overlay;
 mod safety;
 mod settle;
-pub mod stack;
-mod stacks;
+mod stack_check;
+pub mod state_stack;
 mod step;

@@ -2,7 +2,7 @@
 ghost use Rattle.std.specs.Prelude.{◌≡◌, ◌<◌, ◌≤◌, ◌-◌, [], ◌∷◌, ◌++◌, length, slice_get, take, Some, OnOk, OnErr, IfOk};
 ghost use Rattle.lrpar_check.specs.Stack.{states_of, top_of};
 
-use crate::stack::{Reduction, ShiftStack, StateStack, put_at};
+use crate::state_stack::{Reduction, ShiftStack, StateStack, push_on, put_at};
 use lrpar_grammar::span::{StIdx, StorageIndex};
 use std::alloc::{AllocError, Global};
 use std::marker::Model;
@@ -158,7 +158,6 @@ impl<'a, StorageT: StorageIndex> ShiftStack<StorageT> for Overlay<'a, StorageT> 
         if self.len() == usize::MAX {
             return Err(AllocError);
         }
-        self.tail.push(next)?;
-        Ok(())
+        push_on(&mut self.tail, next)
     }
 }

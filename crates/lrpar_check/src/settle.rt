@@ -1,15 +1,15 @@
 //! What a stack of states does at a token: its reductions, and the shift after them.
 ghost use Rattle.std.specs.Prelude.{◌≡◌, ◌<◌, ◌⊎◌, IfOk, OnOk, OnErr, vec_capacity};
-ghost use Rattle.lrpar_check.specs.Overlay.{IsFedOver, IsHeldUpOver, IsSettledOver, IsShiftHeldUpOver, overlaid};
+ghost use Rattle.lrpar_check.specs.Overlay.{IsFedOver, IsShortOfMemoryOver, IsSettledOver, IsShiftShortOfMemoryOver, overlaid};
 ghost use Rattle.lrpar_check.specs.Reduction.{top_action};
-ghost use Rattle.lrpar_check.specs.Settled.{IsFedBy, IsHeldUp, IsSettledBy, IsShiftHeldUp};
+ghost use Rattle.lrpar_check.specs.Settled.{IsFedBy, IsShortOfMemory, IsSettledBy, IsShiftShortOfMemory};
 ghost use Rattle.lrpar_check.specs.Stack.{IsStack, states_of};
-ghost use Rattle.lrpar_check.specs.StackReduction.{IsStackFedBy, IsStackHeldUp, IsStackSettledBy, IsStackShiftHeldUp};
+ghost use Rattle.lrpar_check.specs.StackReduction.{IsStackFedBy, IsStackShortOfMemory, IsStackSettledBy, IsStackShiftShortOfMemory};
 ghost use Rattle.lrpar_states.specs.PlainRows.{plain_action};
 
 use crate::check::ParserData;
 use crate::overlay::Overlay;
-use crate::stack::{Settled, ShiftStack, StateStack};
+use crate::state_stack::{Settled, ShiftStack, StateStack};
 use crate::step::{Step, take_step};
 use lrpar_grammar::span::{StIdx, StorageIndex, TIdx};
 use lrpar_states::table::Action;
@@ -36,7 +36,7 @@ impl<StorageT: StorageIndex> ParserData<StorageT> {
         ensures suits { OnOk result (S.suits self.now.grammar self.now.table stack.new) }
 
         // Some first reductions were made, and for the next one memory was wanting.
-        ensures held_up { OnErr result (IsStackHeldUp S.states S.reduces S.fails self.now.grammar self.now.table (StorageT.index t.0) stack.old stack.new) }
+        ensures short_of_memory { OnErr result (IsStackShortOfMemory S.states S.reduces S.fails self.now.grammar self.now.table (StorageT.index t.0) stack.old stack.new) }
 
         // It is a stack in either case.
         ensures stack { IsStack self.now.table (S.states stack.new) }
@@ -73,9 +73,9 @@ impl<StorageT: StorageIndex> ParserData<StorageT> {
         ensures settled { IfOk result (λ count. IsSettledBy self.now.grammar self.now.table self.now.cap (StorageT.index t.0)
             (states_of StorageT.index stack.old.items) count (states_of StorageT.index stack.new.items)) }
 
-        // Some first reductions were made, and the next one would make the list longer than it can be.
-        ensures held_up { OnErr result (IsHeldUp self.now.grammar self.now.table (StorageT.index t.0)
-            (states_of StorageT.index stack.old.items) (vec_capacity stack.old) (states_of StorageT.index stack.new.items)) }
+        // Some first reductions were made, and the list, as it stands, is full for the next one.
+        ensures short_of_memory { OnErr result (IsShortOfMemory self.now.grammar self.now.table (StorageT.index t.0)
+            (states_of StorageT.index stack.old.items) (vec_capacity stack.old) (states_of StorageT.index stack.new.items) (vec_capacity stack.new)) }
 
         // It is a stack in either case.
         ensures stack { IsStack self.now.table (states_of StorageT.index stack.new.items) }
@@ -98,8 +98,8 @@ impl<StorageT: StorageIndex> ParserData<StorageT> {
         // All reductions were made; their number is told and bounded.
         ensures settled { IfOk result (λ count. IsSettledOver self.now.grammar self.now.table self.now.cap (StorageT.index t.0) stack.old count stack.new) }
 
-        // Some first reductions were made, and the next one would make the tail longer than it can be.
-        ensures held_up { OnErr result (IsHeldUpOver self.now.grammar self.now.table (StorageT.index t.0) stack.old stack.new) }
+        // Some first reductions were made, and the tail, as it stands, is full for the next one.
+        ensures short_of_memory { OnErr result (IsShortOfMemoryOver self.now.grammar self.now.table (StorageT.index t.0) stack.old stack.new) }
 
         // It is a stack in either case.
         ensures stack { IsStack self.now.table (overlaid stack.new) }
@@ -123,9 +123,9 @@ impl<StorageT: StorageIndex> ParserData<StorageT> {
             stack.old shifted stack.new) }
 
         // Memory was wanting for a reduction, or for the shift after all of them.
-        ensures held_up { OnErr result (
-            IsStackHeldUp S.states S.reduces S.fails self.now.grammar self.now.table (StorageT.index t.0) stack.old stack.new
-            ⊎ IsStackShiftHeldUp S.states S.reduces S.shift_fails self.now.grammar self.now.table self.now.cap (StorageT.index t.0) stack.old stack.new) }
+        ensures short_of_memory { OnErr result (
+            IsStackShortOfMemory S.states S.reduces S.fails self.now.grammar self.now.table (StorageT.index t.0) stack.old stack.new
+            ⊎ IsStackShiftShortOfMemory S.states S.reduces S.shift_fails self.now.grammar self.now.table self.now.cap (StorageT.index t.0) stack.old stack.new) }
 
         // It is a stack in each case.
         ensures stack { IsStack self.now.table (S.states stack.new) }
@@ -159,12 +159,12 @@ impl<StorageT: StorageIndex> ParserData<StorageT> {
         ensures fed { IfOk result (λ shifted. IsFedBy self.now.grammar self.now.table self.now.cap (StorageT.index t.0)
             (states_of StorageT.index stack.old.items) shifted (states_of StorageT.index stack.new.items)) }
 
-        // The next reduction, or the shift after all of them, would make the list longer than it can be.
-        ensures held_up { OnErr result (
-            IsHeldUp self.now.grammar self.now.table (StorageT.index t.0)
-            (states_of StorageT.index stack.old.items) (vec_capacity stack.old) (states_of StorageT.index stack.new.items)
-            ⊎ IsShiftHeldUp self.now.grammar self.now.table self.now.cap (StorageT.index t.0)
-            (states_of StorageT.index stack.old.items) (vec_capacity stack.old) (states_of StorageT.index stack.new.items)) }
+        // The list, as it stands, is full for the next reduction, or for the shift after all of them.
+        ensures short_of_memory { OnErr result (
+            IsShortOfMemory self.now.grammar self.now.table (StorageT.index t.0)
+            (states_of StorageT.index stack.old.items) (vec_capacity stack.old) (states_of StorageT.index stack.new.items) (vec_capacity stack.new)
+            ⊎ IsShiftShortOfMemory self.now.grammar self.now.table self.now.cap (StorageT.index t.0)
+            (states_of StorageT.index stack.old.items) (vec_capacity stack.old) (states_of StorageT.index stack.new.items) (vec_capacity stack.new)) }
 
         // It is a stack in each case.
         ensures stack { IsStack self.now.table (states_of StorageT.index stack.new.items) }
@@ -187,9 +187,9 @@ impl<StorageT: StorageIndex> ParserData<StorageT> {
         // The token was shifted after all reductions, or the top doesn't shift it.
         ensures fed { IfOk result (λ shifted. IsFedOver self.now.grammar self.now.table self.now.cap (StorageT.index t.0) stack.old shifted stack.new) }
 
-        // The next reduction, or the shift after all of them, would make the tail longer than it can be.
-        ensures held_up { OnErr result (IsHeldUpOver self.now.grammar self.now.table (StorageT.index t.0) stack.old stack.new
-            ⊎ IsShiftHeldUpOver self.now.grammar self.now.table self.now.cap (StorageT.index t.0) stack.old stack.new) }
+        // The tail, as it stands, is full for the next reduction, or for the shift after all of them.
+        ensures short_of_memory { OnErr result (IsShortOfMemoryOver self.now.grammar self.now.table (StorageT.index t.0) stack.old stack.new
+            ⊎ IsShiftShortOfMemoryOver self.now.grammar self.now.table self.now.cap (StorageT.index t.0) stack.old stack.new) }
 
         // It is a stack in each case.
         ensures stack { IsStack self.now.table (overlaid stack.new) }

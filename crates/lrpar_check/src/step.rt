@@ -2,12 +2,12 @@
 ghost use Rattle.std.specs.Prelude.{◌≡◌, ◌<◌, All, IfOk, OnOk, OnErr, length};
 ghost use Rattle.lrpar_grammar.specs.Grammar.{prods_len, prod_len, rule_of, rules_len};
 ghost use Rattle.lrpar_check.specs.Reduction.{top_action};
-ghost use Rattle.lrpar_check.specs.StackReduction.{IsStepHeldUp};
-ghost use Rattle.lrpar_check.specs.Step.{CanReduce, FitsGrammar, IsReduction, IsRestOf, IsStackStep, IsStep};
+ghost use Rattle.lrpar_check.specs.StackReduction.{IsStepShortOfMemory};
+ghost use Rattle.lrpar_check.specs.Step.{CanReduce, FitsGrammar, IsReduction, IsRestOf, IsStackStep, IsStepOf};
 ghost use Rattle.lrpar_states.specs.PlainRows.{plain_action};
 ghost use Rattle.lrpar_states.specs.Table.{states_len};
 
-use crate::stack::{Reduction, StateStack};
+use crate::state_stack::{Reduction, StateStack};
 use lrpar_grammar::grammar::YaccGrammar;
 use lrpar_grammar::span::{PIdx, StorageIndex, TIdx};
 use lrpar_states::table::{Action, StateTable};
@@ -37,10 +37,10 @@ pub(crate) fn take_step<StorageT: StorageIndex, S: StateStack<StorageT>>(
     requires suits { S.suits grm.now table.now states.old }
     requires some { 0 < length (S.states states.old) }
     requires within { All (λ s. s < states_len table.now) (S.states states.old) }
-    ensures step { IfOk result (λ taken. IsStep grm.now table.now (StorageT.index t.0) (S.states states.old) taken.0 (S.states states.new)) }
+    ensures step { IfOk result (λ taken. IsStepOf grm.now table.now (StorageT.index t.0) (S.states states.old) taken.0 (S.states states.new)) }
     ensures made { IfOk result (λ taken. IsStackStep S.states S.reduces grm.now table.now (StorageT.index t.0) states.old taken.0 states.new) }
     ensures action { IfOk result (λ taken. plain_action StorageT.index taken.1 ≡ top_action table.now (StorageT.index t.0) (S.states states.old)) }
-    ensures held_up { OnErr result (IsStepHeldUp S.states S.fails grm.now table.now (StorageT.index t.0) states.old states.new) }
+    ensures short_of_memory { OnErr result (IsStepShortOfMemory S.states S.fails grm.now table.now (StorageT.index t.0) states.old states.new) }
 {
     match table.action(states.top(), t) {
         Action::Reduce(prod) => {

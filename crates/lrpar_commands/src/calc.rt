@@ -1,7 +1,7 @@
 //! The command `calc`: sums and products, one a line.
 use crate::fault::Fault;
 use crate::files::input_text;
-use crate::parsing::{TextError, Tools, print_errors, print_line, tools_of};
+use crate::parsing::{TextError, TextParser, print_errors, print_line, text_parser_of};
 use crate::tables::data_of;
 use lrpar::grammar::YaccGrammar;
 use lrpar::span::{Span, TIdx};
@@ -65,22 +65,22 @@ fn calc_by<I: Read + Drop, O: Write, E: Write>(
     out: &mut O,
     err: &mut E,
 ) -> Result<bool, Fault> {
-    let tools = tools_of(alloc, data, LEXER, repairs, shifts)?;
+    let text_parser = text_parser_of(alloc, data, LEXER, repairs, shifts)?;
     let text = input_text(alloc, input)?;
-    calc_lines(alloc, &tools, text.as_str(), out, err)
+    calc_lines(alloc, &text_parser, text.as_str(), out, err)
 }
 
-// The same by these tools, of the lines of a text.
+// The same by a parser of texts, for the lines of a text.
 fn calc_lines<O: Write, E: Write>(
     alloc: Global,
-    tools: &Tools<'_>,
+    text_parser: &TextParser<'_>,
     text: &str,
     out: &mut O,
     err: &mut E,
 ) -> Result<bool, Fault> {
     let mut all = true;
     for line in text.split_inclusive('\n') {
-        all = calc_line(alloc, tools, without_end(line), out, err)? && all;
+        all = calc_line(alloc, text_parser, without_end(line), out, err)? && all;
     }
     Ok(all)
 }
@@ -96,7 +96,7 @@ fn without_end(line: &str) -> &str {
 // Computes a line. One of white space alone is well.
 fn calc_line<O: Write, E: Write>(
     alloc: Global,
-    tools: &Tools<'_>,
+    text_parser: &TextParser<'_>,
     line: &str,
     out: &mut O,
     err: &mut E,
@@ -104,7 +104,7 @@ fn calc_line<O: Write, E: Write>(
     if line.trim().is_empty() {
         return Ok(true);
     }
-    let found = computed(alloc, tools, line, out)?;
+    let found = computed(alloc, text_parser, line, out)?;
     print_result(found.number, out, err)?;
     Ok(found.number.is_some() && !found.has_errors)
 }
@@ -112,13 +112,13 @@ fn calc_line<O: Write, E: Write>(
 // The number of a line, whose errors it prints.
 fn computed<'a, O: Write>(
     alloc: Global,
-    tools: &'a Tools<'_>,
+    text_parser: &'a TextParser<'_>,
     line: &'a str,
     out: &mut O,
 ) -> Result<Found, Fault> {
-    let lexer = RuleLexer::new(alloc, &tools.rules, line)?;
-    let (value, errors) = value_and_errors(alloc, tools, &lexer, line)?;
-    print_errors(alloc, &tools.names, &lexer, line, &errors, out)?;
+    let lexer = RuleLexer::new(alloc, &text_parser.rules, line)?;
+    let (value, errors) = value_and_errors(alloc, text_parser, &lexer, line)?;
+    print_errors(alloc, &text_parser.names, &lexer, line, &errors, out)?;
     Ok(Found {
         number: match value {
             Some(part) => number_of(part),
@@ -131,13 +131,13 @@ fn computed<'a, O: Write>(
 // The value of a line, if it has one, and its errors.
 fn value_and_errors(
     alloc: Global,
-    tools: &Tools<'_>,
+    text_parser: &TextParser<'_>,
     lexer: &RuleLexer<'_, '_>,
     line: &str,
 ) -> Result<(Option<Part>, Vec<TextError>), Fault> {
-    let grm = tools.parser.grammar();
+    let grm = text_parser.parser.grammar();
     Ok(
-        tools.parser.parse_map(
+        text_parser.parser.parse_map(
             alloc,
             lexer,
             |lexeme| part_of(grm, line, lexeme),
@@ -222,17 +222,13 @@ fn print_result<O: Write, E: Write>(
 
 // Prints a line's number.
 fn print_number<O: Write>(out: &mut O, number: u64) -> Result<(), Fault> {
-    match writeln!(out, "Result: {number}") {
-        Ok(()) => Ok(()),
-        Err(error) => Err(Fault::of_write(&error)),
-    }
+    writeln!(out, "Result: {number}")?;
+    Ok(())
 }
 
 // Says that a line has no number, once all that was printed is written. That `err` fails changes nothing.
 fn print_none<O: Write, E: Write>(out: &mut O, err: &mut E) -> Result<(), Fault> {
-    if let Err(error) = out.flush() {
-        return Err(Fault::of_write(&error));
-    }
+    out.flush()?;
     let _ = print_line(err, "Unable to evaluate expression.");
     Ok(())
 }

@@ -1,105 +1,99 @@
-//! The command `check`: whether the table of a grammar is safe, and its chains short.
+//! The command `check`: how large the table of a grammar is, whether its chains are short, and whether it is complete. It is safe,
+//! as it is built.
 use crate::fault::Fault;
 use crate::parsing::print_line;
-use crate::tables::{Built, built, grammar_of};
+use crate::tables::checked;
 use lrpar::ParserData;
-use lrpar::check::CheckFault;
+use lrpar::check::{CheckFault, CompleteFault, Refused};
 use lrpar::grammar::YaccGrammar;
 use lrpar::span::TIdx;
+use lrpar::table::StateTable;
 use std::alloc::Global;
 use std::io::Write;
 
-/// A grammar, and what the check says against its table.
-#[derive(Drop)]
-struct Refusal {
-    grm: YaccGrammar<u32>,
-    fault: CheckFault,
-}
-
-/// Prints how large the grammar of the text and its table are, and what the check says. Answers whether it passes.
+/// Prints how large the grammar of the text and its table are, what the check of chains says, and whether a table that passes is
+/// complete. Answers whether it passes.
 pub(crate) fn check<O: Write>(
     alloc: Global,
     grammar: &str,
     cap: u16,
     out: &mut O,
 ) -> Result<bool, Fault> {
-    let grm = grammar_of(alloc, grammar)?;
-    let built = built(alloc, &grm)?;
-    print_sizes(&grm, &built, out)?;
-    print_verdict(refusal_of(alloc, grm, built, cap), out)
-}
-
-// What the check says against the table, if anything.
-fn refusal_of(
-    alloc: Global,
-    grm: YaccGrammar<u32>,
-    (sgraph, stable): Built,
-    cap: u16,
-) -> Option<Refusal> {
-    match ParserData::new(alloc, grm, sgraph, stable, cap) {
-        Ok(_) => None,
-        Err(refused) => {
-            let fault = refused.fault();
-            let (grm, _, _) = refused.into_parts();
-            Some(Refusal { grm, fault })
-        }
-    }
-}
-
-// Prints what the check says. Answers whether it passes.
-fn print_verdict<O: Write>(refusal: Option<Refusal>, out: &mut O) -> Result<bool, Fault> {
-    match refusal {
-        None => {
-            print_line(out, "checked")?;
+    match checked(alloc, grammar, cap)? {
+        Ok(data) => {
+            print_checked(alloc, &data, out)?;
             Ok(true)
         }
-        Some(refusal) => {
-            print_refusal(&refusal.grm, refusal.fault, out)?;
+        Err(refused) => {
+            print_refused(refused, out)?;
             Ok(false)
         }
     }
 }
 
+// Prints how large the grammar and its table are, that the check passes, and whether the table is complete.
+fn print_checked<O: Write>(
+    alloc: Global,
+    data: &ParserData<u32>,
+    out: &mut O,
+) -> Result<(), Fault> {
+    print_sizes(data.grm(), data.stable(), out)?;
+    print_line(out, "checked")?;
+    match data.check_complete(alloc) {
+        Ok(()) => print_line(out, "complete"),
+        Err(fault) => print_incomplete(fault, out),
+    }
+}
+
+// Prints why the table isn't complete. Want of memory says nothing of it.
+fn print_incomplete<O: Write>(fault: CompleteFault, out: &mut O) -> Result<(), Fault> {
+    let CompleteFault::Condition(condition, state) = fault else {
+        return Err(Fault::Memory);
+    };
+    writeln!(out, "not complete: condition {condition} at state {state}")?;
+    Ok(())
+}
+
+// Prints how large the grammar and its table are, and what is refused.
+fn print_refused<O: Write>(refused: Refused<u32>, out: &mut O) -> Result<(), Fault> {
+    let fault = refused.fault();
+    let (grm, _, stable) = refused.into_parts();
+    print_sizes(&grm, &stable, out)?;
+    print_refusal(&grm, fault, out)
+}
+
 // Prints how large the grammar and its table are.
 fn print_sizes<O: Write>(
     grm: &YaccGrammar<u32>,
-    (_, stable): &Built,
+    stable: &StateTable<u32>,
     out: &mut O,
 ) -> Result<(), Fault> {
     let states = stable.states_len();
     let rules = grm.rules_len();
     let prods = grm.prods_len();
     let tokens = grm.tokens_len();
-    match writeln!(
+    writeln!(
         out,
         "rules {rules}, productions {prods}, tokens {tokens}, states {states}"
-    ) {
-        Ok(()) => Ok(()),
-        Err(error) => Err(Fault::of_write(&error)),
-    }
+    )?;
+    Ok(())
 }
 
-// Prints why the table is refused. Want of memory is no refusal.
+// Prints the chain that is too long. Want of memory is no refusal, and a table that is built has no other fault.
 fn print_refusal<O: Write>(
     grm: &YaccGrammar<u32>,
     fault: CheckFault,
     out: &mut O,
 ) -> Result<(), Fault> {
-    let written = match fault {
-        CheckFault::Memory => return Err(Fault::Memory),
-        CheckFault::ChainTooLong(state, token) => {
-            let name = token_name(grm, token);
-            writeln!(
-                out,
-                "refused: chain too long at state {state}, token {name}"
-            )
-        }
-        fault => writeln!(out, "refused: {fault}"),
+    let CheckFault::ChainTooLong(state, token) = fault else {
+        return Err(fault.into());
     };
-    match written {
-        Ok(()) => Ok(()),
-        Err(error) => Err(Fault::of_write(&error)),
-    }
+    let name = token_name(grm, token);
+    writeln!(
+        out,
+        "refused: chain too long at state {state}, token {name}"
+    )?;
+    Ok(())
 }
 
 // The token's name; `$` for the end token.

@@ -5,7 +5,7 @@ ghost use Rattle.lrpar_commands.specs.declared.fault.Fault.TheVariants.{Memory};
 use lrpar::build::BuildFault;
 use lrpar::check::CheckFault;
 use lrpar::grammar::GrammarFault;
-use lrpar::parser::{ParseFault, PpFault};
+use lrpar::parser::ParseFault;
 use lrpar::table::TableFault;
 use lrpar_lexer::RulesFault;
 use std::alloc::{AllocError, AllocFailed, Global};
@@ -51,9 +51,6 @@ pub(crate) enum Fault {
     /// An error lies outside of its text, which no error of a parse does.
     #[error("lrpar: an error lies outside of the text")]
     Misplaced,
-    /// An error names a token that isn't the grammar's, which no error of a parse does.
-    #[error("lrpar: {0}")]
-    Name(PpFault<u32>),
     /// A parse is refused for a lexeme, which the lexer of the program doesn't answer.
     #[error("lrpar: {0}")]
     Parse(ParseFault),
@@ -63,14 +60,6 @@ pub(crate) enum Fault {
 }
 
 impl Fault {
-    // The fault of a failed write to standard output.
-    pub(crate) fn of_write(error: &io::Error) -> Fault {
-        match error.kind() {
-            io::ErrorKind::OutOfMemory => Fault::Memory,
-            _ => Fault::Output,
-        }
-    }
-
     // The fault of a file that can't be read.
     pub(crate) fn of_file(alloc: Global, path: &str, error: &io::Error) -> Fault {
         if error.kind() == io::ErrorKind::OutOfMemory {
@@ -153,11 +142,12 @@ impl From<RulesFault> for Fault {
     }
 }
 
-impl From<PpFault<u32>> for Fault {
-    fn from(fault: PpFault<u32>) -> Fault {
-        match fault {
-            PpFault::Memory => Fault::Memory,
-            refusal => Fault::Name(refusal),
+// Of a failed write to standard output. Where a read fails, the fault is made there.
+impl From<io::Error> for Fault {
+    fn from(error: io::Error) -> Fault {
+        match error.kind() {
+            io::ErrorKind::OutOfMemory => Fault::Memory,
+            _ => Fault::Output,
         }
     }
 }

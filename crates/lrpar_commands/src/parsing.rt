@@ -20,10 +20,10 @@ pub(crate) type Tree = Node<Token<u32>, u32>;
 /// An error of a parse.
 pub(crate) type TextError = LexParseError<u32, TokenTypes>;
 
-/// What a command parses texts by.
+/// A parser of texts, with the rules of its lexer and what its messages print.
 #[derive(Drop)]
-pub(crate) struct Tools<'a> {
-    /// The rules of its lexer.
+pub(crate) struct TextParser<'a> {
+    /// The rules of the lexer.
     pub(crate) rules: Vec<LexRule>,
     /// The parser, with its repairs.
     pub(crate) parser: Parser<'a>,
@@ -31,18 +31,18 @@ pub(crate) struct Tools<'a> {
     pub(crate) names: Vec<&'a str>,
 }
 
-/// The tools by this table and by the texts of a lexer and of repairs.
-pub(crate) fn tools_of<'a>(
+/// The parser of texts by this table, and by the texts of a lexer and of repairs.
+pub(crate) fn text_parser_of<'a>(
     alloc: Global,
     data: &'a ParserData<u32>,
     lexer: &str,
     repairs: &str,
     shifts: Option<usize>,
-) -> Result<Tools<'a>, Fault> {
+) -> Result<TextParser<'a>, Fault> {
     let rules = rules_of(alloc, data.grm(), lexer)?;
     let parser = repairing_parser(alloc, data, repairs, shifts)?;
     let names = printed_names(alloc, data.grm())?;
-    Ok(Tools {
+    Ok(TextParser {
         rules,
         parser,
         names,
@@ -149,13 +149,11 @@ pub(crate) fn print_errors<'a, L: NonStreamingLexer<'a, TokenTypes>, O: Write>(
 
 /// Prints the text and a line feed.
 pub(crate) fn print_line<O: Write>(out: &mut O, text: &str) -> Result<(), Fault> {
-    match writeln!(out, "{text}") {
-        Ok(()) => Ok(()),
-        Err(error) => Err(Fault::of_write(&error)),
-    }
+    writeln!(out, "{text}")?;
+    Ok(())
 }
 
-// The text of an error.
+// The text of an error. Each token prints as some text, so only memory can be wanting.
 fn error_text<'a, L: NonStreamingLexer<'a, TokenTypes>>(
     alloc: Global,
     names: &'a [&'a str],
@@ -168,14 +166,17 @@ fn error_text<'a, L: NonStreamingLexer<'a, TokenTypes>>(
     if !error.fits(input) {
         return Err(Fault::Misplaced);
     }
-    Ok(error.pp(alloc, lexer, |token| name_at(names, token))?)
+    match error.pp(alloc, lexer, |token| Some(name_at(names, token))) {
+        Ok(text) => Ok(text),
+        Err(_) => Err(Fault::Memory),
+    }
 }
 
-// The name of a token, if it has one.
-fn name_at<'a>(names: &'a [&'a str], token: TIdx<u32>) -> Option<&'a str> {
+// What messages print for a token: nothing, where it isn't the grammar's.
+fn name_at<'a>(names: &'a [&'a str], token: TIdx<u32>) -> &'a str {
     match names.get(usize::from(token)) {
-        Some(name) => Some(*name),
-        None => None,
+        Some(name) => *name,
+        None => "",
     }
 }
 
@@ -187,8 +188,6 @@ fn print_node<O: Write>(
     tree: &Tree,
     out: &mut O,
 ) -> Result<(), Fault> {
-    match tree.write(alloc, grm, input, out) {
-        Ok(()) => Ok(()),
-        Err(error) => Err(Fault::of_write(&error)),
-    }
+    tree.write(alloc, grm, input, out)?;
+    Ok(())
 }

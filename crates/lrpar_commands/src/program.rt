@@ -183,7 +183,7 @@ fn flushed<O: Write>(status: Result<u8, Fault>, out: &mut O) -> Result<u8, Fault
     let written = out.flush();
     match (status, written) {
         (Ok(status), Ok(())) => Ok(status),
-        (Ok(_), Err(error)) => Err(Fault::of_write(&error)),
+        (Ok(_), Err(error)) => Err(error.into()),
         (Err(fault), _) => Err(fault),
     }
 }

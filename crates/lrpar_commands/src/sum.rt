@@ -1,7 +1,6 @@
 //! Sums of names: their grammar, the item sets of its states, and its table, which are written out here.
 use crate::fault::Fault;
 use crate::lexer::{ID, PLUS};
-use crate::tables::Built;
 use lrpar::ParserData;
 use lrpar::grammar::{GrammarParts, ProdPart, RulePart, TokenPart, YaccGrammar};
 use lrpar::span::{PIdx, RIdx, Span, StIdx, Symbol, TIdx};
@@ -20,6 +19,9 @@ const END: u32 = 2;
 /// The cap with which the program checks its tables.
 const CAP: u16 = 1_000;
 
+/// The item sets and the table of sums.
+type Built = (StateGraph<u32>, StateTable<u32>);
+
 /// An item: its production, its dot and its lookahead.
 type Item = (PIdx<u32>, usize, TIdx<u32>);
 
@@ -33,13 +35,13 @@ pub(crate) fn sum_data(alloc: Global) -> Result<ParserData<u32>, Fault> {
     }
 }
 
-/// The grammar of sums.
-pub(crate) fn sum_grammar(alloc: Global) -> Result<YaccGrammar<u32>, Fault> {
+// The grammar of sums.
+fn sum_grammar(alloc: Global) -> Result<YaccGrammar<u32>, Fault> {
     Ok(YaccGrammar::from_parts(alloc, sum_parts(alloc)?)?)
 }
 
-/// The item sets and the table of sums.
-pub(crate) fn sum_built(alloc: Global) -> Result<Built, Fault> {
+// The item sets and the table of sums.
+fn sum_built(alloc: Global) -> Result<Built, Fault> {
     let sgraph = StateGraph::from_rows(alloc, sum_items(alloc)?)?;
     let stable = StateTable::from_rows(alloc, sum_rows(alloc)?)?;
     Ok((sgraph, stable))

@@ -1,6 +1,6 @@
 //! The command `tree`: the tree of a text by a grammar and a lexer of files.
 use crate::fault::Fault;
-use crate::parsing::{Tools, print_tree, tools_of};
+use crate::parsing::{TextParser, print_tree, text_parser_of};
 use crate::tables::data_of;
 use lrpar::ParserData;
 use lrpar_lexer::RuleLexer;
@@ -36,17 +36,24 @@ fn tree_by<O: Write>(
     out: &mut O,
 ) -> Result<bool, Fault> {
     let lexer = texts.lexer.as_str();
-    let tools = tools_of(alloc, data, lexer, texts.repairs.as_str(), shifts)?;
-    tree_of(alloc, &tools, texts.input.as_str(), out)
+    let text_parser = text_parser_of(alloc, data, lexer, texts.repairs.as_str(), shifts)?;
+    tree_of(alloc, &text_parser, texts.input.as_str(), out)
 }
 
-// The same by these tools.
+// The same by a parser of texts.
 fn tree_of<'a, O: Write>(
     alloc: Global,
-    tools: &'a Tools<'_>,
+    text_parser: &'a TextParser<'_>,
     input: &'a str,
     out: &mut O,
 ) -> Result<bool, Fault> {
-    let lexer = RuleLexer::new(alloc, &tools.rules, input)?;
-    print_tree(alloc, &tools.parser, &tools.names, &lexer, input, out)
+    let lexer = RuleLexer::new(alloc, &text_parser.rules, input)?;
+    print_tree(
+        alloc,
+        &text_parser.parser,
+        &text_parser.names,
+        &lexer,
+        input,
+        out,
+    )
 }

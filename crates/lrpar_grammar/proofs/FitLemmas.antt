@@ -12,7 +12,7 @@ use Rattle.lrpar_grammar.specs.declared.grammar.parts.TokenPart.{TokenPart}
 use Rattle.lrpar_grammar.specs.Grammar.{added_rule, RuleName, TokenName}
 use Rattle.lrpar_grammar.specs.Kept.{split_prod_of}
 use Rattle.lrpar_grammar.specs.Parts.{rule_name_of, token_name_of}
-use Rattle.lrpar_grammar.specs.SpansFit.{AreInOrder, IsPartOf, ProductionFits}
+use Rattle.lrpar_grammar.specs.SpansFit.{AreSpansInOrder, IsPartOf, ProductionFits}
 use Rattle.lrpar_grammar.proofs.ListLemmas.{All-map-at}
 
 -- the places of the rules, the added one among them, which lies at the start of every text
@@ -41,7 +41,7 @@ prods_fit_listed index src prods fit k d within = All-map-at (ProductionFits src
 
 -- a part that starts before the end of the one in front of it
 pub order_fails : (spans : List Extent) (i end : ℕ) (span : Extent) → (i ≡ 0 → end ≡ 0) → ((d : Extent) → 0 < i → (get_or spans (i - 1) d).end ≡ end)
-    → i < length spans → span ≡ get_or spans i span → span.start < end → AreInOrder spans → ⊥
+    → i < length spans → span ≡ get_or spans i span → span.start < end → AreSpansInOrder spans → ⊥
 order_fails spans i end span first last within is early order =
     elim (cases_eq i 0) [
       | inl none ↦ let zero = first none in omega arith

@@ -2,7 +2,7 @@
 use Rattle.std.proofs.Common.{inl, inr, ◌≡◌, ◌↔◌, ◌<◌, ◌≤◌, ◌+◌, ℕ, suc, List, [], ◌∷◌, ◌++◌, length, map, get_or, Vec, Bool, true, false, Some, Result, Ok, Err, refl, subst, sym, ap, ◌∙◌, arith}
 use Rattle.std.specs.List.{slice_get, All}
 use Rattle.std.specs.Option.{option_map, option_map_or}
-use Rattle.std.specs.Result.{IsErrOf, IsErrAnd}
+use Rattle.std.specs.Result.{IfErr, IsErrOf, IsErrAnd}
 use Rattle.std.proofs.lemmas.Option.{slice_get-get_or, slice_get-map, slice_get_read}
 use Rattle.std.proofs.lemmas.List.{length-append, length-map, get_or_append_left, get_or_at}
 use Rattle.std.proofs.lemmas.List.Elements.{All-append, All-cons, All-map}
@@ -16,7 +16,7 @@ use Rattle.lrpar_grammar.specs.declared.grammar.prods.SplitProd.{SplitProd}
 use Rattle.lrpar_grammar.specs.Kept.{AreRowsOf, IsKept, kept_grammar, split_prod_of}
 use Rattle.lrpar_grammar.specs.Grammar.{added_rule, Production, IsListedSymbol, IsWellFormed, added_prod, rule_of, symbols_of, symbol_spans_of, prod_len, prods_len, rules_len, end_token, start_prod, Grammar, HasSpans}
 use Rattle.lrpar_grammar.specs.Symbols.{symbol_of}
-use Rattle.lrpar_grammar.specs.Parts.{Parts, AreSound, IsFirstFault, IsListedProd, grammar_of, parts_of, prod_of, rule_name_of}
+use Rattle.lrpar_grammar.specs.Parts.{Parts, AreSound, IsFirstFault, IsListedProd, IsRefusalOf, grammar_of, parts_of, prod_of, rule_name_of}
 
 -- only one fault comes first
 first_fault_alone : (limit : ℕ) (x : Parts) (found fault : GrammarFault) → IsFirstFault limit x found → IsFirstFault limit x fault → found ≡ fault
@@ -74,6 +74,17 @@ answers_memory limit x (Err refusal) fault sound memory other = (
   λ e. let same : refusal ≡ fault = cc in let both : false ≡ true = sym other ∙ ap is_memory (sym same ∙ memory) in absurd (cc),
   λ h. absurd (sound_no_fault limit x sound fault h),
 )
+
+-- the first fault refuses the parts
+pub first_refuses : (limit : ℕ) (x : Parts) (fault : GrammarFault) → IsFirstFault limit x fault → IsRefusalOf limit x fault
+first_refuses limit x Memory first = absurd first
+first_refuses limit x _ first = first
+
+-- so does want of memory, where the parts are sound
+pub memory_refuses : {T : Type 0} (limit : ℕ) (x : Parts) (result : Result T GrammarFault) → AreSound limit x → IsErrAnd result (λ refusal. refusal ≡ Memory)
+    → IfErr result (IsRefusalOf limit x)
+memory_refuses limit x (Ok grm) sound memory = absurd memory
+memory_refuses limit x (Err refusal) sound memory = subst (IsRefusalOf limit x) (sym memory) sound
 
 -- what the listed productions are, seen in the whole list
 pub listed_prod_at : (x : Parts) (p : ℕ) (d : Production) → p < length x.prods → slice_get (grammar_of x).prods p ≡ Some (get_or x.prods p d)

@@ -5,7 +5,7 @@ use Rattle.std.proofs.lemmas.Bool.{cases_lt}
 use Rattle.std.proofs.lemmas.Option.{get_or_from_slice_get, same_Some, slice_get-get_or, slice_get-map, slice_get_within}
 use Rattle.lrpar_text.specs.declared.words.Word.{Word}
 use Rattle.lrpar_text.specs.Words.{PlacedWord, placed}
-use Rattle.lrpar_text.specs.Outline.{AreInOrder}
+use Rattle.lrpar_text.specs.Outline.{AreWordsInOrder}
 
 -- a word of the code is one of the mapped list
 pub placed_at : (words items : List Word) (k j : ℕ) (w : Word) → items ≡ words → k ≡ j → ◌≡◌ {A = Option Word} (Some w) (slice_get items k)
@@ -20,7 +20,7 @@ placed_index words items k w same within is =
     placed_at words items k k w same (λ _. k) (ap (λ x. Some x) is ∙ sym (slice_get-get_or items k w within))
 
 -- the first of words in order begins no later than the last one ends
-pub ordered_ends : (ws : List PlacedWord) (a b : PlacedWord) → AreInOrder ws → slice_get ws 0 ≡ Some a → slice_get ws (length ws - 1) ≡ Some b
+pub ordered_ends : (ws : List PlacedWord) (a b : PlacedWord) → AreWordsInOrder ws → slice_get ws 0 ≡ Some a → slice_get ws (length ws - 1) ≡ Some b
     → a.span.start ≤ a.span.end → b.span.start ≤ b.span.end → a.span.start ≤ b.span.end
 ordered_ends ws a b order first last one other =
     elim (cases_lt 0 (length ws - 1)) [

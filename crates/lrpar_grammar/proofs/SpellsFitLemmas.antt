@@ -10,7 +10,7 @@ use Rattle.std.proofs.lemmas.Str.{IsCharBoundary-start}
 use Rattle.lrpar_text.specs.Span.{Extent, nowhere}
 use Rattle.lrpar_text.specs.declared.words.WordKind.TheVariants.{Name}
 use Rattle.lrpar_text.specs.Words.{PlacedWord}
-use Rattle.lrpar_text.specs.Outline.{AreInOrder, HasOrderedSymbols, IsOutlineOf, TextAlternative, TextOutline}
+use Rattle.lrpar_text.specs.Outline.{AreWordsInOrder, HasOrderedSymbols, IsOutlineOf, TextAlternative, TextOutline}
 use Rattle.lrpar_text.proofs.PlaceLemmas.{AllOfAlternative, AllOfOutline, LiesInLine, outline_in_line}
 use Rattle.lrpar_grammar.specs.Grammar.{added_prod, added_rule}
 use Rattle.lrpar_grammar.specs.Names.{first_of_each, is_among, with_name}
@@ -76,7 +76,7 @@ empty_fits n src [] nothing fit none = fit
 empty_fits n src (w ∷ ws) nothing fit none = absurd (cc)
 
 -- the places of words in order
-order_fits : (ws : List PlacedWord) → AreInOrder ws → fits.AreInOrder (map (λ w. w.span) ws)
+order_fits : (ws : List PlacedWord) → AreWordsInOrder ws → fits.AreSpansInOrder (map (λ w. w.span) ws)
 order_fits ws order = λ k d within.
     let w : PlacedWord = record { kind = Name; name = []; span = d } in
     let within' : k + 1 < length ws = omega (arith, length-map ws (λ (x : PlacedWord). x.span)) in
@@ -86,7 +86,7 @@ order_fits ws order = λ k d within.
     (subst (λ (x : Extent). x.end ≤ (get_or ws (k + 1) w).span.start) (sym here) (order k (k + 1) w (omega arith) within'))
 
 -- the places of an alternative
-alternative_fits : (n : Numbering) (src : List ℕ) (x : TextAlternative) → AllOfAlternative (λ w. LiesInLine src w.span) x → AreInOrder x.symbols
+alternative_fits : (n : Numbering) (src : List ℕ) (x : TextAlternative) → AllOfAlternative (λ w. LiesInLine src w.span) x → AreWordsInOrder x.symbols
     → ProductionFits src (prod_of_alternative n x)
 alternative_fits n src x lies order =
     let P : PlacedWord → Type 0 = λ w. LiesInLine src w.span in

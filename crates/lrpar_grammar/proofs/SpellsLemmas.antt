@@ -11,7 +11,7 @@ use Rattle.lrpar_grammar.specs.Grammar.{IsListedSymbol, Nonterminal, Terminal}
 use Rattle.lrpar_grammar.specs.Names.{first_of_each, is_among, number_of, with_name}
 use Rattle.lrpar_grammar.specs.Parts.{AreSound, FitStorage, IsListedProd, grammar_of}
 use Rattle.lrpar_grammar.specs.Spells.{IsClean, Numbering, SpellsOne, is_token, numbering_of, prod_of_alternative, rule_number, rule_of_word, rule_words, spelled_parts, symbol_of_word, token_number, token_of_word, token_words, used_tokens}
-use Rattle.lrpar_grammar.specs.TextNames.{FitAll, HasNumbers, has_number}
+use Rattle.lrpar_grammar.specs.TextNames.{FitAll, AreNumbered, has_number}
 use Rattle.lrpar_grammar.proofs.NamesLemmas.{not_found, number_of_last, number_within}
 use Rattle.std.proofs.lemmas.Slice.Eq.{bytes_eq-Decides}
 
@@ -95,7 +95,7 @@ number_step true t r token known = token refl
 number_step false t r token known = known
 
 -- where nothing is unknown, everything has a number
-pub clean_numbers : (o : TextOutline) → AreOfDefinedRules o → IsClean o → All (HasNumbers (numbering_of o)) o.alternatives
+pub clean_numbers : (o : TextOutline) → AreOfDefinedRules o → IsClean o → All (AreNumbered (numbering_of o)) o.alternatives
 clean_numbers o of clean = λ k d within.
     let x = get_or o.alternatives k d in
     let has_x : Contains o.alternatives x = All-contains_itself o.alternatives k d within in
@@ -128,7 +128,7 @@ symbol_listed true n w known = found_token (number_of w.name n.tokens) (length n
 symbol_listed false n w known = rule_listed n.rules w.name known
 
 -- an alternative with numbers is a production of a listed rule with listed symbols
-prod_listed : (n : Numbering) (x : TextAlternative) → HasNumbers n x → IsListedProd (length n.rules + 1) (length n.tokens) (prod_of_alternative n x)
+prod_listed : (n : Numbering) (x : TextAlternative) → AreNumbered n x → IsListedProd (length n.rules + 1) (length n.tokens) (prod_of_alternative n x)
 prod_listed n x has = record {
   rule_added = (rule_listed n.rules x.rule.name has.rule).0;
   rule_within = (rule_listed n.rules x.rule.name has.rule).1;
@@ -195,7 +195,7 @@ clean_sound limit o of clean fit =
       symbols = subst (λ r. All (IsListedProd (r + 1) (length (map (token_of_word o) (token_words o)))) (spelled_parts o).prods) (sym rules_len)
           (subst (λ t. All (IsListedProd (length (rule_words o) + 1) t) (spelled_parts o).prods) (sym tokens_len)
           (All-map (IsListedProd (length (rule_words o) + 1) (length (token_words o))) (prod_of_alternative n) o.alternatives
-          (All-weaker (HasNumbers n) (λ (x : TextAlternative). IsListedProd (length (rule_words o) + 1) (length (token_words o)) (prod_of_alternative n x))
+          (All-weaker (AreNumbered n) (λ (x : TextAlternative). IsListedProd (length (rule_words o) + 1) (length (token_words o)) (prod_of_alternative n x))
           (prod_listed n) o.alternatives (clean_numbers o of clean))));
     }
 

@@ -6,7 +6,7 @@ use Rattle.lrpar_grammar.specs.declared.grammar.parts.TokenPart.{TokenPart}
 use Rattle.lrpar_grammar.specs.declared.grammar.parts.ProdPart.{ProdPart}
 use Rattle.lrpar_grammar.specs.declared.grammar.parts.GrammarParts.{GrammarParts}
 use Rattle.lrpar_grammar.specs.declared.grammar.parts.GrammarFault.{GrammarFault}
-use Rattle.lrpar_grammar.specs.declared.grammar.parts.GrammarFault.TheVariants.{NoRules, StorageTooSmall, BadStart, BadSymbol}
+use Rattle.lrpar_grammar.specs.declared.grammar.parts.GrammarFault.TheVariants.{NoRules, StorageTooSmall, BadStart, BadSymbol, Memory}
 use Rattle.lrpar_grammar.specs.Symbols.{symbol_of}
 use Rattle.lrpar_grammar.specs.Grammar.{Grammar, RuleName, TokenName, Production, IsListedSymbol, added_rule, added_prod}
 
@@ -88,3 +88,8 @@ IsFirstFault limit x StorageTooSmall = (x.rules ≢ []) × ¬ (FitStorage limit 
 IsFirstFault limit x BadStart = (x.rules ≢ []) × FitStorage limit x × ¬ (HasListedStart x)
 IsFirstFault limit x BadSymbol = (x.rules ≢ []) × FitStorage limit x × HasListedStart x × ¬ (HasListedSymbols x)
 IsFirstFault limit x _ = ⊥
+
+-- why the parts make no grammar: their first fault, or want of memory, where they have none
+abbrev pub IsRefusalOf : ℕ → Parts → GrammarFault → Type 0
+IsRefusalOf limit x Memory = AreSound limit x
+IsRefusalOf limit x fault = IsFirstFault limit x fault

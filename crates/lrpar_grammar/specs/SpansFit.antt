@@ -16,15 +16,15 @@ pub record IsPartOfLine (src : List ℕ) (span : Extent) : Type 0 where
   pub line : All (λ byte. byte ≢ 10) (slice_range src span.start span.end)
 
 -- each ends before the next one starts
-abbrev pub AreInOrder : List Extent → Type 0
-AreInOrder spans = AllAdjacentBelow (λ a b. a.end ≤ b.start) spans (length spans)
+abbrev pub AreSpansInOrder : List Extent → Type 0
+AreSpansInOrder spans = AllAdjacentBelow (λ a b. a.end ≤ b.start) spans (length spans)
 
 -- the places of a production: its own, which lies on one line where it has no symbols, and those of its symbols, each on one line
 pub record ProductionFits (src : List ℕ) (p : Production) : Type 0 where
   pub span : IsPartOf src p.span
   pub empty : p.symbols ≡ [] → IsPartOfLine src p.span
   pub symbols : All (IsPartOfLine src) p.symbol_spans
-  pub order : AreInOrder p.symbol_spans
+  pub order : AreSpansInOrder p.symbol_spans
 
 -- the places of all rules and tokens
 pub record NamesFit (g : Grammar) (src : List ℕ) : Type 0 where

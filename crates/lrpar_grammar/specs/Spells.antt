@@ -1,13 +1,13 @@
 -- Which grammar a text spells: numbers, names, printed texts and places by its declarations and rules, and the faults
 -- that these can have. A number has no bound here.
-use Rattle.std.specs.Prelude.{◌≡◌, ◌≢◌, ◌<◌, ◌≤◌, ◌+◌, ◌-◌, ◌||◌, not, ℕ, Bool, true, false, List, [], ◌++◌, length, map, filter, take, All, Contains, slice_get, slice_index_or, Option, Some, unwrap_or, if◌then◌else◌, ◌⊎◌}
-use Rattle.std.specs.List.{flat_map}
-use Rattle.std.specs.Option.{option_map_or}
+use Rattle.std.specs.Prelude.{◌≡◌, ◌≢◌, ◌<◌, ◌≤◌, ◌+◌, ◌-◌, ◌||◌, not, ℕ, Bool, true, false, List, [], ◌++◌, length, map, filter, take, All, slice_get, slice_index_or, IsNone, Option, Some, option_map, unwrap_or, if◌then◌else◌}
+use Rattle.std.specs.List.{find, flat_map}
+use Rattle.std.specs.Option.{option_map_or, option_or}
 use Rattle.lrpar_text.specs.Span.{Extent}
 use Rattle.lrpar_text.specs.declared.words.WordKind.{WordKind}
 use Rattle.lrpar_text.specs.declared.words.WordKind.TheVariants.{Quoted}
 use Rattle.lrpar_text.specs.Words.{PlacedWord}
-use Rattle.lrpar_text.specs.Outline.{IsOutlineOf, TextAlternative, TextOutline}
+use Rattle.lrpar_text.specs.Outline.{IsOutlineOf, IsUnreadableAt, TextAlternative, TextOutline}
 use Rattle.lrpar_grammar.specs.declared.grammar.parts.GrammarFault.{GrammarFault}
 use Rattle.lrpar_grammar.specs.declared.grammar.parts.GrammarFault.TheVariants.{NoRules, StorageTooSmall, BadStart, BadSymbol, Syntax, UnknownRule, UnknownToken, TokenIsRule, RepeatedStart, RepeatedEpp, Memory}
 use Rattle.lrpar_grammar.specs.Grammar.{Grammar, GrammarSymbol, Nonterminal, Production, RuleName, Terminal, TokenName}
@@ -127,35 +127,47 @@ pub record IsClean (o : TextOutline) : Type 0 where
   pub some_rule : o.defined ≢ []
   pub names_known : AreNamesKnown (numbering_of o) o
 
--- a word of the list that passes stands at this place
-pub record StandsAt (words : List PlacedWord) (passes : PlacedWord → Bool) (span : Extent) : Type 0 where
-  pub word : PlacedWord
-  pub contains : Contains words word
-  pub is : passes word ≡ true
-  pub at : word.span ≡ span
+-- one start, and no second `%epp` of a name
+pub record AreDeclaredOnce (o : TextOutline) : Type 0 where
+  pub one_start : length o.starts ≤ 1
+  pub one_epp_each : AreDistinct o.epps
 
--- a word that has the name of one before it stands at this place
+-- the first rule that has the name of a declared token
+abbrev pub token_rule : Numbering → Option PlacedWord
+token_rule n = find (λ w. is_among w.name n.declared) n.rules
+
+-- the first name after `%start` that is no rule, else the first symbol that is neither a token nor a rule
+abbrev pub unknown_rule : Numbering → TextOutline → Option PlacedWord
+unknown_rule n o =
+    option_or (find (λ w. not (is_among w.name n.rules)) o.starts) (find (λ w. not (is_known n w)) (flat_map (λ x. x.symbols) o.alternatives))
+
+-- the first word after `%epp` that is no token
+abbrev pub unknown_token : Numbering → TextOutline → Option PlacedWord
+unknown_token n o = find (λ w. not (is_among w.name n.tokens)) o.epps
+
+-- there is such a word, and it stands at this place
+abbrev pub StandsAt : Option PlacedWord → Extent → Type 0
+StandsAt word span = option_map (λ w. w.span) word ≡ Some span
+
+-- the first word that has the name of one before it stands at this place
 pub record IsRepeatedAt (words : List PlacedWord) (span : Extent) : Type 0 where
   pub word : PlacedWord
   pub place : ℕ
   pub stands : slice_get words place ≡ Some word
   pub again : is_among word.name (take place words) ≡ true
+  pub first : AreDistinct (take place words)
   pub at : word.span ≡ span
 
--- a symbol that is neither a token nor a rule stands at this place
-pub record IsUnknownAt (n : Numbering) (alternatives : List TextAlternative) (span : Extent) : Type 0 where
-  pub alternative : TextAlternative
-  pub contains : Contains alternatives alternative
-  pub unknown : StandsAt alternative.symbols (λ w. not (is_known n w)) span
-
--- the declarations and rules have the fault, at the place that it names; want of memory isn't one of theirs
+-- This is the first fault of the declarations and rules: it holds at this place, the first one where it does, and those that
+-- come before it don't. They are looked for in the order in which they stand here. Want of memory isn't one of theirs.
 abbrev pub HasFaultBy : Numbering → TextOutline → GrammarFault → Type 0
-HasFaultBy n o (RepeatedStart span) = (w : PlacedWord) × (slice_get o.starts 1 ≡ Some w) × (w.span ≡ span)
-HasFaultBy n o (RepeatedEpp span) = IsRepeatedAt o.epps span
-HasFaultBy n o NoRules = o.defined ≡ []
-HasFaultBy n o (TokenIsRule span) = StandsAt n.rules (λ w. is_among w.name n.declared) span
-HasFaultBy n o (UnknownRule span) = StandsAt o.starts (λ w. not (is_among w.name n.rules)) span ⊎ IsUnknownAt n o.alternatives span
-HasFaultBy n o (UnknownToken span) = StandsAt o.epps (λ w. not (is_among w.name n.tokens)) span
+HasFaultBy n o (RepeatedStart span) = StandsAt (slice_get o.starts 1) span
+HasFaultBy n o (RepeatedEpp span) = (length o.starts ≤ 1) × IsRepeatedAt o.epps span
+HasFaultBy n o NoRules = AreDeclaredOnce o × (o.defined ≡ [])
+HasFaultBy n o (TokenIsRule span) = AreDeclaredOnce o × (o.defined ≢ []) × StandsAt (token_rule n) span
+HasFaultBy n o (UnknownRule span) = AreDeclaredOnce o × (o.defined ≢ []) × IsNone (token_rule n) × StandsAt (unknown_rule n o) span
+HasFaultBy n o (UnknownToken span) =
+    AreDeclaredOnce o × (o.defined ≢ []) × IsNone (token_rule n) × IsNone (unknown_rule n o) × StandsAt (unknown_token n o) span
 HasFaultBy n o (Syntax place) = ⊥
 HasFaultBy n o BadSymbol = ⊥
 HasFaultBy n o BadStart = ⊥
@@ -185,22 +197,23 @@ pub record SpellsTooMany (limit : ℕ) (text : List ℕ) : Type 0 where
   pub clean : IsClean outline
   pub many : FitStorage limit (spelled_parts outline) → ⊥
 
--- the text reads as words of the shape that have the fault
+-- the text reads as words of the shape whose first fault it is
 pub record ReadsWithFault (text : List ℕ) (fault : GrammarFault) : Type 0 where
   pub outline : TextOutline
   pub reads : IsOutlineOf text outline
   pub has : HasFault outline fault
 
--- Why a text gives no grammar. `Syntax`: it reads as no words of the shape. `StorageTooSmall`: the storage type is too
--- small for the grammar that it spells. Any other but want of memory is a fault of its declarations and rules.
+-- Why a text gives no grammar. `Syntax`: it reads as no words of the shape, and this is the place where it is stuck.
+-- `StorageTooSmall`: the storage type is too small for the grammar that it spells. Any other but want of memory is the
+-- first fault of its declarations and rules.
 abbrev pub IsFaultOf : ℕ → List ℕ → GrammarFault → Type 0
-IsFaultOf limit text (Syntax place) = (o : TextOutline) → IsOutlineOf text o → ⊥
+IsFaultOf limit text (Syntax place) = IsUnreadableAt text place
 IsFaultOf limit text StorageTooSmall = SpellsTooMany limit text
 IsFaultOf limit text Memory = Unit {0}
 IsFaultOf limit text fault = ReadsWithFault text fault
 
--- the text reads as no words of the shape, or memory was wanting
+-- the text can't be read at this place, or memory was wanting
 abbrev pub IsOutlineFault : List ℕ → GrammarFault → Type 0
-IsOutlineFault text (Syntax place) = (o : TextOutline) → IsOutlineOf text o → ⊥
+IsOutlineFault text (Syntax place) = IsUnreadableAt text place
 IsOutlineFault text Memory = Unit {0}
 IsOutlineFault text _ = ⊥

@@ -18,7 +18,7 @@ abbrev pub has_number : Numbering → PlacedWord → Bool
 has_number n w = if is_token n.declared w then is_among w.name n.tokens else is_among w.name n.rules
 
 -- the rule and the symbols of an alternative have numbers
-pub record HasNumbers (n : Numbering) (x : TextAlternative) : Type 0 where
+pub record AreNumbered (n : Numbering) (x : TextAlternative) : Type 0 where
   pub rule : is_among x.rule.name n.rules ≡ true
   pub symbols : All (λ w. has_number n w ≡ true) x.symbols
 

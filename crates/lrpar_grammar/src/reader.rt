@@ -1,9 +1,9 @@
 //! The grammar of a text.
-ghost use Rattle.std.specs.Prelude.{◌≡◌, ◌≤◌, IfErr, IfOk, length};
+ghost use Rattle.std.specs.Prelude.{◌≡◌, IfErr, IfOk};
 ghost use Rattle.lrpar_text.specs.Outline.{AreOfDefinedRules, HasOrderedSymbols, IsOutlineOf, outline_of};
 ghost use Rattle.lrpar_grammar.specs.Parts.{AreSound, grammar_of, parts_of};
 ghost use Rattle.lrpar_grammar.specs.SpansFit.{SpansFit};
-ghost use Rattle.lrpar_grammar.specs.Spells.{AreDistinct, IsClean, IsFaultOf, IsOutlineFault, Spells, numbering_of};
+ghost use Rattle.lrpar_grammar.specs.Spells.{AreDeclaredOnce, IsClean, IsFaultOf, IsOutlineFault, Spells, numbering_of};
 ghost use Rattle.lrpar_grammar.specs.TextNames.{AreSpelled, IsRefusedAs, numbering_by};
 
 mod faults;
@@ -98,8 +98,7 @@ fn named_parts<StorageT: StorageIndex>(
 ) -> Result<GrammarParts<StorageT>, GrammarFault>
     requires numbering { numbering_by tables.now ≡ numbering_of (outline_of outline.now) }
     requires epps { (tables.now).epps ≡ (outline_of outline.now).epps }
-    requires one_start { length (outline_of outline.now).starts ≤ 1 }
-    requires distinct { AreDistinct (outline_of outline.now).epps }
+    requires once { AreDeclaredOnce (outline_of outline.now) }
     requires rules { AreOfDefinedRules (outline_of outline.now) }
     requires order { HasOrderedSymbols (outline_of outline.now) }
     ensures parts { IfOk result (λ parts. AreSpelled StorageT.limit (outline_of outline.now) (parts_of StorageT.index parts)) }

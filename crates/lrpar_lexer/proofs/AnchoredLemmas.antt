@@ -1,14 +1,9 @@
 -- A pattern behind an assertion that the text begins finds what the pattern finds, if that begins at 0.
-use Rattle.std.proofs.Common.{◌≡◌, ℕ, ◌+◌, ◌/◌, ◌%◌, ◌<◌, ◌≤◌, Bool, true, false, cond, ◌==◌, List, [], ◌∷◌, length, get_or, IsSomeAnd, is_some, min, Option, Some, None, option_map, refl, sym, ap, ◌∙◌, subst, ⊎_elim, arith, true≢false, ne_eqb, zero, suc}
-use Rattle.std.proofs.lemmas.Bool.{and_parts, cases_Bool, cases_lt, cond-false, cond-true}
+use Rattle.std.proofs.Common.{◌≡◌, ℕ, ◌+◌, ◌<◌, ◌≤◌, Bool, true, false, cond, ◌==◌, List, length, is_some, min, Option, Some, None, option_map, refl, sym, ap, ◌∙◌, subst, ⊎_elim, arith, true≢false, ne_eqb, zero, suc}
+use Rattle.std.proofs.lemmas.Bool.{cases_Bool, cases_lt, cond-false, cond-true}
 use Rattle.std.proofs.lemmas.Option.{none-some, same_Some, slice_get-get_or}
-use Rattle.std.proofs.lemmas.List.Elements.{All-append, All-from_recursion, All-get_or, All-nil, All-same}
-use Rattle.std.proofs.lemmas.Str.{IsCharBoundary-start, encode_ascii}
-use Rattle.std.proofs.Math.ListN.{get_or-eq_default}
-use Rattle.std.proofs.Math.Utf8.{scalar, scalar_cases, scalars}
-use Rattle.std.specs.List.{All, AllByRecursion}
-use Rattle.std.specs.Prelude.{encode_utf8, encode_utf8_all}
-use Rattle.std.specs.Str.{IsUtf8, chars}
+use Rattle.std.proofs.lemmas.Str.{IsCharBoundary-start}
+use Rattle.std.specs.Str.{IsUtf8}
 use Rattle.regex.specs.Patterns.{Match, Re, Start, find, find_str, holds, span}
 use Rattle.regex_hir.specs.Looks.{holds_between}
 use Rattle.regex_hir.specs.Re.{Trace, accept, attempt}
@@ -17,24 +12,15 @@ use Rattle.regex_hir.proofs.AttemptLemmas.{attempt_cong, cond_some}
 use Rattle.regex_hir.proofs.FindLemmas.{IsFirst-of_first_between, first_between_here}
 use Rattle.regex_hir.proofs.OptionLemmas.{none_of_no_value, option_cases}
 use Rattle.regex_hir.proofs.TextLemmas.{byte_before-add-one, byte_before-zero}
-use Rattle.regex_hir.proofs.Utf8Lemmas.{encode_four, encode_three, encode_two}
 use Rattle.regex_meta.proofs.LeftmostLemmas.{find_first, find_here, find_none}
 use Rattle.regex_meta.proofs.ProgramLemmas.{refuted}
 use Rattle.regex_meta.specs.Programs.{leftmost, pattern_of}
 use Rattle.regex_literal.specs.ByteSets.{IsInSet}
 use Rattle.regex_literal.specs.Find.{IsFirst}
-use Rattle.regex.specs.Patterns.{Reads, SameCaptures, default_config}
-use Rattle.regex.specs.Strings.{IsReadFromSource, regex_config, regex_names, regex_pattern, regex_source}
-use Rattle.regex.specs.declared.string.regex.Regex.{Regex}
-use Rattle.regex.proofs.ForCallers.{span_alike}
 use Rattle.regex.proofs.Utf8Lemmas.{test_of_IsCharBoundary}
 use Rattle.regex_hir.specs.Meaning.{meaning}
-use Rattle.regex_hir.specs.declared.hir.Hir.{Hir}
 use Rattle.regex_meta.specs.declared.program.Program.{Program}
-use Rattle.regex_syntax.specs.Brackets.{Nested}
-use Rattle.regex_syntax.specs.Grammar.{Names, group_count, read}
-use Rattle.regex_syntax.proofs.CapturesLemmas.{◌also◌, alike_sym}
-use Rattle.lrpar_lexer.specs.Anchored.{FindsAtStart, HasNothingAtStart, IsBehindStart, behind_start, if_at_start}
+use Rattle.lrpar_lexer.specs.Anchored.{FindsAtStart, HasNothingAtStart, IsBehindStart, behind_start, if_at_start, without_start}
 use Rattle.lrpar_lexer.specs.Matching.{HasNoMatch}
 
 -- only the first place of a text has nothing in front of it
@@ -105,58 +91,13 @@ module _ (re : Re) (text : List ℕ) where
       ∙ sym (ap (λ m. if_at_start (option_map span m)) (something_at_start some.0 boundary some.1)))
       (option_cases (attempt text re accept 0))
 
--- a text that two trees are read in: they match alike
-both_read : (source : List ℕ) (a b : Hir) (m n : Names) → Reads default_config source a m → Reads default_config source b n
-    → SameCaptures (meaning a) (meaning b)
-unfolding Reads
-both_read source a b m n = both (read default_config (chars source))
-  where
-    both : (o : Option (Nested Re × Names)) → IsSomeAnd o (λ (re, found). (re.depth ≤ 250) × SameCaptures (meaning a) re.value × (m ≡ found) × (group_count (meaning a) ≤ length m))
-        → IsSomeAnd o (λ (re, found). (re.depth ≤ 250) × SameCaptures (meaning b) re.value × (n ≡ found) × (group_count (meaning b) ≤ length n))
-        → SameCaptures (meaning a) (meaning b)
-    both None p q = absurd p
-    both (Some x) p q = ◌also◌ p.1 (alike_sym q.1)
-
--- bytes of characters are below 256, and so those of a text
-bytes_of_char : (c : ℕ) → c < 1114112 → All (λ b. b < 256) (encode_utf8 c)
-bytes_of_char c within = ⊎_elim
-    (λ (one : c < 0x80). bytes (c ∷ []) (encode_ascii c one) (omega arith, tt))
-    (λ (from_two : 0x80 ≤ c). ⊎_elim
-    (λ (two : c < 0x800). bytes ((192 + c / 64) ∷ (128 + c % 64) ∷ []) (encode_two c from_two two) (omega arith, (omega arith, tt)))
-    (λ (from_three : 0x800 ≤ c). ⊎_elim
-    (λ (three : c < 0x1_0000). bytes ((224 + c / 4096) ∷ (128 + (c / 64) % 64) ∷ (128 + c % 64) ∷ [])
-    (encode_three c from_three three) (omega arith, (omega arith, (omega arith, tt))))
-    (λ (four : 0x1_0000 ≤ c). bytes ((240 + c / 262144) ∷ (128 + (c / 4096) % 64) ∷ (128 + (c / 64) % 64) ∷ (128 + c % 64) ∷ [])
-    (encode_four c four) (omega arith, (omega arith, (omega arith, (omega arith, tt)))))
-    (cases_lt c 0x1_0000))
-    (cases_lt c 0x800))
-    (cases_lt c 0x80)
-  where
-    bytes : (bs : List ℕ) → encode_utf8 c ≡ bs → AllByRecursion (λ b. b < 256) bs → All (λ b. b < 256) (encode_utf8 c)
-    bytes bs same all = All-same (λ b. b < 256) (encode_utf8 c) bs same (All-from_recursion (λ b. b < 256) bs all)
-
-bytes_of_chars : (cs : List ℕ) → scalars cs ≡ true → All (λ b. b < 256) (encode_utf8_all cs)
-bytes_of_chars [] all = All-nil (λ b. b < 256)
-bytes_of_chars (c ∷ cs) all =
-    let parts = and_parts (scalar c) (scalars cs) all in
-    let within : c < 1114112 = ⊎_elim (λ low. omega arith) (λ high. high.1) (scalar_cases c parts.0) in
-    All-append (λ b. b < 256) (encode_utf8 c) (encode_utf8_all cs) (bytes_of_char c within) (bytes_of_chars cs parts.1)
-
-bytes_of_text : (text : List ℕ) → IsUtf8 text → (k : ℕ) → get_or text k 0 < 256
-bytes_of_text text utf8 k = ⊎_elim
-    (λ within. All-get_or (λ b. b < 256) text k 0 within (subst (All (λ b. b < 256)) utf8.1.1 (bytes_of_chars utf8.0 utf8.1.0)))
-    (λ past. let none : get_or text k 0 ≡ 0 = get_or-eq_default text 0 past in omega arith)
-    (cases_lt k (length text))
-
--- so a program of the one, where the text begins, finds what a regex of the other finds there
-pub finds_of_parts : (source : List ℕ) (regex : Regex) (program : Program) → regex_source regex ≡ source → regex_config regex ≡ default_config
-    → IsReadFromSource regex → IsBehindStart source program → FindsAtStart program (regex_pattern regex)
-finds_of_parts source regex program is_source is_config is_read it text utf8 =
-    let read : Reads default_config source regex.pattern.program.hir (regex_names regex) = rw (is_source, is_config) at is_read in
-    let same : SameCaptures (meaning it.tree) (regex_pattern regex) = both_read source it.tree regex.pattern.program.hir it.names _ it.read read in
+-- so a program of a pattern, where the text begins, finds what the pattern finds there
+pub finds_behind : (source : List ℕ) (program : Program) → IsBehindStart source program → FindsAtStart program (without_start (pattern_of program))
+finds_behind source program it text utf8 =
     let boundary : is_boundary text 0 ≡ true = test_of_IsCharBoundary text 0 (IsCharBoundary-start text utf8) in
+    let pattern : without_start (pattern_of program) ≡ meaning it.tree = ap without_start it.behind in
     ap (λ re. option_map span (find re text 0)) it.behind ∙ found_at_start (meaning it.tree) text boundary
-    ∙ ap if_at_start (span_alike same text (bytes_of_text text utf8) true 0)
+    ∙ ap (λ re. if_at_start (option_map span (find_str re text 0))) (sym pattern)
 
 -- where a text begins with no byte with which a match can begin, nothing matches there
 pub nothing_begins : (program : Program) (set : List Bool) → program.first ≡ Some set → (text : List ℕ) (bound : ℕ) (found : Option ℕ)

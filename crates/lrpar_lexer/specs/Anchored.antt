@@ -22,6 +22,11 @@ FindsAtStart program pattern = (text : List ℕ) → IsUtf8 text
 abbrev pub behind_start : Re → Re
 behind_start pattern = cat (look Start) (cat pattern empty)
 
+-- what stands in a pattern behind its first part
+abbrev pub without_start : Re → Re
+without_start (cat first (cat pattern rest)) = pattern
+without_start _ = empty
+
 -- the program searches for what the grammar of patterns reads in the source, where the text begins
 pub record IsBehindStart (source : List ℕ) (program : Program) : Type 0 where
   pub tree : Hir

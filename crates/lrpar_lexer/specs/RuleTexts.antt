@@ -5,7 +5,7 @@ use Rattle.regex.specs.Patterns.{default_config}
 use Rattle.regex.specs.Failures.{IsRightKind}
 use Rattle.regex.specs.Sources.{IsRefusal}
 use Rattle.regex.specs.declared.error.Error.{Error}
-use Rattle.regex.specs.declared.error.Error.TheVariants.{OutOfMemory}
+use Rattle.regex.specs.declared.error.Error.TheVariants.{Internal, OutOfMemory}
 use Rattle.lrpar_grammar.specs.Grammar.{Grammar}
 use Rattle.lrpar_lexer.specs.RuleLines.{ReadsAs, core_of, cores_of, text_lines}
 use Rattle.lrpar_lexer.specs.Rules.{HasPattern, token_of}
@@ -34,10 +34,10 @@ pub record IsRuleOf (grammar : Grammar) (line : List ℕ) (rule : LexRule) : Typ
 abbrev pub AreRulesOf : Grammar → List (List ℕ) → List LexRule → Type 0
 AreRulesOf grammar lines rules = AllZip (IsRuleOf grammar) (cores_of lines) rules
 
--- `regex` answers this error for the pattern, and it's no want of memory: one of syntax, as its grammar refuses the pattern; or
--- another, as that the program would be too big, and then the text is a pattern
+-- `regex` answers this error for the pattern, and neither memory nor a check of its own fails: it's one of syntax, as its grammar
+-- refuses the pattern; or the program would be too big, and then the text is a pattern
 abbrev pub IsRefusalOf : List ℕ → Error → Type 0
-IsRefusalOf pattern error = (error ≢ OutOfMemory) × IsRefusal default_config pattern error × IsRightKind default_config pattern error
+IsRefusalOf pattern error = (error ≢ OutOfMemory) × (error ≢ Internal) × IsRefusal default_config pattern error × IsRightKind default_config pattern error
 
 -- The line says no rule: it doesn't read as one, or it names no token of the grammar, or `regex` refuses its pattern.
 pub data SaysNoRule (grammar : Grammar) (line : List ℕ) : Type 0 where

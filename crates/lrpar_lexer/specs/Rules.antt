@@ -1,8 +1,12 @@
 -- The rules of a lexer.
 use Rattle.std.specs.Prelude.{◌≡◌, ℕ, List, map, Option, option_map}
-use Rattle.regex.specs.Patterns.{Re, default_config}
-use Rattle.regex.specs.Strings.{IsReadFromSource, regex_config, regex_pattern, regex_source}
+use Rattle.regex.specs.Patterns.{Re, Reads, default_config}
+use Rattle.regex_hir.specs.Meaning.{meaning}
+use Rattle.regex_hir.specs.declared.hir.Hir.{Hir}
+use Rattle.regex_meta.specs.Programs as programs
 use Rattle.regex_meta.specs.declared.program.Program.{Program}
+use Rattle.regex_syntax.specs.Grammar.{Names}
+use Rattle.lrpar_lexer.specs.Anchored.{without_start}
 use Rattle.lrpar_lexer.specs.declared.rule.LexRule.{LexRule}
 
 -- the pattern of a rule, and the token of what it matches: none where that is skipped
@@ -10,8 +14,9 @@ pub record Rule : Type 0 where
   pub pattern : Re
   pub token : Option ℕ
 
+-- what a rule's program searches for, behind the assertion that the text begins
 abbrev pub pattern_of : LexRule → Re
-pattern_of rule = regex_pattern rule.regex
+pattern_of rule = without_start (programs.pattern_of rule.anchored)
 
 -- what searches for the pattern at the beginning of a text
 abbrev pub anchored_of : LexRule → Program
@@ -24,11 +29,12 @@ plain_rule rule = record { pattern = pattern_of rule; token = option_map (λ tok
 abbrev pub plain_rules : List LexRule → List Rule
 plain_rules rules = map plain_rule rules
 
--- the rule's pattern is what `regex` reads in the text, by its default options
+-- the rule's pattern is what the grammar of `regex` reads in the text, by its default options
 pub record HasPattern (text : List ℕ) (rule : LexRule) : Type 0 where
-  pub source : regex_source rule.regex ≡ text
-  pub config : regex_config rule.regex ≡ default_config
-  pub read : IsReadFromSource rule.regex
+  pub tree : Hir
+  pub names : Names
+  pub read : Reads default_config text tree names
+  pub is : pattern_of rule ≡ meaning tree
 
 abbrev pub token_of : LexRule → Option ℕ
 token_of rule = option_map (λ token. token.0) rule.token

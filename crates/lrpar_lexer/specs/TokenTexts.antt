@@ -1,5 +1,6 @@
--- The texts of lexemes, and of places where no token fits.
-use Rattle.std.specs.Prelude.{ℕ, List, ◌++◌, Option, Some, codes}
+-- Lexemes and places where no token fits: their texts, and when two lexemes are the same.
+use Rattle.std.specs.Prelude.{◌≡◌, ℕ, List, ◌++◌, Option, Some, codes}
+use Rattle.std.specs.Hash as fed
 use Rattle.std.specs.Fmt.{decimal}
 use Rattle.lrpar_lexer.specs.declared.token.Token.{Token}
 use Rattle.lrpar_lexer.specs.declared.token.NoToken.{NoToken}
@@ -11,3 +12,14 @@ token_text index x = Some (codes "token " ++ decimal (index x.number) ++ codes "
 -- a place where no token fits: where it starts
 abbrev pub no_token_text : NoToken → Option (List ℕ)
 no_token_text e = Some (codes "no token fits at byte " ++ decimal e.span.start)
+
+-- two lexemes of one token, which lie in one place, and either both come of a repair or neither does
+pub record IsSameToken {S : Type 0} (index : S → ℕ) (x y : Token S) : Type 0 where
+  pub token : index x.number ≡ index y.number
+  pub start : x.span.start ≡ y.span.start
+  pub end : x.span.end ≡ y.span.end
+  pub faulty : x.is_faulty ≡ y.is_faulty
+
+-- what a hasher is fed of a lexeme: what it is fed of the number, both ends, and whether a repair made it
+abbrev pub token_input : {S : Type 0} → (S → List (List ℕ)) → Token S → List (List ℕ)
+token_input input x = input x.number ++ fed.usize x.span.start ++ fed.usize x.span.end ++ fed.bool x.is_faulty

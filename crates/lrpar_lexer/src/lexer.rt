@@ -8,7 +8,7 @@ ghost use Rattle.lrpar_lexer.specs.Rules.{plain_rules};
 use crate::lexing::answers;
 use crate::rule::LexRule;
 use crate::token::{NoToken, Token, TokenTypes};
-use lrpar_answers::{Lexer, NonStreamingLexer};
+use lrpar_lexemes::{Lexer, NonStreamingLexer};
 use lrpar_text::lines::NewlineCache;
 use lrpar_text::span::Span;
 use std::alloc::{AllocError, Global};

@@ -1,14 +1,15 @@
 //! A rule of a lexer.
-ghost use Rattle.std.specs.Prelude.{◌≡◌, IfOk, IfErr, option_map};
+ghost use Rattle.std.specs.Prelude.{◌≡◌, ◌≢◌, IfOk, IfErr, option_map};
 ghost use Rattle.regex.specs.Patterns.{default_config};
 ghost use Rattle.regex.specs.Failures.{IsRightKind};
 ghost use Rattle.regex.specs.Sources.{IsRefusal};
-ghost use Rattle.regex.specs.Strings.{regex_pattern};
+ghost use Rattle.regex.specs.declared.error.Error.TheVariants.{Internal};
 ghost use Rattle.regex_hir.specs.Meaning.{meaning};
-ghost use Rattle.lrpar_lexer.specs.Anchored.{FindsAtStart, IsBehindStart, behind_start};
+ghost use Rattle.regex_meta.specs.Programs.{pattern_of};
+ghost use Rattle.lrpar_lexer.specs.Anchored.{FindsAtStart, IsBehindStart, behind_start, without_start};
 
 use lrpar_text::span::TIdx;
-use regex::{Error, Regex};
+use regex::Error;
 use regex_hir::{Hir, Look};
 use regex_meta::Program;
 use regex_syntax::{Config, Parsed};
@@ -21,38 +22,32 @@ const SIZE_LIMIT: usize = 11 << 20;
 /// A rule: a pattern, and the token of what it matches; what a rule without a token matches is skipped.
 #[derive(Drop)]
 pub struct LexRule {
-    pub(crate) regex: Regex,
     /// The pattern behind an assertion that the text begins there, so that a search of the rest of a text reads no further than
     /// a match at its beginning could.
     pub(crate) anchored: Program,
     pub(crate) token: Option<TIdx<u32>>,
-    ghost finds: { FindsAtStart anchored (regex_pattern regex) },
+    ghost finds: { FindsAtStart anchored (without_start (pattern_of anchored)) },
 }
 
 impl LexRule {
     ghost use Rattle.lrpar_lexer.specs.Rules.{HasPattern, token_of};
 
-    /// The rule of this pattern and token. Refused as `regex` refuses the pattern.
+    /// The rule of this pattern and token. Refused as `regex` refuses the pattern. The pattern is compiled here, and never again.
     pub fn new(alloc: Global, pattern: &str, token: Option<TIdx<u32>>) -> Result<LexRule, Error>
         ensures pattern { IfOk result (HasPattern pattern.now) }
         ensures token { IfOk result (λ rule. token_of rule ≡ option_map (λ token. token.0) token) }
         ensures refused { IfErr result (IsRefusal default_config pattern.now) }
         ensures kind { IfErr result (IsRightKind default_config pattern.now) }
+        ensures no_internal { IfErr result (λ error. error ≢ Internal) }
     {
-        let regex = Regex::new(alloc, pattern)?;
         let anchored = anchored(alloc, pattern)?;
-        Ok(LexRule {
-            regex,
-            anchored,
-            token,
-        })
+        Ok(LexRule { anchored, token })
     }
 }
 
 impl fmt::Debug for LexRule {
     fn fmt<W: fmt::Write>(&self, f: &mut fmt::Formatter<W>) -> fmt::Result {
         f.debug_struct("LexRule")
-            .field("regex", &self.regex)
             .field("token", &self.token)
             .finish()
     }
@@ -63,6 +58,7 @@ fn anchored(alloc: Global, pattern: &str) -> Result<Program, Error>
     ensures read { IfOk result (IsBehindStart pattern.now) }
     ensures refused { IfErr result (IsRefusal default_config pattern.now) }
     ensures kind { IfErr result (IsRightKind default_config pattern.now) }
+    ensures no_internal { IfErr result (λ error. error ≢ Internal) }
 {
     let Parsed { hir, names } = regex_syntax::parse(alloc, pattern, &Config::default())?;
     let Ok(groups) = u32::try_from(names.len()) else {

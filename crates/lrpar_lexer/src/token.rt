@@ -2,7 +2,7 @@
 ghost use Rattle.std.specs.Prelude.{◌≡◌, ◌+◌, ◌≤◌};
 ghost use Rattle.lrpar_lexer.specs.Lexing.{lexeme_of, nothing_at};
 
-use lrpar_answers::{LexError, Lexeme, LexerTypes};
+use lrpar_lexemes::{LexError, Lexeme, LexerTypes};
 use lrpar_text::span::{Span, StorageIndex};
 use std::error::Error;
 use std::fmt;

@@ -97,26 +97,6 @@ no_entry es k missing =
       | inr found ↦ absurd (missing (Contains-image (λ e. e.0) es (k, found.0) (Contains-from_lookup eqb-true k found.0 es found.1)))
     ]
 
--- the entries of a state of a table are as they should be, also of one that there isn't
-pub actions_good : (limit : ℕ) (table : Table) → IsTable limit table → (s : ℕ) → AreEntries (IsActionEntry table.tokens table.states) (actions_at table s)
-actions_good limit table is s =
-    elim (cases_lt s (length table.actions)) as (λ _. AreEntries (IsActionEntry table.tokens table.states) (actions_at table s)) [
-      | inl below ↦ is.actions s [] below
-      | inr past ↦
-          let none : actions_at table s ≡ [] = get_or_past table.actions s [] past in
-          rw none (record { ascending = λ k h. absurd (omega (arith, h)); each = λ k d h. absurd (omega (arith, h)) })
-    ]
-
--- and its gotos
-pub gotos_good : (limit : ℕ) (table : Table) → IsTable limit table → (s : ℕ) → AreEntries (IsGotoEntry table.rules table.states) (gotos_at table s)
-gotos_good limit table is s =
-    elim (cases_lt s (length table.gotos)) as (λ _. AreEntries (IsGotoEntry table.rules table.states) (gotos_at table s)) [
-      | inl below ↦ is.gotos s [] below
-      | inr past ↦
-          let none : gotos_at table s ≡ [] = get_or_past table.gotos s [] past in
-          rw none (record { ascending = λ k h. absurd (omega (arith, h)); each = λ k d h. absurd (omega (arith, h)) })
-    ]
-
 -- the action of a table is an error, or one that is stored
 pub action_cases : (table : Table) (s t : ℕ)
     → (action_of table s t ≡ Fails) ⊎ ((action : TableAction) × Contains (actions_at table s) (t, action) × (action_of table s t ≡ action))
@@ -126,41 +106,6 @@ action_cases table s t =
       | inl none ↦ inl (ap (λ o. unwrap_or o Fails) none)
       | inr found ↦ inr (found.0, Contains-from_lookup eqb-true t found.0 (actions_at table s) found.1, ap (λ o. unwrap_or o Fails) found.1)
     ]
-
--- a stored action is that of the table
-pub action_stored : (limit : ℕ) (table : Table) → IsTable limit table → (s t : ℕ) (action : TableAction) → Contains (actions_at table s) (t, action)
-    → (action_of table s t ≡ action) × (action ≢ Fails)
-unfolding action_of
-action_stored limit table is s t action there =
-    let good = actions_good limit table is s in
-    let found = (entry_found (actions_at table s) t action good.ascending).0 there in
-    let entry = All-contains (IsActionEntry table.tokens table.states) (actions_at table s) (t, action) good.each there in
-    (ap (λ o. unwrap_or o Fails) found, entry.stored)
-
--- the stored actions are the actions of the table but errors
-pub actions_exact : (limit : ℕ) (table : Table) → IsTable limit table → (s t : ℕ) (action : TableAction)
-    → Contains (actions_at table s) (t, action) ↔ ((action_of table s t ≡ action) × (action ≢ Fails))
-actions_exact limit table is s t action = (
-  action_stored limit table is s t action,
-  λ h.
-      elim (action_cases table s t) as (λ _. Contains (actions_at table s) (t, action)) [
-        | inl none ↦ absurd (h.1 (sym h.0 ∙ none))
-        | inr found ↦ subst (λ (a : TableAction). Contains (actions_at table s) (t, a)) (sym found.2 ∙ h.0) found.1
-      ],
-)
-
--- the stored gotos are the gotos of the table
-pub gotos_exact : (limit : ℕ) (table : Table) → IsTable limit table → (s r next : ℕ)
-    → Contains (gotos_at table s) (r, next) ↔ (goto_of table s r ≡ Some next)
-unfolding goto_of
-gotos_exact limit table is s r next = entry_found (gotos_at table s) r next (gotos_good limit table is s).ascending
-
--- the entry of a goto
-pub goto_entry_of : (limit : ℕ) (table : Table) → IsTable limit table → (s r next : ℕ) → goto_of table s r ≡ Some next
-    → IsGotoEntry table.rules table.states (r, next)
-goto_entry_of limit table is s r next at =
-    let good = gotos_good limit table is s in
-    All-contains (IsGotoEntry table.rules table.states) (gotos_at table s) (r, next) good.each ((gotos_exact limit table is s r next).1 at)
 
 -- where the stored actions have their states in range, so has every action
 pub action_within_row : (table : Table) (s t : ℕ) → All (IsActionEntry table.tokens table.states) (actions_at table s)
@@ -172,48 +117,6 @@ action_within_row table s t each =
           let entry = All-contains (IsActionEntry table.tokens table.states) (actions_at table s) (t, found.0) each found.1 in
           subst (IsActionWithin table.states) (sym found.2) entry.within
     ]
-
--- every action has its state in range
-pub action_within : (limit : ℕ) (table : Table) → IsTable limit table → (s t : ℕ) → IsActionWithin table.states (action_of table s t)
-action_within limit table is s t = action_within_row table s t (actions_good limit table is s).each
-
--- so has every goto
-pub goto_within : (limit : ℕ) (table : Table) → IsTable limit table → (s r : ℕ) → IsGotoWithin table.states (goto_of table s r)
-goto_within limit table is s r =
-    let each : (o : Option ℕ) → goto_of table s r ≡ o → IsGotoWithin table.states o = λ o.
-    elim o as (λ v. goto_of table s r ≡ v → IsGotoWithin table.states v) [
-      | None ↦ λ at. tt
-      | Some next ↦ λ at. (goto_entry_of limit table is s r next at).within
-    ] in
-    each (goto_of table s r) refl
-
--- a table is closed
-pub closed : (limit : ℕ) (table : Table) → IsTable limit table → IsClosed table
-closed limit table is = record {
-  start_within = is.start_within;
-  shifts_within = λ s t next at. subst (IsActionWithin table.states) at (action_within limit table is s t);
-  gotos_within = λ s r next at. (goto_entry_of limit table is s r next at).within;
-}
-
--- past the tokens there are only errors
-pub no_action_past : (limit : ℕ) (table : Table) → IsTable limit table → (s t : ℕ) → table.tokens ≤ t → action_of table s t ≡ Fails
-no_action_past limit table is s t past =
-    elim (action_cases table s t) as (λ _. action_of table s t ≡ Fails) [
-      | inl none ↦ none
-      | inr found ↦
-          let entry = All-contains (IsActionEntry table.tokens table.states) (actions_at table s) (t, found.0) (actions_good limit table is s).each found.1 in
-          absurd (omega (arith, entry.token, past))
-    ]
-
--- past the rules there are no gotos
-pub no_goto_past : (limit : ℕ) (table : Table) → IsTable limit table → (s r : ℕ) → table.rules ≤ r → goto_of table s r ≡ None
-no_goto_past limit table is s r past =
-    let each : (o : Option ℕ) → goto_of table s r ≡ o → o ≡ None = λ o.
-    elim o as (λ v. goto_of table s r ≡ v → v ≡ None) [
-      | None ↦ λ at. refl
-      | Some next ↦ λ at. let rule = (goto_entry_of limit table is s r next at).rule in absurd (omega (arith, rule, past))
-    ] in
-    each (goto_of table s r) refl
 
 -- where no key is the token, there is an error
 pub action_missing : (table : Table) (s t : ℕ) → ¬ (Contains (keys_of (actions_at table s)) t) → action_of table s t ≡ Fails
@@ -249,18 +152,117 @@ entries_refused number value P row b failed test = (
   λ are. test.1 (subst IsStrictlyIncreasing (keys_of-map number value row) are.ascending),
 )
 
--- past the states there are only errors
-pub no_action_after : (limit : ℕ) (table : Table) → IsTable limit table → (s t : ℕ) → table.states ≤ s → action_of table s t ≡ Fails
-unfolding action_of
-no_action_after limit table is s t past =
-    let len = is.actions_len in
-    let none : actions_at table s ≡ [] = get_or_past table.actions s [] (omega (arith, len, past)) in
-    ap (λ (es : List (ℕ × TableAction)). unwrap_or (lookup (nat_eq t) es) Fails) none
+-- what is known of a table
+module _ (limit : ℕ) (table : Table) (is : IsTable limit table) where
+  -- the entries of a state of a table are as they should be, also of one that there isn't
+  pub actions_good : (s : ℕ) → AreEntries (IsActionEntry table.tokens table.states) (actions_at table s)
+  actions_good s =
+      elim (cases_lt s (length table.actions)) as (λ _. AreEntries (IsActionEntry table.tokens table.states) (actions_at table s)) [
+        | inl below ↦ is.actions s [] below
+        | inr past ↦
+            let none : actions_at table s ≡ [] = get_or_past table.actions s [] past in
+            rw none (record { ascending = λ k h. absurd (omega (arith, h)); each = λ k d h. absurd (omega (arith, h)) })
+      ]
 
--- past the states there are no gotos
-pub no_goto_after : (limit : ℕ) (table : Table) → IsTable limit table → (s r : ℕ) → table.states ≤ s → goto_of table s r ≡ None
-unfolding goto_of
-no_goto_after limit table is s r past =
-    let len = is.gotos_len in
-    let none : gotos_at table s ≡ [] = get_or_past table.gotos s [] (omega (arith, len, past)) in
-    ap (lookup (nat_eq r)) none
+  -- and its gotos
+  pub gotos_good : (s : ℕ) → AreEntries (IsGotoEntry table.rules table.states) (gotos_at table s)
+  gotos_good s =
+      elim (cases_lt s (length table.gotos)) as (λ _. AreEntries (IsGotoEntry table.rules table.states) (gotos_at table s)) [
+        | inl below ↦ is.gotos s [] below
+        | inr past ↦
+            let none : gotos_at table s ≡ [] = get_or_past table.gotos s [] past in
+            rw none (record { ascending = λ k h. absurd (omega (arith, h)); each = λ k d h. absurd (omega (arith, h)) })
+      ]
+
+  -- a stored action is that of the table
+  pub action_stored : (s t : ℕ) (action : TableAction) → Contains (actions_at table s) (t, action)
+      → (action_of table s t ≡ action) × (action ≢ Fails)
+  unfolding action_of
+  action_stored s t action there =
+      let good = actions_good s in
+      let found = (entry_found (actions_at table s) t action good.ascending).0 there in
+      let entry = All-contains (IsActionEntry table.tokens table.states) (actions_at table s) (t, action) good.each there in
+      (ap (λ o. unwrap_or o Fails) found, entry.stored)
+
+  -- the stored actions are the actions of the table but errors
+  pub actions_exact : (s t : ℕ) (action : TableAction)
+      → Contains (actions_at table s) (t, action) ↔ ((action_of table s t ≡ action) × (action ≢ Fails))
+  actions_exact s t action = (
+    action_stored s t action,
+    λ h.
+        elim (action_cases table s t) as (λ _. Contains (actions_at table s) (t, action)) [
+          | inl none ↦ absurd (h.1 (sym h.0 ∙ none))
+          | inr found ↦ subst (λ (a : TableAction). Contains (actions_at table s) (t, a)) (sym found.2 ∙ h.0) found.1
+        ],
+  )
+
+  -- the stored gotos are the gotos of the table
+  pub gotos_exact : (s r next : ℕ)
+      → Contains (gotos_at table s) (r, next) ↔ (goto_of table s r ≡ Some next)
+  unfolding goto_of
+  gotos_exact s r next = entry_found (gotos_at table s) r next (gotos_good s).ascending
+
+  -- the entry of a goto
+  pub goto_entry_of : (s r next : ℕ) → goto_of table s r ≡ Some next
+      → IsGotoEntry table.rules table.states (r, next)
+  goto_entry_of s r next at =
+      let good = gotos_good s in
+      All-contains (IsGotoEntry table.rules table.states) (gotos_at table s) (r, next) good.each ((gotos_exact s r next).1 at)
+
+  -- every action has its state in range
+  pub action_within : (s t : ℕ) → IsActionWithin table.states (action_of table s t)
+  action_within s t = action_within_row table s t (actions_good s).each
+
+  -- so has every goto
+  pub goto_within : (s r : ℕ) → IsGotoWithin table.states (goto_of table s r)
+  goto_within s r =
+      let each : (o : Option ℕ) → goto_of table s r ≡ o → IsGotoWithin table.states o = λ o.
+      elim o as (λ v. goto_of table s r ≡ v → IsGotoWithin table.states v) [
+        | None ↦ λ at. tt
+        | Some next ↦ λ at. (goto_entry_of s r next at).within
+      ] in
+      each (goto_of table s r) refl
+
+  -- a table is closed
+  pub closed : IsClosed table
+  closed = record {
+    start_within = is.start_within;
+    shifts_within = λ s t next at. subst (IsActionWithin table.states) at (action_within s t);
+    gotos_within = λ s r next at. (goto_entry_of s r next at).within;
+  }
+
+  -- past the tokens there are only errors
+  pub no_action_past : (s t : ℕ) → table.tokens ≤ t → action_of table s t ≡ Fails
+  no_action_past s t past =
+      elim (action_cases table s t) as (λ _. action_of table s t ≡ Fails) [
+        | inl none ↦ none
+        | inr found ↦
+            let entry = All-contains (IsActionEntry table.tokens table.states) (actions_at table s) (t, found.0) (actions_good s).each found.1 in
+            absurd (omega (arith, entry.token, past))
+      ]
+
+  -- past the rules there are no gotos
+  pub no_goto_past : (s r : ℕ) → table.rules ≤ r → goto_of table s r ≡ None
+  no_goto_past s r past =
+      let each : (o : Option ℕ) → goto_of table s r ≡ o → o ≡ None = λ o.
+      elim o as (λ v. goto_of table s r ≡ v → v ≡ None) [
+        | None ↦ λ at. refl
+        | Some next ↦ λ at. let rule = (goto_entry_of s r next at).rule in absurd (omega (arith, rule, past))
+      ] in
+      each (goto_of table s r) refl
+
+  -- past the states there are only errors
+  pub no_action_after : (s t : ℕ) → table.states ≤ s → action_of table s t ≡ Fails
+  unfolding action_of
+  no_action_after s t past =
+      let len = is.actions_len in
+      let none : actions_at table s ≡ [] = get_or_past table.actions s [] (omega (arith, len, past)) in
+      ap (λ (es : List (ℕ × TableAction)). unwrap_or (lookup (nat_eq t) es) Fails) none
+
+  -- past the states there are no gotos
+  pub no_goto_after : (s r : ℕ) → table.states ≤ s → goto_of table s r ≡ None
+  unfolding goto_of
+  no_goto_after s r past =
+      let len = is.gotos_len in
+      let none : gotos_at table s ≡ [] = get_or_past table.gotos s [] (omega (arith, len, past)) in
+      ap (lookup (nat_eq r)) none

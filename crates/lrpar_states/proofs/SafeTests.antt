@@ -7,7 +7,7 @@ use Rattle.std.specs.List.{Contains, list_all, list_any}
 use Rattle.std.specs.Option.{is_some}
 use Rattle.lrpar_grammar.specs.Grammar.{Grammar, GrammarSymbol, Nonterminal, Terminal, end_token, prod_len, prods_len, rule_of, rules_len, start_prod, symbols_of, tokens_len}
 use Rattle.lrpar_states.specs.Graph.{Graph, HasCore, HasItem, ItemOf, graph_len, item_at, items_of}
-use Rattle.lrpar_states.specs.Safe.{AcceptsAtEnd, CoresFollow, GoesBy, GoesByRules, IsItem, IsSafe, IsSafeAt, KeepsEnd, LeavesStart, ReducesComplete, StepsFromCores}
+use Rattle.lrpar_states.specs.Safe.{AcceptsOnlyAtEnd, CoresFollow, GoesBy, GoesByRules, IsItem, IsSafe, IsSafeAt, NeverShiftsEnd, NeverEntersStart, ReducesComplete, StepsFromCores}
 use Rattle.lrpar_states.specs.Table.{Accepts, Fails, IsTable, ReduceBy, ShiftTo, Table, TableAction, action_of, actions_at, goto_of, gotos_at, states_len}
 use Rattle.lrpar_states.specs.declared.condition.SafetyCondition.{SafetyCondition}
 use Rattle.lrpar_states.specs.declared.condition.SafetyCondition.TheVariants.{S2, S3, S4, S5, S6, S7, S8}
@@ -135,8 +135,8 @@ module _ (g : Grammar) (graph : Graph) (table : Table) where
     fresh here p zero pass = refl
     fresh here p (suc k) pass = absurd (both_ways _ (not-true _ pass) (eq-eqb s table.start here))
 
-    keeps_end : KeepsEnd g table s
-    keeps_end next at =
+    never_shifts_end : NeverShiftsEnd g table s
+    never_shifts_end next at =
         both_ways _ (not-true _ (and_parts _ _ (action_at (end_token g) (ShiftTo next) at)).0) (eq-eqb (end_token g) (end_token g) refl)
 
     steps : StepsFromCores g graph table s
@@ -153,7 +153,7 @@ module _ (g : Grammar) (graph : Graph) (table : Table) where
         some_found (goto_of table s (rule_of g p))
         (sym (cond-false (nat_eq p (start_prod g)) _ _ (ne_eqb p (start_prod g) other)) ∙ core_at p 0 has)
 
-    accepts : AcceptsAtEnd g graph table s
+    accepts : AcceptsOnlyAtEnd g graph table s
     accepts t at =
         let parts = and_parts _ _ (action_at t Accepts at) in (eqb-true t (end_token g) parts.0, has_core_at s (start_prod g) 1 parts.1)
 
@@ -162,7 +162,7 @@ module _ (g : Grammar) (graph : Graph) (table : Table) where
         both_ways _ (not-true _ (and_parts _ _ (and_parts _ _ (action_at t (ShiftTo table.start) goes)).1).1) (eq-eqb table.start table.start refl)
     never (Nonterminal r) goes = both_ways _ (not-true _ (and_parts _ _ (goto_at r table.start goes)).1) (eq-eqb table.start table.start refl)
 
-    leaves : LeavesStart g graph table s
+    leaves : NeverEntersStart g graph table s
     leaves = record {
       never_back = never;
       first_core = λ has.
@@ -172,7 +172,7 @@ module _ (g : Grammar) (graph : Graph) (table : Table) where
 
     safe_at : (condition : SafetyCondition) → IsSafeAt g graph table condition s
     safe_at S2 = λ here p k has. fresh here p k (core_at p k has)
-    safe_at S3 = keeps_end
+    safe_at S3 = never_shifts_end
     safe_at S4 = steps
     safe_at S5 = complete
     safe_at S6 = goes

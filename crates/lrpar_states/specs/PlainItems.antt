@@ -19,8 +19,8 @@ abbrev pub row_of : {S Z : Type 0} → (S → ℕ) → Vec (PIdx S × ℕ × TId
 row_of index row = map (item_of index) row.items
 
 -- the items of each row
-abbrev pub rows_of : {S Z Y : Type 0} → (S → ℕ) → Vec (Vec (PIdx S × ℕ × TIdx S) Z) Y → Graph
-rows_of index rows = map (row_of index) rows.items
+abbrev pub graph_of_rows : {S Z Y : Type 0} → (S → ℕ) → Vec (Vec (PIdx S × ℕ × TIdx S) Z) Y → Graph
+graph_of_rows index rows = map (row_of index) rows.items
 
 -- the cores are the productions with their dots of the items, and no other
 abbrev pub AreCoresOf : {S : Type 0} → List (PIdx S × ℕ × TIdx S) → List (PIdx S × ℕ) → Type 0

@@ -35,8 +35,8 @@ abbrev pub StartsFresh : Graph → Table → ℕ → Type 0
 StartsFresh graph table s = s ≡ table.start → (p k : ℕ) → HasCore graph s p k → k ≡ 0
 
 -- S3: no state shifts the end token
-abbrev pub KeepsEnd : Grammar → Table → ℕ → Type 0
-KeepsEnd g table s = (next : ℕ) → action_of table s (end_token g) ≢ ShiftTo next
+abbrev pub NeverShiftsEnd : Grammar → Table → ℕ → Type 0
+NeverShiftsEnd g table s = (next : ℕ) → action_of table s (end_token g) ≢ ShiftTo next
 
 -- each core `A: v X . w` of state next comes from the core `A: v . X w` of state s, and has that very X
 abbrev pub CoresFollow : Grammar → Graph → ℕ → GrammarSymbol → ℕ → Type 0
@@ -57,24 +57,24 @@ GoesByRules g graph table s =
     (p : ℕ) → HasCore graph s p 0 → p ≢ start_prod g → (next : ℕ) × (goto_of table s (rule_of g p) ≡ Some next)
 
 -- S7: where s accepts, the token is the end token, and s has the core `^: S .`
-abbrev pub AcceptsAtEnd : Grammar → Graph → Table → ℕ → Type 0
-AcceptsAtEnd g graph table s =
+abbrev pub AcceptsOnlyAtEnd : Grammar → Graph → Table → ℕ → Type 0
+AcceptsOnlyAtEnd g graph table s =
     (t : ℕ) → action_of table s t ≡ Accepts → (t ≡ end_token g) × HasCore graph s (start_prod g) 1
 
 -- S8: s doesn't go to the start state; and it has the core `^: . S` only if it is the start state
-pub record LeavesStart (g : Grammar) (graph : Graph) (table : Table) (s : ℕ) : Type 0 where
+pub record NeverEntersStart (g : Grammar) (graph : Graph) (table : Table) (s : ℕ) : Type 0 where
   pub never_back : (x : GrammarSymbol) → ¬ (GoesBy table s x table.start)
   pub first_core : HasCore graph s (start_prod g) 0 → s ≡ table.start
 
 -- a condition holds at a state
 abbrev pub IsSafeAt : Grammar → Graph → Table → SafetyCondition → ℕ → Type 0
 IsSafeAt g graph table S2 s = StartsFresh graph table s
-IsSafeAt g graph table S3 s = KeepsEnd g table s
+IsSafeAt g graph table S3 s = NeverShiftsEnd g table s
 IsSafeAt g graph table S4 s = StepsFromCores g graph table s
 IsSafeAt g graph table S5 s = ReducesComplete g graph table s
 IsSafeAt g graph table S6 s = GoesByRules g graph table s
-IsSafeAt g graph table S7 s = AcceptsAtEnd g graph table s
-IsSafeAt g graph table S8 s = LeavesStart g graph table s
+IsSafeAt g graph table S7 s = AcceptsOnlyAtEnd g graph table s
+IsSafeAt g graph table S8 s = NeverEntersStart g graph table s
 
 -- the table is safe: it has its shape, and each condition holds at each state
 pub record IsSafe (g : Grammar) (graph : Graph) (table : Table) : Type 0 where

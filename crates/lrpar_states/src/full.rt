@@ -5,7 +5,7 @@ ghost use Rattle.lrpar_states.specs.Rows.{AreRows, IsActionRow, IsGotoRow, kept_
 ghost use Rattle.lrpar_states.specs.Table.{IsActionWithin, IsGotoWithin};
 ghost use Rattle.lrpar_states.specs.PlainRows.{action_entry, goto_entry, plain_action, plain_goto, plain_rows};
 
-use crate::numbers::has_numbers;
+use crate::numbers::can_number;
 use crate::rows::{Action, TableRows};
 use lrpar_grammar::span::{RIdx, StIdx, StorageIndex, TIdx};
 use std::alloc::{AllocError, Global};
@@ -26,9 +26,9 @@ fn are_numbers<StorageT: StorageIndex>(rows: &TableRows<StorageT>) -> bool
     let states = rows.actions.len();
     rows.gotos.len() == states
         && usize::from(rows.start) < states
-        && has_numbers::<StorageT>(states)
-        && has_numbers::<StorageT>(rows.tokens)
-        && has_numbers::<StorageT>(rows.rules)
+        && can_number::<StorageT>(states)
+        && can_number::<StorageT>(rows.tokens)
+        && can_number::<StorageT>(rows.rules)
 }
 
 /// Whether each row has its length, with states in range.

@@ -4,12 +4,12 @@ ghost use Rattle.std.specs.List.{Contains, AllZip};
 ghost use Rattle.std.specs.List.Sorted.{IsStrictlySortedBy};
 ghost use Rattle.lrpar_states.specs.Ascending.{HaveSame};
 ghost use Rattle.lrpar_states.specs.Graph.{HasCore, HasItem, core_cmp, graph_len, item_cmp, items_of};
-ghost use Rattle.lrpar_states.specs.PlainItems.{core_of, item_of, rows_of};
+ghost use Rattle.lrpar_states.specs.PlainItems.{core_of, item_of, graph_of_rows};
 
 use crate::fault::TableFault;
 use crate::items::ItemSet;
 pub use crate::items::{Core, Item};
-use crate::numbers::has_numbers;
+use crate::numbers::can_number;
 use lrpar_grammar::span::{PIdx, StIdx, StorageIndex, TIdx};
 use std::alloc::{AllocError, Global};
 use std::marker::Model;
@@ -44,10 +44,10 @@ impl<StorageT: StorageIndex> StateGraph<StorageT> {
         rows: Vec<Vec<(PIdx<StorageT>, usize, TIdx<StorageT>)>>,
     ) -> Result<Self, TableFault>
         ensures states { IfOk result (λ graph. graph_len graph ≡ length rows.items) }
-        ensures items { IfOk result (λ graph. (s p k t : ℕ) → HasItem graph s p k t ↔ HasItem (rows_of StorageT.index rows) s p k t) }
+        ensures items { IfOk result (λ graph. (s p k t : ℕ) → HasItem graph s p k t ↔ HasItem (graph_of_rows StorageT.index rows) s p k t) }
         ensures refused { IsErrOf result TableFault.BadIndex ↔ (StorageT.limit < length rows.items) }
     {
-        if has_numbers::<StorageT>(rows.len()) {
+        if can_number::<StorageT>(rows.len()) {
             Ok(StateGraph {
                 sets: item_sets(alloc, rows)?,
             })
@@ -126,7 +126,7 @@ fn item_sets<StorageT: StorageIndex>(
     alloc: Global,
     rows: Vec<Vec<Item<StorageT>>>,
 ) -> Result<Vec<ItemSet<StorageT>>, AllocError>
-    ensures { IfOk result (λ sets. AllZip HaveSame sets.items (rows_of StorageT.index rows)) }
+    ensures { IfOk result (λ sets. AllZip HaveSame sets.items (graph_of_rows StorageT.index rows)) }
 {
     let mut sets = Vec::with_capacity(alloc, rows.len())?;
     for row in rows {

@@ -4,7 +4,7 @@ ghost use Rattle.std.specs.Prelude.{◌≤◌, ◌↔◌, IsTrue};
 use lrpar_grammar::span::StorageIndex;
 
 /// Whether `StorageT` has at least `count` numbers.
-pub(crate) fn has_numbers<StorageT: StorageIndex>(count: usize) -> bool
+pub(crate) fn can_number<StorageT: StorageIndex>(count: usize) -> bool
     ensures { IsTrue result ↔ (count ≤ StorageT.limit) }
 {
     match count.checked_sub(1) {

@@ -5,7 +5,7 @@ ghost use Rattle.lrpar_states.specs.PlainRows.{action_entry, goto_entry, sparse_
 ghost use Rattle.lrpar_states.specs.Table.{AreEntries, IsActionEntry, IsGotoEntry, IsTable};
 
 use crate::key::Key;
-use crate::numbers::has_numbers;
+use crate::numbers::can_number;
 use crate::rows::{Action, SparseRows};
 use lrpar_grammar::span::{RIdx, StIdx, StorageIndex, TIdx};
 
@@ -26,9 +26,9 @@ fn has_sparse_numbers<StorageT: StorageIndex>(rows: &SparseRows<StorageT>) -> bo
     rows.actions.len() == rows.states
         && rows.gotos.len() == rows.states
         && usize::from(rows.start) < rows.states
-        && has_numbers::<StorageT>(rows.states)
-        && has_numbers::<StorageT>(rows.tokens)
-        && has_numbers::<StorageT>(rows.rules)
+        && can_number::<StorageT>(rows.states)
+        && can_number::<StorageT>(rows.tokens)
+        && can_number::<StorageT>(rows.rules)
 }
 
 /// Whether each row has entries that ascend, all in range, and no errors among them.

@@ -1,11 +1,12 @@
 //! How often a parse asks its lexer and its recoverer, in which order it calls the functions of its caller, and what comes where one
-//! of them finds no memory.
+//! of them finds no memory; and how often the text of an error asks for a token's.
 use crate::actions::Counting;
 use crate::built::{BRACKETS, SUM, TWICE, built};
 use crate::lexer::{Given, HandedLexer, lexer_of};
 use crate::recoverer::{Asked, Deleting};
 use lrpar::parser::ParseFault;
-use lrpar::{LexParseError, Lexeme, ParserData, RTParserBuilder};
+use lrpar::span::{StIdx, TIdx};
+use lrpar::{LexParseError, Lexeme, ParseError, ParseRepair, ParserData, RTParserBuilder};
 use lrpar_lexer::{Token, TokenTypes};
 use std::alloc::Global;
 use std::cell::Cell;
@@ -180,6 +181,44 @@ fn what_a_recoverer_is_handed(rt: HostRuntime) -> Result<(), Fail> {
     let data = built(rt.alloc(), BRACKETS)?;
     let found = asked(rt.alloc(), &data, &[(2, 1), (0, 1), (0, 1)])?;
     assert_eq!(rt; found, (1, (2, 3, [0, 3, 6])));
+    Ok(())
+}
+
+// What is printed for each token, which is counted.
+fn counted_name(asked: &Cell<usize>) -> Option<&'static str> {
+    asked.set(asked.get().saturating_add(1));
+    Some("x")
+}
+
+// How often the text of an error with these repairs asks what is printed for a token.
+fn names_asked(
+    alloc: Global,
+    repairs: Vec<Vec<ParseRepair<Token<u32>, u32>>>,
+) -> Result<usize, Fail> {
+    let error = ParseError::new(StIdx(0), Token::new(1, 0, 0), repairs);
+    let error: LexParseError<u32, TokenTypes> = LexParseError::from(error);
+    if !error.fits("") {
+        return Err(Fail::new("an error outside of its text"));
+    }
+    let asked = Cell::new(0);
+    let _ = error.pp(alloc, &lexer_of(&[]), |_| counted_name(&asked))?;
+    Ok(asked.get())
+}
+
+#[test]
+fn each_insertion_is_asked_for_once(rt: HostRuntime) -> Result<(), Fail> {
+    let alloc = rt.alloc();
+    let (first, second) = (TIdx(0), TIdx(1));
+    let deleted = Token::new(1, 0, 0);
+    let repairs = vec![in alloc;
+        vec![in alloc;
+            ParseRepair::Insert(first),
+            ParseRepair::Insert(second),
+            ParseRepair::Delete(deleted),
+        ]?,
+        vec![in alloc; ParseRepair::Insert(second)]?,
+    ]?;
+    assert_eq!(rt; names_asked(alloc, repairs)?, 3);
     Ok(())
 }
 

@@ -7,6 +7,7 @@ use lrpar::span::{RIdx, Span};
 use lrpar::{Lexeme, Node, ParserData, RTParserBuilder, action_generictree};
 use lrpar_lexer::{Token, TokenTypes};
 use std::alloc::Global;
+use std::io;
 use std::test::Fail;
 
 /// A tree of the tests.
@@ -57,6 +58,22 @@ fn levels(tree: &Tree) -> usize {
     levels
 }
 
+// A lexeme below so many rules, each of which has one tree.
+fn chain_of(alloc: Global, levels: usize) -> Result<Tree, Fail> {
+    let mut tree: Tree = Node::Term {
+        lexeme: Token::new(1, 0, 1),
+    };
+    for _ in 0..levels {
+        let mut nodes = Vec::new(alloc);
+        nodes.push(tree)?;
+        tree = Node::Nonterm {
+            ridx: RIdx(1),
+            nodes,
+        };
+    }
+    Ok(tree)
+}
+
 // A clone of the tree, which has to equal it and outlives it.
 fn cloned(alloc: Global, tree: Tree) -> Result<Tree, Fail> {
     let again = tree.clone(alloc)?;
@@ -74,6 +91,35 @@ fn deep_trees(rt: HostRuntime) -> Result<(), Fail> {
     assert_eq!(rt; levels(&tree), LEVELS + 1);
     let other = tree_of_sum(alloc, &data, LEVELS, 2)?;
     assert!(rt; tree != other, "another last leaf");
+    Ok(())
+}
+
+#[test]
+fn trees_of_a_million_levels(rt: HostRuntime) -> Result<(), Fail> {
+    let data = built(rt.alloc(), SUM)?;
+    let tree = cloned(rt.alloc(), chain_of(rt.alloc(), 1_000_000)?)?;
+    assert_eq!(rt; levels(&tree), 1_000_000);
+    assert!(rt; tree.fits(data.grm(), "a"), "a lexeme of one byte");
+    assert!(rt; !tree.fits(data.grm(), ""), "a lexeme past the text");
+    Ok(())
+}
+
+// How many bytes the text of a chain of so many rules `E` has. Each line has a space for each level.
+fn printed_len(alloc: Global, grm: &YaccGrammar<u32>, levels: usize) -> Result<usize, Fail> {
+    let tree = chain_of(alloc, levels)?;
+    if !tree.fits(grm, "a") {
+        return Err(Fail::new("a chain that doesn't fit"));
+    }
+    Ok(tree.pp(alloc, grm, "a")?.len())
+}
+
+#[test]
+fn deep_trees_are_printed(rt: HostRuntime) -> Result<(), Fail> {
+    let data = built(rt.alloc(), SUM)?;
+    let printed = printed_len(rt.alloc(), data.grm(), 20_000)?;
+    assert_eq!(rt; printed, 200_050_005);
+    let tree = chain_of(rt.alloc(), 50_000)?;
+    tree.write(rt.alloc(), data.grm(), "a", &mut io::sink())?;
     Ok(())
 }
 

@@ -1,5 +1,5 @@
 -- Where lines start and end, seen from a byte: the starts up to it, and those past it.
-use Rattle.std.proofs.Common.{leb, ◌≡◌, ◌<◌, ◌≤◌, ◌+◌, ◌-◌, ℕ, zero, suc, true, false, refl, sym, ap, subst, ◌∙◌, arith, List, [], ◌∷◌, ◌++◌, length, slice_index, take, get_or, cond, inl, inr, add-zero, zero-add}
+use Rattle.std.proofs.Common.{leb, ◌≡◌, ◌<◌, ◌≤◌, ◌+◌, ◌-◌, ℕ, zero, suc, true, false, refl, sym, ap, subst, ◌∙◌, arith, List, [], ◌∷◌, ◌++◌, length, slice_index, take, get_or, cond, inl, inr, add-zero}
 use Rattle.std.specs.List.{All, count_by, filter, range_with_len}
 use Rattle.std.proofs.lemmas.Bool.{cases_eq, cases_lt, leb-true, le-leb}
 use Rattle.std.proofs.lemmas.Bool.Decides.{nat_tests}
@@ -10,7 +10,7 @@ use Rattle.std.proofs.lemmas.List.FromFn.{length-range_with_len, get_or-range_wi
 use Rattle.std.proofs.lemmas.List.Sums.{suffix_len-take_yes, suffix_len-take_no, prefix_len-drop_yes, prefix_len-drop_no, prefix_len-drop_all, count_by_more_yes, count_by_more_no}
 use Rattle.std.specs.Str.{IsCharBoundary, IsUtf8}
 use Rattle.std.proofs.lemmas.Str.{IsCharBoundary-start, IsCharBoundary-after_ascii}
-use Rattle.lrpar_text.specs.Lines.{is_line_feed, is_in_line, starts_line, line_start, line_end, line_table}
+use Rattle.lrpar_text.specs.Lines.{is_line_feed, is_in_line, starts_line, line_start, line_end}
 
 in_line : (b : ℕ) → ¬ (b ≡ 10) → is_in_line b ≡ true
 in_line b h = grind (arith, nat_tests)

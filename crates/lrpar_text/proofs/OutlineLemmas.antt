@@ -1,7 +1,7 @@
 -- How far a text is read, and what the words that were read outline.
-use Rattle.std.proofs.Common.{◌≡◌, ◌<◌, ◌≤◌, ◌+◌, ◌-◌, ℕ, true, false, List, [], ◌∷◌, ◌++◌, append_assoc, length, length-drop, drop, get_or, Option, Some, None, option_map, option_and_then, refl, ap, sym, subst, ◌∙◌, arith}
+use Rattle.std.proofs.Common.{◌≡◌, ◌<◌, ◌≤◌, ◌+◌, ◌-◌, ℕ, true, false, List, [], ◌∷◌, ◌++◌, append_assoc, length, length-drop, drop, get_or, Option, Some, None, option_map, option_and_then, zero-add, refl, ap, sym, subst, ◌∙◌, arith}
 use Rattle.std.specs.List.{All, Contains, slice_get}
-use Rattle.std.specs.Option.{option_to_list}
+use Rattle.std.specs.Option.{IsNone, MatchOption, is_some, option_to_list}
 use Rattle.std.proofs.Math.ListN.{drop_of_length-le}
 use Rattle.std.proofs.lemmas.List.{append-nil, drop-drop}
 use Rattle.std.proofs.lemmas.List.Elements.{All-append, All-cons, All-nil, All-push, All-weaker, Contains-append_left}
@@ -13,9 +13,9 @@ use Rattle.lrpar_text.specs.declared.shape.Expected.{Expected}
 use Rattle.lrpar_text.specs.declared.shape.Expected.TheVariants.{Declaration}
 use Rattle.lrpar_text.specs.declared.shape.Role.{Role}
 use Rattle.lrpar_text.specs.declared.shape.Role.TheVariants.{Sign, Start, Declared, EppOf, Epp, Defined, Symbol, AlternativeEnd}
-use Rattle.lrpar_text.specs.Words.{IsCutInto, PlacedWord, ReadsAs, piece_at, word_at, words_of}
+use Rattle.lrpar_text.specs.Words.{IsCutInto, IsCutUpTo, PlacedWord, ReadsAs, piece_at, word_at, words_of}
 use Rattle.lrpar_text.specs.Shape.{after, may_end}
-use Rattle.lrpar_text.specs.Outline.{AreInOrder, HasOrderedSymbols, AreOfDefinedRules, IsOutlineOf, OutlineIsOne, TextOutline, after_words, TextAlternative, ended, no_words, with_word}
+use Rattle.lrpar_text.specs.Outline.{AreWordsInOrder, HasOrderedSymbols, AreOfDefinedRules, IsOutlineOf, IsStuck, IsStuckAt, IsUnreadableAt, OutlineIsOne, TextOutline, after_words, TextAlternative, ended, no_words, with_word}
 use Rattle.lrpar_text.proofs.WordsLemmas.{no_piece, reads_as_one}
 
 -- the alternative that a sign ends, where a rule is defined
@@ -120,7 +120,7 @@ reads_all text place seen past reads =
     )
 
 -- the outline of words that are followed by others
-after_words_append : (expected : Expected) (o : TextOutline) (xs ys : List PlacedWord)
+pub after_words_append : (expected : Expected) (o : TextOutline) (xs ys : List PlacedWord)
     → after_words expected o (xs ++ ys) ≡ option_and_then (λ step. after_words step.0 step.1 ys) (after_words expected o xs)
 after_words_append expected o [] ys = refl
 after_words_append expected o (x ∷ xs) ys =
@@ -130,16 +130,55 @@ after_words_append expected o (x ∷ xs) ys =
       | Some step ↦ after_words_append step.1 (with_word o step.0 x) xs ys
     ]
 
+-- one more piece is cut
+cut_more : (s : List ℕ) (xs : List Piece) (n : ℕ) (x : Piece) → IsCutUpTo s n xs → piece_at (drop n s) ≡ Some x → IsCutUpTo s (n + x.len) (xs ++ x ∷ [])
+cut_more s [] n x none is = (subst (λ k. piece_at (drop k s) ≡ Some x) none is, omega arith, omega arith)
+cut_more s (y ∷ ys) n x (at, few, rest) is =
+    let place : y.len + (n - y.len) ≡ n = omega arith in
+    let from : drop (n - y.len) (drop y.len s) ≡ drop n s = drop-drop (n - y.len) y.len s ∙ ap (λ k. drop k s) place in
+    let len : (n - y.len) + x.len ≡ (n + x.len) - y.len = omega arith in (
+      at,
+      omega arith,
+      subst (λ k. IsCutUpTo (drop y.len s) k (ys ++ x ∷ [])) len
+          (cut_more (drop y.len s) ys (n - y.len) x rest (subst (λ r. piece_at r ≡ Some x) (sym from) is)),
+    )
+
+-- and its word stands behind the others
+words_more : (s : List ℕ) (xs : List Piece) (n place : ℕ) (x : Piece) → IsCutUpTo s n xs
+    → words_of place s (xs ++ x ∷ []) ≡ words_of place s xs ++ word_of_piece (place + n) (drop n s) x
+words_more s [] n place x none =
+    let at : place ≡ place + n = omega arith in
+    append-nil (word_of_piece place s x) ∙ ap (λ k. word_of_piece k s x) at ∙ ap (λ k. word_of_piece (place + n) (drop k s) x) (sym none)
+words_more s (y ∷ ys) n place x (at, few, rest) =
+    let word = word_of_piece place s y in
+    let words = words_of (place + y.len) (drop y.len s) ys in
+    let len : y.len + (n - y.len) ≡ n = omega arith in
+    let behind : (place + y.len) + (n - y.len) ≡ place + n = omega arith in
+    let from : drop (n - y.len) (drop y.len s) ≡ drop n s = drop-drop (n - y.len) y.len s ∙ ap (λ k. drop k s) len in
+    ap (λ ws. word ++ ws) (words_more (drop y.len s) ys (n - y.len) (place + y.len) x rest
+    ∙ ap (λ k. words ++ word_of_piece k (drop (n - y.len) (drop y.len s)) x) behind ∙ ap (λ r. words ++ word_of_piece (place + n) r x) from)
+    ∙ sym (append_assoc word words (word_of_piece (place + n) (drop n s) x))
+
+-- the same of the words that were seen of a text
+listed_more : (text : List ℕ) (place : ℕ) (seen : List PlacedWord) (pieces : List Piece) (x : Piece) → IsCutUpTo text place pieces → seen ≡ words_of 0 text pieces
+    → words_of 0 text (pieces ++ x ∷ []) ≡ seen ++ word_of_piece place (drop place text) x
+listed_more text place seen pieces x cut listed =
+    words_more text pieces place 0 x cut ∙ ap (λ k. words_of 0 text pieces ++ word_of_piece k (drop place text) x) (zero-add place)
+    ∙ ap (λ ws. ws ++ word_of_piece place (drop place text) x) (sym listed)
+
 -- up to a place the symbols stand in order
 pub record AreOrderedTo (place : ℕ) (o : TextOutline) : Type 0 where
   pub before : All (λ w. w.span.end ≤ place) o.symbols
-  pub apart : AreInOrder o.symbols
+  pub apart : AreWordsInOrder o.symbols
   pub ended : HasOrderedSymbols o
 
 -- the text is read up to a place, and its words so far outline what they do
 pub record OutlinesTo (text : List ℕ) (place : ℕ) (expected : Expected) (o : TextOutline) : Type 0 where
   pub seen : List PlacedWord
   pub reads : ReadsTo text place seen
+  pub pieces : List Piece
+  pub cut : IsCutUpTo text place pieces
+  pub listed : seen ≡ words_of 0 text pieces
   pub shape : after_words Declaration no_words seen ≡ Some (expected, o)
   pub rules : AreOfDefinedRules o
   pub order : AreOrderedTo place o
@@ -149,7 +188,7 @@ ordered_none : AreOrderedTo 0 no_words
 ordered_none = record {
   before = All-nil (λ (w : PlacedWord). w.span.end ≤ 0);
   apart = λ i j d before within. absurd (omega arith);
-  ended = All-nil (λ (x : TextAlternative). AreInOrder x.symbols);
+  ended = All-nil (λ (x : TextAlternative). AreWordsInOrder x.symbols);
 }
 
 -- what stands before a place stands before a later one
@@ -173,11 +212,11 @@ ordered_symbol place later o w from to le order =
     }
 
 -- the alternative that a sign ends has the symbols
-ended_ordered : (o : TextOutline) (w : PlacedWord) (r : Option PlacedWord) → AreInOrder o.symbols
-    → All {X = TextAlternative} (λ x. AreInOrder x.symbols) (option_to_list (option_map (λ rule. record { rule = rule; symbols = o.symbols; end = w }) r))
-ended_ordered o w None apart = All-nil (λ (x : TextAlternative). AreInOrder x.symbols)
+ended_ordered : (o : TextOutline) (w : PlacedWord) (r : Option PlacedWord) → AreWordsInOrder o.symbols
+    → All {X = TextAlternative} (λ x. AreWordsInOrder x.symbols) (option_to_list (option_map (λ rule. record { rule = rule; symbols = o.symbols; end = w }) r))
+ended_ordered o w None apart = All-nil (λ (x : TextAlternative). AreWordsInOrder x.symbols)
 ended_ordered o w (Some rule) apart =
-    All-cons (λ (x : TextAlternative). AreInOrder x.symbols) (record { rule = rule; symbols = o.symbols; end = w }) [] apart (All-nil (λ (x : TextAlternative). AreInOrder x.symbols))
+    All-cons (λ (x : TextAlternative). AreWordsInOrder x.symbols) (record { rule = rule; symbols = o.symbols; end = w }) [] apart (All-nil (λ (x : TextAlternative). AreWordsInOrder x.symbols))
 
 -- one more word
 ordered_word : (place later : ℕ) (o : TextOutline) (role : Role) (w : PlacedWord) → place ≤ w.span.start → w.span.end ≤ later → place ≤ later
@@ -193,13 +232,13 @@ ordered_word place later o Symbol w from to le order = ordered_symbol place late
 ordered_word place later o AlternativeEnd w from to le order = record {
   before = All-nil (λ (x : PlacedWord). x.span.end ≤ later);
   apart = λ i j d before within. absurd (omega arith);
-  ended = All-append (λ (x : TextAlternative). AreInOrder x.symbols) o.alternatives (ended o w) order.ended
+  ended = All-append (λ (x : TextAlternative). AreWordsInOrder x.symbols) o.alternatives (ended o w) order.ended
       (ended_ordered o w (slice_get o.defined (length o.defined - 1)) order.apart);
 }
 
 -- nothing is read
 pub outlines_none : (text : List ℕ) → OutlinesTo text 0 Declaration no_words
-outlines_none text = record { seen = []; reads = reads_none text; shape = refl; rules = All-nil (λ (x : TextAlternative). Contains no_words.defined x.rule); order = ordered_none }
+outlines_none text = record { seen = []; reads = reads_none text; pieces = []; cut = refl; listed = refl; shape = refl; rules = All-nil (λ (x : TextAlternative). Contains no_words.defined x.rule); order = ordered_none }
 
 -- a piece of blanks
 pub outlines_blank : (text : List ℕ) (place : ℕ) (expected : Expected) (o : TextOutline) (x : Piece) → piece_at (drop place text) ≡ Some x
@@ -210,6 +249,9 @@ outlines_blank text place expected o x is blank to =
     record {
       seen = to.seen;
       reads = subst (ReadsTo text (place + x.len)) same (reads_more text place to.seen x is to.reads);
+      pieces = to.pieces ++ x ∷ [];
+      cut = cut_more text to.pieces place x to.cut is;
+      listed = sym (listed_more text place to.seen to.pieces x to.cut to.listed ∙ same);
       shape = to.shape;
       rules = to.rules;
       order = ordered_later place (place + x.len) o (omega arith) to.order;
@@ -240,22 +282,57 @@ outlines_word text place expected next o x kind role is word stands to =
     record {
       seen = to.seen ++ w ∷ [];
       reads = subst (ReadsTo text (place + x.len)) seen (reads_more text place to.seen x is to.reads);
+      pieces = to.pieces ++ x ∷ [];
+      cut = cut_more text to.pieces place x to.cut is;
+      listed = sym (listed_more text place to.seen to.pieces x to.cut to.listed ∙ seen);
       shape = after_words_append Declaration no_words to.seen (w ∷ []) ∙ ap (option_and_then (λ step. after_words step.0 step.1 (w ∷ []))) to.shape
           ∙ ap (option_and_then (λ step. after_words step.1 (with_word o step.0 w) [])) stands;
       rules = rules_kept o role w to.rules;
       order = ordered_word place (place + x.len) o role w (omega arith) (omega arith) (omega arith) to.order;
     }
 
+-- a text that was read up to a place is stuck there
+stuck_at : (text : List ℕ) (place : ℕ) (expected : Expected) (o : TextOutline) → OutlinesTo text place expected o → IsStuck expected (drop place text) → IsStuckAt text place
+stuck_at text place expected o to stuck = record {
+  pieces = to.pieces;
+  cut = to.cut;
+  expected = expected;
+  outline = o;
+  stand = subst (λ ws. after_words Declaration no_words ws ≡ Some (expected, o)) to.listed to.shape;
+  stuck = stuck;
+}
+
+-- no piece begins
+stuck_piece : (e : Expected) (s : List ℕ) → 0 < length s → piece_at s ≡ None → IsStuck e s
+stuck_piece e [] some none = absurd (omega arith)
+stuck_piece e (c ∷ s) some none =
+    subst (λ (r : Option Piece). MatchOption r (Unit {0}) (λ x. MatchOption x.word ⊥ (λ kind. IsNone (after e kind)))) (sym none) tt
+
+-- a word can't stand there
+stuck_word : (e : Expected) (s : List ℕ) (x : Piece) (kind : WordKind) → piece_at s ≡ Some x → x.word ≡ Some kind → after e kind ≡ None → IsStuck e s
+stuck_word e [] x kind is word none = absurd (cc)
+stuck_word e (c ∷ s) x kind is word none =
+    subst (λ (r : Option Piece). MatchOption r (Unit {0}) (λ y. MatchOption y.word ⊥ (λ k. IsNone (after e k)))) (sym is)
+    (subst (λ (w : Option WordKind). MatchOption w ⊥ (λ k. IsNone (after e k))) (sym word) (ap is_some none))
+
 -- where no piece begins, the text has no outline
-pub refused_piece : (text : List ℕ) (place : ℕ) (expected : Expected) (o : TextOutline) → place < length text → piece_at (drop place text) ≡ None
+unread_piece : (text : List ℕ) (place : ℕ) (expected : Expected) (o : TextOutline) → place < length text → piece_at (drop place text) ≡ None
     → OutlinesTo text place expected o → (p : TextOutline) → IsOutlineOf text p → ⊥
-refused_piece text place expected o within none to p outlined = reads_stuck text place to.seen within none to.reads outlined.words outlined.reads
+unread_piece text place expected o within none to p outlined = reads_stuck text place to.seen within none to.reads outlined.words outlined.reads
+
+-- and is stuck there
+pub refused_piece : (text : List ℕ) (place : ℕ) (expected : Expected) (o : TextOutline) → place < length text → piece_at (drop place text) ≡ None
+    → OutlinesTo text place expected o → IsUnreadableAt text place
+refused_piece text place expected o within none to = record {
+  unread = unread_piece text place expected o within none to;
+  stuck = stuck_at text place expected o to (stuck_piece expected (drop place text) (omega (arith, length-drop place text)) none);
+}
 
 -- where a word can't stand, the text has no outline
-pub refused_word : (text : List ℕ) (place : ℕ) (expected : Expected) (o : TextOutline) (x : Piece) (kind : WordKind)
+unread_word : (text : List ℕ) (place : ℕ) (expected : Expected) (o : TextOutline) (x : Piece) (kind : WordKind)
     → piece_at (drop place text) ≡ Some x → x.word ≡ Some kind → after expected kind ≡ None
     → OutlinesTo text place expected o → (p : TextOutline) → IsOutlineOf text p → ⊥
-refused_word text place expected o x kind is word stands to p outlined =
+unread_word text place expected o x kind is word stands to p outlined =
     let from = to.reads.only outlined.words outlined.reads in
     let more = after_piece text place to.seen outlined.words x is from.0 from.1 from.2 in
     let w = word_at place (drop place text) kind x.len in
@@ -270,6 +347,14 @@ refused_word text place expected o x kind is word stands to p outlined =
     let found : ◌≡◌ {A = Option (Expected × TextOutline)} None (Some (outlined.have.last, p)) = sym none ∙ outlined.have.shape in
     absurd (cc)
 
+-- and is stuck there
+pub refused_word : (text : List ℕ) (place : ℕ) (expected : Expected) (o : TextOutline) (x : Piece) (kind : WordKind)
+    → piece_at (drop place text) ≡ Some x → x.word ≡ Some kind → after expected kind ≡ None → OutlinesTo text place expected o → IsUnreadableAt text place
+refused_word text place expected o x kind is word stands to = record {
+  unread = unread_word text place expected o x kind is word stands to;
+  stuck = stuck_at text place expected o to (stuck_word expected (drop place text) x kind is word stands);
+}
+
 -- at the end the text has the outline of its words
 pub outlines_all : (text : List ℕ) (place : ℕ) (expected : Expected) (o : TextOutline) → length text ≤ place → may_end expected ≡ true
     → OutlinesTo text place expected o → IsOutlineOf text o
@@ -277,15 +362,23 @@ outlines_all text place expected o past ends to =
     record { words = to.seen; reads = (reads_all text place to.seen past to.reads).0; have = record { last = expected; shape = to.shape; ends = ends } }
 
 -- where the text ends too early, it has no outline
-pub refused_end : (text : List ℕ) (place : ℕ) (expected : Expected) (o : TextOutline) → length text ≤ place → may_end expected ≡ false
+unread_end : (text : List ℕ) (place : ℕ) (expected : Expected) (o : TextOutline) → length text ≤ place → may_end expected ≡ false
     → OutlinesTo text place expected o → (p : TextOutline) → IsOutlineOf text p → ⊥
-refused_end text place expected o past early to p outlined =
+unread_end text place expected o past early to p outlined =
     let words : outlined.words ≡ to.seen = (reads_all text place to.seen past to.reads).1 outlined.words outlined.reads in
     let same : ◌≡◌ {A = Option (Expected × TextOutline)} (Some (outlined.have.last, p)) (Some (expected, o)) =
     sym outlined.have.shape ∙ ap (after_words Declaration no_words) words ∙ to.shape in
     let last : outlined.have.last ≡ expected = ap (λ (q : Expected × TextOutline). q.0) (same_Some _ _ same) in
     let clash : true ≡ false = sym outlined.have.ends ∙ ap may_end last ∙ early in
     absurd (cc)
+
+-- and is stuck there
+pub refused_end : (text : List ℕ) (place : ℕ) (expected : Expected) (o : TextOutline) → length text ≤ place → may_end expected ≡ false
+    → OutlinesTo text place expected o → IsUnreadableAt text place
+refused_end text place expected o past early to = record {
+  unread = unread_end text place expected o past early to;
+  stuck = stuck_at text place expected o to (subst (IsStuck expected) (sym (drop_of_length-le text past)) early);
+}
 
 -- a text has one outline
 pub outline_is_one : OutlineIsOne

@@ -4,3 +4,5 @@ pub mod Lines
 pub mod Words
 pub mod Shape
 pub mod Outline
+pub mod Phrases
+pub mod Forms

@@ -1,5 +1,5 @@
 -- The declarations and rules of a grammar text, as lists of words in the order of the text.
-use Rattle.std.specs.Prelude.{◌≡◌, ◌≤◌, ◌-◌, true, ℕ, List, [], ◌∷◌, ◌++◌, All, Contains, length, map, slice_get, Option, Some, option_map, option_and_then}
+use Rattle.std.specs.Prelude.{◌≡◌, ◌≤◌, ◌-◌, true, false, ℕ, List, [], ◌∷◌, ◌++◌, All, Contains, drop, length, map, slice_get, IsNone, MatchOption, Option, Some, option_map, option_and_then}
 use Rattle.std.specs.List.{AllPairs}
 use Rattle.std.specs.Option.{option_to_list}
 use Rattle.lrpar_text.specs.declared.shape.Expected.{Expected}
@@ -10,7 +10,8 @@ use Rattle.lrpar_text.specs.declared.outline.Alternative.{Alternative}
 use Rattle.lrpar_text.specs.declared.outline.Outline.{Outline}
 use Rattle.lrpar_text.specs.declared.outline.OutlineFault.{OutlineFault}
 use Rattle.lrpar_text.specs.declared.outline.OutlineFault.TheVariants.{Syntax, Memory}
-use Rattle.lrpar_text.specs.Words.{PlacedWord, ReadsAs, placed}
+use Rattle.lrpar_text.specs.declared.words.Piece.{Piece}
+use Rattle.lrpar_text.specs.Words.{IsCutUpTo, PlacedWord, ReadsAs, piece_at, placed, words_of}
 use Rattle.lrpar_text.specs.Shape.{after, may_end}
 
 -- an alternative of the rule that was defined last: its symbols, and the sign that ends it
@@ -91,14 +92,38 @@ abbrev pub AreOfDefinedRules : TextOutline → Type 0
 AreOfDefinedRules o = All (λ x. Contains o.defined x.rule) o.alternatives
 
 -- each word ends before the next one begins, or where it begins
-abbrev pub AreInOrder : List PlacedWord → Type 0
-AreInOrder words = AllPairs (λ x y. x.span.end ≤ y.span.start) words
+abbrev pub AreWordsInOrder : List PlacedWord → Type 0
+AreWordsInOrder words = AllPairs (λ x y. x.span.end ≤ y.span.start) words
 
 -- the symbols of each alternative stand in order
 abbrev pub HasOrderedSymbols : TextOutline → Type 0
-HasOrderedSymbols o = All (λ x. AreInOrder x.symbols) o.alternatives
+HasOrderedSymbols o = All (λ x. AreWordsInOrder x.symbols) o.alternatives
 
--- why there is no outline: the text reads as no words of the shape, or memory was wanting
+-- Where this may stand next, s can't be read on: it is empty and the text may not end, no word or blanks begin it, or a
+-- word does that can't stand there.
+abbrev pub IsStuck : Expected → List ℕ → Type 0
+IsStuck expected [] = may_end expected ≡ false
+IsStuck expected (c ∷ s) = MatchOption (piece_at (c ∷ s)) (Unit {0}) (λ x. MatchOption x.word ⊥ (λ kind. IsNone (after expected kind)))
+
+-- up to this place the words of the text can stand so, and there it can't be read on
+pub record IsStuckAt (text : List ℕ) (place : ℕ) : Type 0 where
+  pub pieces : List Piece
+  pub cut : IsCutUpTo text place pieces
+  pub expected : Expected
+  pub outline : TextOutline
+  pub stand : after_words Declaration no_words (words_of 0 text pieces) ≡ Some (expected, outline)
+  pub stuck : IsStuck expected (drop place text)
+
+-- a text is stuck at one place at most
+abbrev pub StuckIsOne : Type 0
+StuckIsOne = (text : List ℕ) (p q : ℕ) → IsStuckAt text p → IsStuckAt text q → p ≡ q
+
+-- the text reads as no words of the shape, and this is where it is stuck
+pub record IsUnreadableAt (text : List ℕ) (place : ℕ) : Type 0 where
+  pub unread : (o : TextOutline) → IsOutlineOf text o → ⊥
+  pub stuck : IsStuckAt text place
+
+-- why there is no outline: the text can't be read at this place, or memory was wanting
 abbrev pub IsRefused : List ℕ → OutlineFault → Type 0
-IsRefused text (Syntax place) = (o : TextOutline) → IsOutlineOf text o → ⊥
+IsRefused text (Syntax place) = IsUnreadableAt text place
 IsRefused text Memory = Unit {0}

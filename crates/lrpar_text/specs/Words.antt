@@ -123,6 +123,11 @@ abbrev pub IsCutInto : List ℕ → List Piece → Type 0
 IsCutInto s [] = s ≡ []
 IsCutInto s (x ∷ xs) = (piece_at s ≡ Some x) × IsCutInto (drop x.len s) xs
 
+-- the first n bytes of s are cut into these pieces, each the longest that can be read at its place
+abbrev pub IsCutUpTo : List ℕ → ℕ → List Piece → Type 0
+IsCutUpTo s n [] = n ≡ 0
+IsCutUpTo s n (x ∷ xs) = (piece_at s ≡ Some x) × (x.len ≤ n) × IsCutUpTo (drop x.len s) (n - x.len) xs
+
 -- the words among the pieces of s, which lies at a place of a text
 abbrev pub words_of : ℕ → List ℕ → List Piece → List PlacedWord
 words_of place s [] = []

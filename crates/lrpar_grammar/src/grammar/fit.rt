@@ -1,6 +1,6 @@
 //! Whether places lie in a text.
 ghost use Rattle.std.specs.Prelude.{◌≡◌, ◌≤◌, ◌↔◌, All, IsTrue};
-ghost use Rattle.lrpar_grammar.specs.SpansFit.{AreInOrder, IsPartOf, IsPartOfLine, ProductionFits};
+ghost use Rattle.lrpar_grammar.specs.SpansFit.{AreSpansInOrder, IsPartOf, IsPartOfLine, ProductionFits};
 ghost use Rattle.lrpar_grammar.specs.Kept.{split_prod_of};
 
 use super::parts::{RulePart, TokenPart};
@@ -52,7 +52,7 @@ fn are_parts_of_lines(spans: &[Span], src: &str) -> bool
 
 // Whether each part ends before the next one starts.
 fn are_in_order(spans: &[Span]) -> bool
-    ensures { IsTrue result ↔ AreInOrder spans.now }
+    ensures { IsTrue result ↔ AreSpansInOrder spans.now }
 {
     let mut end = 0;
     for span in spans {

@@ -1,5 +1,5 @@
 //! The grammar value.
-ghost use Rattle.std.specs.Prelude.{◌≡◌, ◌<◌, ◌≤◌, ◌+◌, ◌↔◌, IfOk, IsErrOf, IsNone, IsTrue, Some, length, map, option_map, position};
+ghost use Rattle.std.specs.Prelude.{◌≡◌, ◌<◌, ◌≤◌, ◌+◌, ◌↔◌, IfErr, IfOk, IsErrOf, IsNone, IsTrue, Some, length, map, option_map, position};
 ghost use Rattle.std.specs.List.{range_with_len, slice_get};
 ghost use Rattle.std.specs.Str.{bytes_eq};
 ghost use Rattle.lrpar_grammar.specs.SpansFit.{NamesFit, SpansFit};
@@ -39,7 +39,7 @@ impl<StorageT: StorageIndex> Model for YaccGrammar<StorageT> {
 }
 
 impl<StorageT: StorageIndex> YaccGrammar<StorageT> {
-    ghost use Rattle.lrpar_grammar.specs.Parts.{AreSound, grammar_of, parts_of, token_name_of, IsFirstFault};
+    ghost use Rattle.lrpar_grammar.specs.Parts.{AreSound, grammar_of, parts_of, token_name_of, IsFirstFault, IsRefusalOf};
     ghost use Rattle.lrpar_grammar.specs.Kept.{split_prod_of};
     ghost use Rattle.lrpar_grammar.specs.Grammar.{IsWellFormed, rules_len, prods_len, tokens_len, end_token, start_prod, rule_of, symbols_of, symbol_spans_of, prod_span_of, prods_of, rule_name, rule_span, token_name, token_epp, token_span};
 
@@ -52,6 +52,9 @@ impl<StorageT: StorageIndex> YaccGrammar<StorageT> {
     pub fn from_parts(alloc: Global, parts: GrammarParts<StorageT>) -> Result<Self, GrammarFault>
         ensures made { IfOk result (λ grm. grm ≡ grammar_of (parts_of StorageT.index parts)) }
         ensures well_formed { IfOk result IsWellFormed }
+
+        // Nothing else comes than such a fault, or want of memory for sound parts.
+        ensures refused { IfErr result (IsRefusalOf StorageT.limit (parts_of StorageT.index parts)) }
 
         // Each fault but want of memory comes exactly where it is the first that holds.
         ensures no_rules { IsErrOf result GrammarFault.NoRules ↔ IsFirstFault StorageT.limit (parts_of StorageT.index parts) GrammarFault.NoRules }

@@ -1,9 +1,10 @@
 //! The faults of declarations and rules.
-ghost use Rattle.std.specs.Prelude.{◌≡◌, ◌≤◌, not, true, false, All, IfErr, MatchOption, OnOk, length, map};
+ghost use Rattle.std.specs.Prelude.{◌≡◌, ◌≢◌, ◌≤◌, [], not, true, false, All, IfErr, MatchOption, OnOk, length, map};
+ghost use Rattle.std.specs.List.{find, flat_map};
 ghost use Rattle.lrpar_text.specs.Outline.{alternative_of, outline_of};
 ghost use Rattle.lrpar_text.specs.Words.{placed};
 ghost use Rattle.lrpar_grammar.specs.Names.{is_among};
-ghost use Rattle.lrpar_grammar.specs.Spells.{AreNamesKnown, HasFault, HasFaultBy, IsUnknownAt, StandsAt, is_known};
+ghost use Rattle.lrpar_grammar.specs.Spells.{AreDeclaredOnce, AreNamesKnown, HasFault, HasFaultBy, StandsAt, is_known};
 ghost use Rattle.lrpar_grammar.specs.TextNames.{numbering_by};
 
 use super::names::Names;
@@ -24,8 +25,11 @@ pub(super) fn has_one_start(outline: &Outline) -> Result<(), GrammarFault>
     }
 }
 
-// Refuses names that are known to be wrong: a rule's that is a declared token's, and one that nothing has.
+// Refuses names that are known to be wrong: a rule's that is a declared token's, and one that nothing has. Other faults are looked
+// for before.
 pub(super) fn has_known_names(outline: &Outline, tables: &Tables) -> Result<(), GrammarFault>
+    requires once { AreDeclaredOnce (outline_of outline.now) }
+    requires some_rule { (outline_of outline.now).defined ≢ [] }
     ensures ok { OnOk result (AreNamesKnown (numbering_by tables.now) (outline_of outline.now)) }
     ensures err { IfErr result (HasFaultBy (numbering_by tables.now) (outline_of outline.now)) }
 {
@@ -47,7 +51,7 @@ pub(super) fn has_known_names(outline: &Outline, tables: &Tables) -> Result<(), 
 // Where the first of the words stands whose name is among the names.
 fn find_among(words: &[Word], names: &Names) -> Option<Span>
     ensures { MatchOption result (All (λ w. is_among w.name names.now ≡ false) (map placed words.now))
-        (StandsAt (map placed words.now) (λ w. is_among w.name names.now)) }
+        (StandsAt (find (λ w. is_among w.name names.now) (map placed words.now))) }
 {
     for word in words {
         if names.contains(word.name) {
@@ -60,7 +64,7 @@ fn find_among(words: &[Word], names: &Names) -> Option<Span>
 // Where the first of the words stands whose name isn't among the names.
 fn find_missing(words: &[Word], names: &Names) -> Option<Span>
     ensures { MatchOption result (All (λ w. is_among w.name names.now ≡ true) (map placed words.now))
-        (StandsAt (map placed words.now) (λ w. not (is_among w.name names.now))) }
+        (StandsAt (find (λ w. not (is_among w.name names.now)) (map placed words.now))) }
 {
     for word in words {
         if !names.contains(word.name) {
@@ -74,7 +78,7 @@ fn find_missing(words: &[Word], names: &Names) -> Option<Span>
 fn unknown_symbol(alternatives: &[Alternative], tables: &Tables) -> Option<Span>
     ensures { MatchOption result
         (All (λ x. All (λ w. is_known (numbering_by tables.now) w ≡ true) x.symbols) (map alternative_of alternatives.now))
-        (IsUnknownAt (numbering_by tables.now) (map alternative_of alternatives.now)) }
+        (StandsAt (find (λ w. not (is_known (numbering_by tables.now) w)) (flat_map (λ x. x.symbols) (map alternative_of alternatives.now)))) }
 {
     for alternative in alternatives {
         if let Some(span) = find_unknown(&alternative.symbols, tables) {
@@ -87,7 +91,7 @@ fn unknown_symbol(alternatives: &[Alternative], tables: &Tables) -> Option<Span>
 // Where the first symbol stands that is neither a token nor a rule.
 fn find_unknown(symbols: &[Word], tables: &Tables) -> Option<Span>
     ensures { MatchOption result (All (λ w. is_known (numbering_by tables.now) w ≡ true) (map placed symbols.now))
-        (StandsAt (map placed symbols.now) (λ w. not (is_known (numbering_by tables.now) w))) }
+        (StandsAt (find (λ w. not (is_known (numbering_by tables.now) w)) (map placed symbols.now))) }
 {
     for word in symbols {
         if !is_known(word, tables) {

@@ -1,5 +1,5 @@
 //! Words of a grammar text by their names.
-ghost use Rattle.std.specs.Prelude.{◌≡◌, IfOk, OnOk, IfErr, List, length, map};
+ghost use Rattle.std.specs.Prelude.{◌≡◌, ◌≤◌, IfOk, OnOk, IfErr, List, length, map};
 ghost use Rattle.lrpar_text.specs.Words.{PlacedWord, placed};
 ghost use Rattle.lrpar_text.specs.Outline.{outline_of};
 ghost use Rattle.lrpar_grammar.specs.Spells.{AreDistinct, HasFault};
@@ -47,8 +47,9 @@ impl<'a> Names<'a> {
         })
     }
 
-    // The tokens of the `%epp`s, which have to be of distinct names.
+    // The tokens of the `%epp`s, which have to be of distinct names. A second `%start` is looked for before.
     pub(super) fn of_epps(alloc: Global, outline: &Outline<'a>) -> Result<Self, GrammarFault>
+        requires { length (outline_of outline.now).starts ≤ 1 }
         ensures names { IfOk result (λ names. names ≡ (outline_of outline.now).epps) }
         ensures distinct { OnOk result (AreDistinct (outline_of outline.now).epps) }
         ensures err { IfErr result (HasFault (outline_of outline.now)) }

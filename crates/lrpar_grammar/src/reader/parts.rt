@@ -1,12 +1,12 @@
 //! The parts of a grammar, by its declarations and rules.
 ghost use Rattle.std.specs.Prelude.{◌≡◌, ◌<◌, ◌≤◌, ◌↔◌, All, IfOk, IsTrue, List, length, map, true};
 ghost use Rattle.lrpar_text.specs.Words.{placed};
-ghost use Rattle.lrpar_text.specs.Outline.{AreInOrder, AreOfDefinedRules, HasOrderedSymbols, alternative_of, outline_of};
+ghost use Rattle.lrpar_text.specs.Outline.{AreWordsInOrder, AreOfDefinedRules, HasOrderedSymbols, alternative_of, outline_of};
 ghost use Rattle.lrpar_grammar.specs.Names.{is_among};
 ghost use Rattle.lrpar_grammar.specs.Parts.{parts_of, prod_of, rule_name_of, token_name_of};
 ghost use Rattle.lrpar_grammar.specs.Spells.{IsClean, alternative_span, numbering_of, spelled_parts, start_number, printed_text, prod_of_alternative, rule_number, rule_of_word, symbol_of_word, token_number, token_of_word};
 ghost use Rattle.lrpar_grammar.specs.Symbols.{symbol_of};
-ghost use Rattle.lrpar_grammar.specs.TextNames.{FitAll, FitTables, HasNumbers, has_number, numbering_by};
+ghost use Rattle.lrpar_grammar.specs.TextNames.{FitAll, FitTables, AreNumbered, has_number, numbering_by};
 
 use super::names::Names;
 use super::tables::{Tables, is_token};
@@ -136,8 +136,8 @@ fn prod_parts<StorageT: StorageIndex>(
     tables: &Tables,
 ) -> Result<Vec<ProdPart<StorageT>>, AllocError>
     requires room { FitTables StorageT.limit (numbering_by tables.now) }
-    requires known { All (HasNumbers (numbering_by tables.now)) (map alternative_of alternatives.now) }
-    requires order { All (λ x. AreInOrder x.symbols) (map alternative_of alternatives.now) }
+    requires known { All (AreNumbered (numbering_by tables.now)) (map alternative_of alternatives.now) }
+    requires order { All (λ x. AreWordsInOrder x.symbols) (map alternative_of alternatives.now) }
     ensures { IfOk result (λ parts. map (prod_of StorageT.index) parts.items
         ≡ map (prod_of_alternative (numbering_by tables.now)) (map alternative_of alternatives.now)) }
 {
@@ -155,8 +155,8 @@ fn prod_part<StorageT: StorageIndex>(
     tables: &Tables,
 ) -> Result<ProdPart<StorageT>, AllocError>
     requires room { FitTables StorageT.limit (numbering_by tables.now) }
-    requires known { HasNumbers (numbering_by tables.now) (alternative_of alternative.now) }
-    requires order { AreInOrder (alternative_of alternative.now).symbols }
+    requires known { AreNumbered (numbering_by tables.now) (alternative_of alternative.now) }
+    requires order { AreWordsInOrder (alternative_of alternative.now).symbols }
     ensures { IfOk result (λ part. prod_of StorageT.index part ≡ prod_of_alternative (numbering_by tables.now) (alternative_of alternative.now)) }
 {
     Ok(ProdPart {
@@ -168,7 +168,7 @@ fn prod_part<StorageT: StorageIndex>(
 
 // Where a production stands.
 fn prod_span(alternative: &Alternative) -> Span
-    requires { AreInOrder (alternative_of alternative.now).symbols }
+    requires { AreWordsInOrder (alternative_of alternative.now).symbols }
     ensures { result ≡ alternative_span (alternative_of alternative.now) }
 {
     match (alternative.symbols.first(), alternative.symbols.last()) {

@@ -1,5 +1,5 @@
 //! The tables of names that a grammar is read with.
-ghost use Rattle.std.specs.Prelude.{◌≡◌, ◌++◌, IfErr, IfOk, OnOk, filter, map};
+ghost use Rattle.std.specs.Prelude.{◌≡◌, ◌++◌, ◌≤◌, IfErr, IfOk, OnOk, filter, length, map};
 ghost use Rattle.lrpar_text.specs.Words.{placed};
 ghost use Rattle.lrpar_text.specs.Outline.{alternative_of, outline_of};
 ghost use Rattle.lrpar_grammar.specs.Spells.{AreDistinct, HasFault, is_quoted, is_token, used_tokens};
@@ -23,8 +23,9 @@ impl<'a> Tables<'a> {
     ghost use Rattle.lrpar_grammar.specs.Spells.{numbering_of};
     ghost use Rattle.lrpar_grammar.specs.TextNames.{numbering_by};
 
-    // The tables of an outline. Refuses a second `%epp` of one name.
+    // The tables of an outline. Refuses a second `%epp` of one name, once there is no second `%start`.
     pub(super) fn new(alloc: Global, outline: &Outline<'a>) -> Result<Self, GrammarFault>
+        requires { length (outline_of outline.now).starts ≤ 1 }
         ensures numbering { IfOk result (λ tables. numbering_by tables ≡ numbering_of (outline_of outline.now)) }
         ensures epps { IfOk result (λ tables. tables.epps ≡ (outline_of outline.now).epps) }
         ensures distinct { OnOk result (AreDistinct (outline_of outline.now).epps) }

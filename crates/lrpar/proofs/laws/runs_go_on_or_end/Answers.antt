@@ -1,4 +1,4 @@
-use Rattle.lrpar.proofs.RunLemmas.{runs_go_on_or_end}
+use Rattle.lrpar_check.proofs.RunLemmas.{runs_go_on_or_end}
 use Rattle.lrpar.proofs.laws.runs_go_on_or_end.Goals as goal
 
 pub returns : goal.returns

@@ -1,4 +1,4 @@
-use Rattle.lrpar_answers.specs.Lexemes.{facts_of}
+use Rattle.lrpar_lexemes.specs.Lexemes.{facts_of}
 use Rattle.lrpar.proofs.RepairRunLemmas.{accepts_where_repaired, lists_sound, stops_lie_apart}
 use Rattle.lrpar.proofs.StopStackLemmas.{stops_at_stacks, stops_by_failing}
 use Rattle.lrpar.proofs.laws.runs_with_repairs_are_sound.Goals as goal

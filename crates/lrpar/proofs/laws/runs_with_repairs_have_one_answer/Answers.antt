@@ -1,4 +1,4 @@
-use Rattle.lrpar_answers.specs.Lexemes.{facts_of}
+use Rattle.lrpar_lexemes.specs.Lexemes.{facts_of}
 use Rattle.lrpar.proofs.RepairWayLemmas.{repair_runs_one_way}
 use Rattle.lrpar.proofs.laws.runs_with_repairs_have_one_answer.Goals as goal
 

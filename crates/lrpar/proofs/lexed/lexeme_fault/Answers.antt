@@ -3,7 +3,7 @@ use Rattle.std.specs.List.{slice_get}
 use Rattle.std.specs.Option.{option_map}
 use Rattle.std.proofs.lemmas.Option.{slice_get-map, slice_get_read}
 use Rattle.std.proofs.lemmas.List.{length-map}
-use Rattle.lrpar_answers.specs.Lexemes.{facts_of}
+use Rattle.lrpar_lexemes.specs.Lexemes.{facts_of}
 use Rattle.lrpar.proofs.LexemeLemmas.{bad_is_fault, early_is_fault, valid_has_no_fault, good_more, ordered_more, early_here, next_previous}
 use Rattle.lrpar.proofs.lexed.lexeme_fault.Goals as goal
 

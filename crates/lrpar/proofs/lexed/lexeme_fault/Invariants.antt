@@ -1,6 +1,6 @@
 use Rattle.std.proofs.Common.{map}
 use Rattle.lrpar_grammar.specs.Sentence.{HasGoodTokens, HasOrderedStarts}
-use Rattle.lrpar_answers.specs.Lexemes.{facts_of}
+use Rattle.lrpar_lexemes.specs.Lexemes.{facts_of}
 use Rattle.lrpar.proofs.LexemeLemmas.{IsPreviousStart}
 use Rattle.lrpar.proofs.lexed.lexeme_fault.Given as goal
 

@@ -3,7 +3,7 @@ use Rattle.std.proofs.lemmas.List.{take_all}
 use Rattle.lrpar_grammar.proofs.ListLemmas.{All-map-at, map-take_more}
 use Rattle.lrpar_build.specs.Brought.{HasIn}
 use Rattle.lrpar_build.specs.Cores.{AreBringing, IsCoreOf, core_set}
-use Rattle.lrpar_build.specs.FirstRows.{rows_of}
+use Rattle.lrpar_first.specs.FirstRows.{rows_of}
 use Rattle.lrpar_build.proofs.BringLemmas.{brought_by_cores, brought_more, cleared_room, none_brought}
 use Rattle.lrpar_build.proofs.closure.bring.Goals as goal
 

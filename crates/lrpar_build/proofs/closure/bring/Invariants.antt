@@ -1,7 +1,7 @@
 use Rattle.std.proofs.Common.{◌≡◌, ◌+◌, ◌↔◌, ℕ, length, map, take}
 use Rattle.lrpar_build.specs.Brought.{HasIn}
 use Rattle.lrpar_build.specs.Cores.{AreBringing, core_set}
-use Rattle.lrpar_build.specs.FirstRows.{HaveRoom, mark_of, rows_of}
+use Rattle.lrpar_first.specs.FirstRows.{HaveRoom, mark_of, rows_of}
 use Rattle.lrpar_build.proofs.closure.bring.Given as goal
 
 -- what the cores so far bring is there

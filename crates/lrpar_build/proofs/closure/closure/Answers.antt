@@ -1,9 +1,10 @@
 use Rattle.std.proofs.Common.{arith, ◌↔◌, ℕ, subst, map}
 use Rattle.lrpar_build.specs.Brought.{HasIn, IsBrought}
 use Rattle.lrpar_build.specs.Cores.{AreBringing, core_set}
-use Rattle.lrpar_build.specs.FirstRows.{rows_of}
+use Rattle.lrpar_first.specs.FirstRows.{rows_of}
 use Rattle.lrpar_build.proofs.AmongLemmas.{closure_among}
 use Rattle.lrpar_build.proofs.PutLemmas.{added_not_brought}
+use Rattle.lrpar_first.proofs.FaultLemmas.{no_value}
 use Rattle.lrpar_build.proofs.closure.closure.Goals as goal
 
 pub push_brought-requires-clause-added : goal.push_brought-requires-clause-added
@@ -21,3 +22,9 @@ returns-clause-items g c =
     subst (λ cs. (r t : ℕ) → HasIn rows r t ↔ IsBrought grm (AreBringing grm (map (core_set index) cs)) r t) c.deref.ensures.value c.bring.ensures.exact in
     closure_among grm (map (core_set index) c.args.cores.items) (map (core_set index) c.push_brought.new.closure.items) rows exact
     c.in_ok-push_brought.ensures.items
+
+pub returns-in_err-push_brought-clause-items : goal.returns-in_err-push_brought-clause-items
+returns-in_err-push_brought-clause-items g c = no_value c.from_residual.result _ _ c.from_residual.ensures.1
+
+pub returns-in_err-push_brought-clause-cores : goal.returns-in_err-push_brought-clause-cores
+returns-in_err-push_brought-clause-cores g c = no_value c.from_residual.result _ _ c.from_residual.ensures.1

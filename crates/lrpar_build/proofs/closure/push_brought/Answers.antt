@@ -2,12 +2,13 @@ use Rattle.std.proofs.Common.{◌+◌, IsTrue, ◌≡◌, ◌<◌, ◌↔◌, �
 use Rattle.lrpar_grammar.specs.Grammar.{prods_len, rule_of}
 use Rattle.lrpar_states.specs.Graph.{ItemOf}
 use Rattle.lrpar_build.specs.Cores.{CoreSet, IsAmong, IsCoreOf, IsOfRows, core_set}
-use Rattle.lrpar_build.specs.Tokens.{has}
-use Rattle.lrpar_build.specs.FirstRows.{mark_of, row_at, rows_of}
+use Rattle.lrpar_first.specs.Tokens.{has}
+use Rattle.lrpar_first.specs.FirstRows.{mark_of, row_at, rows_of}
 use Rattle.lrpar_build.proofs.PutLemmas.{put_cores}
 use Rattle.lrpar_build.proofs.AmongLemmas.{rows_more}
-use Rattle.lrpar_build.proofs.GrowthLemmas.{sets_len}
-use Rattle.lrpar_build.proofs.RowLemmas.{row_is, wide_at}
+use Rattle.lrpar_first.proofs.GrowthLemmas.{sets_len}
+use Rattle.lrpar_first.proofs.RowLemmas.{row_is, wide_at}
+use Rattle.lrpar_first.proofs.FaultLemmas.{nothing_done}
 use Rattle.lrpar_build.proofs.closure.push_brought.Goals as goal
 
 pub loop-prod-preserved : goal.loop-prod-preserved
@@ -52,3 +53,9 @@ returns g c =
           ↔ (IsAmong (map (core_set index) c.args.closure.now.items) x ⊎ IsOfRows grm (rows_of c.args.brought.now) n x)) full c.loop-prod.invariant.items;
       cores = c.loop-prod.invariant.are;
     }
+
+pub returns-in_err-push_one-clause-items : goal.returns-in_err-push_one-clause-items
+returns-in_err-push_one-clause-items g c = nothing_done c.from_residual.result _ _ c.from_residual.ensures.1
+
+pub returns-in_err-push_one-clause-cores : goal.returns-in_err-push_one-clause-cores
+returns-in_err-push_one-clause-cores g c = nothing_done c.from_residual.result _ _ c.from_residual.ensures.1

@@ -3,7 +3,7 @@ use Rattle.lrpar_states.specs.Graph.{ItemOf}
 use Rattle.lrpar_build.specs.Cores.{IsAmong, IsOfRows, core_set}
 use Rattle.lrpar_build.specs.Kernels.{AreCores}
 use Rattle.lrpar_build.proofs.PutLemmas.{IsPutBelow}
-use Rattle.lrpar_build.specs.FirstRows.{rows_of}
+use Rattle.lrpar_first.specs.FirstRows.{rows_of}
 use Rattle.lrpar_build.proofs.closure.push_brought.Given as goal
 
 -- the items of the productions so far are there, and the cores stand in their order

@@ -1,5 +1,5 @@
 use Rattle.std.proofs.lemmas.Bool.{OnFalse_at}
-use Rattle.lrpar_build.specs.FirstRows.{rows_of}
+use Rattle.lrpar_first.specs.FirstRows.{rows_of}
 use Rattle.lrpar_build.proofs.SpreadLemmas.{brought_itself, brought_on, exact_spread, keeps_itself, keeps_on}
 use Rattle.lrpar_build.proofs.reach.spread.Goals as goal
 

@@ -1,6 +1,6 @@
 use Rattle.std.proofs.Common.{◌≡◌, ◌+◌, length}
 use Rattle.lrpar_build.specs.Brought.{AreBroughtFrom, Keeps}
-use Rattle.lrpar_build.specs.FirstRows.{HaveRoom, mark_of, rows_of, total_missing}
+use Rattle.lrpar_first.specs.FirstRows.{HaveRoom, mark_of, rows_of, total_missing}
 use Rattle.lrpar_build.proofs.reach.spread.Given as goal
 
 abbrev pub invariant-passes : goal.invariant-passes

@@ -1,7 +1,7 @@
 use Rattle.std.proofs.Common.{◌≡◌, ◌<◌, ◌∙◌, refl, sym, subst, arith}
 use Rattle.std.proofs.lemmas.Bool.{OnFalse_at, OnFalse_from, OnTrue_at, OnTrue_from, true≢false}
 use Rattle.lrpar_build.specs.Brought.{IsSpreadAt}
-use Rattle.lrpar_build.specs.FirstRows.{rows_of, total_missing}
+use Rattle.lrpar_first.specs.FirstRows.{rows_of, total_missing}
 use Rattle.lrpar_build.proofs.SpreadLemmas.{brought_itself, brought_on, keeps_itself, keeps_on, step_closed, step_grown}
 use Rattle.lrpar_build.proofs.reach.spread_all.Goals as goal
 use Rattle.lrpar_build.proofs.reach.spread_all.Goals.{then-spread_from, else-spread_from}

@@ -1,7 +1,7 @@
 use Rattle.std.proofs.Common.{◌≡◌, ◌<◌, ◌+◌, ℕ, length}
 use Rattle.std.specs.Bool.{OnFalse, OnTrue}
 use Rattle.lrpar_build.specs.Brought.{AreBroughtFrom, IsSpreadAt, Keeps}
-use Rattle.lrpar_build.specs.FirstRows.{HaveRoom, mark_of, rows_of, total_missing}
+use Rattle.lrpar_first.specs.FirstRows.{HaveRoom, mark_of, rows_of, total_missing}
 use Rattle.lrpar_build.proofs.reach.spread_all.Given as goal
 
 -- either the sets lack less than before, or they are as before and have what the productions so far bring

@@ -6,6 +6,7 @@ use Rattle.lrpar_build.specs.Cores.{IsAmong, core_set}
 use Rattle.lrpar_build.specs.ItemSets.{IsInClosure}
 use Rattle.lrpar_build.specs.Kernels.{AreCores}
 use Rattle.lrpar_build.proofs.NumberLemmas.{cores_reached, kept_twice, steps_kept}
+use Rattle.lrpar_first.proofs.FaultLemmas.{no_value, nothing_done}
 use Rattle.lrpar_build.proofs.states.expanded.Goals as goal
 
 pub gotos-requires-clause-reached : goal.gotos-requires-clause-reached
@@ -48,3 +49,39 @@ returns-clause-state g c =
           c.in_ok-shifts.ensures.kept c.in_ok-gotos.ensures.steps;
       shifts = c.in_ok-shifts.ensures.steps;
     }
+
+pub returns-in_err-items-clause-state : goal.returns-in_err-items-clause-state
+returns-in_err-items-clause-state g c = no_value c.from_residual.result _ _ c.from_residual.ensures.1
+
+pub returns-in_err-items-clause-kernels : goal.returns-in_err-items-clause-kernels
+returns-in_err-items-clause-kernels g c = nothing_done c.from_residual.result _ _ c.from_residual.ensures.1
+
+pub returns-in_err-items-clause-kept : goal.returns-in_err-items-clause-kept
+returns-in_err-items-clause-kept g c = nothing_done c.from_residual.result _ _ c.from_residual.ensures.1
+
+pub returns-in_err-successors-clause-state : goal.returns-in_err-successors-clause-state
+returns-in_err-successors-clause-state g c = no_value c.from_residual-in_err-successors.result _ _ c.from_residual-in_err-successors.ensures.1
+
+pub returns-in_err-successors-clause-kernels : goal.returns-in_err-successors-clause-kernels
+returns-in_err-successors-clause-kernels g c = nothing_done c.from_residual-in_err-successors.result _ _ c.from_residual-in_err-successors.ensures.1
+
+pub returns-in_err-successors-clause-kept : goal.returns-in_err-successors-clause-kept
+returns-in_err-successors-clause-kept g c = nothing_done c.from_residual-in_err-successors.result _ _ c.from_residual-in_err-successors.ensures.1
+
+pub returns-in_err-gotos-clause-state : goal.returns-in_err-gotos-clause-state
+returns-in_err-gotos-clause-state g c = no_value c.from_residual-in_err-gotos.result _ _ c.from_residual-in_err-gotos.ensures.1
+
+pub returns-in_err-gotos-clause-kernels : goal.returns-in_err-gotos-clause-kernels
+returns-in_err-gotos-clause-kernels g c = nothing_done c.from_residual-in_err-gotos.result _ _ c.from_residual-in_err-gotos.ensures.1
+
+pub returns-in_err-gotos-clause-kept : goal.returns-in_err-gotos-clause-kept
+returns-in_err-gotos-clause-kept g c = nothing_done c.from_residual-in_err-gotos.result _ _ c.from_residual-in_err-gotos.ensures.1
+
+pub returns-in_err-shifts-clause-state : goal.returns-in_err-shifts-clause-state
+returns-in_err-shifts-clause-state g c = no_value c.from_residual-in_err-shifts.result _ _ c.from_residual-in_err-shifts.ensures.1
+
+pub returns-in_err-shifts-clause-kernels : goal.returns-in_err-shifts-clause-kernels
+returns-in_err-shifts-clause-kernels g c = nothing_done c.from_residual-in_err-shifts.result _ _ c.from_residual-in_err-shifts.ensures.1
+
+pub returns-in_err-shifts-clause-kept : goal.returns-in_err-shifts-clause-kept
+returns-in_err-shifts-clause-kept g c = nothing_done c.from_residual-in_err-shifts.result _ _ c.from_residual-in_err-shifts.ensures.1

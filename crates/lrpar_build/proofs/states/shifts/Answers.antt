@@ -7,7 +7,8 @@ use Rattle.lrpar_build.specs.Cores.{core_set}
 use Rattle.lrpar_build.specs.Kernels.{GoesTo}
 use Rattle.lrpar_build.specs.States.{AreStepsBelow}
 use Rattle.lrpar_build.specs.Numbers.{IsFaultOfStates}
-use Rattle.lrpar_build.proofs.NumberLemmas.{IsStepDone, fault_same, kept_itself, kept_twice, step_done, step_failed}
+use Rattle.lrpar_build.proofs.FaultLemmas.{fault_same}
+use Rattle.lrpar_build.proofs.NumberLemmas.{IsStepDone, kept_itself, kept_twice, step_done, step_failed}
 use Rattle.lrpar_build.proofs.SuccessorLemmas.{next_at}
 use Rattle.lrpar_build.proofs.StepLemmas.{all_shifts, no_steps, step_none, step_some}
 use Rattle.lrpar_build.proofs.states.shifts.Goals as goal

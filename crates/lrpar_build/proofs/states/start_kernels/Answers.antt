@@ -3,7 +3,8 @@ use Rattle.lrpar_build.specs.Canonical.{AreSame}
 use Rattle.lrpar_build.specs.Cores.{CoreSet, IsAmong, core_set}
 use Rattle.lrpar_build.specs.ItemSets.{IsStartItem}
 use Rattle.lrpar_build.specs.Numbers.{IsFaultOfStates, IsNumberFault, IsNumberOf}
-use Rattle.lrpar_build.proofs.NumberLemmas.{fault_same, first_number, none_numbered, number_fault, number_numbered, start_reached}
+use Rattle.lrpar_build.proofs.FaultLemmas.{fault_same}
+use Rattle.lrpar_build.proofs.NumberLemmas.{first_number, none_numbered, number_fault, number_numbered, start_reached}
 use Rattle.lrpar_build.proofs.states.start_kernels.Goals as goal
 
 pub returns-in_err-_start-clause-fault : goal.returns-in_err-_start-clause-fault

@@ -5,6 +5,10 @@ use Rattle.lrpar_build.specs.Kernels.{IsKernel, IsReachedKernel, kernel_at, path
 use Rattle.lrpar_build.specs.States.{AreExpanded, IsExpanded, StateOf, state_of}
 use Rattle.lrpar_build.proofs.NumberLemmas.{expanded_more, starts_kept}
 use Rattle.lrpar_build.proofs.StatesLemmas.{are_states}
+use Rattle.lrpar_build.specs.Numbers.{IsFaultOfStates}
+use Rattle.lrpar_build.specs.declared.fault.BuildFault.TheVariants.{Memory}
+use Rattle.lrpar_first.proofs.FaultLemmas.{no_value}
+use Rattle.lrpar_build.proofs.FaultLemmas.{fault_same}
 use Rattle.lrpar_build.proofs.states.states.Goals as goal
 
 pub expanded-requires-clause-kernel : goal.expanded-requires-clause-kernel
@@ -73,3 +77,48 @@ returns-clause-states g c =
     omega (arith, few, count, c.states.states.ok, c.states-test.false, c.len.ensures, c.len-in-states.ensures) in
     are_states c.args.grm.now c.start_kernels.ensures.well_formed kernels c.states.invariant.numbered.are c.states.invariant.start.some
     c.states.invariant.start.is states full c.states.invariant.expanded
+
+pub returns-in_err-sets : goal.returns-in_err-sets
+returns-in_err-sets g c =
+    let told = c.from_residual.ensures.1 in record {
+      states = no_value c.from_residual.result _ _ told;
+      within = no_value c.from_residual.result _ _ told;
+      fits = no_value c.from_residual.result _ _ told;
+      fault = fault_same c.from_residual.result (IsFaultOfStates c.args.grm.now c.args.max_states g.StorageT.StorageIndex.limit) Memory told tt;
+    }
+
+pub returns-in_err-kernels : goal.returns-in_err-kernels
+returns-in_err-kernels g c =
+    let told = c.from_residual-in_err-kernels.ensures.1 in record {
+      states = no_value c.from_residual-in_err-kernels.result _ _ told;
+      within = no_value c.from_residual-in_err-kernels.result _ _ told;
+      fits = no_value c.from_residual-in_err-kernels.result _ _ told;
+      fault = fault_same c.from_residual-in_err-kernels.result (IsFaultOfStates c.args.grm.now c.args.max_states g.StorageT.StorageIndex.limit) c.in_err-kernels.field-0.0 told c.in_err-kernels.ensures.fault;
+    }
+
+pub returns-in_err-kernel : goal.returns-in_err-kernel
+returns-in_err-kernel g c =
+    let told = c.from_residual-in_err-kernel.ensures.1 in record {
+      states = no_value c.from_residual-in_err-kernel.result _ _ told;
+      within = no_value c.from_residual-in_err-kernel.result _ _ told;
+      fits = no_value c.from_residual-in_err-kernel.result _ _ told;
+      fault = fault_same c.from_residual-in_err-kernel.result (IsFaultOfStates c.args.grm.now c.args.max_states g.StorageT.StorageIndex.limit) Memory told tt;
+    }
+
+pub returns-in_err-state : goal.returns-in_err-state
+returns-in_err-state g c =
+    let told = c.from_residual-in_err-state.ensures.1 in record {
+      states = no_value c.from_residual-in_err-state.result _ _ told;
+      within = no_value c.from_residual-in_err-state.result _ _ told;
+      fits = no_value c.from_residual-in_err-state.result _ _ told;
+      fault = fault_same c.from_residual-in_err-state.result (IsFaultOfStates c.args.grm.now c.args.max_states g.StorageT.StorageIndex.limit) c.in_err-state.field-0.0 told c.in_err-state.ensures.fault;
+    }
+
+pub returns-in_err-push : goal.returns-in_err-push
+returns-in_err-push g c =
+    let told = c.from_residual-in_err-push.ensures.1 in record {
+      states = no_value c.from_residual-in_err-push.result _ _ told;
+      within = no_value c.from_residual-in_err-push.result _ _ told;
+      fits = no_value c.from_residual-in_err-push.result _ _ told;
+      fault = fault_same c.from_residual-in_err-push.result (IsFaultOfStates c.args.grm.now c.args.max_states g.StorageT.StorageIndex.limit) Memory told tt;
+    }

@@ -9,6 +9,7 @@ use Rattle.lrpar_build.specs.Wanted.{HasAcceptReduce, IsAcceptReduce, reduce_con
 use Rattle.lrpar_build.proofs.EntryLemmas.{joined_more}
 use Rattle.lrpar_build.proofs.StateRowLemmas.{below_next, error_same}
 use Rattle.lrpar_build.proofs.TablesLemmas.{cores_known, cores_once, refusal_of, row_more, shifts_ascend, state_read}
+use Rattle.lrpar_first.proofs.FaultLemmas.{no_value, nothing_done}
 use Rattle.lrpar_build.proofs.tables.rows_of_actions.Goals as goal
 
 pub state_row-requires-clause-prods : goal.state_row-requires-clause-prods
@@ -81,3 +82,39 @@ loop-number-preserved g c =
           (λ k early u. c.loop-number.invariant.3 k u early)
           (λ u low. subst (λ (st : StateOf). IsAcceptReduce grm st.cores st.shifts u → ⊥) (sym is) (none u low)) n below t within,
     )
+
+pub returns-in_err-rows-clause-rows : goal.returns-in_err-rows-clause-rows
+returns-in_err-rows-clause-rows g c = no_value c.from_residual.result _ _ c.from_residual.ensures.1
+
+pub returns-in_err-rows-clause-none : goal.returns-in_err-rows-clause-none
+returns-in_err-rows-clause-none g c = no_value c.from_residual.result _ _ c.from_residual.ensures.1
+
+pub returns-in_err-rows-clause-rr : goal.returns-in_err-rows-clause-rr
+returns-in_err-rows-clause-rr g c = nothing_done c.from_residual.result _ _ c.from_residual.ensures.1
+
+pub returns-in_err-rows-clause-sr : goal.returns-in_err-rows-clause-sr
+returns-in_err-rows-clause-sr g c = nothing_done c.from_residual.result _ _ c.from_residual.ensures.1
+
+pub returns-in_err-row-clause-rows : goal.returns-in_err-row-clause-rows
+returns-in_err-row-clause-rows g c = no_value c.from_residual-in_err-row.result _ _ c.from_residual-in_err-row.ensures.1
+
+pub returns-in_err-row-clause-none : goal.returns-in_err-row-clause-none
+returns-in_err-row-clause-none g c = no_value c.from_residual-in_err-row.result _ _ c.from_residual-in_err-row.ensures.1
+
+pub returns-in_err-row-clause-rr : goal.returns-in_err-row-clause-rr
+returns-in_err-row-clause-rr g c = nothing_done c.from_residual-in_err-row.result _ _ c.from_residual-in_err-row.ensures.1
+
+pub returns-in_err-row-clause-sr : goal.returns-in_err-row-clause-sr
+returns-in_err-row-clause-sr g c = nothing_done c.from_residual-in_err-row.result _ _ c.from_residual-in_err-row.ensures.1
+
+pub returns-in_err-push-clause-rows : goal.returns-in_err-push-clause-rows
+returns-in_err-push-clause-rows g c = no_value c.from_residual-in_err-push.result _ _ c.from_residual-in_err-push.ensures.1
+
+pub returns-in_err-push-clause-none : goal.returns-in_err-push-clause-none
+returns-in_err-push-clause-none g c = no_value c.from_residual-in_err-push.result _ _ c.from_residual-in_err-push.ensures.1
+
+pub returns-in_err-push-clause-rr : goal.returns-in_err-push-clause-rr
+returns-in_err-push-clause-rr g c = nothing_done c.from_residual-in_err-push.result _ _ c.from_residual-in_err-push.ensures.1
+
+pub returns-in_err-push-clause-sr : goal.returns-in_err-push-clause-sr
+returns-in_err-push-clause-sr g c = nothing_done c.from_residual-in_err-push.result _ _ c.from_residual-in_err-push.ensures.1

@@ -8,6 +8,7 @@ use Rattle.lrpar_build.specs.States.{state_of}
 use Rattle.lrpar_build.proofs.BuiltLemmas.{is_built}
 use Rattle.lrpar_build.proofs.TableRowLemmas.{is_table, some_state}
 use Rattle.lrpar_build.proofs.TablesLemmas.{table_is}
+use Rattle.lrpar_first.proofs.FaultLemmas.{no_value}
 use Rattle.lrpar_build.proofs.tables.tables.Goals as goal
 
 pub unwrap-requires : goal.unwrap-requires
@@ -60,3 +61,27 @@ returns-clause-built g c =
     subst (IsBuilt grm c.in_ok-graph.graph) (sym (c.in_ok-table.ensures.table ∙ made))
     (is_built grm well states c.requires.states c.in_ok-graph.graph (graph_len ∙ sym len) items g.StorageT.StorageIndex.limit is
     (λ s t below within. none s t (omega (arith, len, below)) within))
+
+pub returns-in_err-actions-clause-built : goal.returns-in_err-actions-clause-built
+returns-in_err-actions-clause-built g c = no_value c.from_residual.result _ _ c.from_residual.ensures.1
+
+pub returns-in_err-actions-clause-len : goal.returns-in_err-actions-clause-len
+returns-in_err-actions-clause-len g c = no_value c.from_residual.result _ _ c.from_residual.ensures.1
+
+pub returns-in_err-graph-clause-built : goal.returns-in_err-graph-clause-built
+returns-in_err-graph-clause-built g c = no_value c.from_residual-in_err-graph.result _ _ c.from_residual-in_err-graph.ensures.1
+
+pub returns-in_err-graph-clause-len : goal.returns-in_err-graph-clause-len
+returns-in_err-graph-clause-len g c = no_value c.from_residual-in_err-graph.result _ _ c.from_residual-in_err-graph.ensures.1
+
+pub returns-in_err-gotos-clause-built : goal.returns-in_err-gotos-clause-built
+returns-in_err-gotos-clause-built g c = no_value c.from_residual-in_err-gotos.result _ _ c.from_residual-in_err-gotos.ensures.1
+
+pub returns-in_err-gotos-clause-len : goal.returns-in_err-gotos-clause-len
+returns-in_err-gotos-clause-len g c = no_value c.from_residual-in_err-gotos.result _ _ c.from_residual-in_err-gotos.ensures.1
+
+pub returns-in_err-table-clause-built : goal.returns-in_err-table-clause-built
+returns-in_err-table-clause-built g c = no_value c.from_residual-in_err-table.result _ _ c.from_residual-in_err-table.ensures.1
+
+pub returns-in_err-table-clause-len : goal.returns-in_err-table-clause-len
+returns-in_err-table-clause-len g c = no_value c.from_residual-in_err-table.result _ _ c.from_residual-in_err-table.ensures.1

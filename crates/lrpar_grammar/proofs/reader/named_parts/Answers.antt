@@ -5,6 +5,12 @@ use Rattle.lrpar_grammar.specs.Spells.{AreNamesKnown}
 use Rattle.lrpar_grammar.proofs.SpellsLemmas.{mapped_some}
 use Rattle.lrpar_grammar.proofs.reader.named_parts.Goals as goal
 
+pub has_known_names-requires : goal.has_known_names-requires
+has_known_names-requires g c = record {
+  once = c.requires.once;
+  some_rule = mapped_some placed c.args.outline.now.defined.items (search rules);
+}
+
 pub fitting_parts-requires : goal.fitting_parts-requires
 fitting_parts-requires g c =
     let o = outline_of c.args.outline.now in
@@ -12,8 +18,8 @@ fitting_parts-requires g c =
       numbering = c.requires.numbering;
       epps = c.requires.epps;
       clean = record {
-        one_start = c.requires.one_start;
-        one_epp_each = c.requires.distinct;
+        one_start = c.requires.once.one_start;
+        one_epp_each = c.requires.once.one_epp_each;
         some_rule = mapped_some placed c.args.outline.now.defined.items (search rules);
         names_known = subst (λ n. AreNamesKnown n o) c.requires.numbering c.in_ok-has_known_names.ensures.ok;
       };

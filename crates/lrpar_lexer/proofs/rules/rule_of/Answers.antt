@@ -26,5 +26,5 @@ returns-in-Err c =
     record {
       rule = tt;
       fault = names_weaker (λ n. (n ≡ c.args.number) × (c.in-Err.error ≢ OutOfMemory)) (λ n. (n ≡ c.args.number) × SaysNoRule grammar line)
-          (λ n said. (said.0, refused pattern name c.in-Err.error c.in-Some.ensures (said.1, c.in-Err.ensures.refused, c.in-Err.ensures.kind))) c.refusal.result c.refusal.ensures;
+          (λ n said. (said.0, refused pattern name c.in-Err.error c.in-Some.ensures (said.1, c.in-Err.ensures.no_internal, c.in-Err.ensures.refused, c.in-Err.ensures.kind))) c.refusal.result c.refusal.ensures;
     }

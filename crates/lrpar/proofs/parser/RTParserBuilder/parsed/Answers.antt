@@ -9,7 +9,7 @@ returns-in-Err g c =
       parse = inr (
         c.in_ok-answers.answers.items,
         c.in_ok-answers.ensures.allowed,
-        error_is_parse _ _ _ _ _ _ c.in_ok-answers.answers.items c.in-Err.error _ lexed c.in_ok-one_error-in-Err.ensures refl,
+        error_is_parse _ _ _ c.in_ok-answers.answers.items c.in-Err.error _ lexed c.in_ok-one_error-in-Err.ensures refl,
       );
     }
 
@@ -21,7 +21,7 @@ returns-in-Some g c =
       parse = inr (
         c.in_ok-answers.answers.items,
         c.in_ok-answers.ensures.allowed,
-        fault_is_parse _ _ _ _ _ _ c.in_ok-answers.answers.items c.in-Ok.lexemes.items c.in-Some.fault lexed.0 lexed.1
+        fault_is_parse _ _ _ c.in_ok-answers.answers.items c.in-Ok.lexemes.items c.in-Some.fault lexed.0 lexed.1
             (rw (c.deref.ensures.value, c.grm.ensures, grammar) at c.in-Some.ensures),
       );
     }
@@ -34,7 +34,7 @@ returns g c =
       parse = inr (
         c.in_ok-answers.answers.items,
         c.in_ok-answers.ensures.allowed,
-        run_is_parse _ _ _ _ _ _ c.in_ok-answers.answers.items c.in-Ok.lexemes.items c.in_ok-ran-in-None.field-0 lexed.0 lexed.1
+        run_is_parse _ _ _ c.in_ok-answers.answers.items c.in-Ok.lexemes.items c.in_ok-ran-in-None.field-0 lexed.0 lexed.1
             (rw (c.deref.ensures.value, c.grm.ensures, grammar) at c.in-None.ensures)
             (rw (c.deref-in-None.ensures.value) at c.in_ok-ran-in-None.ensures.ran),
       );

@@ -1,6 +1,6 @@
 use Rattle.std.proofs.Common.{◌≡◌, ◌+◌, ◌∷◌, [], arith, drop, length, take}
 use Rattle.std.proofs.lemmas.List.{take_all}
-use Rattle.lrpar_answers.specs.Lexemes.{facts_of}
+use Rattle.lrpar.specs.Known.{facts_by}
 use Rattle.lrpar.specs.PlainSteps.{plain_step, plain_steps}
 use Rattle.lrpar.proofs.MovesLemmas.{replay_left, replayed_none, replayed_then}
 use Rattle.lrpar.proofs.SequenceLemmas.{steps_left, steps_so_far}
@@ -8,14 +8,14 @@ use Rattle.lrpar.proofs.run.Run.replay.Goals as goal
 
 pub loop-step-init : goal.loop-step-init
 loop-step-init g c =
-    let facts = λ (x : g.row.LexemeT.Denot). facts_of g.StorageT.StorageIndex.index (g.LexemeT.Lexeme.parts x) in
+    let facts = facts_by g.StorageT.StorageIndex.index g.LexemeT.Lexeme.parts in
     let d = c.args.self.now.checked.now in
-    let build = c.args.self.now.build.now in
+    let builds = g.B.Build.builds c.args.self.now.build.now in
     record {
-      upright = c.requires.upright;
+      run_stack = c.requires.run_stack;
       rises = c.requires.rises;
       within = c.requires.within;
-      done = replayed_none facts (g.B.Build.leaf build) (g.B.Build.node build d.grammar) (g.B.Build.suits build) d c.args.lexemes.now c.args.stack.now c.args.place;
+      done = replayed_none facts builds d c.args.lexemes.now c.args.stack.now c.args.place;
       left = c.requires.works;
     }
 
@@ -30,9 +30,9 @@ step-requires-clause-works g c =
 pub loop-step-preserved : goal.loop-step-preserved
 loop-step-preserved g c =
     let index = g.StorageT.StorageIndex.index in
-    let facts = λ (x : g.row.LexemeT.Denot). facts_of index (g.LexemeT.Lexeme.parts x) in
+    let facts = facts_by index g.LexemeT.Lexeme.parts in
     let d = c.args.self.now.checked.now in
-    let build = c.args.self.now.build.now in
+    let builds = g.B.Build.builds c.args.self.now.build.now in
     let lexemes = c.args.lexemes.now in
     let steps = c.args.steps.now in
     let l = c.loop-step in
@@ -41,14 +41,14 @@ loop-step-preserved g c =
     let more = steps_so_far index steps l.step-index step c.loop-step-test.true c.step-item.is in
     let left = rw here at l.invariant.left in
     let by = c.in_ok-at.ensures.replayed in
-    let rest = replay_left facts (g.B.Build.leaf build) (g.B.Build.node build d.grammar) (g.B.Build.suits build) d lexemes l.stack c.step.new.stack l.at _ (plain_step index step)
+    let rest = replay_left facts builds d lexemes l.stack c.step.new.stack l.at _ (plain_step index step)
     (plain_steps index (drop (l.step-index + 1) steps)) left.0 left.1 left.2 by left.3 in
     record {
-      upright = c.in_ok-at.ensures.upright;
+      run_stack = c.in_ok-at.ensures.run_stack;
       rises = c.in_ok-at.ensures.rises;
       within = c.in_ok-at.ensures.within;
       done = rw more
-          (replayed_then facts (g.B.Build.leaf build) (g.B.Build.node build d.grammar) (g.B.Build.suits build) d lexemes c.args.stack.now l.stack c.step.new.stack c.args.place l.at _
+          (replayed_then facts builds d lexemes c.args.stack.now l.stack c.step.new.stack c.args.place l.at _
           (plain_steps index (take l.step-index steps)) (plain_step index step ∷ []) l.invariant.done by);
       left = (rest.0, left.1, left.2, rest.1);
     }

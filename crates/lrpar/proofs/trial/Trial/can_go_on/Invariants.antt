@@ -1,6 +1,7 @@
 use Rattle.std.proofs.Common.{◌≡◌, ◌≤◌, ◌-◌, ◌↔◌, length}
 use Rattle.lrpar_check.specs.Overlay.{overlaid}
 use Rattle.lrpar_check.specs.Stack.{IsStack}
+use Rattle.lrpar.specs.Counting.{CostsAtMost}
 use Rattle.lrpar.specs.Sequences.{CanGoOn}
 use Rattle.lrpar.proofs.trial.Trial.can_go_on.Given as goal
 
@@ -11,8 +12,9 @@ invariant-lexemes g l =
     let d = l.self.checked.now in
     let goes_on = CanGoOn token d.grammar d.table l.self.lexemes.now in
     record {
-      stack : IsStack d.table (overlaid l.states);
+      stack : IsStack d.table (overlaid l.states.stack);
       within : l.at ≤ length l.self.lexemes.now;
-      base : l.states.base ≡ l.fn.states.base;
-      left : goes_on (l.self.shifts - l.counter) (overlaid l.states) l.at ↔ goes_on l.self.shifts (overlaid l.fn.states) l.fn.place;
+      base : l.states.stack.base ≡ l.fn.states.stack.base;
+      cost : CostsAtMost d.cap l.counter l.fn.states l.states;
+      left : goes_on (l.self.shifts - l.counter) (overlaid l.states.stack) l.at ↔ goes_on l.self.shifts (overlaid l.fn.states.stack) l.fn.place;
     }

@@ -17,5 +17,5 @@ returns-else-from-clause-taken g c =
       | else-from-via-then-from+in_ok-feed+else-branch w ↦ fails _ _ _ _ _ w.in_ok-feed.ensures.fed w.if-branch.false
       | else-from-via-else-from w ↦
           let past : end_token d.grammar ≤ index c.args.token.0 = omega (arith, end, c.from.ensures, c.from-2.ensures, w.if-from.false) in
-          refused _ _ _ (overlaid c.else-from.states) past
+          refused _ _ _ (overlaid c.else-from.states.stack) past
     ]

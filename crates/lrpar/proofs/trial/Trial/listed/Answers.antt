@@ -1,33 +1,4 @@
-use Rattle.std.proofs.Common.{◌∙◌, ap}
-use Rattle.lrpar_check.specs.Overlay.{overlaid}
-use Rattle.lrpar_check.specs.Stack.{states_of}
-use Rattle.lrpar.proofs.SequenceLemmas.{listed_more, listed_no_more}
 use Rattle.lrpar.proofs.trial.Trial.listed.Goals as goal
 
-pub loop-steps-preserved-then-not-works : goal.loop-steps-preserved-then-not-works
-loop-steps-preserved-then-not-works g c =
-    let index = g.StorageT.StorageIndex.index in
-    let token = λ (x : g.row.LexemeT.Denot). index (g.LexemeT.Lexeme.parts x).token in
-    let d = c.args.self.now.checked.now in
-    let l = c.loop-steps in
-    let from = c.set_back.ensures.states ∙ l.invariant.base in
-    record {
-      base = c.in_ok-works.ensures.base ∙ (ap (λ o. o.base) c.set_back.ensures.made ∙ l.invariant.base);
-      listed = listed_no_more token d.grammar d.table c.args.self.now.lexemes.now index c.args.self.now.shifts (states_of index c.args.stack.now) c.args.place l.yielded
-          l.listed.items c.in-Some.steps c.deref.result.now (overlaid c.set_back.new.self) _ from c.deref.ensures.value
-          c.in_ok-works.ensures.works c.if-not-works.true l.invariant.listed;
-    }
-
-pub loop-steps-preserved : goal.loop-steps-preserved
-loop-steps-preserved g c =
-    let index = g.StorageT.StorageIndex.index in
-    let token = λ (x : g.row.LexemeT.Denot). index (g.LexemeT.Lexeme.parts x).token in
-    let d = c.args.self.now.checked.now in
-    let l = c.loop-steps in
-    let from = c.set_back.ensures.states ∙ l.invariant.base in
-    record {
-      base = c.in_ok-works.ensures.base ∙ (ap (λ o. o.base) c.set_back.ensures.made ∙ l.invariant.base);
-      listed = listed_more token d.grammar d.table c.args.self.now.lexemes.now index c.args.self.now.shifts (states_of index c.args.stack.now) c.args.place l.yielded
-          l.listed.items c.push.new.self.items c.in-Some.steps c.deref.result.now (overlaid c.set_back.new.self) _ from c.deref.ensures.value c.in_ok-push.ensures.items
-          c.in_ok-works.ensures.works c.if-not-works.false l.invariant.listed;
-    }
+pub returns : goal.returns
+returns g c = record { listed = rw c.new-states.ensures.base at c.tested.ensures.listed }

@@ -2,7 +2,7 @@ use Rattle.std.proofs.Common.{◌≡◌, ◌<◌, ap, arith, length, refl, sym}
 use Rattle.std.proofs.lemmas.Bool.{ltb-true}
 use Rattle.std.proofs.lemmas.Option.{slice_get_read}
 use Rattle.lrpar_grammar.specs.Grammar.{end_token}
-use Rattle.lrpar_answers.specs.Lexemes.{facts_of}
+use Rattle.lrpar_lexemes.specs.Lexemes.{facts_of}
 use Rattle.lrpar.proofs.LexemeLemmas.{good_token}
 use Rattle.lrpar.proofs.SequenceLemmas.{shift_fails, shift_taken}
 use Rattle.lrpar.proofs.trial.Trial.shift.Goals as goal

@@ -1,6 +1,7 @@
 use Rattle.std.proofs.Common.{◌≡◌, ◌≤◌, ◌↔◌, drop, length}
 use Rattle.lrpar_check.specs.Overlay.{overlaid}
 use Rattle.lrpar_check.specs.Stack.{IsStack}
+use Rattle.lrpar.specs.Counting.{CostsAtMost}
 use Rattle.lrpar.specs.PlainSteps.{plain_steps}
 use Rattle.lrpar.specs.Sequences.{Works}
 use Rattle.lrpar.proofs.trial.Trial.works.Given as goal
@@ -13,8 +14,9 @@ invariant-loop-step g l =
     let d = l.self.checked.now in
     let works = Works token d.grammar d.table l.self.lexemes.now l.self.shifts in
     record {
-      stack : IsStack d.table (overlaid l.states);
+      stack : IsStack d.table (overlaid l.states.stack);
       within : l.at ≤ length l.self.lexemes.now;
-      base : l.states.base ≡ l.fn.states.base;
-      left : works (overlaid l.states) l.at (plain_steps index (drop l.step-index l.steps)) ↔ works (overlaid l.fn.states) l.fn.place (plain_steps index l.steps);
+      base : l.states.stack.base ≡ l.fn.states.stack.base;
+      cost : CostsAtMost d.cap l.step-index l.fn.states l.states;
+      left : works (overlaid l.states.stack) l.at (plain_steps index (drop l.step-index l.steps)) ↔ works (overlaid l.fn.states.stack) l.fn.place (plain_steps index l.steps);
     }

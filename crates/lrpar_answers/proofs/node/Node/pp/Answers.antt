@@ -2,7 +2,7 @@ use Rattle.std.proofs.Common.{◌≡◌, ◌+◌, ◌++◌, [], ◌∷◌, lengt
 use Rattle.std.specs.List.{AllByRecursion, flat_map}
 use Rattle.std.specs.String.{string_bytes}
 use Rattle.std.proofs.lemmas.List.{nil_from_length}
-use Rattle.lrpar_answers.specs.Lexemes.{facts_of}
+use Rattle.lrpar_lexemes.specs.Lexemes.{facts_of}
 use Rattle.lrpar_answers.specs.TreeText.{MetFits, met_line, root_at, all_met, nodes_below}
 use Rattle.lrpar_answers.proofs.TreeTextLemmas.{fit_below, fit_enter, text_begins, text_enter, left_met, left_turn, left_length}
 use Rattle.lrpar_answers.proofs.node.Node.pp.Goals as goal

@@ -1,7 +1,7 @@
 use Rattle.std.proofs.Common.{◌≡◌, ◌+◌, ◌*◌, ◌++◌, length}
 use Rattle.std.specs.List.{AllByRecursion, flat_map}
 use Rattle.std.specs.String.{string_bytes}
-use Rattle.lrpar_answers.specs.Lexemes.{facts_of}
+use Rattle.lrpar_lexemes.specs.Lexemes.{facts_of}
 use Rattle.lrpar_answers.specs.TreeText.{MetFits, met_line, tree_text}
 use Rattle.lrpar_answers.proofs.TreeTextLemmas.{left_met}
 use Rattle.lrpar_answers.proofs.node.Node.pp.Given as goal

@@ -2,7 +2,7 @@ use Rattle.std.proofs.Common.{◌≡◌, ◌++◌, [], ◌∷◌, length, length
 use Rattle.std.specs.List.{AllByRecursion, flat_map}
 use Rattle.std.specs.Io.KnownBytes.{Appends}
 use Rattle.std.proofs.lemmas.List.{nil_from_length}
-use Rattle.lrpar_answers.specs.Lexemes.{facts_of}
+use Rattle.lrpar_lexemes.specs.Lexemes.{facts_of}
 use Rattle.lrpar_answers.specs.TreeText.{MetFits, met_line, root_at, nodes_below, tree_text}
 use Rattle.lrpar_answers.proofs.TreeTextLemmas.{fit_begins, fit_left, text_begins, text_enter, left_met, left_turn, left_length}
 use Rattle.lrpar_answers.proofs.WriteLemmas.{appends_both}

@@ -1,7 +1,7 @@
 use Rattle.std.proofs.Common.{◌+◌, ◌*◌, length, List, ℕ, Option}
 use Rattle.std.specs.List.{AllByRecursion, flat_map}
 use Rattle.std.specs.Io.KnownBytes.{Appends}
-use Rattle.lrpar_answers.specs.Lexemes.{facts_of}
+use Rattle.lrpar_lexemes.specs.Lexemes.{facts_of}
 use Rattle.lrpar_answers.specs.TreeText.{MetFits, TreeFits, met_line, tree_text}
 use Rattle.lrpar_answers.proofs.TreeTextLemmas.{left_met}
 use Rattle.lrpar_answers.proofs.node.Node.write.Given as goal

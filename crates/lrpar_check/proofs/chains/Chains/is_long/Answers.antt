@@ -1,6 +1,6 @@
 use Rattle.std.proofs.Common.{◌≡◌, arith, subst}
 use Rattle.std.proofs.lemmas.List.{length-map}
-use Rattle.lrpar_check.specs.Step.{IsStep}
+use Rattle.lrpar_check.specs.Step.{IsStepOf}
 use Rattle.lrpar_check.specs.declared.step.Step.{Step}
 use Rattle.lrpar_check.specs.Stack.{states_of}
 use Rattle.lrpar_check.proofs.SafetyLemmas.{accepted, refused}
@@ -39,7 +39,7 @@ loop-made-preserved g c =
     let t = index c.args.t.0 in
     let states = states_of index c.loop-made.states.items in
     let after = states_of index c.take_step.new.states.items in
-    let reduced = subst (λ (s : Step). IsStep grm table t states s after) c.in-Reduced.is c.in_ok-step.ensures.step in
+    let reduced = subst (λ (s : Step). IsStepOf grm table t states s after) c.in-Reduced.is c.in_ok-step.ensures.step in
     let within = reduced_within grm table t states reduced.0 after c.requires.closed c.loop-made.invariant.within reduced.1 in
     record {
       some = rw length-map at within.0;

@@ -4,10 +4,11 @@ use Rattle.lrpar_check.specs.Stack.{IsStack}
 use Rattle.lrpar_states.specs.PlainRows.{plain_action}
 use Rattle.lrpar_states.specs.Table.{ShiftTo}
 use Rattle.lrpar_check.proofs.SettleLemmas.{on_err_always, run_of_checked, stack_shifted}
+use Rattle.lrpar_check.proofs.StepLemmas.{no_value}
 use Rattle.lrpar_check.proofs.check.ParserData.feed_on.Goals as goal
 
-pub returns-in_err-shift-in-Shift-clause-held_up : goal.returns-in_err-shift-in-Shift-clause-held_up
-returns-in_err-shift-in-Shift-clause-held_up g c =
+pub returns-in_err-shift-in-Shift-clause-short_of_memory : goal.returns-in_err-shift-in-Shift-clause-short_of_memory
+returns-in_err-shift-in-Shift-clause-short_of_memory g c =
     let index = g.StorageT.StorageIndex.index in
     let table = c.args.self.now.table in
     let t = index c.args.t.0 in
@@ -35,3 +36,9 @@ returns-in_ok-shift-in-Shift-clause-stack g c =
     let run = run_of_checked d c.stable-table.ensures.checked c.stable-table.ensures.runs c.stable-table.ensures.bounds in
     let more = stack_shifted d.grammar d.table d.cap run t c.requires.token states (index c.in-Shift.next.0) c.settle_on.ensures.stack shifts in
     subst (λ (st : List ℕ). IsStack d.table st) (sym c.in_ok-shift-in-Shift.ensures.states) more
+
+pub returns-in_err-action-clause-fed : goal.returns-in_err-action-clause-fed
+returns-in_err-action-clause-fed g c = no_value c.from_residual.result _ _ c.from_residual.ensures.1
+
+pub returns-in_err-shift-in-Shift-clause-fed : goal.returns-in_err-shift-in-Shift-clause-fed
+returns-in_err-shift-in-Shift-clause-fed g c = no_value c.from_residual-in_err-shift-in-Shift.result _ _ c.from_residual-in_err-shift-in-Shift.ensures.1

@@ -5,6 +5,7 @@ use Rattle.lrpar_check.specs.Reduction.{top_action}
 use Rattle.lrpar_check.specs.Step.{IsStackStep}
 use Rattle.lrpar_check.specs.declared.step.Step.{Step}
 use Rattle.lrpar_check.proofs.SettleLemmas.{run_of_checked, stack_reduced_once, stack_settled_by, stack_states, stays_by_step}
+use Rattle.lrpar_check.proofs.StepLemmas.{no_value, nothing_done}
 use Rattle.lrpar_check.proofs.check.ParserData.settle_on.Goals as goal
 
 pub take_step-requires-clause-within : goal.take_step-requires-clause-within
@@ -100,6 +101,15 @@ returns-in-LeavesNone g c =
       settled = settled;
       action = action ∙ ap (λ st. top_action d.table t (kind.states st)) (sym same);
       suits = subst (kind.suits d.grammar d.table) (sym same) c.reductions.invariant.suits;
-      held_up = tt;
+      short_of_memory = tt;
       stack = settled.of_states.stack;
     }
+
+pub returns-in_err-step-clause-settled : goal.returns-in_err-step-clause-settled
+returns-in_err-step-clause-settled g c = no_value c.from_residual.result _ _ c.from_residual.ensures.1
+
+pub returns-in_err-step-clause-action : goal.returns-in_err-step-clause-action
+returns-in_err-step-clause-action g c = no_value c.from_residual.result _ _ c.from_residual.ensures.1
+
+pub returns-in_err-step-clause-suits : goal.returns-in_err-step-clause-suits
+returns-in_err-step-clause-suits g c = nothing_done c.from_residual.result _ _ c.from_residual.ensures.1

@@ -3,6 +3,7 @@ use Rattle.std.proofs.lemmas.List.{length-map}
 use Rattle.lrpar_check.specs.Overlay.{overlaid}
 use Rattle.lrpar_check.specs.Stack.{states_of}
 use Rattle.lrpar_check.proofs.OverlayLemmas.{over_put}
+use Rattle.lrpar_check.proofs.StepLemmas.{nothing_done}
 use Rattle.lrpar_check.proofs.overlay.OverlayStateStack.reduce.Goals as goal
 
 pub returns-clause-states : goal.returns-clause-states
@@ -17,3 +18,9 @@ returns-clause-states g c =
     c.put_at.new.states.items within c.saturating_sub.ensures c.min-self-inside.ensures c.in_ok-put_at.ensures.put in
     put ∙ ap (λ (st : List ℕ). take left st ++ index c.args.by.next.0 ∷ []) (ap overlaid c.self.view_is)
     ∙ ap (λ (n : ℕ). take (n - c.args.by.symbols) (overlaid c.args.self.now) ++ index c.args.by.next.0 ∷ []) c.len.ensures
+
+pub returns-in_err-put_at-clause-states : goal.returns-in_err-put_at-clause-states
+returns-in_err-put_at-clause-states g c = nothing_done c.from_residual.result _ _ c.from_residual.ensures.1
+
+pub returns-in_err-put_at-clause-reduces : goal.returns-in_err-put_at-clause-reduces
+returns-in_err-put_at-clause-reduces g c = nothing_done c.from_residual.result _ _ c.from_residual.ensures.1

@@ -6,8 +6,8 @@ use Rattle.lrpar_states.specs.Table.{ReduceBy, action_of, states_len}
 use Rattle.lrpar_check.proofs.safety.Parts.has_shape.Goals as goal
 use Rattle.lrpar_check.proofs.safety.Parts.has_shape.Goals.{then-states_len, else-states_len, then-tokens_len, else-tokens_len, then-rules_len, else-rules_len}
 
-pub returns-then-reduces_are_named : goal.returns-then-reduces_are_named
-returns-then-reduces_are_named g c =
+pub returns-then-reduces_are_in_range : goal.returns-then-reduces_are_in_range
+returns-then-reduces_are_in_range g c =
     let grm = c.args.self.now.grm.now in
     let graph = c.args.self.now.sgraph.now in
     let table = c.args.self.now.stable.now in
@@ -16,8 +16,8 @@ returns-then-reduces_are_named g c =
     let Tokens : Type 0 = (graph_len graph ≡ states_len table) × (table.tokens ≡ tokens_len grm) in
     let reduces : Reduces =
     elim c.if-rules_len.branch as (λ _. Reduces) [
-      | then-rules_len w ↦ (w.if-rules_len.true, w.reduces_are_named.ensures.0 (sym w.value-is ∙ c.if-reduces_are_named.true))
-      | else-rules_len w ↦ absurd (both_ways c.if-tokens_len.value w.if-rules_len.false (sym w.value-is ∙ c.if-reduces_are_named.true))
+      | then-rules_len w ↦ (w.if-rules_len.true, w.reduces_are_in_range.ensures.0 (sym w.value-is ∙ c.if-reduces_are_in_range.true))
+      | else-rules_len w ↦ absurd (both_ways c.if-tokens_len.value w.if-rules_len.false (sym w.value-is ∙ c.if-reduces_are_in_range.true))
     ] in
     let rules : Rules =
     elim c.if-tokens_len.branch as (λ _. Rules) [
@@ -42,7 +42,7 @@ returns-then-reduces_are_named g c =
         tokens = tokens.1;
         rules = rules.1;
         reduces = reduces.1;
-        items = c.items_are_named.ensures.0 h;
+        items = c.items_are_in_range.ensures.0 h;
       },
-      λ shape. c.items_are_named.ensures.1 shape.items,
+      λ shape. c.items_are_in_range.ensures.1 shape.items,
     )

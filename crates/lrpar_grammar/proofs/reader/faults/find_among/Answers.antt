@@ -8,7 +8,7 @@ use Rattle.lrpar_grammar.proofs.reader.faults.find_among.Goals as goal
 pub returns-then-contains : goal.returns-then-contains
 returns-then-contains c =
     stands (λ (w : PlacedWord). is_among w.name c.args.names.now) c.args.words.now c.loop-word.word-index _ c.span.result c.loop-word-test.true
-    (sym c.contains.ensures ∙ c.if-contains.true) c.span.ensures
+    c.loop-word.invariant (sym c.contains.ensures ∙ c.if-contains.true) c.span.ensures
 
 pub loop-word-preserved : goal.loop-word-preserved
 loop-word-preserved c =

@@ -1,10 +1,11 @@
-use Rattle.std.proofs.Common.{◌≡◌, true, map, sym, subst, arith, not}
-use Rattle.std.specs.List.{All, Contains}
+use Rattle.std.proofs.Common.{◌≡◌, ◌<◌, true, length, map, not, take, get_or, ap, sym, subst, ◌∙◌, arith}
+use Rattle.std.specs.List.{All, find}
+use Rattle.std.proofs.lemmas.List.{get_or-map, length-map}
 use Rattle.lrpar_text.specs.Words.{PlacedWord, placed}
 use Rattle.lrpar_text.specs.Outline.{TextAlternative, alternative_of}
 use Rattle.lrpar_grammar.specs.Spells.{StandsAt, is_known}
 use Rattle.lrpar_grammar.specs.TextNames.{numbering_by}
-use Rattle.lrpar_grammar.proofs.FaultsLemmas.{all_of, mapped_among}
+use Rattle.lrpar_grammar.proofs.FaultsLemmas.{all_of, none_fails_in, stands_in}
 use Rattle.lrpar_grammar.proofs.GrowthLemmas.{all_more}
 use Rattle.lrpar_grammar.proofs.reader.faults.unknown_symbol.Goals as goal
 
@@ -14,11 +15,14 @@ returns-in-Some c =
     let x = c.alternative-item.result in
     let i = c.loop-alternative.alternative-index in
     let n = numbering_by c.args.tables.now in
-    record {
-      alternative = alternative_of x;
-      contains = subst (λ y. Contains (map alternative_of xs) (alternative_of y)) (sym c.alternative-item.is) (mapped_among alternative_of xs i x (omega arith));
-      unknown = subst (λ s. StandsAt (map placed s) (λ w. not (is_known n w)) c.in-Some.span) c.deref.ensures.value c.in-Some.ensures;
-    }
+    let within : i < length xs = omega arith in
+    let at : get_or (map alternative_of xs) i (alternative_of x) ≡ alternative_of x =
+    get_or-map alternative_of xs i x (alternative_of x) within ∙ ap alternative_of (sym c.alternative-item.is) in
+    let here : StandsAt (find (λ w. not (is_known n w)) (map placed x.symbols.items)) c.in-Some.span =
+    subst (λ s. StandsAt (find (λ w. not (is_known n w)) (map placed s)) c.in-Some.span) c.deref.ensures.value c.in-Some.ensures in
+    stands_in (λ w. not (is_known n w)) (λ (y : TextAlternative). y.symbols) (map alternative_of xs) i (alternative_of x) c.in-Some.span (omega (arith, length-map xs alternative_of))
+    (none_fails_in (is_known n) (λ (y : TextAlternative). y.symbols) (take i (map alternative_of xs)) c.loop-alternative.invariant)
+    (subst (λ (y : TextAlternative). StandsAt (find (λ w. not (is_known n w)) y.symbols) c.in-Some.span) (sym at) here)
 
 pub loop-alternative-preserved : goal.loop-alternative-preserved
 loop-alternative-preserved c =

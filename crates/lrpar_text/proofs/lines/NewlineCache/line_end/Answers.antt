@@ -1,7 +1,7 @@
 use Rattle.std.proofs.Common.{◌≡◌, ◌<◌, ◌≤◌, ◌+◌, ◌-◌, length, get_or, sym, ap, ◌∙◌, subst, arith}
 use Rattle.std.specs.Str.{IsCharBoundary}
 use Rattle.std.proofs.lemmas.Bool.{ltb-true}
-use Rattle.lrpar_text.specs.Lines.{line_end, line_table}
+use Rattle.lrpar_text.specs.Lines.{line_end}
 use Rattle.lrpar_text.proofs.LineLemmas.{all_starts, end_found, end_last, line_end_boundary}
 use Rattle.lrpar_text.proofs.lines.NewlineCache.line_end.Goals as goal
 

@@ -1,7 +1,6 @@
-use Rattle.std.proofs.Common.{◌≡◌, ◌<◌, ◌≤◌, ◌-◌, length, get_or, sym, ap, ◌∙◌, subst, arith}
+use Rattle.std.proofs.Common.{◌<◌, ◌≤◌, ◌-◌, length, get_or, sym, ap, ◌∙◌, subst, arith}
 use Rattle.std.specs.Str.{IsCharBoundary}
-use Rattle.lrpar_text.specs.Lines.{line_start, line_table}
-use Rattle.lrpar_text.proofs.LineLemmas.{all_starts, start_first, start_found, line_start_boundary}
+use Rattle.lrpar_text.proofs.LineLemmas.{start_first, start_found, line_start_boundary}
 use Rattle.lrpar_text.proofs.lines.NewlineCache.line_start.Goals as goal
 
 pub returns-in-0-clause-start : goal.returns-in-0-clause-start

@@ -1,8 +1,16 @@
 use Rattle.std.proofs.Common.{refl}
 use Rattle.lrpar_grammar.specs.Parts.{parts_of}
-use Rattle.lrpar_grammar.proofs.PartsLemmas.{answers_first, answers_grammar, answers_memory}
+use Rattle.lrpar_grammar.proofs.PartsLemmas.{answers_first, answers_grammar, answers_memory, first_refuses, memory_refuses}
 use Rattle.lrpar_grammar.specs.declared.grammar.parts.GrammarFault.TheVariants.{NoRules, StorageTooSmall, BadStart, BadSymbol}
 use Rattle.lrpar_grammar.proofs.grammar.value.YaccGrammar.from_parts.Goals as goal
+
+pub returns-in-Some-clause-refused : goal.returns-in-Some-clause-refused
+returns-in-Some-clause-refused g c =
+    first_refuses g.StorageT.StorageIndex.limit (parts_of g.StorageT.StorageIndex.index c.args.parts) c.in-Some.fault c.in-Some.ensures.found
+
+pub returns-in_err-made-in-None-clause-refused : goal.returns-in_err-made-in-None-clause-refused
+returns-in_err-made-in-None-clause-refused g c =
+    memory_refuses g.StorageT.StorageIndex.limit (parts_of g.StorageT.StorageIndex.index c.args.parts) c.from_residual.result c.in-None.ensures.sound c.from_residual.ensures.1
 
 pub returns-in-Some-clause-no_rules : goal.returns-in-Some-clause-no_rules
 returns-in-Some-clause-no_rules g c =

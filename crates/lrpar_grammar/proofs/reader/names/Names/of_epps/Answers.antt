@@ -4,13 +4,15 @@ use Rattle.lrpar_grammar.proofs.FaultsLemmas.{known_is, new_more, repeated_at, u
 use Rattle.lrpar_grammar.proofs.reader.names.Names.of_epps.Goals as goal
 
 pub returns-then-contains_key-clause-err : goal.returns-then-contains_key-clause-err
-returns-then-contains_key-clause-err c =
-    let epps = c.args.outline.now.epps.items in
-    let items = c.deref-word-items.result.now in
-    let i = c.loop-word.word-index in
-    repeated_at epps items i _ c.span.result c.deref-word-items.ensures.value c.loop-word-test.true
-    (known_is c.loop-word.numbers (map placed c.loop-word.words.items) (take i (map placed epps)) _ c.contains_key.result true
-    c.loop-word.invariant.numbers c.loop-word.invariant.words c.contains_key.ensures c.if-contains_key.true) c.span.ensures
+returns-then-contains_key-clause-err c = (
+  c.requires,
+  let epps = c.args.outline.now.epps.items in
+      let items = c.deref-word-items.result.now in
+      let i = c.loop-word.word-index in
+      repeated_at epps items i _ c.span.result c.deref-word-items.ensures.value c.loop-word-test.true
+      (known_is c.loop-word.numbers (map placed c.loop-word.words.items) (take i (map placed epps)) _ c.contains_key.result true
+      c.loop-word.invariant.numbers c.loop-word.invariant.words c.contains_key.ensures c.if-contains_key.true) c.span.ensures c.loop-word.invariant.distinct,
+)
 
 pub loop-word-preserved : goal.loop-word-preserved
 loop-word-preserved c =

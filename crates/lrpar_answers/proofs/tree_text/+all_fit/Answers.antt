@@ -1,0 +1,111 @@
+use Rattle.std.proofs.Common.{◌<◌, ◌++◌, subst, ap, arith, length-append}
+use Rattle.std.specs.Prelude.{IsTrue}
+use Rattle.std.proofs.lemmas.List.{nil_from_length}
+use Rattle.lrpar_lexemes.specs.Lexemes.{facts_of}
+use Rattle.lrpar_answers.specs.TreeText.{MetFits, nodes_below}
+use Rattle.lrpar_answers.proofs.WeightLemmas.{weights, weights_append}
+use Rattle.lrpar_answers.proofs.FitsLemmas.{fits_level, fits_enter, fits_leave, fit_parts, fit_joined, later_trees, later_trees_push, weights_below}
+use Rattle.lrpar_answers.proofs.tree_text.+all_fit.Goals as goal
+
+pub returns-then-not-root_fits : goal.returns-then-not-root_fits
+returns-then-not-root_fits g t c =
+    let index = g.StorageT.StorageIndex.index in
+    let facts = λ (x : g.row.LexemeT.Denot). facts_of index (g.LexemeT.Lexeme.parts x) in
+    let P = MetFits facts index c.args.grm.now c.args.input.now in (
+      (λ h. cc),
+      (λ all. subst IsTrue c.if-not-root_fits.true ((c.root_fits.ensures 1).1
+          (fits_enter P (fits_level facts index c.args.grm.now c.args.input.now) c.in-Some.node.now c.in-Some.rest.now c.loop-node.nodes.now
+          (later_trees c.loop-node.left.items) c.in-Some.ensures.cases.0 (c.loop-node.invariant.fits.1 all)).0)),
+    )
+
+pub returns-then-not-all_fit : goal.returns-then-not-all_fit
+returns-then-not-all_fit g t c =
+    let index = g.StorageT.StorageIndex.index in
+    let facts = λ (x : g.row.LexemeT.Denot). facts_of index (g.LexemeT.Lexeme.parts x) in
+    let P = MetFits facts index c.args.grm.now c.args.input.now in
+    let same = fits_level facts index c.args.grm.now c.args.input.now in
+    let node = c.in-Some.node.now in
+    let more = c.in-Some.rest.now ++ later_trees c.loop-node.left.items in
+    let below = rw c.children.ensures at c.all_fit.ensures in (
+      (λ h. cc),
+      (λ all. subst IsTrue c.if-not-all_fit.true (below.1 (fit_parts P (nodes_below node) more
+          (fits_enter P same node c.in-Some.rest.now c.loop-node.nodes.now (later_trees c.loop-node.left.items) c.in-Some.ensures.cases.0
+          (c.loop-node.invariant.fits.1 all)).1).0)),
+    )
+
+pub all_fit-requires : goal.all_fit-requires
+all_fit-requires g t c κs within =
+    let entered = weights_below c.in-Some.node.now c.in-Some.rest.now c.loop-node.nodes.now (later_trees c.loop-node.left.items) c.in-Some.ensures.cases.0 in
+    let same = ap weights c.children.ensures in
+    let below : weights c.children.result.now < weights c.args.nodes.now = omega arith in
+    (omega arith, within)
+
+pub loop-node-smaller-in-Ok : goal.loop-node-smaller-in-Ok
+loop-node-smaller-in-Ok g t c =
+    let rest = c.in-Some.rest.now in
+    let later = later_trees c.loop-node.left.items in
+    let entered = weights_below c.in-Some.node.now rest c.loop-node.nodes.now later c.in-Some.ensures.cases.0 in
+    let split = weights_append (nodes_below c.in-Some.node.now) (rest ++ later) in
+    rw (c.in-Ok.ensures.items, later_trees_push, c.children-nodes.ensures) (simp length-append (omega arith))
+
+pub loop-node-preserved-in-Ok : goal.loop-node-preserved-in-Ok
+loop-node-preserved-in-Ok g t c =
+    let index = g.StorageT.StorageIndex.index in
+    let facts = λ (x : g.row.LexemeT.Denot). facts_of index (g.LexemeT.Lexeme.parts x) in
+    let P = MetFits facts index c.args.grm.now c.args.input.now in
+    let same = fits_level facts index c.args.grm.now c.args.input.now in
+    let node = c.in-Some.node.now in
+    let rest = c.in-Some.rest.now in
+    let nodes = c.loop-node.nodes.now in
+    let later = later_trees c.loop-node.left.items in
+    let entered = weights_below node rest nodes later c.in-Some.ensures.cases.0 in
+    let split = weights_append (nodes_below node) (rest ++ later) in
+    let root = (c.root_fits.ensures 1).0 c.if-not-root_fits.false in
+    record {
+      fits = rw (c.in-Ok.ensures.items, later_trees_push, c.children-nodes.ensures) (
+        (λ all. c.loop-node.invariant.fits.0 (fits_leave P same node rest nodes later c.in-Some.ensures.cases.0 root all)),
+        (λ all. (fits_enter P same node rest nodes later c.in-Some.ensures.cases.0 (c.loop-node.invariant.fits.1 all)).1),
+      );
+      below = rw (c.in-Ok.ensures.items, later_trees_push, c.children-nodes.ensures) (omega arith);
+    }
+
+pub loop-node-smaller-in-Err : goal.loop-node-smaller-in-Err
+loop-node-smaller-in-Err g t c =
+    let entered = weights_below c.in-Some.node.now c.in-Some.rest.now c.loop-node.nodes.now (later_trees c.loop-node.left.items) c.in-Some.ensures.cases.0 in
+    rw c.in-Err.ensures.items (omega arith)
+
+pub loop-node-preserved-in-Err : goal.loop-node-preserved-in-Err
+loop-node-preserved-in-Err g t c =
+    let index = g.StorageT.StorageIndex.index in
+    let facts = λ (x : g.row.LexemeT.Denot). facts_of index (g.LexemeT.Lexeme.parts x) in
+    let P = MetFits facts index c.args.grm.now c.args.input.now in
+    let same = fits_level facts index c.args.grm.now c.args.input.now in
+    let node = c.in-Some.node.now in
+    let rest = c.in-Some.rest.now in
+    let nodes = c.loop-node.nodes.now in
+    let later = later_trees c.loop-node.left.items in
+    let entered = weights_below node rest nodes later c.in-Some.ensures.cases.0 in
+    let root = (c.root_fits.ensures 1).0 c.if-not-root_fits.false in
+    let below = rw c.children.ensures at (c.all_fit.ensures.0 c.if-not-all_fit.false) in
+    record {
+      fits = rw c.in-Err.ensures.items (
+        (λ all. c.loop-node.invariant.fits.0 (fits_leave P same node rest nodes later c.in-Some.ensures.cases.0 root
+            (fit_joined P (nodes_below node) (rest ++ later) below all))),
+        (λ all. (fit_parts P (nodes_below node) (rest ++ later)
+            (fits_enter P same node rest nodes later c.in-Some.ensures.cases.0 (c.loop-node.invariant.fits.1 all)).1).1),
+      );
+      below = rw c.in-Err.ensures.items (omega arith);
+    }
+
+pub loop-node-smaller : goal.loop-node-smaller
+loop-node-smaller g t c =
+    let none = nil_from_length c.loop-node.nodes.now c.in-None.ensures.cases in
+    rw (none, c.in-Some-pop.ensures.items, later_trees_push) (simp length-append (omega arith))
+
+pub loop-node-preserved : goal.loop-node-preserved
+loop-node-preserved g t c =
+    let none = nil_from_length c.loop-node.nodes.now c.in-None.ensures.cases in
+    record {
+      fits = rw (none, c.in-Some-pop.ensures.items, later_trees_push) at c.loop-node.invariant.fits;
+      below = rw (none, c.in-Some-pop.ensures.items, later_trees_push) at c.loop-node.invariant.below;
+    }

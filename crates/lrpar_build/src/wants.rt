@@ -1,0 +1,326 @@
+//! What a state does at each token, and its conflicts.
+ghost use Rattle.std.specs.Prelude.{◌≡◌, ◌<◌, ◌+◌, ◌++◌, ◌∷◌, ◌==◌, ◌&&◌, ℕ, All, IfErr, IfOk, OnOk, filter, map, nat_eq, not};
+ghost use Rattle.std.specs.List.Sorted.{IsNonDecreasingBy, IsPermutation};
+ghost use Rattle.std.specs.Map.{keys_of, lookup};
+ghost use Rattle.lrpar_grammar.specs.Grammar.{prod_len, prods_len, tokens_len};
+ghost use Rattle.lrpar_grammar.specs.Symbols.{prod_numbers};
+ghost use Rattle.lrpar_states.specs.PlainConflicts.{reduce_reduce_of, shift_reduce_of};
+ghost use Rattle.lrpar_states.specs.PlainItems.{item_of};
+ghost use Rattle.lrpar_states.specs.PlainRows.{action_entry, plain_goto};
+ghost use Rattle.lrpar_build.specs.Cores.{core_set};
+ghost use Rattle.lrpar_first.specs.Tokens.{has};
+ghost use Rattle.lrpar_build.specs.Wanted.{AcceptsBeside, AreOnce, AscendFrom, HasAcceptReduce, IsAcceptReduce, IsRefusal, accepts_at, entry_at, items_of_core, items_of_cores, prods_at, reduce_conflicts, reduce_conflicts_at, shift_conflicts, shift_conflicts_at, shift_entry, wanted, wanted_row};
+
+use crate::cores::CoreItems;
+use crate::fault::BuildFault;
+use lrpar_grammar::grammar::YaccGrammar;
+use lrpar_grammar::span::{PIdx, StIdx, StorageIndex, TIdx};
+use lrpar_states::table::{Action, Item};
+use std::alloc::{AllocError, Global};
+
+/// The token, the two productions and the state of a conflict between reductions.
+pub(crate) type ReduceReduce<StorageT> = (
+    TIdx<StorageT>,
+    PIdx<StorageT>,
+    PIdx<StorageT>,
+    StIdx<StorageT>,
+);
+
+/// The token, the production and the state of a conflict between a shift and a reduction.
+pub(crate) type ShiftReduce<StorageT> = (TIdx<StorageT>, PIdx<StorageT>, StIdx<StorageT>);
+
+/// The items one by one, each with its lookahead: core by core, and a core's lookaheads ascending.
+pub(crate) fn single_items<StorageT: StorageIndex>(
+    alloc: Global,
+    grm: &YaccGrammar<StorageT>,
+    cores: &[CoreItems<StorageT>],
+) -> Result<Vec<Item<StorageT>>, AllocError>
+    ensures { IfOk result (λ items. map (item_of StorageT.index) items.items
+        ≡ items_of_cores (tokens_len grm.now) (map (core_set StorageT.index) cores.now)) }
+{
+    let mut items = Vec::new(alloc);
+    for core in cores {
+        push_items(grm, core, &mut items)?;
+    }
+    Ok(items)
+}
+
+// Appends the items of the core.
+fn push_items<StorageT: StorageIndex>(
+    grm: &YaccGrammar<StorageT>,
+    core: &CoreItems<StorageT>,
+    items: &mut Vec<Item<StorageT>>,
+) -> Result<(), AllocError>
+    ensures { OnOk result (map (item_of StorageT.index) items.new.items ≡ map (item_of StorageT.index) items.old.items
+        ++ items_of_core (tokens_len grm.now) (core_set StorageT.index core.now)) }
+{
+    for token in 0..grm.tokens_len() {
+        if core.tokens.contains(token) {
+            let tidx = TIdx(StorageT::from_index(token).unwrap());
+            items.push((core.prod, core.dot, tidx))?;
+        }
+    }
+    Ok(())
+}
+
+// Whether the core's dot stands behind all symbols.
+fn ends<StorageT: StorageIndex>(grm: &YaccGrammar<StorageT>, core: &CoreItems<StorageT>) -> bool
+    requires { StorageT.index core.now.prod.0 < prods_len grm.now }
+    ensures { result ≡ (core.now.dot == prod_len grm.now (StorageT.index core.now.prod.0)) }
+{
+    core.dot == grm.prod(core.prod).len()
+}
+
+// The complete cores of those, by their productions.
+fn complete_cores<'a, StorageT: StorageIndex>(
+    alloc: Global,
+    grm: &YaccGrammar<StorageT>,
+    cores: &'a [CoreItems<StorageT>],
+) -> Result<Vec<&'a CoreItems<StorageT>>, AllocError>
+    requires { All (λ core. core.prod < prods_len grm.now) (map (core_set StorageT.index) cores.now) }
+    ensures all { IfOk result (λ complete. IsPermutation
+        (filter (λ core. core.dot == prod_len grm.now core.prod) (map (core_set StorageT.index) cores.now))
+        (map (λ core. core_set StorageT.index core.now) complete.items)) }
+    ensures sorted { IfOk result (λ complete. IsNonDecreasingBy (λ core. StorageT.index core.now.prod.0) complete.items) }
+{
+    let mut complete = Vec::new(alloc);
+    for core in cores {
+        if ends(grm, core) {
+            complete.push(core)?;
+        }
+    }
+    complete.sort_unstable_by_key(|core| usize::from(core.prod));
+    Ok(complete)
+}
+
+// The productions other than the start production, of complete cores that have the token.
+fn reductions_at<StorageT: StorageIndex>(
+    alloc: Global,
+    start: usize,
+    complete: &[&CoreItems<StorageT>],
+    token: usize,
+) -> Result<Vec<PIdx<StorageT>>, AllocError>
+    ensures { IfOk result (λ prods. prod_numbers StorageT.index prods.items
+        ≡ prods_at start (map (λ core. core_set StorageT.index core.now) complete.now) token) }
+{
+    let mut prods = Vec::new(alloc);
+    for core in complete {
+        if reduces(core, start, token) {
+            prods.push(core.prod)?;
+        }
+    }
+    Ok(prods)
+}
+
+// Whether the core is of another production than the start production, and has the token.
+fn reduces<StorageT: StorageIndex>(core: &CoreItems<StorageT>, start: usize, token: usize) -> bool
+    ensures { result ≡ (not (StorageT.index core.now.prod.0 == start) && has core.now.tokens.bits.items token) }
+{
+    usize::from(core.prod) != start && core.tokens.contains(token)
+}
+
+// Appends a conflict with the first of the productions for each later one.
+fn push_conflicts<StorageT: StorageIndex>(
+    prods: &[PIdx<StorageT>],
+    tidx: &TIdx<StorageT>,
+    state: &StIdx<StorageT>,
+    rr: &mut Vec<ReduceReduce<StorageT>>,
+) -> Result<(), AllocError>
+    ensures { OnOk result (map (reduce_reduce_of StorageT.index) rr.new.items ≡ map (reduce_reduce_of StorageT.index) rr.old.items
+        ++ reduce_conflicts_at (StorageT.index state.now.0) (StorageT.index tidx.now.0) (prod_numbers StorageT.index prods.now)) }
+{
+    match prods.split_first() {
+        Some((least, later)) => push_later(least, later, tidx, state, rr),
+        None => Ok(()),
+    }
+}
+
+// Appends a conflict with the least production for each later one.
+fn push_later<StorageT: StorageIndex>(
+    least: &PIdx<StorageT>,
+    later: &[PIdx<StorageT>],
+    tidx: &TIdx<StorageT>,
+    state: &StIdx<StorageT>,
+    rr: &mut Vec<ReduceReduce<StorageT>>,
+) -> Result<(), AllocError>
+    ensures { OnOk result (map (reduce_reduce_of StorageT.index) rr.new.items ≡ map (reduce_reduce_of StorageT.index) rr.old.items
+        ++ reduce_conflicts_at (StorageT.index state.now.0) (StorageT.index tidx.now.0) (StorageT.index least.now.0 ∷ prod_numbers StorageT.index later.now)) }
+{
+    for prod in later {
+        rr.push((*tidx, *least, *prod, *state))?;
+    }
+    Ok(())
+}
+
+// Whether the start production is one of those of complete cores that have the token.
+fn accepts<StorageT: StorageIndex>(
+    start: usize,
+    complete: &[&CoreItems<StorageT>],
+    token: usize,
+) -> bool
+    ensures { result ≡ accepts_at start (map (λ core. core_set StorageT.index core.now) complete.now) token }
+{
+    for core in complete {
+        if accepts_by(core, start, token) {
+            return true;
+        }
+    }
+    false
+}
+
+// Whether the core is of the start production, and has the token.
+fn accepts_by<StorageT: StorageIndex>(
+    core: &CoreItems<StorageT>,
+    start: usize,
+    token: usize,
+) -> bool
+    ensures { result ≡ ((StorageT.index core.now.prod.0 == start) && has core.now.tokens.bits.items token) }
+{
+    usize::from(core.prod) == start && core.tokens.contains(token)
+}
+
+// The state of the first shift, if that is by the token, and the shifts that are left then.
+fn split_shift<StorageT: StorageIndex>(
+    shifts: &[(TIdx<StorageT>, StIdx<StorageT>)],
+    token: usize,
+) -> (
+    Option<StIdx<StorageT>>,
+    &[(TIdx<StorageT>, StIdx<StorageT>)],
+)
+    requires { AscendFrom token (keys_of (map (shift_entry StorageT.index) shifts.now)) }
+    ensures shift { plain_goto StorageT.index result.0 ≡ lookup (nat_eq token) (map (shift_entry StorageT.index) shifts.now) }
+    ensures rest { AscendFrom (token + 1) (keys_of (map (shift_entry StorageT.index) result.1.now)) }
+    ensures later { (t : ℕ) → token < t → lookup (nat_eq t) (map (shift_entry StorageT.index) result.1.now)
+        ≡ lookup (nat_eq t) (map (shift_entry StorageT.index) shifts.now) }
+{
+    match shifts.split_first() {
+        Some((shift, rest)) => {
+            if usize::from(shift.0) == token {
+                (Some(shift.1), rest)
+            } else {
+                (None, shifts)
+            }
+        }
+        None => (None, shifts),
+    }
+}
+
+/// What the state does at each token where it does something, ascending. Its conflicts are appended to `rr` and `sr`.
+///
+/// `AcceptReduceConflict` comes where the start production is complete beside another one, at the same token, and there is no
+/// shift; and `Memory` where it doesn't suffice. After an Err the lists hold some of the conflicts. It takes time near the number
+/// of tokens times the complete cores.
+pub(crate) fn state_row<StorageT: StorageIndex>(
+    alloc: Global,
+    grm: &YaccGrammar<StorageT>,
+    state: &StIdx<StorageT>,
+    cores: &[CoreItems<StorageT>],
+    shifts: &[(TIdx<StorageT>, StIdx<StorageT>)],
+    rr: &mut Vec<ReduceReduce<StorageT>>,
+    sr: &mut Vec<ShiftReduce<StorageT>>,
+) -> Result<Vec<(TIdx<StorageT>, Action<StorageT>)>, BuildFault>
+    requires prods { All (λ core. core.prod < prods_len grm.now) (map (core_set StorageT.index) cores.now) }
+    requires once { AreOnce (map (core_set StorageT.index) cores.now) }
+    requires shifts { AscendFrom 0 (keys_of (map (shift_entry StorageT.index) shifts.now)) }
+    ensures row { IfOk result (λ row. map (action_entry StorageT.index) row.items
+        ≡ wanted_row grm.now (map (core_set StorageT.index) cores.now) (map (shift_entry StorageT.index) shifts.now)) }
+    ensures rr { OnOk result (map (reduce_reduce_of StorageT.index) rr.new.items ≡ map (reduce_reduce_of StorageT.index) rr.old.items
+        ++ reduce_conflicts grm.now (map (core_set StorageT.index) cores.now) (StorageT.index state.now.0)) }
+    ensures sr { OnOk result (map (shift_reduce_of StorageT.index) sr.new.items ≡ map (shift_reduce_of StorageT.index) sr.old.items
+        ++ shift_conflicts grm.now (map (core_set StorageT.index) cores.now) (map (shift_entry StorageT.index) shifts.now) (StorageT.index state.now.0)) }
+    ensures none { IfOk result (λ _. (t : ℕ) → t < tokens_len grm.now
+        → ¬ (IsAcceptReduce grm.now (map (core_set StorageT.index) cores.now) (map (shift_entry StorageT.index) shifts.now) t)) }
+    ensures refused { IfErr result (IsRefusal (StorageT.index state.now.0)
+        (HasAcceptReduce grm.now (map (core_set StorageT.index) cores.now) (map (shift_entry StorageT.index) shifts.now))) }
+{
+    let start = usize::from(grm.start_prod());
+    let complete = complete_cores(alloc, grm, cores)?;
+    let mut row = Vec::new(alloc);
+    let mut rest = shifts;
+    for token in 0..grm.tokens_len() {
+        let (shift, left) = split_shift(rest, token);
+        rest = left;
+        let prods = reductions_at(alloc, start, &complete, token)?;
+        let accepting = accepts(start, &complete, token);
+        let tidx = TIdx(StorageT::from_index(token).unwrap());
+        push_conflicts(&prods, &tidx, state, rr)?;
+        push_token(&prods, shift, accepting, &tidx, state, &mut row, sr)?;
+    }
+    Ok(row)
+}
+
+// Appends what is done at the token, and the conflict of its shift.
+fn push_token<StorageT: StorageIndex>(
+    prods: &[PIdx<StorageT>],
+    shift: Option<StIdx<StorageT>>,
+    accepting: bool,
+    tidx: &TIdx<StorageT>,
+    state: &StIdx<StorageT>,
+    row: &mut Vec<(TIdx<StorageT>, Action<StorageT>)>,
+    sr: &mut Vec<ShiftReduce<StorageT>>,
+) -> Result<(), BuildFault>
+    ensures row { OnOk result (map (action_entry StorageT.index) row.new.items ≡ map (action_entry StorageT.index) row.old.items
+        ++ entry_at (StorageT.index tidx.now.0) (wanted (plain_goto StorageT.index shift) (prod_numbers StorageT.index prods.now) accepting)) }
+    ensures sr { OnOk result (map (shift_reduce_of StorageT.index) sr.new.items ≡ map (shift_reduce_of StorageT.index) sr.old.items
+        ++ shift_conflicts_at (StorageT.index state.now.0) (StorageT.index tidx.now.0) (plain_goto StorageT.index shift) (prod_numbers StorageT.index prods.now)) }
+    ensures none { IfOk result (λ _. ¬ (AcceptsBeside (plain_goto StorageT.index shift) (prod_numbers StorageT.index prods.now) accepting)) }
+    ensures refused { IfErr result (IsRefusal (StorageT.index state.now.0)
+        (AcceptsBeside (plain_goto StorageT.index shift) (prod_numbers StorageT.index prods.now) accepting)) }
+{
+    match shift {
+        Some(next) => {
+            row.push((*tidx, Action::Shift(next)))?;
+            push_shift_conflict(prods, tidx, state, sr)?;
+            Ok(())
+        }
+        None => push_unshifted(prods, accepting, tidx, state, row),
+    }
+}
+
+// Appends the conflict of a shift by the token with the first production, if there is one.
+fn push_shift_conflict<StorageT: StorageIndex>(
+    prods: &[PIdx<StorageT>],
+    tidx: &TIdx<StorageT>,
+    state: &StIdx<StorageT>,
+    sr: &mut Vec<ShiftReduce<StorageT>>,
+) -> Result<(), AllocError>
+    ensures { OnOk result ((next : ℕ) → map (shift_reduce_of StorageT.index) sr.new.items ≡ map (shift_reduce_of StorageT.index) sr.old.items
+        ++ shift_conflicts_at (StorageT.index state.now.0) (StorageT.index tidx.now.0) (Some next) (prod_numbers StorageT.index prods.now)) }
+{
+    match prods.split_first() {
+        Some((prod, _)) => {
+            sr.push((*tidx, *prod, *state))?;
+            Ok(())
+        }
+        None => Ok(()),
+    }
+}
+
+// Appends what is done at the token where there is no shift.
+fn push_unshifted<StorageT: StorageIndex>(
+    prods: &[PIdx<StorageT>],
+    accepting: bool,
+    tidx: &TIdx<StorageT>,
+    state: &StIdx<StorageT>,
+    row: &mut Vec<(TIdx<StorageT>, Action<StorageT>)>,
+) -> Result<(), BuildFault>
+    ensures row { OnOk result (map (action_entry StorageT.index) row.new.items ≡ map (action_entry StorageT.index) row.old.items
+        ++ entry_at (StorageT.index tidx.now.0) (wanted None (prod_numbers StorageT.index prods.now) accepting)) }
+    ensures none { IfOk result (λ _. ¬ (AcceptsBeside None (prod_numbers StorageT.index prods.now) accepting)) }
+    ensures refused { IfErr result (IsRefusal (StorageT.index state.now.0) (AcceptsBeside None (prod_numbers StorageT.index prods.now) accepting)) }
+{
+    match prods.split_first() {
+        Some((prod, _)) => {
+            if accepting {
+                return Err(BuildFault::AcceptReduceConflict(usize::from(*state)));
+            }
+            row.push((*tidx, Action::Reduce(*prod)))?;
+        }
+        None => {
+            if accepting {
+                row.push((*tidx, Action::Accept))?;
+            }
+        }
+    }
+    Ok(())
+}

@@ -1,0 +1,20 @@
+use Rattle.std.proofs.Common.{◌<◌, ℕ, arith, subst}
+use Rattle.lrpar_states.specs.Table.{states_len}
+use Rattle.lrpar_check.specs.Complete.{IsCompleteAt}
+use Rattle.lrpar_check.specs.Completeness.{is_listed}
+use Rattle.lrpar_check.specs.declared.completeness.CompletenessCondition.{CompletenessCondition}
+use Rattle.lrpar_check.proofs.complete.Completeness.first_fault.Goals as goal
+
+pub returns : goal.returns
+returns g c =
+    let grm = c.args.self.now.grm.now in
+    let graph = c.args.self.now.sgraph.now in
+    let table = c.args.self.now.stable.now in
+    record {
+      each = λ condition.
+          let listed = is_listed condition in
+          let place = listed.0 in
+          let below : place < c.loop-condition.condition-index = omega (arith, listed.1) in
+          let Holds : CompletenessCondition → Type 0 = λ v. (s : ℕ) → s < states_len table → IsCompleteAt grm graph table v s in
+          subst Holds listed.2 (c.loop-condition.invariant.1 place condition below);
+    }

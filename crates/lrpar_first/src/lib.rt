@@ -1,0 +1,5 @@
+//! Sets of tokens, and what symbols begin with.
+#![tactic(auto)]
+
+pub mod first;
+pub mod tokens;
