@@ -1,1 +1,2 @@
 pub mod ParserData
+pub mod TableLaws

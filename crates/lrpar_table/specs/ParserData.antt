@@ -4,16 +4,19 @@ use Rattle.lrpar_grammar.specs.Grammar.{Grammar}
 use Rattle.lrpar_states.specs.Graph.{graph_len}
 use Rattle.lrpar_build.specs.Built.{IsBuildRefusal, IsBuilt}
 use Rattle.lrpar_check.specs.Checked.{Checked, IsChainFault, IsChecked, Unchecked}
+use Rattle.lrpar_table.specs.TableLaws.{IsCompleteWithoutConflicts}
 use Rattle.lrpar_table.specs.declared.build.Unbuilt.{Unbuilt}
 use Rattle.lrpar_table.specs.declared.build.Unbuilt.TheVariants.{Chains, Table}
 
--- the checked table is that which is built of the grammar, with at most so many states, and has this cap
+-- the checked table is that which is built of the grammar, with at most so many states, and has this cap; it is complete exactly
+-- where it has no conflicts
 pub record IsParserDataOf (g : Grammar) (most cap : ℕ) (d : Checked) : Type 0 where
   pub grammar : d.grammar ≡ g
   pub cap_is : d.cap ≡ cap
   pub built : IsBuilt g d.graph d.table
   pub room : graph_len d.graph ≤ most
   pub checked : IsChecked d
+  pub complete : IsCompleteWithoutConflicts d.grammar d.graph d.table
 
 -- what is refused for its chains is what was built of the grammar
 pub record IsRefusedBuilt (g : Grammar) (most cap : ℕ) (refused : Unchecked) : Type 0 where

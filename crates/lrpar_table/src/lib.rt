@@ -2,6 +2,7 @@
 #![tactic(auto)]
 
 pub mod build;
+pub mod laws;
 
 pub use lrpar_check::check;
 pub use lrpar_states::table;

@@ -1,18 +1,9 @@
-use Rattle.std.proofs.Common.{ap, subst, sym}
-use Rattle.lrpar_build.specs.Built.{IsBuilt}
-use Rattle.lrpar_check.specs.Checked.{Checked}
+use Rattle.lrpar_table.proofs.CompleteLemmas.{parser_data_of}
 use Rattle.lrpar_table.proofs.build.parser_data.Goals as goal
 
 pub returns-in-Ok-of_safe-clause-built : goal.returns-in-Ok-of_safe-clause-built
 returns-in-Ok-of_safe-clause-built g c =
-    let made = c.in-Ok-of_safe.ensures.made in
-    record {
-      grammar = ap (λ (d : Checked). d.grammar) made;
-      cap_is = ap (λ (d : Checked). d.cap) made;
-      built = subst (λ (d : Checked). IsBuilt c.args.grm d.graph d.table) (sym made) c.in-Ok.ensures.built;
-      room = rw made c.in-Ok.ensures.room;
-      checked = c.in-Ok-of_safe.ensures.checked;
-    }
+    parser_data_of _ _ _ _ _ _ c.in-Ok.ensures.built c.in-Ok.ensures.room c.in-Ok-of_safe.ensures.made c.in-Ok-of_safe.ensures.checked
 
 pub returns-in-Err-of_safe-clause-refused : goal.returns-in-Err-of_safe-clause-refused
 returns-in-Err-of_safe-clause-refused g c =

@@ -1,0 +1,174 @@
+-- A table that does what the canonical sets want is complete exactly where no set wants two different actions at one token. What
+-- the sets of items are gives C1 to C4 whatever is wanted; and C5 says that of a complete item that which is wanted is done. So
+-- where each set wants one action C5 holds; and where C5 holds, each action that is wanted is that of the table.
+use Rattle.std.proofs.Common.{◌≡◌, ◌≢◌, ◌<◌, ◌≤◌, ◌+◌, ◌∙◌, refl, sym, ap, subst, arith, ℕ, List, [], ◌∷◌, Some, length, slice_get}
+use Rattle.lrpar_grammar.specs.Grammar.{Grammar, GrammarSymbol, IsWellFormed, Nonterminal, Terminal, end_token, prod_len, start_prod, symbols_of, tokens_len}
+use Rattle.lrpar_states.proofs.GraphLemmas.{state_in_range}
+use Rattle.lrpar_states.specs.Graph.{Graph, HasItem, ItemOf, graph_len, item_at}
+use Rattle.lrpar_states.specs.Safe.{IsItem}
+use Rattle.lrpar_states.specs.Table.{Accepts, Fails, ReduceBy, ShiftTo, Table, TableAction, action_of, states_len}
+use Rattle.lrpar_build.specs.Built.{IsBuilt}
+use Rattle.lrpar_build.specs.BuilderLaws.{IsWantedTable, WantOneAction, Wants}
+use Rattle.lrpar_build.specs.Canonical.{AreSame, IsCanonical, LeadsTo, StandsBefore, WantsReduce, sets_of}
+use Rattle.lrpar_build.specs.ItemSets.{Added, Adds, IsReachedBy, Own}
+use Rattle.lrpar_build.proofs.ReachedLemmas.{reached_items, symbol_listed}
+use Rattle.lrpar_check.specs.Checked.{Checked, IsChecked}
+use Rattle.lrpar_check.specs.Complete.{IsComplete, IsCompleteAt, StepsOn}
+use Rattle.lrpar_check.specs.declared.completeness.CompletenessCondition.{CompletenessCondition}
+use Rattle.lrpar_check.specs.declared.completeness.CompletenessCondition.TheVariants.{C1, C2, C3, C4, C5}
+use Rattle.lrpar_check.proofs.SentenceLemmas.{complete_tables_take_sentences}
+use Rattle.lrpar_table.specs.ParserData.{IsParserDataOf}
+use Rattle.lrpar_table.specs.TableLaws.{AmbiguousGrammarsHaveConflicts, BuiltTablesAreCompleteWithoutConflicts, GrammarsWithoutConflictsHaveOneTree}
+
+-- a set that is reached has what its items add
+added_to : (g : Grammar) (path : List GrammarSymbol) (x y : ItemOf) → IsReachedBy g path x → Adds g x y → IsReachedBy g path y
+added_to g [] x y has adds = Added x y has adds
+added_to g (s ∷ path) x y has adds = Added x y has adds
+
+module _ (g : Grammar) (graph : Graph) (table : Table) (well : IsWellFormed g) (canonical : IsCanonical g graph)
+    (wanted : IsWantedTable g graph table) where
+  -- an item of a state is one of the grammar
+  item_known : (s p k t : ℕ) → HasItem graph s p k t → IsItem g p k t
+  item_known s p k t has =
+      let item = item_at p k t in
+      let reached = canonical.reached s (state_in_range graph s p k t has) in reached_items g well reached.0 item ((reached.1 item).0 has)
+
+  -- the set to which a state goes by the symbol behind an item's dot has the item with the dot one further
+  moved_on : (s next p k t : ℕ) (x : GrammarSymbol) → HasItem graph s p k t → slice_get (symbols_of g p) k ≡ Some x
+      → LeadsTo g (sets_of graph) s x next → HasItem graph next p (k + 1) t
+  moved_on s next p k t x has at leads =
+      let item = item_at p (k + 1) t in (leads item).1 (Own item (item_at p k t, has, at, refl))
+
+  -- so that set is one of the graph
+  next_within : (s next : ℕ) (x : GrammarSymbol) → StandsBefore g (sets_of graph) s x → LeadsTo g (sets_of graph) s x next
+      → next < graph_len graph
+  next_within s next x before leads =
+      let item = before.0 in
+      state_in_range graph next item.prod (item.dot + 1) item.token
+      (moved_on s next item.prod item.dot item.token x before.1 before.2 leads)
+
+  -- the state shifts each token behind an item's dot
+  shifts_on : (s p k t a : ℕ) → s < states_len table → HasItem graph s p k t → slice_get (symbols_of g p) k ≡ Some (Terminal a)
+      → StepsOn graph table s (Terminal a) p k t
+  shifts_on s p k t a within has at =
+      let listed : a < end_token g = symbol_listed g well p k (Terminal a) at in
+      let to = (wanted.acts s a within (omega (arith, listed))).shifts (item_at p k t, has, at) in
+      (to.0, to.1, moved_on s to.0 p k t (Terminal a) has at to.2)
+
+  -- and goes by each rule behind it
+  carries_on : (s p k t r : ℕ) → s < states_len table → HasItem graph s p k t → slice_get (symbols_of g p) k ≡ Some (Nonterminal r)
+      → StepsOn graph table s (Nonterminal r) p k t
+  carries_on s p k t r within has at =
+      let listed = symbol_listed g well p k (Nonterminal r) at in
+      let to = (wanted.goes s r within listed.1).goes (item_at p k t, has, at) in
+      (to.0, to.1, moved_on s to.0 p k t (Nonterminal r) has at to.2)
+
+  module _ (one : WantOneAction g (graph_len graph) (sets_of graph)) where
+    -- a state that wants something but a shift has no item before the token
+    no_shift_beside : (s t : ℕ) (action : TableAction) → s < graph_len graph → t < tokens_len g → Wants g (graph_len graph) (sets_of graph) s t action
+        → ((next : ℕ) → action ≢ ShiftTo next) → ¬ (StandsBefore g (sets_of graph) s (Terminal t))
+    no_shift_beside s t action within known wants other before =
+        let here : s < states_len table = let is = wanted.states in omega (arith, within, is) in
+        let to = (wanted.acts s t here known).shifts before in
+        let shift : Wants g (graph_len graph) (sets_of graph) s t (ShiftTo to.0) =
+        (before, next_within s to.0 (Terminal t) before to.2, to.2) in
+        other to.0 (one s t action (ShiftTo to.0) within wants shift)
+
+    -- a reduction that is wanted is done
+    reduces : (s t p : ℕ) → s < states_len table → WantsReduce g (sets_of graph) s t p → action_of table s t ≡ ReduceBy p
+    reduces s t p here wants =
+        let within = state_in_range graph s p (prod_len g p) t wants.1 in
+        let known = (item_known s p (prod_len g p) t wants.1).token in
+        (wanted.acts s t here known).reduces (no_shift_beside s t (ReduceBy p) within known wants (λ next is. absurd (cc))) p (
+          wants,
+          λ q also.
+              let same : ReduceBy p ≡ ReduceBy q = one s t (ReduceBy p) (ReduceBy q) within wants also in
+              let equal : p ≡ q = cc in omega (arith, equal),
+        )
+
+    -- and so is to accept
+    accepts : (s t : ℕ) → s < states_len table → HasItem graph s (start_prod g) 1 t → action_of table s t ≡ Accepts
+    accepts s t here has =
+        let within = state_in_range graph s (start_prod g) 1 t has in
+        let known = (item_known s (start_prod g) 1 t has).token in
+        (wanted.acts s t here known).accepts (no_shift_beside s t Accepts within known has (λ next is. absurd (cc))) (λ p also.
+        let same : Accepts ≡ ReduceBy p = one s t Accepts (ReduceBy p) within has also in absurd (cc)) has
+
+    complete_at : (condition : CompletenessCondition) (s : ℕ) → s < states_len table → IsCompleteAt g graph table condition s
+    complete_at C1 s here = λ first.
+        let item = item_at (start_prod g) 0 (end_token g) in
+        subst (λ (n : ℕ). HasItem graph n (start_prod g) 0 (end_token g)) (sym (first ∙ wanted.start)) ((canonical.start item).1 (Own item refl))
+    complete_at C2 s here = λ p k t has r w behind q b known by begins.
+        let x = item_at p k t in
+        let y = item_at q 0 b in
+        let reached = canonical.reached s (state_in_range graph s p k t has) in
+        (reached.1 y).1 (added_to g reached.0 x y ((reached.1 x).0 has)
+        (record { rule = r; rest = w; before = behind; known = known; of_rule = by; fresh = refl; first = begins }))
+    complete_at C3 s here = λ p k t has a at. shifts_on s p k t a here has at
+    complete_at C4 s here = λ p k t has r at. carries_on s p k t r here has at
+    complete_at C5 s here = λ p k t has. record {
+      reduces = λ behind listed. reduces s t p here (listed, subst (λ (n : ℕ). HasItem graph s p n t) behind has);
+      accepts = λ behind last.
+          let one_symbol : prod_len g (start_prod g) ≡ 1 = ap (λ (w : List GrammarSymbol). length w) well.last_symbols in
+          let dot : k ≡ 1 = behind ∙ ap (prod_len g) last ∙ one_symbol in
+          accepts s t here (subst (λ (n : ℕ). HasItem graph s (start_prod g) n t) dot (subst (λ (n : ℕ). HasItem graph s n k t) last has));
+    }
+
+    is_complete : IsComplete g graph table
+    is_complete = record { each = complete_at }
+
+  module _ (complete : IsComplete g graph table) where
+    -- what a state wants is done
+    done : (s t : ℕ) (action : TableAction) → s < graph_len graph → Wants g (graph_len graph) (sets_of graph) s t action → action_of table s t ≡ action
+    done s t (ShiftTo next) within wants =
+        let here : s < states_len table = let is = wanted.states in omega (arith, within, is) in
+        let x = wants.0.0 in
+        let listed : t < end_token g = symbol_listed g well x.prod x.dot (Terminal t) wants.0.2 in
+        let to = (wanted.acts s t here (omega (arith, listed))).shifts wants.0 in
+        let same : AreSame (sets_of graph to.0) (sets_of graph next) = λ y. (
+          λ h. (wants.2 y).1 ((to.2 y).0 h),
+          λ h. (to.2 y).1 ((wants.2 y).0 h),
+        ) in
+        to.1 ∙ ap (λ (n : ℕ). ShiftTo n) (canonical.once to.0 next (next_within s to.0 (Terminal t) wants.0 to.2) wants.1 same)
+    done s t (ReduceBy p) within wants =
+        let here : s < states_len table = let is = wanted.states in omega (arith, within, is) in
+        (complete.each C5 s here p (prod_len g p) t wants.1).reduces refl wants.0
+    done s t Accepts within wants =
+        let here : s < states_len table = let is = wanted.states in omega (arith, within, is) in
+        let one_symbol : prod_len g (start_prod g) ≡ 1 = ap (λ (w : List GrammarSymbol). length w) well.last_symbols in
+        (complete.each C5 s here (start_prod g) 1 t wants).accepts (sym one_symbol) refl
+    done s t Fails within wants = absurd wants
+
+    one_action : WantOneAction g (graph_len graph) (sets_of graph)
+    one_action s t a b within wants also = sym (done s t a within wants) ∙ done s t b within also
+
+pub built_tables_are_complete_without_conflicts : BuiltTablesAreCompleteWithoutConflicts
+built_tables_are_complete_without_conflicts g graph table well built = (
+  λ complete. built.no_conflicts.1 (one_action g graph table well built.canonical built.wanted complete),
+  λ none. is_complete g graph table well built.canonical built.wanted (built.no_conflicts.0 none),
+)
+
+pub grammars_without_conflicts_have_one_tree : {X : Type 0} → GrammarsWithoutConflictsHaveOneTree X
+grammars_without_conflicts_have_one_tree token g graph table well closed built none tree other fits other_fits same =
+    let complete = (built_tables_are_complete_without_conflicts g graph table well built).1 none in
+    (complete_tables_take_sentences token g graph table well closed built.safe complete).one tree other fits other_fits same
+
+pub ambiguous_grammars_have_conflicts : {X : Type 0} → AmbiguousGrammarsHaveConflicts X
+ambiguous_grammars_have_conflicts token g graph table well closed built tree other have none =
+    have.different (grammars_without_conflicts_have_one_tree token g graph table well closed built none tree other have.fits have.other_fits have.leaves_same)
+
+-- what is checked of what was built
+pub parser_data_of : (g : Grammar) (most bound : ℕ) (graph : Graph) (table : Table) (d : Checked) → IsBuilt g graph table → graph_len graph ≤ most
+    → d ≡ record { grammar = g; graph = graph; table = table; cap = bound } → IsChecked d → IsParserDataOf g most bound d
+parser_data_of g most bound graph table d built room made checked =
+    let same_g : d.grammar ≡ g = ap (λ (x : Checked). x.grammar) made in
+    let same_graph : d.graph ≡ graph = ap (λ (x : Checked). x.graph) made in
+    let here : IsBuilt g d.graph d.table = subst (λ (x : Checked). IsBuilt g x.graph x.table) (sym made) built in
+    let there : IsBuilt d.grammar d.graph d.table = subst (λ (x : Grammar). IsBuilt x d.graph d.table) (sym same_g) here in record {
+      grammar = same_g;
+      cap_is = ap (λ (x : Checked). x.cap) made;
+      built = here;
+      room = subst (λ (x : Graph). graph_len x ≤ most) (sym same_graph) room;
+      checked = checked;
+      complete = built_tables_are_complete_without_conflicts d.grammar d.graph d.table checked.well_formed there;
+    }
