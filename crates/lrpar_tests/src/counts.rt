@@ -184,10 +184,9 @@ fn what_a_recoverer_is_handed(rt: HostRuntime) -> Result<(), Fail> {
     Ok(())
 }
 
-// What is printed for each token, which is counted.
-fn counted_name(asked: &Cell<usize>) -> Option<&'static str> {
+// Counts one more question.
+fn count(asked: &Cell<usize>) {
     asked.set(asked.get().saturating_add(1));
-    Some("x")
 }
 
 // How often the text of an error with these repairs asks what is printed for a token.
@@ -201,7 +200,10 @@ fn names_asked(
         return Err(Fail::new("an error outside of its text"));
     }
     let asked = Cell::new(0);
-    let _ = error.pp(alloc, &lexer_of(&[]), |_| counted_name(&asked))?;
+    let _ = error.pp(alloc, &lexer_of(&[]), |_| {
+        count(&asked);
+        Some("x")
+    })?;
     Ok(asked.get())
 }
 
