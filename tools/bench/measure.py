@@ -21,7 +21,7 @@ PARSES = {"noaction": "noaction", "map_unit": "noaction", "tree": "generictree",
 # For each number of lexemes, how often a process parses them. The first time is left out.
 REPETITIONS = {10_000: 30, 100_000: 10, 1_000_000: 3}
 FEWEST, MOST = min(REPETITIONS), max(REPETITIONS)
-TABLES = ("graph", "rows", "sparse", "check")
+TABLES = ("graph", "rows", "sparse", "check", "complete")
 LOOKS = ("actions", "gotos", "actions_apart", "gotos_apart")
 LOOKED_UP = 1_000_000
 # A deep tree has so many levels, and the process so much stack.
@@ -161,6 +161,8 @@ class Bench:
             for mode in TABLES:
                 ours, old = self.ours_and_before(mode, 5, self.file(f"{grammar}.lrb"))
                 row(grammar, mode, middle(ours, 1e3), ratio(ours, old))
+            calls = [lambda it=it: nanoseconds(self.words.program, it, 5, self.file(f"{grammar}.lrb")) for it in ("complete", "check")]
+            row(grammar, "complete/check", ratio(*by_turns(self.words.rounds, *calls)))
 
     def looks(self):
         print("\nLook-ups in rows of 64 entries: nanoseconds, those in dense rows, their ratio, and that to the program before")

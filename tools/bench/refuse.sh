@@ -1,9 +1,10 @@
 #!/usr/bin/env bash
-# Reads two small grammar texts, and builds and checks their tables, with each call for memory refused in turn.
+# Reads two small grammar texts, builds and checks their tables, and asks whether these are complete, with each call for memory
+# refused in turn.
 #
 #     refuse.sh PROGRAM
 #
-# PROGRAM is the built bench_program, which reads a text twice, or builds its table twice. Wants: where a call for memory
+# PROGRAM is the built bench_program, which reads a text twice, builds its table twice, or asks of it twice. Wants: where a call for memory
 # of the first time is refused, that this time answers a want of memory and the next one gives the answer, or that both
 # give it, since a list asks again for less; and the other way round.
 # Prints the cases that failed, and one closing line. It stands outside the gate. It needs cc and glibc.
@@ -51,6 +52,7 @@ refuse_each() {
             "0|$3/$3|") ;; # a list that may not grow by much asks again for less
             '2||bench_program: out of memory') ;; # before the first time: its arguments, and the file
             '2||bench_program: grammar: out of memory') ;; # before it is built: the grammar
+            '2||bench_program: no table is built') ;; # before it is asked of: the table
             *)
                 passed=$((passed - 1)) failed=$((failed + 1))
                 printf 'failed: %s of %s, call %s refused: %s\n' "$1" "$2" "$call" "$given"
@@ -71,5 +73,7 @@ refuse_each build_twice sum '6 states, 12 entries, no conflicts'
 refuse_each build_twice conflicts '7 states, 10 entries, 1 and 1 conflicts'
 refuse_each check_twice sum '6 states, 12 entries, no conflicts'
 refuse_each check_twice conflicts '7 states, 10 entries, 1 and 1 conflicts'
+refuse_each complete_twice sum 'complete'
+refuse_each complete_twice conflicts 'condition C5 at state 4'
 printf '%s passed, %s failed\n' "$passed" "$failed"
 [[ $failed -eq 0 ]]
