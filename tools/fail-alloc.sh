@@ -101,6 +101,7 @@ if ! cc -O1 -Wall -shared -fPIC -o "$work/fail_alloc.so" "$here/fail_alloc.c"; t
 fi
 
 printf '%s' "%% E: T '+' E | T; T: 'ID';" >"$work/sum.y"
+printf '%s' "%start A %% A: 'a' 'b' | B 'b'; B: 'a' | C; C: 'a';" >"$work/conflicts.y"
 printf '%s' "%% E : 'N' | E '+' 'N' | '(' E ')';" >"$work/brackets.y"
 printf '%s\n' "n 'N'" "\\+ '+'" "\\( '('" "\\) ')'" >"$work/brackets.lex"
 printf '%s\n' "insert ')'" "insert ')' delete" "insert '+' shift insert ')'" >"$work/brackets.repairs"
@@ -127,7 +128,12 @@ E
 ' tree "$work/brackets.y" "$work/brackets.lex" "$work/text" "$work/brackets.repairs"
 refuse_each_call 0 'rules 3, productions 4, tokens 3, states 6
 checked
+complete
 ' check "$work/sum.y" 2
+refuse_each_call 0 'rules 4, productions 6, tokens 3, states 7
+checked
+not complete: condition C5 at state 4
+' check "$work/conflicts.y" 2
 refuse_each_call 2 'rules 3, productions 4, tokens 3, states 6
 refused: chain too long at state 4, token $
 ' check "$work/sum.y" 1
