@@ -4,10 +4,12 @@ An edit is a file tools/planted/CRATE/EDIT.edit in the format of must-fail: a li
 and 'new: TEXT', each old TEXT standing once in that file. A line 'only: MODULE::FUNCTION', which must-fail passes over, names
 what to check; there may be several. Without one it is each function that the edit changes.
 
-An edit is tried by 'rt check --only' of that, over the kept proofs of the crate, which is checked unedited first. What passes is
-tried on the whole crate before it counts as not refused. At most N edits are tried side by side (four, if N isn't given), each in
-a copy of the repository of its own, whose made files are hard links: rattle never writes into a file that it made, but puts
-another one in its place.
+An edit is tried by 'rt check --only' of that, over the kept proofs of the crate, which is checked unedited first. Edits that change
+the inside of one function each, all of different functions, share a check: none of them changes a contract, so each function is
+refused for its own edit. Such an edit counts as refused where its function isn't proved by a reason that names the code; each other
+one of that check is tried again alone. What passes alone is tried on the whole crate before it counts as not refused. At most N
+checks go on side by side (four, if N isn't given), each in a copy of the repository of its own, whose made files are hard links:
+rattle never writes into a file that it made, but puts another one in its place.
 """
 import argparse
 import os
@@ -25,6 +27,8 @@ ROOT = os.path.dirname(os.path.dirname(os.path.realpath(__file__)))
 PLANTED = f"{ROOT}/tools/planted"
 # The seconds that the check of one edit may take.
 LIMIT = 1800
+# The most edits that share a check.
+SHARED = 8
 
 FUNCTION = re.compile(r"( *)(?:pub(?:\(\w+\))? )?(?:const )?(?:unsafe )?fn (\w+)")
 OWNER = re.compile(r"(?:unsafe )?impl\b|(?:pub(?:\(\w+\))? )?trait\b")
@@ -49,6 +53,10 @@ class Edit:
     texts: dict
     # Where it changes them: a path, the lines of that file and the line's number, a pair each.
     places: list
+    # What it puts where: a path, the old text and the new one, a pair each.
+    pairs: list
+    # What --only is to name.
+    names: list
 
 
 # ---- Reading edits
@@ -79,7 +87,7 @@ def edit_files(folder):
 
 def read_edit(file, crate):
     """Returns the edit of a file, as it applies to the crate."""
-    edit = Edit(crate, os.path.basename(file).removesuffix(".edit"), [], {}, [])
+    edit = Edit(crate, os.path.basename(file).removesuffix(".edit"), [], {}, [], [], [])
     path, old = "", None
     for line in text_of(file).split("\n"):
         word, _, rest = line.partition(":")
@@ -110,6 +118,7 @@ def apply(edit, path, old, new):
     if text.count(old) != 1:
         raise BadEdit(f"an 'old:' text is in {path} {text.count(old)} times, and not once")
     edit.places.append((path, text.split("\n"), text[: text.index(old)].count("\n")))
+    edit.pairs.append((path, old, new))
     edit.texts[path] = text.replace(old, new)
 
 
@@ -177,6 +186,59 @@ def owner_of(lines, at):
     return f"{kind}{trait}(?:{argument[1]})?::" if argument else f"{kind}{trait}\\w*::"
 
 
+# ---- Which edits share a check
+
+
+def stays_inside(edit):
+    """Returns whether the edit changes the inside of one function, and nothing of what others know of it."""
+    if edit.only or len(edit.names) != 1 or any(re.search(r"\bfn |/\*|\*/|\bghost\b", new) for _, _, new in edit.pairs):
+        return False
+    return all(path.startswith("src/") and is_inside(lines, at) for path, lines, at in edit.places)
+
+
+def is_inside(lines, at):
+    """Returns whether the line of this number is one of the body of a function."""
+    head = next((it for it in range(at, -1, -1) if is_within(lines, it, at)), None)
+    if head is None:
+        return False
+    opened = f"{FUNCTION.match(lines[head])[1]}{{"
+    start = next((it for it in range(head, at) if lines[it] == opened or (it == head and lines[it].endswith(" {"))), None)
+    return start is not None
+
+
+def grouped(edits):
+    """Returns the edits in groups, each for one check, in the order of their first ones."""
+    groups = []
+    for edit in edits:
+        group = next((it for it in groups if stays_inside(edit) and can_join(it, edit)), None)
+        if group is None:
+            groups.append([edit])
+        else:
+            group.append(edit)
+    return groups
+
+
+def can_join(group, edit):
+    """Returns whether the edit can be tried with those of a group."""
+    if len(group) >= SHARED or not all(stays_inside(it) for it in group):
+        return False
+    if any(it.names == edit.names for it in group):
+        return False
+    return joined_texts([*group, edit]) is not None
+
+
+def joined_texts(edits):
+    """Returns the texts of the files that the edits change, by their path, and none where an old text no longer stands there once."""
+    texts = {}
+    for edit in edits:
+        for path, old, new in edit.pairs:
+            text = texts.get(path) or text_of(f"{ROOT}/crates/{edit.crate}/{path}")
+            if text.count(old) != 1:
+                return None
+            texts[path] = text.replace(old, new)
+    return texts
+
+
 # ---- Copies
 
 
@@ -241,6 +303,35 @@ def try_edit(edit, copy, kept, only):
         link(kept, f"{folder}/out/incremental")
 
 
+def try_group(group, copy, kept):
+    """Returns by the edits' names what to say of those that the prover refuses by one check of them all."""
+    folder = f"{copy}/crates/{group[0].crate}"
+    texts = joined_texts(group)
+    were = {path: text_of(f"{folder}/{path}") for path in texts}
+    try:
+        write(folder, texts)
+        status, lines = check(folder, 1, [it.names[0] for it in group])
+    finally:
+        write(folder, were)
+        link(kept, f"{folder}/out/incremental")
+    if status != 1 or any(is_unread(it, texts) for it in lines):
+        return {}
+    return {edit.name: said for edit in group for said in [reason_of(edit.names[0], lines)] if said}
+
+
+def reason_of(name, lines):
+    """Returns by which reason the function of this name isn't proved, by a place in the code or in the function's own proof files. It is
+    nothing where there is none, or where only names are wanting there that the edit took away."""
+    end = next((at for at, it in enumerate(lines) if it.startswith(f"fn {name}: not proved") or it.startswith(f"fn {name}: no proof")), None)
+    if end is None:
+        return ""
+    start = next((at for at in range(end - 1, -1, -1) if re.match(r"fn \S+: ", lines[at])), -1)
+    own = f"proofs/{'/'.join(name.split('::')[1:])}/"
+    told = [it for it in lines[start + 1 : end] if re.match(r"(?:note: )?src/\S+:\d+:\d+:", it)]
+    told += [it for it in lines if it.removeprefix("./").startswith(own) and ": error" in it and not TAKEN_AWAY.match(it)]
+    return f"refused: {told[0][:160]}" if told else ""
+
+
 def judged(edit, status, lines):
     """Returns whether a check refused the edit, none where it passed, and what to say."""
     ends = [it for it in lines if re.match(r"only=|logic=|rattle: no verdict", it)]
@@ -291,11 +382,9 @@ def try_crate(crate, files, room, workers):
     refused = 0
     pool = ThreadPoolExecutor(workers)
     try:
-        tasks = [pool.submit(try_file, crate, it, copies, kept, known) for it in files]
+        tasks = [pool.submit(try_edits, it, copies, kept) for it in grouped(read_edits(crate, files, known))]
         for it in as_completed(tasks):
-            is_refused, text = it.result()
-            say(text)
-            refused += is_refused
+            refused += it.result()
     finally:
         # (after a signal those that are being tried still end)
         pool.shutdown(cancel_futures=True)
@@ -304,17 +393,32 @@ def try_crate(crate, files, room, workers):
     return refused
 
 
-def try_file(crate, file, copies, kept, known):
-    """Tries the edit of a file in a copy that is free, and returns whether it is refused, and its line."""
+def read_edits(crate, files, known):
+    """Returns the edits of the files, and says of each other one why it can't be tried."""
+    edits = []
+    for file in files:
+        try:
+            edit = read_edit(file, crate)
+            edit.names = names_to_check(edit, known)
+            edits.append(edit)
+        except BadEdit as why:
+            say(f"{crate}/{os.path.basename(file).removesuffix('.edit')}: BAD EDIT: {why}")
+    return edits
+
+
+def try_edits(group, copies, kept):
+    """Tries the edits of a group in a copy that is free, says of each what came of it, and returns how many are refused."""
     copy = copies.get()
+    refused = 0
     try:
-        edit = read_edit(file, crate)
-        refused, text = try_edit(edit, copy, kept, names_to_check(edit, known))
-    except BadEdit as why:
-        refused, text = False, f"BAD EDIT: {why}"
+        shared = try_group(group, copy, kept) if len(group) > 1 else {}
+        for edit in group:
+            is_refused, text = (True, shared[edit.name]) if edit.name in shared else try_edit(edit, copy, kept, edit.names)
+            say(f"{edit.crate}/{edit.name}: {text}")
+            refused += is_refused
     finally:
         copies.put(copy)
-    return refused, f"{crate}/{os.path.basename(file).removesuffix('.edit')}: {text}"
+    return refused
 
 
 def say(text):

@@ -1,32 +1,17 @@
-//! Parses over a grammar and its state table: lexers and lexemes in, values and errors out.
+//! Parses over a grammar and its state table: lexers and lexemes in, values and errors out. What a user names is here; its code stands in
+//! the crates below.
 #![tactic(auto)]
 
-mod actions;
-mod building;
-mod counter;
-mod course;
-mod far;
-mod fault;
-pub mod laws;
-mod lexed;
-mod nothing;
-pub mod parser;
-mod reducing;
-pub mod repair;
-mod replay;
-mod run;
-mod run_stack;
-mod shifts;
-mod top;
-mod trees;
-mod trial;
-mod values;
+pub use lrpar_parser::{
+    LexError, LexParseError, Lexeme, Lexer, LexerTypes, Node, NonStreamingLexer, ParseError,
+    ParseRepair, ParserData, RIdx, RTParserBuilder, action_generictree, build, check, errors,
+    grammar, laws, lex_api, lines, parser, repair, table,
+};
 
-pub use lrpar_answers::{LexParseError, Node, ParseError, ParseRepair, errors};
-pub use lrpar_grammar::{grammar, lines, span};
-pub use lrpar_lexemes::{LexError, Lexeme, Lexer, LexerTypes, NonStreamingLexer, lex_api};
-pub use lrpar_table::check::ParserData;
-pub use lrpar_table::{build, check, table};
-pub use parser::RTParserBuilder;
-pub use span::RIdx;
-pub use trees::action_generictree;
+/// The parts of a text, and the numbers of rules, productions, tokens and states.
+pub mod span {
+    pub use lrpar_numbers::StorageNum;
+    pub use lrpar_parser::span::{
+        Numbered, PIdx, RIdx, Span, Spanned, SpansKind, StIdx, StorageIndex, Symbol, TIdx,
+    };
+}

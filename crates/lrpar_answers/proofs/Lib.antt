@@ -1,9 +1,8 @@
-pub mod RepairLemmas
+pub mod FailureLemmas
 pub mod WeightLemmas
 pub mod WalkLemmas
 pub mod PairLemmas
 pub mod GrowingLemmas
-pub mod SequenceTextLemmas
 pub mod TreeTextLemmas
 pub mod FitsLemmas
 pub mod ErrorTextLemmas

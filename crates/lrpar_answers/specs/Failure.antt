@@ -1,28 +1,15 @@
 -- Parse errors as contracts see them, over lexemes of any kind.
-use Rattle.std.specs.Prelude.{ℕ, List, Bool, false, ◌==◌, ◌++◌, Option, codes}
+use Rattle.std.specs.Prelude.{ℕ, List, Bool, ◌==◌, ◌++◌, Option, codes}
 use Rattle.std.specs.Option.{option_map}
 use Rattle.std.specs.Ordering.{on, eq_of_both}
 use Rattle.std.specs.Cmp.Lexicographic.{pointwise}
-
--- one step of a repair: a lexeme of a token is put in front of the input that is left, the next lexeme of the input
--- is left out, or it is taken as it is
-pub data Repair (X : Type 0) : Type 0 where
-  Inserted : (token : ℕ) → Repair X
-  Deleted : (lexeme : X) → Repair X
-  Shifted : (lexeme : X) → Repair X
+use Rattle.lrpar_repairs.specs.Repair.{Repair, repair_eq}
 
 -- the state and the lexeme at which a parse found no action, and the sequences of repairs that it found
 pub record Failure (X : Type 0) : Type 0 where
   pub state : ℕ
   pub lexeme : X
   pub repairs : List (List (Repair X))
-
--- equality of repairs, by one of lexemes
-abbrev pub repair_eq : {X : Type 0} → (X → X → Bool) → Repair X → Repair X → Bool
-repair_eq eq (Inserted t) (Inserted u) = t == u
-repair_eq eq (Deleted x) (Deleted y) = eq x y
-repair_eq eq (Shifted x) (Shifted y) = eq x y
-repair_eq eq _ _ = false
 
 -- equality of parse errors, by one of lexemes
 abbrev pub failure_eq : {X : Type 0} → (X → X → Bool) → Failure X → Failure X → Bool

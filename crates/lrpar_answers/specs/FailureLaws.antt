@@ -1,37 +1,9 @@
 -- Equality of parse errors is symmetric and transitive where that of lexemes is.
-use Rattle.std.specs.Prelude.{◌≡◌, Bool, true, ◌==◌, refl}
-use Rattle.std.specs.Cmp.{IsPartialEquivalence, on_per, and_per, partial_equiv_from_equiv}
+use Rattle.std.specs.Prelude.{Bool}
+use Rattle.std.specs.Cmp.{IsPartialEquivalence, on_per, and_per}
 use Rattle.std.specs.Cmp.Lexicographic.{lists_per}
-use Rattle.std.proofs.lemmas.Cmp.{nat_eq_equiv}
-use Rattle.lrpar_answers.specs.Failure.{Repair, Inserted, Deleted, Shifted, repair_eq, failure_eq}
-
--- of numbers
-nat_per : IsPartialEquivalence ◌==◌
-nat_per = partial_equiv_from_equiv nat_eq_equiv
-
--- of repairs: symmetric
-repair_symm : {X : Type 0} (eq : X → X → Bool) → IsPartialEquivalence eq → (x y : Repair X) → repair_eq eq x y ≡ repair_eq eq y x
-repair_symm eq laws (Inserted t) (Inserted u) = nat_per.symm t u
-repair_symm eq laws (Inserted t) (Deleted y) = refl
-repair_symm eq laws (Inserted t) (Shifted y) = refl
-repair_symm eq laws (Deleted x) (Inserted u) = refl
-repair_symm eq laws (Deleted x) (Deleted y) = laws.symm x y
-repair_symm eq laws (Deleted x) (Shifted y) = refl
-repair_symm eq laws (Shifted x) (Inserted u) = refl
-repair_symm eq laws (Shifted x) (Deleted y) = refl
-repair_symm eq laws (Shifted x) (Shifted y) = laws.symm x y
-
--- of repairs: transitive
-repair_trans : {X : Type 0} (eq : X → X → Bool) → IsPartialEquivalence eq → (x y z : Repair X)
-    → repair_eq eq x y ≡ true → repair_eq eq y z ≡ true → repair_eq eq x z ≡ true
-repair_trans eq laws (Inserted t) (Inserted u) (Inserted v) h k = nat_per.trans t u v h k
-repair_trans eq laws (Deleted x) (Deleted y) (Deleted z) h k = laws.trans x y z h k
-repair_trans eq laws (Shifted x) (Shifted y) (Shifted z) h k = laws.trans x y z h k
-repair_trans eq laws _ _ _ h k = cc
-
--- the laws of `repair_eq`
-pub repair_per : {X : Type 0} {eq : X → X → Bool} → IsPartialEquivalence eq → IsPartialEquivalence (repair_eq eq)
-repair_per {eq = eq} laws = record { symm = repair_symm eq laws; trans = repair_trans eq laws }
+use Rattle.lrpar_repairs.specs.RepairLaws.{nat_per, repair_per}
+use Rattle.lrpar_answers.specs.Failure.{failure_eq}
 
 -- the laws of `failure_eq`
 pub failure_per : {X : Type 0} {eq : X → X → Bool} → IsPartialEquivalence eq → IsPartialEquivalence (failure_eq eq)

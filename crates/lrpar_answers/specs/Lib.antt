@@ -1,14 +1,9 @@
 pub mod Failure
 pub mod FailureLaws
-pub mod Repairs
 pub mod LexParse
 pub mod Visits
 pub mod Walks
 pub mod WalkLaws
-pub mod SequenceText
-pub mod Printed
-pub mod FaultText
-pub mod PrintedParts
 pub mod ErrorText
 pub mod LexParseText
 pub mod TreeText

@@ -1,40 +1,15 @@
 //! Parse errors, and the repairs that they offer.
 ghost use Rattle.std.specs.Prelude.{◌≡◌, ⊤};
 ghost use Rattle.lrpar_answers.specs.Failure.{failure_text};
-ghost use Rattle.lrpar_answers.specs.Repairs.{repairs_of};
+ghost use Rattle.lrpar_repairs.specs.Repairs.{repairs_of};
 
-pub use crate::pp_fault::PpFault;
-use lrpar_grammar::span::{StIdx, StorageIndex, TIdx};
+use lrpar_grammar::span::{StIdx, StorageIndex};
 use lrpar_lexemes::lex_api::{LexError, Lexeme, LexerTypes};
+pub use lrpar_repairs::{ParseRepair, PpFault};
 use std::alloc::AllocError;
 use std::error::Error;
 use std::fmt;
 use std::marker::Model;
-
-/// One step of a repair.
-#[derive(Debug, Drop, PartialEq, Eq, Hash)]
-pub enum ParseRepair<LexemeT, StorageT> {
-    /// A lexeme of the token is put in front of the input that is left.
-    Insert(TIdx<StorageT>),
-    /// The next lexeme of the input is left out.
-    Delete(LexemeT),
-    /// The next lexeme of the input is taken as it is.
-    Shift(LexemeT),
-}
-
-impl<LexemeT: Lexeme<StorageT>, StorageT: StorageIndex> Clone for ParseRepair<LexemeT, StorageT> {
-    ghost is_clone = { λ x y. y ≡ x };
-
-    ghost is_infallible = { λ _. ⊤ };
-
-    fn clone(&self) -> Result<Self, AllocError> {
-        Ok(match self {
-            ParseRepair::Insert(token) => ParseRepair::Insert(*token),
-            ParseRepair::Delete(lexeme) => ParseRepair::Delete(*lexeme),
-            ParseRepair::Shift(lexeme) => ParseRepair::Shift(*lexeme),
-        })
-    }
-}
 
 /// A place at which a parse found no action, and how the input could be repaired there.
 #[derive(Debug, Drop)]
@@ -46,7 +21,7 @@ pub struct ParseError<LexemeT: Lexeme<StorageT>, StorageT: StorageIndex> {
 
 impl<LexemeT: Lexeme<StorageT>, StorageT: StorageIndex> Model for ParseError<LexemeT, StorageT> {
     ghost use Rattle.lrpar_answers.specs.Failure.{Failure};
-    ghost use Rattle.lrpar_answers.specs.Repairs.{repairs_of};
+    ghost use Rattle.lrpar_repairs.specs.Repairs.{repairs_of};
 
     ghost Value = { Failure LexemeT };
 

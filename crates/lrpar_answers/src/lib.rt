@@ -3,13 +3,9 @@
 
 mod error_text;
 pub mod errors;
-pub mod laws;
 pub mod node;
-mod pp_fault;
-mod sequence_text;
 mod tree_text;
 mod tree_write;
 
-pub use errors::{LexParseError, ParseError, ParseRepair};
+pub use errors::{LexParseError, ParseError, ParseRepair, PpFault};
 pub use node::Node;
-pub use pp_fault::PpFault;

@@ -121,7 +121,7 @@ module _ (g : Grammar) (well : IsWellFormed g) where
   symbol_below f p k (Some x) is = stands_below p k (f x) (sym is)
 
   -- by no symbol past the grammar's do cores go anywhere
-  all_steps : (kernels : List (List CoreSet)) (cores : List CoreSet) (symbol : ℕ → GrammarSymbol) (rows : List (ℕ × ℕ)) (n : ℕ)
+  pub all_steps : (kernels : List (List CoreSet)) (cores : List CoreSet) (symbol : ℕ → GrammarSymbol) (rows : List (ℕ × ℕ)) (n : ℕ)
       → ((k : ℕ) → IsSymbolBelow (rules_len g) (tokens_len g) (symbol k) → k < n) → AreStepsBelow g kernels cores symbol rows n
       → AreSteps g kernels cores symbol rows
   all_steps kernels cores symbol rows n known steps = record {
@@ -135,14 +135,6 @@ module _ (g : Grammar) (well : IsWellFormed g) where
               subst (GoesTo g kernels cores (symbol k)) (sym (lookup_past rows n k steps.below past)) nowhere
         ];
   }
-
-  pub all_gotos : (kernels : List (List CoreSet)) (cores : List CoreSet) (rows : List (ℕ × ℕ)) (n : ℕ) → rules_len g ≤ n
-      → AreStepsBelow g kernels cores Nonterminal rows n → AreSteps g kernels cores Nonterminal rows
-  all_gotos kernels cores rows n full steps = all_steps kernels cores Nonterminal rows n (λ k low. omega (arith, low, full)) steps
-
-  pub all_shifts : (kernels : List (List CoreSet)) (cores : List CoreSet) (rows : List (ℕ × ℕ)) (n : ℕ) → tokens_len g ≤ n
-      → AreStepsBelow g kernels cores Terminal rows n → AreSteps g kernels cores Terminal rows
-  all_shifts kernels cores rows n full steps = all_steps kernels cores Terminal rows n (λ k low. omega (arith, low, full)) steps
 
 pub no_steps : (g : Grammar) (kernels : List (List CoreSet)) (cores : List CoreSet) (symbol : ℕ → GrammarSymbol) → AreStepsBelow g kernels cores symbol [] 0
 no_steps g kernels cores symbol = record { ascend = tt; below = All-nil (λ k. k < 0); goes = λ k low. absurd (omega (arith, low)) }

@@ -1,6 +1,8 @@
 -- The states that are built: each with its cores, and where it goes by the symbols that its items stand before.
 use Rattle.std.specs.Prelude.{◌≡◌, ◌<◌, ◌+◌, ℕ, List, [], All, length, map, nat_eq, slice_index_or}
 use Rattle.std.specs.Map.{keys_of, lookup}
+use Rattle.std.specs.declared.vec.Vec.{Vec}
+use Rattle.lrpar_text.specs.declared.span.StIdx.{StIdx}
 use Rattle.lrpar_grammar.specs.Grammar.{Grammar, GrammarSymbol, Nonterminal, Terminal, rules_len, tokens_len}
 use Rattle.lrpar_states.specs.Graph.{ItemOf}
 use Rattle.lrpar_states.specs.PlainRows.{goto_entry}
@@ -11,6 +13,7 @@ use Rattle.lrpar_build.specs.KernelMap.{kernel_rows}
 use Rattle.lrpar_build.specs.Kernels.{AreCores, AreNext, GoesTo, kernel_at}
 use Rattle.lrpar_build.specs.Wanted.{AreOnce, AscendFrom, shift_entry}
 use Rattle.lrpar_first.specs.FirstRows.{AreFirsts, HaveRoom, mark_of, rows_of}
+use Rattle.lrpar_build.specs.declared.cores.CoreItems.{CoreItems}
 use Rattle.lrpar_build.specs.declared.item_set.State.{State}
 use Rattle.lrpar_build.specs.declared.states.Sets.{Sets}
 use Rattle.lrpar_build.specs.declared.states.Successors.{Successors}
@@ -49,6 +52,10 @@ pub record AreStates (g : Grammar) (states : List StateOf) : Type 0 where
   pub shifts : (s t : ℕ) → s < length states
       → IsTransition g (length states) (sets_at states) s (Terminal t) (lookup (nat_eq t) (state_at states s).shifts)
 
+-- a symbol's number, and the state to which the step by it leads
+abbrev pub step_entry : {K S : Type 0} → (K → ℕ) → (S → ℕ) → K × StIdx S → ℕ × ℕ
+step_entry number index entry = (number entry.0, index entry.1.0)
+
 -- rows of the numbers of symbols, ascending, with where cores go by each: to one of the kernels, or nowhere
 pub record AreSteps (g : Grammar) (kernels : List (List CoreSet)) (cores : List CoreSet) (symbol : ℕ → GrammarSymbol) (rows : List (ℕ × ℕ)) : Type 0 where
   pub ascend : AscendFrom 0 (keys_of rows)
@@ -80,6 +87,12 @@ pub record AreSuccessors {S : Type 0} (index : S → ℕ) (g : Grammar) (success
   pub tokens_len : length successors.tokens.items ≡ tokens_len g
   pub rules : AreNext g (map (core_set index) successors.items.items) Nonterminal (kernel_rows index successors.rules.items)
   pub tokens : AreNext g (map (core_set index) successors.items.items) Terminal (kernel_rows index successors.tokens.items)
+
+-- these are the kernels to which the item set goes by the symbols of one kind, of which a grammar has so many
+abbrev pub AreKernelsBy : {S A : Type 0} → (S → ℕ) → (ℕ → GrammarSymbol) → (Grammar → ℕ) → Successors S → List (Vec (CoreItems S) A) → Type 0
+AreKernelsBy index symbol len_in successors kernels =
+    (g : Grammar) → AreSuccessors index g successors
+    → (length kernels ≡ len_in g) × AreNext g (map (core_set index) successors.items.items) symbol (kernel_rows index kernels)
 
 -- the first kernel is that of the start item
 pub record StartsRight (g : Grammar) (kernels : List (List CoreSet)) : Type 0 where

@@ -1,9 +1,8 @@
 //! The states: the item sets that are reached, each once.
 ghost use Rattle.std.specs.Prelude.{◌≡◌, ◌<◌, ◌≤◌, ◌+◌, ◌^◌, ◌∷◌, ◌++◌, ℕ, List, [], All, IfErr, IfOk, IfSome, OnOk, length, map};
 ghost use Rattle.std.specs.Option.{option_map};
-ghost use Rattle.lrpar_grammar.specs.Grammar.{GrammarSymbol, IsWellFormed, Nonterminal, Terminal, rules_len, tokens_len};
+ghost use Rattle.lrpar_grammar.specs.Grammar.{Grammar, GrammarSymbol, IsWellFormed, Nonterminal, Terminal, rules_len, tokens_len};
 ghost use Rattle.lrpar_grammar.specs.Symbols.{symbol_of};
-ghost use Rattle.lrpar_states.specs.PlainRows.{goto_entry};
 ghost use Rattle.lrpar_build.specs.Canonical.{AreSame};
 ghost use Rattle.lrpar_build.specs.Cores.{IsAmong, IsCoreOf, core_set};
 ghost use Rattle.lrpar_first.specs.FirstRows.{IsSymbolBelow};
@@ -11,8 +10,7 @@ ghost use Rattle.lrpar_build.specs.ItemSets.{IsInClosure, IsReachedBy, IsStartIt
 ghost use Rattle.lrpar_build.specs.KernelMap.{kernel_rows};
 ghost use Rattle.lrpar_build.specs.Kernels.{AreCores, AreKept, ArePutTo, IsKernel, IsReachedKernel, advanced, kernel_at, symbol_behind};
 ghost use Rattle.lrpar_build.specs.Numbers.{AreNumbered, IsFaultOfStates, IsStepFault, IsStepTo};
-ghost use Rattle.lrpar_build.specs.States.{AreSets, AreStates, AreSteps, AreSuccessors, IsExpanded, StartsRight, state_of};
-ghost use Rattle.lrpar_build.specs.Wanted.{shift_entry};
+ghost use Rattle.lrpar_build.specs.States.{AreKernelsBy, AreSets, AreStates, AreSteps, AreSuccessors, IsExpanded, StartsRight, state_of, step_entry};
 
 use crate::closure::closure;
 use crate::cores::CoreItems;
@@ -22,7 +20,7 @@ use crate::kernels::Kernels;
 use lrpar_first::first::{empty_sets, first_sets};
 use lrpar_first::tokens::TokenSet;
 use lrpar_grammar::grammar::YaccGrammar;
-use lrpar_grammar::span::{RIdx, StIdx, StorageIndex, Symbol, TIdx};
+use lrpar_grammar::span::{Numbered, RIdx, StIdx, StorageIndex, Symbol, TIdx};
 use std::alloc::{AllocError, Global};
 
 /// The states of the grammar, at most so many: each item set that is reached, once, and where it goes.
@@ -138,8 +136,8 @@ fn expanded<StorageT: StorageIndex>(
 {
     let items = closed(alloc, grm, sets, kernel)?;
     let successors = Successors::new(alloc, grm, items)?;
-    let gotos = gotos(alloc, grm, max_states, &successors, kernels)?;
-    let shifts = shifts(alloc, grm, max_states, &successors, kernels)?;
+    let gotos = steps::<StorageT, RIdx<StorageT>>(alloc, grm, max_states, &successors, kernels)?;
+    let shifts = steps::<StorageT, TIdx<StorageT>>(alloc, grm, max_states, &successors, kernels)?;
     Ok(State {
         items: successors.items,
         gotos,
@@ -303,45 +301,66 @@ fn step<StorageT: StorageIndex>(
     Ok(Some(state))
 }
 
-// Where the item set goes by rules, ascending.
-fn gotos<StorageT: StorageIndex>(
-    alloc: Global,
-    grm: &YaccGrammar<StorageT>,
-    max_states: usize,
-    successors: &Successors<StorageT>,
-    kernels: &mut Kernels<StorageT>,
-) -> Result<Vec<(RIdx<StorageT>, StIdx<StorageT>)>, BuildFault>
-    requires well_formed { IsWellFormed grm.now }
-    requires successors { AreSuccessors StorageT.index grm.now successors.now }
-    requires cores { AreCores grm.now (map (core_set StorageT.index) successors.now.items.items) }
-    requires reached { (path : List GrammarSymbol) × AreSame (IsAmong (map (core_set StorageT.index) successors.now.items.items)) (IsReachedBy grm.now path) }
-    requires kernels { AreNumbered grm.now max_states StorageT.limit kernels.old }
-    ensures kernels { OnOk result (AreNumbered grm.now max_states StorageT.limit kernels.new) }
-    ensures kept { OnOk result (AreKept kernels.old kernels.new) }
-    ensures steps { IfOk result (λ rows. AreSteps grm.now kernels.new (map (core_set StorageT.index) successors.now.items.items)
-        Nonterminal (map (goto_entry StorageT.index) rows.items)) }
-    ensures fault { IfErr result (IsFaultOfStates grm.now max_states StorageT.limit) }
-{
-    let mut rows = Vec::new(alloc);
-    for rule in 0..grm.rules_len() {
-        let ridx = RIdx(StorageT::from_index(rule).unwrap());
-        let next = step(alloc, max_states, &successors.rules[rule], kernels)?;
-        match next {
-            None => {}
-            Some(state) => rows.push((ridx, state))?,
-        }
-    }
-    Ok(rows)
+// A kind of symbols of a grammar: its rules, or its tokens.
+trait SymbolKind<StorageT: StorageIndex>: Numbered<StorageT> {
+    // The symbol of a number.
+    ghost symbol: { ℕ → GrammarSymbol };
+
+    // How many the grammar has.
+    ghost len_in: { Grammar → ℕ };
+
+    ghost known: { (g : Grammar) (n : ℕ) → IsSymbolBelow (rules_len g) (tokens_len g) (symbol n) → n < len_in g };
+
+    // How many the grammar has.
+    fn len(grm: &YaccGrammar<StorageT>) -> usize
+        ensures len { result ≡ len_in grm.now }
+        ensures within { result ≤ StorageT.limit };
+
+    // The kernels to which the item set goes by them.
+    fn kernels(successors: &Successors<StorageT>) -> &[Vec<CoreItems<StorageT>>]
+        ensures { AreKernelsBy StorageT.index symbol len_in successors.now result.now };
 }
 
-// Where the item set goes by tokens, ascending.
-fn shifts<StorageT: StorageIndex>(
+impl<StorageT: StorageIndex> SymbolKind<StorageT> for RIdx<StorageT> {
+    ghost symbol = { Nonterminal };
+
+    ghost len_in = { rules_len };
+
+    ghost known = { λ g n below. below };
+
+    fn len(grm: &YaccGrammar<StorageT>) -> usize {
+        grm.rules_len()
+    }
+
+    fn kernels(successors: &Successors<StorageT>) -> &[Vec<CoreItems<StorageT>>] {
+        &successors.rules
+    }
+}
+
+impl<StorageT: StorageIndex> SymbolKind<StorageT> for TIdx<StorageT> {
+    ghost symbol = { Terminal };
+
+    ghost len_in = { tokens_len };
+
+    ghost known = { λ g n below. below };
+
+    fn len(grm: &YaccGrammar<StorageT>) -> usize {
+        grm.tokens_len()
+    }
+
+    fn kernels(successors: &Successors<StorageT>) -> &[Vec<CoreItems<StorageT>>] {
+        &successors.tokens
+    }
+}
+
+// Where the item set goes by the symbols of one kind, ascending.
+fn steps<StorageT: StorageIndex, SymbolT: SymbolKind<StorageT>>(
     alloc: Global,
     grm: &YaccGrammar<StorageT>,
     max_states: usize,
     successors: &Successors<StorageT>,
     kernels: &mut Kernels<StorageT>,
-) -> Result<Vec<(TIdx<StorageT>, StIdx<StorageT>)>, BuildFault>
+) -> Result<Vec<(SymbolT, StIdx<StorageT>)>, BuildFault>
     requires well_formed { IsWellFormed grm.now }
     requires successors { AreSuccessors StorageT.index grm.now successors.now }
     requires cores { AreCores grm.now (map (core_set StorageT.index) successors.now.items.items) }
@@ -350,16 +369,17 @@ fn shifts<StorageT: StorageIndex>(
     ensures kernels { OnOk result (AreNumbered grm.now max_states StorageT.limit kernels.new) }
     ensures kept { OnOk result (AreKept kernels.old kernels.new) }
     ensures steps { IfOk result (λ rows. AreSteps grm.now kernels.new (map (core_set StorageT.index) successors.now.items.items)
-        Terminal (map (shift_entry StorageT.index) rows.items)) }
+        SymbolT.symbol (map (step_entry SymbolT.number StorageT.index) rows.items)) }
     ensures fault { IfErr result (IsFaultOfStates grm.now max_states StorageT.limit) }
 {
+    let reached = SymbolT::kernels(successors);
     let mut rows = Vec::new(alloc);
-    for token in 0..grm.tokens_len() {
-        let tidx = TIdx(StorageT::from_index(token).unwrap());
-        let next = step(alloc, max_states, &successors.tokens[token], kernels)?;
+    for number in 0..SymbolT::len(grm) {
+        let symbol = SymbolT::numbered(StorageT::from_index(number).unwrap());
+        let next = step(alloc, max_states, &reached[number], kernels)?;
         match next {
             None => {}
-            Some(state) => rows.push((tidx, state))?,
+            Some(state) => rows.push((symbol, state))?,
         }
     }
     Ok(rows)

@@ -4,12 +4,12 @@ use crate::checks::push_told;
 use crate::fault::Fault;
 use crate::read::{cap_of, number_at, number_of};
 use crate::rows::{push_conflicts, text_of_data};
-use lrpar::ParserData;
-use lrpar::build::{Unbuilt, from_yacc, parser_data};
-use lrpar::check::Refused;
-use lrpar::grammar::YaccGrammar;
-use lrpar::span::StorageIndex;
-use lrpar::table::{StateGraph, StateTable};
+use lrpar_parser::ParserData;
+use lrpar_parser::build::{Unbuilt, from_yacc, parser_data};
+use lrpar_parser::check::Refused;
+use lrpar_parser::grammar::YaccGrammar;
+use lrpar_parser::span::StorageIndex;
+use lrpar_parser::table::{StateGraph, StateTable};
 use std::alloc::{AllocError, Global};
 
 /// The keys that say what is done.

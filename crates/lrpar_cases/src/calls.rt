@@ -1,14 +1,14 @@
 //! The four parse calls, of which each that makes a value makes a tree.
 ghost use Rattle.std.specs.Prelude.{◌↔◌, IfOk, IsTrue, map};
-ghost use Rattle.lrpar.specs.Nodes.{IsNonterm, node_of};
+ghost use Rattle.lrpar_parser.specs.Nodes.{IsNonterm, node_of};
 
 use crate::lexemes::HandedLexer;
 use crate::shown::{CaseError, Tree};
-use lrpar::parser::{AStackType, Actions, ParseFault};
-use lrpar::repair::FixedRecoverer;
-use lrpar::span::{PIdx, RIdx, Span, Symbol};
-use lrpar::{Node, RTParserBuilder, action_generictree};
 use lrpar_lexer::{Token, TokenTypes};
+use lrpar_parser::parser::{AStackType, Actions, ParseFault};
+use lrpar_parser::repair::FixedRecoverer;
+use lrpar_parser::span::{PIdx, RIdx, Span, Symbol};
+use lrpar_parser::{Node, RTParserBuilder, action_generictree};
 use std::alloc::{AllocError, Global};
 use std::cell::RefCell;
 

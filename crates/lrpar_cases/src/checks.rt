@@ -5,10 +5,10 @@ use crate::hand::{By, Hand};
 use crate::read::CAP;
 use crate::rows::{agreed, text_of};
 use crate::subject::Subject;
-use lrpar::ParserData;
-use lrpar::check::{CheckFault, CompleteFault, Refused};
-use lrpar::grammar::YaccGrammar;
-use lrpar::table::{StateGraph, StateTable};
+use lrpar_parser::ParserData;
+use lrpar_parser::check::{CheckFault, CompleteFault, Refused};
+use lrpar_parser::grammar::YaccGrammar;
+use lrpar_parser::table::{StateGraph, StateTable};
 use std::alloc::Global;
 
 /// The keys that say what is done.

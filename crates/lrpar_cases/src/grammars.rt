@@ -2,8 +2,8 @@
 use crate::cases::Case;
 use crate::fault::Fault;
 use crate::rows::{rule_name, token_name};
-use lrpar::grammar::{GrammarFault, YaccGrammar};
-use lrpar::span::{PIdx, RIdx, Span, Symbol, TIdx};
+use lrpar_parser::grammar::{GrammarFault, YaccGrammar};
+use lrpar_parser::span::{PIdx, RIdx, Span, Symbol, TIdx};
 use std::alloc::Global;
 
 /// The keys that say what is done.

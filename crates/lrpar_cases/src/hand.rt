@@ -5,10 +5,10 @@ use crate::line::{Content, Line, in_two};
 use crate::read::{CAP, action_of, cap_of, index_of, number_at, number_of, token_of};
 use crate::rows::{rule_name, token_name};
 use crate::subject::{Tables, grammar_of, rows_of};
-use lrpar::ParserData;
-use lrpar::grammar::YaccGrammar;
-use lrpar::span::{PIdx, RIdx, StIdx, TIdx};
-use lrpar::table::{Action, Item, SparseRows, StateGraph, StateTable};
+use lrpar_parser::ParserData;
+use lrpar_parser::grammar::YaccGrammar;
+use lrpar_parser::span::{PIdx, RIdx, StIdx, TIdx};
+use lrpar_parser::table::{Action, Item, SparseRows, StateGraph, StateTable};
 use std::alloc::Global;
 
 /// By which call a table is made: of its full rows, or of its stored entries.

@@ -3,10 +3,10 @@ ghost use Rattle.std.specs.Prelude.{◌≡◌, IfOk};
 
 use crate::cases::Case;
 use crate::fault::Fault;
-use lrpar::grammar::YaccGrammar;
-use lrpar::span::Span;
-use lrpar::{Lexeme, Lexer, NonStreamingLexer};
 use lrpar_lexer::{NoToken, RuleLexer, Token, TokenTypes};
+use lrpar_parser::grammar::YaccGrammar;
+use lrpar_parser::span::Span;
+use lrpar_parser::{Lexeme, Lexer, NonStreamingLexer};
 use std::alloc::{AllocError, Global};
 
 /// What a lexer answers.

@@ -9,12 +9,12 @@ use crate::shown::{CaseError, Tree, push_errors, push_places, push_tree};
 use crate::steps::sequences_of;
 use crate::subject::{Subject, Tables};
 use crate::text::push_text;
-use lrpar::grammar::YaccGrammar;
-use lrpar::parser::PpFault;
-use lrpar::repair::FixedRecoverer;
-use lrpar::span::TIdx;
-use lrpar::{ParserData, RTParserBuilder};
 use lrpar_lexer::RuleLexer;
+use lrpar_parser::grammar::YaccGrammar;
+use lrpar_parser::parser::PpFault;
+use lrpar_parser::repair::FixedRecoverer;
+use lrpar_parser::span::TIdx;
+use lrpar_parser::{ParserData, RTParserBuilder};
 use std::alloc::Global;
 use std::cell::RefCell;
 

@@ -4,8 +4,8 @@ use crate::fault::Fault;
 use crate::grammars::shown;
 use crate::line::{Content, in_two};
 use crate::read::{index_of, number_of, span_of};
-use lrpar::grammar::{GrammarParts, ProdPart, RulePart, TokenPart, YaccGrammar};
-use lrpar::span::{RIdx, Span, Symbol, TIdx};
+use lrpar_parser::grammar::{GrammarParts, ProdPart, RulePart, TokenPart, YaccGrammar};
+use lrpar_parser::span::{RIdx, Span, Symbol, TIdx};
 use std::alloc::Global;
 
 /// The keys that say what is done.

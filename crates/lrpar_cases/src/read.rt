@@ -2,9 +2,9 @@
 use crate::cases::Case;
 use crate::fault::Fault;
 use crate::line::in_two;
-use lrpar::grammar::YaccGrammar;
-use lrpar::span::{PIdx, Span, StIdx, StorageIndex, TIdx};
-use lrpar::table::Action;
+use lrpar_parser::grammar::YaccGrammar;
+use lrpar_parser::span::{PIdx, Span, StIdx, StorageIndex, TIdx};
+use lrpar_parser::table::Action;
 
 /// The cap of a table whose case names none.
 pub(crate) const CAP: u16 = 10;

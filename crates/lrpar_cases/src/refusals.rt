@@ -3,8 +3,8 @@ use crate::cases::Case;
 use crate::fault::Fault;
 use crate::line::{Content, Line, in_two};
 use crate::read::{action_of, index_of, number_at};
-use lrpar::span::{RIdx, StIdx, TIdx};
-use lrpar::table::{Action, SparseRows, StateGraph, StateTable, TableFault, TableRows};
+use lrpar_parser::span::{RIdx, StIdx, TIdx};
+use lrpar_parser::table::{Action, SparseRows, StateGraph, StateTable, TableFault, TableRows};
 use std::alloc::Global;
 
 /// The keys that say what is done.

@@ -2,10 +2,10 @@
 use crate::cases::Case;
 use crate::fault::Fault;
 use crate::subject::Subject;
-use lrpar::ParserData;
-use lrpar::grammar::YaccGrammar;
-use lrpar::span::{RIdx, StIdx, StorageIndex, TIdx};
-use lrpar::table::{Action, Conflicts, StateGraph, StateTable};
+use lrpar_parser::ParserData;
+use lrpar_parser::grammar::YaccGrammar;
+use lrpar_parser::span::{RIdx, StIdx, StorageIndex, TIdx};
+use lrpar_parser::table::{Action, Conflicts, StateGraph, StateTable};
 use std::alloc::Global;
 
 /// The item sets and the rows of the tables that the case is about.

@@ -1,9 +1,9 @@
 //! Lexemes, errors and trees as cases write them.
 use crate::fault::Fault;
-use lrpar::grammar::YaccGrammar;
-use lrpar::span::{RIdx, Span, TIdx};
-use lrpar::{LexError, LexParseError, Lexeme, Node, ParseError, ParseRepair};
 use lrpar_lexer::{Token, TokenTypes};
+use lrpar_parser::grammar::YaccGrammar;
+use lrpar_parser::span::{RIdx, Span, TIdx};
+use lrpar_parser::{LexError, LexParseError, Lexeme, Node, ParseError, ParseRepair};
 
 /// A tree of a case.
 pub(crate) type Tree = Node<Token<u32>, u32>;

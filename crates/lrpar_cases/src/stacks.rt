@@ -4,9 +4,9 @@ use crate::fault::Fault;
 use crate::read::{index_of, token_of};
 use crate::rows::agreed;
 use crate::subject::Subject;
-use lrpar::ParserData;
-use lrpar::check::Overlay;
-use lrpar::span::{StIdx, TIdx};
+use lrpar_parser::ParserData;
+use lrpar_parser::check::Overlay;
+use lrpar_parser::span::{StIdx, TIdx};
 use std::alloc::{AllocError, Global};
 
 /// The keys that say what is done.

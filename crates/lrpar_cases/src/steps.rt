@@ -2,9 +2,9 @@
 use crate::cases::Case;
 use crate::fault::Fault;
 use crate::lexemes::token_number;
-use lrpar::grammar::YaccGrammar;
-use lrpar::repair::RepairStep;
-use lrpar::span::TIdx;
+use lrpar_parser::grammar::YaccGrammar;
+use lrpar_parser::repair::RepairStep;
+use lrpar_parser::span::TIdx;
 use std::alloc::Global;
 
 /// The sequences that the line `repairs` of a case says, parted by `|`; none where there is no such line.

@@ -3,11 +3,11 @@ use crate::cases::Case;
 use crate::fault::Fault;
 use crate::hand::tables_by_hand;
 use crate::read::cap_at;
-use lrpar::ParserData;
-use lrpar::build::parser_data;
-use lrpar::grammar::YaccGrammar;
-use lrpar::span::{RIdx, StIdx, TIdx};
-use lrpar::table::{Action, Item, StateGraph, StateTable, TableRows};
+use lrpar_parser::ParserData;
+use lrpar_parser::build::parser_data;
+use lrpar_parser::grammar::YaccGrammar;
+use lrpar_parser::span::{RIdx, StIdx, TIdx};
+use lrpar_parser::table::{Action, Item, StateGraph, StateTable, TableRows};
 use std::alloc::Global;
 
 /// How many states a table may have.

@@ -1,11 +1,11 @@
 -- What the tests of the conditions of completeness decide. Items of one core stand side by side in a state; they are tested by
 -- their lookaheads, which are taken together.
-use Rattle.std.proofs.Common.{◌≡◌, ◌≢◌, ◌<◌, ◌≤◌, ◌+◌, ◌-◌, ◌↔◌, ◌∙◌, ◌⊎◌, ◌||◌, ◌==◌, inl, inr, refl, sym, ap, subst, arith, ℕ, zero, suc, Bool, true, false, IsTrue, List, [], ◌∷◌, ◌++◌, All, length, map, drop, take, get_or, set, slice_get, Some, Option, cond, eqb}
+use Rattle.std.proofs.Common.{◌≡◌, ◌≢◌, ◌<◌, ◌≤◌, ◌+◌, ◌-◌, ◌↔◌, ◌∙◌, ◌⊎◌, ◌||◌, ◌==◌, inl, inr, refl, sym, ap, subst, arith, ℕ, zero, suc, Bool, true, false, IsTrue, List, [], ◌∷◌, ◌++◌, All, length, map, drop, take, get_or, set, slice_get, Some, Option, cond, eqb, Bor, IfSome, MatchOption, None}
 use Rattle.std.proofs.lemmas.Bool.{cases_eq, cases_lt, eq-eqb, eqb-true, false≢true, or_cases, or_left, or_right}
 use Rattle.std.proofs.lemmas.List.{drop_more, get_or-drop, get_or-map, get_or-set_other, get_or-set_same, get_or-take, get_or_default, length-drop, length-map, length-set, length-take-le, take_all}
 use Rattle.std.proofs.lemmas.List.Elements.{All-contains, All-contains_itself, All-drop, All-head, All-map, All-set, All-tail, All-weaker, Contains-append_left, Contains-push, Contains-push_cases}
 use Rattle.std.proofs.lemmas.Option.{get_or_from_slice_get, slice_get-map, slice_get_within}
-use Rattle.std.specs.List.{Contains}
+use Rattle.std.specs.List.{Contains, HoldsAt}
 use Rattle.std.specs.Option.{option_map, option_map_or}
 use Rattle.lrpar_text.specs.declared.span.PIdx.{PIdx}
 use Rattle.lrpar_text.specs.declared.span.StIdx.{StIdx}
@@ -33,6 +33,8 @@ use Rattle.lrpar_check.specs.declared.completeness.CompletenessCondition.{Comple
 use Rattle.lrpar_check.specs.declared.completeness.CompletenessCondition.TheVariants.{C1, C2, C3, C4, C5}
 use Rattle.lrpar_check.proofs.FirstTokenLemmas.{at_drop}
 use Rattle.lrpar_check.proofs.SafetyLemmas.{accepted, refused}
+use Rattle.lrpar_check.specs.Completeness.{condition_number}
+use Rattle.lrpar_check.specs.declared.completeness.TheConstants.CompletenessCondition.{ALL}
 
 -- what holds of each item's lookahead holds of all lookaheads
 pub each_lookahead : {S : Type 0} (index : S → ℕ) (P : ℕ → Type 0) (items : List (PIdx S × ℕ × TIdx S)) (i : ℕ) → length items ≤ i
@@ -45,6 +47,13 @@ pub lookahead_at : {S : Type 0} (index : S → ℕ) (P : ℕ → Type 0) (items 
     → i < length items → item ≡ get_or items i item → All P (lookaheads_of index items) → P (index item.2.0)
 lookahead_at {S} index P items i item within is all =
     subst (λ (x : PIdx S × ℕ × TIdx S). P (index x.2.0)) (sym is) (All-map-at P (λ (x : PIdx S × ℕ × TIdx S). index x.2.0) items all i item within)
+
+-- what holds of each element holds of the one that is found at a place
+pub found_holds : {X : Type 0} (P : X → Type 0) (xs : List X) (k : ℕ) (found : Option (Bor X)) → All P xs
+    → IfSome found (λ x. x.now ≡ get_or xs k x.now) → MatchOption found (length xs ≤ k) (λ x. (k < length xs) × HoldsAt (λ y. x.now ≡ y) xs k)
+    → IfSome found (λ x. P x.now)
+found_holds P xs k None all is cases = tt
+found_holds P xs k (Some x) all is cases = subst P (sym is) (all k x.now cases.0)
 
 -- two facts of each element that are one
 pub each_same : {X : Type 0} (P Q : X → Type 0) (xs : List X) (b : Bool) → ((x : X) → P x ↔ Q x) → IsTrue b ↔ All P xs → IsTrue b ↔ All Q xs
@@ -568,3 +577,36 @@ of_rule_known {S} index g r prods i pidx are within is =
     let known = (each_of_rule g r (λ q. q < prods_len g)).1 (λ q h by. h) in
     let all = subst (λ (qs : List ℕ). All (λ q. q < prods_len g) qs) (sym are) known in
     subst (λ (x : PIdx S). index x.0 < prods_len g) (sym is) (All-map-at (λ q. q < prods_len g) (λ (x : PIdx S). index x.0) prods all i pidx within)
+
+-- a condition stands in the list at the place one less than its number
+pub listed_at : (condition : CompletenessCondition) → get_or ALL (condition_number condition - 1) condition ≡ condition
+listed_at C1 = refl
+listed_at C2 = refl
+listed_at C3 = refl
+listed_at C4 = refl
+listed_at C5 = refl
+
+-- and what stands at a place has the number one more
+number_at : (k : ℕ) (d : CompletenessCondition) → k < length ALL → condition_number (get_or ALL k d) ≡ k + 1
+number_at zero d low = refl
+number_at (suc zero) d low = refl
+number_at (suc (suc zero)) d low = refl
+number_at (suc (suc (suc zero))) d low = refl
+number_at (suc (suc (suc (suc zero)))) d low = refl
+number_at (suc (suc (suc (suc (suc k))))) d low = absurd (omega (arith, low))
+
+-- numbers begin with 1
+some_number : (condition : CompletenessCondition) → 0 < condition_number condition
+some_number C1 = omega arith
+some_number C2 = omega arith
+some_number C3 = omega arith
+some_number C4 = omega arith
+some_number C5 = omega arith
+
+-- a condition in front of the one at a place stands at an earlier place
+pub earlier_listed : (earlier : CompletenessCondition) (k : ℕ) (d : CompletenessCondition) → k < length ALL
+    → condition_number earlier < condition_number (get_or ALL k d) → condition_number earlier - 1 < k
+earlier_listed earlier k d within lower =
+    let some = some_number earlier in
+    let at = number_at k d within in
+    omega (arith, lower, some, at)

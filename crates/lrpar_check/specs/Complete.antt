@@ -7,6 +7,7 @@ use Rattle.lrpar_first.specs.First.{IsFirst}
 use Rattle.lrpar_states.specs.Graph.{Graph, HasItem}
 use Rattle.lrpar_states.specs.Safe.{GoesBy}
 use Rattle.lrpar_states.specs.Table.{Table, ReduceBy, Accepts, action_of, states_len}
+use Rattle.lrpar_check.specs.Completeness.{condition_number}
 use Rattle.lrpar_check.specs.declared.complete_fault.CompleteFault.{CompleteFault}
 use Rattle.lrpar_check.specs.declared.complete_fault.CompleteFault.TheVariants.{Condition, Memory}
 use Rattle.lrpar_check.specs.declared.completeness.CompletenessCondition.{CompletenessCondition}
@@ -55,7 +56,19 @@ IsCompleteAt g graph table C5 s = EachItem graph s (EndsItem g table s)
 pub record IsComplete (g : Grammar) (graph : Graph) (table : Table) : Type 0 where
   pub each : (condition : CompletenessCondition) (s : ℕ) → s < states_len table → IsCompleteAt g graph table condition s
 
--- the fault names a condition that fails at a state; want of memory says nothing
+-- a condition fails at this state, and at no state in front of it
+pub record FailsFirstAt (g : Grammar) (graph : Graph) (table : Table) (condition : CompletenessCondition) (s : ℕ) : Type 0 where
+  pub within : s < states_len table
+  pub fails : ¬ (IsCompleteAt g graph table condition s)
+  pub earlier : (r : ℕ) → r < s → IsCompleteAt g graph table condition r
+
+-- so it does, and each condition in front of it, by number, holds at each state
+pub record IsFirstFault (g : Grammar) (graph : Graph) (table : Table) (condition : CompletenessCondition) (s : ℕ) : Type 0 where
+  pub conditions : (earlier : CompletenessCondition) → condition_number earlier < condition_number condition
+      → (r : ℕ) → r < states_len table → IsCompleteAt g graph table earlier r
+  pub state : FailsFirstAt g graph table condition s
+
+-- the fault names the first condition that fails, at the first state at which it does; want of memory says nothing
 abbrev pub IsCompleteFault : Grammar → Graph → Table → CompleteFault → Type 0
-IsCompleteFault g graph table (Condition condition s) = (s < states_len table) × ¬ (IsCompleteAt g graph table condition s)
+IsCompleteFault g graph table (Condition condition s) = IsFirstFault g graph table condition s
 IsCompleteFault g graph table Memory = Unit {0}

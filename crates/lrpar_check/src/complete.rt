@@ -4,7 +4,7 @@ ghost use Rattle.lrpar_grammar.specs.Grammar.{prod_len, prods_len, tokens_len};
 ghost use Rattle.lrpar_grammar.specs.Sentence.{LexemeFacts};
 ghost use Rattle.lrpar_first.specs.FirstRows.{rows_of};
 ghost use Rattle.lrpar_states.specs.Table.{states_len};
-ghost use Rattle.lrpar_check.specs.Complete.{ClosesItem, EachItem, HasStartItem, IsComplete, IsCompleteAt, IsCompleteFault};
+ghost use Rattle.lrpar_check.specs.Complete.{ClosesItem, EachItem, FailsFirstAt, HasStartItem, IsComplete, IsCompleteAt, IsCompleteFault, IsFirstFault};
 ghost use Rattle.lrpar_check.specs.CompleteRuns.{TakesSentences};
 ghost use Rattle.lrpar_check.specs.Itemwise.{AreOfCore, HaveRoomFor, IsKnown, ItemHolds, lookaheads_of};
 ghost use Rattle.lrpar_check.specs.declared.complete_fault.CompleteFault.TheVariants.{Memory};
@@ -27,11 +27,12 @@ impl<StorageT: StorageIndex> ParserData<StorageT> {
     /// Checks that the table is complete: that each condition holds in each state. Then a run takes each sentence, by its only
     /// tree; so the grammar isn't ambiguous.
     ///
-    /// The fault is the first of the conditions C1 to C5 that fails, each with states ascending; it does fail there. `Memory`
-    /// comes where memory was wanting for sets of tokens: one for each rule and each production, and four more.
+    /// The fault is the first of the conditions C1 to C5 that fails, at the lowest state at which it does. `Memory` comes where
+    /// memory was wanting for sets of tokens: one for each rule and each production, and four more.
     ///
-    /// C3 and C4 look for the item behind the symbol once for each item before a symbol, by a binary search; C5 looks at one
-    /// action for each complete item. For C2 each core before a rule takes a few unions of sets of tokens, and a comparison of
+    /// C3 and C4 look for the item behind the symbol once for each item before a symbol: in the place where it stands if the next
+    /// state has the same lookaheads there, and else by a binary search, and by one more for each core. C5 looks at one action for
+    /// each complete item. For C2 each core before a rule takes a few unions of sets of tokens, and a comparison of
     /// two of them for each production of the rule; and each state empties the productions' sets.
     pub fn check_complete(&self, alloc: Global) -> Result<(), CompleteFault>
         ensures complete { OnOk result (IsComplete self.now.grammar self.now.graph self.now.table) }
@@ -85,7 +86,7 @@ impl<'a, StorageT: StorageIndex> Completeness<'a, StorageT> {
         requires room { HaveRoomFor self.now.grm.now sets.old }
         ensures { let g = self.now.grm.now in let graph = self.now.sgraph.now in let table = self.now.stable.now in MatchOption result
             (IsComplete g graph table)
-            (λ found. (found.1 < states_len table) × ¬ (IsCompleteAt g graph table found.0 found.1)) }
+            (λ found. IsFirstFault g graph table found.0 found.1) }
     {
         for condition in CompletenessCondition::ALL {
             if let Some(state) = self.first_incomplete(condition, sets) {
@@ -106,7 +107,7 @@ impl<'a, StorageT: StorageIndex> Completeness<'a, StorageT> {
         ensures room { HaveRoomFor self.now.grm.now sets.new }
         ensures found { let g = self.now.grm.now in let graph = self.now.sgraph.now in let table = self.now.stable.now in MatchOption result
             ((s : ℕ) → s < states_len table → IsCompleteAt g graph table condition s)
-            (λ s. (s < states_len table) × ¬ (IsCompleteAt g graph table condition s)) }
+            (λ s. FailsFirstAt g graph table condition s) }
     {
         for s in 0..self.stable.states_len() {
             let state = StIdx(StorageT::from_index(s).unwrap());

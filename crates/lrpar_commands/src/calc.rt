@@ -3,10 +3,10 @@ use crate::fault::Fault;
 use crate::files::input_text;
 use crate::parsing::{TextError, TextParser, print_errors, print_line, text_parser_of};
 use crate::tables::data_of;
-use lrpar::grammar::YaccGrammar;
-use lrpar::span::{Span, TIdx};
-use lrpar::{Lexeme, ParserData};
 use lrpar_lexer::{RuleLexer, Token};
+use lrpar_parser::grammar::YaccGrammar;
+use lrpar_parser::span::{Span, TIdx};
+use lrpar_parser::{Lexeme, ParserData};
 use std::alloc::Global;
 use std::io::{Read, Write};
 

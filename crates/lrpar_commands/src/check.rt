@@ -3,11 +3,11 @@
 use crate::fault::Fault;
 use crate::parsing::print_line;
 use crate::tables::checked;
-use lrpar::ParserData;
-use lrpar::check::{CheckFault, CompleteFault, Refused};
-use lrpar::grammar::YaccGrammar;
-use lrpar::span::TIdx;
-use lrpar::table::StateTable;
+use lrpar_parser::ParserData;
+use lrpar_parser::check::{CheckFault, CompleteFault, Refused};
+use lrpar_parser::grammar::YaccGrammar;
+use lrpar_parser::span::TIdx;
+use lrpar_parser::table::StateTable;
 use std::alloc::Global;
 use std::io::Write;
 

@@ -3,8 +3,8 @@ use crate::fault::Fault;
 use crate::lexer::SumLexer;
 use crate::parsing::{Parser, parser_by, print_tree, printed_names};
 use crate::sum::sum_data;
-use lrpar::ParserData;
-use lrpar::repair::FixedRecoverer;
+use lrpar_parser::ParserData;
+use lrpar_parser::repair::FixedRecoverer;
 use std::alloc::Global;
 use std::io::Write;
 

@@ -2,12 +2,12 @@
 ghost use Rattle.std.specs.Prelude.{◌≡◌};
 ghost use Rattle.lrpar_commands.specs.declared.fault.Fault.TheVariants.{Memory};
 
-use lrpar::build::BuildFault;
-use lrpar::check::CheckFault;
-use lrpar::grammar::GrammarFault;
-use lrpar::parser::ParseFault;
-use lrpar::table::TableFault;
 use lrpar_lexer::RulesFault;
+use lrpar_parser::build::BuildFault;
+use lrpar_parser::check::CheckFault;
+use lrpar_parser::grammar::GrammarFault;
+use lrpar_parser::parser::ParseFault;
+use lrpar_parser::table::TableFault;
 use std::alloc::{AllocError, AllocFailed, Global};
 use std::io;
 use thiserror::Error;

@@ -3,11 +3,11 @@ ghost use Rattle.std.specs.Prelude.{◌≡◌};
 
 use crate::fault::Fault;
 use crate::repairs::recoverer_of;
-use lrpar::grammar::YaccGrammar;
-use lrpar::repair::FixedRecoverer;
-use lrpar::span::TIdx;
-use lrpar::{LexParseError, Node, NonStreamingLexer, ParserData, RTParserBuilder};
 use lrpar_lexer::{LexRule, Token, TokenTypes, rules_of};
+use lrpar_parser::grammar::YaccGrammar;
+use lrpar_parser::repair::FixedRecoverer;
+use lrpar_parser::span::TIdx;
+use lrpar_parser::{LexParseError, Node, NonStreamingLexer, ParserData, RTParserBuilder};
 use std::alloc::{AllocError, Global};
 use std::io::Write;
 

@@ -1,8 +1,8 @@
 //! Sequences of repairs as a text.
 use crate::fault::Fault;
-use lrpar::grammar::YaccGrammar;
-use lrpar::repair::{FixedRecoverer, RepairStep};
-use lrpar::span::TIdx;
+use lrpar_parser::grammar::YaccGrammar;
+use lrpar_parser::repair::{FixedRecoverer, RepairStep};
+use lrpar_parser::span::TIdx;
 use std::alloc::Global;
 
 /// A step, and the text after it.

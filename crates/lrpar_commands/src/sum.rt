@@ -1,10 +1,10 @@
 //! Sums of names: their grammar, the item sets of its states, and its table, which are written out here.
 use crate::fault::Fault;
 use crate::lexer::{ID, PLUS};
-use lrpar::ParserData;
-use lrpar::grammar::{GrammarParts, ProdPart, RulePart, TokenPart, YaccGrammar};
-use lrpar::span::{PIdx, RIdx, Span, StIdx, Symbol, TIdx};
-use lrpar::table::{Action, StateGraph, StateTable, TableRows};
+use lrpar_parser::ParserData;
+use lrpar_parser::grammar::{GrammarParts, ProdPart, RulePart, TokenPart, YaccGrammar};
+use lrpar_parser::span::{PIdx, RIdx, Span, StIdx, Symbol, TIdx};
+use lrpar_parser::table::{Action, StateGraph, StateTable, TableRows};
 use std::alloc::{AllocError, Global};
 
 /// The rule of sums.

@@ -1,9 +1,9 @@
 //! Tables of grammars.
 use crate::fault::Fault;
-use lrpar::ParserData;
-use lrpar::build::{Unbuilt, parser_data};
-use lrpar::check::Refused;
-use lrpar::grammar::YaccGrammar;
+use lrpar_parser::ParserData;
+use lrpar_parser::build::{Unbuilt, parser_data};
+use lrpar_parser::check::Refused;
+use lrpar_parser::grammar::YaccGrammar;
 use std::alloc::Global;
 
 /// The cap with which the program checks its tables.

@@ -2,8 +2,8 @@
 use crate::fault::Fault;
 use crate::parsing::{TextParser, print_tree, text_parser_of};
 use crate::tables::data_of;
-use lrpar::ParserData;
 use lrpar_lexer::RuleLexer;
+use lrpar_parser::ParserData;
 use std::alloc::Global;
 use std::io::Write;
 

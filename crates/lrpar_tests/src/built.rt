@@ -1,8 +1,8 @@
 //! Grammars, the tables that are built of them, and lists.
 use crate::lexer::Given;
-use lrpar::ParserData;
-use lrpar::build::parser_data;
-use lrpar::grammar::YaccGrammar;
+use lrpar_parser::ParserData;
+use lrpar_parser::build::parser_data;
+use lrpar_parser::grammar::YaccGrammar;
 use std::alloc::Global;
 use std::test::Fail;
 

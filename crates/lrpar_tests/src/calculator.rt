@@ -3,12 +3,12 @@
 ghost use Rattle.std.specs.Prelude.{◌≡◌, ◌↔◌, [], ◌∷◌, IfOk, IsSomeAnd, IsTrue, map};
 ghost use Rattle.lrpar_grammar.specs.Grammar.{Nonterminal, Terminal};
 ghost use Rattle.lrpar_grammar.specs.Symbols.{symbol_of};
-ghost use Rattle.lrpar.specs.Arguments.{AreArguments, IsArgument};
+ghost use Rattle.lrpar_parser.specs.Arguments.{AreArguments, IsArgument};
 ghost use Rattle.lrpar_tests.specs.Calculator.{IsOfKind, IsTaken};
 
-use lrpar::Lexeme;
-use lrpar::parser::{AStackType, Actions};
-use lrpar::span::{PIdx, RIdx, Span, Symbol, TIdx};
+use lrpar_parser::Lexeme;
+use lrpar_parser::parser::{AStackType, Actions};
+use lrpar_parser::span::{PIdx, RIdx, Span, Symbol, TIdx};
 use std::alloc::{AllocError, Global};
 
 /// The value of a rule. Each rule has a kind of its own.

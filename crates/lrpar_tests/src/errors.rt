@@ -1,8 +1,8 @@
 //! Parse errors and repairs: their texts, equality, hashes and clones.
-use lrpar::parser::{ParseFault, PpFault};
-use lrpar::span::{Span, StIdx, TIdx};
-use lrpar::{LexParseError, Lexeme, ParseError, ParseRepair};
 use lrpar_lexer::{NoToken, Token, TokenTypes};
+use lrpar_parser::parser::{ParseFault, PpFault};
+use lrpar_parser::span::{Span, StIdx, TIdx};
+use lrpar_parser::{LexParseError, Lexeme, ParseError, ParseRepair};
 use std::alloc::Global;
 use std::hash::{DefaultHasher, Hash, Hasher};
 use std::process::Abort;

@@ -1,7 +1,7 @@
 //! Lines and columns of a text, and places that fit one.
-use lrpar::grammar::{GrammarParts, ProdPart, RulePart, TokenPart, YaccGrammar};
-use lrpar::lines::NewlineCache;
-use lrpar::span::{RIdx, Span, Symbol, TIdx};
+use lrpar_parser::grammar::{GrammarParts, ProdPart, RulePart, TokenPart, YaccGrammar};
+use lrpar_parser::lines::NewlineCache;
+use lrpar_parser::span::{RIdx, Span, Symbol, TIdx};
 use std::alloc::Global;
 use std::test::Fail;
 

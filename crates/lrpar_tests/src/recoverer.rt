@@ -1,8 +1,8 @@
 //! A recoverer that counts how often it is asked, and notes where.
 ghost use Rattle.std.specs.Prelude.{IfOk};
 
-use lrpar::repair::{Recoverer, RecoveryPoint, RepairStep};
 use lrpar_lexer::Token;
+use lrpar_parser::repair::{Recoverer, RecoveryPoint, RepairStep};
 use std::alloc::{AllocError, Global};
 use std::cell::Cell;
 

@@ -1,10 +1,10 @@
 //! Many repairs, and how many lexemes have to follow one.
 use crate::built::{BRACKETS, built};
 use crate::lexer::lexer_of;
-use lrpar::repair::{FixedRecoverer, NoRecovery, RepairStep};
-use lrpar::span::TIdx;
-use lrpar::{LexParseError, ParserData, RTParserBuilder};
 use lrpar_lexer::TokenTypes;
+use lrpar_parser::repair::{FixedRecoverer, NoRecovery, RepairStep};
+use lrpar_parser::span::TIdx;
+use lrpar_parser::{LexParseError, ParserData, RTParserBuilder};
 use std::alloc::Global;
 use std::test::Fail;
 

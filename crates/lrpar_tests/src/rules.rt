@@ -1,7 +1,7 @@
 //! Rules of lexers, made one by one.
-use lrpar::Lexer;
-use lrpar::span::TIdx;
 use lrpar_lexer::{LexRule, RuleLexer};
+use lrpar_parser::Lexer;
+use lrpar_parser::span::TIdx;
 use std::alloc::Global;
 use std::test::Fail;
 

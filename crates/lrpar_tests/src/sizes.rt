@@ -1,7 +1,7 @@
 //! The largest table, and a long grammar text.
-use lrpar::grammar::{GrammarFault, YaccGrammar};
-use lrpar::span::{StIdx, TIdx};
-use lrpar::table::{Action, SparseRows, StateTable};
+use lrpar_parser::grammar::{GrammarFault, YaccGrammar};
+use lrpar_parser::span::{StIdx, TIdx};
+use lrpar_parser::table::{Action, SparseRows, StateTable};
 use std::alloc::{AllocError, Global};
 use std::test::Fail;
 

@@ -1,17 +1,17 @@
 //! Spans and the numbers of rules, productions, tokens and states.
-use lrpar::span::{PIdx, RIdx, Span, StIdx, StorageNum, TIdx};
+use lrpar_parser::span::{PIdx, RIdx, Span, StIdx, StorageIndex, TIdx};
 use std::cmp::Ordering;
 use std::test::Fail;
 
 // Whether the type has these numbers, each by itself, and not the one after the last.
-fn has_numbers<S: StorageNum>(numbers: &[usize], last: usize) -> bool {
+fn has_numbers<S: StorageIndex>(numbers: &[usize], last: usize) -> bool {
     numbers.iter().all(|n| read_again::<S>(*n) == Some(*n))
         && read_again::<S>(last) == Some(last)
         && read_again::<S>(last.saturating_add(1)).is_none()
 }
 
 // The number that the type makes of `n`, read again, where it has it.
-fn read_again<S: StorageNum>(n: usize) -> Option<usize> {
+fn read_again<S: StorageIndex>(n: usize) -> Option<usize> {
     match S::from_index(n) {
         Some(found) => Some(found.to_index()),
         None => None,

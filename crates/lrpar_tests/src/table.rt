@@ -1,9 +1,9 @@
 //! Item sets, conflicts and stacks, and texts of faults, where no case can say it.
-use lrpar::build::{BuildFault, from_yacc};
-use lrpar::check::{CheckFault, Overlay};
-use lrpar::grammar::{GrammarFault, YaccGrammar};
-use lrpar::span::{PIdx, StIdx, TIdx};
-use lrpar::table::{Action, Conflicts, Item, StateGraph, StateTable, TableFault, TableRows};
+use lrpar_parser::build::{BuildFault, from_yacc};
+use lrpar_parser::check::{CheckFault, Overlay};
+use lrpar_parser::grammar::{GrammarFault, YaccGrammar};
+use lrpar_parser::span::{PIdx, StIdx, TIdx};
+use lrpar_parser::table::{Action, Conflicts, Item, StateGraph, StateTable, TableFault, TableRows};
 use std::alloc::Global;
 use std::test::Fail;
 

@@ -1,11 +1,11 @@
 //! Trees: of many levels, of no grammar, those that an action makes, and how they are written.
 use crate::built::{SUM, built};
 use crate::lexer::{Given, lexer_of};
-use lrpar::grammar::YaccGrammar;
-use lrpar::parser::AStackType;
-use lrpar::span::{RIdx, Span};
-use lrpar::{Lexeme, Node, ParserData, RTParserBuilder, action_generictree};
 use lrpar_lexer::{Token, TokenTypes};
+use lrpar_parser::grammar::YaccGrammar;
+use lrpar_parser::parser::AStackType;
+use lrpar_parser::span::{RIdx, Span};
+use lrpar_parser::{Lexeme, Node, ParserData, RTParserBuilder, action_generictree};
 use std::alloc::Global;
 use std::io;
 use std::test::Fail;

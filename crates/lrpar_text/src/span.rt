@@ -1,10 +1,9 @@
 //! Parts of a text, storage numbers, and the numbers of rules, productions, tokens and states.
-ghost use Rattle.std.specs.Prelude.{◌≡◌, ◌-◌, ◌^◌, ◌<◌, ◌≤◌, ◌==◌, ◌↔◌, ℕ, pos, Some, IsTrue, IsSome, IfSome, List, refl};
+ghost use Rattle.std.specs.Prelude.{◌≡◌, ◌-◌, ◌^◌, ◌<◌, ◌≤◌, ◌==◌, ◌↔◌, ℕ, Some, IsTrue, IsSome, IfSome, List, refl};
 ghost use Rattle.std.specs.Ordering.{nat_cmp};
 ghost use Rattle.lrpar_text.specs.Span.{Extent};
 ghost use Rattle.lrpar_text.specs.declared.span.SpansKind.{SpansKind};
 
-use num_traits::{PrimInt, Unsigned};
 use std::fmt::Debug;
 use std::hash::Hash;
 use std::marker::Model;
@@ -104,15 +103,6 @@ pub trait StorageIndex: Copy + Ord + Debug + Hash {
     ghost eq_law: { (x y : Self) → Self.PartialEq.eq x y ≡ (index x == index y) };
 }
 
-/// What rules, productions, tokens and states are numbered by: `u8`, `u16` or `u32`. As a number, a value is its index.
-pub trait StorageNum: StorageIndex + PrimInt + Unsigned {
-    ghost value_law: { (x : Self) → Self.value x ≡ pos (Self.index x) };
-
-    ghost integer_law: { (x : Self) → Self.integer_of x ≡ Some (pos (Self.index x)) };
-
-    ghost fits_law: { (n : ℕ) → Self.fits (pos n) ↔ (n < Self.limit) };
-}
-
 impl StorageIndex for u8 {
     ghost index = { λ x. x };
 
@@ -139,14 +129,6 @@ impl StorageIndex for u8 {
     ghost cmp_law = { λ x y. refl };
 
     ghost eq_law = { λ x y. refl };
-}
-
-impl StorageNum for u8 {
-    ghost value_law = { λ x. refl };
-
-    ghost integer_law = { λ x. refl };
-
-    ghost fits_law = { λ n. (λ fits. fits, λ below. below) };
 }
 
 impl StorageIndex for u16 {
@@ -177,14 +159,6 @@ impl StorageIndex for u16 {
     ghost eq_law = { λ x y. refl };
 }
 
-impl StorageNum for u16 {
-    ghost value_law = { λ x. refl };
-
-    ghost integer_law = { λ x. refl };
-
-    ghost fits_law = { λ n. (λ fits. fits, λ below. below) };
-}
-
 impl StorageIndex for u32 {
     ghost index = { λ x. x };
 
@@ -211,14 +185,6 @@ impl StorageIndex for u32 {
     ghost cmp_law = { λ x y. refl };
 
     ghost eq_law = { λ x y. refl };
-}
-
-impl StorageNum for u32 {
-    ghost value_law = { λ x. refl };
-
-    ghost integer_law = { λ x. refl };
-
-    ghost fits_law = { λ n. (λ fits. fits, λ below. below) };
 }
 
 /// A number of one kind: of rules, productions, tokens or states.

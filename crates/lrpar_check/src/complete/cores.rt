@@ -1,5 +1,5 @@
 //! What the conditions of completeness ask for the items of one core.
-ghost use Rattle.std.specs.Prelude.{◌≡◌, ◌≢◌, ◌<◌, ◌≤◌, ◌+◌, ◌∷◌, ◌↔◌, ◌⊎◌, ℕ, List, All, Contains, IsTrue, MatchOption, Some, drop, length, map, slice_get};
+ghost use Rattle.std.specs.Prelude.{◌≡◌, ◌≢◌, ◌<◌, ◌≤◌, ◌+◌, ◌∷◌, ◌↔◌, ◌⊎◌, ℕ, List, All, Contains, IfSome, IsTrue, MatchOption, Some, drop, length, map, slice_get};
 ghost use Rattle.lrpar_grammar.specs.Grammar.{GrammarSymbol, Nonterminal, Terminal, prod_len, prods_len, rule_of, rules_len, symbols_of, tokens_len};
 ghost use Rattle.lrpar_grammar.specs.Symbols.{symbol_of};
 ghost use Rattle.lrpar_first.specs.FirstRows.{mark_of, row_at, rows_of};
@@ -235,7 +235,9 @@ impl<'a, StorageT: StorageIndex> Completeness<'a, StorageT> {
         }
     }
 
-    // Whether the state has the items of the production with these items' lookaheads and the dot one further.
+    // Whether the state has the items of the production with these items' lookaheads and the dot one further. Those stand side by side
+    // where it has the same lookaheads and no others, as most states of a built table do. So each is looked for at its place behind the
+    // first one, and by a binary search where another item stands there.
     fn has_advanced(
         &self,
         next: StIdx<StorageT>,
@@ -249,12 +251,50 @@ impl<'a, StorageT: StorageIndex> Completeness<'a, StorageT> {
             (lookaheads_of StorageT.index items.now) }
     {
         let _symbols = self.grm.prod(pidx);
-        for (_, _, token) in items {
-            if !self.sgraph.has_item(next, pidx, dot + 1, *token) {
+        let near = self.items_from(next, pidx, dot + 1);
+        for place in 0..items.len() {
+            let (_, _, token) = items[place];
+            if !self.has_near(near.get(place), next, pidx, dot + 1, token) {
                 return false;
             }
         }
         true
+    }
+
+    // Items of the state: where it has some of this production and this dot, from the first of them on.
+    fn items_from(
+        &self,
+        s: StIdx<StorageT>,
+        pidx: PIdx<StorageT>,
+        dot: usize,
+    ) -> &'a [Item<StorageT>]
+        ensures { All (λ item. HasItem self.now.sgraph.now (StorageT.index s.0) (StorageT.index item.0.0) item.1 (StorageT.index item.2.0)) result.now }
+    {
+        if usize::from(s) >= self.sgraph.states_len() {
+            return &[];
+        }
+        let items = self.sgraph.items(s);
+        let core = (usize::from(pidx), dot);
+        let start = items.partition_point(|item| (usize::from(item.0), item.1) < core);
+        &items[start..]
+    }
+
+    // Whether the state has the item; `near` is one of its items, and may be the one.
+    fn has_near(
+        &self,
+        near: Option<&Item<StorageT>>,
+        s: StIdx<StorageT>,
+        pidx: PIdx<StorageT>,
+        dot: usize,
+        token: TIdx<StorageT>,
+    ) -> bool
+        requires { IfSome near (λ item. HasItem self.now.sgraph.now (StorageT.index s.0) (StorageT.index item.now.0.0) item.now.1 (StorageT.index item.now.2.0)) }
+        ensures found { IsTrue result ↔ HasItem self.now.sgraph.now (StorageT.index s.0) (StorageT.index pidx.0) dot (StorageT.index token.0) }
+    {
+        match near {
+            Some(item) if is_same(item, pidx, dot, token) => true,
+            _ => self.sgraph.has_item(s, pidx, dot, token),
+        }
     }
 
     // C5: where the items are complete, the state ends the production at their lookaheads.
@@ -303,6 +343,20 @@ impl<'a, StorageT: StorageIndex> Completeness<'a, StorageT> {
             Action::Shift(_) | Action::Error => false,
         }
     }
+}
+
+// Whether the item has this production, this dot and this lookahead.
+fn is_same<StorageT: StorageIndex>(
+    item: &Item<StorageT>,
+    pidx: PIdx<StorageT>,
+    dot: usize,
+    token: TIdx<StorageT>,
+) -> bool
+    ensures { IsTrue result ↔ (item_of StorageT.index item.now ≡ item_at (StorageT.index pidx.0) dot (StorageT.index token.0)) }
+{
+    usize::from(item.2) == usize::from(token)
+        && item.1 == dot
+        && usize::from(item.0) == usize::from(pidx)
 }
 
 // Puts the lookaheads of the items into the set, in place of what was there.

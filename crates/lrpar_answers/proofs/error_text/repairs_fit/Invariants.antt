@@ -1,6 +1,6 @@
 use Rattle.std.proofs.Common.{map, take}
-use Rattle.lrpar_answers.specs.Repairs.{repair_of}
-use Rattle.lrpar_answers.specs.SequenceText.{RepairsFit}
+use Rattle.lrpar_repairs.specs.Repairs.{repair_of}
+use Rattle.lrpar_repairs.specs.SequenceText.{RepairsFit}
 use Rattle.lrpar_answers.proofs.error_text.repairs_fit.Given as goal
 
 -- those so far fit

@@ -9,8 +9,8 @@ use Rattle.lrpar_build.proofs.NumberLemmas.{cores_reached, kept_twice, steps_kep
 use Rattle.lrpar_first.proofs.FaultLemmas.{no_value, nothing_done}
 use Rattle.lrpar_build.proofs.states.expanded.Goals as goal
 
-pub gotos-requires-clause-reached : goal.gotos-requires-clause-reached
-gotos-requires-clause-reached g c =
+pub steps-requires-clause-reached : goal.steps-requires-clause-reached
+steps-requires-clause-reached g c =
     let index = g.StorageT.StorageIndex.index in
     let reached = c.requires.reached in
     let items = c.in_ok-items.items.items in
@@ -20,8 +20,8 @@ gotos-requires-clause-reached g c =
           (map (core_set index) c.in_ok-successors.successors.items.items) reached.0 same c.in_ok-items.ensures.items reached.1,
     )
 
-pub shifts-requires-clause-reached : goal.shifts-requires-clause-reached
-shifts-requires-clause-reached g c =
+pub steps-requires-2-clause-reached : goal.steps-requires-2-clause-reached
+steps-requires-2-clause-reached g c =
     let index = g.StorageT.StorageIndex.index in
     let reached = c.requires.reached in
     let items = c.in_ok-items.items.items in
@@ -33,7 +33,7 @@ shifts-requires-clause-reached g c =
 
 pub returns-clause-kept : goal.returns-clause-kept
 returns-clause-kept g c =
-    kept_twice c.args.kernels.now c.gotos.new.kernels c.shifts.new.kernels c.in_ok-gotos.ensures.kept c.in_ok-shifts.ensures.kept
+    kept_twice c.args.kernels.now c.steps.new.kernels c.steps-2.new.kernels c.in_ok-gotos.ensures.kept c.in_ok-shifts.ensures.kept
 
 pub returns-clause-state : goal.returns-clause-state
 returns-clause-state g c =
@@ -45,7 +45,7 @@ returns-clause-state g c =
       items = subst (λ all. AreSame (IsAmong all) (IsInClosure grm (IsAmong kernel))) (sym same) c.in_ok-items.ensures.items;
       cores = subst (AreCores grm) (sym same) c.in_ok-items.ensures.cores;
       gotos =
-          steps_kept grm c.gotos.new.kernels c.shifts.new.kernels cores Nonterminal (map (goto_entry index) c.in_ok-gotos.gotos.items)
+          steps_kept grm c.steps.new.kernels c.steps-2.new.kernels cores Nonterminal (map (goto_entry index) c.in_ok-gotos.gotos.items)
           c.in_ok-shifts.ensures.kept c.in_ok-gotos.ensures.steps;
       shifts = c.in_ok-shifts.ensures.steps;
     }

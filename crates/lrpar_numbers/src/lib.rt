@@ -1,0 +1,41 @@
+//! Storage numbers as numbers of `num_traits`, whose contracts take long to load. So they stand apart from the index types, which ask
+//! for none of them.
+#![tactic(auto)]
+
+ghost use Rattle.std.specs.Prelude.{◌≡◌, ◌<◌, ◌↔◌, ℕ, pos, Some, refl};
+
+use lrpar_text::span::StorageIndex;
+use num_traits::{PrimInt, Unsigned};
+
+/// What rules, productions, tokens and states are numbered by: `u8`, `u16` or `u32`. As a number, a value is its index.
+pub trait StorageNum: StorageIndex + PrimInt + Unsigned {
+    ghost value_law: { (x : Self) → Self.value x ≡ pos (Self.index x) };
+
+    ghost integer_law: { (x : Self) → Self.integer_of x ≡ Some (pos (Self.index x)) };
+
+    ghost fits_law: { (n : ℕ) → Self.fits (pos n) ↔ (n < Self.limit) };
+}
+
+impl StorageNum for u8 {
+    ghost value_law = { λ x. refl };
+
+    ghost integer_law = { λ x. refl };
+
+    ghost fits_law = { λ n. (λ fits. fits, λ below. below) };
+}
+
+impl StorageNum for u16 {
+    ghost value_law = { λ x. refl };
+
+    ghost integer_law = { λ x. refl };
+
+    ghost fits_law = { λ n. (λ fits. fits, λ below. below) };
+}
+
+impl StorageNum for u32 {
+    ghost value_law = { λ x. refl };
+
+    ghost integer_law = { λ x. refl };
+
+    ghost fits_law = { λ n. (λ fits. fits, λ below. below) };
+}

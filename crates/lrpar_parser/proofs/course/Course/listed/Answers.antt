@@ -1,0 +1,19 @@
+use Rattle.std.proofs.Common.{◌≡◌, subst}
+use Rattle.lrpar_parser.specs.CourseView.{subject}
+use Rattle.lrpar_parser.specs.PlainSteps.{plain_sequences}
+use Rattle.lrpar_parser.proofs.CourseLemmas.{listed_ok}
+use Rattle.lrpar_parser.proofs.course.Course.listed.Goals as goal
+
+pub listed-requires-clause-valid : goal.listed-requires-clause-valid
+listed-requires-clause-valid g c = rw (c.new.ensures.checked, c.new.ensures.lexemes) c.requires.valid
+
+pub returns : goal.returns
+returns g c =
+    let index = g.StorageT.StorageIndex.index in
+    let self = c.args.self.now in
+    let about = subject index g.LexerTypesT.LexemeT.Lexeme.parts g.R.Recoverer.allows self in
+    let answer = plain_sequences index c.in_ok-answer.answer.items in
+    let point : c.new-point.result ≡ record { lexemes = self.lexemes.now; place = c.args.place; stack = c.args.stack.now.states } = rw c.states.ensures at c.new-point.ensures in
+    let allowed = subst (λ p. about.allows p answer) point c.in_ok-answer.ensures.allowed in
+    let those = rw (c.new.ensures.checked, c.new.ensures.lexemes, c.new.ensures.shifts, c.states-2.ensures) at c.listed.ensures.listed in
+    record { listed = listed_ok about self.lexemes.now index c.args.stack.now.states c.args.place answer c.listed.result allowed those }
