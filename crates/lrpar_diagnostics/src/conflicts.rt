@@ -1,0 +1,314 @@
+//! Texts of conflicts.
+ghost use Rattle.std.specs.Prelude.{◌≡◌, ◌<◌, ◌≤◌, ◌∷◌, ◌++◌, [], List, ℕ, IfOk, OnOk, length, map, take, drop};
+ghost use Rattle.std.specs.List.{AllByRecursion, flat_map};
+ghost use Rattle.std.specs.String.{string_bytes};
+ghost use Rattle.lrpar_grammar.specs.Grammar.{rules_len, rule_span, tokens_len};
+ghost use Rattle.lrpar_grammar.specs.SpansFit.{IsPartOf, NamesFit, SpansFit};
+ghost use Rattle.lrpar_states.specs.ConflictsFit.{ConflictsFit, ReductionsFit, ShiftFits};
+ghost use Rattle.lrpar_states.specs.PlainConflicts.{reduce_reduce_of, shift_reduce_of};
+ghost use Rattle.lrpar_diagnostics.specs.ConflictText.{by_line, conflicts_text, dollar_span, group_label, groups_text, labelled, reduce_reduce_line, reduce_reduce_text, shift_reduce_line, shift_reduce_text, shown_name, shown_span, shown_spans};
+ghost use Rattle.lrpar_diagnostics.specs.Location.{place_text};
+ghost use Rattle.lrpar_diagnostics.specs.Underline.{FollowInOrder};
+
+use crate::formatter::SpannedDiagnosticFormatter;
+use crate::source::Source;
+use lrpar_grammar::grammar::YaccGrammar;
+use lrpar_states::table::{Conflicts, StateGraph, StateTable};
+use lrpar_text::span::{PIdx, RIdx, Span, StIdx, StorageIndex, TIdx};
+use std::alloc::{AllocError, Global};
+
+/// Two reductions at a token: the token, the productions and the state.
+type ReduceReduce<StorageT> = (
+    TIdx<StorageT>,
+    PIdx<StorageT>,
+    PIdx<StorageT>,
+    StIdx<StorageT>,
+);
+
+/// A shift of a token and a reduction: the token, the production and the state.
+type ShiftReduce<StorageT> = (TIdx<StorageT>, PIdx<StorageT>, StIdx<StorageT>);
+
+impl<'a> SpannedDiagnosticFormatter<'a> {
+    /// The texts of conflicts.
+    pub fn format_conflicts<StorageT: StorageIndex>(
+        &self,
+        alloc: Global,
+        grm: &YaccGrammar<StorageT>,
+        c: &Conflicts<StorageT>,
+        _sgraph: &StateGraph<StorageT>,
+        _stable: &StateTable<StorageT>,
+    ) -> Result<String, AllocError>
+        requires spans { SpansFit grm.now (self.now).text }
+        requires conflicts { ConflictsFit grm.now c.now }
+        ensures { IfOk result (λ text. string_bytes text ≡ conflicts_text self.now grm.now c.now) }
+    {
+        let mut out = String::new(alloc);
+        self.push_reduce_reduce(&mut out, grm, c.rr_conflicts())?;
+        self.push_shift_reduce(&mut out, grm, c.sr_conflicts())?;
+        Ok(out)
+    }
+
+    // Adds the texts of conflicts between two reductions.
+    fn push_reduce_reduce<StorageT: StorageIndex>(
+        &self,
+        out: &mut String,
+        grm: &YaccGrammar<StorageT>,
+        conflicts: &[ReduceReduce<StorageT>],
+    ) -> Result<(), AllocError>
+        requires names { NamesFit grm.now (self.now).text }
+        requires fit { AllByRecursion (ReductionsFit grm.now) (map (reduce_reduce_of StorageT.index) conflicts.now) }
+        ensures { OnOk result (string_bytes out.new ≡ string_bytes out.old
+            ++ flat_map (reduce_reduce_text self.now grm.now) (map (reduce_reduce_of StorageT.index) conflicts.now)) }
+    {
+        let dollar = dollar_span(grm);
+        let mut rest = conflicts;
+        while let Some((conflict, others)) = rest.split_first() {
+            self.push_two_reductions(out, grm, *conflict, dollar)?;
+            rest = others;
+        }
+        Ok(())
+    }
+
+    // Adds the text of a conflict between two reductions. `dollar` is where a token of the name `$` is.
+    fn push_two_reductions<StorageT: StorageIndex>(
+        &self,
+        out: &mut String,
+        grm: &YaccGrammar<StorageT>,
+        conflict: ReduceReduce<StorageT>,
+        dollar: Option<Span>,
+    ) -> Result<(), AllocError>
+        requires names { NamesFit grm.now (self.now).text }
+        requires fit { ReductionsFit grm.now (reduce_reduce_of StorageT.index conflict) }
+        requires dollar { dollar ≡ dollar_span grm.now }
+        ensures { OnOk result (string_bytes out.new ≡ string_bytes out.old
+            ++ reduce_reduce_text self.now grm.now (reduce_reduce_of StorageT.index conflict)) }
+    {
+        let (token, first, second, _) = conflict;
+        let first = grm.prod_to_rule(first);
+        let second = grm.prod_to_rule(second);
+        self.push_reduce_reduce_line(out, grm, first, second, token)?;
+        self.push_rule(out, grm, first, "First reduce")?;
+        self.push_rule(out, grm, second, "Second reduce")?;
+        if let Some(span) = shown_span(grm, token, dollar) {
+            self.source.push_labelled_line(out, span, "Lookahead")?;
+        }
+        out.push('\n')
+    }
+
+    // Adds the first line of a conflict between reductions by two rules at a token.
+    fn push_reduce_reduce_line<StorageT: StorageIndex>(
+        &self,
+        out: &mut String,
+        grm: &YaccGrammar<StorageT>,
+        first: RIdx<StorageT>,
+        second: RIdx<StorageT>,
+        token: TIdx<StorageT>,
+    ) -> Result<(), AllocError>
+        requires names { NamesFit grm.now (self.now).text }
+        requires first { StorageT.index first.0 < rules_len grm.now }
+        requires second { StorageT.index second.0 < rules_len grm.now }
+        requires token { StorageT.index token.0 < tokens_len grm.now }
+        ensures { OnOk result (string_bytes out.new ≡ string_bytes out.old
+            ++ reduce_reduce_line self.now grm.now (StorageT.index first.0) (StorageT.index second.0) (StorageT.index token.0)) }
+    {
+        let first_name = grm.rule_name_str(first);
+        let second_name = grm.rule_name_str(second);
+        let token_name = shown_name(grm, token);
+        write!(out, "Reduce/Reduce conflict, can reduce '{first_name}' or '{second_name}' with lookahead '{token_name}'")?;
+        self.push_rule_place(out, grm, first)
+    }
+
+    // Adds where a rule is, and a line feed.
+    fn push_rule_place<StorageT: StorageIndex>(
+        &self,
+        out: &mut String,
+        grm: &YaccGrammar<StorageT>,
+        rule: RIdx<StorageT>,
+    ) -> Result<(), AllocError>
+        requires names { NamesFit grm.now (self.now).text }
+        requires rule { StorageT.index rule.0 < rules_len grm.now }
+        ensures { OnOk result ((old message : List ℕ) → string_bytes out.old ≡ old ++ message
+            → string_bytes out.new ≡ old ++ (place_text self.now message (rule_span grm.now (StorageT.index rule.0)).start ++ 10 ∷ [])) }
+    {
+        self.push_place(out, grm.rule_name_span(rule).start())?;
+        out.push('\n')
+    }
+
+    // Adds the name of a rule where it is, underlined with a label.
+    fn push_rule<StorageT: StorageIndex>(
+        &self,
+        out: &mut String,
+        grm: &YaccGrammar<StorageT>,
+        rule: RIdx<StorageT>,
+        label: &str,
+    ) -> Result<(), AllocError>
+        requires names { NamesFit grm.now (self.now).text }
+        requires rule { StorageT.index rule.0 < rules_len grm.now }
+        ensures { OnOk result (string_bytes out.new ≡ string_bytes out.old
+            ++ labelled (self.now).text (rule_span grm.now (StorageT.index rule.0)) label.now) }
+    {
+        self.source.push_labelled_line(out, grm.rule_name_span(rule), label)
+    }
+
+    // Adds the texts of conflicts between a shift and a reduction.
+    fn push_shift_reduce<StorageT: StorageIndex>(
+        &self,
+        out: &mut String,
+        grm: &YaccGrammar<StorageT>,
+        conflicts: &[ShiftReduce<StorageT>],
+    ) -> Result<(), AllocError>
+        requires spans { SpansFit grm.now (self.now).text }
+        requires fit { AllByRecursion (ShiftFits grm.now) (map (shift_reduce_of StorageT.index) conflicts.now) }
+        ensures { OnOk result (string_bytes out.new ≡ string_bytes out.old
+            ++ flat_map (shift_reduce_text self.now grm.now) (map (shift_reduce_of StorageT.index) conflicts.now)) }
+    {
+        let mut rest = conflicts;
+        while let Some((conflict, others)) = rest.split_first() {
+            self.push_shift_and_reduction(out, grm, *conflict)?;
+            rest = others;
+        }
+        Ok(())
+    }
+
+    // Adds the text of a conflict between a shift and a reduction.
+    fn push_shift_and_reduction<StorageT: StorageIndex>(
+        &self,
+        out: &mut String,
+        grm: &YaccGrammar<StorageT>,
+        conflict: ShiftReduce<StorageT>,
+    ) -> Result<(), AllocError>
+        requires spans { SpansFit grm.now (self.now).text }
+        requires fit { ShiftFits grm.now (shift_reduce_of StorageT.index conflict) }
+        ensures { OnOk result (string_bytes out.new ≡ string_bytes out.old
+            ++ shift_reduce_text self.now grm.now (shift_reduce_of StorageT.index conflict)) }
+    {
+        let (token, prod, _) = conflict;
+        let rule = grm.prod_to_rule(prod);
+        self.push_shift_reduce_line(out, grm, token, rule)?;
+        self.source.push_labelled_line(out, grm.token_span(token).unwrap(), "Shift")?;
+        self.push_rule(out, grm, rule, "Reduced rule")?;
+        self.source.push_reduced(out, grm.prod_span(prod), grm.symbol_spans(prod))?;
+        out.push('\n')
+    }
+
+    // Adds the first line of a conflict between the shift of a token and a reduction by a rule.
+    fn push_shift_reduce_line<StorageT: StorageIndex>(
+        &self,
+        out: &mut String,
+        grm: &YaccGrammar<StorageT>,
+        token: TIdx<StorageT>,
+        rule: RIdx<StorageT>,
+    ) -> Result<(), AllocError>
+        requires names { NamesFit grm.now (self.now).text }
+        requires token { StorageT.index token.0 < tokens_len grm.now }
+        requires rule { StorageT.index rule.0 < rules_len grm.now }
+        ensures { OnOk result (string_bytes out.new ≡ string_bytes out.old
+            ++ shift_reduce_line self.now grm.now (StorageT.index token.0) (StorageT.index rule.0)) }
+    {
+        let token_name = shown_name(grm, token);
+        let rule_name = grm.rule_name_str(rule);
+        write!(out, "Shift/Reduce conflict, can shift '{token_name}' or reduce '{rule_name}'")?;
+        self.push_rule_place(out, grm, rule)
+    }
+}
+
+impl<'a> Source<'a> {
+    // Adds the lines of a part, underlined with a label, and a line feed.
+    fn push_labelled_line(&self, out: &mut String, span: Span, label: &str) -> Result<(), AllocError>
+        requires { IsPartOf self.now.src.now span }
+        ensures { OnOk result (string_bytes out.new ≡ string_bytes out.old ++ labelled self.now.src.now span label.now) }
+    {
+        self.push_block(out, "", span, label, '^')?;
+        out.push('\n')
+    }
+
+    // Adds the lines of a production: those of its symbols, or, without any, its own.
+    fn push_reduced(&self, out: &mut String, own: Span, symbols: &[Span]) -> Result<(), AllocError>
+        requires own { IsPartOf self.now.src.now own }
+        requires symbols { FollowInOrder self.now.src.now 0 symbols.now }
+        ensures { OnOk result (string_bytes out.new ≡ string_bytes out.old
+            ++ groups_text self.now.src.now (by_line self.now.src.now (shown_spans own symbols.now))) }
+    {
+        if symbols.is_empty() {
+            self.push_groups(out, &[own])
+        } else {
+            self.push_groups(out, symbols)
+        }
+    }
+
+    // Adds the lines on which the parts start, each with its parts underlined.
+    fn push_groups(&self, out: &mut String, spans: &[Span]) -> Result<(), AllocError>
+        requires { FollowInOrder self.now.src.now 0 spans.now }
+        ensures { OnOk result (string_bytes out.new ≡ string_bytes out.old ++ groups_text self.now.src.now (by_line self.now.src.now spans.now)) }
+    {
+        let mut rest = spans;
+        while !rest.is_empty() {
+            let (group, others) = rest.split_at(self.on_first_line(rest));
+            self.push_on_line(out, group, group_label(others), '-')?;
+            out.push('\n')?;
+            rest = others;
+        }
+        Ok(())
+    }
+
+    // How many parts start on the line of the first one, up to the first that doesn't.
+    fn on_first_line(&self, spans: &[Span]) -> usize
+        requires some { 0 < length spans.now }
+        requires order { FollowInOrder self.now.src.now 0 spans.now }
+        ensures within { (0 < result) × (result ≤ length spans.now) }
+        ensures group { by_line self.now.src.now spans.now ≡ take result spans.now ∷ by_line self.now.src.now (drop result spans.now) }
+    {
+        let line = self.line_start(spans[0].start());
+        for (i, span) in spans.iter().enumerate() {
+            if self.line_start(span.start()) != line {
+                return i;
+            }
+        }
+        spans.len()
+    }
+}
+
+// What is said of the symbols of a production on one line: nothing, but on the last one.
+fn group_label(others: &[Span]) -> &'static str
+    ensures { (src : List ℕ) → result.now ≡ group_label (by_line src others.now) }
+{
+    if others.is_empty() {
+        "Reduced productions"
+    } else {
+        ""
+    }
+}
+
+// A token as conflicts name it: by its name, and the end token by `$`.
+fn shown_name<StorageT: StorageIndex>(grm: &YaccGrammar<StorageT>, token: TIdx<StorageT>) -> &str
+    requires { StorageT.index token.0 < tokens_len grm.now }
+    ensures { result.now ≡ shown_name grm.now (StorageT.index token.0) }
+{
+    grm.token_name(token).unwrap_or("$")
+}
+
+// Where a token is: the end token is where `$` is.
+fn shown_span<StorageT: StorageIndex>(
+    grm: &YaccGrammar<StorageT>,
+    token: TIdx<StorageT>,
+    dollar: Option<Span>,
+) -> Option<Span>
+    requires token { StorageT.index token.0 < tokens_len grm.now }
+    requires dollar { dollar ≡ dollar_span grm.now }
+    ensures span { result ≡ shown_span grm.now (StorageT.index token.0) }
+{
+    match grm.token_span(token) {
+        Some(span) => Some(span),
+        None => dollar,
+    }
+}
+
+// Where the first token of the name `$` is.
+fn dollar_span<StorageT: StorageIndex>(grm: &YaccGrammar<StorageT>) -> Option<Span>
+    ensures { result ≡ dollar_span grm.now }
+{
+    match grm.token_idx("$") {
+        Some(token) => grm.token_span(token),
+        None => None,
+    }
+}
