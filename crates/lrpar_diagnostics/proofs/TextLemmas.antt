@@ -33,3 +33,14 @@ closed r old out first second whole message all e₁ e₂ =
     added r second first message (old ++ (whole ++ 32 ∷ message)) e₂
     (ap (λ o. o ++ message) (e₁ ∙ ap (λ c. out ++ c) (encode_ascii 32 (lit< tt)) ∙ ap (λ o. o ++ 32 ∷ []) all)
     ∙ append_assoc (old ++ whole) (32 ∷ []) message ∙ append_assoc old whole (32 ∷ message))
+
+-- a line feed closes a whole
+pub line_closed : {T E : Type 0} (r : Result T E) (out new whole : List ℕ) → new ≡ (if is_ok r then out ++ encode_utf8 10 else out) → out ++ 10 ∷ [] ≡ whole → OnOk r (new ≡ whole)
+line_closed r out new whole e same = added r new out (encode_utf8 10) whole e (ap (λ c. out ++ c) (encode_ascii 10 (lit< tt)) ∙ same)
+
+-- four pieces and a line feed
+pub four_pieces : {T E : Type 0} (r : Result T E) (old o₁ o₂ o₃ o₄ new a b c d : List ℕ) → o₁ ≡ old ++ a → o₂ ≡ o₁ ++ b → o₃ ≡ o₂ ++ c → o₄ ≡ o₃ ++ d
+    → new ≡ (if is_ok r then o₄ ++ encode_utf8 10 else o₄) → OnOk r (new ≡ old ++ (a ++ b ++ c ++ d ++ 10 ∷ []))
+four_pieces r old o₁ o₂ o₃ o₄ new a b c d e₁ e₂ e₃ e₄ e =
+    let all = grown old o₃ o₄ (a ++ b ++ c) d (grown old o₂ o₃ (a ++ b) c (grown old o₁ o₂ a b e₁ e₂) e₃) e₄ in
+    line_closed r o₄ new (old ++ (a ++ b ++ c ++ d ++ 10 ∷ [])) e (ap (λ o. o ++ 10 ∷ []) all ∙ append_assoc old (a ++ b ++ c ++ d) (10 ∷ []))

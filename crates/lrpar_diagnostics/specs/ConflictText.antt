@@ -35,19 +35,24 @@ shown_span g t = own_or (token_span g t) (dollar_span g)
 abbrev pub lookahead_text : List ℕ → Option Extent → List ℕ
 lookahead_text src span = option_map_or (λ at. labelled src at (codes "Lookahead")) span []
 
+-- what a conflict between reductions by two rules at a token is
+abbrev pub two_reductions : List ℕ → List ℕ → List ℕ → List ℕ
+two_reductions first second token =
+    codes "Reduce/Reduce conflict, can reduce '" ++ first ++ codes "' or '" ++ second ++ codes "' with lookahead '" ++ token ++ codes "'"
+
 -- the first line of a conflict between reductions by rules a and b at token t
 abbrev pub reduce_reduce_line : Subject → Grammar → ℕ → ℕ → ℕ → List ℕ
-reduce_reduce_line f g a b t =
-    place_text f (codes "Reduce/Reduce conflict, can reduce '" ++ rule_name g a ++ codes "' or '" ++ rule_name g b
-        ++ codes "' with lookahead '" ++ shown_name g t ++ codes "'") (rule_span g a).start ++ 10 ∷ []
+reduce_reduce_line f g a b t = place_text f (two_reductions (rule_name g a) (rule_name g b) (shown_name g t)) (rule_span g a).start ++ 10 ∷ []
+
+-- a conflict between reductions by rules a and b at token t
+abbrev pub rules_text : Subject → Grammar → ℕ → ℕ → ℕ → List ℕ
+rules_text f g a b t =
+    reduce_reduce_line f g a b t ++ labelled f.text (rule_span g a) (codes "First reduce") ++ labelled f.text (rule_span g b) (codes "Second reduce")
+    ++ lookahead_text f.text (shown_span g t) ++ 10 ∷ []
 
 -- a conflict between two reductions
 abbrev pub reduce_reduce_text : Subject → Grammar → ReduceReduce → List ℕ
-reduce_reduce_text f g x =
-    let a = rule_of g x.first in
-    let b = rule_of g x.second in
-    reduce_reduce_line f g a b x.token ++ labelled f.text (rule_span g a) (codes "First reduce") ++ labelled f.text (rule_span g b) (codes "Second reduce")
-    ++ lookahead_text f.text (shown_span g x.token) ++ 10 ∷ []
+reduce_reduce_text f g x = rules_text f g (rule_of g x.first) (rule_of g x.second) x.token
 
 -- one more part of a text in front of groups: it joins the first group where it stands on the same line
 abbrev pub ahead_of : List ℕ → Extent → List (List Extent) → List (List Extent)
@@ -79,17 +84,23 @@ shown_spans own (span ∷ spans) = span ∷ spans
 abbrev pub reduced_spans : Grammar → ℕ → List Extent
 reduced_spans g p = shown_spans (prod_span_of g p) (symbol_spans_of g p)
 
+-- what a conflict between the shift of a token and a reduction by a rule is
+abbrev pub shift_or_reduction : List ℕ → List ℕ → List ℕ
+shift_or_reduction token rule = codes "Shift/Reduce conflict, can shift '" ++ token ++ codes "' or reduce '" ++ rule ++ codes "'"
+
 -- the first line of a conflict between the shift of token t and a reduction by rule a
 abbrev pub shift_reduce_line : Subject → Grammar → ℕ → ℕ → List ℕ
-shift_reduce_line f g t a =
-    place_text f (codes "Shift/Reduce conflict, can shift '" ++ shown_name g t ++ codes "' or reduce '" ++ rule_name g a ++ codes "'") (rule_span g a).start ++ 10 ∷ []
+shift_reduce_line f g t a = place_text f (shift_or_reduction (shown_name g t) (rule_name g a)) (rule_span g a).start ++ 10 ∷ []
+
+-- a conflict between the shift of token t and a reduction by production p of rule a
+abbrev pub shift_text : Subject → Grammar → ℕ → ℕ → ℕ → List ℕ
+shift_text f g t a p =
+    shift_reduce_line f g t a ++ labelled f.text (unwrap_or (token_span g t) nowhere) (codes "Shift") ++ labelled f.text (rule_span g a) (codes "Reduced rule")
+    ++ groups_text f.text (by_line f.text (reduced_spans g p)) ++ 10 ∷ []
 
 -- a conflict between a shift and a reduction
 abbrev pub shift_reduce_text : Subject → Grammar → ShiftReduce → List ℕ
-shift_reduce_text f g x =
-    let a = rule_of g x.prod in
-    shift_reduce_line f g x.token a ++ labelled f.text (unwrap_or (token_span g x.token) nowhere) (codes "Shift") ++ labelled f.text (rule_span g a) (codes "Reduced rule")
-    ++ groups_text f.text (by_line f.text (reduced_spans g x.prod)) ++ 10 ∷ []
+shift_reduce_text f g x = shift_text f g x.token (rule_of g x.prod) x.prod
 
 -- all conflicts: those between two reductions first
 abbrev pub conflicts_text : Subject → Grammar → ConflictLists → List ℕ

@@ -1,12 +1,13 @@
 //! Texts of conflicts.
-ghost use Rattle.std.specs.Prelude.{◌≡◌, ◌<◌, ◌≤◌, ◌∷◌, ◌++◌, [], List, ℕ, IfOk, OnOk, length, map, take, drop};
+ghost use Rattle.std.specs.Prelude.{◌≡◌, ◌<◌, ◌≤◌, ◌∷◌, ◌++◌, [], List, ℕ, IfOk, IfSome, OnOk, length, map, option_map, take, drop, unwrap_or};
 ghost use Rattle.std.specs.List.{AllByRecursion, flat_map};
 ghost use Rattle.std.specs.String.{string_bytes};
-ghost use Rattle.lrpar_grammar.specs.Grammar.{rules_len, rule_span, tokens_len};
+ghost use Rattle.lrpar_text.specs.Span.{nowhere};
+ghost use Rattle.lrpar_grammar.specs.Grammar.{end_token, prods_len, rule_span, rules_len, token_span, tokens_len};
 ghost use Rattle.lrpar_grammar.specs.SpansFit.{IsPartOf, NamesFit, SpansFit};
 ghost use Rattle.lrpar_states.specs.ConflictsFit.{ConflictsFit, ReductionsFit, ShiftFits};
 ghost use Rattle.lrpar_states.specs.PlainConflicts.{reduce_reduce_of, shift_reduce_of};
-ghost use Rattle.lrpar_diagnostics.specs.ConflictText.{by_line, conflicts_text, dollar_span, group_label, groups_text, labelled, reduce_reduce_line, reduce_reduce_text, shift_reduce_line, shift_reduce_text, shown_name, shown_span, shown_spans};
+ghost use Rattle.lrpar_diagnostics.specs.ConflictText.{by_line, conflicts_text, dollar_span, group_label, groups_text, labelled, lookahead_text, reduce_reduce_line, reduce_reduce_text, reduced_spans, rules_text, shift_or_reduction, shift_reduce_line, shift_reduce_text, shift_text, shown_name, shown_span, shown_spans, two_reductions};
 ghost use Rattle.lrpar_diagnostics.specs.Location.{place_text};
 ghost use Rattle.lrpar_diagnostics.specs.Underline.{FollowInOrder};
 
@@ -63,36 +64,75 @@ impl<'a> SpannedDiagnosticFormatter<'a> {
         let dollar = dollar_span(grm);
         let mut rest = conflicts;
         while let Some((conflict, others)) = rest.split_first() {
-            self.push_two_reductions(out, grm, *conflict, dollar)?;
+            self.push_reductions(out, grm, *conflict, dollar.as_ref())?;
             rest = others;
         }
         Ok(())
     }
 
     // Adds the text of a conflict between two reductions. `dollar` is where a token of the name `$` is.
-    fn push_two_reductions<StorageT: StorageIndex>(
+    fn push_reductions<StorageT: StorageIndex>(
         &self,
         out: &mut String,
         grm: &YaccGrammar<StorageT>,
         conflict: ReduceReduce<StorageT>,
-        dollar: Option<Span>,
+        dollar: Option<&Span>,
     ) -> Result<(), AllocError>
         requires names { NamesFit grm.now (self.now).text }
         requires fit { ReductionsFit grm.now (reduce_reduce_of StorageT.index conflict) }
-        requires dollar { dollar ≡ dollar_span grm.now }
+        requires dollar { option_map (λ span. span.now) dollar ≡ dollar_span grm.now }
         ensures { OnOk result (string_bytes out.new ≡ string_bytes out.old
             ++ reduce_reduce_text self.now grm.now (reduce_reduce_of StorageT.index conflict)) }
     {
         let (token, first, second, _) = conflict;
         let first = grm.prod_to_rule(first);
         let second = grm.prod_to_rule(second);
+        self.push_rules(out, grm, first, second, token, dollar)
+    }
+
+    // Adds the text of a conflict between reductions by two rules at a token.
+    fn push_rules<StorageT: StorageIndex>(
+        &self,
+        out: &mut String,
+        grm: &YaccGrammar<StorageT>,
+        first: RIdx<StorageT>,
+        second: RIdx<StorageT>,
+        token: TIdx<StorageT>,
+        dollar: Option<&Span>,
+    ) -> Result<(), AllocError>
+        requires names { NamesFit grm.now (self.now).text }
+        requires first { StorageT.index first.0 < rules_len grm.now }
+        requires second { StorageT.index second.0 < rules_len grm.now }
+        requires token { StorageT.index token.0 < tokens_len grm.now }
+        requires dollar { option_map (λ span. span.now) dollar ≡ dollar_span grm.now }
+        ensures { OnOk result (string_bytes out.new ≡ string_bytes out.old
+            ++ rules_text self.now grm.now (StorageT.index first.0) (StorageT.index second.0) (StorageT.index token.0)) }
+    {
         self.push_reduce_reduce_line(out, grm, first, second, token)?;
         self.push_rule(out, grm, first, "First reduce")?;
         self.push_rule(out, grm, second, "Second reduce")?;
-        if let Some(span) = shown_span(grm, token, dollar) {
-            self.source.push_labelled_line(out, span, "Lookahead")?;
-        }
+        self.push_lookahead(out, grm, token, dollar)?;
         out.push('\n')
+    }
+
+    // Adds where a lookahead is, if it is anywhere, underlined.
+    fn push_lookahead<StorageT: StorageIndex>(
+        &self,
+        out: &mut String,
+        grm: &YaccGrammar<StorageT>,
+        token: TIdx<StorageT>,
+        dollar: Option<&Span>,
+    ) -> Result<(), AllocError>
+        requires names { NamesFit grm.now (self.now).text }
+        requires token { StorageT.index token.0 < tokens_len grm.now }
+        requires dollar { option_map (λ span. span.now) dollar ≡ dollar_span grm.now }
+        ensures { OnOk result (string_bytes out.new ≡ string_bytes out.old
+            ++ lookahead_text (self.now).text (shown_span grm.now (StorageT.index token.0))) }
+    {
+        match shown_span(grm, token, dollar) {
+            Some(span) => self.source.push_labelled_line(out, span, "Lookahead"),
+            None => Ok(()),
+        }
     }
 
     // Adds the first line of a conflict between reductions by two rules at a token.
@@ -111,10 +151,12 @@ impl<'a> SpannedDiagnosticFormatter<'a> {
         ensures { OnOk result (string_bytes out.new ≡ string_bytes out.old
             ++ reduce_reduce_line self.now grm.now (StorageT.index first.0) (StorageT.index second.0) (StorageT.index token.0)) }
     {
-        let first_name = grm.rule_name_str(first);
-        let second_name = grm.rule_name_str(second);
-        let token_name = shown_name(grm, token);
-        write!(out, "Reduce/Reduce conflict, can reduce '{first_name}' or '{second_name}' with lookahead '{token_name}'")?;
+        push_two_reductions(
+            out,
+            grm.rule_name_str(first),
+            grm.rule_name_str(second),
+            shown_name(grm, token),
+        )?;
         self.push_rule_place(out, grm, first)
     }
 
@@ -127,8 +169,8 @@ impl<'a> SpannedDiagnosticFormatter<'a> {
     ) -> Result<(), AllocError>
         requires names { NamesFit grm.now (self.now).text }
         requires rule { StorageT.index rule.0 < rules_len grm.now }
-        ensures { OnOk result ((old message : List ℕ) → string_bytes out.old ≡ old ++ message
-            → string_bytes out.new ≡ old ++ (place_text self.now message (rule_span grm.now (StorageT.index rule.0)).start ++ 10 ∷ [])) }
+        ensures { OnOk result (string_bytes out.new
+            ≡ place_text self.now (string_bytes out.old) (rule_span grm.now (StorageT.index rule.0)).start ++ 10 ∷ []) }
     {
         self.push_place(out, grm.rule_name_span(rule).start())?;
         out.push('\n')
@@ -164,14 +206,14 @@ impl<'a> SpannedDiagnosticFormatter<'a> {
     {
         let mut rest = conflicts;
         while let Some((conflict, others)) = rest.split_first() {
-            self.push_shift_and_reduction(out, grm, *conflict)?;
+            self.push_shift_reduction(out, grm, *conflict)?;
             rest = others;
         }
         Ok(())
     }
 
     // Adds the text of a conflict between a shift and a reduction.
-    fn push_shift_and_reduction<StorageT: StorageIndex>(
+    fn push_shift_reduction<StorageT: StorageIndex>(
         &self,
         out: &mut String,
         grm: &YaccGrammar<StorageT>,
@@ -183,12 +225,62 @@ impl<'a> SpannedDiagnosticFormatter<'a> {
             ++ shift_reduce_text self.now grm.now (shift_reduce_of StorageT.index conflict)) }
     {
         let (token, prod, _) = conflict;
-        let rule = grm.prod_to_rule(prod);
+        self.push_shift(out, grm, token, grm.prod_to_rule(prod), prod)
+    }
+
+    // Adds the text of a conflict between the shift of a token and a reduction by a production of a rule.
+    fn push_shift<StorageT: StorageIndex>(
+        &self,
+        out: &mut String,
+        grm: &YaccGrammar<StorageT>,
+        token: TIdx<StorageT>,
+        rule: RIdx<StorageT>,
+        prod: PIdx<StorageT>,
+    ) -> Result<(), AllocError>
+        requires spans { SpansFit grm.now (self.now).text }
+        requires token { StorageT.index token.0 < end_token grm.now }
+        requires rule { StorageT.index rule.0 < rules_len grm.now }
+        requires prod { StorageT.index prod.0 < prods_len grm.now }
+        ensures { OnOk result (string_bytes out.new ≡ string_bytes out.old
+            ++ shift_text self.now grm.now (StorageT.index token.0) (StorageT.index rule.0) (StorageT.index prod.0)) }
+    {
         self.push_shift_reduce_line(out, grm, token, rule)?;
-        self.source.push_labelled_line(out, grm.token_span(token).unwrap(), "Shift")?;
+        self.push_token(out, grm, token, "Shift")?;
         self.push_rule(out, grm, rule, "Reduced rule")?;
-        self.source.push_reduced(out, grm.prod_span(prod), grm.symbol_spans(prod))?;
+        self.push_symbols(out, grm, prod)?;
         out.push('\n')
+    }
+
+    // Adds where a token is, underlined with a label. It isn't the end token.
+    fn push_token<StorageT: StorageIndex>(
+        &self,
+        out: &mut String,
+        grm: &YaccGrammar<StorageT>,
+        token: TIdx<StorageT>,
+        label: &str,
+    ) -> Result<(), AllocError>
+        requires names { NamesFit grm.now (self.now).text }
+        requires token { StorageT.index token.0 < end_token grm.now }
+        ensures { OnOk result (string_bytes out.new ≡ string_bytes out.old
+            ++ labelled (self.now).text (unwrap_or (token_span grm.now (StorageT.index token.0)) nowhere) label.now) }
+    {
+        let span = grm.token_span(token).unwrap();
+        self.source.push_labelled_line(out, span, label)
+    }
+
+    // Adds the lines of a production's symbols, underlined.
+    fn push_symbols<StorageT: StorageIndex>(
+        &self,
+        out: &mut String,
+        grm: &YaccGrammar<StorageT>,
+        prod: PIdx<StorageT>,
+    ) -> Result<(), AllocError>
+        requires spans { SpansFit grm.now (self.now).text }
+        requires prod { StorageT.index prod.0 < prods_len grm.now }
+        ensures { OnOk result (string_bytes out.new ≡ string_bytes out.old
+            ++ groups_text (self.now).text (by_line (self.now).text (reduced_spans grm.now (StorageT.index prod.0)))) }
+    {
+        self.source.push_reduced(out, grm.prod_span(prod), grm.symbol_spans(prod))
     }
 
     // Adds the first line of a conflict between the shift of a token and a reduction by a rule.
@@ -205,9 +297,7 @@ impl<'a> SpannedDiagnosticFormatter<'a> {
         ensures { OnOk result (string_bytes out.new ≡ string_bytes out.old
             ++ shift_reduce_line self.now grm.now (StorageT.index token.0) (StorageT.index rule.0)) }
     {
-        let token_name = shown_name(grm, token);
-        let rule_name = grm.rule_name_str(rule);
-        write!(out, "Shift/Reduce conflict, can shift '{token_name}' or reduce '{rule_name}'")?;
+        push_shift_or_reduction(out, shown_name(grm, token), grm.rule_name_str(rule))?;
         self.push_rule_place(out, grm, rule)
     }
 }
@@ -279,6 +369,28 @@ fn group_label(others: &[Span]) -> &'static str
     }
 }
 
+// Adds what a conflict between reductions by two rules at a token is.
+fn push_two_reductions(
+    out: &mut String,
+    first: &str,
+    second: &str,
+    token: &str,
+) -> Result<(), AllocError>
+    ensures { OnOk result (string_bytes out.new ≡ string_bytes out.old ++ two_reductions first.now second.now token.now) }
+{
+    write!(
+        out,
+        "Reduce/Reduce conflict, can reduce '{first}' or '{second}' with lookahead '{token}'"
+    )
+}
+
+// Adds what a conflict between the shift of a token and a reduction by a rule is.
+fn push_shift_or_reduction(out: &mut String, token: &str, rule: &str) -> Result<(), AllocError>
+    ensures { OnOk result (string_bytes out.new ≡ string_bytes out.old ++ shift_or_reduction token.now rule.now) }
+{
+    write!(out, "Shift/Reduce conflict, can shift '{token}' or reduce '{rule}'")
+}
+
 // A token as conflicts name it: by its name, and the end token by `$`.
 fn shown_name<StorageT: StorageIndex>(grm: &YaccGrammar<StorageT>, token: TIdx<StorageT>) -> &str
     requires { StorageT.index token.0 < tokens_len grm.now }
@@ -291,15 +403,16 @@ fn shown_name<StorageT: StorageIndex>(grm: &YaccGrammar<StorageT>, token: TIdx<S
 fn shown_span<StorageT: StorageIndex>(
     grm: &YaccGrammar<StorageT>,
     token: TIdx<StorageT>,
-    dollar: Option<Span>,
+    dollar: Option<&Span>,
 ) -> Option<Span>
     requires token { StorageT.index token.0 < tokens_len grm.now }
-    requires dollar { dollar ≡ dollar_span grm.now }
+    requires dollar { option_map (λ span. span.now) dollar ≡ dollar_span grm.now }
     ensures span { result ≡ shown_span grm.now (StorageT.index token.0) }
+    ensures part { (src : List ℕ) → NamesFit grm.now src → IfSome result (IsPartOf src) }
 {
     match grm.token_span(token) {
         Some(span) => Some(span),
-        None => dollar,
+        None => dollar.copied(),
     }
 }
 
