@@ -1,6 +1,7 @@
 -- Texts that are written piece by piece.
-use Rattle.std.proofs.Common.{◌≡◌, ◌<◌, ◌∙◌, ℕ, List, [], ◌∷◌, ◌++◌, ap, lit<, append_assoc, Result, Ok, Err, is_ok, OnOk, if◌then◌else◌}
+use Rattle.std.proofs.Common.{◌≡◌, ◌<◌, ◌∙◌, ℕ, List, [], ◌∷◌, ◌++◌, ap, sym, lit<, append_assoc, Result, Ok, Err, is_ok, OnOk, if◌then◌else◌}
 use Rattle.std.specs.Prelude.{encode_utf8}
+use Rattle.std.specs.List.{flat_map}
 use Rattle.std.proofs.lemmas.Str.{encode_ascii}
 
 -- a text is added, unless memory was wanting
@@ -44,3 +45,9 @@ pub four_pieces : {T E : Type 0} (r : Result T E) (old o₁ o₂ o₃ o₄ new a
 four_pieces r old o₁ o₂ o₃ o₄ new a b c d e₁ e₂ e₃ e₄ e =
     let all = grown old o₃ o₄ (a ++ b ++ c) d (grown old o₂ o₃ (a ++ b) c (grown old o₁ o₂ a b e₁ e₂) e₃) e₄ in
     line_closed r o₄ new (old ++ (a ++ b ++ c ++ d ++ 10 ∷ [])) e (ap (λ o. o ++ 10 ∷ []) all ∙ append_assoc old (a ++ b ++ c ++ d) (10 ∷ []))
+
+-- the text of one more thing
+pub next_text : {A : Type 0} (f : A → List ℕ) (rest others : List A) (x : A) (out new whole : List ℕ) → rest ≡ x ∷ others → new ≡ out ++ f x
+    → out ++ flat_map f rest ≡ whole → new ++ flat_map f others ≡ whole
+next_text f rest others x out new whole parted written all =
+    ap (λ o. o ++ flat_map f others) written ∙ append_assoc out (f x) (flat_map f others) ∙ ap (λ xs. out ++ flat_map f xs) (sym parted) ∙ all
