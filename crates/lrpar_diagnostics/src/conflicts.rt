@@ -189,7 +189,8 @@ impl<'a> SpannedDiagnosticFormatter<'a> {
         ensures { OnOk result (string_bytes out.new ≡ string_bytes out.old
             ++ labelled (self.now).text (rule_span grm.now (StorageT.index rule.0)) label.now) }
     {
-        self.source.push_labelled_line(out, grm.rule_name_span(rule), label)
+        self.source
+            .push_labelled_line(out, grm.rule_name_span(rule), label)
     }
 
     // Adds the texts of conflicts between a shift and a reduction.
@@ -280,7 +281,8 @@ impl<'a> SpannedDiagnosticFormatter<'a> {
         ensures { OnOk result (string_bytes out.new ≡ string_bytes out.old
             ++ groups_text (self.now).text (by_line (self.now).text (reduced_spans grm.now (StorageT.index prod.0)))) }
     {
-        self.source.push_reduced(out, grm.prod_span(prod), grm.symbol_spans(prod))
+        self.source
+            .push_reduced(out, grm.prod_span(prod), grm.symbol_spans(prod))
     }
 
     // Adds the first line of a conflict between the shift of a token and a reduction by a rule.
@@ -304,7 +306,12 @@ impl<'a> SpannedDiagnosticFormatter<'a> {
 
 impl<'a> Source<'a> {
     // Adds the lines of a part, underlined with a label, and a line feed.
-    fn push_labelled_line(&self, out: &mut String, span: Span, label: &str) -> Result<(), AllocError>
+    fn push_labelled_line(
+        &self,
+        out: &mut String,
+        span: Span,
+        label: &str,
+    ) -> Result<(), AllocError>
         requires { IsPartOf self.now.src.now span }
         ensures { OnOk result (string_bytes out.new ≡ string_bytes out.old ++ labelled self.now.src.now span label.now) }
     {
@@ -388,7 +395,10 @@ fn push_two_reductions(
 fn push_shift_or_reduction(out: &mut String, token: &str, rule: &str) -> Result<(), AllocError>
     ensures { OnOk result (string_bytes out.new ≡ string_bytes out.old ++ shift_or_reduction token.now rule.now) }
 {
-    write!(out, "Shift/Reduce conflict, can shift '{token}' or reduce '{rule}'")
+    write!(
+        out,
+        "Shift/Reduce conflict, can shift '{token}' or reduce '{rule}'"
+    )
 }
 
 // A token as conflicts name it: by its name, and the end token by `$`.

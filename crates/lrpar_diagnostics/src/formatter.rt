@@ -98,7 +98,8 @@ impl<'a> SpannedDiagnosticFormatter<'a> {
         ensures { IfOk result (λ text. string_bytes text ≡ block_text (self.now).text prefix.now span (string_bytes s) underline_c) }
     {
         let mut out = String::new(alloc);
-        self.source.push_block(&mut out, prefix, span, s.as_str(), underline_c)?;
+        self.source
+            .push_block(&mut out, prefix, span, s.as_str(), underline_c)?;
         Ok(out)
     }
 
@@ -113,7 +114,8 @@ impl<'a> SpannedDiagnosticFormatter<'a> {
         ensures { IfOk result (λ text. string_bytes text ≡ on_line_text (self.now).text spans.now (string_bytes msg) underline_c) }
     {
         let mut out = String::new(alloc);
-        self.source.push_on_line(&mut out, spans, msg.as_str(), underline_c)?;
+        self.source
+            .push_on_line(&mut out, spans, msg.as_str(), underline_c)?;
         Ok(out)
     }
 

@@ -228,12 +228,7 @@ impl<'a> Source<'a> {
     }
 
     // Adds the line of a part of the text, and below it the part's underline.
-    fn push_first(
-        &self,
-        out: &mut String,
-        span: Span,
-        underline_c: char,
-    ) -> Result<(), AllocError>
+    fn push_first(&self, out: &mut String, span: Span, underline_c: char) -> Result<(), AllocError>
         requires { IsPartOf self.now.src.now span }
         ensures { OnOk result (string_bytes out.new ≡ string_bytes out.old ++ first_mark self.now.src.now underline_c span) }
     {

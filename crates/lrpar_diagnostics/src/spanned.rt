@@ -167,7 +167,8 @@ impl<'a> Source<'a> {
         requires next { IsPartOf self.now.src.now next }
         ensures { result ≡ line_of self.now.src.now next.start - line_of self.now.src.now span.start }
     {
-        self.line(next.start()).saturating_sub(self.line(span.start()))
+        self.line(next.start())
+            .saturating_sub(self.line(span.start()))
     }
 }
 

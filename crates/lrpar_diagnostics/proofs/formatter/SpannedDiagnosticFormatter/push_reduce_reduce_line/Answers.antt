@@ -17,5 +17,5 @@ returns g c =
     let old = string_bytes c.args.out.now in
     let start = (rule_span grm rule).start in
     on_ok_weaker c.push_rule_place.result (λ e. e
-        ∙ ap (λ t. t ++ 10 ∷ []) (place_behind f old message (string_bytes c.push_two_reductions.new.out) start (rw (sym c.rule_name_str.ensures, sym c.rule_name_str-2.ensures, sym c.shown_name.ensures) c.in_ok-push_two_reductions.ensures))
-        ∙ append_assoc old (place_text f message start) (10 ∷ [])) c.push_rule_place.ensures
+    ∙ ap (λ t. t ++ 10 ∷ []) (place_behind f old message (string_bytes c.push_two_reductions.new.out) start (rw (sym c.rule_name_str.ensures, sym c.rule_name_str-2.ensures, sym c.shown_name.ensures) c.in_ok-push_two_reductions.ensures))
+    ∙ append_assoc old (place_text f message start) (10 ∷ [])) c.push_rule_place.ensures
