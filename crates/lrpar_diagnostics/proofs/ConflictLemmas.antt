@@ -1,5 +1,5 @@
 -- Parts of a text by the lines on which they start, and the places of a grammar.
-use Rattle.std.proofs.Common.{◌≡◌, ◌<◌, ◌≤◌, ◌+◌, ℕ, zero, suc, Bool, true, false, cond, refl, sym, ap, subst, ◌∙◌, arith, List, [], ◌∷◌, ◌++◌, length, take, drop, get_or, Option, Some, None, option_map, codes, append_assoc}
+use Rattle.std.proofs.Common.{◌≡◌, ◌<◌, ◌≤◌, ◌+◌, ℕ, zero, suc, true, false, cond, refl, sym, ap, ◌∙◌, arith, List, [], ◌∷◌, ◌++◌, length, take, drop, get_or, Option, Some, None, option_map, codes, append_assoc}
 use Rattle.std.specs.Prelude.{◌==◌, IfSome, slice_get, position, option_and_then}
 use Rattle.std.specs.List.{All}
 use Rattle.std.specs.Option.{option_map_or}
@@ -67,11 +67,7 @@ part_at src i [] k d order within = absurd (omega (arith, within))
 part_at src i (a ∷ spans) zero d order within = order.1
 part_at src i (a ∷ spans) (suc k) d order within = part_at src a.end spans k d order.2 (omega (arith, within))
 
--- they are so from an earlier byte on, as are the first of them, and the others
-pub from_start : (src : List ℕ) (i : ℕ) (spans : List Extent) → FollowInOrder src i spans → FollowInOrder src 0 spans
-from_start src i [] order = tt
-from_start src i (a ∷ spans) order = (omega arith, order.1, order.2)
-
+-- so are the first of them, and the others
 pub first_follow : (src : List ℕ) (i n : ℕ) (spans : List Extent) → FollowInOrder src i spans → FollowInOrder src i (take n spans)
 first_follow src i zero [] order = tt
 first_follow src i zero (a ∷ spans) order = tt

@@ -1,15 +1,14 @@
 -- The lines that a part of a text touches, from one to the next, and where a text may be cut.
-use Rattle.std.proofs.Common.{◌≡◌, ◌<◌, ◌≤◌, ◌+◌, ◌-◌, ℕ, zero, suc, Bool, true, false, cond, refl, sym, ap, subst, ◌∙◌, arith, List, [], ◌∷◌, ◌++◌, length, slice_index, get_or, inl, inr, min, max, append_assoc, append-nil, replicate}
-use Rattle.std.specs.Prelude.{encode_utf8, encode_utf8_all}
+use Rattle.std.proofs.Common.{◌≡◌, ◌<◌, ◌≤◌, ◌+◌, ◌-◌, ℕ, zero, suc, true, false, cond, refl, sym, ap, subst, ◌∙◌, arith, List, [], ◌∷◌, ◌++◌, length, slice_index, inl, inr, min, max, append_assoc, append-nil}
+use Rattle.std.specs.Prelude.{encode_utf8}
 use Rattle.std.specs.List.{filter, range_with_len}
 use Rattle.std.specs.Str.{IsCharBoundary, IsUtf8}
-use Rattle.std.proofs.Math.Nat.{min-eq_left, min-eq_right}
 use Rattle.std.proofs.lemmas.Bool.{cases_eq, cases_lt}
 use Rattle.std.proofs.lemmas.Bool.Decides.{nat_tests}
 use Rattle.std.proofs.lemmas.List.Sums.{prefix_len-drop_yes, prefix_len-drop_no, prefix_len-drop_all}
-use Rattle.std.proofs.lemmas.Str.{IsCharBoundary-before_ascii, IsCharBoundary-after_ascii}
+use Rattle.std.proofs.lemmas.Str.{IsCharBoundary-after_ascii}
 use Rattle.lrpar_text.specs.Lines.{LineTable, is_line_feed, is_in_line, starts_line, line_end, line_table}
-use Rattle.lrpar_diagnostics.specs.Columns.{repeated, ends_in_cr, without_cr, text_end}
+use Rattle.lrpar_diagnostics.specs.Columns.{repeated}
 use Rattle.lrpar_diagnostics.specs.Underline.{starts_behind, is_printed, printed_behind}
 
 in_line : (b : ℕ) → ¬ (b ≡ 10) → is_in_line b ≡ true

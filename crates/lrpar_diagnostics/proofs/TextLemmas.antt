@@ -1,5 +1,5 @@
 -- Texts that are written piece by piece.
-use Rattle.std.proofs.Common.{◌≡◌, ◌<◌, ◌∙◌, ℕ, List, [], ◌∷◌, ◌++◌, ap, sym, lit<, append_assoc, Result, Ok, Err, is_ok, OnOk, if◌then◌else◌}
+use Rattle.std.proofs.Common.{◌≡◌, ◌∙◌, ℕ, List, [], ◌∷◌, ◌++◌, ap, sym, lit<, append_assoc, Result, Ok, Err, is_ok, OnOk, if◌then◌else◌}
 use Rattle.std.specs.Prelude.{encode_utf8}
 use Rattle.std.specs.List.{flat_map}
 use Rattle.std.proofs.lemmas.Str.{encode_ascii}
@@ -9,10 +9,6 @@ pub added : {T E : Type 0} (r : Result T E) (new out text whole : List ℕ) → 
 added (Ok x) new out text whole e same = e ∙ same
 added (Err x) new out text whole e same = tt
 
--- the first piece of a whole is written
-pub first_piece : (old out piece rest : List ℕ) → out ≡ old ++ piece → out ++ rest ≡ old ++ (piece ++ rest)
-first_piece old out piece rest e = ap (λ o. o ++ rest) e ∙ append_assoc old piece rest
-
 -- the next two pieces of what is left are written
 pub two_pieces : (out first second x y rest whole : List ℕ) → first ≡ out ++ x → second ≡ first ++ y → out ++ (x ++ y ++ rest) ≡ whole → second ++ rest ≡ whole
 two_pieces out first second x y rest whole e₁ e₂ all =
@@ -21,11 +17,6 @@ two_pieces out first second x y rest whole e₁ e₂ all =
 -- a piece behind another
 pub grown : (old first second x y : List ℕ) → first ≡ old ++ x → second ≡ first ++ y → second ≡ old ++ (x ++ y)
 grown old first second x y e₁ e₂ = e₂ ∙ ap (λ o. o ++ y) e₁ ∙ append_assoc old x y
-
--- a line feed and a piece of what is left are written
-pub next_line : (out first second y rest whole : List ℕ) → first ≡ out ++ encode_utf8 10 → second ≡ first ++ y → out ++ ((10 ∷ y) ++ rest) ≡ whole → second ++ rest ≡ whole
-next_line out first second y rest whole e₁ e₂ all =
-    two_pieces out first second (10 ∷ []) y rest whole (e₁ ∙ ap (λ c. out ++ c) (encode_ascii 10 (lit< tt))) e₂ all
 
 -- a space and a message close a whole
 pub closed : {T E : Type 0} (r : Result T E) (old out first second whole message : List ℕ) → out ≡ old ++ whole → first ≡ out ++ encode_utf8 32

@@ -30,7 +30,14 @@ type ReduceReduce<StorageT> = (
 type ShiftReduce<StorageT> = (TIdx<StorageT>, PIdx<StorageT>, StIdx<StorageT>);
 
 impl<'a> SpannedDiagnosticFormatter<'a> {
-    /// The texts of conflicts.
+    /// The texts of the conflicts, those between two reductions first, in the order in which they are listed. Each names the rules and
+    /// the token, and where the first rule is, as `file_location_msg` does, and then shows where the rules and the token are, and,
+    /// for a shift and a reduction, the symbols of the production that is reduced, or its own place where it has none. An empty line
+    /// ends each. A token is told by its name; the end token by `$`, and it is shown where a token of that name is, if there is one.
+    ///
+    /// The grammar's places have to fit the text (`YaccGrammar::spans_fit`), and the conflicts the grammar (`Conflicts::fit`). The
+    /// item sets and the table aren't looked at. Takes time linear in the tokens and in the text that is made, and logarithmic in the
+    /// number of lines for each line of that, and memory for that text. It fails only where memory is wanting.
     pub fn format_conflicts<StorageT: StorageIndex>(
         &self,
         alloc: Global,

@@ -14,7 +14,12 @@ use std::alloc::{AllocError, Global};
 use std::marker::Model;
 
 /// Makes texts that name places of a text and show them, with the lines that they touch. It borrows the text, and the path under
-/// which it names it.
+/// which it names it. Lines count from 1. A line ends in front of its line feed, and a carriage return directly in front of that isn't
+/// printed.
+///
+/// A place has to start and end between two characters of the text, but for that of a location. Each call fails only where memory
+/// is wanting, but for what `DiagnosticFormatter` says. It takes time linear in the text that it makes and in the lines that it shows,
+/// and logarithmic in the number of lines for each of these, and memory for the text that it makes.
 #[derive(Drop)]
 pub struct SpannedDiagnosticFormatter<'a> {
     pub(crate) source: Source<'a>,
@@ -30,7 +35,7 @@ impl<'a> Model for SpannedDiagnosticFormatter<'a> {
 }
 
 impl<'a> SpannedDiagnosticFormatter<'a> {
-    /// The formatter of a text and its path.
+    /// The formatter of a text and its path. Takes time linear in the text, and memory for each of its lines.
     pub fn new(alloc: Global, src: &'a str, path: &'a str) -> Result<Self, AllocError>
         ensures text { IfOk result (λ formatter. formatter.text ≡ src.now) }
         ensures path { IfOk result (λ formatter. formatter.path ≡ path.now) }
@@ -46,7 +51,8 @@ impl<'a> SpannedDiagnosticFormatter<'a> {
         self.source.nlc()
     }
 
-    /// A number of order.
+    /// The number with what makes a number of order of it: `1st`, `2nd`, `3rd`, `4th`, and so on by the last digit, but `th` where
+    /// it ends in 11, 12 or 13.
     pub fn ordinal(alloc: Global, v: usize) -> Result<String, AllocError>
         ensures { IfOk result (λ text. string_bytes text ≡ ordinal_text v) }
     {
@@ -54,7 +60,8 @@ impl<'a> SpannedDiagnosticFormatter<'a> {
         format!(in alloc; "{v}{suffix}")
     }
 
-    /// The message and a place.
+    /// The message, and where the span starts: `MESSAGE at PATH:LINE:COLUMN`, or `MESSAGE in PATH` where there is no span. Columns
+    /// count characters, from 1. Line and column are 0 where the start lies behind the text's end or inside a character.
     pub fn file_location_msg(
         &self,
         alloc: Global,
@@ -72,6 +79,9 @@ impl<'a> SpannedDiagnosticFormatter<'a> {
         Ok(out)
     }
 
+    /// The lines that the span touches, each as `LINE| TEXT`, and below each one what the span has of it underlined by `underline_c`,
+    /// once for each column, and at least once. The message stands behind the last underline. The last of several lines is left out
+    /// where it has no text. Columns are those of `unicode_width`.
     pub fn underline_span_with_text(
         &self,
         alloc: Global,
@@ -85,6 +95,7 @@ impl<'a> SpannedDiagnosticFormatter<'a> {
         self.prefixed_underline_span_with_text(alloc, "", span, s, underline_c)
     }
 
+    /// The same with a prefix, of at most 3 bytes, in front of each underline, in place of spaces.
     pub fn prefixed_underline_span_with_text(
         &self,
         alloc: Global,
@@ -103,6 +114,9 @@ impl<'a> SpannedDiagnosticFormatter<'a> {
         Ok(out)
     }
 
+    /// The line of the first span, as `LINE| TEXT`, and below it the underline of each span, with as many spaces between two as the
+    /// text between them has columns, and then the message. The spans have to be in order, and not to overlap; all should lie on
+    /// that line. The text is empty where there are none.
     pub fn underline_spans_on_line_with_text(
         &self,
         alloc: Global,

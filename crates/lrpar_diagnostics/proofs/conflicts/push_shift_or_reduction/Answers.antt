@@ -1,4 +1,4 @@
-use Rattle.std.proofs.Common.{◌∙◌, ◌++◌, append_assoc, refl}
+use Rattle.std.proofs.Common.{◌∙◌, append_assoc, refl}
 use Rattle.std.proofs.lemmas.Result.{on_ok_weaker}
 use Rattle.lrpar_diagnostics.proofs.conflicts.push_shift_or_reduction.Goals as goal
 

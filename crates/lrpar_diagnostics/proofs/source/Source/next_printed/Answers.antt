@@ -1,4 +1,4 @@
-use Rattle.std.proofs.Common.{◌<◌, ◌≤◌, ◌+◌, length, sym, ◌∙◌, arith}
+use Rattle.std.proofs.Common.{◌+◌, sym, ◌∙◌, arith}
 use Rattle.std.proofs.lemmas.Str.{IsUtf8-had}
 use Rattle.lrpar_text.specs.Lines.{line_end}
 use Rattle.lrpar_diagnostics.proofs.LineLemmas.{none_printed, next_printed, last_skipped, hidden_is_last, next_boundary}

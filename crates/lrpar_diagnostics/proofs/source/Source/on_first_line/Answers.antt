@@ -1,4 +1,4 @@
-use Rattle.std.proofs.Common.{◌≡◌, ◌<◌, ◌≤◌, length, get_or, sym, ap, ◌∙◌, arith}
+use Rattle.std.proofs.Common.{◌≡◌, length, get_or, ap, ◌∙◌, arith}
 use Rattle.lrpar_text.specs.Lines.{line_start}
 use Rattle.lrpar_text.specs.Span.{Extent}
 use Rattle.lrpar_diagnostics.proofs.ConflictLemmas.{group_of, not_first, part_at, same_item}

@@ -1,6 +1,5 @@
 use Rattle.std.proofs.Common.{◌≡◌, ◌≤◌, ◌-◌, [], ◌∷◌, ◌++◌, length}
 use Rattle.std.specs.List.{flat_map, join_by}
-use Rattle.std.specs.Str.{IsCharBoundary}
 use Rattle.std.specs.String.{string_bytes}
 use Rattle.lrpar_diagnostics.specs.Underline.{marked_line, printed_behind, printed_lines}
 use Rattle.lrpar_diagnostics.proofs.source.Source.push_block.Given as goal
