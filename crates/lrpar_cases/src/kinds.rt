@@ -2,9 +2,7 @@
 use crate::cases::Case;
 use crate::fault::Fault;
 use crate::subject::Subject;
-use crate::{
-    built, checks, commands, grammars, parse, parts, refusals, rows, stacks, underlines,
-};
+use crate::{built, checks, commands, grammars, parse, parts, refusals, rows, stacks, underlines};
 use std::alloc::Global;
 use std::rt::Files;
 

@@ -218,11 +218,7 @@ fn push_fault(came: &mut String, fault: DiagnosticFault) -> Result<(), Fault> {
 }
 
 // The message about the places, of the kind that the case tells.
-fn notice_of<'a>(
-    alloc: Global,
-    case: Case<'_, 'a>,
-    spans: &[Span],
-) -> Result<Notice<'a>, Fault>
+fn notice_of<'a>(alloc: Global, case: Case<'_, 'a>, spans: &[Span]) -> Result<Notice<'a>, Fault>
     ensures { IfOk result (λ notice. notice.spans.items ≡ spans.now) }
 {
     let kind = match case.value_or_nothing("kind") {
