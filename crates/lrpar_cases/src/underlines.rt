@@ -8,7 +8,9 @@ use crate::cases::Case;
 use crate::fault::Fault;
 use crate::read::{number_at, span_of};
 use crate::text::push_text;
-use lrpar_diagnostics::{DiagnosticFault, DiagnosticFormatter, SpannedDiagnosticFormatter};
+use lrpar_diagnostics::{
+    DiagnosticError, DiagnosticFault, DiagnosticFormatter, SpannedDiagnosticFormatter,
+};
 use lrpar_parser::span::{Span, Spanned, SpansKind};
 use std::alloc::Global;
 use std::error::Error;
@@ -90,6 +92,7 @@ fn push_shown(
 {
     match case.value_or_nothing("show") {
         "ordinal" => push_ordinal(came, alloc, case),
+        "lines" => push_lines(came, text, formatter),
         "location" => push_location(came, alloc, case, formatter, spans),
         "block" => push_block(came, alloc, case, text, formatter, spans),
         "row" => push_row(came, alloc, case, text, formatter, spans),
@@ -103,6 +106,18 @@ fn push_shown(
 fn push_ordinal(came: &mut String, alloc: Global, case: Case<'_, '_>) -> Result<(), Fault> {
     let ordinal = SpannedDiagnosticFormatter::ordinal(alloc, number_at(case, "number", 0)?)?;
     push_text(came, "ordinal", ordinal.as_str())
+}
+
+// The number of the last line.
+fn push_lines(
+    came: &mut String,
+    text: &str,
+    formatter: &SpannedDiagnosticFormatter<'_>,
+) -> Result<(), Fault> {
+    match formatter.nlc().byte_to_line_num(text.len()) {
+        Some(line) => Ok(writeln!(came, "lines {line}")?),
+        None => Ok(()),
+    }
 }
 
 // Where the first place lies.
@@ -184,9 +199,18 @@ fn push_error(
         return Err(Fault::Line(case.number, "places in the text are wanted"));
     }
     match formatter.format_error(alloc, notice_of(alloc, case, spans)?) {
-        Ok(error) => push_text(came, "error", error.text()),
+        Ok(error) => push_error_text(came, alloc, &error),
         Err(fault) => push_fault(came, fault),
     }
+}
+
+// The text of an error, and whether it prints as another one.
+fn push_error_text(came: &mut String, alloc: Global, error: &DiagnosticError) -> Result<(), Fault> {
+    push_text(came, "error", error.text())?;
+    if error.to_string(alloc)?.as_str() != error.text() {
+        came.push_str("differs\n")?;
+    }
+    Ok(())
 }
 
 // The places as those of a warning.
