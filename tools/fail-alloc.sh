@@ -137,6 +137,23 @@ not complete: condition C5 at state 4
 refuse_each_call 2 'rules 3, productions 4, tokens 3, states 6
 refused: chain too long at state 4, token $
 ' check "$work/sum.y" 1
+refuse_each_call 0 "Reduce/Reduce conflict, can reduce 'B' or 'C' with lookahead 'b' at $work/conflicts.y:1:33
+1| %start A %% A: 'a' 'b' | B 'b'; B: 'a' | C; C: 'a';
+                                   ^ First reduce
+1| %start A %% A: 'a' 'b' | B 'b'; B: 'a' | C; C: 'a';
+                                               ^ Second reduce
+1| %start A %% A: 'a' 'b' | B 'b'; B: 'a' | C; C: 'a';
+                       ^ Lookahead
+
+Shift/Reduce conflict, can shift 'b' or reduce 'B' at $work/conflicts.y:1:33
+1| %start A %% A: 'a' 'b' | B 'b'; B: 'a' | C; C: 'a';
+                       ^ Shift
+1| %start A %% A: 'a' 'b' | B 'b'; B: 'a' | C; C: 'a';
+                                   ^ Reduced rule
+1| %start A %% A: 'a' 'b' | B 'b'; B: 'a' | C; C: 'a';
+                                       - Reduced productions
+
+" conflicts "$work/conflicts.y"
 refuse_each_call 1 'Parsing error at line 1 column 5. Repair sequences found:
    1: Delete +
    2: Insert INT

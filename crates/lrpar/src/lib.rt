@@ -2,6 +2,7 @@
 //! the crates below.
 #![tactic(auto)]
 
+pub use lrpar_diagnostics as diagnostics;
 pub use lrpar_parser::{
     LexError, LexParseError, Lexeme, Lexer, LexerTypes, Node, NonStreamingLexer, ParseError,
     ParseRepair, ParserData, RIdx, RTParserBuilder, action_generictree, build, check, errors,

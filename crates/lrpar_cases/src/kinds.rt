@@ -2,7 +2,7 @@
 use crate::cases::Case;
 use crate::fault::Fault;
 use crate::subject::Subject;
-use crate::{built, checks, commands, grammars, parse, parts, refusals, rows, stacks};
+use crate::{built, checks, commands, grammars, parse, parts, refusals, rows, stacks, underlines};
 use std::alloc::Global;
 use std::rt::Files;
 
@@ -17,6 +17,7 @@ pub(crate) fn inputs_of(kind: &str) -> &'static [&'static str] {
         "check" => checks::INPUTS,
         "stack" => stacks::INPUTS,
         "full" | "stored" | "sets" => refusals::INPUTS,
+        "underlines" => underlines::INPUTS,
         _ => &[],
     }
 }
@@ -42,6 +43,7 @@ pub(crate) fn outcome<R: Files>(
         "full" => refusals::outcome_of_rows(alloc, case),
         "stored" => refusals::outcome_of_entries(alloc, case),
         "sets" => refusals::outcome_of_sets(alloc, case),
+        "underlines" => underlines::outcome(alloc, case),
         _ => Err(Fault::Line(case.number, "a kind of case that isn't known")),
     }
 }

@@ -23,6 +23,7 @@ mod stacks;
 mod steps;
 mod subject;
 mod text;
+mod underlines;
 mod verdict;
 
 use std::process::ExitCode;

@@ -18,6 +18,10 @@ pub(crate) enum Command<'a> {
         grammar: &'a str,
         cap: u16,
     },
+    /// Tells the conflicts of the table of the grammar of a file.
+    Conflicts {
+        grammar: &'a str,
+    },
     /// Computes what stands on standard input, by the repairs of a file.
     Calc {
         shifts: Option<usize>,
@@ -42,6 +46,9 @@ pub(crate) fn command_of(args: &[String]) -> Result<Command<'_>, Fault> {
         }),
         [name, words @ ..] if name.as_str() == "tree" => tree(words),
         [name, words @ ..] if name.as_str() == "check" => check(words),
+        [name, grammar] if name.as_str() == "conflicts" => Ok(Command::Conflicts {
+            grammar: grammar.as_str(),
+        }),
         [name, words @ ..] if name.as_str() == "calc" => calc(words),
         _ => Err(Fault::Usage),
     }

@@ -4,6 +4,7 @@
 mod arguments;
 mod calc;
 mod check;
+mod conflicts;
 mod demo;
 mod fault;
 mod files;

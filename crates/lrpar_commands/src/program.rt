@@ -4,6 +4,7 @@ ghost use Rattle.std.specs.Prelude.{◌≤◌, IfOk};
 use crate::arguments::{Command, TreePaths, command_of};
 use crate::calc::calc;
 use crate::check::check;
+use crate::conflicts::conflicts;
 use crate::demo::demo;
 use crate::fault::Fault;
 use crate::files::{file_text, text_if_any};
@@ -100,6 +101,10 @@ fn printed<R: Files, I: Read + Drop, O: Write, E: Write>(
         Command::Check { grammar, cap } => {
             Ok(status_of(check_file(rt, alloc, grammar, cap, out)?, FAULT))
         }
+        Command::Conflicts { grammar } => {
+            conflicts_of_file(rt, alloc, grammar, out)?;
+            Ok(SUCCESS)
+        }
         Command::Calc { shifts, repairs } => {
             let clean = calc_input(rt, alloc, repairs, shifts, input, out, err)?;
             Ok(status_of(clean, ERRORS))
@@ -139,6 +144,17 @@ fn check_file<R: Files, O: Write>(
 ) -> Result<bool, Fault> {
     let grammar = file_text(rt, alloc, grammar)?;
     check(alloc, grammar.as_str(), cap, out)
+}
+
+// Prints the conflicts of the table of a file's grammar, which they name by its path.
+fn conflicts_of_file<R: Files, O: Write>(
+    rt: &R,
+    alloc: Global,
+    path: &str,
+    out: &mut O,
+) -> Result<(), Fault> {
+    let grammar = file_text(rt, alloc, path)?;
+    conflicts(alloc, path, grammar.as_str(), out)
 }
 
 // Computes the lines of standard input, with the repairs of a file. Answers whether each has a number, and no error.

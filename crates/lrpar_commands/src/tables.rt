@@ -10,7 +10,7 @@ use std::alloc::Global;
 const CAP: u16 = 1_000;
 
 /// How many states a table may have.
-const MAX_STATES: usize = 10_000;
+pub(crate) const MAX_STATES: usize = 10_000;
 
 /// The checked table of a grammar's text, or what is refused for its chains of reductions.
 pub(crate) type Checked = Result<ParserData<u32>, Refused<u32>>;

@@ -1,0 +1,4 @@
+pub mod LineLemmas
+pub mod TextLemmas
+pub mod BlockLemmas
+pub mod ConflictLemmas

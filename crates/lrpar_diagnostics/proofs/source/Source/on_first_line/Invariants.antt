@@ -1,0 +1,8 @@
+use Rattle.std.proofs.Common.{◌≡◌, ◌<◌, ℕ, get_or}
+use Rattle.lrpar_text.specs.Lines.{line_start}
+use Rattle.lrpar_text.specs.Span.{Extent}
+use Rattle.lrpar_diagnostics.proofs.source.Source.on_first_line.Given as goal
+
+-- those so far start on that line
+abbrev pub invariant-loop-i : goal.invariant-loop-i
+invariant-loop-i l = (k : ℕ) (d : Extent) → k < l.i → line_start l.self.src.now (get_or l.spans k d).start ≡ l.line

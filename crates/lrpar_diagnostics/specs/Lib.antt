@@ -1,0 +1,6 @@
+pub mod Subject
+pub mod Columns
+pub mod Underline
+pub mod Location
+pub mod Blocks
+pub mod ConflictText

@@ -1,0 +1,68 @@
+-- Parts of a text, underlined on the lines that they touch.
+use Rattle.std.specs.Prelude.{ℕ, ◌+◌, ◌-◌, ◌≤◌, ◌||◌, nat_lt, Bool, List, [], ◌∷◌, ◌++◌, length, filter, min, max}
+use Rattle.std.specs.List.{join_by, range_with_len}
+use Rattle.lrpar_text.specs.Lines.{line_start, line_end, starts_line}
+use Rattle.lrpar_text.specs.Span.{Extent}
+use Rattle.lrpar_grammar.specs.SpansFit.{IsPartOf}
+use Rattle.lrpar_diagnostics.specs.Columns.{columns, repeated, text_end, margin, printed_line}
+
+-- the starts of the lines that start behind byte b, up to byte end
+abbrev pub starts_behind : List ℕ → ℕ → ℕ → List ℕ
+starts_behind src b end = filter (starts_line src) (range_with_len (b + 1) (end - b))
+
+-- Whether a line is printed of those that a part up to byte end touches behind its first one: it ends in front of that byte, and
+-- isn't the last one so, or it has text.
+abbrev pub is_printed : List ℕ → ℕ → ℕ → Bool
+is_printed src end b = nat_lt (line_end src b) end || nat_lt b (text_end src b)
+
+-- the starts of such lines behind the line that starts at byte b
+abbrev pub printed_behind : List ℕ → ℕ → ℕ → List ℕ
+printed_behind src b end = filter (is_printed src end) (starts_behind src b end)
+
+-- the starts of the lines that are printed of a part: that of its start, and such lines behind it
+abbrev pub printed_lines : List ℕ → Extent → List ℕ
+printed_lines src span = line_start src span.start ∷ printed_behind src (line_start src span.start) span.end
+
+-- where the underline of a part starts in the line that starts at byte b: no earlier than the line, and no later than its text ends
+abbrev pub mark_start : List ℕ → Extent → ℕ → ℕ
+mark_start src span b = min (max b span.start) (text_end src b)
+
+-- where it ends: no later than the line's text, and no earlier than it starts
+abbrev pub mark_end : List ℕ → Extent → ℕ → ℕ
+mark_end src span b = max (min (text_end src b) span.end) (mark_start src span b)
+
+-- the underline of the bytes from i up to j: a character for each column, and at least one
+abbrev pub underline : List ℕ → ℕ → ℕ → ℕ → List ℕ
+underline src c i j = repeated (max (columns src i j) 1) c
+
+-- the line that starts at byte b, and below it the prefix and the underline, each of which stands below its place
+abbrev pub marked_line : List ℕ → List ℕ → Extent → ℕ → ℕ → List ℕ
+marked_line src prefix span c b =
+    printed_line src b ++ prefix ++ repeated (length (margin src b) - length prefix) 32 ++ repeated (columns src b (mark_start src span b)) 32
+    ++ underline src c (mark_start src span b) (mark_end src span b)
+
+-- the printed lines of a part, each underlined, and behind the last one a message
+abbrev pub block_text : List ℕ → List ℕ → Extent → List ℕ → ℕ → List ℕ
+block_text src prefix span message c = join_by (marked_line src prefix span c) (10 ∷ []) (printed_lines src span) ++ 32 ∷ message
+
+-- the underlines of parts that follow on byte i, each behind as many spaces as there are columns in front of it
+abbrev pub marks_behind : List ℕ → ℕ → ℕ → List Extent → List ℕ
+marks_behind src c i [] = []
+marks_behind src c i (span ∷ spans) = repeated (columns src i span.start) 32 ++ underline src c span.start span.end ++ marks_behind src c span.end spans
+
+-- the line of a part, and below it the part's underline
+abbrev pub first_mark : List ℕ → ℕ → Extent → List ℕ
+first_mark src c span =
+    let b = line_start src span.start in
+    printed_line src b ++ repeated (length (margin src b)) 32 ++ repeated (columns src b (min span.start (text_end src b))) 32
+    ++ underline src c span.start span.end
+
+-- the line of the first of some parts, and below it the underlines of all and a message
+abbrev pub on_line_text : List ℕ → List Extent → List ℕ → ℕ → List ℕ
+on_line_text src [] message c = []
+on_line_text src (span ∷ spans) message c = first_mark src c span ++ marks_behind src c span.end spans ++ 32 ∷ message
+
+-- parts of a text behind byte i, in order, none of which overlaps the next
+abbrev pub FollowInOrder : List ℕ → ℕ → List Extent → Type 0
+FollowInOrder src i [] = Unit {0}
+FollowInOrder src i (span ∷ spans) = (i ≤ span.start) × IsPartOf src span × FollowInOrder src span.end spans

@@ -1,0 +1,275 @@
+//! A text with its lines, and how parts of it are shown: the lines that they touch, with the parts underlined.
+ghost use Rattle.std.specs.Prelude.{◌≡◌, ◌<◌, ◌≤◌, ◌∷◌, ◌++◌, [], IfOk, IfSome, MatchOption, OnOk, length};
+ghost use Rattle.std.specs.String.{string_bytes};
+ghost use Rattle.std.specs.Str.{IsCharBoundary, IsUtf8};
+ghost use Rattle.lrpar_text.specs.Lines.{column_of, line_end, line_of, line_start, line_table};
+ghost use Rattle.lrpar_diagnostics.specs.Columns.{columns, margin, printed_line, repeated, text_end};
+ghost use Rattle.lrpar_diagnostics.specs.Underline.{FollowInOrder, block_text, first_mark, is_printed, marked_line, marks_behind, on_line_text, printed_behind, underline};
+ghost use Rattle.lrpar_grammar.specs.SpansFit.{IsPartOf};
+
+use lrpar_text::lines::NewlineCache;
+use lrpar_text::span::Span;
+use std::alloc::{AllocError, Global};
+use unicode_width::UnicodeWidthStr;
+
+/// A text and its lines.
+#[derive(Drop)]
+pub(crate) struct Source<'a> {
+    src: &'a str,
+    nlc: NewlineCache,
+    ghost starts_of_src: { nlc.starts ≡ (line_table src.now).starts },
+    ghost len_of_src: { nlc.len ≡ length src.now },
+    ghost text_of_src: { ∥ IsUtf8 src.now ∥₁ },
+}
+
+impl<'a> Source<'a> {
+    /// The text with its lines.
+    pub(crate) fn new(alloc: Global, src: &'a str) -> Result<Self, AllocError>
+        ensures { IfOk result (λ source. source.src.now ≡ src.now) }
+    {
+        let nlc = NewlineCache::new(alloc, src)?;
+        Ok(Source { src, nlc })
+    }
+
+    /// The lines.
+    pub(crate) fn nlc(&self) -> &NewlineCache
+        ensures { result.now ≡ line_table self.now.src.now }
+    {
+        &self.nlc
+    }
+
+    /// The line of a byte, counted from 1.
+    pub(crate) fn line(&self, byte: usize) -> usize
+        requires { byte ≤ length self.now.src.now }
+        ensures { result ≡ line_of self.now.src.now byte }
+    {
+        self.nlc.byte_to_line_num(byte).unwrap()
+    }
+
+    /// The line and the column of a byte, each counted from 1: 0 and 0 behind the text's end and inside a character.
+    pub(crate) fn place(&self, byte: usize) -> (usize, usize)
+        ensures inside { IsCharBoundary self.now.src.now byte → (result.0 ≡ line_of self.now.src.now byte) × (result.1 ≡ column_of self.now.src.now byte) }
+        ensures outside { ¬ IsCharBoundary self.now.src.now byte → (result.0 ≡ 0) × (result.1 ≡ 0) }
+    {
+        match self.nlc.byte_to_line_num_and_col_num(self.src, byte) {
+            Some(place) => place,
+            None => (0, 0),
+        }
+    }
+
+    /// Where the line of a byte starts.
+    pub(crate) fn line_start(&self, byte: usize) -> usize
+        requires { byte ≤ length self.now.src.now }
+        ensures start { result ≡ line_start self.now.src.now byte }
+        ensures boundary { IsCharBoundary self.now.src.now result }
+    {
+        self.nlc.span_line_bytes(Span::new(byte, byte)).0
+    }
+
+    // Where the line of a byte ends.
+    fn line_end(&self, byte: usize) -> usize
+        requires { byte ≤ length self.now.src.now }
+        ensures end { result ≡ line_end self.now.src.now byte }
+        ensures boundary { IsCharBoundary self.now.src.now result }
+    {
+        self.nlc.span_line_bytes(Span::new(byte, byte)).1
+    }
+
+    // Where the text of the line that starts at a byte ends.
+    fn text_end(&self, start: usize) -> usize
+        requires { start ≤ length self.now.src.now }
+        ensures end { result ≡ text_end self.now.src.now start }
+        ensures behind { start ≤ result }
+        ensures boundary { IsCharBoundary self.now.src.now result }
+    {
+        let end = self.line_end(start);
+        let bytes = self.src.as_bytes();
+        if start < end && end < bytes.len() && bytes[end - 1] == b'\r' {
+            end - 1
+        } else {
+            end
+        }
+    }
+
+    // How many columns a part of the text takes.
+    fn columns(&self, start: usize, end: usize) -> usize
+        requires start { IsCharBoundary self.now.src.now start }
+        requires end { IsCharBoundary self.now.src.now end }
+        requires ordered { start ≤ end }
+        ensures { result ≡ columns self.now.src.now start end }
+    {
+        self.src[start..end].width()
+    }
+
+    // Adds the line that starts at a byte, with a line feed. Answers how many bytes stand in front of the line's text.
+    fn push_line(&self, out: &mut String, start: usize) -> Result<usize, AllocError>
+        requires { IsCharBoundary self.now.src.now start }
+        ensures text { OnOk result (string_bytes out.new ≡ string_bytes out.old ++ printed_line self.now.src.now start) }
+        ensures margin { IfOk result (λ bytes. bytes ≡ length (margin self.now.src.now start)) }
+    {
+        let number = self.line(start);
+        let before = out.len();
+        write!(out, "{number}| ")?;
+        let margin = out.len() - before;
+        out.push_str(&self.src[start..self.text_end(start)])?;
+        out.push('\n')?;
+        Ok(margin)
+    }
+
+    // Adds the underline of a part of the text.
+    fn push_underline(
+        &self,
+        out: &mut String,
+        start: usize,
+        end: usize,
+        underline_c: char,
+    ) -> Result<(), AllocError>
+        requires start { IsCharBoundary self.now.src.now start }
+        requires end { IsCharBoundary self.now.src.now end }
+        requires ordered { start ≤ end }
+        ensures { OnOk result (string_bytes out.new ≡ string_bytes out.old ++ underline self.now.src.now underline_c start end) }
+    {
+        push_repeated(out, underline_c, self.columns(start, end).max(1))
+    }
+
+    // Adds the line that starts at a byte, with what the span has of it underlined.
+    fn push_marked(
+        &self,
+        out: &mut String,
+        prefix: &str,
+        span: Span,
+        underline_c: char,
+        start: usize,
+    ) -> Result<(), AllocError>
+        requires start { IsCharBoundary self.now.src.now start }
+        requires span { IsPartOf self.now.src.now span }
+        ensures { OnOk result (string_bytes out.new ≡ string_bytes out.old ++ marked_line self.now.src.now prefix.now span underline_c start) }
+    {
+        let margin = self.push_line(out, start)?;
+        out.push_str(prefix)?;
+        push_repeated(out, ' ', margin.saturating_sub(prefix.len()))?;
+        let text_end = self.text_end(start);
+        let from = start.max(span.start()).min(text_end);
+        let to = text_end.min(span.end()).max(from);
+        push_repeated(out, ' ', self.columns(start, from))?;
+        self.push_underline(out, from, to, underline_c)
+    }
+
+    // The start of the next line that is printed behind the one that starts at a byte, of a part up to byte `end`.
+    fn next_printed(&self, start: usize, end: usize) -> Option<usize>
+        requires start { start ≤ length self.now.src.now }
+        requires end { end ≤ length self.now.src.now }
+        ensures next { MatchOption result (printed_behind self.now.src.now start end ≡ [])
+            (λ next. printed_behind self.now.src.now start end ≡ next ∷ printed_behind self.now.src.now next end) }
+        ensures further { IfSome result (λ next. (start < next) × (next ≤ end)) }
+        ensures boundary { IfSome result (λ next. IsCharBoundary self.now.src.now next) }
+    {
+        let line_end = self.line_end(start);
+        if line_end >= end {
+            return None;
+        }
+        let next = line_end + 1;
+        if self.is_printed(next, end) {
+            Some(next)
+        } else {
+            None
+        }
+    }
+
+    // Whether the line that starts at a byte is printed, of a part up to byte `end` that starts in an earlier line.
+    fn is_printed(&self, start: usize, end: usize) -> bool
+        requires { start ≤ length self.now.src.now }
+        ensures { result ≡ is_printed self.now.src.now end start }
+    {
+        self.line_end(start) < end || start < self.text_end(start)
+    }
+
+    /// Adds the lines that a part of the text touches, each underlined, and behind the last one the message.
+    pub(crate) fn push_block(
+        &self,
+        out: &mut String,
+        prefix: &str,
+        span: Span,
+        message: &str,
+        underline_c: char,
+    ) -> Result<(), AllocError>
+        requires { IsPartOf self.now.src.now span }
+        ensures { OnOk result (string_bytes out.new ≡ string_bytes out.old ++ block_text self.now.src.now prefix.now span message.now underline_c) }
+    {
+        let mut start = self.line_start(span.start());
+        self.push_marked(out, prefix, span, underline_c, start)?;
+        while let Some(next) = self.next_printed(start, span.end()) {
+            out.push('\n')?;
+            self.push_marked(out, prefix, span, underline_c, next)?;
+            start = next;
+        }
+        out.push(' ')?;
+        out.push_str(message)
+    }
+
+    /// Adds the line of the first part of the text, and below it the underlines of all and the message.
+    pub(crate) fn push_on_line(
+        &self,
+        out: &mut String,
+        spans: &[Span],
+        message: &str,
+        underline_c: char,
+    ) -> Result<(), AllocError>
+        requires { FollowInOrder self.now.src.now 0 spans.now }
+        ensures { OnOk result (string_bytes out.new ≡ string_bytes out.old ++ on_line_text self.now.src.now spans.now message.now underline_c) }
+    {
+        let Some((first, others)) = spans.split_first() else {
+            return Ok(());
+        };
+        self.push_first(out, *first, underline_c)?;
+        self.push_marks(out, first.end(), others, underline_c)?;
+        out.push(' ')?;
+        out.push_str(message)
+    }
+
+    // Adds the line of a part of the text, and below it the part's underline.
+    fn push_first(&self, out: &mut String, span: Span, underline_c: char) -> Result<(), AllocError>
+        requires { IsPartOf self.now.src.now span }
+        ensures { OnOk result (string_bytes out.new ≡ string_bytes out.old ++ first_mark self.now.src.now underline_c span) }
+    {
+        let start = self.line_start(span.start());
+        let margin = self.push_line(out, start)?;
+        push_repeated(out, ' ', margin)?;
+        let from = span.start().min(self.text_end(start));
+        push_repeated(out, ' ', self.columns(start, from))?;
+        self.push_underline(out, span.start(), span.end(), underline_c)
+    }
+
+    // Adds the underlines of parts that follow on a byte, each behind as many spaces as there are columns in front of it.
+    fn push_marks(
+        &self,
+        out: &mut String,
+        behind: usize,
+        spans: &[Span],
+        underline_c: char,
+    ) -> Result<(), AllocError>
+        requires behind { IsCharBoundary self.now.src.now behind }
+        requires order { FollowInOrder self.now.src.now behind spans.now }
+        ensures { OnOk result (string_bytes out.new ≡ string_bytes out.old ++ marks_behind self.now.src.now underline_c behind spans.now) }
+    {
+        let mut end = behind;
+        let mut rest = spans;
+        while let Some((span, others)) = rest.split_first() {
+            push_repeated(out, ' ', self.columns(end, span.start()))?;
+            self.push_underline(out, span.start(), span.end(), underline_c)?;
+            end = span.end();
+            rest = others;
+        }
+        Ok(())
+    }
+}
+
+// Adds a character so many times.
+fn push_repeated(out: &mut String, c: char, count: usize) -> Result<(), AllocError>
+    ensures { OnOk result (string_bytes out.new ≡ string_bytes out.old ++ repeated count c) }
+{
+    for _i in 0..count {
+        out.push(c)?;
+    }
+    Ok(())
+}
