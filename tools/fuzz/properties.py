@@ -99,7 +99,7 @@ def leaves(case):
     case.language(language)
     text = text_by(chance, language, any_tokens(chance, language.grammar))
     sequences = any_sequences(chance, language.grammar)
-    shifts = chance.choice((None, None, None, 1, 2, 4, 100))
+    shifts = chance.choice((None, None, None, 1, 1, 2, 4, 100))
     found = parsed(case, text.text, repairs=repairs_of(chance, sequences), shifts=shifts)
     if found is None:
         return None
@@ -570,7 +570,7 @@ def valued_factor(chance, depth):
     if depth > 0 and chance.random() < 0.4:
         text, value = valued(chance, depth - 1)
         return f"({text}{gap(chance)})", value
-    number = chance.choice((chance.randrange(10), chance.randrange(1000), chance.randrange(2**40), MOST - 1, MOST))
+    number = chance.choice([chance.randrange(10), chance.randrange(100), chance.randrange(1000)] * 5 + [2**32, MOST - 1, MOST])
     return chance.choice(("", "", "00")) + str(number), number if number < MOST else None
 
 

@@ -163,7 +163,7 @@ def any_tokens(chance, grammar):
         return []
     if chance.random() < 0.15:
         return [chance.choice(names) for _ in range(chance.randrange(12))]
-    tokens = sentence(chance, grammar)
+    tokens = sentence(chance, grammar, chance.choice((10, 40, 40, 200)))
     for _ in range(chance.choice((0, 1, 1, 1, 2, 3, 5))):
         tokens, _ = changed(chance, tokens, names)
     return tokens
@@ -173,11 +173,16 @@ def any_tokens(chance, grammar):
 
 
 def any_sequences(chance, grammar):
+    """some sequences, and in half of all cases each of one step"""
     names = grammar.tokens()
     count = chance.choice((0, 1, 1, 2, 3, 5, 9, 10, 11, 20, 40))
     if chance.random() < 0.02:
         count = chance.choice((99, 100, 101, 300))
-    return [any_sequence(chance, names) for _ in range(count)]
+    sequences = [any_sequence(chance, names) for _ in range(count)]
+    if chance.random() < 0.5:
+        sequences += [[("delete",)], [("shift",)]] + [[("insert", name)] for name in names]
+        chance.shuffle(sequences)
+    return sequences
 
 
 def any_sequence(chance, names):
