@@ -14,8 +14,9 @@ import tempfile
 import time
 import traceback
 
+from case import Case, Wrong
 from program import Program
-from properties import PLAN, PROPERTIES, Case, Wrong
+from properties import PLAN, PROPERTIES
 
 HERE = os.path.dirname(os.path.abspath(__file__))
 PROGRAM = os.path.join(HERE, "..", "..", "crates", "lrpar_program", "out", "lrpar_program")
