@@ -191,12 +191,14 @@ def finished(chance, rules, declared, start=None):
         start = None
     grammar = Grammar(rules, start, declared)
     texts = iter(chance.sample(PRINTED, len(PRINTED)))
-    for name, text in zip(grammar.tokens(), texts):
-        if chance.random() < 0.2:
+    tokens = grammar.tokens()
+    for name, text in zip(tokens, texts):
+        if chance.random() < 0.2 and text not in tokens:
             grammar.printed[name] = text
     return grammar
 
 
+# Printed texts. Those of a grammar differ, so that a printed sequence stands for one sequence alone.
 PRINTED = ["plus", "a word", "the 'end'", "→", "🦀🦀", "%%", "//", " ", "x"]
 
 KINDS = random_grammar, leading_grammar, ladder_grammar, layered_grammar

@@ -2,15 +2,15 @@
 from case import parsed, want
 from checks import checked
 from grammars import any_grammar, ladder_grammar, layered_grammar, leading_grammar, random_grammar, text_of
+from known import list_with_marks, sum_by_demo, value_by_calc
 from leaves import see_tree
-from sums import sum_by_demo, value_by_calc
 from texts import UNKNOWN, any_tokens, changed, derivation, language_of, leaves_of, printed_tree, text_by
 
 
 def sentences(case):
     chance = case.chance
     if chance.random() < 0.1:
-        return chance.choice((sum_by_demo, value_by_calc))(case)
+        return chance.choice((list_with_marks, sum_by_demo, value_by_calc))(case)
     kinds = (random_grammar, leading_grammar, ladder_grammar, layered_grammar, layered_grammar)
     for _ in range(4):
         grammar = any_grammar(chance, kinds)

@@ -1,4 +1,4 @@
-"""Sums by `demo` and values by `calc`, which are known as they are made."""
+"""Sums by `demo`, values by `calc` and lists with marks, whose answers are known as they are made."""
 from case import want
 
 
@@ -63,3 +63,29 @@ def fitting(left, right, joined_by):
 
 def gap(chance):
     return chance.choice(("", " ", " ", "\t"))
+
+
+def list_with_marks(case):
+    """a list of `a` in which each `b` is an error that a deletion mends, with lexemes enough behind it"""
+    chance = case.chance
+    recursion = chance.choice(("| S 'a'", "'a' | S 'a'", "| 'a' S", "'a' | 'a' S"))
+    case.file("g.y", f"%token b %% S: {recursion}; Useless: b;")
+    case.file("g.lex", "a 'a'\nb 'b'")
+    shifts = chance.choice((1, 2, 3, 9))
+    runs = [chance.randint(shifts, shifts + 5) for _ in range(chance.choice((1, 2, 5, 30, 100)))]
+    repairs = chance.sample(["shift", "insert 'b'", "delete shift insert 'b'", "delete delete insert 'b' delete"], chance.randrange(5))
+    answer = case.tree("b" + "b".join("a" * run for run in runs), repairs="\n".join([*repairs, "delete"]), shifts=shifts)
+    places = [1 + sum(runs[:number]) + number for number in range(len(runs))]
+    errors = "".join(f"Parsing error at line 1 column {place}. Repair sequences found:\n   1: Delete b\n" for place in places)
+    wanted = errors + list_tree(sum(runs), "| S" in recursion, not recursion.startswith("'"))
+    want((answer.status, answer.out.decode()) == (1, wanted), wanted, answer.out.decode())
+
+
+def list_tree(count, is_left, has_empty):
+    """the text of the tree of so many `a`"""
+    levels = count + has_empty
+    lines = [" " * depth + "S" for depth in range(levels)]
+    leaves = [" " * depth + "a a" for depth in range(1, count + 1)]
+    if is_left:
+        return "\n".join(lines + leaves[::-1]) + "\n"
+    return "\n".join(line for level in zip(lines, leaves + [None]) for line in level if line) + "\n"
