@@ -120,14 +120,14 @@ def leading_grammar(chance, rules_len, tokens_len):
 
     def alternative(first):
         rest = [
-            token(chance.choice(tokens)) if chance.random() < 0.5 else rule(chance.choice(names))
-            for _ in range(chance.choice((0, 0, 1, 1, 2, 3)))
+            token(chance.choice(tokens)) if chance.random() < 0.4 else rule(chance.choice(names))
+            for _ in range(chance.choice((0, 1, 1, 2, 2, 3, 4)))
         ]
         return [token(first), *rest]
 
     rules = []
     for name in names:
-        firsts = chance.sample(tokens, min(len(tokens), chance.choice((1, 2, 2, 3))))
+        firsts = chance.sample(tokens, min(len(tokens), chance.choice((1, 2, 2, 3, 3, 4))))
         rules.append((name, [[token(firsts[0])]] + [alternative(first) for first in firsts[1:]]))
     return finished(chance, rules, declared)
 
@@ -207,11 +207,10 @@ KINDS = random_grammar, leading_grammar, ladder_grammar, layered_grammar
 def any_grammar(chance, kinds=KINDS):
     """a grammar of one of the kinds, mostly small"""
     rules_len = chance.choice((1, 1, 2, 2, 3, 3, 4, 5, 6, 8))
-    kind = chance.choice(kinds)
-    if chance.random() < 0.02:
-        rules_len = chance.choice((12, 16, 24, 36))
-        kind = chance.choice([one for one in kinds if one is not random_grammar] or [kind])
-    return kind(chance, rules_len, chance.choice((1, 2, 2, 3, 3, 4, 5)))
+    tokens_len = chance.choice((1, 2, 2, 3, 3, 4, 5))
+    if chance.random() < 0.03:
+        rules_len, tokens_len = chance.choice((12, 16, 24, 36)), chance.choice((5, 8, 12))
+    return chance.choice(kinds)(chance, rules_len, tokens_len)
 
 
 # Texts.

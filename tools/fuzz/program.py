@@ -112,9 +112,10 @@ def refusal_complaint(command, words, files, out, err):
         return "standard output, with status 2"
     if err == USAGE:
         return None
-    if command in (b"tree", b"calc") and err == "lrpar: shifts must be at least 1\n":
+    has_option = command in (b"tree", b"calc") and words[:1] == [b"--shifts"]
+    if has_option and err == "lrpar: shifts must be at least 1\n":
         return None
-    paths = words[2:] if words[:1] == [b"--shifts"] else words
+    paths = words[2:] if has_option else words
     if unread(command, paths, files, err):
         return None
     if command in (b"tree", b"check", b"conflicts") and is_grammar_fault(err, content_at(files, paths, 0)):
