@@ -2,7 +2,7 @@
 import re
 
 from case import want
-from grammars import any_grammar, text_of
+from grammars import Grammar, any_grammar, rule, text_of
 from program import USAGE
 
 
@@ -22,7 +22,9 @@ def check(case):
     want(passed == sorted(passed), "a cap that passes, and each larger one", list(zip(caps, passed)))
     want(len(set(results)) <= 1, "one answer of completeness by all caps that pass", results)
     see_numbers(grammar, states, found)
+    want(not grammar.deterministic or set(results) == {"complete"}, "a complete table", found)
     see_another_text(case, grammar, caps[-1], found[-1])
+    see_useless_rule(case, grammar, caps[-1], found[-1])
     see_conflicts(case, text, found[-1])
     see_tree_agrees(case, grammar, found[caps.index(1000)])
 
@@ -67,6 +69,15 @@ def see_another_text(case, grammar, cap, wanted):
     """sees that another text of the same grammar, with other blanks and quotes, gives the same answer"""
     came = checked(case, case.file("other.y", text_of(case.chance, grammar)), cap)
     want(came == wanted, wanted, came)
+
+
+def see_useless_rule(case, grammar, cap, wanted):
+    """sees that a rule which nothing uses changes the sizes alone, and not the number of states"""
+    name = "useless"
+    more = Grammar([*grammar.rules, (name, [[rule(name), rule(name)], []])], grammar.start, grammar.declared, grammar.printed)
+    came = checked(case, case.file("more.y", text_of(case.chance, more)), cap)
+    states = see_sizes(more, {came[0]})
+    want((states, came[1:]) == (see_sizes(grammar, {wanted[0]}), wanted[1:]), wanted, came)
 
 
 def see_conflicts(case, text, found):

@@ -18,12 +18,13 @@ class Piece(NamedTuple):
 
 @dataclass
 class Grammar:
-    """Rules with alternatives, in order; a name may come more than once."""
+    """Rules with alternatives, in order; a name may come more than once. It is `deterministic` if it is known to be LR(1)."""
 
     rules: list
     start: str = None
     declared: list = field(default_factory=list)
     printed: dict = field(default_factory=dict)
+    deterministic: bool = False
 
     def start_rule(self):
         return self.start or self.rules[0][0]
@@ -129,7 +130,7 @@ def leading_grammar(chance, rules_len, tokens_len):
     for name in names:
         firsts = chance.sample(tokens, min(len(tokens), chance.choice((1, 2, 2, 3, 3, 4))))
         rules.append((name, [[token(firsts[0])]] + [alternative(first) for first in firsts[1:]]))
-    return finished(chance, rules, declared)
+    return finished(chance, rules, declared, deterministic=True)
 
 
 def ladder_grammar(chance, rules_len, tokens_len):
@@ -146,7 +147,7 @@ def ladder_grammar(chance, rules_len, tokens_len):
     atoms = [[token(atom)], [token(opening), rule(names[0]), token(closing)]]
     chance.shuffle(atoms)
     rules.append((names[-1], atoms))
-    return finished(chance, rules, declared, names[0])
+    return finished(chance, rules, declared, names[0], deterministic=True)
 
 
 def layered_grammar(chance, rules_len, tokens_len):
@@ -180,7 +181,7 @@ def layer(chance, name, below, sign):
     )()
 
 
-def finished(chance, rules, declared, start=None):
+def finished(chance, rules, declared, start=None, deterministic=False):
     """the grammar of these rules, with a start, printed texts and declared tokens"""
     if start is None and chance.random() < 0.3:
         start = chance.choice(rules)[0]
@@ -189,7 +190,7 @@ def finished(chance, rules, declared, start=None):
         chance.shuffle(rules)
     elif start == head and chance.random() < 0.5:
         start = None
-    grammar = Grammar(rules, start, declared)
+    grammar = Grammar(rules, start, declared, deterministic=deterministic)
     texts = iter(chance.sample(PRINTED, len(PRINTED)))
     tokens = grammar.tokens()
     for name, text in zip(tokens, texts):

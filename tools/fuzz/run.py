@@ -14,6 +14,9 @@ import tempfile
 import time
 import traceback
 
+# No folder of compiled modules in the repository.
+sys.dont_write_bytecode = True
+
 from case import Case, Wrong
 from program import Program
 from properties import PLAN, PROPERTIES
@@ -48,9 +51,9 @@ def numbers(first, cases, only):
 class Worker:
     """What one process has: the program, and a folder for the files of its case."""
 
-    def __init__(self, path, seed, keep):
+    def __init__(self, path, seed, keep, folder):
         self.program, self.seed, self.keep = Program(path), seed, keep
-        self.folder = tempfile.mkdtemp(prefix="fuzz.")
+        self.folder = os.path.join(folder, str(os.getpid()))
 
     def failed(self, number):
         """makes the case, and gives what is wrong with it, if anything is; then its files are kept"""
@@ -92,15 +95,30 @@ def write(folder, name, content):
         out.write(content)
 
 
-def begin(path, seed, keep):
+def begin(*words):
     """what each process begins with; trees are gone through by recursion"""
     global worker
     sys.setrecursionlimit(20_000)
-    worker = Worker(path, seed, keep)
+    worker = Worker(*words)
 
 
 def failed(number):
+    """what is wrong with a case, in one of these processes"""
     return worker.failed(number)
+
+
+def run_cases(words, shared):
+    """runs the cases, tells of each that fails, and gives their number"""
+    failures, begun, told = 0, time.monotonic(), time.monotonic()
+    with multiprocessing.Pool(words.jobs, begin, shared) as pool:
+        for done, wrong in enumerate(pool.imap(failed, numbers(words.first, words.cases, words.only), 20), 1):
+            if wrong:
+                failures += 1
+                print(wrong, flush=True)
+            if time.monotonic() - told > TOLD:
+                told = time.monotonic()
+                print(f"{done} cases so far, {done / (told - begun):.0f} a second", flush=True)
+    return failures
 
 
 def main(arguments):
@@ -108,16 +126,8 @@ def main(arguments):
     path = os.path.abspath(words.program)
     if not os.access(path, os.X_OK):
         sys.exit(f"no program at {words.program}")
-    failures, begun, told = 0, time.monotonic(), time.monotonic()
-    with multiprocessing.Pool(words.jobs, begin, (path, words.seed, words.keep)) as pool:
-        asked = numbers(words.first, words.cases, words.only)
-        for done, wrong in enumerate(pool.imap(failed, asked, 20), 1):
-            if wrong:
-                failures += 1
-                print(wrong, flush=True)
-            if time.monotonic() - told > TOLD:
-                told = time.monotonic()
-                print(f"{done} cases so far, {done / (told - begun):.0f} a second", flush=True)
+    with tempfile.TemporaryDirectory(prefix="fuzz.") as folder:
+        failures = run_cases(words, (path, words.seed, words.keep, folder))
     print(f"{words.cases} cases, {failures} failed")
     return 1 if failures else 0
 
