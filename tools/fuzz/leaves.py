@@ -1,10 +1,23 @@
-"""Leaves: a tree's leaves are the lexemes as first repaired, and its nodes are productions. Repairs: what is listed does work."""
+"""Leaves: a tree's leaves are the lexemes as first repaired, and its nodes are productions. Repairs: just those are listed that
+work."""
+from typing import NamedTuple
+
 import answers
 from case import parsed, want
 from texts import any_language, any_sequences, any_tokens, repairs_of, text_by
 
 # So many lexemes have to follow a repair where the words don't say it.
 SHIFTS = 3
+
+
+class Seen(NamedTuple):
+    """A text with the sequences that were handed in, and for each error its lexeme and the sequences that it lists."""
+
+    language: object
+    text: object
+    sequences: list
+    steps: list
+    shifts: int
 
 
 def leaves(case):
@@ -22,7 +35,7 @@ def leaves(case):
     see_tree(language.grammar, text, errors, tree, steps)
     see_unrepaired(case, text, errors)
     see_more_shifts(case, text, sequences, errors, shifts or SHIFTS)
-    return language, text, errors, steps, shifts or SHIFTS
+    return Seen(language, text, sequences, steps, shifts or SHIFTS)
 
 
 def see_errors(grammar, text, errors, sequences, shifts):
@@ -131,21 +144,35 @@ def see_more_shifts(case, text, sequences, errors, shifts):
 
 
 def repairs(case):
+    chance = case.chance
     seen = leaves(case)
     if seen is None:
         return
-    language, text, errors, steps, shifts = seen
-    listed = [(number, sequence) for number, (_, sequences) in enumerate(steps) for sequence in sequences]
-    for number, sequence in case.chance.sample(listed, min(3, len(listed))):
-        see_repair(case, language, text, steps, number, sequence, shifts)
+    listed = [(number, sequence) for number, (_, sequences) in enumerate(seen.steps) for sequence in sequences]
+    for number, sequence in chance.sample(listed, min(3, len(listed))):
+        see_repair(case, seen, number, sequence, True)
+    others = [(number, sequence) for number in range(len(seen.steps)) for sequence in unlisted(seen, number)]
+    for number, sequence in chance.sample(others, min(2, len(others))):
+        see_repair(case, seen, number, sequence, False)
 
 
-def see_repair(case, language, text, steps, number, sequence, shifts):
-    at = steps[number][0]
-    given, past = first_repaired(text, steps[:number])
+def unlisted(seen, number):
+    """the sequences that an error doesn't list, but those with more steps than there are lexemes to take"""
+    at, listed = seen.steps[number]
+    grammar = seen.language.grammar
+    fitting = [sequence for sequence in seen.sequences if printed_sequence(grammar, seen.text, at, sequence) is not None]
+    return [sequence for sequence in fitting if sequence not in listed]
+
+
+def see_repair(case, seen, number, sequence, works):
+    """sees that the text with a sequence in place has no error before the lexemes that have to follow, or has one, if it doesn't work"""
+    text, at = seen.text, seen.steps[number][0]
+    given, past = first_repaired(text, seen.steps[:number])
     given += kept(text, past, at) + repaired(text, at, sequence)
     behind = kept(text, after(at, sequence), len(text.tokens))
-    mended = text_by(case.chance, language, [name for name, _ in given + behind])
-    found, tree = parsed(case, mended.text)
-    wanted = f"no error before lexeme {len(given) + shifts} of the text with {sequence} in place at error {number}"
-    want(all(mended.places().get(error.place, -1) >= len(given) + shifts for error in found), wanted, found)
+    mended = text_by(case.chance, seen.language, [name for name, _ in given + behind])
+    found, _ = parsed(case, mended.text)
+    end = len(given) + seen.shifts
+    is_early = any(mended.places().get(error.place, -1) < end for error in found)
+    wanted = f"{'no' if works else 'an'} error before lexeme {end} of the text with {sequence} in place at error {number}"
+    want(is_early != works, wanted, found)
