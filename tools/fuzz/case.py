@@ -1,0 +1,80 @@
+"""A case: its files and its runs, and what is asked of each run."""
+import os
+
+import answers
+from grammars import text_of
+from program import complaint
+
+
+class Wrong(Exception):
+    """What was wanted, and what came."""
+
+    def __init__(self, wanted, came):
+        super().__init__(wanted, came)
+        self.wanted, self.came = wanted, came
+
+
+def want(is_met, wanted, came):
+    if not is_met:
+        raise Wrong(wanted, came)
+
+
+class Case:
+    """One case: its chance, its folder with files, and its runs."""
+
+    def __init__(self, chance, program, folder, is_repeated):
+        self.chance, self.program, self.folder, self.is_repeated = chance, program, folder, is_repeated
+        self.files, self.runs = {}, []
+
+    def file(self, name, content):
+        """writes a file, and gives its path"""
+        content = content if isinstance(content, bytes) else content.encode()
+        with open(os.path.join(self.folder, name), "wb") as out:
+            out.write(content)
+        self.files[name.encode()] = content
+        return name
+
+    def run(self, *words, given=b""):
+        """the answer, which has to be of a known form, and the same where the case is repeated"""
+        words = [word if isinstance(word, bytes) else word.encode() for word in words]
+        answer = self.run_once(words, given)
+        if self.is_repeated:
+            again = self.run_once(words, given)
+            want(again[:3] == answer[:3], answer[:3], again[:3])
+        return answer
+
+    def run_once(self, words, given):
+        answer = self.program.run(words, given, self.folder)
+        self.runs.append((words, given, dict(self.files), answer))
+        wrong = complaint(words, self.files, answer)
+        want(wrong is None, "an answer of a known form, within the limits", wrong)
+        return answer
+
+    def tree(self, text, repairs=None, shifts=None):
+        """the answer of `tree` to a text, by the grammar and the rules of the case"""
+        words = ["tree"] + (["--shifts", str(shifts)] if shifts else []) + ["g.y", "g.lex", self.file("text", text)]
+        return self.run(*words, *([self.file("repairs", repairs)] if repairs is not None else []))
+
+    def language(self, language):
+        self.file("g.y", text_of(self.chance, language.grammar))
+        self.file("g.lex", language.lexer)
+
+
+def parsed(case, *words, **options):
+    """errors and tree of a run of `tree`, whose status has to suit; none where the table is refused"""
+    answer = case.tree(*words, **options)
+    if answer.status == 2:
+        want(answer.err.startswith(b"lrpar: table: "), "a tree, an error, or a table that is refused", answer.err)
+        return None
+    errors, tree = read(answer.out)
+    clean = tree is not None and not errors
+    want(answer.status == (0 if clean else 1), "status 0 for a tree without errors, else 1", answer.status)
+    want(tree is not None or errors, "a tree or an error", answer.out)
+    return errors, tree
+
+
+def read(out):
+    try:
+        return answers.errors_and_tree(out)
+    except answers.Unread as unread:
+        raise Wrong("errors and a tree", str(unread)) from unread
