@@ -1,0 +1,3 @@
+//! Examples of a table's conflicts: texts and trees that show them.
+#![tactic(auto)]
+
