@@ -1,1 +1,3 @@
+pub mod BeginLemmas
 pub mod ClimbLemmas
+pub mod ReadingLemmas

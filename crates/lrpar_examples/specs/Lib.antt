@@ -1,3 +1,4 @@
 pub mod Reading
 pub mod Example
 pub mod Climbing
+pub mod Links

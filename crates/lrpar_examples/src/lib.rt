@@ -1,3 +1,5 @@
 //! Examples of a table's conflicts: texts and trees that show them.
 #![tactic(auto)]
 
+mod begins;
+mod links;
