@@ -1,3 +1,6 @@
 pub mod BeginLemmas
 pub mod ClimbLemmas
 pub mod ReadingLemmas
+pub mod MarkLemmas
+pub mod NoteLemmas
+pub mod LinkLemmas

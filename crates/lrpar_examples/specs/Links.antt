@@ -65,12 +65,12 @@ pub record ArePut (Good : LinkOf → Type 0) (old new : List LinkOf) : Type 0 wh
   pub good : All Good more
 
 -- marks of the rules that have links: none is marked that has none; and there are no more links than marks
-pub record AreMarks (g : Grammar) (links : List LinkOf) (any asked : List Bool) : Type 0 where
-  pub any_room : length any ≡ rules_len g
-  pub asked_room : length asked ≡ rules_len g
+pub record AreMarks (rules : ℕ) (links : List LinkOf) (any asked : List Bool) : Type 0 where
+  pub any_room : length any ≡ rules
+  pub asked_room : length asked ≡ rules
   pub any_linked : (r : ℕ) → IsTrue (has any r) → HasLink links false r
   pub asked_linked : (r : ℕ) → IsTrue (has asked r) → HasLink links true r
-  pub bounded : length links + (missing any + missing asked) ≤ 2 * rules_len g
+  pub bounded : length links + (missing any + missing asked) ≤ 2 * rules
 
 -- an item of the set with these production and dot, which isn't there by closure; where the token is asked for, with that token
 pub record IsBegunItem (g : Grammar) (set : ItemOf → Type 0) (token q j : ℕ) (asked : Bool) : Type 0 where
@@ -78,6 +78,23 @@ pub record IsBegunItem (g : Grammar) (set : ItemOf → Type 0) (token q j : ℕ)
   pub lookahead : ℕ
   pub item : set (item_at q j lookahead)
   pub own : IsTrue asked → lookahead ≡ token
+
+-- a link from an item that isn't there by closure
+abbrev pub IsBegunLink : Grammar → (ItemOf → Type 0) → ℕ → LinkOf → Type 0
+IsBegunLink g set token x = IsStep g token x.prod x.dot x.further x.above x × IsBegunItem g set token x.prod x.dot x.further
+
+-- all that comes with items that aren't there by closure is linked
+abbrev pub AreBegun : Grammar → (ItemOf → Type 0) → ℕ → List LinkOf → Type 0
+AreBegun g set token links = (q j : ℕ) (asked : Bool) → IsBegunItem g set token q j asked → AreNoted g token links q j asked
+
+-- a link from an item of a rule that comes by link i
+abbrev pub IsLinkBelow : Grammar → ℕ → ℕ → ℕ → Bool → LinkOf → Type 0
+IsLinkBelow g token i r asked x =
+    IsStep g token x.prod 0 asked i x × (x.prod < prods_len g) × (rule_of g x.prod ≡ r)
+
+-- all that comes with the productions of a rule is linked
+abbrev pub AreNotedOf : Grammar → ℕ → List LinkOf → ℕ → Bool → Type 0
+AreNotedOf g token links r asked = (p : ℕ) → p < prods_len g → rule_of g p ≡ r → AreNoted g token links p 0 asked
 
 -- link i: a step from an item that isn't there by closure, or from one that is, by an earlier link
 pub record IsLink (g : Grammar) (set : ItemOf → Type 0) (token : ℕ) (links : List LinkOf) (i : ℕ) : Type 0 where

@@ -1,10 +1,11 @@
 //! Why the rules that a state's items begin with stand there.
-ghost use Rattle.std.specs.Prelude.{◌≡◌, ◌≢◌, ◌<◌, ◌≤◌, ◌+◌, ◌⊎◌, ℕ, All, IfOk, OnOk, IsTrue, false, length, map};
-ghost use Rattle.lrpar_grammar.specs.Grammar.{IsWellFormed, prod_len, prods_len, rule_of, rules_len, start_prod};
-ghost use Rattle.lrpar_states.specs.Graph.{graph_len};
+ghost use Rattle.std.specs.Prelude.{◌≡◌, ◌<◌, ◌≤◌, ◌⊎◌, ℕ, Bool, [], IfOk, OnOk, false, true, length};
+ghost use Rattle.lrpar_grammar.specs.Grammar.{IsWellFormed, prod_len, prods_len, rules_len, start_prod};
+ghost use Rattle.lrpar_states.specs.Graph.{HasCore, graph_len};
 ghost use Rattle.lrpar_first.specs.FirstRows.{AreFirsts, mark_of, rows_of};
+ghost use Rattle.lrpar_first.specs.Tokens.{has};
 ghost use Rattle.lrpar_build.specs.Canonical.{IsCanonical, sets_of};
-ghost use Rattle.lrpar_examples.specs.Links.{AreLinks, AreMarks, AreNoted, ArePut, HasLink, IsBegunItem, IsStep, LinkAll, link_at, link_of, links_of};
+ghost use Rattle.lrpar_examples.specs.Links.{AreBegun, AreLinks, AreMarks, AreNoted, AreNotedOf, ArePut, HasLink, IsBegunItem, IsBegunLink, IsLinkBelow, IsStep, LinkAll, link_of, links_of};
 
 use crate::begins::{can_begin, rule_behind};
 use lrpar_first::tokens::TokenSet;
@@ -77,12 +78,22 @@ fn nothing_found<StorageT: StorageIndex>(
     alloc: Global,
     rules: usize,
 ) -> Result<Found<StorageT>, AllocError>
+    ensures none { IfOk result (λ found. links_of StorageT.index found.links.items ≡ []) }
+    ensures marks { IfOk result (λ found. AreMarks rules (links_of StorageT.index found.links.items) found.any.items found.asked.items) }
 {
     Ok(Found {
         links: Vec::new(alloc),
-        any: vec![in alloc; false; rules]?,
-        asked: vec![in alloc; false; rules]?,
+        any: unmarked(alloc, rules)?,
+        asked: unmarked(alloc, rules)?,
     })
+}
+
+// So many marks, none of which is set.
+fn unmarked(alloc: Global, rules: usize) -> Result<Vec<bool>, AllocError>
+    ensures room { IfOk result (λ marks. length marks.items ≡ rules) }
+    ensures none { IfOk result (λ marks. (r : ℕ) → has marks.items r ≡ false) }
+{
+    vec![in alloc; false; rules]
 }
 
 // Links what comes with the items that aren't there by closure: those with a dot behind a symbol, and the start item.
@@ -94,6 +105,16 @@ fn begin<StorageT: StorageIndex>(
     token: TIdx<StorageT>,
     found: &mut Found<StorageT>,
 ) -> Result<(), AllocError>
+    requires well_formed { IsWellFormed grm.now }
+    requires firsts { AreFirsts grm.now (rows_of firsts.now) }
+    requires canonical { IsCanonical grm.now graph.now }
+    requires state { StorageT.index state.0 < graph_len graph.now }
+    requires token { StorageT.index token.0 < mark_of grm.now }
+    requires marks { AreMarks (rules_len grm.now) (links_of StorageT.index found.old.links.items) found.old.any.items found.old.asked.items }
+    ensures marks { OnOk result (AreMarks (rules_len grm.now) (links_of StorageT.index found.new.links.items) found.new.any.items found.new.asked.items) }
+    ensures put { OnOk result (ArePut (IsBegunLink grm.now (sets_of graph.now (StorageT.index state.0)) (StorageT.index token.0))
+        (links_of StorageT.index found.old.links.items) (links_of StorageT.index found.new.links.items)) }
+    ensures noted { OnOk result (AreBegun grm.now (sets_of graph.now (StorageT.index state.0)) (StorageT.index token.0) (links_of StorageT.index found.new.links.items)) }
 {
     let start = grm.start_prod();
     if graph.has_core(state, start, 0) {
@@ -115,6 +136,19 @@ fn begin_from<StorageT: StorageIndex>(
     core: (PIdx<StorageT>, usize),
     found: &mut Found<StorageT>,
 ) -> Result<(), AllocError>
+    requires well_formed { IsWellFormed grm.now }
+    requires firsts { AreFirsts grm.now (rows_of firsts.now) }
+    requires canonical { IsCanonical grm.now graph.now }
+    requires state { StorageT.index state.0 < graph_len graph.now }
+    requires token { StorageT.index token.0 < mark_of grm.now }
+    requires marks { AreMarks (rules_len grm.now) (links_of StorageT.index found.old.links.items) found.old.any.items found.old.asked.items }
+    requires core { HasCore graph.now (StorageT.index state.0) (StorageT.index core.0.0) core.1 }
+    requires begun { (0 < core.1) ⊎ (StorageT.index core.0.0 ≡ start_prod grm.now) }
+    ensures marks { OnOk result (AreMarks (rules_len grm.now) (links_of StorageT.index found.new.links.items) found.new.any.items found.new.asked.items) }
+    ensures put { OnOk result (ArePut (IsBegunLink grm.now (sets_of graph.now (StorageT.index state.0)) (StorageT.index token.0))
+        (links_of StorageT.index found.old.links.items) (links_of StorageT.index found.new.links.items)) }
+    ensures noted { OnOk result ((asked : Bool) → IsBegunItem grm.now (sets_of graph.now (StorageT.index state.0)) (StorageT.index token.0) (StorageT.index core.0.0) core.1 asked
+        → AreNoted grm.now (StorageT.index token.0) (links_of StorageT.index found.new.links.items) (StorageT.index core.0.0) core.1 asked) }
 {
     note(grm, firsts, token, core, false, 0, found)?;
     if graph.has_item(state, core.0, core.1, token) {
@@ -132,6 +166,16 @@ fn note_rule<StorageT: StorageIndex>(
     at: usize,
     found: &mut Found<StorageT>,
 ) -> Result<(), AllocError>
+    requires well_formed { IsWellFormed grm.now }
+    requires firsts { AreFirsts grm.now (rows_of firsts.now) }
+    requires token { StorageT.index token.0 < mark_of grm.now }
+    requires rule { StorageT.index link.rule.0 < rules_len grm.now }
+    requires marks { AreMarks (rules_len grm.now) (links_of StorageT.index found.old.links.items) found.old.any.items found.old.asked.items }
+    ensures marks { OnOk result (AreMarks (rules_len grm.now) (links_of StorageT.index found.new.links.items) found.new.any.items found.new.asked.items) }
+    ensures put { OnOk result (ArePut (IsLinkBelow grm.now (StorageT.index token.0) at (StorageT.index link.rule.0) link.asked)
+        (links_of StorageT.index found.old.links.items) (links_of StorageT.index found.new.links.items)) }
+    ensures noted { OnOk result (AreNotedOf grm.now (StorageT.index token.0) (links_of StorageT.index found.new.links.items)
+        (StorageT.index link.rule.0) link.asked) }
 {
     for pidx in grm.rule_to_prods(link.rule) {
         note(grm, firsts, token, (*pidx, 0), link.asked, at, found)?;
@@ -154,8 +198,8 @@ fn note<StorageT: StorageIndex>(
     requires token { StorageT.index token.0 < mark_of grm.now }
     requires prod { StorageT.index core.0.0 < prods_len grm.now }
     requires dot { core.1 ≤ prod_len grm.now (StorageT.index core.0.0) }
-    requires marks { AreMarks grm.now (links_of StorageT.index found.old.links.items) found.old.any.items found.old.asked.items }
-    ensures marks { OnOk result (AreMarks grm.now (links_of StorageT.index found.new.links.items) found.new.any.items found.new.asked.items) }
+    requires marks { AreMarks (rules_len grm.now) (links_of StorageT.index found.old.links.items) found.old.any.items found.old.asked.items }
+    ensures marks { OnOk result (AreMarks (rules_len grm.now) (links_of StorageT.index found.new.links.items) found.new.any.items found.new.asked.items) }
     ensures put { OnOk result (ArePut (IsStep grm.now (StorageT.index token.0) (StorageT.index core.0.0) core.1 further above)
         (links_of StorageT.index found.old.links.items) (links_of StorageT.index found.new.links.items)) }
     ensures noted { OnOk result (AreNoted grm.now (StorageT.index token.0) (links_of StorageT.index found.new.links.items)
@@ -191,6 +235,13 @@ fn add_any<StorageT: StorageIndex>(
     link: Link<StorageT>,
     found: &mut Found<StorageT>,
 ) -> Result<(), AllocError>
+    requires asks { link.asked ≡ false }
+    requires rule { StorageT.index link.rule.0 < length found.old.any.items }
+    requires marks { AreMarks (length found.old.any.items) (links_of StorageT.index found.old.links.items) found.old.any.items found.old.asked.items }
+    ensures marks { OnOk result (AreMarks (length found.old.any.items) (links_of StorageT.index found.new.links.items) found.new.any.items found.new.asked.items) }
+    ensures put { OnOk result (ArePut (λ x. x ≡ link_of StorageT.index link) (links_of StorageT.index found.old.links.items)
+        (links_of StorageT.index found.new.links.items)) }
+    ensures linked { OnOk result (HasLink (links_of StorageT.index found.new.links.items) false (StorageT.index link.rule.0)) }
 {
     let rule = usize::from(link.rule);
     if !found.any[rule] {
@@ -205,6 +256,13 @@ fn add_asked<StorageT: StorageIndex>(
     link: Link<StorageT>,
     found: &mut Found<StorageT>,
 ) -> Result<(), AllocError>
+    requires asks { link.asked ≡ true }
+    requires rule { StorageT.index link.rule.0 < length found.old.any.items }
+    requires marks { AreMarks (length found.old.any.items) (links_of StorageT.index found.old.links.items) found.old.any.items found.old.asked.items }
+    ensures marks { OnOk result (AreMarks (length found.old.any.items) (links_of StorageT.index found.new.links.items) found.new.any.items found.new.asked.items) }
+    ensures put { OnOk result (ArePut (λ x. x ≡ link_of StorageT.index link) (links_of StorageT.index found.old.links.items)
+        (links_of StorageT.index found.new.links.items)) }
+    ensures linked { OnOk result (HasLink (links_of StorageT.index found.new.links.items) true (StorageT.index link.rule.0)) }
 {
     let rule = usize::from(link.rule);
     if !found.asked[rule] {
