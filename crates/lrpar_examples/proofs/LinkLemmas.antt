@@ -7,9 +7,12 @@ use Rattle.std.proofs.lemmas.Bool.{cases_eq, cases_lt, eq-eqb, false≢true, ne_
 use Rattle.std.proofs.lemmas.List.{get_or-append_right, get_or-map, get_or_append_left, length-append, length-map}
 use Rattle.std.proofs.lemmas.List.Elements.{All-get_or, Contains-append_left, Contains-append_right, Contains-append_cases, Contains-push_cases}
 use Rattle.std.proofs.lemmas.Option.{slice_get_cases, slice_get_within}
+use Rattle.lrpar_text.specs.declared.span.PIdx.{PIdx}
+use Rattle.lrpar_grammar.specs.Symbols.{prod_numbers}
 use Rattle.lrpar_grammar.specs.Grammar.{Grammar, GrammarSymbol, IsWellFormed, Nonterminal, Production, Terminal, end_token, prod_len, prods_from, prods_len, prods_of, rule_of, rules_len, start_prod, symbols_of, tokens_len}
 use Rattle.lrpar_states.specs.Graph.{Graph, HasCore, HasItem, ItemOf, graph_len, item_at}
-use Rattle.lrpar_states.specs.Safe.{IsItem}
+use Rattle.lrpar_states.specs.PlainItems.{core_of}
+use Rattle.lrpar_states.proofs.ItemLemmas.{Contains-image}
 use Rattle.lrpar_first.specs.First.{IsFirst}
 use Rattle.lrpar_first.specs.FirstRows.{mark_of}
 use Rattle.lrpar_first.proofs.FirstLemmas.{AreBelow, first_by_mark}
@@ -18,7 +21,7 @@ use Rattle.lrpar_build.specs.Canonical.{AreSame, IsCanonical, sets_of}
 use Rattle.lrpar_build.specs.ItemSets.{Added, Adds, IsAdvanced, IsInClosure, IsReachedBy, IsStartItem, Own}
 use Rattle.lrpar_build.proofs.ReachedLemmas.{added_is_listed, closure_cases, closure_each, head_after, known_by_symbol, reached_items, symbol_listed}
 use Rattle.lrpar_build.proofs.SpreadLemmas.{same_rule}
-use Rattle.lrpar_examples.specs.Links.{AreBegun, AreLinks, AreNoted, AreNotedOf, ArePut, HasLink, IsBegunItem, IsBegunLink, IsLink, IsLinkBelow, IsStep, LinkAll, LinkOf, PassesOn, link_at}
+use Rattle.lrpar_examples.specs.Links.{AreBegun, AreLinks, AreNoted, AreNotedOf, ArePut, HasLink, IsBegunItem, IsBegunLink, IsLink, IsLinkBelow, IsNotedCore, IsStep, LinkAll, LinkOf, PassesOn, link_at}
 use Rattle.lrpar_examples.proofs.MarkLemmas.{AreNoted-kept, link-append, put_then, put_weaker}
 
 -- the items of a state are of the grammar
@@ -296,3 +299,71 @@ module _ (g : Grammar) (graph : Graph) (s token q j : ℕ) (old middle new : Lis
       → IsBegunItem g (sets_of graph s) token q j asked → AreNoted g token middle q j asked
   noted_alone none any true begun = absurd (none (subst (λ (n : ℕ). HasItem graph s q j n) (begun.own refl) begun.item))
   noted_alone none any false begun = any
+
+-- a core among those of code
+pub core_in : {S : Type 0} (index : S → ℕ) (cores : List (PIdx S × ℕ)) (i : ℕ) (core : PIdx S × ℕ) → i < length cores → core ≡ get_or cores i core
+    → Contains (map (core_of index) cores) (core_of index core)
+core_in index cores i core low is = Contains-image (core_of index) cores core (i, low, sym is)
+
+-- a production among those of code
+pub prod_in : {S : Type 0} (index : S → ℕ) (prods : List (PIdx S)) (i : ℕ) (p : PIdx S) → i < length prods → p ≡ get_or prods i p
+    → Contains (prod_numbers index prods) (index p.0)
+prod_in {S} index prods i p low is = Contains-image (λ (x : PIdx S). index x.0) prods p (i, low, sym is)
+
+module _ (g : Grammar) (set : ItemOf → Type 0) (token : ℕ) (Good : LinkOf → Type 0) (old new : List LinkOf) (put : ArePut Good old new) where
+  -- what comes with a core stays linked
+  pub noted_kept : (q j : ℕ) → IsNotedCore g set token old q j → IsNotedCore g set token new q j
+  noted_kept q j noted asked begun = AreNoted-kept g token Good old new put q j asked (noted asked begun)
+
+  -- and of one core more
+  pub cores_more : (before after : List (ℕ × ℕ)) (p k : ℕ) → after ≡ before ++ (p, k) ∷ []
+      → ((q j : ℕ) → Contains before (q, j) → IsNotedCore g set token old q j) → IsNotedCore g set token new p k
+      → (q j : ℕ) → Contains after (q, j) → IsNotedCore g set token new q j
+  cores_more before after p k is noted fresh q j has_one =
+      elim (Contains-push_cases before (p, k) (q, j) (subst (λ (xs : List (ℕ × ℕ)). Contains xs (q, j)) is has_one)) as (λ _. IsNotedCore g set token new q j) [
+        | inl early ↦ noted_kept q j (noted q j early)
+        | inr same ↦ subst (λ (c : ℕ × ℕ). IsNotedCore g set token new c.0 c.1) same fresh
+      ]
+
+  -- and of one production more
+  pub prods_more : (before after : List ℕ) (n : ℕ) (asked : Bool) → after ≡ before ++ n ∷ []
+      → ((p : ℕ) → Contains before p → AreNoted g token old p 0 asked) → AreNoted g token new n 0 asked
+      → (p : ℕ) → Contains after p → AreNoted g token new p 0 asked
+  prods_more before after n asked is noted fresh p has_one =
+      elim (Contains-push_cases before n p (subst (λ (xs : List ℕ). Contains xs p) is has_one)) as (λ _. AreNoted g token new p 0 asked) [
+        | inl early ↦ AreNoted-kept g token Good old new put p 0 asked (noted p early)
+        | inr same ↦ subst (λ (m : ℕ). AreNoted g token new m 0 asked) same fresh
+      ]
+
+  pub notedOf_kept : (r : ℕ) (asked : Bool) → AreNotedOf g token old r asked → AreNotedOf g token new r asked
+  notedOf_kept r asked noted p low is = AreNoted-kept g token Good old new put p 0 asked (noted p low is)
+
+-- once the cores that aren't there by closure are noted, and the start item, all such items are
+pub begun_noted : (g : Grammar) (graph : Graph) (s token : ℕ) (links : List LinkOf) (cores : List (ℕ × ℕ))
+    → ((p k : ℕ) → (HasCore graph s p k × (0 < k)) ↔ Contains cores (p, k)) → IsNotedCore g (sets_of graph s) token links (start_prod g) 0
+    → ((q j : ℕ) → Contains cores (q, j) → IsNotedCore g (sets_of graph s) token links q j) → AreBegun g (sets_of graph s) token links
+begun_noted g graph s token links cores all start each q zero asked begun =
+    elim begun.begun [
+      | inl moved ↦ absurd (omega arith)
+      | inr last ↦ subst (λ (n : ℕ). AreNoted g token links n 0 asked) (sym last)
+            (start asked (subst (λ (n : ℕ). IsBegunItem g (sets_of graph s) token n 0 asked) last begun))
+    ]
+begun_noted g graph s token links cores all start each q (suc j) asked begun =
+    each q (suc j) ((all q (suc j)).0 ((begun.lookahead, begun.item), omega arith)) asked begun
+
+-- a step from a production of a rule
+pub below_link : (g : Grammar) (token at r p : ℕ) (asked : Bool) (x : LinkOf) → p < prods_len g → rule_of g p ≡ r → IsStep g token p 0 asked at x
+    → IsLinkBelow g token at r asked x
+below_link g token at r p asked x low is step = (
+  record {
+    prod = refl;
+    dot = step.dot;
+    further_is = step.further_is;
+    above_is = step.above_is;
+    rest = step.rest;
+    before = subst (λ (n : ℕ). symbols_of g n ≡ Nonterminal x.rule ∷ step.rest) (sym step.prod) step.before;
+    passes = step.passes;
+  },
+  subst (λ (n : ℕ). n < prods_len g) (sym step.prod) low,
+  ap (rule_of g) step.prod ∙ is,
+)

@@ -83,9 +83,13 @@ pub record IsBegunItem (g : Grammar) (set : ItemOf → Type 0) (token q j : ℕ)
 abbrev pub IsBegunLink : Grammar → (ItemOf → Type 0) → ℕ → LinkOf → Type 0
 IsBegunLink g set token x = IsStep g token x.prod x.dot x.further x.above x × IsBegunItem g set token x.prod x.dot x.further
 
+-- all that comes with an item of this core is linked, if one is there without closure
+abbrev pub IsNotedCore : Grammar → (ItemOf → Type 0) → ℕ → List LinkOf → ℕ → ℕ → Type 0
+IsNotedCore g set token links q j = (asked : Bool) → IsBegunItem g set token q j asked → AreNoted g token links q j asked
+
 -- all that comes with items that aren't there by closure is linked
 abbrev pub AreBegun : Grammar → (ItemOf → Type 0) → ℕ → List LinkOf → Type 0
-AreBegun g set token links = (q j : ℕ) (asked : Bool) → IsBegunItem g set token q j asked → AreNoted g token links q j asked
+AreBegun g set token links = (q j : ℕ) → IsNotedCore g set token links q j
 
 -- a link from an item of a rule that comes by link i
 abbrev pub IsLinkBelow : Grammar → ℕ → ℕ → ℕ → Bool → LinkOf → Type 0

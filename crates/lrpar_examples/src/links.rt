@@ -5,7 +5,7 @@ ghost use Rattle.lrpar_states.specs.Graph.{HasCore, graph_len};
 ghost use Rattle.lrpar_first.specs.FirstRows.{AreFirsts, mark_of, rows_of};
 ghost use Rattle.lrpar_first.specs.Tokens.{has};
 ghost use Rattle.lrpar_build.specs.Canonical.{IsCanonical, sets_of};
-ghost use Rattle.lrpar_examples.specs.Links.{AreBegun, AreLinks, AreMarks, AreNoted, AreNotedOf, ArePut, HasLink, IsBegunItem, IsBegunLink, IsLinkBelow, IsStep, LinkAll, link_of, links_of};
+ghost use Rattle.lrpar_examples.specs.Links.{AreBegun, AreLinks, AreMarks, AreNoted, AreNotedOf, ArePut, HasLink, IsBegunLink, IsLinkBelow, IsNotedCore, IsStep, LinkAll, link_of, links_of};
 
 use crate::begins::{can_begin, rule_behind};
 use lrpar_first::tokens::TokenSet;
@@ -116,12 +116,37 @@ fn begin<StorageT: StorageIndex>(
         (links_of StorageT.index found.old.links.items) (links_of StorageT.index found.new.links.items)) }
     ensures noted { OnOk result (AreBegun grm.now (sets_of graph.now (StorageT.index state.0)) (StorageT.index token.0) (links_of StorageT.index found.new.links.items)) }
 {
+    begin_at_start(grm, firsts, graph, state, token, found)?;
+    for core in graph.begun_cores(state) {
+        begin_from(grm, firsts, graph, state, token, *core, found)?;
+    }
+    Ok(())
+}
+
+// Links what comes with the start item, if the state has it.
+fn begin_at_start<StorageT: StorageIndex>(
+    grm: &YaccGrammar<StorageT>,
+    firsts: &[TokenSet],
+    graph: &StateGraph<StorageT>,
+    state: StIdx<StorageT>,
+    token: TIdx<StorageT>,
+    found: &mut Found<StorageT>,
+) -> Result<(), AllocError>
+    requires well_formed { IsWellFormed grm.now }
+    requires firsts { AreFirsts grm.now (rows_of firsts.now) }
+    requires canonical { IsCanonical grm.now graph.now }
+    requires state { StorageT.index state.0 < graph_len graph.now }
+    requires token { StorageT.index token.0 < mark_of grm.now }
+    requires marks { AreMarks (rules_len grm.now) (links_of StorageT.index found.old.links.items) found.old.any.items found.old.asked.items }
+    ensures marks { OnOk result (AreMarks (rules_len grm.now) (links_of StorageT.index found.new.links.items) found.new.any.items found.new.asked.items) }
+    ensures put { OnOk result (ArePut (IsBegunLink grm.now (sets_of graph.now (StorageT.index state.0)) (StorageT.index token.0))
+        (links_of StorageT.index found.old.links.items) (links_of StorageT.index found.new.links.items)) }
+    ensures noted { OnOk result (IsNotedCore grm.now (sets_of graph.now (StorageT.index state.0)) (StorageT.index token.0)
+        (links_of StorageT.index found.new.links.items) (start_prod grm.now) 0) }
+{
     let start = grm.start_prod();
     if graph.has_core(state, start, 0) {
         begin_from(grm, firsts, graph, state, token, (start, 0), found)?;
-    }
-    for core in graph.begun_cores(state) {
-        begin_from(grm, firsts, graph, state, token, *core, found)?;
     }
     Ok(())
 }
@@ -147,8 +172,8 @@ fn begin_from<StorageT: StorageIndex>(
     ensures marks { OnOk result (AreMarks (rules_len grm.now) (links_of StorageT.index found.new.links.items) found.new.any.items found.new.asked.items) }
     ensures put { OnOk result (ArePut (IsBegunLink grm.now (sets_of graph.now (StorageT.index state.0)) (StorageT.index token.0))
         (links_of StorageT.index found.old.links.items) (links_of StorageT.index found.new.links.items)) }
-    ensures noted { OnOk result ((asked : Bool) → IsBegunItem grm.now (sets_of graph.now (StorageT.index state.0)) (StorageT.index token.0) (StorageT.index core.0.0) core.1 asked
-        → AreNoted grm.now (StorageT.index token.0) (links_of StorageT.index found.new.links.items) (StorageT.index core.0.0) core.1 asked) }
+    ensures noted { OnOk result (IsNotedCore grm.now (sets_of graph.now (StorageT.index state.0)) (StorageT.index token.0)
+        (links_of StorageT.index found.new.links.items) (StorageT.index core.0.0) core.1) }
 {
     note(grm, firsts, token, core, false, 0, found)?;
     if graph.has_item(state, core.0, core.1, token) {

@@ -1,9 +1,9 @@
-use Rattle.std.proofs.Common.{◌≡◌, ℕ, Bool, length, map, take}
+use Rattle.std.proofs.Common.{ℕ, map, take}
 use Rattle.std.specs.List.{Contains}
 use Rattle.lrpar_grammar.specs.Grammar.{rules_len, start_prod}
 use Rattle.lrpar_states.specs.PlainItems.{core_of}
 use Rattle.lrpar_build.specs.Canonical.{sets_of}
-use Rattle.lrpar_examples.specs.Links.{AreMarks, AreNoted, ArePut, IsBegunItem, IsBegunLink, links_of}
+use Rattle.lrpar_examples.specs.Links.{AreMarks, ArePut, IsBegunLink, IsNotedCore, links_of}
 use Rattle.lrpar_examples.proofs.links.begin.Given as goal
 
 -- what comes with the start item is linked, and with the cores so far
@@ -13,8 +13,7 @@ invariant-loop-core g l =
     let token = index l.token.0 in
     let set = sets_of l.graph (index l.state.0) in
     let links = links_of index l.found.links.items in
-    let Noted = λ (q j : ℕ). (asked : Bool) → IsBegunItem l.grm set token q j asked → AreNoted l.grm token links q j asked in
     AreMarks (rules_len l.grm) links l.found.any.items l.found.asked.items
     × ArePut (IsBegunLink l.grm set token) (links_of index l.fn.found.links.items) links
-    × Noted (start_prod l.grm) 0
-    × ((q j : ℕ) → Contains (map (core_of index) (take l.core-index l.core-items)) (q, j) → Noted q j)
+    × IsNotedCore l.grm set token links (start_prod l.grm) 0
+    × ((q j : ℕ) → Contains (map (core_of index) (take l.core-index l.core-items)) (q, j) → IsNotedCore l.grm set token links q j)

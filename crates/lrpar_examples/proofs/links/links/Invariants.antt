@@ -9,7 +9,7 @@ abbrev pub invariant-links : goal.invariant-links
 invariant-links g l =
     let index = g.StorageT.StorageIndex.index in
     let token = index l.token.0 in
-    let set = sets_of l.graph (index l.state.0) in
+    let set = sets_of l.graph (index l.fn.state.0) in
     let links = links_of index l.found.links.items in
     AreMarks (rules_len l.grm) links l.found.any.items l.found.asked.items
     × AreLinks l.grm set token links
