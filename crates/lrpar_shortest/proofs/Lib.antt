@@ -1,0 +1,2 @@
+pub mod LenLemmas
+pub mod SettleLemmas

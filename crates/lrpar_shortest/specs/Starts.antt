@@ -1,0 +1,59 @@
+-- How rules can begin with a token: of each that can, a production and the place in it at which the token comes.
+use Rattle.std.specs.Prelude.{◌≡◌, ◌<◌, ◌==◌, ◌+◌, ℕ, zero, suc, Bool, true, false, if◌then◌else◌, List, [], ◌∷◌, Option, Some, None, count_by, length, map, option_map, slice_index_or}
+use Rattle.std.specs.Option.{is_none, is_some}
+use Rattle.lrpar_grammar.specs.Grammar.{Grammar, GrammarSymbol, Nonterminal, Terminal, prods_len, rule_of, rules_len, symbols_of}
+use Rattle.lrpar_grammar.specs.Tree.{Tree, Forest, Leaf, Branch, Nil, Cons}
+use Rattle.lrpar_shortest.specs.Choices.{ChoiceOf, Follows, ForestFollows}
+use Rattle.lrpar_shortest.specs.Lens.{len_at, total_len}
+use Rattle.lrpar_shortest.specs.Texts.{width}
+use Rattle.lrpar_shortest.specs.declared.begins.Start.{Start}
+
+-- a production, and a place in it
+pub record StartOf : Type 0 where
+  pub prod : ℕ
+  pub place : ℕ
+
+-- those of the code
+abbrev pub start_of : {S : Type 0} → (S → ℕ) → Start S → StartOf
+start_of index x = record { prod = index x.prod.0; place = x.place }
+
+abbrev pub starts_of : {S : Type 0} → (S → ℕ) → List (Option (Start S)) → List (Option StartOf)
+starts_of index starts = map (option_map (start_of index)) starts
+
+-- that of rule r; out of range, none
+abbrev pub start_at : List (Option StartOf) → ℕ → Option StartOf
+start_at starts r = slice_index_or starts r None
+
+-- one place further
+abbrev pub further : Option ℕ → Option ℕ
+further place = option_map (λ n. n + 1) place
+
+-- whether it is zero
+abbrev pub is_zero : Option ℕ → Bool
+is_zero (Some n) = n == 0
+is_zero None = false
+
+-- the first place in symbols that can begin with the token, where what stands before it can derive nothing
+abbrev pub place_of : List (Option ChoiceOf) → List (Option StartOf) → ℕ → List GrammarSymbol → Option ℕ
+place_of choices starts first [] = None
+place_of choices starts first (Terminal t ∷ ss) = if t == first then Some 0 else None
+place_of choices starts first (Nonterminal r ∷ ss) =
+    if is_some (start_at starts r) then Some 0 else
+    (if is_zero (len_at choices (Nonterminal r)) then further (place_of choices starts first ss) else None)
+
+-- a tree of the symbol that begins with the token by the starts; what stands before and behind it follows the choices, and what stands
+-- before has no tokens
+abbrev mutual
+  pub Starts : Grammar → List (Option ChoiceOf) → List (Option StartOf) → ℕ → Tree ℕ → GrammarSymbol → Type 0
+  Starts g choices starts first (Leaf x) (Terminal t) = (x ≡ t) × (t ≡ first)
+  Starts g choices starts first (Leaf x) (Nonterminal r) = ⊥
+  Starts g choices starts first (Branch p children) (Nonterminal r) =
+      (place : ℕ) × (start_at starts r ≡ Some (record { prod = p; place = place })) × ForestStarts g choices starts first place children (symbols_of g p)
+  Starts g choices starts first (Branch p children) (Terminal t) = ⊥
+
+  pub ForestStarts : Grammar → List (Option ChoiceOf) → List (Option StartOf) → ℕ → ℕ → Forest ℕ → List GrammarSymbol → Type 0
+  ForestStarts g choices starts first place Nil ss = ⊥
+  ForestStarts g choices starts first place (Cons t ts) [] = ⊥
+  ForestStarts g choices starts first zero (Cons t ts) (s ∷ ss) = Starts g choices starts first t s × ForestFollows g choices ts ss
+  ForestStarts g choices starts first (suc place) (Cons t ts) (s ∷ ss) =
+      Follows g choices t s × (width t ≡ 0) × ForestStarts g choices starts first place ts ss
