@@ -4,7 +4,7 @@ use Rattle.std.proofs.Common.{◌≡◌, ◌≢◌, ◌<◌, ◌≤◌, ◌+◌,
 use Rattle.std.specs.List.{Contains}
 use Rattle.std.specs.Option.{option_map_or}
 use Rattle.std.proofs.lemmas.Bool.{cases_eq, cases_lt, eq-eqb, false≢true, ne_eqb}
-use Rattle.std.proofs.lemmas.List.{get_or-append_right, get_or-map, get_or_append_left, length-append, length-map}
+use Rattle.std.proofs.lemmas.List.{get_or-append_right, get_or-map, get_or_append_left, get_or_default, length-append, length-map}
 use Rattle.std.proofs.lemmas.List.Elements.{All-get_or, Contains-append_left, Contains-append_right, Contains-append_cases, Contains-push_cases}
 use Rattle.std.proofs.lemmas.Option.{slice_get_cases, slice_get_within}
 use Rattle.lrpar_text.specs.declared.span.PIdx.{PIdx}
@@ -21,7 +21,8 @@ use Rattle.lrpar_build.specs.Canonical.{AreSame, IsCanonical, sets_of}
 use Rattle.lrpar_build.specs.ItemSets.{Added, Adds, IsAdvanced, IsInClosure, IsReachedBy, IsStartItem, Own}
 use Rattle.lrpar_build.proofs.ReachedLemmas.{added_is_listed, closure_cases, closure_each, head_after, known_by_symbol, reached_items, symbol_listed}
 use Rattle.lrpar_build.proofs.SpreadLemmas.{same_rule}
-use Rattle.lrpar_examples.specs.Links.{AreBegun, AreLinks, AreNoted, AreNotedOf, ArePut, HasLink, IsBegunItem, IsBegunLink, IsLink, IsLinkBelow, IsNotedCore, IsStep, LinkAll, LinkOf, PassesOn, link_at}
+use Rattle.lrpar_examples.specs.Links.{AreBegun, AreLinks, AreNoted, AreNotedOf, ArePut, HasLink, IsBegunItem, IsBegunLink, IsLink, IsLinkBelow, IsNotedCore, IsStep, LinkAll, LinkOf, PassesOn, link_at, link_of, links_of}
+use Rattle.lrpar_examples.specs.declared.links.Link.{Link}
 use Rattle.lrpar_examples.proofs.MarkLemmas.{AreNoted-kept, link-append, put_then, put_weaker}
 
 -- the items of a state are of the grammar
@@ -367,3 +368,36 @@ below_link g token at r p asked x low is step = (
   subst (λ (n : ℕ). n < prods_len g) (sym step.prod) low,
   ap (rule_of g) step.prod ∙ is,
 )
+
+-- a list that something is put behind gets no shorter
+pub length_put : (Good : LinkOf → Type 0) (old new : List LinkOf) → ArePut Good old new → length old ≤ length new
+length_put Good old new put =
+    let long : length new ≡ length old + length put.more = ap (λ (xs : List LinkOf). length xs) put.put ∙ length-append old put.more in omega arith
+
+-- a link of code, by its number
+pub link_is : {S : Type 0} (index : S → ℕ) (links : List (Link S)) (i : ℕ) (link : Link S) → i < length links → link ≡ get_or links i link
+    → link_of index link ≡ link_at (links_of index links) i
+link_is {S} index links i link low is =
+    let within : i < length (links_of index links) = let long = length-map links (link_of index) in omega arith in
+    ap (link_of index) is ∙ sym (get_or-map (link_of index) links i link (link_of index link) low)
+    ∙ get_or_default (links_of index links) i (link_of index link) _ within
+
+module _ (g : Grammar) (set : ItemOf → Type 0) (token : ℕ) (Good : LinkOf → Type 0) (old new : List LinkOf) (put : ArePut Good old new) where
+  pub begun_kept : AreBegun g set token old → AreBegun g set token new
+  begun_kept begun q j = noted_kept g set token Good old new put q j (begun q j)
+
+  -- what comes with one link more is linked
+  pub ofs_more : (at : ℕ) (x : LinkOf) → at < length old → x ≡ link_at old at
+      → ((i : ℕ) → i < at → AreNotedOf g token old (link_at old i).rule (link_at old i).asked) → AreNotedOf g token new x.rule x.asked
+      → (i : ℕ) → i < at + 1 → AreNotedOf g token new (link_at new i).rule (link_at new i).asked
+  ofs_more at x inside is before fresh i low =
+      let same = λ (n : ℕ) (early : n < length old). ap (λ (xs : List LinkOf). link_at xs n) put.put ∙ link-append old put.more n early in
+      elim (cases_lt i at) as (λ _. AreNotedOf g token new (link_at new i).rule (link_at new i).asked) [
+        | inl early ↦
+            subst (λ (y : LinkOf). AreNotedOf g token new y.rule y.asked) (sym (same i (omega (arith, early, inside))))
+            (notedOf_kept g (λ _. ⊥) token Good old new put (link_at old i).rule (link_at old i).asked (before i early))
+        | inr late ↦
+            let here : at ≡ i = omega (arith, late, low) in
+            subst (λ (n : ℕ). AreNotedOf g token new (link_at new n).rule (link_at new n).asked) here
+            (subst (λ (y : LinkOf). AreNotedOf g token new y.rule y.asked) (is ∙ sym (same at inside)) fresh)
+      ]
