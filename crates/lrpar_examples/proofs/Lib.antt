@@ -4,3 +4,5 @@ pub mod ReadingLemmas
 pub mod MarkLemmas
 pub mod NoteLemmas
 pub mod LinkLemmas
+pub mod ReachLemmas
+pub mod PathLemmas

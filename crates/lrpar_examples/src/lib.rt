@@ -2,4 +2,5 @@
 #![tactic(auto)]
 
 mod begins;
+mod climb;
 mod links;
