@@ -1,3 +1,4 @@
+pub mod OkLemmas
 pub mod BeginLemmas
 pub mod ClimbLemmas
 pub mod ReadingLemmas
@@ -6,3 +7,4 @@ pub mod NoteLemmas
 pub mod LinkLemmas
 pub mod ReachLemmas
 pub mod PathLemmas
+pub mod RestLemmas

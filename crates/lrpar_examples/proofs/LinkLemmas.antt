@@ -102,7 +102,7 @@ listed_of_rule r n (y ∷ ys) p has_one =
     ]
 
 -- what is left of symbols below a mark
-AreBelow-drop : (mark n : ℕ) (w : List GrammarSymbol) → AreBelow mark w → AreBelow mark (drop n w)
+pub AreBelow-drop : (mark n : ℕ) (w : List GrammarSymbol) → AreBelow mark w → AreBelow mark (drop n w)
 AreBelow-drop mark zero w below = below
 AreBelow-drop mark (suc n) [] below = tt
 AreBelow-drop mark (suc n) (Terminal t ∷ w) below = AreBelow-drop mark n w below.1

@@ -1,7 +1,7 @@
 -- The states on the way to a state, and by which symbols each is reached.
-use Rattle.std.proofs.Common.{◌≡◌, ◌<◌, ◌≤◌, ◌+◌, ◌∙◌, refl, sym, ap, subst, inl, inr, arith, ℕ, zero, suc, List, [], ◌∷◌, ◌++◌, None, Some, length, reverse, take}
+use Rattle.std.proofs.Common.{◌≡◌, ◌<◌, ◌≤◌, ◌+◌, ◌∙◌, refl, sym, ap, subst, inl, inr, arith, ℕ, zero, suc, List, [], ◌∷◌, ◌++◌, None, Some, get_or, length, map, reverse, take}
 use Rattle.std.proofs.lemmas.Bool.{cases_lt}
-use Rattle.std.proofs.lemmas.List.{append_assoc, append-nil, reverse-append}
+use Rattle.std.proofs.lemmas.List.{append_assoc, append-nil, get_or-map, get_or_past, length-map, reverse-append}
 use Rattle.lrpar_grammar.specs.Grammar.{Grammar, GrammarSymbol, IsWellFormed, Nonterminal, Terminal, rules_len, tokens_len}
 use Rattle.lrpar_states.specs.Graph.{Graph}
 use Rattle.lrpar_states.specs.Safe.{GoesBy}
@@ -11,7 +11,8 @@ use Rattle.lrpar_build.specs.Canonical.{AreSame, LeadsTo, sets_of}
 use Rattle.lrpar_build.specs.ItemSets.{IsReachedBy}
 use Rattle.lrpar_build.proofs.DecidedLemmas.{Accepting, Failing, IsActing, Reducing, Shifting, acting, before_decided}
 use Rattle.lrpar_build.proofs.SetLemmas.{next_more}
-use Rattle.lrpar_shortest.specs.Ways.{IsPathTo, StepOf, StepsLead, symbols_in}
+use Rattle.lrpar_shortest.specs.Ways.{IsPathTo, StepOf, StepsLead, step_of, steps_of, symbols_in}
+use Rattle.lrpar_shortest.specs.declared.steps.Step.{Step}
 use Rattle.lrpar_examples.specs.Climbing.{state_before}
 
 module _ (g : Grammar) (graph : Graph) (table : Table) (wanted : IsWantedTable g graph table) where
@@ -86,3 +87,20 @@ state_reached g graph table wanted closed (step ∷ steps) s last front within l
     let more = state_reached g graph table wanted closed steps next last (front ++ step.symbol ∷ []) (within_by table closed s step.symbol next lead.1.1) lead.1.2
     (path_further g graph s next step.symbol front leads path) i (omega arith) in
     subst (λ (w : List GrammarSymbol). IsPathTo g graph (state_before steps last i) w) (append_assoc front (step.symbol ∷ []) (take i (symbols_in steps))) more
+
+-- the state before a step of code
+pub state_by : {S : Type 0} (index : S → ℕ) (steps : List (Step S)) (i : ℕ) (step : Step S) (last : ℕ) → i < length steps → step ≡ get_or steps i step
+    → index step.from.0 ≡ state_before (steps_of index steps) last i
+state_by {S} index steps i step last low is =
+    let all = steps_of index steps in
+    let within : i < length all = let long = length-map steps (step_of index) in omega arith in
+    let here = get_or-map (λ (x : StepOf). x.from) all i (step_of index step) last within in
+    let there = get_or-map (step_of index) steps i step (step_of index step) low in
+    sym (here ∙ ap (λ (x : StepOf). x.from) there ∙ ap (λ (x : Step S). index x.from.0) (sym is))
+
+pub state_past : {S : Type 0} (index : S → ℕ) (steps : List (Step S)) (i : ℕ) (last : ℕ) → length steps ≤ i → last ≡ state_before (steps_of index steps) last i
+state_past index steps i last past =
+    let all = steps_of index steps in
+    let from = map (λ (x : StepOf). x.from) all in
+    let far : length from ≤ i = let long = length-map steps (step_of index) in let more = length-map all (λ (x : StepOf). x.from) in omega arith in
+    sym (get_or_past from i last far)

@@ -152,9 +152,10 @@ fn state_at<StorageT: StorageIndex>(
 ) -> StIdx<StorageT>
     ensures { StorageT.index result.0 ≡ state_before (steps_of StorageT.index steps.now) (StorageT.index last.0) place }
 {
-    match steps.get(place) {
-        Some(step) => step.from,
-        None => last,
+    if place < steps.len() {
+        steps[place].from
+    } else {
+        last
     }
 }
 
