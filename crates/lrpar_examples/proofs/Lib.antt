@@ -8,3 +8,5 @@ pub mod LinkLemmas
 pub mod ReachLemmas
 pub mod PathLemmas
 pub mod RestLemmas
+pub mod UpLemmas
+pub mod WayLemmas

@@ -1,6 +1,7 @@
 -- Links of a state: those from items that aren't there by closure are put first, and then those from items of rules that are linked. Once
 -- all is linked that comes with each of these, each item of the state that is there by closure has a link of its rule.
 use Rattle.std.proofs.Common.{◌≡◌, ◌≢◌, ◌<◌, ◌≤◌, ◌+◌, ◌-◌, ◌*◌, ◌==◌, ◌⊎◌, ◌↔◌, ◌∙◌, refl, sym, ap, subst, inl, inr, arith, ℕ, zero, suc, Bool, true, false, IsTrue, List, [], ◌∷◌, ◌++◌, All, drop, take, length, map, Some, cond, slice_get, get_or}
+use mathlib.Core.Bool.{beq}
 use Rattle.std.specs.List.{Contains}
 use Rattle.std.specs.Option.{option_map_or}
 use Rattle.std.proofs.lemmas.Bool.{cases_eq, cases_lt, eq-eqb, false≢true, ne_eqb}
@@ -401,3 +402,10 @@ module _ (g : Grammar) (set : ItemOf → Type 0) (token : ℕ) (Good : LinkOf �
             subst (λ (n : ℕ). AreNotedOf g token new (link_at new n).rule (link_at new n).asked) here
             (subst (λ (y : LinkOf). AreNotedOf g token new y.rule y.asked) (is ∙ sym (same at inside)) fresh)
       ]
+
+-- two truth values that are told apart aren't equal
+pub differ : (a b : Bool) → beq a b ≡ false → a ≡ b → ⊥
+differ true true apart same = false≢true (sym apart)
+differ false false apart same = false≢true (sym apart)
+differ true false apart same = absurd (cc)
+differ false true apart same = absurd (cc)

@@ -1,6 +1,10 @@
 -- What a call did hands on what follows of it.
-use Rattle.std.proofs.Common.{Result, Ok, Err, OnOk}
+use Rattle.std.proofs.Common.{Result, Ok, Err, IfOk, OnOk}
 
 pub OnOk-then : {T E : Type 0} (r : Result T E) (P Q : Type 0) → (P → Q) → OnOk r P → OnOk r Q
 OnOk-then (Ok x) P Q then h = then h
 OnOk-then (Err e) P Q then h = tt
+
+pub IfOk-then : {T E : Type 0} (r : Result T E) (P Q : T → Type 0) → ((x : T) → P x → Q x) → IfOk r P → IfOk r Q
+IfOk-then (Ok x) P Q then h = then x h
+IfOk-then (Err e) P Q then h = tt
