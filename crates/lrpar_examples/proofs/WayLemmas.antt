@@ -1,6 +1,7 @@
 -- The way up from an item of a state, by places on the way that led to the state, to the start.
-use Rattle.std.proofs.Common.{◌≡◌, ◌≢◌, ◌<◌, ◌≤◌, ◌+◌, ◌-◌, ◌⊎◌, ◌∙◌, refl, sym, ap, subst, inl, inr, arith, ℕ, zero, suc, Bool, IsTrue, List, [], ◌∷◌, ◌++◌, drop, length, map, reverse, take}
-use Rattle.std.proofs.lemmas.List.{append_assoc, append-nil, length-reverse, length-take-le, reverse-append, reverse-reverse, length-drop, length-map, take-append-drop, take-take, take_all, drop_at}
+use Rattle.std.proofs.Common.{◌≡◌, ◌≢◌, ◌<◌, ◌≤◌, ◌+◌, ◌-◌, ◌*◌, ◌==◌, ◌⊎◌, ◌∙◌, if◌then◌else◌, refl, sym, ap, subst, inl, inr, arith, ℕ, zero, suc, Bool, true, false, IsTrue, List, [], ◌∷◌, ◌++◌, drop, length, map, reverse, take}
+use Rattle.std.proofs.lemmas.List.{append_assoc, append-nil, length-reverse, length-take-le, reverse-append, reverse-reverse, length-drop, length-map, take-append-drop, take-take, take_all, drop_at, get_or_past}
+use Rattle.std.proofs.lemmas.Bool.{eq-eqb, ne_eqb}
 use Rattle.lrpar_grammar.specs.Grammar.{Grammar, GrammarSymbol, IsWellFormed, end_token, start_prod}
 use Rattle.lrpar_states.specs.Graph.{Graph, HasItem, item_at}
 use Rattle.lrpar_build.specs.Canonical.{AreSame, IsCanonical, sets_of}
@@ -129,3 +130,26 @@ module _ (g : Grammar) (well : IsWellFormed g) (graph : Graph) (steps : List Ste
               | inr later ↦ later
             ];
       }
+
+-- the state before the end is the last one
+pub state_last : (steps : List StepOf) (last : ℕ) → state_before steps last (length steps) ≡ last
+state_last steps last =
+    let long = length-map steps (λ (x : StepOf). x.from) in get_or_past (map (λ (x : StepOf). x.from) steps) (length steps) last (omega (arith, long))
+
+-- a number is one where another one isn't the start production's, and at most one anyhow
+other_one : (q s : ℕ) → q ≢ s → ◌≡◌ {A = ℕ} (if q == s then 0 else 1) 1
+other_one q s apart = ap {B = ℕ} (λ (b : Bool). if b then 0 else 1) (ne_eqb q s apart)
+
+one_at_most : (b : Bool) → (if b then 0 else 1) ≤ 1
+one_at_most true = omega arith
+one_at_most false = omega arith
+
+same_none : (p s : ℕ) → p ≡ s → ◌≡◌ {A = ℕ} (if p == s then 0 else 1) 0
+same_none p s same = ap {B = ℕ} (λ (b : Bool). if b then 0 else 1) (eq-eqb p s same)
+
+-- each step up gets nearer to the start
+pub nearer : (i d q p s : ℕ) → d ≤ i → q ≢ s → (0 < d) ⊎ (p ≡ s) → 2 * (i - d) + (if p == s then 0 else 1) < 2 * i + (if q == s then 0 else 1)
+nearer i d q p s within apart (inl moved) =
+    let one = other_one q s apart in let most = one_at_most (p == s) in omega (arith, one, most, within, moved)
+nearer i d q p s within apart (inr last) =
+    let one = other_one q s apart in let none = same_none p s last in omega (arith, one, none, within)
