@@ -409,3 +409,12 @@ differ true true apart same = false≢true (sym apart)
 differ false false apart same = false≢true (sym apart)
 differ true false apart same = absurd (cc)
 differ false true apart same = absurd (cc)
+
+-- what fails for the cores so far, and for one more, fails for all of these
+pub cores_fail : (Bad : ℕ → ℕ → Type 0) (before after : List (ℕ × ℕ)) (p k : ℕ) → after ≡ before ++ (p, k) ∷ []
+    → ((q j : ℕ) → Contains before (q, j) → Bad q j → ⊥) → (Bad p k → ⊥) → (q j : ℕ) → Contains after (q, j) → Bad q j → ⊥
+cores_fail Bad before after p k is none fails q j has_one bad =
+    elim (Contains-push_cases before (p, k) (q, j) (subst (λ (xs : List (ℕ × ℕ)). Contains xs (q, j)) is has_one)) as (λ _. ⊥) [
+      | inl early ↦ none q j early bad
+      | inr same ↦ fails (subst (λ (c : ℕ × ℕ). Bad c.0 c.1) (sym same) bad)
+    ]

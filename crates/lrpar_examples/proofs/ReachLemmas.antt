@@ -8,15 +8,16 @@ use Rattle.std.proofs.lemmas.Option.{get_or_from_slice_get, slice_get_within}
 use Rattle.lrpar_grammar.specs.Grammar.{Grammar, GrammarSymbol, IsWellFormed, Nonterminal, Terminal, end_token, prods_len, rule_of, start_prod, symbols_of}
 use Rattle.lrpar_grammar.specs.Tree.{Forest, Tree, Branch, Cons, Leaf, Nil, forest_leaves, leaves}
 use Rattle.lrpar_grammar.proofs.ForestLemmas.{joined_leaves, split_leaves, splits}
-use Rattle.lrpar_states.specs.Graph.{ItemOf, item_at}
+use Rattle.lrpar_states.specs.Graph.{Graph, HasCore, ItemOf, graph_len, item_at}
 use Rattle.lrpar_first.specs.First.{IsFirst, Behind, Rule, Token}
 use Rattle.lrpar_first.proofs.FirstLemmas.{AreBelow, AreBelow-append}
-use Rattle.lrpar_build.specs.Canonical.{AreSame}
+use Rattle.lrpar_build.specs.Canonical.{AreSame, IsCanonical}
 use Rattle.lrpar_build.specs.ItemSets.{Adds, IsReachedBy}
 use Rattle.lrpar_build.proofs.ReachedLemmas.{head_after, known_by_symbol, reached_each}
 use Rattle.lrpar_shortest.specs.Reached.{Added, EachReachedHasTree, HasTree, IsReachedRule, IsReachedSymbol, OnRight}
 use Rattle.lrpar_shortest.specs.Texts.{AreTreesOf, BeginWith, HaveTrees, IsTreeOf}
-use Rattle.lrpar_examples.specs.Links.{AreLinks, IsStep, LinkOf, link_at}
+use Rattle.lrpar_examples.specs.Links.{AreLinks, LinkOf, link_at}
+use Rattle.lrpar_examples.proofs.ClimbLemmas.{drop_at_get}
 
 -- a symbol in its place is one of the list
 pub contains_at : {X : Type 0} (xs : List X) (k : ℕ) (x : X) → slice_get xs k ≡ Some x → Contains xs x
@@ -127,3 +128,12 @@ module _ (g : Grammar) (each : EachReachedHasTree g) where
         let more = derives_nothing (symbols_of g p ++ v) s first is (AreBelow-append mark (symbols_of g p) v (below p known) free) in
         let node = node_in_front p v more.0 known more.1 in
         (node.0, subst (λ (n : ℕ). AreTreesOf g (Nonterminal n ∷ v) node.0) by node.1, node.2 ∙ more.2)
+
+-- what stands behind a symbol of an item of a state has trees
+pub core_rest : (g : Grammar) → IsWellFormed g → EachReachedHasTree g → (graph : Graph) → IsCanonical g graph → (s p k : ℕ) (x : GrammarSymbol)
+    → s < graph_len graph → HasCore graph s p k → slice_get (symbols_of g p) k ≡ Some x → HaveTrees g (drop (k + 1) (symbols_of g p))
+core_rest g well each graph canonical s p k x low has_core at =
+    let item = item_at p k has_core.0 in
+    let reached = canonical.reached s low in
+    let rule = item_reached g well reached.0 item ((reached.1 item).0 has_core.1) in
+    have_trees g each (drop (k + 1) (symbols_of g p)) (rest_reached g well p k x (drop (k + 1) (symbols_of g p)) (drop_at_get (symbols_of g p) k x at) rule)

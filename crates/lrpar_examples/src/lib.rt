@@ -4,3 +4,4 @@
 mod begins;
 mod climb;
 mod links;
+mod readings;
