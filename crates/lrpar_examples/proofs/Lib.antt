@@ -10,3 +10,6 @@ pub mod PathLemmas
 pub mod RestLemmas
 pub mod UpLemmas
 pub mod WayLemmas
+pub mod TextLemmas
+pub mod FrontLemmas
+pub mod ExampleLemmas

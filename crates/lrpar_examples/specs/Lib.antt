@@ -2,3 +2,4 @@ pub mod Reading
 pub mod Example
 pub mod Climbing
 pub mod Links
+pub mod Texts

@@ -3,5 +3,8 @@
 
 mod begins;
 mod climb;
+mod example;
+pub mod examples;
+mod fault;
 mod links;
 mod readings;
