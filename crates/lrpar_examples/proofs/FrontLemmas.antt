@@ -38,7 +38,7 @@ module _ (g : Grammar) (well : IsWellFormed g) where
 
   -- so each symbol of a path is
   path_reached : (path : List GrammarSymbol) (x : ItemOf) → IsReachedBy g path x → All (IsReachedSymbol g) path
-  path_reached [] x reached = All-nil (IsReachedSymbol g)
+  path_reached [] = λ x reached. All-nil (IsReachedSymbol g)
   path_reached (s ∷ path) =
       closure_each g (λ _. All (IsReachedSymbol g) (s ∷ path)) (λ x y all adds. all) (IsAdvanced g (IsReachedBy g path) s)
       (λ y from.

@@ -201,6 +201,7 @@ impl<StorageT: StorageIndex> Examples<StorageT> {
         let symbols = symbols_of(alloc, &steps)?;
         let mut moves = Vec::new(alloc);
         self.shortest.push_all_moves(alloc, &mut moves, grm, &symbols)?;
+        let _moves = moves.as_slice();
         let _len = moves.len();
         Ok(Front { steps, moves })
     }
