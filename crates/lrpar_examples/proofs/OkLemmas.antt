@@ -8,3 +8,8 @@ OnOk-then (Err e) P Q then h = tt
 pub IfOk-then : {T E : Type 0} (r : Result T E) (P Q : T → Type 0) → ((x : T) → P x → Q x) → IfOk r P → IfOk r Q
 IfOk-then (Ok x) P Q then h = then x h
 IfOk-then (Err e) P Q then h = tt
+
+pub IfOk-four : {T E : Type 0} (r : Result T E) (P Q R S U : T → Type 0) → ((x : T) → P x → Q x → R x → S x → U x) → IfOk r P → IfOk r Q → IfOk r R → IfOk r S
+    → IfOk r U
+IfOk-four (Ok x) P Q R S U then p q r s = then x p q r s
+IfOk-four (Err e) P Q R S U then p q r s = tt
