@@ -1,2 +1,3 @@
 pub mod LenLemmas
 pub mod SettleLemmas
+pub mod FrameLemmas
