@@ -1,3 +1,4 @@
 pub mod LenLemmas
 pub mod SettleLemmas
 pub mod FrameLemmas
+pub mod PushLemmas
