@@ -2,3 +2,5 @@ pub mod LenLemmas
 pub mod SettleLemmas
 pub mod FrameLemmas
 pub mod PushLemmas
+pub mod WalkLemmas
+pub mod WayLemmas
