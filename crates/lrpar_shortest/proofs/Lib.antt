@@ -4,3 +4,4 @@ pub mod FrameLemmas
 pub mod PushLemmas
 pub mod WalkLemmas
 pub mod WayLemmas
+pub mod EdgeLemmas

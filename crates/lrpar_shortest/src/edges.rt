@@ -1,13 +1,14 @@
 //! The steps of a table, with the lengths of their symbols.
 ghost use Rattle.std.specs.Prelude.{◌≡◌, ◌≢◌, ◌<◌, ◌++◌, ◌↔◌, ℕ, Contains, IfOk, Some};
 ghost use Rattle.lrpar_grammar.specs.Symbols.{symbol_of};
+ghost use Rattle.lrpar_states.specs.PlainRows.{plain_action};
 ghost use Rattle.lrpar_states.specs.Table.{TableAction, Fails, action_of, actions_at, goto_of, gotos_at, states_len};
 ghost use Rattle.lrpar_shortest.specs.Lens.{len_at};
-ghost use Rattle.lrpar_shortest.specs.WayLens.{AreEdges, IsStoredAt, edge_if, edges_at, edges_of, goto_edges, shift_edges};
+ghost use Rattle.lrpar_shortest.specs.WayLens.{AreEdges, IsStoredAt, edge_if, edges_at, edges_of, goto_edges, shift_edge, shift_edges};
 
 use crate::shortest::Shortest;
 use crate::steps::{Edge, Step};
-use lrpar_grammar::span::{StIdx, StorageIndex, Symbol};
+use lrpar_grammar::span::{StIdx, StorageIndex, Symbol, TIdx};
 use lrpar_states::table::{Action, StateTable};
 use std::alloc::{AllocError, Global};
 
@@ -58,11 +59,26 @@ fn push_shifts<StorageT: StorageIndex>(
 {
     let (tokens, actions) = stable.actions_of(s);
     for (place, token) in tokens.iter().enumerate() {
-        if let Action::Shift(next) = actions[place] {
-            push_edge(edges, shortest, s, Symbol::Token(*token), next)?;
-        }
+        push_shift(edges, shortest, s, *token, actions[place])?;
     }
     Ok(())
+}
+
+// Appends the step of an action at a token, if it is a shift.
+fn push_shift<StorageT: StorageIndex>(
+    edges: &mut Vec<Edge<StorageT>>,
+    shortest: &Shortest<StorageT>,
+    s: StIdx<StorageT>,
+    token: TIdx<StorageT>,
+    action: Action<StorageT>,
+) -> Result<(), AllocError>
+    ensures { IfOk result (λ _. edges_of StorageT.index edges.new.items
+        ≡ edges_of StorageT.index edges.old.items ++ shift_edge shortest.now (StorageT.index s.0) (StorageT.index token.0) (plain_action StorageT.index action)) }
+{
+    match action {
+        Action::Shift(next) => push_edge(edges, shortest, s, Symbol::Token(token), next),
+        Action::Reduce(_) | Action::Accept | Action::Error => Ok(()),
+    }
 }
 
 // Appends the state's gotos.

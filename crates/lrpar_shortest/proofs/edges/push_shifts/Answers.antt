@@ -1,14 +1,33 @@
-use Rattle.std.proofs.Common.{rules, ◌≡◌, ◌≢◌, ◌<◌, ◌++◌, ◌↔◌, ℕ, Contains, IfOk, Some, ◌+◌, ◌-◌, ◌*◌, ◌≤◌, length, ◌/◌, ◌%◌, Bool, true, false, nat_eq, nat_lt, List, [], ◌∷◌, slice_index_or, slice_set, bit_and, bit_or, Fits, w8, w32, w64, Bor, MutBor}
-use Rattle.lrpar_grammar.specs.Symbols.{symbol_of}
-use Rattle.lrpar_states.specs.Table.{TableAction, Fails, action_of, actions_at, goto_of, gotos_at, states_len}
-use Rattle.lrpar_shortest.specs.Lens.{len_at}
-use Rattle.lrpar_shortest.specs.WayLens.{AreEdges, IsStoredAt, edge_if, edges_at, edges_of, goto_edges, shift_edges}
+use Rattle.std.proofs.Common.{◌≡◌, ◌<◌, ◌≤◌, arith, length}
+use Rattle.lrpar_states.specs.PlainRows.{plain_action}
+use Rattle.lrpar_states.specs.Table.{actions_at}
+use Rattle.lrpar_shortest.specs.WayLens.{edges_of, shift_edge}
+use Rattle.lrpar_shortest.proofs.EdgeLemmas.{entries_len, entry_read, made_all, made_more}
 use Rattle.lrpar_shortest.proofs.edges.push_shifts.Goals as goal
 
--- src/edges.rt:60:5
 pub loop-place-preserved : goal.loop-place-preserved
-loop-place-preserved g c = ?
+loop-place-preserved g c =
+    let index = g.StorageT.StorageIndex.index in
+    let s = index c.args.s.0 in
+    let at = c.actions_of.ensures in
+    let es = actions_at c.args.stable.now s in
+    let place = c.loop-place.place in
+    let read =
+    entry_read (λ t. index t.0) (plain_action index) c.actions_of.result.0.now c.actions_of.result.1.now es at.actions at.entries place c.index-tokens-place.result c.index-actions-place.result c.loop-place-test.true
+    c.index-tokens-place.is c.index-actions-place.is in
+    let len = entries_len (λ t. index t.0) (plain_action index) c.actions_of.result.0.now c.actions_of.result.1.now es at.actions at.entries in
+    let below : place < length es = omega (arith, len, c.loop-place-test.true) in
+    made_more (λ entry. shift_edge c.args.shortest.now s entry.0 entry.1) es place (index c.index-tokens-place.result.0, plain_action index c.index-actions-place.result)
+    (edges_of index c.args.edges.now.items) (edges_of index c.loop-place.edges.items) (edges_of index c.push_shift.new.edges.items) below read c.loop-place.invariant
+    c.in_ok-push_shift.ensures
 
--- src/edges.rt:47:1
 pub returns-clause-edges : goal.returns-clause-edges
-returns-clause-edges g c = ?
+returns-clause-edges g c =
+    let index = g.StorageT.StorageIndex.index in
+    let s = index c.args.s.0 in
+    let at = c.actions_of.ensures in
+    let es = actions_at c.args.stable.now s in
+    let len = entries_len (λ t. index t.0) (plain_action index) c.actions_of.result.0.now c.actions_of.result.1.now es at.actions at.entries in
+    let past : length es ≤ c.loop-place.place = omega (arith, len, c.loop-place-test.false) in
+    made_all (λ entry. shift_edge c.args.shortest.now s entry.0 entry.1) es c.loop-place.place (edges_of index c.args.edges.now.items)
+    (edges_of index c.loop-place.edges.items) past c.loop-place.invariant
