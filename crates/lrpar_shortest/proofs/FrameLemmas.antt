@@ -1,5 +1,5 @@
 -- The moves of trees, made from a stack of frames.
-use Rattle.std.proofs.Common.{◌≡◌, ◌<◌, ◌+◌, ◌∙◌, refl, sym, ap, subst, arith, inl, inr, ℕ, Bool, true, false, IsTrue, List, [], ◌∷◌, ◌++◌, Option, Some, None, OnOk, Result, Ok, Err, drop, get_or, length, ltb, map, reverse}
+use Rattle.std.proofs.Common.{◌≡◌, ◌<◌, ◌+◌, ◌∙◌, refl, sym, ap, subst, arith, inl, inr, ℕ, Bool, true, false, IsTrue, List, [], ◌∷◌, ◌++◌, Option, Some, None, IfOk, OnOk, Result, Ok, Err, drop, get_or, length, ltb, map, reverse}
 use Rattle.std.specs.Option.{option_map}
 use Rattle.std.specs.List.{All}
 use Rattle.std.proofs.lemmas.Bool.{cases_lt, false≢true, lt-ltb, ltb-true}
@@ -200,3 +200,8 @@ pub begun_alone : (g : Grammar) (choices : List (Option ChoiceOf)) (s : GrammarS
 begun_alone g choices s none frames before middle after derives is begins all tree follows =
     let one = begins tree [] follows (subst (λ (fs : List FrameOf). Unfold g choices fs []) (sym is) refl) in
     all one.1.0 one.1.1 ∙ one.1.2 ∙ ap (λ ms. before ++ ms) (append-nil (moves_of tree))
+
+-- what follows of a value from two facts of it
+pub ok_both : {T E : Type 0} (r : Result T E) (P Q R : T → Type 0) → ((x : T) → P x → Q x → R x) → IfOk r P → IfOk r Q → IfOk r R
+ok_both (Ok x) P Q R more one two = more x one two
+ok_both (Err e) P Q R more one two = tt

@@ -5,3 +5,4 @@ pub mod PushLemmas
 pub mod WalkLemmas
 pub mod WayLemmas
 pub mod EdgeLemmas
+pub mod ArrivalLemmas

@@ -29,7 +29,7 @@ pub(crate) fn settled_ways<StorageT: StorageIndex>(
     ensures { IfOk result (λ ways. AreWays grm.now sgraph.now stable.now usize.MAX (ways_of StorageT.index ways.items)) }
 {
     let _start = grm.start_prod();
-    let _states = sgraph.states_len();
+    let _states = stable.states_len();
     let edges = edges(alloc, stable, shortest)?;
     settled_by(alloc, stable, shortest, &edges)
 }
