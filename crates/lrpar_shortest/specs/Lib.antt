@@ -6,3 +6,4 @@ pub mod Frames
 pub mod Starts
 pub mod Ways
 pub mod Reached
+pub mod WayLens

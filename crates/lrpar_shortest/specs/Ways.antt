@@ -72,6 +72,11 @@ pub record IsShortestPath (g : Grammar) (graph : Graph) (table : Table) (most s 
 abbrev pub way_at : List (Option WayOf) → ℕ → Option WayOf
 way_at ways s = slice_index_or ways s None
 
+-- the last step of what is kept, if there is one
+abbrev pub last_of : Option WayOf → Option StepOf
+last_of (Some way) = way.last
+last_of None = None
+
 -- the last steps that are kept lead back by these steps, the last one first, to a state without one
 abbrev pub GoBack : List (Option WayOf) → ℕ → List StepOf → Type 0
 GoBack ways s [] = (len : ℕ) × (way_at ways s ≡ Some (record { len = len; last = None }))

@@ -1,6 +1,6 @@
 //! The steps of a way, back from its end.
 ghost use Rattle.std.specs.Prelude.{◌≡◌, ◌++◌, List, OnOk, option_map};
-ghost use Rattle.lrpar_shortest.specs.Ways.{GoBack, StepOf, steps_of, way_at, way_of, ways_of};
+ghost use Rattle.lrpar_shortest.specs.Ways.{GoBack, StepOf, last_of, step_of, steps_of, way_at, way_of, ways_of};
 
 use crate::steps::{Step, Way};
 use lrpar_grammar::span::{StIdx, StorageIndex};
@@ -27,7 +27,9 @@ pub(crate) fn push_back<StorageT: StorageIndex>(
 fn last_step<StorageT: StorageIndex>(
     ways: &[Option<Way<StorageT>>],
     s: StIdx<StorageT>,
-) -> Option<Step<StorageT>> {
+) -> Option<Step<StorageT>>
+    ensures { option_map (step_of StorageT.index) result ≡ last_of (way_at (ways_of StorageT.index ways.now) (StorageT.index s.0)) }
+{
     match way_to(ways, s) {
         Some(way) => way.last,
         None => None,
