@@ -348,7 +348,7 @@ begun_noted g graph s token links cores all start each q zero asked begun =
     elim begun.begun [
       | inl moved ↦ absurd (omega arith)
       | inr last ↦ subst (λ (n : ℕ). AreNoted g token links n 0 asked) (sym last)
-            (start asked (subst (λ (n : ℕ). IsBegunItem g (sets_of graph s) token n 0 asked) last begun))
+          (start asked (subst (λ (n : ℕ). IsBegunItem g (sets_of graph s) token n 0 asked) last begun))
     ]
 begun_noted g graph s token links cores all start each q (suc j) asked begun =
     each q (suc j) ((all q (suc j)).0 ((begun.lookahead, begun.item), omega arith)) asked begun

@@ -190,7 +190,9 @@ pub(crate) fn climb<StorageT: StorageIndex>(
     let mut asked = asked;
     'up: while usize::from(node) != start {
         let state = state_at(steps, place, last);
-        let up = climb_within(alloc, grm, firsts, shortest, graph, state, node, asked, token, out)?;
+        let up = climb_within(
+            alloc, grm, firsts, shortest, graph, state, node, asked, token, out,
+        )?;
         place -= up.dot;
         node = up.prod;
         asked = up.asked;

@@ -148,8 +148,30 @@ impl<StorageT: StorageIndex> Examples<StorageT> {
         let _start = grm.start_prod();
         let (token, one, other, state) = *conflict;
         let (firsts, shortest) = (&self.firsts, &self.shortest);
-        let first = making(alloc, grm, firsts, shortest, sgraph, &front.steps, state, &front.moves, one, token)?;
-        let second = making(alloc, grm, firsts, shortest, sgraph, &front.steps, state, &front.moves, other, token)?;
+        let first = making(
+            alloc,
+            grm,
+            firsts,
+            shortest,
+            sgraph,
+            &front.steps,
+            state,
+            &front.moves,
+            one,
+            token,
+        )?;
+        let second = making(
+            alloc,
+            grm,
+            firsts,
+            shortest,
+            sgraph,
+            &front.steps,
+            state,
+            &front.moves,
+            other,
+            token,
+        )?;
         Example::new(alloc, &front.moves, first, second)
     }
 
@@ -174,8 +196,29 @@ impl<StorageT: StorageIndex> Examples<StorageT> {
         let _start = grm.start_prod();
         let (token, prod, state) = *conflict;
         let (firsts, shortest) = (&self.firsts, &self.shortest);
-        let first = making(alloc, grm, firsts, shortest, sgraph, &front.steps, state, &front.moves, prod, token)?;
-        let second = taking(alloc, grm, firsts, shortest, sgraph, &front.steps, state, &front.moves, token)?;
+        let first = making(
+            alloc,
+            grm,
+            firsts,
+            shortest,
+            sgraph,
+            &front.steps,
+            state,
+            &front.moves,
+            prod,
+            token,
+        )?;
+        let second = taking(
+            alloc,
+            grm,
+            firsts,
+            shortest,
+            sgraph,
+            &front.steps,
+            state,
+            &front.moves,
+            token,
+        )?;
         Example::new(alloc, &front.moves, first, second)
     }
 
@@ -200,7 +243,8 @@ impl<StorageT: StorageIndex> Examples<StorageT> {
         self.ways.push_path(&mut steps, state)?;
         let symbols = symbols_of(alloc, &steps)?;
         let mut moves = Vec::new(alloc);
-        self.shortest.push_all_moves(alloc, &mut moves, grm, &symbols)?;
+        self.shortest
+            .push_all_moves(alloc, &mut moves, grm, &symbols)?;
         let _moves = moves.as_slice();
         let _len = moves.len();
         Ok(Front { steps, moves })

@@ -250,7 +250,13 @@ fn note<StorageT: StorageIndex>(
     }
     add_any(link, found)?;
     if can_begin(firsts, rest, usize::from(token), mark) {
-        add_asked(Link { asked: true, ..link }, found)?;
+        add_asked(
+            Link {
+                asked: true,
+                ..link
+            },
+            found,
+        )?;
     }
     Ok(())
 }

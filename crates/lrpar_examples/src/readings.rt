@@ -54,7 +54,19 @@ pub(crate) fn making<StorageT: StorageIndex>(
 {
     let mut moves = Vec::from_slice(alloc, front)?;
     let dot = grm.prod(prod).len();
-    climb(alloc, grm, firsts, shortest, graph, steps, last, (prod, dot), true, token, &mut moves)?;
+    climb(
+        alloc,
+        grm,
+        firsts,
+        shortest,
+        graph,
+        steps,
+        last,
+        (prod, dot),
+        true,
+        token,
+        &mut moves,
+    )?;
     Ok(moves)
 }
 
@@ -89,7 +101,9 @@ pub(crate) fn taking<StorageT: StorageIndex>(
     let mut moves = Vec::from_slice(alloc, front)?;
     moves.push(Move::Take(token))?;
     shortest.push_all_moves(alloc, &mut moves, grm, &grm.prod(core.0)[core.1 + 1..])?;
-    climb(alloc, grm, firsts, shortest, graph, steps, last, core, false, token, &mut moves)?;
+    climb(
+        alloc, grm, firsts, shortest, graph, steps, last, core, false, token, &mut moves,
+    )?;
     Ok(moves)
 }
 

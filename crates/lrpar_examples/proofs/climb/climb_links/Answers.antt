@@ -143,8 +143,7 @@ up-preserved g c =
     let front : x.dot ≡ 0 = let moved = c.if-link-gt0.false in omega (arith, moved) in
     let listed : x.prod ≢ start_prod grm =
     λ last. c.if-from-start.false (c.from.ensures ∙ last ∙ sym c.start_prod.ensures.number ∙ sym c.from-start.ensures) in
-    let above = above_here grm token links c.requires.links i low x is front listed in
-    (
+    let above = above_here grm token links c.requires.links i low x is front listed in (
       (let less = above.0 in omega (arith, less, low)),
       known_here grm token links c.requires.links i low x is,
       above.1,

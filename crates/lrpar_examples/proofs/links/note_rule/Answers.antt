@@ -10,9 +10,11 @@ use Rattle.lrpar_examples.proofs.links.note_rule.Goals as goal
 
 pub loop-pidx-init : goal.loop-pidx-init
 loop-pidx-init g c =
-    let index = g.StorageT.StorageIndex.index in
-    (c.requires.marks, put_none (IsLinkBelow c.args.grm.now (index c.args.token.0) c.args.at (index c.args.link.rule.0) c.args.link.asked) (links_of index c.args.found.now.links.items),
-    λ p has_one. absurd (let low = has_one.1 in omega arith))
+    let index = g.StorageT.StorageIndex.index in (
+      c.requires.marks,
+      put_none (IsLinkBelow c.args.grm.now (index c.args.token.0) c.args.at (index c.args.link.rule.0) c.args.link.asked) (links_of index c.args.found.now.links.items),
+      λ p has_one. absurd (let low = has_one.1 in omega arith),
+    )
 
 pub note-requires-clause-prod : goal.note-requires-clause-prod
 note-requires-clause-prod g c =
