@@ -13,3 +13,4 @@ pub mod WayLemmas
 pub mod TextLemmas
 pub mod FrontLemmas
 pub mod ExampleLemmas
+pub mod ReplayLemmas

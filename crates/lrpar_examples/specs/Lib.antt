@@ -3,3 +3,4 @@ pub mod Example
 pub mod Climbing
 pub mod Links
 pub mod Texts
+pub mod Replay

@@ -8,3 +8,4 @@ pub mod examples;
 mod fault;
 mod links;
 mod readings;
+mod replay;
