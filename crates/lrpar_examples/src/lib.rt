@@ -6,6 +6,8 @@ mod climb;
 mod example;
 pub mod examples;
 mod fault;
+mod guess;
 mod links;
 mod readings;
 mod replay;
+mod unify;
