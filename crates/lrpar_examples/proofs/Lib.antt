@@ -14,3 +14,4 @@ pub mod TextLemmas
 pub mod FrontLemmas
 pub mod ExampleLemmas
 pub mod ReplayLemmas
+pub mod GuessLemmas

@@ -43,13 +43,14 @@ pub(crate) fn unify<StorageT: StorageIndex>(
     bound: usize,
 ) -> Result<Option<OneText<StorageT>>, AllocError> {
     let mut left = bound;
+    let mut rounds = bound;
     let mut queue = VecDeque::new(alloc);
     begin(alloc, grm, graph, table, states, one, other, token, &mut left, &mut queue)?;
     'pairs: while let Some(pair) = queue.pop_front() {
-        if left == 0 {
+        if rounds == 0 || left == 0 {
             return Ok(None);
         }
-        left -= 1;
+        rounds -= 1;
         if let Some(found) = finish(alloc, grm, graph, table, &pair, &mut left)? {
             return Ok(Some(found));
         }
