@@ -1,5 +1,5 @@
 //! Examples of the conflicts of a table that was built of a grammar.
-ghost use Rattle.std.specs.Prelude.{◌≡◌, ◌<◌, IfErr, IfOk, map};
+ghost use Rattle.std.specs.Prelude.{◌≡◌, ◌≢◌, ◌<◌, IfErr, IfOk, IfSome, map};
 ghost use Rattle.std.specs.List.{Contains};
 ghost use Rattle.lrpar_grammar.specs.Symbols.{symbol_of};
 ghost use Rattle.lrpar_states.specs.Graph.{graph_len};
@@ -7,14 +7,16 @@ ghost use Rattle.lrpar_states.specs.PlainConflicts.{reduce_reduce_of, shift_redu
 ghost use Rattle.lrpar_build.specs.Built.{IsBuilt};
 ghost use Rattle.lrpar_build.specs.BuilderLaws.{lists_in};
 ghost use Rattle.lrpar_shortest.specs.Choices.{AreShortest};
-ghost use Rattle.lrpar_shortest.specs.Moves.{Makes, Takes, moves_in};
+ghost use Rattle.lrpar_shortest.specs.Moves.{Makes, Takes, move_of, moves_in};
 ghost use Rattle.lrpar_shortest.specs.Reached.{EachReachedHasTree};
 ghost use Rattle.lrpar_shortest.specs.Ways.{steps_of, symbols_in};
 ghost use Rattle.lrpar_examples.specs.Example.{AreExamplesFor, IsExample, IsExampleFault, IsFront};
 
 pub use crate::example::Example;
 pub use crate::fault::ExampleFault;
+use crate::guess::example_of;
 use crate::readings::{making, taking};
+use crate::unify::unify;
 use lrpar_first::first::first_sets;
 use lrpar_first::tokens::TokenSet;
 use lrpar_grammar::grammar::YaccGrammar;
@@ -77,6 +79,9 @@ impl<StorageT: StorageIndex> Examples<StorageT> {
 
     /// The example of a conflict between two reductions, as token, productions and state: one reading makes the node of the first
     /// production, the other that of the second.
+    ///
+    /// Where the trees' texts differ, it looks for one text that has both readings, by at most about `bound` readings of it, and gives
+    /// these in place of the others if it finds some; with a bound of 0 it doesn't look. An `Err` comes where memory doesn't suffice.
     pub fn of_reduce_reduce(
         &self,
         alloc: Global,
@@ -89,6 +94,7 @@ impl<StorageT: StorageIndex> Examples<StorageT> {
             PIdx<StorageT>,
             StIdx<StorageT>,
         ),
+        bound: usize,
     ) -> Result<Example<StorageT>, AllocError>
         requires built { IsBuilt grm.now sgraph.now stable.now }
         requires made { AreExamplesFor grm.now sgraph.now stable.now usize.MAX self.now }
@@ -96,13 +102,17 @@ impl<StorageT: StorageIndex> Examples<StorageT> {
         ensures { IfOk result (λ x. IsExample grm.now sgraph.now (StorageT.index conflict.now.3.0) (StorageT.index conflict.now.0.0)
             (Makes (StorageT.index conflict.now.1.0)) (Makes (StorageT.index conflict.now.2.0)) x) }
     {
-        let (_, _, _, state) = *conflict;
+        let (token, one, other, state) = *conflict;
         let front = self.front(alloc, grm, sgraph, stable, state)?;
-        self.reductions(alloc, grm, sgraph, stable, &front, conflict)
+        let plain = self.reductions(alloc, grm, sgraph, stable, &front, conflict)?;
+        let (one, other) = (Move::Make(one), Move::Make(other));
+        with_one_text(
+            alloc, grm, sgraph, stable, &front, state, one, other, token, bound, plain,
+        )
     }
 
     /// The example of a conflict between a shift and a reduction, as token, production and state: one reading makes the node of the
-    /// production, the other takes the token.
+    /// production, the other takes the token. `bound` is that of `of_reduce_reduce`, and so is an `Err`.
     pub fn of_shift_reduce(
         &self,
         alloc: Global,
@@ -110,6 +120,7 @@ impl<StorageT: StorageIndex> Examples<StorageT> {
         sgraph: &StateGraph<StorageT>,
         stable: &StateTable<StorageT>,
         conflict: &(TIdx<StorageT>, PIdx<StorageT>, StIdx<StorageT>),
+        bound: usize,
     ) -> Result<Example<StorageT>, AllocError>
         requires built { IsBuilt grm.now sgraph.now stable.now }
         requires made { AreExamplesFor grm.now sgraph.now stable.now usize.MAX self.now }
@@ -117,9 +128,13 @@ impl<StorageT: StorageIndex> Examples<StorageT> {
         ensures { IfOk result (λ x. IsExample grm.now sgraph.now (StorageT.index conflict.now.2.0) (StorageT.index conflict.now.0.0)
             (Makes (StorageT.index conflict.now.1.0)) (Takes (StorageT.index conflict.now.0.0)) x) }
     {
-        let (_, _, state) = *conflict;
+        let (token, prod, state) = *conflict;
         let front = self.front(alloc, grm, sgraph, stable, state)?;
-        self.shift(alloc, grm, sgraph, stable, &front, conflict)
+        let plain = self.shift(alloc, grm, sgraph, stable, &front, conflict)?;
+        let (one, other) = (Move::Make(prod), Move::Take(token));
+        with_one_text(
+            alloc, grm, sgraph, stable, &front, state, one, other, token, bound, plain,
+        )
     }
 
     // The same by a way to the state.
@@ -249,6 +264,88 @@ impl<StorageT: StorageIndex> Examples<StorageT> {
         let _len = moves.len();
         Ok(Front { steps, moves })
     }
+}
+
+// The example of readings of one text that begin so, if one is found within the bound; else the plain one.
+fn with_one_text<StorageT: StorageIndex>(
+    alloc: Global,
+    grm: &YaccGrammar<StorageT>,
+    sgraph: &StateGraph<StorageT>,
+    stable: &StateTable<StorageT>,
+    front: &Front<StorageT>,
+    state: StIdx<StorageT>,
+    one: Move<StorageT>,
+    other: Move<StorageT>,
+    token: TIdx<StorageT>,
+    bound: usize,
+    plain: Example<StorageT>,
+) -> Result<Example<StorageT>, AllocError>
+    requires apart { move_of StorageT.index one ≢ move_of StorageT.index other }
+    requires front { IsFront grm.now sgraph.now (StorageT.index state.0) (steps_of StorageT.index front.now.steps.items)
+        (moves_in StorageT.index front.now.moves.items) }
+    requires plain { IsExample grm.now sgraph.now (StorageT.index state.0) (StorageT.index token.0) (move_of StorageT.index one) (move_of StorageT.index other) plain }
+    ensures { IfOk result (IsExample grm.now sgraph.now (StorageT.index state.0) (StorageT.index token.0) (move_of StorageT.index one) (move_of StorageT.index other)) }
+{
+    if bound == 0 || plain.is_ambiguous() {
+        return Ok(plain);
+    }
+    match one_text(
+        alloc, grm, sgraph, stable, front, state, one, other, token, bound,
+    )? {
+        Some(found) => Ok(found),
+        None => Ok(plain),
+    }
+}
+
+// The example of readings of one text that begin so, if one is found within the bound.
+fn one_text<StorageT: StorageIndex>(
+    alloc: Global,
+    grm: &YaccGrammar<StorageT>,
+    sgraph: &StateGraph<StorageT>,
+    stable: &StateTable<StorageT>,
+    front: &Front<StorageT>,
+    state: StIdx<StorageT>,
+    one: Move<StorageT>,
+    other: Move<StorageT>,
+    token: TIdx<StorageT>,
+    bound: usize,
+) -> Result<Option<Example<StorageT>>, AllocError>
+    requires apart { move_of StorageT.index one ≢ move_of StorageT.index other }
+    requires front { IsFront grm.now sgraph.now (StorageT.index state.0) (steps_of StorageT.index front.now.steps.items)
+        (moves_in StorageT.index front.now.moves.items) }
+    ensures { IfOk result (λ found. IfSome found (IsExample grm.now sgraph.now (StorageT.index state.0) (StorageT.index token.0)
+        (move_of StorageT.index one) (move_of StorageT.index other))) }
+{
+    let states = states_of(alloc, &front.steps, state)?;
+    match unify(
+        alloc, grm, sgraph, stable, &states, one, other, token, bound,
+    )? {
+        None => Ok(None),
+        Some(text) => example_of(
+            alloc,
+            grm,
+            &front.moves,
+            one,
+            other,
+            token,
+            &text.first,
+            &text.second,
+        ),
+    }
+}
+
+// The states on the way, the last one too.
+fn states_of<StorageT: StorageIndex>(
+    alloc: Global,
+    steps: &[Step<StorageT>],
+    last: StIdx<StorageT>,
+) -> Result<Vec<StIdx<StorageT>>, AllocError> {
+    let mut states = Vec::new(alloc);
+    for step in steps {
+        states.push(step.from)?;
+    }
+    states.push(last)?;
+    Ok(states)
 }
 
 // The shortest texts of the grammar's rules, if each rule that is reached derives some text.

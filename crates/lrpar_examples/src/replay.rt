@@ -86,10 +86,7 @@ fn make<StorageT: StorageIndex>(
 }
 
 // Whether the symbols, of which there are as many, are the same.
-fn are_same<StorageT: StorageIndex>(
-    one: &[Symbol<StorageT>],
-    other: &[Symbol<StorageT>],
-) -> bool
+fn are_same<StorageT: StorageIndex>(one: &[Symbol<StorageT>], other: &[Symbol<StorageT>]) -> bool
     requires { length one.now ≡ length other.now }
     ensures { IsTrue result → map (symbol_of StorageT.index) one.now ≡ map (symbol_of StorageT.index) other.now }
 {

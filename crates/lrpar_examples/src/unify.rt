@@ -45,7 +45,9 @@ pub(crate) fn unify<StorageT: StorageIndex>(
     let mut left = bound;
     let mut rounds = bound;
     let mut queue = VecDeque::new(alloc);
-    begin(alloc, grm, graph, table, states, one, other, token, &mut left, &mut queue)?;
+    begin(
+        alloc, grm, graph, table, states, one, other, token, &mut left, &mut queue,
+    )?;
     'pairs: while let Some(pair) = queue.pop_front() {
         if rounds == 0 || left == 0 {
             return Ok(None);
@@ -77,9 +79,21 @@ fn begin<StorageT: StorageIndex>(
         moves: Vec::new(alloc),
     };
     let mut ones = Vec::new(alloc);
-    begin_one(alloc, grm, graph, table, &front, one, token, left, &mut ones)?;
+    begin_one(
+        alloc, grm, graph, table, &front, one, token, left, &mut ones,
+    )?;
     let mut others = Vec::new(alloc);
-    begin_one(alloc, grm, graph, table, &front, other, token, left, &mut others)?;
+    begin_one(
+        alloc,
+        grm,
+        graph,
+        table,
+        &front,
+        other,
+        token,
+        left,
+        &mut others,
+    )?;
     push_pairs(alloc, &ones, &others, queue)
 }
 
@@ -117,7 +131,16 @@ fn finish<StorageT: StorageIndex>(
     let mut ones = Vec::new(alloc);
     settle(alloc, grm, graph, table, &pair.one, end, left, &mut ones)?;
     let mut others = Vec::new(alloc);
-    settle(alloc, grm, graph, table, &pair.other, end, left, &mut others)?;
+    settle(
+        alloc,
+        grm,
+        graph,
+        table,
+        &pair.other,
+        end,
+        left,
+        &mut others,
+    )?;
     found(alloc, &ones, &others)
 }
 
@@ -171,7 +194,16 @@ fn advance<StorageT: StorageIndex>(
         return Ok(());
     }
     let mut others = Vec::new(alloc);
-    settle(alloc, grm, graph, table, &pair.other, token, left, &mut others)?;
+    settle(
+        alloc,
+        grm,
+        graph,
+        table,
+        &pair.other,
+        token,
+        left,
+        &mut others,
+    )?;
     push_pairs(alloc, &ones, &others, queue)
 }
 
