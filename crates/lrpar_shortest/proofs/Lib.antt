@@ -6,3 +6,4 @@ pub mod WalkLemmas
 pub mod WayLemmas
 pub mod EdgeLemmas
 pub mod ArrivalLemmas
+pub mod BackLemmas
