@@ -7,3 +7,5 @@ pub mod WayLemmas
 pub mod EdgeLemmas
 pub mod ArrivalLemmas
 pub mod BackLemmas
+pub mod StartLemmas
+pub mod GrowthLemmas
