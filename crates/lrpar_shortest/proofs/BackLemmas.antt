@@ -15,9 +15,11 @@ module _ (ways : List (Option WayOf)) (s : ℕ) (before : List StepOf) (now : �
   split step last [] back = let none = ap last_of back.1 in absurd (cc)
   split step last (x ∷ xs) back =
       let both : Some x ≡ Some step = sym (ap last_of back.1) ∙ last in
-      let same : x ≡ step = cc in
-      (xs, subst (λ (y : StepOf). GoBack ways y.from xs) same back.2,
-      ap (λ (y : StepOf). out ++ y ∷ xs) same ∙ sym (append_assoc out (step ∷ []) xs))
+      let same : x ≡ step = cc in (
+        xs,
+        subst (λ (y : StepOf). GoBack ways y.from xs) same back.2,
+        ap (λ (y : StepOf). out ++ y ∷ xs) same ∙ sym (append_assoc out (step ∷ []) xs),
+      )
 
   pub backing_goes : (step : StepOf) (after : List StepOf) → last_of (way_at ways now) ≡ Some step → after ≡ out ++ step ∷ []
       → Backing ways s before step.from after

@@ -32,9 +32,11 @@ module _ {X : Type 0} (size : X → ℕ) (done : X → ℕ → Type 0) (old now 
       let here = OnFalse_at was one_same in (
         OnTrue_from next _ (λ h. subst (λ (x : X). size x < size old) (sym here) (OnTrue_at (sym is ∙ h) less)),
         OnFalse_from next _ (λ h.
-        let before = OnFalse_at (sym is ∙ h) same in
-        (here ∙ before.0, λ p low. elim (cases_eq p n) as (λ _. done new p) [
-          | inl last ↦ subst (done new) (sym last) (OnFalse_at was one_done)
-          | inr other ↦ subst (λ (x : X). done x p) (sym here) (before.1 p (omega (arith, low, other)))
-        ])),
+            let before = OnFalse_at (sym is ∙ h) same in (
+              here ∙ before.0,
+              λ p low. elim (cases_eq p n) as (λ _. done new p) [
+                | inl last ↦ subst (done new) (sym last) (OnFalse_at was one_done)
+                | inr other ↦ subst (λ (x : X). done x p) (sym here) (before.1 p (omega (arith, low, other)))
+              ],
+            )),
       )

@@ -286,27 +286,36 @@ module _ {S : Type 0} (index : S → ℕ) (g : Grammar) (most : ℕ) (choices : 
     (starts : List (Option (Start S))) (are : AreStarts g choices first (starts_of index starts)) (prod : PIdx S) (k r : ℕ) (known : index prod.0 < prods_len g)
     (is : r ≡ rule_of g (index prod.0)) (low : r < rules_len g) (none : start_at (starts_of index starts) r ≡ None)
     (found : place_if (total_len most choices (symbols_of g (index prod.0))) (place_of choices (starts_of index starts) first (symbols_of g (index prod.0))) ≡ Some k)
-    where
-  grown_list : starts_of index (set starts r (Some (record { prod = prod; place = k })))
-      ≡ set (starts_of index starts) (rule_of g (index prod.0)) (Some (record { prod = index prod.0; place = k }))
-  grown_list =
-      map-set (option_map (start_of index)) starts r (Some (record { prod = prod; place = k }))
-      ∙ ap (λ (n : ℕ). set (starts_of index starts) n (Some (record { prod = index prod.0; place = k }))) is
+  where
+    grown_list : starts_of index (set starts r (Some (record { prod = prod; place = k })))
+        ≡ set (starts_of index starts) (rule_of g (index prod.0)) (Some (record { prod = index prod.0; place = k }))
+    grown_list =
+        map-set (option_map (start_of index)) starts r (Some (record { prod = prod; place = k }))
+        ∙ ap (λ (n : ℕ). set (starts_of index starts) n (Some (record { prod = index prod.0; place = k }))) is
 
-  pub grown_starts : 1 ≤ most → AreStarts g choices first (starts_of index (set starts r (Some (record { prod = prod; place = k }))))
-  grown_starts positive =
-      let parts = place_if_parts (total_len most choices (symbols_of g (index prod.0))) (place_of choices (starts_of index starts) first (symbols_of g (index prod.0))) k found in
-      subst (AreStarts g choices first) (sym grown_list)
-      (grown_right g most choices right first (starts_of index starts) are (index prod.0) k parts.0 known (subst (λ (n : ℕ). n < rules_len g) is low)
-      (ap (start_at (starts_of index starts)) (sym is) ∙ none) parts.1 parts.2 positive)
+    pub grown_starts : 1 ≤ most → AreStarts g choices first (starts_of index (set starts r (Some (record { prod = prod; place = k }))))
+    grown_starts positive =
+        let parts = place_if_parts (total_len most choices (symbols_of g (index prod.0))) (place_of choices (starts_of index starts) first (symbols_of g (index prod.0))) k found in
+        subst (AreStarts g choices first) (sym grown_list)
+        (grown_right g most choices right first (starts_of index starts) are (index prod.0) k parts.0 known (subst (λ (n : ℕ). n < rules_len g) is low)
+        (ap (start_at (starts_of index starts)) (sym is) ∙ none) parts.1 parts.2 positive)
 
-  pub grown_less : starts_open (starts_of index (set starts r (Some (record { prod = prod; place = k })))) < starts_open (starts_of index starts)
-  grown_less =
-      let count = are.rules in
-      subst (λ (xs : List (Option StartOf)). starts_open xs < starts_open (starts_of index starts)) (sym grown_list)
-      (starts_less (starts_of index starts) (rule_of g (index prod.0)) _ (omega (arith, count, is, low)) (ap (start_at (starts_of index starts)) (sym is) ∙ none))
+    pub grown_less : starts_open (starts_of index (set starts r (Some (record { prod = prod; place = k })))) < starts_open (starts_of index starts)
+    grown_less =
+        let count = are.rules in
+        subst (λ (xs : List (Option StartOf)). starts_open xs < starts_open (starts_of index starts)) (sym grown_list)
+        (starts_less (starts_of index starts) (rule_of g (index prod.0)) _ (omega (arith, count, is, low)) (ap (start_at (starts_of index starts)) (sym is) ∙ none))
 
 -- nothing, as it was tested
 pub is_none_by : {A : Type 0} (o : Option A) → is_some o ≡ false → o ≡ None
 is_none_by None is = refl
 is_none_by (Some x) is = absurd (false≢true (sym is))
+
+-- where no rule can begin, all is right
+pub starts_none : (g : Grammar) (choices : List (Option ChoiceOf)) (first : ℕ) (starts : List (Option StartOf)) → length starts ≡ rules_len g
+    → ((r : ℕ) → start_at starts r ≡ None) → AreStarts g choices first starts
+starts_none g choices first starts count none = record {
+  rules = count;
+  within = λ r x at. let never = none r in absurd (cc);
+  trees = λ r x at. let never = none r in absurd (cc);
+}

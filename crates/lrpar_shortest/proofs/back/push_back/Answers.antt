@@ -10,11 +10,12 @@ back-preserved g c =
     let longer = c.in_ok-push.ensures.len in
     let before = c.back.invariant.0 in
     let index = g.StorageT.StorageIndex.index in
-    let ways = ways_of index c.args.ways.now in
-    (omega (arith, longer, before),
-    backing_goes ways (index c.args.s.0) (steps_of index c.args.out.now.items) (index c.back.state.0) (steps_of index c.back.out.items) c.back.invariant.1
-    (step_of index c.in-Some.step) (steps_of index c.push.new.self.items) (sym c.last_step.ensures ∙ ap (option_map (step_of index)) c.in-Some.is)
-    (ap (steps_of index) c.in_ok-push.ensures.items ∙ map-append (step_of index) c.back.out.items (c.in-Some.step ∷ [])))
+    let ways = ways_of index c.args.ways.now in (
+      omega (arith, longer, before),
+      backing_goes ways (index c.args.s.0) (steps_of index c.args.out.now.items) (index c.back.state.0) (steps_of index c.back.out.items) c.back.invariant.1
+          (step_of index c.in-Some.step) (steps_of index c.push.new.self.items) (sym c.last_step.ensures ∙ ap (option_map (step_of index)) c.in-Some.is)
+          (ap (steps_of index) c.in_ok-push.ensures.items ∙ map-append (step_of index) c.back.out.items (c.in-Some.step ∷ [])),
+    )
 
 pub returns-clause-steps : goal.returns-clause-steps
 returns-clause-steps g c =
