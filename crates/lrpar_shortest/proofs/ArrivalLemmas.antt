@@ -82,9 +82,12 @@ module _ (g : Grammar) (graph : Graph) (table : Table) (well : IsWellFormed g) (
   path_total : (s : ℕ) (symbols : List GrammarSymbol) (trees : Forest ℕ) → s < states_len table → IsPathTo g graph s symbols → AreTreesOf g symbols trees
       → (len : ℕ) × IsWalk table s (reverse symbols) × (total_len most choices (reverse symbols) ≡ Some len) × (len ≤ forest_width trees)
   path_total s symbols trees low path fit =
-      let len = have_len g most choices shortest symbols (trees, fit) in
-      (len.0, path_walk g graph table well built closed (reverse symbols) s low path, total_reverse most choices symbols ∙ len.1,
-      total_least g most choices shortest.right symbols len.0 trees len.1 fit)
+      let len = have_len g most choices shortest symbols (trees, fit) in (
+        len.0,
+        path_walk g graph table well built closed (reverse symbols) s low path,
+        total_reverse most choices symbols ∙ len.1,
+        total_least g most choices shortest.right symbols len.0 trees len.1 fit,
+      )
 
   -- the steps that lead back, the other way round
   back_total : (steps : List StepOf) (len : ℕ) → total_len most choices (symbols_in steps) ≡ Some len → total_len most choices (symbols_in (reverse steps)) ≡ Some len
@@ -126,12 +129,15 @@ module _ (g : Grammar) (graph : Graph) (table : Table) (well : IsWellFormed g) (
               (way_shortest s some.0 some.1)
         ];
     paths = λ s way at.
-        let back = right.back s way at in
-        (back.0, back.1, record {
-          lead = subst (λ xs. StepsLead table table.start xs s) (append-nil (reverse back.0)) (lead_onto table s s back.0 [] back.2 refl);
-          path = back_path s back.0 back.2;
-          len = way.len;
-          own = total_is_shortest g most choices shortest.right (symbols_in (reverse back.0)) way.len (back_total back.0 way.len back.3);
-          least = way_shortest s way at;
-        });
+        let back = right.back s way at in (
+          back.0,
+          back.1,
+          record {
+            lead = subst (λ xs. StepsLead table table.start xs s) (append-nil (reverse back.0)) (lead_onto table s s back.0 [] back.2 refl);
+            path = back_path s back.0 back.2;
+            len = way.len;
+            own = total_is_shortest g most choices shortest.right (symbols_in (reverse back.0)) way.len (back_total back.0 way.len back.3);
+            least = way_shortest s way at;
+          },
+        );
   }

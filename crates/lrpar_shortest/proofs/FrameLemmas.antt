@@ -41,9 +41,14 @@ module _ (g : Grammar) (choices : List (Option ChoiceOf)) (old : List FrameOf) (
       let both : Some p ≡ Some q = sym kept ∙ follows.0 in
       let same : q ≡ p = cc in
       let fit = subst (λ n. ForestFollows g choices children (symbols_of g n)) same follows.1 in
-      let moves = forest_moves children ++ Makes p ∷ rest in
-      (refl, (moves, (children, rest, fit, refl, unfolds),
-      ap (λ n. before ++ (forest_moves children ++ Makes n ∷ rest)) (sym same) ∙ ap (λ ms. before ++ ms) (sym (append_assoc (forest_moves children) (Makes q ∷ []) rest))))
+      let moves = forest_moves children ++ Makes p ∷ rest in (
+        refl,
+        (
+          moves,
+          (children, rest, fit, refl, unfolds),
+          ap (λ n. before ++ (forest_moves children ++ Makes n ∷ rest)) (sym same) ∙ ap (λ ms. before ++ ms) (sym (append_assoc (forest_moves children) (Makes q ∷ []) rest)),
+        ),
+      )
 
   -- a rule of which nothing is kept has no tree that follows
   pub begins_none : (r : ℕ) → choice_at choices r ≡ None → Begins g choices (Nonterminal r) old old before before false

@@ -222,8 +222,11 @@ module _ (g : Grammar) (most : ℕ) (choices : List (Option ChoiceOf)) (shortest
   shortest_trees ss have =
       let len = have_len ss have in
       let kept = trees_kept g most choices shortest.right ss len.0 len.1 in
-      let wide = kept.2 in
-      (kept.0, kept.1, λ low. record {
-        fit = forest_follows_fit g most choices shortest.right kept.0 ss kept.1;
-        least = λ others fit. let least = total_least g most choices shortest.right ss len.0 others len.1 fit in omega (arith, least, low, wide);
-      })
+      let wide = kept.2 in (
+        kept.0,
+        kept.1,
+        λ low. record {
+          fit = forest_follows_fit g most choices shortest.right kept.0 ss kept.1;
+          least = λ others fit. let least = total_least g most choices shortest.right ss len.0 others len.1 fit in omega (arith, least, low, wide);
+        },
+      )

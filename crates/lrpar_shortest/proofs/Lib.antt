@@ -6,3 +6,6 @@ pub mod WalkLemmas
 pub mod WayLemmas
 pub mod EdgeLemmas
 pub mod ArrivalLemmas
+pub mod BackLemmas
+pub mod StartLemmas
+pub mod GrowthLemmas

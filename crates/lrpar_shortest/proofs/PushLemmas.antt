@@ -25,13 +25,16 @@ module _ (g : Grammar) (most : ℕ) (choices : List (Option ChoiceOf)) (shortest
   first_kept s Nil follow tells = absurd follow
   first_kept s (Cons t (Cons u us)) follow tells = absurd follow.1
   first_kept s (Cons t Nil) follow tells =
-      let alone = length-append (leaves t) [] in
-      (t, follow.0, λ low. record {
-        fits = follows_fits g most choices shortest.right t s follow.0;
-        least = λ other fit.
-            let least = (tells (omega (arith, low, alone))).least (Cons other Nil) (fit, tt) in
-            omega (arith, least, alone, length-append (leaves other) []);
-      })
+      let alone = length-append (leaves t) [] in (
+        t,
+        follow.0,
+        λ low. record {
+          fits = follows_fits g most choices shortest.right t s follow.0;
+          least = λ other fit.
+              let least = (tells (omega (arith, low, alone))).least (Cons other Nil) (fit, tt) in
+              omega (arith, least, alone, length-append (leaves other) []);
+        },
+      )
 
   pub pushed_one : (s : GrammarSymbol) (old new : List MoveOf) → HaveTrees g (s ∷ []) → length new ≤ most
       → ((tree : Tree ℕ) → Follows g choices tree s → new ≡ old ++ moves_of tree)

@@ -187,19 +187,23 @@ least_more f n None None new before is more =
     subst (IsLeastBelow f (n + 1)) (sym more)
     (λ p low. elim (cases_eq p n) [ inl same ↦ ap f same ∙ is | inr other ↦ before p (omega (arith, low, other)) ])
 least_more f n None (Some b) new before is more =
-    subst (IsLeastBelow f (n + 1)) (sym more)
-    ((n, omega arith, is), λ p other low at.
-    elim (cases_eq p n) as (λ _. b ≤ other) [
-      | inl same ↦ let own : Some b ≡ Some other = sym is ∙ ap f (sym same) ∙ at in let equal : b ≡ other = cc in omega (arith, equal)
-      | inr not ↦ let none = before p (omega (arith, low, not)) in absurd (cc)
-    ])
+    subst (IsLeastBelow f (n + 1)) (sym more) (
+      (n, omega arith, is),
+      λ p other low at.
+          elim (cases_eq p n) as (λ _. b ≤ other) [
+            | inl same ↦ let own : Some b ≡ Some other = sym is ∙ ap f (sym same) ∙ at in let equal : b ≡ other = cc in omega (arith, equal)
+            | inr not ↦ let none = before p (omega (arith, low, not)) in absurd (cc)
+          ],
+    )
 least_more f n (Some a) None new before is more =
-    subst (IsLeastBelow f (n + 1)) (sym more)
-    (let one = before.0 in let inside = one.1 in (one.0, omega (arith, inside), one.2), λ p other low at.
-    elim (cases_eq p n) as (λ _. a ≤ other) [
-      | inl same ↦ let none = ap f same ∙ is in absurd (cc)
-      | inr not ↦ before.1 p other (omega (arith, low, not)) at
-    ])
+    subst (IsLeastBelow f (n + 1)) (sym more) (
+      let one = before.0 in let inside = one.1 in (one.0, omega (arith, inside), one.2),
+      λ p other low at.
+          elim (cases_eq p n) as (λ _. a ≤ other) [
+            | inl same ↦ let none = ap f same ∙ is in absurd (cc)
+            | inr not ↦ before.1 p other (omega (arith, low, not)) at
+          ],
+    )
 least_more f n (Some a) (Some b) new before is more =
     subst (IsLeastBelow f (n + 1)) (sym more) (
       elim (cases_lt b a) as (λ _. (p : ℕ) × (p < n + 1) × (f p ≡ Some (min a b))) [
@@ -318,8 +322,11 @@ module _ {S : Type 0} (index : S → ℕ) (g : Grammar) (most len : ℕ) (old no
         before.1,
         elim before.2 [
           | inl same ↦
-              inl (same.0, stays_more (open_len g most (choices_of index old)) n len
-              (subst (λ (xs : List (Option (Choice S))). open_len g most (choices_of index xs) n ≡ Some len → ⊥) same.0 not_here) same.1)
+              inl (
+                same.0,
+                stays_more (open_len g most (choices_of index old)) n len
+                    (subst (λ (xs : List (Option (Choice S))). open_len g most (choices_of index xs) n ≡ Some len → ⊥) same.0 not_here) same.1,
+              )
           | inr fewer ↦ inr fewer
         ],
       )

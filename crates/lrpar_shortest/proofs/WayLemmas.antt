@@ -123,9 +123,12 @@ module _ (table : Table) (most : ℕ) (choices : List (Option ChoiceOf)) (edges 
                     let own : len ≡ way.len = ap way_len (sym here ∙ ap (way_at kept) (sym same) ∙ at) in
                     let total : total_len most choices (e.step.symbol ∷ symbols_in before.0) ≡ Some way.len =
                     ap (λ (o : Option ℕ). added most o (total_len most choices (symbols_in before.0))) sound.2
-                    ∙ ap (λ (o : Option ℕ). added most (Some e.len) o) before.3 ∙ ap (λ (n : ℕ). Some n) (sum ∙ own) in
-                    (e.step ∷ before.0, (len, ap (way_at kept) same ∙ here, go_back_more ways kept keeps e.step.from before.0 before.1),
-                    (sound.0, subst (GoesBy table e.step.from e.step.symbol) (sym same) sound.1, before.2), total)
+                    ∙ ap (λ (o : Option ℕ). added most (Some e.len) o) before.3 ∙ ap (λ (n : ℕ). Some n) (sum ∙ own) in (
+                      e.step ∷ before.0,
+                      (len, ap (way_at kept) same ∙ here, go_back_more ways kept keeps e.step.from before.0 before.1),
+                      (sound.0, subst (GoesBy table e.step.from e.step.symbol) (sym same) sound.1, before.2),
+                      total,
+                    )
                 | inr not ↦
                     let old = right.back s way (sym (elsewhere s not) ∙ at) in
                     (old.0, go_back_more ways kept keeps s old.0 old.1, old.2, old.3)
@@ -167,9 +170,10 @@ steps_told most ways edges n None all before = λ e there.
     let low = there.1 in sym (place_open most ways edges e there) ∙ before there.0 (omega (arith, all, low))
 steps_told most ways edges n (Some len) all before =
     let one = before.0 in
-    let inside = one.1 in
-    ((get_or edges one.0 no_edge, place_has edges one.0 (omega (arith, all, inside)), one.2),
-    λ e other there at. let low = there.1 in before.1 there.0 other (omega (arith, all, low)) (place_open most ways edges e there ∙ at))
+    let inside = one.1 in (
+      (get_or edges one.0 no_edge, place_has edges one.0 (omega (arith, all, inside)), one.2),
+      λ e other there at. let low = there.1 in before.1 there.0 other (omega (arith, all, low)) (place_open most ways edges e there ∙ at),
+    )
 
 -- less states are open where one more way is kept
 open_less : (ways : List (Option WayOf)) (s : ℕ) (way : WayOf) → s < length ways → way_at ways s ≡ None → open_ways (set ways s (Some way)) < open_ways ways
@@ -215,9 +219,9 @@ module _ {S : Type 0} (index : S → ℕ) (most len : ℕ) (edges : List (Edge S
         λ table choices are right below.
             let so_far = before.0 table choices are right below in (
               subst (AreRightWays table most choices) (sym list)
-              (ways_more table most choices (edges_of index edges) are (ways_of index now) so_far.0 len the_edge there within open_now so_far.1),
+                  (ways_more table most choices (edges_of index edges) are (ways_of index now) so_far.0 len the_edge there within open_now so_far.1),
               subst (λ (xs : List (Option WayOf)). NoWalkIsBelow table most choices xs len) (sym list)
-              (below_kept table most choices (edges_of index edges) are (ways_of index now) so_far.0 len the_edge there within open_now so_far.1),
+                  (below_kept table most choices (edges_of index edges) are (ways_of index now) so_far.0 len the_edge there within open_now so_far.1),
             ),
         elim before.1 [
           | inl same ↦ inr (subst (λ (xs : List (Option (Way S))). open_ways (ways_of index new) < open_ways (ways_of index xs)) same.0 less)
@@ -233,8 +237,11 @@ module _ {S : Type 0} (index : S → ℕ) (most len : ℕ) (edges : List (Edge S
         before.0,
         elim before.1 [
           | inl same ↦
-              inl (same.0, stays_more (open_at most (ways_of index old) (edges_of index edges)) n len
-              (subst (λ (xs : List (Option (Way S))). open_at most (ways_of index xs) (edges_of index edges) n ≡ Some len → ⊥) same.0 not_here) same.1)
+              inl (
+                same.0,
+                stays_more (open_at most (ways_of index old) (edges_of index edges)) n len
+                    (subst (λ (xs : List (Option (Way S))). open_at most (ways_of index xs) (edges_of index edges) n ≡ Some len → ⊥) same.0 not_here) same.1,
+              )
           | inr fewer ↦ inr fewer
         ],
       )

@@ -1,5 +1,5 @@
 //! The steps of a way, back from its end.
-ghost use Rattle.std.specs.Prelude.{◌≡◌, ◌++◌, List, OnOk, option_map};
+ghost use Rattle.std.specs.Prelude.{◌≡◌, ◌≤◌, ◌++◌, List, OnOk, drop, length, option_map, reverse, take, vec_len};
 ghost use Rattle.lrpar_shortest.specs.Ways.{GoBack, StepOf, last_of, step_of, steps_of, way_at, way_of, ways_of};
 
 use crate::steps::{Step, Way};
@@ -12,8 +12,9 @@ pub(crate) fn push_back<StorageT: StorageIndex>(
     out: &mut Vec<Step<StorageT>>,
     s: StIdx<StorageT>,
 ) -> Result<(), AllocError>
-    ensures { OnOk result ((back : List StepOf) → GoBack (ways_of StorageT.index ways.now) (StorageT.index s.0) back
+    ensures steps { OnOk result ((back : List StepOf) → GoBack (ways_of StorageT.index ways.now) (StorageT.index s.0) back
         → steps_of StorageT.index out.new.items ≡ steps_of StorageT.index out.old.items ++ back) }
+    ensures longer { vec_len out.old ≤ vec_len out.new }
 {
     let mut state = s;
     'back: while let Some(step) = last_step(ways, state) {
@@ -21,6 +22,14 @@ pub(crate) fn push_back<StorageT: StorageIndex>(
         state = step.from;
     }
     Ok(())
+}
+
+/// Turns round the order of the steps from a place on.
+pub(crate) fn reverse_from<StorageT: StorageIndex>(steps: &mut [Step<StorageT>], from: usize)
+    requires { from ≤ length steps.old }
+    ensures { steps.new ≡ take from steps.old ++ reverse (drop from steps.old) }
+{
+    steps[from..].reverse();
 }
 
 // The last step of the way to the state, if it has one.

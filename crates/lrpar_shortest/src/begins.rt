@@ -1,15 +1,13 @@
 //! Trees of symbols that begin with a token.
-ghost use Rattle.std.specs.Prelude.{◌≡◌, ◌<◌, ◌∷◌, ◌++◌, ℕ, [], IfOk, List, OnOk, length, map};
-ghost use Rattle.lrpar_grammar.specs.Grammar.{IsWellFormed, prods_len, rules_len};
+ghost use Rattle.std.specs.Prelude.{◌≡◌, ◌<◌, ℕ, IfOk, None, Some, length, map, option_map, slice_set};
+ghost use Rattle.std.specs.Bool.{OnFalse, OnTrue};
+ghost use Rattle.lrpar_grammar.specs.Grammar.{prods_len, symbols_of};
 ghost use Rattle.lrpar_grammar.specs.Symbols.{symbol_of};
-ghost use Rattle.lrpar_grammar.specs.Tree.{Tree, Forest};
-ghost use Rattle.lrpar_shortest.specs.Choices.{AreShortest, choices_of};
-ghost use Rattle.lrpar_shortest.specs.Moves.{forest_moves, moves_in, moves_of};
-ghost use Rattle.lrpar_shortest.specs.Starts.{Starts, place_of, start_at, starts_of};
+ghost use Rattle.lrpar_shortest.specs.Choices.{AreRight, choices_of};
+ghost use Rattle.lrpar_shortest.specs.Lens.{total_len};
+ghost use Rattle.lrpar_shortest.specs.Starts.{AreStarts, CanStart, begins, place_if, place_of, start_at, start_by, start_of, starts_of, starts_open};
 
-use crate::moves::Move;
 use crate::settle::{Choice, len_of, total_len};
-use crate::unfold::{Frame, push_symbols, unfold};
 use lrpar_grammar::grammar::YaccGrammar;
 use lrpar_grammar::span::{PIdx, StorageIndex, Symbol, TIdx};
 use std::alloc::{AllocError, Global};
@@ -21,129 +19,18 @@ pub(crate) struct Start<StorageT> {
     pub(crate) place: usize,
 }
 
-/// Appends the moves of trees of the symbols, one each, whose first token is `first`, if there are such trees.
-pub(crate) fn push_beginning<StorageT: StorageIndex>(
-    alloc: Global,
-    grm: &YaccGrammar<StorageT>,
-    choices: &[Option<Choice<StorageT>>],
-    out: &mut Vec<Move<StorageT>>,
-    symbols: &[Symbol<StorageT>],
-    first: TIdx<StorageT>,
-) -> Result<(), AllocError> {
-    let starts = starts(alloc, grm, choices, first)?;
-    push_by(alloc, grm, choices, &starts, out, symbols, first)
-}
-
-// The same by starts.
-fn push_by<StorageT: StorageIndex>(
-    alloc: Global,
-    grm: &YaccGrammar<StorageT>,
-    choices: &[Option<Choice<StorageT>>],
-    starts: &[Option<Start<StorageT>>],
-    out: &mut Vec<Move<StorageT>>,
-    symbols: &[Symbol<StorageT>],
-    first: TIdx<StorageT>,
-) -> Result<(), AllocError> {
-    if let Some(place) = place_of(choices, starts, symbols, first) {
-        push_symbols(alloc, grm, choices, out, &symbols[..place])?;
-        push_start(alloc, grm, choices, starts, out, symbols[place])?;
-        push_symbols(alloc, grm, choices, out, &symbols[place + 1..])?;
-    }
-    Ok(())
-}
-
-// Appends the moves of a tree of the symbol that begins by the starts.
-fn push_start<StorageT: StorageIndex>(
-    alloc: Global,
-    grm: &YaccGrammar<StorageT>,
-    choices: &[Option<Choice<StorageT>>],
-    starts: &[Option<Start<StorageT>>],
-    out: &mut Vec<Move<StorageT>>,
-    symbol: Symbol<StorageT>,
-) -> Result<(), AllocError> {
-    let mut frames = Vec::new(alloc);
-    descend(alloc, grm, choices, starts, &mut frames, out, symbol)?;
-    unfold(grm, choices, &mut frames, out)
-}
-
-// Appends the moves of a tree of the symbol that begins by the starts, up to its first token, and puts into the frames what is left
-// of the tree.
-fn descend<StorageT: StorageIndex>(
-    alloc: Global,
-    grm: &YaccGrammar<StorageT>,
-    choices: &[Option<Choice<StorageT>>],
-    starts: &[Option<Start<StorageT>>],
-    frames: &mut Vec<Frame<StorageT>>,
-    out: &mut Vec<Move<StorageT>>,
-    symbol: Symbol<StorageT>,
-) -> Result<(), AllocError> {
-    let mut symbol = symbol;
-    'down: while let Some(start) = start_of(starts, symbol) {
-        let symbols = grm.prod(start.prod);
-        push_symbols(alloc, grm, choices, out, &symbols[..start.place])?;
-        frames.push(Frame {
-            prod: start.prod,
-            dot: start.place + 1,
-        })?;
-        symbol = symbols[start.place];
-    }
-    if let Symbol::Token(token) = symbol {
-        out.push(Move::Take(token))?;
-    }
-    Ok(())
-}
-
-// What is kept of the symbol, if it is a rule.
-fn start_of<StorageT: StorageIndex>(
-    starts: &[Option<Start<StorageT>>],
-    symbol: Symbol<StorageT>,
-) -> Option<Start<StorageT>> {
-    match symbol {
-        Symbol::Token(_) => None,
-        Symbol::Rule(rule) => match starts.get(usize::from(rule)) {
-            Some(start) => *start,
-            None => None,
-        },
-    }
-}
-
-// The first place in the symbols that can begin with the token by the starts, where what stands before it can derive nothing.
-fn place_of<StorageT: StorageIndex>(
-    choices: &[Option<Choice<StorageT>>],
-    starts: &[Option<Start<StorageT>>],
-    symbols: &[Symbol<StorageT>],
-    first: TIdx<StorageT>,
-) -> Option<usize> {
-    for (place, symbol) in symbols.iter().enumerate() {
-        if begins_by(starts, *symbol, first) {
-            return Some(place);
-        }
-        if len_of(choices, *symbol) != Some(0) {
-            return None;
-        }
-    }
-    None
-}
-
-// Whether the symbol is the token, or a rule that can begin with it by the starts.
-fn begins_by<StorageT: StorageIndex>(
-    starts: &[Option<Start<StorageT>>],
-    symbol: Symbol<StorageT>,
-    first: TIdx<StorageT>,
-) -> bool {
-    match symbol {
-        Symbol::Token(token) => usize::from(token) == usize::from(first),
-        Symbol::Rule(_) => start_of(starts, symbol).is_some(),
-    }
-}
-
-// How rules can begin with the token.
-fn starts<StorageT: StorageIndex>(
+/// How rules can begin with the token.
+pub(crate) fn starts<StorageT: StorageIndex>(
     alloc: Global,
     grm: &YaccGrammar<StorageT>,
     choices: &[Option<Choice<StorageT>>],
     first: TIdx<StorageT>,
-) -> Result<Vec<Option<Start<StorageT>>>, AllocError> {
+) -> Result<Vec<Option<Start<StorageT>>>, AllocError>
+    requires right { AreRight grm.now usize.MAX (choices_of StorageT.index choices.now) }
+    ensures right { IfOk result (λ starts. AreStarts grm.now (choices_of StorageT.index choices.now) (StorageT.index first.0) (starts_of StorageT.index starts.items)) }
+    ensures closed { IfOk result (λ starts. (p : ℕ) → p < prods_len grm.now
+        → CanStart grm.now usize.MAX (choices_of StorageT.index choices.now) (StorageT.index first.0) (starts_of StorageT.index starts.items) p) }
+{
     let mut starts = no_starts(alloc, grm.rules_len())?;
     'passes: while grow_all(grm, choices, &mut starts, first) {}
     Ok(starts)
@@ -153,7 +40,10 @@ fn starts<StorageT: StorageIndex>(
 fn no_starts<StorageT: StorageIndex>(
     alloc: Global,
     rules: usize,
-) -> Result<Vec<Option<Start<StorageT>>>, AllocError> {
+) -> Result<Vec<Option<Start<StorageT>>>, AllocError>
+    ensures len { IfOk result (λ starts. length starts.items ≡ rules) }
+    ensures none { IfOk result (λ starts. (r : ℕ) → start_at (starts_of StorageT.index starts.items) r ≡ None) }
+{
     let mut starts = Vec::with_capacity(alloc, rules)?;
     for _ in 0..rules {
         starts.push(None)?;
@@ -167,7 +57,14 @@ fn grow_all<StorageT: StorageIndex>(
     choices: &[Option<Choice<StorageT>>],
     starts: &mut [Option<Start<StorageT>>],
     first: TIdx<StorageT>,
-) -> bool {
+) -> bool
+    requires right { AreRight grm.now usize.MAX (choices_of StorageT.index choices.now) }
+    requires starts { AreStarts grm.now (choices_of StorageT.index choices.now) (StorageT.index first.0) (starts_of StorageT.index starts.old) }
+    ensures starts { AreStarts grm.now (choices_of StorageT.index choices.now) (StorageT.index first.0) (starts_of StorageT.index starts.new) }
+    ensures grown { OnTrue result (starts_open (starts_of StorageT.index starts.new) < starts_open (starts_of StorageT.index starts.old)) }
+    ensures closed { OnFalse result ((p : ℕ) → p < prods_len grm.now
+        → CanStart grm.now usize.MAX (choices_of StorageT.index choices.now) (StorageT.index first.0) (starts_of StorageT.index starts.new) p) }
+{
     let mut grown = false;
     for prod in 0..grm.prods_len() {
         let pidx = PIdx(StorageT::from_index(prod).unwrap());
@@ -185,16 +82,106 @@ fn grow<StorageT: StorageIndex>(
     starts: &mut [Option<Start<StorageT>>],
     first: TIdx<StorageT>,
     pidx: PIdx<StorageT>,
-) -> bool {
-    let rule = usize::from(grm.prod_to_rule(pidx));
-    if starts[rule].is_some() || total_len(choices, grm.prod(pidx)).is_none() {
+) -> bool
+    requires prod { StorageT.index pidx.0 < prods_len grm.now }
+    requires right { AreRight grm.now usize.MAX (choices_of StorageT.index choices.now) }
+    requires starts { AreStarts grm.now (choices_of StorageT.index choices.now) (StorageT.index first.0) (starts_of StorageT.index starts.old) }
+    ensures starts { AreStarts grm.now (choices_of StorageT.index choices.now) (StorageT.index first.0) (starts_of StorageT.index starts.new) }
+    ensures grown { OnTrue result (starts_open (starts_of StorageT.index starts.new) < starts_open (starts_of StorageT.index starts.old)) }
+    ensures same { OnFalse result (starts.new ≡ starts.old) }
+    ensures closed { OnFalse result (CanStart grm.now usize.MAX (choices_of StorageT.index choices.now) (StorageT.index first.0)
+        (starts_of StorageT.index starts.new) (StorageT.index pidx.0)) }
+{
+    let rule = grm.prod_to_rule(pidx);
+    if begins_by(starts, Symbol::Rule(rule), first) {
         return false;
     }
-    match place_of(choices, starts, grm.prod(pidx), first) {
+    match start_place(grm, choices, starts, first, pidx) {
         Some(place) => {
-            starts[rule] = Some(Start { prod: pidx, place });
+            keep(starts, usize::from(rule), Start { prod: pidx, place });
             true
         }
         None => false,
+    }
+}
+
+// Keeps how the rule can begin.
+fn keep<StorageT: StorageIndex>(
+    starts: &mut [Option<Start<StorageT>>],
+    rule: usize,
+    start: Start<StorageT>,
+)
+    requires { rule < length starts.old }
+    ensures { starts.new ≡ slice_set starts.old rule (Some start) }
+{
+    starts[rule] = Some(start);
+}
+
+// The place at which the production can begin with the token, if its symbols derive texts and there is one.
+fn start_place<StorageT: StorageIndex>(
+    grm: &YaccGrammar<StorageT>,
+    choices: &[Option<Choice<StorageT>>],
+    starts: &[Option<Start<StorageT>>],
+    first: TIdx<StorageT>,
+    pidx: PIdx<StorageT>,
+) -> Option<usize>
+    requires { StorageT.index pidx.0 < prods_len grm.now }
+    ensures { result ≡ place_if (total_len usize.MAX (choices_of StorageT.index choices.now) (symbols_of grm.now (StorageT.index pidx.0)))
+        (place_of (choices_of StorageT.index choices.now) (starts_of StorageT.index starts.now) (StorageT.index first.0) (symbols_of grm.now (StorageT.index pidx.0))) }
+{
+    match total_len(choices, grm.prod(pidx)) {
+        Some(_) => place_of(choices, starts, grm.prod(pidx), first),
+        None => None,
+    }
+}
+
+/// The first place in the symbols that can begin with the token by the starts, where what stands before it can derive nothing.
+pub(crate) fn place_of<StorageT: StorageIndex>(
+    choices: &[Option<Choice<StorageT>>],
+    starts: &[Option<Start<StorageT>>],
+    symbols: &[Symbol<StorageT>],
+    first: TIdx<StorageT>,
+) -> Option<usize>
+    ensures { result ≡ place_of (choices_of StorageT.index choices.now) (starts_of StorageT.index starts.now) (StorageT.index first.0)
+        (map (symbol_of StorageT.index) symbols.now) }
+{
+    for (place, symbol) in symbols.iter().enumerate() {
+        if begins_by(starts, *symbol, first) {
+            return Some(place);
+        }
+        if len_of(choices, *symbol) != Some(0) {
+            return None;
+        }
+    }
+    None
+}
+
+// Whether the symbol is the token, or a rule that can begin with it by the starts.
+fn begins_by<StorageT: StorageIndex>(
+    starts: &[Option<Start<StorageT>>],
+    symbol: Symbol<StorageT>,
+    first: TIdx<StorageT>,
+) -> bool
+    ensures { result ≡ begins (starts_of StorageT.index starts.now) (StorageT.index first.0) (symbol_of StorageT.index symbol) }
+{
+    match symbol {
+        Symbol::Token(token) => usize::from(token) == usize::from(first),
+        Symbol::Rule(_) => start_of(starts, symbol).is_some(),
+    }
+}
+
+/// What is kept of the symbol, if it is a rule.
+pub(crate) fn start_of<StorageT: StorageIndex>(
+    starts: &[Option<Start<StorageT>>],
+    symbol: Symbol<StorageT>,
+) -> Option<Start<StorageT>>
+    ensures { option_map (start_of StorageT.index) result ≡ start_by (starts_of StorageT.index starts.now) (symbol_of StorageT.index symbol) }
+{
+    match symbol {
+        Symbol::Token(_) => None,
+        Symbol::Rule(rule) => match starts.get(usize::from(rule)) {
+            Some(start) => *start,
+            None => None,
+        },
     }
 }

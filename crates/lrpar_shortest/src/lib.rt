@@ -3,6 +3,7 @@
 
 mod back;
 mod begins;
+mod descend;
 mod edges;
 pub mod moves;
 mod reached;

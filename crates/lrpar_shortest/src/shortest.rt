@@ -9,7 +9,7 @@ ghost use Rattle.lrpar_shortest.specs.Moves.{forest_moves, moves_in, moves_of};
 ghost use Rattle.lrpar_shortest.specs.Reached.{EachReachedHasTree, HasTree, IsBarren, IsReachedRule};
 ghost use Rattle.lrpar_shortest.specs.Texts.{AreShortestTrees, BeginWith, CanBeginWith, HaveTrees, IsShortestIfAny, IsShortestTree, IsTreeOf};
 
-use crate::begins::push_beginning;
+use crate::descend::push_beginning;
 use crate::moves::Move;
 use crate::reached::{first_barren, reached_rules};
 use crate::settle::{Choice, len_of, settled, total_len};

@@ -7,7 +7,7 @@ ghost use Rattle.lrpar_build.specs.Built.{IsBuilt};
 ghost use Rattle.lrpar_shortest.specs.Choices.{AreShortest};
 ghost use Rattle.lrpar_shortest.specs.Ways.{AreWays, IsShortestPath, IsShortestWayIfAny, StepOf, WayOf, steps_of, way_at};
 
-use crate::back::{push_back, way_to};
+use crate::back::{push_back, reverse_from, way_to};
 use crate::settle_ways::settled_ways;
 use crate::shortest::Shortest;
 pub use crate::steps::Step;
@@ -82,7 +82,7 @@ impl<StorageT: StorageIndex> Ways<StorageT> {
     {
         let from = out.len();
         push_back(&self.ways, out, s)?;
-        out[from..].reverse();
+        reverse_from(out, from);
         Ok(())
     }
 }

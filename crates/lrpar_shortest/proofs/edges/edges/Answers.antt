@@ -14,7 +14,7 @@ loop-state-preserved g c =
     let n = c.loop-state.state in
     let at = index_back index c.from_index.result c.unwrap.result n c.from_index.ensures.back c.unwrap.ensures in (
       c.in_ok-push_edges.ensures.edges ∙ ap (λ k. edges_of index c.loop-state.edges.items ++ edges_at table choices k) at
-      ∙ ap (λ es. es ++ edges_at table choices n) c.loop-state.invariant.0 ∙ sym (below_more table choices n),
+          ∙ ap (λ es. es ++ edges_at table choices n) c.loop-state.invariant.0 ∙ sym (below_more table choices n),
       λ s low. elim (cases_eq s n) as (λ _. IsStoredAt table s) [
         | inl same ↦ subst (IsStoredAt table) (at ∙ sym same) c.in_ok-push_edges.ensures.stored
         | inr other ↦ c.loop-state.invariant.1 s (omega (arith, low, other))

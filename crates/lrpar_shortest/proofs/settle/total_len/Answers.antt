@@ -22,8 +22,8 @@ loop-symbol-preserved g c =
     let at = symbols_from index c.args.symbols.now i c.symbol-item.result c.loop-symbol-test.true c.symbol-item.is in (
       omega (arith, c.saturating_add-len.type_inv),
       ap (λ n. added (2 ^ 64 - 1) (Some n) (total_len (2 ^ 64 - 1) choices (drop (i + 1) symbols))) c.saturating_add-len.ensures
-      ∙ total_more (2 ^ 64 - 1) choices (symbol_of index c.symbol-item.result) (drop (i + 1) symbols) (drop i symbols) c.loop-symbol.len c.in-Some.more _
-      at (sym c.len_of.ensures ∙ c.in-Some.is) c.loop-symbol.invariant.1,
+          ∙ total_more (2 ^ 64 - 1) choices (symbol_of index c.symbol-item.result) (drop (i + 1) symbols) (drop i symbols) c.loop-symbol.len c.in-Some.more _
+          at (sym c.len_of.ensures ∙ c.in-Some.is) c.loop-symbol.invariant.1,
     )
 
 pub returns-in-None : goal.returns-in-None

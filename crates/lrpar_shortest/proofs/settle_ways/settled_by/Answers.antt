@@ -24,7 +24,7 @@ settle_all-requires g c =
     let count = c.levels.invariant.states in
     record {
       within = edges_within index c.args.stable.now c.args.shortest.now c.args.edges.now (length c.deref_mut.result.now) c.states_len-states.ensures.closed c.requires.edges
-      (omega (arith, lent, long, count));
+          (omega (arith, lent, long, count));
     }
 
 pub levels-smaller : goal.levels-smaller
