@@ -1,0 +1,17 @@
+pub mod OkLemmas
+pub mod BeginLemmas
+pub mod ClimbLemmas
+pub mod ReadingLemmas
+pub mod MarkLemmas
+pub mod NoteLemmas
+pub mod LinkLemmas
+pub mod ReachLemmas
+pub mod PathLemmas
+pub mod RestLemmas
+pub mod UpLemmas
+pub mod WayLemmas
+pub mod TextLemmas
+pub mod FrontLemmas
+pub mod ExampleLemmas
+pub mod ReplayLemmas
+pub mod GuessLemmas

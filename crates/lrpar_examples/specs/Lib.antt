@@ -1,0 +1,6 @@
+pub mod Reading
+pub mod Example
+pub mod Climbing
+pub mod Links
+pub mod Texts
+pub mod Replay

@@ -1,0 +1,127 @@
+//! An example of a conflict.
+ghost use Rattle.std.specs.Prelude.{◌≡◌, ◌↔◌, IfOk, IsTrue, map};
+ghost use Rattle.lrpar_shortest.specs.Moves.{moves_in};
+ghost use Rattle.lrpar_examples.specs.Texts.{takes_in, token_numbers};
+
+use lrpar_grammar::span::{StorageIndex, TIdx};
+use lrpar_shortest::moves::Move;
+use std::alloc::{AllocError, Global};
+use std::marker::Model;
+
+/// An example of a conflict: a text that leads to the conflict's state, and two readings of trees that go on from there, as moves.
+#[derive(Debug, Drop)]
+pub struct Example<StorageT: StorageIndex> {
+    before: Vec<TIdx<StorageT>>,
+    first: Vec<Move<StorageT>>,
+    second: Vec<Move<StorageT>>,
+    ambiguous: bool,
+}
+
+impl<StorageT: StorageIndex> Model for Example<StorageT> {
+    ghost use Rattle.lrpar_shortest.specs.Moves.{moves_in};
+    ghost use Rattle.lrpar_examples.specs.Example.{ExampleOf};
+    ghost use Rattle.lrpar_examples.specs.Texts.{token_numbers};
+
+    ghost Value = { ExampleOf };
+
+    ghost view = { λ x. record { before = token_numbers StorageT.index x.before.items; first = moves_in StorageT.index x.first.items; second = moves_in StorageT.index x.second.items; ambiguous = x.ambiguous } };
+}
+
+impl<StorageT: StorageIndex> Example<StorageT> {
+    // The example of two readings that begin with the moves in front.
+    pub(crate) fn new(
+        alloc: Global,
+        front: &[Move<StorageT>],
+        first: Vec<Move<StorageT>>,
+        second: Vec<Move<StorageT>>,
+    ) -> Result<Self, AllocError>
+        ensures before { IfOk result (λ x. x.before ≡ takes_in (moves_in StorageT.index front.now)) }
+        ensures first { IfOk result (λ x. x.first ≡ moves_in StorageT.index first.items) }
+        ensures second { IfOk result (λ x. x.second ≡ moves_in StorageT.index second.items) }
+        ensures ambiguous { IfOk result (λ x. IsTrue x.ambiguous
+            ↔ (takes_in (moves_in StorageT.index first.items) ≡ takes_in (moves_in StorageT.index second.items))) }
+    {
+        let before = taken(alloc, front)?;
+        let ambiguous = have_same_text(alloc, &first, &second)?;
+        Ok(Example {
+            before,
+            first,
+            second,
+            ambiguous,
+        })
+    }
+
+    /// The tokens of a shortest text that leads to the conflict's state.
+    pub fn before(&self) -> &[TIdx<StorageT>]
+        ensures { token_numbers StorageT.index result.now ≡ self.now.before }
+    {
+        &self.before
+    }
+
+    /// The moves of the first reading.
+    pub fn first(&self) -> &[Move<StorageT>]
+        ensures { moves_in StorageT.index result.now ≡ self.now.first }
+    {
+        &self.first
+    }
+
+    /// The moves of the second reading.
+    pub fn second(&self) -> &[Move<StorageT>]
+        ensures { moves_in StorageT.index result.now ≡ self.now.second }
+    {
+        &self.second
+    }
+
+    /// Whether both readings have the same text, so that the grammar is ambiguous.
+    pub fn is_ambiguous(&self) -> bool
+        ensures { result ≡ self.now.ambiguous }
+    {
+        self.ambiguous
+    }
+}
+
+// Whether the tokens that both take are the same.
+fn have_same_text<StorageT: StorageIndex>(
+    alloc: Global,
+    first: &[Move<StorageT>],
+    second: &[Move<StorageT>],
+) -> Result<bool, AllocError>
+    ensures { IfOk result (λ same. IsTrue same
+        ↔ (takes_in (moves_in StorageT.index first.now) ≡ takes_in (moves_in StorageT.index second.now))) }
+{
+    let one = taken(alloc, first)?;
+    let other = taken(alloc, second)?;
+    Ok(are_same(&one, &other))
+}
+
+// Whether the tokens are the same.
+fn are_same<StorageT: StorageIndex>(one: &[TIdx<StorageT>], other: &[TIdx<StorageT>]) -> bool
+    ensures { IsTrue result ↔ (token_numbers StorageT.index one.now ≡ token_numbers StorageT.index other.now) }
+{
+    if one.len() != other.len() {
+        return false;
+    }
+    for place in 0..one.len() {
+        if usize::from(one[place]) != usize::from(other[place]) {
+            return false;
+        }
+    }
+    true
+}
+
+/// The tokens that the moves take.
+pub(crate) fn taken<StorageT: StorageIndex>(
+    alloc: Global,
+    moves: &[Move<StorageT>],
+) -> Result<Vec<TIdx<StorageT>>, AllocError>
+    ensures { IfOk result (λ tokens. token_numbers StorageT.index tokens.items ≡ takes_in (moves_in StorageT.index moves.now)) }
+{
+    let mut tokens = Vec::new(alloc);
+    for step in moves {
+        match *step {
+            Move::Take(token) => tokens.push(token)?,
+            Move::Make(_) => {}
+        }
+    }
+    Ok(tokens)
+}

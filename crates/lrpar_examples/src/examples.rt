@@ -1,0 +1,379 @@
+//! Examples of the conflicts of a table that was built of a grammar.
+ghost use Rattle.std.specs.Prelude.{◌≡◌, ◌≢◌, ◌<◌, IfErr, IfOk, IfSome, map};
+ghost use Rattle.std.specs.List.{Contains};
+ghost use Rattle.lrpar_grammar.specs.Symbols.{symbol_of};
+ghost use Rattle.lrpar_states.specs.Graph.{graph_len};
+ghost use Rattle.lrpar_states.specs.PlainConflicts.{reduce_reduce_of, shift_reduce_of};
+ghost use Rattle.lrpar_build.specs.Built.{IsBuilt};
+ghost use Rattle.lrpar_build.specs.BuilderLaws.{lists_in};
+ghost use Rattle.lrpar_shortest.specs.Choices.{AreShortest};
+ghost use Rattle.lrpar_shortest.specs.Moves.{Makes, Takes, move_of, moves_in};
+ghost use Rattle.lrpar_shortest.specs.Reached.{EachReachedHasTree};
+ghost use Rattle.lrpar_shortest.specs.Ways.{steps_of, symbols_in};
+ghost use Rattle.lrpar_examples.specs.Example.{AreExamplesFor, IsExample, IsExampleFault, IsFront};
+
+pub use crate::example::Example;
+pub use crate::fault::ExampleFault;
+use crate::guess::example_of;
+use crate::readings::{making, taking};
+use crate::unify::unify;
+use lrpar_first::first::first_sets;
+use lrpar_first::tokens::TokenSet;
+use lrpar_grammar::grammar::YaccGrammar;
+use lrpar_grammar::span::{PIdx, StIdx, StorageIndex, Symbol, TIdx};
+use lrpar_shortest::moves::Move;
+use lrpar_shortest::shortest::Shortest;
+use lrpar_shortest::ways::{Step, Ways};
+use lrpar_states::table::{StateGraph, StateTable};
+use std::alloc::{AllocError, Global};
+use std::marker::Model;
+
+/// What the examples of all conflicts of a table share.
+#[derive(Drop)]
+pub struct Examples<StorageT: StorageIndex> {
+    firsts: Vec<TokenSet>,
+    shortest: Shortest<StorageT>,
+    ways: Ways<StorageT>,
+}
+
+impl<StorageT: StorageIndex> Model for Examples<StorageT> {
+    ghost use Rattle.lrpar_first.specs.FirstRows.{rows_of};
+    ghost use Rattle.lrpar_examples.specs.Example.{ExamplesOf};
+
+    ghost Value = { ExamplesOf };
+
+    ghost view = { λ x. record { firsts = rows_of x.firsts.items; shortest = x.shortest; ways = x.ways } };
+}
+
+// The steps of a shortest way to a state, and the moves of shortest trees of its symbols.
+#[derive(Drop)]
+struct Front<StorageT> {
+    steps: Vec<Step<StorageT>>,
+    moves: Vec<Move<StorageT>>,
+}
+
+impl<StorageT: StorageIndex> Examples<StorageT> {
+    /// What examples of the conflicts of a table need that was built of the grammar.
+    ///
+    /// `Barren` names a rule that the grammar reaches from its start and that derives no text: with one there are no examples. `Memory`
+    /// comes where it doesn't suffice.
+    pub fn new(
+        alloc: Global,
+        grm: &YaccGrammar<StorageT>,
+        sgraph: &StateGraph<StorageT>,
+        stable: &StateTable<StorageT>,
+    ) -> Result<Self, ExampleFault<StorageT>>
+        requires built { IsBuilt grm.now sgraph.now stable.now }
+        ensures made { IfOk result (AreExamplesFor grm.now sgraph.now stable.now usize.MAX) }
+        ensures refused { IfErr result (IsExampleFault StorageT.index grm.now) }
+    {
+        let firsts = first_sets(alloc, grm)?;
+        let shortest = fertile(alloc, grm)?;
+        let ways = Ways::new(alloc, grm, sgraph, stable, &shortest)?;
+        Ok(Examples {
+            firsts,
+            shortest,
+            ways,
+        })
+    }
+
+    /// The example of a conflict between two reductions, as token, productions and state: one reading makes the node of the first
+    /// production, the other that of the second.
+    ///
+    /// Where the trees' texts differ, it looks for one text that has both readings, by at most about `bound` readings of it, and gives
+    /// these in place of the others if it finds some; with a bound of 0 it doesn't look. An `Err` comes where memory doesn't suffice.
+    pub fn of_reduce_reduce(
+        &self,
+        alloc: Global,
+        grm: &YaccGrammar<StorageT>,
+        sgraph: &StateGraph<StorageT>,
+        stable: &StateTable<StorageT>,
+        conflict: &(
+            TIdx<StorageT>,
+            PIdx<StorageT>,
+            PIdx<StorageT>,
+            StIdx<StorageT>,
+        ),
+        bound: usize,
+    ) -> Result<Example<StorageT>, AllocError>
+        requires built { IsBuilt grm.now sgraph.now stable.now }
+        requires made { AreExamplesFor grm.now sgraph.now stable.now usize.MAX self.now }
+        requires member { Contains (lists_in stable.now.conflicts).reduce_reduce (reduce_reduce_of StorageT.index conflict.now) }
+        ensures { IfOk result (λ x. IsExample grm.now sgraph.now (StorageT.index conflict.now.3.0) (StorageT.index conflict.now.0.0)
+            (Makes (StorageT.index conflict.now.1.0)) (Makes (StorageT.index conflict.now.2.0)) x) }
+    {
+        let (token, one, other, state) = *conflict;
+        let front = self.front(alloc, grm, sgraph, stable, state)?;
+        let plain = self.reductions(alloc, grm, sgraph, stable, &front, conflict)?;
+        let (one, other) = (Move::Make(one), Move::Make(other));
+        with_one_text(
+            alloc, grm, sgraph, stable, &front, state, one, other, token, bound, plain,
+        )
+    }
+
+    /// The example of a conflict between a shift and a reduction, as token, production and state: one reading makes the node of the
+    /// production, the other takes the token. `bound` is that of `of_reduce_reduce`, and so is an `Err`.
+    pub fn of_shift_reduce(
+        &self,
+        alloc: Global,
+        grm: &YaccGrammar<StorageT>,
+        sgraph: &StateGraph<StorageT>,
+        stable: &StateTable<StorageT>,
+        conflict: &(TIdx<StorageT>, PIdx<StorageT>, StIdx<StorageT>),
+        bound: usize,
+    ) -> Result<Example<StorageT>, AllocError>
+        requires built { IsBuilt grm.now sgraph.now stable.now }
+        requires made { AreExamplesFor grm.now sgraph.now stable.now usize.MAX self.now }
+        requires member { Contains (lists_in stable.now.conflicts).shift_reduce (shift_reduce_of StorageT.index conflict.now) }
+        ensures { IfOk result (λ x. IsExample grm.now sgraph.now (StorageT.index conflict.now.2.0) (StorageT.index conflict.now.0.0)
+            (Makes (StorageT.index conflict.now.1.0)) (Takes (StorageT.index conflict.now.0.0)) x) }
+    {
+        let (token, prod, state) = *conflict;
+        let front = self.front(alloc, grm, sgraph, stable, state)?;
+        let plain = self.shift(alloc, grm, sgraph, stable, &front, conflict)?;
+        let (one, other) = (Move::Make(prod), Move::Take(token));
+        with_one_text(
+            alloc, grm, sgraph, stable, &front, state, one, other, token, bound, plain,
+        )
+    }
+
+    // The same by a way to the state.
+    fn reductions(
+        &self,
+        alloc: Global,
+        grm: &YaccGrammar<StorageT>,
+        sgraph: &StateGraph<StorageT>,
+        stable: &StateTable<StorageT>,
+        front: &Front<StorageT>,
+        conflict: &(
+            TIdx<StorageT>,
+            PIdx<StorageT>,
+            PIdx<StorageT>,
+            StIdx<StorageT>,
+        ),
+    ) -> Result<Example<StorageT>, AllocError>
+        requires built { IsBuilt grm.now sgraph.now stable.now }
+        requires made { AreExamplesFor grm.now sgraph.now stable.now usize.MAX self.now }
+        requires member { Contains (lists_in stable.now.conflicts).reduce_reduce (reduce_reduce_of StorageT.index conflict.now) }
+        requires front { IsFront grm.now sgraph.now (StorageT.index conflict.now.3.0) (steps_of StorageT.index front.now.steps.items)
+            (moves_in StorageT.index front.now.moves.items) }
+        ensures { IfOk result (λ x. IsExample grm.now sgraph.now (StorageT.index conflict.now.3.0) (StorageT.index conflict.now.0.0)
+            (Makes (StorageT.index conflict.now.1.0)) (Makes (StorageT.index conflict.now.2.0)) x) }
+    {
+        let _start = grm.start_prod();
+        let (token, one, other, state) = *conflict;
+        let (firsts, shortest) = (&self.firsts, &self.shortest);
+        let first = making(
+            alloc,
+            grm,
+            firsts,
+            shortest,
+            sgraph,
+            &front.steps,
+            state,
+            &front.moves,
+            one,
+            token,
+        )?;
+        let second = making(
+            alloc,
+            grm,
+            firsts,
+            shortest,
+            sgraph,
+            &front.steps,
+            state,
+            &front.moves,
+            other,
+            token,
+        )?;
+        Example::new(alloc, &front.moves, first, second)
+    }
+
+    // The same by a way to the state.
+    fn shift(
+        &self,
+        alloc: Global,
+        grm: &YaccGrammar<StorageT>,
+        sgraph: &StateGraph<StorageT>,
+        stable: &StateTable<StorageT>,
+        front: &Front<StorageT>,
+        conflict: &(TIdx<StorageT>, PIdx<StorageT>, StIdx<StorageT>),
+    ) -> Result<Example<StorageT>, AllocError>
+        requires built { IsBuilt grm.now sgraph.now stable.now }
+        requires made { AreExamplesFor grm.now sgraph.now stable.now usize.MAX self.now }
+        requires member { Contains (lists_in stable.now.conflicts).shift_reduce (shift_reduce_of StorageT.index conflict.now) }
+        requires front { IsFront grm.now sgraph.now (StorageT.index conflict.now.2.0) (steps_of StorageT.index front.now.steps.items)
+            (moves_in StorageT.index front.now.moves.items) }
+        ensures { IfOk result (λ x. IsExample grm.now sgraph.now (StorageT.index conflict.now.2.0) (StorageT.index conflict.now.0.0)
+            (Makes (StorageT.index conflict.now.1.0)) (Takes (StorageT.index conflict.now.0.0)) x) }
+    {
+        let _start = grm.start_prod();
+        let (token, prod, state) = *conflict;
+        let (firsts, shortest) = (&self.firsts, &self.shortest);
+        let first = making(
+            alloc,
+            grm,
+            firsts,
+            shortest,
+            sgraph,
+            &front.steps,
+            state,
+            &front.moves,
+            prod,
+            token,
+        )?;
+        let second = taking(
+            alloc,
+            grm,
+            firsts,
+            shortest,
+            sgraph,
+            &front.steps,
+            state,
+            &front.moves,
+            token,
+        )?;
+        Example::new(alloc, &front.moves, first, second)
+    }
+
+    // A shortest way to the state, and shortest trees of its symbols.
+    fn front(
+        &self,
+        alloc: Global,
+        grm: &YaccGrammar<StorageT>,
+        sgraph: &StateGraph<StorageT>,
+        stable: &StateTable<StorageT>,
+        state: StIdx<StorageT>,
+    ) -> Result<Front<StorageT>, AllocError>
+        requires built { IsBuilt grm.now sgraph.now stable.now }
+        requires made { AreExamplesFor grm.now sgraph.now stable.now usize.MAX self.now }
+        requires state { StorageT.index state.0 < graph_len sgraph.now }
+        ensures { IfOk result (λ front. IsFront grm.now sgraph.now (StorageT.index state.0) (steps_of StorageT.index front.steps.items)
+            (moves_in StorageT.index front.moves.items)) }
+    {
+        let _start = grm.start_prod();
+        let _states = stable.states_len();
+        let mut steps = Vec::new(alloc);
+        self.ways.push_path(&mut steps, state)?;
+        let symbols = symbols_of(alloc, &steps)?;
+        let mut moves = Vec::new(alloc);
+        self.shortest
+            .push_all_moves(alloc, &mut moves, grm, &symbols)?;
+        let _moves = moves.as_slice();
+        let _len = moves.len();
+        Ok(Front { steps, moves })
+    }
+}
+
+// The example of readings of one text that begin so, if one is found within the bound; else the plain one.
+fn with_one_text<StorageT: StorageIndex>(
+    alloc: Global,
+    grm: &YaccGrammar<StorageT>,
+    sgraph: &StateGraph<StorageT>,
+    stable: &StateTable<StorageT>,
+    front: &Front<StorageT>,
+    state: StIdx<StorageT>,
+    one: Move<StorageT>,
+    other: Move<StorageT>,
+    token: TIdx<StorageT>,
+    bound: usize,
+    plain: Example<StorageT>,
+) -> Result<Example<StorageT>, AllocError>
+    requires apart { move_of StorageT.index one ≢ move_of StorageT.index other }
+    requires front { IsFront grm.now sgraph.now (StorageT.index state.0) (steps_of StorageT.index front.now.steps.items)
+        (moves_in StorageT.index front.now.moves.items) }
+    requires plain { IsExample grm.now sgraph.now (StorageT.index state.0) (StorageT.index token.0) (move_of StorageT.index one) (move_of StorageT.index other) plain }
+    ensures { IfOk result (IsExample grm.now sgraph.now (StorageT.index state.0) (StorageT.index token.0) (move_of StorageT.index one) (move_of StorageT.index other)) }
+{
+    if bound == 0 || plain.is_ambiguous() {
+        return Ok(plain);
+    }
+    match one_text(
+        alloc, grm, sgraph, stable, front, state, one, other, token, bound,
+    )? {
+        Some(found) => Ok(found),
+        None => Ok(plain),
+    }
+}
+
+// The example of readings of one text that begin so, if one is found within the bound.
+fn one_text<StorageT: StorageIndex>(
+    alloc: Global,
+    grm: &YaccGrammar<StorageT>,
+    sgraph: &StateGraph<StorageT>,
+    stable: &StateTable<StorageT>,
+    front: &Front<StorageT>,
+    state: StIdx<StorageT>,
+    one: Move<StorageT>,
+    other: Move<StorageT>,
+    token: TIdx<StorageT>,
+    bound: usize,
+) -> Result<Option<Example<StorageT>>, AllocError>
+    requires apart { move_of StorageT.index one ≢ move_of StorageT.index other }
+    requires front { IsFront grm.now sgraph.now (StorageT.index state.0) (steps_of StorageT.index front.now.steps.items)
+        (moves_in StorageT.index front.now.moves.items) }
+    ensures { IfOk result (λ found. IfSome found (IsExample grm.now sgraph.now (StorageT.index state.0) (StorageT.index token.0)
+        (move_of StorageT.index one) (move_of StorageT.index other))) }
+{
+    let states = states_of(alloc, &front.steps, state)?;
+    match unify(
+        alloc, grm, sgraph, stable, &states, one, other, token, bound,
+    )? {
+        None => Ok(None),
+        Some(text) => example_of(
+            alloc,
+            grm,
+            &front.moves,
+            one,
+            other,
+            token,
+            &text.first,
+            &text.second,
+        ),
+    }
+}
+
+// The states on the way, the last one too.
+fn states_of<StorageT: StorageIndex>(
+    alloc: Global,
+    steps: &[Step<StorageT>],
+    last: StIdx<StorageT>,
+) -> Result<Vec<StIdx<StorageT>>, AllocError> {
+    let mut states = Vec::new(alloc);
+    for step in steps {
+        states.push(step.from)?;
+    }
+    states.push(last)?;
+    Ok(states)
+}
+
+// The shortest texts of the grammar's rules, if each rule that is reached derives some text.
+fn fertile<StorageT: StorageIndex>(
+    alloc: Global,
+    grm: &YaccGrammar<StorageT>,
+) -> Result<Shortest<StorageT>, ExampleFault<StorageT>>
+    ensures shortest { IfOk result (AreShortest grm.now usize.MAX) }
+    ensures each { IfOk result (λ _. EachReachedHasTree grm.now) }
+    ensures refused { IfErr result (IsExampleFault StorageT.index grm.now) }
+{
+    let shortest = Shortest::new(alloc, grm)?;
+    match shortest.barren(alloc, grm)? {
+        Some(rule) => Err(ExampleFault::Barren(rule)),
+        None => Ok(shortest),
+    }
+}
+
+// The symbols of the steps.
+fn symbols_of<StorageT: StorageIndex>(
+    alloc: Global,
+    steps: &[Step<StorageT>],
+) -> Result<Vec<Symbol<StorageT>>, AllocError>
+    ensures { IfOk result (λ symbols. map (symbol_of StorageT.index) symbols.items ≡ symbols_in (steps_of StorageT.index steps.now)) }
+{
+    let mut symbols = Vec::with_capacity(alloc, steps.len())?;
+    for step in steps {
+        symbols.push(step.symbol)?;
+    }
+    Ok(symbols)
+}

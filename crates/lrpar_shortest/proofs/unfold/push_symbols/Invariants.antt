@@ -1,0 +1,13 @@
+use Rattle.std.proofs.Common.{◌≡◌, ◌++◌, drop, map}
+use Rattle.lrpar_grammar.specs.Symbols.{symbol_of}
+use Rattle.lrpar_grammar.specs.Tree.{Forest}
+use Rattle.lrpar_shortest.specs.Choices.{ForestFollows, choices_of}
+use Rattle.lrpar_shortest.specs.Moves.{moves_in}
+use Rattle.lrpar_shortest.proofs.FrameLemmas.{Listing}
+use Rattle.lrpar_shortest.proofs.unfold.push_symbols.Given as goal
+
+abbrev pub invariant-loop-symbol : goal.invariant-loop-symbol
+invariant-loop-symbol g l =
+    let index = g.StorageT.StorageIndex.index in
+    Listing l.grm (choices_of index l.choices) (map (symbol_of index) l.symbols) (drop l.symbol-index (map (symbol_of index) l.symbols))
+    (moves_in index l.initial.out.items) (moves_in index l.out.items)
