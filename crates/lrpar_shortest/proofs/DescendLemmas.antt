@@ -9,7 +9,7 @@ use Rattle.lrpar_grammar.specs.Tree.{Tree, Forest, Leaf, Branch, Nil, Cons, leav
 use Rattle.lrpar_shortest.specs.Choices.{ChoiceOf, ForestFollows}
 use Rattle.lrpar_shortest.specs.Frames.{FrameOf, Unfold}
 use Rattle.lrpar_shortest.specs.Moves.{MoveOf, Makes, Takes, forest_moves, moves_of}
-use Rattle.lrpar_shortest.specs.Starts.{AreStarts, ForestStarts, StartOf, Starts, start_at, start_by}
+use Rattle.lrpar_shortest.specs.Starts.{AreStarts, Descends, ForestStarts, StartOf, Starts, start_at, start_by}
 
 -- the parts of what is kept
 abbrev prod_in : Option StartOf → ℕ
@@ -148,3 +148,12 @@ module _ {S : Type 0} (index : S → ℕ) (symbols : List (Symbol S)) (all : Lis
 
   pub around_front : (before : List (Symbol S)) → before ≡ take k symbols → map (symbol_of index) before ≡ take k all
   around_front before is = ap (map (symbol_of index)) is ∙ sym (take-map (symbol_of index) k symbols) ∙ ap (take k) are
+
+-- a tree that begins, made down to its token and then unfolded
+pub descended : (g : Grammar) (choices : List (Option ChoiceOf)) (starts : List (Option StartOf)) (first : ℕ) (s : GrammarSymbol) (none frames : List FrameOf)
+    (before middle after : List MoveOf) → none ≡ [] → Descends g choices starts first s none frames before middle
+    → ((moves : List MoveOf) → Unfold g choices frames moves → after ≡ middle ++ moves)
+    → (tree : Tree ℕ) → Starts g choices starts first tree s → after ≡ before ++ moves_of tree
+descended g choices starts first s none frames before middle after is descends all tree begun =
+    let one = descends tree [] begun (subst (λ (fs : List FrameOf). Unfold g choices fs []) (sym is) refl) in
+    all one.0 one.1 ∙ one.2 ∙ ap (λ ms. before ++ ms) (append-nil (moves_of tree))

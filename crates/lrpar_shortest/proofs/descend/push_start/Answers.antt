@@ -1,13 +1,18 @@
-use Rattle.std.proofs.Common.{rules, ◌≡◌, ◌<◌, ◌∷◌, ◌++◌, ℕ, All, IfOk, IfSome, IsSome, OnOk, Some, drop, length, map, take, ◌+◌, ◌-◌, ◌*◌, ◌≤◌, ◌/◌, ◌%◌, Bool, true, false, nat_eq, nat_lt, List, [], slice_index_or, slice_set, bit_and, bit_or, Fits, w8, w32, w64, Bor, MutBor}
+use Rattle.std.proofs.Common.{ap}
 use Rattle.lrpar_grammar.specs.Symbols.{symbol_of}
-use Rattle.lrpar_grammar.specs.Tree.{Forest, Tree}
-use Rattle.lrpar_shortest.specs.Choices.{AreRight, AreShortest, choices_of}
-use Rattle.lrpar_shortest.specs.Frames.{IsFrameOf, frames_of}
-use Rattle.lrpar_shortest.specs.Moves.{forest_moves, moves_in, moves_of}
-use Rattle.lrpar_shortest.specs.Starts.{AreStarts, Descends, ForestStarts, Starts, place_of, starts_of}
-use Rattle.lrpar_shortest.specs.Texts.{BeginWith, CanBeginWith}
+use Rattle.lrpar_shortest.specs.Choices.{choices_of}
+use Rattle.lrpar_shortest.specs.Frames.{frames_of}
+use Rattle.lrpar_shortest.specs.Moves.{moves_in}
+use Rattle.lrpar_shortest.specs.Starts.{starts_of}
+use Rattle.lrpar_shortest.proofs.DescendLemmas.{descended}
+use Rattle.lrpar_shortest.proofs.FrameLemmas.{ok_more}
 use Rattle.lrpar_shortest.proofs.descend.push_start.Goals as goal
 
--- src/descend.rt:67:1
 pub returns : goal.returns
-returns g c = ?
+returns g c =
+    let index = g.StorageT.StorageIndex.index in
+    ok_more c.unfold.result _ _
+    (descended c.args.grm.now (choices_of index c.args.choices.now) (starts_of index c.args.starts.now) (index c.args.first.0) (symbol_of index c.args.symbol)
+    (frames_of index c.new-frames.result.items) (frames_of index c.descend.new.frames.items) (moves_in index c.args.out.now.items) (moves_in index c.descend.new.out.items)
+    (moves_in index c.unfold.new.out.items) (ap (frames_of index) c.new-frames.ensures.items) c.in_ok-descend.ensures.descends)
+    c.unfold.ensures
