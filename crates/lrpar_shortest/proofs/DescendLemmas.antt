@@ -157,3 +157,21 @@ pub descended : (g : Grammar) (choices : List (Option ChoiceOf)) (starts : List 
 descended g choices starts first s none frames before middle after is descends all tree begun =
     let one = descends tree [] begun (subst (λ (fs : List FrameOf). Unfold g choices fs []) (sym is) refl) in
     all one.0 one.1 ∙ one.2 ∙ ap (λ ms. before ++ ms) (append-nil (moves_of tree))
+
+-- symbols one of which begins: what stands before it, its tree, and what stands behind it
+pub placed : (g : Grammar) (choices : List (Option ChoiceOf)) (starts : List (Option StartOf)) (first k j : ℕ) (all more : List GrammarSymbol) (x : GrammarSymbol)
+    (one two three four : List MoveOf) → j ≡ k → drop j all ≡ x ∷ more
+    → ((nulls : Forest ℕ) → ForestFollows g choices nulls (take j all) → two ≡ one ++ forest_moves nulls)
+    → ((tree : Tree ℕ) → Starts g choices starts first tree x → three ≡ two ++ moves_of tree)
+    → ((ts : Forest ℕ) → ForestFollows g choices ts more → four ≡ three ++ forest_moves ts)
+    → (trees : Forest ℕ) → ForestStarts g choices starts first k trees all → four ≡ one ++ forest_moves trees
+placed g choices starts first k j all more x one two three four same at front begin last trees begun =
+    let split = parts g choices starts first j trees all (subst (λ (n : ℕ). ForestStarts g choices starts first n trees all) (sym same) begun) in
+    let told = split.at x more at in
+    last split.after told.1
+    ∙ ap (λ ms. ms ++ forest_moves split.after) (begin split.inner told.0 ∙ ap (λ ms. ms ++ moves_of split.inner) (front split.before split.front))
+    ∙ regrouped one (forest_moves split.before) (moves_of split.inner) (forest_moves split.after)
+    ∙ ap (λ ms. one ++ ms) (sym split.moves)
+  where
+    regrouped : (a b c d : List MoveOf) → ((a ++ b) ++ c) ++ d ≡ a ++ (b ++ (c ++ d))
+    regrouped a b c d = simp append_assoc
