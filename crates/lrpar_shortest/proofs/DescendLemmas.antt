@@ -1,15 +1,19 @@
 -- Trees that begin with a token, made from the top down to the token: what stands before it is made, and what is left goes on a stack.
-use Rattle.std.proofs.Common.{◌≡◌, ◌<◌, ◌+◌, ◌∙◌, refl, sym, ap, subst, arith, ℕ, zero, suc, List, [], ◌∷◌, ◌++◌, Option, Some, None, add-one, drop, length, map, take}
+use Rattle.std.proofs.Common.{◌≡◌, ◌<◌, ◌≤◌, ◌+◌, ◌∙◌, refl, sym, ap, subst, arith, ℕ, zero, suc, List, [], ◌∷◌, ◌++◌, Option, Some, None, add-one, drop, length, map, take}
 use Rattle.std.specs.Option.{option_map_or}
 use Rattle.lrpar_text.specs.declared.span.Symbol.{Symbol}
 use Rattle.lrpar_grammar.specs.Symbols.{symbol_of}
 use Rattle.std.proofs.lemmas.List.{append-nil, append_assoc, drop-map, take-map}
 use Rattle.lrpar_grammar.specs.Grammar.{Grammar, GrammarSymbol, Nonterminal, Terminal, prods_len, symbols_of}
 use Rattle.lrpar_grammar.specs.Tree.{Tree, Forest, Leaf, Branch, Nil, Cons, leaves, forest_leaves}
-use Rattle.lrpar_shortest.specs.Choices.{ChoiceOf, ForestFollows}
+use Rattle.lrpar_shortest.specs.Choices.{AreRight, AreShortest, ChoiceOf, ForestFollows}
+use Rattle.lrpar_shortest.specs.Texts.{AreTreesOf, BeginWith, CanBeginWith, IsTreeOf}
+use Rattle.lrpar_shortest.proofs.FrameLemmas.{nothing_in}
+use Rattle.lrpar_shortest.proofs.LenLemmas.{follows_fits, forest_follows_fit, have_len}
+use Rattle.lrpar_shortest.proofs.StartLemmas.{forest_begins, place_trees}
 use Rattle.lrpar_shortest.specs.Frames.{FrameOf, Unfold}
 use Rattle.lrpar_shortest.specs.Moves.{MoveOf, Makes, Takes, forest_moves, moves_of}
-use Rattle.lrpar_shortest.specs.Starts.{AreStarts, Descends, ForestStarts, StartOf, Starts, start_at, start_by}
+use Rattle.lrpar_shortest.specs.Starts.{AreStarts, CanStart, Descends, ForestStarts, StartOf, Starts, place_of, start_at, start_by}
 
 -- the parts of what is kept
 abbrev prod_in : Option StartOf → ℕ
@@ -129,7 +133,7 @@ module _ (g : Grammar) (choices : List (Option ChoiceOf)) (starts : List (Option
 pub start_known : (g : Grammar) (choices : List (Option ChoiceOf)) (first : ℕ) (starts : List (Option StartOf)) → AreStarts g choices first starts
     → (s : GrammarSymbol) (x : StartOf) → start_by starts s ≡ Some x → (x.prod < prods_len g) × (x.place < length (symbols_of g x.prod))
 start_known g choices first starts are (Terminal t) x is = absurd (cc)
-start_known g choices first starts are (Nonterminal r) x is = are.within r x is
+start_known g choices first starts are (Nonterminal r) x is = let in_range = are.within r x is in (in_range.0, in_range.1)
 
 -- the symbols of a production around a place
 drop_next : {X : Type 0} (xs : List X) (k : ℕ) (y : X) (ys : List X) → drop k xs ≡ y ∷ ys → drop (suc k) xs ≡ ys
@@ -175,3 +179,52 @@ placed g choices starts first k j all more x one two three four same at front be
   where
     regrouped : (a b c d : List MoveOf) → ((a ++ b) ++ c) ++ d ≡ a ++ (b ++ (c ++ d))
     regrouped a b c d = simp append_assoc
+
+-- trees that begin fit, and their first token is the token
+module _ (g : Grammar) (most : ℕ) (choices : List (Option ChoiceOf)) (right : AreRight g most choices) (first : ℕ) (starts : List (Option StartOf))
+    (are : AreStarts g choices first starts) where
+  mutual
+    starts_fit : (t : Tree ℕ) (s : GrammarSymbol) → Starts g choices starts first t s → IsTreeOf g s t
+    starts_fit (Leaf x) (Terminal t) h = h.0
+    starts_fit (Leaf x) (Nonterminal r) h = absurd h
+    starts_fit (Branch p children) (Terminal t) h = absurd h
+    starts_fit (Branch p children) (Nonterminal r) h =
+        let own = are.within r _ h.1 in (own.0, own.2, forest_starts_fit h.0 children (symbols_of g p) h.2)
+
+    forest_starts_fit : (k : ℕ) (ts : Forest ℕ) (ss : List GrammarSymbol) → ForestStarts g choices starts first k ts ss → AreTreesOf g ss ts
+    forest_starts_fit k Nil ss h = absurd h
+    forest_starts_fit k (Cons t ts) [] h = absurd h
+    forest_starts_fit zero (Cons t ts) (s ∷ ss) h = (starts_fit t s h.0, forest_follows_fit g most choices right ts ss h.1)
+    forest_starts_fit (suc k) (Cons t ts) (s ∷ ss) h = (follows_fits g most choices right t s h.0, forest_starts_fit k ts ss h.2)
+
+  mutual
+    starts_first : (t : Tree ℕ) (s : GrammarSymbol) → Starts g choices starts first t s → (rest : List ℕ) × (leaves t ≡ first ∷ rest)
+    starts_first (Leaf x) (Terminal t) h = ([], ap (λ (n : ℕ). n ∷ []) (h.0 ∙ h.1))
+    starts_first (Leaf x) (Nonterminal r) h = absurd h
+    starts_first (Branch p children) (Terminal t) h = absurd h
+    starts_first (Branch p children) (Nonterminal r) h = forest_starts_first h.0 children (symbols_of g p) h.2
+
+    forest_starts_first : (k : ℕ) (ts : Forest ℕ) (ss : List GrammarSymbol) → ForestStarts g choices starts first k ts ss
+        → (rest : List ℕ) × (forest_leaves ts ≡ first ∷ rest)
+    forest_starts_first k Nil ss h = absurd h
+    forest_starts_first k (Cons t ts) [] h = absurd h
+    forest_starts_first zero (Cons t ts) (s ∷ ss) h =
+        let one = starts_first t s h.0 in (one.0 ++ forest_leaves ts, ap (λ xs. xs ++ forest_leaves ts) one.1)
+    forest_starts_first (suc k) (Cons t ts) (s ∷ ss) h =
+        let later = forest_starts_first k ts ss h.2 in
+        (later.0, ap (λ xs. xs ++ forest_leaves ts) (nothing_in (leaves t) h.1) ∙ later.1)
+
+  pub begin_with : (k : ℕ) (ts : Forest ℕ) (ss : List GrammarSymbol) → ForestStarts g choices starts first k ts ss → BeginWith g ss first ts
+  begin_with k ts ss h = record { fit = forest_starts_fit k ts ss h; first = forest_starts_first k ts ss h }
+
+-- so where symbols can begin with the token, what is appended does
+pub beginning : (g : Grammar) (most : ℕ) (choices : List (Option ChoiceOf)) (shortest : AreShortest g most choices) (first : ℕ) (starts : List (Option StartOf))
+    → AreStarts g choices first starts → ((p : ℕ) → p < prods_len g → CanStart g most choices first starts p) → 1 ≤ most
+    → (ss : List GrammarSymbol) (old new : List MoveOf) → CanBeginWith g ss first
+    → ((k : ℕ) (trees : Forest ℕ) → place_of choices starts first ss ≡ Some k → ForestStarts g choices starts first k trees ss → new ≡ old ++ forest_moves trees)
+    → (trees : Forest ℕ) × BeginWith g ss first trees × (new ≡ old ++ forest_moves trees)
+beginning g most choices shortest first starts are closed positive ss old new can pushed =
+    let place = forest_begins g most choices shortest first starts closed can.0 ss can.1.first.0 can.1.fit can.1.first.1 in
+    let len = have_len g most choices shortest ss (can.0, can.1.fit) in
+    let made = place_trees g most choices shortest.right first starts are.trees positive ss len.0 place.0 len.1 place.1 in
+    (made.0, begin_with g most choices shortest.right first starts are place.0 made.0 ss made.1, pushed place.0 made.0 place.1 made.1)
