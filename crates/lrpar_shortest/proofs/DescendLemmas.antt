@@ -88,12 +88,16 @@ module _ (g : Grammar) (choices : List (Option ChoiceOf)) (starts : List (Option
             let split = parts k children (symbols_of g p) own in
             let told = split.at x (drop (k + 1) (symbols_of g p)) at in
             let more = forest_moves split.after ++ Makes p ∷ todo in
-            let front = made split.before split.front in
-            (split.inner, more, told.0, (split.after, todo, told.1, refl, unfolds),
-            ap (λ (n : ℕ). out ++ ((forest_moves children ++ Makes n ∷ []) ++ todo)) same
-            ∙ ap (λ ms. out ++ ((ms ++ Makes p ∷ []) ++ todo)) split.moves
-            ∙ regroup out (forest_moves split.before) (moves_of split.inner) (forest_moves split.after) (Makes p ∷ []) todo
-            ∙ ap (λ ms. ms ++ (moves_of split.inner ++ more)) (sym front))
+            let front = made split.before split.front in (
+              split.inner,
+              more,
+              told.0,
+              (split.after, todo, told.1, refl, unfolds),
+              ap (λ (n : ℕ). out ++ ((forest_moves children ++ Makes n ∷ []) ++ todo)) same
+                  ∙ ap (λ ms. out ++ ((ms ++ Makes p ∷ []) ++ todo)) split.moves
+                  ∙ regroup out (forest_moves split.before) (moves_of split.inner) (forest_moves split.after) (Makes p ∷ []) todo
+                  ∙ ap (λ ms. ms ++ (moves_of split.inner ++ more)) (sym front),
+            )
           where
             regroup : (a b c d e f : List MoveOf) → a ++ (((b ++ (c ++ d)) ++ e) ++ f) ≡ (a ++ b) ++ (c ++ (d ++ (e ++ f)))
             regroup a b c d e f = simp append_assoc

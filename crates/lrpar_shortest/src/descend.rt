@@ -123,7 +123,13 @@ fn descend<StorageT: StorageIndex>(
 fn around<'a, StorageT: StorageIndex>(
     symbols: &'a [Symbol<StorageT>],
     place: usize,
-) -> Option<(&'a [Symbol<StorageT>], Symbol<StorageT>, &'a [Symbol<StorageT>])>
+) -> Option<
+    (
+        &'a [Symbol<StorageT>],
+        Symbol<StorageT>,
+        &'a [Symbol<StorageT>],
+    ),
+>
     ensures some { place < length symbols.now → IsSome result }
     ensures parts { IfSome result (λ parts. (parts.0.now ≡ take place symbols.now) × (drop place symbols.now ≡ parts.1 ∷ parts.2.now)) }
     ensures room { IfSome result (λ _. place < usize.MAX) }

@@ -47,10 +47,10 @@ down-preserved g c =
     let pushed = ap (frames_of index) c.in_ok-push.ensures.items ∙ frames_pushed index c.down.frames.items _ in (
       subst (All (IsFrameOf index grm)) (sym c.in_ok-push.ensures.items) (frames_known index grm c.down.frames.items _ c.down.invariant.0 known.0),
       subst (λ fs. Descending grm choices starts first (symbol_of index c.args.symbol) (frames_of index c.args.frames.now.items) (moves_in index c.args.out.now.items)
-      (symbol_of index c.in-Some-around.next) fs after) (sym pushed)
-      (descending_goes grm choices starts first (symbol_of index c.args.symbol) (frames_of index c.args.frames.now.items) (moves_in index c.args.out.now.items)
-      s (frames_of index c.down.frames.items) out c.down.invariant.1 p k (symbol_of index c.in-Some-around.next) after (sym c.in-Some.ensures) at
-      (λ nulls follow. c.in_ok-push_symbols.ensures nulls (subst (ForestFollows grm choices nulls) (sym front) follow))),
+          (symbol_of index c.in-Some-around.next) fs after) (sym pushed)
+          (descending_goes grm choices starts first (symbol_of index c.args.symbol) (frames_of index c.args.frames.now.items) (moves_in index c.args.out.now.items)
+          s (frames_of index c.down.frames.items) out c.down.invariant.1 p k (symbol_of index c.in-Some-around.next) after (sym c.in-Some.ensures) at
+          (λ nulls follow. c.in_ok-push_symbols.ensures nulls (subst (ForestFollows grm choices nulls) (sym front) follow))),
     )
 
 pub returns-clause-descends : goal.returns-clause-descends
