@@ -9,3 +9,4 @@ pub mod ArrivalLemmas
 pub mod BackLemmas
 pub mod StartLemmas
 pub mod GrowthLemmas
+pub mod DescendLemmas

@@ -190,7 +190,7 @@ module _ (g : Grammar) (most : ℕ) (choices : List (Option ChoiceOf)) (right : 
                 | inl same ↦
                     let own : Some (record { prod = p; place = k }) ≡ Some x = sym here ∙ ap (start_at grown) (sym same) ∙ at in
                     let is : record { prod = p; place = k } ≡ x = ap (λ (o : Option StartOf). option_map_or (λ (y : StartOf). y) o x) own in
-                    subst (λ (y : StartOf). (y.prod < prods_len g) × (y.place < length (symbols_of g y.prod))) is (known, inside)
+                    subst (λ (y : StartOf). (y.prod < prods_len g) × (y.place < length (symbols_of g y.prod)) × (rule_of g y.prod ≡ r)) is (known, inside, sym same)
                 | inr other ↦ are.within r x (sym (there r other) ∙ at)
               ];
           trees = λ r x at.

@@ -76,7 +76,8 @@ abbrev mutual
 -- how rules can begin is right as far as it goes: by a production of the rule, at one of its places; and there is a tree that does
 pub record AreStarts (g : Grammar) (choices : List (Option ChoiceOf)) (first : ℕ) (starts : List (Option StartOf)) : Type 0 where
   pub rules : length starts ≡ rules_len g
-  pub within : (r : ℕ) (x : StartOf) → start_at starts r ≡ Some x → (x.prod < prods_len g) × (x.place < length (symbols_of g x.prod))
+  pub within : (r : ℕ) (x : StartOf) → start_at starts r ≡ Some x
+      → (x.prod < prods_len g) × (x.place < length (symbols_of g x.prod)) × (rule_of g x.prod ≡ r)
   pub trees : (r : ℕ) (x : StartOf) → start_at starts r ≡ Some x → (tree : Tree ℕ) × Starts g choices starts first tree (Nonterminal r)
 
 -- where production p has a length and a place, its rule can begin
