@@ -15,3 +15,4 @@ pub mod FrontLemmas
 pub mod ExampleLemmas
 pub mod ReplayLemmas
 pub mod GuessLemmas
+pub mod BarrenLemmas

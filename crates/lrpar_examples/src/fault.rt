@@ -8,7 +8,7 @@ use thiserror::Error;
 /// Why there are no examples.
 #[derive(Clone, Copy, Debug, PartialEq, Eq, Error)]
 pub enum ExampleFault<StorageT: StorageIndex> {
-    /// The grammar reaches this rule from its start, and the rule derives no text.
+    /// This rule of the grammar derives no text.
     #[error("rule {at} derives no text", at = .0.0.to_index())]
     Barren(RIdx<StorageT>),
     /// Memory was wanting.
