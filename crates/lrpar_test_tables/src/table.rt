@@ -1,0 +1,169 @@
+//! Item sets, conflicts and stacks, and texts of faults, where no case can say it.
+use lrpar_grammar::grammar::{GrammarFault, YaccGrammar};
+use lrpar_grammar::span::{PIdx, StIdx, TIdx};
+use lrpar_table::build::{BuildFault, from_yacc};
+use lrpar_table::check::{CheckFault, Overlay};
+use lrpar_table::table::{Action, Conflicts, Item, StateGraph, StateTable, TableFault, TableRows};
+use std::alloc::Global;
+use std::test::Fail;
+
+/// The grammar *sum*, which has no conflicts: tokens `+` 0, `ID` 1.
+const SUM: &str = "%% E: T '+' E | T; T: 'ID';";
+
+/// The grammar *conflicts*, of more productions: tokens `a` 0, `b` 1.
+const CONFLICTS: &str = "%start A\n%%\nA : 'a' 'b' | B 'b';\nB : 'a' | C;\nC : 'a';";
+
+// What is built of the text.
+fn built(alloc: Global, text: &str) -> Result<(StateGraph<u8>, StateTable<u8>), Fail> {
+    let grm = YaccGrammar::new_with_storaget(alloc, text)?;
+    Ok(from_yacc(alloc, &grm, 100)?)
+}
+
+// Whether the graph lists the item in the state; none out of range.
+fn lists(graph: &StateGraph<u8>, state: u8, item: Item<u8>) -> bool {
+    usize::from(state) < graph.states_len() && graph.items(StIdx(state)).contains(&item)
+}
+
+// Whether the graph has, at this production and dot of the state, the items that it lists and no others, and the core where it has one.
+fn has_at(graph: &StateGraph<u8>, state: u8, prod: u8, dot: usize) -> bool {
+    let mut is_core = false;
+    for token in 0..4u8 {
+        let is_item = lists(graph, state, (PIdx(prod), dot, TIdx(token)));
+        if graph.has_item(StIdx(state), PIdx(prod), dot, TIdx(token)) != is_item {
+            return false;
+        }
+        is_core = is_core || is_item;
+    }
+    graph.has_core(StIdx(state), PIdx(prod), dot) == is_core
+}
+
+// Whether that is so at each dot.
+fn has_prod(graph: &StateGraph<u8>, state: u8, prod: u8) -> bool {
+    for dot in 0..5usize {
+        if !has_at(graph, state, prod, dot) {
+            return false;
+        }
+    }
+    true
+}
+
+// Whether that is so at each production.
+fn has_state(graph: &StateGraph<u8>, state: u8) -> bool {
+    for prod in 0..5u8 {
+        if !has_prod(graph, state, prod) {
+            return false;
+        }
+    }
+    true
+}
+
+#[test]
+fn items_and_cores_of_sums(rt: HostRuntime) -> Result<(), Fail> {
+    let (graph, _) = built(rt.alloc(), SUM)?;
+    assert!(rt; lists(&graph, 5, (PIdx(0), 3, TIdx(2))));
+    for state in 0..8u8 {
+        assert!(rt; has_state(&graph, state), "state {state}");
+    }
+    Ok(())
+}
+
+// The cores of the state whose dot isn't at the front: their productions and dots.
+fn begun(alloc: Global, graph: &StateGraph<u8>, state: u8) -> Result<Vec<(u8, usize)>, Fail> {
+    let mut begun = Vec::new(alloc);
+    if usize::from(state) < graph.states_len() {
+        for (prod, dot) in graph.begun_cores(StIdx(state)) {
+            begun.push((prod.as_storaget(), *dot))?;
+        }
+    }
+    Ok(begun)
+}
+
+#[test]
+fn begun_cores_of_sums(rt: HostRuntime) -> Result<(), Fail> {
+    let (graph, _) = built(rt.alloc(), SUM)?;
+    let rows: [(u8, &[(u8, usize)]); 6] = [
+        (0, &[]),
+        (1, &[(3, 1)]),
+        (2, &[(0, 1), (1, 1)]),
+        (3, &[(2, 1)]),
+        (4, &[(0, 2)]),
+        (5, &[(0, 3)]),
+    ];
+    for (state, cores) in rows {
+        let found = begun(rt.alloc(), &graph, state)?;
+        assert_eq!(rt; found.as_slice(), cores, "state {state}");
+    }
+    Ok(())
+}
+
+// A table of one state without entries, with these conflicts.
+fn bare(alloc: Global, conflicts: Option<Conflicts<u8>>) -> Result<StateTable<u8>, Fail> {
+    let rows = TableRows {
+        start: StIdx(0),
+        tokens: 1,
+        rules: 1,
+        actions: vec![in alloc; vec![in alloc; Action::Error]?]?,
+        gotos: vec![in alloc; vec![in alloc; None]?]?,
+        conflicts,
+    };
+    Ok(StateTable::from_rows(alloc, rows)?)
+}
+
+#[test]
+fn conflicts_of_a_table(rt: HostRuntime) -> Result<(), Fail> {
+    let alloc = rt.alloc();
+    assert!(rt; bare(alloc, None)?.conflicts().is_none());
+    let rr = vec![in alloc; (TIdx(2), PIdx(0), PIdx(1), StIdx(5))]?;
+    let sr = vec![in alloc; (TIdx(0), PIdx(1), StIdx(2)), (TIdx(1), PIdx(2), StIdx(3))]?;
+    let table = bare(alloc, Some(Conflicts::new(rr, sr)))?;
+    let Some(conflicts) = table.conflicts() else {
+        return Err(Fail::new("no conflicts"));
+    };
+    assert_eq!(rt; conflicts.rr_len(), 1);
+    assert_eq!(rt; conflicts.sr_len(), 2);
+    assert!(rt; conflicts.rr_conflicts() == [(TIdx(2), PIdx(0), PIdx(1), StIdx(5))].as_slice());
+    assert!(rt;
+        conflicts.sr_conflicts()
+            == [(TIdx(0), PIdx(1), StIdx(2)), (TIdx(1), PIdx(2), StIdx(3))].as_slice()
+    );
+    Ok(())
+}
+
+// Whether the conflicts of the grammar *conflicts* fit the grammar of this text.
+fn fit(alloc: Global, text: &str) -> Result<bool, Fail> {
+    let grm = YaccGrammar::<u8>::new_with_storaget(alloc, text)?;
+    let (_, table) = built(alloc, CONFLICTS)?;
+    match table.conflicts() {
+        Some(conflicts) => Ok(conflicts.fit(&grm)),
+        None => Err(Fail::new("no conflicts")),
+    }
+}
+
+#[test]
+fn conflicts_that_fit(rt: HostRuntime) -> Result<(), Fail> {
+    assert!(rt; fit(rt.alloc(), CONFLICTS)?);
+    assert!(rt; !fit(rt.alloc(), SUM)?);
+    Ok(())
+}
+
+#[test]
+fn a_new_overlay_is_its_base(rt: HostRuntime) -> Result<(), Fail> {
+    let base = [StIdx(0u8), StIdx(2), StIdx(4)];
+    let over = Overlay::new(rt.alloc(), &base);
+    assert_eq!(rt; over.len(), 3);
+    assert_eq!(rt; over.top(), StIdx(4));
+    assert_eq!(rt; over.kept(), 3);
+    Ok(())
+}
+
+#[test]
+fn want_of_memory_as_text(rt: HostRuntime) -> Result<(), Fail> {
+    let (alloc, want) = (rt.alloc(), "out of memory");
+    let (grammar, built) = (GrammarFault::Memory, BuildFault::Memory);
+    let (table, checked) = (TableFault::Memory, CheckFault::Memory);
+    assert_eq!(rt; format!(in alloc; "{grammar}")?.as_str(), want);
+    assert_eq!(rt; format!(in alloc; "{built}")?.as_str(), want);
+    assert_eq!(rt; format!(in alloc; "{table}")?.as_str(), want);
+    assert_eq!(rt; format!(in alloc; "{checked}")?.as_str(), want);
+    Ok(())
+}
