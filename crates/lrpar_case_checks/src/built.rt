@@ -1,12 +1,13 @@
 //! Tables that are built of grammar texts, and texts of which none is.
-use crate::checks::push_told;
+use crate::checks::{push_told, told};
 use lrpar_case_lines::cases::Case;
 use lrpar_case_lines::fault::Fault;
 use lrpar_case_lines::values::{cap_of, number_at, number_of};
+use lrpar_case_tables::faults::of_grammar;
 use lrpar_case_tables::rows::{push_conflicts, text_of_data};
 use lrpar_grammar::grammar::YaccGrammar;
 use lrpar_grammar::span::StorageIndex;
-use lrpar_table::build::{Unbuilt, from_yacc, parser_data};
+use lrpar_table::build::{BuildFault, Unbuilt, from_yacc, parser_data};
 use lrpar_table::check::{ParserData, Refused};
 use lrpar_table::table::{StateGraph, StateTable};
 use std::alloc::{AllocError, Global};
@@ -80,7 +81,7 @@ fn grammar<S: StorageIndex>(
 ) -> Result<YaccGrammar<S>, Fault> {
     match YaccGrammar::new_with_storaget(alloc, text) {
         Ok(grm) => Ok(grm),
-        Err(_) => Err(Fault::Line(case.number, "the text is no grammar")),
+        Err(fault) => Err(of_grammar(fault, case.number, "the text is no grammar")),
     }
 }
 
@@ -108,6 +109,7 @@ fn push_table_of<S: StorageIndex>(
     most: usize,
 ) -> Result<(), Fault> {
     match from_yacc(alloc, grm, most) {
+        Err(BuildFault::Memory) => Err(Fault::Memory),
         Err(fault) => Ok(writeln!(came, "fault {fault}")?),
         Ok((graph, table)) => push_table(came, grm, &graph, &table),
     }
@@ -135,6 +137,7 @@ fn push_checked<S: StorageIndex>(
 ) -> Result<(), Fault> {
     match parser_data(alloc, grm, limits.most, cap) {
         Ok(data) => push_data(came, alloc, &data),
+        Err(Unbuilt::Table(BuildFault::Memory, _)) => Err(Fault::Memory),
         Err(Unbuilt::Table(fault, _)) => Ok(writeln!(came, "refused table: {fault}")?),
         Err(Unbuilt::Chains(refused)) => push_refusal(came, alloc, refused, limits.then),
     }
@@ -163,7 +166,7 @@ fn push_refusal<S: StorageIndex>(
     refused: Refused<S>,
     then: Option<u16>,
 ) -> Result<(), Fault> {
-    let fault = refused.fault();
+    let fault = told(refused.fault())?;
     writeln!(came, "refused chains: {fault}")?;
     match then {
         None => Ok(()),

@@ -141,7 +141,7 @@ fn push_refusal(
     was: &str,
     refused: Refused<u32>,
 ) -> Result<(), Fault> {
-    let fault = refused.fault();
+    let fault = told(refused.fault())?;
     writeln!(came, "refused {fault}")?;
     let (grm, mut graph, mut table) = refused.into_parts();
     push_back(came, alloc, trial, was, &grm, &mut graph, &mut table)?;
@@ -181,7 +181,18 @@ fn fault_of(
 pub fn push_told(came: &mut String, fault: Option<CheckFault>) -> Result<(), Fault> {
     match fault {
         None => Ok(came.push_str("then checked\n")?),
-        Some(fault) => Ok(writeln!(came, "then refused {fault}")?),
+        Some(fault) => {
+            let fault = told(fault)?;
+            Ok(writeln!(came, "then refused {fault}")?)
+        }
+    }
+}
+
+/// The fault as one that is told of a table, which want of memory isn't.
+pub fn told(fault: CheckFault) -> Result<CheckFault, Fault> {
+    match fault {
+        CheckFault::Memory => Err(Fault::Memory),
+        fault => Ok(fault),
     }
 }
 

@@ -48,7 +48,10 @@ fn told_len(alloc: Global, states: usize) -> Result<String, Fault> {
 }
 
 fn told_fault(alloc: Global, fault: TableFault) -> Result<String, Fault> {
-    Ok(format!(in alloc; "fault {fault}\n")?)
+    match fault {
+        TableFault::Memory => Err(Fault::Memory),
+        TableFault::BadIndex => Ok(format!(in alloc; "fault {fault}\n")?),
+    }
 }
 
 // The full rows of the case: one of each kind for each of its lines, and then so many that are bare.

@@ -56,6 +56,9 @@ fn push_cut(came: &mut String, alloc: Global, cut: &str) -> Result<(), Fault> {
 
 // The fault, with where its span ends, if it has one.
 fn push_fault(came: &mut String, fault: &GrammarFault) -> Result<(), Fault> {
+    if matches!(fault, GrammarFault::Memory) {
+        return Err(Fault::Memory);
+    }
     write!(came, "fault {fault}")?;
     match fault {
         GrammarFault::UnknownRule(span)

@@ -32,7 +32,6 @@ fn told_of(
 ) -> Result<Option<String>, Fault> {
     match came {
         Ok(came) => difference(alloc, case, inputs, came.as_str()),
-        Err(Fault::Memory) => Err(Fault::Memory),
         Err(fault) => Ok(Some(format!(in alloc; "{fault}")?)),
     }
 }

@@ -11,7 +11,7 @@ use lrpar_case_lines::text::push_text;
 use lrpar_case_tables::subject::{Subject, Tables};
 use lrpar_lexer::RuleLexer;
 use lrpar_parser::grammar::YaccGrammar;
-use lrpar_parser::parser::PpFault;
+use lrpar_parser::parser::{ParseFault, PpFault};
 use lrpar_parser::repair::FixedRecoverer;
 use lrpar_parser::span::TIdx;
 use lrpar_parser::{ParserData, RTParserBuilder};
@@ -105,6 +105,7 @@ fn told_of(
 ) -> Result<Told, Fault> {
     let (mut errors, mut tree) = (String::new(alloc), String::new(alloc));
     match answer {
+        Err(ParseFault::Memory) => return Err(Fault::Memory),
         Err(fault) => writeln!(errors, "fault {fault}")?,
         Ok((value, listed)) => {
             push_errors(&mut errors, grm, case.value("hide").is_none(), listed)?;

@@ -1,5 +1,6 @@
 //! Tables by hand: item sets and rows that are lines of a case, and what another case has in their place.
 use crate::actions::action_of;
+use crate::faults::{of_check, of_rows};
 use crate::subject::{Tables, grammar_of, rows_of};
 use lrpar_case_lines::cases::{Case, from_key, value_of};
 use lrpar_case_lines::fault::Fault;
@@ -75,7 +76,7 @@ impl<'t, 'a> Hand<'t, 'a> {
         let sets = self.number("sets", self.number("states", 0)?)?;
         match StateGraph::from_rows(alloc, self.item_rows(alloc, grm, sets)?) {
             Ok(graph) => Ok(graph),
-            Err(_) => Err(Fault::Line(self.table.number, "there are no item sets")),
+            Err(fault) => Err(of_rows(fault, self.table.number, "there are no item sets")),
         }
     }
 
@@ -152,7 +153,7 @@ impl<'t, 'a> Hand<'t, 'a> {
     ) -> Result<StateTable<u32>, Fault> {
         match StateTable::from_rows(alloc, rows_of(alloc, stored)?) {
             Ok(table) => Ok(table),
-            Err(_) => Err(Fault::Line(self.table.number, "the rows make no table")),
+            Err(fault) => Err(of_rows(fault, self.table.number, "the rows make no table")),
         }
     }
 
@@ -164,7 +165,7 @@ impl<'t, 'a> Hand<'t, 'a> {
     ) -> Result<StateTable<u32>, Fault> {
         match StateTable::from_sparse(alloc, self.stored(alloc, grm)?) {
             Ok(table) => Ok(table),
-            Err(_) => Err(Fault::Line(self.table.number, "the entries make no table")),
+            Err(fault) => Err(of_rows(fault, self.table.number, "the entries make no table")),
         }
     }
 
@@ -235,7 +236,11 @@ impl<'t, 'a> Hand<'t, 'a> {
         let (graph, table) = (self.graph(alloc, &grm)?, self.table(alloc, &grm, by)?);
         match ParserData::new(alloc, grm, graph, table, self.cap("cap", CAP)?) {
             Ok(data) => Ok(data),
-            Err(_) => Err(Fault::Line(self.table.number, "the table is refused")),
+            Err(refused) => Err(of_check(
+                refused.fault(),
+                self.table.number,
+                "the table is refused",
+            )),
         }
     }
 }

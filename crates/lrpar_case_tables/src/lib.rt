@@ -2,6 +2,7 @@
 #![tactic(auto)]
 
 pub mod actions;
+pub mod faults;
 pub mod hand;
 pub mod rows;
 pub mod subject;

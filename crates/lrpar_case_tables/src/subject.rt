@@ -1,17 +1,22 @@
 //! What cases of parses and of tables are about: a grammar, and its checked table.
+use crate::faults::{of_check, of_grammar, of_rows};
 use crate::hand::tables_by_hand;
 use lrpar_case_lines::cases::Case;
 use lrpar_case_lines::fault::Fault;
 use lrpar_case_lines::values::cap_at;
 use lrpar_grammar::grammar::YaccGrammar;
 use lrpar_grammar::span::{RIdx, StIdx, TIdx};
-use lrpar_table::build::parser_data;
+use lrpar_table::build::{BuildFault, Unbuilt, parser_data};
 use lrpar_table::check::ParserData;
 use lrpar_table::table::{Action, Item, StateGraph, StateTable, TableRows};
 use std::alloc::Global;
 
 /// How many states a table may have.
 const MAX_STATES: usize = 10_000;
+
+const UNBUILT: &str = "the grammar has no checked table";
+
+const UNCHECKED: &str = "the rows make no checked table";
 
 /// What cases are about.
 #[derive(Clone, Copy)]
@@ -73,7 +78,7 @@ pub fn grammar_of(
 ) -> Result<YaccGrammar<u32>, Fault> {
     match YaccGrammar::new_with_storaget(alloc, text) {
         Ok(grm) => Ok(grm),
-        Err(_) => Err(Fault::Line(case.number, "the text is no grammar")),
+        Err(fault) => Err(of_grammar(fault, case.number, "the text is no grammar")),
     }
 }
 
@@ -87,7 +92,9 @@ fn built(
     let grm = grammar_of(alloc, case, text)?;
     match parser_data(alloc, grm, MAX_STATES, cap) {
         Ok(data) => Ok(data),
-        Err(_) => Err(Fault::Line(case.number, "the grammar has no checked table")),
+        Err(Unbuilt::Table(BuildFault::Memory, _)) => Err(Fault::Memory),
+        Err(Unbuilt::Chains(refused)) => Err(of_check(refused.fault(), case.number, UNBUILT)),
+        Err(Unbuilt::Table(..)) => Err(Fault::Line(case.number, UNBUILT)),
     }
 }
 
@@ -113,16 +120,15 @@ pub fn checked(
     rows: TableRows<u32>,
     cap: u16,
 ) -> Result<ParserData<u32>, Fault> {
-    let refused = Fault::Line(case.number, "the rows make no checked table");
     match (
         StateGraph::from_rows(alloc, items),
         StateTable::from_rows(alloc, rows),
     ) {
         (Ok(sgraph), Ok(stable)) => match ParserData::new(alloc, grm, sgraph, stable, cap) {
             Ok(data) => Ok(data),
-            Err(_) => Err(refused),
+            Err(refused) => Err(of_check(refused.fault(), case.number, UNCHECKED)),
         },
-        _ => Err(refused),
+        (Err(fault), _) | (_, Err(fault)) => Err(of_rows(fault, case.number, UNCHECKED)),
     }
 }
 
