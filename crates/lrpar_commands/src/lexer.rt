@@ -24,8 +24,7 @@ pub(crate) const ID: u32 = 1;
 pub(crate) struct SumLexer<'input> {
     input: &'input str,
     lines: NewlineCache,
-    ghost starts_of_input: { lines.starts ≡ (line_table input.now).starts },
-    ghost len_of_input: { lines.len ≡ length input.now },
+    ghost lines_of_input: { lines ≡ line_table input.now },
 }
 
 impl<'input> SumLexer<'input> {
