@@ -1,16 +1,19 @@
 #!/usr/bin/env bash
-# Runs each command of the real program with each of its calls for memory refused in turn, and the program with an argument
-# that isn't UTF-8.
+# Runs each command of the real program with each of its calls for memory refused in turn, the cases of fail-alloc.cases
+# likewise, and the program with an argument that isn't UTF-8.
 #
-# Wants: where a call is refused, status 2, the one line `lrpar: out of memory` on standard error and a beginning of the whole
-# text on standard output, or else the whole answer as if no call had been refused. Prints how many calls each command makes,
-# the cases that failed, and one closing line. It stands outside the gate. It needs cc and glibc.
+# Wants of a command: where a call is refused, status 2, the one line `lrpar: out of memory` on standard error and a beginning
+# of the whole text on standard output, or else the whole answer as if no call had been refused. Wants of the cases, which are
+# run twice: where a call is refused, the one line on standard error that memory was wanting, in one case or in what all cases
+# stand on, so that each other case, and the same one in the other run, has its answer; or else no line. Prints how many calls
+# each command and the cases make, what failed, and one closing line. It stands outside the gate. It needs cc and glibc.
 set -u
 
 here=$(cd -P "$(dirname "$(readlink -f "${BASH_SOURCE[0]}")")" && pwd) || exit 1
 readonly here
 readonly root=$here/..
 readonly program=${LRPAR_PROGRAM:-$root/crates/lrpar_program/out/lrpar_program}
+readonly runner=${LRPAR_CASES:-$root/crates/lrpar_cases/out/lrpar_cases}
 readonly most_calls=100000
 readonly no_memory='lrpar: out of memory
 '
@@ -66,12 +69,12 @@ gives_usage_line() {
     [[ $status -eq 2 && ! -s $work/out && $(wc -l <"$work/err") -eq 1 ]] && grep -q '^usage: lrpar ' "$work/err"
 }
 
-# run_refused N WORDS..: runs the program with its Nth call for memory refused.
+# run_refused N PROGRAM WORDS..: runs a program with its Nth call for memory refused.
 run_refused() {
     local call=$1
     shift
     rm -f "$work/mark"
-    run env FAIL_ALLOC_AT="$call" FAIL_ALLOC_MARK="$work/mark" LD_PRELOAD="$work/fail_alloc.so" "$program" "$@"
+    run env FAIL_ALLOC_AT="$call" FAIL_ALLOC_MARK="$work/mark" LD_PRELOAD="$work/fail_alloc.so" "$@"
 }
 
 # refuse_each_call STATUS OUT WORDS..: refuses each call of a command in turn, until a run makes fewer calls than that.
@@ -79,7 +82,7 @@ refuse_each_call() {
     local want_status=$1 want_out=$2 call
     shift 2
     for ((call = 1; call <= most_calls; call++)); do
-        run_refused "$call" "$@"
+        run_refused "$call" "$program" "$@"
         if [[ ! -e $work/mark ]]; then
             printf '%s: %s calls\n' "$1" "$((call - 1))"
             count "$*: no call refused" gives_answer
@@ -91,6 +94,36 @@ refuse_each_call() {
     count "$*: at most $most_calls calls" false
 }
 
+# Whether the cases were run, and told as wrong at most one, or none and those behind it not run, for want of memory.
+gives_cases_or_no_memory() {
+    case $status in
+        0) cmp -s "$work/out" "$work/all" && [[ ! -s $work/err ]] ;;
+        1) [[ $(wc -l <"$work/err") -eq 1 ]] && grep -q 'out of memory$' "$work/err" ;;
+        *) false ;;
+    esac
+}
+
+# refuse_each_call_of_cases FILE: runs the cases twice and refuses each call in turn, until a run makes fewer calls than that.
+refuse_each_call_of_cases() {
+    local call
+    "$runner" "$1" "$1" >"$work/all" || return 1
+    for ((call = 1; call <= most_calls; call++)); do
+        run_refused "$call" "$runner" "$1" "$1"
+        if [[ ! -e $work/mark ]]; then
+            printf 'cases: %s calls\n' "$((call - 1))"
+            count 'cases: no call refused' test "$status" -eq 0
+            count 'cases: some call is refused' test "$call" -gt 1
+            return
+        fi
+        count "cases: call $call refused" gives_cases_or_no_memory
+    done
+    count "cases: at most $most_calls calls" false
+}
+
+if [[ -z ${LRPAR_CASES:-} ]] && ! (cd "$root/crates/lrpar_cases" && rt run -- wrong.cases) >/dev/null 2>&1; then
+    printf 'the cases fail before any call is refused\n' >&2
+    exit 1
+fi
 if [[ -z ${LRPAR_PROGRAM:-} ]] && ! "$root/lrpar" demo a+b >/dev/null; then
     printf 'lrpar demo a+b fails before any call is refused\n' >&2
     exit 1
@@ -160,6 +193,8 @@ refuse_each_call 1 'Parsing error at line 1 column 5. Repair sequences found:
 Result: 5
 Result: 20
 ' calc --shifts 1 "$work/calc.repairs"
+
+refuse_each_call_of_cases "$here/fail-alloc.cases"
 
 run "$program" demo $'\xff'
 count 'an argument that is not UTF-8' gives_usage_line

@@ -32,7 +32,7 @@ stop() {
 copy_repository() {
     local file to
     mkdir -p "$copy" || return 1
-    tar -C "$root" --exclude='crates/lrpar_program/out' --exclude='crates/lrpar_tests/out' --exclude='crates/lrpar_cases/out' -cf - HANDLES crates.txt crates |
+    tar -C "$root" --exclude='crates/lrpar_program/out' --exclude='crates/lrpar_test*/out' --exclude='crates/lrpar_case*/out' -cf - HANDLES crates.txt crates |
         tar -C "$copy" -xf - || return 1
     while IFS= read -r file; do
         to=$copy/crates/bench_program/${file%.txt}

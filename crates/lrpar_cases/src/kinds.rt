@@ -1,8 +1,13 @@
 //! The kinds of cases: what says what is done in each, and what comes of it.
-use crate::cases::Case;
-use crate::fault::Fault;
-use crate::subject::Subject;
-use crate::{built, checks, commands, grammars, parse, parts, refusals, rows, stacks, underlines};
+use lrpar_case_checks::{built, checks, refusals, stacks};
+use lrpar_case_commands::commands;
+use lrpar_case_grammars::{grammars, parts};
+use lrpar_case_lines::cases::Case;
+use lrpar_case_lines::fault::Fault;
+use lrpar_case_parses::parse;
+use lrpar_case_places::underlines;
+use lrpar_case_tables::rows;
+use lrpar_case_tables::subject::Subject;
 use std::alloc::Global;
 use std::rt::Files;
 

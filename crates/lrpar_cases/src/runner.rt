@@ -1,10 +1,10 @@
 //! Case files: each is read, and its cases are run and counted.
-use crate::cases::{Case, case_at, section_behind};
-use crate::fault::Fault;
 use crate::kinds::{inputs_of, outcome};
-use crate::line::{Line, lines_of};
-use crate::subject::{Subject, Tables, tables_of};
-use crate::verdict::wrong_of;
+use lrpar_case_lines::cases::{Case, case_at, section_behind};
+use lrpar_case_lines::fault::Fault;
+use lrpar_case_lines::line::{Line, lines_of};
+use lrpar_case_lines::verdict::wrong_of;
+use lrpar_case_tables::subject::{Subject, Tables, tables_of};
 use std::alloc::Global;
 use std::process::ExitCode;
 use std::rt::Files;

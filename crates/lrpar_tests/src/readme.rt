@@ -1,7 +1,5 @@
 //! The examples of the README, as a user writes them.
-use crate::built::{CALC, built, lists};
 use crate::calculation::calculated;
-use crate::lexer::{HandedLexer, lexer_of};
 use lrpar::check::CheckFault;
 use lrpar::grammar::{GrammarFault, YaccGrammar};
 use lrpar::parser::ParseFault;
@@ -9,6 +7,8 @@ use lrpar::span::{PIdx, StIdx, TIdx};
 use lrpar::table::{Action, Item, StateGraph, StateTable, TableFault, TableRows};
 use lrpar::{LexParseError, Node, ParserData, RTParserBuilder};
 use lrpar_lexer::{Token, TokenTypes};
+use lrpar_test_parts::built::{CALC, built, lists};
+use lrpar_test_parts::lexer::{HandedLexer, lexer_of};
 use std::alloc::Global;
 use std::process::Abort;
 use std::test::Fail;

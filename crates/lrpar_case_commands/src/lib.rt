@@ -1,0 +1,4 @@
+//! Cases of the program.
+#![tactic(auto)]
+
+pub mod commands;

@@ -1,0 +1,10 @@
+//! Case files: their lines, the cases that these are, values and names in them, and whether what came of a case is what it wants.
+#![tactic(auto)]
+
+pub mod cases;
+pub mod fault;
+pub mod line;
+pub mod names;
+pub mod text;
+pub mod values;
+pub mod verdict;

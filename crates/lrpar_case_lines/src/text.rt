@@ -1,0 +1,91 @@
+//! Texts of cases: escapes, and how a text that came is shown.
+use crate::fault::Fault;
+use std::alloc::Global;
+
+/// The bytes of a value: `\n`, `\r`, `\t`, `\\`, `\s` for a space, and `\xHH` for any byte are read as what they stand for.
+pub fn unescaped(alloc: Global, value: &str, number: usize) -> Result<Vec<u8>, Fault> {
+    let mut bytes = Vec::new(alloc);
+    let mut rest = value.as_bytes();
+    for _ in 0..value.len() {
+        let Some((byte, others)) = first_byte(rest) else {
+            break;
+        };
+        bytes.push(byte.ok_or(Fault::Line(number, "an escape that isn't known"))?)?;
+        rest = others;
+    }
+    Ok(bytes)
+}
+
+// The byte that a text begins with, which is none for an escape that isn't known, and the text behind it; none for the empty text.
+fn first_byte(text: &[u8]) -> Option<(Option<u8>, &[u8])> {
+    match text {
+        [] => None,
+        [b'\\', b'x', high, low, rest @ ..] => Some((byte_of(*high, *low), rest)),
+        [b'\\', letter, rest @ ..] => Some((escaped(*letter), rest)),
+        [byte, rest @ ..] => Some((Some(*byte), rest)),
+    }
+}
+
+// What a letter behind a backslash stands for.
+fn escaped(letter: u8) -> Option<u8> {
+    match letter {
+        b'n' => Some(b'\n'),
+        b'r' => Some(b'\r'),
+        b't' => Some(b'\t'),
+        b's' => Some(b' '),
+        b'\\' => Some(b'\\'),
+        _ => None,
+    }
+}
+
+// The byte of two hexadecimal digits.
+fn byte_of(high: u8, low: u8) -> Option<u8> {
+    digit_of(high)?.checked_mul(16)?.checked_add(digit_of(low)?)
+}
+
+// The number of a hexadecimal digit.
+fn digit_of(digit: u8) -> Option<u8> {
+    match digit {
+        b'0'..=b'9' => Some(digit - b'0'),
+        b'a'..=b'f' => Some(digit - b'a' + 10),
+        _ => None,
+    }
+}
+
+/// Adds a text that came, under its key: nothing where it is empty; as lines of text where it ends in a line feed; else beside the
+/// key, with escapes.
+pub fn push_text(came: &mut String, key: &str, text: &str) -> Result<(), Fault> {
+    if text.is_empty() {
+        return Ok(());
+    }
+    match text.strip_suffix('\n') {
+        Some(lines) => push_lines(came, key, lines),
+        None => push_inline(came, key, text),
+    }
+}
+
+// Adds the lines of a text below its key.
+fn push_lines(came: &mut String, key: &str, lines: &str) -> Result<(), Fault> {
+    came.push_str(key)?;
+    for line in lines.split('\n') {
+        came.push_str("\n|")?;
+        came.push_str(line)?;
+    }
+    Ok(came.push('\n')?)
+}
+
+// Adds a text of one line beside its key.
+fn push_inline(came: &mut String, key: &str, text: &str) -> Result<(), Fault> {
+    came.push_str(key)?;
+    came.push(' ')?;
+    for c in text.chars() {
+        match c {
+            '\n' => came.push_str("\\n")?,
+            '\r' => came.push_str("\\r")?,
+            '\t' => came.push_str("\\t")?,
+            '\\' => came.push_str("\\\\")?,
+            c => came.push(c)?,
+        }
+    }
+    Ok(came.push('\n')?)
+}

@@ -1,0 +1,53 @@
+//! Numbers and spans in the values of lines.
+use crate::cases::Case;
+use crate::fault::Fault;
+use lrpar_grammar::span::{Span, StorageIndex};
+
+/// The cap of a table whose case names none.
+pub const CAP: u16 = 10;
+
+/// The number that the word is.
+pub fn number_of(word: &str, line: usize) -> Result<usize, Fault> {
+    match word.trim().parse::<usize>() {
+        Ok(number) => Ok(number),
+        Err(_) => Err(Fault::Line(line, "a number is wanted")),
+    }
+}
+
+/// The number beside the first line with this key, or this other one where there is none.
+pub fn number_at(case: Case<'_, '_>, key: &str, other: usize) -> Result<usize, Fault> {
+    match case.value(key) {
+        None => Ok(other),
+        Some((value, line)) => number_of(value, line),
+    }
+}
+
+/// The cap beside the first line with this key.
+pub fn cap_at(case: Case<'_, '_>, key: &str) -> Result<u16, Fault> {
+    cap_of(number_at(case, key, usize::from(CAP))?, case.number)
+}
+
+/// The number as a cap.
+pub fn cap_of(number: usize, line: usize) -> Result<u16, Fault> {
+    match u16::try_from(number) {
+        Ok(cap) => Ok(cap),
+        Err(_) => Err(Fault::Line(line, "a cap is wanted")),
+    }
+}
+
+/// The number that the word is, in a storage type.
+pub fn index_of<S: StorageIndex>(word: &str, line: usize) -> Result<S, Fault> {
+    match S::from_index(number_of(word, line)?) {
+        Some(index) => Ok(index),
+        None => Err(Fault::Line(line, "a smaller number is wanted")),
+    }
+}
+
+/// The span `START..END`, if it is one.
+pub fn span_of(text: &str) -> Option<Span> {
+    let (start, end) = text.split_once("..")?;
+    match (start.parse::<usize>(), end.parse::<usize>()) {
+        (Ok(start), Ok(end)) if start <= end => Some(Span::new(start, end)),
+        _ => None,
+    }
+}

@@ -1,0 +1,143 @@
+//! Actions that count their calls, and the calculator's.
+ghost use Rattle.std.specs.Prelude.{◌↔◌, IfOk, IsTrue};
+
+use lrpar_lexer::{Token, TokenTypes};
+use lrpar_parser::parser::{AStackType, Actions};
+use lrpar_parser::span::{PIdx, RIdx, Span, Symbol};
+use lrpar_parser::{ParserData, RTParserBuilder};
+use lrpar_test_parts::built::{ARITHMETIC, SUM, built};
+use lrpar_test_parts::calculator::{Calculator, Value};
+use lrpar_test_parts::lexer::{Given, lexer_of};
+use std::alloc::{AllocError, Global};
+use std::cell::Cell;
+use std::process::Abort;
+use std::test::Fail;
+
+/// Counts its calls, and finds no memory at one of them. Of its answers it states nothing.
+#[derive(Drop)]
+pub(crate) struct Counting {
+    pub(crate) calls: Cell<usize>,
+    pub(crate) fails_at: usize,
+}
+
+impl<LexerT> Actions<u32, Token<u32>, LexerT> for Counting {
+    type ActionT = ();
+
+    type ParamT = ();
+
+    ghost taken = { λ _ _ _ _. Unit {0} };
+
+    ghost fact = { λ _ _ _. Unit {0} };
+
+    ghost answers = { λ _ _ _ _ _ _ _ _. Unit {0} };
+
+    fn takes(&self, _: PIdx<u32>, _: RIdx<u32>, _: &[Symbol<u32>]) -> bool
+        ensures { IsTrue result ↔ Unit {0} }
+    {
+        true
+    }
+
+    fn act(
+        &self,
+        _: Global,
+        _: PIdx<u32>,
+        _: RIdx<u32>,
+        _: &LexerT,
+        _: Span,
+        _: Vec<AStackType<Token<u32>, ()>>,
+        _: &(),
+    ) -> Result<(), AllocError>
+        ensures fact { IfOk result (λ _. Unit {0}) }
+        ensures answers { IfOk result (λ _. Unit {0}) }
+    {
+        self.calls.set(self.calls.get().saturating_add(1));
+        if self.calls.get() == self.fails_at {
+            Err(AllocError)
+        } else {
+            Ok(())
+        }
+    }
+}
+
+// Two parses by one parser and by these actions, as text: each fault, or whether there is a value, and how often the actions were
+// called up to there.
+fn acted_twice(
+    alloc: Global,
+    data: &ParserData<u32>,
+    given: &[Given],
+    counting: &Counting,
+) -> Result<String, Fail> {
+    let (lexer, mut text) = (lexer_of(given), String::new(alloc));
+    let parser = RTParserBuilder::<u32, TokenTypes>::new(data);
+    for _ in 0..2 {
+        match parser.parse_actions(alloc, &lexer, counting, &()) {
+            Ok((value, _)) => write!(text, "{}", value.is_some())?,
+            Err(fault) => write!(text, "{fault}")?,
+        }
+        let calls = counting.calls.get();
+        write!(text, " {calls} ")?;
+    }
+    Ok(text)
+}
+
+// Lexemes of the grammar *sum*, the call at which the actions find no memory, and what comes of two parses.
+const TWO_PARSES: [(&[Given], usize, &str); 4] = [
+    (&[(1, 1), (0, 1), (1, 1)], 0, "true 4 true 8 "),
+    (&[(1, 1), (0, 1)], 0, "false 1 false 2 "),
+    (&[], 0, "false 0 false 0 "),
+    (&[(1, 1), (0, 1), (1, 1)], 2, "out of memory 2 true 6 "),
+];
+
+#[test]
+fn calls_of_actions(rt: HostRuntime) -> Result<(), Fail> {
+    are_called(&rt, rt.alloc(), &built(rt.alloc(), SUM)?)
+}
+
+// In each row the actions are called as the row says.
+fn are_called(rt: &impl Abort, alloc: Global, data: &ParserData<u32>) -> Result<(), Fail> {
+    for (given, fails_at, want) in &TWO_PARSES {
+        let counting = Counting {
+            calls: Cell::new(0),
+            fails_at: *fails_at,
+        };
+        let text = acted_twice(alloc, data, *given, &counting)?;
+        assert_eq!(rt; text.as_str(), *want);
+    }
+    Ok(())
+}
+
+// The value that the calculator makes of these lexemes, if it takes the grammar and there is one.
+fn value_of(alloc: Global, data: &ParserData<u32>, given: &[Given]) -> Result<Option<Value>, Fail> {
+    let lexer = lexer_of(given);
+    let parser = RTParserBuilder::<u32, TokenTypes>::new(data);
+    if !parser.takes_all(&lexer, &Calculator) {
+        return Ok(None);
+    }
+    let (value, _) = parser.parse_actions(alloc, &lexer, &Calculator, &())?;
+    Ok(value)
+}
+
+// The lexemes of `2+3*4`, `2*3+4` and `2+`, where each number is as long as it says.
+const PRODUCT_LAST: [Given; 5] = [(2, 2), (0, 1), (2, 3), (1, 1), (2, 4)];
+
+const PRODUCT_FIRST: [Given; 5] = [(2, 2), (1, 1), (2, 3), (0, 1), (2, 4)];
+
+const NO_SUM: [Given; 2] = [(2, 2), (0, 1)];
+
+#[test]
+fn values_of_a_calculator(rt: HostRuntime) -> Result<(), Fail> {
+    let alloc = rt.alloc();
+    let data = built(alloc, ARITHMETIC)?;
+    let (last, first) = (Some(Value::Sum(14)), Some(Value::Sum(10)));
+    assert_eq!(rt; value_of(alloc, &data, &PRODUCT_LAST)?, last);
+    assert_eq!(rt; value_of(alloc, &data, &PRODUCT_FIRST)?, first);
+    assert_eq!(rt; value_of(alloc, &data, &NO_SUM)?, None);
+    Ok(())
+}
+
+#[test]
+fn a_calculator_of_another_grammar(rt: HostRuntime) -> Result<(), Fail> {
+    let data = built(rt.alloc(), SUM)?;
+    assert_eq!(rt; value_of(rt.alloc(), &data, &[(1, 1)])?, None);
+    Ok(())
+}

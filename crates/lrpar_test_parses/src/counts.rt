@@ -1,0 +1,311 @@
+//! How often a parse asks its lexer and its recoverer, in which order it calls the functions of its caller, and what comes where one
+//! of them finds no memory; and how often the text of an error asks for a token's.
+use crate::actions::Counting;
+use crate::recoverer::{Asked, Deleting};
+use lrpar_lexer::{Token, TokenTypes};
+use lrpar_parser::parser::ParseFault;
+use lrpar_parser::span::{StIdx, TIdx};
+use lrpar_parser::{LexParseError, Lexeme, ParseError, ParseRepair, ParserData, RTParserBuilder};
+use lrpar_test_parts::built::{BRACKETS, SUM, TWICE, built};
+use lrpar_test_parts::lexer::{Given, HandedLexer, lexer_of};
+use std::alloc::Global;
+use std::cell::Cell;
+use std::process::Abort;
+use std::test::Fail;
+
+/// One of the four calls.
+#[derive(Clone, Copy, Debug)]
+enum Call {
+    Map,
+    Actions,
+    Tree,
+    Errors,
+}
+
+/// All of them.
+const FOUR: [Call; 4] = [Call::Map, Call::Actions, Call::Tree, Call::Errors];
+
+/// The errors of a parse, or its fault.
+type Errors = Result<Vec<LexParseError<u32, TokenTypes>>, ParseFault>;
+
+/// A parser with a recoverer that counts.
+type Parser<'a> = RTParserBuilder<'a, u32, TokenTypes, Deleting<'a>>;
+
+// The errors of the parse by the call.
+fn errors_by(alloc: Global, call: Call, parser: &Parser<'_>, lexer: &HandedLexer<'_>) -> Errors {
+    match call {
+        Call::Map => errors_of(parser.parse_map(alloc, lexer, |_| {}, |_, _| {})),
+        Call::Actions => {
+            let counting = Counting {
+                calls: Cell::new(0),
+                fails_at: 0,
+            };
+            errors_of(parser.parse_actions(alloc, lexer, &counting, &()))
+        }
+        Call::Tree => errors_of(parser.parse_generictree(alloc, lexer)),
+        Call::Errors => parser.parse_noaction(alloc, lexer),
+    }
+}
+
+// The errors of an answer.
+fn errors_of<V: Drop>(
+    answer: Result<(Option<V>, Vec<LexParseError<u32, TokenTypes>>), ParseFault>,
+) -> Errors {
+    let (_, errors) = answer?;
+    Ok(errors)
+}
+
+// Adds the state and the start of each parse error, or the fault.
+fn push_told(text: &mut String, answer: &Errors) -> Result<(), Fail> {
+    match answer {
+        Err(fault) => write!(text, "{fault} ")?,
+        Ok(errors) => {
+            for error in errors {
+                if let LexParseError::ParseError(error) = error {
+                    let (state, start) = (
+                        error.stidx().as_storaget(),
+                        error.lexeme().span().start(),
+                    );
+                    write!(text, "{state}@{start} ")?;
+                }
+            }
+        }
+    }
+    Ok(())
+}
+
+/// Lexemes of the grammar *brackets*, the calls at which the lexer and the recoverer find no memory, what comes of two parses, and how
+/// often the lexer and the recoverer are asked in both.
+type Row = (
+    &'static [Given],
+    (usize, usize),
+    &'static str,
+    (usize, usize),
+);
+
+// Without an error; with one that a deletion mends, and with two; with one that none mends, in front of another; and with two where
+// memory is wanting once.
+const ROWS: [Row; 6] = [
+    (&[(0, 1)], (0, 0), "", (2, 0)),
+    (&[(0, 1), (0, 1)], (0, 0), "2@1 2@1 ", (2, 2)),
+    (&TWICE, (0, 0), "2@1 8@8 2@1 8@8 ", (2, 4)),
+    (
+        &[(0, 1), (0, 1), (1, 1), (0, 1), (3, 1)],
+        (0, 0),
+        "2@1 2@1 ",
+        (2, 2),
+    ),
+    (&TWICE, (1, 0), "out of memory 2@1 8@8 ", (2, 2)),
+    (&TWICE, (0, 2), "out of memory 2@1 8@8 ", (2, 4)),
+];
+
+#[test]
+fn lexers_and_recoverers_are_asked_once(rt: HostRuntime) -> Result<(), Fail> {
+    all_ask(&rt, rt.alloc(), &built(rt.alloc(), BRACKETS)?)
+}
+
+// In each row each call asks as often as the row says.
+fn all_ask(rt: &impl Abort, alloc: Global, data: &ParserData<u32>) -> Result<(), Fail> {
+    for row in &ROWS {
+        each_asks(rt, alloc, data, row)?;
+    }
+    Ok(())
+}
+
+// Each of the four calls asks as often as the row says.
+fn each_asks(
+    rt: &impl Abort,
+    alloc: Global,
+    data: &ParserData<u32>,
+    row: &Row,
+) -> Result<(), Fail> {
+    let (_, _, want, asked) = *row;
+    for call in FOUR {
+        let (text, found) = asks(alloc, call, data, row)?;
+        assert_eq!(rt; text.as_str(), want, "{call:?}");
+        assert_eq!(rt; found, asked, "{call:?} {text}");
+    }
+    Ok(())
+}
+
+// What comes of two parses of the row by the call, and how often they ask.
+fn asks(
+    alloc: Global,
+    call: Call,
+    data: &ParserData<u32>,
+    row: &Row,
+) -> Result<(String, (usize, usize)), Fail> {
+    let (given, (lexing, recovery), _, _) = *row;
+    let (calls, asked) = (Cell::new(0), Cell::new((0, 0, [0, 0, 0])));
+    let lexer = HandedLexer {
+        given,
+        calls: Cell::new(0),
+        fails_at: lexing,
+    };
+    let parser = RTParserBuilder::new(data).recoverer(Deleting {
+        calls: &calls,
+        asked: &asked,
+        fails_at: recovery,
+    });
+    let text = told_twice(alloc, call, &parser, &lexer)?;
+    Ok((text, (lexer.calls.get(), calls.get())))
+}
+
+// What comes of two parses by one parser.
+fn told_twice(
+    alloc: Global,
+    call: Call,
+    parser: &Parser<'_>,
+    lexer: &HandedLexer<'_>,
+) -> Result<String, Fail> {
+    let mut text = String::new(alloc);
+    push_told(&mut text, &errors_by(alloc, call, parser, lexer))?;
+    push_told(&mut text, &errors_by(alloc, call, parser, lexer))?;
+    Ok(text)
+}
+
+// How often and where the recoverer is asked.
+fn asked(alloc: Global, data: &ParserData<u32>, given: &[Given]) -> Result<(usize, Asked), Fail> {
+    let (calls, asked) = (Cell::new(0), Cell::new((0, 0, [0, 0, 0])));
+    let parser = RTParserBuilder::<u32, TokenTypes>::new(data).recoverer(Deleting {
+        calls: &calls,
+        asked: &asked,
+        fails_at: 0,
+    });
+    let _ = parser.parse_noaction(alloc, &lexer_of(given))?;
+    Ok((calls.get(), asked.get()))
+}
+
+#[test]
+fn what_a_recoverer_is_handed(rt: HostRuntime) -> Result<(), Fail> {
+    let data = built(rt.alloc(), BRACKETS)?;
+    let found = asked(rt.alloc(), &data, &[(2, 1), (0, 1), (0, 1)])?;
+    assert_eq!(rt; found, (1, (2, 3, [0, 3, 6])));
+    Ok(())
+}
+
+// Counts one more question.
+fn count(asked: &Cell<usize>) {
+    asked.set(asked.get().saturating_add(1));
+}
+
+// How often the text of an error with these repairs asks what is printed for a token.
+fn names_asked(
+    alloc: Global,
+    repairs: Vec<Vec<ParseRepair<Token<u32>, u32>>>,
+) -> Result<usize, Fail> {
+    let error = ParseError::new(StIdx(0), Token::new(1, 0, 0), repairs);
+    let error: LexParseError<u32, TokenTypes> = LexParseError::from(error);
+    if !error.fits("") {
+        return Err(Fail::new("an error outside of its text"));
+    }
+    let asked = Cell::new(0);
+    let _ = error.pp(alloc, &lexer_of(&[]), |_| {
+        count(&asked);
+        Some("x")
+    })?;
+    Ok(asked.get())
+}
+
+#[test]
+fn each_insertion_is_asked_for_once(rt: HostRuntime) -> Result<(), Fail> {
+    let alloc = rt.alloc();
+    let (first, second) = (TIdx(0), TIdx(1));
+    let deleted = Token::new(1, 0, 0);
+    let repairs = vec![in alloc;
+        vec![in alloc;
+            ParseRepair::Insert(first),
+            ParseRepair::Insert(second),
+            ParseRepair::Delete(deleted),
+        ]?,
+        vec![in alloc; ParseRepair::Insert(second)]?,
+    ]?;
+    assert_eq!(rt; names_asked(alloc, repairs)?, 3);
+    Ok(())
+}
+
+/// A call of one of the two functions of `parse_map`: for the lexeme that starts at this byte, or for this rule.
+#[derive(Clone, Copy, Debug, PartialEq, Eq)]
+enum Called {
+    Lexeme(usize),
+    Rule(u32),
+}
+
+/// How many calls there were, and which were the first eight.
+type Calls = (usize, [Called; 8]);
+
+// Notes the call, where it is one of the first eight.
+fn note(calls: &Cell<Calls>, call: Called) {
+    let (count, mut noted) = calls.get();
+    if let Some(place) = noted.get_mut(count) {
+        *place = call;
+    }
+    calls.set((count.saturating_add(1), noted));
+}
+
+// The calls of the two functions in the parse of these lexemes.
+fn calls_of(alloc: Global, data: &ParserData<u32>, given: &[Given]) -> Result<Calls, Fail> {
+    let calls = Cell::new((0, [Called::Rule(0); 8]));
+    let parser = RTParserBuilder::<u32, TokenTypes>::new(data);
+    let _ = parser.parse_map(
+        alloc,
+        &lexer_of(given),
+        |lexeme: Token<u32>| note(&calls, Called::Lexeme(lexeme.span().start())),
+        |rule, _| note(&calls, Called::Rule(rule.as_storaget())),
+    )?;
+    Ok(calls.get())
+}
+
+/// Lexemes, and the calls of the functions in their order.
+type Order = (&'static [Given], &'static [Called]);
+
+// The sums `a+b`, `a+` and the empty one. A token's value is asked for where its production is reduced, so not for those that stand on
+// the stack at an error; and there is no call for the rule that is added.
+const SUMS: [Order; 3] = [
+    (
+        &[(1, 1), (0, 1), (1, 1)],
+        &[
+            Called::Lexeme(0),
+            Called::Rule(2),
+            Called::Lexeme(2),
+            Called::Rule(2),
+            Called::Rule(1),
+            Called::Lexeme(1),
+            Called::Rule(1),
+        ],
+    ),
+    (&[(1, 1), (0, 1)], &[Called::Lexeme(0), Called::Rule(2)]),
+    (&[], &[]),
+];
+
+// The lexemes of one right side, from left to right: `(n)`.
+const IN_BRACKETS: [Order; 1] = [(
+    &[(2, 1), (0, 1), (3, 1)],
+    &[
+        Called::Lexeme(1),
+        Called::Rule(1),
+        Called::Lexeme(0),
+        Called::Lexeme(2),
+        Called::Rule(1),
+    ],
+)];
+
+#[test]
+fn calls_of_the_functions(rt: HostRuntime) -> Result<(), Fail> {
+    are_called(&rt, rt.alloc(), &built(rt.alloc(), SUM)?, &SUMS)?;
+    are_called(&rt, rt.alloc(), &built(rt.alloc(), BRACKETS)?, &IN_BRACKETS)
+}
+
+// In each row the functions are called as the row says.
+fn are_called(
+    rt: &impl Abort,
+    alloc: Global,
+    data: &ParserData<u32>,
+    rows: &[Order],
+) -> Result<(), Fail> {
+    for (given, want) in rows {
+        let (count, noted) = calls_of(alloc, data, *given)?;
+        assert_eq!(rt; noted.get(..count), Some(*want));
+    }
+    Ok(())
+}

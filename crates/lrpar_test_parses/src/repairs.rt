@@ -1,0 +1,113 @@
+//! Many repairs, and how many lexemes have to follow one.
+use lrpar_lexer::TokenTypes;
+use lrpar_parser::repair::{FixedRecoverer, NoRecovery, RepairStep};
+use lrpar_parser::span::TIdx;
+use lrpar_parser::{LexParseError, ParserData, RTParserBuilder};
+use lrpar_test_parts::built::{BRACKETS, built};
+use lrpar_test_parts::lexer::lexer_of;
+use std::alloc::Global;
+use std::test::Fail;
+
+const D: RepairStep<u32> = RepairStep::Delete;
+
+const I0: RepairStep<u32> = RepairStep::Insert(TIdx(0));
+
+const I1: RepairStep<u32> = RepairStep::Insert(TIdx(1));
+
+// Two lexemes `N` of the grammar *brackets*, parsed with this handed in: how many sequences are listed, the length of the first one,
+// and how many leaves the value has.
+fn counted(
+    alloc: Global,
+    data: &ParserData<u32>,
+    handed: Vec<Vec<RepairStep<u32>>>,
+) -> Result<(usize, usize, usize), Fail> {
+    let recoverer = FixedRecoverer::new(handed);
+    let parser = RTParserBuilder::<u32, TokenTypes>::new(data).recoverer(recoverer);
+    let lexer = lexer_of(&[(0, 1), (0, 1)]);
+    let (leaves, errors) = parser.parse_map(alloc, &lexer, |_| 1, |_, below| sum(&below))?;
+    let Some(LexParseError::ParseError(error)) = errors.first() else {
+        return Err(Fail::new("no parse error"));
+    };
+    let listed = error.repairs();
+    let first = match listed.first() {
+        Some(sequence) => sequence.len(),
+        None => 0,
+    };
+    Ok((listed.len(), first, leaves.unwrap_or(0)))
+}
+
+// The sum of the numbers.
+fn sum(numbers: &[usize]) -> usize {
+    let mut sum = 0usize;
+    for number in numbers {
+        sum = sum.saturating_add(*number);
+    }
+    sum
+}
+
+// These steps so often, one after the other, and then the last one.
+fn repeated(
+    alloc: Global,
+    steps: &[RepairStep<u32>],
+    times: usize,
+    last: RepairStep<u32>,
+) -> Result<Vec<RepairStep<u32>>, Fail> {
+    let mut made = Vec::new(alloc);
+    for _ in 0..times {
+        made.extend_from_slice(steps)?;
+    }
+    made.push(last)?;
+    Ok(made)
+}
+
+// 5,000 deletions, and then a sequence that ends in front of a name.
+fn long(alloc: Global) -> Result<Vec<Vec<RepairStep<u32>>>, Fail> {
+    let mut handed = Vec::new(alloc);
+    handed.push(repeated(alloc, &[D], 4_999, D)?)?;
+    handed.push(repeated(alloc, &[I1, I0], 2_500, I1)?)?;
+    Ok(handed)
+}
+
+// 10,000 sequences of one deletion.
+fn many(alloc: Global) -> Result<Vec<Vec<RepairStep<u32>>>, Fail> {
+    let mut handed = Vec::new(alloc);
+    for _ in 0..10_000 {
+        handed.push(repeated(alloc, &[], 0, D)?)?;
+    }
+    Ok(handed)
+}
+
+#[test]
+fn long_sequences_and_many(rt: HostRuntime) -> Result<(), Fail> {
+    let alloc = rt.alloc();
+    let data = built(alloc, BRACKETS)?;
+    let found = counted(alloc, &data, long(alloc)?)?;
+    assert_eq!(rt; found, (1, 5_001, 5_003));
+    let found = counted(alloc, &data, many(alloc)?)?;
+    assert_eq!(rt; found, (10_000, 1, 1));
+    Ok(())
+}
+
+// The numbers of lexemes that have to follow a repair: of a new parser, of one with another recoverer, and of one that was refused
+// another number; and the text of the refusal.
+fn shift_counts(alloc: Global, data: &ParserData<u32>) -> Result<([usize; 3], String), Fail> {
+    let new = RTParserBuilder::<u32, TokenTypes>::new(data);
+    let first = new.shift_count();
+    let other = new.shifts(7)?.recoverer(NoRecovery);
+    let second = other.shift_count();
+    match other.shifts(0) {
+        Ok(_) => Err(Fail::new("no lexeme has to follow")),
+        Err(refused) => {
+            let text = format!(in alloc; "{refused}")?;
+            Ok(([first, second, refused.into_builder().shift_count()], text))
+        }
+    }
+}
+
+#[test]
+fn numbers_of_lexemes_that_follow(rt: HostRuntime) -> Result<(), Fail> {
+    let (counts, text) = shift_counts(rt.alloc(), &built(rt.alloc(), BRACKETS)?)?;
+    assert_eq!(rt; counts, [3, 7, 7]);
+    assert_eq!(rt; text.as_str(), "shifts must be at least 1");
+    Ok(())
+}

@@ -1,0 +1,253 @@
+//! Item sets, conflicts and stacks, and texts of faults, where no case can say it.
+use lrpar_grammar::grammar::{GrammarFault, YaccGrammar};
+use lrpar_grammar::span::{PIdx, RIdx, StIdx, TIdx};
+use lrpar_table::build::{BuildFault, Unbuilt, from_yacc, parser_data};
+use lrpar_table::check::{CheckFault, Overlay, ParserData};
+use lrpar_table::table::{Action, Conflicts, Item, StateGraph, StateTable, TableFault, TableRows};
+use std::alloc::Global;
+use std::process::Abort;
+use std::test::Fail;
+
+/// The grammar *sum*, which has no conflicts: tokens `+` 0, `ID` 1.
+const SUM: &str = "%% E: T '+' E | T; T: 'ID';";
+
+/// The grammar *conflicts*, of more productions: tokens `a` 0, `b` 1.
+const CONFLICTS: &str = "%start A\n%%\nA : 'a' 'b' | B 'b';\nB : 'a' | C;\nC : 'a';";
+
+// What is built of the text.
+fn built(alloc: Global, text: &str) -> Result<(StateGraph<u8>, StateTable<u8>), Fail> {
+    let grm = YaccGrammar::new_with_storaget(alloc, text)?;
+    Ok(from_yacc(alloc, &grm, 100)?)
+}
+
+// Whether the graph lists the item in the state; none out of range.
+fn lists(graph: &StateGraph<u8>, state: u8, item: Item<u8>) -> bool {
+    usize::from(state) < graph.states_len() && graph.items(StIdx(state)).contains(&item)
+}
+
+// Whether the graph has, at this production and dot of the state, the items that it lists and no others, and the core where it has one.
+fn has_at(graph: &StateGraph<u8>, state: u8, prod: u8, dot: usize) -> bool {
+    let mut is_core = false;
+    for token in 0..4u8 {
+        let is_item = lists(graph, state, (PIdx(prod), dot, TIdx(token)));
+        if graph.has_item(StIdx(state), PIdx(prod), dot, TIdx(token)) != is_item {
+            return false;
+        }
+        is_core = is_core || is_item;
+    }
+    graph.has_core(StIdx(state), PIdx(prod), dot) == is_core
+}
+
+// Whether that is so at each dot.
+fn has_prod(graph: &StateGraph<u8>, state: u8, prod: u8) -> bool {
+    for dot in 0..5usize {
+        if !has_at(graph, state, prod, dot) {
+            return false;
+        }
+    }
+    true
+}
+
+// Whether that is so at each production.
+fn has_state(graph: &StateGraph<u8>, state: u8) -> bool {
+    for prod in 0..5u8 {
+        if !has_prod(graph, state, prod) {
+            return false;
+        }
+    }
+    true
+}
+
+#[test]
+fn items_and_cores_of_sums(rt: HostRuntime) -> Result<(), Fail> {
+    let (graph, _) = built(rt.alloc(), SUM)?;
+    assert!(rt; lists(&graph, 5, (PIdx(0), 3, TIdx(2))));
+    for state in 0..8u8 {
+        assert!(rt; has_state(&graph, state), "state {state}");
+    }
+    Ok(())
+}
+
+/// A grammar, and its item sets and rows.
+type Parts = (YaccGrammar<u8>, StateGraph<u8>, StateTable<u8>);
+
+// What is handed back of the table of sums, which the cap 1 is too low for: the end token, 2, makes two reductions in state 4.
+fn handed_back(alloc: Global) -> Result<Parts, Fail> {
+    let grm = YaccGrammar::new_with_storaget(alloc, SUM)?;
+    match parser_data(alloc, grm, 100, 1) {
+        Err(Unbuilt::Chains(refused)) if refused.fault() == CheckFault::ChainTooLong(4, 2) => {
+            Ok(refused.into_parts())
+        }
+        _ => Err(Fail::new("another answer")),
+    }
+}
+
+// The same, checked with the cap 2.
+fn checked_again(alloc: Global) -> Result<ParserData<u8>, Fail> {
+    let (grm, graph, table) = handed_back(alloc)?;
+    match ParserData::new(alloc, grm, graph, table, 2) {
+        Ok(data) => Ok(data),
+        Err(_) => Err(Fail::new("refused again")),
+    }
+}
+
+// What the states of the table of sums do at tokens, and where they go by rules. These are all of its entries.
+const ACTIONS: [(u8, u8, Action<u8>); 8] = [
+    (0, 1, Action::Shift(StIdx(3))),
+    (1, 2, Action::Accept),
+    (2, 0, Action::Shift(StIdx(4))),
+    (2, 2, Action::Reduce(PIdx(1))),
+    (3, 0, Action::Reduce(PIdx(2))),
+    (3, 2, Action::Reduce(PIdx(2))),
+    (4, 1, Action::Shift(StIdx(3))),
+    (5, 2, Action::Reduce(PIdx(0))),
+];
+
+const GOTOS: [(u8, u8, u8); 4] = [(0, 1, 1), (0, 2, 2), (4, 1, 5), (4, 2, 2)];
+
+// What the table does in the state at the token, if it has them.
+fn action_at(table: &StateTable<u8>, state: u8, token: u8) -> Option<Action<u8>> {
+    if usize::from(StIdx(state)) < table.states_len()
+        && usize::from(TIdx(token)) < table.tokens_len()
+    {
+        Some(table.action(StIdx(state), TIdx(token)))
+    } else {
+        None
+    }
+}
+
+// Where the state goes by the rule, if the table has them.
+fn goto_at(table: &StateTable<u8>, state: u8, rule: u8) -> Option<StIdx<u8>> {
+    if usize::from(StIdx(state)) < table.states_len()
+        && usize::from(RIdx(rule)) < table.rules_len()
+    {
+        table.goto(StIdx(state), RIdx(rule))
+    } else {
+        None
+    }
+}
+
+#[test]
+fn parts_that_come_back_are_as_they_were(rt: HostRuntime) -> Result<(), Fail> {
+    let data = checked_again(rt.alloc())?;
+    for state in 0..8u8 {
+        assert!(rt; has_state(data.sgraph(), state), "state {state}");
+    }
+    assert!(rt; lists(data.sgraph(), 5, (PIdx(0), 3, TIdx(2))));
+    are_entries(&rt, data.stable())
+}
+
+// The table has these entries and no others.
+fn are_entries(rt: &impl Abort, table: &StateTable<u8>) -> Result<(), Fail> {
+    for (state, token, action) in ACTIONS {
+        let found = action_at(table, state, token);
+        assert_eq!(rt; found, Some(action), "state {state}, token {token}");
+    }
+    for (state, rule, next) in GOTOS {
+        let found = goto_at(table, state, rule);
+        assert_eq!(rt; found, Some(StIdx(next)), "state {state}, rule {rule}");
+    }
+    assert_eq!(rt; table.entries(), ACTIONS.len() + GOTOS.len());
+    Ok(())
+}
+
+// The cores of the state whose dot isn't at the front: their productions and dots.
+fn begun(alloc: Global, graph: &StateGraph<u8>, state: u8) -> Result<Vec<(u8, usize)>, Fail> {
+    let mut begun = Vec::new(alloc);
+    if usize::from(state) < graph.states_len() {
+        for (prod, dot) in graph.begun_cores(StIdx(state)) {
+            begun.push((prod.as_storaget(), *dot))?;
+        }
+    }
+    Ok(begun)
+}
+
+#[test]
+fn begun_cores_of_sums(rt: HostRuntime) -> Result<(), Fail> {
+    let (graph, _) = built(rt.alloc(), SUM)?;
+    let rows: [(u8, &[(u8, usize)]); 6] = [
+        (0, &[]),
+        (1, &[(3, 1)]),
+        (2, &[(0, 1), (1, 1)]),
+        (3, &[(2, 1)]),
+        (4, &[(0, 2)]),
+        (5, &[(0, 3)]),
+    ];
+    for (state, cores) in rows {
+        let found = begun(rt.alloc(), &graph, state)?;
+        assert_eq!(rt; found.as_slice(), cores, "state {state}");
+    }
+    Ok(())
+}
+
+// A table of one state without entries, with these conflicts.
+fn bare(alloc: Global, conflicts: Option<Conflicts<u8>>) -> Result<StateTable<u8>, Fail> {
+    let rows = TableRows {
+        start: StIdx(0),
+        tokens: 1,
+        rules: 1,
+        actions: vec![in alloc; vec![in alloc; Action::Error]?]?,
+        gotos: vec![in alloc; vec![in alloc; None]?]?,
+        conflicts,
+    };
+    Ok(StateTable::from_rows(alloc, rows)?)
+}
+
+#[test]
+fn conflicts_of_a_table(rt: HostRuntime) -> Result<(), Fail> {
+    let alloc = rt.alloc();
+    assert!(rt; bare(alloc, None)?.conflicts().is_none());
+    let rr = vec![in alloc; (TIdx(2), PIdx(0), PIdx(1), StIdx(5))]?;
+    let sr = vec![in alloc; (TIdx(0), PIdx(1), StIdx(2)), (TIdx(1), PIdx(2), StIdx(3))]?;
+    let table = bare(alloc, Some(Conflicts::new(rr, sr)))?;
+    let Some(conflicts) = table.conflicts() else {
+        return Err(Fail::new("no conflicts"));
+    };
+    assert_eq!(rt; conflicts.rr_len(), 1);
+    assert_eq!(rt; conflicts.sr_len(), 2);
+    assert!(rt; conflicts.rr_conflicts() == [(TIdx(2), PIdx(0), PIdx(1), StIdx(5))].as_slice());
+    assert!(rt;
+        conflicts.sr_conflicts()
+            == [(TIdx(0), PIdx(1), StIdx(2)), (TIdx(1), PIdx(2), StIdx(3))].as_slice()
+    );
+    Ok(())
+}
+
+// Whether the conflicts of the grammar *conflicts* fit the grammar of this text.
+fn fit(alloc: Global, text: &str) -> Result<bool, Fail> {
+    let grm = YaccGrammar::<u8>::new_with_storaget(alloc, text)?;
+    let (_, table) = built(alloc, CONFLICTS)?;
+    match table.conflicts() {
+        Some(conflicts) => Ok(conflicts.fit(&grm)),
+        None => Err(Fail::new("no conflicts")),
+    }
+}
+
+#[test]
+fn conflicts_that_fit(rt: HostRuntime) -> Result<(), Fail> {
+    assert!(rt; fit(rt.alloc(), CONFLICTS)?);
+    assert!(rt; !fit(rt.alloc(), SUM)?);
+    Ok(())
+}
+
+#[test]
+fn a_new_overlay_is_its_base(rt: HostRuntime) -> Result<(), Fail> {
+    let base = [StIdx(0u8), StIdx(2), StIdx(4)];
+    let over = Overlay::new(rt.alloc(), &base);
+    assert_eq!(rt; over.len(), 3);
+    assert_eq!(rt; over.top(), StIdx(4));
+    assert_eq!(rt; over.kept(), 3);
+    Ok(())
+}
+
+#[test]
+fn want_of_memory_as_text(rt: HostRuntime) -> Result<(), Fail> {
+    let (alloc, want) = (rt.alloc(), "out of memory");
+    let (grammar, built) = (GrammarFault::Memory, BuildFault::Memory);
+    let (table, checked) = (TableFault::Memory, CheckFault::Memory);
+    assert_eq!(rt; format!(in alloc; "{grammar}")?.as_str(), want);
+    assert_eq!(rt; format!(in alloc; "{built}")?.as_str(), want);
+    assert_eq!(rt; format!(in alloc; "{table}")?.as_str(), want);
+    assert_eq!(rt; format!(in alloc; "{checked}")?.as_str(), want);
+    Ok(())
+}
