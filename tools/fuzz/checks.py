@@ -3,7 +3,6 @@ import re
 
 from case import want
 from grammars import Grammar, any_grammar, rule, text_of
-from program import USAGE
 
 
 def check(case):
@@ -81,11 +80,8 @@ def see_useless_rule(case, grammar, cap, wanted):
 
 
 def see_conflicts(case, text, found):
-    """sees that `conflicts` prints nothing exactly where the table is complete, and else texts of this form; a program that doesn't
-    have it says how it is used"""
+    """sees that `conflicts` prints nothing exactly where the table is complete, and else texts of this form"""
     answer = case.run("conflicts", "g.y")
-    if answer.err.decode() == USAGE:
-        return
     _, result, _ = found
     want(answer.status == 0, "status 0 for a table", answer)
     want(result is None or (answer.out == b"") == (result == "complete"), "conflicts where the table isn't complete", answer.out)

@@ -19,7 +19,9 @@ def ends(case):
         if name in spoil:
             content = spoiled(chance, content) if chance.random() < 0.8 else noise(chance)
         case.file(name, content)
-    chance.choice((ends_tree, ends_tree, ends_tree, ends_check, ends_calc, ends_demo, ends_words, ends_lexer))(case)
+    chance.choice(
+        (ends_tree, ends_tree, ends_tree, ends_check, ends_conflicts, ends_calc, ends_demo, ends_words, ends_lexer)
+    )(case)
 
 
 def ends_tree(case):
@@ -32,6 +34,18 @@ FILES = ("g.y", "g.lex", "text", "repairs")
 
 def ends_check(case):
     case.run("check", "g.y", str(case.chance.choice((0, 1, 2, 5, 1000, 65535))))
+
+
+def ends_conflicts(case):
+    """the conflicts of any grammar text: `conflicts` takes each one that `check` builds a table of"""
+    told, checked = case.run("conflicts", "g.y"), case.run("check", "g.y", "65535")
+    if checked.err:
+        want(told[:3] == checked[:3], "the fault that `check` tells", told)
+        return
+    want(told.status == 0, "status 0 for a table", told)
+    result = checked.out.decode().splitlines()[-1]
+    if not result.startswith("refused: "):
+        want((told.out == b"") == (result == "complete"), "conflicts where the table isn't complete", told.out)
 
 
 def ends_calc(case):

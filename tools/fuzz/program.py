@@ -120,7 +120,7 @@ def refusal_complaint(command, words, files, out, err):
         return None
     if command in (b"tree", b"check", b"conflicts") and is_grammar_fault(err, content_at(files, paths, 0)):
         return None
-    if command in (b"tree", b"conflicts") and CHAIN_FAULT.fullmatch(err):
+    if command == b"tree" and CHAIN_FAULT.fullmatch(err):
         return None
     if line_fault(command, paths, files, err):
         return None

@@ -5,12 +5,12 @@ use Rattle.std.proofs.lemmas.List.Sums.{sum_by-cons}
 use Rattle.std.proofs.lemmas.Bool.{and_parts, cases_Bool, eqb-true, false≢true}
 use Rattle.std.proofs.lemmas.List.{ext_get_or}
 use Rattle.std.proofs.lemmas.List.Elements.{All-contains, All-head, All-tail, Contains-append_cases, Contains-append_left, Contains-append_right, Contains-push, Contains-push_cases}
-use Rattle.lrpar_grammar.specs.Grammar.{Grammar}
+use Rattle.lrpar_grammar.specs.Grammar.{Grammar, rule_of}
 use Rattle.lrpar_states.specs.Graph.{ItemOf}
 use Rattle.lrpar_build.specs.Canonical.{AreSame}
 use Rattle.lrpar_build.specs.Cores.{CoreSet, IsAmong, IsOfCore}
 use Rattle.lrpar_first.specs.FirstRows.{mark_of}
-use Rattle.lrpar_build.specs.Kernels.{AreCores, AreCoresInOrder, ComesBefore, IsFilled, Precedes, place_of}
+use Rattle.lrpar_build.specs.Kernels.{AreCores, AreCoresInOrder, ComesBefore, IsFilled, IsListedBefore, Precedes}
 use Rattle.lrpar_first.specs.Tokens.{has}
 use Rattle.lrpar_build.specs.Wanted.{AreOnce}
 
@@ -63,10 +63,31 @@ module _ (g : Grammar) where
   -- nothing comes before itself, and of two cores one alone comes before the other
   itself : (p k q l : ℕ) → p ≡ q → k ≡ l → Precedes g p k q l → ⊥
   itself p k q l prod dot h =
-      let place = ap (place_of g) prod in
+      let rule = ap (rule_of g) prod in
       elim h [
         | inl greater ↦ omega (arith, greater, dot)
-        | inr later ↦ let low = later.1 in omega (arith, low, place)
+        | inr behind ↦
+            elim behind.1 [
+              | inl less ↦ omega (arith, less, rule)
+              | inr same ↦ let low = same.1 in omega (arith, low, prod)
+            ]
+      ]
+
+  listed_one_way : (p q : ℕ) → IsListedBefore g p q → IsListedBefore g q p → ⊥
+  listed_one_way p q h back =
+      elim h [
+        | inl less ↦
+            elim back [
+              | inl more ↦ omega (arith, less, more)
+              | inr other ↦ let rule = other.0 in omega (arith, less, rule)
+            ]
+        | inr same ↦
+            let rule = same.0 in
+            let low = same.1 in
+            elim back [
+              | inl more ↦ omega (arith, rule, more)
+              | inr other ↦ let high = other.1 in omega (arith, low, high)
+            ]
       ]
 
   one_way : (p k q l : ℕ) → Precedes g p k q l → Precedes g q l p k → ⊥
@@ -75,14 +96,13 @@ module _ (g : Grammar) where
         | inl greater ↦
             elim back [
               | inl other ↦ omega (arith, greater, other)
-              | inr later ↦ let same = later.0 in omega (arith, greater, same)
+              | inr behind ↦ let same = behind.0 in omega (arith, greater, same)
             ]
         | inr first ↦
             let dots = first.0 in
-            let places = first.1 in
             elim back [
               | inl other ↦ omega (arith, dots, other)
-              | inr later ↦ let low = later.1 in omega (arith, places, low)
+              | inr behind ↦ listed_one_way p q first.1 behind.1
             ]
       ]
 

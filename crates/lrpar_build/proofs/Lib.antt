@@ -1,4 +1,5 @@
 pub mod BroughtLemmas
+pub mod ProdLemmas
 pub mod SpreadLemmas
 pub mod ClosureLemmas
 pub mod BringLemmas

@@ -1,16 +1,17 @@
 -- One production brings the rule that it begins with: what was worked out is put into the set of that rule.
-use Rattle.std.proofs.Common.{◌≡◌, ◌<◌, ◌+◌, ◌||◌, ◌&&◌, ◌↔◌, ◌⊎◌, ◌∙◌, sym, ap, subst, inl, inr, arith, ℕ, Bool, false, List, [], ◌∷◌, All, length, set, get_or, drop, nat_lt, IsTrue}
+use Rattle.std.proofs.Common.{◌≡◌, ◌<◌, ◌+◌, ◌||◌, ◌&&◌, ◌↔◌, ◌⊎◌, ◌∙◌, sym, ap, subst, inl, inr, arith, ℕ, Bool, false, List, [], ◌∷◌, ◌++◌, All, length, set, get_or, drop, nat_lt, IsTrue}
 use Rattle.std.proofs.lemmas.Bool.{OnFalse_at, OnTrue_at, cases_Bool, cases_eq, cases_lt, false≢true}
 use Rattle.std.proofs.lemmas.List.{get_or-set_other, get_or-set_same, set-get_or}
-use Rattle.std.proofs.lemmas.List.Elements.{All-drop, All-get_or, All-head, All-tail}
+use Rattle.std.proofs.lemmas.List.Elements.{All-contains, All-drop, All-get_or, All-head, All-push, All-tail}
 use Rattle.std.specs.Bool.{OnFalse, OnTrue}
-use Rattle.lrpar_grammar.specs.Grammar.{Grammar, GrammarSymbol, IsWellFormed, Nonterminal, Terminal, prods_len, rule_of, rules_len, symbols_of, tokens_len}
+use Rattle.lrpar_grammar.specs.Grammar.{Grammar, GrammarSymbol, IsWellFormed, Nonterminal, Terminal, prods_len, prods_of, rule_of, rules_len, symbols_of, tokens_len}
 use Rattle.lrpar_first.specs.First.{IsFirst}
 use Rattle.lrpar_first.specs.FirstRows.{HaveRoom, IsFirstBefore, IsSymbolBelow, mark_of, row_at, rows_of, total_missing}
 use Rattle.lrpar_first.specs.Tokens.{has, missing}
-use Rattle.lrpar_build.specs.Brought.{IsBrought, Given, Brought, AreBroughtFrom, HasIn, IsSpreadAt, Keeps}
+use Rattle.lrpar_build.specs.Brought.{IsBrought, Given, Brought, AreBroughtFrom, HasIn, IsSpreadAt, IsSpreadOf, Keeps}
 use Rattle.lrpar_first.specs.declared.tokens.TokenSet.{TokenSet}
 use Rattle.lrpar_first.proofs.BeforeLemmas.{united}
+use Rattle.lrpar_build.proofs.ProdLemmas.{in_prods}
 use Rattle.lrpar_build.proofs.BroughtLemmas.{brought_twice, closed_brought}
 use Rattle.lrpar_first.proofs.SymbolLemmas.{prod_symbols}
 use Rattle.lrpar_first.proofs.GrowthLemmas.{has_room, missing_set, room_set, row_in, rows-set, sets_len}
@@ -130,7 +131,7 @@ module _ (g : Grammar) (sets : List TokenSet) (p rule target mark : ℕ) (w : Li
   spread_to = record { room = spread_room; kept = spread_keeps; sound = spread_sound; grown = spread_less; same = spread_same; closed = spread_closed }
 
 -- where the production's rule has no lookaheads, it brings nothing
-pub spread_nothing : (g : Grammar) (sets : List TokenSet) (p rule : ℕ) (d : TokenSet) → rule ≡ rule_of g p → rule_of g p < rules_len g → HaveRoom g (rows_of sets)
+spread_nothing : (g : Grammar) (sets : List TokenSet) (p rule : ℕ) (d : TokenSet) → rule ≡ rule_of g p → rule_of g p < rules_len g → HaveRoom g (rows_of sets)
     → ((t : ℕ) → IsTrue (has (get_or sets rule d).bits.items t) → ⊥) → IsSpreadAt g (rows_of sets) p
 spread_nothing g sets p rule d is low room none r s t w begins has_s first =
     let count = sets_len g sets room in
@@ -169,10 +170,29 @@ step_grown first before after grown less same fewer =
       | inr fell ↦ let same' = OnFalse_at fell same in subst (λ rows. total_missing after < total_missing rows) same' fewer
     ]
 
-pub step_closed : (g : Grammar) (before after : List (List Bool)) (n : ℕ) → after ≡ before → ((p : ℕ) → p < n → IsSpreadAt g before p) → IsSpreadAt g after n
-    → (p : ℕ) → p < n + 1 → IsSpreadAt g after p
-step_closed g before after n same closed last p low =
-    elim (cases_lt p n) [
-      | inl early ↦ subst (λ rows. IsSpreadAt g rows p) (sym same) (closed p early)
-      | inr late ↦ let is : n ≡ p = omega (arith, low, late) in subst (IsSpreadAt g after) is last
+-- what the productions of one rule more bring
+pub step_closed : (g : Grammar) (before after : List (List Bool)) (n : ℕ) → after ≡ before
+    → ((p : ℕ) → p < prods_len g → rule_of g p < n → IsSpreadAt g before p) → IsSpreadOf g after n
+    → (p : ℕ) → p < prods_len g → rule_of g p < n + 1 → IsSpreadAt g after p
+step_closed g before after n same closed last p known low =
+    elim (cases_lt (rule_of g p) n) [
+      | inl early ↦ subst (λ rows. IsSpreadAt g rows p) (sym same) (closed p known early)
+      | inr late ↦ last p known (omega (arith, low, late))
     ]
+
+-- what one production more brings
+pub step_listed : (g : Grammar) (before after : List (List Bool)) (prods more : List ℕ) (p : ℕ) → after ≡ before → more ≡ prods ++ p ∷ []
+    → All (IsSpreadAt g before) prods → IsSpreadAt g after p → All (IsSpreadAt g after) more
+step_listed g before after prods more p same is so_far last =
+    subst (All (IsSpreadAt g after)) (sym is)
+    (All-push (IsSpreadAt g after) prods p (subst (λ rows. All (IsSpreadAt g rows) prods) (sym same) so_far) last)
+
+-- what all productions of a rule bring, the rule brings
+pub spread_of : (g : Grammar) (rows : List (List Bool)) (n : ℕ) → All (IsSpreadAt g rows) (prods_of g n) → IsSpreadOf g rows n
+spread_of g rows n all p known is = All-contains (IsSpreadAt g rows) (prods_of g n) p all (in_prods g n p known is)
+
+-- a rule without lookaheads brings nothing
+pub nothing_of : (g : Grammar) (sets : List TokenSet) (n : ℕ) (d : TokenSet) → n < rules_len g → HaveRoom g (rows_of sets)
+    → ((t : ℕ) → IsTrue (has (get_or sets n d).bits.items t) → ⊥) → IsSpreadOf g (rows_of sets) n
+nothing_of g sets n d low room none p known is =
+    spread_nothing g sets p n d (sym is) (subst (λ m. m < rules_len g) (sym is) low) room none

@@ -28,3 +28,7 @@ AreBroughtFrom g before after = (r t : ℕ) → HasIn after r t → IsBrought g 
 abbrev pub IsSpreadAt : Grammar → List (List Bool) → ℕ → Type 0
 IsSpreadAt g rows p = (r s t : ℕ) (w : List GrammarSymbol) → symbols_of g p ≡ Nonterminal r ∷ w → HasIn rows (rule_of g p) s → IsFirst g s w t
     → HasIn rows r t
+
+-- the sets have what the productions of rule n bring
+abbrev pub IsSpreadOf : Grammar → List (List Bool) → ℕ → Type 0
+IsSpreadOf g rows n = (p : ℕ) → p < prods_len g → rule_of g p ≡ n → IsSpreadAt g rows p

@@ -39,7 +39,10 @@ Brings g core r t = (w : List GrammarSymbol) × (drop core.dot (symbols_of g cor
 abbrev pub AreBringing : Grammar → List CoreSet → ℕ → ℕ → Type 0
 AreBringing g cores r t = (core : CoreSet) × Contains cores core × Brings g core r t
 
--- an item that comes with a rule: its dot is at the front, its production is one of the first n, and its lookahead is in the set of
--- the production's rule
-abbrev pub IsOfRows : Grammar → List (List Bool) → ℕ → ItemOf → Type 0
-IsOfRows g rows n x = (x.dot ≡ 0) × (x.prod < n) × HasIn rows (rule_of g x.prod) x.token
+-- an item that comes with rule r: its dot is at the front, its production is one of the rule's, and its lookahead is in the set
+abbrev pub IsOfRule : Grammar → ℕ → List Bool → ItemOf → Type 0
+IsOfRule g r tokens x = (x.dot ≡ 0) × (x.prod < prods_len g) × (rule_of g x.prod ≡ r) × IsTrue (has tokens x.token)
+
+-- an item that comes with some rule: its dot is at the front, and its lookahead is in the set of its production's rule
+abbrev pub IsOfRows : Grammar → List (List Bool) → ItemOf → Type 0
+IsOfRows g rows x = (x.dot ≡ 0) × (x.prod < prods_len g) × HasIn rows (rule_of g x.prod) x.token

@@ -1,21 +1,21 @@
 -- Kernels: the cores from which the items of a state come by closure. They stand in an order, so that a set of items has one kernel.
-use Rattle.std.specs.Prelude.{◌≡◌, ◌<◌, ◌≤◌, ◌+◌, ◌==◌, ◌⊎◌, ◌++◌, if◌then◌else◌, ℕ, Bool, false, IsTrue, List, [], ◌∷◌, All, Option, Some, None, length, map, slice_get, slice_index_or}
+use Rattle.std.specs.Prelude.{◌≡◌, ◌<◌, ◌≤◌, ◌+◌, ◌==◌, ◌⊎◌, ◌++◌, ℕ, Bool, false, IsTrue, List, [], ◌∷◌, All, Option, Some, None, length, map, slice_get, slice_index_or}
 use Rattle.std.specs.List.{filter}
-use Rattle.lrpar_grammar.specs.Grammar.{Grammar, GrammarSymbol, Nonterminal, Terminal, start_prod, symbols_of}
+use Rattle.lrpar_grammar.specs.Grammar.{Grammar, GrammarSymbol, Nonterminal, Terminal, rule_of, start_prod, symbols_of}
 use Rattle.lrpar_states.specs.Graph.{ItemOf}
 use Rattle.lrpar_build.specs.Canonical.{AreSame}
 use Rattle.lrpar_build.specs.Cores.{CoreSet, IsAmong, IsCoreOf}
 use Rattle.lrpar_build.specs.ItemSets.{IsAdvanced, IsInClosure, IsReachedBy}
 use Rattle.lrpar_first.specs.Tokens.{has}
 
--- the place of a production in the order: the start production's is the first, then the others as they are numbered
-abbrev pub place_of : Grammar → ℕ → ℕ
-place_of g p = if p == start_prod g then 0 else p + 1
+-- production p is listed before q: by their rules, and those of one rule by their numbers
+abbrev pub IsListedBefore : Grammar → ℕ → ℕ → Type 0
+IsListedBefore g p q = (rule_of g p < rule_of g q) ⊎ ((rule_of g p ≡ rule_of g q) × (p < q))
 
--- production p with k symbols before the dot comes before production q with l: k is greater, or they are equal and p has its place
+-- production p with k symbols before the dot comes before production q with l: k is greater, or they are equal and p is listed
 -- before q. The dots of all items are advanced together, so that their order stays
 abbrev pub Precedes : Grammar → ℕ → ℕ → ℕ → ℕ → Type 0
-Precedes g p k q l = (l < k) ⊎ ((k ≡ l) × (place_of g p < place_of g q))
+Precedes g p k q l = (l < k) ⊎ ((k ≡ l) × IsListedBefore g p q)
 
 -- one core comes before the other
 abbrev pub ComesBefore : Grammar → CoreSet → CoreSet → Type 0
@@ -110,6 +110,6 @@ GoesTo g kernels cores symbol None = ¬ (StandBefore g cores symbol)
 GoesTo g kernels cores symbol (Some next) =
     StandBefore g cores symbol × (next < length kernels) × AreSame (IsAmong (kernel_at kernels next)) (IsAdvanced g (IsAmong cores) symbol)
 
--- the core was put behind the others, if it has any lookahead
-abbrev pub IsPut : List CoreSet → CoreSet → List CoreSet → Type 0
-IsPut cores core more = (IsFilled core × (more ≡ cores ++ core ∷ [])) ⊎ (¬ (IsFilled core) × (more ≡ cores))
+-- the core comes before the productions of rule r, and of those behind it, with the dot at the front
+abbrev pub IsAhead : Grammar → ℕ → CoreSet → Type 0
+IsAhead g r core = (0 < core.dot) ⊎ (rule_of g core.prod < r)

@@ -1,19 +1,19 @@
 //! The closure of a set of items.
-ghost use Rattle.std.specs.Prelude.{◌≡◌, ◌+◌, ◌↔◌, ◌⊎◌, ℕ, All, IfOk, OnOk, length, map};
-ghost use Rattle.lrpar_grammar.specs.Grammar.{IsWellFormed, prods_len};
+ghost use Rattle.std.specs.Prelude.{◌≡◌, ◌<◌, ◌+◌, ◌↔◌, ◌⊎◌, ◌++◌, ◌∷◌, ℕ, [], All, IfOk, OnOk, length, map};
+ghost use Rattle.lrpar_grammar.specs.Grammar.{IsWellFormed, rules_len};
 ghost use Rattle.lrpar_states.specs.Graph.{ItemOf};
 ghost use Rattle.lrpar_first.specs.FirstRows.{AreFirsts, HaveRoom, mark_of, rows_of};
 ghost use Rattle.lrpar_build.specs.Brought.{HasIn, IsBrought};
-ghost use Rattle.lrpar_build.specs.Cores.{AreBringing, Brings, IsAmong, IsCoreOf, IsOfCore, IsOfRows, core_set};
+ghost use Rattle.lrpar_build.specs.Cores.{AreBringing, Brings, IsAmong, IsCoreOf, IsOfRows, IsOfRule, core_set};
 ghost use Rattle.lrpar_build.specs.ItemSets.{IsInClosure};
-ghost use Rattle.lrpar_build.specs.Kernels.{AreCores, IsKernel, IsPut};
+ghost use Rattle.lrpar_build.specs.Kernels.{AreCores, IsAhead, IsKernel};
 
 use crate::cores::CoreItems;
 use crate::reach::{rule_behind, spread};
 use lrpar_first::first::{add_first_before, clear_all};
 use lrpar_first::tokens::TokenSet;
 use lrpar_grammar::grammar::YaccGrammar;
-use lrpar_grammar::span::{PIdx, StorageIndex};
+use lrpar_grammar::span::{PIdx, RIdx, StorageIndex};
 use std::alloc::{AllocError, Global};
 
 /// The closure of the kernel's cores: they themselves, and with its lookaheads each production of each rule that comes with them. The last
@@ -46,7 +46,7 @@ pub(crate) fn closure<StorageT: StorageIndex>(
     Ok(closure)
 }
 
-// Appends each production of each rule that has lookaheads, with them.
+// Appends each production of each rule that has lookaheads, with them. The added rule has none.
 fn push_brought<StorageT: StorageIndex>(
     alloc: Global,
     grm: &YaccGrammar<StorageT>,
@@ -58,38 +58,60 @@ fn push_brought<StorageT: StorageIndex>(
     requires added { (t : ℕ) → ¬ (HasIn (rows_of brought.now) 0 t) }
     requires kernel { IsKernel grm.now (map (core_set StorageT.index) closure.old.items) }
     ensures items { OnOk result ((x : ItemOf) → IsAmong (map (core_set StorageT.index) closure.new.items) x
-        ↔ (IsAmong (map (core_set StorageT.index) closure.old.items) x ⊎ IsOfRows grm.now (rows_of brought.now) (prods_len grm.now) x)) }
+        ↔ (IsAmong (map (core_set StorageT.index) closure.old.items) x ⊎ IsOfRows grm.now (rows_of brought.now) x)) }
     ensures cores { OnOk result (AreCores grm.now (map (core_set StorageT.index) closure.new.items)) }
 {
-    for prod in 0..grm.prods_len() {
-        let pidx = PIdx(StorageT::from_index(prod).unwrap());
-        let rule = usize::from(grm.prod_to_rule(pidx));
-        push_one(alloc, pidx, &brought[rule], closure)?;
+    for rule in 1..grm.rules_len() {
+        let ridx = RIdx(StorageT::from_index(rule).unwrap());
+        push_rule(alloc, grm, ridx, &brought[rule], closure)?;
     }
     Ok(())
 }
 
-// Appends the production with these lookaheads, if there are any.
-fn push_one<StorageT: StorageIndex>(
+// Appends each production of the rule with these lookaheads, if there are any.
+fn push_rule<StorageT: StorageIndex>(
+    alloc: Global,
+    grm: &YaccGrammar<StorageT>,
+    ridx: RIdx<StorageT>,
+    tokens: &TokenSet,
+    closure: &mut Vec<CoreItems<StorageT>>,
+) -> Result<(), AllocError>
+    requires well_formed { IsWellFormed grm.now }
+    requires rule { StorageT.index ridx.0 < rules_len grm.now }
+    requires wide { length tokens.now.bits.items ≡ mark_of grm.now + 1 }
+    requires cores { AreCores grm.now (map (core_set StorageT.index) closure.old.items) }
+    requires ahead { All (IsAhead grm.now (StorageT.index ridx.0)) (map (core_set StorageT.index) closure.old.items) }
+    ensures items { OnOk result ((x : ItemOf) → IsAmong (map (core_set StorageT.index) closure.new.items) x
+        ↔ (IsAmong (map (core_set StorageT.index) closure.old.items) x
+        ⊎ IsOfRule grm.now (StorageT.index ridx.0) tokens.now.bits.items x)) }
+    ensures cores { OnOk result (AreCores grm.now (map (core_set StorageT.index) closure.new.items)) }
+    ensures ahead { OnOk result (All (IsAhead grm.now (StorageT.index ridx.0 + 1)) (map (core_set StorageT.index) closure.new.items)) }
+{
+    if !tokens.has_any() {
+        return Ok(());
+    }
+    for pidx in grm.rule_to_prods(ridx) {
+        push_core(alloc, *pidx, tokens, closure)?;
+    }
+    Ok(())
+}
+
+// Appends the production, its dot at the front, with these lookaheads.
+fn push_core<StorageT: StorageIndex>(
     alloc: Global,
     pidx: PIdx<StorageT>,
     tokens: &TokenSet,
     closure: &mut Vec<CoreItems<StorageT>>,
 ) -> Result<(), AllocError>
-    ensures items { OnOk result ((x : ItemOf) → IsAmong (map (core_set StorageT.index) closure.new.items) x
-        ↔ (IsAmong (map (core_set StorageT.index) closure.old.items) x
-        ⊎ IsOfCore (record { prod = StorageT.index pidx.0; dot = 0; tokens = tokens.now.bits.items }) x)) }
-    ensures put { OnOk result (IsPut (map (core_set StorageT.index) closure.old.items)
-        (record { prod = StorageT.index pidx.0; dot = 0; tokens = tokens.now.bits.items }) (map (core_set StorageT.index) closure.new.items)) }
+    ensures { OnOk result (map (core_set StorageT.index) closure.new.items ≡ map (core_set StorageT.index) closure.old.items
+        ++ record { prod = StorageT.index pidx.0; dot = 0; tokens = tokens.now.bits.items } ∷ []) }
 {
-    if tokens.has_any() {
-        let tokens = tokens.copy(alloc)?;
-        closure.push(CoreItems {
-            prod: pidx,
-            dot: 0,
-            tokens,
-        })?;
-    }
+    let tokens = tokens.copy(alloc)?;
+    closure.push(CoreItems {
+        prod: pidx,
+        dot: 0,
+        tokens,
+    })?;
     Ok(())
 }
 

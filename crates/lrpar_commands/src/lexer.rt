@@ -1,5 +1,5 @@
 //! The lexer of sums: one answer for each character of the text.
-ghost use Rattle.std.specs.Prelude.{◌≡◌, ◌+◌, ◌≤◌, IfOk, length};
+ghost use Rattle.std.specs.Prelude.{◌≡◌, ◌+◌, ◌≤◌, IfOk};
 ghost use Rattle.std.specs.Char.{len_utf8};
 ghost use Rattle.std.specs.Str.{IsCharBoundary};
 ghost use Rattle.lrpar_text.specs.Lines.{line_of, column_of, line_table};
@@ -24,8 +24,7 @@ pub(crate) const ID: u32 = 1;
 pub(crate) struct SumLexer<'input> {
     input: &'input str,
     lines: NewlineCache,
-    ghost starts_of_input: { lines.starts ≡ (line_table input.now).starts },
-    ghost len_of_input: { lines.len ≡ length input.now },
+    ghost lines_of_input: { lines ≡ line_table input.now },
 }
 
 impl<'input> SumLexer<'input> {

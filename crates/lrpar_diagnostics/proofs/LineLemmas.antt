@@ -7,7 +7,7 @@ use Rattle.std.proofs.lemmas.Bool.{cases_eq, cases_lt}
 use Rattle.std.proofs.lemmas.Bool.Decides.{nat_tests}
 use Rattle.std.proofs.lemmas.List.Sums.{prefix_len-drop_yes, prefix_len-drop_no, prefix_len-drop_all}
 use Rattle.std.proofs.lemmas.Str.{IsCharBoundary-after_ascii}
-use Rattle.lrpar_text.specs.Lines.{LineTable, is_line_feed, is_in_line, starts_line, line_end, line_table}
+use Rattle.lrpar_text.specs.Lines.{is_line_feed, is_in_line, starts_line, line_end}
 use Rattle.lrpar_diagnostics.specs.Columns.{repeated}
 use Rattle.lrpar_diagnostics.specs.Underline.{starts_behind, is_printed, printed_behind}
 
@@ -146,10 +146,6 @@ repeated_more zero c = append-nil (encode_utf8 c)
 repeated_more (suc n) c =
     let next : suc n + 1 ≡ suc (n + 1) = omega arith in
     ap (λ m. repeated m c) next ∙ ap (λ s. encode_utf8 c ++ s) (repeated_more n c) ∙ sym (append_assoc (encode_utf8 c) (repeated n c) (encode_utf8 c))
-
--- a table of lines by its parts
-pub table_of_parts : (t : LineTable) (src : List ℕ) → t.starts ≡ (line_table src).starts → t.len ≡ length src → t ≡ line_table src
-table_of_parts t src starts len = ap (λ s. record { starts = s; len = t.len }) starts ∙ ap (λ n. record { starts = (line_table src).starts; len = n }) len
 
 -- a line that isn't printed is the last
 pub hidden_is_last : (src : List ℕ) (b end : ℕ) → is_printed src end b ≡ false → end ≤ line_end src b

@@ -17,8 +17,7 @@ use unicode_width::UnicodeWidthStr;
 pub(crate) struct Source<'a> {
     src: &'a str,
     nlc: NewlineCache,
-    ghost starts_of_src: { nlc.starts ≡ (line_table src.now).starts },
-    ghost len_of_src: { nlc.len ≡ length src.now },
+    ghost lines_of_src: { nlc ≡ line_table src.now },
     ghost text_of_src: { ∥ IsUtf8 src.now ∥₁ },
 }
 

@@ -1,5 +1,5 @@
 //! The lexer of a text by rules.
-ghost use Rattle.std.specs.Prelude.{◌≡◌, IfOk, length};
+ghost use Rattle.std.specs.Prelude.{◌≡◌, IfOk};
 ghost use Rattle.std.specs.Str.{IsCharBoundary};
 ghost use Rattle.lrpar_text.specs.Lines.{column_of, line_of, line_table};
 ghost use Rattle.lrpar_lexer.specs.Lexing.{Lexes};
@@ -23,8 +23,7 @@ pub struct RuleLexer<'rules, 'input> {
     rules: &'rules [LexRule],
     input: &'input str,
     lines: NewlineCache,
-    ghost starts_of_input: { lines.starts ≡ (line_table input.now).starts },
-    ghost len_of_input: { lines.len ≡ length input.now },
+    ghost lines_of_input: { lines ≡ line_table input.now },
 }
 
 impl<'rules, 'input> RuleLexer<'rules, 'input> {

@@ -1,5 +1,5 @@
 //! Sums and products, computed as they are parsed: a lexer, actions and repairs as a user writes them.
-ghost use Rattle.std.specs.Prelude.{◌≡◌, ◌↔◌, IfOk, IsTrue, length};
+ghost use Rattle.std.specs.Prelude.{◌≡◌, ◌↔◌, IfOk, IsTrue};
 ghost use Rattle.lrpar_text.specs.Lines.{line_table};
 
 use lrpar::lines::NewlineCache;
@@ -16,8 +16,7 @@ use std::test::Fail;
 struct SumLexer<'input> {
     text: &'input str,
     lines: NewlineCache,
-    ghost starts_of_text: { lines.starts ≡ (line_table text.now).starts },
-    ghost len_of_text: { lines.len ≡ length text.now },
+    ghost lines_of_text: { lines ≡ line_table text.now },
 }
 
 impl<'input> Lexer<TokenTypes> for SumLexer<'input> {

@@ -1,4 +1,5 @@
 pub mod LineLemmas
+pub mod ColumnLemmas
 pub mod WordsLemmas
 pub mod OutlineLemmas
 pub mod StuckLemmas

@@ -1,6 +1,6 @@
 -- Lines and columns of a text of UTF-8 bytes. A line starts at byte 0 and after each line feed; it ends before its
 -- line feed, and the last one at the text's end.
-use Rattle.std.specs.Prelude.{ℕ, ◌+◌, ◌-◌, ◌==◌, Bool, not, List, length, count_by, filter, take, drop, slice_index, slice_range}
+use Rattle.std.specs.Prelude.{ℕ, ◌+◌, ◌-◌, ◌*◌, ◌/◌, ◌==◌, Bool, not, List, length, count_by, filter, map, take, drop, slice_index, slice_range}
 use Rattle.std.specs.List.{prefix_len, suffix_len, range_with_len}
 use Rattle.std.specs.Str.{chars}
 
@@ -36,11 +36,25 @@ column_of text i = 1 + length (chars (slice_range text (line_start text i) i))
 abbrev pub starts_line : List ℕ → ℕ → Bool
 starts_line text i = is_line_feed (slice_index text (i - 1))
 
--- where the lines of a text start but for the first, ascending, and how many bytes the text has
+-- a byte that begins a character; any other goes on with the one before it
+abbrev pub begins_char : ℕ → Bool
+begins_char byte = not (byte / 64 == 2)
+
+-- how many characters begin before byte i
+abbrev pub chars_before : List ℕ → ℕ → ℕ
+chars_before text i = count_by begins_char (take i text)
+
+-- how many begin before each of the bytes 0, 128, 256 and so on, as far as the text goes
+abbrev pub char_counts : List ℕ → List ℕ
+char_counts text = map (λ k. chars_before text (k * 128)) (range_with_len 0 (length text / 128 + 1))
+
+-- where the lines of a text start but for the first, ascending, how many characters begin before each 128th byte, and how many
+-- bytes the text has
 pub record LineTable : Type 0 where
   pub starts : List ℕ
+  pub counts : List ℕ
   pub len : ℕ
 
 -- those of a text
 abbrev pub line_table : List ℕ → LineTable
-line_table text = record { starts = filter (starts_line text) (range_with_len 1 (length text)); len = length text }
+line_table text = record { starts = filter (starts_line text) (range_with_len 1 (length text)); counts = char_counts text; len = length text }

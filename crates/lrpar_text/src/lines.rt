@@ -1,18 +1,24 @@
 //! Lines and columns of a text.
 ghost use Rattle.std.specs.Prelude.{◌≡◌, ◌↔◌, ◌≤◌, ℕ, List, IsSome, IfSome, IfOk, count_by, length, take};
 ghost use Rattle.std.specs.Str.{IsCharBoundary, IsUtf8};
-ghost use Rattle.lrpar_text.specs.Lines.{column_of, is_line_feed, line_end, line_of, line_start, line_table};
+ghost use Rattle.lrpar_text.specs.Lines.{begins_char, chars_before, column_of, is_line_feed, line_end, line_of, line_start, line_table};
 
 use crate::span::Span;
 use std::alloc::{AllocError, Global};
 use std::marker::Model;
 
+// How many bytes stand between two places of a text up to which the characters are counted.
+const STEP: usize = 128;
+
 /// Where the lines of a text start. Lines start at byte 0 and after each line feed, and count from 1. A line ends before its line
-/// feed or, the last one, at the text's end.
+/// feed or, the last one, at the text's end. Counts of characters go with them, so that a column in a long line is found as soon
+/// as one in a short line.
 #[derive(Debug, Drop)]
 pub struct NewlineCache {
     // where each line but the first starts
     starts: Vec<usize>,
+    // how many characters begin before each `STEP`th byte, from byte 0 on
+    counts: Vec<usize>,
     len: usize,
 }
 
@@ -22,24 +28,31 @@ impl Model for NewlineCache {
 
     ghost Value = { LineTable };
 
-    ghost view = { λ s. record { starts = s.starts.items; len = s.len } };
+    ghost view = { λ s. record { starts = s.starts.items; counts = s.counts.items; len = s.len } };
 
     ghost invariant = { λ s. All (λ start. 0 < start) s.starts.items };
 }
 
 impl NewlineCache {
-    /// The lines of a text. Takes time linear in it, and memory for each line feed.
+    /// The lines of a text. Takes time linear in it, and memory for each line feed and for each 128 bytes.
     pub fn new(alloc: Global, src: &str) -> Result<Self, AllocError>
         ensures { IfOk result (λ cache. cache ≡ line_table src.now) }
     {
         let mut starts = Vec::new(alloc);
+        let mut counts = vec![in alloc; 0]?;
+        let mut chars = 0;
         for (at, byte) in src.as_bytes().iter().enumerate() {
+            chars += usize::from(begins_char(*byte));
             if *byte == b'\n' {
                 starts.push(at + 1)?;
+            }
+            if (at + 1) % STEP == 0 {
+                counts.push(chars)?;
             }
         }
         Ok(NewlineCache {
             starts,
+            counts,
             len: src.len(),
         })
     }
@@ -58,7 +71,7 @@ impl NewlineCache {
 
     /// The line and the column of a byte, each counted from 1, and columns in characters: none past the length of the text, at
     /// which there is one, or inside a character. The text must be the one whose lines these are. Takes time logarithmic in the
-    /// number of lines, and linear in the bytes between the start of the line and the byte.
+    /// number of lines, however long they are.
     pub fn byte_to_line_num_and_col_num(&self, src: &str, byte: usize) -> Option<(usize, usize)>
         requires { self.now ≡ line_table src.now }
         ensures boundary { IsSome result ↔ IsCharBoundary src.now byte }
@@ -69,7 +82,8 @@ impl NewlineCache {
             return None;
         }
         let line = 1 + self.feeds_before(byte);
-        let column = 1 + src[self.line_start(byte)..byte].chars().count();
+        let in_front = self.chars_before(src, self.line_start(byte));
+        let column = 1 + self.chars_before(src, byte) - in_front;
         Some((line, column))
     }
 
@@ -91,6 +105,16 @@ impl NewlineCache {
         ensures count { (text : List ℕ) → self.now ≡ line_table text → result ≡ count_by is_line_feed (take byte text) }
     {
         self.starts.partition_point(|start| *start <= byte)
+    }
+
+    // How many characters begin before a byte. Looks at fewer than `STEP` bytes.
+    fn chars_before(&self, src: &str, byte: usize) -> usize
+        requires table { self.now ≡ line_table src.now }
+        requires within { byte ≤ length src.now }
+        ensures { result ≡ chars_before src.now byte }
+    {
+        let step = byte / STEP;
+        self.counts[step] + chars_begun(&src.as_bytes()[step * STEP..byte])
     }
 
     // Where the line of a byte starts.
@@ -116,4 +140,18 @@ impl NewlineCache {
             None => self.len,
         }
     }
+}
+
+// How many characters begin in bytes of a text.
+fn chars_begun(bytes: &[u8]) -> usize
+    ensures { result ≡ count_by begins_char bytes.now }
+{
+    bytes.iter().filter(|byte| begins_char(**byte)).count()
+}
+
+// Whether a byte begins a character; any other goes on with the one before it.
+fn begins_char(byte: u8) -> bool
+    ensures { result ≡ begins_char byte }
+{
+    byte / 64 != 2
 }

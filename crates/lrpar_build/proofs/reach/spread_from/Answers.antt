@@ -1,9 +1,9 @@
 use Rattle.std.proofs.Common.{◌<◌, ◌∷◌, ◌∙◌, sym, ap, arith, rules, length, map}
-use Rattle.std.proofs.lemmas.Bool.{OnFalse_at, OnFalse_from, OnTrue_at, OnTrue_from, false≢true}
+use Rattle.std.proofs.lemmas.Bool.{OnFalse_at, OnFalse_from, OnTrue_at, OnTrue_from}
 use Rattle.lrpar_grammar.specs.Grammar.{Nonterminal}
 use Rattle.lrpar_grammar.specs.Symbols.{symbol_of}
 use Rattle.lrpar_first.proofs.GrowthLemmas.{set_wide, sets_len}
-use Rattle.lrpar_build.proofs.SpreadLemmas.{brought_itself, spread_nothing, spread_to}
+use Rattle.lrpar_build.proofs.SpreadLemmas.{brought_itself, spread_to}
 use Rattle.lrpar_build.proofs.reach.spread_from.Goals as goal
 
 pub returns-in-None-clause-sound : goal.returns-in-None-clause-sound
@@ -11,15 +11,6 @@ returns-in-None-clause-sound g c = brought_itself c.args.grm.now _
 
 pub returns-in-None-clause-closed : goal.returns-in-None-clause-closed
 returns-in-None-clause-closed g c = λ r s t w is has_it first. absurd (c.in-None.ensures.rule r w is)
-
-pub returns-then-not-has_any-clause-sound : goal.returns-then-not-has_any-clause-sound
-returns-then-not-has_any-clause-sound g c = brought_itself c.args.grm.now _
-
-pub returns-then-not-has_any-clause-closed : goal.returns-then-not-has_any-clause-closed
-returns-then-not-has_any-clause-closed g c =
-    spread_nothing c.args.grm.now c.args.sets.now (g.StorageT.StorageIndex.index c.args.pidx.0) c.from-rule.result c.index-sets-rule.result
-    (c.from-rule.ensures ∙ c.prod_to_rule.ensures.rule) (rw (← c.prod_to_rule.ensures.rule) c.prod_to_rule.ensures.within) c.requires.room
-    (λ t some. false≢true (sym c.if-not-has_any.true ∙ c.has_any.ensures.1 (t, some)))
 
 pub bounds-sets-target : goal.bounds-sets-target
 bounds-sets-target g c =
@@ -39,10 +30,10 @@ unite_below-requires-clause-room g c =
 
 pub add_first_before-requires-clause-after : goal.add_first_before-requires-clause-after
 add_first_before-requires-clause-after g c =
-    set_wide c.args.grm.now c.args.sets.now c.from-rule.result c.index-sets-rule-in-Some.result (rw c.from-rule.ensures c.prod_to_rule.ensures.within) c.requires.room
+    set_wide c.args.grm.now c.args.sets.now c.from-rule.result c.index-sets-rule.result (rw c.from-rule.ensures c.prod_to_rule.ensures.within) c.requires.room
 
-pub returns-else-not-has_any : goal.returns-else-not-has_any
-returns-else-not-has_any g c =
+pub returns-in-Some : goal.returns-in-Some
+returns-in-Some g c =
     let index = g.StorageT.StorageIndex.index in
     let rest = map (symbol_of index) c.in-Some.rest.now in
     let to =
@@ -50,7 +41,7 @@ returns-else-not-has_any g c =
     (c.from-rule.ensures ∙ c.prod_to_rule.ensures.rule) (rw (← c.prod_to_rule.ensures.rule) c.prod_to_rule.ensures.within)
     (c.in-Some.ensures.rule ∙ ap (λ n. Nonterminal n ∷ rest) (sym c.from-target.ensures)) (rw c.from-target.ensures c.in-Some.ensures.within)
     c.tokens_len.ensures.len c.requires.room
-    c.index-sets-rule-in-Some.result c.index-sets-target.result c.unite_below.new.self c.add_first_before.new.set.bits.items c.clear.new.self.bits.items
+    c.index-sets-rule.result c.index-sets-target.result c.unite_below.new.self c.add_first_before.new.set.bits.items c.clear.new.self.bits.items
     c.clear.ensures.none c.add_first_before.ensures.tokens c.add_first_before.ensures.set c.unite_below.ensures.room c.unite_below.ensures.tokens in record {
       room = to.room;
       front = c.add_first_before.ensures.front;

@@ -1,6 +1,13 @@
-use Rattle.std.proofs.Common.{rules}
-use Rattle.std.proofs.lemmas.Str.{chars_from_encodes}
+use Rattle.std.proofs.Common.{◌≡◌, ap, ◌∙◌, rules, arith}
+use Rattle.std.specs.Str.{IsCharBoundary}
+use Rattle.lrpar_text.specs.Lines.{chars_before, line_start}
+use Rattle.lrpar_text.proofs.ColumnLemmas.{column_counted}
 use Rattle.lrpar_text.proofs.lines.NewlineCache.byte_to_line_num_and_col_num.Goals as goal
 
 pub returns-clause-column : goal.returns-clause-column
-returns-clause-column c = rw (← c.line_start.ensures.start c.args.src.now c.requires) (search (rules, chars_from_encodes))
+returns-clause-column c =
+    let text = c.args.src.now in
+    let in_front : c.chars_before-in_front.result ≡ chars_before text (line_start text c.args.byte) =
+    c.chars_before-in_front.ensures ∙ ap (chars_before text) (c.line_start.ensures.start text c.requires) in
+    let cut : IsCharBoundary text c.args.byte = search rules in
+    omega (arith, c.chars_before.ensures, in_front, column_counted text c.args.byte c.utf8.src cut)

@@ -1,0 +1,257 @@
+#!/usr/bin/env python3
+"""Runs each command of the real program with each of its reads and each of its writes failing, or being short, in turn.
+
+    fail-io.py
+
+Wants of a run, beside one in which nothing fails:
+
+- a file that can't be opened or read: status 2, and the line `lrpar: cannot read PATH`, or `lrpar: cannot read standard input`;
+- a write to standard output that fails: status 2, and the line `lrpar: cannot write standard output`;
+- a read or a write that is short or interrupted: the same answer;
+- a write to standard error that fails: the same status and the same standard output;
+- want of memory for a read or a write: status 2, and the line `lrpar: out of memory`;
+- always: what stands on standard output is a beginning of the right output, and what stands on standard error is a beginning
+  of the right text and perhaps the line of the fault.
+
+Prints how many calls of each kind each command makes, each run that is otherwise, and one closing line. It stands outside the
+gate. It needs Python 3.9, cc and glibc. LRPAR_PROGRAM is the path of the program, where that isn't the one that `./lrpar`
+builds.
+"""
+import errno
+import os
+import signal
+import subprocess
+import sys
+import tempfile
+from typing import NamedTuple
+
+HERE = os.path.dirname(os.path.abspath(__file__))
+BUILT = os.path.join(HERE, "..", "crates", "lrpar_program", "out", "lrpar_program")
+PROGRAM = os.path.abspath(os.environ.get("LRPAR_PROGRAM", BUILT))
+
+# How long a run may last, in seconds.
+PATIENCE = 60
+# No command here makes more calls of a kind.
+MOST_CALLS = 1_000
+
+NO_MEMORY = "lrpar: out of memory\n"
+NO_OUTPUT = "lrpar: cannot write standard output\n"
+
+# What may become of a call of each kind: the number of an error, `zero` or `short`.
+FAILURES = {
+    "open": [errno.EACCES, errno.EMFILE, errno.EIO, errno.ENOMEM, errno.EINTR],
+    "read": [errno.EIO, errno.EISDIR, errno.EAGAIN, errno.ENOMEM, errno.EINTR, "short"],
+    "out": [errno.EIO, errno.ENOSPC, errno.EPIPE, errno.EAGAIN, errno.ENOMEM, errno.EINTR, "zero", "short"],
+    "err": [errno.EIO, errno.ENOSPC, errno.EPIPE, errno.EAGAIN, errno.ENOMEM, errno.EINTR, "zero", "short"],
+}
+# Those that change nothing.
+HARMLESS = (errno.EINTR, "short")
+
+# The grammars *sum*, *conflicts*, *brackets* and *list*, lexers, repairs and texts. The long ones take several reads.
+FILES = {
+    "sum.y": "%% E: T '+' E | T; T: 'ID';",
+    "conflicts.y": "%start A %% A: 'a' 'b' | B 'b'; B: 'a' | C; C: 'a';",
+    "wrong.y": "%% E: 'a' F;",
+    "brackets.y": "%% E : 'N' | E '+' 'N' | '(' E ')';",
+    "brackets.lex": "n 'N'\n\\+ '+'\n\\( '('\n\\) ')'\n",
+    "brackets.repairs": "insert ')'\ninsert ')' delete\ninsert '+' shift insert ')'\n",
+    "wrong.lex": "n 'N'\n\\+ +\n",
+    "wrong.repairs": "insert ')'\ninsert\n",
+    "list.y": "%% L: L 'N' | ; // " + "a comment\n// " * 2_000,
+    "list.lex": "n 'N'\n" + "  \n" * 10_000,
+    "delete.repairs": "\n" * 10_000 + "delete\n",
+    "calc.repairs": "delete\ninsert 'INT'\n",
+    "broken": "(nn",
+    "whole": "((n+n))",
+    "unknown": "(n-n)",
+    "long": "n" * 100_000,
+    "empty": "",
+}
+
+SUMS = "2 + + 3\n\n(2 + 3) * 4\n"
+MANY_SUMS = "1 + 2\n99999999999999999999\n(\n" * 2_000
+
+# Each command's words, and its standard input.
+COMMANDS = [
+    (["demo", "a+b"], ""),
+    (["demo", "a++"], ""),
+    (["demo", "a-b"], ""),
+    (["demo", "+".join(["a"] * 3_000)], ""),
+    (["tree", "brackets.y", "brackets.lex", "whole"], ""),
+    (["tree", "brackets.y", "brackets.lex", "broken"], ""),
+    (["tree", "brackets.y", "brackets.lex", "unknown"], ""),
+    (["tree", "brackets.y", "brackets.lex", "broken", "brackets.repairs"], ""),
+    (["tree", "--shifts", "1", "brackets.y", "brackets.lex", "broken", "brackets.repairs"], ""),
+    (["tree", "list.y", "list.lex", "long"], ""),
+    (["tree", "--shifts", "2", "list.y", "list.lex", "empty", "delete.repairs"], ""),
+    (["tree", "wrong.y", "brackets.lex", "whole"], ""),
+    (["tree", "brackets.y", "wrong.lex", "whole"], ""),
+    (["tree", "brackets.y", "brackets.lex", "whole", "wrong.repairs"], ""),
+    (["tree", "--shifts", "0", "brackets.y", "brackets.lex", "whole"], ""),
+    (["tree", "brackets.y", "brackets.lex", "missing"], ""),
+    (["check", "sum.y", "2"], ""),
+    (["check", "sum.y", "1"], ""),
+    (["check", "conflicts.y", "2"], ""),
+    (["check", "wrong.y", "2"], ""),
+    (["conflicts", "sum.y"], ""),
+    (["conflicts", "conflicts.y"], ""),
+    (["conflicts", "wrong.y"], ""),
+    (["calc"], SUMS),
+    (["calc"], MANY_SUMS),
+    (["calc", "calc.repairs"], SUMS),
+    (["calc", "--shifts", "1", "calc.repairs"], MANY_SUMS),
+    (["calc", "--shifts", "2"], ""),
+    (["calc", "missing"], SUMS),
+    (["nothing"], ""),
+]
+
+
+class Answer(NamedTuple):
+    status: int
+    out: bytes
+    err: bytes
+
+
+class Failing(NamedTuple):
+    """A call that fails, and how; the shim leaves the path of its file."""
+
+    kind: str
+    at: int
+    how: object
+
+
+class Runs:
+    """Runs of the program in a folder, of which each is wanted to end in one way; and how many did."""
+
+    def __init__(self, folder, shim):
+        self.folder, self.shim, self.mark = folder, shim, os.path.join(folder, "mark")
+        self.passed = self.failed = 0
+
+    def answer(self, words, given, failing=None):
+        """the answer to the words"""
+        settings = dict(os.environ)
+        if failing:
+            settings.update(LD_PRELOAD=self.shim, FAIL_IO_MARK=self.mark)
+            settings.update(FAIL_IO_KIND=failing.kind, FAIL_IO_AT=str(failing.at), FAIL_IO_HOW=str(failing.how))
+        with open(os.path.join(self.folder, "standard-input"), "wb+") as content:
+            content.write(given.encode())
+            content.seek(0)
+            ran = subprocess.run(
+                [PROGRAM, *words], cwd=self.folder, env=settings, stdin=content, capture_output=True, timeout=PATIENCE
+            )
+        return Answer(ran.returncode, ran.stdout, ran.stderr)
+
+    def failed_path(self):
+        """the path of the file whose call failed, if there was that call"""
+        try:
+            with open(self.mark, encoding="utf-8") as mark:
+                path = mark.read()
+        except FileNotFoundError:
+            return None
+        os.remove(self.mark)
+        return path
+
+    def count(self, is_right, name, came):
+        if is_right:
+            self.passed += 1
+            return
+        self.failed += 1
+        print(f"failed: {name}: status {came.status}, standard output and standard error:")
+        print(came.out[-1_000:].decode(errors="replace"), came.err[-1_000:].decode(errors="replace"), flush=True)
+
+    def try_command(self, words, given):
+        """lets each call of a command fail in each way"""
+        name = " ".join(words)[:70]
+        right = self.answer(words, given)
+        self.count(right.status in (0, 1, 2), f"{name}: nothing fails", right)
+        calls = [f"{kind} {self.try_kind(name, words, given, right, kind)}" for kind in FAILURES]
+        print(f"{name}: {', '.join(calls)}", flush=True)
+
+    def try_kind(self, name, words, given, right, kind):
+        """lets each call of one kind fail in each way, and gives how many there are"""
+        for at in range(1, MOST_CALLS):
+            for how in FAILURES[kind]:
+                came = self.answer(words, given, Failing(kind, at, how))
+                path = self.failed_path()
+                if path is None:
+                    self.count(came == right, f"{name}: no {kind} {at}", came)
+                    return at - 1
+                told = errno.errorcode.get(how, how)
+                self.count(is_right(right, came, Failing(kind, at, how), path, self.folder), f"{name}: {kind} {at}: {told}", came)
+        self.count(False, f"{name}: fewer than {MOST_CALLS} calls of {kind}", right)
+        return MOST_CALLS
+
+
+def is_right(right, came, failing, path, folder):
+    """whether the answer is what is wanted where a call for the file at the path fails"""
+    if failing.how in HARMLESS:
+        return came == right
+    if failing.kind == "err":
+        return came.status == right.status and came.out == right.out and is_part_of(right.err, came.err)
+    line = fault_line(failing, os.path.relpath(path, folder) if os.path.isabs(path) else path)
+    return came.status == 2 and right.out.startswith(came.out) and ends_in(right.err, came.err, line.encode())
+
+
+def fault_line(failing, path):
+    """the line of the fault"""
+    if failing.how == errno.ENOMEM:
+        return NO_MEMORY
+    return NO_OUTPUT if failing.kind == "out" else f"lrpar: cannot read {path}\n"
+
+
+def is_part_of(text, part):
+    """whether the part is the text but for what one write lost"""
+    begin = os.path.commonprefix([text, part])
+    return text.endswith(part[len(begin):])
+
+
+def ends_in(text, came, line):
+    """whether a beginning of the text came, and then the line"""
+    return came.endswith(line) and text.startswith(came[: len(came) - len(line)])
+
+
+def try_closed_pipe(runs, words, given):
+    """writes to a pipe that nobody reads any more, with the signal that this raises"""
+    reader, writer = os.pipe()
+    os.close(reader)
+    right = runs.answer(words, given)
+    ran = subprocess.run([PROGRAM, *words], cwd=runs.folder, input=given.encode(), stdout=writer, stderr=subprocess.PIPE)
+    os.close(writer)
+    came = Answer(ran.returncode, b"", ran.stderr)
+    is_well = came.status == 2 and ends_in(right.err, came.err, NO_OUTPUT.encode()) if right.out else came == right
+    runs.count(is_well, f"{' '.join(words)[:70]}: a closed pipe", came)
+
+
+def try_full_device(runs, words, given):
+    """writes to a device that is full"""
+    right = runs.answer(words, given)
+    with open("/dev/full", "wb") as full:
+        ran = subprocess.run([PROGRAM, *words], cwd=runs.folder, input=given.encode(), stdout=full, stderr=subprocess.PIPE)
+    came = Answer(ran.returncode, b"", ran.stderr)
+    is_well = came.status == 2 and ends_in(right.err, came.err, NO_OUTPUT.encode()) if right.out else came == right
+    runs.count(is_well, f"{' '.join(words)[:70]}: a full device", came)
+
+
+def main():
+    if not os.access(PROGRAM, os.X_OK):
+        sys.exit(f"no program at {PROGRAM}")
+    with tempfile.TemporaryDirectory(prefix="fail-io.") as folder:
+        folder = os.path.realpath(folder)
+        shim = os.path.join(folder, "fail_io.so")
+        source = os.path.join(HERE, "fail_io.c")
+        if subprocess.run(["cc", "-O1", "-Wall", "-shared", "-fPIC", "-o", shim, source]).returncode != 0:
+            sys.exit("cannot build tools/fail_io.c")
+        for name, text in FILES.items():
+            with open(os.path.join(folder, name), "w", encoding="utf-8") as out:
+                out.write(text)
+        runs = Runs(folder, shim)
+        for words, given in COMMANDS:
+            runs.try_command(words, given)
+            try_closed_pipe(runs, words, given)
+            try_full_device(runs, words, given)
+    print(f"{runs.passed} passed, {runs.failed} failed")
+    return 1 if runs.failed else 0
+
+
+if __name__ == "__main__":
+    sys.exit(main())
