@@ -178,7 +178,7 @@ fn fault_of(
 }
 
 /// Adds what comes of the second check.
-pub fn push_told(came: &mut String, fault: Option<CheckFault>) -> Result<(), Fault> {
+pub(crate) fn push_told(came: &mut String, fault: Option<CheckFault>) -> Result<(), Fault> {
     match fault {
         None => Ok(came.push_str("then checked\n")?),
         Some(fault) => {
@@ -189,7 +189,7 @@ pub fn push_told(came: &mut String, fault: Option<CheckFault>) -> Result<(), Fau
 }
 
 /// The fault as one that is told of a table, which want of memory isn't.
-pub fn told(fault: CheckFault) -> Result<CheckFault, Fault> {
+pub(crate) fn told(fault: CheckFault) -> Result<CheckFault, Fault> {
     match fault {
         CheckFault::Memory => Err(Fault::Memory),
         fault => Ok(fault),

@@ -246,7 +246,7 @@ impl<'t, 'a> Hand<'t, 'a> {
 }
 
 /// The checked table of the lines of a case, made by each of the two calls.
-pub fn tables_by_hand(alloc: Global, case: Case<'_, '_>) -> Result<Tables, Fault> {
+pub(crate) fn tables_by_hand(alloc: Global, case: Case<'_, '_>) -> Result<Tables, Fault> {
     let by_rows = Hand::of(case).data(alloc, By::Rows)?;
     let by_entries = Hand::of(case).data(alloc, By::Entries)?;
     Ok(Tables {

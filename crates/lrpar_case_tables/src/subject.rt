@@ -46,7 +46,7 @@ pub fn tables_of(alloc: Global, case: Case<'_, '_>) -> Result<Tables, Fault> {
 
 // The tables of a case `grammar`: `text` is the grammar's text, and `cap` the cap.
 fn tables_of_grammar(alloc: Global, case: Case<'_, '_>) -> Result<Tables, Fault> {
-    let (text, cap) = (case.text(alloc, "text")?, cap_of(case)?);
+    let (text, cap) = (case.text(alloc, "text")?, cap_at(case, "cap")?);
     tables_of_text(alloc, case, text.as_str(), cap)
 }
 
@@ -65,13 +65,8 @@ fn tables_of_text(
     })
 }
 
-/// The cap that a case names.
-pub fn cap_of(case: Case<'_, '_>) -> Result<u16, Fault> {
-    cap_at(case, "cap")
-}
-
 /// The grammar of a text.
-pub fn grammar_of(
+pub(crate) fn grammar_of(
     alloc: Global,
     case: Case<'_, '_>,
     text: &str,
@@ -111,8 +106,8 @@ fn read_back(
     checked(alloc, case, grm, items, rows, data.cap())
 }
 
-/// The checked table of these parts.
-pub fn checked(
+// The checked table of these parts.
+fn checked(
     alloc: Global,
     case: Case<'_, '_>,
     grm: YaccGrammar<u32>,
@@ -133,7 +128,7 @@ pub fn checked(
 }
 
 /// The full rows of a table, without its conflicts.
-pub fn rows_of(alloc: Global, table: &StateTable<u32>) -> Result<TableRows<u32>, Fault> {
+pub(crate) fn rows_of(alloc: Global, table: &StateTable<u32>) -> Result<TableRows<u32>, Fault> {
     let (mut actions, mut gotos) = (Vec::new(alloc), Vec::new(alloc));
     for number in 0..table.states_len() {
         if let Ok(state) = u32::try_from(number) {
@@ -197,8 +192,8 @@ fn goto_at(table: &StateTable<u32>, state: StIdx<u32>, rule: usize) -> Option<St
     }
 }
 
-/// The items of each state of a graph.
-pub fn items_of(alloc: Global, graph: &StateGraph<u32>) -> Result<Vec<Vec<Item<u32>>>, Fault> {
+// The items of each state of a graph.
+fn items_of(alloc: Global, graph: &StateGraph<u32>) -> Result<Vec<Vec<Item<u32>>>, Fault> {
     let mut rows = Vec::new(alloc);
     for number in 0..graph.states_len() {
         rows.push(Vec::from_slice(alloc, items_at(graph, number))?)?;
