@@ -10,10 +10,12 @@ pub mod SettleLemmas
 pub mod StackReductionLemmas
 pub mod OverlayLemmas
 pub mod OverSettleLemmas
+pub mod ExpectedLemmas
 pub mod EntryTests
 pub mod RunLemmas
 pub mod OneTreeLemmas
 pub mod FirstTokenLemmas
 pub mod CompleteLemmas
 pub mod SentenceLemmas
+pub mod ExpectedRunLemmas
 pub mod ItemwiseLemmas

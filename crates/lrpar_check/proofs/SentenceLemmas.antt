@@ -155,11 +155,18 @@ module _ {X : Type 0} (token : X → ℕ) (g : Grammar) (table : Table) (lexemes
       stops st i ps settled (omega (arith, place, inside)) (subst (λ (t : ℕ). Settles g table t st ps settled) same settles) goes_not
 
 -- the lexemes at the front stay where they are, whatever follows them
-front_get : {X : Type 0} (n k : ℕ) (xs rest : List X) → k < n → k < length xs → slice_get (take n xs ++ rest) k ≡ slice_get xs k
+pub front_get : {X : Type 0} (n k : ℕ) (xs rest : List X) → k < n → k < length xs → slice_get (take n xs ++ rest) k ≡ slice_get xs k
 front_get zero k xs rest low within = absurd (omega arith)
 front_get (suc n) k [] rest low within = absurd (omega arith)
 front_get (suc n) zero (x ∷ xs) rest low within = refl
 front_get (suc n) (suc k) (x ∷ xs) rest low within = front_get n k xs rest (omega arith) (omega arith)
+
+-- over a safe table lexemes over which the run comes to accept are a sentence
+pub is_taken : {X : Type 0} (token : X → ℕ) (g : Grammar) (graph : Graph) (table : Table) → IsWellFormed g → IsClosed table → IsSafe g graph table
+    → (lexemes : List X) (prods : List ℕ) → RunsTo token g table lexemes prods Accepted → IsSentence token g lexemes
+is_taken token g graph table formed closed safe lexemes prods runs =
+    accepted_is_sentence token g table (never_sticks g graph table closed safe formed) lexemes (table.start ∷ []) 0 prods Accepted runs refl
+    (record { symbols = []; path = (refl, tt); trees = Nil; fits = tt; leaves_are = refl })
 
 module _ {X : Type 0} (token : X → ℕ) (g : Grammar) (graph : Graph) (table : Table) (formed : IsWellFormed g) (closed : IsClosed table)
     (safe : IsSafe g graph table) (complete : IsComplete g graph table) where
@@ -174,12 +181,6 @@ module _ {X : Type 0} (token : X → ℕ) (g : Grammar) (graph : Graph) (table :
       let same = runs_one_way token g table (leaves tree) (table.start ∷ []) 0 (productions tree) (productions other) Accepted Accepted
       (takes tree (leaves tree) fits refl) (takes other (leaves tree) fit (sym are)) in
       same_tree token g tree other (Nonterminal g.start) fits fit same.0 are
-
-  -- lexemes over which the run comes to accept
-  is_taken : (lexemes : List X) (prods : List ℕ) → RunsTo token g table lexemes prods Accepted → IsSentence token g lexemes
-  is_taken lexemes prods runs =
-      accepted_is_sentence token g table (never_sticks g graph table closed safe formed) lexemes (table.start ∷ []) 0 prods Accepted runs refl
-      (record { symbols = []; path = (refl, tt); trees = Nil; fits = tt; leaves_are = refl })
 
   -- the front of a list at which the run stops
   no_front : (lexemes : List X) (prods : List ℕ) (stop : Stop) → RunsTo token g table lexemes prods (Stopped stop) → stop.place < length lexemes
@@ -200,7 +201,7 @@ module _ {X : Type 0} (token : X → ℕ) (g : Grammar) (graph : Graph) (table :
     only = λ tree fits. takes tree (leaves tree) fits refl;
     exact = λ lexemes. (
       λ sentence. (productions sentence.0, takes sentence.0 lexemes sentence.1 sentence.2),
-      λ run. is_taken lexemes run.0 run.1,
+      λ run. is_taken token g graph table formed closed safe lexemes run.0 run.1,
     );
     one = only_one;
     prefix = no_front;

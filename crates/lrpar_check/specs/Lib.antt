@@ -8,9 +8,11 @@ pub mod StackReduction
 pub mod Entrywise
 pub mod Checked
 pub mod Overlay
+pub mod Expected
 pub mod Run
 pub mod RunLaws
 pub mod Completeness
 pub mod Complete
 pub mod CompleteRuns
+pub mod ExpectedRuns
 pub mod Itemwise

@@ -5,6 +5,7 @@ ghost use Rattle.lrpar_grammar.specs.Sentence.{LexemeFacts};
 ghost use Rattle.lrpar_grammar.specs.Sum.{sum_grammar};
 ghost use Rattle.lrpar_check.specs.Chain.{AreChainsShort, BoundsReductions, IsLongChain};
 ghost use Rattle.lrpar_check.specs.CompleteRuns.{CompleteTablesTakeSentences};
+ghost use Rattle.lrpar_check.specs.ExpectedRuns.{CheckedTablesEndAtSentences, CompleteTablesExpectSentences};
 ghost use Rattle.lrpar_check.specs.Path.{CheckedRunsNeverStick, IsPath};
 ghost use Rattle.lrpar_check.specs.Reduction.{SettlesOneWay, Settles};
 ghost use Rattle.lrpar_check.specs.Stack.{IsStack};
@@ -69,4 +70,14 @@ pub fn sum_table_has_chains()
 pub fn complete_tables_take_sentences<LexemeT>()
     ensures takes { CompleteTablesTakeSentences LexemeT }
     ensures facts_taken { CompleteTablesTakeSentences LexemeFacts }
+{}
+
+/// Over lexemes of any type, and over those that contracts speak of: after lexemes that the run of a checked table feeds, the
+/// end token may come next only where they are a sentence; and where the table is complete, exactly where they are, and so may
+/// each token with which some sentence goes on.
+pub fn complete_tables_expect_sentences<LexemeT>()
+    ensures ends { CheckedTablesEndAtSentences LexemeT }
+    ensures expects { CompleteTablesExpectSentences LexemeT }
+    ensures facts_end { CheckedTablesEndAtSentences LexemeFacts }
+    ensures facts_expect { CompleteTablesExpectSentences LexemeFacts }
 {}
