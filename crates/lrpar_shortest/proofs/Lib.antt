@@ -9,4 +9,5 @@ pub mod ArrivalLemmas
 pub mod BackLemmas
 pub mod StartLemmas
 pub mod GrowthLemmas
+pub mod ReachedLemmas
 pub mod DescendLemmas

@@ -1,6 +1,6 @@
 -- The rules that a grammar reaches from its start.
-use Rattle.std.specs.Prelude.{◌≡◌, ◌<◌, ℕ, Bool, Contains, IsTrue, List, false, slice_index_or}
-use Rattle.lrpar_grammar.specs.Grammar.{Grammar, GrammarSymbol, Nonterminal, Terminal, prods_len, rule_of, symbols_of}
+use Rattle.std.specs.Prelude.{◌≡◌, ◌<◌, ◌↔◌, ℕ, Bool, Contains, IsTrue, List, count_by, false, length, not, slice_index_or}
+use Rattle.lrpar_grammar.specs.Grammar.{Grammar, GrammarSymbol, Nonterminal, Terminal, prods_len, rule_of, rules_len, symbols_of}
 use Rattle.lrpar_grammar.specs.Tree.{Tree}
 use Rattle.lrpar_shortest.specs.Texts.{IsTreeOf}
 
@@ -27,6 +27,35 @@ pub record IsBarren (g : Grammar) (r : ℕ) : Type 0 where
   pub reached : IsReachedRule g r
   pub none : ¬ (HasTree g r)
 
+-- and each rule before it that is reached has one
+pub record IsFirstBarren (g : Grammar) (r : ℕ) : Type 0 where
+  pub barren : IsBarren g r
+  pub first : (other : ℕ) → other < r → IsReachedRule g other → HasTree g other
+
 -- whether rule r is marked; out of range, it isn't
 abbrev pub is_marked : List Bool → ℕ → Bool
 is_marked marks r = slice_index_or marks r false
+
+-- a token, or a rule that is marked
+abbrev pub IsMarkedSymbol : List Bool → GrammarSymbol → Type 0
+IsMarkedSymbol marks (Nonterminal r) = IsTrue (is_marked marks r)
+IsMarkedSymbol marks (Terminal t) = Unit {0}
+
+-- marks of a grammar's rules: the added rule is marked, and no rule that isn't reached
+pub record AreMarked (g : Grammar) (marks : List Bool) : Type 0 where
+  pub rules : length marks ≡ rules_len g
+  pub added : IsTrue (is_marked marks 0)
+  pub reached : (r : ℕ) → IsTrue (is_marked marks r) → IsReachedRule g r
+
+-- where the rule of production p is marked, so is each one on its right side
+abbrev pub MarksOn : Grammar → List Bool → ℕ → Type 0
+MarksOn g marks p = IsTrue (is_marked marks (rule_of g p)) → (s : GrammarSymbol) → Contains (symbols_of g p) s → IsMarkedSymbol marks s
+
+-- all rules that are reached are marked, and no others
+pub record AreAllMarked (g : Grammar) (marks : List Bool) : Type 0 where
+  pub rules : length marks ≡ rules_len g
+  pub exact : (r : ℕ) → IsTrue (is_marked marks r) ↔ IsReachedRule g r
+
+-- how many rules aren't marked
+abbrev pub unmarked : List Bool → ℕ
+unmarked marks = count_by not marks

@@ -1,19 +1,21 @@
 //! Shortest texts of rules and symbols, and their trees.
-ghost use Rattle.std.specs.Prelude.{◌≡◌, ◌∷◌, ◌++◌, ℕ, [], IfOk, OnOk, map};
+ghost use Rattle.std.specs.Prelude.{◌≡◌, ◌∷◌, ◌++◌, ℕ, [], IfOk, MatchOption, OnOk, map};
 ghost use Rattle.lrpar_grammar.specs.Grammar.{Grammar};
 ghost use Rattle.lrpar_grammar.specs.Symbols.{symbol_of};
 ghost use Rattle.lrpar_grammar.specs.Tree.{Tree, Forest};
 ghost use Rattle.lrpar_shortest.specs.Choices.{AreShortest};
 ghost use Rattle.lrpar_shortest.specs.Lens.{len_at, total_len};
 ghost use Rattle.lrpar_shortest.specs.Moves.{forest_moves, moves_in, moves_of};
+ghost use Rattle.lrpar_shortest.specs.Reached.{EachReachedHasTree, IsFirstBarren};
 ghost use Rattle.lrpar_shortest.specs.Texts.{AreShortestTrees, BeginWith, CanBeginWith, HaveTrees, IsShortestIfAny, IsShortestTree, IsTreeOf};
 
 use crate::descend::push_beginning;
 use crate::moves::Move;
+use crate::reached::barren;
 use crate::settle::{Choice, len_of, settled, total_len};
 use crate::unfold::{push_symbol, push_symbols};
 use lrpar_grammar::grammar::YaccGrammar;
-use lrpar_grammar::span::{StorageIndex, Symbol, TIdx};
+use lrpar_grammar::span::{RIdx, StorageIndex, Symbol, TIdx};
 use std::alloc::{AllocError, Global};
 use std::marker::Model;
 
@@ -118,5 +120,20 @@ impl<StorageT: StorageIndex> Shortest<StorageT> {
             × (moves_in StorageT.index out.new.items ≡ moves_in StorageT.index out.old.items ++ forest_moves trees)) }
     {
         push_beginning(alloc, grm, &self.choices, out, symbols, first)
+    }
+
+    /// The first rule, by its number, that the grammar reaches from its start and that derives no text, if there is one.
+    ///
+    /// It goes over the productions until no rule more is reached: few times in practice, and at most one more than there are rules.
+    /// Memory grows with the rules. An `Err` comes where memory doesn't suffice.
+    pub fn barren(
+        &self,
+        alloc: Global,
+        grm: &YaccGrammar<StorageT>,
+    ) -> Result<Option<RIdx<StorageT>>, AllocError>
+        requires shortest { AreShortest grm.now usize.MAX self.now }
+        ensures { IfOk result (λ found. MatchOption found (EachReachedHasTree grm.now) (λ rule. IsFirstBarren grm.now (StorageT.index rule.0))) }
+    {
+        barren(alloc, grm, &self.choices)
     }
 }
