@@ -20,7 +20,7 @@ pub fn outcome(alloc: Global, case: Case<'_, '_>) -> Result<String, Fault> {
 }
 
 /// What is asked for of the grammar, or why there is none.
-pub(crate) fn shown(
+pub fn shown(
     alloc: Global,
     case: Case<'_, '_>,
     made: Result<YaccGrammar<u8>, GrammarFault>,

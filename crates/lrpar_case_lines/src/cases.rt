@@ -134,9 +134,9 @@ pub fn value_of<'a>(lines: &[Line<'a>]) -> Option<(&'a str, usize)> {
     }
 }
 
-// The text of the first of these lines: its value, in which escapes are read, and then the lines of text below it, with a line feed
-// behind each.
-fn bytes_of(alloc: Global, lines: &[Line<'_>]) -> Result<Vec<u8>, Fault> {
+/// The text of the first of these lines: its value, in which escapes are read, and then the lines of text below it, with a line feed
+/// behind each.
+pub fn bytes_of(alloc: Global, lines: &[Line<'_>]) -> Result<Vec<u8>, Fault> {
     let (value, number) = value_of(lines).unwrap_or(("", 0));
     bytes_below(alloc, value, number, lines.get(1..).unwrap_or(&[]))
 }
