@@ -1,6 +1,7 @@
 -- Links put behind others, and the marks of their rules.
 use Rattle.std.proofs.Common.{◌≡◌, ◌<◌, ◌≤◌, ◌+◌, ◌*◌, ◌⊎◌, ◌∙◌, refl, sym, ap, subst, inl, inr, arith, ℕ, zero, suc, Bool, true, false, cond, not, IsTrue, List, [], ◌∷◌, ◌++◌, All, drop, length, set, get_or}
-use Rattle.std.proofs.lemmas.Bool.{cases_eq, false≢true}
+use Rattle.std.specs.Bool.{OnTrue}
+use Rattle.std.proofs.lemmas.Bool.{OnTrue_from, cases_eq, false≢true}
 use Rattle.std.proofs.lemmas.List.{append-nil, append_assoc, get_or-set_other, get_or-set_same, get_or_append_left, get_or_at, get_or_read, length-append, length-set}
 use Rattle.std.proofs.lemmas.List.Sums.{count_by-le-length, sum_by-set}
 use Rattle.std.proofs.lemmas.List.Elements.{All-append, All-cons, All-nil, All-weaker}
@@ -143,3 +144,11 @@ module _ (rules : ℕ) (links : List LinkOf) (any asked : List Bool) (marks : Ar
 pub linked_put : (links : List LinkOf) (x : LinkOf) (new : List LinkOf) (asked : Bool) → new ≡ links ++ x ∷ [] → x.asked ≡ asked → HasLink new asked x.rule
 linked_put links x new asked put is =
     subst (λ (b : Bool). HasLink new b x.rule) is (subst (λ (xs : List LinkOf). HasLink xs x.asked x.rule) (sym put) (HasLink-put links x))
+
+-- a rule that is marked is linked
+pub linked_by : (links : List LinkOf) (bits : List Bool) (kind k : Bool) → ((r : ℕ) → IsTrue (has bits r) → HasLink links kind r) → k ≡ kind → (n r : ℕ) → n ≡ r
+    → n < length bits → (b : Bool) → b ≡ get_or bits n b → OnTrue b (HasLink links k r)
+linked_by links bits kind k linked is n r same low b read =
+    OnTrue_from b (HasLink links k r) (λ set.
+    let marked : IsTrue (has bits n) = sym (get_or_read bits n b low read false) ∙ set in
+    subst (λ (m : ℕ). HasLink links k m) same (subst (λ (c : Bool). HasLink links c n) (sym is) (linked n marked)))

@@ -117,3 +117,8 @@ abbrev pub LinkAll : Grammar → (ItemOf → Type 0) → ℕ → List LinkOf →
 LinkAll g set token links =
     (y : ItemOf) (asked : Bool) → set y → y.dot ≡ 0 → y.prod ≢ start_prod g → (IsTrue asked → y.token ≡ token)
     → HasLink links asked (rule_of g y.prod)
+
+-- each of these items that is one of rule r has a link of it
+abbrev pub LinkRule : Grammar → (ItemOf → Type 0) → ℕ → List LinkOf → ℕ → Bool → Type 0
+LinkRule g set token links r asked =
+    (y : ItemOf) → set y → y.dot ≡ 0 → y.prod ≢ start_prod g → (IsTrue asked → y.token ≡ token) → rule_of g y.prod ≡ r → HasLink links asked r

@@ -11,7 +11,7 @@ ghost use Rattle.lrpar_shortest.specs.Ways.{steps_of, symbols_in};
 ghost use Rattle.lrpar_examples.specs.Climbing.{AreUpLinks, EndsLink, HasClimbed, HasFinished, HasItemFor, HasRest, IsWay, state_before, up_of};
 ghost use Rattle.lrpar_examples.specs.Links.{HasLink, IsBegunItem, IsStep, link_at, link_of, links_of};
 
-use crate::links::{Link, links};
+use crate::links::{Link, links_to};
 use lrpar_first::tokens::TokenSet;
 use lrpar_grammar::grammar::YaccGrammar;
 use lrpar_grammar::span::{PIdx, RIdx, StIdx, StorageIndex, TIdx};
@@ -140,7 +140,8 @@ fn climb_within<StorageT: StorageIndex>(
         (StorageT.index up.prod.0) up.dot up.asked) }
 {
     let _start = grm.start_prod();
-    let links = links(alloc, grm, firsts, graph, state, token)?;
+    let rule = grm.prod_to_rule(prod);
+    let links = links_to(alloc, grm, firsts, graph, state, token, rule, asked)?;
     climb_links(alloc, grm, shortest, &links, prod, asked, token, out)
 }
 

@@ -5,7 +5,8 @@ ghost use Rattle.lrpar_states.specs.Graph.{HasCore, graph_len};
 ghost use Rattle.lrpar_first.specs.FirstRows.{AreFirsts, mark_of, rows_of};
 ghost use Rattle.lrpar_first.specs.Tokens.{has};
 ghost use Rattle.lrpar_build.specs.Canonical.{IsCanonical, sets_of};
-ghost use Rattle.lrpar_examples.specs.Links.{AreBegun, AreLinks, AreMarks, AreNoted, AreNotedOf, ArePut, HasLink, IsBegunLink, IsLinkBelow, IsNotedCore, IsStep, LinkAll, link_of, links_of};
+ghost use Rattle.std.specs.Bool.{OnFalse, OnTrue};
+ghost use Rattle.lrpar_examples.specs.Links.{AreBegun, AreLinks, AreMarks, AreNoted, AreNotedOf, ArePut, HasLink, IsBegunLink, IsLinkBelow, IsNotedCore, IsStep, LinkRule, link_of, links_of};
 
 use crate::begins::{can_begin, rule_behind};
 use lrpar_first::tokens::TokenSet;
@@ -38,29 +39,33 @@ struct Found<StorageT> {
     asked: Vec<bool>,
 }
 
-/// Links of all rules that the state's items begin with, each from an item before it, or from one that is there without closure.
-pub(crate) fn links<StorageT: StorageIndex>(
+/// Links of rules that the state's items begin with, each from an item before it, or from one that is there without closure, as many as it
+/// takes to have one of this rule. They are found from the items that are there without closure on.
+pub(crate) fn links_to<StorageT: StorageIndex>(
     alloc: Global,
     grm: &YaccGrammar<StorageT>,
     firsts: &[TokenSet],
     graph: &StateGraph<StorageT>,
     state: StIdx<StorageT>,
     token: TIdx<StorageT>,
+    rule: RIdx<StorageT>,
+    asked: bool,
 ) -> Result<Vec<Link<StorageT>>, AllocError>
     requires firsts { AreFirsts grm.now (rows_of firsts.now) }
     requires canonical { IsCanonical grm.now graph.now }
     requires state { StorageT.index state.0 < graph_len graph.now }
     requires token { StorageT.index token.0 < mark_of grm.now }
+    requires rule { StorageT.index rule.0 < rules_len grm.now }
     ensures links { IfOk result (λ links. AreLinks grm.now (sets_of graph.now (StorageT.index state.0)) (StorageT.index token.0)
         (links_of StorageT.index links.items)) }
-    ensures all { IfOk result (λ links. LinkAll grm.now (sets_of graph.now (StorageT.index state.0)) (StorageT.index token.0)
-        (links_of StorageT.index links.items)) }
+    ensures linked { IfOk result (λ links. LinkRule grm.now (sets_of graph.now (StorageT.index state.0)) (StorageT.index token.0)
+        (links_of StorageT.index links.items) (StorageT.index rule.0) asked) }
 {
     let _start = grm.start_prod();
     let mut found = nothing_found(alloc, grm.rules_len())?;
     begin(grm, firsts, graph, state, token, &mut found)?;
     let mut at = 0;
-    'links: while at < found.links.len() {
+    'links: while goes_on(&found, at, rule, asked) {
         let link = found.links[at];
         note_rule(grm, firsts, token, link, at, &mut found)?;
         at += 1;
@@ -71,6 +76,41 @@ pub(crate) fn links<StorageT: StorageIndex>(
         asked: _,
     } = found;
     Ok(links)
+}
+
+// Whether there are links from this number on, and none yet of the rule.
+fn goes_on<StorageT: StorageIndex>(
+    found: &Found<StorageT>,
+    at: usize,
+    rule: RIdx<StorageT>,
+    asked: bool,
+) -> bool
+    requires marks { AreMarks (length found.now.any.items) (links_of StorageT.index found.now.links.items) found.now.any.items found.now.asked.items }
+    requires rule { StorageT.index rule.0 < length found.now.any.items }
+    ensures more { OnTrue result (at < length found.now.links.items) }
+    ensures done { OnFalse result ((length found.now.links.items ≤ at)
+        ⊎ HasLink (links_of StorageT.index found.now.links.items) asked (StorageT.index rule.0)) }
+{
+    if is_linked(found, rule, asked) {
+        return false;
+    }
+    at < found.links.len()
+}
+
+// Whether there is a link of the rule.
+fn is_linked<StorageT: StorageIndex>(
+    found: &Found<StorageT>,
+    rule: RIdx<StorageT>,
+    asked: bool,
+) -> bool
+    requires marks { AreMarks (length found.now.any.items) (links_of StorageT.index found.now.links.items) found.now.any.items found.now.asked.items }
+    requires rule { StorageT.index rule.0 < length found.now.any.items }
+    ensures { OnTrue result (HasLink (links_of StorageT.index found.now.links.items) asked (StorageT.index rule.0)) }
+{
+    if asked {
+        return found.asked[usize::from(rule)];
+    }
+    found.any[usize::from(rule)]
 }
 
 // No links, and no marks.

@@ -9,6 +9,12 @@ use Rattle.lrpar_examples.proofs.OkLemmas.{IfOk-then}
 use Rattle.lrpar_examples.proofs.UpLemmas.{ends_begun, up_links}
 use Rattle.lrpar_examples.proofs.climb.climb_within.Goals as goal
 
+pub prod_to_rule-rule-requires : goal.prod_to_rule-rule-requires
+prod_to_rule-rule-requires g c =
+    let index = g.StorageT.StorageIndex.index in
+    (core_known c.args.grm.now c.start_prod-start.ensures.well_formed c.args.graph.now c.requires.canonical (index c.args.state.0) (index c.args.prod.0) 0
+    c.requires.state (c.requires.item.0, c.requires.item.1)).0
+
 pub climb_links-requires-clause-prod : goal.climb_links-requires-clause-prod
 climb_links-requires-clause-prod g c =
     let index = g.StorageT.StorageIndex.index in
@@ -31,7 +37,8 @@ climb_links-requires-clause-linked g c =
     let p = index c.args.prod.0 in
     let item = c.requires.item in
     subst (λ xs. HasLink (links_of index xs) c.args.asked (rule_of c.args.grm.now p)) (sym c.deref.ensures.value)
-    (c.in_ok-links.ensures.all (item_at p 0 item.0) c.args.asked item.1 refl c.requires.listed item.2)
+    (subst (HasLink (links_of index c.in_ok-links.links.items) c.args.asked) c.prod_to_rule-rule.ensures.rule
+    (c.in_ok-links.ensures.linked (item_at p 0 item.0) item.1 refl c.requires.listed item.2 (sym c.prod_to_rule-rule.ensures.rule)))
 
 pub returns-clause-begun : goal.returns-clause-begun
 returns-clause-begun g c =

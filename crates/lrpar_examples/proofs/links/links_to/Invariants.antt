@@ -2,7 +2,7 @@ use Rattle.std.proofs.Common.{◌≡◌, ◌<◌, ◌≤◌, ◌-◌, ◌*◌, �
 use Rattle.lrpar_grammar.specs.Grammar.{rules_len}
 use Rattle.lrpar_build.specs.Canonical.{sets_of}
 use Rattle.lrpar_examples.specs.Links.{AreBegun, AreLinks, AreMarks, AreNotedOf, link_at, links_of}
-use Rattle.lrpar_examples.proofs.links.links.Given as goal
+use Rattle.lrpar_examples.proofs.links.links_to.Given as goal
 
 -- the links are good; all is linked that comes with items which aren't there by closure, and with the rules of the links so far
 abbrev pub invariant-links : goal.invariant-links
