@@ -15,4 +15,3 @@ pub mod FrontLemmas
 pub mod ExampleLemmas
 pub mod ReplayLemmas
 pub mod GuessLemmas
-pub mod BarrenLemmas

@@ -7,7 +7,7 @@ use Rattle.lrpar_states.specs.Table.{Table}
 use Rattle.lrpar_first.specs.FirstRows.{AreFirsts}
 use Rattle.lrpar_shortest.specs.Choices.{AreShortest, ChoiceOf}
 use Rattle.lrpar_shortest.specs.Moves.{MoveOf, forest_moves}
-use Rattle.lrpar_shortest.specs.Reached.{EachReachedHasTree, HasTree}
+use Rattle.lrpar_shortest.specs.Reached.{EachReachedHasTree, IsFirstBarren}
 use Rattle.lrpar_shortest.specs.Texts.{AreTreesOf}
 use Rattle.lrpar_shortest.specs.Ways.{AreWays, IsPathTo, StepOf, WayOf, symbols_in}
 use Rattle.lrpar_examples.specs.Climbing.{IsWay}
@@ -58,9 +58,9 @@ pub record AreExamplesFor (g : Grammar) (graph : Graph) (table : Table) (most : 
   pub ways : AreWays g graph table most x.ways
   pub each : EachReachedHasTree g
 
--- what a refusal tells: a rule that derives no text
+-- what a refusal tells: the first rule that is reached from the start and derives no text
 abbrev pub IsExampleFault : {S : Type 0} → (S → ℕ) → Grammar → ExampleFault S → Type 0
-IsExampleFault index g (Barren r) = ¬ (HasTree g (index r.0))
+IsExampleFault index g (Barren r) = IsFirstBarren g (index r.0)
 IsExampleFault index g Memory = Unit {0}
 
 -- the steps of a way to state s, by which each state on it is reached, and moves of trees of its symbols, whose text is a shortest one

@@ -109,8 +109,8 @@ fn are_same<StorageT: StorageIndex>(one: &[TIdx<StorageT>], other: &[TIdx<Storag
     true
 }
 
-/// The tokens that the moves take.
-pub(crate) fn taken<StorageT: StorageIndex>(
+/// The tokens that the moves take, in order. An `Err` comes where memory doesn't suffice.
+pub fn taken<StorageT: StorageIndex>(
     alloc: Global,
     moves: &[Move<StorageT>],
 ) -> Result<Vec<TIdx<StorageT>>, AllocError>

@@ -1,5 +1,5 @@
 //! Examples of the conflicts of a table that was built of a grammar.
-ghost use Rattle.std.specs.Prelude.{◌≡◌, ◌≢◌, ◌<◌, IfErr, IfOk, IfSome, MatchOption, map};
+ghost use Rattle.std.specs.Prelude.{◌≡◌, ◌≢◌, ◌<◌, IfErr, IfOk, IfSome, map};
 ghost use Rattle.std.specs.List.{Contains};
 ghost use Rattle.lrpar_grammar.specs.Symbols.{symbol_of};
 ghost use Rattle.lrpar_states.specs.Graph.{graph_len};
@@ -8,11 +8,11 @@ ghost use Rattle.lrpar_build.specs.Built.{IsBuilt};
 ghost use Rattle.lrpar_build.specs.BuilderLaws.{lists_in};
 ghost use Rattle.lrpar_shortest.specs.Choices.{AreShortest};
 ghost use Rattle.lrpar_shortest.specs.Moves.{Makes, Takes, move_of, moves_in};
-ghost use Rattle.lrpar_shortest.specs.Reached.{EachReachedHasTree, HasTree};
+ghost use Rattle.lrpar_shortest.specs.Reached.{EachReachedHasTree};
 ghost use Rattle.lrpar_shortest.specs.Ways.{steps_of, symbols_in};
 ghost use Rattle.lrpar_examples.specs.Example.{AreExamplesFor, IsExample, IsExampleFault, IsFront};
 
-pub use crate::example::Example;
+pub use crate::example::{Example, taken};
 pub use crate::fault::ExampleFault;
 use crate::guess::example_of;
 use crate::readings::{making, taking};
@@ -20,7 +20,7 @@ use crate::unify::unify;
 use lrpar_first::first::first_sets;
 use lrpar_first::tokens::TokenSet;
 use lrpar_grammar::grammar::YaccGrammar;
-use lrpar_grammar::span::{PIdx, RIdx, StIdx, StorageIndex, Symbol, TIdx};
+use lrpar_grammar::span::{PIdx, StIdx, StorageIndex, Symbol, TIdx};
 use lrpar_shortest::moves::Move;
 use lrpar_shortest::shortest::Shortest;
 use lrpar_shortest::ways::{Step, Ways};
@@ -55,8 +55,8 @@ struct Front<StorageT> {
 impl<StorageT: StorageIndex> Examples<StorageT> {
     /// What examples of the conflicts of a table need that was built of the grammar.
     ///
-    /// `Barren` names the first rule that derives no text, whether the grammar reaches it from its start or not: with one there are no
-    /// examples. `Memory` comes where it doesn't suffice.
+    /// `Barren` names the first rule, by its number, that the grammar reaches from its start and that derives no text: with one there are
+    /// no examples. `Memory` comes where it doesn't suffice.
     pub fn new(
         alloc: Global,
         grm: &YaccGrammar<StorageT>,
@@ -348,7 +348,7 @@ fn states_of<StorageT: StorageIndex>(
     Ok(states)
 }
 
-// The shortest texts of the grammar's rules, if each of them derives some text.
+// The shortest texts of the grammar's rules, if each rule that is reached derives some text.
 fn fertile<StorageT: StorageIndex>(
     alloc: Global,
     grm: &YaccGrammar<StorageT>,
@@ -358,28 +358,10 @@ fn fertile<StorageT: StorageIndex>(
     ensures refused { IfErr result (IsExampleFault StorageT.index grm.now) }
 {
     let shortest = Shortest::new(alloc, grm)?;
-    match barren(grm, &shortest) {
+    match shortest.barren(alloc, grm)? {
         Some(rule) => Err(ExampleFault::Barren(rule)),
         None => Ok(shortest),
     }
-}
-
-// The first rule that derives no text, if there is one.
-fn barren<StorageT: StorageIndex>(
-    grm: &YaccGrammar<StorageT>,
-    shortest: &Shortest<StorageT>,
-) -> Option<RIdx<StorageT>>
-    requires { AreShortest grm.now usize.MAX shortest.now }
-    ensures { MatchOption result (EachReachedHasTree grm.now) (λ rule. ¬ (HasTree grm.now (StorageT.index rule.0))) }
-{
-    let _start = grm.start_prod();
-    for rule in 0..grm.rules_len() {
-        let ridx = RIdx(StorageT::from_index(rule).unwrap());
-        if shortest.len_of(Symbol::Rule(ridx)).is_none() {
-            return Some(ridx);
-        }
-    }
-    None
 }
 
 // The symbols of the steps.

@@ -8,7 +8,7 @@ use thiserror::Error;
 /// Why there are no examples.
 #[derive(Clone, Copy, Debug, PartialEq, Eq, Error)]
 pub enum ExampleFault<StorageT: StorageIndex> {
-    /// This rule of the grammar derives no text.
+    /// The grammar reaches this rule from its start, and the rule derives no text. No such rule has a smaller number.
     #[error("rule {at} derives no text", at = .0.0.to_index())]
     Barren(RIdx<StorageT>),
     /// Memory was wanting.
