@@ -1,7 +1,8 @@
-//! Cases of parses, each by the four calls and by both tables.
+//! Cases of parses, each by the four calls and by both tables, and of what may come next.
 #![tactic(auto)]
 
 mod calls;
+pub mod expected;
 mod lexemes;
 pub mod parse;
 mod shown;

@@ -4,7 +4,7 @@ use lrpar_case_commands::commands;
 use lrpar_case_grammars::{grammars, parts};
 use lrpar_case_lines::cases::Case;
 use lrpar_case_lines::fault::Fault;
-use lrpar_case_parses::parse;
+use lrpar_case_parses::{expected, parse};
 use lrpar_case_places::underlines;
 use lrpar_case_tables::rows;
 use lrpar_case_tables::subject::Subject;
@@ -21,6 +21,7 @@ pub(crate) fn inputs_of(kind: &str) -> &'static [&'static str] {
         "build" => built::INPUTS,
         "check" => checks::INPUTS,
         "stack" => stacks::INPUTS,
+        "expected" => expected::INPUTS,
         "full" | "stored" | "sets" => refusals::INPUTS,
         "underlines" => underlines::INPUTS,
         _ => &[],
@@ -45,6 +46,7 @@ pub(crate) fn outcome<R: Files>(
         "rows" => rows::outcome(alloc, subject, case),
         "check" => checks::outcome(alloc, subject, case),
         "stack" => stacks::outcome(alloc, subject, case),
+        "expected" => expected::outcome(alloc, subject, case),
         "full" => refusals::outcome_of_rows(alloc, case),
         "stored" => refusals::outcome_of_entries(alloc, case),
         "sets" => refusals::outcome_of_sets(alloc, case),
