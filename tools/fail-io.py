@@ -10,6 +10,8 @@ Wants of a run, beside one in which nothing fails:
 - a read or a write that is short or interrupted: the same answer;
 - a write to standard error that fails: the same status and the same standard output;
 - want of memory for a read or a write: status 2, and the line `lrpar: out of memory`;
+- a pipe that nobody reads, or a full device, as standard output: as a write that fails, or the signal SIGPIPE ends the program,
+  where that isn't ignored;
 - always: what stands on standard output is a beginning of the right output, and what stands on standard error is a beginning
   of the right text and perhaps the line of the fault.
 
@@ -210,26 +212,31 @@ def ends_in(text, came, line):
     return came.endswith(line) and text.startswith(came[: len(came) - len(line)])
 
 
-def try_closed_pipe(runs, words, given):
-    """writes to a pipe that nobody reads any more, with the signal that this raises"""
-    reader, writer = os.pipe()
-    os.close(reader)
+def try_output(runs, words, given, name, out, is_signalled):
+    """writes to an output that takes nothing; what nobody reads may end the program by a signal, where that isn't ignored"""
     right = runs.answer(words, given)
-    ran = subprocess.run([PROGRAM, *words], cwd=runs.folder, input=given.encode(), stdout=writer, stderr=subprocess.PIPE)
-    os.close(writer)
+    ran = subprocess.run(
+        [PROGRAM, *words], cwd=runs.folder, input=given.encode(), stdout=out, stderr=subprocess.PIPE, restore_signals=is_signalled
+    )
     came = Answer(ran.returncode, b"", ran.stderr)
-    is_well = came.status == 2 and ends_in(right.err, came.err, NO_OUTPUT.encode()) if right.out else came == right
-    runs.count(is_well, f"{' '.join(words)[:70]}: a closed pipe", came)
+    if not right.out:
+        is_well = came == right
+    elif is_signalled and came.status == -signal.SIGPIPE:
+        is_well = right.err.startswith(came.err)
+    else:
+        is_well = came.status == 2 and ends_in(right.err, came.err, NO_OUTPUT.encode())
+    runs.count(is_well, f"{' '.join(words)[:70]}: {name}", came)
 
 
-def try_full_device(runs, words, given):
-    """writes to a device that is full"""
-    right = runs.answer(words, given)
+def try_outputs(runs, words, given):
+    """writes to a pipe that nobody reads any more, and to a device that is full"""
+    for is_signalled in (False, True):
+        reader, writer = os.pipe()
+        os.close(reader)
+        try_output(runs, words, given, "a closed pipe", writer, is_signalled)
+        os.close(writer)
     with open("/dev/full", "wb") as full:
-        ran = subprocess.run([PROGRAM, *words], cwd=runs.folder, input=given.encode(), stdout=full, stderr=subprocess.PIPE)
-    came = Answer(ran.returncode, b"", ran.stderr)
-    is_well = came.status == 2 and ends_in(right.err, came.err, NO_OUTPUT.encode()) if right.out else came == right
-    runs.count(is_well, f"{' '.join(words)[:70]}: a full device", came)
+        try_output(runs, words, given, "a full device", full, False)
 
 
 def main():
@@ -247,8 +254,7 @@ def main():
         runs = Runs(folder, shim)
         for words, given in COMMANDS:
             runs.try_command(words, given)
-            try_closed_pipe(runs, words, given)
-            try_full_device(runs, words, given)
+            try_outputs(runs, words, given)
     print(f"{runs.passed} passed, {runs.failed} failed")
     return 1 if runs.failed else 0
 
