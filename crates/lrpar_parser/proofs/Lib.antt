@@ -24,3 +24,4 @@ pub mod CompleteAnswerLemmas
 pub mod CourseLemmas
 pub mod ComparisonLemmas
 pub mod TrialLemmas
+pub mod ExpectedLemmas

@@ -20,15 +20,15 @@ none_not_some : {A : Type 0} (o : Option A) (x : A) → o ≡ None → o ≡ Som
 none_not_some o x none some = let differ : ◌≡◌ {A = Option _} None (Some x) = sym none ∙ some in cc
 
 -- nor a value and a refusal
-ok_not_err : {A F : Type 0} (x : A) (f : F) → ◌≡◌ {A = Result A F} (Ok x) (Err f) → ⊥
+pub ok_not_err : {A F : Type 0} (x : A) (f : F) → ◌≡◌ {A = Result A F} (Ok x) (Err f) → ⊥
 ok_not_err x f e = cc
 
 -- refusals that are one have one fault
-same_fault : {A F : Type 0} (f g : F) → ◌≡◌ {A = Result A F} (Err f) (Err g) → f ≡ g
+pub same_fault : {A F : Type 0} (f g : F) → ◌≡◌ {A = Result A F} (Err f) (Err g) → f ≡ g
 same_fault f g e = cc
 
 -- things that are there and are one
-same_some : {A : Type 0} (x y : A) → ◌≡◌ {A = Option A} (Some x) (Some y) → x ≡ y
+pub same_some : {A : Type 0} (x y : A) → ◌≡◌ {A = Option A} (Some x) (Some y) → x ≡ y
 same_some x y e = cc
 
 module _ {T S L B C : Type 0} (about : Subject B) (errors_of : T → List (LexParseError S L B C)) (IsValued : Option (List B) → List ℕ → T → Type 0) (lexed : List (Result B C)) where

@@ -16,7 +16,8 @@ use Rattle.lrpar_check.specs.Overlay.{Overlaid, IsFedOver, IsSettledOver, overla
 use Rattle.lrpar_check.proofs.Reductions.{settles_one_way}
 use Rattle.lrpar_parser.specs.PlainSteps.{plain_sequences, plain_step, plain_steps}
 use Rattle.lrpar_check.specs.Run.{token_at}
-use Rattle.lrpar_parser.specs.Sequences.{PlainStep, PlainInsert, PlainDelete, PlainShift, AcceptsAtEnd, AreThoseWith, CanGoOn, IsStepTaken, IsTokenFed, StepsTo, Works}
+use Rattle.lrpar_check.specs.Expected.{AcceptsAtEnd}
+use Rattle.lrpar_parser.specs.Sequences.{PlainStep, PlainInsert, PlainDelete, PlainShift, AreThoseWith, CanGoOn, IsStepTaken, IsTokenFed, StepsTo, Works}
 use Rattle.lrpar_parser.specs.declared.repair.RepairStep.{RepairStep}
 use Rattle.lrpar_check.proofs.RunLemmas.{feeds_one_way, token_at_lexeme}
 

@@ -19,7 +19,8 @@ use Rattle.lrpar_check.proofs.SettleLemmas.{stack_states}
 use Rattle.lrpar_check.proofs.StepLemmas.{action_by_top}
 use Rattle.lrpar_parser.specs.Counting.{Counted, AreCounted, CostsAtMost, IsSettledAndCounted, most_listed}
 use Rattle.lrpar_parser.specs.PlainSteps.{plain_sequences, plain_step, plain_steps}
-use Rattle.lrpar_parser.specs.Sequences.{PlainStep, AcceptsAtEnd, IsTokenFed}
+use Rattle.lrpar_check.specs.Expected.{AcceptsAtEnd}
+use Rattle.lrpar_parser.specs.Sequences.{PlainStep, IsTokenFed}
 use Rattle.lrpar_parser.specs.TestWork.{most_tested}
 use Rattle.lrpar_parser.specs.declared.repair.RepairStep.{RepairStep}
 use Rattle.lrpar_parser.proofs.SequenceLemmas.{accepts_by_top}

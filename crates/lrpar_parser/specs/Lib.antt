@@ -15,6 +15,7 @@ pub mod Known
 pub mod SumRun
 pub mod RunAnswer
 pub mod Parse
+pub mod ExpectedAnswer
 pub mod Standing
 pub mod Stacked
 pub mod ZipLaws

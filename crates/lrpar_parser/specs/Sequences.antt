@@ -2,8 +2,9 @@
 -- from a stack at a place, over any table and any lexemes, and which sequences work there.
 use Rattle.std.specs.Prelude.{◌≡◌, ◌<◌, ◌+◌, ◌⊎◌, ℕ, zero, suc, List, [], ◌∷◌, ◌++◌, length, Bool, true, false, Option, Some, None}
 use Rattle.lrpar_grammar.specs.Grammar.{Grammar, end_token}
-use Rattle.lrpar_states.specs.Table.{Table, Accepts}
-use Rattle.lrpar_check.specs.Reduction.{Feeds, Settles, top_action}
+use Rattle.lrpar_states.specs.Table.{Table}
+use Rattle.lrpar_check.specs.Expected.{AcceptsAtEnd}
+use Rattle.lrpar_check.specs.Reduction.{Feeds}
 use Rattle.lrpar_check.specs.Run.{token_at}
 
 -- a step that is handed in: a lexeme of this token is put in front of the input that is left, the next lexeme of the input
@@ -17,13 +18,6 @@ pub data PlainStep : Type 0 where
 abbrev pub IsTokenFed : Grammar → Table → ℕ → List ℕ → List ℕ → Bool → Type 0
 IsTokenFed g table t st after true = (prods : List ℕ) × Feeds g table t st prods after
 IsTokenFed g table t st after false = (prods next : List ℕ) → ¬ (Feeds g table t st prods next)
-
--- all reductions are made at the end token, and then the top accepts
-pub record AcceptsAtEnd (g : Grammar) (table : Table) (st : List ℕ) : Type 0 where
-  pub prods : List ℕ
-  pub settled : List ℕ
-  pub settles : Settles g table (end_token g) st prods settled
-  pub action : top_action table (end_token g) settled ≡ Accepts
 
 module _ {X : Type 0} (token : X → ℕ) (g : Grammar) (table : Table) (lexemes : List X) where
   -- From the stack at place i the step can be taken: by these reductions it gives the stack `next` at place j. An Insert

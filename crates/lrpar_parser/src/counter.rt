@@ -1,12 +1,13 @@
 //! The states of a parse, which are borrowed, as a stack whose reductions are counted.
 ghost use Rattle.std.specs.Prelude.{◌≡◌, ◌<◌, ◌↔◌, length, IfOk, OnOk, IsTrue};
+ghost use Rattle.lrpar_check.specs.Expected.{AcceptsAtEnd};
 ghost use Rattle.lrpar_check.specs.Overlay.{overlaid};
 ghost use Rattle.lrpar_check.specs.Stack.{IsStack, states_of};
 ghost use Rattle.lrpar_grammar.specs.Grammar.{end_token, tokens_len};
 ghost use Rattle.lrpar_states.specs.PlainRows.{plain_action};
 ghost use Rattle.lrpar_states.specs.Table.{Accepts};
 ghost use Rattle.lrpar_parser.specs.Counting.{AreCounted, CostsAtMost, IsSettledAndCounted};
-ghost use Rattle.lrpar_parser.specs.Sequences.{AcceptsAtEnd, IsTokenFed};
+ghost use Rattle.lrpar_parser.specs.Sequences.{IsTokenFed};
 
 use lrpar_grammar::span::{StIdx, StorageIndex, TIdx};
 use lrpar_table::check::{Overlay, ParserData};

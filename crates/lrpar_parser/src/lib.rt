@@ -5,6 +5,7 @@ mod actions;
 mod building;
 mod counter;
 mod course;
+mod expected;
 mod far;
 mod fault;
 pub mod laws;

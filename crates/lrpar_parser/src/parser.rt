@@ -6,9 +6,10 @@ ghost use Rattle.lrpar_parser.specs.Acted.{IsActedValue};
 ghost use Rattle.lrpar_parser.specs.Arguments.{TakesAll};
 ghost use Rattle.lrpar_parser.specs.End.{IsOfTree};
 ghost use Rattle.lrpar_parser.specs.Entries.{HasValueEntry};
+ghost use Rattle.lrpar_parser.specs.ExpectedAnswer.{Expects};
 ghost use Rattle.lrpar_parser.specs.Folds.{Folds};
 ghost use Rattle.lrpar_parser.specs.declared.values.AStackType.TheVariants.{ActionType};
-ghost use Rattle.lrpar_parser.specs.Known.{known, span_by};
+ghost use Rattle.lrpar_parser.specs.Known.{facts_by, known, span_by};
 ghost use Rattle.lrpar_parser.specs.Made.{made_by};
 ghost use Rattle.lrpar_parser.specs.Nodes.{IsNonterm, IsTerm};
 ghost use Rattle.lrpar_parser.specs.Parse.{ParsesTo, ParsesToErrors};
@@ -19,8 +20,10 @@ pub use crate::actions::Actions;
 use crate::actions::{Acting, Placed};
 use crate::building::Build;
 use crate::course::Course;
+pub use crate::expected::Expected;
+use crate::expected::expected_after;
 pub use crate::fault::ParseFault;
-use crate::lexed::{lexeme_fault, lexemes_or_error};
+use crate::lexed::{lexeme_fault, lexemes_before_error, lexemes_or_error};
 use crate::nothing::Nothing;
 use crate::repair::{NoRecovery, Recoverer};
 use crate::run::Run;
@@ -275,6 +278,36 @@ impl<
             Ok((_, errors)) => Ok(errors),
             Err(fault) => Err(fault),
         }
+    }
+
+    /// What may come next after the lexemes in front of the first error that the lexer answers, which it is asked once: how
+    /// many of them can be fed in turn, without repairs, and the tokens that can be fed there, at the stack that they give,
+    /// before any reduction under the token of the next one; with the end token, where the parse would accept.
+    ///
+    /// `BadToken` and `StartsDecrease` name the first of these lexemes that has either fault. The recoverer isn't asked. The
+    /// answer is `Memory` only where memory was wanting, be it the lexer's.
+    ///
+    /// Reductions are made twice: once to see whether a lexeme can be fed, and once to feed it. The tokens cost one settle
+    /// for each at which the top state doesn't find an error.
+    pub fn expected<'input, L: NonStreamingLexer<'input, LexerTypesT>>(
+        &self,
+        alloc: Global,
+        lexer: &L,
+    ) -> Result<Expected<StorageT, LexerTypesT::LexErrorT>, ParseFault>
+        // Memory was wanting, or there is an answer that the lexer allows, and this is what may come next after its lexemes.
+        ensures expected { Expects StorageT.index (facts_by StorageT.index LexerTypesT.LexemeT.parts) self.now.checked (L.allows lexer.now) result }
+    {
+        let answers = lexer.iter(alloc)?;
+        let (lexemes, lexing_error) = lexemes_before_error(alloc, answers)?;
+        if let Some(fault) = lexeme_fault(self.checked.grm(), &lexemes) {
+            return Err(fault);
+        }
+        let (place, tokens) = expected_after(alloc, self.checked, &lexemes)?;
+        Ok(Expected {
+            place,
+            tokens,
+            lexing_error,
+        })
     }
 
     // Parses what the lexer answers to an entry of what is built.

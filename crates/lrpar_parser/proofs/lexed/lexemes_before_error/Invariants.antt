@@ -1,7 +1,7 @@
 use Rattle.std.proofs.Common.{◌≡◌, ◌++◌}
 use Rattle.std.specs.Vec.Iter.{into_iter_items}
 use Rattle.lrpar_parser.specs.Lexed.{first_error, lexemes_of}
-use Rattle.lrpar_parser.proofs.lexed.lexemes_or_error.Given as goal
+use Rattle.lrpar_parser.proofs.lexed.lexemes_before_error.Given as goal
 
 -- the lexemes so far and those of what is left are those of all, and so is the first error
 abbrev pub invariant-loop-answer : goal.invariant-loop-answer
