@@ -147,7 +147,7 @@ fn are_entries(rt: &impl Abort, table: &StateTable<u8>) -> Result<(), Fail> {
         let found = goto_at(table, state, rule);
         assert_eq!(rt; found, Some(StIdx(next)), "state {state}, rule {rule}");
     }
-    assert_eq!(rt; table.entries(), ACTIONS.len() + GOTOS.len());
+    assert_eq!(rt; table.entries(), 12);
     Ok(())
 }
 
