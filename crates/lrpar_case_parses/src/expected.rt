@@ -9,6 +9,7 @@ use lrpar_case_tables::rows::agreed;
 use lrpar_case_tables::subject::Subject;
 use lrpar_parser::check::Overlay;
 use lrpar_parser::grammar::YaccGrammar;
+use lrpar_parser::parser::Expected;
 use lrpar_parser::repair::FixedRecoverer;
 use lrpar_parser::span::{StIdx, TIdx};
 use lrpar_parser::{LexError, ParserData, RTParserBuilder};
@@ -101,11 +102,16 @@ fn after_lexemes(alloc: Global, data: &ParserData<u32>, given: &[Given]) -> Resu
     let mut came = String::new(alloc);
     match parser.expected(alloc, &lexer) {
         Err(fault) => writeln!(came, "fault {fault}")?,
-        Ok(expected) => {
-            let place = expected.place;
+        Ok(
+            Expected {
+                place,
+                tokens,
+                lexing_error,
+            },
+        ) => {
             writeln!(came, "place {place}")?;
-            push_tokens(&mut came, data.grm(), "expected", &expected.tokens)?;
-            if let Some(error) = expected.lexing_error {
+            push_tokens(&mut came, data.grm(), "expected", &tokens)?;
+            if let Some(error) = lexing_error {
                 let (start, end) = (error.span().start(), error.span().end());
                 writeln!(came, "lexing error {start}..{end}")?;
             }
