@@ -1,11 +1,10 @@
 //! Item sets, conflicts and stacks, and texts of faults, where no case can say it.
 use lrpar_grammar::grammar::{GrammarFault, YaccGrammar};
-use lrpar_grammar::span::{PIdx, RIdx, StIdx, TIdx};
-use lrpar_table::build::{BuildFault, Unbuilt, from_yacc, parser_data};
-use lrpar_table::check::{CheckFault, Overlay, ParserData};
+use lrpar_grammar::span::{PIdx, StIdx, TIdx};
+use lrpar_table::build::{BuildFault, from_yacc};
+use lrpar_table::check::{CheckFault, Overlay};
 use lrpar_table::table::{Action, Conflicts, Item, StateGraph, StateTable, TableFault, TableRows};
 use std::alloc::Global;
-use std::process::Abort;
 use std::test::Fail;
 
 /// The grammar *sum*, which has no conflicts: tokens `+` 0, `ID` 1.
@@ -65,89 +64,6 @@ fn items_and_cores_of_sums(rt: HostRuntime) -> Result<(), Fail> {
     for state in 0..8u8 {
         assert!(rt; has_state(&graph, state), "state {state}");
     }
-    Ok(())
-}
-
-/// A grammar, and its item sets and rows.
-type Parts = (YaccGrammar<u8>, StateGraph<u8>, StateTable<u8>);
-
-// What is handed back of the table of sums, which the cap 1 is too low for: the end token, 2, makes two reductions in state 4.
-fn handed_back(alloc: Global) -> Result<Parts, Fail> {
-    let grm = YaccGrammar::new_with_storaget(alloc, SUM)?;
-    match parser_data(alloc, grm, 100, 1) {
-        Err(Unbuilt::Chains(refused)) if refused.fault() == CheckFault::ChainTooLong(4, 2) => {
-            Ok(refused.into_parts())
-        }
-        _ => Err(Fail::new("another answer")),
-    }
-}
-
-// The same, checked with the cap 2.
-fn checked_again(alloc: Global) -> Result<ParserData<u8>, Fail> {
-    let (grm, graph, table) = handed_back(alloc)?;
-    match ParserData::new(alloc, grm, graph, table, 2) {
-        Ok(data) => Ok(data),
-        Err(_) => Err(Fail::new("refused again")),
-    }
-}
-
-// What the states of the table of sums do at tokens, and where they go by rules. These are all of its entries.
-const ACTIONS: [(u8, u8, Action<u8>); 8] = [
-    (0, 1, Action::Shift(StIdx(3))),
-    (1, 2, Action::Accept),
-    (2, 0, Action::Shift(StIdx(4))),
-    (2, 2, Action::Reduce(PIdx(1))),
-    (3, 0, Action::Reduce(PIdx(2))),
-    (3, 2, Action::Reduce(PIdx(2))),
-    (4, 1, Action::Shift(StIdx(3))),
-    (5, 2, Action::Reduce(PIdx(0))),
-];
-
-const GOTOS: [(u8, u8, u8); 4] = [(0, 1, 1), (0, 2, 2), (4, 1, 5), (4, 2, 2)];
-
-// What the table does in the state at the token, if it has them.
-fn action_at(table: &StateTable<u8>, state: u8, token: u8) -> Option<Action<u8>> {
-    if usize::from(StIdx(state)) < table.states_len()
-        && usize::from(TIdx(token)) < table.tokens_len()
-    {
-        Some(table.action(StIdx(state), TIdx(token)))
-    } else {
-        None
-    }
-}
-
-// Where the state goes by the rule, if the table has them.
-fn goto_at(table: &StateTable<u8>, state: u8, rule: u8) -> Option<StIdx<u8>> {
-    if usize::from(StIdx(state)) < table.states_len()
-        && usize::from(RIdx(rule)) < table.rules_len()
-    {
-        table.goto(StIdx(state), RIdx(rule))
-    } else {
-        None
-    }
-}
-
-#[test]
-fn parts_that_come_back_are_as_they_were(rt: HostRuntime) -> Result<(), Fail> {
-    let data = checked_again(rt.alloc())?;
-    for state in 0..8u8 {
-        assert!(rt; has_state(data.sgraph(), state), "state {state}");
-    }
-    assert!(rt; lists(data.sgraph(), 5, (PIdx(0), 3, TIdx(2))));
-    are_entries(&rt, data.stable())
-}
-
-// The table has these entries and no others.
-fn are_entries(rt: &impl Abort, table: &StateTable<u8>) -> Result<(), Fail> {
-    for (state, token, action) in ACTIONS {
-        let found = action_at(table, state, token);
-        assert_eq!(rt; found, Some(action), "state {state}, token {token}");
-    }
-    for (state, rule, next) in GOTOS {
-        let found = goto_at(table, state, rule);
-        assert_eq!(rt; found, Some(StIdx(next)), "state {state}, rule {rule}");
-    }
-    assert_eq!(rt; table.entries(), 12);
     Ok(())
 }
 
