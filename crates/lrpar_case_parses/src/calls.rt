@@ -1,6 +1,6 @@
 //! The four parse calls, of which each that makes a value makes a tree.
 ghost use Rattle.std.specs.Prelude.{◌↔◌, IfOk, IsTrue, map};
-ghost use Rattle.lrpar_parser.specs.Nodes.{IsNonterm, node_of};
+ghost use Rattle.lrpar_builds.specs.Nodes.{IsNonterm, node_of};
 
 use crate::lexemes::HandedLexer;
 use crate::shown::{CaseError, Tree};

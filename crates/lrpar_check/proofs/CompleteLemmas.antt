@@ -25,15 +25,15 @@ use Rattle.lrpar_states.specs.Graph.{Graph, HasItem}
 use Rattle.lrpar_states.proofs.GraphLemmas.{state_in_range}
 use Rattle.lrpar_states.specs.Safe.{GoesBy, HasShape}
 use Rattle.lrpar_states.specs.Table.{Table, ShiftTo, ReduceBy, Accepts, IsClosed, action_of, goto_of, states_len}
-use Rattle.lrpar_check.specs.Complete.{IsComplete, StepsOn}
-use Rattle.lrpar_check.specs.Reduction.{Feeds, IsSettled, Reduces, left_by, top_action, top_goto}
-use Rattle.lrpar_check.specs.Run.{Far, FarEnd, Accepted, goes_on, accepts, stops, token_at}
-use Rattle.lrpar_check.specs.Stack.{top_of}
-use Rattle.lrpar_check.specs.declared.completeness.CompletenessCondition.TheVariants.{C1, C2, C3, C4, C5}
-use Rattle.lrpar_check.proofs.ChainLemmas.{top_over}
-use Rattle.lrpar_check.proofs.FirstTokenLemmas.{Stand, at_drop, first_token, forest_begins, stand_all, stand_split, stand_token, stand_within}
-use Rattle.lrpar_check.proofs.RunLemmas.{token_at_end}
-use Rattle.lrpar_check.proofs.StepLemmas.{action_by_top, goto_by_top}
+use Rattle.lrpar_complete.specs.Complete.{IsComplete, StepsOn}
+use Rattle.lrpar_stacks.specs.Reduction.{Feeds, IsSettled, Reduces, left_by, top_action, top_goto}
+use Rattle.lrpar_stacks.specs.Run.{Far, FarEnd, Accepted, goes_on, accepts, stops, token_at}
+use Rattle.lrpar_stacks.specs.Stack.{top_of}
+use Rattle.lrpar_complete.specs.declared.completeness.CompletenessCondition.TheVariants.{C1, C2, C3, C4, C5}
+use Rattle.lrpar_stacks.proofs.ChainLemmas.{top_over}
+use Rattle.lrpar_complete.proofs.FirstTokenLemmas.{Stand, at_drop, first_token, forest_begins, stand_all, stand_split, stand_token, stand_within}
+use Rattle.lrpar_stacks.proofs.RunLemmas.{token_at_end}
+use Rattle.lrpar_stacks.proofs.StepLemmas.{action_by_top, goto_by_top}
 
 -- the symbols of each production are listed ones
 listed_symbols : (g : Grammar) → IsWellFormed g → (p : ℕ) → p < prods_len g → All (IsListedSymbol (rules_len g) (end_token g)) (symbols_of g p)

@@ -13,16 +13,16 @@ use Rattle.lrpar_grammar.specs.Grammar.{Grammar, end_token}
 use Rattle.lrpar_states.proofs.EntryLemmas.{keys_of-pairs}
 use Rattle.lrpar_states.proofs.ItemLemmas.{Contains-image}
 use Rattle.lrpar_states.specs.Table.{IsActionEntry, Table, TableAction, ShiftTo, ReduceBy, Accepts, Fails, IsClosed, action_of, states_len}
-use Rattle.lrpar_check.specs.Expected.{IsExpected, laid_over}
-use Rattle.lrpar_check.specs.Overlay.{overlaid}
-use Rattle.lrpar_check.specs.Path.{NeverSticks}
-use Rattle.lrpar_check.specs.Reduction.{Settles, top_action}
-use Rattle.lrpar_check.specs.Settled.{IsSettledBy}
-use Rattle.lrpar_check.specs.Stack.{IsStack, top_of}
-use Rattle.lrpar_check.proofs.Reductions.{settles_one_way}
-use Rattle.lrpar_check.proofs.SettleLemmas.{stack_states}
-use Rattle.lrpar_check.proofs.StackLemmas.{stack_has_path}
-use Rattle.lrpar_check.proofs.StepLemmas.{action_by_top}
+use Rattle.lrpar_stacks.specs.Expected.{IsExpected, laid_over}
+use Rattle.lrpar_stacks.specs.Overlay.{overlaid}
+use Rattle.lrpar_stacks.specs.Path.{NeverSticks}
+use Rattle.lrpar_stacks.specs.Reduction.{Settles, top_action}
+use Rattle.lrpar_stacks.specs.Settled.{IsSettledBy}
+use Rattle.lrpar_stacks.specs.Stack.{IsStack, top_of}
+use Rattle.lrpar_stacks.proofs.Reductions.{settles_one_way}
+use Rattle.lrpar_stacks.proofs.SettleLemmas.{stack_states}
+use Rattle.lrpar_stacks.proofs.StackLemmas.{stack_has_path}
+use Rattle.lrpar_stacks.proofs.StepLemmas.{action_by_top}
 
 -- a stack that does something once it is settled does something before
 settles_acts : (g : Grammar) (table : Table) (t : ℕ) (st ps after : List ℕ) (a : TableAction) → Settles g table t st ps after

@@ -8,14 +8,14 @@ use Rattle.lrpar_grammar.specs.Sentence.{IsSentence}
 use Rattle.lrpar_states.specs.Graph.{Graph}
 use Rattle.lrpar_states.specs.Safe.{IsSafe}
 use Rattle.lrpar_states.specs.Table.{Table, IsClosed}
-use Rattle.lrpar_check.specs.Complete.{IsComplete}
-use Rattle.lrpar_check.specs.Expected.{AcceptsAtEnd, IsExpected}
+use Rattle.lrpar_complete.specs.Complete.{IsComplete}
+use Rattle.lrpar_stacks.specs.Expected.{AcceptsAtEnd, IsExpected}
 use Rattle.lrpar_check.specs.ExpectedRuns.{CheckedTablesEndAtSentences, CompleteTablesExpectSentences, FeedsFront}
-use Rattle.lrpar_check.specs.Path.{NeverSticks}
-use Rattle.lrpar_check.specs.Reduction.{Feeds}
-use Rattle.lrpar_check.specs.Run.{Comes, Far, FarEnd, Accepted, Stopped, accepts, comes_on, goes_on, stays, stops, token_at}
-use Rattle.lrpar_check.proofs.PathLemmas.{never_sticks}
-use Rattle.lrpar_check.proofs.RunLemmas.{HasPath, comes_to_accept, feeds_not_stuck, feeds_one_way, feeds_path, settles_path, token_at_lexeme}
+use Rattle.lrpar_stacks.specs.Path.{NeverSticks}
+use Rattle.lrpar_stacks.specs.Reduction.{Feeds}
+use Rattle.lrpar_stacks.specs.Run.{Comes, Far, FarEnd, Accepted, Stopped, accepts, comes_on, goes_on, stays, stops, token_at}
+use Rattle.lrpar_stacks.proofs.PathLemmas.{never_sticks}
+use Rattle.lrpar_stacks.proofs.RunLemmas.{HasPath, comes_to_accept, feeds_not_stuck, feeds_one_way, feeds_path, settles_path, token_at_lexeme}
 use Rattle.lrpar_check.proofs.SentenceLemmas.{complete_tables_take_sentences, front_get, is_taken}
 
 -- over a table that never sticks a token that is fed isn't the end token

@@ -12,17 +12,17 @@ use Rattle.lrpar_grammar.proofs.ForestLemmas.{joined, joined_fits, joined_leaves
 use Rattle.lrpar_states.specs.Graph.{Graph}
 use Rattle.lrpar_states.specs.Safe.{IsSafe}
 use Rattle.lrpar_states.specs.Table.{Table, ShiftTo, IsClosed}
-use Rattle.lrpar_check.specs.Checked.{Checked, IsChecked}
-use Rattle.lrpar_check.specs.Complete.{IsComplete}
+use Rattle.lrpar_safety.specs.Checked.{Checked, IsChecked}
+use Rattle.lrpar_complete.specs.Complete.{IsComplete}
 use Rattle.lrpar_check.specs.CompleteRuns.{BeginsNoSentence, CompleteTablesTakeSentences, RunsTo, TakesSentences}
-use Rattle.lrpar_check.specs.Path.{IsPath, NeverSticks}
-use Rattle.lrpar_check.specs.Reduction.{Feeds, Reduces, Settles, top_action}
-use Rattle.lrpar_check.specs.Run.{Far, FarEnd, Accepted, Stopped, Stop, IsStuck, goes_on, accepts, stops, token_at}
+use Rattle.lrpar_stacks.specs.Path.{IsPath, NeverSticks}
+use Rattle.lrpar_stacks.specs.Reduction.{Feeds, Reduces, Settles, top_action}
+use Rattle.lrpar_stacks.specs.Run.{Far, FarEnd, Accepted, Stopped, Stop, IsStuck, goes_on, accepts, stops, token_at}
 use Rattle.lrpar_check.proofs.CompleteLemmas.{sentence_runs}
 use Rattle.lrpar_check.proofs.OneTreeLemmas.{same_tree}
-use Rattle.lrpar_check.proofs.PathLemmas.{never_sticks}
-use Rattle.lrpar_check.proofs.Reductions.{reduces_to_one}
-use Rattle.lrpar_check.proofs.RunLemmas.{runs_one_way}
+use Rattle.lrpar_stacks.proofs.PathLemmas.{never_sticks}
+use Rattle.lrpar_stacks.proofs.Reductions.{reduces_to_one}
+use Rattle.lrpar_stacks.proofs.RunLemmas.{runs_one_way}
 
 -- one lexeme more
 record HasNext {X : Type 0} (token : X → ℕ) (g : Grammar) (lexemes : List X) (i : ℕ) : Type 0 where

@@ -7,8 +7,8 @@ use Rattle.lrpar_grammar.specs.Tree.{Tree, Fits, leaves, productions}
 use Rattle.lrpar_states.specs.Graph.{Graph}
 use Rattle.lrpar_states.specs.Safe.{IsSafe}
 use Rattle.lrpar_states.specs.Table.{Table, IsClosed}
-use Rattle.lrpar_check.specs.Complete.{IsComplete}
-use Rattle.lrpar_check.specs.Run.{Far, FarEnd, Accepted, Stopped, Stop}
+use Rattle.lrpar_complete.specs.Complete.{IsComplete}
+use Rattle.lrpar_stacks.specs.Run.{Far, FarEnd, Accepted, Stopped, Stop}
 
 -- the run from the start over these lexemes makes these reductions, and ends so
 abbrev pub RunsTo : {X : Type 0} → (X → ℕ) → Grammar → Table → List X → List ℕ → FarEnd → Type 0

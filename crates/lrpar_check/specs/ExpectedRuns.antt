@@ -6,9 +6,9 @@ use Rattle.lrpar_grammar.specs.Sentence.{IsSentence}
 use Rattle.lrpar_states.specs.Graph.{Graph}
 use Rattle.lrpar_states.specs.Safe.{IsSafe}
 use Rattle.lrpar_states.specs.Table.{Table, IsClosed}
-use Rattle.lrpar_check.specs.Complete.{IsComplete}
-use Rattle.lrpar_check.specs.Expected.{IsExpected}
-use Rattle.lrpar_check.specs.Run.{Comes}
+use Rattle.lrpar_complete.specs.Complete.{IsComplete}
+use Rattle.lrpar_stacks.specs.Expected.{IsExpected}
+use Rattle.lrpar_stacks.specs.Run.{Comes}
 
 -- the run from the start feeds the lexemes in front of place i, which gives this stack
 abbrev pub FeedsFront : {X : Type 0} → (X → ℕ) → Grammar → Table → List X → ℕ → List ℕ → Type 0

@@ -3,18 +3,18 @@ ghost use Rattle.std.specs.Prelude.{◌≡◌, IfOk, IfErr, OnOk};
 ghost use Rattle.lrpar_grammar.specs.Grammar.{IsWellFormed};
 ghost use Rattle.lrpar_states.specs.Table.{IsClosed};
 ghost use Rattle.lrpar_states.specs.Safe.{IsSafe};
-ghost use Rattle.lrpar_check.specs.Path.{NeverSticks};
-ghost use Rattle.lrpar_check.specs.Chain.{AreChainsShort, IsBounded};
-ghost use Rattle.lrpar_check.specs.Checked.{IsChainFault, IsChecked, IsCheckFault};
-ghost use Rattle.lrpar_check.specs.Step.{FitsGrammar};
-ghost use Rattle.lrpar_check.specs.declared.fault.CheckFault.TheVariants.{Memory};
+ghost use Rattle.lrpar_stacks.specs.Path.{NeverSticks};
+ghost use Rattle.lrpar_stacks.specs.Chain.{AreChainsShort, IsBounded};
+ghost use Rattle.lrpar_safety.specs.Checked.{IsChainFault, IsChecked, IsCheckFault};
+ghost use Rattle.lrpar_stacks.specs.Step.{FitsGrammar};
+ghost use Rattle.lrpar_safety.specs.declared.fault.CheckFault.TheVariants.{Memory};
 
-use crate::chains::Chains;
-pub use crate::complete_fault::CompleteFault;
-pub use crate::completeness::CompletenessCondition;
-pub use crate::fault::CheckFault;
-pub use crate::overlay::Overlay;
-use crate::safety::Parts;
+use lrpar_safety::chains::are_short;
+pub use lrpar_complete::complete_fault::CompleteFault;
+pub use lrpar_complete::completeness::CompletenessCondition;
+pub use lrpar_safety::fault::CheckFault;
+pub use lrpar_stacks::overlay::Overlay;
+use lrpar_safety::safety::Parts;
 use lrpar_grammar::grammar::YaccGrammar;
 use lrpar_grammar::span::StorageIndex;
 pub use lrpar_states::condition::SafetyCondition;
@@ -32,7 +32,7 @@ pub struct ParserData<StorageT: StorageIndex> {
 }
 
 impl<StorageT: StorageIndex> Model for ParserData<StorageT> {
-    ghost use Rattle.lrpar_check.specs.Checked.{Checked, IsChecked};
+    ghost use Rattle.lrpar_safety.specs.Checked.{Checked, IsChecked};
 
     ghost Value = { Checked };
 
@@ -147,23 +147,6 @@ impl<StorageT: StorageIndex> ParserData<StorageT> {
     }
 }
 
-// Whether the chains of a safe table are short; otherwise the first that isn't.
-fn are_short<StorageT: StorageIndex>(
-    alloc: Global,
-    grm: &YaccGrammar<StorageT>,
-    stable: &StateTable<StorageT>,
-    cap: u16,
-) -> Result<(), CheckFault>
-    requires { FitsGrammar grm.now stable.now }
-    ensures short { OnOk result (AreChainsShort grm.now stable.now cap) }
-    ensures fault { IfErr result (IsChainFault grm.now stable.now cap) }
-{
-    match Chains::new(grm, stable, cap).first_long(alloc)? {
-        None => Ok(()),
-        Some((s, t)) => Err(CheckFault::ChainTooLong(s, t)),
-    }
-}
-
 // Whatever they were made of, a grammar is well formed, and a table's states are its own.
 fn are_sound<StorageT: StorageIndex>(grm: &YaccGrammar<StorageT>, stable: &StateTable<StorageT>)
     ensures well_formed { IsWellFormed grm.now }
@@ -183,7 +166,7 @@ pub struct Refused<StorageT: StorageIndex> {
 }
 
 impl<StorageT: StorageIndex> Model for Refused<StorageT> {
-    ghost use Rattle.lrpar_check.specs.Checked.{Unchecked};
+    ghost use Rattle.lrpar_safety.specs.Checked.{Unchecked};
 
     ghost Value = { Unchecked };
 

@@ -1,12 +1,12 @@
 //! What may come next at a stack: the tokens that can be fed there, and the end token, where it accepts.
 ghost use Rattle.std.specs.Prelude.{◌≡◌, ◌<◌, ◌↔◌, IfOk, IsTrue, OnOk, OnErr};
-ghost use Rattle.lrpar_check.specs.Expected.{AreExpected, IsExpected, IsListShortOfMemory, IsTriedShortOfMemory, tokens_of};
-ghost use Rattle.lrpar_check.specs.Overlay.{IsShortOfMemoryOver, overlaid};
-ghost use Rattle.lrpar_check.specs.Stack.{IsStack, states_of};
+ghost use Rattle.lrpar_stacks.specs.Expected.{AreExpected, IsExpected, IsListShortOfMemory, IsTriedShortOfMemory, tokens_of};
+ghost use Rattle.lrpar_stacks.specs.Overlay.{IsShortOfMemoryOver, overlaid};
+ghost use Rattle.lrpar_stacks.specs.Stack.{IsStack, states_of};
 
 use crate::check::ParserData;
-use crate::overlay::Overlay;
-use crate::probe::Probe;
+use lrpar_stacks::overlay::Overlay;
+use lrpar_stacks::probe::Probe;
 use lrpar_grammar::span::{StIdx, StorageIndex, TIdx};
 use lrpar_states::table::Action;
 use std::alloc::{AllocError, Global};

@@ -1,16 +1,16 @@
 //! What a stack of states does at a token: its reductions, and the shift after them.
 ghost use Rattle.std.specs.Prelude.{◌≡◌, ◌<◌, ◌⊎◌, IfOk, OnOk, OnErr, vec_capacity};
-ghost use Rattle.lrpar_check.specs.Overlay.{IsFedOver, IsShortOfMemoryOver, IsSettledOver, IsShiftShortOfMemoryOver, overlaid};
-ghost use Rattle.lrpar_check.specs.Reduction.{top_action};
-ghost use Rattle.lrpar_check.specs.Settled.{IsFedBy, IsShortOfMemory, IsSettledBy, IsShiftShortOfMemory};
-ghost use Rattle.lrpar_check.specs.Stack.{IsStack, states_of};
-ghost use Rattle.lrpar_check.specs.StackReduction.{IsStackFedBy, IsStackShortOfMemory, IsStackSettledBy, IsStackShiftShortOfMemory};
+ghost use Rattle.lrpar_stacks.specs.Overlay.{IsFedOver, IsShortOfMemoryOver, IsSettledOver, IsShiftShortOfMemoryOver, overlaid};
+ghost use Rattle.lrpar_stacks.specs.Reduction.{top_action};
+ghost use Rattle.lrpar_stacks.specs.Settled.{IsFedBy, IsShortOfMemory, IsSettledBy, IsShiftShortOfMemory};
+ghost use Rattle.lrpar_stacks.specs.Stack.{IsStack, states_of};
+ghost use Rattle.lrpar_stacks.specs.StackReduction.{IsStackFedBy, IsStackShortOfMemory, IsStackSettledBy, IsStackShiftShortOfMemory};
 ghost use Rattle.lrpar_states.specs.PlainRows.{plain_action};
 
 use crate::check::ParserData;
-use crate::overlay::Overlay;
-use crate::state_stack::{Settled, ShiftStack, StateStack};
-use crate::step::{Step, take_step};
+use lrpar_stacks::overlay::Overlay;
+use lrpar_stacks::state_stack::{Settled, ShiftStack, StateStack};
+use lrpar_stacks::step::{Step, take_step};
 use lrpar_grammar::span::{StIdx, StorageIndex, TIdx};
 use lrpar_states::table::Action;
 use std::alloc::AllocError;

@@ -3,17 +3,17 @@
 use Rattle.std.proofs.Common.{◌≡◌, ◌<◌, ◌≤◌, ◌+◌, ◌∙◌, ◌⊎◌, inl, inr, ℕ, List, [], ◌∷◌, MatchOption, Option, Some, drop, length, take, refl, subst, sym}
 use Rattle.lrpar_grammar.specs.Sentence.{IsSentence, LexemeFacts}
 use Rattle.lrpar_grammar.specs.Tree.{Tree, productions}
-use Rattle.lrpar_check.specs.Chain.{most_productions}
-use Rattle.lrpar_check.specs.Checked.{Checked, IsChecked}
-use Rattle.lrpar_check.specs.Complete.{IsComplete}
+use Rattle.lrpar_stacks.specs.Chain.{most_productions}
+use Rattle.lrpar_safety.specs.Checked.{Checked, IsChecked}
+use Rattle.lrpar_complete.specs.Complete.{IsComplete}
 use Rattle.lrpar_check.specs.CompleteRuns.{BeginsNoSentence, RunsTo, TakesSentences}
-use Rattle.lrpar_check.specs.Run.{Accepted, Far, Stop, Stopped}
-use Rattle.lrpar_check.proofs.RunLemmas.{runs_one_way}
+use Rattle.lrpar_stacks.specs.Run.{Accepted, Far, Stop, Stopped}
+use Rattle.lrpar_stacks.proofs.RunLemmas.{runs_one_way}
 use Rattle.lrpar_check.proofs.SentenceLemmas.{complete_tables_take_sentences}
 use Rattle.lrpar_parser.specs.CompleteAnswer.{IsTreeOver, TakesSentence}
-use Rattle.lrpar_parser.specs.Recovery.{Point}
-use Rattle.lrpar_parser.specs.RepairRun.{RepairRun, RepairStop, ends_there, is_repaired, runs_through}
-use Rattle.lrpar_parser.specs.Sequences.{PlainStep}
+use Rattle.lrpar_steps.specs.Recovery.{Point}
+use Rattle.lrpar_runs.specs.RepairRun.{RepairRun, RepairStop, ends_there, is_repaired, runs_through}
+use Rattle.lrpar_steps.specs.Sequences.{PlainStep}
 
 some_stop : {A : Type 0} (x : A) (xs : List A) → x ∷ xs ≡ [] → ⊥
 some_stop x xs e = cc

@@ -5,15 +5,15 @@ use Rattle.std.proofs.lemmas.Option.{slice_get_read, slice_get_within}
 use Rattle.lrpar_grammar.specs.Grammar.{Grammar, end_token, tokens_len}
 use Rattle.lrpar_grammar.specs.Sentence.{LexemeFacts, IsFirstBadToken, IsFirstEarlyStart, IsValidList}
 use Rattle.lrpar_states.specs.Table.{Table, ShiftTo}
-use Rattle.lrpar_check.specs.Checked.{Checked, IsChecked}
-use Rattle.lrpar_check.specs.Expected.{AreExpected, IsExpected, tokens_of}
+use Rattle.lrpar_safety.specs.Checked.{Checked, IsChecked}
+use Rattle.lrpar_stacks.specs.Expected.{AreExpected, IsExpected, tokens_of}
 use Rattle.lrpar_check.specs.ExpectedRuns.{FeedsFront}
-use Rattle.lrpar_check.specs.Reduction.{Feeds, top_action}
-use Rattle.lrpar_check.specs.Run.{stays, token_at}
-use Rattle.lrpar_check.specs.Settled.{IsFedBy}
+use Rattle.lrpar_stacks.specs.Reduction.{Feeds, top_action}
+use Rattle.lrpar_stacks.specs.Run.{stays, token_at}
+use Rattle.lrpar_stacks.specs.Settled.{IsFedBy}
 use Rattle.lrpar_check.proofs.ExpectedRunLemmas.{checked_tables_end_at_sentences, complete_tables_expect_sentences}
-use Rattle.lrpar_check.proofs.Reductions.{settles_one_way}
-use Rattle.lrpar_check.proofs.RunLemmas.{comes_more, token_at_lexeme}
+use Rattle.lrpar_stacks.proofs.Reductions.{settles_one_way}
+use Rattle.lrpar_stacks.proofs.RunLemmas.{comes_more, token_at_lexeme}
 use Rattle.lrpar_parser.specs.ExpectedAnswer.{ComesFurthest, IsExpectedAfter, IsExpectedAnswer}
 use Rattle.lrpar_parser.specs.Lexed.{first_error, lexemes_of}
 use Rattle.lrpar_parser.specs.LexemeFault.{IsLexemeFault}
@@ -21,7 +21,8 @@ use Rattle.lrpar_parser.specs.Parse.{lexeme_facts}
 use Rattle.lrpar_parser.specs.declared.expected.Expected.{Expected}
 use Rattle.lrpar_parser.specs.declared.fault.ParseFault.{ParseFault}
 use Rattle.lrpar_parser.specs.declared.fault.ParseFault.TheVariants.{BadToken, StartsDecrease}
-use Rattle.lrpar_parser.proofs.LexemeLemmas.{good_token, valid_not_bad, valid_not_early}
+use Rattle.lrpar_steps.proofs.TokenLemmas.{good_token}
+use Rattle.lrpar_parser.proofs.LexemeLemmas.{valid_not_bad, valid_not_early}
 use Rattle.lrpar_parser.proofs.ParseLemmas.{ok_not_err, same_fault, same_some}
 
 -- a lexeme of a valid list has a token of a checked table, which isn't the end token

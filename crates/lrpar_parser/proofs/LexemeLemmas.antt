@@ -129,9 +129,3 @@ valid_has_no_fault g lexemes valid = record {
 -- lexeme i is in front of the next one
 pub next_previous : (lexemes : List LexemeFacts) (i start : ℕ) (x : LexemeFacts) → slice_get lexemes i ≡ Some x → start ≡ x.span.start → IsPreviousStart lexemes (i + 1) start
 next_previous lexemes i start x at is = inr (i, x, refl, at, sym is)
-
--- a lexeme of a valid list has a token of the grammar, which isn't the end token
-pub good_token : {X : Type 0} (facts : X → LexemeFacts) (g : Grammar) (lexemes : List X) (i : ℕ) (x : X) → IsValidList g (map facts lexemes)
-    → slice_get lexemes i ≡ Some x → (facts x).token < end_token g
-good_token facts g lexemes i x valid is =
-    valid.tokens i (facts x) (rw length-map (slice_get_within lexemes i x is)) (slice_get-map facts lexemes i ∙ ap (option_map facts) is)

@@ -7,14 +7,14 @@ use Rattle.std.specs.List.{AllPairs}
 use Rattle.lrpar_grammar.specs.Grammar.{Grammar}
 use Rattle.lrpar_grammar.specs.Sentence.{LexemeFacts}
 use Rattle.lrpar_states.specs.Table.{Table}
-use Rattle.lrpar_check.specs.Reduction.{IsSettled}
-use Rattle.lrpar_parser.specs.Recovery.{Point}
+use Rattle.lrpar_stacks.specs.Reduction.{IsSettled}
+use Rattle.lrpar_steps.specs.Recovery.{Point}
 use Rattle.lrpar_parser.specs.RepairLaws.{InsertsListed, IsSound, ListsSound, StopsLieApart, AcceptsWhereRepaired, ReplaysOneWay, RunsWithoutRepairs, WorksByReplay, places_of}
-use Rattle.lrpar_parser.specs.RepairRun.{IsListedAt, RepairRun, RepairStop, ends_there, is_repaired, runs_through}
-use Rattle.lrpar_check.specs.Run.{Far, FarEnd, Accepted, Stopped, IsStuck, Run, Stop, accepts, comes_through, gives_up, goes_on, stops, token_at}
-use Rattle.lrpar_parser.specs.Sequences.{PlainStep, PlainInsert, PlainDelete, PlainShift, AreThoseWith, CanGoOn, Replays, StepsTo, Works}
-use Rattle.lrpar_check.proofs.RunLemmas.{accepts_not_stuck, feeds_not_stuck, feeds_one_way, settles_settled}
-use Rattle.lrpar_parser.proofs.SequenceLemmas.{steps_one_way, steps_within}
+use Rattle.lrpar_runs.specs.RepairRun.{IsListedAt, RepairRun, RepairStop, ends_there, is_repaired, runs_through}
+use Rattle.lrpar_stacks.specs.Run.{Far, FarEnd, Accepted, Stopped, IsStuck, Run, Stop, accepts, comes_through, gives_up, goes_on, stops, token_at}
+use Rattle.lrpar_steps.specs.Sequences.{PlainStep, PlainInsert, PlainDelete, PlainShift, AreThoseWith, CanGoOn, Replays, StepsTo, Works}
+use Rattle.lrpar_stacks.proofs.RunLemmas.{accepts_not_stuck, feeds_not_stuck, feeds_one_way, settles_settled}
+use Rattle.lrpar_steps.proofs.SequenceLemmas.{steps_one_way, steps_within}
 
 -- all of those with P have P
 those_all : {A : Type 0} (P : A → Type 0) (xs ys : List A) → AreThoseWith P xs ys → All P ys

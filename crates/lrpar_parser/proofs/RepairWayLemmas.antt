@@ -5,14 +5,14 @@ use Rattle.std.proofs.lemmas.Option.{same_Some}
 use Rattle.lrpar_grammar.specs.Grammar.{Grammar}
 use Rattle.lrpar_grammar.specs.Sentence.{LexemeFacts}
 use Rattle.lrpar_states.specs.Table.{Table}
-use Rattle.lrpar_parser.specs.Mended.{Consumes}
-use Rattle.lrpar_parser.specs.Recovery.{Point}
+use Rattle.lrpar_steps.specs.Mended.{Consumes}
+use Rattle.lrpar_steps.specs.Recovery.{Point}
 use Rattle.lrpar_parser.specs.RepairLaws.{HandsInOne, RepairRunsOneWay}
-use Rattle.lrpar_parser.specs.RepairRun.{IsListedAt, RepairRun, RepairStop, ends_there, fed_between, is_repaired, runs_through}
-use Rattle.lrpar_check.specs.Run.{Accepted, Stop, Stopped}
-use Rattle.lrpar_parser.specs.Sequences.{PlainStep, PlainInsert, PlainDelete, PlainShift, AreThoseWith, Replays, Works}
+use Rattle.lrpar_runs.specs.RepairRun.{IsListedAt, RepairRun, RepairStop, ends_there, fed_between, is_repaired, runs_through}
+use Rattle.lrpar_stacks.specs.Run.{Accepted, Stop, Stopped}
+use Rattle.lrpar_steps.specs.Sequences.{PlainStep, PlainInsert, PlainDelete, PlainShift, AreThoseWith, Replays, Works}
 use Rattle.lrpar_parser.proofs.RepairRunLemmas.{replay_one_way}
-use Rattle.lrpar_check.proofs.RunLemmas.{runs_one_way}
+use Rattle.lrpar_stacks.proofs.RunLemmas.{runs_one_way}
 
 -- of one list there is one list of those that have P
 those_one_way : {A : Type 0} (P : A → Type 0) (xs ys zs : List A) → AreThoseWith P xs ys → AreThoseWith P xs zs → ys ≡ zs

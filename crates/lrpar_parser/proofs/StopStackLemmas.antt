@@ -5,22 +5,22 @@ use Rattle.std.proofs.lemmas.Option.{slice_get_cases}
 use Rattle.lrpar_grammar.specs.Grammar.{Grammar, end_token, tokens_len}
 use Rattle.lrpar_grammar.specs.Sentence.{IsValidList, LexemeFacts}
 use Rattle.lrpar_states.specs.Table.{Table, Fails}
-use Rattle.lrpar_check.specs.Checked.{Checked, IsChecked}
-use Rattle.lrpar_check.specs.Path.{NeverSticks}
-use Rattle.lrpar_check.specs.Reduction.{Feeds, Settles, top_action}
-use Rattle.lrpar_check.specs.Stack.{IsStack}
-use Rattle.lrpar_check.proofs.ChainLemmas.{bounds_reductions}
-use Rattle.lrpar_check.proofs.PathLemmas.{checked_runs_never_stick}
-use Rattle.lrpar_check.proofs.SettleLemmas.{IsRun, run_of_checked, stack_reduced, stack_shifted}
-use Rattle.lrpar_check.proofs.StackLemmas.{stack_has_path}
-use Rattle.lrpar_parser.specs.Recovery.{Point}
+use Rattle.lrpar_safety.specs.Checked.{Checked, IsChecked}
+use Rattle.lrpar_stacks.specs.Path.{NeverSticks}
+use Rattle.lrpar_stacks.specs.Reduction.{Feeds, Settles, top_action}
+use Rattle.lrpar_stacks.specs.Stack.{IsStack}
+use Rattle.lrpar_stacks.proofs.ChainLemmas.{bounds_reductions}
+use Rattle.lrpar_stacks.proofs.PathLemmas.{checked_runs_never_stick}
+use Rattle.lrpar_stacks.proofs.SettleLemmas.{IsRun, run_of_checked, stack_reduced, stack_shifted}
+use Rattle.lrpar_stacks.proofs.StackLemmas.{stack_has_path}
+use Rattle.lrpar_steps.specs.Recovery.{Point}
 use Rattle.lrpar_parser.specs.RepairLaws.{StopsAtStacks, StopsByFailing}
-use Rattle.lrpar_parser.specs.RepairRun.{RepairRun, RepairStop, ends_there, is_repaired, runs_through}
-use Rattle.lrpar_check.specs.RunLaws.{KeepOffEnd}
-use Rattle.lrpar_check.specs.Run.{Far, FarEnd, Accepted, Stopped, accepts, goes_on, stops, token_at}
-use Rattle.lrpar_parser.specs.Sequences.{PlainStep, PlainInsert, PlainDelete, PlainShift, Replays, StepsTo}
-use Rattle.lrpar_parser.proofs.LexemeLemmas.{good_token}
-use Rattle.lrpar_check.proofs.RunLemmas.{far_ends_by_failing, token_at_end, token_at_lexeme}
+use Rattle.lrpar_runs.specs.RepairRun.{RepairRun, RepairStop, ends_there, is_repaired, runs_through}
+use Rattle.lrpar_stacks.specs.RunLaws.{KeepOffEnd}
+use Rattle.lrpar_stacks.specs.Run.{Far, FarEnd, Accepted, Stopped, accepts, goes_on, stops, token_at}
+use Rattle.lrpar_steps.specs.Sequences.{PlainStep, PlainInsert, PlainDelete, PlainShift, Replays, StepsTo}
+use Rattle.lrpar_steps.proofs.TokenLemmas.{good_token}
+use Rattle.lrpar_stacks.proofs.RunLemmas.{far_ends_by_failing, token_at_end, token_at_lexeme}
 
 module _ (g : Grammar) (table : Table) (cap : ℕ) (run : IsRun g table cap) where
   -- all reductions at a token keep a stack one

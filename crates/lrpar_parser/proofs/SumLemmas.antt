@@ -1,10 +1,10 @@
 -- The run over `a+b`, step by step.
 use Rattle.std.proofs.Common.{◌≢◌, ℕ, [], ◌∷◌, arith, refl}
-use Rattle.lrpar_check.specs.Reduction.{Feeds, Reduces}
+use Rattle.lrpar_stacks.specs.Reduction.{Feeds, Reduces}
 use Rattle.lrpar_grammar.specs.Sum.{sum_grammar}
 use Rattle.lrpar_states.specs.Sum.{sum_table}
 use Rattle.lrpar_states.specs.Table.{Accepts, ReduceBy, ShiftTo}
-use Rattle.lrpar_check.specs.Run.{Far, Accepted, accepts, comes_through, goes_on}
+use Rattle.lrpar_stacks.specs.Run.{Far, Accepted, accepts, comes_through, goes_on}
 use Rattle.lrpar_states.specs.Table.{action_of, goto_of}
 use Rattle.lrpar_parser.specs.SumRun.{SumRunsThrough, sum_tokens}
 

@@ -3,10 +3,10 @@ use Rattle.std.specs.Prelude.{◌≡◌, ◌<◌, ◌≤◌, ◌+◌, ◌↔◌,
 use Rattle.lrpar_grammar.specs.Grammar.{Grammar, Nonterminal}
 use Rattle.lrpar_grammar.specs.Sentence.{IsSentence}
 use Rattle.lrpar_grammar.specs.Tree.{Tree, Fits, leaves, productions}
-use Rattle.lrpar_check.specs.Chain.{most_productions}
-use Rattle.lrpar_check.specs.Checked.{Checked}
+use Rattle.lrpar_stacks.specs.Chain.{most_productions}
+use Rattle.lrpar_safety.specs.Checked.{Checked}
 use Rattle.lrpar_check.specs.CompleteRuns.{BeginsNoSentence}
-use Rattle.lrpar_parser.specs.RepairRun.{RepairStop}
+use Rattle.lrpar_runs.specs.RepairRun.{RepairStop}
 
 -- the tree fits the start rule, and these lexemes are its leaves
 pub record IsTreeOver {X : Type 0} (token : X → ℕ) (g : Grammar) (lexemes : List X) (tree : Tree X) : Type 0 where

@@ -1,9 +1,9 @@
 -- The course of a run, as contracts see it.
 use Rattle.std.specs.Prelude.{ℕ, List}
 use Rattle.lrpar_lexemes.specs.Lexemes.{LexemeParts}
-use Rattle.lrpar_parser.specs.Known.{facts_by}
-use Rattle.lrpar_parser.specs.Recovery.{Point}
-use Rattle.lrpar_parser.specs.Sequences.{PlainStep}
+use Rattle.lrpar_steps.specs.Known.{facts_by}
+use Rattle.lrpar_steps.specs.Recovery.{Point}
+use Rattle.lrpar_steps.specs.Sequences.{PlainStep}
 use Rattle.lrpar_parser.specs.Subject.{Subject}
 use Rattle.lrpar_parser.specs.declared.course.Course.{Course}
 

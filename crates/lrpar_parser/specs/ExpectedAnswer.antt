@@ -2,12 +2,12 @@
 use Rattle.std.specs.Prelude.{◌≡◌, ◌<◌, ◌≤◌, ◌↔◌, ◌⊎◌, ℕ, List, ◌∷◌, ◌++◌, Contains, length, take, Result, IfOk, IsErrOf}
 use Rattle.lrpar_grammar.specs.Grammar.{Grammar, end_token}
 use Rattle.lrpar_grammar.specs.Sentence.{LexemeFacts, IsFirstBadToken, IsFirstEarlyStart, IsSentence}
-use Rattle.lrpar_check.specs.Checked.{Checked}
-use Rattle.lrpar_check.specs.Complete.{IsComplete}
-use Rattle.lrpar_check.specs.Expected.{AreExpected, tokens_of}
+use Rattle.lrpar_safety.specs.Checked.{Checked}
+use Rattle.lrpar_complete.specs.Complete.{IsComplete}
+use Rattle.lrpar_stacks.specs.Expected.{AreExpected, tokens_of}
 use Rattle.lrpar_check.specs.ExpectedRuns.{FeedsFront}
-use Rattle.lrpar_check.specs.Reduction.{Feeds}
-use Rattle.lrpar_check.specs.Run.{token_at}
+use Rattle.lrpar_stacks.specs.Reduction.{Feeds}
+use Rattle.lrpar_stacks.specs.Run.{token_at}
 use Rattle.lrpar_parser.specs.Lexed.{first_error, lexemes_of}
 use Rattle.lrpar_parser.specs.Parse.{lexeme_facts}
 use Rattle.lrpar_parser.specs.declared.expected.Expected.{Expected}

@@ -1,13 +1,13 @@
 -- What a stop of a run comes to: the sequences that are listed there, its error, and where the run goes on.
 use Rattle.std.specs.Prelude.{◌≡◌, ℕ, List, [], ◌∷◌, ◌++◌, Option, Some, None}
 use Rattle.lrpar_answers.specs.declared.errors.LexParseError.{LexParseError}
-use Rattle.lrpar_parser.specs.Building.{Building}
-use Rattle.lrpar_parser.specs.Moves.{IsReplayed}
+use Rattle.lrpar_steps.specs.Building.{Building}
+use Rattle.lrpar_runs.specs.Moves.{IsReplayed}
 use Rattle.lrpar_parser.specs.RepairAnswer.{IsRepairErrorOf}
-use Rattle.lrpar_parser.specs.RepairRun.{IsListedAt}
-use Rattle.lrpar_check.specs.Run.{Stop}
-use Rattle.lrpar_parser.specs.Sequences.{PlainStep}
-use Rattle.lrpar_parser.specs.Standing.{Stacked}
+use Rattle.lrpar_runs.specs.RepairRun.{IsListedAt}
+use Rattle.lrpar_stacks.specs.Run.{Stop}
+use Rattle.lrpar_steps.specs.Sequences.{PlainStep}
+use Rattle.lrpar_steps.specs.Standing.{Stacked}
 use Rattle.lrpar_parser.specs.Subject.{Subject}
 
 -- at the stop these sequences are listed: those that work there, of an answer that the recoverer allows

@@ -1,10 +1,10 @@
 -- Parsers as contracts see them, and what they parse.
 use Rattle.std.specs.Prelude.{ℕ, List}
 use Rattle.lrpar_lexemes.specs.Lexemes.{LexemeParts}
-use Rattle.lrpar_check.specs.Checked.{Checked}
-use Rattle.lrpar_parser.specs.Known.{facts_by}
-use Rattle.lrpar_parser.specs.Recovery.{Point}
-use Rattle.lrpar_parser.specs.Sequences.{PlainStep}
+use Rattle.lrpar_safety.specs.Checked.{Checked}
+use Rattle.lrpar_steps.specs.Known.{facts_by}
+use Rattle.lrpar_steps.specs.Recovery.{Point}
+use Rattle.lrpar_steps.specs.Sequences.{PlainStep}
 use Rattle.lrpar_parser.specs.Subject.{Subject}
 
 -- the checked table, the recoverer that is asked at an error, and how many lexemes have to follow a repair

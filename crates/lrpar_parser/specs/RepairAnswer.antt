@@ -3,13 +3,13 @@
 use Rattle.std.specs.Prelude.{◌≡◌, ◌≤◌, ◌∷◌, ℕ, List, [], length, MatchOption, Option}
 use Rattle.std.specs.List.{AllZip}
 use Rattle.lrpar_grammar.specs.Sentence.{IsSentence}
-use Rattle.lrpar_check.specs.Chain.{most_productions}
-use Rattle.lrpar_check.specs.Complete.{IsComplete}
+use Rattle.lrpar_stacks.specs.Chain.{most_productions}
+use Rattle.lrpar_complete.specs.Complete.{IsComplete}
 use Rattle.lrpar_parser.specs.CompleteAnswer.{TakesSentence}
-use Rattle.lrpar_parser.specs.Recovery.{Point}
-use Rattle.lrpar_parser.specs.RepairRun.{IsRepairFailure, RepairRun, RepairStop}
-use Rattle.lrpar_parser.specs.RunAnswer.{IsOneWay}
-use Rattle.lrpar_parser.specs.Sequences.{PlainStep}
+use Rattle.lrpar_steps.specs.Recovery.{Point}
+use Rattle.lrpar_runs.specs.RepairRun.{IsRepairFailure, RepairRun, RepairStop}
+use Rattle.lrpar_runs.specs.RunAnswer.{IsOneWay}
+use Rattle.lrpar_steps.specs.Sequences.{PlainStep}
 use Rattle.lrpar_parser.specs.Subject.{Subject}
 use Rattle.lrpar_answers.specs.declared.errors.LexParseError.{LexParseError}
 use Rattle.lrpar_answers.specs.declared.errors.LexParseError.TheVariants.{LexError, ParseError}

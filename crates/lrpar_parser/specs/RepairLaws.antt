@@ -4,13 +4,13 @@ use Rattle.std.specs.List.{AllPairs}
 use Rattle.lrpar_grammar.specs.Grammar.{Grammar, end_token}
 use Rattle.lrpar_grammar.specs.Sentence.{IsValidList, LexemeFacts}
 use Rattle.lrpar_states.specs.Table.{Table, Fails}
-use Rattle.lrpar_check.specs.Checked.{Checked, IsChecked}
-use Rattle.lrpar_check.specs.Reduction.{top_action}
-use Rattle.lrpar_check.specs.Stack.{IsStack}
-use Rattle.lrpar_parser.specs.Recovery.{Point}
-use Rattle.lrpar_parser.specs.RepairRun.{RepairRun, RepairStop}
-use Rattle.lrpar_check.specs.Run.{Run, Stop, token_at}
-use Rattle.lrpar_parser.specs.Sequences.{PlainStep, PlainInsert, PlainDelete, PlainShift, CanGoOn, Replays, Works}
+use Rattle.lrpar_safety.specs.Checked.{Checked, IsChecked}
+use Rattle.lrpar_stacks.specs.Reduction.{top_action}
+use Rattle.lrpar_stacks.specs.Stack.{IsStack}
+use Rattle.lrpar_steps.specs.Recovery.{Point}
+use Rattle.lrpar_runs.specs.RepairRun.{RepairRun, RepairStop}
+use Rattle.lrpar_stacks.specs.Run.{Run, Stop, token_at}
+use Rattle.lrpar_steps.specs.Sequences.{PlainStep, PlainInsert, PlainDelete, PlainShift, CanGoOn, Replays, Works}
 
 -- a sequence works exactly where it can be replayed, and k lexemes can be fed after that
 abbrev pub WorksByReplay : Type 0 → Type 0

@@ -1,9 +1,9 @@
 -- What a parse is about.
 use Rattle.std.specs.Prelude.{ℕ, List}
 use Rattle.lrpar_grammar.specs.Sentence.{LexemeFacts}
-use Rattle.lrpar_check.specs.Checked.{Checked}
-use Rattle.lrpar_parser.specs.Recovery.{Point}
-use Rattle.lrpar_parser.specs.Sequences.{PlainStep}
+use Rattle.lrpar_safety.specs.Checked.{Checked}
+use Rattle.lrpar_steps.specs.Recovery.{Point}
+use Rattle.lrpar_steps.specs.Sequences.{PlainStep}
 
 -- the checked table; what is known of a lexeme; which answers the recoverer may give at a point; and how many lexemes have to
 -- follow a repair

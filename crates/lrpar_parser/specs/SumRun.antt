@@ -2,7 +2,7 @@
 use Rattle.std.specs.Prelude.{ℕ, List, [], ◌∷◌, Some}
 use Rattle.lrpar_grammar.specs.Sum.{sum_grammar}
 use Rattle.lrpar_states.specs.Sum.{sum_table}
-use Rattle.lrpar_check.specs.Run.{Run}
+use Rattle.lrpar_stacks.specs.Run.{Run}
 
 -- the tokens of `a+b`
 abbrev pub sum_tokens : List ℕ

@@ -1,10 +1,10 @@
 -- What is answered of a run with repairs, whose value is an entry that stands for a tree.
 use Rattle.std.specs.Prelude.{List, Option, Vec}
 use Rattle.lrpar_answers.specs.declared.errors.LexParseError.{LexParseError}
-use Rattle.lrpar_parser.specs.Building.{Building}
-use Rattle.lrpar_parser.specs.End.{IsOfTree}
+use Rattle.lrpar_steps.specs.Building.{Building}
+use Rattle.lrpar_runs.specs.End.{IsOfTree}
 use Rattle.lrpar_parser.specs.RepairAnswer.{IsRepairAnswer}
-use Rattle.lrpar_parser.specs.RunAnswer.{HasValue}
+use Rattle.lrpar_runs.specs.RunAnswer.{HasValue}
 use Rattle.lrpar_parser.specs.Subject.{Subject}
 
 -- errors, and an entry that stands for a tree of what was consumed, where the run comes to accept

@@ -2,22 +2,23 @@
 //! sequence gives that works.
 ghost use Rattle.std.specs.Prelude.{◌<◌, ◌≤◌, IfOk, IfSome, OnOk, length};
 ghost use Rattle.lrpar_grammar.specs.Sentence.{IsValidList};
-ghost use Rattle.lrpar_check.specs.Stack.{IsStack};
-ghost use Rattle.lrpar_parser.specs.Known.{known};
-ghost use Rattle.lrpar_parser.specs.Mended.{start_at};
+ghost use Rattle.lrpar_stacks.specs.Stack.{IsStack};
+ghost use Rattle.lrpar_steps.specs.Known.{known};
+ghost use Rattle.lrpar_steps.specs.Mended.{start_at};
 ghost use Rattle.lrpar_parser.specs.Mending.{IsListedBy, IsMended, IsNoted};
-ghost use Rattle.lrpar_parser.specs.Moves.{RiseUpTo, StartsRise};
-ghost use Rattle.lrpar_parser.specs.PlainSteps.{plain_sequences};
+ghost use Rattle.lrpar_runs.specs.Moves.{RiseUpTo, StartsRise};
+ghost use Rattle.lrpar_steps.specs.PlainSteps.{plain_sequences};
 ghost use Rattle.lrpar_parser.specs.RepairAnswer.{IsRepairErrorOf};
-ghost use Rattle.lrpar_check.specs.Run.{stop_at};
-ghost use Rattle.lrpar_parser.specs.Standing.{IsRunStack};
+ghost use Rattle.lrpar_stacks.specs.Run.{stop_at};
+ghost use Rattle.lrpar_steps.specs.Standing.{IsRunStack};
 ghost use Rattle.lrpar_parser.specs.TreeAnswer.{IsTreeAnswer};
 
-use crate::building::Build;
-use crate::repair::{Recoverer, RecoveryPoint, RepairStep};
-use crate::run::{Run, end_lexeme};
-use crate::run_stack::Stack;
-use crate::trial::Trial;
+use lrpar_steps::building::Build;
+use crate::repair::{Recoverer, RecoveryPoint};
+use lrpar_steps::steps::RepairStep;
+use lrpar_runs::run::{Run, end_lexeme};
+use lrpar_runs::run_stack::Stack;
+use lrpar_trials::trial::Trial;
 use lrpar_answers::errors::{LexParseError, ParseError};
 use lrpar_grammar::grammar::YaccGrammar;
 use lrpar_grammar::span::StorageIndex;

@@ -1,10 +1,10 @@
 //! What may come next after lexemes: how far they can be fed, and the tokens that can be fed there.
 ghost use Rattle.std.specs.Prelude.{IfOk};
-ghost use Rattle.lrpar_check.specs.Expected.{tokens_of};
-ghost use Rattle.lrpar_check.specs.Stack.{IsStack, states_of};
+ghost use Rattle.lrpar_stacks.specs.Expected.{tokens_of};
+ghost use Rattle.lrpar_stacks.specs.Stack.{IsStack, states_of};
 ghost use Rattle.lrpar_grammar.specs.Sentence.{IsValidList};
 ghost use Rattle.lrpar_parser.specs.ExpectedAnswer.{ComesFurthest, IsExpectedAfter};
-ghost use Rattle.lrpar_parser.specs.Known.{known, token_by};
+ghost use Rattle.lrpar_steps.specs.Known.{known, token_by};
 
 use lrpar_grammar::span::{StIdx, StorageIndex, TIdx};
 use lrpar_lexemes::lex_api::Lexeme;

@@ -1,26 +1,22 @@
 //! Laws about the definitions that contracts cite: each function has one as its contract, and does nothing.
 ghost use Rattle.std.specs.Prelude.{◌≡◌, ◌↔◌, IsTrue};
-ghost use Rattle.lrpar_text.specs.Comparisons.{HashesAs};
-ghost use Rattle.lrpar_check.specs.Chain.{most_productions};
+ghost use Rattle.lrpar_stacks.specs.Chain.{most_productions};
 ghost use Rattle.lrpar_grammar.specs.Sentence.{LexemeFacts};
 ghost use Rattle.lrpar_parser.specs.declared.fault.ParseFault.{ParseFault};
-ghost use Rattle.lrpar_parser.specs.declared.repair.RepairStep.{RepairStep};
-ghost use Rattle.lrpar_parser.specs.PlainSteps.{plain_step};
-ghost use Rattle.lrpar_check.specs.Run.{RunsOneWay};
-ghost use Rattle.lrpar_parser.specs.Known.{facts_by};
+ghost use Rattle.lrpar_stacks.specs.Run.{RunsOneWay};
+ghost use Rattle.lrpar_steps.specs.Known.{facts_by};
 ghost use Rattle.lrpar_parser.specs.RepairLaws.{AcceptsWhereRepaired, ListsSound, RepairRunsOneWay, ReplaysOneWay, RunsWithoutRepairs, StopsAtStacks, StopsByFailing, StopsLieApart, WorksByReplay};
-ghost use Rattle.lrpar_check.specs.RunLaws.{RunsEndOneWay, RunsGoOnOrEnd, RunsStopByFailing};
-ghost use Rattle.lrpar_parser.specs.Spans.{SpansAreWorkedOut};
-ghost use Rattle.lrpar_parser.specs.StepComparisons.{step_input};
+ghost use Rattle.lrpar_stacks.specs.RunLaws.{RunsEndOneWay, RunsGoOnOrEnd, RunsStopByFailing};
 ghost use Rattle.lrpar_parser.specs.SumRun.{SumRunsThrough};
-ghost use Rattle.lrpar_parser.specs.TestWork.{BoundsTests};
 
 use crate::fault::ParseFault;
-use crate::repair::{Recoverer, RepairStep};
+use crate::repair::Recoverer;
+pub use lrpar_builds::laws::spans_are_worked_out;
 use lrpar_grammar::span::StorageIndex;
 use lrpar_lexemes::lex_api::Lexeme;
 pub use lrpar_repairs::laws::repairs_are_compared_by_contents;
-use std::hash::Hash;
+pub use lrpar_steps::laws::steps_are_compared_by_contents;
+pub use lrpar_trials::laws::tests_of_sequences_are_bounded;
 
 /// From a stack at a place there is at most one way to run, over lexemes of any type and over those that contracts speak
 /// of: two runs make the same reductions and end alike, so they have the same stops and consume the same lexemes.
@@ -92,27 +88,6 @@ pub fn runs_with_repairs_have_one_answer<
 pub fn runs_without_a_recoverer<LexemeT>()
     ensures runs { RunsWithoutRepairs LexemeT }
     ensures facts_run { RunsWithoutRepairs LexemeFacts }
-{}
-
-/// The test of a sequence of m steps from a stack of h states makes at most `cap * (h + (m + k + 1) * (cap + 3))` reductions,
-/// whatever the steps, where k lexemes have to follow: those of the steps that can be taken, and of the one at which the test
-/// ends. So it is over a table whose runs never stick and whose reductions are bounded by the cap, as a checked one's are.
-pub fn tests_of_sequences_are_bounded<LexemeT>()
-    ensures tests { BoundsTests LexemeT }
-    ensures facts_tests { BoundsTests LexemeFacts }
-{}
-
-/// The spans of trees whose nodes have no children somewhere: what stands in front of such a node is where it is.
-pub fn spans_are_worked_out()
-    ensures { SpansAreWorkedOut }
-{}
-
-/// Two steps are equal exactly where they are of one kind, and insertions have tokens of one number. A hasher is fed which of the
-/// three a step is, and after that, of an insertion, what it is fed of the token's number.
-pub fn steps_are_compared_by_contents<StorageT: StorageIndex>()
-    ensures equal { (x y : RepairStep StorageT) → IsTrue (⟦<RepairStep<StorageT> as PartialEq>⟧.eq x y)
-        ↔ (plain_step StorageT.index x ≡ plain_step StorageT.index y) }
-    ensures hash { HashesAs (step_input StorageT.hash_input) ⟦<RepairStep<StorageT> as PartialEq>⟧.eq ⟦<RepairStep<StorageT> as Hash>⟧.hash_input }
 {}
 
 /// Two faults of a parse are equal exactly where they are of one kind and name the same lexeme.

@@ -2,7 +2,7 @@
 ghost use Rattle.std.specs.Prelude.{◌≡◌, IfOk, MatchResult, Some, None};
 ghost use Rattle.lrpar_parser.specs.Lexed.{first_error, lexemes_of};
 ghost use Rattle.lrpar_parser.specs.LexemeFault.{IsLexemeFault};
-ghost use Rattle.lrpar_parser.specs.Known.{known};
+ghost use Rattle.lrpar_steps.specs.Known.{known};
 
 use crate::fault::ParseFault;
 use lrpar_grammar::grammar::YaccGrammar;

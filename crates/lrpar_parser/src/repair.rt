@@ -1,37 +1,14 @@
 //! Repairs: what a parse hands to its caller at an error, the sequences that the caller hands back, and two ways to answer.
 ghost use Rattle.std.specs.Prelude.{◌≡◌, [], List, IfOk, IsOk, ⊤};
-ghost use Rattle.lrpar_check.specs.Stack.{states_of};
-ghost use Rattle.lrpar_parser.specs.PlainSteps.{plain_sequences};
-ghost use Rattle.lrpar_parser.specs.Recovery.{Point};
-ghost use Rattle.lrpar_parser.specs.Sequences.{PlainStep};
+ghost use Rattle.lrpar_stacks.specs.Stack.{states_of};
+ghost use Rattle.lrpar_steps.specs.PlainSteps.{plain_sequences};
+ghost use Rattle.lrpar_steps.specs.Recovery.{Point};
+ghost use Rattle.lrpar_steps.specs.Sequences.{PlainStep};
 
-use lrpar_grammar::span::{StIdx, StorageIndex, TIdx};
+pub use lrpar_steps::steps::RepairStep;
+use lrpar_grammar::span::{StIdx, StorageIndex};
 use std::alloc::{AllocError, Global};
 use std::marker::Model;
-
-/// One step of a sequence that is handed in. The steps are those of Diekmann and Tratt, *Don't Panic! Better, Fewer, Syntax
-/// Errors for LR Parsers*.
-#[derive(Debug, Drop, PartialEq, Eq, Hash)]
-pub enum RepairStep<StorageT> {
-    /// A lexeme of the token is put in front of the input that is left.
-    Insert(TIdx<StorageT>),
-    /// The next lexeme of the input is left out.
-    Delete,
-    /// The next lexeme of the input is taken as it is.
-    Shift,
-}
-
-impl<StorageT: Copy> Clone for RepairStep<StorageT> {
-    ghost is_clone = { λ x y. y ≡ x };
-
-    ghost is_infallible = { λ _. ⊤ };
-
-    fn clone(&self) -> Result<Self, AllocError> {
-        Ok(*self)
-    }
-}
-
-impl<StorageT: Copy> Copy for RepairStep<StorageT> {}
 
 /// Where a parse found no action: its lexemes, its place among them and its stack, which are borrowed.
 #[derive(Debug, Drop)]
@@ -42,8 +19,8 @@ pub struct RecoveryPoint<'a, StorageT: StorageIndex, LexemeT> {
 }
 
 impl<'a, StorageT: StorageIndex, LexemeT> Model for RecoveryPoint<'a, StorageT, LexemeT> {
-    ghost use Rattle.lrpar_check.specs.Stack.{states_of};
-    ghost use Rattle.lrpar_parser.specs.Recovery.{Point};
+    ghost use Rattle.lrpar_stacks.specs.Stack.{states_of};
+    ghost use Rattle.lrpar_steps.specs.Recovery.{Point};
 
     ghost Value = { Point LexemeT };
 
@@ -127,8 +104,8 @@ pub struct FixedRecoverer<StorageT: StorageIndex> {
 
 impl<StorageT: StorageIndex> Model for FixedRecoverer<StorageT> {
     ghost use Rattle.std.specs.Prelude.{List};
-    ghost use Rattle.lrpar_parser.specs.PlainSteps.{plain_sequences};
-    ghost use Rattle.lrpar_parser.specs.Sequences.{PlainStep};
+    ghost use Rattle.lrpar_steps.specs.PlainSteps.{plain_sequences};
+    ghost use Rattle.lrpar_steps.specs.Sequences.{PlainStep};
 
     ghost Value = { List (List PlainStep) };
 

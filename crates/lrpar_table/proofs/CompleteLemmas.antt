@@ -12,10 +12,10 @@ use Rattle.lrpar_build.specs.BuilderLaws.{IsWantedTable, WantOneAction, Wants}
 use Rattle.lrpar_build.specs.Canonical.{AreSame, IsCanonical, LeadsTo, StandsBefore, WantsReduce, sets_of}
 use Rattle.lrpar_build.specs.ItemSets.{Added, Adds, IsReachedBy, Own}
 use Rattle.lrpar_build.proofs.ReachedLemmas.{reached_items, symbol_listed}
-use Rattle.lrpar_check.specs.Checked.{Checked, IsChecked}
-use Rattle.lrpar_check.specs.Complete.{IsComplete, IsCompleteAt, StepsOn}
-use Rattle.lrpar_check.specs.declared.completeness.CompletenessCondition.{CompletenessCondition}
-use Rattle.lrpar_check.specs.declared.completeness.CompletenessCondition.TheVariants.{C1, C2, C3, C4, C5}
+use Rattle.lrpar_safety.specs.Checked.{Checked, IsChecked}
+use Rattle.lrpar_complete.specs.Complete.{IsComplete, IsCompleteAt, StepsOn}
+use Rattle.lrpar_complete.specs.declared.completeness.CompletenessCondition.{CompletenessCondition}
+use Rattle.lrpar_complete.specs.declared.completeness.CompletenessCondition.TheVariants.{C1, C2, C3, C4, C5}
 use Rattle.lrpar_check.proofs.SentenceLemmas.{complete_tables_take_sentences}
 use Rattle.lrpar_table.specs.ParserData.{IsParserDataOf}
 use Rattle.lrpar_table.specs.TableLaws.{AmbiguousGrammarsHaveConflicts, BuiltTablesAreCompleteWithoutConflicts, GrammarsWithoutConflictsHaveOneTree}

@@ -6,7 +6,7 @@ use Rattle.lrpar_grammar.specs.Tree.{Tree, Fits, leaves}
 use Rattle.lrpar_states.specs.Graph.{Graph}
 use Rattle.lrpar_states.specs.Table.{Table, IsClosed}
 use Rattle.lrpar_build.specs.Built.{IsBuilt}
-use Rattle.lrpar_check.specs.Complete.{IsComplete}
+use Rattle.lrpar_complete.specs.Complete.{IsComplete}
 
 -- the table is complete exactly where it has no conflicts
 abbrev pub IsCompleteWithoutConflicts : Grammar → Graph → Table → Type 0

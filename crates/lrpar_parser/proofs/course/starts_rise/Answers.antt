@@ -3,8 +3,8 @@ use Rattle.std.proofs.lemmas.List.{length-map}
 use Rattle.std.proofs.lemmas.Option.{same_Some}
 use Rattle.std.specs.List.{slice_get}
 use Rattle.lrpar_grammar.specs.Sentence.{LexemeFacts}
-use Rattle.lrpar_parser.specs.Known.{facts_by}
-use Rattle.lrpar_parser.proofs.ReadLemmas.{last_mapped}
+use Rattle.lrpar_steps.specs.Known.{facts_by}
+use Rattle.lrpar_runs.proofs.ReadLemmas.{last_mapped}
 use Rattle.lrpar_parser.proofs.StartLemmas.{none_past, starts_rise}
 use Rattle.lrpar_parser.proofs.course.starts_rise.Goals as goal
 

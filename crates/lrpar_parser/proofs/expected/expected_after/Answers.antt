@@ -1,7 +1,7 @@
 use Rattle.std.proofs.Common.{List, ℕ, ap, subst}
-use Rattle.lrpar_check.specs.Expected.{AreExpected, tokens_of}
-use Rattle.lrpar_check.specs.Stack.{states_of}
-use Rattle.lrpar_parser.specs.Known.{token_by}
+use Rattle.lrpar_stacks.specs.Expected.{AreExpected, tokens_of}
+use Rattle.lrpar_stacks.specs.Stack.{states_of}
+use Rattle.lrpar_steps.specs.Known.{token_by}
 use Rattle.lrpar_parser.proofs.ExpectedLemmas.{expected_after}
 use Rattle.lrpar_parser.proofs.expected.expected_after.Goals as goal
 

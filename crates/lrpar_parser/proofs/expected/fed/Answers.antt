@@ -1,8 +1,8 @@
 use Rattle.std.proofs.Common.{◌≡◌, ◌∙◌, ◌++◌, ◌∷◌, [], List, ℕ, ap, arith, refl, subst, sym}
 use Rattle.lrpar_check.specs.ExpectedRuns.{FeedsFront}
-use Rattle.lrpar_check.specs.Stack.{IsStack, states_of}
+use Rattle.lrpar_stacks.specs.Stack.{IsStack, states_of}
 use Rattle.lrpar_states.specs.Table.{Table}
-use Rattle.lrpar_parser.specs.Known.{facts_by, token_by}
+use Rattle.lrpar_steps.specs.Known.{facts_by, token_by}
 use Rattle.lrpar_parser.proofs.ExpectedLemmas.{fed_more, fed_none, fed_stops, known_token}
 use Rattle.lrpar_parser.proofs.expected.fed.Goals as goal
 

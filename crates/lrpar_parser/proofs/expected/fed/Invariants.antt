@@ -1,6 +1,6 @@
 use Rattle.lrpar_check.specs.ExpectedRuns.{FeedsFront}
-use Rattle.lrpar_check.specs.Stack.{IsStack, states_of}
-use Rattle.lrpar_parser.specs.Known.{token_by}
+use Rattle.lrpar_stacks.specs.Stack.{IsStack, states_of}
+use Rattle.lrpar_steps.specs.Known.{token_by}
 use Rattle.lrpar_parser.proofs.expected.fed.Given as goal
 
 -- the lexemes so far are fed, which gives the stack

@@ -1,4 +1,4 @@
-use Rattle.lrpar_check.proofs.RunLemmas.{runs_go_on_or_end}
+use Rattle.lrpar_stacks.proofs.RunLemmas.{runs_go_on_or_end}
 use Rattle.lrpar_parser.proofs.laws.runs_go_on_or_end.Goals as goal
 
 pub returns : goal.returns

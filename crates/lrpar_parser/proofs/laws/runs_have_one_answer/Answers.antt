@@ -1,4 +1,4 @@
-use Rattle.lrpar_check.proofs.RunLemmas.{runs_one_way, runs_end_one_way}
+use Rattle.lrpar_stacks.proofs.RunLemmas.{runs_one_way, runs_end_one_way}
 use Rattle.lrpar_parser.proofs.laws.runs_have_one_answer.Goals as goal
 
 pub returns : goal.returns

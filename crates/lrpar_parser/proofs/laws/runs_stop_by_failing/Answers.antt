@@ -1,4 +1,4 @@
-use Rattle.lrpar_check.proofs.RunLemmas.{runs_stop_by_failing}
+use Rattle.lrpar_stacks.proofs.RunLemmas.{runs_stop_by_failing}
 use Rattle.lrpar_parser.proofs.laws.runs_stop_by_failing.Goals as goal
 
 pub returns : goal.returns

@@ -1,6 +1,6 @@
 use Rattle.std.proofs.Common.{List, ℕ, subst}
 use Rattle.std.specs.Result.{OnErr}
-use Rattle.lrpar_check.specs.Expected.{IsListShortOfMemory}
+use Rattle.lrpar_stacks.specs.Expected.{IsListShortOfMemory}
 use Rattle.lrpar_check.proofs.check.ParserData.expected.Goals as goal
 
 pub returns-clause-short_of_memory : goal.returns-clause-short_of_memory

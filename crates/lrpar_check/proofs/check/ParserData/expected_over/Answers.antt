@@ -1,13 +1,13 @@
 use Rattle.std.proofs.Common.{◌≡◌, ◌<◌, ◌≤◌, ◌+◌, ◌∙◌, ◌++◌, ◌∷◌, [], List, ℕ, ap, arith, inl, inr, refl, subst, sym, length, map, slice_index}
 use Rattle.std.proofs.lemmas.Bool.{iff_false}
 use Rattle.std.proofs.lemmas.List.{get_or-map, length-map, map-append}
-use Rattle.lrpar_check.specs.Expected.{IsExpected, laid_over, tokens_of}
-use Rattle.lrpar_check.specs.Overlay.{IsShortOfMemoryOver, Overlaid, overlaid}
-use Rattle.lrpar_check.specs.Stack.{IsStack}
+use Rattle.lrpar_stacks.specs.Expected.{IsExpected, laid_over, tokens_of}
+use Rattle.lrpar_stacks.specs.Overlay.{IsShortOfMemoryOver, Overlaid, overlaid}
+use Rattle.lrpar_stacks.specs.Stack.{IsStack}
 use Rattle.lrpar_states.specs.PlainRows.{plain_action}
 use Rattle.lrpar_states.specs.Table.{actions_at, states_len}
 use Rattle.lrpar_check.proofs.ExpectedLemmas.{AreListed, acts_within, expected_acts_at, laid_over_states, listed_all, listed_more, listed_no_more, some_state, token_within, tokens_ascend, top_within}
-use Rattle.lrpar_check.proofs.SettleLemmas.{on_err_always}
+use Rattle.lrpar_stacks.proofs.SettleLemmas.{on_err_always}
 use Rattle.lrpar_check.proofs.check.ParserData.expected_over.Goals as goal
 use Rattle.lrpar_check.proofs.check.ParserData.expected_over.Goals.{then-branch+in_ok-push, else-branch}
 

@@ -1,6 +1,6 @@
 use Rattle.std.proofs.Common.{◌≡◌}
-use Rattle.lrpar_check.specs.Expected.{IsExpected, tokens_of}
-use Rattle.lrpar_check.specs.Overlay.{overlaid}
+use Rattle.lrpar_stacks.specs.Expected.{IsExpected, tokens_of}
+use Rattle.lrpar_stacks.specs.Overlay.{overlaid}
 use Rattle.lrpar_check.proofs.ExpectedLemmas.{AreListed}
 use Rattle.lrpar_check.proofs.check.ParserData.expected_over.Given as goal
 

@@ -1,8 +1,8 @@
 use Rattle.std.proofs.Common.{vec_capacity}
 use Rattle.std.proofs.lemmas.List.{length-map}
 use Rattle.std.proofs.lemmas.Result.{on_err_weaker}
-use Rattle.lrpar_check.specs.Stack.{states_of}
-use Rattle.lrpar_check.proofs.StackReductionLemmas.{list_feed_short_of_memory}
+use Rattle.lrpar_stacks.specs.Stack.{states_of}
+use Rattle.lrpar_stacks.proofs.StackReductionLemmas.{list_feed_short_of_memory}
 use Rattle.lrpar_check.proofs.check.ParserData.feed.Goals as goal
 
 pub returns-clause-short_of_memory : goal.returns-clause-short_of_memory

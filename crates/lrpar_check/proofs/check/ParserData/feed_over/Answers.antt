@@ -1,5 +1,5 @@
 use Rattle.std.proofs.lemmas.Result.{IfOk-weaker, on_err_weaker}
-use Rattle.lrpar_check.proofs.OverSettleLemmas.{fed_over, feed_short_of_memory_over}
+use Rattle.lrpar_stacks.proofs.OverSettleLemmas.{fed_over, feed_short_of_memory_over}
 use Rattle.lrpar_check.proofs.check.ParserData.feed_over.Goals as goal
 
 pub returns-clause-fed : goal.returns-clause-fed

@@ -1,8 +1,8 @@
 use Rattle.std.proofs.Common.{vec_capacity}
 use Rattle.std.proofs.lemmas.List.{length-map}
-use Rattle.lrpar_check.specs.Stack.{states_of}
-use Rattle.lrpar_check.proofs.SettleLemmas.{on_err_always}
-use Rattle.lrpar_check.proofs.StackReductionLemmas.{list_short_of_memory}
+use Rattle.lrpar_stacks.specs.Stack.{states_of}
+use Rattle.lrpar_stacks.proofs.SettleLemmas.{on_err_always}
+use Rattle.lrpar_stacks.proofs.StackReductionLemmas.{list_short_of_memory}
 use Rattle.lrpar_check.proofs.check.ParserData.settle.Goals as goal
 
 pub returns-in_err-settle_on-clause-short_of_memory : goal.returns-in_err-settle_on-clause-short_of_memory

@@ -1,11 +1,12 @@
 use Rattle.std.proofs.Common.{◌≡◌, ◌<◌, ◌≤◌, ◌+◌, ◌-◌, ◌*◌, ◌^◌, ◌∙◌, ℕ, ap, arith, length, refl, rules, subst, sym}
 use Rattle.std.proofs.Math.Nat.{mul-le-mul_right}
-use Rattle.lrpar_check.specs.Chain.{most_reductions}
-use Rattle.lrpar_check.specs.Reduction.{top_action}
-use Rattle.lrpar_check.specs.Step.{IsStackStep}
-use Rattle.lrpar_check.specs.declared.step.Step.{Step}
-use Rattle.lrpar_check.proofs.SettleLemmas.{run_of_checked, stack_reduced_once, stack_settled_by, stack_states, stays_by_step}
-use Rattle.lrpar_check.proofs.StepLemmas.{no_value, nothing_done}
+use Rattle.lrpar_stacks.specs.Chain.{most_reductions}
+use Rattle.lrpar_stacks.specs.Reduction.{top_action}
+use Rattle.lrpar_stacks.specs.Step.{IsStackStep}
+use Rattle.lrpar_stacks.specs.declared.step.Step.{Step}
+use Rattle.lrpar_check.proofs.CheckedLemmas.{run_of_checked}
+use Rattle.lrpar_stacks.proofs.SettleLemmas.{stack_reduced_once, stack_settled_by, stack_states, stays_by_step}
+use Rattle.lrpar_stacks.proofs.StepLemmas.{no_value, nothing_done}
 use Rattle.lrpar_check.proofs.check.ParserData.settle_on.Goals as goal
 
 pub take_step-requires-clause-within : goal.take_step-requires-clause-within

@@ -1,7 +1,7 @@
 use Rattle.std.proofs.Common.{◌≡◌, ◌-◌, ℕ, List, length}
-use Rattle.lrpar_check.specs.Chain.{most_reductions}
-use Rattle.lrpar_check.specs.Stack.{IsStack}
-use Rattle.lrpar_check.specs.StackReduction.{StackReducesBy}
+use Rattle.lrpar_stacks.specs.Chain.{most_reductions}
+use Rattle.lrpar_stacks.specs.Stack.{IsStack}
+use Rattle.lrpar_stacks.specs.StackReduction.{StackReducesBy}
 use Rattle.lrpar_check.proofs.check.ParserData.settle_on.Given as goal
 
 -- so many reductions made a stack of the one at the start

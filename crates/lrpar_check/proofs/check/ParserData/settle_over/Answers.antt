@@ -1,5 +1,5 @@
-use Rattle.lrpar_check.proofs.OverSettleLemmas.{short_of_memory_over, settled_over}
-use Rattle.lrpar_check.proofs.SettleLemmas.{on_err_always}
+use Rattle.lrpar_stacks.proofs.OverSettleLemmas.{short_of_memory_over, settled_over}
+use Rattle.lrpar_stacks.proofs.SettleLemmas.{on_err_always}
 use Rattle.lrpar_check.proofs.check.ParserData.settle_over.Goals as goal
 
 pub returns-clause-settled : goal.returns-clause-settled

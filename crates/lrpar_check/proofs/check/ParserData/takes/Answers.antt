@@ -1,10 +1,10 @@
 use Rattle.std.proofs.Common.{◌≡◌, ◌∙◌, ap, inl, inr, refl, sym}
-use Rattle.lrpar_check.specs.Overlay.{overlaid}
-use Rattle.lrpar_check.specs.Reduction.{top_action}
+use Rattle.lrpar_stacks.specs.Overlay.{overlaid}
+use Rattle.lrpar_stacks.specs.Reduction.{top_action}
 use Rattle.lrpar_states.specs.PlainRows.{plain_action}
 use Rattle.lrpar_check.proofs.ExpectedLemmas.{accept_expected, fail_unexpected, reduce_unexpected, shift_expected}
-use Rattle.lrpar_check.proofs.OverSettleLemmas.{settled_over, short_of_memory_over}
-use Rattle.lrpar_check.proofs.SettleLemmas.{on_err_always}
+use Rattle.lrpar_stacks.proofs.OverSettleLemmas.{settled_over, short_of_memory_over}
+use Rattle.lrpar_stacks.proofs.SettleLemmas.{on_err_always}
 use Rattle.lrpar_check.proofs.check.ParserData.takes.Goals as goal
 
 pub returns-in_err-settle_on-clause-short_of_memory : goal.returns-in_err-settle_on-clause-short_of_memory

@@ -1,6 +1,6 @@
 use Rattle.std.proofs.Common.{◌≡◌, subst}
 use Rattle.lrpar_parser.specs.CourseView.{subject}
-use Rattle.lrpar_parser.specs.PlainSteps.{plain_sequences}
+use Rattle.lrpar_steps.specs.PlainSteps.{plain_sequences}
 use Rattle.lrpar_parser.proofs.CourseLemmas.{listed_ok}
 use Rattle.lrpar_parser.proofs.course.Course.listed.Goals as goal
 

@@ -1,9 +1,9 @@
 use Rattle.std.proofs.Common.{List, None, Some, refl, subst, sym}
-use Rattle.lrpar_check.proofs.StackLemmas.{path_is_stack}
+use Rattle.lrpar_stacks.proofs.StackLemmas.{path_is_stack}
 use Rattle.lrpar_parser.specs.CourseView.{subject}
 use Rattle.lrpar_parser.specs.Mending.{GoesOnBy, IsListedBy}
-use Rattle.lrpar_parser.specs.PlainSteps.{plain_sequences, plain_steps}
-use Rattle.lrpar_parser.specs.Sequences.{PlainStep}
+use Rattle.lrpar_steps.specs.PlainSteps.{plain_sequences, plain_steps}
+use Rattle.lrpar_steps.specs.Sequences.{PlainStep}
 use Rattle.lrpar_parser.proofs.CourseLemmas.{first_replays, first_sequence, no_sequence}
 use Rattle.lrpar_parser.proofs.course.Course.mend.Goals as goal
 

@@ -2,7 +2,7 @@ use Rattle.std.proofs.Common.{◌≡◌, ◌∙◌, [], None, Some, List, ap, ar
 use Rattle.std.specs.List.{AllZip}
 use Rattle.lrpar_parser.specs.CourseView.{subject}
 use Rattle.lrpar_parser.specs.RepairAnswer.{IsRepairErrorOf}
-use Rattle.lrpar_parser.specs.Standing.{Stacked}
+use Rattle.lrpar_steps.specs.Standing.{Stacked}
 use Rattle.lrpar_parser.proofs.CourseLemmas.{accepted_answer, stop_ends, stop_feeds, stop_goes_on, stop_smaller, there_accepts, there_first}
 use Rattle.lrpar_parser.proofs.course.Course.over.Goals as goal
 

@@ -2,12 +2,12 @@ use Rattle.std.proofs.Common.{◌<◌, ◌≤◌, ◌+◌, ◌-◌, List, length
 use Rattle.std.specs.List.{AllZip}
 use Rattle.std.specs.Prelude.{map}
 use Rattle.lrpar_parser.specs.CourseView.{subject}
-use Rattle.lrpar_parser.specs.Mended.{start_at}
-use Rattle.lrpar_parser.specs.Moves.{RiseUpTo}
+use Rattle.lrpar_steps.specs.Mended.{start_at}
+use Rattle.lrpar_runs.specs.Moves.{RiseUpTo}
 use Rattle.lrpar_parser.specs.RepairAnswer.{IsRepairErrorOf}
-use Rattle.lrpar_parser.specs.RepairRun.{RepairStop}
-use Rattle.lrpar_parser.specs.Sequences.{CanGoOn}
-use Rattle.lrpar_parser.specs.Standing.{IsRunStack}
+use Rattle.lrpar_runs.specs.RepairRun.{RepairStop}
+use Rattle.lrpar_steps.specs.Sequences.{CanGoOn}
+use Rattle.lrpar_steps.specs.Standing.{IsRunStack}
 use Rattle.lrpar_parser.proofs.CourseLemmas.{IsThere}
 use Rattle.lrpar_parser.proofs.course.Course.over.Given as goal
 

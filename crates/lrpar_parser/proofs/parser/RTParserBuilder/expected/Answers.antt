@@ -1,5 +1,5 @@
 use Rattle.std.proofs.Common.{◌≡◌, ap, inr}
-use Rattle.lrpar_parser.specs.Known.{facts_by}
+use Rattle.lrpar_steps.specs.Known.{facts_by}
 use Rattle.lrpar_parser.proofs.ExpectedLemmas.{after_is_answer, fault_is_answer}
 use Rattle.lrpar_parser.proofs.parser.RTParserBuilder.expected.Goals as goal
 

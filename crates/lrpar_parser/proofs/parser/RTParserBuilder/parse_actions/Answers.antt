@@ -1,4 +1,4 @@
-use Rattle.lrpar_parser.specs.Known.{span_by, token_by}
+use Rattle.lrpar_steps.specs.Known.{span_by, token_by}
 use Rattle.lrpar_parser.specs.Parser.{subject}
 use Rattle.lrpar_parser.proofs.ActedLemmas.{acted_parse, is_value, told}
 use Rattle.lrpar_parser.proofs.ParseLemmas.{refusal_as}

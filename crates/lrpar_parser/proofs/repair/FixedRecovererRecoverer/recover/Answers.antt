@@ -1,6 +1,6 @@
 use Rattle.std.proofs.Common.{◌∙◌}
 use Rattle.std.proofs.lemmas.Result.{MatchResult-weaker}
-use Rattle.lrpar_parser.proofs.SequenceLemmas.{sequences_clone}
+use Rattle.lrpar_steps.proofs.SequenceLemmas.{sequences_clone}
 use Rattle.lrpar_parser.proofs.repair.FixedRecovererRecoverer.recover.Goals as goal
 
 pub returns : goal.returns

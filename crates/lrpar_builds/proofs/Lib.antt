@@ -1,0 +1,2 @@
+pub mod PlacedLemmas
+pub mod ReversedLemmas

@@ -1,0 +1,9 @@
+pub mod Folds
+pub mod Made
+pub mod Entries
+pub mod Nodes
+pub mod Spans
+pub mod Arguments
+pub mod Acted
+pub mod Placed
+pub mod PlacedRising

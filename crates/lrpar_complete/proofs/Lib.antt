@@ -1,0 +1,2 @@
+pub mod FirstTokenLemmas
+pub mod ItemwiseLemmas

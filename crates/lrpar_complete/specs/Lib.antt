@@ -1,0 +1,3 @@
+pub mod Completeness
+pub mod Complete
+pub mod Itemwise

@@ -1,0 +1,8 @@
+pub mod ListLemmas
+pub mod ReadLemmas
+pub mod ReducingLemmas
+pub mod StackedLemmas
+pub mod StandingLemmas
+pub mod RisingLemmas
+pub mod MovesLemmas
+pub mod FarLemmas

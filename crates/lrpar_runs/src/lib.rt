@@ -1,0 +1,8 @@
+//! The run of a parse over its stack: shifts, reductions, and the replay of repairs.
+#![tactic(auto)]
+
+mod far;
+mod reducing;
+pub mod replay;
+pub mod run;
+pub mod run_stack;

@@ -1,0 +1,3 @@
+pub mod SafetyLemmas
+pub mod ChainEntryLemmas
+pub mod EntryTests

@@ -1,0 +1,2 @@
+pub mod Entrywise
+pub mod Checked

@@ -1,0 +1,12 @@
+pub mod TestLemmas
+pub mod Reductions
+pub mod PathLemmas
+pub mod StackLemmas
+pub mod ChainLemmas
+pub mod ChainTests
+pub mod StepLemmas
+pub mod SettleLemmas
+pub mod StackReductionLemmas
+pub mod OverlayLemmas
+pub mod OverSettleLemmas
+pub mod RunLemmas

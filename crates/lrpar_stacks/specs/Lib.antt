@@ -1,0 +1,11 @@
+pub mod Stack
+pub mod Reduction
+pub mod Path
+pub mod Chain
+pub mod Step
+pub mod Settled
+pub mod StackReduction
+pub mod Overlay
+pub mod Expected
+pub mod Run
+pub mod RunLaws

@@ -1,0 +1,3 @@
+pub mod TokenLemmas
+pub mod SequenceLemmas
+pub mod StepComparisonLemmas

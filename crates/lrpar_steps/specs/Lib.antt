@@ -1,0 +1,10 @@
+pub mod Known
+pub mod Sequences
+pub mod PlainSteps
+pub mod Mended
+pub mod Recovery
+pub mod StepComparisons
+pub mod Building
+pub mod Rising
+pub mod Standing
+pub mod ZipLaws

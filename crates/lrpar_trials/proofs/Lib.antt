@@ -1,0 +1,3 @@
+pub mod ListedLemmas
+pub mod TestWorkLemmas
+pub mod TrialLemmas

@@ -1,0 +1,3 @@
+pub mod TestWork
+pub mod Counting
+pub mod TrialView
