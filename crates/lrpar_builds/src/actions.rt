@@ -12,12 +12,12 @@ ghost use Rattle.lrpar_builds.specs.Placed.{IsPlacedLexeme, IsPlacedValue, argum
 ghost use Rattle.lrpar_builds.specs.PlacedRising.{placed_rise};
 ghost use Rattle.lrpar_builds.specs.Spans.{Rise, span_over};
 
-use lrpar_steps::building::Build;
 use crate::top::made_of_top;
 use crate::values::AStackType;
 use lrpar_grammar::grammar::YaccGrammar;
 use lrpar_grammar::span::{PIdx, RIdx, Span, StorageIndex, Symbol};
 use lrpar_lexemes::lex_api::Lexeme;
+use lrpar_steps::building::Build;
 use std::alloc::{AllocError, Global};
 
 /// What makes the values of a parse by `parse_actions`, production by production. An implementation states three things:

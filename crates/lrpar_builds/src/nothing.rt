@@ -1,10 +1,10 @@
 //! Nothing is built: a parse gives its errors alone.
 ghost use Rattle.std.specs.Prelude.{◌≡◌, ◌≤◌, ◌-◌, OnOk, length, take};
 
-use lrpar_steps::building::Build;
 use lrpar_grammar::grammar::YaccGrammar;
 use lrpar_grammar::span::{PIdx, StorageIndex};
 use lrpar_lexemes::lex_api::Lexeme;
+use lrpar_steps::building::Build;
 use std::alloc::{AllocError, Global};
 
 /// Builds nothing, and makes no list.

@@ -5,11 +5,11 @@ ghost use Rattle.lrpar_grammar.specs.Grammar.{Nonterminal, rule_of, start_prod};
 ghost use Rattle.lrpar_builds.specs.Entries.{Gives, IsLexemeEntry, IsMadeEntry, SuitsSymbol};
 ghost use Rattle.lrpar_builds.specs.Made.{made_by};
 
-use lrpar_steps::building::Build;
 use crate::top::made_of_top;
 use lrpar_grammar::grammar::YaccGrammar;
 use lrpar_grammar::span::{PIdx, RIdx, StorageIndex};
 use lrpar_lexemes::lex_api::Lexeme;
+use lrpar_steps::building::Build;
 use std::alloc::{AllocError, Global};
 use std::marker::PhantomData;
 

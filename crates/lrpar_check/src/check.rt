@@ -9,14 +9,14 @@ ghost use Rattle.lrpar_safety.specs.Checked.{IsChainFault, IsChecked, IsCheckFau
 ghost use Rattle.lrpar_stacks.specs.Step.{FitsGrammar};
 ghost use Rattle.lrpar_safety.specs.declared.fault.CheckFault.TheVariants.{Memory};
 
-use lrpar_safety::chains::are_short;
 pub use lrpar_complete::complete_fault::CompleteFault;
 pub use lrpar_complete::completeness::CompletenessCondition;
-pub use lrpar_safety::fault::CheckFault;
-pub use lrpar_stacks::overlay::Overlay;
-use lrpar_safety::safety::Parts;
 use lrpar_grammar::grammar::YaccGrammar;
 use lrpar_grammar::span::StorageIndex;
+use lrpar_safety::chains::are_short;
+pub use lrpar_safety::fault::CheckFault;
+use lrpar_safety::safety::Parts;
+pub use lrpar_stacks::overlay::Overlay;
 pub use lrpar_states::condition::SafetyCondition;
 use lrpar_states::table::{StateGraph, StateTable};
 use std::alloc::Global;

@@ -5,9 +5,9 @@ ghost use Rattle.lrpar_stacks.specs.Overlay.{IsShortOfMemoryOver, overlaid};
 ghost use Rattle.lrpar_stacks.specs.Stack.{IsStack, states_of};
 
 use crate::check::ParserData;
+use lrpar_grammar::span::{StIdx, StorageIndex, TIdx};
 use lrpar_stacks::overlay::Overlay;
 use lrpar_stacks::probe::Probe;
-use lrpar_grammar::span::{StIdx, StorageIndex, TIdx};
 use lrpar_states::table::Action;
 use std::alloc::{AllocError, Global};
 

@@ -8,10 +8,10 @@ ghost use Rattle.lrpar_stacks.specs.StackReduction.{IsStackFedBy, IsStackShortOf
 ghost use Rattle.lrpar_states.specs.PlainRows.{plain_action};
 
 use crate::check::ParserData;
+use lrpar_grammar::span::{StIdx, StorageIndex, TIdx};
 use lrpar_stacks::overlay::Overlay;
 use lrpar_stacks::state_stack::{Settled, ShiftStack, StateStack};
 use lrpar_stacks::step::{Step, take_step};
-use lrpar_grammar::span::{StIdx, StorageIndex, TIdx};
 use lrpar_states::table::Action;
 use std::alloc::AllocError;
 

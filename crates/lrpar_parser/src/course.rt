@@ -13,16 +13,16 @@ ghost use Rattle.lrpar_stacks.specs.Run.{stop_at};
 ghost use Rattle.lrpar_steps.specs.Standing.{IsRunStack};
 ghost use Rattle.lrpar_parser.specs.TreeAnswer.{IsTreeAnswer};
 
-use lrpar_steps::building::Build;
 use crate::repair::{Recoverer, RecoveryPoint};
-use lrpar_steps::steps::RepairStep;
-use lrpar_runs::run::{Run, end_lexeme};
-use lrpar_runs::run_stack::Stack;
-use lrpar_trials::trial::Trial;
 use lrpar_answers::errors::{LexParseError, ParseError};
 use lrpar_grammar::grammar::YaccGrammar;
 use lrpar_grammar::span::StorageIndex;
 use lrpar_lexemes::lex_api::{Lexeme, LexerTypes};
+use lrpar_runs::run::{Run, end_lexeme};
+use lrpar_runs::run_stack::Stack;
+use lrpar_steps::building::Build;
+use lrpar_steps::steps::RepairStep;
+use lrpar_trials::trial::Trial;
 use std::alloc::{AllocError, Global};
 
 /// What the course of a run is made by: what goes on and what is built, the lexemes, the recoverer, and how many lexemes

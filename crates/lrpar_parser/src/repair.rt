@@ -5,8 +5,8 @@ ghost use Rattle.lrpar_steps.specs.PlainSteps.{plain_sequences};
 ghost use Rattle.lrpar_steps.specs.Recovery.{Point};
 ghost use Rattle.lrpar_steps.specs.Sequences.{PlainStep};
 
-pub use lrpar_steps::steps::RepairStep;
 use lrpar_grammar::span::{StIdx, StorageIndex};
+pub use lrpar_steps::steps::RepairStep;
 use std::alloc::{AllocError, Global};
 use std::marker::Model;
 

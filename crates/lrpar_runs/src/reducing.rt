@@ -1,12 +1,12 @@
 //! The stacks of a run while they are reduced: a stack of states of which each reduction makes an entry.
 ghost use Rattle.std.specs.Prelude.{◌≡◌, ◌<◌, ◌-◌, [], ◌∷◌, ◌++◌, length, take, OnOk, OnErr};
 
-use lrpar_steps::building::Build;
 use crate::run_stack::Stack;
-use lrpar_stacks::state_stack::{Reduction, StateStack};
 use lrpar_grammar::grammar::YaccGrammar;
 use lrpar_grammar::span::{StIdx, StorageIndex};
 use lrpar_lexemes::lex_api::Lexeme;
+use lrpar_stacks::state_stack::{Reduction, StateStack};
+use lrpar_steps::building::Build;
 use std::alloc::{AllocError, Global};
 use std::marker::PhantomData;
 

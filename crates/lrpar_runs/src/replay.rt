@@ -12,12 +12,12 @@ ghost use Rattle.lrpar_steps.specs.PlainSteps.{plain_step, plain_steps};
 ghost use Rattle.lrpar_runs.specs.Stacked.{Shifts};
 ghost use Rattle.lrpar_steps.specs.Standing.{IsRunStack};
 
-use lrpar_steps::building::Build;
-use lrpar_steps::steps::RepairStep;
 use crate::run::Run;
 use crate::run_stack::Stack;
 use lrpar_grammar::span::StorageIndex;
 use lrpar_lexemes::lex_api::Lexeme;
+use lrpar_steps::building::Build;
+use lrpar_steps::steps::RepairStep;
 use std::alloc::{AllocError, Global};
 
 impl<'a, StorageT: StorageIndex, LexemeT: Lexeme<StorageT>, B: Build<StorageT, LexemeT>> Run<
@@ -139,9 +139,7 @@ pub fn start_of<StorageT: StorageIndex, LexemeT: Lexeme<StorageT>>(
 }
 
 /// Where the last lexeme ends; 0 where there is none.
-pub fn end_of<StorageT: StorageIndex, LexemeT: Lexeme<StorageT>>(
-    lexemes: &[LexemeT],
-) -> usize
+pub fn end_of<StorageT: StorageIndex, LexemeT: Lexeme<StorageT>>(lexemes: &[LexemeT]) -> usize
     ensures { result ≡ last_end (known StorageT.index LexemeT.parts lexemes.now) }
 {
     match lexemes.last() {

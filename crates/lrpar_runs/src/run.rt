@@ -9,14 +9,14 @@ ghost use Rattle.lrpar_steps.specs.Known.{facts_by, known};
 ghost use Rattle.lrpar_steps.specs.Standing.{IsRunStack};
 ghost use Rattle.lrpar_runs.specs.Stacked.{SettlesTo, Shifts, Sticks};
 
-use lrpar_steps::building::Build;
 use crate::reducing::Reducing;
 use crate::replay::end_of;
 use crate::run_stack::Stack;
+use lrpar_check::check::ParserData;
 use lrpar_grammar::span::{StorageIndex, TIdx};
 use lrpar_lexemes::lex_api::Lexeme;
-use lrpar_check::check::ParserData;
 use lrpar_states::table::Action;
+use lrpar_steps::building::Build;
 use std::alloc::{AllocError, Global};
 use std::marker::PhantomData;
 

@@ -5,11 +5,11 @@ ghost use Rattle.lrpar_stacks.specs.Stack.{states_of, top_of};
 ghost use Rattle.lrpar_grammar.specs.Grammar.{prod_len, rule_of, start_prod, symbols_of};
 ghost use Rattle.lrpar_runs.specs.Reducing.{IsBuiltOf};
 
-use lrpar_steps::building::Build;
-use lrpar_stacks::state_stack::{Reduction, StateStack};
 use lrpar_grammar::grammar::YaccGrammar;
 use lrpar_grammar::span::{StIdx, StorageIndex};
 use lrpar_lexemes::lex_api::Lexeme;
+use lrpar_stacks::state_stack::{Reduction, StateStack};
+use lrpar_steps::building::Build;
 use std::alloc::{AllocError, Global};
 use std::marker::Model;
 

@@ -8,9 +8,9 @@ ghost use Rattle.lrpar_stacks.specs.Step.{FitsGrammar};
 ghost use Rattle.lrpar_states.specs.Table.{IsClosed, IsGotoWithin, ReduceBy, states_len};
 
 use crate::fault::CheckFault;
-use lrpar_stacks::step::{Step, take_step};
 use lrpar_grammar::grammar::YaccGrammar;
 use lrpar_grammar::span::{StIdx, StorageIndex, TIdx};
+use lrpar_stacks::step::{Step, take_step};
 use lrpar_states::table::{Action, StateTable};
 use std::alloc::{AllocError, Global};
 
@@ -23,11 +23,7 @@ struct Chains<'a, StorageT: StorageIndex> {
 }
 
 impl<'a, StorageT: StorageIndex> Chains<'a, StorageT> {
-    fn new(
-        grm: &'a YaccGrammar<StorageT>,
-        stable: &'a StateTable<StorageT>,
-        cap: u16,
-    ) -> Self
+    fn new(grm: &'a YaccGrammar<StorageT>, stable: &'a StateTable<StorageT>, cap: u16) -> Self
         ensures grammar { result.grm.now ≡ grm.now }
         ensures table { result.stable.now ≡ stable.now }
         ensures cap { result.cap ≡ cap }

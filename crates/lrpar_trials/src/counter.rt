@@ -9,8 +9,8 @@ ghost use Rattle.lrpar_states.specs.Table.{Accepts};
 ghost use Rattle.lrpar_trials.specs.Counting.{AreCounted, CostsAtMost, IsSettledAndCounted};
 ghost use Rattle.lrpar_steps.specs.Sequences.{IsTokenFed};
 
-use lrpar_grammar::span::{StIdx, StorageIndex, TIdx};
 use lrpar_check::check::{Overlay, ParserData};
+use lrpar_grammar::span::{StIdx, StorageIndex, TIdx};
 use lrpar_states::table::Action;
 use std::alloc::{AllocError, Global};
 use std::marker::Model;

@@ -11,11 +11,11 @@ ghost use Rattle.lrpar_repairs.specs.Repairs.{repair_of, repairs_of};
 ghost use Rattle.lrpar_steps.specs.Sequences.{PlainInsert, PlainShift, PlainStep, AreThoseWith};
 
 use crate::counter::Counter;
-use lrpar_steps::steps::RepairStep;
 use lrpar_answers::errors::ParseRepair;
+use lrpar_check::check::ParserData;
 use lrpar_grammar::span::{StIdx, StorageIndex, TIdx};
 use lrpar_lexemes::lex_api::Lexeme;
-use lrpar_check::check::ParserData;
+use lrpar_steps::steps::RepairStep;
 use std::alloc::{AllocError, Global};
 
 /// What sequences are tested by: the checked table and the lexemes of a parse, and how many lexemes have to follow a repair.
@@ -29,11 +29,7 @@ pub struct Trial<'a, StorageT: StorageIndex, LexemeT> {
 impl<'a, StorageT: StorageIndex, LexemeT: Lexeme<StorageT>> Trial<'a, StorageT, LexemeT> {
     ghost use Rattle.lrpar_trials.specs.TrialView.{GoesOnFrom, IsTakenBy, WorksBy};
 
-    pub fn new(
-        checked: &'a ParserData<StorageT>,
-        lexemes: &'a [LexemeT],
-        shifts: usize,
-    ) -> Self
+    pub fn new(checked: &'a ParserData<StorageT>, lexemes: &'a [LexemeT], shifts: usize) -> Self
         ensures checked { result.checked.now ≡ checked.now }
         ensures lexemes { result.lexemes.now ≡ lexemes.now }
         ensures shifts { result.shifts ≡ shifts }
