@@ -1,6 +1,7 @@
 //! The loop check: whether each chain of reductions under one token is short.
-ghost use Rattle.std.specs.Prelude.{◌≡◌, ◌<◌, ◌+◌, ◌↔◌, ◌∷◌, ℕ, All, IsTrue, IfOk, MatchOption, length};
+ghost use Rattle.std.specs.Prelude.{◌≡◌, ◌<◌, ◌+◌, ◌↔◌, ◌∷◌, ℕ, All, IsTrue, IfErr, IfOk, MatchOption, OnOk, length};
 ghost use Rattle.std.specs.Option.{option_to_list};
+ghost use Rattle.lrpar_safety.specs.Checked.{IsChainFault};
 ghost use Rattle.lrpar_stacks.specs.Chain.{AreChainsShort, HasReductions, IsLongChain, IsShortUntil};
 ghost use Rattle.lrpar_states.specs.PlainRows.{plain_action, plain_goto};
 ghost use Rattle.lrpar_stacks.specs.Stack.{states_of};
