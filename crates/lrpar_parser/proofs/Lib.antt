@@ -6,6 +6,7 @@ pub mod ActedLemmas
 pub mod SumLemmas
 pub mod RepairRunLemmas
 pub mod StopStackLemmas
+pub mod AskedLemmas
 pub mod RepairWayLemmas
 pub mod CompleteAnswerLemmas
 pub mod CourseLemmas

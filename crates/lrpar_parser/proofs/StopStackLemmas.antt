@@ -11,7 +11,8 @@ use Rattle.lrpar_stacks.specs.Reduction.{Feeds, Settles, top_action}
 use Rattle.lrpar_stacks.specs.Stack.{IsStack}
 use Rattle.lrpar_stacks.proofs.ChainLemmas.{bounds_reductions}
 use Rattle.lrpar_stacks.proofs.PathLemmas.{checked_runs_never_stick}
-use Rattle.lrpar_stacks.proofs.SettleLemmas.{IsRun, run_of_checked, stack_reduced, stack_shifted}
+use Rattle.lrpar_check.proofs.CheckedLemmas.{run_of_checked}
+use Rattle.lrpar_stacks.proofs.SettleLemmas.{IsRun, stack_reduced, stack_shifted}
 use Rattle.lrpar_stacks.proofs.StackLemmas.{stack_has_path}
 use Rattle.lrpar_steps.specs.Recovery.{Point}
 use Rattle.lrpar_parser.specs.RepairLaws.{StopsAtStacks, StopsByFailing}
@@ -121,7 +122,7 @@ module _ {X : Type 0} (facts : X → LexemeFacts) (allows : Point X → List (Li
       All-cons Fails_at (record { stop = stop; listed = first ∷ listed }) found fails (run_fails after j found consumed rest next more)
 
 -- no lexeme of a valid list has the end token
-keeps_off_end : {X : Type 0} (facts : X → LexemeFacts) (g : Grammar) (lexemes : List X) → IsValidList g (map facts lexemes) → KeepOffEnd (λ x. (facts x).token) g lexemes
+pub keeps_off_end : {X : Type 0} (facts : X → LexemeFacts) (g : Grammar) (lexemes : List X) → IsValidList g (map facts lexemes) → KeepOffEnd (λ x. (facts x).token) g lexemes
 keeps_off_end {X} facts g lexemes valid j within same =
     let token : X → ℕ = λ x. (facts x).token in
     elim (slice_get_cases lexemes j).1 as (λ _. ⊥) [

@@ -1,3 +1,4 @@
+pub mod Asked
 pub mod Lexed
 pub mod LexemeFault
 pub mod SumRun

@@ -1,15 +1,17 @@
 //! The course of a run with repairs: where it stops, the recoverer is asked once, and the run goes on from what the first
 //! sequence gives that works.
-ghost use Rattle.std.specs.Prelude.{◌<◌, ◌≤◌, IfOk, IfSome, OnOk, length};
+ghost use Rattle.std.specs.Prelude.{◌≡◌, ◌<◌, ◌≤◌, IfOk, IfSome, OnOk, length};
 ghost use Rattle.lrpar_grammar.specs.Sentence.{IsValidList};
 ghost use Rattle.lrpar_stacks.specs.Stack.{IsStack};
-ghost use Rattle.lrpar_steps.specs.Known.{known};
+ghost use Rattle.lrpar_stacks.specs.Reduction.{top_action};
+ghost use Rattle.lrpar_steps.specs.Known.{token_by, known};
 ghost use Rattle.lrpar_steps.specs.Mended.{start_at};
 ghost use Rattle.lrpar_parser.specs.Mending.{IsListedBy, IsMended, IsNoted};
 ghost use Rattle.lrpar_runs.specs.Moves.{RiseUpTo, StartsRise};
 ghost use Rattle.lrpar_steps.specs.PlainSteps.{plain_sequences};
 ghost use Rattle.lrpar_parser.specs.RepairAnswer.{IsRepairErrorOf};
-ghost use Rattle.lrpar_stacks.specs.Run.{stop_at};
+ghost use Rattle.lrpar_stacks.specs.Run.{stop_at, token_at};
+ghost use Rattle.lrpar_states.specs.Table.{Fails};
 ghost use Rattle.lrpar_steps.specs.Standing.{IsRunStack};
 ghost use Rattle.lrpar_parser.specs.TreeAnswer.{IsTreeAnswer};
 
@@ -93,6 +95,9 @@ impl<
         requires run_stack { IsRunStack (B.builds self.now.run.build.now).suits self.now.run.checked.now.table stack.old }
         requires rises { RiseUpTo (B.builds self.now.run.build.now).rises stack.old.entries
             (start_at (known StorageT.index LexerTypesT.LexemeT.parts self.now.lexemes.now) stop) }
+        requires shifts { 0 < self.now.shifts }
+        requires fails { top_action self.now.run.checked.now.table (token_at (token_by StorageT.index LexerTypesT.LexemeT.parts)
+            self.now.run.checked.now.grammar self.now.lexemes.now stop) stack.old.states ≡ Fails }
         requires within { stop ≤ length self.now.lexemes.now }
         ensures run_stack { OnOk result (IsRunStack (B.builds self.now.run.build.now).suits self.now.run.checked.now.table stack.new) }
         ensures rises { IfOk result (λ next. IfSome next (λ place. RiseUpTo (B.builds self.now.run.build.now).rises stack.new.entries
@@ -121,7 +126,10 @@ impl<
         errors: &mut Vec<LexParseError<StorageT, LexerTypesT>>,
     ) -> Result<Vec<Vec<RepairStep<StorageT>>>, AllocError>
         requires valid { IsValidList self.now.run.checked.now.grammar (known StorageT.index LexerTypesT.LexemeT.parts self.now.lexemes.now) }
+        requires shifts { 0 < self.now.shifts }
         requires stack { IsStack self.now.run.checked.now.table stack.now.states }
+        requires fails { top_action self.now.run.checked.now.table (token_at (token_by StorageT.index LexerTypesT.LexemeT.parts)
+            self.now.run.checked.now.grammar self.now.lexemes.now place) stack.now.states ≡ Fails }
         requires some { 0 < length stack.now.states }
         requires within { place ≤ length self.now.lexemes.now }
         ensures noted { IfOk result (λ listed. IsNoted (subject StorageT.index LexerTypesT.LexemeT.parts R.allows self.now) self.now.lexemes.now
@@ -140,19 +148,20 @@ impl<
         place: usize,
     ) -> Result<Vec<Vec<RepairStep<StorageT>>>, AllocError>
         requires valid { IsValidList self.now.run.checked.now.grammar (known StorageT.index LexerTypesT.LexemeT.parts self.now.lexemes.now) }
+        requires shifts { 0 < self.now.shifts }
         requires stack { IsStack self.now.run.checked.now.table stack.now.states }
+        requires fails { top_action self.now.run.checked.now.table (token_at (token_by StorageT.index LexerTypesT.LexemeT.parts)
+            self.now.run.checked.now.grammar self.now.lexemes.now place) stack.now.states ≡ Fails }
         requires within { place ≤ length self.now.lexemes.now }
         ensures listed { IfOk result (λ listed. IsListedBy (subject StorageT.index LexerTypesT.LexemeT.parts R.allows self.now) self.now.lexemes.now
             (stop_at stack.now.states place) (plain_sequences StorageT.index listed.items)) }
     {
-        let point = RecoveryPoint::new(self.lexemes, place, stack.states());
+        // The table is a checked one.
+        let _table = self.run.checked.stable();
+        let states = stack.states();
+        let point = RecoveryPoint::new(self.run.checked, self.shifts, self.lexemes, place, states);
         let answer = self.recoverer.recover(alloc, &point)?;
-        Trial::new(self.run.checked, self.lexemes, self.shifts).listed(
-            alloc,
-            stack.states(),
-            place,
-            answer,
-        )
+        Trial::new(self.run.checked, self.lexemes, self.shifts).listed(alloc, states, place, answer)
     }
 
     // The error of the stop, at which these sequences are listed.

@@ -1,10 +1,12 @@
 //! Laws about the definitions that contracts cite: each function has one as its contract, and does nothing.
-ghost use Rattle.std.specs.Prelude.{◌≡◌, ◌↔◌, IsTrue};
+ghost use Rattle.std.specs.Prelude.{◌≡◌, ◌↔◌, ℕ, IsTrue};
 ghost use Rattle.lrpar_stacks.specs.Chain.{most_productions};
 ghost use Rattle.lrpar_grammar.specs.Sentence.{LexemeFacts};
 ghost use Rattle.lrpar_parser.specs.declared.fault.ParseFault.{ParseFault};
 ghost use Rattle.lrpar_stacks.specs.Run.{RunsOneWay};
 ghost use Rattle.lrpar_steps.specs.Known.{facts_by};
+ghost use Rattle.lrpar_parser.specs.Asked.{allowed_at};
+ghost use Rattle.lrpar_safety.specs.Checked.{Checked};
 ghost use Rattle.lrpar_parser.specs.RepairLaws.{AcceptsWhereRepaired, ListsSound, RepairRunsOneWay, ReplaysOneWay, RunsWithoutRepairs, StopsAtStacks, StopsByFailing, StopsLieApart, WorksByReplay};
 ghost use Rattle.lrpar_stacks.specs.RunLaws.{RunsEndOneWay, RunsGoOnOrEnd, RunsStopByFailing};
 ghost use Rattle.lrpar_parser.specs.SumRun.{SumRunsThrough};
@@ -66,11 +68,11 @@ pub fn runs_with_repairs_are_sound<
     LexemeT: Lexeme<StorageT>,
     R: Recoverer<StorageT, LexemeT>,
 >()
-    ensures sound { (r : R) → ListsSound (facts_by StorageT.index LexemeT.parts) (R.allows r) }
-    ensures apart { (r : R) → StopsLieApart (facts_by StorageT.index LexemeT.parts) (R.allows r) }
-    ensures accepts { (r : R) → AcceptsWhereRepaired (facts_by StorageT.index LexemeT.parts) (R.allows r) }
-    ensures stacks { (r : R) → StopsAtStacks (facts_by StorageT.index LexemeT.parts) (R.allows r) }
-    ensures fails { (r : R) → StopsByFailing (facts_by StorageT.index LexemeT.parts) (R.allows r) }
+    ensures sound { (r : R) (d : Checked) (k : ℕ) → ListsSound (facts_by StorageT.index LexemeT.parts) (allowed_at (R.allows r) d k) }
+    ensures apart { (r : R) (d : Checked) (k : ℕ) → StopsLieApart (facts_by StorageT.index LexemeT.parts) (allowed_at (R.allows r) d k) }
+    ensures accepts { (r : R) (d : Checked) (k : ℕ) → AcceptsWhereRepaired (facts_by StorageT.index LexemeT.parts) (allowed_at (R.allows r) d k) }
+    ensures stacks { (r : R) (d : Checked) (k : ℕ) → StopsAtStacks (facts_by StorageT.index LexemeT.parts) (allowed_at (R.allows r) d k) }
+    ensures fails { (r : R) (d : Checked) (k : ℕ) → StopsByFailing (facts_by StorageT.index LexemeT.parts) (allowed_at (R.allows r) d k) }
 {}
 
 /// Where a recoverer has at most one answer at each point, a run with repairs has one answer: two runs from one stack and place
@@ -81,7 +83,7 @@ pub fn runs_with_repairs_have_one_answer<
     LexemeT: Lexeme<StorageT>,
     R: Recoverer<StorageT, LexemeT>,
 >()
-    ensures { (r : R) → RepairRunsOneWay (facts_by StorageT.index LexemeT.parts) (R.allows r) }
+    ensures { (r : R) (d : Checked) (k : ℕ) → RepairRunsOneWay (facts_by StorageT.index LexemeT.parts) (allowed_at (R.allows r) d k) }
 {}
 
 /// Where nothing is handed in, a run with repairs is a run without them.

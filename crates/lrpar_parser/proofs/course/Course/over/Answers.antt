@@ -3,6 +3,8 @@ use Rattle.std.specs.List.{AllZip}
 use Rattle.lrpar_parser.specs.CourseView.{subject}
 use Rattle.lrpar_parser.specs.RepairAnswer.{IsRepairErrorOf}
 use Rattle.lrpar_steps.specs.Standing.{Stacked}
+use Rattle.lrpar_steps.specs.Known.{facts_by}
+use Rattle.lrpar_parser.proofs.AskedLemmas.{far_fails}
 use Rattle.lrpar_parser.proofs.CourseLemmas.{accepted_answer, stop_ends, stop_feeds, stop_goes_on, stop_smaller, there_accepts, there_first}
 use Rattle.lrpar_parser.proofs.course.Course.over.Goals as goal
 
@@ -51,6 +53,13 @@ mend-requires-clause-run_stack g c = c.in_ok-stop.ensures.run_stack
 
 pub mend-requires-clause-rises : goal.mend-requires-clause-rises
 mend-requires-clause-rises g c = rw c.in-Some.is at c.in_ok-stop.ensures.rises
+
+pub mend-requires-clause-fails : goal.mend-requires-clause-fails
+mend-requires-clause-fails g c =
+    let self = c.args.self.now in
+    let far = rw c.in-Some.is at c.in_ok-stop.ensures.far in
+    far_fails (facts_by g.StorageT.StorageIndex.index g.LexerTypesT.LexemeT.Lexeme.parts) (g.B.Build.builds self.run.build.now) self.run.checked.now self.lexemes.now
+    c.stops.stack c.stops.place c.in-Some.stop c.far.new.stack c.stable-stable.ensures.runs c.requires.valid c.stops.invariant.run_stack far
 
 pub mend-requires-clause-within : goal.mend-requires-clause-within
 mend-requires-clause-within g c = rw c.in-Some.is at c.in_ok-stop.ensures.within
