@@ -136,7 +136,7 @@ fn asks(
     row: &Row,
 ) -> Result<(String, (usize, usize)), Fail> {
     let (given, (lexing, recovery), _, _) = *row;
-    let (calls, asked) = (Cell::new(0), Cell::new((0, 0, [0, 0, 0])));
+    let (calls, asked) = (Cell::new(0), Cell::new((0, 0, [0, 0, 0], 0, false)));
     let lexer = HandedLexer {
         given,
         calls: Cell::new(0),
@@ -166,7 +166,7 @@ fn told_twice(
 
 // How often and where the recoverer is asked.
 fn asked(alloc: Global, data: &ParserData<u32>, given: &[Given]) -> Result<(usize, Asked), Fail> {
-    let (calls, asked) = (Cell::new(0), Cell::new((0, 0, [0, 0, 0])));
+    let (calls, asked) = (Cell::new(0), Cell::new((0, 0, [0, 0, 0], 0, false)));
     let parser = RTParserBuilder::<u32, TokenTypes>::new(data).recoverer(Deleting {
         calls: &calls,
         asked: &asked,
@@ -180,7 +180,7 @@ fn asked(alloc: Global, data: &ParserData<u32>, given: &[Given]) -> Result<(usiz
 fn what_a_recoverer_is_handed(rt: HostRuntime) -> Result<(), Fail> {
     let data = built(rt.alloc(), BRACKETS)?;
     let found = asked(rt.alloc(), &data, &[(2, 1), (0, 1), (0, 1)])?;
-    assert_eq!(rt; found, (1, (2, 3, [0, 3, 6])));
+    assert_eq!(rt; found, (1, (2, 3, [0, 3, 6], 3, true)));
     Ok(())
 }
 

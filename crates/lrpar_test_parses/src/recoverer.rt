@@ -6,8 +6,9 @@ use lrpar_parser::repair::{Recoverer, RecoveryPoint, RepairStep};
 use std::alloc::{AllocError, Global};
 use std::cell::Cell;
 
-/// Where a recoverer is asked: the place, how many lexemes there are, and the states of a stack of three.
-pub(crate) type Asked = (usize, usize, [u32; 3]);
+/// Where a recoverer is asked: the place, how many lexemes there are, the states of a stack of three, how many lexemes have to follow a
+/// repair, and whether the states are a stack of the table.
+pub(crate) type Asked = (usize, usize, [u32; 3], usize, bool);
 
 /// Hands in a deletion. At one of its calls it finds no memory.
 #[derive(Drop)]
@@ -27,8 +28,10 @@ impl<'a> Deleting<'a> {
                 middle.as_storaget(),
                 top.as_storaget(),
             ];
+            let is_stack = point.data().is_stack(point.stack());
+            let lexemes = point.lexemes().len();
             self.asked
-                .set((point.place(), point.lexemes().len(), states));
+                .set((point.place(), lexemes, states, point.shifts(), is_stack));
         }
     }
 }
