@@ -10,8 +10,8 @@ Wants of a run, beside one in which nothing fails:
 - a read or a write that is short or interrupted: the same answer;
 - a write to standard error that fails: the same status and the same standard output;
 - want of memory for a read or a write: status 2, and the line `lrpar: out of memory`;
-- a pipe that nobody reads, or a full device, as standard output: as a write that fails, or the signal SIGPIPE ends the program,
-  where that isn't ignored;
+- a pipe that nobody reads, or a full device, as standard output: as a write that fails, whether or not the program is started
+  with the signal SIGPIPE ignored; as standard error: as a write that fails there;
 - always: what stands on standard output is a beginning of the right output, and what stands on standard error is a beginning
   of the right text and perhaps the line of the fault.
 
@@ -21,7 +21,6 @@ builds.
 """
 import errno
 import os
-import signal
 import subprocess
 import sys
 import tempfile
@@ -212,31 +211,31 @@ def ends_in(text, came, line):
     return came.endswith(line) and text.startswith(came[: len(came) - len(line)])
 
 
-def try_output(runs, words, given, name, out, is_signalled):
-    """writes to an output that takes nothing; what nobody reads may end the program by a signal, where that isn't ignored"""
+def try_output(runs, words, given, name, stream, taker, is_signalled):
+    """writes one of the two streams to what takes nothing; the program may start with SIGPIPE ignored, or not"""
     right = runs.answer(words, given)
-    ran = subprocess.run(
-        [PROGRAM, *words], cwd=runs.folder, input=given.encode(), stdout=out, stderr=subprocess.PIPE, restore_signals=is_signalled
-    )
-    came = Answer(ran.returncode, b"", ran.stderr)
-    if not right.out:
+    streams = {"stdout": subprocess.PIPE, "stderr": subprocess.PIPE, stream: taker}
+    ran = subprocess.run([PROGRAM, *words], cwd=runs.folder, input=given.encode(), restore_signals=is_signalled, **streams)
+    came = Answer(ran.returncode, ran.stdout or b"", ran.stderr or b"")
+    if stream == "stderr":
+        is_well = (came.status, came.out) == (right.status, right.out)
+    elif not right.out:
         is_well = came == right
-    elif is_signalled and came.status == -signal.SIGPIPE:
-        is_well = right.err.startswith(came.err)
     else:
         is_well = came.status == 2 and ends_in(right.err, came.err, NO_OUTPUT.encode())
-    runs.count(is_well, f"{' '.join(words)[:70]}: {name}", came)
+    runs.count(is_well, f"{' '.join(words)[:70]}: {stream} to {name}", came)
 
 
 def try_outputs(runs, words, given):
-    """writes to a pipe that nobody reads any more, and to a device that is full"""
-    for is_signalled in (False, True):
-        reader, writer = os.pipe()
-        os.close(reader)
-        try_output(runs, words, given, "a closed pipe", writer, is_signalled)
-        os.close(writer)
-    with open("/dev/full", "wb") as full:
-        try_output(runs, words, given, "a full device", full, False)
+    """writes each stream to a pipe that nobody reads any more, and to a device that is full"""
+    for stream in ("stdout", "stderr"):
+        for is_signalled in (False, True):
+            reader, writer = os.pipe()
+            os.close(reader)
+            try_output(runs, words, given, "a closed pipe", stream, writer, is_signalled)
+            os.close(writer)
+        with open("/dev/full", "wb") as full:
+            try_output(runs, words, given, "a full device", stream, full, False)
 
 
 def main():

@@ -72,6 +72,50 @@ const REFUSED: Row = Row {
     ..TREE
 };
 
+// A call for all bytes, and one to flush.
+const CONFLICTS: Row = Row {
+    words: &["conflicts", "sums"],
+    status: 0,
+    ..TREE
+};
+
+// A call for each byte of the line that says why there is no answer, and one to flush.
+const WRONG_WORDS: Row = Row {
+    words: &["calc", "--shifts", "0"],
+    input: "",
+    most: 1,
+    calls: 0,
+    before: 0,
+    err: "lrpar: shifts must be at least 1\n",
+    status: 2,
+};
+
+// The same, for each command that reads a file.
+const UNREAD: [Row; 4] = [
+    Row {
+        words: &["tree", "r.none", "r.none", "r.none"],
+        err: NO_FILE,
+        ..WRONG_WORDS
+    },
+    Row {
+        words: &["check", "r.none", "1"],
+        err: NO_FILE,
+        ..WRONG_WORDS
+    },
+    Row {
+        words: &["conflicts", "r.none"],
+        err: NO_FILE,
+        ..WRONG_WORDS
+    },
+    Row {
+        words: &["calc", "r.none"],
+        err: NO_FILE,
+        ..WRONG_WORDS
+    },
+];
+
+const NO_FILE: &str = "lrpar: cannot read r.none\n";
+
 // What a run leaves: its status, and what it wrote to its two streams.
 #[derive(Debug, Drop)]
 struct Outcome {
@@ -144,21 +188,40 @@ fn each_write_to_standard_output_fails(rt: HostRuntime) -> Result<(), Fail> {
     fs::write(&rt, "lexer", "a 'A'")?;
     fs::write(&rt, "input", "aa")?;
     fs::write(&rt, "repairs", "delete")?;
-    for row in [DEMO, CALC, TREE, CHECK, REFUSED] {
+    fs::write(&rt, "sums", "%% E: E '+' E | 'N';")?;
+    for row in [DEMO, CALC, TREE, CHECK, REFUSED, CONFLICTS] {
         output_fails(&rt, rt.alloc(), row)?;
     }
-    for path in ["grammar", "lexer", "input", "repairs"] {
+    for path in ["grammar", "lexer", "input", "repairs", "sums"] {
         fs::remove_file(&rt, path)?;
+    }
+    Ok(())
+}
+
+// Each call of the command's standard error fails in turn, and then none: its standard output and its status stay.
+fn error_fails<R: Abort + Files>(
+    rt: &R,
+    alloc: Global,
+    row: Row,
+    wanted: &str,
+) -> Result<(), Fail> {
+    for calls in 0..=row.err.len() {
+        let found = outcome_of(rt, alloc, row, usize::MAX, calls)?;
+        let is_whole = found.out.as_slice() == wanted.as_bytes();
+        assert!(rt;
+            is_whole && found.status == row.status,
+            "{row:?} at {calls}"
+        );
     }
     Ok(())
 }
 
 #[test]
 fn each_write_to_standard_error_fails(rt: HostRuntime) -> Result<(), Fail> {
-    for calls in 0..=CALC.err.len() {
-        let found = outcome_of(&rt, rt.alloc(), CALC, usize::MAX, calls)?;
-        assert_eq!(rt; found.out.as_slice(), SUMS.as_bytes(), "at {calls}");
-        assert_eq!(rt; found.status, 1, "at {calls}");
+    error_fails(&rt, rt.alloc(), CALC, SUMS)?;
+    error_fails(&rt, rt.alloc(), WRONG_WORDS, "")?;
+    for row in UNREAD {
+        error_fails(&rt, rt.alloc(), row, "")?;
     }
     Ok(())
 }

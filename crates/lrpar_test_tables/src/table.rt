@@ -1,8 +1,8 @@
 //! Item sets, conflicts and stacks, and texts of faults, where no case can say it.
 use lrpar_grammar::grammar::{GrammarFault, YaccGrammar};
 use lrpar_grammar::span::{PIdx, StIdx, TIdx};
-use lrpar_table::build::{BuildFault, from_yacc};
-use lrpar_table::check::{CheckFault, Overlay};
+use lrpar_table::build::{BuildFault, Unbuilt, from_yacc, parser_data};
+use lrpar_table::check::{CheckFault, Overlay, ParserData, Refused};
 use lrpar_table::table::{Action, Conflicts, Item, StateGraph, StateTable, TableFault, TableRows};
 use std::alloc::Global;
 use std::test::Fail;
@@ -63,6 +63,46 @@ fn items_and_cores_of_sums(rt: HostRuntime) -> Result<(), Fail> {
     assert!(rt; lists(&graph, 5, (PIdx(0), 3, TIdx(2))));
     for state in 0..8u8 {
         assert!(rt; has_state(&graph, state), "state {state}");
+    }
+    Ok(())
+}
+
+/// A grammar, and its item sets and rows.
+type Parts = (YaccGrammar<u8>, StateGraph<u8>, StateTable<u8>);
+
+// What is handed back of the table of sums, which the cap 1 is too low for.
+fn handed_back(alloc: Global) -> Result<Parts, Fail> {
+    let grm = YaccGrammar::new_with_storaget(alloc, SUM)?;
+    match parser_data(alloc, grm, 100, 1) {
+        Err(Unbuilt::Chains(refused)) => parts_of(refused),
+        _ => Err(Fail::new("another answer")),
+    }
+}
+
+// What is handed back where the end token, 2, makes two reductions in state 4.
+fn parts_of(refused: Refused<u8>) -> Result<Parts, Fail> {
+    if refused.fault() == CheckFault::ChainTooLong(4, 2) {
+        Ok(refused.into_parts())
+    } else {
+        Err(Fail::new("another fault"))
+    }
+}
+
+// The same, checked with the cap 2.
+fn checked_again(alloc: Global) -> Result<ParserData<u8>, Fail> {
+    let (grm, graph, table) = handed_back(alloc)?;
+    match ParserData::new(alloc, grm, graph, table, 2) {
+        Ok(data) => Ok(data),
+        Err(_) => Err(Fail::new("refused again")),
+    }
+}
+
+#[test]
+fn items_and_cores_that_come_back(rt: HostRuntime) -> Result<(), Fail> {
+    let data = checked_again(rt.alloc())?;
+    assert!(rt; lists(data.sgraph(), 5, (PIdx(0), 3, TIdx(2))));
+    for state in 0..8u8 {
+        assert!(rt; has_state(data.sgraph(), state), "state {state}");
     }
     Ok(())
 }
