@@ -1,0 +1,4 @@
+pub mod TokenLemmas
+pub mod FinishLemmas
+pub mod SpelledLemmas
+pub mod ViableLemmas
