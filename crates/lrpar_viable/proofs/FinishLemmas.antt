@@ -3,7 +3,7 @@
 -- item they are a tree of the start rule. An item with its dot moved on by a symbol comes from one with that symbol behind its dot: its
 -- tree is the last of the path's. An item that another one adds gives a node for the rule behind the dot of that one, and what stands
 -- behind the rule there has trees, since each rule that is reached has one.
-use Rattle.std.proofs.Common.{◌≡◌, ◌<◌, ◌+◌, ◌∙◌, refl, sym, ap, subst, ℕ, List, [], ◌∷◌, ◌++◌, Some, drop, reverse, slice_get}
+use Rattle.std.proofs.Common.{◌≡◌, ◌+◌, ◌∙◌, sym, ap, subst, ℕ, List, [], ◌∷◌, ◌++◌, Some, drop, reverse, slice_get}
 use Rattle.std.proofs.lemmas.List.{append_assoc, append-nil, reverse-append}
 use Rattle.lrpar_grammar.specs.Grammar.{Grammar, GrammarSymbol, IsWellFormed, Nonterminal, end_token, rule_of, start_prod, symbols_of}
 use Rattle.lrpar_grammar.specs.Tree.{Branch, Cons, Forest, Nil, forest_leaves, leaves}

@@ -2,7 +2,7 @@
 -- fed: a shift puts a leaf behind the others, and a reduction takes the last trees into a node. Over a table that was built the top of
 -- such a stack is the set that its symbols lead to, which has an item, and from each item a sentence is finished. So the tokens that
 -- were fed begin one.
-use Rattle.std.proofs.Common.{◌≡◌, ◌<◌, ◌≤◌, ◌+◌, ◌∙◌, refl, sym, ap, subst, arith, ℕ, List, [], ◌∷◌, ◌++◌, Option, drop, get_or, length, reverse, take}
+use Rattle.std.proofs.Common.{◌≡◌, ◌<◌, ◌+◌, ◌∙◌, refl, sym, ap, subst, arith, ℕ, List, [], ◌∷◌, ◌++◌, Option, drop, length, reverse, take}
 use Rattle.std.proofs.lemmas.List.{append_assoc, append-nil, reverse-append, reverse-reverse, take_more}
 use Rattle.std.proofs.lemmas.List.Elements.{All-drop}
 use Rattle.std.proofs.lemmas.Option.{slice_get-get_or}
@@ -10,7 +10,7 @@ use Rattle.std.specs.Option.{option_map_or}
 use Rattle.lrpar_grammar.specs.Grammar.{Grammar, GrammarSymbol, IsWellFormed, Nonterminal, Terminal, end_token, rule_of, symbols_of}
 use Rattle.lrpar_grammar.specs.Tree.{Branch, Cons, Forest, Leaf, Nil, forest_leaves}
 use Rattle.lrpar_grammar.proofs.ForestLemmas.{joined, joined_fits, joined_leaves, split_leaves, splits}
-use Rattle.lrpar_states.specs.Graph.{Graph, ItemOf}
+use Rattle.lrpar_states.specs.Graph.{Graph}
 use Rattle.lrpar_states.specs.Table.{IsClosed, Table, states_len}
 use Rattle.lrpar_build.specs.Built.{IsBuilt}
 use Rattle.lrpar_build.specs.ItemSets.{IsReachedBy}

@@ -1,6 +1,6 @@
 -- A run looks at the tokens of its lexemes alone: so what it does over lexemes it does over their tokens, each as its own lexeme. And
 -- lexemes are a sentence where their tokens are, since both are what is derived from the start rule.
-use Rattle.std.proofs.Common.{◌≡◌, ◌<◌, ◌≤◌, ◌+◌, ◌∙◌, refl, sym, ap, subst, arith, ℕ, List, [], ◌∷◌, length, map, Option, Some, None, slice_get}
+use Rattle.std.proofs.Common.{◌≡◌, ◌+◌, ◌∙◌, refl, sym, ap, subst, arith, ℕ, List, [], ◌∷◌, length, map, Option, Some, None, slice_get}
 use Rattle.std.proofs.lemmas.List.{length-map}
 use Rattle.std.proofs.lemmas.Option.{slice_get-map}
 use Rattle.std.specs.Option.{option_map, option_map_or}
@@ -11,7 +11,6 @@ use Rattle.lrpar_grammar.proofs.RewritingLemmas.{derived_are_leaves, leaves_are_
 use Rattle.lrpar_states.specs.Table.{ShiftTo, Table}
 use Rattle.lrpar_check.specs.Reduction.{Feeds, Settles, top_action}
 use Rattle.lrpar_check.specs.Run.{Comes, Far, FarEnd, IsStuck, accepts, comes_on, goes_on, stays, stops, token_at}
-use Rattle.lrpar_viable.specs.Viable.{AreSentence}
 use Rattle.lrpar_viable.specs.ViableLaws.{SentencesAreOfTokens}
 
 -- the token of what is mapped

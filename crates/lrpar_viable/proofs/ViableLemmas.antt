@@ -1,10 +1,9 @@
 -- What runs feed, expect and refuse, by sentences. What was fed before a place is what its stack spells, and so it is with a token more
 -- where that is fed: both begin sentences. Over a complete table the run over a sentence goes on to its end, so the tokens with which
 -- one goes on may come next; and none begins with the tokens up to the one where a run stops.
-use Rattle.std.proofs.Common.{◌≡◌, ◌≢◌, ◌<◌, ◌≤◌, ◌+◌, ◌⊎◌, ◌∙◌, inl, inr, refl, sym, ap, subst, arith, ℕ, List, [], ◌∷◌, ◌++◌, length, map, take}
+use Rattle.std.proofs.Common.{◌≡◌, ◌≤◌, ◌+◌, inl, inr, refl, sym, ap, subst, arith, ℕ, List, [], ◌∷◌, ◌++◌, length, map, take}
 use Rattle.std.proofs.lemmas.List.{append_assoc, take-map}
 use Rattle.lrpar_grammar.specs.Grammar.{Grammar, IsWellFormed, end_token}
-use Rattle.lrpar_grammar.specs.Sentence.{IsSentence}
 use Rattle.lrpar_states.specs.Graph.{Graph}
 use Rattle.lrpar_states.specs.Table.{IsClosed, Table}
 use Rattle.lrpar_build.specs.Built.{IsBuilt}
@@ -18,7 +17,7 @@ use Rattle.lrpar_check.proofs.RunLemmas.{runs_one_way}
 use Rattle.lrpar_check.proofs.SentenceLemmas.{complete_tables_take_sentences}
 use Rattle.lrpar_shortest.specs.Reached.{EachReachedHasTree}
 use Rattle.lrpar_viable.specs.Viable.{AreSentence, BeginSentence, CanFollow, GoWrongAt}
-use Rattle.lrpar_viable.specs.ViableLaws.{BuiltTablesKeepToSentences, CompleteBuiltTablesFollowSentences, FollowsSentences, KeepsToSentences}
+use Rattle.lrpar_viable.specs.ViableLaws.{BuiltTablesKeepToSentences, CompleteBuiltTablesFollowSentences}
 use Rattle.lrpar_viable.proofs.SpelledLemmas.{never, run_spells, spelled_begin, spells_fed}
 use Rattle.lrpar_viable.proofs.TokenLemmas.{comes_by_tokens, far_by_tokens}
 
