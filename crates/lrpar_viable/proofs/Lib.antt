@@ -2,3 +2,4 @@ pub mod TokenLemmas
 pub mod FinishLemmas
 pub mod SpelledLemmas
 pub mod ViableLemmas
+pub mod FirstErrorLemmas

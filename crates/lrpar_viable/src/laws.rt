@@ -1,6 +1,12 @@
 //! Laws about runs over tables that are built of a grammar: each function has some as its contract, and does nothing.
 ghost use Rattle.lrpar_grammar.specs.Sentence.{LexemeFacts};
+ghost use Rattle.lrpar_parser.specs.Known.{facts_by};
+ghost use Rattle.lrpar_viable.specs.FirstErrors.{FirstErrorsAreExact, FirstErrorsComeInTime};
 ghost use Rattle.lrpar_viable.specs.ViableLaws.{BuiltTablesKeepToSentences, CompleteBuiltTablesFollowSentences, SentencesAreOfTokens};
+
+use lrpar_grammar::span::StorageIndex;
+use lrpar_lexemes::lex_api::Lexeme;
+use lrpar_parser::repair::Recoverer;
 
 /// Lexemes of any type, and those that contracts speak of, are a sentence exactly where their tokens are, each as its own lexeme.
 pub fn sentences_are_of_tokens<LexemeT>()
@@ -23,4 +29,16 @@ pub fn built_tables_keep_to_sentences<LexemeT>()
 pub fn complete_built_tables_follow_sentences<LexemeT>()
     ensures follow { CompleteBuiltTablesFollowSentences LexemeT }
     ensures facts_follow { CompleteBuiltTablesFollowSentences LexemeFacts }
+{}
+
+/// The same of the first error of a parse, whatever its recoverer: over a table that was built of a grammar in which each rule that is
+/// reached derives some text, the lexemes in front of the first stop of a run with repairs begin a sentence; and where the table is
+/// complete, it stops first exactly at the first lexeme with which no sentence begins, or at the end.
+pub fn first_errors_are_where_texts_go_wrong<
+    StorageT: StorageIndex,
+    LexemeT: Lexeme<StorageT>,
+    R: Recoverer<StorageT, LexemeT>,
+>()
+    ensures in_time { (r : R) → FirstErrorsComeInTime (facts_by StorageT.index LexemeT.parts) (R.allows r) }
+    ensures exact { (r : R) → FirstErrorsAreExact (facts_by StorageT.index LexemeT.parts) (R.allows r) }
 {}
