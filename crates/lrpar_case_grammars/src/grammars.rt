@@ -1,4 +1,5 @@
 //! Grammars of texts: why there is none, or what is asked for of it.
+use crate::uses::push_uses;
 use lrpar_case_lines::cases::Case;
 use lrpar_case_lines::fault::Fault;
 use lrpar_case_lines::names::{rule_name, token_name};
@@ -107,6 +108,7 @@ fn push_about(
         "map" => push_map(came, alloc, grm),
         "find" => push_found(came, case, grm),
         "fits" => push_fits(came, alloc, case, grm),
+        "uses" => push_uses(came, alloc, grm),
         _ => Err(Fault::Line(case.number, "what is shown isn't known")),
     }
 }

@@ -3,3 +3,4 @@
 
 pub mod grammars;
 pub mod parts;
+mod uses;

@@ -12,6 +12,7 @@ use Rattle.lrpar_build.specs.ItemSets.{IsAdvanced, IsInClosure, IsReachedBy, IsS
 use Rattle.lrpar_build.proofs.ReachedLemmas.{closure_cases, start_is_fresh}
 use Rattle.lrpar_shortest.specs.Moves.{MoveOf, Makes, forest_moves, moves_of}
 use Rattle.lrpar_shortest.specs.Texts.{AreTreesOf, IsTreeOf}
+use Rattle.lrpar_shortest.proofs.BehindLemmas.{drop_at_get}
 use Rattle.lrpar_examples.specs.Climbing.{Finishes, FinishesAt, FinishesWith, IsFinished, IsNextIf, LeadsUp, Place}
 use Rattle.lrpar_examples.specs.Reading.{IsNext}
 
@@ -20,14 +21,6 @@ pub joined_moves : (first others : Forest ℕ) → forest_moves (joined first ot
 joined_moves Nil others = refl
 joined_moves (Cons t ts) others =
     ap (λ xs. moves_of t ++ xs) (joined_moves ts others) ∙ sym (append_assoc (moves_of t) (forest_moves ts) (forest_moves others))
-
--- what is left of a list before one of its elements
-pub drop_at_get : {X : Type 0} (xs : List X) (k : ℕ) (x : X) → slice_get xs k ≡ Some x → drop k xs ≡ x ∷ drop (k + 1) xs
-drop_at_get [] zero x at = absurd (cc)
-drop_at_get [] (suc k) x at = absurd (cc)
-drop_at_get (y ∷ ys) zero x at = let same : y ≡ x = cc in ap (λ z. z ∷ ys) same
-drop_at_get (y ∷ ys) (suc k) x at =
-    let same : suc (k + 1) ≡ suc k + 1 = omega arith in subst (λ (n : ℕ). drop k ys ≡ x ∷ drop n (y ∷ ys)) same (drop_at_get ys k x at)
 
 -- trees of one symbol
 pub one_tree : (g : Grammar) (trees : Forest ℕ) (s : GrammarSymbol) → AreTreesOf g (s ∷ []) trees

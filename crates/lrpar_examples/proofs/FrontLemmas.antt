@@ -18,7 +18,7 @@ use Rattle.lrpar_shortest.specs.Ways.{AreWays, IsPathTo, IsShortestPath, IsShort
 use Rattle.lrpar_examples.specs.Climbing.{IsWay}
 use Rattle.lrpar_examples.specs.Example.{AreExamplesFor, ExamplesOf, IsFront}
 use Rattle.lrpar_examples.proofs.PathLemmas.{state_reached}
-use Rattle.lrpar_examples.proofs.ReachLemmas.{contains_at, have_trees, item_reached}
+use Rattle.lrpar_shortest.proofs.BehindLemmas.{contains_at, have_trees, item_reached}
 use Rattle.lrpar_examples.proofs.TextLemmas.{takes_of_trees, takes_short}
 use Rattle.lrpar_examples.specs.Texts.{takes_in}
 

@@ -7,7 +7,7 @@ use Rattle.lrpar_shortest.specs.Moves.{MoveOf, Makes, Takes, forest_moves, moves
 use Rattle.lrpar_shortest.specs.Texts.{AreTreesOf}
 use Rattle.lrpar_examples.specs.Climbing.{Finishes, HasFinished}
 use Rattle.lrpar_examples.specs.Reading.{IsNext, IsReading}
-use Rattle.lrpar_examples.proofs.ClimbLemmas.{drop_at_get}
+use Rattle.lrpar_shortest.proofs.BehindLemmas.{drop_at_get}
 
 -- two readings that go on with two moves are readings of two trees
 pub readings_differ : (g : Grammar) (before : List ℕ) (token : ℕ) (trees : Forest ℕ) (one other : MoveOf) (moves more : List MoveOf)

@@ -14,9 +14,10 @@ use Rattle.lrpar_shortest.specs.Reached.{EachReachedHasTree, IsReachedRule, IsRe
 use Rattle.lrpar_shortest.specs.Texts.{AreShortestTrees, AreTreesOf, BeginWith, CanBeginWith, HaveTrees, forest_width}
 use Rattle.lrpar_examples.specs.Climbing.{HasRest, IsNextIf}
 use Rattle.lrpar_examples.specs.Links.{IsStep, LinkOf, PassesOn}
-use Rattle.lrpar_examples.proofs.ClimbLemmas.{any_ahead, begin_ahead, drop_at_get, through_ahead}
+use Rattle.lrpar_shortest.proofs.BehindLemmas.{drop_at_get, have_trees, rest_reached}
+use Rattle.lrpar_examples.proofs.ClimbLemmas.{any_ahead, begin_ahead, through_ahead}
 use Rattle.lrpar_examples.proofs.LinkLemmas.{AreBelow-drop}
-use Rattle.lrpar_examples.proofs.ReachLemmas.{begins_with, derives_nothing, have_trees, rest_reached}
+use Rattle.lrpar_examples.proofs.ReachLemmas.{begins_with, derives_nothing}
 
 -- what is left of an image
 pub map-drop : {X Y : Type 0} (f : X → Y) (n : ℕ) (xs : List X) → map f (drop n xs) ≡ drop n (map f xs)

@@ -10,7 +10,8 @@ use Rattle.lrpar_shortest.specs.Moves.{MoveOf, Makes, forest_moves}
 use Rattle.lrpar_shortest.specs.Reached.{IsReachedRule}
 use Rattle.lrpar_examples.specs.Climbing.{AreUpLinks, EndsLink, HasClimbed, HasRest, IsUpLink, LeadsUp, UpOf, place_at}
 use Rattle.lrpar_examples.specs.Links.{AreLinks, IsBegunItem, IsStep, LinkOf, link_at}
-use Rattle.lrpar_examples.proofs.ClimbLemmas.{drop_at_get, up_added, up_none, up_then}
+use Rattle.lrpar_shortest.proofs.BehindLemmas.{drop_at_get}
+use Rattle.lrpar_examples.proofs.ClimbLemmas.{up_added, up_none, up_then}
 use Rattle.lrpar_examples.proofs.ReachLemmas.{links_reached}
 
 -- links of a state lead up

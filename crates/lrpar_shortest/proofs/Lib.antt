@@ -10,4 +10,5 @@ pub mod BackLemmas
 pub mod StartLemmas
 pub mod GrowthLemmas
 pub mod ReachedLemmas
+pub mod BehindLemmas
 pub mod DescendLemmas

@@ -16,7 +16,7 @@ use Rattle.lrpar_first.proofs.SymbolLemmas.{prod_symbols}
 use Rattle.lrpar_shortest.specs.Choices.{AreShortest, ChoiceOf, choice_at, choice_of}
 use Rattle.lrpar_shortest.specs.Reached.{Added, AreAllMarked, AreMarked, EachReachedHasTree, HasTree, IsFirstBarren, IsMarkedSymbol, IsReachedRule, IsReachedSymbol, MarksOn, OnRight, is_marked, unmarked}
 use Rattle.lrpar_shortest.specs.declared.settle.Choice.{Choice}
-use Rattle.lrpar_shortest.proofs.LenLemmas.{follows_fits}
+use Rattle.lrpar_shortest.proofs.LenLemmas.{follows_fits, option_cases}
 
 -- one rule more is marked
 module _ (marks : List Bool) (r : ℕ) (low : r < length marks) (fresh : is_marked marks r ≡ false) where
@@ -136,6 +136,16 @@ module _ (g : Grammar) (most : ℕ) (choices : List (Option ChoiceOf)) (shortest
   pub kept_tree : (r : ℕ) (x : ChoiceOf) → choice_at choices r ≡ Some x → HasTree g r
   kept_tree r x at =
       let tree = shortest.right.trees r x at in (tree.0, follows_fits g most choices shortest.right tree.0 (Nonterminal r) tree.1)
+
+  -- so the rules of which something is kept are those that have one
+  pub kept_exact : (r : ℕ) (kept : Bool) → kept ≡ is_some (choice_at choices r) → IsTrue kept ↔ HasTree g r
+  kept_exact r kept is =
+      elim (option_cases (choice_at choices r)) [
+        | inl none ↦
+            let no : kept ≡ false = is ∙ ap is_some none in
+            (λ yes. absurd (false≢true (sym no ∙ yes)), λ has. absurd (shortest.all r none has.0 has.1))
+        | inr some ↦ (λ yes. kept_tree r some.0 some.1, λ has. is ∙ ap is_some some.1)
+      ]
 
   pub kept_by : {S : Type 0} (index : S → ℕ) (o : Option (Choice S)) (r n : ℕ) → option_map (choice_of index) o ≡ choice_at choices r → r ≡ n
       → is_some o ≡ true → HasTree g n

@@ -6,7 +6,7 @@ mod begins;
 mod descend;
 mod edges;
 pub mod moves;
-mod reached;
+pub mod reached;
 mod settle;
 mod settle_ways;
 pub mod shortest;

@@ -1,15 +1,58 @@
 //! The rules that a grammar reaches from its start, and which of them derive no text.
-ghost use Rattle.std.specs.Prelude.{◌≡◌, ◌<◌, ℕ, IfOk, MatchOption, length};
+ghost use Rattle.std.specs.Prelude.{◌≡◌, ◌<◌, ◌↔◌, ℕ, IfOk, IsTrue, MatchOption, length};
 ghost use Rattle.std.specs.Bool.{OnFalse, OnTrue};
 ghost use Rattle.lrpar_grammar.specs.Grammar.{Grammar, Nonterminal, prods_len};
 ghost use Rattle.lrpar_grammar.specs.Symbols.{symbol_of};
 ghost use Rattle.lrpar_shortest.specs.Choices.{AreShortest, choices_of};
-ghost use Rattle.lrpar_shortest.specs.Reached.{AreAllMarked, AreMarked, EachReachedHasTree, HasTree, IsFirstBarren, IsMarkedSymbol, IsReachedSymbol, MarksOn, unmarked};
+ghost use Rattle.lrpar_shortest.specs.Reached.{AreAllMarked, AreMarked, EachReachedHasTree, HasTree, IsFirstBarren, IsMarkedSymbol, IsReachedRule, IsReachedSymbol, MarksOn, is_marked, unmarked};
 
 use crate::settle::{Choice, choice_of};
 use lrpar_grammar::grammar::YaccGrammar;
 use lrpar_grammar::span::{PIdx, RIdx, StorageIndex, Symbol};
 use std::alloc::{AllocError, Global};
+use std::marker::Model;
+
+/// Of each rule of a grammar whether it is reached from the start.
+#[derive(Debug, Drop)]
+pub struct Reached {
+    marks: Vec<bool>,
+}
+
+impl Model for Reached {
+    ghost use Rattle.std.specs.Prelude.{Bool, List};
+
+    ghost Value = { List Bool };
+
+    ghost view = { λ reached. reached.marks.items };
+}
+
+impl Reached {
+    /// The rules that the grammar reaches from its start: the added rule, and with a rule each one on the right side of one of its
+    /// productions.
+    ///
+    /// It goes over the productions until no rule more is reached: few times in practice, and at most one more than there are rules.
+    /// Memory grows with the rules. An `Err` comes where memory doesn't suffice.
+    pub fn new<StorageT: StorageIndex>(
+        alloc: Global,
+        grm: &YaccGrammar<StorageT>,
+    ) -> Result<Self, AllocError>
+        ensures { IfOk result (AreAllMarked grm.now) }
+    {
+        let marks = reached_rules(alloc, grm)?;
+        Ok(Reached { marks })
+    }
+
+    /// Whether the rule is reached from the start. No rule past the grammar's is.
+    pub fn is_reached<StorageT: StorageIndex>(&self, rule: RIdx<StorageT>) -> bool
+        ensures marked { result ≡ is_marked self.now (StorageT.index rule.0) }
+        ensures exact { (g : Grammar) → AreAllMarked g self.now → IsTrue result ↔ IsReachedRule g (StorageT.index rule.0) }
+    {
+        match self.marks.get(usize::from(rule)) {
+            Some(mark) => *mark,
+            None => false,
+        }
+    }
+}
 
 /// The first rule, by its number, that the grammar reaches from its start and of which nothing is kept, if there is one.
 pub(crate) fn barren<StorageT: StorageIndex>(

@@ -1,18 +1,19 @@
 //! Shortest texts of rules and symbols, and their trees.
-ghost use Rattle.std.specs.Prelude.{◌≡◌, ◌∷◌, ◌++◌, ℕ, [], IfOk, MatchOption, OnOk, map};
+ghost use Rattle.std.specs.Prelude.{◌≡◌, ◌↔◌, ◌∷◌, ◌++◌, ℕ, [], IfOk, IsTrue, MatchOption, OnOk, map};
+ghost use Rattle.std.specs.Option.{is_some};
 ghost use Rattle.lrpar_grammar.specs.Grammar.{Grammar};
 ghost use Rattle.lrpar_grammar.specs.Symbols.{symbol_of};
 ghost use Rattle.lrpar_grammar.specs.Tree.{Tree, Forest};
-ghost use Rattle.lrpar_shortest.specs.Choices.{AreShortest};
+ghost use Rattle.lrpar_shortest.specs.Choices.{AreShortest, choice_at};
 ghost use Rattle.lrpar_shortest.specs.Lens.{len_at, total_len};
 ghost use Rattle.lrpar_shortest.specs.Moves.{forest_moves, moves_in, moves_of};
-ghost use Rattle.lrpar_shortest.specs.Reached.{EachReachedHasTree, IsFirstBarren};
+ghost use Rattle.lrpar_shortest.specs.Reached.{EachReachedHasTree, HasTree, IsFirstBarren};
 ghost use Rattle.lrpar_shortest.specs.Texts.{AreShortestTrees, BeginWith, CanBeginWith, HaveTrees, IsShortestIfAny, IsShortestTree, IsTreeOf};
 
 use crate::descend::push_beginning;
 use crate::moves::Move;
 use crate::reached::barren;
-use crate::settle::{Choice, len_of, settled, total_len};
+use crate::settle::{Choice, choice_of, len_of, settled, total_len};
 use crate::unfold::{push_symbol, push_symbols};
 use lrpar_grammar::grammar::YaccGrammar;
 use lrpar_grammar::span::{RIdx, StorageIndex, Symbol, TIdx};
@@ -54,6 +55,14 @@ impl<StorageT: StorageIndex> Shortest<StorageT> {
         ensures shortest { (g : Grammar) → AreShortest g usize.MAX self.now → IsShortestIfAny g usize.MAX (symbol_of StorageT.index symbol ∷ []) result }
     {
         len_of(&self.choices, symbol)
+    }
+
+    /// Whether the rule derives some text. No rule past the grammar's does.
+    pub fn derives_text(&self, rule: RIdx<StorageT>) -> bool
+        ensures kept { result ≡ is_some (choice_at self.now (StorageT.index rule.0)) }
+        ensures exact { (g : Grammar) → AreShortest g usize.MAX self.now → IsTrue result ↔ HasTree g (StorageT.index rule.0) }
+    {
+        choice_of(&self.choices, rule).is_some()
     }
 
     /// The least number of tokens of a text that the symbols derive: `usize::MAX` where each has so many or more, and `None` where

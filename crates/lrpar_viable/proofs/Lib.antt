@@ -1,0 +1,5 @@
+pub mod TokenLemmas
+pub mod FinishLemmas
+pub mod SpelledLemmas
+pub mod ViableLemmas
+pub mod FirstErrorLemmas

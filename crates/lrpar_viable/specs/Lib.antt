@@ -1,0 +1,3 @@
+pub mod Viable
+pub mod ViableLaws
+pub mod FirstErrors
