@@ -106,7 +106,12 @@ gives_cases_or_no_memory() {
 # refuse_each_call_of_cases FILE: runs the cases twice and refuses each call in turn, until a run makes fewer calls than that.
 refuse_each_call_of_cases() {
     local call
-    "$runner" "$1" "$1" >"$work/all" || return 1
+    run "$runner" "$1" "$1"
+    if [[ $status -ne 0 ]]; then
+        count 'cases: before any call is refused' false
+        return
+    fi
+    mv "$work/out" "$work/all"
     for ((call = 1; call <= most_calls; call++)); do
         run_refused "$call" "$runner" "$1" "$1"
         if [[ ! -e $work/mark ]]; then

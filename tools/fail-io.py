@@ -59,25 +59,25 @@ FILES = {
     "wrong.lex": "n 'N'\n\\+ +\n",
     "wrong.repairs": "insert ')'\ninsert\n",
     "list.y": "%% L: L 'N' | ; // " + "a comment\n// " * 2_000,
-    "list.lex": "n 'N'\n" + "  \n" * 10_000,
+    "list.lex": "n 'N'\n[ ]+ ;\n" + "  \n" * 10_000,
     "delete.repairs": "\n" * 10_000 + "delete\n",
     "calc.repairs": "delete\ninsert 'INT'\n",
     "broken": "(nn",
     "whole": "((n+n))",
     "unknown": "(n-n)",
-    "long": "n" * 100_000,
+    "long": "n" + " " * 100_000 + "n",
     "empty": "",
 }
 
 SUMS = "2 + + 3\n\n(2 + 3) * 4\n"
-MANY_SUMS = "1 + 2\n99999999999999999999\n(\n" * 2_000
+MANY_SUMS = "1 + 2\n" * 5_000 + "99999999999999999999\n(\n" * 10
 
 # Each command's words, and its standard input.
 COMMANDS = [
     (["demo", "a+b"], ""),
     (["demo", "a++"], ""),
     (["demo", "a-b"], ""),
-    (["demo", "+".join(["a"] * 3_000)], ""),
+    (["demo", "+".join(["a"] * 200)], ""),
     (["tree", "brackets.y", "brackets.lex", "whole"], ""),
     (["tree", "brackets.y", "brackets.lex", "broken"], ""),
     (["tree", "brackets.y", "brackets.lex", "unknown"], ""),

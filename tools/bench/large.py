@@ -3,7 +3,7 @@
     large.py [--program PATH] [--only NAME] [--small]
 
 The program is the one that `./lrpar` builds, where no path is given. Each input is made in two sizes, the second one ten times
-the first. Prints for each run its seconds by the clock, the most memory that it had, its status, and how often the time of the
+the first. Prints for each run its processor seconds, the most memory that it had, its status, and how often the time of the
 smaller size it took. `--small` leaves the large sizes out. What is printed goes to nowhere, but for `closed`, whose output is a
 pipe that nobody reads: the text of a tree of so many levels has a line of as many spaces for each level.
 """
@@ -12,7 +12,6 @@ import os
 import subprocess
 import sys
 import tempfile
-import time
 from typing import Callable, NamedTuple
 
 HERE = os.path.dirname(os.path.abspath(__file__))
@@ -71,6 +70,12 @@ def states(size):
     return file("states.y", "%% S: " + " ".join(f"'t{token}'" for token in range(size - 5)) + ";")
 
 
+def alternatives(size):
+    """a grammar of one rule with so many alternatives, of one token each"""
+    tokens = " | ".join(f"'t{token}'" for token in range(size))
+    return file("alternatives.y", f"%% S: {tokens};")
+
+
 def chain(size):
     """a grammar of so many rules, each of which is the next one"""
     rules = "".join(f"R{number}: R{number + 1};\n" for number in range(size))
@@ -87,11 +92,11 @@ def nested(text):
 
 
 def lexer(size):
-    """a lexer of so many rules, on a text of 1,000 lexemes of all of them"""
-    names = [f"word{number}" for number in range(size)]
-    grammar = "%% L: L W | ; W: " + " | ".join(f"'{name}'" for name in names) + ";"
-    text = " ".join(names[number * 7_919 % size] for number in range(1_000))
-    rules = "".join(f"{name} '{name}'\n" for name in names) + "[ ]+ ;\n"
+    """a lexer of so many rules, for 100 tokens, on a text of 1,000 lexemes of all of the rules"""
+    words = [f"word{number}" for number in range(size)]
+    grammar = "%% L: L W | ; W: " + " | ".join(f"'T{token}'" for token in range(100)) + ";"
+    text = " ".join(words[number * 7_919 % size] for number in range(1_000))
+    rules = "".join(f"{word} 'T{number % 100}'\n" for number, word in enumerate(words)) + "[ ]+ ;\n"
     return Made(["tree", file("words.y", grammar), file("words.lex", rules), file("text", text)])
 
 
@@ -101,6 +106,8 @@ INPUTS = [
     Input("conflicts-productions", 65_000, "productions", lambda size: Made(["conflicts", productions(size)])),
     Input("check-states", 10_000, "states", lambda size: Made(["check", states(size), "65535"])),
     Input("conflicts-states", 10_000, "states", lambda size: Made(["conflicts", states(size)])),
+    Input("check-alternatives", 4_000, "alternatives", lambda size: Made(["check", alternatives(size), "65535"])),
+    Input("conflicts-alternatives", 4_000, "alternatives", lambda size: Made(["conflicts", alternatives(size)])),
     Input("check-chain", 5_000, "rules in a chain", lambda size: Made(["check", chain(size), "65535"])),
     Input("line", 10_000, "errors, each 1,000 bytes behind the last one in one line", lambda size: marked(("n" * 999 + "!") * size)),
     Input("lines", 10_000, "errors, one in each line of 1,000 bytes", lambda size: marked(("n" * 998 + "!\n") * size)),
@@ -121,13 +128,11 @@ def run(program, made, is_closed):
         given.write(made.given)
         given.seek(0)
         out = closed_pipe() if is_closed else os.open(os.devnull, os.O_WRONLY)
-        begun = time.perf_counter()
         started = subprocess.Popen([program, *made.words], stdin=given, stdout=out, stderr=subprocess.DEVNULL)
         os.close(out)
         _, status, used = os.wait4(started.pid, 0)
-        taken = time.perf_counter() - begun
     started.returncode = os.waitstatus_to_exitcode(status)
-    return taken, used.ru_maxrss * 1024, started.returncode
+    return used.ru_utime + used.ru_stime, used.ru_maxrss * 1024, started.returncode
 
 
 def closed_pipe():
@@ -146,7 +151,7 @@ def measure(program, one, is_small):
             seconds, peak, status = run(program, one.made(size), one.is_closed)
             os.chdir(HERE)
         growth = f"{seconds / before:.1f}" if before else ""
-        print(f"{one.name:<22}{size:>12,}{seconds:>10.2f}{peak / 1e6:>10.0f}{status:>8}{growth:>8}  {one.unit}", flush=True)
+        print(f"{one.name:<24}{size:>12,}{seconds:>10.2f}{peak / 1e6:>10.0f}{status:>8}{growth:>8}  {one.unit}", flush=True)
         before = seconds
 
 
@@ -157,7 +162,7 @@ def main():
     words.add_argument("--small", action="store_true")
     words = words.parse_args()
     program = os.path.abspath(words.program)
-    print(f"{'':<22}{'size':>12}{'seconds':>10}{'MB':>10}{'status':>8}{'growth':>8}")
+    print(f"{'':<24}{'size':>12}{'seconds':>10}{'MB':>10}{'status':>8}{'growth':>8}")
     for one in INPUTS:
         if words.only in (None, one.name):
             measure(program, one, words.small)

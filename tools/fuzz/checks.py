@@ -103,7 +103,7 @@ def see_conflict(text, block):
     head, *rest = block.split("\n")
     found = CONFLICT.fullmatch(head)
     want(found, "the first line of a conflict", head)
-    lines = [line.removesuffix("\r") for line in text.split("\n")]
+    lines = text.replace("\r\n", "\n").split("\n")
     first, second, line, column = found.groups()
     want(lines[int(line) - 1][int(column) - 1 :].startswith(first or second), "the place of the rule", head)
     want(len(rest) >= 4 and len(rest) % 2 == 0, "lines with underlines", rest)
