@@ -27,7 +27,11 @@ fn push_rules(
 ) -> Result<(), Fault> {
     let reached = Reached::new(alloc, grm)?;
     for rule in grm.iter_rules() {
-        let way = if reached.is_reached(rule) { "reached" } else { "not reached" };
+        let way = if reached.is_reached(rule) {
+            "reached"
+        } else {
+            "not reached"
+        };
         push_use(came, rule_name(grm, rule), way, shortest.derives_text(rule))?;
     }
     Ok(())

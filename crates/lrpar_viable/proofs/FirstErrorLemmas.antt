@@ -3,7 +3,6 @@ use Rattle.std.proofs.Common.{◌≡◌, refl, subst, ℕ, List, [], ◌∷◌, 
 use Rattle.lrpar_grammar.specs.Grammar.{Grammar}
 use Rattle.lrpar_grammar.specs.Sentence.{LexemeFacts}
 use Rattle.lrpar_states.specs.Table.{Table}
-use Rattle.lrpar_check.specs.CompleteRuns.{RunsTo}
 use Rattle.lrpar_stacks.specs.Run.{Far, Stopped}
 use Rattle.lrpar_steps.specs.Recovery.{Point}
 use Rattle.lrpar_runs.specs.RepairRun.{RepairRun, RepairStop, ends_there, is_repaired, runs_through}
