@@ -1,0 +1,4 @@
+pub mod Conflicts
+pub mod Fits
+pub mod Texts
+pub mod Pieces
