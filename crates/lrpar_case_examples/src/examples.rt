@@ -1,6 +1,6 @@
 //! Cases of the examples of conflicts.
 ghost use Rattle.lrpar_build.specs.Built.{IsBuilt};
-ghost use Rattle.lrpar_example_texts.specs.Fits.{ExamplesFit};
+ghost use Rattle.lrpar_example_texts.specs.ExamplesFit.{ExamplesFit};
 
 use lrpar_build::build::{BuildFault, from_yacc};
 use lrpar_case_lines::cases::Case;

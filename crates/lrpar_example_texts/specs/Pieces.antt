@@ -1,9 +1,9 @@
 -- The pieces of the text of a tree, from right to left.
-use Rattle.std.specs.Prelude.{◌≡◌, ◌<◌, ℕ, List, [], ◌∷◌, ◌++◌, Unit, codes, replicate}
+use Rattle.std.specs.Prelude.{◌≡◌, ◌<◌, ℕ, List, [], ◌∷◌, ◌++◌, codes, replicate}
 use Rattle.lrpar_grammar.specs.Grammar.{Grammar, prod_len, prods_len, tokens_len}
 use Rattle.lrpar_shortest.specs.declared.moves.Move.{Move}
 use Rattle.lrpar_shortest.specs.declared.moves.Move.TheVariants.{Make, Take}
-use Rattle.lrpar_example_texts.specs.Texts.{front_text, word_text}
+use Rattle.lrpar_example_texts.specs.Words.{front_text, word_text}
 use Rattle.lrpar_example_texts.specs.declared.pieces.Piece.{Piece}
 use Rattle.lrpar_example_texts.specs.declared.pieces.Piece.TheVariants.{End, Front, Word}
 use Rattle.lrpar_example_texts.specs.declared.pieces.Waiting.{Waiting}
@@ -30,4 +30,4 @@ backward_text index g (x ∷ xs) = backward_text index g xs ++ piece_text index 
 abbrev pub Meets : {S : Type 0} → (S → ℕ) → Grammar → Move S → List (Piece S) → List (Piece S) → List (Waiting S) → List (Waiting S) → Type 0
 Meets index g (Take t) old new waits waiting = (new ≡ old ++ Word t ∷ []) × (waiting ≡ waits)
 Meets index g (Make p) old new waits waiting =
-    (index p.0 < prods_len g) × (new ≡ old ++ End ∷ []) × (waiting ≡ (waits ++ Before p ∷ []) ++ replicate (prod_len g (index p.0)) Tree)
+    (new ≡ old ++ End ∷ []) × (waiting ≡ (waits ++ Before p ∷ []) ++ replicate (prod_len g (index p.0)) Tree)

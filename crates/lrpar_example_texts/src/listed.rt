@@ -5,7 +5,7 @@ ghost use Rattle.lrpar_build.specs.BuilderLaws.{lists_in};
 ghost use Rattle.lrpar_states.specs.PlainConflicts.{reduce_reduce_of, shift_reduce_of};
 ghost use Rattle.lrpar_examples.specs.Example.{AreExamplesFor, IsExampleFault};
 ghost use Rattle.lrpar_example_texts.specs.Conflicts.{AddsExamples, AreExamplesOf, conflicts_in, of_reductions, of_shift};
-ghost use Rattle.lrpar_example_texts.specs.Fits.{ExamplesFit};
+ghost use Rattle.lrpar_example_texts.specs.ExamplesFit.{ExamplesFit};
 
 use crate::conflict::ConflictExample;
 use lrpar_examples::examples::{ExampleFault, Examples};
@@ -32,29 +32,29 @@ pub fn conflict_examples<StorageT: StorageIndex>(
     ensures fit { IfOk result (λ examples. ExamplesFit grm.now examples.items) }
     ensures refused { IfErr result (IsExampleFault StorageT.index grm.now) }
 {
-    let mut examples = Vec::new(alloc);
-    if let Some(conflicts) = stable.conflicts() {
-        push_examples(alloc, grm, sgraph, stable, conflicts, bound, &mut examples)?;
+    match stable.conflicts() {
+        Some(conflicts) => examples_of(alloc, grm, sgraph, stable, conflicts, bound),
+        None => Ok(Vec::new(alloc)),
     }
-    Ok(examples)
 }
 
-// Adds an example of each of the conflicts of the table.
-fn push_examples<StorageT: StorageIndex>(
+// An example of each of the conflicts of the table.
+fn examples_of<StorageT: StorageIndex>(
     alloc: Global,
     grm: &YaccGrammar<StorageT>,
     sgraph: &StateGraph<StorageT>,
     stable: &StateTable<StorageT>,
     conflicts: &Conflicts<StorageT>,
     bound: usize,
-    examples: &mut Vec<ConflictExample<StorageT>>,
-) -> Result<(), ExampleFault<StorageT>>
+) -> Result<Vec<ConflictExample<StorageT>>, ExampleFault<StorageT>>
     requires built { IsBuilt grm.now sgraph.now stable.now }
     requires conflicts { conflicts.now ≡ lists_in stable.now.conflicts }
-    ensures examples { OnOk result (AddsExamples grm.now sgraph.now (conflicts_in conflicts.now) examples.old.items examples.new.items) }
+    ensures examples { IfOk result (λ examples. AreExamplesOf grm.now sgraph.now (conflicts_in (lists_in stable.now.conflicts)) examples.items) }
+    ensures fit { IfOk result (λ examples. ExamplesFit grm.now examples.items) }
     ensures refused { IfErr result (IsExampleFault StorageT.index grm.now) }
 {
     let shared = Examples::new(alloc, grm, sgraph, stable)?;
+    let mut examples = Vec::new(alloc);
     push_reductions(
         alloc,
         grm,
@@ -63,7 +63,7 @@ fn push_examples<StorageT: StorageIndex>(
         &shared,
         conflicts.rr_conflicts(),
         bound,
-        examples,
+        &mut examples,
     )?;
     push_shifts(
         alloc,
@@ -73,9 +73,9 @@ fn push_examples<StorageT: StorageIndex>(
         &shared,
         conflicts.sr_conflicts(),
         bound,
-        examples,
+        &mut examples,
     )?;
-    Ok(())
+    Ok(examples)
 }
 
 // Adds an example of each of these conflicts between two reductions.

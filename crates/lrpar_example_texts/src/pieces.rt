@@ -7,7 +7,7 @@ ghost use Rattle.lrpar_grammar.specs.Tree.{Tree};
 ghost use Rattle.lrpar_shortest.specs.Moves.{move_of, moves_in};
 ghost use Rattle.lrpar_example_texts.specs.Fits.{AreMovesOf, HasTree, IsMoveOf};
 ghost use Rattle.lrpar_example_texts.specs.Pieces.{Meets, PieceFits, backward_text, piece_text};
-ghost use Rattle.lrpar_example_texts.specs.Texts.{front_text, tree_text};
+ghost use Rattle.lrpar_example_texts.specs.Words.{front_text, tree_text};
 
 use crate::words::push_word;
 use lrpar_grammar::grammar::YaccGrammar;
@@ -16,7 +16,7 @@ use lrpar_shortest::moves::Move;
 use std::alloc::{AllocError, Global};
 
 /// A piece of a tree's text.
-#[derive(Clone, Copy, Debug, PartialEq, Eq)]
+#[derive(Clone, Copy)]
 pub(crate) enum Piece<StorageT> {
     /// A token.
     Word(TIdx<StorageT>),
@@ -27,7 +27,7 @@ pub(crate) enum Piece<StorageT> {
 }
 
 /// What is still to be met.
-#[derive(Clone, Copy, Debug, PartialEq, Eq)]
+#[derive(Clone, Copy)]
 pub(crate) enum Waiting<StorageT> {
     /// A tree.
     Tree,

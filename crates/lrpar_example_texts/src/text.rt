@@ -1,11 +1,13 @@
 //! The texts of examples.
-ghost use Rattle.std.specs.Prelude.{◌≡◌, ◌++◌, ℕ, List, IfOk, OnOk};
+ghost use Rattle.std.specs.Prelude.{◌≡◌, ◌≤◌, ◌++◌, ℕ, List, IfOk, OnOk, drop, length};
 ghost use Rattle.std.specs.String.{string_bytes};
 ghost use Rattle.lrpar_grammar.specs.Tree.{Tree, leaves};
 ghost use Rattle.lrpar_shortest.specs.Moves.{move_of, moves_in};
 ghost use Rattle.lrpar_examples.specs.Texts.{token_numbers};
-ghost use Rattle.lrpar_example_texts.specs.Fits.{AreMovesOf, AreTokensOf, ExampleFits, ExamplesFit, HasTree, IsMoveOf, ReadsFrom};
-ghost use Rattle.lrpar_example_texts.specs.Texts.{AreExampleTexts, IsExampleText, count_text, line_text, other_line, reading_text, text_line, title_text};
+ghost use Rattle.lrpar_example_texts.specs.ExamplesFit.{ExampleFits, ExamplesFit, ReadsFrom};
+ghost use Rattle.lrpar_example_texts.specs.Fits.{AreMovesOf, AreTokensOf, HasTree, IsMoveOf};
+ghost use Rattle.lrpar_example_texts.specs.Texts.{AreExampleTexts, IsExampleText, count_text, other_line, title_text};
+ghost use Rattle.lrpar_example_texts.specs.Words.{line_text, reading_text, text_line};
 
 use crate::conflict::ConflictExample;
 use crate::pieces::push_tree;
@@ -127,7 +129,15 @@ fn push_text<StorageT: StorageIndex>(
 {
     let _start = grm.start_prod();
     let text = taken(alloc, moves)?;
-    push_line(out, grm, before, &text[before.len()..])
+    push_line(out, grm, before, rest_of(&text, before.len()))
+}
+
+// What stands behind so many tokens.
+fn rest_of<StorageT>(tokens: &[TIdx<StorageT>], count: usize) -> &[TIdx<StorageT>]
+    requires { count ≤ length tokens.now }
+    ensures { result.now ≡ drop count tokens.now }
+{
+    &tokens[count..]
 }
 
 // Adds the line of a text of which so much stands in front of the dot, and the rest behind it.

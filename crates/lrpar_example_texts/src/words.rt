@@ -5,9 +5,8 @@ ghost use Rattle.std.specs.String.{string_bytes};
 ghost use Rattle.lrpar_grammar.specs.Grammar.{prods_len, tokens_len};
 ghost use Rattle.lrpar_grammar.specs.Symbols.{symbol_of};
 ghost use Rattle.lrpar_shortest.specs.Moves.{move_of};
-ghost use Rattle.lrpar_examples.specs.Texts.{token_numbers};
 ghost use Rattle.lrpar_example_texts.specs.Fits.{AreTokensOf, IsMoveOf, IsSymbolOf};
-ghost use Rattle.lrpar_example_texts.specs.Texts.{make_text, move_text, shown_name, symbol_text, word_text, words_text};
+ghost use Rattle.lrpar_example_texts.specs.Words.{make_text, move_text, shown_name, symbol_text, word_text, words_text};
 
 use lrpar_grammar::grammar::YaccGrammar;
 use lrpar_grammar::span::{PIdx, StorageIndex, Symbol, TIdx};
@@ -44,8 +43,8 @@ pub(crate) fn push_words<StorageT: StorageIndex>(
     grm: &YaccGrammar<StorageT>,
     tokens: &[TIdx<StorageT>],
 ) -> Result<(), AllocError>
-    requires { AreTokensOf grm.now (token_numbers StorageT.index tokens.now) }
-    ensures { OnOk result (string_bytes out.new ≡ string_bytes out.old ++ words_text grm.now (token_numbers StorageT.index tokens.now)) }
+    requires { AreTokensOf grm.now (map (λ t. StorageT.index t.0) tokens.now) }
+    ensures { OnOk result (string_bytes out.new ≡ string_bytes out.old ++ words_text grm.now (map (λ t. StorageT.index t.0) tokens.now)) }
 {
     let mut rest = tokens;
     while let Some((token, others)) = rest.split_first() {
