@@ -1,10 +1,10 @@
 -- Examples of conflicts, one behind the other, and that they fit the grammar.
-use Rattle.std.proofs.Common.{◌≡◌, ◌<◌, ◌≤◌, ◌+◌, ◌∙◌, refl, sym, ap, subst, arith, ℕ, zero, suc, List, [], ◌∷◌, ◌++◌, Option, Some, None, get_or, length, map, option_map, take}
+use Rattle.std.proofs.Common.{◌≡◌, ◌<◌, ◌≤◌, ◌+◌, ◌∙◌, refl, sym, ap, subst, arith, ℕ, suc, List, [], ◌∷◌, ◌++◌, Option, Some, None, get_or, length, map, take}
 use Rattle.std.specs.List.{All, AllByRecursion, Contains}
 use Rattle.std.proofs.lemmas.List.Elements.{Contains-get_or}
 use Rattle.std.proofs.lemmas.List.{append-nil, append_assoc, map-append, take_all}
-use Rattle.lrpar_grammar.specs.Grammar.{Grammar, IsWellFormed, Nonterminal, end_token, prods_len, tokens_len}
-use Rattle.lrpar_grammar.specs.Tree.{Forest, Tree, leaves}
+use Rattle.lrpar_grammar.specs.Grammar.{Grammar, end_token, tokens_len}
+use Rattle.lrpar_grammar.specs.Tree.{Forest, Tree}
 use Rattle.lrpar_grammar.proofs.ListLemmas.{map-take_more}
 use Rattle.lrpar_states.proofs.ItemLemmas.{Contains-image}
 use Rattle.lrpar_states.specs.ConflictsFit.{ConflictsFit, ReductionsFit, ShiftFits}
@@ -15,7 +15,7 @@ use Rattle.lrpar_shortest.specs.Moves.{MoveOf}
 use Rattle.lrpar_examples.specs.Example.{IsExample}
 use Rattle.lrpar_examples.specs.Reading.{IsReading}
 use Rattle.lrpar_example_texts.specs.Conflicts.{AddsExamples, AreExamplesOf, ConflictExampleOf, ConflictOf, IsExampleOf, conflicts_in, of_reductions, of_shift}
-use Rattle.lrpar_example_texts.specs.ExamplesFit.{ExampleFits, ExamplesFit, ReadsFrom}
+use Rattle.lrpar_example_texts.specs.ExamplesFit.{ExamplesFit, ReadsFrom}
 use Rattle.lrpar_example_texts.specs.Fits.{IsMoveOf}
 use Rattle.lrpar_example_texts.proofs.KnownLemmas.{all_both}
 

@@ -6,8 +6,7 @@ use Rattle.std.proofs.lemmas.Grind.{flat_map-append}
 use Rattle.std.proofs.lemmas.List.Elements.{All-push}
 use Rattle.std.proofs.lemmas.List.{append-nil, append_assoc, map-append}
 use Rattle.lrpar_text.specs.declared.span.PIdx.{PIdx}
-use Rattle.lrpar_text.specs.declared.span.TIdx.{TIdx}
-use Rattle.lrpar_grammar.specs.Grammar.{Grammar, GrammarSymbol, IsWellFormed, Nonterminal, Terminal, prod_len, prods_len, symbols_of, tokens_len}
+use Rattle.lrpar_grammar.specs.Grammar.{Grammar, GrammarSymbol, IsWellFormed, Nonterminal, Terminal, prods_len, symbols_of, tokens_len}
 use Rattle.lrpar_grammar.specs.Tree.{Forest, Tree, Branch, Cons, Leaf, Nil}
 use Rattle.lrpar_grammar.proofs.ListLemmas.{map-take_more}
 use Rattle.lrpar_shortest.specs.Moves.{MoveOf, Makes, Takes, forest_moves, move_of, moves_in, moves_of}
@@ -18,7 +17,7 @@ use Rattle.lrpar_example_texts.specs.Fits.{AreMovesOf, IsMoveOf, IsSymbolOf}
 use Rattle.lrpar_example_texts.specs.Words.{forest_text, front_text, tree_text, word_text}
 use Rattle.lrpar_example_texts.specs.Pieces.{Meets, PieceFits, backward_text, piece_text}
 use Rattle.lrpar_example_texts.specs.declared.pieces.Piece.{Piece}
-use Rattle.lrpar_example_texts.specs.declared.pieces.Piece.TheVariants.{End, Front, Word}
+use Rattle.lrpar_example_texts.specs.declared.pieces.Piece.TheVariants.{End, Word}
 use Rattle.lrpar_example_texts.specs.declared.pieces.Waiting.{Waiting}
 use Rattle.lrpar_example_texts.specs.declared.pieces.Waiting.TheVariants as waits
 use Rattle.lrpar_example_texts.proofs.KnownLemmas.{all_back, all_both, all_front, symbols_known}
@@ -149,7 +148,7 @@ module _ {S : Type 0} (index : S → ℕ) (g : Grammar) where
     walk_opens p is =
         let parts = parted erased walk.standing left (waits.Before p) (walk.are ∙ is) in
         elim parts.last as (λ (l : Standing S). walk.standing ≡ parts.front ++ l ∷ [] → erased l ≡ waits.Before p
-            → (index p.0 < prods_len g) × Walk index g left rest (front_text g (index p.0) ++ done) whole) [
+        → (index p.0 < prods_len g) × Walk index g left rest (front_text g (index p.0) ++ done) whole) [
           | Grown tree ↦ λ both last. absurd (cc)
           | Opened q ↦ λ both last.
               let same : q ≡ p = cc in
@@ -288,10 +287,10 @@ module _ {S : Type 0} (index : S → ℕ) (g : Grammar) (well : IsWellFormed g) 
               ∙ sym (flat_map-append standing_moves opened trees);
           text =
               ap (λ t. t ++ backward_text index g pieces)
-                  (flat_map-append (standing_text index g) opened trees
-                  ∙ ap (λ t. t ++ flat_map (standing_text index g) trees)
-                      (flat_map-append (standing_text index g) front (Opened p ∷ []) ∙ ap (λ t. texts ++ t) (append-nil (front_text g n)))
-                  ∙ ap (λ t. (texts ++ front_text g n) ++ t) (grown_text index g children))
+              (flat_map-append (standing_text index g) opened trees
+              ∙ ap (λ t. t ++ flat_map (standing_text index g) trees)
+              (flat_map-append (standing_text index g) front (Opened p ∷ []) ∙ ap (λ t. texts ++ t) (append-nil (front_text g n)))
+              ∙ ap (λ t. (texts ++ front_text g n) ++ t) (grown_text index g children))
               ∙ ap (λ b. ((texts ++ front_text g n) ++ forest_text g children) ++ b) (ap (backward_text index g) meets.0 ∙ backward_more index g old End)
               ∙ seams texts (front_text g n) (forest_text g children) (codes " ]") (backward_text index g old)
               ∙ ap (λ m. (texts ++ (front_text g m ++ (forest_text g children ++ codes " ]"))) ++ backward_text index g old) (sym prod) ∙ text;
@@ -341,6 +340,6 @@ pub walk_next : {S : Type 0} (index : S → ℕ) (g : Grammar) → IsWellFormed 
     → left ≡ i + 1 → i < length moves → m ≡ get_or moves i m
     → IsMoveOf g (move_of index m)
     × ((new : List (Waiting S)) (pieces : List (Piece S)) → Meets index g m old pieces w new
-        → Walk index g new (moves_in index (take i moves)) (backward_text index g pieces) whole)
+    → Walk index g new (moves_in index (take i moves)) (backward_text index g pieces) whole)
 walk_next index g well waiting w moves left i old whole m walk is one low at =
     walk_meets index g well waiting w (moves_in index (take left moves)) (moves_in index (take i moves)) old whole m walk is (last_move index moves left i m one low at)

@@ -1,6 +1,6 @@
 -- The text of a reading, cut where the conflict is.
-use Rattle.std.proofs.Common.{◌≡◌, ◌<◌, ◌≤◌, ◌+◌, ◌∙◌, refl, sym, ap, subst, arith, ℕ, zero, suc, List, [], ◌∷◌, ◌++◌, append_assoc, drop, length, length-append}
-use Rattle.std.proofs.lemmas.List.{length-map}
+use Rattle.std.proofs.Common.{◌≡◌, ◌<◌, ◌≤◌, ◌∙◌, refl, sym, ap, subst, arith, ℕ, zero, suc, List, [], ◌∷◌, ◌++◌, append_assoc, drop, length, length-append}
+use Rattle.std.proofs.lemmas.List.{append-nil, length-map, nil_from_length}
 use Rattle.lrpar_text.specs.declared.span.TIdx.{TIdx}
 use Rattle.lrpar_grammar.specs.Grammar.{Grammar, IsWellFormed, Nonterminal, tokens_len}
 use Rattle.lrpar_grammar.specs.Tree.{Tree, leaves}
@@ -74,3 +74,10 @@ pub next_example : (g : Grammar) (all rest others : List ConflictExampleOf) (x :
 next_example g all rest others x out new own parted is written whole text are =
     let here : AreExampleTexts g rest (own ++ text) = subst (λ l. AreExampleTexts g l (own ++ text)) (sym parted) (own, text, is, are, refl) in
     subst (AreExampleTexts g all) (sym (ap (λ o. o ++ text) written ∙ append_assoc out own text)) (whole (own ++ text) here)
+
+-- that of none is left
+pub no_example : (g : Grammar) (all rest : List ConflictExampleOf) (out : List ℕ) → length rest ≡ 0
+    → ((text : List ℕ) → AreExampleTexts g rest text → AreExampleTexts g all (out ++ text)) → AreExampleTexts g all out
+no_example g all rest out none whole =
+    let here : AreExampleTexts g rest [] = subst (λ l. AreExampleTexts g l []) (sym (nil_from_length rest none)) refl in
+    subst (AreExampleTexts g all) (append-nil out) (whole [] here)

@@ -1,7 +1,6 @@
-use Rattle.std.proofs.Common.{◌≡◌, ◌++◌, ◌∙◌, ap, subst, map}
+use Rattle.std.proofs.Common.{◌∙◌, ap, map}
 use Rattle.lrpar_states.specs.PlainConflicts.{reduce_reduce_of, shift_reduce_of}
 use Rattle.lrpar_build.specs.BuilderLaws.{lists_in}
-use Rattle.lrpar_example_texts.specs.Conflicts.{AddsExamples, of_reductions, of_shift}
 use Rattle.lrpar_example_texts.proofs.ListedLemmas.{all_listed, examples_fit}
 use Rattle.lrpar_example_texts.proofs.listed.examples_of.Goals as goal
 

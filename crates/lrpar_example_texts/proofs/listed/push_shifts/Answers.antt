@@ -1,7 +1,7 @@
-use Rattle.std.proofs.Common.{◌≡◌, ◌<◌, ◌≤◌, ◌+◌, ◌∙◌, sym, ap, arith, length, map, take}
+use Rattle.std.proofs.Common.{◌+◌, sym, ap, subst, map, take}
 use Rattle.lrpar_states.specs.PlainConflicts.{shift_reduce_of}
 use Rattle.lrpar_build.specs.BuilderLaws.{lists_in}
-use Rattle.lrpar_example_texts.specs.Conflicts.{ConflictExampleOf, of_shift}
+use Rattle.lrpar_example_texts.specs.Conflicts.{ConflictExampleOf, IsExampleOf, of_shift}
 use Rattle.lrpar_example_texts.proofs.ListedLemmas.{adds_all, adds_more, adds_start, is_member, one_more}
 use Rattle.lrpar_example_texts.proofs.listed.push_shifts.Goals as goal
 
@@ -23,7 +23,8 @@ loop-conflict-preserved g c =
     let x = c.conflict-item.result in
     adds_more c.args.grm.now c.args.sgraph.now (map of_shift (map plain (take i conflicts))) (map of_shift (map plain (take (i + 1) conflicts))) (of_shift (plain x))
     c.args.examples.now.items c.loop-conflict.examples.items c.push.new.self.items c.of_shift.result c.loop-conflict.invariant c.in_ok-push.ensures.items
-    (ap (λ (e : ConflictExampleOf). e.conflict) own) _ (one_more plain of_shift conflicts i x c.loop-conflict-test.true c.conflict-item.is)
+    (ap (λ (e : ConflictExampleOf). e.conflict) own)
+    (subst (IsExampleOf c.args.grm.now c.args.sgraph.now) (sym own) c.in_ok-example.ensures) (one_more plain of_shift conflicts i x c.loop-conflict-test.true c.conflict-item.is)
 
 pub returns : goal.returns
 returns g c =

@@ -1,4 +1,4 @@
-use Rattle.std.proofs.Common.{◌≡◌, ◌<◌, ◌≤◌, ◌+◌, ◌-◌, ◌++◌, ◌∷◌, ◌∙◌, [], ℕ, Some, refl, sym, ap, subst, arith, length, take}
+use Rattle.std.proofs.Common.{◌≡◌, ◌<◌, ◌≤◌, ◌+◌, ◌-◌, ◌++◌, ◌∷◌, ◌∙◌, [], sym, ap, subst, arith, length, take}
 use Rattle.std.specs.List.{All}
 use Rattle.std.proofs.lemmas.List.Elements.{All-nil, All-push}
 use Rattle.std.proofs.lemmas.List.{take_all}
@@ -21,10 +21,10 @@ nodes-init g c =
       subst (All (PieceFits index grm)) (sym none) (All-nil (PieceFits index grm)),
       omega arith,
       λ tree of_tree.
-      let begins = walk_begins index grm (moves_in index moves) tree c.start_prod-start.ensures.well_formed of_tree in
-      subst (λ w. Walk index grm w (moves_in index (take (length moves) moves)) (backward_text index grm c.new-pieces.result.items) (tree_text grm tree)) (sym waits_one)
-      (subst (λ ps. Walk index grm (waits.Tree ∷ []) (moves_in index (take (length moves) moves)) (backward_text index grm ps) (tree_text grm tree)) (sym none)
-      (subst (λ ms. Walk index grm (waits.Tree ∷ []) (moves_in index ms) [] (tree_text grm tree)) (sym all) begins)),
+          let begins = walk_begins index grm (moves_in index moves) tree c.start_prod-start.ensures.well_formed of_tree in
+          subst (λ w. Walk index grm w (moves_in index (take (length moves) moves)) (backward_text index grm c.new-pieces.result.items) (tree_text grm tree)) (sym waits_one)
+          (subst (λ ps. Walk index grm (waits.Tree ∷ []) (moves_in index (take (length moves) moves)) (backward_text index grm ps) (tree_text grm tree)) (sym none)
+          (subst (λ ms. Walk index grm (waits.Tree ∷ []) (moves_in index ms) [] (tree_text grm tree)) (sym all) begins)),
     )
 
 pub nodes-preserved-in-Continue-branch-2 : goal.nodes-preserved-in-Continue-branch-2
@@ -42,8 +42,8 @@ nodes-preserved-in-Continue-branch-2 g c =
       subst (All P) (sym pushed) (All-push P pieces (Front p) c.nodes.invariant.0 own.0),
       c.nodes.invariant.1,
       λ tree of_tree.
-      subst (λ t. Walk index grm left rest t (tree_text grm tree)) (sym (ap (backward_text index grm) pushed ∙ backward_more index grm pieces (Front p)))
-      (walk_opens index grm c.nodes.waiting.items left rest (backward_text index grm pieces) (tree_text grm tree) (c.nodes.invariant.2 tree of_tree) p last).1,
+          subst (λ t. Walk index grm left rest t (tree_text grm tree)) (sym (ap (backward_text index grm) pushed ∙ backward_more index grm pieces (Front p)))
+          (walk_opens index grm c.nodes.waiting.items left rest (backward_text index grm pieces) (tree_text grm tree) (c.nodes.invariant.2 tree of_tree) p last).1,
     )
 
 pub overflow_sub-left : goal.overflow_sub-left
@@ -96,6 +96,6 @@ nodes-preserved g c =
       meets_fit index grm m c.nodes.pieces.items c.meet.new.pieces.items waiting c.meet.new.waiting.items known meets c.nodes.invariant.0,
       omega (arith, c.nodes.invariant.1),
       λ tree of_tree.
-      (walk_next index grm well old waiting moves left (left - 1) c.nodes.pieces.items (tree_text grm tree) m (c.nodes.invariant.2 tree of_tree) last one low c.index-moves-left.is).1
-      c.meet.new.waiting.items c.meet.new.pieces.items meets,
+          (walk_next index grm well old waiting moves left (left - 1) c.nodes.pieces.items (tree_text grm tree) m (c.nodes.invariant.2 tree of_tree) last one low c.index-moves-left.is).1
+          c.meet.new.waiting.items c.meet.new.pieces.items meets,
     )

@@ -1,4 +1,4 @@
-use Rattle.std.proofs.Common.{◌≡◌, ◌++◌, ◌∙◌, Some, sym, ap, append_assoc}
+use Rattle.std.proofs.Common.{◌++◌, ◌∙◌, Some, sym, ap, append_assoc}
 use Rattle.std.specs.String.{string_bytes}
 use Rattle.std.proofs.lemmas.List.Elements.{All-pop}
 use Rattle.lrpar_example_texts.specs.Pieces.{PieceFits, backward_text, piece_text}
@@ -15,7 +15,7 @@ loop-piece-preserved g c =
     let popped = All-pop (PieceFits index grm) c.loop-piece.pieces.items left (Some piece) c.in-Some.ensures.items c.loop-piece.invariant.0 in (
       popped.0,
       λ tree of_tree.
-      ap (λ o. o ++ backward_text index grm left) c.in_ok-push_piece.ensures ∙ append_assoc out (piece_text index grm piece) (backward_text index grm left)
-      ∙ ap (λ t. out ++ t) (sym (ap (backward_text index grm) c.in-Some.ensures.items ∙ backward_more index grm left piece))
-      ∙ c.loop-piece.invariant.1 tree of_tree,
+          ap (λ o. o ++ backward_text index grm left) c.in_ok-push_piece.ensures ∙ append_assoc out (piece_text index grm piece) (backward_text index grm left)
+          ∙ ap (λ t. out ++ t) (sym (ap (backward_text index grm) c.in-Some.ensures.items ∙ backward_more index grm left piece))
+          ∙ c.loop-piece.invariant.1 tree of_tree,
     )

@@ -13,7 +13,7 @@ invariant-loop-piece g l =
     let index = g.StorageT.StorageIndex.index in
     All (PieceFits index l.grm) l.pieces.items
     × ((tree : Tree ℕ) → AreMovesOf l.grm (moves_in index l.moves) tree
-        → string_bytes l.out ++ backward_text index l.grm l.pieces.items ≡ string_bytes l.fn.out ++ tree_text l.grm tree)
+    → string_bytes l.out ++ backward_text index l.grm l.pieces.items ≡ string_bytes l.fn.out ++ tree_text l.grm tree)
 
 abbrev pub decreases-loop-piece : goal.decreases-loop-piece
 decreases-loop-piece g l = length l.pieces.items

@@ -1,4 +1,4 @@
-use Rattle.std.proofs.Common.{◌≡◌, ◌++◌, ℕ, List, length}
+use Rattle.std.proofs.Common.{◌++◌, ℕ, List, length}
 use Rattle.std.specs.String.{string_bytes}
 use Rattle.lrpar_example_texts.specs.ExamplesFit.{ExamplesFit}
 use Rattle.lrpar_example_texts.specs.Texts.{AreExampleTexts}

@@ -13,6 +13,6 @@ returns g c =
     let next = move_of index c.args.next in
     on_ok_all (AreMovesOf grm (moves_in index c.args.moves.now)) (λ tree. string_bytes c.push.new.self ≡ string_bytes c.args.out.now ++ reading_text grm next tree) c.push.result
     (λ tree of_tree.
-        four_pieces c.push.result (string_bytes c.args.out.now) (string_bytes c.push_str.new.self) (string_bytes c.push_move.new.out) (string_bytes c.push_str-2.new.self)
-        (string_bytes c.push_tree.new.out) (string_bytes c.push.new.self) (codes "  ") (move_text grm next) (codes "\n   ") (tree_text grm tree)
-        c.in_ok-push_str.ensures.bytes c.in_ok-push_move.ensures c.in_ok-push_str-2.ensures.bytes (c.in_ok-push_tree.ensures tree of_tree) c.push.ensures.bytes)
+    four_pieces c.push.result (string_bytes c.args.out.now) (string_bytes c.push_str.new.self) (string_bytes c.push_move.new.out) (string_bytes c.push_str-2.new.self)
+    (string_bytes c.push_tree.new.out) (string_bytes c.push.new.self) (codes "  ") (move_text grm next) (codes "\n   ") (tree_text grm tree)
+    c.in_ok-push_str.ensures.bytes c.in_ok-push_move.ensures c.in_ok-push_str-2.ensures.bytes (c.in_ok-push_tree.ensures tree of_tree) c.push.ensures.bytes)

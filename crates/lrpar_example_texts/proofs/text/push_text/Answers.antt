@@ -1,4 +1,4 @@
-use Rattle.std.proofs.Common.{◌≡◌, ◌++◌, ◌∙◌, ap, drop, length}
+use Rattle.std.proofs.Common.{◌++◌, ◌∙◌, ap}
 use Rattle.std.specs.String.{string_bytes}
 use Rattle.std.proofs.lemmas.Result.{on_ok_weaker}
 use Rattle.lrpar_shortest.specs.Moves.{moves_in}
@@ -27,5 +27,5 @@ returns g c =
     let index = g.StorageT.StorageIndex.index in
     let before = token_numbers index c.args.before.now in
     on_ok_weaker c.push_line.result (λ e tree of_tree. e ∙ ap (λ rest. string_bytes c.args.out.now ++ line_text c.args.grm.now before rest)
-        (rest_is index c.args.grm.now c.args.before.now c.deref.result.now c.rest_of.result.now (moves_in index c.args.moves.now) tree of_tree
-        (ap (token_numbers index) c.deref.ensures.value ∙ c.in_ok-text.ensures) c.rest_of.ensures)) c.push_line.ensures
+    (rest_is index c.args.grm.now c.args.before.now c.deref.result.now c.rest_of.result.now (moves_in index c.args.moves.now) tree of_tree
+    (ap (token_numbers index) c.deref.ensures.value ∙ c.in_ok-text.ensures) c.rest_of.ensures)) c.push_line.ensures

@@ -1,6 +1,5 @@
 use Rattle.std.proofs.Common.{◌≡◌, ◌++◌, length, map}
 use Rattle.std.specs.String.{string_bytes}
-use Rattle.lrpar_text.specs.declared.span.TIdx.{TIdx}
 use Rattle.lrpar_example_texts.specs.Fits.{AreTokensOf}
 use Rattle.lrpar_example_texts.specs.Words.{words_text}
 use Rattle.lrpar_example_texts.proofs.words.push_words.Given as goal
