@@ -3,6 +3,7 @@
 #![tactic(auto)]
 
 pub use lrpar_diagnostics as diagnostics;
+pub use lrpar_example_texts::examples;
 pub use lrpar_parser::{
     LexError, LexParseError, Lexeme, Lexer, LexerTypes, Node, NonStreamingLexer, ParseError,
     ParseRepair, ParserData, RIdx, RTParserBuilder, action_generictree, build, check, errors,

@@ -1,6 +1,7 @@
 //! The kinds of cases: what says what is done in each, and what comes of it.
 use lrpar_case_checks::{built, checks, refusals, stacks};
 use lrpar_case_commands::commands;
+use lrpar_case_examples::examples;
 use lrpar_case_grammars::{grammars, parts};
 use lrpar_case_lines::cases::Case;
 use lrpar_case_lines::fault::Fault;
@@ -24,6 +25,7 @@ pub(crate) fn inputs_of(kind: &str) -> &'static [&'static str] {
         "expected" => expected::INPUTS,
         "full" | "stored" | "sets" => refusals::INPUTS,
         "underlines" => underlines::INPUTS,
+        "examples" => examples::INPUTS,
         _ => &[],
     }
 }
@@ -51,6 +53,7 @@ pub(crate) fn outcome<R: Files>(
         "stored" => refusals::outcome_of_entries(alloc, case),
         "sets" => refusals::outcome_of_sets(alloc, case),
         "underlines" => underlines::outcome(alloc, case),
+        "examples" => examples::outcome(rt, alloc, case),
         _ => Err(Fault::Line(case.number, "a kind of case that isn't known")),
     }
 }

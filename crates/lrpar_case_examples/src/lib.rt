@@ -1,0 +1,4 @@
+//! Cases of the examples of conflicts.
+#![tactic(auto)]
+
+pub mod examples;

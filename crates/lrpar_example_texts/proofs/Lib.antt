@@ -1,0 +1,5 @@
+pub mod TextLemmas
+pub mod KnownLemmas
+pub mod PieceLemmas
+pub mod ListedLemmas
+pub mod ReadLemmas

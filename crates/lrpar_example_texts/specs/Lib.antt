@@ -1,0 +1,6 @@
+pub mod Conflicts
+pub mod Fits
+pub mod ExamplesFit
+pub mod Words
+pub mod Texts
+pub mod Pieces
