@@ -1,6 +1,6 @@
 use Rattle.std.proofs.Common.{rules}
-use Rattle.lrpar_commands.proofs.AnswerLemmas.{answers_step, answers_off}
-use Rattle.lrpar_commands.proofs.lexer.SumLexerLexerTokenTypes.iter.Goals as goal
+use Rattle.lrpar_sums.proofs.AnswerLemmas.{answers_step, answers_off}
+use Rattle.lrpar_sums.proofs.lexer.SumLexerLexerTokenTypes.iter.Goals as goal
 
 pub loop-at-init : goal.loop-at-init
 loop-at-init c = search rules

@@ -6,7 +6,7 @@ use std::rt::Files;
 use std::{fs, io};
 
 /// The text of a file.
-pub(crate) fn file_text<R: Files>(rt: &R, alloc: Global, path: &str) -> Result<String, Fault> {
+pub fn file_text<R: Files>(rt: &R, alloc: Global, path: &str) -> Result<String, Fault> {
     match read_file(rt, alloc, path) {
         Ok(text) => Ok(text),
         Err(error) => Err(Fault::of_file(alloc, path, &error)),
@@ -14,11 +14,7 @@ pub(crate) fn file_text<R: Files>(rt: &R, alloc: Global, path: &str) -> Result<S
 }
 
 /// The text of a file, where there is a path.
-pub(crate) fn text_if_any<R: Files>(
-    rt: &R,
-    alloc: Global,
-    path: Option<&str>,
-) -> Result<String, Fault> {
+pub fn text_if_any<R: Files>(rt: &R, alloc: Global, path: Option<&str>) -> Result<String, Fault> {
     match path {
         Some(path) => file_text(rt, alloc, path),
         None => Ok(String::new(alloc)),
@@ -26,7 +22,7 @@ pub(crate) fn text_if_any<R: Files>(
 }
 
 /// The text of standard input.
-pub(crate) fn input_text<I: Read + Drop>(alloc: Global, input: I) -> Result<String, Fault> {
+pub fn input_text<I: Read + Drop>(alloc: Global, input: I) -> Result<String, Fault> {
     match io::read_to_string(alloc, input) {
         Ok(text) => Ok(text),
         Err(error) => Err(Fault::of_input(&error)),

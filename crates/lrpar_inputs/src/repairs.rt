@@ -11,7 +11,7 @@ type StepAndRest<'a> = (RepairStep<u32>, &'a str);
 /// The recoverer of a text: a sequence a line, of steps `insert 'NAME'` or `insert "NAME"`, `delete` and `shift`, with spaces or
 /// tabs between. At both ends of a line spaces, tabs and carriage returns count for nothing, and a line that has nothing else is
 /// left out.
-pub(crate) fn recoverer_of(
+pub fn recoverer_of(
     alloc: Global,
     grm: &YaccGrammar<u32>,
     text: &str,

@@ -1,7 +1,7 @@
 use Rattle.std.proofs.Common.{◌≡◌, ◌++◌}
 use Rattle.std.specs.Str.{IsUtf8, chars}
-use Rattle.lrpar_commands.specs.SumAnswers.{answers, answers_from}
-use Rattle.lrpar_commands.proofs.lexer.SumLexerLexerTokenTypes.iter.Given as goal
+use Rattle.lrpar_sums.specs.SumAnswers.{answers, answers_from}
+use Rattle.lrpar_sums.proofs.lexer.SumLexerLexerTokenTypes.iter.Given as goal
 
 -- the answers so far, and those for what is left, are those for the text
 abbrev pub invariant-loop-at : goal.invariant-loop-at

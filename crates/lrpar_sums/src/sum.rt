@@ -1,6 +1,6 @@
 //! Sums of names: their grammar, the item sets of its states, and its table, which are written out here.
-use crate::fault::Fault;
 use crate::lexer::{ID, PLUS};
+use lrpar_inputs::fault::Fault;
 use lrpar_parser::ParserData;
 use lrpar_parser::grammar::{GrammarParts, ProdPart, RulePart, TokenPart, YaccGrammar};
 use lrpar_parser::span::{PIdx, RIdx, Span, StIdx, Symbol, TIdx};

@@ -1,8 +1,8 @@
 //! The command `calc`: sums and products, one a line.
-use crate::fault::Fault;
-use crate::files::input_text;
-use crate::parsing::{TextError, TextParser, print_errors, print_line, text_parser_of};
-use crate::tables::data_of;
+use lrpar_inputs::fault::Fault;
+use lrpar_inputs::files::input_text;
+use lrpar_inputs::parsing::{TextError, TextParser, print_errors, print_line, text_parser_of};
+use lrpar_inputs::tables::data_of;
 use lrpar_lexer::{RuleLexer, Token};
 use lrpar_parser::grammar::YaccGrammar;
 use lrpar_parser::span::{Span, TIdx};
@@ -43,7 +43,7 @@ struct Found {
 /// number on `out`; where there is none, says so on `err`. Answers whether each line has a number, and no error.
 ///
 /// The input is read once the repairs are made, and before the first line is computed.
-pub(crate) fn calc<I: Read + Drop, O: Write, E: Write>(
+pub fn calc<I: Read + Drop, O: Write, E: Write>(
     alloc: Global,
     repairs: &str,
     shifts: Option<usize>,

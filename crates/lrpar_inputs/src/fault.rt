@@ -1,6 +1,6 @@
 //! Why a command ends without an answer, and the line that says so.
 ghost use Rattle.std.specs.Prelude.{◌≡◌};
-ghost use Rattle.lrpar_commands.specs.declared.fault.Fault.TheVariants.{Memory};
+ghost use Rattle.lrpar_inputs.specs.declared.fault.Fault.TheVariants.{Memory};
 
 use lrpar_lexer::RulesFault;
 use lrpar_parser::build::BuildFault;
@@ -14,7 +14,7 @@ use thiserror::Error;
 
 /// Why a command ends without an answer. Its text is the line that standard error gets.
 #[derive(Debug, Drop, Error)]
-pub(crate) enum Fault {
+pub enum Fault {
     /// No command has these words.
     #[error("usage: lrpar demo TEXT | tree [--shifts K] GRAMMAR LEXER INPUT [REPAIRS] | check GRAMMAR CAP | conflicts GRAMMAR | calc [--shifts K] [REPAIRS]")]
     Usage,
@@ -61,7 +61,7 @@ pub(crate) enum Fault {
 
 impl Fault {
     // The fault of a file that can't be read.
-    pub(crate) fn of_file(alloc: Global, path: &str, error: &io::Error) -> Fault {
+    pub fn of_file(alloc: Global, path: &str, error: &io::Error) -> Fault {
         if error.kind() == io::ErrorKind::OutOfMemory {
             return Fault::Memory;
         }
@@ -72,7 +72,7 @@ impl Fault {
     }
 
     // The fault of standard input that can't be read.
-    pub(crate) fn of_input(error: &io::Error) -> Fault {
+    pub fn of_input(error: &io::Error) -> Fault {
         match error.kind() {
             io::ErrorKind::OutOfMemory => Fault::Memory,
             _ => Fault::Input,
@@ -80,7 +80,7 @@ impl Fault {
     }
 
     // The fault of a failed look at the program's arguments.
-    pub(crate) fn of_arguments(error: &io::Error) -> Fault {
+    pub fn of_arguments(error: &io::Error) -> Fault {
         match error.kind() {
             io::ErrorKind::OutOfMemory => Fault::Memory,
             _ => Fault::Usage,

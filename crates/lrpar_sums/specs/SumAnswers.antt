@@ -4,7 +4,7 @@ use Rattle.std.specs.Char.{len_utf8}
 use Rattle.std.specs.Str.{chars}
 use Rattle.std.specs.Option.{option_map_or}
 use Rattle.lrpar_text.specs.Span.{Extent}
-use Rattle.lrpar_commands.specs.Sums.{token_of}
+use Rattle.lrpar_sums.specs.Sums.{token_of}
 use Rattle.lrpar_lexer.specs.declared.token.Token.{Token}
 use Rattle.lrpar_lexer.specs.declared.token.NoToken.{NoToken}
 

@@ -3,8 +3,8 @@ ghost use Rattle.std.specs.Prelude.{◌≡◌, ◌+◌, ◌≤◌, IfOk};
 ghost use Rattle.std.specs.Char.{len_utf8};
 ghost use Rattle.std.specs.Str.{IsCharBoundary};
 ghost use Rattle.lrpar_text.specs.Lines.{line_of, column_of, line_table};
-ghost use Rattle.lrpar_commands.specs.Sums.{token_of};
-ghost use Rattle.lrpar_commands.specs.SumAnswers.{answer_of};
+ghost use Rattle.lrpar_sums.specs.Sums.{token_of};
+ghost use Rattle.lrpar_sums.specs.SumAnswers.{answer_of};
 
 use lrpar_lexer::{NoToken, Token, TokenTypes};
 use lrpar_parser::lines::NewlineCache;
@@ -49,7 +49,7 @@ impl<'input> SumLexer<'input> {
 }
 
 impl<'input> Lexer<TokenTypes> for SumLexer<'input> {
-    ghost use Rattle.lrpar_commands.specs.SumAnswers.{answers};
+    ghost use Rattle.lrpar_sums.specs.SumAnswers.{answers};
 
     ghost allows = { λ lexer given. given ≡ answers lexer.input.now };
 

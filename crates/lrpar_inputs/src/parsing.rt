@@ -12,27 +12,27 @@ use std::alloc::{AllocError, Global};
 use std::io::Write;
 
 /// A parser of the program.
-pub(crate) type Parser<'a> = RTParserBuilder<'a, u32, TokenTypes, FixedRecoverer<u32>>;
+pub type Parser<'a> = RTParserBuilder<'a, u32, TokenTypes, FixedRecoverer<u32>>;
 
 /// A tree of the program.
-pub(crate) type Tree = Node<Token<u32>, u32>;
+pub type Tree = Node<Token<u32>, u32>;
 
 /// An error of a parse.
-pub(crate) type TextError = LexParseError<u32, TokenTypes>;
+pub type TextError = LexParseError<u32, TokenTypes>;
 
 /// A parser of texts, with the rules of its lexer and what its messages print.
 #[derive(Drop)]
-pub(crate) struct TextParser<'a> {
+pub struct TextParser<'a> {
     /// The rules of the lexer.
-    pub(crate) rules: Vec<LexRule>,
+    pub rules: Vec<LexRule>,
     /// The parser, with its repairs.
-    pub(crate) parser: Parser<'a>,
+    pub parser: Parser<'a>,
     /// What messages print for the tokens, in their order.
-    pub(crate) names: Vec<&'a str>,
+    pub names: Vec<&'a str>,
 }
 
 /// The parser of texts by this table, and by the texts of a lexer and of repairs.
-pub(crate) fn text_parser_of<'a>(
+pub fn text_parser_of<'a>(
     alloc: Global,
     data: &'a ParserData<u32>,
     lexer: &str,
@@ -61,7 +61,7 @@ fn repairing_parser<'a>(
 }
 
 /// The parser by this table, with these repairs; `shifts` lexemes have to follow a repair, where that is told.
-pub(crate) fn parser_by(
+pub fn parser_by(
     data: &ParserData<u32>,
     repairs: FixedRecoverer<u32>,
     shifts: Option<usize>,
@@ -77,10 +77,7 @@ pub(crate) fn parser_by(
 }
 
 /// What messages print for the tokens of a grammar, in their order.
-pub(crate) fn printed_names(
-    alloc: Global,
-    grm: &YaccGrammar<u32>,
-) -> Result<Vec<&str>, AllocError> {
+pub fn printed_names(alloc: Global, grm: &YaccGrammar<u32>) -> Result<Vec<&str>, AllocError> {
     let mut names = Vec::new(alloc);
     for token in grm.iter_tidxs() {
         names.push(printed_name(grm, token))?;
@@ -99,7 +96,7 @@ fn printed_name(grm: &YaccGrammar<u32>, token: TIdx<u32>) -> &str {
 
 /// Parses the lexer's text to its tree, and prints each error's text and a line feed, and then the tree's text, if there is a
 /// tree. Answers whether there is one, and no error.
-pub(crate) fn print_tree<'a, L: NonStreamingLexer<'a, TokenTypes>, O: Write>(
+pub fn print_tree<'a, L: NonStreamingLexer<'a, TokenTypes>, O: Write>(
     alloc: Global,
     parser: &Parser<'_>,
     names: &'a [&'a str],
@@ -130,7 +127,7 @@ fn tree_and_errors<'a, L: NonStreamingLexer<'a, TokenTypes>>(
 }
 
 /// Prints each error's text and a line feed.
-pub(crate) fn print_errors<'a, L: NonStreamingLexer<'a, TokenTypes>, O: Write>(
+pub fn print_errors<'a, L: NonStreamingLexer<'a, TokenTypes>, O: Write>(
     alloc: Global,
     names: &'a [&'a str],
     lexer: &L,
@@ -148,7 +145,7 @@ pub(crate) fn print_errors<'a, L: NonStreamingLexer<'a, TokenTypes>, O: Write>(
 }
 
 /// Prints the text and a line feed.
-pub(crate) fn print_line<O: Write>(out: &mut O, text: &str) -> Result<(), Fault> {
+pub fn print_line<O: Write>(out: &mut O, text: &str) -> Result<(), Fault> {
     writeln!(out, "{text}")?;
     Ok(())
 }

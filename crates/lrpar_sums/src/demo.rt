@@ -1,15 +1,15 @@
 //! The command `demo`: sums of names.
-use crate::fault::Fault;
 use crate::lexer::SumLexer;
-use crate::parsing::{Parser, parser_by, print_tree, printed_names};
 use crate::sum::sum_data;
+use lrpar_inputs::fault::Fault;
+use lrpar_inputs::parsing::{Parser, parser_by, print_tree, printed_names};
 use lrpar_parser::ParserData;
 use lrpar_parser::repair::FixedRecoverer;
 use std::alloc::Global;
 use std::io::Write;
 
 /// Parses the text as a sum, and prints its errors and its tree. Answers whether there is a tree, and no error.
-pub(crate) fn demo<O: Write>(alloc: Global, text: &str, out: &mut O) -> Result<bool, Fault> {
+pub fn demo<O: Write>(alloc: Global, text: &str, out: &mut O) -> Result<bool, Fault> {
     let data = sum_data(alloc)?;
     demo_by(alloc, &data, text, out)
 }

@@ -10,13 +10,13 @@ use std::alloc::Global;
 const CAP: u16 = 1_000;
 
 /// How many states a table may have.
-pub(crate) const MAX_STATES: usize = 10_000;
+pub const MAX_STATES: usize = 10_000;
 
 /// The checked table of a grammar's text, or what is refused for its chains of reductions.
-pub(crate) type Checked = Result<ParserData<u32>, Refused<u32>>;
+pub type Checked = Result<ParserData<u32>, Refused<u32>>;
 
 /// The checked table of a grammar's text.
-pub(crate) fn data_of(alloc: Global, text: &str) -> Result<ParserData<u32>, Fault> {
+pub fn data_of(alloc: Global, text: &str) -> Result<ParserData<u32>, Fault> {
     match checked(alloc, text, CAP)? {
         Ok(data) => Ok(data),
         Err(refused) => Err(refused.fault().into()),
@@ -24,7 +24,7 @@ pub(crate) fn data_of(alloc: Global, text: &str) -> Result<ParserData<u32>, Faul
 }
 
 /// The same with this cap.
-pub(crate) fn checked(alloc: Global, text: &str, cap: u16) -> Result<Checked, Fault> {
+pub fn checked(alloc: Global, text: &str, cap: u16) -> Result<Checked, Fault> {
     let grm = YaccGrammar::new_with_storaget(alloc, text)?;
     match parser_data(alloc, grm, MAX_STATES, cap) {
         Ok(data) => Ok(Ok(data)),

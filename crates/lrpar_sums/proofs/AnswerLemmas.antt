@@ -4,7 +4,7 @@ use Rattle.std.proofs.lemmas.List.{append-nil}
 use Rattle.std.proofs.lemmas.Str.{chars_past_char, IsUtf8-past_char, length-encode, chars-nil}
 use Rattle.std.specs.Char.{encode_utf8}
 use Rattle.std.specs.Str.{IsUtf8, chars}
-use Rattle.lrpar_commands.specs.SumAnswers.{answer_of, answers_from}
+use Rattle.lrpar_sums.specs.SumAnswers.{answer_of, answers_from}
 use Rattle.lrpar_lexer.specs.declared.token.Token.{Token}
 use Rattle.lrpar_lexer.specs.declared.token.NoToken.{NoToken}
 
