@@ -137,7 +137,7 @@ impl From<RulesFault> for Fault {
     fn from(fault: RulesFault) -> Fault {
         match fault {
             RulesFault::Memory => Fault::Memory,
-            RulesFault::Line(number) => Fault::Lexer(number),
+            RulesFault::Line(number, _) => Fault::Lexer(number),
         }
     }
 }

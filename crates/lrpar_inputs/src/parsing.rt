@@ -150,8 +150,8 @@ pub fn print_line<O: Write>(out: &mut O, text: &str) -> Result<(), Fault> {
     Ok(())
 }
 
-// The text of an error. Each token prints as some text, so only memory can be wanting.
-fn error_text<'a, L: NonStreamingLexer<'a, TokenTypes>>(
+/// The text of an error. Each token prints as some text, so only memory can be wanting.
+pub fn error_text<'a, L: NonStreamingLexer<'a, TokenTypes>>(
     alloc: Global,
     names: &'a [&'a str],
     lexer: &L,
