@@ -73,7 +73,7 @@ fn rule_of(
     number: usize,
 ) -> Result<LexRule, RulesFault>
     ensures rule { IfOk result (IsRuleOf grm.now line.now) }
-    ensures fault { IfErr result (NamesLine (λ n. (n ≡ number) × SaysNoRule grm.now line.now)) }
+    ensures fault { IfErr result (NamesLine (λ n why. (n ≡ number) × SaysNoRule grm.now line.now why)) }
 {
     let Some((pattern, name)) = rule_parts(line) else {
         return Err(RulesFault::Line(number, LineFault::Unread));
@@ -90,7 +90,7 @@ fn rule_of(
 
 // The fault of a line whose pattern is refused.
 fn refusal(error: &regex::Error, number: usize) -> RulesFault
-    ensures { NamesLine (λ n. (n ≡ number) × (error.now ≢ OutOfMemory)) result }
+    ensures { NamesLine (λ n why. (n ≡ number) × (why ≡ LineFault.Pattern error.now) × (error.now ≢ OutOfMemory)) result }
 {
     match error {
         regex::Error::OutOfMemory => RulesFault::Memory,
@@ -101,7 +101,7 @@ fn refusal(error: &regex::Error, number: usize) -> RulesFault
 // The token of that name.
 fn token_named(grm: &YaccGrammar<u32>, name: &str, number: usize) -> Result<TIdx<u32>, RulesFault>
     ensures token { IfOk result (λ token. first_named grm.now name.now ≡ Some token.0) }
-    ensures fault { IfErr result (NamesLine (λ n. (n ≡ number) × (first_named grm.now name.now ≡ None))) }
+    ensures fault { IfErr result (NamesLine (λ n why. (n ≡ number) × (why ≡ LineFault.Unnamed) × (first_named grm.now name.now ≡ None))) }
 {
     match grm.token_idx(name) {
         Some(token) => Ok(token),

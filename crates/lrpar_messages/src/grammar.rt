@@ -156,39 +156,45 @@ fn push_near(
 fn syntax_message(alloc: Global, text: &str, at: usize) -> Result<Message, AllocError> {
     let (front, rest) = text.split_at_checked(at).unwrap_or((text, ""));
     let mut message = String::new(alloc);
-    let len = push_unexpected(&mut message, rest)?;
-    let mut label = String::new(alloc);
-    push_expected(&mut label, alloc, front)?;
+    let len = match unclosed(rest) {
+        Some(what) => {
+            message.push_str(what)?;
+            1
+        }
+        None => {
+            let word = first_word(rest);
+            push_unexpected(&mut message, word)?;
+            push_expected(&mut message, alloc, front)?;
+            word.len()
+        }
+    };
     Ok(Message {
         level: Level::Error,
         text: message,
         span: Some(Span::new(front.len(), front.len().saturating_add(len))),
-        label,
+        label: String::new(alloc),
     })
 }
 
-// Adds what stands where it can't. Answers how many bytes it has.
-fn push_unexpected(message: &mut String, rest: &str) -> Result<usize, AllocError> {
-    if rest.is_empty() {
-        message.push_str("unexpected end of the grammar")?;
-    } else if rest.starts_with("/*") {
-        message.push_str("comment without its `*/`")?;
-        return Ok(2);
-    } else if rest.starts_with(['\'', '"']) && !is_quoted(rest) {
-        message.push_str("quote that isn't closed on its line, or has nothing in it")?;
-        return Ok(1);
+// What is said of a comment or a quote with which the text begins, if it isn't closed.
+fn unclosed(text: &str) -> Option<&'static str> {
+    if text.starts_with("/*") {
+        Some("comment without its `*/`")
+    } else if text.starts_with(['\'', '"']) && quoted_len(text).is_none() {
+        Some("quote that isn't closed on its line, or has nothing in it")
     } else {
-        let word = first_word(rest);
-        message.push_str("unexpected ")?;
-        push_quoted(message, word)?;
-        return Ok(word.len());
+        None
     }
-    Ok(0)
 }
 
-// Whether the text begins with a name in quotes.
-fn is_quoted(text: &str) -> bool {
-    quoted_len(text).is_some()
+// Adds the word that stands where it can't; where there is none, that it is the end.
+fn push_unexpected(message: &mut String, word: &str) -> Result<(), AllocError> {
+    message.push_str("unexpected ")?;
+    if word.is_empty() {
+        message.push_str("end of the grammar")
+    } else {
+        push_quoted(message, word)
+    }
 }
 
 // How many bytes the name in quotes has that the text begins with, with its quotes.

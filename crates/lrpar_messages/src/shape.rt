@@ -16,7 +16,7 @@ const WORDS: [(&str, &str); 9] = [
 ];
 
 /// Adds the kinds of words that may stand behind this beginning of a grammar text, which has whole words that can stand as they do:
-/// `expected A, B or C`.
+/// `, expected A, B or C`.
 pub(crate) fn push_expected(
     out: &mut String,
     alloc: Global,
@@ -26,7 +26,7 @@ pub(crate) fn push_expected(
     let mut left = names.len();
     for (place, name) in names.iter().enumerate() {
         out.push_str(match (place, left) {
-            (0, _) => "expected ",
+            (0, _) => ", expected ",
             (_, 1) => " or ",
             _ => ", ",
         })?;

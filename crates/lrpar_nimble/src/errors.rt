@@ -17,6 +17,7 @@ use std::alloc::{AllocError, Global};
 const MOST_CHARACTERS: usize = 40;
 
 /// What messages about the errors of an input need.
+#[derive(Clone, Copy)]
 pub(crate) struct Subject<'a> {
     pub(crate) grm: &'a YaccGrammar<u32>,
     pub(crate) input: &'a str,

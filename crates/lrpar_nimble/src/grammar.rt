@@ -114,25 +114,42 @@ fn endless(alloc: Global, reporter: &Reporter<'_>, refused: Refused<u32>) -> Fau
         reporter,
         place,
         "a rule derives itself, so that a text has trees without end",
-        "this production can be made again and again; leave out the one by which the rule derives itself",
+        "leave out the production by which it does",
     )
 }
 
-// Where the production is that a state reduces by at a token.
+// Where a production is that the state reduces by at a token, or one of those to which it goes by a rule.
 fn place_of_chain(
     grm: &YaccGrammar<u32>,
     stable: &StateTable<u32>,
     state: usize,
     token: usize,
 ) -> Option<Span> {
-    let state = u32::try_from(state).ok()?;
-    let token = u32::try_from(token).ok()?;
-    if usize::from(StIdx(state)) >= stable.states_len()
-        || usize::from(TIdx(token)) >= stable.tokens_len()
-    {
+    let state = StIdx(u32::try_from(state).ok()?);
+    let token = TIdx(u32::try_from(token).ok()?);
+    if usize::from(state) >= stable.states_len() || usize::from(token) >= stable.tokens_len() {
         return None;
     }
-    match stable.action(StIdx(state), TIdx(token)) {
+    if let Some(span) = reduced_at(grm, stable, state, token) {
+        return Some(span);
+    }
+    let (_, nexts) = stable.gotos_of(state);
+    nexts
+        .iter()
+        .find_map(|next| reduced_at(grm, stable, *next, token))
+}
+
+// Where the production is that the state reduces by at a token.
+fn reduced_at(
+    grm: &YaccGrammar<u32>,
+    stable: &StateTable<u32>,
+    state: StIdx<u32>,
+    token: TIdx<u32>,
+) -> Option<Span> {
+    if usize::from(state) >= stable.states_len() || usize::from(token) >= stable.tokens_len() {
+        return None;
+    }
+    match stable.action(state, token) {
         Action::Reduce(prod) if usize::from(prod) < grm.prods_len() => Some(grm.prod_span(prod)),
         _ => None,
     }

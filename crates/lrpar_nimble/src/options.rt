@@ -38,6 +38,30 @@ pub(crate) struct Options<'a> {
     pub(crate) inputs: Vec<&'a str>,
 }
 
+/// What the program says of itself.
+pub(crate) const HELP: &str = "\
+usage: nimbleparse [-q] [-r none] [--shifts K] [--format brackets|tree|json|dot] LEXER GRAMMAR [INPUT..]
+
+Reads the rules of a lexer and a grammar, and parses each input: standard input for none, or for `-`.
+
+  -q           print errors alone: no trees, no warnings, no notes
+  -r none      which repairs are looked for at an error
+  --shifts K   so many lexemes have to follow a repair (3)
+  --format F   print trees in brackets on one line, as an indented tree, as json, or as a graph (dot)
+  -h           print this
+  --           the words behind it are paths
+
+Status 0: each input has a tree and no error; 1: an input has errors; 2: there is no answer.
+";
+
+/// Whether the words ask for what the program says of itself.
+pub(crate) fn asks_for_help(args: &[String]) -> bool {
+    match args {
+        [word] => matches!(word.as_str(), "-h" | "--help"),
+        _ => false,
+    }
+}
+
 /// What these words ask for. Options may stand anywhere; behind `--` all words are paths.
 pub(crate) fn options_of(alloc: Global, args: &[String]) -> Result<Options<'_>, Fault> {
     let mut options = Options {

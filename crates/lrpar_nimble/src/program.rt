@@ -4,7 +4,7 @@ ghost use Rattle.std.specs.Prelude.{◌≤◌};
 use crate::fault::Fault;
 use crate::grammar::data_of;
 use crate::inputs::{STANDARD_INPUT, file_text, input_text};
-use crate::options::{Options, options_of};
+use crate::options::{HELP, Options, asks_for_help, options_of};
 use crate::parse::{Plan, parse};
 use crate::rules::lexer_rules;
 use crate::show::{push_message, tell};
@@ -142,6 +142,10 @@ fn printed<R: Files, I: Read + Drop, O: Write, E: Write>(
     out: &mut O,
     err: &mut E,
 ) -> Result<bool, Fault> {
+    if asks_for_help(args) {
+        out.write_all(HELP.as_bytes())?;
+        return Ok(true);
+    }
     let options = options_of(alloc, args)?;
     let grammar = file_text(rt, alloc, options.grammar)?;
     let lexer = file_text(rt, alloc, options.lexer)?;

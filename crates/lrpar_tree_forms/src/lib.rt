@@ -2,10 +2,12 @@
 #![tactic(auto)]
 
 mod escapes;
+mod form;
 mod graph;
 mod nested;
 mod parts;
 
 pub use escapes::push_escaped;
+pub use form::Form;
 pub use graph::write_graph;
-pub use nested::{Form, write_nested};
+pub use nested::write_nested;

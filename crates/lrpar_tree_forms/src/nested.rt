@@ -1,5 +1,13 @@
 //! Trees on one line, each node around those of its trees.
+ghost use Rattle.std.specs.Prelude.{◌≡◌, ◌++◌, [], if◌then◌else◌, OnOk, bytes_eq, codes};
+ghost use Rattle.std.specs.Io.KnownBytes.{Appends};
+ghost use Rattle.std.specs.String.{string_bytes};
+ghost use Rattle.lrpar_lexemes.specs.Lexemes.{facts_of};
+ghost use Rattle.lrpar_tree_forms.specs.Nested.{bracket_leaf, json_leaf, json_place, leaf_text, nested_text, rule_front};
+ghost use Rattle.lrpar_tree_forms.specs.Fronts.{front_text};
+
 use crate::escapes::push_escaped;
+use crate::form::Form;
 use crate::parts::{Leaf, is_rule, leaf_of, rule_name, trees_of};
 use lrpar_answers::Node;
 use lrpar_grammar::grammar::YaccGrammar;
@@ -7,36 +15,6 @@ use lrpar_grammar::span::StorageIndex;
 use lrpar_lexemes::lex_api::Lexeme;
 use std::alloc::{AllocError, Global};
 use std::io::{self, ErrorKind, Write};
-
-/// How a tree is written on one line.
-#[derive(Clone, Copy, Debug, PartialEq, Eq)]
-pub enum Form {
-    /// `Sum[ Term[ INT "2" ] "+" Term[ INT "3" ] ]`: a rule's name with its trees in brackets; a lexeme as its part of the input between
-    /// double quotes, behind its token's name where that is another text.
-    Brackets,
-    /// `{"rule":"Sum","children":[..]}`, and a lexeme as `{"token":"INT","text":"2","start":0,"end":1}`, with `"inserted":true` behind
-    /// that where a repair made it. Places are bytes of the input.
-    Json,
-}
-
-impl Form {
-    // What stands in front of each tree of a node, of which this is the first or not.
-    fn gap(self, is_first: bool) -> &'static str {
-        match self {
-            Form::Brackets => " ",
-            Form::Json if is_first => "",
-            Form::Json => ",",
-        }
-    }
-
-    // What stands behind the trees of a node.
-    fn end(self) -> &'static str {
-        match self {
-            Form::Brackets => " ]",
-            Form::Json => "]}",
-        }
-    }
-}
 
 /// Writes the tree on one line, without a line feed behind it. It fails where a write fails or memory is wanting, and with
 /// `InvalidInput` at the first node that doesn't fit the grammar and the input, as `Node::fits` tells, in front of which all is written.
@@ -50,7 +28,10 @@ pub fn write_nested<LexemeT: Lexeme<StorageT>, StorageT: StorageIndex, W: Write>
     input: &str,
     tree: &Node<LexemeT, StorageT>,
     out: &mut W,
-) -> io::Result<()> {
+) -> io::Result<()>
+    ensures { OnOk result (Appends (W.contents out.old) (W.contents out.new)
+        (nested_text form (λ x. facts_of StorageT.index (LexemeT.parts x)) StorageT.index grm.now input.now tree.now)) }
+{
     let mut piece = String::new(alloc);
     write_front(out, &mut piece, form, grm, input, tree)?;
     if !is_rule(tree) {
@@ -92,7 +73,10 @@ fn write_front<LexemeT: Lexeme<StorageT>, StorageT: StorageIndex, W: Write>(
     grm: &YaccGrammar<StorageT>,
     input: &str,
     node: &Node<LexemeT, StorageT>,
-) -> io::Result<()> {
+) -> io::Result<()>
+    ensures { OnOk result (Appends (W.contents out.old) (W.contents out.new)
+        (front_text form (λ x. facts_of StorageT.index (LexemeT.parts x)) StorageT.index grm.now input.now node.now)) }
+{
     piece.clear();
     match node {
         Node::Term { lexeme } => match leaf_of(grm, input, lexeme) {
@@ -108,7 +92,9 @@ fn write_front<LexemeT: Lexeme<StorageT>, StorageT: StorageIndex, W: Write>(
 }
 
 // Adds what stands in front of the trees of a rule.
-fn push_rule(piece: &mut String, form: Form, name: &str) -> Result<(), AllocError> {
+fn push_rule(piece: &mut String, form: Form, name: &str) -> Result<(), AllocError>
+    ensures { OnOk result (string_bytes piece.new ≡ string_bytes piece.old ++ rule_front form name.now) }
+{
     match form {
         Form::Brackets => {
             piece.push_str(name)?;
@@ -123,7 +109,9 @@ fn push_rule(piece: &mut String, form: Form, name: &str) -> Result<(), AllocErro
 }
 
 // Adds a lexeme.
-fn push_leaf(piece: &mut String, form: Form, leaf: Leaf<'_>) -> Result<(), AllocError> {
+fn push_leaf(piece: &mut String, form: Form, leaf: Leaf<'_>) -> Result<(), AllocError>
+    ensures { OnOk result (string_bytes piece.new ≡ string_bytes piece.old ++ leaf_text form leaf.name.now leaf.text.now leaf.start leaf.end leaf.is_faulty) }
+{
     match form {
         Form::Brackets => push_bracket_leaf(piece, leaf),
         Form::Json => push_json_leaf(piece, leaf),
@@ -131,18 +119,30 @@ fn push_leaf(piece: &mut String, form: Form, leaf: Leaf<'_>) -> Result<(), Alloc
 }
 
 // Adds a lexeme: its token's name, where that isn't its text, and its text between double quotes.
-fn push_bracket_leaf(piece: &mut String, leaf: Leaf<'_>) -> Result<(), AllocError> {
-    if leaf.name != leaf.text {
-        piece.push_str(leaf.name)?;
-        piece.push(' ')?;
-    }
+fn push_bracket_leaf(piece: &mut String, leaf: Leaf<'_>) -> Result<(), AllocError>
+    ensures { OnOk result (string_bytes piece.new ≡ string_bytes piece.old ++ bracket_leaf leaf.name.now leaf.text.now) }
+{
+    push_other_name(piece, leaf.name, leaf.text)?;
     piece.push('"')?;
     push_escaped(piece, leaf.text)?;
     piece.push('"')
 }
 
+// Adds the name of a token and a space, where the name isn't the text.
+fn push_other_name(piece: &mut String, name: &str, text: &str) -> Result<(), AllocError>
+    ensures { OnOk result (string_bytes piece.new ≡ string_bytes piece.old ++ (if bytes_eq name.now text.now then [] else name.now ++ codes " ")) }
+{
+    if name == text {
+        return Ok(());
+    }
+    piece.push_str(name)?;
+    piece.push(' ')
+}
+
 // Adds a lexeme as JSON.
-fn push_json_leaf(piece: &mut String, leaf: Leaf<'_>) -> Result<(), AllocError> {
+fn push_json_leaf(piece: &mut String, leaf: Leaf<'_>) -> Result<(), AllocError>
+    ensures { OnOk result (string_bytes piece.new ≡ string_bytes piece.old ++ json_leaf leaf.name.now leaf.text.now leaf.start leaf.end leaf.is_faulty) }
+{
     piece.push_str("{\"token\":\"")?;
     push_escaped(piece, leaf.name)?;
     piece.push_str("\",\"text\":\"")?;
@@ -151,7 +151,9 @@ fn push_json_leaf(piece: &mut String, leaf: Leaf<'_>) -> Result<(), AllocError> 
 }
 
 // Adds the place of a lexeme as JSON, and whether a repair made it.
-fn push_json_place(piece: &mut String, leaf: Leaf<'_>) -> Result<(), AllocError> {
+fn push_json_place(piece: &mut String, leaf: Leaf<'_>) -> Result<(), AllocError>
+    ensures { OnOk result (string_bytes piece.new ≡ string_bytes piece.old ++ json_place leaf.start leaf.end leaf.is_faulty) }
+{
     let start = leaf.start;
     let end = leaf.end;
     write!(piece, "\",\"start\":{start},\"end\":{end}")?;
