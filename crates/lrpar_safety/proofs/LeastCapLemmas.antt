@@ -52,10 +52,10 @@ least_at_once g table s from short = record {
 }
 
 -- the least cap of so many states, the first ones
-pub record IsLeastOf (g : Grammar) (table : Table) (cap states least : ℕ) : Type 0 where
-  pub within : least ≤ cap
-  pub passes : (s : ℕ) → s < states → AreShortAt g table least s
-  pub least : (smaller : ℕ) → smaller < least → ¬ (AreChainsShort g table smaller)
+pub record IsLeastOf (g : Grammar) (table : Table) (cap states found : ℕ) : Type 0 where
+  pub within : found ≤ cap
+  pub passes : (s : ℕ) → s < states → AreShortAt g table found s
+  pub least : (smaller : ℕ) → smaller < found → ¬ (AreChainsShort g table smaller)
 
 pub least_of_none : (g : Grammar) (table : Table) (cap : ℕ) → IsLeastOf g table cap 0 0
 least_of_none g table cap = record {
@@ -78,15 +78,15 @@ least_of_more g table cap s before after state within so_far here = record {
 }
 
 -- that of all states is that of the table
-pub least_of_all : (g : Grammar) (table : Table) (cap states least : ℕ) → states_len table ≤ states → IsLeastOf g table cap states least
-    → IsLeastCap g table least
-least_of_all g table cap states least all found = record {
-  passes = λ s t state token. found.passes s (omega (arith, state, all)) t token;
-  least = found.least;
+pub least_of_all : (g : Grammar) (table : Table) (cap states found : ℕ) → states_len table ≤ states → IsLeastOf g table cap states found
+    → IsLeastCap g table found
+least_of_all g table cap states found all is = record {
+  passes = λ s t state token. is.passes s (omega (arith, state, all)) t token;
+  least = is.least;
 }
 
 -- and with the cap of the check it passes, too
-pub short_of_all : (g : Grammar) (table : Table) (cap states least : ℕ) → states_len table ≤ states → IsLeastOf g table cap states least
+pub short_of_all : (g : Grammar) (table : Table) (cap states found : ℕ) → states_len table ≤ states → IsLeastOf g table cap states found
     → AreChainsShort g table cap
-short_of_all g table cap states least all found s t state token =
-    short_above g table s least cap found.within (found.passes s (omega (arith, state, all))) t token
+short_of_all g table cap states found all is s t state token =
+    short_above g table s found cap is.within (is.passes s (omega (arith, state, all))) t token

@@ -40,18 +40,18 @@ pub fn write_nested<LexemeT: Lexeme<StorageT>, StorageT: StorageIndex, W: Write>
     let mut below = Vec::new(alloc);
     let mut left = trees_of(tree);
     let mut is_first = true;
-    loop {
+    'nodes: loop {
         match left.split_first() {
             Some((node, rest)) => {
                 out.write_all(form.gap(is_first).as_bytes())?;
                 write_front(out, &mut piece, form, grm, input, node)?;
                 is_first = is_rule(node);
-                left = if is_first {
+                if is_first {
                     below.push(rest)?;
-                    trees_of(node)
+                    left = trees_of(node);
                 } else {
-                    rest
-                };
+                    left = rest;
+                }
             }
             None => {
                 out.write_all(form.end().as_bytes())?;
