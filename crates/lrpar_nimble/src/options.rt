@@ -74,7 +74,10 @@ pub(crate) fn options_of(alloc: Global, args: &[String]) -> Result<Options<'_>, 
         inputs: Vec::new(alloc),
     };
     let mut left = args;
-    while let Some((word, others)) = left.split_first() {
+    for _ in 0..args.len() {
+        let Some((word, others)) = left.split_first() else {
+            break;
+        };
         left = taken(&mut options, word.as_str(), others)?;
     }
     with_paths(options)

@@ -1,4 +1,6 @@
 //! The parse of one input, and what is printed of it.
+ghost use Rattle.std.specs.Prelude.{◌≡◌};
+
 use crate::errors::{Subject, push_lexing_error, push_parse_error, push_repairs};
 use crate::fault::Fault;
 use crate::options::{Format, Recovery};
@@ -7,8 +9,8 @@ use lrpar_inputs::parsing::{TextError, Tree};
 use lrpar_lexer::{LexRule, RuleLexer, Token, TokenTypes};
 use lrpar_messages::{Look, Reporter};
 use lrpar_parser::repair::Recoverer;
-use lrpar_parser::span::TIdx;
-use lrpar_parser::{LexParseError, ParserData, RTParserBuilder};
+use lrpar_parser::span::{StIdx, TIdx};
+use lrpar_parser::{LexParseError, NonStreamingLexer, ParserData, RTParserBuilder};
 use lrpar_tree_forms::{Form, write_graph, write_nested};
 use std::alloc::Global;
 use std::io::Write;
@@ -31,11 +33,11 @@ pub(crate) struct Plan<'a> {
 
 /// Parses the input of this path and text: tells its errors, and prints its tree, if there is one. Answers whether there is one, and no
 /// error.
-pub(crate) fn parse<O: Write, E: Write>(
+pub(crate) fn parse<'a, O: Write, E: Write>(
     alloc: Global,
-    plan: &Plan<'_>,
+    plan: &Plan<'a>,
     path: &str,
-    input: &str,
+    input: &'a str,
     out: &mut O,
     err: &mut E,
 ) -> Result<bool, Fault> {
@@ -85,18 +87,20 @@ fn parsed_by<R: Recoverer<u32, Token<u32>> + Drop>(
 }
 
 // The messages of the errors of an input.
-fn errors_text(
+fn errors_text<'a, L: NonStreamingLexer<'a, TokenTypes>>(
     alloc: Global,
-    plan: &Plan<'_>,
-    lexer: &RuleLexer<'_, '_>,
+    plan: &Plan<'a>,
+    lexer: &L,
     path: &str,
     input: &str,
     errors: &[TextError],
-) -> Result<String, Fault> {
+) -> Result<String, Fault>
+    requires { L.text lexer.now ≡ input.now }
+{
     let reporter = Reporter::new(alloc, input, path, plan.look)?;
-    let expected = expected_tokens(alloc, plan, lexer)?;
     let mut text = String::new(alloc);
-    for error in errors {
+    for (place, error) in errors.iter().enumerate() {
+        let expected = expected_tokens(alloc, plan, lexer, place, error)?;
         push_error(
             &mut text, alloc, plan, &reporter, lexer, input, &expected, error,
         )?;
@@ -104,27 +108,51 @@ fn errors_text(
     Ok(text)
 }
 
-// What may come at the first error.
-fn expected_tokens(
+// What may come at an error: at the first one the tokens that can be fed there, and at a later one those at which its state has an
+// action.
+fn expected_tokens<'a, L: NonStreamingLexer<'a, TokenTypes>>(
     alloc: Global,
     plan: &Plan<'_>,
-    lexer: &RuleLexer<'_, '_>,
+    lexer: &L,
+    place: usize,
+    error: &TextError,
 ) -> Result<Vec<TIdx<u32>>, Fault> {
-    let parser = RTParserBuilder::<u32, TokenTypes, _>::new(plan.data);
-    Ok(parser.expected(alloc, lexer)?.tokens)
+    match (place, error) {
+        (0, LexParseError::ParseError(_)) => {
+            let parser = RTParserBuilder::<u32, TokenTypes, _>::new(plan.data);
+            Ok(parser.expected(alloc, lexer)?.tokens)
+        }
+        (_, LexParseError::ParseError(failure)) => tokens_at(alloc, plan.data, failure.stidx()),
+        _ => Ok(Vec::new(alloc)),
+    }
+}
+
+// The tokens at which a state has an action.
+fn tokens_at(
+    alloc: Global,
+    data: &ParserData<u32>,
+    state: StIdx<u32>,
+) -> Result<Vec<TIdx<u32>>, Fault> {
+    if usize::from(state) >= data.stable().states_len() {
+        return Ok(Vec::new(alloc));
+    }
+    let (tokens, _) = data.stable().actions_of(state);
+    Ok(Vec::from_slice(alloc, tokens)?)
 }
 
 // Adds the message of an error.
-fn push_error(
+fn push_error<'a, L: NonStreamingLexer<'a, TokenTypes>>(
     text: &mut String,
     alloc: Global,
-    plan: &Plan<'_>,
+    plan: &Plan<'a>,
     reporter: &Reporter<'_>,
-    lexer: &RuleLexer<'_, '_>,
+    lexer: &L,
     input: &str,
     expected: &[TIdx<u32>],
     error: &TextError,
-) -> Result<(), Fault> {
+) -> Result<(), Fault>
+    requires { L.text lexer.now ≡ input.now }
+{
     match error {
         LexParseError::LexError(error) => {
             Ok(push_lexing_error(text, alloc, reporter, input, error)?)
