@@ -1,9 +1,10 @@
-//! Cases of the program: what it writes and ends with, by words, files and standard input.
+//! Cases of the programs `lrpar` and `nimbleparse`: what they write and end with, by words, files and standard input.
 use lrpar_case_lines::cases::{Case, bytes_below};
 use lrpar_case_lines::fault::Fault;
 use lrpar_case_lines::line::{Content, Line, in_two};
 use lrpar_case_lines::text::{push_text, unescaped};
 use lrpar_commands::run;
+use lrpar_nimble::{Look, Terminal};
 use std::alloc::Global;
 use std::fs;
 use std::rt::Files;
@@ -11,10 +12,16 @@ use std::rt::Files;
 /// The keys of the lines that say what is done: words, one more word, a file, and standard input.
 pub const INPUTS: &[&str] = &["words", "word", "file", "stdin"];
 
+/// Streams that aren't those of a terminal.
+const NO_TERMINAL: Terminal = Terminal {
+    look: Look::Plain,
+    shows_progress: false,
+};
+
 /// What a case wants of a stream that may have any text.
 const ANYTHING: &str = "..";
 
-/// What the program writes to its two streams, and its status. The files of the case are there while it runs.
+/// What the program of the case's kind writes to its two streams, and its status. The files of the case are there while it runs.
 pub fn outcome<R: Files>(rt: &R, alloc: Global, case: Case<'_, '_>) -> Result<String, Fault> {
     write_files(rt, alloc, case.lines)?;
     let came = outcome_of_words(rt, alloc, case);
@@ -38,7 +45,10 @@ fn outcome_of_run<R: Files>(
     input: &[u8],
 ) -> Result<String, Fault> {
     let (mut out, mut err) = (Vec::new(alloc), Vec::new(alloc));
-    let status = run(rt, alloc, words, input, &mut out, &mut err);
+    let status = match case.kind {
+        "nimble" => lrpar_nimble::run(rt, alloc, words, NO_TERMINAL, input, &mut out, &mut err),
+        _ => run(rt, alloc, words, input, &mut out, &mut err),
+    };
     shown(alloc, case, status, &out, &err)
 }
 

@@ -16,7 +16,7 @@ use std::rt::Files;
 pub(crate) fn inputs_of(kind: &str) -> &'static [&'static str] {
     match kind {
         "parse" => parse::INPUTS,
-        "run" => commands::INPUTS,
+        "run" | "nimble" => commands::INPUTS,
         "text" | "cuts" => grammars::INPUTS,
         "parts" => parts::INPUTS,
         "build" => built::INPUTS,
@@ -39,7 +39,7 @@ pub(crate) fn outcome<R: Files>(
 ) -> Result<String, Fault> {
     match case.kind {
         "parse" => parse::outcome(alloc, subject, case),
-        "run" => commands::outcome(rt, alloc, case),
+        "run" | "nimble" => commands::outcome(rt, alloc, case),
         "nothing" => Ok(String::new(alloc)),
         "text" => grammars::outcome(alloc, case),
         "cuts" => grammars::outcome_of_cuts(alloc, case),

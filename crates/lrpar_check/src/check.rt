@@ -6,6 +6,7 @@ ghost use Rattle.lrpar_states.specs.Safe.{IsSafe};
 ghost use Rattle.lrpar_stacks.specs.Path.{NeverSticks};
 ghost use Rattle.lrpar_stacks.specs.Chain.{AreChainsShort, IsBounded};
 ghost use Rattle.lrpar_safety.specs.Checked.{IsChainFault, IsChecked, IsCheckFault};
+ghost use Rattle.lrpar_safety.specs.LeastCap.{IsLeastCap};
 ghost use Rattle.lrpar_stacks.specs.Step.{FitsGrammar};
 ghost use Rattle.lrpar_safety.specs.declared.fault.CheckFault.TheVariants.{Memory};
 
@@ -13,7 +14,7 @@ pub use lrpar_complete::complete_fault::CompleteFault;
 pub use lrpar_complete::completeness::CompletenessCondition;
 use lrpar_grammar::grammar::YaccGrammar;
 use lrpar_grammar::span::StorageIndex;
-use lrpar_safety::chains::are_short;
+use lrpar_safety::chains::least_cap;
 pub use lrpar_safety::fault::CheckFault;
 use lrpar_safety::safety::Parts;
 pub use lrpar_stacks::overlay::Overlay;
@@ -29,16 +30,18 @@ pub struct ParserData<StorageT: StorageIndex> {
     sgraph: StateGraph<StorageT>,
     stable: StateTable<StorageT>,
     cap: u16,
+    least: u16,
 }
 
 impl<StorageT: StorageIndex> Model for ParserData<StorageT> {
-    ghost use Rattle.lrpar_safety.specs.Checked.{Checked, IsChecked};
+    ghost use Rattle.lrpar_safety.specs.Checked.{Checked};
+    ghost use Rattle.lrpar_safety.specs.LeastCap.{IsMeasured};
 
     ghost Value = { Checked };
 
     ghost view = { λ d. record { grammar = d.grm; graph = d.sgraph; table = d.stable; cap = d.cap } };
 
-    ghost invariant = { λ d. IsChecked (record { grammar = d.grm; graph = d.sgraph; table = d.stable; cap = d.cap }) };
+    ghost invariant = { λ d. IsMeasured (record { grammar = d.grm; graph = d.sgraph; table = d.stable; cap = d.cap }) d.least };
 }
 
 impl<StorageT: StorageIndex> ParserData<StorageT> {
@@ -53,7 +56,8 @@ impl<StorageT: StorageIndex> ParserData<StorageT> {
     /// The conditions take time near the size of the input: with I items and A entries of the table, about (I + A) times
     /// the logarithm of I, where each entry that leads to a state counts the state's cores with a dot past 0. The chains
     /// take longer: a state has one for each reduction that it stores, and one for each reduction that the state of one of
-    /// its gotos stores. Each is made at most once, and makes at most `cap + 1` reductions.
+    /// its gotos stores. Each is made once, and makes at most `cap + 1` reductions; where a state has a longer one than each state
+    /// before, its chains are made again, at most 17 times, to find the least cap.
     pub fn new(
         alloc: Global,
         grm: YaccGrammar<StorageT>,
@@ -99,12 +103,13 @@ impl<StorageT: StorageIndex> ParserData<StorageT> {
         ensures back { IfErr result (λ r. (r.grammar ≡ grm) × (r.graph ≡ sgraph) × (r.table ≡ stable)) }
     {
         are_sound(&grm, &stable);
-        match are_short(alloc, &grm, &stable, cap) {
-            Ok(()) => Ok(ParserData {
+        match least_cap(alloc, &grm, &stable, cap) {
+            Ok(least) => Ok(ParserData {
                 grm,
                 sgraph,
                 stable,
                 cap,
+                least,
             }),
             Err(fault) => Err(Refused {
                 fault,
@@ -144,6 +149,15 @@ impl<StorageT: StorageIndex> ParserData<StorageT> {
         ensures { result ≡ self.now.cap }
     {
         self.cap
+    }
+
+    /// The least cap with which the table passes: no chain makes more reductions, and for each smaller cap some chain does. It was found
+    /// by the check, and takes no time here. A table that is refused with the cap 65,535 passes with no cap; so to choose one, take the
+    /// table with that cap and ask for the least.
+    pub fn least_cap(&self) -> u16
+        ensures { IsLeastCap self.now.grammar self.now.table result }
+    {
+        self.least
     }
 }
 

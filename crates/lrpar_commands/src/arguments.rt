@@ -1,5 +1,5 @@
 //! The words after the program's name as a command.
-use crate::fault::Fault;
+use lrpar_inputs::fault::Fault;
 
 /// A command, with its words.
 #[derive(Clone, Copy)]

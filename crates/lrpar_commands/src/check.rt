@@ -1,8 +1,8 @@
 //! The command `check`: how large the table of a grammar is, whether its chains are short, and whether it is complete. It is safe,
 //! as it is built.
-use crate::fault::Fault;
-use crate::parsing::print_line;
-use crate::tables::checked;
+use lrpar_inputs::fault::Fault;
+use lrpar_inputs::parsing::print_line;
+use lrpar_inputs::tables::checked;
 use lrpar_parser::ParserData;
 use lrpar_parser::check::{CheckFault, CompleteFault, Refused};
 use lrpar_parser::grammar::YaccGrammar;

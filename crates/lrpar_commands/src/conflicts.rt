@@ -2,9 +2,9 @@
 ghost use Rattle.lrpar_grammar.specs.SpansFit.{SpansFit};
 ghost use Rattle.lrpar_states.specs.ConflictsFit.{ConflictsFit};
 
-use crate::fault::Fault;
-use crate::tables::MAX_STATES;
 use lrpar_diagnostics::SpannedDiagnosticFormatter;
+use lrpar_inputs::fault::Fault;
+use lrpar_inputs::tables::MAX_STATES;
 use lrpar_parser::build::from_yacc;
 use lrpar_parser::grammar::YaccGrammar;
 use lrpar_parser::table::{Conflicts, StateGraph, StateTable};

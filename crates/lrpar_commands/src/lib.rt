@@ -2,18 +2,9 @@
 #![tactic(auto)]
 
 mod arguments;
-mod calc;
 mod check;
 mod conflicts;
-mod demo;
-mod fault;
-mod files;
-mod lexer;
-mod parsing;
 mod program;
-mod repairs;
-mod sum;
-mod tables;
 mod tree;
 
 pub use program::{run, run_of_process};

@@ -2,13 +2,13 @@
 ghost use Rattle.std.specs.Prelude.{◌≤◌, IfOk};
 
 use crate::arguments::{Command, TreePaths, command_of};
-use crate::calc::calc;
 use crate::check::check;
 use crate::conflicts::conflicts;
-use crate::demo::demo;
-use crate::fault::Fault;
-use crate::files::{file_text, text_if_any};
 use crate::tree::{TreeTexts, tree};
+use lrpar_inputs::fault::Fault;
+use lrpar_inputs::files::{file_text, text_if_any};
+use lrpar_sums::calc::calc;
+use lrpar_sums::demo::demo;
 use std::alloc::Global;
 use std::io::{BufWriter, Read, Write};
 use std::rt::Files;

@@ -1,7 +1,7 @@
 //! The command `tree`: the tree of a text by a grammar and a lexer of files.
-use crate::fault::Fault;
-use crate::parsing::{TextParser, print_tree, text_parser_of};
-use crate::tables::data_of;
+use lrpar_inputs::fault::Fault;
+use lrpar_inputs::parsing::{TextParser, print_tree, text_parser_of};
+use lrpar_inputs::tables::data_of;
 use lrpar_lexer::RuleLexer;
 use lrpar_parser::ParserData;
 use std::alloc::Global;

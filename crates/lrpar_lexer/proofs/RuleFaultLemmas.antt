@@ -1,13 +1,14 @@
 -- What a fault says of the line that it names.
 use Rattle.std.proofs.Common.{◌≡◌, ℕ, Result, Ok, Err, IfErr, IsErrAnd, sym, subst}
 use Rattle.lrpar_lexer.specs.RuleTexts.{NamesLine}
+use Rattle.lrpar_lexer.specs.declared.rules.LineFault.{LineFault}
 use Rattle.lrpar_lexer.specs.declared.rules.RulesFault.{RulesFault}
 use Rattle.lrpar_lexer.specs.declared.rules.RulesFault.TheVariants.{Line, Memory}
 
-module _ (P Q : ℕ → Type 0) (so : (n : ℕ) → P n → Q n) where
+module _ (P Q : ℕ → LineFault → Type 0) (so : (n : ℕ) (why : LineFault) → P n why → Q n why) where
   -- what holds of the line has consequences
   pub names_weaker : (fault : RulesFault) → NamesLine P fault → NamesLine Q fault
-  names_weaker (Line number) is = so number is
+  names_weaker (Line number why) is = so number why is
   names_weaker Memory is = is
 
   -- the same of a fault that a `?` hands on

@@ -9,6 +9,7 @@ use Rattle.lrpar_grammar.specs.Grammar.{Grammar}
 use Rattle.lrpar_lexer.specs.RuleLines.{core_of, cores_of}
 use Rattle.lrpar_lexer.specs.RuleTexts.{AreRulesOf, IsFirstFault, IsRuleOf, SaysNoRule}
 use Rattle.lrpar_lexer.specs.declared.rule.LexRule.{LexRule}
+use Rattle.lrpar_lexer.specs.declared.rules.LineFault.{LineFault}
 
 -- what counts of one line more
 cores_push : (lines : List (List ℕ)) (line : List ℕ)
@@ -43,9 +44,9 @@ module _ (grammar : Grammar) (lines : List (List ℕ)) (number : ℕ) (line : Li
       subst (λ cores. AllZip (IsRuleOf grammar) cores rules) (sym more) are
 
   -- a line that counts and says no rule is the first such one, where the lines before it say rules
-  pub fault_here : (rules : List LexRule) → 0 < length (core_of line) → AreRulesOf grammar (take number lines) rules
-      → SaysNoRule grammar (core_of line) → IsFirstFault grammar lines (number + 1)
-  fault_here rules counts are says =
+  pub fault_here : (rules : List LexRule) (why : LineFault) → 0 < length (core_of line) → AreRulesOf grammar (take number lines) rules
+      → SaysNoRule grammar (core_of line) why → IsFirstFault grammar lines (number + 1) why
+  fault_here rules why counts are says =
       let back : (number + 1) - 1 ≡ number = omega arith in
       record {
         line = line;

@@ -10,6 +10,8 @@ use Rattle.lrpar_grammar.specs.Grammar.{Grammar}
 use Rattle.lrpar_lexer.specs.RuleLines.{ReadsAs, core_of, cores_of, text_lines}
 use Rattle.lrpar_lexer.specs.Rules.{HasPattern, token_of}
 use Rattle.lrpar_lexer.specs.declared.rule.LexRule.{LexRule}
+use Rattle.lrpar_lexer.specs.declared.rules.LineFault.{LineFault}
+use Rattle.lrpar_lexer.specs.declared.rules.LineFault.TheVariants.{Unread, Unnamed, Pattern}
 use Rattle.lrpar_lexer.specs.declared.rules.RulesFault.{RulesFault}
 use Rattle.lrpar_lexer.specs.declared.rules.RulesFault.TheVariants.{Line, Memory}
 
@@ -39,27 +41,28 @@ AreRulesOf grammar lines rules = AllZip (IsRuleOf grammar) (cores_of lines) rule
 abbrev pub IsRefusalOf : List ℕ → Error → Type 0
 IsRefusalOf pattern error = (error ≢ OutOfMemory) × (error ≢ Internal) × IsRefusal default_config pattern error × IsRightKind default_config pattern error
 
--- The line says no rule: it doesn't read as one, or it names no token of the grammar, or `regex` refuses its pattern.
-pub data SaysNoRule (grammar : Grammar) (line : List ℕ) : Type 0 where
-  unread : ((pattern : List ℕ) (name : Option (List ℕ)) → ¬ (ReadsAs line pattern name)) → SaysNoRule grammar line
-  unnamed : (pattern name : List ℕ) → ReadsAs line pattern (Some name) → first_named grammar name ≡ None → SaysNoRule grammar line
-  refused : (pattern : List ℕ) (name : Option (List ℕ)) (error : Error) → ReadsAs line pattern name → IsRefusalOf pattern error → SaysNoRule grammar line
+-- The line says no rule, for this reason: it doesn't read as one; or it does, and names no token of the grammar; or it does, and `regex`
+-- refuses its pattern with this error.
+abbrev pub SaysNoRule : Grammar → List ℕ → LineFault → Type 0
+SaysNoRule grammar line Unread = (pattern : List ℕ) (name : Option (List ℕ)) → ¬ (ReadsAs line pattern name)
+SaysNoRule grammar line Unnamed = (pattern name : List ℕ) × ReadsAs line pattern (Some name) × (first_named grammar name ≡ None)
+SaysNoRule grammar line (Pattern error) = (pattern : List ℕ) × (name : Option (List ℕ)) × ReadsAs line pattern name × IsRefusalOf pattern error
 
--- line `number`, from 1 on, counts and says no rule, and the lines before it that count say rules
-pub record IsFirstFault (grammar : Grammar) (lines : List (List ℕ)) (number : ℕ) : Type 0 where
+-- line `number`, from 1 on, counts and says no rule for this reason, and the lines before it that count say rules
+pub record IsFirstFault (grammar : Grammar) (lines : List (List ℕ)) (number : ℕ) (why : LineFault) : Type 0 where
   pub line : List ℕ
   pub from_one : 0 < number
   pub is : slice_get lines (number - 1) ≡ Some line
   pub counts : 0 < length (core_of line)
-  pub says_none : SaysNoRule grammar (core_of line)
+  pub says_none : SaysNoRule grammar (core_of line) why
   pub rules : List LexRule
   pub before : AreRulesOf grammar (take (number - 1) lines) rules
 
--- the line that a fault names, if it names one, is such
-abbrev pub NamesLine : (ℕ → Type 0) → RulesFault → Type 0
-NamesLine IsSuch (Line number) = IsSuch number
+-- the line that a fault names, and why it is no rule, are such, if it names one
+abbrev pub NamesLine : (ℕ → LineFault → Type 0) → RulesFault → Type 0
+NamesLine IsSuch (Line number why) = IsSuch number why
 NamesLine IsSuch Memory = ⊤
 
--- the fault names the first line that counts and says no rule
+-- the fault names the first line that counts and says no rule, and why it says none
 abbrev pub IsFaultOf : Grammar → List ℕ → RulesFault → Type 0
 IsFaultOf grammar text fault = NamesLine (IsFirstFault grammar (text_lines text)) fault

@@ -11,5 +11,5 @@ mod token;
 
 pub use lexer::RuleLexer;
 pub use rule::LexRule;
-pub use rules::{RulesFault, rules_of};
+pub use rules::{LineFault, RulesFault, rules_of};
 pub use token::{NoToken, Token, TokenTypes};

@@ -43,6 +43,13 @@ impl LexRule {
         let anchored = anchored(alloc, pattern)?;
         Ok(LexRule { anchored, token })
     }
+
+    /// The token of what the pattern matches, if it has one.
+    pub fn token(&self) -> Option<TIdx<u32>>
+        ensures { token_of self.now ≡ option_map (λ token. token.0) result }
+    {
+        self.token
+    }
 }
 
 impl fmt::Debug for LexRule {

@@ -13,20 +13,30 @@ use thiserror::Error;
 /// Why a text isn't one of rules.
 #[derive(Debug, Drop, Error)]
 pub enum RulesFault {
-    /// The line of this number, counted from 1, is no rule: it isn't written as one, or names no token of the grammar, or `regex`
-    /// refuses its pattern.
+    /// The line of this number, counted from 1, is no rule, for this reason.
     #[error("line {0}")]
-    Line(usize),
+    Line(usize, LineFault),
     /// Memory was wanting.
     #[error("out of memory")]
     Memory,
+}
+
+/// Why a line is no rule.
+#[derive(Clone, Copy, Debug, PartialEq, Eq)]
+pub enum LineFault {
+    /// It isn't written as one.
+    Unread,
+    /// It names no token of the grammar.
+    Unnamed,
+    /// `regex` refuses its pattern, for this reason. Places of that are bytes of the pattern.
+    Pattern(regex::Error),
 }
 
 /// The rules of a text, one a line, with the tokens of the grammar. `PATTERN 'NAME'` is the rule of the token NAME, and
 /// `PATTERN ;` the rule of what is skipped; spaces and tabs stand between. At both ends of a line spaces, tabs and carriage
 /// returns count for nothing, and a line that has nothing else is left out. NAME is what stands between the last two quotes.
 ///
-/// The rules come in the order of their lines. A fault names the first line that is no rule; the lines before it are.
+/// The rules come in the order of their lines. A fault names the first line that is no rule, and why it isn't; the lines before it are.
 pub fn rules_of(
     alloc: Global,
     grm: &YaccGrammar<u32>,
@@ -63,10 +73,10 @@ fn rule_of(
     number: usize,
 ) -> Result<LexRule, RulesFault>
     ensures rule { IfOk result (IsRuleOf grm.now line.now) }
-    ensures fault { IfErr result (NamesLine (λ n. (n ≡ number) × SaysNoRule grm.now line.now)) }
+    ensures fault { IfErr result (NamesLine (λ n why. (n ≡ number) × SaysNoRule grm.now line.now why)) }
 {
     let Some((pattern, name)) = rule_parts(line) else {
-        return Err(RulesFault::Line(number));
+        return Err(RulesFault::Line(number, LineFault::Unread));
     };
     let token = match name {
         Some(name) => Some(token_named(grm, name, number)?),
@@ -80,22 +90,22 @@ fn rule_of(
 
 // The fault of a line whose pattern is refused.
 fn refusal(error: &regex::Error, number: usize) -> RulesFault
-    ensures { NamesLine (λ n. (n ≡ number) × (error.now ≢ OutOfMemory)) result }
+    ensures { NamesLine (λ n why. (n ≡ number) × (why ≡ LineFault.Pattern error.now) × (error.now ≢ OutOfMemory)) result }
 {
     match error {
         regex::Error::OutOfMemory => RulesFault::Memory,
-        _ => RulesFault::Line(number),
+        refusal => RulesFault::Line(number, LineFault::Pattern(*refusal)),
     }
 }
 
 // The token of that name.
 fn token_named(grm: &YaccGrammar<u32>, name: &str, number: usize) -> Result<TIdx<u32>, RulesFault>
     ensures token { IfOk result (λ token. first_named grm.now name.now ≡ Some token.0) }
-    ensures fault { IfErr result (NamesLine (λ n. (n ≡ number) × (first_named grm.now name.now ≡ None))) }
+    ensures fault { IfErr result (NamesLine (λ n why. (n ≡ number) × (why ≡ LineFault.Unnamed) × (first_named grm.now name.now ≡ None))) }
 {
     match grm.token_idx(name) {
         Some(token) => Ok(token),
-        None => Err(RulesFault::Line(number)),
+        None => Err(RulesFault::Line(number, LineFault::Unnamed)),
     }
 }
 

@@ -1,3 +1,4 @@
 pub mod SafetyLemmas
 pub mod ChainEntryLemmas
 pub mod EntryTests
+pub mod LeastCapLemmas

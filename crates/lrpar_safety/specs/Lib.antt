@@ -1,2 +1,3 @@
 pub mod Entrywise
 pub mod Checked
+pub mod LeastCap

@@ -1,7 +1,8 @@
-//! The loop check: whether each chain of reductions under one token is short.
-ghost use Rattle.std.specs.Prelude.{◌≡◌, ◌<◌, ◌+◌, ◌↔◌, ◌∷◌, ℕ, All, IsTrue, IfErr, IfOk, MatchOption, OnOk, length};
+//! The loop check: whether each chain of reductions under one token is short, and how short.
+ghost use Rattle.std.specs.Prelude.{◌≡◌, ◌<◌, ◌≤◌, ◌+◌, ◌↔◌, ◌∷◌, ℕ, All, IsTrue, IfErr, IfOk, MatchOption, OnOk, length};
 ghost use Rattle.std.specs.Option.{option_to_list};
 ghost use Rattle.lrpar_safety.specs.Checked.{IsChainFault};
+ghost use Rattle.lrpar_safety.specs.LeastCap.{AreShortAt, IsLeastAt, IsLeastCap};
 ghost use Rattle.lrpar_stacks.specs.Chain.{AreChainsShort, HasReductions, IsLongChain, IsShortUntil};
 ghost use Rattle.lrpar_states.specs.PlainRows.{plain_action, plain_goto};
 ghost use Rattle.lrpar_stacks.specs.Stack.{states_of};
@@ -32,26 +33,108 @@ impl<'a, StorageT: StorageIndex> Chains<'a, StorageT> {
         Chains { grm, stable, cap }
     }
 
-    /// The first state, and the first token there, at which a chain is too long.
+    // The same chains, each of which is to make at most so many reductions.
+    fn with(&self, cap: u16) -> Self
+        ensures grammar { result.grm.now ≡ self.now.grm.now }
+        ensures table { result.stable.now ≡ self.now.stable.now }
+        ensures cap { result.cap ≡ cap }
+    {
+        Chains::new(self.grm, self.stable, cap)
+    }
+
+    /// The least cap with which the table passes, which is at most that of the check; otherwise the first state, and the first token
+    /// there, at which a chain is too long.
     ///
     /// The chains of a state begin with it alone, and with each of its gotos above it, which are read once. Such a chain
     /// is made at those tokens alone at which the state that it begins with on top stores a reduction, and at none after a
     /// token at which an earlier one was too long. It takes at most `cap + 1` steps, each with one action and one goto.
     /// All chains share one small list of states.
-    fn first_long(&self, alloc: Global) -> Result<Option<(usize, usize)>, AllocError>
+    ///
+    /// Each chain is made once, to see that it is no longer than those of the states before. Where one is, those of its state are made
+    /// again, at most 17 times: as the caps that they need are halved.
+    fn least(&self, alloc: Global) -> Result<u16, CheckFault>
         requires { FitsGrammar self.now.grm.now self.now.stable.now }
-        ensures { let g = self.now.grm.now in let table = self.now.stable.now in let cap = self.now.cap in IfOk result (λ found. MatchOption found
-            (AreChainsShort g table cap)
-            (λ at. (at.0 < states_len table) × (at.1 < table.tokens) × IsLongChain g table cap at.0 at.1)) }
+        ensures least { IfOk result (IsLeastCap self.now.grm.now self.now.stable.now) }
+        ensures short { OnOk result (AreChainsShort self.now.grm.now self.now.stable.now self.now.cap) }
+        ensures fault { IfErr result (IsChainFault self.now.grm.now self.now.stable.now self.now.cap) }
     {
         let mut states = Vec::new(alloc);
+        let mut least = 0;
         for s in 0..self.stable.states_len() {
             let state = StIdx(StorageT::from_index(s).unwrap());
-            if let Some(t) = self.first_long_at(&mut states, state)? {
-                return Ok(Some((s, t)));
+            least = self.least_at(&mut states, state, least)?;
+        }
+        Ok(least)
+    }
+
+    // The least cap from this one on that no chain of the state exceeds.
+    fn least_at(
+        &self,
+        states: &mut Vec<StIdx<StorageT>>,
+        s: StIdx<StorageT>,
+        from: u16,
+    ) -> Result<u16, CheckFault>
+        requires fits { FitsGrammar self.now.grm.now self.now.stable.now }
+        requires closed { IsClosed self.now.stable.now }
+        requires state { StorageT.index s.0 < states_len self.now.stable.now }
+        requires from { from ≤ self.now.cap }
+        ensures least { IfOk result (IsLeastAt self.now.grm.now self.now.stable.now (StorageT.index s.0) from) }
+        ensures within { IfOk result (λ cap. cap ≤ self.now.cap) }
+        ensures fault { IfErr result (IsChainFault self.now.grm.now self.now.stable.now self.now.cap) }
+    {
+        if self.is_short_at(states, s, from)? {
+            return Ok(from);
+        }
+        match self.first_long_at(states, s)? {
+            Some(t) => Err(CheckFault::ChainTooLong(usize::from(s), t)),
+            None => Ok(self.least_above(states, s, from)?),
+        }
+    }
+
+    // The least cap that no chain of the state exceeds, where one exceeds this one, and none that of the check.
+    fn least_above(
+        &self,
+        states: &mut Vec<StIdx<StorageT>>,
+        s: StIdx<StorageT>,
+        from: u16,
+    ) -> Result<u16, AllocError>
+        requires fits { FitsGrammar self.now.grm.now self.now.stable.now }
+        requires closed { IsClosed self.now.stable.now }
+        requires state { StorageT.index s.0 < states_len self.now.stable.now }
+        requires long { ¬ (AreShortAt self.now.grm.now self.now.stable.now from (StorageT.index s.0)) }
+        requires short { AreShortAt self.now.grm.now self.now.stable.now self.now.cap (StorageT.index s.0) }
+        ensures least { IfOk result (IsLeastAt self.now.grm.now self.now.stable.now (StorageT.index s.0) from) }
+        ensures within { IfOk result (λ cap. cap ≤ self.now.cap) }
+    {
+        let mut low = from;
+        let mut high = self.cap;
+        'halves: while high - low > 1 {
+            let middle = low + (high - low) / 2;
+            if self.is_short_at(states, s, middle)? {
+                high = middle;
+            } else {
+                low = middle;
             }
         }
-        Ok(None)
+        Ok(high)
+    }
+
+    // Whether no chain of the state makes more reductions than this cap.
+    fn is_short_at(
+        &self,
+        states: &mut Vec<StIdx<StorageT>>,
+        s: StIdx<StorageT>,
+        cap: u16,
+    ) -> Result<bool, AllocError>
+        requires fits { FitsGrammar self.now.grm.now self.now.stable.now }
+        requires closed { IsClosed self.now.stable.now }
+        requires state { StorageT.index s.0 < states_len self.now.stable.now }
+        ensures { IfOk result (λ short. IsTrue short ↔ AreShortAt self.now.grm.now self.now.stable.now cap (StorageT.index s.0)) }
+    {
+        match self.with(cap).first_long_at(states, s)? {
+            None => Ok(true),
+            Some(_) => Ok(false),
+        }
     }
 
     // The first token at which a chain of the state is too long.
@@ -64,7 +147,7 @@ impl<'a, StorageT: StorageIndex> Chains<'a, StorageT> {
         requires closed { IsClosed self.now.stable.now }
         requires state { StorageT.index s.0 < states_len self.now.stable.now }
         ensures { let g = self.now.grm.now in let table = self.now.stable.now in let cap = self.now.cap in IfOk result (λ found. MatchOption found
-            ((t : ℕ) → t < table.tokens → ¬ (IsLongChain g table cap (StorageT.index s.0) t))
+            (AreShortAt g table cap (StorageT.index s.0))
             (λ t. (t < table.tokens) × IsLongChain g table cap (StorageT.index s.0) t
             × ((k : ℕ) → k < t → ¬ (IsLongChain g table cap (StorageT.index s.0) k)))) }
     {
@@ -175,20 +258,18 @@ fn is_reduction<StorageT: StorageIndex>(action: Action<StorageT>) -> bool
     }
 }
 
-/// Whether the chains of a safe table are short; otherwise the first that isn't, or `Memory`, where it was wanting for a list of at most
-/// `cap + 3` states.
-pub fn are_short<StorageT: StorageIndex>(
+/// The least cap with which a safe table passes, where that is no more than this one; otherwise the first chain that makes more reductions
+/// than this one, or `Memory`, where it was wanting for a list of at most `cap + 3` states.
+pub fn least_cap<StorageT: StorageIndex>(
     alloc: Global,
     grm: &YaccGrammar<StorageT>,
     stable: &StateTable<StorageT>,
     cap: u16,
-) -> Result<(), CheckFault>
+) -> Result<u16, CheckFault>
     requires { FitsGrammar grm.now stable.now }
+    ensures least { IfOk result (IsLeastCap grm.now stable.now) }
     ensures short { OnOk result (AreChainsShort grm.now stable.now cap) }
     ensures fault { IfErr result (IsChainFault grm.now stable.now cap) }
 {
-    match Chains::new(grm, stable, cap).first_long(alloc)? {
-        None => Ok(()),
-        Some((s, t)) => Err(CheckFault::ChainTooLong(s, t)),
-    }
+    Chains::new(grm, stable, cap).least(alloc)
 }

@@ -20,10 +20,10 @@ returns-in_err-rule_of-clause-fault c =
     subst (λ n. (n < length lines) × (line ≡ get_or lines n line)) (sym c.lines.invariant.number)
     (YieldsList-turn (YieldsList-from_str_split 10 c.args.text.now (lit< tt) (cc) (cc) (cc)) c.lines.yielded _ c.lines.yielded_by _ _ c.in-Some.line c.in-Some.is c.next.ensures.steps) in
     let some : 0 < length core = grind (arith, nat_tests, c.is_empty.ensures, c.if-not-is_empty.true) in
-    names_handed (λ n. (n ≡ number + 1) × SaysNoRule grammar core) (IsFirstFault grammar lines)
-    (λ n said. subst (IsFirstFault grammar lines) (sym said.0)
-    (fault_here grammar lines number line at.0 at.1 c.lines.rules.items (subst (λ l. 0 < length l) c.core_of-core.ensures some)
-    c.lines.invariant.rules (subst (SaysNoRule grammar) c.core_of-core.ensures said.1)))
+    names_handed (λ n why. (n ≡ number + 1) × SaysNoRule grammar core why) (IsFirstFault grammar lines)
+    (λ n why said. subst (λ m. IsFirstFault grammar lines m why) (sym said.0)
+    (fault_here grammar lines number line at.0 at.1 c.lines.rules.items why (subst (λ l. 0 < length l) c.core_of-core.ensures some)
+    c.lines.invariant.rules (subst (λ l. SaysNoRule grammar l why) c.core_of-core.ensures said.1)))
     c.in_err-rule_of.field-0.0 c.from_residual.result c.from_residual.ensures.1 c.in_err-rule_of.ensures.fault
 
 pub lines-preserved-in_ok-push : goal.lines-preserved-in_ok-push

@@ -1,0 +1,4 @@
+%token INT
+%%
+Expr: Expr '+' Term | Term;
+Term: '(' Expr ')' | INT;

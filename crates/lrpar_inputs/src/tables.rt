@@ -1,0 +1,34 @@
+//! Tables of grammars.
+use crate::fault::Fault;
+use lrpar_parser::ParserData;
+use lrpar_parser::build::{Unbuilt, parser_data};
+use lrpar_parser::check::Refused;
+use lrpar_parser::grammar::YaccGrammar;
+use std::alloc::Global;
+
+/// The cap with which the program checks its tables.
+const CAP: u16 = 1_000;
+
+/// How many states a table may have.
+pub const MAX_STATES: usize = 10_000;
+
+/// The checked table of a grammar's text, or what is refused for its chains of reductions.
+pub type Checked = Result<ParserData<u32>, Refused<u32>>;
+
+/// The checked table of a grammar's text.
+pub fn data_of(alloc: Global, text: &str) -> Result<ParserData<u32>, Fault> {
+    match checked(alloc, text, CAP)? {
+        Ok(data) => Ok(data),
+        Err(refused) => Err(refused.fault().into()),
+    }
+}
+
+/// The same with this cap.
+pub fn checked(alloc: Global, text: &str, cap: u16) -> Result<Checked, Fault> {
+    let grm = YaccGrammar::new_with_storaget(alloc, text)?;
+    match parser_data(alloc, grm, MAX_STATES, cap) {
+        Ok(data) => Ok(Ok(data)),
+        Err(Unbuilt::Chains(refused)) => Ok(Err(refused)),
+        Err(Unbuilt::Table(fault, _)) => Err(fault.into()),
+    }
+}

@@ -1,0 +1,67 @@
+//! Lists of what may stand somewhere.
+use lrpar_grammar::grammar::YaccGrammar;
+use lrpar_grammar::span::{StorageIndex, TIdx};
+use std::alloc::AllocError;
+
+/// How many tokens are told at most.
+const MOST_CHOICES: usize = 12;
+
+/// Adds what may come: `expected A`, `expected A or B`, `expected A, B or C`; of more than twelve tokens the first twelve, and how many
+/// more there are. Adds nothing, where there are none.
+pub fn push_choices<StorageT: StorageIndex>(
+    out: &mut String,
+    grm: &YaccGrammar<StorageT>,
+    tokens: &[TIdx<StorageT>],
+) -> Result<(), AllocError> {
+    let told = tokens.get(..MOST_CHOICES).unwrap_or(tokens);
+    let more = tokens.len().saturating_sub(told.len());
+    for (place, token) in told.iter().enumerate() {
+        let behind = told.len().saturating_sub(place).saturating_add(more);
+        out.push_str(joint(place, behind))?;
+        push_token(out, grm, *token)?;
+    }
+    match more {
+        0 => Ok(()),
+        _ => write!(out, " or {more} more"),
+    }
+}
+
+// What stands in front of a choice, behind so many others, when so many are left with it.
+fn joint(place: usize, left: usize) -> &'static str {
+    match (place, left) {
+        (0, _) => "expected ",
+        (_, 1) => " or ",
+        _ => ", ",
+    }
+}
+
+/// Adds a token as messages name it: by its printed text, if it has one, by its name in quotes otherwise, and the end token as
+/// `end of input`.
+pub fn push_token<StorageT: StorageIndex>(
+    out: &mut String,
+    grm: &YaccGrammar<StorageT>,
+    token: TIdx<StorageT>,
+) -> Result<(), AllocError> {
+    if usize::from(token) >= grm.tokens_len() {
+        return out.push_str("no token");
+    }
+    match (grm.token_name(token), grm.token_epp(token)) {
+        (Some(name), Some(printed)) if name != printed => out.push_str(printed),
+        (Some(name), _) => push_quoted(out, name),
+        _ => out.push_str("end of input"),
+    }
+}
+
+/// Adds the text between quotes, with line feeds, carriage returns and tabs as `\n`, `\r` and `\t`.
+pub fn push_quoted(out: &mut String, text: &str) -> Result<(), AllocError> {
+    out.push('\'')?;
+    for c in text.chars() {
+        match c {
+            '\n' => out.push_str("\\n")?,
+            '\r' => out.push_str("\\r")?,
+            '\t' => out.push_str("\\t")?,
+            _ => out.push(c)?,
+        }
+    }
+    out.push('\'')
+}

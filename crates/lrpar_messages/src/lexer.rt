@@ -1,0 +1,136 @@
+//! Faults of the rules of a lexer.
+use crate::choices::push_quoted;
+use crate::message::{Level, Message};
+use crate::near::nearest;
+use lrpar_grammar::grammar::YaccGrammar;
+use lrpar_grammar::span::Span;
+use lrpar_lexer::LineFault;
+use std::alloc::{AllocError, Global};
+
+/// The message of the fault that the line of this number, counted from 1, has in a text of rules: the cause, and where in the line it is.
+/// `text` has to be the text whose fault that is; else the message is about places that tell nothing.
+///
+/// Takes time linear in the text, and in the tokens of the grammar times the length of the name in question.
+pub fn lexer_message(
+    alloc: Global,
+    grm: &YaccGrammar<u32>,
+    text: &str,
+    number: usize,
+    fault: LineFault,
+) -> Result<Message, AllocError> {
+    let core = line_of(text, number);
+    let line = text.get(core.start()..core.end()).unwrap_or("");
+    match fault {
+        LineFault::Unread => unread(alloc, core),
+        LineFault::Unnamed => unnamed(alloc, grm, line, core.start()),
+        LineFault::Pattern(error) => refused(alloc, &error, core),
+    }
+}
+
+// Where the line of this number stands, without spaces, tabs and carriage returns at its ends.
+fn line_of(text: &str, number: usize) -> Span {
+    let mut start = 0usize;
+    let mut left = number;
+    for line in text.split('\n') {
+        left = left.saturating_sub(1);
+        if left == 0 {
+            return core_of(line, start);
+        }
+        start = start.saturating_add(line.len()).saturating_add(1);
+    }
+    Span::new(text.len(), text.len())
+}
+
+// Where the core of a line stands that starts at a byte.
+fn core_of(line: &str, start: usize) -> Span {
+    let behind = line.trim_start_matches([' ', '\t', '\r']);
+    let from = start.saturating_add(line.len().saturating_sub(behind.len()));
+    let core = behind.trim_end_matches([' ', '\t', '\r']);
+    Span::new(from, from.saturating_add(core.len()))
+}
+
+// The message of a line that isn't written as a rule.
+fn unread(alloc: Global, core: Span) -> Result<Message, AllocError> {
+    Ok(Message {
+        level: Level::Error,
+        text: String::from_str(alloc, "this line is no rule")?,
+        span: Some(core),
+        label: String::from_str(
+            alloc,
+            "expected PATTERN 'NAME' for a token, or PATTERN ; for what is skipped",
+        )?,
+    })
+}
+
+// The message of a line that starts at a byte and names no token.
+fn unnamed(
+    alloc: Global,
+    grm: &YaccGrammar<u32>,
+    line: &str,
+    start: usize,
+) -> Result<Message, AllocError> {
+    let quoted = line.strip_suffix('\'').unwrap_or(line);
+    let (front, name) = quoted.rsplit_once('\'').unwrap_or(("", quoted));
+    let at = start.saturating_add(front.len()).saturating_add(1);
+    let mut text = String::from_str(alloc, "the grammar has no token ")?;
+    push_quoted(&mut text, name)?;
+    let mut label = String::new(alloc);
+    push_near_token(&mut label, alloc, grm, name)?;
+    Ok(Message {
+        level: Level::Error,
+        text,
+        span: Some(Span::new(at, at.saturating_add(name.len()))),
+        label,
+    })
+}
+
+// Adds the token that somebody may have meant, if one is near.
+fn push_near_token(
+    label: &mut String,
+    alloc: Global,
+    grm: &YaccGrammar<u32>,
+    name: &str,
+) -> Result<(), AllocError> {
+    let mut names = Vec::new(alloc);
+    for (token, _) in grm.tokens_map(alloc)? {
+        names.push(token)?;
+    }
+    match nearest(alloc, name, &names)? {
+        Some(near) => {
+            label.push_str("did you mean ")?;
+            push_quoted(label, near)?;
+            label.push('?')
+        }
+        None => label.push_str("a token stands in quotes in the grammar, or is declared by %token"),
+    }
+}
+
+// The message of a pattern that is refused.
+fn refused(alloc: Global, error: &regex::Error, core: Span) -> Result<Message, AllocError> {
+    let mut text = String::from_str(alloc, "bad pattern: ")?;
+    let span = match error {
+        regex::Error::Syntax(error) => {
+            text.push_str(error.kind.message())?;
+            pattern_span(core, error.span.start, error.span.end)
+        }
+        error => {
+            write!(text, "{error}")?;
+            core
+        }
+    };
+    Ok(Message {
+        level: Level::Error,
+        text,
+        span: Some(span),
+        label: String::from_str(alloc, "patterns are those of the crate `regex`")?,
+    })
+}
+
+// The part of a line that a part of its pattern is, at whose start it stands.
+fn pattern_span(core: Span, start: usize, end: usize) -> Span {
+    let from = core.start().saturating_add(start).min(core.end());
+    Span::new(
+        from,
+        core.start().saturating_add(end).min(core.end()).max(from),
+    )
+}

@@ -1,0 +1,207 @@
+//! The parse of one input, and what is printed of it.
+ghost use Rattle.std.specs.Prelude.{◌≡◌};
+
+use crate::errors::{Subject, push_lexing_error, push_parse_error, push_repairs};
+use crate::fault::Fault;
+use crate::options::{Format, Recovery};
+use crate::show::tell;
+use lrpar_inputs::parsing::{TextError, Tree};
+use lrpar_lexer::{LexRule, RuleLexer, Token, TokenTypes};
+use lrpar_messages::{Look, Reporter};
+use lrpar_parser::repair::Recoverer;
+use lrpar_parser::span::{StIdx, TIdx};
+use lrpar_parser::{LexParseError, NonStreamingLexer, ParserData, RTParserBuilder};
+use lrpar_tree_forms::{Form, write_graph, write_nested};
+use std::alloc::Global;
+use std::io::Write;
+
+/// What inputs are parsed by, and how trees are printed.
+#[derive(Clone, Copy)]
+pub(crate) struct Plan<'a> {
+    pub(crate) data: &'a ParserData<u32>,
+    pub(crate) rules: &'a [LexRule],
+    /// What messages print for the tokens, in their order.
+    pub(crate) names: &'a [&'a str],
+    pub(crate) recovery: Recovery,
+    pub(crate) shifts: Option<usize>,
+    pub(crate) format: Format,
+    pub(crate) is_quiet: bool,
+    /// Whether trees are headed by the path of their input.
+    pub(crate) shows_paths: bool,
+    pub(crate) look: Look,
+}
+
+/// Parses the input of this path and text: tells its errors, and prints its tree, if there is one. Answers whether there is one, and no
+/// error.
+pub(crate) fn parse<'a, O: Write, E: Write>(
+    alloc: Global,
+    plan: &Plan<'a>,
+    path: &str,
+    input: &'a str,
+    out: &mut O,
+    err: &mut E,
+) -> Result<bool, Fault> {
+    let lexer = RuleLexer::new(alloc, plan.rules, input)?;
+    let (tree, errors) = parsed(alloc, plan, &lexer)?;
+    if !errors.is_empty() {
+        let text = errors_text(alloc, plan, &lexer, path, input, &errors)?;
+        tell(out, err, text.as_str())?;
+    }
+    match tree {
+        Some(tree) if !plan.is_quiet => {
+            print_tree(alloc, plan, path, input, &tree, out)?;
+            Ok(errors.is_empty())
+        }
+        Some(_) => Ok(errors.is_empty()),
+        None => Ok(false),
+    }
+}
+
+// The tree of the lexer's text, if there is one, and the errors.
+fn parsed(
+    alloc: Global,
+    plan: &Plan<'_>,
+    lexer: &RuleLexer<'_, '_>,
+) -> Result<(Option<Tree>, Vec<TextError>), Fault> {
+    let parser = RTParserBuilder::new(plan.data);
+    match plan.recovery {
+        Recovery::Nothing => parsed_by(alloc, parser, plan.shifts, lexer),
+    }
+}
+
+// The same by a parser, and by how many lexemes have to follow a repair, where that is told.
+fn parsed_by<R: Recoverer<u32, Token<u32>> + Drop>(
+    alloc: Global,
+    parser: RTParserBuilder<'_, u32, TokenTypes, R>,
+    shifts: Option<usize>,
+    lexer: &RuleLexer<'_, '_>,
+) -> Result<(Option<Tree>, Vec<TextError>), Fault> {
+    let parser = match shifts {
+        None => parser,
+        Some(count) => match parser.shifts(count) {
+            Ok(parser) => parser,
+            Err(_) => return Err(Fault::Usage("--shifts must be at least 1")),
+        },
+    };
+    Ok(parser.parse_generictree(alloc, lexer)?)
+}
+
+// The messages of the errors of an input.
+fn errors_text<'a, L: NonStreamingLexer<'a, TokenTypes>>(
+    alloc: Global,
+    plan: &Plan<'a>,
+    lexer: &L,
+    path: &str,
+    input: &str,
+    errors: &[TextError],
+) -> Result<String, Fault>
+    requires { L.text lexer.now ≡ input.now }
+{
+    let reporter = Reporter::new(alloc, input, path, plan.look)?;
+    let mut text = String::new(alloc);
+    for (place, error) in errors.iter().enumerate() {
+        let expected = expected_tokens(alloc, plan, lexer, place, error)?;
+        push_error(
+            &mut text, alloc, plan, &reporter, lexer, input, &expected, error,
+        )?;
+    }
+    Ok(text)
+}
+
+// What may come at an error: at the first one the tokens that can be fed there, and at a later one those at which its state has an
+// action.
+fn expected_tokens<'a, L: NonStreamingLexer<'a, TokenTypes>>(
+    alloc: Global,
+    plan: &Plan<'_>,
+    lexer: &L,
+    place: usize,
+    error: &TextError,
+) -> Result<Vec<TIdx<u32>>, Fault> {
+    match (place, error) {
+        (0, LexParseError::ParseError(_)) => {
+            let parser = RTParserBuilder::<u32, TokenTypes, _>::new(plan.data);
+            Ok(parser.expected(alloc, lexer)?.tokens)
+        }
+        (_, LexParseError::ParseError(failure)) => tokens_at(alloc, plan.data, failure.stidx()),
+        _ => Ok(Vec::new(alloc)),
+    }
+}
+
+// The tokens at which a state has an action.
+fn tokens_at(
+    alloc: Global,
+    data: &ParserData<u32>,
+    state: StIdx<u32>,
+) -> Result<Vec<TIdx<u32>>, Fault> {
+    if usize::from(state) >= data.stable().states_len() {
+        return Ok(Vec::new(alloc));
+    }
+    let (tokens, _) = data.stable().actions_of(state);
+    Ok(Vec::from_slice(alloc, tokens)?)
+}
+
+// Adds the message of an error.
+fn push_error<'a, L: NonStreamingLexer<'a, TokenTypes>>(
+    text: &mut String,
+    alloc: Global,
+    plan: &Plan<'a>,
+    reporter: &Reporter<'_>,
+    lexer: &L,
+    input: &str,
+    expected: &[TIdx<u32>],
+    error: &TextError,
+) -> Result<(), Fault>
+    requires { L.text lexer.now ≡ input.now }
+{
+    match error {
+        LexParseError::LexError(error) => {
+            Ok(push_lexing_error(text, alloc, reporter, input, error)?)
+        }
+        LexParseError::ParseError(failure) => {
+            let subject = Subject {
+                grm: plan.data.grm(),
+                input,
+                expected,
+            };
+            push_parse_error(text, alloc, reporter, &subject, failure)?;
+            push_repairs(text, alloc, plan.recovery, plan.names, lexer, input, error)
+        }
+    }
+}
+
+// Prints the tree of an input.
+fn print_tree<O: Write>(
+    alloc: Global,
+    plan: &Plan<'_>,
+    path: &str,
+    input: &str,
+    tree: &Tree,
+    out: &mut O,
+) -> Result<(), Fault> {
+    let grm = plan.data.grm();
+    match plan.format {
+        Format::Brackets => {
+            print_path(plan, path, out)?;
+            write_nested(alloc, Form::Brackets, grm, input, tree, out)?;
+            out.write_all(b"\n")?;
+        }
+        Format::Indented => {
+            print_path(plan, path, out)?;
+            tree.write(alloc, grm, input, out)?;
+        }
+        Format::Json => {
+            write_nested(alloc, Form::Json, grm, input, tree, out)?;
+            out.write_all(b"\n")?;
+        }
+        Format::Graph => write_graph(alloc, grm, input, tree, out)?,
+    }
+    Ok(())
+}
+
+// Prints the path in front of the tree of an input, where there are several.
+fn print_path<O: Write>(plan: &Plan<'_>, path: &str, out: &mut O) -> Result<(), Fault> {
+    if plan.shows_paths {
+        writeln!(out, "{path}:")?;
+    }
+    Ok(())
+}

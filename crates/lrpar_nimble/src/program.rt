@@ -1,0 +1,334 @@
+//! The whole program: its words to a grammar, a lexer and inputs, their trees to standard output, and messages to standard error.
+ghost use Rattle.std.specs.Prelude.{◌≤◌};
+
+use crate::fault::Fault;
+use crate::grammar::data_of;
+use crate::inputs::{STANDARD_INPUT, file_text, input_text};
+use crate::options::{HELP, Options, asks_for_help, options_of};
+use crate::parse::{Plan, parse};
+use crate::rules::lexer_rules;
+use crate::show::{push_message, tell};
+use crate::warnings::push_token_warnings;
+use lrpar_inputs::parsing::printed_names;
+use lrpar_lexer::LexRule;
+use lrpar_messages::{Level, Look, Reporter};
+use lrpar_parser::ParserData;
+use std::alloc::{AllocError, Global};
+use std::io::{BufWriter, IsTerminal, Read, Write};
+use std::rt::Files;
+use std::{env, io};
+
+/// The status of inputs of which each has a tree, and no error.
+const SUCCESS: u8 = 0;
+
+/// The status where an input has errors.
+const ERRORS: u8 = 1;
+
+/// The status where there is no answer.
+const FAULT: u8 = 2;
+
+/// What messages may rely on: that they come to a terminal, or not.
+#[derive(Clone, Copy, Debug, PartialEq, Eq)]
+pub struct Terminal {
+    /// Whether messages have colours.
+    pub look: Look,
+    /// Whether a line tells what is done, where that can take long.
+    pub shows_progress: bool,
+}
+
+/// Runs the program on the process's own arguments and streams, and answers its exit status, as [`run`] does. An argument that isn't
+/// UTF-8 is a wrong one. Messages have colours where standard error is a terminal, and `NO_COLOR` isn't set or is empty.
+pub fn run_of_process(rt: &HostRuntime) -> u8
+    ensures status { result ≤ 2 }
+{
+    match words(rt) {
+        Ok(args) => run(
+            rt,
+            rt.alloc(),
+            &args,
+            terminal_of(rt),
+            rt.stdin(),
+            rt.stdout(),
+            rt.stderr(),
+        ),
+        Err(error) => refused(&fault_of_arguments(&error), &mut rt.stderr()),
+    }
+}
+
+/// Runs the program and answers its exit status: 0 where each input has a tree and no error, 1 where one has errors, 2 where there is no
+/// answer. `args` are the words after the program's name, and the files that they name are read by `rt`.
+///
+/// Trees are written to `out`, and messages to `err`: errors, and unless the words ask for errors alone, warnings and a note of how large
+/// the grammar and its table are. That `err` fails changes nothing. What is written to `out` is kept back until much of it is there, or
+/// something is written to `err`, or the program ends.
+pub fn run<R: Files, I: Read + Drop, O: Write + Drop, E: Write + Drop>(
+    rt: &R,
+    alloc: Global,
+    args: &[String],
+    terminal: Terminal,
+    input: I,
+    out: O,
+    mut err: E,
+) -> u8
+    ensures status { result ≤ 2 }
+{
+    match written(rt, alloc, args, terminal, input, out, &mut err) {
+        Ok(true) => SUCCESS,
+        Ok(false) => ERRORS,
+        Err(fault) => refused(&fault, &mut err),
+    }
+}
+
+// The words after the program's name.
+fn words(rt: &HostRuntime) -> io::Result<Vec<String>> {
+    Ok(env::args(rt)?.skip(1).collect(rt.alloc())?)
+}
+
+// The fault of a failed look at the program's arguments.
+fn fault_of_arguments(error: &io::Error) -> Fault {
+    match error.kind() {
+        io::ErrorKind::OutOfMemory => Fault::Memory,
+        _ => Fault::Usage("a word isn't UTF-8"),
+    }
+}
+
+// What is known of the terminal.
+fn terminal_of(rt: &HostRuntime) -> Terminal {
+    let is_terminal = rt.stderr().is_terminal();
+    Terminal {
+        look: if is_terminal && may_colour(rt) {
+            Look::Coloured
+        } else {
+            Look::Plain
+        },
+        shows_progress: is_terminal,
+    }
+}
+
+// Whether `NO_COLOR` isn't set or is empty (<https://no-color.org>).
+fn may_colour(rt: &HostRuntime) -> bool {
+    match env::var(rt, "NO_COLOR") {
+        Ok(text) => text.is_empty(),
+        Err(error) => error == env::VarError::NotPresent,
+    }
+}
+
+// Whether each input has a tree and no error, once all that is printed is written.
+fn written<R: Files, I: Read + Drop, O: Write + Drop, E: Write>(
+    rt: &R,
+    alloc: Global,
+    args: &[String],
+    terminal: Terminal,
+    input: I,
+    out: O,
+    err: &mut E,
+) -> Result<bool, Fault> {
+    match BufWriter::new(alloc, out) {
+        Ok(mut out) => {
+            let clean = printed(rt, alloc, args, terminal, input, &mut out, err);
+            finished(clean, out)
+        }
+        Err(_) => Err(Fault::Memory),
+    }
+}
+
+// The same, with what is printed.
+fn printed<R: Files, I: Read + Drop, O: Write, E: Write>(
+    rt: &R,
+    alloc: Global,
+    args: &[String],
+    terminal: Terminal,
+    input: I,
+    out: &mut O,
+    err: &mut E,
+) -> Result<bool, Fault> {
+    if asks_for_help(args) {
+        out.write_all(HELP.as_bytes())?;
+        return Ok(true);
+    }
+    let options = options_of(alloc, args)?;
+    let grammar = file_text(rt, alloc, options.grammar)?;
+    let lexer = file_text(rt, alloc, options.lexer)?;
+    let data = grammar_data(alloc, &options, terminal, grammar.as_str(), out, err)?;
+    let rules = rules_of_lexer(alloc, &options, terminal, &data, lexer.as_str(), out, err)?;
+    warn(
+        alloc,
+        &options,
+        terminal,
+        &data,
+        &rules,
+        grammar.as_str(),
+        out,
+        err,
+    )?;
+    parse_inputs(
+        rt, alloc, &options, terminal, &data, &rules, input, out, err,
+    )
+}
+
+// The checked table of the grammar.
+fn grammar_data<O: Write, E: Write>(
+    alloc: Global,
+    options: &Options<'_>,
+    terminal: Terminal,
+    text: &str,
+    out: &mut O,
+    err: &mut E,
+) -> Result<ParserData<u32>, Fault> {
+    if terminal.shows_progress && !options.is_quiet {
+        tell(out, err, "nimbleparse: building the table ..\n")?;
+    }
+    let reporter = Reporter::new(alloc, text, options.grammar, terminal.look)?;
+    data_of(alloc, &reporter, text, options.is_quiet, out, err)
+}
+
+// The rules of the lexer.
+fn rules_of_lexer<O: Write, E: Write>(
+    alloc: Global,
+    options: &Options<'_>,
+    terminal: Terminal,
+    data: &ParserData<u32>,
+    text: &str,
+    out: &mut O,
+    err: &mut E,
+) -> Result<Vec<LexRule>, Fault> {
+    let reporter = Reporter::new(alloc, text, options.lexer, terminal.look)?;
+    lexer_rules(alloc, &reporter, data.grm(), text)
+}
+
+// Warns of tokens that the lexer never gives, and tells how large the grammar and its table are, unless it is to be quiet.
+fn warn<O: Write, E: Write>(
+    alloc: Global,
+    options: &Options<'_>,
+    terminal: Terminal,
+    data: &ParserData<u32>,
+    rules: &[LexRule],
+    grammar: &str,
+    out: &mut O,
+    err: &mut E,
+) -> Result<(), Fault> {
+    if options.is_quiet {
+        return Ok(());
+    }
+    let reporter = Reporter::new(alloc, grammar, options.grammar, terminal.look)?;
+    let mut text = String::new(alloc);
+    push_token_warnings(&mut text, alloc, &reporter, data.grm(), rules)?;
+    push_sizes(&mut text, alloc, &reporter, data)?;
+    tell(out, err, text.as_str())
+}
+
+// Adds a note of how large a grammar and its table are, and of the least cap.
+fn push_sizes(
+    out: &mut String,
+    alloc: Global,
+    reporter: &Reporter<'_>,
+    data: &ParserData<u32>,
+) -> Result<(), AllocError> {
+    let states = data.stable().states_len();
+    let rules = data.grm().rules_len();
+    let prods = data.grm().prods_len();
+    let tokens = data.grm().tokens_len();
+    let cap = data.least_cap();
+    let text = format!(in alloc;
+        "rules {rules}, productions {prods}, tokens {tokens}, states {states}, least cap {cap}"
+    )?;
+    push_message(out, alloc, reporter, Level::Note, None, text, "")
+}
+
+// Parses the inputs, and prints what comes of them. Answers whether each has a tree, and no error.
+fn parse_inputs<R: Files, I: Read + Drop, O: Write, E: Write>(
+    rt: &R,
+    alloc: Global,
+    options: &Options<'_>,
+    terminal: Terminal,
+    data: &ParserData<u32>,
+    rules: &[LexRule],
+    input: I,
+    out: &mut O,
+    err: &mut E,
+) -> Result<bool, Fault> {
+    let names = printed_names(alloc, data.grm())?;
+    let plan = Plan {
+        data,
+        rules,
+        names: &names,
+        recovery: options.recovery,
+        shifts: options.shifts,
+        format: options.format,
+        is_quiet: options.is_quiet,
+        shows_paths: options.inputs.len() > 1,
+        look: terminal.look,
+    };
+    parse_paths(rt, alloc, &plan, &options.inputs, input, out, err)
+}
+
+// The same for the inputs of these paths.
+fn parse_paths<R: Files, I: Read + Drop, O: Write, E: Write>(
+    rt: &R,
+    alloc: Global,
+    plan: &Plan<'_>,
+    paths: &[&str],
+    input: I,
+    out: &mut O,
+    err: &mut E,
+) -> Result<bool, Fault> {
+    let mut input = Some(input);
+    let mut are_clean = true;
+    for path in paths {
+        let text = text_of_input(rt, alloc, path, &mut input)?;
+        are_clean = parse(alloc, plan, path, text.as_str(), out, err)? && are_clean;
+    }
+    Ok(are_clean)
+}
+
+// The text of an input.
+fn text_of_input<R: Files, I: Read + Drop>(
+    rt: &R,
+    alloc: Global,
+    path: &str,
+    input: &mut Option<I>,
+) -> Result<String, Fault> {
+    if path != STANDARD_INPUT {
+        return file_text(rt, alloc, path);
+    }
+    match input.take() {
+        Some(input) => input_text(alloc, input),
+        None => Err(Fault::Usage("standard input can be read once")),
+    }
+}
+
+// The answer, once all that was printed is written. What `out` doesn't take isn't tried again.
+fn finished<O: Write + Drop>(
+    clean: Result<bool, Fault>,
+    mut out: BufWriter<O>,
+) -> Result<bool, Fault> {
+    let clean = flushed(clean, &mut out);
+    if clean.is_err() {
+        let _ = out.into_parts();
+    }
+    clean
+}
+
+// The answer, once all that was printed is written.
+fn flushed<O: Write>(clean: Result<bool, Fault>, out: &mut O) -> Result<bool, Fault> {
+    let written = out.flush();
+    match (clean, written) {
+        (Ok(clean), Ok(())) => Ok(clean),
+        (Ok(_), Err(error)) => Err(error.into()),
+        (Err(fault), _) => Err(fault),
+    }
+}
+
+// Writes the fault's text, as far as that can be done, and answers its status.
+fn refused<E: Write>(fault: &Fault, err: &mut E) -> u8
+    ensures { result ≤ 2 }
+{
+    let done = match fault {
+        Fault::Told(text) => err.write_all(text.as_bytes()),
+        fault => writeln!(err, "{fault}"),
+    };
+    if done.is_ok() {
+        let _ = err.flush();
+    }
+    FAULT
+}

@@ -1,0 +1,3 @@
+pub mod Escapes
+pub mod Nested
+pub mod Fronts

@@ -1,0 +1,9 @@
+//! The program `nimbleparse`.
+#![tactic(auto)]
+
+use lrpar_nimble::run_of_process;
+use std::process::ExitCode;
+
+fn main(rt: HostRuntime) -> ExitCode {
+    ExitCode::from(run_of_process(&rt))
+}
