@@ -91,7 +91,7 @@ fn unknown_rule(alloc: Global, text: &str, span: Span) -> Result<Message, AllocE
     let mut message = named(alloc, text, span, "name", what, "")?;
     if let Ok(outline) = outline_of(alloc, text)? {
         let names = names_of(alloc, &[&outline.defined, &outline.declared])?;
-        push_near(&mut message.label, alloc, part(text, span), &names)?;
+        push_near(&mut message.label, part(text, span), &names)?;
     }
     if message.label.is_empty() {
         message
@@ -106,7 +106,7 @@ fn unknown_token(alloc: Global, text: &str, span: Span) -> Result<Message, Alloc
     let mut message = named(alloc, text, span, "name", "is no token", "")?;
     if let Ok(outline) = outline_of(alloc, text)? {
         let names = names_of(alloc, &[&outline.declared])?;
-        push_near(&mut message.label, alloc, part(text, span), &names)?;
+        push_near(&mut message.label, part(text, span), &names)?;
     }
     if message.label.is_empty() {
         message
@@ -136,13 +136,8 @@ fn names_of<'a>(alloc: Global, lists: &[&Vec<Word<'a>>]) -> Result<Vec<&'a str>,
 }
 
 // Adds the name that somebody may have meant, if one is near.
-fn push_near(
-    label: &mut String,
-    alloc: Global,
-    name: &str,
-    names: &[&str],
-) -> Result<(), AllocError> {
-    match nearest(alloc, name, names)? {
+fn push_near(label: &mut String, name: &str, names: &[&str]) -> Result<(), AllocError> {
+    match nearest(name, names) {
         Some(near) => {
             label.push_str("did you mean ")?;
             push_quoted(label, near)?;

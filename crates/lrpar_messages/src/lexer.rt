@@ -95,7 +95,7 @@ fn push_near_token(
     for (token, _) in grm.tokens_map(alloc)? {
         names.push(token)?;
     }
-    match nearest(alloc, name, &names)? {
+    match nearest(name, &names) {
         Some(near) => {
             label.push_str("did you mean ")?;
             push_quoted(label, near)?;

@@ -9,7 +9,7 @@ use Rattle.lrpar_answers.specs.declared.node.Node.TheViews.{out-Node}
 use Rattle.lrpar_answers.specs.declared.node.Node.TheFolds.{fold_out-Node, map-Node}
 use Rattle.lrpar_answers.specs.TreeText.{layer_nodes, nodes_below}
 use Rattle.lrpar_answers.proofs.WeightLemmas.{weight, weights, weight_step}
-use Rattle.lrpar_tree_forms.specs.Fronts.{front_text, is_rule, layer_front, layer_is_rule}
+use Rattle.lrpar_tree_forms.specs.Fronts.{front_text, is_rule, layer_front, layer_is_rule, trees_text}
 use Rattle.lrpar_tree_forms.specs.Nested.{end_of, gap, joined, nested_step, nested_text, rule_front}
 use Rattle.lrpar_tree_forms.specs.declared.form.Form.{Form}
 
@@ -124,11 +124,13 @@ module _ {X S : Type 0} (form : Form) (facts : X → LexemeFacts) (index : S →
   pub left_end : (first : Bool) → end_of form ≡ left_text first [] []
   left_end first = sym (append-nil (end_of form))
 
-  -- a tree of a rule: its front, and what is then left
-  pub tree_begins : (tree : Node X S) → is_rule tree ≡ true → front tree ++ left_text true [] (nodes_below tree) ≡ text tree
-  tree_begins tree rule =
-      ap (λ l. front tree ++ (trees true (nodes_below tree) ++ l)) (append-nil (end_of form))
-      ∙ sym (text_out tree ∙ ap (λ b. front tree ++ behind b (nodes_below tree)) rule)
+  -- at first all trees of a node are left
+  pub left_begins : (nodes : List (Node X S)) → left_text true [] nodes ≡ trees_text form facts index g input nodes
+  left_begins nodes = ap (λ l. trees true nodes ++ l) (append-nil (end_of form))
+
+  -- a tree of a rule: its front, and its trees with their end
+  pub tree_begins : (tree : Node X S) → is_rule tree ≡ true → front tree ++ trees_text form facts index g input (nodes_below tree) ≡ text tree
+  tree_begins tree rule = sym (text_out tree ∙ ap (λ b. front tree ++ behind b (nodes_below tree)) rule)
 
 -- how much is left: two for each node, and one for each list that was put aside
 abbrev pub left_measure : {X S : Type 0} → List (Bor (List (Node X S))) → List (Node X S) → ℕ
@@ -149,3 +151,8 @@ leaf_smaller below rest node left is =
 pub turn_smaller : {X S : Type 0} (below : List (Bor (List (Node X S)))) (rest : Bor (List (Node X S)))
     → left_measure below rest.now < left_measure (below ++ rest ∷ []) []
 turn_smaller below rest = omega (arith, weights_push below rest, length-append below (rest ∷ []))
+
+-- three texts are added, one behind the other
+pub added_thrice : (old a b c mid next new : List ℕ) → mid ≡ old ++ a → next ≡ mid ++ b → new ≡ next ++ c → new ≡ old ++ (a ++ b ++ c)
+added_thrice old a b c mid next new first second third =
+    third ∙ ap (λ l. l ++ c) (second ∙ ap (λ l. l ++ b) first ∙ append_assoc old a b) ∙ append_assoc old (a ++ b) c

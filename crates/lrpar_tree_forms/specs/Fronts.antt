@@ -1,11 +1,11 @@
 -- What is written of a node before its trees.
-use Rattle.std.specs.Prelude.{ℕ, Bool, true, false, List}
+use Rattle.std.specs.Prelude.{ℕ, Bool, true, false, List, ◌++◌, map}
 use Rattle.lrpar_grammar.specs.Grammar.{Grammar, rule_name}
 use Rattle.lrpar_grammar.specs.Sentence.{LexemeFacts}
 use Rattle.lrpar_answers.specs.declared.node.Node.{Node}
 use Rattle.lrpar_answers.specs.declared.node.Node.TheOpen.{Node-F}
 use Rattle.lrpar_answers.specs.declared.node.Node.TheViews.{out-Node}
-use Rattle.lrpar_tree_forms.specs.Nested.{lexeme_text, rule_front}
+use Rattle.lrpar_tree_forms.specs.Nested.{end_of, joined, lexeme_text, nested_text, rule_front}
 use Rattle.lrpar_tree_forms.specs.declared.form.Form.{Form}
 
 -- whether a node is one of a rule
@@ -23,3 +23,7 @@ layer_front form facts index g input (Node-F.Nonterm ridx nodes) = rule_front fo
 
 abbrev pub front_text : {X S : Type 0} → Form → (X → LexemeFacts) → (S → ℕ) → Grammar → List ℕ → Node X S → List ℕ
 front_text {X = X} {S = S} form facts index g input node = layer_front form facts index g input (out-Node X S node)
+
+-- what stands behind the front of a node of a rule: its trees, and its end
+abbrev pub trees_text : {X S : Type 0} → Form → (X → LexemeFacts) → (S → ℕ) → Grammar → List ℕ → List (Node X S) → List ℕ
+trees_text form facts index g input nodes = joined form true (map (nested_text form facts index g input) nodes) ++ end_of form

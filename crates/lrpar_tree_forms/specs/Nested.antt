@@ -23,9 +23,15 @@ end_of Brackets = codes " ]"
 end_of Json = codes "]}"
 
 -- what stands in front of the trees of a node: the name of its rule
+abbrev pub bracket_rule : List ℕ → List ℕ
+bracket_rule name = name ++ codes "["
+
+abbrev pub json_rule : List ℕ → List ℕ
+json_rule name = codes "{\"rule\":\"" ++ escaped name ++ codes "\",\"children\":["
+
 abbrev pub rule_front : Form → List ℕ → List ℕ
-rule_front Brackets name = name ++ codes "["
-rule_front Json name = codes "{\"rule\":\"" ++ escaped name ++ codes "\",\"children\":["
+rule_front Brackets name = bracket_rule name
+rule_front Json name = json_rule name
 
 -- a lexeme in brackets: its token's name, where that isn't its text, and its text between double quotes
 abbrev pub bracket_leaf : List ℕ → List ℕ → List ℕ

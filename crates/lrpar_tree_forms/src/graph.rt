@@ -1,6 +1,6 @@
 //! Trees as graphs for Graphviz.
 use crate::escapes::push_escaped;
-use crate::parts::{Leaf, is_rule, leaf_of, rule_name, trees_of};
+use crate::parts::{Leaf, leaf_of, rule_name, trees_of};
 use lrpar_answers::Node;
 use lrpar_grammar::grammar::YaccGrammar;
 use lrpar_grammar::span::StorageIndex;
@@ -37,27 +37,25 @@ fn write_below<LexemeT: Lexeme<StorageT>, StorageT: StorageIndex, W: Write>(
     tree: &Node<LexemeT, StorageT>,
 ) -> io::Result<()> {
     let mut below = Vec::new(alloc);
+    let mut parents = Vec::new(alloc);
     let mut left = trees_of(tree);
     let mut parent = 0;
     let mut number = 0usize;
-    loop {
+    'nodes: loop {
         match left.split_first() {
             Some((node, rest)) => {
                 number = number.saturating_add(1);
                 write_node(out, line, grm, input, number, node)?;
                 write_edge(out, line, parent, number)?;
-                left = if is_rule(node) {
-                    below.push((rest, parent))?;
-                    parent = number;
-                    trees_of(node)
-                } else {
-                    rest
-                };
+                below.push(rest)?;
+                parents.push(parent)?;
+                parent = number;
+                left = trees_of(node);
             }
             None => match below.pop() {
-                Some((rest, above)) => {
+                Some(rest) => {
                     left = rest;
-                    parent = above;
+                    parent = parents.pop().unwrap_or(0);
                 }
                 None => return Ok(()),
             },

@@ -3,8 +3,8 @@ ghost use Rattle.std.specs.Prelude.{◌≡◌, ◌++◌, [], if◌then◌else◌
 ghost use Rattle.std.specs.Io.KnownBytes.{Appends};
 ghost use Rattle.std.specs.String.{string_bytes};
 ghost use Rattle.lrpar_lexemes.specs.Lexemes.{facts_of};
-ghost use Rattle.lrpar_tree_forms.specs.Nested.{bracket_leaf, json_leaf, json_place, leaf_text, nested_text, rule_front};
-ghost use Rattle.lrpar_tree_forms.specs.Fronts.{front_text};
+ghost use Rattle.lrpar_tree_forms.specs.Nested.{bracket_leaf, bracket_rule, json_leaf, json_place, json_rule, leaf_text, nested_text, rule_front};
+ghost use Rattle.lrpar_tree_forms.specs.Fronts.{front_text, trees_text};
 
 use crate::escapes::push_escaped;
 use crate::form::Form;
@@ -34,17 +34,34 @@ pub fn write_nested<LexemeT: Lexeme<StorageT>, StorageT: StorageIndex, W: Write>
 {
     let mut piece = String::new(alloc);
     write_front(out, &mut piece, form, grm, input, tree)?;
-    if !is_rule(tree) {
-        return Ok(());
+    if is_rule(tree) {
+        write_trees(alloc, out, &mut piece, form, grm, input, trees_of(tree))
+    } else {
+        Ok(())
     }
+}
+
+// Writes the trees of a node of a rule, and its end. `piece` is where their pieces are made.
+fn write_trees<LexemeT: Lexeme<StorageT>, StorageT: StorageIndex, W: Write>(
+    alloc: Global,
+    out: &mut W,
+    piece: &mut String,
+    form: Form,
+    grm: &YaccGrammar<StorageT>,
+    input: &str,
+    nodes: &[Node<LexemeT, StorageT>],
+) -> io::Result<()>
+    ensures { OnOk result (Appends (W.contents out.old) (W.contents out.new)
+        (trees_text form (λ x. facts_of StorageT.index (LexemeT.parts x)) StorageT.index grm.now input.now nodes.now)) }
+{
     let mut below = Vec::new(alloc);
-    let mut left = trees_of(tree);
+    let mut left = nodes;
     let mut is_first = true;
     'nodes: loop {
         match left.split_first() {
             Some((node, rest)) => {
                 out.write_all(form.gap(is_first).as_bytes())?;
-                write_front(out, &mut piece, form, grm, input, node)?;
+                write_front(out, piece, form, grm, input, node)?;
                 is_first = is_rule(node);
                 if is_first {
                     below.push(rest)?;
@@ -96,21 +113,32 @@ fn push_rule(piece: &mut String, form: Form, name: &str) -> Result<(), AllocErro
     ensures { OnOk result (string_bytes piece.new ≡ string_bytes piece.old ++ rule_front form name.now) }
 {
     match form {
-        Form::Brackets => {
-            piece.push_str(name)?;
-            piece.push('[')
-        }
-        Form::Json => {
-            piece.push_str("{\"rule\":\"")?;
-            push_escaped(piece, name)?;
-            piece.push_str("\",\"children\":[")
-        }
+        Form::Brackets => push_bracket_rule(piece, name),
+        Form::Json => push_json_rule(piece, name),
     }
+}
+
+// Adds a rule's name and a bracket.
+fn push_bracket_rule(piece: &mut String, name: &str) -> Result<(), AllocError>
+    ensures { OnOk result (string_bytes piece.new ≡ string_bytes piece.old ++ bracket_rule name.now) }
+{
+    piece.push_str(name)?;
+    piece.push('[')
+}
+
+// Adds a rule's name as JSON, and what stands in front of its trees.
+fn push_json_rule(piece: &mut String, name: &str) -> Result<(), AllocError>
+    ensures { OnOk result (string_bytes piece.new ≡ string_bytes piece.old ++ json_rule name.now) }
+{
+    piece.push_str("{\"rule\":\"")?;
+    push_escaped(piece, name)?;
+    piece.push_str("\",\"children\":[")?;
+    Ok(())
 }
 
 // Adds a lexeme.
 fn push_leaf(piece: &mut String, form: Form, leaf: Leaf<'_>) -> Result<(), AllocError>
-    ensures { OnOk result (string_bytes piece.new ≡ string_bytes piece.old ++ leaf_text form leaf.name.now leaf.text.now leaf.start leaf.end leaf.is_faulty) }
+    ensures { OnOk result (string_bytes piece.new ≡ string_bytes piece.old ++ leaf_text form leaf.entry.name.now leaf.entry.text.now leaf.entry.start leaf.entry.end leaf.entry.is_faulty) }
 {
     match form {
         Form::Brackets => push_bracket_leaf(piece, leaf),
@@ -120,7 +148,7 @@ fn push_leaf(piece: &mut String, form: Form, leaf: Leaf<'_>) -> Result<(), Alloc
 
 // Adds a lexeme: its token's name, where that isn't its text, and its text between double quotes.
 fn push_bracket_leaf(piece: &mut String, leaf: Leaf<'_>) -> Result<(), AllocError>
-    ensures { OnOk result (string_bytes piece.new ≡ string_bytes piece.old ++ bracket_leaf leaf.name.now leaf.text.now) }
+    ensures { OnOk result (string_bytes piece.new ≡ string_bytes piece.old ++ bracket_leaf leaf.entry.name.now leaf.entry.text.now) }
 {
     push_other_name(piece, leaf.name, leaf.text)?;
     piece.push('"')?;
@@ -141,7 +169,7 @@ fn push_other_name(piece: &mut String, name: &str, text: &str) -> Result<(), All
 
 // Adds a lexeme as JSON.
 fn push_json_leaf(piece: &mut String, leaf: Leaf<'_>) -> Result<(), AllocError>
-    ensures { OnOk result (string_bytes piece.new ≡ string_bytes piece.old ++ json_leaf leaf.name.now leaf.text.now leaf.start leaf.end leaf.is_faulty) }
+    ensures { OnOk result (string_bytes piece.new ≡ string_bytes piece.old ++ json_leaf leaf.entry.name.now leaf.entry.text.now leaf.entry.start leaf.entry.end leaf.entry.is_faulty) }
 {
     piece.push_str("{\"token\":\"")?;
     push_escaped(piece, leaf.name)?;
@@ -152,13 +180,22 @@ fn push_json_leaf(piece: &mut String, leaf: Leaf<'_>) -> Result<(), AllocError>
 
 // Adds the place of a lexeme as JSON, and whether a repair made it.
 fn push_json_place(piece: &mut String, leaf: Leaf<'_>) -> Result<(), AllocError>
-    ensures { OnOk result (string_bytes piece.new ≡ string_bytes piece.old ++ json_place leaf.start leaf.end leaf.is_faulty) }
+    ensures { OnOk result (string_bytes piece.new ≡ string_bytes piece.old ++ json_place leaf.entry.start leaf.entry.end leaf.entry.is_faulty) }
 {
     let start = leaf.start;
     let end = leaf.end;
     write!(piece, "\",\"start\":{start},\"end\":{end}")?;
-    if leaf.is_faulty {
-        piece.push_str(",\"inserted\":true")?;
-    }
+    push_inserted(piece, leaf.is_faulty)?;
     piece.push('}')
+}
+
+// Adds that a repair made a lexeme, where one did.
+fn push_inserted(piece: &mut String, is_faulty: bool) -> Result<(), AllocError>
+    ensures { OnOk result (string_bytes piece.new ≡ string_bytes piece.old ++ (if is_faulty then codes ",\"inserted\":true" else [])) }
+{
+    if is_faulty {
+        piece.push_str(",\"inserted\":true")
+    } else {
+        Ok(())
+    }
 }
