@@ -9,6 +9,8 @@ pub use lrpar_parser::{
     ParseRepair, ParserData, RIdx, RTParserBuilder, action_generictree, build, check, errors,
     grammar, laws, lex_api, lines, parser, repair, table,
 };
+pub use lrpar_shortest as shortest;
+pub use lrpar_viable as viable;
 
 /// The parts of a text, and the numbers of rules, productions, tokens and states.
 pub mod span {

@@ -1,7 +1,7 @@
 -- What the tests of the conditions of completeness decide. Items of one core stand side by side in a state; they are tested by
 -- their lookaheads, which are taken together.
-use Rattle.std.proofs.Common.{◌≡◌, ◌≢◌, ◌<◌, ◌≤◌, ◌+◌, ◌-◌, ◌↔◌, ◌∙◌, ◌⊎◌, ◌||◌, ◌==◌, inl, inr, refl, sym, ap, subst, arith, ℕ, zero, suc, Bool, true, false, IsTrue, List, [], ◌∷◌, ◌++◌, All, length, map, drop, take, get_or, set, slice_get, Some, Option, cond, eqb, Bor, IfSome, MatchOption, None}
-use Rattle.std.proofs.lemmas.Bool.{cases_eq, cases_lt, eq-eqb, eqb-true, false≢true, or_cases, or_left, or_right}
+use Rattle.std.proofs.Common.{◌≡◌, ◌≢◌, ◌<◌, ◌≤◌, ◌+◌, ◌-◌, ◌↔◌, ◌∙◌, ◌⊎◌, ◌||◌, ◌&&◌, ◌==◌, inl, inr, refl, sym, ap, subst, arith, ℕ, zero, suc, Bool, true, false, IsTrue, not, List, [], ◌∷◌, ◌++◌, All, length, map, drop, take, get_or, set, slice_get, Some, Option, cond, eqb, Bor, IfSome, MatchOption, None}
+use Rattle.std.proofs.lemmas.Bool.{and_parts, both_ways, cases_eq, cases_lt, eq-eqb, eqb-true, false≢true, false_from_ne_true, not-true, or_cases, or_left, or_right}
 use Rattle.std.proofs.lemmas.List.{drop_more, get_or-drop, get_or-map, get_or-set_other, get_or-set_same, get_or-take, get_or_default, length-drop, length-map, length-set, length-take-le, take_all}
 use Rattle.std.proofs.lemmas.List.Elements.{All-contains, All-contains_itself, All-drop, All-head, All-map, All-set, All-tail, All-weaker, Contains-append_left, Contains-push, Contains-push_cases}
 use Rattle.std.proofs.lemmas.Option.{get_or_from_slice_get, slice_get-map, slice_get_within}
@@ -538,6 +538,58 @@ no_start p k t q u P other = (
   λ h. inl h,
   λ h. elim h as (λ _. P) [ inl before ↦ before | inr item ↦ absurd (other (ap (λ (x : ItemOf). x.dot) item)) ],
 )
+
+-- what is among some elements, but isn't the first, is among the others
+later_among : (x y : ItemOf) (xs : List ItemOf) → x ≢ y → Contains (x ∷ xs) y → Contains xs y
+later_among x y xs other (zero, below, is) = absurd (other is)
+later_among x y xs other (suc i, below, is) = (i, omega (arith, below), is)
+
+-- the token of a first item is taken out of the set of its production
+pub start_taken : (sets : List TokenSet) (p prod token t' q t : ℕ) (d new : TokenSet) → prod < length sets → prod ≡ p → token ≡ t'
+    → ((u : ℕ) → has new.bits.items u ≡ (has (get_or sets prod d).bits.items u && not (u == token)))
+    → IsTrue (has (row_at (rows_of (set sets prod new)) q) t) → IsTrue (has (row_at (rows_of sets) q) t) × (item_at p 0 t' ≢ item_at q 0 t)
+start_taken sets p prod token t' q t d new within is token_is taken h =
+    let rows = rows_of sets in
+    let inside : prod < length rows = omega (arith, within, length-map sets (λ s. s.bits.items)) in
+    elim (cases_eq q prod) as (λ _. IsTrue (has (row_at rows q) t) × (item_at p 0 t' ≢ item_at q 0 t)) [
+      | inl same ↦
+          let here : row_at (rows_of (set sets prod new)) q ≡ new.bits.items =
+          ap (λ rs. row_at rs q) (rows-set sets prod new) ∙ ap (row_at (set rows prod new.bits.items)) same ∙ get_or-set_same rows prod new.bits.items [] inside in
+          let old : (get_or sets prod d).bits.items ≡ row_at rows q = row_in sets prod d within ∙ ap (row_at rows) (sym same) in
+          let now : has (row_at (rows_of (set sets prod new)) q) t ≡ (has (row_at rows q) t && not (t == token)) =
+          ap (λ b. has b t) here ∙ taken t ∙ ap (λ b. has b t && not (t == token)) old in
+          let both = and_parts (has (row_at rows q) t) (not (t == token)) (sym now ∙ h) in (
+            both.0,
+            λ item.
+                let token_same : t' ≡ t = ap (λ (x : ItemOf). x.token) item in
+                both_ways _ (not-true _ both.1) (eq-eqb t token (sym token_same ∙ sym token_is)),
+          )
+      | inr other ↦
+          let kept : has (row_at (rows_of (set sets prod new)) q) t ≡ has (row_at rows q) t =
+          ap (λ rs. has (row_at rs q) t) (rows-set sets prod new) ∙ ap (λ b. has b t) (get_or-set_other rows prod q new.bits.items [] other) in
+          (sym kept ∙ h, λ item. other (sym (is ∙ ap (λ (x : ItemOf). x.prod) item)))
+    ]
+
+-- the sets have first items of these alone
+abbrev pub HaveFirstsAmong : List ItemOf → List (List Bool) → Type 0
+HaveFirstsAmong items rows = (q t : ℕ) → IsTrue (has (row_at rows q) t) → Contains items (item_at q 0 t)
+
+-- one item less
+pub starts_fewer : {S : Type 0} (index : S → ℕ) (items : List (PIdx S × ℕ × TIdx S)) (i : ℕ) (item : PIdx S × ℕ × TIdx S) (old new : List (List Bool))
+    → i < length items → item ≡ get_or items i item → HaveFirstsAmong (map (item_of index) (drop i items)) old
+    → ((q t : ℕ) → IsTrue (has (row_at new q) t) → IsTrue (has (row_at old q) t) × (item_of index item ≢ item_at q 0 t))
+    → HaveFirstsAmong (map (item_of index) (drop (i + 1) items)) new
+starts_fewer {S} index items i item old new within is so_far left q t h =
+    let rest = map (item_of index) (drop (i + 1) items) in
+    let more : map (item_of index) (drop i items) ≡ item_of index item ∷ rest =
+    ap (map (item_of index)) (drop_more items i item within) ∙ ap (λ x. item_of index x ∷ rest) (sym is) in
+    let among : Contains (item_of index item ∷ rest) (item_at q 0 t) =
+    subst (λ (xs : List ItemOf). Contains xs (item_at q 0 t)) more (so_far q t (left q t h).0) in
+    later_among (item_of index item) (item_at q 0 t) rest (left q t h).1 among
+
+-- none is left
+pub starts_gone : (rows : List (List Bool)) → HaveFirstsAmong [] rows → (q t : ℕ) → has (row_at rows q) t ≡ false
+starts_gone rows among q t = false_from_ne_true (has (row_at rows q) t) (λ h. absurd (omega (arith, (among q t h).1)))
 
 -- no item yet
 pub starts_none : (rows : List (List Bool)) → ((q t : ℕ) → has (row_at rows q) t ≡ false) → AreStartsOf [] rows

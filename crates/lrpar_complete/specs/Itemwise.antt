@@ -4,7 +4,7 @@ use Rattle.lrpar_text.specs.declared.span.PIdx.{PIdx}
 use Rattle.lrpar_text.specs.declared.span.TIdx.{TIdx}
 use Rattle.lrpar_grammar.specs.Grammar.{Grammar, GrammarSymbol, IsWellFormed, Nonterminal, prods_len, rule_of, start_prod, symbols_of}
 use Rattle.lrpar_first.specs.First.{IsFirst}
-use Rattle.lrpar_first.specs.FirstRows.{AreFirsts, mark_of, row_at, rows_of}
+use Rattle.lrpar_first.specs.FirstRows.{AreFirsts, HoldNothing, mark_of, row_at, rows_of}
 use Rattle.lrpar_first.specs.Tokens.{has}
 use Rattle.lrpar_states.specs.Graph.{Graph, ItemOf, item_at}
 use Rattle.lrpar_states.specs.Safe.{HasShape}
@@ -31,6 +31,11 @@ pub record HaveRoomFor (g : Grammar) (sets : WorkSets) : Type 0 where
   pub front : length sets.front.bits.items ≡ mark_of g + 1
   pub begun : length sets.begun.bits.items ≡ mark_of g + 1
   pub starts : HaveStarts g (rows_of sets.starts.items)
+
+-- and those of the productions hold nothing
+pub record AreReady (g : Grammar) (sets : WorkSets) : Type 0 where
+  pub room : HaveRoomFor g sets
+  pub none : HoldNothing (rows_of sets.starts.items)
 
 -- each production's set has the lookaheads with which its first item is among these items
 abbrev pub AreStartsOf : List ItemOf → List (List Bool) → Type 0

@@ -2,10 +2,10 @@
 ghost use Rattle.std.specs.Prelude.{◌≡◌, ◌<◌, ◌≤◌, ◌+◌, ◌↔◌, ℕ, IfErr, IsTrue, MatchOption, OnOk, All, length};
 ghost use Rattle.lrpar_grammar.specs.Grammar.{IsWellFormed, prod_len, prods_len, tokens_len};
 ghost use Rattle.lrpar_first.specs.FirstRows.{rows_of};
-ghost use Rattle.lrpar_states.specs.Safe.{HasShape};
+ghost use Rattle.lrpar_states.specs.Safe.{HasShape, IsItem};
 ghost use Rattle.lrpar_states.specs.Table.{states_len};
 ghost use Rattle.lrpar_complete.specs.Complete.{ClosesItem, EachItem, FailsFirstAt, HasStartItem, IsComplete, IsCompleteAt, IsCompleteFault, IsFirstFault};
-ghost use Rattle.lrpar_complete.specs.Itemwise.{AreOfCore, HaveRoomFor, IsKnown, ItemHolds, lookaheads_of};
+ghost use Rattle.lrpar_complete.specs.Itemwise.{AreOfCore, AreReady, ClosesAmong, HaveRoomFor, IsKnown, ItemHolds, lookaheads_of};
 ghost use Rattle.lrpar_complete.specs.declared.complete_fault.CompleteFault.TheVariants.{Memory};
 
 mod cores;
@@ -78,7 +78,7 @@ impl<'a, StorageT: StorageIndex> Completeness<'a, StorageT> {
     /// The first condition that fails, and the lowest state at which it does. `sets` are to work with.
     pub(crate) fn first_fault(&self, sets: &mut WorkSets) -> Option<(CompletenessCondition, usize)>
         requires known { IsKnown self.now.grm.now self.now.sgraph.now self.now.stable.now (rows_of self.now.firsts.now) }
-        requires room { HaveRoomFor self.now.grm.now sets.old }
+        requires ready { AreReady self.now.grm.now sets.old }
         ensures { let g = self.now.grm.now in let graph = self.now.sgraph.now in let table = self.now.stable.now in MatchOption result
             (IsComplete g graph table)
             (λ found. IsFirstFault g graph table found.0 found.1) }
@@ -98,8 +98,8 @@ impl<'a, StorageT: StorageIndex> Completeness<'a, StorageT> {
         sets: &mut WorkSets,
     ) -> Option<usize>
         requires known { IsKnown self.now.grm.now self.now.sgraph.now self.now.stable.now (rows_of self.now.firsts.now) }
-        requires room { HaveRoomFor self.now.grm.now sets.old }
-        ensures room { HaveRoomFor self.now.grm.now sets.new }
+        requires ready { AreReady self.now.grm.now sets.old }
+        ensures ready { AreReady self.now.grm.now sets.new }
         ensures found { let g = self.now.grm.now in let graph = self.now.sgraph.now in let table = self.now.stable.now in MatchOption result
             ((s : ℕ) → s < states_len table → IsCompleteAt g graph table condition s)
             (λ s. FailsFirstAt g graph table condition s) }
@@ -122,8 +122,8 @@ impl<'a, StorageT: StorageIndex> Completeness<'a, StorageT> {
     ) -> bool
         requires known { IsKnown self.now.grm.now self.now.sgraph.now self.now.stable.now (rows_of self.now.firsts.now) }
         requires state { StorageT.index s.0 < states_len self.now.stable.now }
-        requires room { HaveRoomFor self.now.grm.now sets.old }
-        ensures room { HaveRoomFor self.now.grm.now sets.new }
+        requires ready { AreReady self.now.grm.now sets.old }
+        ensures ready { AreReady self.now.grm.now sets.new }
         ensures test { IsTrue result ↔ IsCompleteAt self.now.grm.now self.now.sgraph.now self.now.stable.now condition (StorageT.index s.0) }
     {
         match condition {
@@ -143,17 +143,33 @@ impl<'a, StorageT: StorageIndex> Completeness<'a, StorageT> {
                 .has_item(s, self.grm.start_prod(), 0, self.grm.eof_token_idx())
     }
 
-    // C2: for each item of the state. Items of one core stand side by side, and are tested together.
+    // C2: for each item of the state. The sets of first items hold nothing before and behind it, so that a state costs what it has.
     fn closes_items(&self, s: StIdx<StorageT>, sets: &mut WorkSets) -> bool
         requires known { IsKnown self.now.grm.now self.now.sgraph.now self.now.stable.now (rows_of self.now.firsts.now) }
         requires state { StorageT.index s.0 < states_len self.now.stable.now }
-        requires room { HaveRoomFor self.now.grm.now sets.old }
-        ensures room { HaveRoomFor self.now.grm.now sets.new }
+        requires ready { AreReady self.now.grm.now sets.old }
+        ensures ready { AreReady self.now.grm.now sets.new }
         ensures test { IsTrue result ↔ EachItem self.now.sgraph.now (StorageT.index s.0)
             (ClosesItem self.now.grm.now self.now.sgraph.now (StorageT.index s.0)) }
     {
         let items = self.sgraph.items(s);
         self.put_starts(items, &mut sets.starts);
+        let closed = self.closes_each(items, sets);
+        self.take_starts(items, &mut sets.starts);
+        closed
+    }
+
+    // C2: for each of the items, where the first items among all are told by their lookaheads. Items of one core stand side by side, and
+    // are tested together.
+    fn closes_each(&self, items: &[Item<StorageT>], sets: &mut WorkSets) -> bool
+        requires known { IsKnown self.now.grm.now self.now.sgraph.now self.now.stable.now (rows_of self.now.firsts.now) }
+        requires items { All (λ item. IsItem self.now.grm.now (StorageT.index item.0.0) item.1 (StorageT.index item.2.0)) items.now }
+        requires room { HaveRoomFor self.now.grm.now sets.old }
+        ensures room { HaveRoomFor self.now.grm.now sets.new }
+        ensures kept { sets.new.starts.items ≡ sets.old.starts.items }
+        ensures test { IsTrue result ↔ All (λ item. ClosesAmong self.now.grm.now (rows_of sets.old.starts.items)
+            (StorageT.index item.0.0) item.1 (StorageT.index item.2.0)) items.now }
+    {
         let mut place = 0;
         'cores: while place < items.len() {
             let end = core_end(items, place);

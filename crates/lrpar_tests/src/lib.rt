@@ -4,4 +4,8 @@
 #[cfg(test)]
 mod calculation;
 #[cfg(test)]
+mod example;
+#[cfg(test)]
+mod guide;
+#[cfg(test)]
 mod readme;

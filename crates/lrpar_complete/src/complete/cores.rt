@@ -1,8 +1,8 @@
 //! What the conditions of completeness ask for the items of one core.
-ghost use Rattle.std.specs.Prelude.{◌≡◌, ◌≢◌, ◌<◌, ◌≤◌, ◌+◌, ◌∷◌, ◌↔◌, ◌⊎◌, ℕ, List, All, Contains, IfSome, IsTrue, MatchOption, Some, drop, length, map, slice_get};
+ghost use Rattle.std.specs.Prelude.{◌≡◌, ◌≢◌, ◌<◌, ◌≤◌, ◌+◌, ◌∷◌, ◌↔◌, ◌⊎◌, ◌&&◌, ◌==◌, ℕ, List, All, Contains, IfSome, IsTrue, MatchOption, Some, drop, length, map, not, slice_get};
 ghost use Rattle.lrpar_grammar.specs.Grammar.{GrammarSymbol, Nonterminal, Terminal, prod_len, prods_len, rule_of, rules_len, symbols_of, tokens_len};
 ghost use Rattle.lrpar_grammar.specs.Symbols.{symbol_of};
-ghost use Rattle.lrpar_first.specs.FirstRows.{mark_of, row_at, rows_of};
+ghost use Rattle.lrpar_first.specs.FirstRows.{HoldNothing, mark_of, row_at, rows_of};
 ghost use Rattle.lrpar_first.specs.Tokens.{has};
 ghost use Rattle.lrpar_states.specs.Graph.{HasItem, item_at};
 ghost use Rattle.lrpar_states.specs.PlainItems.{item_of};
@@ -13,7 +13,7 @@ ghost use Rattle.lrpar_complete.specs.Itemwise.{AreStartsOf, ClosesAmong, EndsBy
 
 use crate::complete::Completeness;
 use crate::complete::sets::WorkSets;
-use lrpar_first::first::{add_first_before, clear_all};
+use lrpar_first::first::add_first_before;
 use lrpar_first::tokens::TokenSet;
 use lrpar_grammar::span::{PIdx, RIdx, StIdx, StorageIndex, Symbol, TIdx};
 use lrpar_states::table::{Action, Item};
@@ -97,14 +97,14 @@ impl<'a, StorageT: StorageIndex> Completeness<'a, StorageT> {
         true
     }
 
-    // Puts into each production's set the lookaheads of its first item, in place of what was there.
+    // Puts into each production's set, which holds nothing, the lookaheads of its first item.
     pub(super) fn put_starts(&self, items: &[Item<StorageT>], starts: &mut [TokenSet])
         requires items { All (λ item. IsItem self.now.grm.now (StorageT.index item.0.0) item.1 (StorageT.index item.2.0)) items.now }
         requires room { HaveStarts self.now.grm.now (rows_of starts.old) }
+        requires none { HoldNothing (rows_of starts.old) }
         ensures room { HaveStarts self.now.grm.now (rows_of starts.new) }
         ensures starts { AreStartsOf (map (item_of StorageT.index) items.now) (rows_of starts.new) }
     {
-        clear_all(starts);
         for (pidx, dot, token) in items {
             self.put_start(*pidx, *dot, *token, starts);
         }
@@ -129,6 +129,40 @@ impl<'a, StorageT: StorageIndex> Completeness<'a, StorageT> {
         }
         let prod = usize::from(pidx);
         starts[prod].insert(usize::from(token));
+    }
+
+    // Takes the lookaheads of the first items out of the sets, which then hold nothing.
+    pub(super) fn take_starts(&self, items: &[Item<StorageT>], starts: &mut [TokenSet])
+        requires items { All (λ item. IsItem self.now.grm.now (StorageT.index item.0.0) item.1 (StorageT.index item.2.0)) items.now }
+        requires room { HaveStarts self.now.grm.now (rows_of starts.old) }
+        requires starts { AreStartsOf (map (item_of StorageT.index) items.now) (rows_of starts.old) }
+        ensures room { HaveStarts self.now.grm.now (rows_of starts.new) }
+        ensures none { HoldNothing (rows_of starts.new) }
+    {
+        for (pidx, dot, token) in items {
+            self.take_start(*pidx, *dot, *token, starts);
+        }
+    }
+
+    // Takes the lookahead of the item out of its production's set, if it is a first item.
+    fn take_start(
+        &self,
+        pidx: PIdx<StorageT>,
+        dot: usize,
+        token: TIdx<StorageT>,
+        starts: &mut [TokenSet],
+    )
+        requires item { IsItem self.now.grm.now (StorageT.index pidx.0) dot (StorageT.index token.0) }
+        requires room { HaveStarts self.now.grm.now (rows_of starts.old) }
+        ensures room { HaveStarts self.now.grm.now (rows_of starts.new) }
+        ensures left { (q t : ℕ) → IsTrue (has (row_at (rows_of starts.new) q) t)
+            → IsTrue (has (row_at (rows_of starts.old) q) t) × (item_at (StorageT.index pidx.0) dot (StorageT.index token.0) ≢ item_at q 0 t) }
+    {
+        if dot != 0 {
+            return;
+        }
+        let prod = usize::from(pidx);
+        remove(&mut starts[prod], usize::from(token));
     }
 
     // C3: before a token, the state shifts it to a state with the items behind the token.
@@ -369,4 +403,13 @@ fn put_lookaheads<StorageT: StorageIndex>(items: &[Item<StorageT>], set: &mut To
     for (_, _, token) in items {
         set.insert(usize::from(*token));
     }
+}
+
+// Takes the token out of the set.
+fn remove(set: &mut TokenSet, token: usize)
+    requires { token < length set.old.bits.items }
+    ensures room { length set.new.bits.items ≡ length set.old.bits.items }
+    ensures tokens { (t : ℕ) → has set.new.bits.items t ≡ (has set.old.bits.items t && not (t == token)) }
+{
+    set.bits[token] = false;
 }

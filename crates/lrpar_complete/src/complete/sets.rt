@@ -1,6 +1,6 @@
 //! The sets of tokens that the test of completeness works with.
 ghost use Rattle.std.specs.Prelude.{◌≡◌, All, IfOk, length};
-ghost use Rattle.lrpar_first.specs.FirstRows.{rows_of};
+ghost use Rattle.lrpar_first.specs.FirstRows.{HoldNothing, rows_of};
 
 use lrpar_first::tokens::TokenSet;
 use std::alloc::{AllocError, Global};
@@ -23,6 +23,7 @@ impl WorkSets {
         ensures begun { IfOk result (λ sets. length sets.begun.bits.items ≡ len) }
         ensures prods { IfOk result (λ sets. length (rows_of sets.starts.items) ≡ prods) }
         ensures starts { IfOk result (λ sets. All (λ row. length row ≡ len) (rows_of sets.starts.items)) }
+        ensures none { IfOk result (λ sets. HoldNothing (rows_of sets.starts.items)) }
     {
         let starts = empty_sets(alloc, prods, len)?;
         let after = TokenSet::new(alloc, len)?;
@@ -41,6 +42,7 @@ impl WorkSets {
 fn empty_sets(alloc: Global, count: usize, len: usize) -> Result<Vec<TokenSet>, AllocError>
     ensures count { IfOk result (λ sets. length (rows_of sets.items) ≡ count) }
     ensures room { IfOk result (λ sets. All (λ row. length row ≡ len) (rows_of sets.items)) }
+    ensures none { IfOk result (λ sets. HoldNothing (rows_of sets.items)) }
 {
     let mut sets = Vec::with_capacity(alloc, count)?;
     for _ in 0..count {

@@ -1,13 +1,13 @@
 use Rattle.std.proofs.Common.{◌<◌, ℕ, get_or}
 use Rattle.lrpar_states.specs.Table.{states_len}
 use Rattle.lrpar_complete.specs.Complete.{IsCompleteAt}
-use Rattle.lrpar_complete.specs.Itemwise.{HaveRoomFor}
+use Rattle.lrpar_complete.specs.Itemwise.{AreReady}
 use Rattle.lrpar_complete.specs.declared.completeness.TheConstants.CompletenessCondition.{ALL}
 use Rattle.lrpar_complete.proofs.complete.Completeness.first_fault.Given as goal
 
 -- the conditions so far hold everywhere
 abbrev pub invariant-loop-condition : goal.invariant-loop-condition
 invariant-loop-condition g l =
-    HaveRoomFor l.self.grm.now l.sets
+    AreReady l.self.grm.now l.sets
     × ((k : ℕ) (d : _) → k < l.condition-index → (s : ℕ) → s < states_len l.self.stable.now
     → IsCompleteAt l.self.grm.now l.self.sgraph.now l.self.stable.now (get_or ALL k d) s)

@@ -1,14 +1,11 @@
 use Rattle.std.proofs.Common.{arith, subst, sym}
 use Rattle.lrpar_first.specs.FirstRows.{rows_of}
 use Rattle.lrpar_states.specs.Safe.{IsItem}
-use Rattle.lrpar_complete.proofs.ItemwiseLemmas.{starts_all, starts_cleared, starts_more, starts_none}
+use Rattle.lrpar_complete.proofs.ItemwiseLemmas.{starts_all, starts_more, starts_none}
 use Rattle.lrpar_complete.proofs.complete.Completeness.put_starts.Goals as goal
 
 pub loop-pidx-init : goal.loop-pidx-init
-loop-pidx-init g c =
-    let grm = c.args.self.now.grm.now in
-    let after = rows_of c.clear_all.new.sets in
-    (starts_cleared grm (rows_of c.args.starts.now) after c.requires.room c.clear_all.ensures.room, starts_none after c.clear_all.ensures.none)
+loop-pidx-init g c = (c.requires.room, starts_none (rows_of c.args.starts.now) c.requires.none)
 
 pub put_start-requires-clause-item : goal.put_start-requires-clause-item
 put_start-requires-clause-item g c =

@@ -1,0 +1,95 @@
+//! What the guide shows beside the example: a walk through a tree, and the tokens that may come next.
+use crate::example::{Failed, GRAMMAR, LEXER, printed, told};
+use lrpar::build::parser_data;
+use lrpar::grammar::YaccGrammar;
+use lrpar::span::TIdx;
+use lrpar::{Lexeme, Node, ParserData, RTParserBuilder};
+use lrpar_lexer::{LexRule, RuleLexer, Token, rules_of};
+use std::alloc::{AllocError, Global};
+use std::test::Fail;
+
+/// The table of settings, and the rules of their lexer.
+fn language(alloc: Global) -> Result<(ParserData<u32>, Vec<LexRule>), Failed> {
+    let grm = YaccGrammar::<u32>::new_with_storaget(alloc, GRAMMAR)?;
+    let rules = rules_of(alloc, &grm, LEXER)?;
+    Ok((parser_data(alloc, grm, 10_000, 2)?, rules))
+}
+
+/// The names that a file sets, in order.
+fn names<'a>(
+    alloc: Global,
+    data: &ParserData<u32>,
+    lexer: &RuleLexer<'_, 'a>,
+    input: &'a str,
+) -> Result<Vec<&'a str>, Failed> {
+    let (tree, _) = RTParserBuilder::new(data).parse_generictree(alloc, lexer)?;
+    let mut names = Vec::new(alloc);
+    if let (Some(tree), Some(name)) = (&tree, data.grm().token_idx("NAME")) {
+        push_names(tree, name, input, &mut names)?;
+    }
+    Ok(names)
+}
+
+// Appends the names below the node.
+fn push_names<'a>(
+    node: &Node<Token<u32>, u32>,
+    name: TIdx<u32>,
+    input: &'a str,
+    names: &mut Vec<&'a str>,
+) -> Result<(), AllocError> {
+    match node {
+        Node::Term { lexeme } if TIdx(lexeme.tok_id()) == name => {
+            let span = lexeme.span();
+            names.push(input.get(span.start()..span.end()).unwrap_or(""))?;
+        }
+        Node::Term { lexeme: _ } => {}
+        Node::Nonterm { ridx: _, nodes } => {
+            for node in nodes {
+                push_names(node, name, input, names)?;
+            }
+        }
+    }
+    Ok(())
+}
+
+/// What may come behind the text, a line each.
+fn completions(
+    alloc: Global,
+    data: &ParserData<u32>,
+    lexer: &RuleLexer<'_, '_>,
+) -> Result<String, Failed> {
+    let expected = RTParserBuilder::new(data).expected(alloc, lexer)?;
+    let mut text = String::new(alloc);
+    for token in &expected.tokens {
+        text.push_str(printed(data.grm(), *token).unwrap_or("the end"))?;
+        text.push('\n')?;
+    }
+    Ok(text)
+}
+
+#[test]
+fn names_are_listed(rt: HostRuntime) -> Result<(), Fail> {
+    let (data, rules) = language(rt.alloc())?;
+    let input = "width = 80; title = \"a\";";
+    let lexer = RuleLexer::new(rt.alloc(), &rules, input)?;
+    let names = names(rt.alloc(), &data, &lexer, input)?;
+    assert_eq!(rt; names.as_slice(), ["width", "title"].as_slice());
+    Ok(())
+}
+
+#[test]
+fn values_may_come_behind_an_equals_sign(rt: HostRuntime) -> Result<(), Fail> {
+    let (data, rules) = language(rt.alloc())?;
+    let lexer = RuleLexer::new(rt.alloc(), &rules, "width =")?;
+    assert_eq!(rt; completions(rt.alloc(), &data, &lexer)?.as_str(), "NUMBER\nTEXT\n");
+    Ok(())
+}
+
+#[test]
+fn settings_are_told(rt: HostRuntime) -> Result<(), Fail> {
+    let text = told(rt.alloc(), "width = 80;\n")?;
+    assert_eq!(rt; text.as_str(), "File\n File\n Setting\n  NAME width\n  = =\n  Value\n   NUMBER 80\n  ; ;\n");
+    let text = told(rt.alloc(), "width = 80")?;
+    assert_eq!(rt; text.as_str(), "Parsing error at line 1 column 11. No repair sequences found.\n");
+    Ok(())
+}

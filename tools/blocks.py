@@ -1,0 +1,28 @@
+#!/usr/bin/env python3
+"""Looks whether each Rust block of README.md and docs/GUIDE.md stands in a source, as it stands there: blocks.py
+
+A block is looked for in the sources of crates/lrpar_tests, which the gate proves and runs, but for their `pub(crate)`. Each block that stands in none is told, and the status is then 1."""
+
+import pathlib
+import re
+import sys
+
+ROOT = pathlib.Path(__file__).resolve().parent.parent
+PAGES = ["README.md", "docs/GUIDE.md"]
+CRATES = ["lrpar_tests"]
+
+
+def main():
+    sources = [path.read_text().replace("pub(crate) ", "") for crate in CRATES for path in sorted((ROOT / "crates" / crate / "src").rglob("*.rt"))]
+    wanting = 0
+    for page in PAGES:
+        text = (ROOT / page).read_text()
+        for match in re.finditer(r"^```rust\n(.*?)^```", text, re.M | re.S):
+            if not any(match.group(1) in source for source in sources):
+                wanting += 1
+                line = text[: match.start()].count("\n") + 1
+                print(f"{page}:{line}: this block stands in no source")
+    sys.exit(1 if wanting else 0)
+
+
+main()

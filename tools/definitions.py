@@ -1,0 +1,102 @@
+#!/usr/bin/env python3
+"""Writes docs/DEFINITIONS.md from the comments in crates/*/specs: definitions.py [--check]
+
+What stands in front of the page's first part is kept. Each crate is a part, each file of its specs a part below it, in the order in which
+`Lib.antt` names them, and each public definition a row: its name, and the comment above it. Definitions that follow one another under one
+comment share a row. With --check nothing is written, and the status is 1 where the page isn't the one that would be written."""
+
+import pathlib
+import re
+import sys
+
+ROOT = pathlib.Path(__file__).resolve().parent.parent
+PAGE = ROOT / "docs" / "DEFINITIONS.md"
+# A line that begins a block whose lines may be definitions, and one of a definition.
+BLOCK = re.compile(r"(?:abbrev |unfoldable )?(?:mutual$|module )")
+DEFINITION = re.compile(r"(?:(?:abbrev |unfoldable )?pub (?:record |data )?)(?!use |mod )([^\s:]+)")
+
+
+def crates():
+    """The crates in the order of crates.txt."""
+    for line in (ROOT / "crates.txt").read_text().splitlines():
+        if line and not line.startswith("#"):
+            yield line.split(":")[0]
+
+
+def files(crate):
+    """The files of a crate's specs, in the order in which its `Lib.antt` names them."""
+    lib = ROOT / "crates" / crate / "specs" / "Lib.antt"
+    if lib.exists():
+        for name in re.findall(r"^pub mod (\S+)", lib.read_text(), re.M):
+            yield lib.parent / f"{name}.antt"
+
+
+def comment_of(lines):
+    """The text of lines that are comments."""
+    return " ".join(line.strip().removeprefix("--").strip() for line in lines)
+
+
+def split_head(lines):
+    """The comment at the top of a file, and the lines behind it."""
+    end = next((at for at, line in enumerate(lines) if not line.startswith("--")), len(lines))
+    return lines[:end], lines[end:]
+
+
+def rows(lines):
+    """The names of public definitions, with the comment that stands above them."""
+    found, above, blocks = [], [], []
+    for line in lines:
+        code, indent = line.strip(), len(line) - len(line.lstrip())
+        if not code:
+            continue
+        while blocks and blocks[-1] >= indent:
+            blocks.pop()
+        # A line of a block is indented by two more than the block's own.
+        is_outer = indent == (blocks[-1] + 2 if blocks else 0)
+        if is_outer and code.startswith("--"):
+            above.append(code)
+        elif is_outer and BLOCK.match(code):
+            blocks.append(indent)
+        elif is_outer and (match := DEFINITION.match(code)):
+            if above or not found:
+                found.append(([], comment_of(above)))
+            found[-1][0].append(match.group(1))
+            above = []
+        elif is_outer:
+            above = []
+    return found
+
+
+def section(path):
+    """The part of a file: what its first comment says, and its definitions."""
+    head, lines = split_head(path.read_text().split("\n"))
+    shown = [f"### `{path.relative_to(path.parent.parent)}`", "", comment_of(head), ""]
+    table = rows(lines)
+    if table:
+        shown += ["| name | meaning |", "|---|---|"]
+        for names, meaning in table:
+            named = ", ".join(f"`{name}`" for name in names)
+            shown.append(f"| {named} | {meaning.replace('|', chr(92) + '|')} |")
+        shown.append("")
+    return shown
+
+
+def page():
+    """The whole page."""
+    lines = PAGE.read_text().split("\n## ", 1)[0].rstrip().split("\n") + [""]
+    for crate in crates():
+        parts = [line for path in files(crate) for line in section(path)]
+        if parts:
+            lines += [f"## `{crate}`", "", *parts]
+    return "\n".join(lines).rstrip() + "\n"
+
+
+def main():
+    made = page()
+    if "--check" not in sys.argv[1:]:
+        PAGE.write_text(made)
+    elif PAGE.read_text() != made:
+        sys.exit("docs/DEFINITIONS.md isn't what the comments in specs/ say: run tools/definitions.py")
+
+
+main()
