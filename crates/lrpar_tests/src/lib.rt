@@ -1,11 +1,7 @@
-//! Tests of what the README shows: a parse, and a calculation as a user writes it.
+//! Tests of what the guide shows: a parse by a table of one's own, and a calculation as a user writes it.
 #![tactic(auto)]
 
 #[cfg(test)]
 mod calculation;
-#[cfg(test)]
-mod example;
-#[cfg(test)]
-mod guide;
 #[cfg(test)]
 mod readme;

@@ -1,4 +1,4 @@
-//! The examples of the README, as a user writes them.
+//! The examples of the guide, as a user writes them.
 use crate::calculation::calculated;
 use lrpar::check::CheckFault;
 use lrpar::grammar::{GrammarFault, YaccGrammar};

@@ -81,15 +81,24 @@ fn names_are_listed(rt: HostRuntime) -> Result<(), Fail> {
 fn values_may_come_behind_an_equals_sign(rt: HostRuntime) -> Result<(), Fail> {
     let (data, rules) = language(rt.alloc())?;
     let lexer = RuleLexer::new(rt.alloc(), &rules, "width =")?;
-    assert_eq!(rt; completions(rt.alloc(), &data, &lexer)?.as_str(), "NUMBER\nTEXT\n");
+    assert_eq!(rt;
+        completions(rt.alloc(), &data, &lexer)?.as_str(),
+        "NUMBER\nTEXT\n"
+    );
     Ok(())
 }
 
 #[test]
 fn settings_are_told(rt: HostRuntime) -> Result<(), Fail> {
     let text = told(rt.alloc(), "width = 80;\n")?;
-    assert_eq!(rt; text.as_str(), "File\n File\n Setting\n  NAME width\n  = =\n  Value\n   NUMBER 80\n  ; ;\n");
+    assert_eq!(rt;
+        text.as_str(),
+        "File\n File\n Setting\n  NAME width\n  = =\n  Value\n   NUMBER 80\n  ; ;\n"
+    );
     let text = told(rt.alloc(), "width = 80")?;
-    assert_eq!(rt; text.as_str(), "Parsing error at line 1 column 11. No repair sequences found.\n");
+    assert_eq!(rt;
+        text.as_str(),
+        "Parsing error at line 1 column 11. No repair sequences found.\n"
+    );
     Ok(())
 }
