@@ -1,23 +1,19 @@
 //! The example of the README: a language of settings, and what is told of a file of them.
-use lrpar::RTParserBuilder;
+ghost use Rattle.std.specs.Prelude.{◌≡◌};
+
 use lrpar::build::{Unbuilt, parser_data};
 use lrpar::errors::PpFault;
 use lrpar::grammar::{GrammarFault, YaccGrammar};
 use lrpar::parser::ParseFault;
-use lrpar::span::TIdx;
-use lrpar_lexer::{RuleLexer, RulesFault, rules_of};
+use lrpar::{LexParseError, NonStreamingLexer, ParserData, RTParserBuilder};
+use lrpar_lexer::{LexRule, RuleLexer, RulesFault, TokenTypes, rules_of};
 use std::alloc::{AllocError, Global};
 use thiserror::Error;
 
-pub(crate) const GRAMMAR: &str =
+const GRAMMAR: &str =
     "%% File: | File Setting; Setting: 'NAME' '=' Value ';'; Value: 'NUMBER' | 'TEXT';";
 
-pub(crate) const LEXER: &str = "[a-z_]+ 'NAME'
-= '='
-; ';'
-[0-9]+ 'NUMBER'
-\"[^\"]*\" 'TEXT'
-[ \\n]+ ;";
+const LEXER: &str = "[a-z_]+ 'NAME'\n= '='\n; ';'\n[0-9]+ 'NUMBER'\n\"[^\"]*\" 'TEXT'\n[ \\n]+ ;";
 
 /// Why nothing can be told.
 #[derive(Debug, Drop, Error)]
@@ -36,34 +32,48 @@ pub(crate) enum Failed {
     Memory(#[from] AllocError),
 }
 
-/// The errors of a file of settings, and its tree.
-pub(crate) fn told(alloc: Global, input: &str) -> Result<String, Failed> {
+/// The table of settings, and the rules of their lexer.
+pub(crate) fn language(alloc: Global) -> Result<(ParserData<u32>, Vec<LexRule>), Failed> {
     let grm = YaccGrammar::<u32>::new_with_storaget(alloc, GRAMMAR)?;
     let rules = rules_of(alloc, &grm, LEXER)?;
-    let data = parser_data(alloc, grm, 10_000, 2)?;
-    let lexer = RuleLexer::new(alloc, &rules, input)?;
-    let (tree, errors) = RTParserBuilder::new(&data).parse_generictree(alloc, &lexer)?;
+    Ok((parser_data(alloc, grm, 10_000, 2)?, rules))
+}
+
+/// The errors of a file of settings, and its tree.
+pub(crate) fn told<'a>(
+    alloc: Global,
+    data: &'a ParserData<u32>,
+    rules: &'a [LexRule],
+    input: &'a str,
+) -> Result<String, Failed> {
+    let lexer = RuleLexer::new(alloc, rules, input)?;
+    let (tree, errors) = RTParserBuilder::new(data).parse_generictree(alloc, &lexer)?;
     let mut text = String::new(alloc);
-    for error in &errors {
-        if error.fits(input) {
-            text.push_str(&error.pp(alloc, &lexer, |token| printed(data.grm(), token))?)?;
-            text.push('\n')?;
+    push_errors(&mut text, alloc, &lexer, input, &errors)?;
+    let grm = data.grm();
+    if let Some(tree) = &tree {
+        if tree.fits(grm, input) {
+            text.push_str(&tree.pp(alloc, grm, input)?)?;
         }
-    }
-    match tree {
-        Some(tree) if tree.fits(data.grm(), input) => {
-            text.push_str(&tree.pp(alloc, data.grm(), input)?)?;
-        }
-        _ => {}
     }
     Ok(text)
 }
 
-/// What messages print for a token.
-pub(crate) fn printed(grm: &YaccGrammar<u32>, token: TIdx<u32>) -> Option<&str> {
-    if usize::from(token) < grm.tokens_len() {
-        grm.token_epp(token)
-    } else {
-        None
+// Adds a line for each error.
+fn push_errors<'a, L: NonStreamingLexer<'a, TokenTypes>>(
+    text: &mut String,
+    alloc: Global,
+    lexer: &L,
+    input: &str,
+    errors: &[LexParseError<u32, TokenTypes>],
+) -> Result<(), Failed>
+    requires { L.text lexer.now ≡ input.now }
+{
+    for error in errors {
+        if error.fits(input) {
+            text.push_str(&error.pp(alloc, lexer, |_| Some("a token"))?)?;
+            text.push('\n')?;
+        }
     }
+    Ok(())
 }

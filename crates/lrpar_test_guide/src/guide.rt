@@ -1,19 +1,11 @@
 //! What the guide shows beside the example: a walk through a tree, and the tokens that may come next.
-use crate::example::{Failed, GRAMMAR, LEXER, printed, told};
-use lrpar::build::parser_data;
+use crate::example::{Failed, language, told};
 use lrpar::grammar::YaccGrammar;
 use lrpar::span::TIdx;
 use lrpar::{Lexeme, Node, ParserData, RTParserBuilder};
-use lrpar_lexer::{LexRule, RuleLexer, Token, rules_of};
+use lrpar_lexer::{RuleLexer, Token};
 use std::alloc::{AllocError, Global};
 use std::test::Fail;
-
-/// The table of settings, and the rules of their lexer.
-fn language(alloc: Global) -> Result<(ParserData<u32>, Vec<LexRule>), Failed> {
-    let grm = YaccGrammar::<u32>::new_with_storaget(alloc, GRAMMAR)?;
-    let rules = rules_of(alloc, &grm, LEXER)?;
-    Ok((parser_data(alloc, grm, 10_000, 2)?, rules))
-}
 
 /// The names that a file sets, in order.
 fn names<'a>(
@@ -67,6 +59,15 @@ fn completions(
     Ok(text)
 }
 
+// What messages print for a token.
+fn printed(grm: &YaccGrammar<u32>, token: TIdx<u32>) -> Option<&str> {
+    if usize::from(token) < grm.tokens_len() {
+        grm.token_epp(token)
+    } else {
+        None
+    }
+}
+
 #[test]
 fn names_are_listed(rt: HostRuntime) -> Result<(), Fail> {
     let (data, rules) = language(rt.alloc())?;
@@ -88,17 +89,19 @@ fn values_may_come_behind_an_equals_sign(rt: HostRuntime) -> Result<(), Fail> {
     Ok(())
 }
 
+// What is told of the text.
+fn told_of(alloc: Global, input: &str) -> Result<String, Fail> {
+    let (data, rules) = language(alloc)?;
+    Ok(told(alloc, &data, &rules, input)?)
+}
+
 #[test]
 fn settings_are_told(rt: HostRuntime) -> Result<(), Fail> {
-    let text = told(rt.alloc(), "width = 80;\n")?;
-    assert_eq!(rt;
-        text.as_str(),
-        "File\n File\n Setting\n  NAME width\n  = =\n  Value\n   NUMBER 80\n  ; ;\n"
-    );
-    let text = told(rt.alloc(), "width = 80")?;
-    assert_eq!(rt;
-        text.as_str(),
-        "Parsing error at line 1 column 11. No repair sequences found.\n"
-    );
+    let text = told_of(rt.alloc(), "width = 80;\n")?;
+    let tree = "File\n File\n Setting\n  NAME width\n  = =\n  Value\n   NUMBER 80\n  ; ;\n";
+    assert_eq!(rt; text.as_str(), tree);
+    let text = told_of(rt.alloc(), "width = 80")?;
+    let error = "Parsing error at line 1 column 11. No repair sequences found.\n";
+    assert_eq!(rt; text.as_str(), error);
     Ok(())
 }
