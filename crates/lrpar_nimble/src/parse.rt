@@ -33,9 +33,21 @@ pub(crate) struct Plan<'a> {
 
 /// Parses the input of this path and text: tells its errors, and prints its tree, if there is one. Answers whether there is one, and no
 /// error.
-pub(crate) fn parse<'a, O: Write, E: Write>(
+pub(crate) fn parse<O: Write, E: Write>(
     alloc: Global,
-    plan: &Plan<'a>,
+    plan: &Plan<'_>,
+    path: &str,
+    input: &str,
+    out: &mut O,
+    err: &mut E,
+) -> Result<bool, Fault> {
+    parse_text(alloc, plan, path, input, out, err)
+}
+
+// The same, with one lifetime for what messages print of tokens and of the input.
+fn parse_text<'a, O: Write, E: Write>(
+    alloc: Global,
+    plan: &'a Plan<'_>,
     path: &str,
     input: &'a str,
     out: &mut O,
@@ -90,7 +102,7 @@ fn parsed_by<R: Recoverer<u32, Token<u32>> + Drop>(
 // The messages of the errors of an input.
 fn errors_text<'a, L: NonStreamingLexer<'a, TokenTypes>>(
     alloc: Global,
-    plan: &Plan<'a>,
+    plan: &'a Plan<'_>,
     lexer: &L,
     path: &str,
     input: &str,
@@ -158,7 +170,7 @@ fn tokens_at(
 fn push_error<'a, L: NonStreamingLexer<'a, TokenTypes>>(
     text: &mut String,
     alloc: Global,
-    plan: &Plan<'a>,
+    plan: &'a Plan<'_>,
     reporter: &Reporter<'_>,
     lexer: &L,
     input: &str,
