@@ -1,7 +1,6 @@
 //! Errors of inputs.
 ghost use Rattle.std.specs.Prelude.{◌≡◌};
 
-use crate::fault::Fault;
 use crate::options::Recovery;
 use crate::show::push_message;
 use lrpar_inputs::parsing::{TextError, error_text};
@@ -130,12 +129,12 @@ pub(crate) fn push_repairs<'a, L: NonStreamingLexer<'a, TokenTypes>>(
     lexer: &L,
     input: &str,
     error: &TextError,
-) -> Result<(), Fault>
+) -> Result<(), AllocError>
     requires { L.text lexer.now ≡ input.now }
 {
     let text = match error_text(alloc, names, lexer, input, error) {
         Ok(text) => text,
-        Err(_) => return Err(Fault::Memory),
+        Err(_) => return Err(AllocError),
     };
     match text.as_str().split_once('\n') {
         Some((_, repairs)) => {

@@ -12,7 +12,7 @@ use lrpar_parser::repair::Recoverer;
 use lrpar_parser::span::{StIdx, TIdx};
 use lrpar_parser::{LexParseError, NonStreamingLexer, ParserData, RTParserBuilder};
 use lrpar_tree_forms::{Form, write_graph, write_nested};
-use std::alloc::Global;
+use std::alloc::{AllocError, Global};
 use std::io::Write;
 
 /// What inputs are parsed by, and how trees are printed.
@@ -33,9 +33,21 @@ pub(crate) struct Plan<'a> {
 
 /// Parses the input of this path and text: tells its errors, and prints its tree, if there is one. Answers whether there is one, and no
 /// error.
-pub(crate) fn parse<'a, O: Write, E: Write>(
+pub(crate) fn parse<O: Write, E: Write>(
     alloc: Global,
-    plan: &Plan<'a>,
+    plan: &Plan<'_>,
+    path: &str,
+    input: &str,
+    out: &mut O,
+    err: &mut E,
+) -> Result<bool, Fault> {
+    parse_text(alloc, plan, path, input, out, err)
+}
+
+// The same, with one lifetime for what messages print of tokens and of the input.
+fn parse_text<'a, O: Write, E: Write>(
+    alloc: Global,
+    plan: &'a Plan<'_>,
     path: &str,
     input: &'a str,
     out: &mut O,
@@ -44,7 +56,8 @@ pub(crate) fn parse<'a, O: Write, E: Write>(
     let lexer = RuleLexer::new(alloc, plan.rules, input)?;
     let (tree, errors) = parsed(alloc, plan, &lexer)?;
     if !errors.is_empty() {
-        let text = errors_text(alloc, plan, &lexer, path, input, &errors)?;
+        let expected = expected_tokens(alloc, plan, &lexer, &errors)?;
+        let text = errors_text(alloc, plan, &lexer, path, input, &expected, &errors)?;
         tell(out, err, text.as_str())?;
     }
     match tree {
@@ -89,41 +102,54 @@ fn parsed_by<R: Recoverer<u32, Token<u32>> + Drop>(
 // The messages of the errors of an input.
 fn errors_text<'a, L: NonStreamingLexer<'a, TokenTypes>>(
     alloc: Global,
-    plan: &Plan<'a>,
+    plan: &'a Plan<'_>,
     lexer: &L,
     path: &str,
     input: &str,
+    expected: &[TIdx<u32>],
     errors: &[TextError],
-) -> Result<String, Fault>
+) -> Result<String, AllocError>
     requires { L.text lexer.now ≡ input.now }
 {
     let reporter = Reporter::new(alloc, input, path, plan.look)?;
     let mut text = String::new(alloc);
     for (place, error) in errors.iter().enumerate() {
-        let expected = expected_tokens(alloc, plan, lexer, place, error)?;
+        let tokens = tokens_of(alloc, plan.data, expected, place, error)?;
         push_error(
-            &mut text, alloc, plan, &reporter, lexer, input, &expected, error,
+            &mut text, alloc, plan, &reporter, lexer, input, &tokens, error,
         )?;
     }
     Ok(text)
 }
 
-// What may come at an error: at the first one the tokens that can be fed there, and at a later one those at which its state has an
-// action.
-fn expected_tokens<'a, L: NonStreamingLexer<'a, TokenTypes>>(
+// The tokens that can be fed at the first error, if it is one of the parse.
+fn expected_tokens(
     alloc: Global,
     plan: &Plan<'_>,
-    lexer: &L,
-    place: usize,
-    error: &TextError,
+    lexer: &RuleLexer<'_, '_>,
+    errors: &[TextError],
 ) -> Result<Vec<TIdx<u32>>, Fault> {
-    match (place, error) {
-        (0, LexParseError::ParseError(_)) => {
+    match errors.first() {
+        Some(LexParseError::ParseError(_)) => {
             let parser = RTParserBuilder::<u32, TokenTypes, _>::new(plan.data);
             Ok(parser.expected(alloc, lexer)?.tokens)
         }
-        (_, LexParseError::ParseError(failure)) => tokens_at(alloc, plan.data, failure.stidx()),
         _ => Ok(Vec::new(alloc)),
+    }
+}
+
+// What may come at an error: at the first one these tokens, and at a later one those at which its state has an action.
+fn tokens_of(
+    alloc: Global,
+    data: &ParserData<u32>,
+    first: &[TIdx<u32>],
+    place: usize,
+    error: &TextError,
+) -> Result<Vec<TIdx<u32>>, AllocError> {
+    match error {
+        _ if place == 0 => Vec::from_slice(alloc, first),
+        LexParseError::ParseError(failure) => tokens_at(alloc, data, failure.stidx()),
+        LexParseError::LexError(_) => Ok(Vec::new(alloc)),
     }
 }
 
@@ -132,31 +158,29 @@ fn tokens_at(
     alloc: Global,
     data: &ParserData<u32>,
     state: StIdx<u32>,
-) -> Result<Vec<TIdx<u32>>, Fault> {
+) -> Result<Vec<TIdx<u32>>, AllocError> {
     if usize::from(state) >= data.stable().states_len() {
         return Ok(Vec::new(alloc));
     }
     let (tokens, _) = data.stable().actions_of(state);
-    Ok(Vec::from_slice(alloc, tokens)?)
+    Vec::from_slice(alloc, tokens)
 }
 
 // Adds the message of an error.
 fn push_error<'a, L: NonStreamingLexer<'a, TokenTypes>>(
     text: &mut String,
     alloc: Global,
-    plan: &Plan<'a>,
+    plan: &'a Plan<'_>,
     reporter: &Reporter<'_>,
     lexer: &L,
     input: &str,
     expected: &[TIdx<u32>],
     error: &TextError,
-) -> Result<(), Fault>
+) -> Result<(), AllocError>
     requires { L.text lexer.now ≡ input.now }
 {
     match error {
-        LexParseError::LexError(error) => {
-            Ok(push_lexing_error(text, alloc, reporter, input, error)?)
-        }
+        LexParseError::LexError(error) => push_lexing_error(text, alloc, reporter, input, error),
         LexParseError::ParseError(failure) => {
             let subject = Subject {
                 grm: plan.data.grm(),
