@@ -1,0 +1,6 @@
+pub mod Forms
+pub mod Costs
+pub mod Cheapest
+pub mod Reaching
+pub mod Order
+pub mod Answer
