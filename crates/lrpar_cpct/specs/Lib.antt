@@ -4,3 +4,5 @@ pub mod Cheapest
 pub mod Reaching
 pub mod Order
 pub mod Answer
+pub mod Walking
+pub mod Tallied
