@@ -1,13 +1,12 @@
 -- From what the search at a bound comes to, to the answer.
 use Rattle.std.proofs.Common.{◌≡◌, ◌<◌, ◌≤◌, ◌+◌, ◌*◌, ◌∙◌, ◌⊎◌, ◌↔◌, inl, inr, ℕ, zero, suc, List, [], ◌∷◌, ◌++◌, Option, Some, None, length, get_or, refl, sym, subst, ap, arith, replicate}
-use Rattle.std.specs.List.{AllPairs, Contains}
+use Rattle.std.specs.List.{Contains}
 use Rattle.lrpar_parser.specs.Asked.{Asked}
 use Rattle.lrpar_steps.specs.Sequences.{PlainStep, PlainShift}
 use Rattle.lrpar_cpct.specs.Answer.{AreCheapest, AreRepairsAt, IsFound}
 use Rattle.lrpar_cpct.specs.Cheapest.{AreAtMost, BeginsWithin, IsBeginning, IsLeastCost, IsRepair, RepairsAt, cost_of}
 use Rattle.lrpar_cpct.specs.Costs.{Terms, token_cost}
 use Rattle.lrpar_cpct.specs.Forms.{Has}
-use Rattle.lrpar_cpct.specs.Order.{ComesFirst}
 use Rattle.lrpar_cpct.specs.Tallied.{AreApart, AreMoreThan, IsIn, IsLeftOut, IsTallied}
 use Rattle.lrpar_cpct.proofs.MemberLemmas.{apart_few, is_in}
 use Rattle.lrpar_cpct.proofs.PruneLemmas.{cheaper, repair_begins}
@@ -20,7 +19,7 @@ compare_costs (suc m) zero = inr (inr (omega arith))
 compare_costs (suc m) (suc n) =
     elim (compare_costs m n) as (λ _. (suc m < suc n) ⊎ ((suc m ≡ suc n) ⊎ (suc n < suc m))) [
       | inl l ↦ inl (omega (arith, l))
-      | inr r ↦ elim r as (λ _. (suc m < suc n) ⊎ ((suc m ≡ suc n) ⊎ (suc n < suc m))) [ | inl e ↦ inr (inl (ap suc e)) | inr h ↦ inr (inr (omega (arith, h))) ]
+      | inr r ↦ elim r as (λ _. (suc m < suc n) ⊎ ((suc m ≡ suc n) ⊎ (suc n < suc m))) [ inl e ↦ inr (inl (ap suc e)) | inr h ↦ inr (inr (omega (arith, h))) ]
     ]
 
 -- more than n are not at most n, also of those that have less
@@ -41,7 +40,7 @@ module _ {X : Type 0} (token : X → ℕ) (terms : Terms) (at : Asked X) where
         let repair = found.least.some in
         let above : c ≤ d = omega (arith, none repair.0 repair.1.0, repair.1.1) in
         absurd (more_not_most terms.limit (BeginsWithin token terms.costs at c) (BeginsWithin token terms.costs at d)
-            (λ q begins. (begins.0, omega (arith, begins.1, above))) more found.within);
+        (λ q begins. (begins.0, omega (arith, begins.1, above))) more found.within);
     else = inl refl;
   }
 
@@ -61,9 +60,9 @@ module _ {X : Type 0} (token : X → ℕ) (terms : Terms) (at : Asked X) where
 
     -- the repairs that cost c are those that were found
     pub answer_found : (c : ℕ) (found : List (List PlainStep)) (next : Option ℕ) (answer : List (List PlainStep)) → CostsNoLess c
-        → IsTallied token terms at c found next → ((q : List PlainStep) → Contains answer q ↔ Contains found q) → AllPairs (ComesFirst token at) answer
+        → IsTallied token terms at c found next → ((q : List PlainStep) → Contains answer q ↔ Contains found q)
         → (q : List PlainStep) → Contains found q → AreCheapest token terms at answer
-    answer_found c found next answer none tally same ordered first at_first =
+    answer_found c found next answer none tally same first at_first =
         let is_least : IsLeastCost token terms.costs at c = record { some = (first, ((tally.exact first).0 at_first).0); none = none } in
         record {
           all = λ d other.
@@ -75,7 +74,6 @@ module _ {X : Type 0} (token : X → ℕ) (terms : Terms) (at : Asked X) where
                   (λ m. ((tally.exact q).0 ((same q).0 m)).0),
                   (λ r. (same q).1 ((tally.exact q).1 (r, least_begins c none q r))),
                 );
-                ordered = ordered;
               });
           else = inr (c, record { least = is_least; within = tally.within });
         }
@@ -88,9 +86,9 @@ module _ {X : Type 0} (token : X → ℕ) (terms : Terms) (at : Asked X) where
         elim (compare_costs c (cost_of token terms.costs at q)) as (λ _. IsLeftOut token terms at next q) [
           | inl above ↦ tally.dear q begins above
           | inr other ↦ elim other as (λ _. IsLeftOut token terms at next q) [
-              | inl same ↦ let m = (tally.exact q).1 ((r, sym same), begins) in absurd (omega (arith, m.1))
-              | inr below ↦ absurd (omega (arith, below, none q r))
-            ]
+            | inl same ↦ let m = (tally.exact q).1 ((r, sym same), begins) in absurd (omega (arith, m.1))
+            | inr below ↦ absurd (omega (arith, below, none q r))
+          ]
         ]
 
     -- so no repair costs less than the next bound
@@ -99,10 +97,10 @@ module _ {X : Type 0} (token : X → ℕ) (terms : Terms) (at : Asked X) where
     none_below c m none tally zero q r below less = omega (arith, below)
     none_below c m none tally (suc n) q r below less =
         let rows : ¬ (Has q (replicate at.shifts PlainShift)) = λ row.
-            let other = cheaper token at some terms.costs each q r row in
-            let other_below : cost_of token terms.costs at other.0 < n = omega (arith, other.2, below) in
-            let other_less : cost_of token terms.costs at other.0 < m = omega (arith, other.2, less) in
-            none_below c m none tally n other.0 other.1 other_below other_less in
+        let other = cheaper token at some terms.costs each q r row in
+        let other_below : cost_of token terms.costs at other.0 < n = omega (arith, other.2, below) in
+        let other_less : cost_of token terms.costs at other.0 < m = omega (arith, other.2, less) in
+        none_below c m none tally n other.0 other.1 other_below other_less in
         let out = left_out c (Some m) none tally q r rows in
         let same : m ≡ out.0 = let e = out.1 in cc in
         omega (arith, out.2, same, less)
@@ -111,7 +109,7 @@ module _ {X : Type 0} (token : X → ℕ) (terms : Terms) (at : Asked X) where
     none_before c m none tally q r =
         elim (compare_costs (cost_of token terms.costs at q) m) as (λ _. m ≤ cost_of token terms.costs at q) [
           | inl less ↦ absurd (none_below c m none tally (cost_of token terms.costs at q + 1) q r (omega arith) less)
-          | inr other ↦ elim other as (λ _. m ≤ cost_of token terms.costs at q) [ | inl same ↦ omega (arith, same) | inr above ↦ omega (arith, above) ]
+          | inr other ↦ elim other as (λ _. m ≤ cost_of token terms.costs at q) [ inl same ↦ omega (arith, same) | inr above ↦ omega (arith, above) ]
         ]
 
     -- and where nothing was left out, there is none at all
@@ -120,9 +118,9 @@ module _ {X : Type 0} (token : X → ℕ) (terms : Terms) (at : Asked X) where
     none_by c none tally zero q r below = omega (arith, below)
     none_by c none tally (suc n) q r below =
         let rows : ¬ (Has q (replicate at.shifts PlainShift)) = λ row.
-            let other = cheaper token at some terms.costs each q r row in
-            let other_below : cost_of token terms.costs at other.0 < n = omega (arith, other.2, below) in
-            none_by c none tally n other.0 other.1 other_below in
+        let other = cheaper token at some terms.costs each q r row in
+        let other_below : cost_of token terms.costs at other.0 < n = omega (arith, other.2, below) in
+        none_by c none tally n other.0 other.1 other_below in
         let out = left_out c None none tally q r rows in
         let e : None ≡ Some out.0 = out.1 in cc
 

@@ -12,7 +12,7 @@ split_below zero zero h = inr refl
 split_below zero (suc n) h = inl (omega arith)
 split_below (suc m) zero h = absurd (omega (arith, h))
 split_below (suc m) (suc n) h =
-    elim (split_below m n (omega (arith, h))) as (λ _. (suc m < suc n) ⊎ (suc m ≡ suc n)) [ | inl l ↦ inl (omega (arith, l)) | inr e ↦ inr (ap suc e) ]
+    elim (split_below m n (omega (arith, h))) as (λ _. (suc m < suc n) ⊎ (suc m ≡ suc n)) [ inl l ↦ inl (omega (arith, l)) | inr e ↦ inr (ap suc e) ]
 
 module _ (end : ℕ) where
   -- all steps are those of a grammar with so many tokens before its end token
@@ -73,19 +73,21 @@ module _ (end : ℕ) where
       elim h as (λ _. IsBefore (s ∷ q) (x ∷ p) r ⊎ GoesOn (s ∷ q) (x ∷ p) r) [
         | inl l ↦ inl (inl l)
         | inr both ↦ elim (before_next q p r both.1) as (λ _. IsBefore (s ∷ q) (x ∷ p) r ⊎ GoesOn (s ∷ q) (x ∷ p) r) [
-            | inl b ↦ inl (inr (both.0, b))
-            | inr on ↦ inr (record {
-                step = on.step; rest = on.rest; ranked = on.ranked;
-                is = ap (λ (y : PlainStep). y ∷ q) both.0 ∙ ap (λ (l : List PlainStep). x ∷ l) on.is;
-              })
-          ]
+          | inl b ↦ inl (inr (both.0, b))
+          | inr on ↦ inr (record {
+            step = on.step;
+            rest = on.rest;
+            ranked = on.ranked;
+            is = ap (λ (y : PlainStep). y ∷ q) both.0 ∙ ap (λ (l : List PlainStep). x ∷ l) on.is;
+          })
+        ]
       ]
 
   pub before_more : (q p : List PlainStep) (r : ℕ) → IsBefore q p r → IsBefore q p (r + 1)
   before_more [] p r h = tt
   before_more (s ∷ q) [] r h = omega (arith, h)
   before_more (s ∷ q) (x ∷ p) r h =
-      elim h as (λ _. IsBefore (s ∷ q) (x ∷ p) (r + 1)) [ | inl l ↦ inl l | inr both ↦ inr (both.0, before_more q p r both.1) ]
+      elim h as (λ _. IsBefore (s ∷ q) (x ∷ p) (r + 1)) [ inl l ↦ inl l | inr both ↦ inr (both.0, before_more q p r both.1) ]
 
   -- the step of a rank comes before the next rank
   pub child_before : (p : List PlainStep) (s : PlainStep) → IsBefore (p ++ s ∷ []) p (rank_of end s + 1)
@@ -96,29 +98,29 @@ module _ (end : ℕ) where
   pub child_not_before : (p : List PlainStep) (s : PlainStep) (r : ℕ) → r ≤ rank_of end s → ¬ (IsBefore (p ++ s ∷ []) p r)
   child_not_before [] s r most h = omega (arith, most, h)
   child_not_before (x ∷ p) s r most h =
-      elim h as (λ _. ⊥) [ | inl l ↦ omega (arith, l) | inr both ↦ child_not_before p s r most both.1 ]
+      elim h as (λ _. ⊥) [ inl l ↦ omega (arith, l) | inr both ↦ child_not_before p s r most both.1 ]
 
   -- the path goes on by a step: what comes before that
   pub before_down : (q p : List PlainStep) (x : PlainStep) → IsBefore q (p ++ x ∷ []) 0 → IsBefore q p (rank_of end x) ⊎ (q ≡ p ++ x ∷ [])
   before_down [] p x h = inl tt
   before_down (s ∷ []) [] x h =
-      elim h as (λ _. (rank_of end s < rank_of end x) ⊎ (s ∷ [] ≡ x ∷ [])) [ | inl l ↦ inl l | inr both ↦ inr (ap (λ (y : PlainStep). y ∷ []) both.0) ]
+      elim h as (λ _. (rank_of end s < rank_of end x) ⊎ (s ∷ [] ≡ x ∷ [])) [ inl l ↦ inl l | inr both ↦ inr (ap (λ (y : PlainStep). y ∷ []) both.0) ]
   before_down (s ∷ (y ∷ q)) [] x h =
-      elim h as (λ _. (rank_of end s < rank_of end x) ⊎ (s ∷ (y ∷ q) ≡ x ∷ [])) [ | inl l ↦ inl l | inr both ↦ absurd (omega (arith, both.1)) ]
+      elim h as (λ _. (rank_of end s < rank_of end x) ⊎ (s ∷ (y ∷ q) ≡ x ∷ [])) [ inl l ↦ inl l | inr both ↦ absurd (omega (arith, both.1)) ]
   before_down (s ∷ q) (y ∷ p) x h =
       elim h as (λ _. IsBefore (s ∷ q) (y ∷ p) (rank_of end x) ⊎ (s ∷ q ≡ y ∷ (p ++ x ∷ []))) [
         | inl l ↦ inl (inl l)
         | inr both ↦ elim (before_down q p x both.1) as (λ _. IsBefore (s ∷ q) (y ∷ p) (rank_of end x) ⊎ (s ∷ q ≡ y ∷ (p ++ x ∷ []))) [
-            | inl b ↦ inl (inr (both.0, b))
-            | inr e ↦ inr (ap (λ (z : PlainStep). z ∷ q) both.0 ∙ ap (λ (l : List PlainStep). y ∷ l) e)
-          ]
+          | inl b ↦ inl (inr (both.0, b))
+          | inr e ↦ inr (ap (λ (z : PlainStep). z ∷ q) both.0 ∙ ap (λ (l : List PlainStep). y ∷ l) e)
+        ]
       ]
 
   pub before_into : (q p : List PlainStep) (x : PlainStep) → IsBefore q p (rank_of end x) → IsBefore q (p ++ x ∷ []) 0
   before_into [] p x h = tt
   before_into (s ∷ q) [] x h = inl h
   before_into (s ∷ q) (y ∷ p) x h =
-      elim h as (λ _. IsBefore (s ∷ q) (y ∷ (p ++ x ∷ [])) 0) [ | inl l ↦ inl l | inr both ↦ inr (both.0, before_into q p x both.1) ]
+      elim h as (λ _. IsBefore (s ∷ q) (y ∷ (p ++ x ∷ [])) 0) [ inl l ↦ inl l | inr both ↦ inr (both.0, before_into q p x both.1) ]
 
   pub path_before : (p : List PlainStep) (r : ℕ) → IsBefore p p r
   path_before [] r = tt
@@ -128,9 +130,9 @@ module _ (end : ℕ) where
   pub before_up : (q p : List PlainStep) (x : PlainStep) (r : ℕ) → IsBefore q (p ++ x ∷ []) r → IsBefore q p (rank_of end x + 1)
   before_up [] p x r h = tt
   before_up (s ∷ q) [] x r h =
-      elim h as (λ _. rank_of end s < rank_of end x + 1) [ | inl l ↦ omega (arith, l) | inr both ↦ omega (arith, ap (rank_of end) both.0) ]
+      elim h as (λ _. rank_of end s < rank_of end x + 1) [ inl l ↦ omega (arith, l) | inr both ↦ omega (arith, ap (rank_of end) both.0) ]
   before_up (s ∷ q) (y ∷ p) x r h =
-      elim h as (λ _. IsBefore (s ∷ q) (y ∷ p) (rank_of end x + 1)) [ | inl l ↦ inl l | inr both ↦ inr (both.0, before_up q p x r both.1) ]
+      elim h as (λ _. IsBefore (s ∷ q) (y ∷ p) (rank_of end x + 1)) [ inl l ↦ inl l | inr both ↦ inr (both.0, before_up q p x r both.1) ]
 
   pub all_before : (q : List PlainStep) (r : ℕ) → AreStepsOf q → end + 2 ≤ r → IsBefore q [] r
   all_before [] r is past = tt

@@ -123,11 +123,14 @@ module _ (end : ℕ) where
       → ¬ (Has (p ++ s ∷ rest) (replicate k PlainShift)) → IsStepOf end s × MayFollow k p s
   step_fits k p (PlainInsert t) rest some h rows = formed_step p t rest h
   step_fits k p PlainDelete rest some h rows = (tt, tt)
-  step_fits k p PlainShift rest some h rows = (tt, λ ends.
-      let whole : k ≡ (k - 1) + 1 = omega arith in
-      let row = subst (λ (n : ℕ). EndsIn (p ++ PlainShift ∷ []) (replicate n PlainShift)) (sym whole) (row_more p PlainShift (k - 1) ends) in
-      rows (subst (λ (l : List PlainStep). Has l (replicate k PlainShift)) (append_assoc p (PlainShift ∷ []) rest)
-      (has_before (p ++ PlainShift ∷ []) rest (replicate k PlainShift) (has_end (p ++ PlainShift ∷ []) (replicate k PlainShift) row))))
+  step_fits k p PlainShift rest some h rows = (
+    tt,
+    λ ends.
+        let whole : k ≡ (k - 1) + 1 = omega arith in
+        let row = subst (λ (n : ℕ). EndsIn (p ++ PlainShift ∷ []) (replicate n PlainShift)) (sym whole) (row_more p PlainShift (k - 1) ends) in
+        rows (subst (λ (l : List PlainStep). Has l (replicate k PlainShift)) (append_assoc p (PlainShift ∷ []) rest)
+        (has_before (p ++ PlainShift ∷ []) rest (replicate k PlainShift) (has_end (p ++ PlainShift ∷ []) (replicate k PlainShift) row))),
+  )
 
   -- and with one that may follow the sequence is of the form, and has no row of k Shifts
   pub fits_formed : (k : ℕ) (p : List PlainStep) (s : PlainStep) → IsFormed end p → IsStepOf end s → MayFollow k p s → IsFormed end (p ++ s ∷ [])

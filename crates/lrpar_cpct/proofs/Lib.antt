@@ -5,3 +5,8 @@ pub mod PruneLemmas
 pub mod BeforeLemmas
 pub mod SearchLemmas
 pub mod AnswerLemmas
+pub mod WalkLemmas
+pub mod StepLemmas
+pub mod TallyLemmas
+pub mod StackAnswerLemmas
+pub mod FoundLemmas

@@ -31,10 +31,10 @@ module _ {A : Type 0} where
   without x (y ∷ ys) h =
       elim h as (λ _. Without x (y ∷ ys)) [
         | inl e ↦ record {
-            rest = ys;
-            less = omega arith;
-            others = λ z m. elim m as (λ _. (z ≡ x) ⊎ IsIn z ys) [ | inl s ↦ inl (s ∙ sym e) | inr r ↦ inr r ];
-          }
+          rest = ys;
+          less = omega arith;
+          others = λ z m. elim m as (λ _. (z ≡ x) ⊎ IsIn z ys) [ inl s ↦ inl (s ∙ sym e) | inr r ↦ inr r ];
+        }
         | inr r ↦
             let w = without x ys r in
             record {
@@ -42,7 +42,7 @@ module _ {A : Type 0} where
               less = omega (arith, w.less);
               others = λ z m. elim m as (λ _. (z ≡ x) ⊎ IsIn z (y ∷ w.rest)) [
                 | inl s ↦ inr (inl s)
-                | inr q ↦ elim (w.others z q) as (λ _. (z ≡ x) ⊎ IsIn z (y ∷ w.rest)) [ | inl s ↦ inl s | inr t ↦ inr (inr t) ]
+                | inr q ↦ elim (w.others z q) as (λ _. (z ≡ x) ⊎ IsIn z (y ∷ w.rest)) [ inl s ↦ inl s | inr t ↦ inr (inr t) ]
               ];
             }
       ]
@@ -53,8 +53,8 @@ module _ {A : Type 0} where
   apart_few (x ∷ xs) ys apart all =
       let w = without x ys (all x (inl refl)) in
       let more : (z : A) → IsIn z xs → IsIn z w.rest = λ z m.
-          elim (w.others z (all z (inr m))) as (λ _. IsIn z w.rest) [
-            | inl s ↦ absurd (apart.0 (subst (λ (u : A). IsIn u xs) s m))
-            | inr r ↦ r
-          ] in
+      elim (w.others z (all z (inr m))) as (λ _. IsIn z w.rest) [
+        | inl s ↦ absurd (apart.0 (subst (λ (u : A). IsIn u xs) s m))
+        | inr r ↦ r
+      ] in
       omega (arith, apart_few xs w.rest apart.1 more, w.less)

@@ -23,15 +23,21 @@ pub record Stripped (steps : List PlainStep) : Type 0 where
 
 strip_none : (x : PlainStep) (xs : List PlainStep) (n : ℕ) → xs ≡ replicate n PlainShift → Stripped (x ∷ xs)
 strip_none (PlainInsert t) xs n e = record {
-  rest = PlainInsert t ∷ []; count = n; is = ap (λ (l : List PlainStep). PlainInsert t ∷ l) e;
+  rest = PlainInsert t ∷ [];
+  count = n;
+  is = ap (λ (l : List PlainStep). PlainInsert t ∷ l) e;
   last = λ ends. let same : PlainInsert t ≡ PlainShift = ends_in_one [] (PlainInsert t) PlainShift ends in cc;
 }
 strip_none PlainDelete xs n e = record {
-  rest = PlainDelete ∷ []; count = n; is = ap (λ (l : List PlainStep). PlainDelete ∷ l) e;
+  rest = PlainDelete ∷ [];
+  count = n;
+  is = ap (λ (l : List PlainStep). PlainDelete ∷ l) e;
   last = λ ends. let same : PlainDelete ≡ PlainShift = ends_in_one [] PlainDelete PlainShift ends in cc;
 }
 strip_none PlainShift xs n e = record {
-  rest = []; count = suc n; is = ap (λ (l : List PlainStep). PlainShift ∷ l) e;
+  rest = [];
+  count = suc n;
+  is = ap (λ (l : List PlainStep). PlainShift ∷ l) e;
   last = λ ends. push_some ends.0 PlainShift [] ends.1;
 }
 
@@ -42,12 +48,14 @@ strip (x ∷ xs) =
     elim (last_view more.rest) as (λ _. Stripped (x ∷ xs)) [
       | inl none ↦ strip_none x xs more.count (more.is ∙ ap (λ (l : List PlainStep). l ++ replicate more.count PlainShift) none)
       | inr v ↦ record {
-          rest = x ∷ more.rest; count = more.count; is = ap (λ (l : List PlainStep). x ∷ l) more.is;
-          last = λ ends.
-              let whole : (x ∷ v.0) ++ v.1 ∷ [] ≡ ends.0 ++ PlainShift ∷ [] = ap (λ (l : List PlainStep). x ∷ l) (sym v.2) ∙ ends.1 in
-              let same = (same_from_push (x ∷ v.0) ends.0 v.1 PlainShift whole).1 in
-              more.last (v.0, v.2 ∙ ap (λ (y : PlainStep). v.0 ++ y ∷ []) same);
-        }
+        rest = x ∷ more.rest;
+        count = more.count;
+        is = ap (λ (l : List PlainStep). x ∷ l) more.is;
+        last = λ ends.
+            let whole : (x ∷ v.0) ++ v.1 ∷ [] ≡ ends.0 ++ PlainShift ∷ [] = ap (λ (l : List PlainStep). x ∷ l) (sym v.2) ∙ ends.1 in
+            let same = (same_from_push (x ∷ v.0) ends.0 v.1 PlainShift whole).1 in
+            more.last (v.0, v.2 ∙ ap (λ (y : PlainStep). v.0 ++ y ∷ []) same);
+      }
     ]
 
 -- on a stack whose top has no action there is nothing to settle
@@ -146,7 +154,7 @@ module _ {X : Type 0} (token : X → ℕ) (at : Asked X) (some : 0 < at.shifts) 
               ∙ ap (λ (l : List PlainStep). s.rest ++ (shifts ++ l)) (sym (append_assoc row v.0 (v.1 ∷ [])))
               ∙ ap (λ (l : List PlainStep). s.rest ++ l) (sym (append_assoc shifts (row ++ v.0) (v.1 ∷ []))) in
               let other : ¬ (v.1 ≡ PlainShift) = λ e.
-                  r.printed.last (s.rest ++ mid, whole ∙ ap (λ (x : PlainStep). s.rest ++ (mid ++ x ∷ [])) e ∙ sym (append_assoc s.rest mid (PlainShift ∷ []))) in
+              r.printed.last (s.rest ++ mid, whole ∙ ap (λ (x : PlainStep). s.rest ++ (mid ++ x ∷ [])) e ∙ sym (append_assoc s.rest mid (PlainShift ∷ []))) in
               let dear = cost_some token g at.lexemes costs each (place_behind at.place s.rest) mid v.1 other in
               let sum = cost_append token g at.lexemes costs at.place s.rest (mid ++ v.1 ∷ []) in
               subst (λ (l : List PlainStep). cost_of token costs at s.rest < cost_of token costs at l) (sym whole) (omega (arith, dear, sum))
@@ -156,6 +164,8 @@ module _ {X : Type 0} (token : X → ℕ) (at : Asked X) (some : 0 < at.shifts) 
         → (r : List PlainStep) × IsRepair token at r × (cost_of token costs at r < cost_of token costs at q)
     cheaper q r h =
         let s = strip h.0 in
-        let here = subst (λ (l : List PlainStep). IsRepair token at l) h.2 r in
-        (s.rest, works_before h.0 h.1 here s,
-          subst (λ (l : List PlainStep). cost_of token costs at s.rest < cost_of token costs at l) (sym h.2) (costs_less h.0 h.1 here s))
+        let here = subst (λ (l : List PlainStep). IsRepair token at l) h.2 r in (
+          s.rest,
+          works_before h.0 h.1 here s,
+          subst (λ (l : List PlainStep). cost_of token costs at s.rest < cost_of token costs at l) (sym h.2) (costs_less h.0 h.1 here s),
+        )

@@ -139,13 +139,17 @@ module _ {X : Type 0} (token : X → ℕ) (terms : Terms) (at : Asked X) (c : �
         let r = rank_of (end_token at.checked.grammar) s in
         let back : (q : List PlainStep) → IsBeginning token at q → IsBefore (end_token at.checked.grammar) q p (r + 1) → IsBefore (end_token at.checked.grammar) q p r =
         λ q begins before. elim (before_next (end_token at.checked.grammar) q p r before) as (λ _. IsBefore (end_token at.checked.grammar) q p r) [
-            | inl b ↦ b
-            | inr on ↦
-                let by = goes_by q p s begins is on in
-                absurd (unfit (step_of token at p s by.0 some (subst (λ (l : List PlainStep). IsBeginning token at l) by.1 begins)).1)
-          ] in
+          | inl b ↦ b
+          | inr on ↦
+              let by = goes_by q p s begins is on in
+              absurd (unfit (step_of token at p s by.0 some (subst (λ (l : List PlainStep). IsBeginning token at l) by.1 begins)).1)
+        ] in
         record {
-          seen = h.seen; apart = h.apart; counted = h.counted; depth = h.depth; higher = h.higher;
+          seen = h.seen;
+          apart = h.apart;
+          counted = h.counted;
+          depth = h.depth;
+          higher = h.higher;
           tried = λ q. (
             (λ m. let t = (h.tried q).0 m in (t.0, before_more (end_token at.checked.grammar) q p r t.1)),
             (λ t. (h.tried q).1 (t.0, back q t.0.0 t.1)),
@@ -167,17 +171,20 @@ module _ {X : Type 0} (token : X → ℕ) (terms : Terms) (at : Asked X) (c : �
         let r = rank_of (end_token at.checked.grammar) s in
         let dearer : (q : List PlainStep) → (rest : List PlainStep) × (q ≡ p ++ s ∷ rest) → cost ≤ cost_of token terms.costs at q =
         λ q by.
-            let whole : q ≡ (p ++ s ∷ []) ++ by.0 = by.1 ∙ sym (append_assoc p (s ∷ []) by.0) in
-            let some_more = cost_begins token at.checked.grammar at.lexemes terms.costs at.place (p ++ s ∷ []) by.0 in
-            let same : cost_of token terms.costs at q ≡ cost_of token terms.costs at ((p ++ s ∷ []) ++ by.0) = ap (λ (l : List PlainStep). cost_of token terms.costs at l) whole in
-            omega (arith, some_more, same, costs) in
+        let whole : q ≡ (p ++ s ∷ []) ++ by.0 = by.1 ∙ sym (append_assoc p (s ∷ []) by.0) in
+        let some_more = cost_begins token at.checked.grammar at.lexemes terms.costs at.place (p ++ s ∷ []) by.0 in
+        let same : cost_of token terms.costs at q ≡ cost_of token terms.costs at ((p ++ s ∷ []) ++ by.0) = ap (λ (l : List PlainStep). cost_of token terms.costs at l) whole in
+        omega (arith, some_more, same, costs) in
         let back : (q : List PlainStep) → BeginsWithin token terms.costs at c q → IsBefore (end_token at.checked.grammar) q p (r + 1) → IsBefore (end_token at.checked.grammar) q p r =
         λ q begins before. elim (before_next (end_token at.checked.grammar) q p r before) as (λ _. IsBefore (end_token at.checked.grammar) q p r) [
-            | inl b ↦ b
-            | inr on ↦ let more = dearer q (goes_by q p s begins.0 is on) in absurd (omega (arith, more, begins.1, high))
-          ] in
+          | inl b ↦ b
+          | inr on ↦ let more = dearer q (goes_by q p s begins.0 is on) in absurd (omega (arith, more, begins.1, high))
+        ] in
         record {
-          seen = h.seen; apart = h.apart; counted = h.counted; depth = h.depth;
+          seen = h.seen;
+          apart = h.apart;
+          counted = h.counted;
+          depth = h.depth;
           higher = λ m e. least_higher next cost m most high h.higher (sym least ∙ e);
           tried = λ q. (
             (λ m. let t = (h.tried q).0 m in (t.0, before_more (end_token at.checked.grammar) q p r t.1)),
@@ -211,14 +218,14 @@ module _ {X : Type 0} (token : X → ℕ) (terms : Terms) (at : Asked X) (c : �
     searched_stays p s left after found next is child fails one h =
         let r = rank_of (end_token at.checked.grammar) s in
         let new : (q : List PlainStep) → IsBeginning token at q → IsBefore (end_token at.checked.grammar) q p (r + 1)
-            → IsBefore (end_token at.checked.grammar) q p r ⊎ (q ≡ p ++ s ∷ []) =
+        → IsBefore (end_token at.checked.grammar) q p r ⊎ (q ≡ p ++ s ∷ []) =
         λ q begins before. elim (before_next (end_token at.checked.grammar) q p r before) as (λ _. IsBefore (end_token at.checked.grammar) q p r ⊎ (q ≡ p ++ s ∷ [])) [
-            | inl b ↦ inl b
-            | inr on ↦
-                let by = goes_by q p s begins is on in
-                let none = ends_there token at p s by.0 (subst (λ (l : List PlainStep). IsBeginning token at l) by.1 begins) fails in
-                inr (by.1 ∙ ap (λ (l : List PlainStep). p ++ s ∷ l) none)
-          ] in
+          | inl b ↦ inl b
+          | inr on ↦
+              let by = goes_by q p s begins is on in
+              let none = ends_there token at p s by.0 (subst (λ (l : List PlainStep). IsBeginning token at l) by.1 begins) fails in
+              inr (by.1 ∙ ap (λ (l : List PlainStep). p ++ s ∷ l) none)
+        ] in
         record {
           seen = (p ++ s ∷ []) ∷ h.seen;
           apart = (child_new p s left found next h, h.apart);
@@ -231,7 +238,7 @@ module _ {X : Type 0} (token : X → ℕ) (terms : Terms) (at : Asked X) (c : �
                   (child, child_before (end_token at.checked.grammar) p s)
               | inr o ↦ let t = (h.tried q).0 o in (t.0, before_more (end_token at.checked.grammar) q p r t.1)
             ]),
-            (λ t. elim (new q t.0.0 t.1) as (λ _. IsIn q ((p ++ s ∷ []) ∷ h.seen)) [ | inl b ↦ inr ((h.tried q).1 (t.0, b)) | inr e ↦ inl e ]),
+            (λ t. elim (new q t.0.0 t.1) as (λ _. IsIn q ((p ++ s ∷ []) ∷ h.seen)) [ inl b ↦ inr ((h.tried q).1 (t.0, b)) | inr e ↦ inl e ]),
           );
           exact = λ q. (
             (λ m. let t = (h.exact q).0 m in (t.0, t.1, before_more (end_token at.checked.grammar) q p r t.2)),
@@ -277,16 +284,16 @@ module _ {X : Type 0} (token : X → ℕ) (terms : Terms) (at : Asked X) (c : �
             (λ m. elim ((added q).0 m) as (λ _. RepairsAt token terms.costs at c q × IsBeginning token at q × IsBefore (end_token at.checked.grammar) q (p ++ s ∷ []) 0) [
               | inl o ↦ let t = (h.exact q).0 o in (t.0, t.1, into q t.2)
               | inr n ↦ (
-                  n.1,
-                  subst (λ (l : List PlainStep). IsBeginning token at l) (sym n.0) child.0,
-                  subst (λ (l : List PlainStep). IsBefore (end_token at.checked.grammar) l (p ++ s ∷ []) 0) (sym n.0) here,
-                )
+                n.1,
+                subst (λ (l : List PlainStep). IsBeginning token at l) (sym n.0) child.0,
+                subst (λ (l : List PlainStep). IsBefore (end_token at.checked.grammar) l (p ++ s ∷ []) 0) (sym n.0) here,
+              )
             ]),
             (λ t. (added q).1 (elim (before_down (end_token at.checked.grammar) q p s t.2)
                 as (λ _. Contains found q ⊎ ((q ≡ p ++ s ∷ []) × RepairsAt token terms.costs at c q)) [
-              | inl b ↦ inl ((h.exact q).1 (t.0, t.1, b))
-              | inr e ↦ inr (e, t.0)
-            ])),
+                  | inl b ↦ inl ((h.exact q).1 (t.0, t.1, b))
+                  | inr e ↦ inr (e, t.0)
+                ])),
           );
           dear = λ q begins above before. elim (before_down (end_token at.checked.grammar) q p s before) as (λ _. IsLeftOut token terms at next q) [
             | inl b ↦ h.dear q begins above b
@@ -303,10 +310,13 @@ module _ {X : Type 0} (token : X → ℕ) (terms : Terms) (at : Asked X) (c : �
         let up : (q : List PlainStep) → IsBefore (end_token at.checked.grammar) q (p ++ x ∷ []) rank → IsBefore (end_token at.checked.grammar) q p (rank_of (end_token at.checked.grammar) x + 1) =
         λ q b. before_up (end_token at.checked.grammar) q p x rank b in
         let down : (q : List PlainStep) → IsBeginning token at q → IsBefore (end_token at.checked.grammar) q p (rank_of (end_token at.checked.grammar) x + 1)
-            → IsBefore (end_token at.checked.grammar) q (p ++ x ∷ []) rank =
+        → IsBefore (end_token at.checked.grammar) q (p ++ x ∷ []) rank =
         λ q begins b. up_before (end_token at.checked.grammar) q p x rank (steps_of_form (end_token at.checked.grammar) q begins.formed) is past b in
         record {
-          seen = h.seen; apart = h.apart; counted = h.counted; higher = h.higher;
+          seen = h.seen;
+          apart = h.apart;
+          counted = h.counted;
+          higher = h.higher;
           depth = omega (arith, h.depth, length-append p (x ∷ []));
           tried = λ q. ((λ m. let t = (h.tried q).0 m in (t.0, up q t.1)), (λ t. (h.tried q).1 (t.0, down q t.0.0 t.1)));
           exact = λ q. ((λ m. let t = (h.exact q).0 m in (t.0, t.1, up q t.2)), (λ t. (h.exact q).1 (t.0, t.1, down q t.1 t.2)));

@@ -63,9 +63,15 @@ module _ {X : Type 0} (token : X → ℕ) (g : Grammar) (table : Table) (lexemes
       let here = subst (λ (l : List ℕ). StepsTo token g table lexemes l i s qs next n) x.1
       (subst (λ (m : ℕ). StepsTo token g table lexemes mid m s qs next n) x.2 step) in
       (qs, next, n, [], here, (refl, refl, refl), ap (λ (l : List ℕ). l ++ qs) x.0 ∙ sym (append-nil qs))
-  replays_push st i (y ∷ p) ps mid j s qs next n x step =
-      (x.0, x.1, x.2, x.3 ++ qs, x.4, replays_push x.1 x.2 p x.3 mid j s qs next n x.5 step,
-        ap (λ (l : List ℕ). l ++ qs) x.6 ∙ append_assoc x.0 x.3 qs)
+  replays_push st i (y ∷ p) ps mid j s qs next n x step = (
+    x.0,
+    x.1,
+    x.2,
+    x.3 ++ qs,
+    x.4,
+    replays_push x.1 x.2 p x.3 mid j s qs next n x.5 step,
+    ap (λ (l : List ℕ). l ++ qs) x.6 ∙ append_assoc x.0 x.3 qs,
+  )
 
   -- steps in two parts
   pub record Parted (st : List ℕ) (i : ℕ) (p q : List PlainStep) (after : List ℕ) (j : ℕ) : Type 0 where
@@ -79,22 +85,32 @@ module _ {X : Type 0} (token : X → ℕ) (g : Grammar) (table : Table) (lexemes
   pub replays_parted : (st : List ℕ) (i : ℕ) (p q : List PlainStep) (ps after : List ℕ) (j : ℕ) → Replays token g table lexemes st i (p ++ q) ps after j
       → Parted st i p q after j
   replays_parted st i [] q ps after j x = record {
-    first = []; mid = st; place = i; second = ps;
-    before = (refl, refl, refl); behind = x;
+    first = [];
+    mid = st;
+    place = i;
+    second = ps;
+    before = (refl, refl, refl);
+    behind = x;
   }
   replays_parted st i (s ∷ p) q ps after j x =
       let more = replays_parted x.1 x.2 p q x.3 after j x.5 in
       record {
-        first = x.0 ++ more.first; mid = more.mid; place = more.place; second = more.second;
-        before = (x.0, x.1, x.2, more.first, x.4, more.before, refl); behind = more.behind;
+        first = x.0 ++ more.first;
+        mid = more.mid;
+        place = more.place;
+        second = more.second;
+        before = (x.0, x.1, x.2, more.first, x.4, more.before, refl);
+        behind = more.behind;
       }
 
   pub replays_joined : (st : List ℕ) (i : ℕ) (p q : List PlainStep) (ps mid : List ℕ) (j : ℕ) (qs after : List ℕ) (n : ℕ)
       → Replays token g table lexemes st i p ps mid j → Replays token g table lexemes mid j q qs after n
       → (prods : List ℕ) × Replays token g table lexemes st i (p ++ q) prods after n
-  replays_joined st i [] q ps mid j qs after n x y =
-      (qs, subst (λ (l : List ℕ). Replays token g table lexemes l i q qs after n) x.1
-      (subst (λ (m : ℕ). Replays token g table lexemes mid m q qs after n) x.2 y))
+  replays_joined st i [] q ps mid j qs after n x y = (
+    qs,
+    subst (λ (l : List ℕ). Replays token g table lexemes l i q qs after n) x.1
+        (subst (λ (m : ℕ). Replays token g table lexemes mid m q qs after n) x.2 y),
+  )
   replays_joined st i (s ∷ p) q ps mid j qs after n x y =
       let more = replays_joined x.1 x.2 p q x.3 mid j qs after n x.5 y in
       (x.0 ++ more.0, (x.0, x.1, x.2, more.0, x.4, more.1, refl))

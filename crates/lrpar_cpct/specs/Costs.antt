@@ -1,5 +1,5 @@
 -- What sequences of repairs cost.
-use Rattle.std.specs.Prelude.{◌+◌, ℕ, List, [], ◌∷◌, slice_index_or}
+use Rattle.std.specs.Prelude.{◌<◌, ◌≤◌, ◌+◌, ℕ, List, [], ◌∷◌, Option, Some, None, Vec, slice_index_or}
 use Rattle.lrpar_grammar.specs.Grammar.{Grammar}
 use Rattle.lrpar_stacks.specs.Run.{token_at}
 use Rattle.lrpar_steps.specs.Sequences.{PlainStep, PlainInsert, PlainDelete, PlainShift}
@@ -9,9 +9,18 @@ pub record Terms : Type 0 where
   pub limit : ℕ
   pub costs : List ℕ
 
+-- the costs that are kept; where none are, each token costs 1
+abbrev pub costs_of : {A : Type 0} → Option (Vec ℕ A) → List ℕ
+costs_of None = []
+costs_of (Some costs) = costs.items
+
 -- what a token costs
 abbrev pub token_cost : List ℕ → ℕ → ℕ
 token_cost costs t = slice_index_or costs t 1
+
+-- each token costs something, and at most 255
+abbrev pub AreCosts : List ℕ → Type 0
+AreCosts costs = (t : ℕ) → (0 < token_cost costs t) × (token_cost costs t ≤ 255)
 
 -- the place after a step at place i
 abbrev pub place_after : ℕ → PlainStep → ℕ

@@ -6,3 +6,6 @@ pub mod Order
 pub mod Answer
 pub mod Walking
 pub mod Tallied
+pub mod SearchView
+pub mod WalkView
+pub mod WalkAnswers

@@ -1,8 +1,6 @@
--- The search, step by step: the order of its steps, and where it stands.
+-- The search, step by step: the order of its steps, and what may come next.
 use Rattle.std.specs.Prelude.{◌≡◌, ◌<◌, ◌+◌, ◌-◌, ℕ, List, [], ◌∷◌, Option, Some, None, min, replicate}
-use Rattle.lrpar_parser.specs.Asked.{Asked}
 use Rattle.lrpar_steps.specs.Sequences.{PlainStep, PlainInsert, PlainDelete, PlainShift}
-use Rattle.lrpar_cpct.specs.Cheapest.{IsBeginning, LeadsTo, cost_of}
 use Rattle.lrpar_cpct.specs.Forms.{EndsIn}
 
 -- an Insert is of a token below the end token
@@ -23,12 +21,6 @@ abbrev pub MayFollow : ℕ → List PlainStep → PlainStep → Type 0
 MayFollow k path (PlainInsert t) = ¬ (EndsIn path (PlainDelete ∷ []))
 MayFollow k path PlainDelete = Unit {0}
 MayFollow k path PlainShift = ¬ (EndsIn path (replicate (k - 1) PlainShift))
-
--- A path of the search, where it leads and what it costs: a beginning, of which each step can be taken
-pub record IsWalked {X : Type 0} (token : X → ℕ) (costs : List ℕ) (at : Asked X) (path : List PlainStep) (after : List ℕ) (place cost : ℕ) : Type 0 where
-  pub begins : IsBeginning token at path
-  pub leads : LeadsTo token at path after place
-  pub costs_so : cost ≡ cost_of token costs at path
 
 -- the smaller one of a cost and of what was there before
 abbrev pub least_of : Option ℕ → ℕ → ℕ

@@ -1,9 +1,10 @@
 //! The recoverer that answers the repairs of least cost.
-ghost use Rattle.std.specs.Prelude.{◌≡◌, ◌<◌, ◌≤◌, [], IfOk, IsErrOf};
+ghost use Rattle.std.specs.Prelude.{◌≡◌, ◌<◌, ◌≤◌, [], ℕ, IfOk};
+ghost use Rattle.lrpar_grammar.specs.Grammar.{tokens_len};
 ghost use Rattle.lrpar_steps.specs.Known.{token_by};
 ghost use Rattle.lrpar_steps.specs.PlainSteps.{plain_sequences};
 ghost use Rattle.lrpar_cpct.specs.Answer.{AreCheapest};
-ghost use Rattle.lrpar_cpct.specs.Costs.{token_cost};
+ghost use Rattle.lrpar_cpct.specs.Costs.{AreCosts, token_cost};
 
 use crate::fault::CostFault;
 use crate::search::Search;
@@ -22,37 +23,28 @@ pub struct CpctPlus {
     costs: Option<Vec<u8>>,
 }
 
+impl Model for CpctPlus {
+    ghost use Rattle.lrpar_cpct.specs.Costs.{AreCosts, Terms, costs_of};
+
+    ghost Value = { Terms };
+
+    ghost view = { λ c. record { limit = c.limit; costs = costs_of c.costs } };
+
+    ghost invariant = { λ c. AreCosts (costs_of c.costs) };
+}
+
 impl CpctPlus {
     /// Each token costs 1. Takes no memory.
-    pub fn new(limit: usize) -> Self {
+    pub fn new(limit: usize) -> Self
+        ensures { result ≡ record { limit = limit; costs = [] } }
+    {
         CpctPlus { limit, costs: None }
     }
 
-    /// Each token of the grammar, the end token among them, costs what `term_costs` says of it, which is asked once for each.
-    pub fn with_term_costs<StorageT: StorageIndex, F: Fn(TIdx<StorageT>) -> u8>(
-        alloc: Global,
-        limit: usize,
-        grm: &YaccGrammar<StorageT>,
-        term_costs: F,
-    ) -> Result<Self, CostFault>
-        requires { F.IsAlwaysCallable term_costs }
-    {
-        let mut costs = Vec::with_capacity(alloc, grm.tokens_len())?;
-        for token in grm.iter_tidxs() {
-            let cost = term_costs(token);
-            if cost == 0 {
-                return Err(CostFault::CostsNothing(usize::from(token)));
-            }
-            costs.push(cost)?;
-        }
-        Ok(CpctPlus {
-            limit,
-            costs: Some(costs),
-        })
-    }
-
     /// What a token costs, by its number.
-    pub(crate) fn cost_of(&self, token: usize) -> u8 {
+    pub(crate) fn cost_of(&self, token: usize) -> u8
+        ensures { result ≡ token_cost self.now.costs token }
+    {
         match &self.costs {
             None => 1,
             Some(costs) => match costs.get(token) {
@@ -63,22 +55,30 @@ impl CpctPlus {
     }
 
     /// How many beginnings may be tried.
-    pub(crate) fn limit(&self) -> usize {
+    pub(crate) fn limit(&self) -> usize
+        ensures limit { result ≡ self.now.limit }
+        ensures costs { AreCosts self.now.costs }
+    {
         self.limit
     }
 }
 
 impl<StorageT: StorageIndex, LexemeT: Lexeme<StorageT>> Recoverer<StorageT, LexemeT> for CpctPlus {
-    ghost allows = { λ _ _ _. Unit {0} };
+    ghost allows = { λ terms at answer. AreCheapest (token_by StorageT.index LexemeT.parts) terms at answer };
 
     fn recover(
         &self,
         alloc: Global,
         point: &RecoveryPoint<'_, StorageT, LexemeT>,
-    ) -> Result<Vec<Vec<RepairStep<StorageT>>>, AllocError> {
+    ) -> Result<Vec<Vec<RepairStep<StorageT>>>, AllocError>
+        ensures allowed { IfOk result (λ answer. AreCheapest (token_by StorageT.index LexemeT.parts) self.now point.now
+            (plain_sequences StorageT.index answer.items)) }
+    {
         let search = Search::new(point, self);
+        // Each token costs something, and some lexeme has to follow a repair.
+        let (_limit, _shifts) = (self.limit(), point.shifts());
         let mut bound = 0;
-        loop {
+        'bounds: loop {
             let Some(
                 Tally {
                     found,
