@@ -1,6 +1,7 @@
 -- The order in which the search comes to sequences: each before those that go on from it, and of two that differ first in a step the one
 -- whose step has the smaller rank. The search stands at a path, and at a rank: what comes before that was tried.
 use Rattle.std.proofs.Common.{◌≡◌, ◌<◌, ◌≤◌, ◌+◌, ◌∙◌, ◌⊎◌, inl, inr, ℕ, zero, suc, List, [], ◌∷◌, ◌++◌, length, refl, sym, subst, ap, arith}
+use Rattle.std.proofs.lemmas.List.{append-nil}
 use Rattle.lrpar_steps.specs.Sequences.{PlainStep, PlainInsert, PlainDelete, PlainShift}
 use Rattle.lrpar_cpct.specs.Forms.{Has, IsFormed}
 use Rattle.lrpar_cpct.specs.Walking.{IsStepOf, rank_of}
@@ -151,3 +152,10 @@ module _ (end : ℕ) where
         | inl l ↦ inl l
         | inr both ↦ inr (both.0, up_before q p x r is.1 one past both.1)
       ]
+
+-- the last step of a sequence of the form
+pub last_step_of : (end : ℕ) (steps before : List PlainStep) (s : PlainStep) → steps ≡ before ++ s ∷ [] → IsFormed end steps → IsStepOf end s
+last_step_of end steps before (PlainInsert t) e h =
+    h.inserts t (before, [], e ∙ sym (append-nil (before ++ PlainInsert t ∷ [])))
+last_step_of end steps before PlainDelete e h = tt
+last_step_of end steps before PlainShift e h = tt

@@ -36,7 +36,7 @@ module _ {S : Type 0} (index : S → ℕ) where
       ∙ sym (map-append (λ (r : Found S). plain_steps index r.steps.items) ys (y ∷ []))
 
   one_of : (path q : List PlainStep) → Contains (path ∷ []) q → q ≡ path
-  one_of path q c = elim (is_in q (path ∷ []) c) as (λ _. q ≡ path) [ | inl e ↦ e | inr h ↦ absurd h ]
+  one_of path q c = elim (is_in q (path ∷ []) c) as (λ _. q ≡ path) [ inl e ↦ e | inr h ↦ absurd h ]
 
   -- the path is added, as it has P
   pub added : (P : List PlainStep → Type 0) (path : List PlainStep) (old new : List (Found S)) (x : Found S) → new ≡ old ++ x ∷ []
@@ -48,9 +48,9 @@ module _ {S : Type 0} (index : S → ℕ) where
       ∙ ap (λ (l : List PlainStep). sequences_found index old ++ l ∷ []) is in (
         (λ c. elim (Contains-append_cases (sequences_found index old) (path ∷ []) q (subst (λ (l : List (List PlainStep)). Contains l q) whole c))
             as (λ _. Contains (sequences_found index old) q ⊎ ((q ≡ path) × P q)) [
-          | inl o ↦ inl o
-          | inr n ↦ let e = one_of path q n in inr (e, subst P (sym e) p)
-        ]),
+              | inl o ↦ inl o
+              | inr n ↦ let e = one_of path q n in inr (e, subst P (sym e) p)
+            ]),
         (λ m. subst (λ (l : List (List PlainStep)). Contains l q) (sym whole) (elim m as (λ _. Contains (sequences_found index old ++ path ∷ []) q) [
           | inl o ↦ Contains-append_left (sequences_found index old) (path ∷ []) q o
           | inr n ↦ Contains-append_right (sequences_found index old) (path ∷ []) q (contained q (path ∷ []) (inl n.0))
@@ -61,5 +61,5 @@ module _ {S : Type 0} (index : S → ℕ) where
   pub not_added : (P : List PlainStep → Type 0) (path : List PlainStep) (old : List (List PlainStep)) → ¬ (P path) → AreAddedTo P path old old
   not_added P path old none q = (
     (λ c. inl c),
-    (λ m. elim m as (λ _. Contains old q) [ | inl o ↦ o | inr n ↦ absurd (none (subst P n.0 n.1)) ]),
+    (λ m. elim m as (λ _. Contains old q) [ inl o ↦ o | inr n ↦ absurd (none (subst P n.0 n.1)) ]),
   )

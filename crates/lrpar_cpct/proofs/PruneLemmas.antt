@@ -3,7 +3,7 @@ use Rattle.std.proofs.Common.{◌≡◌, ◌<◌, ◌≤◌, ◌+◌, ◌-◌, �
 use Rattle.std.proofs.lemmas.List.{append-nil, append_assoc, replicate_more, same_from_push}
 use Rattle.lrpar_grammar.specs.Grammar.{Grammar, end_token}
 use Rattle.lrpar_states.specs.Table.{Table, Accepts, Fails, ReduceBy, ShiftTo}
-use Rattle.lrpar_stacks.specs.Reduction.{Settles, top_action}
+use Rattle.lrpar_stacks.specs.Reduction.{Feeds, Settles, top_action}
 use Rattle.lrpar_stacks.specs.Run.{token_at}
 use Rattle.lrpar_stacks.proofs.RunLemmas.{token_at_end}
 use Rattle.lrpar_parser.specs.Asked.{Asked}
@@ -64,7 +64,13 @@ fails_settles : (g : Grammar) (table : Table) (t : ℕ) (st prods settled : List
 fails_settles g table t st [] settled fails h = subst (λ (l : List ℕ). top_action table t l ≡ Fails) h.0 fails
 fails_settles g table t st (p ∷ prods) settled fails h = let e : ReduceBy p ≡ Fails = sym h.1.action ∙ fails in cc
 
--- and nothing can be fed there
+-- nor can the token be fed
+pub nothing_fed : (g : Grammar) (table : Table) (t : ℕ) (st prods next : List ℕ) → top_action table t st ≡ Fails → ¬ (Feeds g table t st prods next)
+nothing_fed g table t st prods next fails feeds =
+    let none = fails_settles g table t st prods feeds.settled fails feeds.settles in
+    let e : ShiftTo feeds.next ≡ Fails = sym feeds.shifts ∙ none in cc
+
+-- and a parse can't go on there
 nothing_goes_on : {X : Type 0} (token : X → ℕ) (g : Grammar) (table : Table) (lexemes : List X) (k : ℕ) (st : List ℕ) (i : ℕ) → 0 < k
     → top_action table (token_at token g lexemes i) st ≡ Fails → ¬ (CanGoOn token g table lexemes k st i)
 nothing_goes_on token g table lexemes zero st i some fails h = absurd (omega (arith, some))

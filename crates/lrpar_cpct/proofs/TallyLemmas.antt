@@ -1,12 +1,14 @@
 -- The search at a bound, move by move, as the program makes it.
-use Rattle.std.proofs.Common.{◌≡◌, ◌<◌, ◌≤◌, ◌+◌, ◌-◌, ◌*◌, ◌∙◌, ◌⊎◌, ◌↔◌, inl, inr, ℕ, zero, suc, List, [], ◌∷◌, ◌++◌, Option, Some, None, length, refl, sym, subst, ap, arith}
-use Rattle.std.proofs.lemmas.List.{length-append}
+use Rattle.std.proofs.Common.{◌≡◌, ◌<◌, ◌≤◌, ◌+◌, ◌-◌, ◌*◌, ◌∙◌, ◌⊎◌, ◌↔◌, inl, inr, ℕ, zero, suc, List, [], ◌∷◌, ◌++◌, Bool, true, false, IsTrue, Option, Some, None, length, refl, sym, subst, ap, arith}
+use Rattle.std.proofs.lemmas.List.{length-append, length-map}
 use Rattle.std.specs.List.{Contains}
 use Rattle.lrpar_grammar.specs.Grammar.{end_token}
 use Rattle.lrpar_lexemes.specs.Lexemes.{LexemeParts}
 use Rattle.lrpar_parser.specs.Asked.{IsStop}
 use Rattle.lrpar_steps.specs.Known.{token_by}
+use Rattle.lrpar_steps.specs.PlainSteps.{plain_step, plain_steps}
 use Rattle.lrpar_steps.specs.Sequences.{PlainStep}
+use Rattle.lrpar_steps.specs.declared.steps.RepairStep.{RepairStep}
 use Rattle.lrpar_cpct.specs.Cheapest.{BeginsWithin, CanBeTaken, IsBeginning, RepairsAt, cost_of}
 use Rattle.lrpar_cpct.specs.SearchView.{cost_by}
 use Rattle.lrpar_cpct.specs.Tallied.{AreMoreThan}
@@ -113,3 +115,18 @@ rank_most end s rank is ranked = omega (arith, ranked, rank_below end s is)
 pub left_shorter : (end : ℕ) (old new : List PlainStep) (rank : ℕ) → IsLeftBy end old new rank → (length old ≡ length new + 1) × (rank ≤ end + 1)
 left_shorter end old new rank by =
     (ap (λ (l : List PlainStep). length l) by.is ∙ length-append new (by.last ∷ []), rank_most end by.last rank by.within by.ranked)
+
+-- a path is as long as its plain steps
+pub as_long : {S : Type 0} (index : S → ℕ) (xs ys : List (RepairStep S)) → plain_steps index xs ≡ plain_steps index ys → length xs ≡ length ys
+as_long index xs ys e = sym (length-map xs (plain_step index)) ∙ ap (λ (l : List PlainStep). length l) e ∙ length-map ys (plain_step index)
+
+pub longer : {S : Type 0} (index : S → ℕ) (xs ys : List (RepairStep S)) (s : PlainStep) → plain_steps index xs ≡ plain_steps index ys ++ s ∷ []
+    → length xs ≡ length ys + 1
+longer index xs ys s e =
+    sym (length-map xs (plain_step index)) ∙ ap (λ (l : List PlainStep). length l) e ∙ length-append (plain_steps index ys) (s ∷ [])
+    ∙ ap (λ (m : ℕ). m + 1) (length-map ys (plain_step index))
+
+-- none may be tried
+pub none_left : (b : Bool) (n : ℕ) → IsTrue b ↔ (0 < n) → b ≡ false → n ≡ 0
+none_left b zero tells e = refl
+none_left b (suc n) tells e = let yes_it : b ≡ true = tells.1 (omega arith) in let f : false ≡ true = sym e ∙ yes_it in cc

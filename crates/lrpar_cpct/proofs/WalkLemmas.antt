@@ -1,5 +1,5 @@
 -- Walks of the search: what each move keeps.
-use Rattle.std.proofs.Common.{◌≡◌, ◌<◌, ◌≤◌, ◌+◌, ◌-◌, ◌*◌, ◌∙◌, ◌⊎◌, inl, inr, ℕ, zero, suc, List, [], ◌∷◌, ◌++◌, Bool, true, false, Option, Some, None, drop, get_or, length, take, refl, sym, subst, ap, arith, replicate}
+use Rattle.std.proofs.Common.{◌≡◌, ◌<◌, ◌≤◌, ◌+◌, ◌-◌, ◌*◌, ◌∙◌, ◌⊎◌, ◌↔◌, inl, inr, ℕ, zero, suc, List, [], ◌∷◌, ◌++◌, Bool, true, false, Option, Some, None, drop, get_or, length, take, refl, sym, subst, ap, arith, replicate}
 use Rattle.std.proofs.lemmas.List.{append_assoc, length-append, map-append, take-append-drop}
 use Rattle.lrpar_grammar.specs.Grammar.{end_token}
 use Rattle.lrpar_lexemes.specs.Lexemes.{LexemeParts}
@@ -10,18 +10,19 @@ use Rattle.lrpar_stacks.specs.Stack.{IsStack}
 use Rattle.lrpar_steps.specs.Known.{token_by}
 use Rattle.lrpar_steps.specs.PlainSteps.{plain_step, plain_steps}
 use Rattle.lrpar_steps.specs.declared.steps.RepairStep.{RepairStep}
-use Rattle.lrpar_steps.specs.Sequences.{PlainStep, PlainInsert, PlainDelete, PlainShift, IsStepTaken, Replays, StepsTo}
+use Rattle.lrpar_steps.specs.Sequences.{PlainStep, PlainInsert, PlainDelete, PlainShift, CanGoOn, Replays, StepsTo}
 use Rattle.lrpar_steps.proofs.SequenceLemmas.{steps_so_far, taken_within}
-use Rattle.lrpar_cpct.specs.Cheapest.{CanBeTaken, IsBeginning, LeadsTo, cost_of}
+use Rattle.lrpar_cpct.specs.Cheapest.{CanBeTaken, IsBeginning, IsRepair, LeadsTo}
 use Rattle.lrpar_cpct.specs.Costs.{AreCosts, place_after, step_cost, steps_cost, token_cost}
-use Rattle.lrpar_cpct.specs.Forms.{Has}
+use Rattle.lrpar_cpct.specs.Forms.{EndsIn, IsFormed}
 use Rattle.lrpar_cpct.specs.SearchView.{IsTakenBy, IsWalked, cost_by, step_cost_by}
 use Rattle.lrpar_cpct.specs.WalkAnswers.{place_in_front}
 use Rattle.lrpar_cpct.specs.WalkView.{IsTried}
+use Rattle.lrpar_cpct.specs.Walking.{IsStepOf, MayFollow}
 use Rattle.lrpar_cpct.specs.declared.search.Search.{Search}
 use Rattle.lrpar_cpct.proofs.FormLemmas.{formed_before, has_before}
 use Rattle.lrpar_cpct.proofs.SearchLemmas.{child_begins, nothing_begins}
-use Rattle.lrpar_cpct.proofs.WayLemmas.{cost_push, place_behind, replays_parted, replays_place, replays_push}
+use Rattle.lrpar_cpct.proofs.WayLemmas.{cost_push, leads_works, place_behind, replays_parted, replays_place, replays_push, works_on}
 
 -- the place behind one step more
 pub place_push : (i : ℕ) (p : List PlainStep) (s : PlainStep) → place_behind i (p ++ s ∷ []) ≡ place_after (place_behind i p) s
@@ -227,3 +228,34 @@ led_more {S} index parts search steps n step states after place next below is ta
     (plain_steps index (drop (n + 1) steps)) taken.2.0 taken.0 taken.1 way in
     let led = led_by index parts search front (plain_step index step) states after place next (cut.mid, cut.place, (cut.first, cut.before)) leads by in
     subst (λ (l : List PlainStep). MoreLed index parts search l after next) (sym more) led
+
+-- what a step costs that may follow a path
+pub tried_by : {S X : Type 0} (index : S → ℕ) (parts : X → LexemeParts S) (search : Search S X) (p : List PlainStep) (s : PlainStep) (base states : List ℕ) (fresh : Bool)
+    (place cost one wide : ℕ) → IsWalked index parts search p base states fresh place cost → IsStepOf (end_token search.point.now.checked.grammar) s
+    → MayFollow search.point.now.shifts p s → one ≡ step_cost_by index parts search place s → wide ≡ one → one ≤ 255
+    → IsTried index parts search p s (cost + wide)
+tried_by index parts search p s base states fresh place cost one wide w is may costs same most =
+    let token = token_by index parts in
+    let at = search.point.now in
+    let behind = replays_place token at.checked.grammar at.checked.table at.lexemes at.stack at.place p w.taken.2.0 w.taken.0 w.taken.1 w.taken.2.1 in
+    let here : place ≡ place_behind at.place p = sym (w.placed w.taken.0 w.taken.1 w.taken.2) ∙ behind in
+    let there : step_cost_by index parts search place s ≡ step_cost_by index parts search (place_behind at.place p) s =
+    ap (λ (m : ℕ). step_cost_by index parts search m s) here in
+    record {
+      within = is;
+      follows = may;
+      costs = omega (arith, w.costs, costs, same, there, cost_push token at.checked.grammar at.lexemes search.terms.now.costs at.place p s);
+      cheap = omega (arith, w.cheap, same, most);
+    }
+
+-- whether a path is a repair, from whether a parse can go on behind it
+pub repair_told : {X : Type 0} (token : X → ℕ) (at : Asked X) (p : List PlainStep) (states : List ℕ) (place : ℕ) (Told : Type 0)
+    → IsFormed (end_token at.checked.grammar) p → ¬ (EndsIn p (PlainShift ∷ [])) → LeadsTo token at p states place
+    → Told ↔ CanGoOn token at.checked.grammar at.checked.table at.lexemes at.shifts states place → Told ↔ IsRepair token at p
+repair_told token at p states place Told formed last leads tells = (
+  (λ told. record {
+    printed = record { formed = formed; last = last };
+    works = leads_works token at.checked.grammar at.checked.table at.lexemes at.shifts at.stack at.place p leads.0 states place leads.1 (tells.0 told);
+  }),
+  (λ r. tells.1 (works_on token at.checked.grammar at.checked.table at.lexemes at.shifts at.stack at.place p leads.0 states place leads.1 r.works)),
+)

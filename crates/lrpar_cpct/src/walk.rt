@@ -167,7 +167,9 @@ impl<'a, 'p, StorageT: StorageIndex, LexemeT: Lexeme<StorageT>> Search<'a, 'p, S
     {
         // Each token costs at most 255.
         let _limit = self.terms.limit();
-        let last = walk.path.pop()?;
+        let Some(last) = walk.path.pop() else {
+            return None;
+        };
         walk.fresh = false;
         walk.place = place_in_front(walk.place, last);
         walk.cost -= u128::from(self.cost_at(walk.place, last));
