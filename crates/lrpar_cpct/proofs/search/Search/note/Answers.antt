@@ -1,7 +1,8 @@
-use Rattle.std.proofs.Common.{◌≡◌, ◌∙◌, ap, refl, sym}
+use Rattle.std.proofs.Common.{◌≡◌, ◌∙◌, List, ap, refl, sym}
 use Rattle.std.specs.List.{each_same}
 use Rattle.lrpar_steps.specs.Known.{token_by}
 use Rattle.lrpar_steps.specs.PlainSteps.{plain_steps}
+use Rattle.lrpar_steps.specs.declared.steps.RepairStep.{RepairStep}
 use Rattle.lrpar_cpct.specs.Cheapest.{RepairsAt}
 use Rattle.lrpar_cpct.proofs.FoundLemmas.{added}
 use Rattle.lrpar_cpct.proofs.search.Search.note.Goals as goal
@@ -21,7 +22,10 @@ returns-clause-found g c =
     let search = c.args.self.now in
     let path = plain_steps index c.args.walk.now.path.items in
     let short_is : plain_steps index c.short.new.walk.path.items ≡ path = rw (c.in_ok-short.ensures.path, c.in_ok-is_repair.ensures.path) refl in
-    let copied : plain_steps index c.in_ok-steps.steps.items ≡ path = ? in
+    let copied : plain_steps index c.in_ok-steps.steps.items ≡ path =
+    let same : c.in_ok-steps.steps.items ≡ c.short.new.walk.path.items =
+    each_same c.short.new.walk.path.items c.in_ok-steps.steps.items c.in_ok-steps.ensures.cases.0 in
+    ap (λ (l : List (RepairStep g.row.StorageT.Denot)). plain_steps index l) same ∙ short_is in
     let costs = sym c.requires.walking.costs ∙ c.if-walk-bound.false in
     added index (RepairsAt (token_by index parts) search.terms.now.costs search.point.now c.args.bound) path c.args.tally.now.found.items c.push.new.self.items _
     c.in_ok-push.ensures.items copied (c.in_ok-is_repair.ensures.repair.0 c.if-not-branch.false, costs)

@@ -21,7 +21,7 @@ returns-then-limit-eq0 g c =
     let at = search.point.now in
     let end = end_token at.checked.grammar in
     let stop = c.shifts-shifts.ensures.stop in
-    searched_nothing (token_by index parts) search.terms.now at c.args.bound stop.shifts (sym c.limit-limit.ensures.limit ∙ c.if-limit-eq0.true)
+    record { tally = searched_nothing (token_by index parts) search.terms.now at c.args.bound stop.shifts (sym c.limit-limit.ensures.limit ∙ c.if-limit-eq0.true) }
 
 pub children-init : goal.children-init
 children-init g c =
@@ -55,7 +55,7 @@ returns-in-None g c =
     let path = plain_steps index l.walk.path.items in
     let found = sequences_found index l.tally.found.items in
     let here = subst (λ (p : List PlainStep). IsSearched (token_by index parts) search.terms.now at c.args.bound p l.rank l.tally.left found l.tally.next) c.in-None.ensures.left inv.searched in
-    searched_all (token_by index parts) search.terms.now at c.args.bound stop.shifts l.rank l.tally.left found l.tally.next c.in-Past.ensures.child here
+    record { tally = searched_all (token_by index parts) search.terms.now at c.args.bound stop.shifts l.rank l.tally.left found l.tally.next c.in-Past.ensures.child here }
 
 pub children-preserved-in-Some : goal.children-preserved-in-Some
 children-preserved-in-Some g c =
@@ -130,8 +130,8 @@ returns-then-not-count g c =
     let path = plain_steps index l.walk.path.items in
     let found = sequences_found index l.tally.found.items in
     let ch = c.in-Tried.ensures.child in
-    move_exceeded index parts search stop c.args.bound path (plain_step index c.in-Tried.step) l.rank l.tally.left found l.tally.next c.in-Tried.cost ch.0
-    inv.walking.begins inv.walking.taken ch.1 ch.2 (none_left c.count.result l.tally.left c.count.ensures.none c.if-not-count.true) inv.searched
+    record { tally = move_exceeded index parts search stop c.args.bound path (plain_step index c.in-Tried.step) l.rank l.tally.left found l.tally.next c.in-Tried.cost ch.0
+    inv.walking.begins inv.walking.taken ch.1 ch.2 (none_left c.count.result l.tally.left c.count.ensures.none c.if-not-count.true) inv.searched }
 
 pub children-smaller-then-branch : goal.children-smaller-then-branch
 children-smaller-then-branch g c =
