@@ -4,7 +4,7 @@ use Rattle.lrpar_cpct.proofs.cpct_plus.CpctPlusRecoverer.recover.Given as goal
 
 -- no repair costs less than the bound
 abbrev pub invariant-bounds : goal.invariant-bounds
-invariant-bounds g l = CostsNoLess (λ (x : g.row.LexemeT.Denot). g.StorageT.StorageIndex.index (g.LexemeT.Lexeme.parts x).token) l.self l.point l.bound
+invariant-bounds g l = CostsNoLess (λ (x : g.row.LexemeT.Denot). g.StorageT.StorageIndex.index (g.LexemeT.Lexeme.parts x).token) l.self l.fn.point l.bound
 
 -- each bound is higher than the one before, and there is a highest one
 abbrev pub decreases-bounds : goal.decreases-bounds

@@ -130,8 +130,10 @@ returns-then-not-count g c =
     let path = plain_steps index l.walk.path.items in
     let found = sequences_found index l.tally.found.items in
     let ch = c.in-Tried.ensures.child in
-    record { tally = move_exceeded index parts search stop c.args.bound path (plain_step index c.in-Tried.step) l.rank l.tally.left found l.tally.next c.in-Tried.cost ch.0
-    inv.walking.begins inv.walking.taken ch.1 ch.2 (none_left c.count.result l.tally.left c.count.ensures.none c.if-not-count.true) inv.searched }
+    record {
+      tally = move_exceeded index parts search stop c.args.bound path (plain_step index c.in-Tried.step) l.rank l.tally.left found l.tally.next c.in-Tried.cost ch.0
+          inv.walking.begins inv.walking.taken ch.1 ch.2 (none_left c.count.result l.tally.left c.count.ensures.none c.if-not-count.true) inv.searched;
+    }
 
 pub children-smaller-then-branch : goal.children-smaller-then-branch
 children-smaller-then-branch g c =
