@@ -1,8 +1,9 @@
 -- The repairs that are found, and their sequences.
-use Rattle.std.proofs.Common.{◌≡◌, ◌∙◌, ◌⊎◌, ◌↔◌, inl, inr, ℕ, List, [], ◌∷◌, ◌++◌, Vec, ap, sym, subst}
+use Rattle.std.proofs.Common.{◌≡◌, ◌==◌, ◌+◌, ◌∙◌, ◌⊎◌, ◌↔◌, inl, inr, true, false, length, refl, arith, ℕ, List, [], ◌∷◌, ◌++◌, Vec, ap, sym, subst}
 use Rattle.std.specs.Prelude.{map}
 use Rattle.std.specs.List.{Contains}
 use Rattle.std.specs.List.Sorted.{IsPermutation}
+use Rattle.std.proofs.lemmas.Bool.{eqb-true}
 use Rattle.std.proofs.lemmas.List.{map-append}
 use Rattle.std.proofs.lemmas.List.Elements.{Contains-append_cases, Contains-append_left, Contains-append_right}
 use Rattle.std.proofs.lemmas.List.Sorted.{Contains-permutation, IsPermutation-map, IsPermutation-sym}
@@ -63,3 +64,12 @@ module _ {S : Type 0} (index : S → ℕ) where
     (λ c. inl c),
     (λ m. elim m as (λ _. Contains old q) [ inl o ↦ o | inr n ↦ absurd (none (subst P n.0 n.1)) ]),
   )
+
+-- whether any is found, by how many there are
+pub some_found : {S : Type 0} (index : S → ℕ) (xs : List (Found S)) (n : ℕ) → n ≡ length xs → (n == 0) ≡ false → (q : List PlainStep) × Contains (sequences_found index xs) q
+some_found index [] n e h = let zero_is : (0 == 0) ≡ false = subst (λ (m : ℕ). (m == 0) ≡ false) e h in let f : true ≡ false = zero_is in cc
+some_found index (x ∷ xs) n e h = (plain_steps index x.steps.items, contained (plain_steps index x.steps.items) (sequences_found index (x ∷ xs)) (inl refl))
+
+pub none_found : {S : Type 0} (index : S → ℕ) (xs : List (Found S)) (n : ℕ) → n ≡ length xs → (n == 0) ≡ true → sequences_found index xs ≡ []
+none_found index [] n e h = refl
+none_found index (x ∷ xs) n e h = let none : n ≡ 0 = eqb-true n 0 h in absurd (omega (arith, e, none))
