@@ -10,3 +10,4 @@ pub mod StepLemmas
 pub mod TallyLemmas
 pub mod StackAnswerLemmas
 pub mod FoundLemmas
+pub mod CostLemmas

@@ -1,5 +1,6 @@
 pub mod Forms
 pub mod Costs
+pub mod Refused
 pub mod Cheapest
 pub mod Reaching
 pub mod Order

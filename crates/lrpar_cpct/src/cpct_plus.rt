@@ -1,16 +1,15 @@
 //! The recoverer that answers the repairs of least cost.
-ghost use Rattle.std.specs.Prelude.{◌≡◌, ◌<◌, ◌≤◌, [], ℕ, IfOk};
-ghost use Rattle.lrpar_grammar.specs.Grammar.{tokens_len};
+ghost use Rattle.std.specs.Prelude.{◌≡◌, ◌<◌, [], length, IfErr, IfOk, IfSome, IsNone};
 ghost use Rattle.lrpar_steps.specs.Known.{token_by};
 ghost use Rattle.lrpar_steps.specs.PlainSteps.{plain_sequences};
 ghost use Rattle.lrpar_cpct.specs.Answer.{AreCheapest};
 ghost use Rattle.lrpar_cpct.specs.Costs.{AreCosts, token_cost};
+ghost use Rattle.lrpar_cpct.specs.Refused.{IsFreeToken};
 
 use crate::fault::CostFault;
 use crate::search::Search;
 use crate::tally::{Tally, sequences_of};
-use lrpar_grammar::grammar::YaccGrammar;
-use lrpar_grammar::span::{StorageIndex, TIdx};
+use lrpar_grammar::span::StorageIndex;
 use lrpar_lexemes::lex_api::Lexeme;
 use lrpar_parser::repair::{Recoverer, RecoveryPoint, RepairStep};
 use std::alloc::{AllocError, Global};
@@ -41,6 +40,21 @@ impl CpctPlus {
         CpctPlus { limit, costs: None }
     }
 
+    /// Each token costs what the list says at its number; one past the list costs 1. Refused where a token would cost nothing. Takes no
+    /// memory.
+    pub fn with_costs(limit: usize, costs: Vec<u8>) -> Result<Self, CostFault>
+        ensures made { IfOk result (λ c. c ≡ record { limit = limit; costs = costs.items }) }
+        ensures refused { IfErr result (IsFreeToken costs.items) }
+    {
+        match first_free(&costs) {
+            Some(token) => Err(CostFault::CostsNothing(token)),
+            None => Ok(CpctPlus {
+                limit,
+                costs: Some(costs),
+            }),
+        }
+    }
+
     /// What a token costs, by its number.
     pub(crate) fn cost_of(&self, token: usize) -> u8
         ensures { result ≡ token_cost self.now.costs token }
@@ -61,6 +75,19 @@ impl CpctPlus {
     {
         self.limit
     }
+}
+
+// The first token that costs nothing.
+fn first_free(costs: &[u8]) -> Option<usize>
+    ensures none { IsNone result → AreCosts costs.now }
+    ensures some { IfSome result (λ token. (token < length costs.now) × (token_cost costs.now token ≡ 0)) }
+{
+    for (token, cost) in costs.iter().enumerate() {
+        if *cost == 0 {
+            return Some(token);
+        }
+    }
+    None
 }
 
 impl<StorageT: StorageIndex, LexemeT: Lexeme<StorageT>> Recoverer<StorageT, LexemeT> for CpctPlus {

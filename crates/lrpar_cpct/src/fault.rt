@@ -1,33 +1,10 @@
 //! Why costs are refused.
-ghost use Rattle.std.specs.Prelude.{◌≡◌};
-ghost use Rattle.lrpar_cpct.specs.declared.fault.CostFault.TheVariants.{Memory};
-
-use std::alloc::{AllocError, AllocFailed};
 use thiserror::Error;
 
 /// Why costs of tokens are refused.
 #[derive(Clone, Copy, Debug, PartialEq, Eq, Error)]
 pub enum CostFault {
-    /// This token, by its number, would cost nothing. It is the first one that would.
+    /// This token, by its number, would cost nothing.
     #[error("token {0} costs nothing")]
     CostsNothing(usize),
-    /// Memory was wanting.
-    #[error("out of memory")]
-    Memory,
-}
-
-impl From<AllocError> for CostFault {
-    ghost from_gives = { λ _ fault. fault ≡ Memory };
-
-    fn from(_: AllocError) -> CostFault {
-        CostFault::Memory
-    }
-}
-
-impl<T: Drop> From<AllocFailed<T>> for CostFault {
-    ghost from_gives = { λ _ fault. fault ≡ Memory };
-
-    fn from(_: AllocFailed<T>) -> CostFault {
-        CostFault::Memory
-    }
 }

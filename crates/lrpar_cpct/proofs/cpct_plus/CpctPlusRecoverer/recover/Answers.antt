@@ -45,7 +45,7 @@ returns-then-not-is_empty g c =
     record {
       allowed = IfOk-weaker c.sequences_of.result _ _
           (λ sequences same. answer_found token terms at some each bound seen old.next (plain_sequences index sequences.items)
-            c.bounds.invariant third same one.0 one.1)
+          c.bounds.invariant third same one.0 one.1)
           c.sequences_of.ensures.same;
     }
 
