@@ -7,7 +7,7 @@ pub use lrpar_example_texts::examples;
 pub use lrpar_parser::{
     LexError, LexParseError, Lexeme, Lexer, LexerTypes, Node, NonStreamingLexer, ParseError,
     ParseRepair, ParserData, RIdx, RTParserBuilder, action_generictree, build, check, errors,
-    grammar, laws, lex_api, lines, parser, repair, table,
+    grammar, laws, lex_api, lines, parser, table,
 };
 pub use lrpar_shortest as shortest;
 pub use lrpar_viable as viable;
@@ -17,5 +17,13 @@ pub mod span {
     pub use lrpar_numbers::StorageNum;
     pub use lrpar_parser::span::{
         Numbered, PIdx, RIdx, Span, Spanned, SpansKind, StIdx, StorageIndex, Symbol, TIdx,
+    };
+}
+
+/// What a parse hands to its caller at an error, the sequences that the caller hands back, and who may hand them in.
+pub mod repair {
+    pub use lrpar_cpct::{CostFault, CpctPlus};
+    pub use lrpar_parser::repair::{
+        FixedRecoverer, NoRecovery, Recoverer, RecoveryPoint, RepairStep,
     };
 }

@@ -3,17 +3,17 @@ ghost use Rattle.std.specs.Prelude.{◌↔◌, IfOk, IsTrue, map};
 ghost use Rattle.lrpar_builds.specs.Nodes.{IsNonterm, node_of};
 
 use crate::lexemes::HandedLexer;
+use crate::recoverer::CaseRecoverer;
 use crate::shown::{CaseError, Tree};
 use lrpar_lexer::{Token, TokenTypes};
 use lrpar_parser::parser::{AStackType, Actions, ParseFault};
-use lrpar_parser::repair::FixedRecoverer;
 use lrpar_parser::span::{PIdx, RIdx, Span, Symbol};
 use lrpar_parser::{Node, RTParserBuilder, action_generictree};
 use std::alloc::{AllocError, Global};
 use std::cell::RefCell;
 
 /// A parser of a case.
-pub(crate) type Parser<'a> = RTParserBuilder<'a, u32, TokenTypes, FixedRecoverer<u32>>;
+pub(crate) type Parser<'a> = RTParserBuilder<'a, u32, TokenTypes, CaseRecoverer>;
 
 /// What a parse answers.
 pub(crate) type Answer = Result<(Option<Tree>, Vec<CaseError>), ParseFault>;

@@ -1,6 +1,7 @@
 //! What may come next: at a list of states, over which tokens are fed first, or after lexemes.
 use crate::calls::Parser;
 use crate::lexemes::{Given, HandedLexer, given_of};
+use crate::recoverer::no_recoverer;
 use lrpar_case_lines::cases::Case;
 use lrpar_case_lines::fault::Fault;
 use lrpar_case_lines::names::{token_name, token_of};
@@ -10,7 +11,6 @@ use lrpar_case_tables::subject::Subject;
 use lrpar_parser::check::Overlay;
 use lrpar_parser::grammar::YaccGrammar;
 use lrpar_parser::parser::Expected;
-use lrpar_parser::repair::FixedRecoverer;
 use lrpar_parser::span::{StIdx, TIdx};
 use lrpar_parser::{LexError, ParserData, RTParserBuilder};
 use std::alloc::Global;
@@ -96,9 +96,7 @@ fn at_overlay(
 // What may come next after the lexemes.
 fn after_lexemes(alloc: Global, data: &ParserData<u32>, given: &[Given]) -> Result<String, Fault> {
     let lexer = HandedLexer::new(alloc, given, "")?;
-    let parser: Parser<'_> = RTParserBuilder::new(data).recoverer(FixedRecoverer::new(Vec::new(
-        alloc,
-    )));
+    let parser: Parser<'_> = RTParserBuilder::new(data).recoverer(no_recoverer(alloc));
     let mut came = String::new(alloc);
     match parser.expected(alloc, &lexer) {
         Err(fault) => writeln!(came, "fault {fault}")?,

@@ -5,5 +5,6 @@ mod calls;
 pub mod expected;
 mod lexemes;
 pub mod parse;
+mod recoverer;
 mod shown;
 mod steps;

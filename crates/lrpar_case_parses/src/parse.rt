@@ -3,8 +3,8 @@ ghost use Rattle.std.specs.Prelude.{◌≡◌};
 
 use crate::calls::{Answer, CALLS, Call, Parser, Places, answer_by};
 use crate::lexemes::{Given, HandedLexer, given_of};
+use crate::recoverer::recoverer_of;
 use crate::shown::{CaseError, Tree, push_errors, push_places, push_tree};
-use crate::steps::sequences_of;
 use lrpar_case_lines::cases::Case;
 use lrpar_case_lines::fault::Fault;
 use lrpar_case_lines::text::push_text;
@@ -12,7 +12,6 @@ use lrpar_case_tables::subject::{Subject, Tables};
 use lrpar_lexer::RuleLexer;
 use lrpar_parser::grammar::YaccGrammar;
 use lrpar_parser::parser::{ParseFault, PpFault};
-use lrpar_parser::repair::FixedRecoverer;
 use lrpar_parser::span::TIdx;
 use lrpar_parser::{ParserData, RTParserBuilder};
 use std::alloc::Global;
@@ -20,7 +19,15 @@ use std::cell::RefCell;
 
 /// The keys of the lines that say what is done.
 pub const INPUTS: &[&str] = &[
-    "lexemes", "shifts", "repairs", "input", "print", "show", "hide",
+    "lexemes",
+    "shifts",
+    "repairs",
+    "recoverer",
+    "costs",
+    "input",
+    "print",
+    "show",
+    "hide",
 ];
 
 /// What comes of a parse.
@@ -66,8 +73,8 @@ fn parser_of<'a>(
     data: &'a ParserData<u32>,
     case: Case<'_, '_>,
 ) -> Result<Parser<'a>, Fault> {
-    let sequences = sequences_of(alloc, data.grm(), case)?;
-    let parser = RTParserBuilder::new(data).recoverer(FixedRecoverer::new(sequences));
+    let recoverer = recoverer_of(alloc, data.grm(), case)?;
+    let parser = RTParserBuilder::new(data).recoverer(recoverer);
     let Some((value, number)) = case.value("shifts") else {
         return Ok(parser);
     };

@@ -1,0 +1,13 @@
+pub mod MemberLemmas
+pub mod FormLemmas
+pub mod WayLemmas
+pub mod PruneLemmas
+pub mod BeforeLemmas
+pub mod SearchLemmas
+pub mod AnswerLemmas
+pub mod WalkLemmas
+pub mod StepLemmas
+pub mod TallyLemmas
+pub mod StackAnswerLemmas
+pub mod FoundLemmas
+pub mod CostLemmas

@@ -1,0 +1,12 @@
+pub mod Forms
+pub mod Costs
+pub mod Refused
+pub mod Cheapest
+pub mod Reaching
+pub mod Order
+pub mod Answer
+pub mod Walking
+pub mod Tallied
+pub mod SearchView
+pub mod WalkView
+pub mod WalkAnswers

@@ -1,0 +1,128 @@
+//! The recoverer that answers the repairs of least cost.
+ghost use Rattle.std.specs.Prelude.{◌≡◌, ◌<◌, [], length, IfErr, IfOk, IfSome, IsNone};
+ghost use Rattle.lrpar_steps.specs.Known.{token_by};
+ghost use Rattle.lrpar_steps.specs.PlainSteps.{plain_sequences};
+ghost use Rattle.lrpar_cpct.specs.Answer.{AreCheapest};
+ghost use Rattle.lrpar_cpct.specs.Costs.{AreCosts, token_cost};
+ghost use Rattle.lrpar_cpct.specs.Refused.{IsFreeToken};
+
+use crate::fault::CostFault;
+use crate::search::Search;
+use crate::tally::{Tally, sequences_of};
+use lrpar_grammar::span::StorageIndex;
+use lrpar_lexemes::lex_api::Lexeme;
+use lrpar_parser::repair::{Recoverer, RecoveryPoint, RepairStep};
+use std::alloc::{AllocError, Global};
+use std::marker::Model;
+
+/// Answers the repairs of least cost, after Diekmann and Tratt, *Don't Panic! Better, Fewer, Syntax Errors for LR Parsers*.
+#[derive(Debug, Drop)]
+pub struct CpctPlus {
+    limit: usize,
+    costs: Option<Vec<u8>>,
+}
+
+impl Model for CpctPlus {
+    ghost use Rattle.lrpar_cpct.specs.Costs.{AreCosts, Terms, costs_of};
+
+    ghost Value = { Terms };
+
+    ghost view = { λ c. record { limit = c.limit; costs = costs_of c.costs } };
+
+    ghost invariant = { λ c. AreCosts (costs_of c.costs) };
+}
+
+impl CpctPlus {
+    /// Each token costs 1. Takes no memory.
+    pub fn new(limit: usize) -> Self
+        ensures { result ≡ record { limit = limit; costs = [] } }
+    {
+        CpctPlus { limit, costs: None }
+    }
+
+    /// Each token costs what the list says at its number; one past the list costs 1. Refused where a token would cost nothing. Takes no
+    /// memory.
+    pub fn with_costs(limit: usize, costs: Vec<u8>) -> Result<Self, CostFault>
+        ensures made { IfOk result (λ c. c ≡ record { limit = limit; costs = costs.items }) }
+        ensures refused { IfErr result (IsFreeToken costs.items) }
+    {
+        match first_free(&costs) {
+            Some(token) => Err(CostFault::CostsNothing(token)),
+            None => Ok(CpctPlus {
+                limit,
+                costs: Some(costs),
+            }),
+        }
+    }
+
+    /// What a token costs, by its number.
+    pub(crate) fn cost_of(&self, token: usize) -> u8
+        ensures { result ≡ token_cost self.now.costs token }
+    {
+        match &self.costs {
+            None => 1,
+            Some(costs) => match costs.get(token) {
+                None => 1,
+                Some(cost) => *cost,
+            },
+        }
+    }
+
+    /// How many beginnings may be tried.
+    pub(crate) fn limit(&self) -> usize
+        ensures limit { result ≡ self.now.limit }
+        ensures costs { AreCosts self.now.costs }
+    {
+        self.limit
+    }
+}
+
+// The first token that costs nothing.
+fn first_free(costs: &[u8]) -> Option<usize>
+    ensures none { IsNone result → AreCosts costs.now }
+    ensures some { IfSome result (λ token. (token < length costs.now) × (token_cost costs.now token ≡ 0)) }
+{
+    for (token, cost) in costs.iter().enumerate() {
+        if *cost == 0 {
+            return Some(token);
+        }
+    }
+    None
+}
+
+impl<StorageT: StorageIndex, LexemeT: Lexeme<StorageT>> Recoverer<StorageT, LexemeT> for CpctPlus {
+    ghost allows = { λ terms at answer. AreCheapest (token_by StorageT.index LexemeT.parts) terms at answer };
+
+    fn recover(
+        &self,
+        alloc: Global,
+        point: &RecoveryPoint<'_, StorageT, LexemeT>,
+    ) -> Result<Vec<Vec<RepairStep<StorageT>>>, AllocError>
+        ensures allowed { IfOk result (λ answer. AreCheapest (token_by StorageT.index LexemeT.parts) self.now point.now
+            (plain_sequences StorageT.index answer.items)) }
+    {
+        let search = Search::new(point, self);
+        // Each token costs something, and some lexeme has to follow a repair.
+        let (_limit, _shifts) = (self.limit(), point.shifts());
+        let mut bound = 0;
+        'bounds: loop {
+            let Some(
+                Tally {
+                    found,
+                    next,
+                    left: _,
+                },
+            ) = search.tally(alloc, bound)?
+            else {
+                return Ok(Vec::new(alloc));
+            };
+            if !found.is_empty() {
+                return sequences_of(alloc, found);
+            }
+            match next {
+                None => return Ok(Vec::new(alloc)),
+                Some(cost) => bound = cost,
+            }
+        }
+    }
+}
