@@ -2,18 +2,17 @@
 use Rattle.std.proofs.Common.{◌≡◌, ◌<◌, ◌+◌, ◌||◌, ◌&&◌, ◌↔◌, ◌⊎◌, ◌∙◌, sym, ap, subst, inl, inr, arith, ℕ, Bool, false, List, [], ◌∷◌, ◌++◌, All, length, set, get_or, drop, nat_lt, IsTrue}
 use Rattle.std.proofs.lemmas.Bool.{OnFalse_at, OnTrue_at, cases_Bool, cases_eq, cases_lt, false≢true}
 use Rattle.std.proofs.lemmas.List.{get_or-set_other, get_or-set_same, set-get_or}
-use Rattle.std.proofs.lemmas.List.Elements.{All-contains, All-drop, All-get_or, All-head, All-push, All-tail}
+use Rattle.std.proofs.lemmas.List.Elements.{All-contains, All-get_or, All-push}
 use Rattle.std.specs.Bool.{OnFalse, OnTrue}
-use Rattle.lrpar_grammar.specs.Grammar.{Grammar, GrammarSymbol, IsWellFormed, Nonterminal, Terminal, prods_len, prods_of, rule_of, rules_len, symbols_of, tokens_len}
+use Rattle.lrpar_grammar.specs.Grammar.{Grammar, GrammarSymbol, Nonterminal, Terminal, prods_len, prods_of, rule_of, rules_len, symbols_of}
 use Rattle.lrpar_first.specs.First.{IsFirst}
-use Rattle.lrpar_first.specs.FirstRows.{HaveRoom, IsFirstBefore, IsSymbolBelow, mark_of, row_at, rows_of, total_missing}
+use Rattle.lrpar_first.specs.FirstRows.{HaveRoom, IsFirstBefore, mark_of, row_at, rows_of, total_missing}
 use Rattle.lrpar_first.specs.Tokens.{has, missing}
 use Rattle.lrpar_build.specs.Brought.{IsBrought, Given, Brought, AreBroughtFrom, HasIn, IsSpreadAt, IsSpreadOf, Keeps}
 use Rattle.lrpar_first.specs.declared.tokens.TokenSet.{TokenSet}
 use Rattle.lrpar_first.proofs.BeforeLemmas.{united}
 use Rattle.lrpar_build.proofs.ProdLemmas.{in_prods}
 use Rattle.lrpar_build.proofs.BroughtLemmas.{brought_twice, closed_brought}
-use Rattle.lrpar_first.proofs.SymbolLemmas.{prod_symbols}
 use Rattle.lrpar_first.proofs.GrowthLemmas.{has_room, missing_set, room_set, row_in, rows-set, sets_len}
 
 -- what was given comes
@@ -137,14 +136,6 @@ spread_nothing g sets p rule d is low room none r s t w begins has_s first =
     let count = sets_len g sets room in
     let row = row_in sets rule d (omega (arith, count, is, low)) ∙ ap (row_at (rows_of sets)) is in
     absurd (none s (subst (λ b. IsTrue (has b s)) (sym row) has_s))
-
--- a rule that stands in a production is one of the grammar, and so are the symbols behind it
-pub behind_listed : (g : Grammar) → IsWellFormed g → (p k r : ℕ) (w : List GrammarSymbol) → p < prods_len g → drop k (symbols_of g p) ≡ Nonterminal r ∷ w
-    → (r < rules_len g) × All (IsSymbolBelow (rules_len g) (tokens_len g)) w
-behind_listed g well p k r w known begins =
-    let below = IsSymbolBelow (rules_len g) (tokens_len g) in
-    let all : All below (Nonterminal r ∷ w) = subst (All below) begins (All-drop below k (symbols_of g p) (prod_symbols g well p known)) in
-    (All-head below (Nonterminal r) w all, All-tail below (Nonterminal r) w all)
 
 -- one spread after another
 pub brought_on : (g : Grammar) (one two three : List (List Bool)) → AreBroughtFrom g one two → AreBroughtFrom g two three → AreBroughtFrom g one three

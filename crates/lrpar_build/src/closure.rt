@@ -9,7 +9,8 @@ ghost use Rattle.lrpar_build.specs.ItemSets.{IsInClosure};
 ghost use Rattle.lrpar_build.specs.Kernels.{AreCores, IsAhead, IsKernel};
 
 use crate::cores::CoreItems;
-use crate::reach::{rule_behind, spread};
+use crate::reach::spread;
+use lrpar_first::behind::rule_behind;
 use lrpar_first::first::{add_first_before, clear_all};
 use lrpar_first::tokens::TokenSet;
 use lrpar_grammar::grammar::YaccGrammar;

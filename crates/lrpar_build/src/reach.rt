@@ -1,15 +1,15 @@
 //! The rules that come with a rule by closure.
-ghost use Rattle.std.specs.Prelude.{◌≡◌, ◌≢◌, ◌<◌, ◌≤◌, ◌+◌, ◌↔◌, ◌∷◌, ℕ, List, All, IfSome, MatchOption, drop, length, map};
+ghost use Rattle.std.specs.Prelude.{◌≡◌, ◌<◌, ◌+◌, ◌↔◌, ℕ, length};
 ghost use Rattle.std.specs.Bool.{OnFalse, OnTrue};
-ghost use Rattle.lrpar_grammar.specs.Grammar.{GrammarSymbol, IsWellFormed, Nonterminal, prod_len, prods_len, rules_len, symbols_of, tokens_len};
-ghost use Rattle.lrpar_grammar.specs.Symbols.{symbol_of};
-ghost use Rattle.lrpar_first.specs.FirstRows.{AreFirsts, HaveRoom, IsSymbolBelow, mark_of, rows_of, total_missing};
+ghost use Rattle.lrpar_grammar.specs.Grammar.{IsWellFormed, prods_len, rules_len, tokens_len};
+ghost use Rattle.lrpar_first.specs.FirstRows.{AreFirsts, HaveRoom, mark_of, rows_of, total_missing};
 ghost use Rattle.lrpar_build.specs.Brought.{AreBroughtFrom, HasIn, IsBrought, IsSpreadAt, IsSpreadOf, Keeps};
 
+use lrpar_first::behind::rule_behind;
 use lrpar_first::first::add_first_before;
 use lrpar_first::tokens::TokenSet;
 use lrpar_grammar::grammar::YaccGrammar;
-use lrpar_grammar::span::{PIdx, RIdx, StorageIndex, Symbol};
+use lrpar_grammar::span::{PIdx, RIdx, StorageIndex};
 
 /// Puts into the sets all that comes with what they have, by closure. The last two are sets to work with.
 pub(crate) fn spread<StorageT: StorageIndex>(
@@ -134,31 +134,5 @@ fn spread_from<StorageT: StorageIndex>(
             let target = usize::from(brought);
             sets[target].unite_below(fresh, grm.tokens_len() + 1)
         }
-    }
-}
-
-/// The rule that the production has behind so many symbols, if it has one there, and the symbols behind it.
-pub(crate) fn rule_behind<'a, StorageT: StorageIndex>(
-    grm: &'a YaccGrammar<StorageT>,
-    pidx: PIdx<StorageT>,
-    dot: usize,
-) -> Option<(RIdx<StorageT>, &'a [Symbol<StorageT>])>
-    requires well_formed { IsWellFormed grm.now }
-    requires prod { StorageT.index pidx.0 < prods_len grm.now }
-    requires dot { dot ≤ prod_len grm.now (StorageT.index pidx.0) }
-    ensures rule { let behind = drop dot (symbols_of grm.now (StorageT.index pidx.0)) in
-        MatchOption result ((r : ℕ) (w : List GrammarSymbol) → behind ≢ Nonterminal r ∷ w)
-        (λ found. behind ≡ Nonterminal (StorageT.index found.0.0) ∷ map (symbol_of StorageT.index) found.1.now) }
-    ensures within { IfSome result (λ found. StorageT.index found.0.0 < rules_len grm.now) }
-    ensures rest { IfSome result (λ found. All (IsSymbolBelow (rules_len grm.now) (tokens_len grm.now))
-        (map (symbol_of StorageT.index) found.1.now)) }
-{
-    let symbols = &grm.prod(pidx)[dot..];
-    match symbols.split_first() {
-        None => None,
-        Some((first, rest)) => match *first {
-            Symbol::Rule(rule) => Some((rule, rest)),
-            Symbol::Token(_) => None,
-        },
     }
 }

@@ -30,7 +30,7 @@ pub struct ParserData<StorageT: StorageIndex> {
     sgraph: StateGraph<StorageT>,
     stable: StateTable<StorageT>,
     cap: u16,
-    least: u16,
+    least_cap: u16,
 }
 
 impl<StorageT: StorageIndex> Model for ParserData<StorageT> {
@@ -41,7 +41,7 @@ impl<StorageT: StorageIndex> Model for ParserData<StorageT> {
 
     ghost view = { λ d. record { grammar = d.grm; graph = d.sgraph; table = d.stable; cap = d.cap } };
 
-    ghost invariant = { λ d. IsMeasured (record { grammar = d.grm; graph = d.sgraph; table = d.stable; cap = d.cap }) d.least };
+    ghost invariant = { λ d. IsMeasured (record { grammar = d.grm; graph = d.sgraph; table = d.stable; cap = d.cap }) d.least_cap };
 }
 
 impl<StorageT: StorageIndex> ParserData<StorageT> {
@@ -57,7 +57,7 @@ impl<StorageT: StorageIndex> ParserData<StorageT> {
     /// the logarithm of I, where each entry that leads to a state counts the state's cores with a dot past 0. The chains
     /// take longer: a state has one for each reduction that it stores, and one for each reduction that the state of one of
     /// its gotos stores. Each is made once, and makes at most `cap + 1` reductions; where a state has a longer one than each state
-    /// before, its chains are made again, at most 17 times, to find the least cap.
+    /// before, its chains are made again some times, to find the least cap.
     pub fn new(
         alloc: Global,
         grm: YaccGrammar<StorageT>,
@@ -104,12 +104,12 @@ impl<StorageT: StorageIndex> ParserData<StorageT> {
     {
         are_sound(&grm, &stable);
         match least_cap(alloc, &grm, &stable, cap) {
-            Ok(least) => Ok(ParserData {
+            Ok(least_cap) => Ok(ParserData {
                 grm,
                 sgraph,
                 stable,
                 cap,
-                least,
+                least_cap,
             }),
             Err(fault) => Err(Refused {
                 fault,
@@ -157,7 +157,7 @@ impl<StorageT: StorageIndex> ParserData<StorageT> {
     pub fn least_cap(&self) -> u16
         ensures { IsLeastCap self.now.grammar self.now.table result }
     {
-        self.least
+        self.least_cap
     }
 }
 

@@ -3,7 +3,7 @@
 use Rattle.std.proofs.Common.{◌≡◌, ◌≢◌, ◌<◌, ◌≤◌, ◌+◌, ◌-◌, ◌↔◌, ◌∙◌, ◌⊎◌, ◌||◌, ◌&&◌, ◌==◌, inl, inr, refl, sym, ap, subst, arith, ℕ, zero, suc, Bool, true, false, IsTrue, not, List, [], ◌∷◌, ◌++◌, All, length, map, drop, take, get_or, set, slice_get, Some, Option, cond, eqb, Bor, IfSome, MatchOption, None}
 use Rattle.std.proofs.lemmas.Bool.{and_parts, both_ways, cases_eq, cases_lt, eq-eqb, eqb-true, false≢true, false_from_ne_true, not-true, or_cases, or_left, or_right}
 use Rattle.std.proofs.lemmas.List.{drop_more, get_or-drop, get_or-map, get_or-set_other, get_or-set_same, get_or-take, get_or_default, length-drop, length-map, length-set, length-take-le, take_all}
-use Rattle.std.proofs.lemmas.List.Elements.{All-contains, All-contains_itself, All-drop, All-head, All-map, All-set, All-tail, All-weaker, Contains-append_left, Contains-push, Contains-push_cases}
+use Rattle.std.proofs.lemmas.List.Elements.{All-contains, All-contains_itself, All-map, All-set, All-weaker, Contains-append_left, Contains-push, Contains-push_cases}
 use Rattle.std.proofs.lemmas.Option.{get_or_from_slice_get, slice_get-map, slice_get_within}
 use Rattle.std.specs.List.{Contains, HoldsAt}
 use Rattle.std.specs.Option.{option_map, option_map_or}
@@ -143,14 +143,6 @@ each_of_rule g r P = (
       let at : slice_get g.prods q ≡ Some of.prod = ap (slice_get g.prods) same ∙ of.at in
       each q (slice_get_within g.prods q of.prod at) (ap (λ (o : Option Production). option_map_or (λ x. x.rule) o 0) at ∙ of.rule),
 )
-
--- the symbols behind a rule of a production
-pub rest_below : (g : Grammar) → IsWellFormed g → (p k r : ℕ) (w : List GrammarSymbol) → p < prods_len g → drop k (symbols_of g p) ≡ Nonterminal r ∷ w
-    → (r < rules_len g) × All (IsSymbolBelow (rules_len g) (tokens_len g)) w
-rest_below g well p k r w known behind =
-    let P = IsSymbolBelow (rules_len g) (tokens_len g) in
-    let all = subst (All P) behind (All-drop P k (symbols_of g p) (prod_symbols g well p known)) in
-    (All-head P (Nonterminal r) w all, All-tail P (Nonterminal r) w all)
 
 -- C2 by the lookaheads as a set, and by the set of what comes before them
 pub closed_core : (g : Grammar) (rows : List (List Bool)) (p k r : ℕ) (w : List GrammarSymbol) (tokens : List ℕ) (after begun cleared : List Bool) (test : Bool)

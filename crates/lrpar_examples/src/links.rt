@@ -8,7 +8,8 @@ ghost use Rattle.lrpar_build.specs.Canonical.{IsCanonical, sets_of};
 ghost use Rattle.std.specs.Bool.{OnFalse, OnTrue};
 ghost use Rattle.lrpar_examples.specs.Links.{AreBegun, AreLinks, AreMarks, AreNoted, AreNotedOf, ArePut, HasLink, IsBegunLink, IsLinkBelow, IsNotedCore, IsStep, LinkRule, link_of, links_of};
 
-use crate::begins::{can_begin, rule_behind};
+use crate::begins::can_begin;
+use lrpar_first::behind::rule_behind;
 use lrpar_first::tokens::TokenSet;
 use lrpar_grammar::grammar::YaccGrammar;
 use lrpar_grammar::span::{PIdx, RIdx, StIdx, StorageIndex, TIdx};

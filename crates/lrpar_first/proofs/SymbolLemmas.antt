@@ -2,7 +2,7 @@
 use Rattle.std.proofs.Common.{◌≡◌, ◌<◌, ◌≤◌, ◌+◌, ◌-◌, ◌∙◌, sym, ap, subst, inl, inr, arith, ℕ, suc, List, [], ◌∷◌, All, length, map, drop, take}
 use Rattle.std.proofs.lemmas.Bool.{cases_lt}
 use Rattle.std.proofs.lemmas.List.{drop-map, length-drop, length-map, take_all}
-use Rattle.std.proofs.lemmas.List.Elements.{All-cons, All-nil, All-weaker}
+use Rattle.std.proofs.lemmas.List.Elements.{All-cons, All-drop, All-head, All-nil, All-tail, All-weaker}
 use Rattle.std.specs.List.{IsFirstAndRest}
 use Rattle.lrpar_text.specs.declared.span.Symbol.{Symbol}
 use Rattle.lrpar_grammar.specs.Grammar.{Grammar, GrammarSymbol, IsListedSymbol, IsWellFormed, Nonterminal, Terminal, end_token, prods_len, rules_len, start_prod, symbols_of, tokens_len}
@@ -53,3 +53,11 @@ prod_symbols g well p known =
           (subst (All (IsSymbolBelow (rules_len g) (tokens_len g))) (sym well.last_symbols)
           (All-cons (IsSymbolBelow (rules_len g) (tokens_len g)) (Nonterminal g.start) [] well.start_within (All-nil (IsSymbolBelow (rules_len g) (tokens_len g)))))
     ]
+
+-- a rule that stands in a production is one of the grammar, and so are the symbols behind it
+pub behind_listed : (g : Grammar) → IsWellFormed g → (p k r : ℕ) (w : List GrammarSymbol) → p < prods_len g → drop k (symbols_of g p) ≡ Nonterminal r ∷ w
+    → (r < rules_len g) × All (IsSymbolBelow (rules_len g) (tokens_len g)) w
+behind_listed g well p k r w known begins =
+    let below = IsSymbolBelow (rules_len g) (tokens_len g) in
+    let all : All below (Nonterminal r ∷ w) = subst (All below) begins (All-drop below k (symbols_of g p) (prod_symbols g well p known)) in
+    (All-head below (Nonterminal r) w all, All-tail below (Nonterminal r) w all)

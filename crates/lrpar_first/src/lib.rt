@@ -1,5 +1,6 @@
 //! Sets of tokens, and what symbols begin with.
 #![tactic(auto)]
 
+pub mod behind;
 pub mod first;
 pub mod tokens;

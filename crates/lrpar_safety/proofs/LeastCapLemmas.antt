@@ -1,24 +1,11 @@
 -- The least cap, found state by state: what passes with a cap passes with each larger one.
-use Rattle.std.proofs.Common.{◌<◌, ◌≤◌, ◌≡◌, ◌+◌, ◌-◌, inl, inr, arith, below_more, ℕ, zero, suc, List}
+use Rattle.std.proofs.Common.{◌<◌, ◌≤◌, ◌≡◌, ◌+◌, ◌-◌, inl, inr, arith, below_more, ℕ}
 use Rattle.std.proofs.lemmas.Bool.{cases_lt}
 use Rattle.lrpar_grammar.specs.Grammar.{Grammar}
-use Rattle.lrpar_stacks.specs.Chain.{AreChainsShort, HasReductions}
+use Rattle.lrpar_stacks.specs.Chain.{AreChainsShort}
+use Rattle.lrpar_stacks.proofs.ChainLemmas.{less}
 use Rattle.lrpar_states.specs.Table.{Table, states_len}
 use Rattle.lrpar_safety.specs.LeastCap.{AreShortAt, IsLeastAt, IsLeastCap}
-
--- a chain that makes so many reductions makes fewer
-one_less : (g : Grammar) (table : Table) (t n : ℕ) (st : List ℕ) → HasReductions g table t st (suc n) → HasReductions g table t st n
-one_less g table t zero st h = tt
-one_less g table t (suc n) st h =
-    elim h as (λ _. HasReductions g table t st (suc n)) [
-      | inl more ↦ inl (more.0, more.1, more.2, one_less g table t n more.1 more.3)
-      | inr last ↦ absurd (omega (arith, last.1))
-    ]
-
-less : (g : Grammar) (table : Table) (t k n : ℕ) (st : List ℕ) → HasReductions g table t st (k + n) → HasReductions g table t st n
-less g table t zero n st h = let e : 0 + n ≡ n = omega arith in rw e at h
-less g table t (suc k) n st h =
-    let e : suc k + n ≡ suc (k + n) = omega arith in less g table t k n st (one_less g table t (k + n) st (rw e at h))
 
 -- the chains of a state that a cap allows a larger one allows
 pub short_above : (g : Grammar) (table : Table) (s low high : ℕ) → low ≤ high → AreShortAt g table low s → AreShortAt g table high s

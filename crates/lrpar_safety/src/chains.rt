@@ -51,7 +51,8 @@ impl<'a, StorageT: StorageIndex> Chains<'a, StorageT> {
     /// All chains share one small list of states.
     ///
     /// Each chain is made once, to see that it is no longer than those of the states before. Where one is, those of its state are made
-    /// again, at most 17 times: as the caps that they need are halved.
+    /// again: once to see that they pass, and then about twice as often as the number of reductions by which they are longer has digits
+    /// in binary.
     fn least(&self, alloc: Global) -> Result<u16, CheckFault>
         requires { FitsGrammar self.now.grm.now self.now.stable.now }
         ensures least { IfOk result (IsLeastCap self.now.grm.now self.now.stable.now) }
@@ -108,12 +109,14 @@ impl<'a, StorageT: StorageIndex> Chains<'a, StorageT> {
     {
         let mut low = from;
         let mut high = self.cap;
-        'halves: while high - low > 1 {
-            let middle = low + (high - low) / 2;
+        let mut stride: u16 = 1;
+        'strides: while high - low > 1 {
+            let middle = low + stride.min((high - low) / 2);
             if self.is_short_at(states, s, middle)? {
                 high = middle;
             } else {
                 low = middle;
+                stride = stride.saturating_mul(2);
             }
         }
         Ok(high)

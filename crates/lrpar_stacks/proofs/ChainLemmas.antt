@@ -128,7 +128,7 @@ one_less g table t (suc n) st h =
       | inr last ↦ absurd (omega (arith, last.1))
     ]
 
-less : (g : Grammar) (table : Table) (t k n : ℕ) (st : List ℕ) → HasReductions g table t st (k + n) → HasReductions g table t st n
+pub less : (g : Grammar) (table : Table) (t k n : ℕ) (st : List ℕ) → HasReductions g table t st (k + n) → HasReductions g table t st n
 less g table t zero n st h = let e : 0 + n ≡ n = omega arith in rw e at h
 less g table t (suc k) n st h =
     let e : suc k + n ≡ suc (k + n) = omega arith in less g table t k n st (one_less g table t (k + n) st (rw e at h))

@@ -1,7 +1,6 @@
 //! What the conditions of completeness ask for the items of one core.
-ghost use Rattle.std.specs.Prelude.{◌≡◌, ◌≢◌, ◌<◌, ◌≤◌, ◌+◌, ◌∷◌, ◌↔◌, ◌⊎◌, ◌&&◌, ◌==◌, ℕ, List, All, Contains, IfSome, IsTrue, MatchOption, Some, drop, length, map, not, slice_get};
-ghost use Rattle.lrpar_grammar.specs.Grammar.{GrammarSymbol, Nonterminal, Terminal, prod_len, prods_len, rule_of, rules_len, symbols_of, tokens_len};
-ghost use Rattle.lrpar_grammar.specs.Symbols.{symbol_of};
+ghost use Rattle.std.specs.Prelude.{◌≡◌, ◌≢◌, ◌<◌, ◌≤◌, ◌+◌, ◌↔◌, ◌⊎◌, ◌&&◌, ◌==◌, ℕ, All, Contains, IfSome, IsTrue, MatchOption, Some, length, map, not, slice_get};
+ghost use Rattle.lrpar_grammar.specs.Grammar.{Nonterminal, Terminal, prod_len, prods_len, rule_of, rules_len, symbols_of, tokens_len};
 ghost use Rattle.lrpar_first.specs.FirstRows.{HoldNothing, mark_of, row_at, rows_of};
 ghost use Rattle.lrpar_first.specs.Tokens.{has};
 ghost use Rattle.lrpar_states.specs.Graph.{HasItem, item_at};
@@ -13,6 +12,7 @@ ghost use Rattle.lrpar_complete.specs.Itemwise.{AreStartsOf, ClosesAmong, EndsBy
 
 use crate::complete::Completeness;
 use crate::complete::sets::WorkSets;
+use lrpar_first::behind::rule_behind;
 use lrpar_first::first::add_first_before;
 use lrpar_first::tokens::TokenSet;
 use lrpar_grammar::span::{PIdx, RIdx, StIdx, StorageIndex, Symbol, TIdx};
@@ -38,7 +38,7 @@ impl<'a, StorageT: StorageIndex> Completeness<'a, StorageT> {
         ensures test { IsTrue result ↔ All (ClosesAmong self.now.grm.now (rows_of sets.old.starts.items) (StorageT.index pidx.0) dot)
             (lookaheads_of StorageT.index items.now) }
     {
-        match self.rule_behind(pidx, dot) {
+        match rule_behind(self.grm, pidx, dot) {
             None => true,
             Some((rule, rest)) => {
                 put_lookaheads(items, &mut sets.after);
@@ -53,28 +53,6 @@ impl<'a, StorageT: StorageIndex> Completeness<'a, StorageT> {
                 );
                 self.starts_cover(rule, &sets.begun, &sets.starts)
             }
-        }
-    }
-
-    // The rule behind the dot, and the symbols behind it.
-    fn rule_behind(
-        &self,
-        pidx: PIdx<StorageT>,
-        dot: usize,
-    ) -> Option<(RIdx<StorageT>, &'a [Symbol<StorageT>])>
-        requires prod { StorageT.index pidx.0 < prods_len self.now.grm.now }
-        requires dot { dot ≤ prod_len self.now.grm.now (StorageT.index pidx.0) }
-        ensures { let behind = drop dot (symbols_of self.now.grm.now (StorageT.index pidx.0)) in
-            MatchOption result ((r : ℕ) (w : List GrammarSymbol) → behind ≢ Nonterminal r ∷ w)
-            (λ found. behind ≡ Nonterminal (StorageT.index found.0.0) ∷ map (symbol_of StorageT.index) found.1.now) }
-    {
-        let symbols = &self.grm.prod(pidx)[dot..];
-        match symbols.split_first() {
-            None => None,
-            Some((first, rest)) => match *first {
-                Symbol::Rule(rule) => Some((rule, rest)),
-                Symbol::Token(_) => None,
-            },
         }
     }
 
@@ -240,7 +218,7 @@ impl<'a, StorageT: StorageIndex> Completeness<'a, StorageT> {
         ensures { IsTrue result ↔ All (CarriesItem self.now.grm.now self.now.sgraph.now self.now.stable.now (StorageT.index s.0) (StorageT.index pidx.0) dot)
             (lookaheads_of StorageT.index items.now) }
     {
-        match self.rule_behind(pidx, dot) {
+        match rule_behind(self.grm, pidx, dot) {
             Some((rule, _)) => self.goes_to(s, rule, pidx, dot, items),
             None => true,
         }

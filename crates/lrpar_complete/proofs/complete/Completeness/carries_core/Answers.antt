@@ -1,13 +1,12 @@
 use Rattle.std.proofs.Common.{◌<◌, sym, subst}
 use Rattle.lrpar_complete.specs.Itemwise.{lookaheads_of}
-use Rattle.lrpar_complete.proofs.ItemwiseLemmas.{carries_each, no_rule_at, nothing_to_carry, rest_below, rule_at}
+use Rattle.lrpar_complete.proofs.ItemwiseLemmas.{carries_each, no_rule_at, nothing_to_carry, rule_at}
 use Rattle.lrpar_complete.proofs.complete.Completeness.carries_core.Goals as goal
 
 pub goes_to-requires-clause-rule : goal.goes_to-requires-clause-rule
 goes_to-requires-clause-rule g c =
     let index = g.StorageT.StorageIndex.index in
-    let low = (rest_below c.args.self.now.grm.now c.requires.known.well_formed (index c.args.pidx.0) c.args.dot (index c.in-Some.rule.0) _ c.requires.prod c.in-Some.ensures).0 in
-    subst (λ n. index c.in-Some.rule.0 < n) (sym c.requires.known.shape.rules) low
+    subst (λ n. index c.in-Some.rule.0 < n) (sym c.requires.known.shape.rules) c.in-Some.ensures.within
 
 pub returns-in-Some : goal.returns-in-Some
 returns-in-Some g c =
@@ -15,11 +14,11 @@ returns-in-Some g c =
     let grm = c.args.self.now.grm.now in
     let p = index c.args.pidx.0 in
     carries_each grm c.args.self.now.sgraph.now c.args.self.now.stable.now (index c.args.s.0) p c.args.dot (index c.in-Some.rule.0) (lookaheads_of index c.args.items.now)
-    c.goes_to.result (rule_at grm p c.args.dot (index c.in-Some.rule.0) _ c.in-Some.ensures) c.goes_to.ensures
+    c.goes_to.result (rule_at grm p c.args.dot (index c.in-Some.rule.0) _ c.in-Some.ensures.rule) c.goes_to.ensures
 
 pub returns-in-None : goal.returns-in-None
 returns-in-None g c =
     let index = g.StorageT.StorageIndex.index in
     let grm = c.args.self.now.grm.now in
     nothing_to_carry grm c.args.self.now.sgraph.now c.args.self.now.stable.now (index c.args.s.0) (index c.args.pidx.0) c.args.dot
-    (lookaheads_of index c.args.items.now) (no_rule_at grm (index c.args.pidx.0) c.args.dot c.in-None.ensures)
+    (lookaheads_of index c.args.items.now) (no_rule_at grm (index c.args.pidx.0) c.args.dot c.in-None.ensures.rule)

@@ -3,18 +3,8 @@ use Rattle.lrpar_grammar.specs.Symbols.{symbol_of}
 use Rattle.lrpar_first.specs.FirstRows.{rows_of}
 use Rattle.lrpar_first.specs.declared.tokens.TokenSet.{TokenSet}
 use Rattle.lrpar_complete.specs.Itemwise.{ClosesAmong, lookaheads_of}
-use Rattle.lrpar_complete.proofs.ItemwiseLemmas.{closed_core, rest_below}
+use Rattle.lrpar_complete.proofs.ItemwiseLemmas.{closed_core}
 use Rattle.lrpar_complete.proofs.complete.Completeness.closes_core.Goals as goal
-
-pub add_first_before-requires-clause-symbols : goal.add_first_before-requires-clause-symbols
-add_first_before-requires-clause-symbols g c =
-    let index = g.StorageT.StorageIndex.index in
-    (rest_below c.args.self.now.grm.now c.requires.known.well_formed (index c.args.pidx.0) c.args.dot (index c.in-Some.rule.0) _ c.requires.prod c.in-Some.ensures).1
-
-pub starts_cover-requires-clause-rule : goal.starts_cover-requires-clause-rule
-starts_cover-requires-clause-rule g c =
-    let index = g.StorageT.StorageIndex.index in
-    (rest_below c.args.self.now.grm.now c.requires.known.well_formed (index c.args.pidx.0) c.args.dot (index c.in-Some.rule.0) _ c.requires.prod c.in-Some.ensures).0
 
 pub returns-in-Some-clause-test : goal.returns-in-Some-clause-test
 returns-in-Some-clause-test g c =
@@ -26,5 +16,5 @@ returns-in-Some-clause-test g c =
     let P : List TokenSet → Type 0 = λ sets. IsTrue test ↔ All (ClosesAmong grm (rows_of sets) p c.args.dot) tokens in
     subst P c.deref.ensures.value
     (closed_core grm (rows_of c.deref.result.now) p c.args.dot (index c.in-Some.rule.0) (map (symbol_of index) c.in-Some.rest.now) tokens
-    c.put_lookaheads.new.set.bits.items c.add_first_before.new.set.bits.items c.clear.new.self.bits.items test c.in-Some.ensures
+    c.put_lookaheads.new.set.bits.items c.add_first_before.new.set.bits.items c.clear.new.self.bits.items test c.in-Some.ensures.rule
     c.put_lookaheads.ensures.tokens c.clear.ensures.none c.add_first_before.ensures.tokens c.starts_cover.ensures)

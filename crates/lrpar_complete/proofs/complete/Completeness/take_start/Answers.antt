@@ -1,4 +1,4 @@
-use Rattle.std.proofs.Common.{◌≡◌, ◌≢◌, ◌∙◌, ℕ, IsTrue, ap, arith, set, subst, sym}
+use Rattle.std.proofs.Common.{◌≡◌, ◌≢◌, ◌∙◌, ℕ, IsTrue, ap, arith, subst, sym}
 use Rattle.lrpar_first.specs.FirstRows.{row_at, rows_of}
 use Rattle.lrpar_first.specs.Tokens.{has}
 use Rattle.lrpar_states.specs.Graph.{ItemOf, item_at}

@@ -1,4 +1,4 @@
-use Rattle.std.proofs.Common.{◌≡◌, ℕ, List, [], ap, arith, drop, map, subst, sym}
+use Rattle.std.proofs.Common.{◌≡◌, List, [], ap, arith, drop, map, subst, sym}
 use Rattle.std.proofs.lemmas.List.{drop_all}
 use Rattle.lrpar_first.specs.FirstRows.{rows_of}
 use Rattle.lrpar_states.specs.Graph.{ItemOf}

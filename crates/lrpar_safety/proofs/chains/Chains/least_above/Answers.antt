@@ -2,8 +2,8 @@ use Rattle.std.proofs.Common.{arith}
 use Rattle.lrpar_safety.proofs.LeastCapLemmas.{below_short, least_between}
 use Rattle.lrpar_safety.proofs.chains.Chains.least_above.Goals as goal
 
-pub halves-init : goal.halves-init
-halves-init g c =
+pub strides-init : goal.strides-init
+strides-init g c =
     let d = c.args.self.now in
     record {
       above = omega arith;
@@ -11,22 +11,24 @@ halves-init g c =
       within = omega arith;
       long = c.requires.long;
       short = c.requires.short;
+      strides = omega arith;
     }
 
-pub halves-preserved-then-branch : goal.halves-preserved-then-branch
-halves-preserved-then-branch g c =
-    let was = c.halves.invariant in
+pub strides-preserved-then-branch : goal.strides-preserved-then-branch
+strides-preserved-then-branch g c =
+    let was = c.strides.invariant in
     record {
       above = was.above;
-      order = omega (arith, c.halves-test.true);
-      within = omega (arith, c.halves-test.true, was.within, was.order);
+      order = omega (arith, c.strides-test.true);
+      within = omega (arith, c.strides-test.true, was.within, was.order);
       long = was.long;
       short = c.in_ok-is_short_at.ensures.0 c.if-branch.true;
+      strides = was.strides;
     }
 
 pub returns-clause-least : goal.returns-clause-least
 returns-clause-least g c =
     let d = c.args.self.now in
-    let is = c.halves.invariant in
-    least_between d.grm.now d.stable.now (g.StorageT.StorageIndex.index c.args.s.0) c.args.from c.halves.low c.halves.high is.above is.order
-    (omega (arith, c.halves-test.false)) is.long is.short
+    let is = c.strides.invariant in
+    least_between d.grm.now d.stable.now (g.StorageT.StorageIndex.index c.args.s.0) c.args.from c.strides.low c.strides.high is.above is.order
+    (omega (arith, c.strides-test.false)) is.long is.short

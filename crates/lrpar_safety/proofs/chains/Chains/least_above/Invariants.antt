@@ -3,8 +3,8 @@ use Rattle.lrpar_safety.specs.LeastCap.{AreShortAt}
 use Rattle.lrpar_safety.proofs.chains.Chains.least_above.Given as goal
 
 -- a chain of the state exceeds the lower cap, and none the upper one
-abbrev pub invariant-halves : goal.invariant-halves
-invariant-halves g l =
+abbrev pub invariant-strides : goal.invariant-strides
+invariant-strides g l =
     let table = l.self.stable.now in
     let s = g.StorageT.StorageIndex.index l.s.0 in
     record {
@@ -13,7 +13,8 @@ invariant-halves g l =
       within : l.high ≤ l.self.cap;
       long : ¬ (AreShortAt l.self.grm.now table l.low s);
       short : AreShortAt l.self.grm.now table l.high s;
+      strides : 0 < l.stride;
     }
 
-abbrev pub decreases-halves : goal.decreases-halves
-decreases-halves g l = l.high - l.low
+abbrev pub decreases-strides : goal.decreases-strides
+decreases-strides g l = l.high - l.low

@@ -1,9 +1,8 @@
 use Rattle.std.proofs.Common.{◌≡◌, ◌∷◌, drop, map}
 use Rattle.lrpar_grammar.specs.Grammar.{Nonterminal, symbols_of}
 use Rattle.lrpar_grammar.specs.Symbols.{symbol_of}
-use Rattle.lrpar_first.proofs.SymbolLemmas.{behind_by, nothing_behind, token_behind}
-use Rattle.lrpar_build.proofs.SpreadLemmas.{behind_listed}
-use Rattle.lrpar_build.proofs.reach.rule_behind.Goals as goal
+use Rattle.lrpar_first.proofs.SymbolLemmas.{behind_by, behind_listed, nothing_behind, token_behind}
+use Rattle.lrpar_first.proofs.behind.rule_behind.Goals as goal
 
 pub returns-in-None-clause-rule : goal.returns-in-None-clause-rule
 returns-in-None-clause-rule g c =
