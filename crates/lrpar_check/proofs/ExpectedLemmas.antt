@@ -9,7 +9,7 @@ use Rattle.std.proofs.lemmas.Option.{get_or_from_slice_get, slice_get_within}
 use Rattle.std.specs.List.{zip}
 use Rattle.std.specs.List.Sorted.{IsStrictlyIncreasing}
 use Rattle.std.specs.Map.{keys_of}
-use Rattle.lrpar_grammar.specs.Grammar.{Grammar, end_token}
+use Rattle.lrpar_grammar.specs.Grammar.{Grammar}
 use Rattle.lrpar_states.proofs.EntryLemmas.{keys_of-pairs}
 use Rattle.lrpar_states.proofs.ItemLemmas.{Contains-image}
 use Rattle.lrpar_states.specs.Table.{IsActionEntry, Table, TableAction, ShiftTo, ReduceBy, Accepts, Fails, IsClosed, action_of, states_len}

@@ -3,12 +3,9 @@
 use Rattle.std.proofs.Common.{◌≡◌, ◌≢◌, ◌<◌, ◌≤◌, ◌+◌, inl, inr, refl, sym, ap, subst, arith, ℕ, zero, suc, List, [], ◌∷◌, ◌++◌, length, take, slice_get, Option, Some, length-append}
 use Rattle.std.proofs.lemmas.List.{append-nil, length-take-le}
 use Rattle.std.specs.Option.{option_map_or}
-use Rattle.lrpar_grammar.specs.Grammar.{Grammar, IsWellFormed, end_token}
+use Rattle.lrpar_grammar.specs.Grammar.{Grammar, end_token}
 use Rattle.lrpar_grammar.specs.Sentence.{IsSentence}
-use Rattle.lrpar_states.specs.Graph.{Graph}
-use Rattle.lrpar_states.specs.Safe.{IsSafe}
-use Rattle.lrpar_states.specs.Table.{Table, IsClosed}
-use Rattle.lrpar_complete.specs.Complete.{IsComplete}
+use Rattle.lrpar_states.specs.Table.{Table}
 use Rattle.lrpar_stacks.specs.Expected.{AcceptsAtEnd, IsExpected}
 use Rattle.lrpar_check.specs.ExpectedRuns.{CheckedTablesEndAtSentences, CompleteTablesExpectSentences, FeedsFront}
 use Rattle.lrpar_stacks.specs.Path.{NeverSticks}

@@ -1,19 +1,19 @@
 -- How a derivation is finished from an item: from the start item by nothing; from an item with its dot moved on by what finishes it
 -- from the item; and from an item that another one adds by its own node, trees of what the other has behind its rule, and then what
 -- finishes it from the other.
-use Rattle.std.proofs.Common.{◌≡◌, ◌≢◌, ◌<◌, ◌+◌, ◌-◌, ◌≤◌, ◌∙◌, refl, sym, ap, subst, inl, inr, arith, ℕ, zero, suc, Bool, true, false, IsTrue, List, [], ◌∷◌, ◌++◌, Option, Some, drop, length, reverse, slice_get}
+use Rattle.std.proofs.Common.{◌≡◌, ◌≢◌, ◌<◌, ◌+◌, ◌-◌, ◌≤◌, ◌∙◌, refl, sym, ap, subst, inl, inr, arith, ℕ, zero, suc, Bool, true, false, IsTrue, List, [], ◌∷◌, ◌++◌, Some, drop, length, reverse, slice_get}
 use Rattle.std.proofs.lemmas.List.{append_assoc, append-nil, reverse-append}
 use Rattle.std.proofs.lemmas.Bool.{false≢true}
 use Rattle.lrpar_grammar.specs.Grammar.{Grammar, GrammarSymbol, IsWellFormed, Nonterminal, end_token, prods_len, rule_of, start_prod, symbols_of}
 use Rattle.lrpar_grammar.specs.Tree.{Forest, Tree, Branch, Cons, Nil, forest_leaves, leaves}
 use Rattle.lrpar_grammar.proofs.ForestLemmas.{joined, joined_leaves, splits}
 use Rattle.lrpar_states.specs.Graph.{ItemOf, item_at}
-use Rattle.lrpar_build.specs.ItemSets.{IsAdvanced, IsInClosure, IsReachedBy, IsStartItem}
+use Rattle.lrpar_build.specs.ItemSets.{IsAdvanced, IsReachedBy}
 use Rattle.lrpar_build.proofs.ReachedLemmas.{closure_cases, start_is_fresh}
 use Rattle.lrpar_shortest.specs.Moves.{MoveOf, Makes, forest_moves, moves_of}
 use Rattle.lrpar_shortest.specs.Texts.{AreTreesOf, IsTreeOf}
 use Rattle.lrpar_shortest.proofs.BehindLemmas.{drop_at_get}
-use Rattle.lrpar_examples.specs.Climbing.{Finishes, FinishesAt, FinishesWith, IsFinished, IsNextIf, LeadsUp, Place}
+use Rattle.lrpar_examples.specs.Climbing.{Finishes, FinishesAt, IsNextIf, LeadsUp, Place}
 use Rattle.lrpar_examples.specs.Reading.{IsNext}
 
 -- the moves of two lists of trees

@@ -1,10 +1,10 @@
 -- Two readings that go on with two moves are an example.
-use Rattle.std.proofs.Common.{◌≡◌, ◌≢◌, ◌<◌, ◌↔◌, ◌∙◌, sym, ap, subst, arith, ℕ, Bool, IsTrue, List}
-use Rattle.lrpar_grammar.specs.Grammar.{Grammar, GrammarSymbol, IsWellFormed, Terminal, prod_len, prods_len, start_prod, tokens_len}
+use Rattle.std.proofs.Common.{◌≡◌, ◌≢◌, ◌<◌, ◌↔◌, ◌∙◌, sym, ap, subst, arith, ℕ, IsTrue, List}
+use Rattle.lrpar_grammar.specs.Grammar.{Grammar, IsWellFormed, prod_len, prods_len}
 use Rattle.lrpar_grammar.specs.Tree.{Forest, Tree, forest_leaves, leaves}
 use Rattle.lrpar_states.specs.Graph.{Graph, HasItem, graph_len}
 use Rattle.lrpar_build.specs.Canonical.{IsCanonical}
-use Rattle.lrpar_shortest.specs.Moves.{MoveOf, Makes, Takes, forest_moves, moves_of}
+use Rattle.lrpar_shortest.specs.Moves.{MoveOf, Makes, Takes, forest_moves}
 use Rattle.lrpar_shortest.specs.Texts.{AreTreesOf}
 use Rattle.lrpar_shortest.specs.Ways.{StepOf, symbols_in}
 use Rattle.lrpar_examples.specs.Example.{ExampleOf, IsExample, IsFront, IsShortestTo}

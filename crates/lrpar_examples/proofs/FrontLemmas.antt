@@ -1,20 +1,20 @@
 -- A shortest way to a state and shortest trees of its symbols are a shortest text that leads there.
-use Rattle.std.proofs.Common.{◌≡◌, ◌<◌, ◌≤◌, ◌+◌, ◌⊎◌, ◌∙◌, refl, sym, ap, subst, inl, inr, arith, ℕ, List, [], ◌∷◌, ◌++◌, All, None, Option, Some, length, min, option_map, reverse, slice_get}
+use Rattle.std.proofs.Common.{◌≡◌, ◌<◌, ◌≤◌, ◌∙◌, refl, sym, ap, subst, inl, inr, arith, ℕ, List, [], ◌∷◌, All, None, Option, Some, length, min, option_map, reverse, slice_get}
 use Rattle.std.proofs.lemmas.Bool.{cases_lt}
 use Rattle.std.proofs.lemmas.List.{reverse-append, reverse-reverse}
 use Rattle.std.proofs.lemmas.List.Elements.{All-append, All-cons, All-head, All-nil, All-tail}
 use Rattle.lrpar_grammar.specs.Grammar.{Grammar, GrammarSymbol, IsWellFormed, Nonterminal, Terminal, rule_of, symbols_of}
-use Rattle.lrpar_grammar.specs.Tree.{Forest, forest_leaves}
+use Rattle.lrpar_grammar.specs.Tree.{Forest}
 use Rattle.lrpar_states.specs.Graph.{Graph, ItemOf, graph_len}
 use Rattle.lrpar_states.specs.Table.{IsClosed, Table}
 use Rattle.lrpar_build.specs.Built.{IsBuilt}
 use Rattle.lrpar_build.specs.Canonical.{AreSame, sets_of}
-use Rattle.lrpar_build.specs.ItemSets.{Adds, IsAdvanced, IsReachedBy}
+use Rattle.lrpar_build.specs.ItemSets.{IsAdvanced, IsReachedBy}
 use Rattle.lrpar_build.proofs.ReachedLemmas.{closure_each, known_by_symbol}
 use Rattle.lrpar_shortest.specs.Moves.{MoveOf, forest_moves}
 use Rattle.lrpar_shortest.specs.Reached.{IsReachedRule, IsReachedSymbol, OnRight}
-use Rattle.lrpar_shortest.specs.Texts.{AreShortestTrees, AreTreesOf, HaveTrees, IsShortestLen, forest_width}
-use Rattle.lrpar_shortest.specs.Ways.{AreWays, IsPathTo, IsShortestPath, IsShortestWay, IsShortestWayIfAny, StepOf, WayOf, symbols_in, way_at}
+use Rattle.lrpar_shortest.specs.Texts.{AreShortestTrees, AreTreesOf, HaveTrees, forest_width}
+use Rattle.lrpar_shortest.specs.Ways.{IsPathTo, IsShortestPath, IsShortestWayIfAny, StepOf, WayOf, symbols_in, way_at}
 use Rattle.lrpar_examples.specs.Climbing.{IsWay}
 use Rattle.lrpar_examples.specs.Example.{AreExamplesFor, ExamplesOf, IsFront}
 use Rattle.lrpar_examples.proofs.PathLemmas.{state_reached}

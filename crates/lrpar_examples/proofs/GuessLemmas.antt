@@ -1,8 +1,8 @@
 -- What follows where readings that were guessed pass the tests.
-use Rattle.std.proofs.Common.{◌≡◌, ◌≢◌, ◌<◌, ◌≤◌, ◌+◌, ◌∙◌, refl, sym, ap, subst, inl, arith, ℕ, List, [], ◌∷◌, ◌++◌, drop, get_or, length, map, take}
-use Rattle.std.proofs.lemmas.List.{append_assoc, drop_more, map-append, take-append-drop}
+use Rattle.std.proofs.Common.{◌≡◌, ◌<◌, ◌+◌, ◌∙◌, sym, ap, inl, arith, ℕ, List, [], ◌∷◌, ◌++◌, drop, get_or, length, take}
+use Rattle.std.proofs.lemmas.List.{drop_more, map-append, take-append-drop}
 use Rattle.lrpar_grammar.specs.Grammar.{Grammar}
-use Rattle.lrpar_grammar.specs.Tree.{Forest, Tree, forest_leaves, leaves}
+use Rattle.lrpar_grammar.specs.Tree.{forest_leaves, leaves}
 use Rattle.lrpar_grammar.proofs.ListLemmas.{map-take_more}
 use Rattle.lrpar_shortest.specs.Moves.{Makes, MoveOf, Takes, forest_moves, move_of, moves_in}
 use Rattle.lrpar_shortest.specs.Ways.{StepOf}

@@ -1,16 +1,16 @@
 -- Links of a state: those from items that aren't there by closure are put first, and then those from items of rules that are linked. Once
 -- all is linked that comes with each of these, each item of the state that is there by closure has a link of its rule.
-use Rattle.std.proofs.Common.{◌≡◌, ◌≢◌, ◌<◌, ◌≤◌, ◌+◌, ◌-◌, ◌*◌, ◌==◌, ◌⊎◌, ◌↔◌, ◌∙◌, refl, sym, ap, subst, inl, inr, arith, ℕ, zero, suc, Bool, true, false, IsTrue, List, [], ◌∷◌, ◌++◌, All, drop, take, length, map, Some, cond, slice_get, get_or}
+use Rattle.std.proofs.Common.{◌≡◌, ◌≢◌, ◌<◌, ◌≤◌, ◌+◌, ◌-◌, ◌⊎◌, ◌↔◌, ◌∙◌, refl, sym, ap, subst, inl, inr, arith, ℕ, zero, suc, Bool, true, false, IsTrue, List, [], ◌∷◌, ◌++◌, drop, length, map, Some, cond, slice_get, get_or}
 use mathlib.Core.Bool.{beq}
 use Rattle.std.specs.List.{Contains}
 use Rattle.std.specs.Option.{option_map_or}
 use Rattle.std.proofs.lemmas.Bool.{cases_eq, cases_lt, eq-eqb, false≢true, ne_eqb}
-use Rattle.std.proofs.lemmas.List.{get_or-append_right, get_or-map, get_or_append_left, get_or_default, length-append, length-map}
-use Rattle.std.proofs.lemmas.List.Elements.{All-get_or, Contains-append_left, Contains-append_right, Contains-append_cases, Contains-push_cases}
+use Rattle.std.proofs.lemmas.List.{get_or-append_right, get_or-map, get_or_default, length-append, length-map}
+use Rattle.std.proofs.lemmas.List.Elements.{All-get_or, Contains-append_right, Contains-append_cases, Contains-push_cases}
 use Rattle.std.proofs.lemmas.Option.{slice_get_cases, slice_get_within}
 use Rattle.lrpar_text.specs.declared.span.PIdx.{PIdx}
 use Rattle.lrpar_grammar.specs.Symbols.{prod_numbers}
-use Rattle.lrpar_grammar.specs.Grammar.{Grammar, GrammarSymbol, IsWellFormed, Nonterminal, Production, Terminal, end_token, prod_len, prods_from, prods_len, prods_of, rule_of, rules_len, start_prod, symbols_of, tokens_len}
+use Rattle.lrpar_grammar.specs.Grammar.{Grammar, GrammarSymbol, IsWellFormed, Nonterminal, Production, Terminal, prod_len, prods_from, prods_len, prods_of, rule_of, rules_len, start_prod, symbols_of}
 use Rattle.lrpar_states.specs.Graph.{Graph, HasCore, HasItem, ItemOf, graph_len, item_at}
 use Rattle.lrpar_states.specs.PlainItems.{core_of}
 use Rattle.lrpar_states.proofs.ItemLemmas.{Contains-image}
@@ -19,9 +19,8 @@ use Rattle.lrpar_first.specs.FirstRows.{mark_of}
 use Rattle.lrpar_first.proofs.FirstLemmas.{AreBelow, first_by_mark}
 use Rattle.lrpar_first.proofs.GrowthLemmas.{prods_below}
 use Rattle.lrpar_build.specs.Canonical.{AreSame, IsCanonical, sets_of}
-use Rattle.lrpar_build.specs.ItemSets.{Added, Adds, IsAdvanced, IsInClosure, IsReachedBy, IsStartItem, Own}
-use Rattle.lrpar_build.proofs.ReachedLemmas.{added_is_listed, closure_cases, closure_each, head_after, known_by_symbol, reached_items, symbol_listed}
-use Rattle.lrpar_build.proofs.SpreadLemmas.{same_rule}
+use Rattle.lrpar_build.specs.ItemSets.{Adds, IsAdvanced, IsReachedBy, IsStartItem, Own}
+use Rattle.lrpar_build.proofs.ReachedLemmas.{closure_each, head_after, known_by_symbol, reached_items, symbol_listed}
 use Rattle.lrpar_examples.specs.Links.{AreBegun, AreLinks, AreNoted, AreNotedOf, ArePut, HasLink, IsBegunItem, IsBegunLink, IsLink, IsLinkBelow, IsNotedCore, IsStep, LinkAll, LinkOf, PassesOn, link_at, link_of, links_of}
 use Rattle.lrpar_examples.specs.declared.links.Link.{Link}
 use Rattle.lrpar_examples.proofs.MarkLemmas.{AreNoted-kept, link-append, put_then, put_weaker}

@@ -1,13 +1,13 @@
 -- Links put behind others, and the marks of their rules.
-use Rattle.std.proofs.Common.{◌≡◌, ◌<◌, ◌≤◌, ◌+◌, ◌*◌, ◌⊎◌, ◌∙◌, refl, sym, ap, subst, inl, inr, arith, ℕ, zero, suc, Bool, true, false, cond, not, IsTrue, List, [], ◌∷◌, ◌++◌, All, drop, length, set, get_or}
+use Rattle.std.proofs.Common.{◌≡◌, ◌<◌, ◌+◌, ◌⊎◌, ◌∙◌, refl, sym, ap, subst, inl, inr, arith, ℕ, Bool, true, false, cond, not, IsTrue, List, [], ◌∷◌, ◌++◌, length, set, get_or}
 use Rattle.std.specs.Bool.{OnTrue}
 use Rattle.std.proofs.lemmas.Bool.{OnTrue_from, cases_eq, false≢true}
-use Rattle.std.proofs.lemmas.List.{append-nil, append_assoc, get_or-set_other, get_or-set_same, get_or_append_left, get_or_at, get_or_read, length-append, length-set}
+use Rattle.std.proofs.lemmas.List.{append-nil, append_assoc, get_or-set_other, get_or_append_left, get_or_at, get_or_read, length-append, length-set}
 use Rattle.std.proofs.lemmas.List.Sums.{count_by-le-length, sum_by-set}
 use Rattle.std.proofs.lemmas.List.Elements.{All-append, All-cons, All-nil, All-weaker}
-use Rattle.lrpar_grammar.specs.Grammar.{Grammar, GrammarSymbol, Nonterminal, symbols_of}
+use Rattle.lrpar_grammar.specs.Grammar.{Grammar}
 use Rattle.lrpar_first.specs.Tokens.{has, missing}
-use Rattle.lrpar_examples.specs.Links.{AreMarks, AreNoted, ArePut, HasLink, LinkOf, PassesOn, link_at}
+use Rattle.lrpar_examples.specs.Links.{AreMarks, AreNoted, ArePut, HasLink, LinkOf, link_at}
 
 -- one mark more is set
 pub missing-set : (bits : List Bool) (i : ℕ) → i < length bits → has bits i ≡ false → missing (set bits i true) + 1 ≡ missing bits

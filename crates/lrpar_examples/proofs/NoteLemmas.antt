@@ -1,5 +1,5 @@
 -- What is linked of a rule that stands behind a dot.
-use Rattle.std.proofs.Common.{◌≡◌, ◌<◌, ◌≤◌, ◌+◌, ◌⊎◌, ◌∙◌, refl, sym, ap, subst, inl, inr, arith, ℕ, Bool, true, false, IsTrue, List, [], ◌∷◌, ◌++◌, All, drop, length}
+use Rattle.std.proofs.Common.{◌≡◌, ◌∙◌, sym, ap, subst, ℕ, Bool, true, false, IsTrue, List, ◌∷◌, All, drop}
 use Rattle.std.proofs.lemmas.Bool.{false≢true}
 use Rattle.lrpar_grammar.specs.Grammar.{Grammar, GrammarSymbol, IsWellFormed, Nonterminal, rules_len, symbols_of, tokens_len}
 use Rattle.lrpar_first.specs.FirstRows.{AreFirsts, IsSymbolBelow, begins, mark_of}

@@ -2,10 +2,10 @@
 use Rattle.std.proofs.Common.{◌≡◌, ◌<◌, ◌≤◌, ◌+◌, ◌∙◌, refl, sym, ap, subst, inl, inr, arith, ℕ, zero, suc, List, [], ◌∷◌, ◌++◌, None, Some, get_or, length, map, reverse, take}
 use Rattle.std.proofs.lemmas.Bool.{cases_lt}
 use Rattle.std.proofs.lemmas.List.{append_assoc, append-nil, get_or-map, get_or_past, length-map, reverse-append}
-use Rattle.lrpar_grammar.specs.Grammar.{Grammar, GrammarSymbol, IsWellFormed, Nonterminal, Terminal, rules_len, tokens_len}
+use Rattle.lrpar_grammar.specs.Grammar.{Grammar, GrammarSymbol, Nonterminal, Terminal, rules_len, tokens_len}
 use Rattle.lrpar_states.specs.Graph.{Graph}
 use Rattle.lrpar_states.specs.Safe.{GoesBy}
-use Rattle.lrpar_states.specs.Table.{IsClosed, ShiftTo, Table, action_of, goto_of, states_len}
+use Rattle.lrpar_states.specs.Table.{IsClosed, Table, goto_of, states_len}
 use Rattle.lrpar_build.specs.BuilderLaws.{IsWantedTable}
 use Rattle.lrpar_build.specs.Canonical.{AreSame, LeadsTo, sets_of}
 use Rattle.lrpar_build.specs.ItemSets.{IsReachedBy}

@@ -2,7 +2,7 @@
 use Rattle.std.proofs.Common.{◌≡◌, ◌≢◌, ◌∙◌, refl, ◌+◌, Some, true, false, arith, sym, ap, subst, inl, ℕ, List, [], ◌∷◌, ◌++◌, drop, slice_get}
 use Rattle.std.proofs.lemmas.List.{append_assoc, append_cancel_left, drop_all}
 use Rattle.lrpar_grammar.specs.Grammar.{Grammar, GrammarSymbol, Terminal, prod_len, start_prod, symbols_of}
-use Rattle.lrpar_grammar.specs.Tree.{Forest, Tree, Cons, Leaf, Nil, forest_leaves, leaves}
+use Rattle.lrpar_grammar.specs.Tree.{Forest, Tree, Cons, Leaf, Nil, forest_leaves}
 use Rattle.lrpar_shortest.specs.Moves.{MoveOf, Makes, Takes, forest_moves, moves_of}
 use Rattle.lrpar_shortest.specs.Texts.{AreTreesOf}
 use Rattle.lrpar_examples.specs.Climbing.{Finishes, HasFinished}

@@ -1,13 +1,13 @@
 -- Moves that are replayed make trees of the symbols on the stack.
-use Rattle.std.proofs.Common.{◌≡◌, ◌<◌, ◌≤◌, ◌+◌, ◌-◌, ◌∙◌, refl, sym, ap, subst, arith, ℕ, List, [], ◌∷◌, ◌++◌, drop, get_or, length, map, take}
+use Rattle.std.proofs.Common.{◌≡◌, ◌<◌, ◌+◌, ◌-◌, ◌∙◌, refl, sym, ap, subst, arith, ℕ, List, [], ◌∷◌, ◌++◌, drop, get_or, length, map, take}
 use Rattle.std.proofs.lemmas.List.{append_assoc, append-nil, get_or-map, map-append, take-append-drop, take_rest}
 use Rattle.lrpar_text.specs.declared.span.Symbol.{Symbol}
 use Rattle.lrpar_grammar.specs.Symbols.{symbol_of}
 use Rattle.lrpar_grammar.specs.Grammar.{Grammar, GrammarSymbol, Nonterminal, Terminal, prods_len, rule_of, symbols_of}
-use Rattle.lrpar_grammar.specs.Tree.{Forest, Tree, Branch, Cons, Leaf, Nil}
+use Rattle.lrpar_grammar.specs.Tree.{Forest, Branch, Cons, Leaf, Nil}
 use Rattle.lrpar_grammar.proofs.ForestLemmas.{joined, joined_fits, splits}
 use Rattle.lrpar_shortest.specs.Moves.{Makes, MoveOf, Takes, forest_moves, moves_of}
-use Rattle.lrpar_shortest.specs.Texts.{AreTreesOf, IsTreeOf}
+use Rattle.lrpar_shortest.specs.Texts.{AreTreesOf}
 use Rattle.lrpar_examples.specs.Replay.{AreOfTree, Replays}
 use Rattle.lrpar_examples.proofs.ClimbLemmas.{joined_moves, one_tree}
 

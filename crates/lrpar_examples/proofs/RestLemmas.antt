@@ -1,17 +1,16 @@
 -- Trees of what stands behind a link's rule.
-use Rattle.std.proofs.Common.{◌≡◌, ◌<◌, ◌≤◌, ◌+◌, ◌-◌, ◌⊎◌, ◌∙◌, refl, sym, ap, subst, inl, inr, arith, ℕ, zero, suc, Bool, true, false, IsTrue, List, [], ◌∷◌, ◌++◌, All, drop, length, map, take}
+use Rattle.std.proofs.Common.{◌≡◌, ◌<◌, ◌+◌, ◌-◌, ◌⊎◌, ◌∙◌, refl, sym, ap, subst, inl, inr, arith, ℕ, zero, suc, Bool, true, false, List, [], ◌∷◌, ◌++◌, All, drop, length, map, take}
 use Rattle.std.proofs.lemmas.Bool.{false≢true}
 use Rattle.std.proofs.lemmas.List.{nil_from_length, take_rest}
-use Rattle.lrpar_grammar.specs.Grammar.{Grammar, GrammarSymbol, IsWellFormed, Nonterminal, prods_len, rule_of, symbols_of}
+use Rattle.lrpar_grammar.specs.Grammar.{Grammar, GrammarSymbol, IsWellFormed, Nonterminal, rule_of, symbols_of}
 use Rattle.lrpar_grammar.specs.Tree.{Forest, forest_leaves}
-use Rattle.lrpar_first.specs.First.{IsFirst}
 use Rattle.lrpar_first.specs.FirstRows.{mark_of}
 use Rattle.lrpar_first.proofs.FirstLemmas.{AreBelow}
 use Rattle.lrpar_first.proofs.GrowthLemmas.{prods_below}
 use Rattle.lrpar_build.proofs.ReachedLemmas.{head_after, known_by_symbol}
 use Rattle.lrpar_shortest.specs.Moves.{MoveOf, forest_moves}
 use Rattle.lrpar_shortest.specs.Reached.{EachReachedHasTree, IsReachedRule, IsReachedSymbol}
-use Rattle.lrpar_shortest.specs.Texts.{AreShortestTrees, AreTreesOf, BeginWith, CanBeginWith, HaveTrees, forest_width}
+use Rattle.lrpar_shortest.specs.Texts.{AreShortestTrees, AreTreesOf, BeginWith, CanBeginWith, HaveTrees}
 use Rattle.lrpar_examples.specs.Climbing.{HasRest, IsNextIf}
 use Rattle.lrpar_examples.specs.Links.{IsStep, LinkOf, PassesOn}
 use Rattle.lrpar_shortest.proofs.BehindLemmas.{drop_at_get, have_trees, rest_reached}

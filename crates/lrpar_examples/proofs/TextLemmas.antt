@@ -1,6 +1,6 @@
 -- The tokens of moves, and of the trees that they make.
-use Rattle.std.proofs.Common.{◌≡◌, ◌<◌, ◌≤◌, ◌+◌, ◌∙◌, refl, sym, ap, subst, arith, ℕ, List, [], ◌∷◌, ◌++◌, get_or, length, map, take}
-use Rattle.std.proofs.lemmas.List.{append_assoc, append-nil, get_or-map, length-map, map-append}
+use Rattle.std.proofs.Common.{◌≡◌, ◌<◌, ◌≤◌, ◌+◌, ◌∙◌, refl, sym, ap, arith, ℕ, List, [], ◌∷◌, ◌++◌, get_or, length, take}
+use Rattle.std.proofs.lemmas.List.{append-nil, get_or-map}
 use Rattle.lrpar_text.specs.declared.span.TIdx.{TIdx}
 use Rattle.lrpar_grammar.specs.Tree.{Forest, Tree, Branch, Cons, Leaf, Nil, forest_leaves, leaves}
 use Rattle.lrpar_grammar.proofs.ListLemmas.{map-take_more}

@@ -1,5 +1,5 @@
 -- The way up by links, from one to the one above it.
-use Rattle.std.proofs.Common.{◌≡◌, ◌≢◌, ◌<◌, ◌≤◌, ◌+◌, ◌⊎◌, ◌∙◌, refl, sym, ap, subst, inl, inr, arith, ℕ, suc, Bool, List, [], ◌∷◌, ◌++◌, drop, length}
+use Rattle.std.proofs.Common.{◌≡◌, ◌≢◌, ◌<◌, ◌+◌, ◌⊎◌, ◌∙◌, refl, sym, ap, subst, inl, inr, arith, ℕ, suc, Bool, List, [], ◌∷◌, ◌++◌, drop, length}
 use Rattle.std.proofs.lemmas.List.{append_assoc, append-nil}
 use Rattle.lrpar_grammar.specs.Grammar.{Grammar, GrammarSymbol, IsWellFormed, Nonterminal, prods_len, rule_of, start_prod, symbols_of}
 use Rattle.lrpar_states.specs.Graph.{ItemOf}
@@ -8,7 +8,7 @@ use Rattle.lrpar_build.specs.ItemSets.{IsReachedBy}
 use Rattle.lrpar_build.proofs.ReachedLemmas.{head_after, known_by_symbol}
 use Rattle.lrpar_shortest.specs.Moves.{MoveOf, Makes, forest_moves}
 use Rattle.lrpar_shortest.specs.Reached.{IsReachedRule}
-use Rattle.lrpar_examples.specs.Climbing.{AreUpLinks, EndsLink, HasClimbed, HasRest, IsUpLink, LeadsUp, UpOf, place_at}
+use Rattle.lrpar_examples.specs.Climbing.{AreUpLinks, EndsLink, HasClimbed, HasRest, LeadsUp, UpOf, place_at}
 use Rattle.lrpar_examples.specs.Links.{AreLinks, IsBegunItem, IsStep, LinkOf, link_at}
 use Rattle.lrpar_shortest.proofs.BehindLemmas.{drop_at_get}
 use Rattle.lrpar_examples.proofs.ClimbLemmas.{up_added, up_none, up_then}

@@ -1,17 +1,15 @@
 -- The way up from an item of a state, by places on the way that led to the state, to the start.
-use Rattle.std.proofs.Common.{◌≡◌, ◌≢◌, ◌<◌, ◌≤◌, ◌+◌, ◌-◌, ◌*◌, ◌==◌, ◌⊎◌, ◌∙◌, if◌then◌else◌, refl, sym, ap, subst, inl, inr, arith, ℕ, zero, suc, Bool, true, false, IsTrue, List, [], ◌∷◌, ◌++◌, drop, length, map, reverse, take}
+use Rattle.std.proofs.Common.{◌≡◌, ◌≢◌, ◌<◌, ◌≤◌, ◌+◌, ◌-◌, ◌*◌, ◌==◌, ◌⊎◌, ◌∙◌, if◌then◌else◌, refl, sym, ap, subst, inl, inr, arith, ℕ, Bool, true, false, List, [], ◌∷◌, ◌++◌, drop, length, map, reverse, take}
 use Rattle.std.proofs.lemmas.List.{append_assoc, append-nil, length-reverse, length-take-le, reverse-append, reverse-reverse, length-drop, length-map, take-append-drop, take-take, take_all, drop_at, get_or_past}
 use Rattle.std.proofs.lemmas.Bool.{eq-eqb, ne_eqb}
 use Rattle.lrpar_grammar.specs.Grammar.{Grammar, GrammarSymbol, IsWellFormed, end_token, start_prod}
 use Rattle.lrpar_states.specs.Graph.{Graph, HasItem, item_at}
-use Rattle.lrpar_build.specs.Canonical.{AreSame, IsCanonical, sets_of}
 use Rattle.lrpar_build.specs.ItemSets.{IsReachedBy}
 use Rattle.lrpar_build.proofs.ReachedLemmas.{reached_at_end, start_item_at_start}
 use Rattle.lrpar_shortest.specs.Moves.{MoveOf, Makes}
-use Rattle.lrpar_shortest.specs.Ways.{IsPathTo, StepOf, symbols_in}
-use Rattle.lrpar_examples.specs.Climbing.{Finishes, FinishesAt, HasClimbed, HasFinished, HasItemFor, IsWay, LeadsUp, UpOf, place_at, state_before}
-use Rattle.lrpar_examples.specs.Links.{IsBegunItem}
-use Rattle.lrpar_examples.proofs.ClimbLemmas.{ComesFrom, comes_from, up_back, up_end, up_none, up_then}
+use Rattle.lrpar_shortest.specs.Ways.{StepOf, symbols_in}
+use Rattle.lrpar_examples.specs.Climbing.{HasClimbed, HasFinished, HasItemFor, IsWay, LeadsUp, UpOf, place_at, state_before}
+use Rattle.lrpar_examples.proofs.ClimbLemmas.{comes_from, up_back, up_end, up_then}
 
 -- moves were put behind the others that lead from production p with its dot at k up to production q with its dot at the front; the
 -- first one makes the node of p, where it isn't q still

@@ -1,13 +1,13 @@
 -- How a derivation is finished from an item of a state: from the item up to one that waits for its rule, and so on to the start.
-use Rattle.std.specs.Prelude.{◌≡◌, ◌≢◌, ◌<◌, ◌≤◌, ◌+◌, ◌⊎◌, ℕ, Bool, IsTrue, List, [], ◌∷◌, ◌++◌, drop, length, map, slice_index_or, take}
+use Rattle.std.specs.Prelude.{◌≡◌, ◌≢◌, ◌<◌, ◌≤◌, ◌+◌, ◌⊎◌, ℕ, Bool, IsTrue, List, ◌∷◌, ◌++◌, drop, length, map, slice_index_or, take}
 use Rattle.lrpar_grammar.specs.Grammar.{Grammar, GrammarSymbol, Nonterminal, prods_len, rule_of, start_prod, symbols_of}
 use Rattle.lrpar_grammar.specs.Tree.{Forest, Tree, forest_leaves, leaves}
-use Rattle.lrpar_states.specs.Graph.{Graph, HasItem, ItemOf}
+use Rattle.lrpar_states.specs.Graph.{Graph, HasItem}
 use Rattle.lrpar_shortest.specs.Moves.{MoveOf, Makes, forest_moves, moves_of}
 use Rattle.lrpar_shortest.specs.Reached.{IsReachedRule}
 use Rattle.lrpar_shortest.specs.Texts.{AreTreesOf, IsTreeOf}
 use Rattle.lrpar_shortest.specs.Ways.{IsPathTo, StepOf, symbols_in}
-use Rattle.lrpar_examples.specs.Links.{IsBegunItem, IsStep, LinkOf, link_at}
+use Rattle.lrpar_examples.specs.Links.{IsStep, LinkOf, link_at}
 use Rattle.lrpar_examples.specs.Reading.{IsNext}
 use Rattle.lrpar_examples.specs.declared.climb.Up.{Up}
 

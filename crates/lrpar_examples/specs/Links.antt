@@ -1,7 +1,7 @@
 -- Why rules stand at the front of a state's items: each comes by closure from an item that stands before it. What is asked for is told
 -- apart: whether the items have one token as lookahead, or any.
-use Rattle.std.specs.Prelude.{◌≡◌, ◌≢◌, ◌<◌, ◌≤◌, ◌+◌, ◌*◌, ◌⊎◌, ℕ, Bool, true, false, IsTrue, List, [], ◌∷◌, ◌++◌, All, drop, length, map, slice_index_or}
-use Rattle.lrpar_grammar.specs.Grammar.{Grammar, GrammarSymbol, Nonterminal, prods_len, rule_of, rules_len, start_prod, symbols_of}
+use Rattle.std.specs.Prelude.{◌≡◌, ◌≢◌, ◌<◌, ◌≤◌, ◌+◌, ◌*◌, ◌⊎◌, ℕ, Bool, true, false, IsTrue, List, ◌∷◌, ◌++◌, All, drop, length, map, slice_index_or}
+use Rattle.lrpar_grammar.specs.Grammar.{Grammar, GrammarSymbol, Nonterminal, prods_len, rule_of, start_prod, symbols_of}
 use Rattle.lrpar_states.specs.Graph.{ItemOf, item_at}
 use Rattle.lrpar_first.specs.First.{IsFirst}
 use Rattle.lrpar_first.specs.FirstRows.{mark_of}

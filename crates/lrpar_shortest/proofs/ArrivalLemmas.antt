@@ -1,12 +1,11 @@
 -- What is kept of states, once no step is open, are shortest ways.
-use Rattle.std.proofs.Common.{◌≡◌, ◌<◌, ◌≤◌, ◌+◌, ◌∙◌, refl, sym, ap, subst, inl, inr, arith, ℕ, List, [], ◌∷◌, ◌++◌, Option, Some, None, length, map, min, reverse}
+use Rattle.std.proofs.Common.{◌≡◌, ◌<◌, ◌≤◌, ◌+◌, ◌∙◌, refl, sym, ap, subst, inl, inr, arith, ℕ, List, [], ◌∷◌, ◌++◌, Option, Some, None, length, min, reverse}
 use Rattle.std.specs.Option.{option_map}
 use Rattle.std.proofs.lemmas.Bool.{cases_lt}
 use Rattle.std.proofs.lemmas.List.{append-nil, append_assoc, get_or_past, map-append, reverse-append, reverse-reverse}
 use Rattle.lrpar_grammar.specs.Grammar.{Grammar, GrammarSymbol, IsWellFormed}
 use Rattle.lrpar_grammar.specs.Tree.{Forest}
-use Rattle.lrpar_states.specs.Graph.{Graph, graph_len}
-use Rattle.lrpar_states.specs.Safe.{GoesBy}
+use Rattle.lrpar_states.specs.Graph.{Graph}
 use Rattle.lrpar_states.specs.Table.{IsClosed, Table, states_len}
 use Rattle.lrpar_build.specs.Built.{IsBuilt}
 use Rattle.lrpar_build.specs.Canonical.{AreSame, sets_of}
@@ -15,7 +14,7 @@ use Rattle.lrpar_shortest.specs.Choices.{AreShortest, ChoiceOf}
 use Rattle.lrpar_shortest.specs.Lens.{added, len_at, total_len}
 use Rattle.lrpar_shortest.specs.Texts.{AreTreesOf, forest_width}
 use Rattle.lrpar_shortest.specs.WayLens.{AreEdges, AreRightWays, EdgeOf, Goes, IsWalk, LeadBack, NoStepIsOpen, Starts}
-use Rattle.lrpar_shortest.specs.Ways.{AreWays, GoBack, IsPathTo, IsShortestPath, IsShortestWay, IsShortestWayIfAny, StepOf, StepsLead, WayOf, symbols_in, way_at}
+use Rattle.lrpar_shortest.specs.Ways.{AreWays, IsPathTo, IsShortestWay, IsShortestWayIfAny, StepOf, StepsLead, WayOf, symbols_in, way_at}
 use Rattle.lrpar_shortest.proofs.LenLemmas.{added_assoc, forest_follows_fit, have_len, option_cases, total_from_zero, total_is_shortest, total_least, trees_kept}
 use Rattle.lrpar_shortest.proofs.WalkLemmas.{path_walk, walk_path}
 use Rattle.lrpar_shortest.proofs.WayLemmas.{no_walk}

@@ -1,5 +1,5 @@
 -- The steps that are kept, from the end of a way back to its start.
-use Rattle.std.proofs.Common.{◌≡◌, ◌≤◌, ◌∙◌, refl, sym, ap, subst, arith, ℕ, List, [], ◌∷◌, ◌++◌, Option, Some, None, drop, length, map, reverse, take}
+use Rattle.std.proofs.Common.{◌≡◌, ◌∙◌, refl, sym, ap, subst, ℕ, List, [], ◌∷◌, ◌++◌, Option, Some, None, drop, length, map, reverse, take}
 use Rattle.lrpar_shortest.specs.declared.steps.Step.{Step}
 use Rattle.std.proofs.lemmas.List.{append-nil, append_assoc, drop-map, length-map, map-append, reverse-append, take-map}
 use Rattle.lrpar_shortest.specs.Ways.{GoBack, StepOf, WayOf, last_of, step_of, steps_of, way_at}

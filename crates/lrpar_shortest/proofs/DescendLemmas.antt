@@ -1,5 +1,5 @@
 -- Trees that begin with a token, made from the top down to the token: what stands before it is made, and what is left goes on a stack.
-use Rattle.std.proofs.Common.{◌≡◌, ◌<◌, ◌≤◌, ◌+◌, ◌∙◌, refl, sym, ap, subst, arith, ℕ, zero, suc, List, [], ◌∷◌, ◌++◌, Option, Some, None, add-one, drop, length, map, take}
+use Rattle.std.proofs.Common.{◌≡◌, ◌<◌, ◌≤◌, ◌+◌, ◌∙◌, refl, sym, ap, subst, ℕ, zero, suc, List, [], ◌∷◌, ◌++◌, Option, Some, None, add-one, drop, length, map, take}
 use Rattle.std.specs.Option.{option_map_or}
 use Rattle.lrpar_text.specs.declared.span.Symbol.{Symbol}
 use Rattle.lrpar_grammar.specs.Symbols.{symbol_of}
@@ -13,7 +13,7 @@ use Rattle.lrpar_shortest.proofs.LenLemmas.{follows_fits, forest_follows_fit, ha
 use Rattle.lrpar_shortest.proofs.StartLemmas.{forest_begins, place_trees}
 use Rattle.lrpar_shortest.specs.Frames.{FrameOf, Unfold}
 use Rattle.lrpar_shortest.specs.Moves.{MoveOf, Makes, Takes, forest_moves, moves_of}
-use Rattle.lrpar_shortest.specs.Starts.{AreStarts, CanStart, Descends, ForestStarts, StartOf, Starts, place_of, start_at, start_by}
+use Rattle.lrpar_shortest.specs.Starts.{AreStarts, CanStart, Descends, ForestStarts, StartOf, Starts, place_of, start_by}
 
 -- the parts of what is kept
 abbrev prod_in : Option StartOf → ℕ

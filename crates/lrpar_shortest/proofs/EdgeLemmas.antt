@@ -1,5 +1,5 @@
 -- The steps of a table, from the entries that it stores.
-use Rattle.std.proofs.Common.{◌≡◌, ◌≢◌, ◌<◌, ◌≤◌, ◌+◌, ◌↔◌, ◌⊎◌, ◌∙◌, refl, sym, ap, subst, inl, inr, arith, lit<, zero-add, ℕ, zero, suc, List, [], ◌∷◌, ◌++◌, Option, Some, None, get_or, length, map, slice_index_or, take}
+use Rattle.std.proofs.Common.{◌≡◌, ◌<◌, ◌≤◌, ◌+◌, ◌∙◌, refl, sym, ap, subst, inl, inr, arith, lit<, zero-add, ℕ, List, [], ◌∷◌, ◌++◌, Option, Some, None, get_or, length, map, slice_index_or, take}
 use Rattle.std.specs.List.{Contains, flat_map, range_with_len, zip}
 use Rattle.std.proofs.lemmas.Grind.{flat_map-append}
 use Rattle.std.proofs.lemmas.List.Elements.{Contains-append_cases, Contains-append_left, Contains-append_right}
@@ -8,12 +8,11 @@ use Rattle.std.proofs.lemmas.Slice.Zip.{get_or-zip, length-zip}
 use Rattle.lrpar_grammar.proofs.ListLemmas.{range_more}
 use Rattle.lrpar_grammar.specs.Grammar.{GrammarSymbol, Nonterminal, Terminal}
 use Rattle.lrpar_states.specs.Safe.{GoesBy}
-use Rattle.lrpar_states.specs.Table.{Table, TableAction, ShiftTo, ReduceBy, Accepts, Fails, action_of, actions_at, goto_of, gotos_at, states_len}
+use Rattle.lrpar_states.specs.Table.{Table, TableAction, ShiftTo, ReduceBy, Accepts, Fails, action_of, actions_at, gotos_at, states_len}
 use Rattle.lrpar_build.proofs.MemberLemmas.{joined_has, joined_member, member_cases, member_none, range_has, range_member}
 use Rattle.lrpar_shortest.specs.Choices.{ChoiceOf}
 use Rattle.lrpar_shortest.specs.Lens.{len_at}
 use Rattle.lrpar_shortest.specs.WayLens.{AreEdges, EdgeOf, IsStoredAt, edge_if, edges_at, edges_below, goto_edges, shift_edge, shift_edges}
-use Rattle.lrpar_shortest.proofs.LenLemmas.{option_cases}
 
 -- keys and values side by side, which are the entries of a state
 module _ {K V X : Type 0} (number : K → ℕ) (value : V → X) (ks : List K) (vs : List V) (es : List (ℕ × X)) (paired : length vs ≡ length ks)

@@ -1,11 +1,11 @@
 -- The lengths of symbols, and the trees that follow what is kept of rules.
-use Rattle.std.proofs.Common.{◌≡◌, ◌<◌, ◌≤◌, ◌+◌, ◌⊎◌, ◌∙◌, refl, sym, ap, subst, inl, inr, arith, ℕ, List, [], ◌∷◌, ◌++◌, Option, Some, None, length, min, length-append}
+use Rattle.std.proofs.Common.{◌≡◌, ◌<◌, ◌≤◌, ◌+◌, ◌⊎◌, ◌∙◌, refl, sym, ap, subst, inl, inr, arith, ℕ, List, [], ◌∷◌, Option, Some, None, length, min, length-append}
 use Rattle.std.specs.Option.{option_map}
 use Rattle.lrpar_grammar.specs.Grammar.{Grammar, GrammarSymbol, Nonterminal, Terminal, prods_len, rule_of, symbols_of}
 use Rattle.lrpar_grammar.specs.Tree.{Tree, Forest, Leaf, Branch, Nil, Cons, leaves, forest_leaves}
-use Rattle.lrpar_shortest.specs.Choices.{AreRight, AreShortest, ChoiceOf, Follows, ForestFollows, choice_at, prod_at}
+use Rattle.lrpar_shortest.specs.Choices.{AreRight, AreShortest, ChoiceOf, Follows, ForestFollows, choice_at}
 use Rattle.lrpar_shortest.specs.Lens.{added, len_at, total_len}
-use Rattle.lrpar_shortest.specs.Moves.{MoveOf, Makes, Takes, forest_moves, moves_of}
+use Rattle.lrpar_shortest.specs.Moves.{Makes, forest_moves, moves_of}
 use Rattle.lrpar_shortest.specs.Texts.{AreShortestTrees, AreTreesOf, HaveTrees, IsShortestIfAny, IsShortestLen, IsTreeOf, forest_width, width}
 
 -- something, or nothing

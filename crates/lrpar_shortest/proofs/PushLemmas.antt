@@ -1,7 +1,7 @@
 -- The moves that are appended are those of shortest trees: a list can't have more of them than the number up to which lengths are told.
-use Rattle.std.proofs.Common.{◌≡◌, ◌≤◌, ◌+◌, ◌∙◌, sym, ap, arith, ℕ, List, [], ◌∷◌, ◌++◌, Option, length, length-append}
+use Rattle.std.proofs.Common.{◌≡◌, ◌≤◌, ◌+◌, ◌∙◌, ap, arith, ℕ, List, [], ◌∷◌, ◌++◌, Option, length, length-append}
 use Rattle.lrpar_grammar.specs.Grammar.{Grammar, GrammarSymbol}
-use Rattle.lrpar_grammar.specs.Tree.{Tree, Forest, Leaf, Branch, Nil, Cons, leaves, forest_leaves}
+use Rattle.lrpar_grammar.specs.Tree.{Tree, Forest, Nil, Cons, leaves}
 use Rattle.lrpar_shortest.specs.Choices.{AreShortest, ChoiceOf, Follows, ForestFollows}
 use Rattle.lrpar_shortest.specs.Moves.{MoveOf, forest_moves, moves_of}
 use Rattle.lrpar_shortest.specs.Texts.{AreShortestTrees, HaveTrees, IsShortestTree, forest_width, width}

@@ -1,15 +1,14 @@
 -- Marks of the rules that are reached from the start. Once the right side of each production whose rule is marked is marked, all rules
 -- that are reached are.
-use Rattle.std.proofs.Common.{◌≡◌, ◌≢◌, ◌<◌, ◌≤◌, ◌+◌, ◌↔◌, ◌⊎◌, ◌∙◌, refl, sym, ap, subst, inl, inr, arith, ℕ, Bool, true, false, cond, not, IsTrue, List, [], ◌∷◌, Option, Some, None, get_or, length, map, replicate, set, slice_get}
-use Rattle.std.specs.List.{All, Contains}
+use Rattle.std.proofs.Common.{◌≡◌, ◌≢◌, ◌<◌, ◌≤◌, ◌+◌, ◌↔◌, ◌∙◌, sym, ap, subst, inl, inr, arith, ℕ, Bool, true, false, cond, not, IsTrue, List, Option, Some, None, get_or, length, map, replicate, set, slice_get}
+use Rattle.std.specs.List.{Contains}
 use Rattle.std.specs.Option.{is_some, option_map}
 use Rattle.std.proofs.lemmas.Bool.{cases_eq, cases_lt, false≢true}
 use Rattle.std.proofs.lemmas.List.{get_or-map, get_or-replicate, get_or-set_other, get_or-set_same, get_or_past, length-map, length-replicate, length-set}
 use Rattle.std.proofs.lemmas.List.Sums.{sum_by-set}
 use Rattle.std.proofs.lemmas.Option.{get_or_from_slice_get, slice_get-get_or, slice_get_within}
-use Rattle.lrpar_grammar.specs.Grammar.{Grammar, GrammarSymbol, IsWellFormed, Nonterminal, Terminal, prods_len, rule_of, rules_len, start_prod, symbols_of, tokens_len}
+use Rattle.lrpar_grammar.specs.Grammar.{Grammar, GrammarSymbol, IsWellFormed, Nonterminal, Terminal, prods_len, rule_of, rules_len, symbols_of, tokens_len}
 use Rattle.lrpar_grammar.specs.Symbols.{symbol_of}
-use Rattle.lrpar_grammar.specs.Tree.{Tree}
 use Rattle.lrpar_text.specs.declared.span.Symbol.{Symbol}
 use Rattle.lrpar_first.specs.FirstRows.{IsSymbolBelow}
 use Rattle.lrpar_first.proofs.SymbolLemmas.{prod_symbols}

@@ -1,6 +1,6 @@
 -- Rules are settled in the order of their lengths. What is kept of some stays right as more comes; and no tree of a rule that is still
 -- open has less tokens than the least open production.
-use Rattle.std.proofs.Common.{◌≡◌, ◌<◌, ◌≤◌, ◌+◌, ◌⊎◌, ◌∙◌, refl, sym, ap, subst, inl, inr, arith, ℕ, zero, suc, get_or, map, List, [], ◌∷◌, ◌++◌, Option, Some, None, length, min, length-append, set, cond, nat_eq, Bool, true, false, IfSome, MatchOption}
+use Rattle.std.proofs.Common.{◌≡◌, ◌<◌, ◌≤◌, ◌+◌, ◌⊎◌, ◌∙◌, refl, sym, ap, subst, inl, inr, arith, ℕ, zero, suc, get_or, map, List, [], ◌∷◌, ◌++◌, Option, Some, None, length, min, length-append, set, cond, nat_eq, true, false, IfSome, MatchOption}
 use Rattle.std.specs.Option.{is_none, option_eq, option_map, option_map_or}
 use Rattle.std.proofs.lemmas.List.Sums.{sum_by-set}
 use Rattle.std.proofs.lemmas.Bool.{cases_eq, cases_lt, eq-eqb, eqb-true, false≢true}
@@ -10,9 +10,9 @@ use Rattle.lrpar_grammar.specs.Tree.{Tree, Forest, Leaf, Branch, Nil, Cons, leav
 use Rattle.lrpar_shortest.specs.Choices.{AreRight, AreShortest, ChoiceOf, Follows, ForestFollows, choice_at, choice_of, choices_of, prod_at}
 use Rattle.lrpar_text.specs.declared.span.PIdx.{PIdx}
 use Rattle.lrpar_shortest.specs.declared.settle.Choice.{Choice}
-use Rattle.lrpar_shortest.specs.Lens.{HasOpen, NoneIsBelow, NoneIsLess, NoneIsOpen, added, len_at, lesser_of, open_in, open_len, total_len, unless_some}
+use Rattle.lrpar_shortest.specs.Lens.{HasOpen, NoneIsBelow, NoneIsLess, NoneIsOpen, len_at, lesser_of, open_in, open_len, total_len, unless_some}
 use Rattle.lrpar_shortest.specs.Texts.{AreTreesOf, IsTreeOf, forest_width, width}
-use Rattle.lrpar_shortest.proofs.LenLemmas.{added_none, forest_follows_fit, mapped_none, mapped_parts, option_cases, total_least, trees_kept}
+use Rattle.lrpar_shortest.proofs.LenLemmas.{added_none, mapped_none, mapped_parts, option_cases, total_least, trees_kept}
 
 -- what is kept in one list is kept in the other
 abbrev pub Keeps : List (Option ChoiceOf) → List (Option ChoiceOf) → Type 0

@@ -1,15 +1,15 @@
 -- How rules can begin with a token. What is kept is right (there is a tree that begins so), and once each production that can begin lets
 -- its rule begin, all is kept: by induction on a tree whose first token it is.
-use Rattle.std.proofs.Common.{◌≡◌, ◌≢◌, ◌<◌, ◌≤◌, ◌+◌, ◌==◌, ◌⊎◌, ◌∙◌, if◌then◌else◌, refl, sym, ap, subst, inl, inr, arith, ℕ, zero, suc, Bool, true, false, cond, nat_eq, not, List, [], ◌∷◌, ◌++◌, Option, Some, None, get_or, length, map, min, set, length-append}
+use Rattle.std.proofs.Common.{◌≡◌, ◌≢◌, ◌<◌, ◌≤◌, ◌+◌, ◌⊎◌, ◌∙◌, if◌then◌else◌, refl, sym, ap, subst, inl, inr, arith, ℕ, zero, suc, Bool, true, false, cond, nat_eq, not, List, [], ◌∷◌, ◌++◌, Option, Some, None, length, set}
 use Rattle.std.specs.Option.{is_none, is_some, option_eq, option_map, option_map_or}
 use Rattle.std.proofs.lemmas.Bool.{cases_eq, eq-eqb, eqb-true, false≢true}
-use Rattle.std.proofs.lemmas.List.{get_or-set_other, get_or-set_same, length-map, length-set, map-set}
+use Rattle.std.proofs.lemmas.List.{get_or-set_other, get_or-set_same, length-set, map-set}
 use Rattle.std.proofs.lemmas.List.Sums.{sum_by-set}
 use Rattle.lrpar_text.specs.declared.span.PIdx.{PIdx}
 use Rattle.lrpar_grammar.specs.Grammar.{Grammar, GrammarSymbol, Nonterminal, Terminal, prods_len, rule_of, rules_len, symbols_of}
 use Rattle.lrpar_grammar.specs.Tree.{Tree, Forest, Leaf, Branch, Nil, Cons, leaves, forest_leaves}
-use Rattle.lrpar_shortest.specs.Choices.{AreRight, AreShortest, ChoiceOf, Follows, ForestFollows}
-use Rattle.lrpar_shortest.specs.Lens.{added, len_at, total_len}
+use Rattle.lrpar_shortest.specs.Choices.{AreRight, AreShortest, ChoiceOf}
+use Rattle.lrpar_shortest.specs.Lens.{len_at, total_len}
 use Rattle.lrpar_shortest.specs.Starts.{AreStarts, CanStart, ForestStarts, StartOf, Starts, begins, further, is_zero, place_if, place_of, start_at, start_of, starts_of, starts_open}
 use Rattle.lrpar_shortest.specs.Texts.{AreTreesOf, IsTreeOf, width}
 use Rattle.lrpar_shortest.specs.declared.begins.Start.{Start}

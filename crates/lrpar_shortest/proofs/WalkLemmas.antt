@@ -1,10 +1,10 @@
 -- Walks of a built table are the paths to its states: the table goes where the item sets do.
-use Rattle.std.proofs.Common.{◌≡◌, ◌≢◌, ◌<◌, ◌+◌, ◌⊎◌, ◌∙◌, refl, sym, ap, subst, inl, inr, arith, ℕ, List, [], ◌∷◌, Option, Some, None, slice_get}
-use Rattle.lrpar_grammar.specs.Grammar.{Grammar, GrammarSymbol, IsWellFormed, Nonterminal, Terminal, end_token, rules_len, symbols_of, tokens_len}
+use Rattle.std.proofs.Common.{◌≡◌, ◌<◌, ◌∙◌, sym, subst, arith, ℕ, List, [], ◌∷◌}
+use Rattle.lrpar_grammar.specs.Grammar.{Grammar, GrammarSymbol, IsWellFormed, Nonterminal, Terminal, end_token}
 use Rattle.lrpar_states.specs.Graph.{Graph, ItemOf, graph_len, item_at}
-use Rattle.lrpar_states.specs.Safe.{CoresFollow, GoesBy, IsSafe}
+use Rattle.lrpar_states.specs.Safe.{CoresFollow, GoesBy}
 use Rattle.lrpar_states.specs.declared.condition.SafetyCondition.TheVariants.{S4, S8}
-use Rattle.lrpar_states.specs.Table.{IsClosed, ShiftTo, Table, action_of, goto_of, states_len}
+use Rattle.lrpar_states.specs.Table.{IsClosed, Table, states_len}
 use Rattle.lrpar_build.specs.Built.{IsBuilt}
 use Rattle.lrpar_build.specs.Canonical.{AreSame, LeadsTo, StandsBefore, sets_of}
 use Rattle.lrpar_build.specs.ItemSets.{Added, IsAdvanced, IsInClosure, IsInNext, IsReachedBy, Own}

@@ -1,5 +1,5 @@
 -- Ways as they are worked out: the steps of a table with the lengths of their symbols, and what is kept of states.
-use Rattle.std.specs.Prelude.{◌≡◌, ◌≢◌, ◌<◌, ◌≤◌, ◌↔◌, ℕ, Contains, List, [], ◌∷◌, ◌++◌, Option, Some, None, count_by, length, map, option_map, slice_index_or}
+use Rattle.std.specs.Prelude.{◌≡◌, ◌≢◌, ◌<◌, ◌≤◌, ◌↔◌, ℕ, Contains, List, [], ◌∷◌, ◌++◌, Option, Some, None, count_by, length, map, option_map}
 use Rattle.std.specs.List.{flat_map, range_with_len}
 use Rattle.std.specs.Option.{is_none}
 use Rattle.lrpar_grammar.specs.Grammar.{GrammarSymbol, Nonterminal, Terminal}

@@ -1,7 +1,7 @@
 use Rattle.std.proofs.Common.{◌≡◌, ◌<◌, ◌+◌, ◌∷◌, ◌∙◌, ◌&&◌, nat_eq, nat_lt, sym, ap, arith, rules, length, map, drop, false}
 use Rattle.lrpar_grammar.specs.Grammar.{Nonterminal}
 use Rattle.lrpar_grammar.specs.Symbols.{symbol_of}
-use Rattle.lrpar_first.specs.FirstRows.{IsSymbolBelow, begins, row_at, rows_of}
+use Rattle.lrpar_first.specs.FirstRows.{IsSymbolBelow, row_at, rows_of}
 use Rattle.lrpar_first.specs.Tokens.{has}
 use Rattle.lrpar_first.proofs.RowLemmas.{row_is, symbol_below, symbols_from}
 use Rattle.lrpar_examples.proofs.BeginLemmas.{at_own, at_stop, at_through, at_token, own_by_mark, own_by_set}

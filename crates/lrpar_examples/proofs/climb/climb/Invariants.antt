@@ -1,4 +1,4 @@
-use Rattle.std.proofs.Common.{◌≡◌, ◌==◌, ◌<◌, ◌≤◌, ◌+◌, ◌*◌, if◌then◌else◌, length, take}
+use Rattle.std.proofs.Common.{◌==◌, ◌≤◌, ◌+◌, ◌*◌, if◌then◌else◌, length, take}
 use Rattle.lrpar_grammar.specs.Grammar.{start_prod}
 use Rattle.lrpar_shortest.specs.Moves.{moves_in}
 use Rattle.lrpar_shortest.specs.Ways.{steps_of, symbols_in}

@@ -1,4 +1,4 @@
-use Rattle.std.proofs.Common.{List, refl, sym, subst}
+use Rattle.std.proofs.Common.{refl, sym, subst}
 use Rattle.lrpar_states.specs.Graph.{item_at}
 use Rattle.lrpar_build.specs.Canonical.{sets_of}
 use Rattle.lrpar_grammar.specs.Grammar.{rule_of}

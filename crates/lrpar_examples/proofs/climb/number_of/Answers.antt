@@ -1,6 +1,6 @@
 use Rattle.std.proofs.Common.{◌≡◌, ◌∙◌, ℕ, inl, inr, sym, ap, subst, arith}
 use Rattle.std.proofs.lemmas.Bool.{cases_lt}
-use Rattle.lrpar_examples.specs.Links.{LinkOf, link_at, link_of, links_of}
+use Rattle.lrpar_examples.specs.Links.{LinkOf, link_at, links_of}
 use Rattle.lrpar_examples.proofs.LinkLemmas.{differ, link_is}
 use Rattle.lrpar_examples.proofs.climb.number_of.Goals.{else-from-via-then-from+else-link-asked, else-from-via-else-from}
 use Rattle.lrpar_examples.proofs.climb.number_of.Goals as goal

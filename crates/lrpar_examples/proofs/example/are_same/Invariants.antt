@@ -1,4 +1,4 @@
-use Rattle.std.proofs.Common.{◌≡◌, length, take}
+use Rattle.std.proofs.Common.{◌≡◌, take}
 use Rattle.lrpar_examples.specs.Texts.{token_numbers}
 use Rattle.lrpar_examples.proofs.example.are_same.Given as goal
 

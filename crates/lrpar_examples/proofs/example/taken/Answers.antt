@@ -1,7 +1,6 @@
-use Rattle.std.proofs.Common.{◌∷◌, ◌++◌, ◌∙◌, [], refl, sym, ap}
+use Rattle.std.proofs.Common.{◌∷◌, ◌∙◌, [], sym, ap}
 use Rattle.std.proofs.lemmas.List.{append-nil, map-append}
 use Rattle.lrpar_shortest.specs.Moves.{move_of}
-use Rattle.lrpar_text.specs.declared.span.TIdx.{TIdx}
 use Rattle.lrpar_examples.specs.Texts.{takes_in, token_numbers}
 use Rattle.lrpar_examples.proofs.TextLemmas.{taken_more}
 use Rattle.lrpar_examples.proofs.example.taken.Goals.{in-Take+in_ok-push-in-Take, in-Make}

@@ -1,4 +1,4 @@
-use Rattle.std.proofs.Common.{◌≡◌, IfSome, ap, subst, sym}
+use Rattle.std.proofs.Common.{IfSome, subst, sym}
 use Rattle.lrpar_shortest.specs.Moves.{move_of, moves_in}
 use Rattle.lrpar_shortest.specs.Ways.{steps_of}
 use Rattle.lrpar_examples.specs.Example.{IsExample, IsFront}

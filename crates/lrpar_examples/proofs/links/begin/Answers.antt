@@ -1,11 +1,11 @@
-use Rattle.std.proofs.Common.{◌+◌, ◌∙◌, ℕ, inl, sym, subst, arith, map, take}
+use Rattle.std.proofs.Common.{◌+◌, inl, sym, subst, arith, map, take}
 use Rattle.std.proofs.lemmas.List.{take_all}
 use Rattle.std.specs.List.{Contains}
 use Rattle.lrpar_grammar.specs.Grammar.{start_prod}
 use Rattle.lrpar_grammar.proofs.ListLemmas.{map-take_more}
 use Rattle.lrpar_states.specs.PlainItems.{core_of}
 use Rattle.lrpar_build.specs.Canonical.{sets_of}
-use Rattle.lrpar_examples.specs.Links.{IsBegunLink, IsNotedCore, links_of}
+use Rattle.lrpar_examples.specs.Links.{IsBegunLink, links_of}
 use Rattle.lrpar_examples.proofs.LinkLemmas.{begun_noted, core_in, cores_more, noted_kept}
 use Rattle.lrpar_examples.proofs.MarkLemmas.{put_then}
 use Rattle.lrpar_examples.proofs.links.begin.Goals as goal

@@ -1,4 +1,4 @@
-use Rattle.std.proofs.Common.{◌≡◌, ◌≤◌, ◌⊎◌, ◌∙◌, arith, false, inl, inr, length, sym}
+use Rattle.std.proofs.Common.{◌≤◌, ◌⊎◌, arith, false, inl, inr, length}
 use Rattle.std.proofs.lemmas.Bool.{OnFalse_from, OnTrue_at, ltb-false}
 use Rattle.lrpar_examples.specs.Links.{HasLink, links_of}
 use Rattle.lrpar_examples.proofs.links.goes_on.Goals as goal

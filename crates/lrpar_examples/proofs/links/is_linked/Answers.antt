@@ -1,4 +1,4 @@
-use Rattle.std.proofs.Common.{◌≡◌, arith, length}
+use Rattle.std.proofs.Common.{arith}
 use Rattle.lrpar_examples.specs.Links.{links_of}
 use Rattle.lrpar_examples.proofs.MarkLemmas.{linked_by}
 use Rattle.lrpar_examples.proofs.links.is_linked.Goals as goal

@@ -1,9 +1,9 @@
-use Rattle.std.proofs.Common.{◌≡◌, ◌∙◌, Bool, true, false, [], List, sym, subst, length, map}
+use Rattle.std.proofs.Common.{Bool, true, false, [], sym, subst, length, map}
 use Rattle.lrpar_grammar.specs.Grammar.{rules_len, tokens_len}
 use Rattle.lrpar_grammar.specs.Symbols.{symbol_of}
 use Rattle.lrpar_first.specs.FirstRows.{rows_of}
 use Rattle.lrpar_first.proofs.GrowthLemmas.{sets_len}
-use Rattle.lrpar_examples.specs.Links.{HasLink, IsStep, LinkOf, PassesOn, link_of, links_of}
+use Rattle.lrpar_examples.specs.Links.{IsStep, PassesOn, links_of}
 use Rattle.lrpar_examples.proofs.MarkLemmas.{HasLink-kept, put_then, put_weaker}
 use Rattle.lrpar_examples.proofs.NoteLemmas.{below_by, noted_any, noted_both, noted_stopped, passes_through, passes_token, step_by}
 use Rattle.lrpar_examples.proofs.links.note.Goals as goal

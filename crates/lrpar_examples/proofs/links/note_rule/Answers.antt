@@ -1,4 +1,4 @@
-use Rattle.std.proofs.Common.{◌+◌, ◌∙◌, ℕ, List, sym, subst, arith, map, take}
+use Rattle.std.proofs.Common.{◌+◌, ℕ, List, sym, subst, arith, take}
 use Rattle.std.proofs.lemmas.List.{take_all}
 use Rattle.std.specs.List.{Contains}
 use Rattle.lrpar_grammar.specs.Symbols.{prod_numbers}

@@ -1,4 +1,4 @@
-use Rattle.std.proofs.Common.{◌≡◌, ℕ, Bool, length, map, take}
+use Rattle.std.proofs.Common.{ℕ, take}
 use Rattle.std.specs.List.{Contains}
 use Rattle.lrpar_grammar.specs.Grammar.{rules_len}
 use Rattle.lrpar_grammar.specs.Symbols.{prod_numbers}

@@ -1,6 +1,6 @@
 use Rattle.std.proofs.Common.{◌≡◌, ◌∙◌, ℕ, refl, sym, ap, subst, length}
 use Rattle.std.proofs.lemmas.List.{length-map}
-use Rattle.lrpar_grammar.specs.Grammar.{GrammarSymbol, prod_len}
+use Rattle.lrpar_grammar.specs.Grammar.{prod_len}
 use Rattle.lrpar_grammar.specs.Symbols.{symbol_of}
 use Rattle.lrpar_states.specs.Graph.{HasItem}
 use Rattle.lrpar_shortest.specs.Moves.{moves_in}

@@ -1,6 +1,6 @@
-use Rattle.std.proofs.Common.{◌≡◌, ◌+◌, ◌-◌, ◌∷◌, ◌++◌, ◌∙◌, [], sym, ap, subst, length, drop, map, take}
+use Rattle.std.proofs.Common.{◌≡◌, ◌+◌, ◌-◌, ◌∷◌, ◌++◌, ◌∙◌, [], sym, ap, subst}
 use Rattle.std.proofs.lemmas.List.{map-append}
-use Rattle.lrpar_grammar.specs.Grammar.{GrammarSymbol, Terminal, symbols_of}
+use Rattle.lrpar_grammar.specs.Grammar.{Terminal, symbols_of}
 use Rattle.lrpar_grammar.specs.Symbols.{symbol_of}
 use Rattle.lrpar_shortest.specs.Moves.{Takes, move_of, moves_in}
 use Rattle.lrpar_shortest.specs.Texts.{AreTreesOf, HaveTrees}

@@ -1,4 +1,4 @@
-use Rattle.std.proofs.Common.{◌≡◌, ◌<◌, ◌∙◌, sym, arith, length, map}
+use Rattle.std.proofs.Common.{◌<◌, ◌∙◌, sym, arith, length, map}
 use Rattle.std.proofs.lemmas.List.{length-map, take_more_same}
 use Rattle.lrpar_grammar.specs.Symbols.{symbol_of}
 use Rattle.lrpar_examples.proofs.ReplayLemmas.{symbol_at}

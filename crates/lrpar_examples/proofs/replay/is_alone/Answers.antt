@@ -1,4 +1,3 @@
-use Rattle.std.proofs.Common.{◌≡◌, ◌∙◌}
 use Rattle.lrpar_grammar.specs.Symbols.{symbol_of}
 use Rattle.lrpar_examples.proofs.ReplayLemmas.{one_symbol}
 use Rattle.lrpar_examples.proofs.replay.is_alone.Goals as goal

@@ -1,4 +1,4 @@
-use Rattle.std.proofs.Common.{◌≡◌, ◌-◌, ◌∙◌, refl, sym, ap, length, map, take, drop}
+use Rattle.std.proofs.Common.{◌-◌, ◌∙◌, refl, sym, ap, length, map, take, drop}
 use Rattle.lrpar_grammar.specs.Symbols.{symbol_of}
 use Rattle.lrpar_text.specs.declared.span.Symbol.TheVariants.{Rule}
 use Rattle.lrpar_examples.proofs.ReplayLemmas.{made_rule}

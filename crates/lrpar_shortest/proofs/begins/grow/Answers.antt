@@ -1,7 +1,6 @@
-use Rattle.std.proofs.Common.{◌≡◌, ◌<◌, ◌^◌, ◌-◌, ◌∙◌, arith, lit≤, sym, subst, length, ap}
+use Rattle.std.proofs.Common.{◌<◌, ◌^◌, ◌-◌, ◌∙◌, arith, lit≤, sym, subst, ap}
 use Rattle.std.proofs.lemmas.List.{length-map}
 use Rattle.std.specs.Option.{option_map}
-use Rattle.std.specs.Bool.{OnTrue}
 use Rattle.lrpar_shortest.specs.Choices.{choices_of}
 use Rattle.lrpar_shortest.specs.Starts.{AreStarts, start_at, start_of, starts_of, starts_open}
 use Rattle.lrpar_shortest.proofs.StartLemmas.{grown_less, grown_starts, is_none_by, starts_already, starts_nowhere}

@@ -1,8 +1,7 @@
-use Rattle.std.proofs.Common.{◌≡◌, ◌<◌, ◌^◌, ◌-◌, ◌∙◌, ap, arith, subst, sym, ℕ, List, Option}
+use Rattle.std.proofs.Common.{◌^◌, ◌-◌, arith, subst, ℕ, List, Option}
 use Rattle.lrpar_shortest.specs.declared.begins.Start.{Start}
 use Rattle.std.specs.Bool.{OnFalse}
 use Rattle.std.proofs.lemmas.Bool.{OnFalse_at, OnFalse_from}
-use Rattle.lrpar_grammar.specs.Grammar.{prods_len}
 use Rattle.lrpar_shortest.specs.Choices.{choices_of}
 use Rattle.lrpar_shortest.specs.Starts.{CanStart, starts_of, starts_open}
 use Rattle.lrpar_shortest.proofs.GrowthLemmas.{pass_grows, pass_stays}

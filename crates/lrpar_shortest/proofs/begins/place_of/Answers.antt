@@ -1,4 +1,4 @@
-use Rattle.std.proofs.Common.{◌≡◌, ◌≤◌, ◌+◌, ◌∙◌, sym, ap, arith, [], drop, length, map, not, true, false, Bool}
+use Rattle.std.proofs.Common.{◌≤◌, ◌+◌, arith, drop, length, map, true, false}
 use Rattle.std.proofs.lemmas.List.{drop_all, length-map}
 use Rattle.lrpar_grammar.specs.Symbols.{symbol_of}
 use Rattle.lrpar_first.proofs.RowLemmas.{symbols_from}

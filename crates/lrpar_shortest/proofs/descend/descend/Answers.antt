@@ -1,11 +1,11 @@
-use Rattle.std.proofs.Common.{◌≡◌, ◌<◌, ◌++◌, ◌+◌, ◌∙◌, sym, ap, subst, arith, ℕ, List, ◌∷◌, Some, All, drop, length, map, take}
+use Rattle.std.proofs.Common.{◌<◌, ◌∙◌, sym, ap, subst, arith, All, length}
 use Rattle.std.proofs.lemmas.Bool.{false≢true}
 use Rattle.std.proofs.lemmas.List.{length-map}
 use Rattle.lrpar_grammar.specs.Grammar.{symbols_of}
 use Rattle.lrpar_grammar.specs.Symbols.{symbol_of}
 use Rattle.lrpar_shortest.specs.Choices.{ForestFollows, choices_of}
-use Rattle.lrpar_shortest.specs.Frames.{IsFrameOf, Unfold, frames_of}
-use Rattle.lrpar_shortest.specs.Moves.{MoveOf, moves_in, moves_of}
+use Rattle.lrpar_shortest.specs.Frames.{IsFrameOf, frames_of}
+use Rattle.lrpar_shortest.specs.Moves.{moves_in}
 use Rattle.lrpar_shortest.specs.Starts.{Descends, start_of, starts_of}
 use Rattle.lrpar_shortest.proofs.DescendLemmas.{Descending, around_at, around_front, descending_ends, descending_goes, start_known}
 use Rattle.lrpar_shortest.proofs.FrameLemmas.{frames_known, frames_pushed, moves_pushed}

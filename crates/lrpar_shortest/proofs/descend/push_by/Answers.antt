@@ -1,11 +1,11 @@
-use Rattle.std.proofs.Common.{◌≡◌, ◌<◌, ◌∙◌, refl, sym, ap, subst, arith, ℕ, ◌∷◌, Option, Some, OnOk, drop, length, map, take}
+use Rattle.std.proofs.Common.{◌<◌, ◌∙◌, refl, sym, ap, subst, arith, ℕ, Option, length, map}
 use Rattle.std.specs.Option.{option_map_or}
 use Rattle.std.proofs.lemmas.Bool.{false≢true}
 use Rattle.std.proofs.lemmas.List.{drop-map, length-map}
 use Rattle.lrpar_grammar.specs.Symbols.{symbol_of}
 use Rattle.lrpar_shortest.specs.Choices.{ForestFollows, choices_of}
 use Rattle.lrpar_shortest.specs.Moves.{moves_in}
-use Rattle.lrpar_shortest.specs.Starts.{place_of, starts_of}
+use Rattle.lrpar_shortest.specs.Starts.{starts_of}
 use Rattle.lrpar_shortest.proofs.DescendLemmas.{around_front, placed}
 use Rattle.lrpar_shortest.proofs.FrameLemmas.{ok_more}
 use Rattle.lrpar_shortest.proofs.StartLemmas.{place_within}

@@ -1,4 +1,4 @@
-use Rattle.std.proofs.Common.{◌≡◌, ◌<◌, ◌++◌, ◌∙◌, sym, ap, subst, inl, inr, arith, ℕ}
+use Rattle.std.proofs.Common.{◌≡◌, ◌++◌, ◌∙◌, sym, ap, subst, inl, inr, arith}
 use Rattle.std.proofs.lemmas.Bool.{cases_eq}
 use Rattle.lrpar_states.specs.Table.{states_len}
 use Rattle.lrpar_shortest.specs.WayLens.{AreEdges, IsStoredAt, edges_at, edges_below, edges_of}

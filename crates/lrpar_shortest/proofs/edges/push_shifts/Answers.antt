@@ -1,4 +1,4 @@
-use Rattle.std.proofs.Common.{◌≡◌, ◌<◌, ◌≤◌, arith, length}
+use Rattle.std.proofs.Common.{◌<◌, ◌≤◌, arith, length}
 use Rattle.lrpar_states.specs.PlainRows.{plain_action}
 use Rattle.lrpar_states.specs.Table.{actions_at}
 use Rattle.lrpar_shortest.specs.WayLens.{edges_of, shift_edge}

@@ -1,4 +1,4 @@
-use Rattle.std.proofs.Common.{◌≡◌, ◌<◌, ◌∙◌, arith, ap, false, true, length, replicate, set, sym, subst, Bool, List}
+use Rattle.std.proofs.Common.{◌∙◌, arith, ap, false, true, replicate, set, Bool, List}
 use Rattle.lrpar_grammar.specs.Grammar.{rule_of, rules_len, start_prod}
 use Rattle.lrpar_shortest.proofs.ReachedLemmas.{added_marked}
 use Rattle.lrpar_shortest.proofs.reached.added_rule.Goals as goal

@@ -1,4 +1,4 @@
-use Rattle.std.proofs.Common.{◌≡◌, ◌<◌, ◌^◌, ◌-◌, ℕ}
+use Rattle.std.proofs.Common.{◌^◌, ◌-◌}
 use Rattle.lrpar_shortest.specs.Choices.{choices_of}
 use Rattle.lrpar_shortest.proofs.ReachedLemmas.{kept_by, not_reached, one_more}
 use Rattle.lrpar_shortest.proofs.SettleLemmas.{index_back}

@@ -1,7 +1,7 @@
-use Rattle.std.proofs.Common.{◌≡◌, ◌<◌, ◌∙◌, ap, arith, length, subst, sym, true}
+use Rattle.std.proofs.Common.{◌∙◌, ap, arith, subst, sym}
 use Rattle.lrpar_grammar.specs.Grammar.{Nonterminal}
 use Rattle.lrpar_grammar.specs.Symbols.{symbol_of}
-use Rattle.lrpar_shortest.specs.Reached.{AreMarked, IsReachedSymbol, is_marked, unmarked}
+use Rattle.lrpar_shortest.specs.Reached.{IsReachedSymbol, is_marked}
 use Rattle.lrpar_shortest.proofs.ReachedLemmas.{mark_less, mark_right}
 use Rattle.lrpar_shortest.proofs.reached.mark.Goals as goal
 

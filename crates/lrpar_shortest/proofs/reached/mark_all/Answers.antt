@@ -1,4 +1,4 @@
-use Rattle.std.proofs.Common.{◌≡◌, ◌<◌, ◌+◌, arith, subst, ℕ, Bool, List}
+use Rattle.std.proofs.Common.{arith, subst, ℕ, Bool, List}
 use Rattle.std.specs.Bool.{OnFalse}
 use Rattle.std.proofs.lemmas.Bool.{OnFalse_at, OnFalse_from}
 use Rattle.lrpar_shortest.specs.Reached.{MarksOn, unmarked}

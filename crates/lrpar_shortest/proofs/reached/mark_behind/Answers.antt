@@ -1,10 +1,9 @@
-use Rattle.std.proofs.Common.{◌≡◌, ◌<◌, ◌≤◌, ◌∙◌, ap, arith, length, map, subst, sym, ℕ, Bool, List, Some, slice_get, IsTrue}
-use Rattle.std.specs.Bool.{OnFalse}
+use Rattle.std.proofs.Common.{◌∙◌, ap, arith, length, sym, List, IsTrue}
 use Rattle.std.proofs.lemmas.Bool.{OnFalse_at, OnFalse_from}
 use Rattle.std.proofs.lemmas.List.{length-map}
 use Rattle.lrpar_grammar.specs.Grammar.{GrammarSymbol, rule_of, symbols_of}
 use Rattle.lrpar_grammar.specs.Symbols.{symbol_of}
-use Rattle.lrpar_shortest.specs.Reached.{IsMarkedSymbol, MarksOn, is_marked, unmarked}
+use Rattle.lrpar_shortest.specs.Reached.{is_marked, unmarked}
 use Rattle.lrpar_shortest.proofs.GrowthLemmas.{pass_grows, pass_stays}
 use Rattle.lrpar_shortest.proofs.ReachedLemmas.{MarkedAt, all_symbols, marked_at, symbol_at, symbol_low, symbol_reached}
 use Rattle.lrpar_shortest.proofs.reached.mark_behind.Goals as goal

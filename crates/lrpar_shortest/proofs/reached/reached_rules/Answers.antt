@@ -1,4 +1,4 @@
-use Rattle.std.proofs.Common.{◌≡◌, ◌∙◌, ap, length, subst, sym}
+use Rattle.std.proofs.Common.{◌≡◌, ◌∙◌, length, subst, sym}
 use Rattle.std.proofs.lemmas.Bool.{OnFalse_at}
 use Rattle.lrpar_first.proofs.GrowthLemmas.{lent_back}
 use Rattle.lrpar_shortest.specs.Reached.{AreAllMarked}

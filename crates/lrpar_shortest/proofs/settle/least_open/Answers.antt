@@ -1,8 +1,7 @@
-use Rattle.std.proofs.Common.{◌≡◌, ◌<◌, ◌≤◌, ◌+◌, ◌^◌, ◌-◌, ℕ, Option, Some, None, MatchOption, arith, ap, sym, ◌∙◌}
-use Rattle.lrpar_grammar.specs.Grammar.{Grammar, prods_len}
-use Rattle.lrpar_shortest.specs.Choices.{ChoiceOf, choices_of}
-use Rattle.lrpar_shortest.specs.Lens.{HasOpen, NoneIsLess, NoneIsOpen, open_len}
-use Rattle.lrpar_shortest.proofs.SettleLemmas.{IsLeastBelow, index_back, least_more, least_told}
+use Rattle.std.proofs.Common.{◌^◌, ◌-◌, ℕ, arith, ap, sym, ◌∙◌}
+use Rattle.lrpar_shortest.specs.Choices.{choices_of}
+use Rattle.lrpar_shortest.specs.Lens.{open_len}
+use Rattle.lrpar_shortest.proofs.SettleLemmas.{index_back, least_more, least_told}
 use Rattle.lrpar_shortest.proofs.settle.least_open.Goals as goal
 
 pub loop-prod-preserved : goal.loop-prod-preserved

@@ -1,4 +1,4 @@
-use Rattle.std.proofs.Common.{◌≡◌, ◌<◌, ◌≤◌, ◌^◌, ◌-◌, ℕ, Option, Some, None, MatchOption}
+use Rattle.std.proofs.Common.{◌^◌, ◌-◌}
 use Rattle.lrpar_shortest.specs.Choices.{choices_of}
 use Rattle.lrpar_shortest.specs.Lens.{open_len}
 use Rattle.lrpar_shortest.proofs.SettleLemmas.{IsLeastBelow}

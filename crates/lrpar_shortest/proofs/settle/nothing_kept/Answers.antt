@@ -1,4 +1,4 @@
-use Rattle.std.proofs.Common.{◌≡◌, ℕ, None, ap, ◌∙◌, rules}
+use Rattle.std.proofs.Common.{ap, ◌∙◌, rules}
 use Rattle.lrpar_shortest.specs.Choices.{choice_at, choice_of, choices_of}
 use Rattle.lrpar_shortest.proofs.SettleLemmas.{none_more}
 use Rattle.lrpar_shortest.proofs.settle.nothing_kept.Goals as goal

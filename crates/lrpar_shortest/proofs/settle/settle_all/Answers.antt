@@ -1,6 +1,5 @@
-use Rattle.std.proofs.Common.{◌≡◌, ◌<◌, ◌^◌, ◌-◌, ◌∙◌, refl, sym, ap, arith, inl}
-use Rattle.lrpar_grammar.specs.Grammar.{rules_len}
-use Rattle.lrpar_shortest.proofs.SettleLemmas.{index_back, settling_ends, settling_kept, settling_stays}
+use Rattle.std.proofs.Common.{◌^◌, ◌-◌, ◌∙◌, sym, arith}
+use Rattle.lrpar_shortest.proofs.SettleLemmas.{index_back, settling_kept, settling_stays}
 use Rattle.lrpar_shortest.proofs.settle.settle_all.Goals as goal
 use Rattle.lrpar_shortest.proofs.settle.settle_all.Goals.{then-eq, else-eq}
 

@@ -1,4 +1,4 @@
-use Rattle.std.proofs.Common.{◌≡◌, ◌^◌, ◌-◌, ◌∙◌, sym, subst, List, Option}
+use Rattle.std.proofs.Common.{◌^◌, ◌-◌, ◌∙◌, sym, subst}
 use Rattle.std.proofs.lemmas.List.{length-map}
 use Rattle.lrpar_shortest.specs.Choices.{choice_of, choices_of}
 use Rattle.lrpar_shortest.specs.Lens.{NoneIsBelow, NoneIsLess, NoneIsOpen}

@@ -1,6 +1,5 @@
-use Rattle.std.proofs.Common.{◌≡◌, ◌≤◌, ◌+◌, ◌^◌, ◌-◌, ◌∙◌, arith, lit≤, sym, ap, List, [], Option, Some, drop, length, map}
+use Rattle.std.proofs.Common.{◌≡◌, ◌≤◌, ◌+◌, ◌^◌, ◌-◌, ◌∙◌, arith, lit≤, sym, ap, [], Some, drop, length, map}
 use Rattle.std.proofs.lemmas.List.{drop_all, length-map}
-use Rattle.lrpar_grammar.specs.Grammar.{GrammarSymbol}
 use Rattle.lrpar_grammar.specs.Symbols.{symbol_of}
 use Rattle.lrpar_first.proofs.RowLemmas.{symbols_from}
 use Rattle.lrpar_shortest.specs.Choices.{choices_of}

@@ -1,4 +1,4 @@
-use Rattle.std.proofs.Common.{◌≡◌, ◌^◌, ◌-◌, ◌∙◌, sym, arith, length}
+use Rattle.std.proofs.Common.{◌^◌, ◌-◌, ◌∙◌, sym, arith}
 use Rattle.std.proofs.lemmas.List.{length-map}
 use Rattle.lrpar_shortest.specs.WayLens.{edge_of, edges_of}
 use Rattle.lrpar_shortest.specs.Ways.{ways_of}

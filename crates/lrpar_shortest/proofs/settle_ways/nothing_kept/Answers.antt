@@ -1,8 +1,6 @@
 use Rattle.std.proofs.Common.{ap, ◌∙◌, rules}
 use Rattle.lrpar_shortest.specs.Ways.{way_at, way_of, ways_of}
 use Rattle.lrpar_shortest.proofs.SettleLemmas.{none_more}
-use Rattle.lrpar_shortest.proofs.WalkLemmas.{walk_path}
-use Rattle.lrpar_shortest.proofs.WayLemmas.{no_walk}
 use Rattle.lrpar_shortest.proofs.settle_ways.nothing_kept.Goals as goal
 
 pub loop-preserved : goal.loop-preserved

@@ -1,6 +1,5 @@
-use Rattle.std.proofs.Common.{◌≡◌, ◌<◌, ◌^◌, ◌-◌, ◌∙◌, sym, ap, arith, length}
+use Rattle.std.proofs.Common.{◌^◌, ◌-◌, ◌∙◌, sym, ap, arith}
 use Rattle.lrpar_shortest.proofs.WayLemmas.{ways_end, ways_settle, ways_stay}
-use Rattle.lrpar_shortest.specs.declared.steps.Edge.{Edge}
 use Rattle.lrpar_shortest.proofs.settle_ways.settle_all.Goals as goal
 use Rattle.lrpar_shortest.proofs.settle_ways.settle_all.Goals.{then-eq, else-eq}
 

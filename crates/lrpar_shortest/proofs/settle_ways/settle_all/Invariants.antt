@@ -1,4 +1,4 @@
-use Rattle.std.proofs.Common.{◌≡◌, ◌^◌, ◌-◌}
+use Rattle.std.proofs.Common.{◌^◌, ◌-◌}
 use Rattle.lrpar_shortest.proofs.WayLemmas.{SettlingWays}
 use Rattle.lrpar_shortest.proofs.settle_ways.settle_all.Given as goal
 

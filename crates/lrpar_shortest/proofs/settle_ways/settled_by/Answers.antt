@@ -1,10 +1,9 @@
-use Rattle.std.proofs.Common.{◌≡◌, ◌<◌, ◌^◌, ◌-◌, ◌++◌, ◌∙◌, sym, ap, subst, arith, List, Option, drop, length, take}
+use Rattle.std.proofs.Common.{◌≡◌, ◌<◌, ◌^◌, ◌-◌, ◌∙◌, sym, ap, subst, arith, length}
 use Rattle.std.proofs.lemmas.List.{length-map}
 use Rattle.std.specs.Option.{option_map}
 use Rattle.lrpar_first.proofs.GrowthLemmas.{lent_back}
 use Rattle.lrpar_shortest.specs.WayLens.{AreRightWays, HasOpenStep, NoStepIsLess, NoStepIsOpen, NoWalkIsBelow, edges_of, open_ways}
 use Rattle.lrpar_shortest.specs.Ways.{way_of, ways_of}
-use Rattle.lrpar_shortest.specs.declared.steps.Way.{Way}
 use Rattle.lrpar_shortest.proofs.WayLemmas.{edges_within, no_walk_below, start_right}
 use Rattle.lrpar_shortest.proofs.settle_ways.settled_by.Goals as goal
 

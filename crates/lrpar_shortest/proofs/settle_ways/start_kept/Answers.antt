@@ -1,8 +1,4 @@
-use Rattle.std.proofs.Common.{◌≡◌, ◌<◌, ◌∙◌, sym, ap, subst, arith, ℕ, Option, Some, None, length, map, set}
-use Rattle.std.specs.Option.{option_map}
-use Rattle.std.proofs.lemmas.List.{get_or-set_other, get_or-set_same, length-map, map-set}
-use Rattle.lrpar_shortest.specs.Ways.{WayOf, way_at, way_of, ways_of}
-use Rattle.lrpar_shortest.specs.declared.steps.Way.{Way}
+use Rattle.std.proofs.Common.{◌∙◌, sym, arith}
 use Rattle.lrpar_shortest.proofs.WayLemmas.{way_elsewhere, way_here}
 use Rattle.lrpar_shortest.proofs.settle_ways.start_kept.Goals as goal
 

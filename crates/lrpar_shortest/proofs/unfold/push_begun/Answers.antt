@@ -1,11 +1,11 @@
-use Rattle.std.proofs.Common.{◌≡◌, ◌<◌, ◌++◌, ◌∙◌, sym, ap, subst, ℕ, List, [], ◌∷◌, Option, Some, None, true, false}
+use Rattle.std.proofs.Common.{◌≡◌, ◌∙◌, sym, ap, subst, Some, None, true, false}
 use Rattle.std.specs.List.{All}
 use Rattle.std.specs.Option.{option_map}
 use Rattle.lrpar_grammar.specs.Grammar.{Nonterminal, Terminal}
 use Rattle.lrpar_grammar.specs.Symbols.{symbol_of}
 use Rattle.lrpar_shortest.specs.Choices.{ChoiceOf, choices_of}
-use Rattle.lrpar_shortest.specs.Frames.{Begins, FrameOf, IsFrameOf, frame_of, frames_of}
-use Rattle.lrpar_shortest.specs.Moves.{MoveOf, moves_in}
+use Rattle.lrpar_shortest.specs.Frames.{Begins, IsFrameOf, frames_of}
+use Rattle.lrpar_shortest.specs.Moves.{moves_in}
 use Rattle.lrpar_shortest.specs.Choices.{choice_at, choice_of, prod_at}
 use Rattle.lrpar_shortest.proofs.FrameLemmas.{begins_none, begins_rule, begins_token, frames_known, frames_pushed, moves_pushed}
 use Rattle.lrpar_shortest.proofs.unfold.push_begun.Goals as goal

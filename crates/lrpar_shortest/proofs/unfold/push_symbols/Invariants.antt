@@ -1,7 +1,6 @@
-use Rattle.std.proofs.Common.{◌≡◌, ◌++◌, drop, map}
+use Rattle.std.proofs.Common.{drop, map}
 use Rattle.lrpar_grammar.specs.Symbols.{symbol_of}
-use Rattle.lrpar_grammar.specs.Tree.{Forest}
-use Rattle.lrpar_shortest.specs.Choices.{ForestFollows, choices_of}
+use Rattle.lrpar_shortest.specs.Choices.{choices_of}
 use Rattle.lrpar_shortest.specs.Moves.{moves_in}
 use Rattle.lrpar_shortest.proofs.FrameLemmas.{Listing}
 use Rattle.lrpar_shortest.proofs.unfold.push_symbols.Given as goal

@@ -1,9 +1,4 @@
-use Rattle.std.proofs.Common.{◌≡◌, ◌<◌, ◌≤◌, ◌+◌, ◌∙◌, sym, ap, subst, arith, inl, inr, [], drop, length, map}
-use Rattle.std.proofs.lemmas.Bool.{cases_lt, false≢true, lt-ltb, ltb-true}
-use Rattle.std.proofs.lemmas.List.{drop_all, length-map}
-use Rattle.lrpar_grammar.specs.Grammar.{symbols_of}
-use Rattle.lrpar_grammar.specs.Symbols.{symbol_of}
-use Rattle.lrpar_first.proofs.RowLemmas.{symbols_from}
+use Rattle.std.proofs.Common.{sym}
 use Rattle.lrpar_shortest.proofs.FrameLemmas.{none_behind, some_behind}
 use Rattle.lrpar_shortest.proofs.unfold.symbol_at.Goals as goal
 

@@ -1,10 +1,10 @@
-use Rattle.std.proofs.Common.{◌≡◌, ◌+◌, ◌++◌, ◌∙◌, sym, ap, subst, arith, ℕ, List, [], ◌∷◌, Some}
+use Rattle.std.proofs.Common.{◌≡◌, ◌∙◌, sym, ap, subst, arith, [], Some}
 use Rattle.std.proofs.lemmas.List.Elements.{All-pop}
 use Rattle.std.specs.List.{All}
 use Rattle.lrpar_grammar.specs.Symbols.{symbol_of}
 use Rattle.lrpar_shortest.specs.Choices.{choices_of}
-use Rattle.lrpar_shortest.specs.Frames.{Begins, FrameOf, IsFrameOf, Unfold, frame_of, frames_of}
-use Rattle.lrpar_shortest.specs.Moves.{MoveOf, moves_in}
+use Rattle.lrpar_shortest.specs.Frames.{Begins, IsFrameOf, frames_of}
+use Rattle.lrpar_shortest.specs.Moves.{moves_in}
 use Rattle.lrpar_shortest.proofs.FrameLemmas.{Unfolding, frame_popped, frames_known, frames_pushed, moves_pushed, nothing_in, unfolding_ends, unfolding_goes, unfolding_makes, unfolding_never}
 use Rattle.lrpar_shortest.proofs.unfold.unfold.Goals as goal
 

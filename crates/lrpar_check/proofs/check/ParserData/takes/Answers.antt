@@ -1,6 +1,5 @@
-use Rattle.std.proofs.Common.{◌≡◌, ◌∙◌, ap, inl, inr, refl, sym}
+use Rattle.std.proofs.Common.{◌∙◌, ap, inl, inr, refl, sym}
 use Rattle.lrpar_stacks.specs.Overlay.{overlaid}
-use Rattle.lrpar_stacks.specs.Reduction.{top_action}
 use Rattle.lrpar_states.specs.PlainRows.{plain_action}
 use Rattle.lrpar_check.proofs.ExpectedLemmas.{accept_expected, fail_unexpected, reduce_unexpected, shift_expected}
 use Rattle.lrpar_stacks.proofs.OverSettleLemmas.{settled_over, short_of_memory_over}

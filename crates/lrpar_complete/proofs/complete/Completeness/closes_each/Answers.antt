@@ -1,4 +1,4 @@
-use Rattle.std.proofs.Common.{◌≡◌, ◌<◌, ◌≤◌, ◌-◌, ◌∙◌, ◌↔◌, ℕ, All, IsTrue, List, arith, drop, get_or, subst, take}
+use Rattle.std.proofs.Common.{◌<◌, ◌≤◌, ◌-◌, ◌∙◌, ◌↔◌, ℕ, All, IsTrue, List, arith, drop, get_or, subst, take}
 use Rattle.std.proofs.lemmas.Bool.{iff_false}
 use Rattle.std.proofs.lemmas.List.{get_or_default}
 use Rattle.lrpar_grammar.specs.Grammar.{prod_len, tokens_len}

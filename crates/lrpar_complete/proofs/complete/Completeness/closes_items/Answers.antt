@@ -5,7 +5,6 @@ use Rattle.lrpar_first.specs.FirstRows.{HoldNothing, rows_of}
 use Rattle.lrpar_first.specs.declared.tokens.TokenSet.{TokenSet}
 use Rattle.lrpar_first.proofs.GrowthLemmas.{lent_back}
 use Rattle.lrpar_states.proofs.GraphLemmas.{all_items}
-use Rattle.lrpar_states.specs.Graph.{items_of}
 use Rattle.lrpar_states.specs.PlainItems.{item_of}
 use Rattle.lrpar_states.specs.Safe.{IsItem}
 use Rattle.lrpar_complete.specs.Complete.{ClosesItem}

@@ -1,14 +1,14 @@
-use Rattle.std.proofs.Common.{◌≡◌, ◌∙◌, List, Option, sym, ap, subst}
+use Rattle.std.proofs.Common.{◌∙◌, List, Option, sym, ap, subst}
 use Rattle.lrpar_states.specs.PlainConflicts.{reduce_reduce_of}
 use Rattle.lrpar_first.specs.FirstRows.{AreFirsts, rows_of}
 use Rattle.lrpar_shortest.specs.Choices.{AreShortest, ChoiceOf}
-use Rattle.lrpar_shortest.specs.Moves.{Makes, Takes, moves_in}
+use Rattle.lrpar_shortest.specs.Moves.{Makes, moves_in}
 use Rattle.lrpar_shortest.specs.Texts.{AreTreesOf}
 use Rattle.lrpar_shortest.specs.Ways.{steps_of, symbols_in}
 use Rattle.lrpar_examples.specs.Climbing.{IsWay}
 use Rattle.lrpar_examples.specs.Example.{ExamplesOf, IsExample}
 use Rattle.lrpar_examples.specs.Texts.{takes_in}
-use Rattle.lrpar_examples.proofs.ExampleLemmas.{Reads, complete_known, example_done, node_and_token, nodes_differ}
+use Rattle.lrpar_examples.proofs.ExampleLemmas.{Reads, complete_known, example_done, nodes_differ}
 use Rattle.lrpar_examples.proofs.OkLemmas.{IfOk-four}
 use Rattle.lrpar_examples.proofs.examples.Examples.reductions.Goals as goal
 

@@ -1,4 +1,4 @@
-use Rattle.std.proofs.Common.{◌≡◌, ◌∙◌, List, Option, sym, ap, subst}
+use Rattle.std.proofs.Common.{◌∙◌, List, Option, sym, ap, subst}
 use Rattle.lrpar_states.specs.PlainConflicts.{shift_reduce_of}
 use Rattle.lrpar_first.specs.FirstRows.{AreFirsts, rows_of}
 use Rattle.lrpar_shortest.specs.Choices.{AreShortest, ChoiceOf}
@@ -8,7 +8,7 @@ use Rattle.lrpar_shortest.specs.Ways.{steps_of, symbols_in}
 use Rattle.lrpar_examples.specs.Climbing.{IsWay}
 use Rattle.lrpar_examples.specs.Example.{ExamplesOf, IsExample}
 use Rattle.lrpar_examples.specs.Texts.{takes_in}
-use Rattle.lrpar_examples.proofs.ExampleLemmas.{Reads, complete_known, example_done, node_and_token, nodes_differ}
+use Rattle.lrpar_examples.proofs.ExampleLemmas.{Reads, complete_known, example_done, node_and_token}
 use Rattle.lrpar_examples.proofs.OkLemmas.{IfOk-four}
 use Rattle.lrpar_examples.proofs.examples.Examples.shift.Goals as goal
 

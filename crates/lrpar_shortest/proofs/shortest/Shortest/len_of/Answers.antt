@@ -1,4 +1,4 @@
-use Rattle.std.proofs.Common.{◌≡◌, ◌^◌, ◌-◌, ◌∙◌, ap, lit≤, rules}
+use Rattle.std.proofs.Common.{◌≡◌, ◌^◌, ◌-◌, lit≤, rules}
 use Rattle.lrpar_grammar.specs.Symbols.{symbol_of}
 use Rattle.lrpar_shortest.specs.Lens.{len_at}
 use Rattle.lrpar_shortest.proofs.LenLemmas.{len_tells}
