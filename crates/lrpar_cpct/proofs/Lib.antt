@@ -2,6 +2,7 @@ pub mod MemberLemmas
 pub mod FormLemmas
 pub mod WayLemmas
 pub mod PruneLemmas
+pub mod AnyFormLemmas
 pub mod BeforeLemmas
 pub mod SearchLemmas
 pub mod AnswerLemmas

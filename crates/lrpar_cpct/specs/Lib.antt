@@ -2,6 +2,7 @@ pub mod Forms
 pub mod Costs
 pub mod Refused
 pub mod Cheapest
+pub mod AnyForm
 pub mod Reaching
 pub mod Order
 pub mod Answer
