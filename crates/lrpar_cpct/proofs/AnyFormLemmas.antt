@@ -1,12 +1,12 @@
 -- Each sequence that works at a stop has a repair that costs no more. Its Deletes move behind the Inserts that follow them, since a Delete
 -- leaves the stack and an Insert the place; then the Shifts at its end drop, since they feed lexemes that can be fed all the same.
-use Rattle.std.proofs.Common.{◌≡◌, ◌<◌, ◌≤◌, ◌+◌, ◌∙◌, ◌⊎◌, inl, inr, ℕ, List, [], ◌∷◌, ◌++◌, length, refl, sym, subst, ap, arith, replicate}
+use Rattle.std.proofs.Common.{◌≡◌, ◌<◌, ◌+◌, ◌⊎◌, inl, inr, ℕ, List, [], ◌∷◌, ◌++◌, length, refl, subst, ap, arith, replicate}
 use Rattle.lrpar_grammar.specs.Grammar.{Grammar, end_token}
 use Rattle.lrpar_states.specs.Table.{Table}
 use Rattle.lrpar_parser.specs.Asked.{Asked}
-use Rattle.lrpar_steps.specs.Sequences.{PlainStep, PlainInsert, PlainDelete, PlainShift, CanGoOn, Replays, Works}
+use Rattle.lrpar_steps.specs.Sequences.{PlainStep, PlainInsert, PlainDelete, PlainShift, CanGoOn, Works}
 use Rattle.lrpar_cpct.specs.AnyForm.{CostNoLess, HaveRepairs, WorksAt}
-use Rattle.lrpar_cpct.specs.Cheapest.{IsRepair, cost_of}
+use Rattle.lrpar_cpct.specs.Cheapest.{cost_of}
 use Rattle.lrpar_cpct.specs.Costs.{step_cost, steps_cost}
 use Rattle.lrpar_cpct.specs.Forms.{Has, IsFormed}
 use Rattle.lrpar_cpct.specs.Walking.{IsStepOf}

@@ -12,3 +12,4 @@ pub mod TallyLemmas
 pub mod StackAnswerLemmas
 pub mod FoundLemmas
 pub mod CostLemmas
+pub mod SaidLemmas

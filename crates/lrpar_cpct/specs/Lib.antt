@@ -1,5 +1,6 @@
 pub mod Forms
 pub mod Costs
+pub mod Said
 pub mod Refused
 pub mod Cheapest
 pub mod AnyForm
