@@ -70,15 +70,12 @@ fn cpct_plus_of(
     let Some((value, number)) = case.value("costs") else {
         return Ok(CpctPlus::new(limit));
     };
-    let mut costs = Vec::with_capacity(alloc, grm.tokens_len())?;
-    for token in grm.iter_tidxs() {
-        costs.push(cost_of(grm, value, token))?;
-    }
-    match CpctPlus::with_costs(limit, costs) {
+    match CpctPlus::from_costs(alloc, limit, grm, |token| cost_of(grm, value, token)) {
         Ok(recoverer) => Ok(recoverer),
         Err(CostFault::CostsNothing(_)) => {
             Err(Fault::Line(number, "costs of at least 1 are wanted"))
         }
+        Err(CostFault::Memory) => Err(Fault::Memory),
     }
 }
 

@@ -2,6 +2,7 @@ pub mod MemberLemmas
 pub mod FormLemmas
 pub mod WayLemmas
 pub mod PruneLemmas
+pub mod AnyFormLemmas
 pub mod BeforeLemmas
 pub mod SearchLemmas
 pub mod AnswerLemmas
@@ -11,3 +12,4 @@ pub mod TallyLemmas
 pub mod StackAnswerLemmas
 pub mod FoundLemmas
 pub mod CostLemmas
+pub mod SaidLemmas

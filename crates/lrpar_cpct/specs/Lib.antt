@@ -1,7 +1,9 @@
 pub mod Forms
 pub mod Costs
+pub mod Said
 pub mod Refused
 pub mod Cheapest
+pub mod AnyForm
 pub mod Reaching
 pub mod Order
 pub mod Answer

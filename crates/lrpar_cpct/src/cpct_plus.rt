@@ -1,15 +1,18 @@
 //! The recoverer that answers the repairs of least cost.
-ghost use Rattle.std.specs.Prelude.{◌≡◌, ◌<◌, [], length, IfErr, IfOk, IfSome, IsNone};
+ghost use Rattle.std.specs.Prelude.{◌≡◌, [], IfErr, IfOk, IfSome, IsNone};
+ghost use Rattle.lrpar_grammar.specs.Grammar.{tokens_len};
 ghost use Rattle.lrpar_steps.specs.Known.{token_by};
 ghost use Rattle.lrpar_steps.specs.PlainSteps.{plain_sequences};
 ghost use Rattle.lrpar_cpct.specs.Answer.{AreCheapest};
 ghost use Rattle.lrpar_cpct.specs.Costs.{AreCosts, token_cost};
-ghost use Rattle.lrpar_cpct.specs.Refused.{IsFreeToken};
+ghost use Rattle.lrpar_cpct.specs.Refused.{IsFirstFree, IsFreeBy, IsFreeToken};
+ghost use Rattle.lrpar_cpct.specs.Said.{AreSaid, said_by};
 
 use crate::fault::CostFault;
 use crate::search::Search;
 use crate::tally::{Tally, sequences_of};
-use lrpar_grammar::span::StorageIndex;
+use lrpar_grammar::grammar::YaccGrammar;
+use lrpar_grammar::span::{StorageIndex, TIdx};
 use lrpar_lexemes::lex_api::Lexeme;
 use lrpar_parser::repair::{Recoverer, RecoveryPoint, RepairStep};
 use std::alloc::{AllocError, Global};
@@ -40,10 +43,11 @@ impl CpctPlus {
         CpctPlus { limit, costs: None }
     }
 
-    /// Each token costs what the list says at its number; one past the list costs 1. Refused where a token would cost nothing. Takes no
-    /// memory.
+    /// Each token costs what the list says at its number; one past the list costs 1. Refused by the first token that would cost nothing.
+    /// Takes no memory.
     pub fn with_costs(limit: usize, costs: Vec<u8>) -> Result<Self, CostFault>
         ensures made { IfOk result (λ c. c ≡ record { limit = limit; costs = costs.items }) }
+        ensures priced { IfOk result (λ c. AreCosts c.costs) }
         ensures refused { IfErr result (IsFreeToken costs.items) }
     {
         match first_free(&costs) {
@@ -53,6 +57,24 @@ impl CpctPlus {
                 costs: Some(costs),
             }),
         }
+    }
+
+    /// Each token costs what the function says of it; it is asked for each one of the grammar, the end token among them. Refused by the
+    /// first token that would cost nothing.
+    pub fn from_costs<StorageT: StorageIndex, F: Fn(TIdx<StorageT>) -> u8 + Drop>(
+        alloc: Global,
+        limit: usize,
+        grm: &YaccGrammar<StorageT>,
+        cost: F,
+    ) -> Result<Self, CostFault>
+        requires callable { F.IsAlwaysCallable cost }
+        ensures limit { IfOk result (λ c. c.limit ≡ limit) }
+        ensures made { IfOk result (λ c. AreSaid (said_by StorageT.index (F.post cost)) (tokens_len grm.now) c.costs) }
+        ensures priced { IfOk result (λ c. AreCosts c.costs) }
+        ensures refused { IfErr result (IsFreeBy (said_by StorageT.index (F.post cost)) (tokens_len grm.now)) }
+    {
+        let costs = costs_by(alloc, grm, &cost)?;
+        CpctPlus::with_costs(limit, costs)
     }
 
     /// What a token costs, by its number.
@@ -77,10 +99,27 @@ impl CpctPlus {
     }
 }
 
+// What the function says of each token of the grammar.
+fn costs_by<StorageT: StorageIndex, F: Fn(TIdx<StorageT>) -> u8>(
+    alloc: Global,
+    grm: &YaccGrammar<StorageT>,
+    cost: &F,
+) -> Result<Vec<u8>, AllocError>
+    requires callable { F.IsAlwaysCallable cost.now }
+    ensures said { IfOk result (λ costs. AreSaid (said_by StorageT.index (F.post cost.now)) (tokens_len grm.now) costs.items) }
+{
+    let mut costs = Vec::with_capacity(alloc, grm.tokens_len())?;
+    for number in 0..grm.tokens_len() {
+        let token = TIdx(StorageT::from_index(number).unwrap());
+        costs.push(cost(token))?;
+    }
+    Ok(costs)
+}
+
 // The first token that costs nothing.
 fn first_free(costs: &[u8]) -> Option<usize>
     ensures none { IsNone result → AreCosts costs.now }
-    ensures some { IfSome result (λ token. (token < length costs.now) × (token_cost costs.now token ≡ 0)) }
+    ensures some { IfSome result (IsFirstFree costs.now) }
 {
     for (token, cost) in costs.iter().enumerate() {
         if *cost == 0 {

@@ -1,4 +1,8 @@
 //! Why costs are refused.
+ghost use Rattle.std.specs.Prelude.{◌≡◌};
+ghost use Rattle.lrpar_cpct.specs.declared.fault.CostFault.TheVariants.{Memory};
+
+use std::alloc::AllocError;
 use thiserror::Error;
 
 /// Why costs of tokens are refused.
@@ -7,4 +11,15 @@ pub enum CostFault {
     /// This token, by its number, would cost nothing.
     #[error("token {0} costs nothing")]
     CostsNothing(usize),
+    /// Memory was wanting.
+    #[error("out of memory")]
+    Memory,
+}
+
+impl From<AllocError> for CostFault {
+    ghost from_gives = { λ _ fault. fault ≡ Memory };
+
+    fn from(_: AllocError) -> CostFault {
+        CostFault::Memory
+    }
 }

@@ -1,4 +1,4 @@
-use Rattle.std.proofs.Common.{◌<◌, ℕ, arith, get_or, length}
+use Rattle.std.proofs.Common.{arith}
 use Rattle.lrpar_cpct.proofs.CostLemmas.{each_costs}
 use Rattle.lrpar_cpct.proofs.cpct_plus.first_free.Goals as goal
 
