@@ -1,14 +1,16 @@
 -- From what the search at a bound comes to, to the answer.
-use Rattle.std.proofs.Common.{◌≡◌, ◌<◌, ◌≤◌, ◌+◌, ◌*◌, ◌∙◌, ◌⊎◌, ◌↔◌, inl, inr, ℕ, zero, suc, List, [], ◌∷◌, ◌++◌, Option, Some, None, length, get_or, refl, sym, subst, ap, arith, replicate}
-use Rattle.std.specs.List.{Contains}
+use Rattle.std.proofs.Common.{◌≡◌, ◌≢◌, ◌<◌, ◌≤◌, ◌+◌, ◌⊎◌, ◌↔◌, inl, inr, ℕ, zero, suc, List, [], Option, Some, None, refl, sym, subst, ap, arith, replicate}
+use Rattle.std.specs.List.{AllPairs, Contains}
 use Rattle.lrpar_parser.specs.Asked.{Asked}
 use Rattle.lrpar_steps.specs.Sequences.{PlainStep, PlainShift}
-use Rattle.lrpar_cpct.specs.Answer.{AreCheapest, AreRepairsAt, IsFound}
+use Rattle.lrpar_cpct.specs.Answer.{AreCheapest, AreRepairsAt}
 use Rattle.lrpar_cpct.specs.Cheapest.{AreAtMost, BeginsWithin, IsBeginning, IsLeastCost, IsRepair, RepairsAt, cost_of}
 use Rattle.lrpar_cpct.specs.Costs.{Terms, token_cost}
 use Rattle.lrpar_cpct.specs.Forms.{Has}
-use Rattle.lrpar_cpct.specs.Tallied.{AreApart, AreMoreThan, IsIn, IsLeftOut, IsTallied}
+use Rattle.lrpar_cpct.specs.Order.{ComesFirst}
+use Rattle.lrpar_cpct.specs.Tallied.{AreMoreThan, IsLeftOut, IsTallied}
 use Rattle.lrpar_cpct.proofs.MemberLemmas.{apart_few, is_in}
+use Rattle.lrpar_cpct.proofs.OrderLemmas.{first_apart, pairs_weaker}
 use Rattle.lrpar_cpct.proofs.PruneLemmas.{cheaper, repair_begins}
 
 -- a number is below another one, the same, or above it
@@ -61,8 +63,8 @@ module _ {X : Type 0} (token : X → ℕ) (terms : Terms) (at : Asked X) where
     -- the repairs that cost c are those that were found
     pub answer_found : (c : ℕ) (found : List (List PlainStep)) (next : Option ℕ) (answer : List (List PlainStep)) → CostsNoLess c
         → IsTallied token terms at c found next → ((q : List PlainStep) → Contains answer q ↔ Contains found q)
-        → (q : List PlainStep) → Contains found q → AreCheapest token terms at answer
-    answer_found c found next answer none tally same first at_first =
+        → AllPairs (ComesFirst token at) answer → (q : List PlainStep) → Contains found q → AreCheapest token terms at answer
+    answer_found c found next answer none tally same ordered first at_first =
         let is_least : IsLeastCost token terms.costs at c = record { some = (first, ((tally.exact first).0 at_first).0); none = none } in
         record {
           all = λ d other.
@@ -74,6 +76,8 @@ module _ {X : Type 0} (token : X → ℕ) (terms : Terms) (at : Asked X) where
                   (λ m. ((tally.exact q).0 ((same q).0 m)).0),
                   (λ r. (same q).1 ((tally.exact q).1 (r, least_begins c none q r))),
                 );
+                once = pairs_weaker (ComesFirst token at) (λ xs ys. xs ≢ ys) (first_apart token at) answer ordered;
+                ordered = ordered;
               });
           else = inr (c, record { least = is_least; within = tally.within });
         }

@@ -1,8 +1,8 @@
 -- The form of sequences, step by step: what one more step asks of those in front of it.
-use Rattle.std.proofs.Common.{◌≡◌, ◌≢◌, ◌<◌, ◌≤◌, ◌+◌, ◌-◌, ◌∙◌, ◌⊎◌, inl, inr, ℕ, zero, suc, List, [], ◌∷◌, ◌++◌, length, refl, sym, subst, ap, arith, replicate}
-use Rattle.std.proofs.lemmas.List.{append-nil, append_assoc, length-append, length-replicate, replicate_more, same_from_push}
+use Rattle.std.proofs.Common.{◌≡◌, ◌<◌, ◌+◌, ◌-◌, ◌∙◌, ◌⊎◌, inl, inr, ℕ, zero, suc, List, [], ◌∷◌, ◌++◌, refl, sym, subst, ap, arith, replicate}
+use Rattle.std.proofs.lemmas.List.{append-nil, append_assoc, replicate_more, same_from_push}
 use Rattle.lrpar_steps.specs.Sequences.{PlainStep, PlainInsert, PlainDelete, PlainShift}
-use Rattle.lrpar_cpct.specs.Forms.{EndsIn, Has, IsFormed, IsPrinted}
+use Rattle.lrpar_cpct.specs.Forms.{EndsIn, Has, IsFormed}
 use Rattle.lrpar_cpct.specs.Walking.{IsStepOf, MayFollow}
 
 -- a sequence is empty, or has a last step

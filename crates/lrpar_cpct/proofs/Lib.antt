@@ -4,12 +4,14 @@ pub mod WayLemmas
 pub mod PruneLemmas
 pub mod AnyFormLemmas
 pub mod BeforeLemmas
+pub mod ReachLemmas
+pub mod OrderLemmas
+pub mod FoundLemmas
 pub mod SearchLemmas
 pub mod AnswerLemmas
 pub mod WalkLemmas
 pub mod StepLemmas
 pub mod TallyLemmas
 pub mod StackAnswerLemmas
-pub mod FoundLemmas
 pub mod CostLemmas
 pub mod SaidLemmas

@@ -1,5 +1,5 @@
 -- Members of lists: that a list of things that are apart is no longer than one that has all of them.
-use Rattle.std.proofs.Common.{◌≡◌, ◌≢◌, ◌<◌, ◌≤◌, ◌+◌, ◌∙◌, ◌⊎◌, inl, inr, ℕ, zero, suc, List, [], ◌∷◌, ◌++◌, length, get_or, refl, sym, subst, ap, arith}
+use Rattle.std.proofs.Common.{◌≡◌, ◌<◌, ◌≤◌, ◌+◌, ◌∙◌, ◌⊎◌, inl, inr, ℕ, zero, suc, List, [], ◌∷◌, length, get_or, refl, sym, subst, arith}
 use Rattle.std.specs.List.{Contains}
 use Rattle.lrpar_cpct.specs.Tallied.{AreApart, IsIn}
 

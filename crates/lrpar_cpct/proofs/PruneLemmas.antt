@@ -1,5 +1,5 @@
 -- Repairs and beginnings: a repair with a row of Shifts is dearer than another one, and each other repair is a beginning.
-use Rattle.std.proofs.Common.{◌≡◌, ◌<◌, ◌≤◌, ◌+◌, ◌-◌, ◌∙◌, ◌⊎◌, inl, inr, ℕ, zero, suc, List, [], ◌∷◌, ◌++◌, length, refl, sym, subst, ap, arith, replicate}
+use Rattle.std.proofs.Common.{◌≡◌, ◌<◌, ◌+◌, ◌-◌, ◌∙◌, inl, inr, ℕ, zero, suc, List, [], ◌∷◌, ◌++◌, refl, sym, subst, ap, arith, replicate}
 use Rattle.std.proofs.lemmas.List.{append-nil, append_assoc, replicate_more, same_from_push}
 use Rattle.lrpar_grammar.specs.Grammar.{Grammar, end_token}
 use Rattle.lrpar_states.specs.Table.{Table, Accepts, Fails, ReduceBy, ShiftTo}
@@ -7,10 +7,10 @@ use Rattle.lrpar_stacks.specs.Reduction.{Feeds, Settles, top_action}
 use Rattle.lrpar_stacks.specs.Run.{token_at}
 use Rattle.lrpar_stacks.proofs.RunLemmas.{token_at_end}
 use Rattle.lrpar_parser.specs.Asked.{Asked}
-use Rattle.lrpar_steps.specs.Sequences.{PlainStep, PlainInsert, PlainDelete, PlainShift, CanGoOn, Replays, Works}
-use Rattle.lrpar_cpct.specs.Cheapest.{CanBeTaken, IsBeginning, IsRepair, LeadsTo, cost_of}
-use Rattle.lrpar_cpct.specs.Costs.{steps_cost, token_cost}
-use Rattle.lrpar_cpct.specs.Forms.{EndsIn, Has, IsFormed, IsPrinted}
+use Rattle.lrpar_steps.specs.Sequences.{PlainStep, PlainInsert, PlainDelete, PlainShift, CanGoOn, Replays}
+use Rattle.lrpar_cpct.specs.Cheapest.{IsBeginning, IsRepair, cost_of}
+use Rattle.lrpar_cpct.specs.Costs.{token_cost}
+use Rattle.lrpar_cpct.specs.Forms.{EndsIn, Has, IsFormed}
 use Rattle.lrpar_cpct.proofs.FormLemmas.{ends_in_one, formed_before, last_view, push_some}
 use Rattle.lrpar_cpct.proofs.WayLemmas.{cost_append, cost_some, fewer_go_on, leads_works, place_behind, replays_parted, shifts_go_on, works_leads}
 

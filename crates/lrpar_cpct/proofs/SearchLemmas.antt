@@ -1,19 +1,23 @@
 -- The search at a bound: what is known of it where it stands, at a path and at the rank of the step that it tries next.
-use Rattle.std.proofs.Common.{◌≡◌, ◌<◌, ◌≤◌, ◌+◌, ◌-◌, ◌*◌, ◌∙◌, ◌⊎◌, ◌↔◌, inl, inr, ℕ, zero, suc, List, [], ◌∷◌, ◌++◌, Option, Some, None, length, min, refl, sym, subst, ap, arith, replicate}
-use Rattle.std.proofs.lemmas.List.{append-nil, append_assoc, length-append, same_from_push}
-use Rattle.std.specs.List.{Contains}
+use Rattle.std.proofs.Common.{◌≡◌, ◌<◌, ◌≤◌, ◌+◌, ◌*◌, ◌∙◌, ◌⊎◌, ◌↔◌, inl, inr, ℕ, List, [], ◌∷◌, ◌++◌, Option, Some, None, get_or, length, min, refl, sym, subst, ap, arith}
+use Rattle.std.proofs.lemmas.List.{append_assoc, get_or_default, length-append, same_from_push}
+use Rattle.std.proofs.lemmas.List.Quantifiers.{all_pairs_push}
+use Rattle.std.specs.List.{AllPairs, Contains}
 use Rattle.lrpar_grammar.specs.Grammar.{end_token}
 use Rattle.lrpar_parser.specs.Asked.{Asked}
 use Rattle.lrpar_steps.specs.Sequences.{PlainStep, PlainShift, Replays}
-use Rattle.lrpar_cpct.specs.Cheapest.{AreAtMost, BeginsWithin, CanBeTaken, IsBeginning, IsRepair, LeadsTo, RepairsAt, cost_of}
-use Rattle.lrpar_cpct.specs.Costs.{Terms}
-use Rattle.lrpar_cpct.specs.Forms.{Has}
+use Rattle.lrpar_cpct.specs.Cheapest.{BeginsWithin, CanBeTaken, IsBeginning, IsRepair, RepairsAt, cost_of}
+use Rattle.lrpar_cpct.specs.Costs.{Terms, token_cost}
+use Rattle.lrpar_cpct.specs.Order.{IsEarlier}
 use Rattle.lrpar_cpct.specs.Tallied.{AreApart, AreMoreThan, IsIn, IsLeftOut, IsTallied}
+use Rattle.lrpar_cpct.specs.WalkAnswers.{AreAddedTo}
 use Rattle.lrpar_cpct.specs.Walking.{IsStepOf, MayFollow, least_of, rank_of}
 use Rattle.lrpar_cpct.proofs.BeforeLemmas.{GoesOn, IsBefore, all_before, before_down, before_into, before_more, before_next, before_up, child_before, child_not_before, path_before, rank_tells, steps_of_form, up_before}
 use Rattle.lrpar_cpct.proofs.FormLemmas.{fits_formed, fits_rows, formed_none, last_view, push_some, rows_none, step_fits}
+use Rattle.lrpar_cpct.proofs.FoundLemmas.{members_added}
 use Rattle.lrpar_cpct.proofs.MemberLemmas.{contained}
-use Rattle.lrpar_cpct.proofs.WayLemmas.{cost_begins, replays_parted, works_leads}
+use Rattle.lrpar_cpct.proofs.OrderLemmas.{earlier_or_begins, pairs_none}
+use Rattle.lrpar_cpct.proofs.WayLemmas.{cost_append, cost_begins, cost_some, place_behind, replays_parted, works_leads}
 
 module _ {X : Type 0} (token : X → ℕ) (at : Asked X) where
   -- a path of which each step can be taken, and a step that may follow, are a beginning
@@ -82,8 +86,8 @@ first_is end [] h = refl
 first_is end (s ∷ q) h = absurd (omega (arith, h))
 
 module _ {X : Type 0} (token : X → ℕ) (terms : Terms) (at : Asked X) (c : ℕ) where
-  -- Where the search stands: each beginning in front was tried, and counted once; the repairs among them are found; and of those that cost
-  -- more the least is known.
+  -- Where the search stands: each beginning in front was tried, and counted once; the repairs among them are found, the earlier ones first;
+  -- and of those that cost more the least is known.
   pub record IsSearched (path : List PlainStep) (rank left : ℕ) (found : List (List PlainStep)) (next : Option ℕ) : Type 0 where
     pub seen : List (List PlainStep)
     pub apart : AreApart seen
@@ -95,6 +99,7 @@ module _ {X : Type 0} (token : X → ℕ) (terms : Terms) (at : Asked X) (c : �
     pub dear : (q : List PlainStep) → IsBeginning token at q → c < cost_of token terms.costs at q
         → IsBefore (end_token at.checked.grammar) q path rank → IsLeftOut token terms at next q
     pub higher : (m : ℕ) → next ≡ Some m → (c < m) × (m ≤ 255 * terms.limit)
+    pub rising : AllPairs IsEarlier found
 
   module _ (some : 0 < at.shifts) where
     -- at the start only the empty sequence was tried
@@ -120,6 +125,7 @@ module _ {X : Type 0} (token : X → ℕ) (terms : Terms) (at : Asked X) (c : �
           let none : cost_of token terms.costs at q ≡ 0 = ap (λ (l : List PlainStep). cost_of token terms.costs at l) (first_is (end_token at.checked.grammar) q before) in
           omega (arith, high, none));
       higher = λ m e. absurd (let f : None ≡ Some m = e in cc);
+      rising = pairs_none IsEarlier;
     }
 
     -- what is new at the next rank goes on from the path by the step of this one
@@ -150,6 +156,7 @@ module _ {X : Type 0} (token : X → ℕ) (terms : Terms) (at : Asked X) (c : �
           counted = h.counted;
           depth = h.depth;
           higher = h.higher;
+          rising = h.rising;
           tried = λ q. (
             (λ m. let t = (h.tried q).0 m in (t.0, before_more (end_token at.checked.grammar) q p r t.1)),
             (λ t. (h.tried q).1 (t.0, back q t.0.0 t.1)),
@@ -185,6 +192,7 @@ module _ {X : Type 0} (token : X → ℕ) (terms : Terms) (at : Asked X) (c : �
           apart = h.apart;
           counted = h.counted;
           depth = h.depth;
+          rising = h.rising;
           higher = λ m e. least_higher next cost m most high h.higher (sym least ∙ e);
           tried = λ q. (
             (λ m. let t = (h.tried q).0 m in (t.0, before_more (end_token at.checked.grammar) q p r t.1)),
@@ -232,6 +240,7 @@ module _ {X : Type 0} (token : X → ℕ) (terms : Terms) (at : Asked X) (c : �
           counted = omega (arith, h.counted, one);
           depth = omega (arith, h.depth);
           higher = h.higher;
+          rising = h.rising;
           tried = λ q. (
             (λ m. elim m as (λ _. BeginsWithin token terms.costs at c q × IsBefore (end_token at.checked.grammar) q p (r + 1)) [
               | inl e ↦ subst (λ (l : List PlainStep). BeginsWithin token terms.costs at c l × IsBefore (end_token at.checked.grammar) l p (r + 1)) (sym e)
@@ -253,13 +262,49 @@ module _ {X : Type 0} (token : X → ℕ) (terms : Terms) (at : Asked X) (c : �
           ];
         }
 
+    -- A repair that was found is earlier than one that costs as much and goes on from the path by the step. For if that one began with it,
+    -- what it has besides would cost nothing: so it would end in a Shift.
+    earlier_found : ((t : ℕ) → 0 < token_cost terms.costs t) → (p : List PlainStep) (s : PlainStep) → RepairsAt token terms.costs at c (p ++ s ∷ [])
+        → IsBeginning token at (p ++ s ∷ []) → (q : List PlainStep) → RepairsAt token terms.costs at c q → IsBeginning token at q
+        → IsBefore (end_token at.checked.grammar) q p (rank_of (end_token at.checked.grammar) s) → IsEarlier q (p ++ s ∷ [])
+    earlier_found each p s r begins q found starts before =
+        let g = at.checked.grammar in
+        let end = end_token g in
+        elim (earlier_or_begins end q p s (steps_of_form end q starts.formed) (steps_of_form end (p ++ s ∷ []) begins.formed) before)
+        as (λ _. IsEarlier q (p ++ s ∷ [])) [
+          | inl earlier ↦ earlier
+          | inr rest ↦
+              let whole : p ++ s ∷ [] ≡ q ++ (rest.0 ++ s ∷ []) =
+              ap (λ (l : List PlainStep). l ++ s ∷ []) rest.1 ∙ append_assoc q rest.0 (s ∷ []) in
+              let other : ¬ (s ≡ PlainShift) = λ e. r.0.printed.last (p, ap (λ (x : PlainStep). p ++ x ∷ []) e) in
+              let dear = cost_some token g at.lexemes terms.costs each (place_behind at.place q) rest.0 s other in
+              let sum = cost_append token g at.lexemes terms.costs at.place q (rest.0 ++ s ∷ []) in
+              let same : cost_of token terms.costs at (p ++ s ∷ []) ≡ cost_of token terms.costs at (q ++ (rest.0 ++ s ∷ [])) =
+              ap (λ (l : List PlainStep). cost_of token terms.costs at l) whole in
+              absurd (omega (arith, dear, sum, same, found.1, r.1))
+        ]
+
+    rising_more : ((t : ℕ) → 0 < token_cost terms.costs t) → (p : List PlainStep) (s : PlainStep) (left : ℕ) (found more : List (List PlainStep)) (next : Option ℕ)
+        → IsBeginning token at (p ++ s ∷ []) → AreAddedTo (RepairsAt token terms.costs at c) (p ++ s ∷ []) found more
+        → IsSearched p (rank_of (end_token at.checked.grammar) s) left found next → AllPairs IsEarlier more
+    rising_more each p s left found more next begins added h =
+        elim added as (λ _. AllPairs IsEarlier more) [
+          | inl one ↦ subst (λ (l : List (List PlainStep)). AllPairs IsEarlier l) (sym one.1)
+              (all_pairs_push IsEarlier found (p ++ s ∷ []) h.rising (λ k d within.
+              let q = get_or found k d in
+              let known = (h.exact q).0 (k, within, get_or_default found k q d within) in
+              earlier_found each p s one.0 begins q known.0 known.1 known.2))
+          | inr none ↦ subst (λ (l : List (List PlainStep)). AllPairs IsEarlier l) (sym none.1) h.rising
+        ]
+
     -- it is tried, and the search goes on from it
-    pub searched_taken : (p : List PlainStep) (s : PlainStep) (left after : ℕ) (found more : List (List PlainStep)) (next : Option ℕ)
+    pub searched_taken : ((t : ℕ) → 0 < token_cost terms.costs t) → (p : List PlainStep) (s : PlainStep) (left after : ℕ) (found more : List (List PlainStep)) (next : Option ℕ)
         → BeginsWithin token terms.costs at c (p ++ s ∷ []) → after + 1 ≡ left
-        → ((q : List PlainStep) → Contains more q ↔ (Contains found q ⊎ ((q ≡ p ++ s ∷ []) × RepairsAt token terms.costs at c q)))
+        → AreAddedTo (RepairsAt token terms.costs at c) (p ++ s ∷ []) found more
         → IsSearched p (rank_of (end_token at.checked.grammar) s) left found next
         → IsSearched (p ++ s ∷ []) 0 after more next
-    searched_taken p s left after found more next child one added h =
+    searched_taken each p s left after found more next child one more_is h =
+        let added = members_added (RepairsAt token terms.costs at c) (p ++ s ∷ []) found more more_is in
         let r = rank_of (end_token at.checked.grammar) s in
         let into : (q : List PlainStep) → IsBefore (end_token at.checked.grammar) q p r → IsBefore (end_token at.checked.grammar) q (p ++ s ∷ []) 0 =
         λ q b. before_into (end_token at.checked.grammar) q p s b in
@@ -270,6 +315,7 @@ module _ {X : Type 0} (token : X → ℕ) (terms : Terms) (at : Asked X) (c : �
           counted = omega (arith, h.counted, one);
           depth = omega (arith, h.depth, length-append p (s ∷ []));
           higher = h.higher;
+          rising = rising_more each p s left found more next child.0 more_is h;
           tried = λ q. (
             (λ m. elim m as (λ _. BeginsWithin token terms.costs at c q × IsBefore (end_token at.checked.grammar) q (p ++ s ∷ []) 0) [
               | inl e ↦ subst (λ (l : List PlainStep). BeginsWithin token terms.costs at c l × IsBefore (end_token at.checked.grammar) l (p ++ s ∷ []) 0) (sym e) (child, here)
@@ -317,6 +363,7 @@ module _ {X : Type 0} (token : X → ℕ) (terms : Terms) (at : Asked X) (c : �
           apart = h.apart;
           counted = h.counted;
           higher = h.higher;
+          rising = h.rising;
           depth = omega (arith, h.depth, length-append p (x ∷ []));
           tried = λ q. ((λ m. let t = (h.tried q).0 m in (t.0, up q t.1)), (λ t. (h.tried q).1 (t.0, down q t.0.0 t.1)));
           exact = λ q. ((λ m. let t = (h.exact q).0 m in (t.0, t.1, up q t.2)), (λ t. (h.exact q).1 (t.0, t.1, down q t.1 t.2)));
@@ -334,6 +381,7 @@ module _ {X : Type 0} (token : X → ℕ) (terms : Terms) (at : Asked X) (c : �
           exact = λ q. ((λ m. let t = (h.exact q).0 m in (t.0, t.1)), (λ t. (h.exact q).1 (t.0, t.1, all q t.1)));
           dear = λ q begins above. h.dear q begins above (all q begins);
           higher = h.higher;
+          rising = h.rising;
         }
 
     -- no more may be tried, and there is one more

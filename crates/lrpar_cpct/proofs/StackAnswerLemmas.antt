@@ -1,12 +1,12 @@
 -- What the top state's action tells of a stack.
-use Rattle.std.proofs.Common.{◌≡◌, ◌∙◌, ◌↔◌, ℕ, List, Bool, Some, IsTrue, sym, subst}
+use Rattle.std.proofs.Common.{◌≡◌, ◌∙◌, ◌↔◌, ℕ, Bool, Some, IsTrue, sym, subst}
 use Rattle.lrpar_grammar.specs.Grammar.{Grammar, end_token}
 use Rattle.lrpar_states.specs.PlainRows.{plain_action}
-use Rattle.lrpar_states.specs.Table.{Table, Accepts, Fails, action_of}
+use Rattle.lrpar_states.specs.Table.{Table, Accepts, action_of}
 use Rattle.lrpar_states.specs.declared.rows.Action.{Action}
 use Rattle.lrpar_stacks.specs.Expected.{AcceptsAtEnd}
 use Rattle.lrpar_stacks.specs.Overlay.{Overlaid, IsSettledOver, overlaid}
-use Rattle.lrpar_stacks.specs.Reduction.{Feeds, top_action}
+use Rattle.lrpar_stacks.specs.Reduction.{top_action}
 use Rattle.lrpar_stacks.specs.Stack.{top_of}
 use Rattle.lrpar_stacks.proofs.StepLemmas.{action_by_top}
 use Rattle.lrpar_steps.proofs.SequenceLemmas.{accepts_by_top}

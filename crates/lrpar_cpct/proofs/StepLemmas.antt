@@ -1,7 +1,7 @@
 -- The last steps of a path of the program.
-use Rattle.std.proofs.Common.{◌≡◌, ◌<◌, ◌≤◌, ◌+◌, ◌-◌, ◌∙◌, ◌⊎◌, inl, inr, ℕ, zero, suc, List, [], ◌∷◌, ◌++◌, Option, Some, None, drop, get_or, length, take, refl, sym, subst, ap, arith, replicate}
-use Rattle.std.specs.Prelude.{map, slice_get}
-use Rattle.std.proofs.lemmas.List.{append_assoc, get_or-append-add, get_or-drop, get_or-map, get_or-replicate, length-append, length-map, length-replicate, map-append, replicate_more, same_from_push, take-append-drop}
+use Rattle.std.proofs.Common.{◌≡◌, ◌<◌, ◌≤◌, ◌+◌, ◌-◌, ◌∙◌, ℕ, zero, suc, List, [], ◌∷◌, ◌++◌, Option, Some, None, drop, get_or, length, take, refl, sym, subst, ap, arith, replicate}
+use Rattle.std.specs.Prelude.{slice_get}
+use Rattle.std.proofs.lemmas.List.{get_or-append-add, get_or-drop, get_or-map, get_or-replicate, length-append, length-map, length-replicate, map-append, replicate_more, same_from_push, take-append-drop}
 use Rattle.lrpar_steps.specs.PlainSteps.{plain_step, plain_steps}
 use Rattle.lrpar_steps.specs.Sequences.{PlainStep, PlainInsert, PlainDelete, PlainShift}
 use Rattle.lrpar_steps.specs.declared.steps.RepairStep.{RepairStep}

@@ -1,7 +1,6 @@
 -- The search at a bound, move by move, as the program makes it.
-use Rattle.std.proofs.Common.{◌≡◌, ◌<◌, ◌≤◌, ◌+◌, ◌-◌, ◌*◌, ◌∙◌, ◌⊎◌, ◌↔◌, inl, inr, ℕ, zero, suc, List, [], ◌∷◌, ◌++◌, Bool, true, false, IsTrue, Option, Some, None, length, refl, sym, subst, ap, arith}
+use Rattle.std.proofs.Common.{◌≡◌, ◌<◌, ◌≤◌, ◌+◌, ◌-◌, ◌*◌, ◌∙◌, ◌↔◌, ℕ, zero, suc, List, [], ◌∷◌, ◌++◌, Bool, true, false, IsTrue, Option, Some, length, refl, sym, subst, ap, arith}
 use Rattle.std.proofs.lemmas.List.{length-append, length-map}
-use Rattle.std.specs.List.{Contains}
 use Rattle.lrpar_grammar.specs.Grammar.{end_token}
 use Rattle.lrpar_lexemes.specs.Lexemes.{LexemeParts}
 use Rattle.lrpar_parser.specs.Asked.{IsStop}
@@ -9,8 +8,8 @@ use Rattle.lrpar_steps.specs.Known.{token_by}
 use Rattle.lrpar_steps.specs.PlainSteps.{plain_step, plain_steps}
 use Rattle.lrpar_steps.specs.Sequences.{PlainStep}
 use Rattle.lrpar_steps.specs.declared.steps.RepairStep.{RepairStep}
-use Rattle.lrpar_cpct.specs.Cheapest.{BeginsWithin, CanBeTaken, IsBeginning, RepairsAt, cost_of}
-use Rattle.lrpar_cpct.specs.SearchView.{cost_by}
+use Rattle.lrpar_cpct.specs.Cheapest.{BeginsWithin, CanBeTaken, IsBeginning, RepairsAt}
+use Rattle.lrpar_cpct.specs.Costs.{token_cost}
 use Rattle.lrpar_cpct.specs.Tallied.{AreMoreThan}
 use Rattle.lrpar_cpct.specs.WalkAnswers.{AreAddedTo, IsLeftBy}
 use Rattle.lrpar_cpct.specs.WalkView.{IsTried}
@@ -78,14 +77,14 @@ module _ {S X : Type 0} (index : S → ℕ) (parts : X → LexemeParts S) (searc
       (tried_begins p s cost begins taken tried cheap) fails one
       (subst (λ (r : ℕ). Stands p r left found next) (sym ranked) h))
 
-  pub move_taken : (p : List PlainStep) (s : PlainStep) (rank left after : ℕ) (found more : List (List PlainStep)) (next : Option ℕ) (cost : ℕ) (new : List PlainStep)
+  pub move_taken : ((t : ℕ) → 0 < token_cost search.terms.now.costs t) → (p : List PlainStep) (s : PlainStep) (rank left after : ℕ) (found more : List (List PlainStep)) (next : Option ℕ) (cost : ℕ) (new : List PlainStep)
       → rank_of (end_token search.point.now.checked.grammar) s ≡ rank → IsBeginning (token_by index parts) search.point.now p
       → CanBeTaken (token_by index parts) search.point.now p → IsTried index parts search p s cost → cost ≤ bound → after + 1 ≡ left
       → new ≡ p ++ s ∷ [] → AreAddedTo (RepairsAt (token_by index parts) search.terms.now.costs search.point.now bound) new found more
       → Stands p rank left found next → Stands new 0 after more next
-  move_taken p s rank left after found more next cost new ranked begins taken tried cheap one is added h =
+  move_taken each p s rank left after found more next cost new ranked begins taken tried cheap one is added h =
       subst (λ (l : List PlainStep). Stands l 0 after more next) (sym is)
-      (searched_taken (token_by index parts) search.terms.now search.point.now bound stop.shifts p s left after found more next
+      (searched_taken (token_by index parts) search.terms.now search.point.now bound stop.shifts each p s left after found more next
       (tried_begins p s cost begins taken tried cheap) one
       (subst (λ (l : List PlainStep). AreAddedTo (RepairsAt (token_by index parts) search.terms.now.costs search.point.now bound) l found more) is added)
       (subst (λ (r : ℕ). Stands p r left found next) (sym ranked) h))

@@ -1,6 +1,6 @@
 -- Walks of the search: what each move keeps.
-use Rattle.std.proofs.Common.{◌≡◌, ◌<◌, ◌≤◌, ◌+◌, ◌-◌, ◌*◌, ◌∙◌, ◌⊎◌, ◌↔◌, inl, inr, ℕ, zero, suc, List, [], ◌∷◌, ◌++◌, Bool, true, false, Option, Some, None, drop, get_or, length, take, refl, sym, subst, ap, arith, replicate}
-use Rattle.std.proofs.lemmas.List.{append_assoc, length-append, map-append, take-append-drop}
+use Rattle.std.proofs.Common.{◌≡◌, ◌<◌, ◌≤◌, ◌+◌, ◌-◌, ◌*◌, ◌∙◌, ◌↔◌, ℕ, List, [], ◌∷◌, ◌++◌, Bool, true, false, Option, Some, None, drop, get_or, length, take, refl, sym, subst, ap, arith, replicate}
+use Rattle.std.proofs.lemmas.List.{length-append, map-append, take-append-drop}
 use Rattle.lrpar_grammar.specs.Grammar.{end_token}
 use Rattle.lrpar_lexemes.specs.Lexemes.{LexemeParts}
 use Rattle.lrpar_parser.specs.Asked.{Asked, IsStop}
@@ -13,7 +13,7 @@ use Rattle.lrpar_steps.specs.declared.steps.RepairStep.{RepairStep}
 use Rattle.lrpar_steps.specs.Sequences.{PlainStep, PlainInsert, PlainDelete, PlainShift, CanGoOn, Replays, StepsTo}
 use Rattle.lrpar_steps.proofs.SequenceLemmas.{steps_so_far, taken_within}
 use Rattle.lrpar_cpct.specs.Cheapest.{CanBeTaken, IsBeginning, IsRepair, LeadsTo}
-use Rattle.lrpar_cpct.specs.Costs.{AreCosts, place_after, step_cost, steps_cost, token_cost}
+use Rattle.lrpar_cpct.specs.Costs.{AreCosts, place_after, steps_cost}
 use Rattle.lrpar_cpct.specs.Forms.{EndsIn, IsFormed}
 use Rattle.lrpar_cpct.specs.SearchView.{IsTakenBy, IsWalked, cost_by, step_cost_by}
 use Rattle.lrpar_cpct.specs.WalkAnswers.{place_in_front}

@@ -1,5 +1,5 @@
 -- How far a parse goes on after a repair.
-use Rattle.std.specs.Prelude.{◌≡◌, ◌<◌, ◌≤◌, ◌+◌, ℕ, List, length, min}
+use Rattle.std.specs.Prelude.{◌<◌, ◌≤◌, ◌+◌, ℕ, List, length, min}
 use Rattle.lrpar_grammar.specs.Grammar.{Grammar}
 use Rattle.lrpar_states.specs.Table.{Table}
 use Rattle.lrpar_stacks.specs.Expected.{AcceptsAtEnd}

@@ -1,15 +1,16 @@
 -- The search of the program, as contracts see it; `index` is the number that a storage number stands for, and `parts` are those of a
 -- lexeme.
-use Rattle.std.specs.Prelude.{◌≡◌, ◌≤◌, ◌*◌, ℕ, List, Bool, true, Option, Vec, length, map}
-use Rattle.lrpar_grammar.specs.Grammar.{end_token}
+use Rattle.std.specs.Prelude.{◌≡◌, ◌≤◌, ◌+◌, ◌*◌, ℕ, List, Bool, true, Option, length, map, nat_lt}
+use Rattle.std.specs.List.{All}
+use Rattle.std.specs.List.Sorted.{IsPermutation, IsSortedBy, IsStableBy}
 use Rattle.lrpar_lexemes.specs.Lexemes.{LexemeParts}
-use Rattle.lrpar_parser.specs.Asked.{Asked}
 use Rattle.lrpar_stacks.specs.Stack.{IsStack}
 use Rattle.lrpar_steps.specs.Known.{token_by}
 use Rattle.lrpar_steps.specs.PlainSteps.{plain_steps}
 use Rattle.lrpar_steps.specs.Sequences.{PlainStep, CanGoOn, IsStepTaken}
 use Rattle.lrpar_cpct.specs.Cheapest.{CanBeTaken, IsBeginning, LeadsTo, cost_of}
 use Rattle.lrpar_cpct.specs.Costs.{step_cost}
+use Rattle.lrpar_cpct.specs.Reaching.{GoesAsFar, Reaches}
 use Rattle.lrpar_cpct.specs.declared.search.Search.{Search}
 use Rattle.lrpar_cpct.specs.declared.tally.Found.{Found}
 
@@ -23,6 +24,15 @@ module _ {S X : Type 0} (index : S → ℕ) (parts : X → LexemeParts S) (searc
   abbrev pub GoesOnFrom : List ℕ → ℕ → Type 0
   GoesOnFrom st i =
       CanGoOn (token_by index parts) search.point.now.checked.grammar search.point.now.checked.table search.point.now.lexemes search.point.now.shifts st i
+
+  -- so far a parse goes on from the stack at the place
+  abbrev pub ReachesFrom : List ℕ → ℕ → ℕ → Type 0
+  ReachesFrom st i far =
+      Reaches (token_by index parts) search.point.now.checked.grammar search.point.now.checked.table search.point.now.lexemes (search.point.now.place + 250) st i far
+
+  -- after each of these repairs a parse goes on as far as is noted
+  abbrev pub AreMeasured : List (Found S) → Type 0
+  AreMeasured found = All (λ repair. GoesAsFar (token_by index parts) search.point.now (plain_steps index repair.steps.items) repair.reach) found
 
   -- what a step costs at a place
   abbrev pub step_cost_by : ℕ → PlainStep → ℕ
@@ -48,3 +58,15 @@ module _ {S X : Type 0} (index : S → ℕ) (parts : X → LexemeParts S) (searc
 -- the sequences of the repairs that are found
 abbrev pub sequences_found : {S : Type 0} → (S → ℕ) → List (Found S) → List (List PlainStep)
 sequences_found index found = map (λ repair. plain_steps index repair.steps.items) found
+
+-- whether a parse goes on further after the first repair
+abbrev pub goes_further : {S : Type 0} → Found S → Found S → Bool
+goes_further x y = nat_lt y.reach x.reach
+
+-- these are the sequences of the repairs that are found: those first after which a parse goes on furthest, and of equals the earlier ones
+pub record AreSequencesOf {S : Type 0} (index : S → ℕ) (found : List (Found S)) (sequences : List (List PlainStep)) : Type 0 where
+  pub sorted : List (Found S)
+  pub are : sequences ≡ sequences_found index sorted
+  pub same : IsPermutation found sorted
+  pub falling : IsSortedBy goes_further sorted
+  pub stable : IsStableBy goes_further found sorted

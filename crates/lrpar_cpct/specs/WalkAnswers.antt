@@ -1,6 +1,5 @@
 -- What comes of one move of a walk.
-use Rattle.std.specs.Prelude.{◌≡◌, ◌-◌, ◌++◌, ◌↔◌, ◌⊎◌, ℕ, List, [], ◌∷◌}
-use Rattle.std.specs.List.{Contains}
+use Rattle.std.specs.Prelude.{◌≡◌, ◌-◌, ◌++◌, ◌⊎◌, ℕ, List, [], ◌∷◌}
 use Rattle.lrpar_steps.specs.Sequences.{PlainStep, PlainInsert, PlainDelete, PlainShift}
 use Rattle.lrpar_cpct.specs.Walking.{IsStepOf, rank_of}
 
@@ -11,9 +10,9 @@ pub record IsLeftBy (end : ℕ) (old new : List PlainStep) (rank : ℕ) : Type 0
   pub within : IsStepOf end last
   pub ranked : rank ≡ rank_of end last
 
--- where it has P, the path was added to the list
+-- where it has P, the path was added at the end of the list
 abbrev pub AreAddedTo : (List PlainStep → Type 0) → List PlainStep → List (List PlainStep) → List (List PlainStep) → Type 0
-AreAddedTo P path old new = (q : List PlainStep) → Contains new q ↔ (Contains old q ⊎ ((q ≡ path) × P q))
+AreAddedTo P path old new = (P path × (new ≡ old ++ path ∷ [])) ⊎ (¬ (P path) × (new ≡ old))
 
 -- the place in front of a step, from the one behind it
 abbrev pub place_in_front : ℕ → PlainStep → ℕ

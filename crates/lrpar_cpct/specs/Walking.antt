@@ -1,5 +1,5 @@
 -- The search, step by step: the order of its steps, and what may come next.
-use Rattle.std.specs.Prelude.{◌≡◌, ◌<◌, ◌+◌, ◌-◌, ℕ, List, [], ◌∷◌, Option, Some, None, min, replicate}
+use Rattle.std.specs.Prelude.{◌<◌, ◌+◌, ◌-◌, ℕ, List, [], ◌∷◌, Option, Some, None, min, replicate}
 use Rattle.lrpar_steps.specs.Sequences.{PlainStep, PlainInsert, PlainDelete, PlainShift}
 use Rattle.lrpar_cpct.specs.Forms.{EndsIn}
 

@@ -33,7 +33,7 @@ pub(crate) struct Search<'a, 'p, StorageT: StorageIndex, LexemeT: Lexeme<Storage
 }
 
 impl<'a, 'p, StorageT: StorageIndex, LexemeT: Lexeme<StorageT>> Search<'a, 'p, StorageT, LexemeT> {
-    ghost use Rattle.lrpar_cpct.specs.SearchView.{GoesOnFrom, IsTakenBy, step_cost_by};
+    ghost use Rattle.lrpar_cpct.specs.SearchView.{GoesOnFrom, IsTakenBy, ReachesFrom, step_cost_by};
 
     /// The search for repairs at the point.
     pub(crate) fn new(point: &'a RecoveryPoint<'p, StorageT, LexemeT>, terms: &'a CpctPlus) -> Self
@@ -237,27 +237,25 @@ impl<'a, 'p, StorageT: StorageIndex, LexemeT: Lexeme<StorageT>> Search<'a, 'p, S
         &self,
         states: &mut Overlay<'_, StorageT>,
         place: usize,
-    ) -> Result<usize, AllocError>
+    ) -> Result<u128, AllocError>
         requires stack { IsStack self.now.point.now.checked.table (overlaid states.old) }
         requires within { place ≤ length self.now.point.now.lexemes }
+        ensures reach { IfOk result (ReachesFrom StorageT.index LexemeT.parts self.now (overlaid states.old) place) }
         ensures stack { IsStack self.now.point.now.checked.table (overlaid states.new) }
         ensures base { OnOk result (states.new.base ≡ states.old.base) }
     {
-        let most = self.furthest();
-        let mut at = place;
-        'feeding: for _ in place..most {
-            match self.shift(states, at)? {
-                None => break 'feeding,
-                Some(next) => at = next,
-            }
+        let most = self.point.place().saturating_add(FURTHEST);
+        let end = self.point.lexemes().len();
+        'feeding: for at in place..most.min(end) {
+            let Some(_next) = self.shift(states, at)? else {
+                return Ok(at as u128);
+            };
         }
-        let ends = at == self.point.lexemes().len() && accepts(self.point.data(), states)?;
-        Ok(at.min(most).saturating_add(usize::from(ends)))
-    }
-
-    /// The place up to which a parse is followed.
-    pub(crate) fn furthest(&self) -> usize {
-        self.point.place().saturating_add(FURTHEST)
+        if place.max(most) < end {
+            return Ok(most as u128);
+        }
+        let ends = accepts(self.point.data(), states)?;
+        Ok(most.min(end) as u128 + u128::from(ends))
     }
 }
 

@@ -1,21 +1,19 @@
 //! What a search comes to.
-ghost use Rattle.std.specs.Prelude.{◌≡◌, ◌<◌, ◌+◌, ◌↔◌, List, Some, IfOk, IsTrue};
-ghost use Rattle.std.specs.List.{Contains};
+ghost use Rattle.std.specs.Prelude.{◌≡◌, ◌<◌, ◌+◌, ◌↔◌, Some, IfOk, IsTrue};
 ghost use Rattle.lrpar_steps.specs.PlainSteps.{plain_sequences};
-ghost use Rattle.lrpar_steps.specs.Sequences.{PlainStep};
-ghost use Rattle.lrpar_cpct.specs.SearchView.{sequences_found};
+ghost use Rattle.lrpar_cpct.specs.SearchView.{AreSequencesOf, sequences_found};
 ghost use Rattle.lrpar_cpct.specs.Walking.{least_of};
 
 use lrpar_grammar::span::StorageIndex;
 use lrpar_parser::repair::RepairStep;
 use std::alloc::{AllocError, Global};
 
-/// A repair that is found, and how far a parse goes on after it.
+/// A repair that is found.
 #[derive(Debug, Drop)]
 pub(crate) struct Found<StorageT> {
     pub(crate) steps: Vec<RepairStep<StorageT>>,
-    /// How many places it stays short of the furthest.
-    pub(crate) short: usize,
+    /// How far a parse goes on after it.
+    pub(crate) reach: u128,
 }
 
 /// What has come of a search so far.
@@ -62,10 +60,9 @@ pub(crate) fn sequences_of<StorageT: StorageIndex>(
     alloc: Global,
     mut found: Vec<Found<StorageT>>,
 ) -> Result<Vec<Vec<RepairStep<StorageT>>>, AllocError>
-    ensures same { IfOk result (λ sequences. (q : List PlainStep)
-        → Contains (plain_sequences StorageT.index sequences.items) q ↔ Contains (sequences_found StorageT.index found.items) q) }
+    ensures { IfOk result (λ sequences. AreSequencesOf StorageT.index found.items (plain_sequences StorageT.index sequences.items)) }
 {
-    found.sort_by_key(|repair| repair.short)?;
+    found.sort_by(|one, other| other.reach.cmp(&one.reach))?;
     steps_of(alloc, found)
 }
 

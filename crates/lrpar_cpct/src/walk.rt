@@ -1,11 +1,12 @@
 //! The search at a bound: depth first over one path, with a stack that stands behind its steps.
-ghost use Rattle.std.specs.Prelude.{◌≡◌, ◌<◌, ◌^◌, ◌↔◌, ◌++◌, [], ◌∷◌, ℕ, MatchOption, IfOk, IsTrue, OnOk, true};
+ghost use Rattle.std.specs.Prelude.{◌≡◌, ◌<◌, ◌^◌, ◌↔◌, ◌++◌, [], ◌∷◌, ℕ, MatchOption, IfOk, IfSome, IsTrue, OnOk, true};
 ghost use Rattle.lrpar_grammar.specs.Grammar.{end_token};
 ghost use Rattle.lrpar_stacks.specs.Overlay.{overlaid};
 ghost use Rattle.lrpar_stacks.specs.Stack.{IsStack};
 ghost use Rattle.lrpar_steps.specs.Known.{token_by};
 ghost use Rattle.lrpar_steps.specs.PlainSteps.{plain_step, plain_steps};
 ghost use Rattle.lrpar_cpct.specs.Cheapest.{BeginsWithin, CanBeTaken, IsRepair, LeadsTo, RepairsAt};
+ghost use Rattle.lrpar_cpct.specs.Reaching.{GoesAsFar};
 ghost use Rattle.lrpar_cpct.specs.SearchView.{sequences_found};
 ghost use Rattle.lrpar_cpct.specs.Tallied.{AreMoreThan, IsTallied};
 ghost use Rattle.lrpar_cpct.specs.WalkAnswers.{AreAddedTo, IsLeftBy, place_in_front};
@@ -43,6 +44,7 @@ pub(crate) enum Child<StorageT> {
 }
 
 impl<'a, 'p, StorageT: StorageIndex, LexemeT: Lexeme<StorageT>> Search<'a, 'p, StorageT, LexemeT> {
+    ghost use Rattle.lrpar_cpct.specs.SearchView.{AreMeasured};
     ghost use Rattle.lrpar_cpct.specs.WalkView.{IsChild, IsTried, IsWalking, path_of};
 
     /// All repairs that cost as much as the bound, where no more beginnings have to be tried for that than may be.
@@ -54,6 +56,7 @@ impl<'a, 'p, StorageT: StorageIndex, LexemeT: Lexeme<StorageT>> Search<'a, 'p, S
         ensures tally { IfOk result (λ tally. MatchOption tally
             (AreMoreThan self.now.terms.now.limit (BeginsWithin (token_by StorageT.index LexemeT.parts) self.now.terms.now.costs self.now.point.now bound))
             (λ t. IsTallied (token_by StorageT.index LexemeT.parts) self.now.terms.now self.now.point.now bound (sequences_found StorageT.index t.found.items) t.next)) }
+        ensures measured { IfOk result (λ tally. IfSome tally (λ t. AreMeasured StorageT.index LexemeT.parts self.now t.found.items)) }
     {
         // The point is that of a stop.
         let (limit, _shifts) = (self.terms.limit(), self.point.shifts());
@@ -223,7 +226,9 @@ impl<'a, 'p, StorageT: StorageIndex, LexemeT: Lexeme<StorageT>> Search<'a, 'p, S
         bound: u128,
     ) -> Result<(), AllocError>
         requires walking { IsWalking StorageT.index LexemeT.parts self.now walk.old }
+        requires measured { AreMeasured StorageT.index LexemeT.parts self.now tally.old.found.items }
         ensures walking { OnOk result (IsWalking StorageT.index LexemeT.parts self.now walk.new) }
+        ensures measured { OnOk result (AreMeasured StorageT.index LexemeT.parts self.now tally.new.found.items) }
         ensures path { OnOk result (walk.new.path ≡ walk.old.path) }
         ensures left { OnOk result (tally.new.left ≡ tally.old.left) }
         ensures next { OnOk result (tally.new.next ≡ tally.old.next) }
@@ -233,9 +238,9 @@ impl<'a, 'p, StorageT: StorageIndex, LexemeT: Lexeme<StorageT>> Search<'a, 'p, S
         if walk.cost != bound || !self.is_repair(walk)? {
             return Ok(());
         }
-        let short = self.short(walk)?;
+        let reach = self.reach_behind(walk)?;
         let steps = walk.path.clone()?;
-        tally.found.push(Found { steps, short })?;
+        tally.found.push(Found { steps, reach })?;
         Ok(())
     }
 
@@ -254,16 +259,16 @@ impl<'a, 'p, StorageT: StorageIndex, LexemeT: Lexeme<StorageT>> Search<'a, 'p, S
         self.can_go_on(&mut walk.states, walk.place)
     }
 
-    // How many places a parse stays short of the furthest behind the path.
-    fn short(&self, walk: &mut Walk<'p, StorageT>) -> Result<usize, AllocError>
+    // How far a parse goes on behind the path.
+    fn reach_behind(&self, walk: &mut Walk<'p, StorageT>) -> Result<u128, AllocError>
         requires walking { IsWalking StorageT.index LexemeT.parts self.now walk.old }
+        ensures reach { IfOk result (GoesAsFar (token_by StorageT.index LexemeT.parts) self.now.point.now (path_of StorageT.index walk.old)) }
         ensures walking { OnOk result (IsWalking StorageT.index LexemeT.parts self.now walk.new) }
         ensures path { OnOk result (walk.new.path ≡ walk.old.path) }
     {
         self.refresh(walk)?;
         walk.fresh = false;
-        let reach = self.reach(&mut walk.states, walk.place)?;
-        Ok(self.furthest().saturating_add(1).saturating_sub(reach))
+        self.reach(&mut walk.states, walk.place)
     }
 }
 

@@ -1,4 +1,4 @@
-use Rattle.std.proofs.Common.{◌≡◌, ◌<◌, ◌≤◌, ◌-◌, ◌∙◌, ◌⊎◌, inl, inr, List, ap, arith, drop, get_or, length, refl, replicate, subst, sym, take}
+use Rattle.std.proofs.Common.{◌≡◌, ◌<◌, ◌≤◌, ◌-◌, ◌∙◌, inl, inr, List, ap, arith, drop, get_or, length, refl, replicate, subst, sym}
 use Rattle.std.proofs.lemmas.List.{length-drop, take_all, take_rest}
 use Rattle.lrpar_steps.specs.PlainSteps.{plain_steps}
 use Rattle.lrpar_steps.specs.Sequences.{PlainShift}

@@ -1,4 +1,4 @@
-use Rattle.std.proofs.Common.{◌≡◌, ◌∙◌, ℕ, List, [], None, Option, Some, length, arith, subst, sym}
+use Rattle.std.proofs.Common.{◌∙◌, AllPairs, ℕ, List, None, Option, Some, arith, subst, sym}
 use Rattle.std.proofs.lemmas.Result.{IfOk-weaker}
 use Rattle.lrpar_parser.specs.Asked.{Asked}
 use Rattle.lrpar_steps.specs.Known.{token_by}
@@ -6,10 +6,11 @@ use Rattle.lrpar_steps.specs.PlainSteps.{plain_sequences}
 use Rattle.lrpar_steps.specs.Sequences.{PlainStep}
 use Rattle.lrpar_cpct.specs.Cheapest.{BeginsWithin}
 use Rattle.lrpar_cpct.specs.Costs.{Terms}
+use Rattle.lrpar_cpct.specs.Order.{ComesFirst}
 use Rattle.lrpar_cpct.specs.SearchView.{sequences_found}
 use Rattle.lrpar_cpct.specs.Tallied.{AreMoreThan, IsTallied}
 use Rattle.lrpar_cpct.proofs.AnswerLemmas.{answer_exceeded, answer_found, answer_none, none_at_all, none_before}
-use Rattle.lrpar_cpct.proofs.FoundLemmas.{none_found, some_found}
+use Rattle.lrpar_cpct.proofs.FoundLemmas.{come_first, none_found, same_members, some_found}
 use Rattle.lrpar_cpct.proofs.cpct_plus.CpctPlusRecoverer.recover.Goals as goal
 
 pub returns-in_default : goal.returns-in_default
@@ -41,12 +42,17 @@ returns-then-not-is_empty g c =
     let first = rw c.in-Some.is at c.in_ok-found.ensures.tally in
     let second = subst (λ (a : Asked g.row.LexemeT.Denot). IsTallied token c.new-search.result.terms.now a bound seen old.next) c.new-search.ensures.point first in
     let third = subst (λ (t : Terms). IsTallied token t at bound seen old.next) c.new-search.ensures.terms second in
+    let measured = rw c.in-Some.is at c.in_ok-found.ensures.measured in
     let one = some_found index old.found.items old.found.len (omega (arith, old.found.ok)) (sym c.is_empty.ensures ∙ c.if-not-is_empty.true) in
     record {
       allowed = IfOk-weaker c.sequences_of.result _ _
-          (λ sequences same. answer_found token terms at some each bound seen old.next (plain_sequences index sequences.items)
-          c.bounds.invariant third same one.0 one.1)
-          c.sequences_of.ensures.same;
+          (λ sequences are.
+          let listed = plain_sequences index sequences.items in
+          let first = come_first index g.LexemeT.Lexeme.parts c.new-search.result old.found.items listed measured third.rising are in
+          let ordered = subst (λ (a : Asked g.row.LexemeT.Denot). AllPairs (ComesFirst token a) listed) c.new-search.ensures.point first in
+          answer_found token terms at some each bound seen old.next listed c.bounds.invariant third
+          (same_members index old.found.items listed are) ordered one.0 one.1)
+          c.sequences_of.ensures;
     }
 
 pub returns-in-None : goal.returns-in-None

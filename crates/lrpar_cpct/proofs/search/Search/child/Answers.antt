@@ -1,10 +1,7 @@
-use Rattle.std.proofs.Common.{◌≡◌, ◌+◌, ◌++◌, List, [], ◌∷◌, ap, arith, length, refl, subst, sym}
-use Rattle.std.proofs.lemmas.List.{length-map}
-use Rattle.lrpar_grammar.specs.Grammar.{end_token}
+use Rattle.std.proofs.Common.{List, arith, subst}
 use Rattle.lrpar_steps.specs.PlainSteps.{plain_step, plain_steps}
 use Rattle.lrpar_steps.specs.declared.steps.RepairStep.{RepairStep}
 use Rattle.lrpar_cpct.specs.Walking.{MayFollow}
-use Rattle.lrpar_cpct.specs.WalkView.{IsTried}
 use Rattle.lrpar_cpct.proofs.WalkLemmas.{tried_by}
 use Rattle.lrpar_cpct.proofs.search.Search.child.Goals as goal
 

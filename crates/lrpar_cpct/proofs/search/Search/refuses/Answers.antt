@@ -1,4 +1,4 @@
-use Rattle.std.proofs.Common.{◌≡◌, ◌∙◌, sym, subst}
+use Rattle.std.proofs.Common.{◌≡◌, subst}
 use Rattle.lrpar_safety.specs.Checked.{Checked}
 use Rattle.lrpar_states.specs.Table.{Fails}
 use Rattle.lrpar_stacks.specs.Overlay.{overlaid}
@@ -8,7 +8,6 @@ use Rattle.lrpar_steps.specs.Known.{token_by}
 use Rattle.lrpar_steps.specs.PlainSteps.{plain_step}
 use Rattle.lrpar_steps.specs.Sequences.{StepsTo}
 use Rattle.lrpar_steps.specs.declared.steps.RepairStep.{RepairStep}
-use Rattle.lrpar_steps.specs.declared.steps.RepairStep.TheVariants.{Insert, Shift}
 use Rattle.lrpar_cpct.proofs.PruneLemmas.{nothing_fed}
 use Rattle.lrpar_cpct.proofs.search.Search.refuses.Goals as goal
 

@@ -1,4 +1,4 @@
-use Rattle.std.proofs.Common.{◌≡◌, ◌+◌, ◌∙◌, List, None, Some, ap, length, refl, subst, sym, take}
+use Rattle.std.proofs.Common.{◌≡◌, ◌+◌, ◌∙◌, List, None, Some, subst, sym, take}
 use Rattle.std.proofs.lemmas.List.{take_all}
 use Rattle.lrpar_stacks.specs.Overlay.{overlaid}
 use Rattle.lrpar_steps.specs.Known.{token_by}

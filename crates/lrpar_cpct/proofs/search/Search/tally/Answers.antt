@@ -1,16 +1,16 @@
-use Rattle.std.proofs.Common.{◌≡◌, ◌<◌, ◌+◌, ◌-◌, ◌∙◌, List, [], ◌∷◌, None, ap, arith, length, refl, subst, sym}
+use Rattle.std.proofs.Common.{◌≡◌, ◌+◌, ◌-◌, ◌∙◌, List, [], None, arith, length, subst, sym}
+use Rattle.std.proofs.lemmas.List.Elements.{All-nil}
 use Rattle.lrpar_grammar.specs.Grammar.{end_token}
 use Rattle.lrpar_steps.specs.Known.{token_by}
 use Rattle.lrpar_steps.specs.PlainSteps.{plain_step, plain_steps}
 use Rattle.lrpar_steps.specs.Sequences.{PlainStep}
-use Rattle.lrpar_cpct.specs.Cheapest.{RepairsAt}
-use Rattle.lrpar_cpct.specs.SearchView.{sequences_found}
-use Rattle.lrpar_cpct.specs.WalkAnswers.{AreAddedTo}
+use Rattle.lrpar_cpct.specs.Reaching.{GoesAsFar}
+use Rattle.lrpar_cpct.specs.SearchView.{AreMeasured, sequences_found}
 use Rattle.lrpar_cpct.specs.declared.tally.Found.{Found}
 use Rattle.lrpar_cpct.proofs.BeforeLemmas.{rank_below}
 use Rattle.lrpar_cpct.proofs.PruneLemmas.{repair_some}
 use Rattle.lrpar_cpct.proofs.SearchLemmas.{IsSearched, searched_all, searched_nothing, searched_start}
-use Rattle.lrpar_cpct.proofs.TallyLemmas.{as_long, left_shorter, less_by_stay, less_by_step, longer, move_dear, move_exceeded, move_left, move_stays, move_taken, move_unfit, none_left, work_left}
+use Rattle.lrpar_cpct.proofs.TallyLemmas.{as_long, left_shorter, less_by_stay, less_by_step, longer, move_dear, move_exceeded, move_left, move_stays, move_taken, move_unfit, none_left}
 use Rattle.lrpar_cpct.proofs.search.Search.tally.Goals as goal
 
 pub returns-then-limit-eq0 : goal.returns-then-limit-eq0
@@ -21,7 +21,7 @@ returns-then-limit-eq0 g c =
     let at = search.point.now in
     let end = end_token at.checked.grammar in
     let stop = c.shifts-shifts.ensures.stop in
-    record { tally = searched_nothing (token_by index parts) search.terms.now at c.args.bound stop.shifts (sym c.limit-limit.ensures.limit ∙ c.if-limit-eq0.true) }
+    record { tally = searched_nothing (token_by index parts) search.terms.now at c.args.bound stop.shifts (sym c.limit-limit.ensures.limit ∙ c.if-limit-eq0.true); measured = tt }
 
 pub children-init : goal.children-init
 children-init g c =
@@ -39,6 +39,8 @@ children-init g c =
     record {
       walking = c.start-walk.ensures.walking;
       searched = subst (λ (p : List PlainStep). IsSearched token search.terms.now at c.args.bound p 0 left (sequences_found index c.new.result.items) None) (sym c.start-walk.ensures.path) empty;
+      measured = subst (λ (fs : List (Found g.row.StorageT.Denot)). AreMeasured index parts search fs) (sym c.new.ensures.items)
+          (All-nil (λ (repair : Found g.row.StorageT.Denot). GoesAsFar token at (plain_steps index repair.steps.items) repair.reach));
       ranked = omega arith;
     }
 
@@ -55,7 +57,10 @@ returns-in-None g c =
     let path = plain_steps index l.walk.path.items in
     let found = sequences_found index l.tally.found.items in
     let here = subst (λ (p : List PlainStep). IsSearched (token_by index parts) search.terms.now at c.args.bound p l.rank l.tally.left found l.tally.next) c.in-None.ensures.left inv.searched in
-    record { tally = searched_all (token_by index parts) search.terms.now at c.args.bound stop.shifts l.rank l.tally.left found l.tally.next c.in-Past.ensures.child here }
+    record { tally = searched_all (token_by index parts) search.terms.now at c.args.bound stop.shifts l.rank l.tally.left found l.tally.next c.in-Past.ensures.child here; measured = inv.measured }
+
+pub note-requires-clause-measured : goal.note-requires-clause-measured
+note-requires-clause-measured g c = rw c.count.ensures.found c.children.invariant.measured
 
 pub children-preserved-in-Some : goal.children-preserved-in-Some
 children-preserved-in-Some g c =
@@ -74,6 +79,7 @@ children-preserved-in-Some g c =
     record {
       walking = c.in-Some.ensures.walking;
       searched = move_left index parts search stop c.args.bound path new l.rank c.in-Some.last l.tally.left found l.tally.next by c.in-Past.ensures.child inv.searched;
+      measured = inv.measured;
       ranked = omega (arith, (left_shorter end path new c.in-Some.last by).1);
     }
 
@@ -93,6 +99,7 @@ children-preserved-in-Unfit g c =
     record {
       walking = inv.walking;
       searched = move_unfit index parts search stop c.args.bound path ch.0 l.rank l.tally.left found l.tally.next ch.1 ch.2 ch.3 inv.searched;
+      measured = inv.measured;
       ranked = omega (arith, rank_below end ch.0 ch.2, ch.1);
     }
 
@@ -114,6 +121,7 @@ children-preserved-in-Dear g c =
     record {
       walking = inv.walking;
       searched = rw (c.leave_out.ensures.left, c.leave_out.ensures.found) moved;
+      measured = rw c.leave_out.ensures.found inv.measured;
       ranked = omega (arith, rank_below end ch.0 ch.2.within, ch.1);
     }
 
@@ -133,6 +141,7 @@ returns-then-not-count g c =
     record {
       tally = move_exceeded index parts search stop c.args.bound path (plain_step index c.in-Tried.step) l.rank l.tally.left found l.tally.next c.in-Tried.cost ch.0
           inv.walking.begins inv.walking.taken ch.1 ch.2 (none_left c.count.result l.tally.left c.count.ensures.none c.if-not-count.true) inv.searched;
+      measured = tt;
     }
 
 pub children-smaller-then-branch : goal.children-smaller-then-branch
@@ -176,11 +185,12 @@ children-preserved-then-branch g c =
     let new = plain_steps index c.enter.new.walk.path.items in
     let more = sequences_found index c.note.new.tally.found.items in
     let added = rw c.count.ensures.found at c.in_ok-note-in-Tried.ensures.found in
-    let moved = move_taken index parts search stop c.args.bound path s l.rank l.tally.left c.count.new.self.left found more l.tally.next c.in-Tried.cost new ch.0
+    let moved = move_taken index parts search stop c.args.bound (λ t. (c.limit-limit.ensures.costs t).0) path s l.rank l.tally.left c.count.new.self.left found more l.tally.next c.in-Tried.cost new ch.0
     inv.walking.begins inv.walking.taken ch.1 ch.2 one grown added inv.searched in
     record {
       walking = c.in_ok-note-in-Tried.ensures.walking;
       searched = rw (c.in_ok-note-in-Tried.ensures.path, c.in_ok-note-in-Tried.ensures.left, c.in_ok-note-in-Tried.ensures.next, c.count.ensures.next) moved;
+      measured = c.in_ok-note-in-Tried.ensures.measured;
       ranked = omega arith;
     }
 
@@ -228,5 +238,6 @@ children-preserved g c =
     record {
       walking = c.in_ok-enter-in-Tried.ensures.walking;
       searched = rw (same, c.count.ensures.found, c.count.ensures.next) moved;
+      measured = rw c.count.ensures.found inv.measured;
       ranked = omega (arith, below, ch.0);
     }

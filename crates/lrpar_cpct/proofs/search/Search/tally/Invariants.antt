@@ -1,6 +1,6 @@
 use Rattle.std.proofs.Common.{◌≤◌, ◌+◌, length}
 use Rattle.lrpar_grammar.specs.Grammar.{end_token}
-use Rattle.lrpar_cpct.specs.SearchView.{sequences_found}
+use Rattle.lrpar_cpct.specs.SearchView.{AreMeasured, sequences_found}
 use Rattle.lrpar_cpct.specs.WalkView.{IsWalking, path_of}
 use Rattle.lrpar_cpct.proofs.SearchLemmas.{IsSearched}
 use Rattle.lrpar_cpct.proofs.TallyLemmas.{work_left}
@@ -15,6 +15,7 @@ invariant-children g l =
     record {
       walking : IsWalking index parts l.self l.walk;
       searched : IsSearched token l.self.terms.now l.self.point.now l.bound (path_of index l.walk) l.rank l.tally.left (sequences_found index l.tally.found.items) l.tally.next;
+      measured : AreMeasured index parts l.self l.tally.found.items;
       ranked : l.rank ≤ end_token l.self.point.now.checked.grammar + 2;
     }
 
