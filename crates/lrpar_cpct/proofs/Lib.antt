@@ -13,3 +13,4 @@ pub mod StepLemmas
 pub mod TallyLemmas
 pub mod StackAnswerLemmas
 pub mod CostLemmas
+pub mod OneAnswerLemmas

@@ -5,6 +5,7 @@ pub mod Cheapest
 pub mod Reaching
 pub mod Order
 pub mod Answer
+pub mod OneAnswer
 pub mod Walking
 pub mod Tallied
 pub mod SearchView
