@@ -15,3 +15,4 @@ pub mod TallyLemmas
 pub mod StackAnswerLemmas
 pub mod CostLemmas
 pub mod SaidLemmas
+pub mod OneAnswerLemmas

@@ -69,7 +69,7 @@ earlier_or_begins end (x ∷ q) (y ∷ p) s is are h =
     ]
 
 -- no step comes before itself, no sequence is earlier than itself, and no repair comes first before itself
-not_before_itself : (x : PlainStep) → ¬ (IsStepBefore x x)
+pub not_before_itself : (x : PlainStep) → ¬ (IsStepBefore x x)
 not_before_itself (PlainInsert t) h = omega (arith, h)
 not_before_itself PlainDelete h = h
 not_before_itself PlainShift h = h
@@ -89,10 +89,10 @@ first_apart token at xs ys h same =
 
 -- pairs of a list, in order
 module _ {A : Type 0} (R : A → A → Type 0) where
-  pairs_head : (x : A) (xs : List A) → AllPairs R (x ∷ xs) → All (R x) xs
+  pub pairs_head : (x : A) (xs : List A) → AllPairs R (x ∷ xs) → All (R x) xs
   pairs_head x xs h k d within = h zero (suc k) d (omega arith) (omega (arith, within))
 
-  pairs_tail : (x : A) (xs : List A) → AllPairs R (x ∷ xs) → AllPairs R xs
+  pub pairs_tail : (x : A) (xs : List A) → AllPairs R (x ∷ xs) → AllPairs R xs
   pairs_tail x xs h i j d less within = h (suc i) (suc j) d (omega (arith, less)) (omega (arith, within))
 
   kept_tail : (b : Bool) (x : A) (xs : List A) → AllPairs R (cond b (x ∷ xs) xs) → AllPairs R xs

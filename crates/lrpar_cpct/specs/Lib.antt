@@ -7,6 +7,7 @@ pub mod AnyForm
 pub mod Reaching
 pub mod Order
 pub mod Answer
+pub mod OneAnswer
 pub mod Walking
 pub mod Tallied
 pub mod SearchView
