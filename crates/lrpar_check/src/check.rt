@@ -56,8 +56,8 @@ impl<StorageT: StorageIndex> ParserData<StorageT> {
     /// The conditions take time near the size of the input: with I items and A entries of the table, about (I + A) times
     /// the logarithm of I, where each entry that leads to a state counts the state's cores with a dot past 0. The chains
     /// take longer: a state has one for each reduction that it stores, and one for each reduction that the state of one of
-    /// its gotos stores. Each is made once, and makes at most `cap + 1` reductions; where a state has a longer one than each state
-    /// before, its chains are made again some times, to find the least cap.
+    /// its gotos stores. Each is made once, and makes at most `cap + 1` reductions, which are counted; where one is too long, those of
+    /// its state are made again, to find the first token.
     pub fn new(
         alloc: Global,
         grm: YaccGrammar<StorageT>,

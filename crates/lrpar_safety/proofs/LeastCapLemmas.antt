@@ -1,42 +1,25 @@
 -- The least cap, found state by state: what passes with a cap passes with each larger one.
-use Rattle.std.proofs.Common.{◌<◌, ◌≤◌, ◌≡◌, ◌+◌, ◌-◌, inl, inr, arith, below_more, ℕ}
+use Rattle.std.proofs.Common.{◌<◌, ◌≤◌, ◌≡◌, ◌+◌, ◌-◌, inl, inr, arith, below_more, ℕ, List}
 use Rattle.std.proofs.lemmas.Bool.{cases_lt}
 use Rattle.lrpar_grammar.specs.Grammar.{Grammar}
-use Rattle.lrpar_stacks.specs.Chain.{AreChainsShort}
+use Rattle.lrpar_stacks.specs.Chain.{AreChainsShort, HasReductions}
 use Rattle.lrpar_stacks.proofs.ChainLemmas.{less}
 use Rattle.lrpar_states.specs.Table.{Table, states_len}
 use Rattle.lrpar_safety.specs.LeastCap.{AreShortAt, IsLeastAt, IsLeastCap}
 
+-- a chain that makes so many reductions makes fewer, and one that doesn't make so many makes no more
+pub fewer : (g : Grammar) (table : Table) (t few many : ℕ) (st : List ℕ) → few ≤ many → HasReductions g table t st many → HasReductions g table t st few
+fewer g table t few many st below h =
+    let e : many ≡ (many - few) + few = omega (arith, below) in less g table t (many - few) few st (rw e at h)
+
+pub fewer_not : (g : Grammar) (table : Table) (t few many : ℕ) (st : List ℕ) → few ≤ many → ¬ (HasReductions g table t st few)
+    → ¬ (HasReductions g table t st many)
+fewer_not g table t few many st below none h = none (fewer g table t few many st below h)
+
 -- the chains of a state that a cap allows a larger one allows
 pub short_above : (g : Grammar) (table : Table) (s low high : ℕ) → low ≤ high → AreShortAt g table low s → AreShortAt g table high s
 short_above g table s low high above short t token long =
-    let e : high + 1 ≡ (high - low) + (low + 1) = omega (arith, above) in
-    short t token (long.0, long.1, less g table t (high - low) (low + 1) long.0 (rw e at long.2))
-
--- a cap that a chain of the state exceeds is below one that none exceeds
-pub below_short : (g : Grammar) (table : Table) (s low high : ℕ) → ¬ (AreShortAt g table low s) → AreShortAt g table high s → low < high
-below_short g table s low high long short =
-    elim (cases_lt low high) as (λ _. low < high) [
-      | inl below ↦ below
-      | inr above ↦ absurd (long (short_above g table s high low above short))
-    ]
-
--- two caps with none between, of which a chain of the state exceeds the first alone: the second is the least
-pub least_between : (g : Grammar) (table : Table) (s from low high : ℕ) → from ≤ low → low < high → high - low ≤ 1
-    → ¬ (AreShortAt g table low s) → AreShortAt g table high s → IsLeastAt g table s from high
-least_between g table s from low high above order next long short = record {
-  above = omega (arith, above, order);
-  passes = short;
-  least = λ smaller from_on below passes. long (short_above g table s smaller low (omega (arith, below, next, order)) passes);
-}
-
--- a cap that no chain of the state exceeds is the least from itself on
-pub least_at_once : (g : Grammar) (table : Table) (s from : ℕ) → AreShortAt g table from s → IsLeastAt g table s from from
-least_at_once g table s from short = record {
-  above = omega arith;
-  passes = short;
-  least = λ smaller from_on below passes. absurd (omega (arith, from_on, below));
-}
+    short t token (long.0, long.1, fewer g table t (low + 1) (high + 1) long.0 (omega (arith, above)) long.2)
 
 -- the least cap of so many states, the first ones
 pub record IsLeastOf (g : Grammar) (table : Table) (cap states found : ℕ) : Type 0 where

@@ -1,3 +1,4 @@
 pub mod Entrywise
 pub mod Checked
 pub mod LeastCap
+pub mod Lengths

@@ -3,6 +3,7 @@ ghost use Rattle.std.specs.Prelude.{◌≡◌, ◌<◌, ◌≤◌, ◌+◌, ◌�
 ghost use Rattle.std.specs.Option.{option_to_list};
 ghost use Rattle.lrpar_safety.specs.Checked.{IsChainFault};
 ghost use Rattle.lrpar_safety.specs.LeastCap.{AreShortAt, IsLeastAt, IsLeastCap};
+ghost use Rattle.lrpar_safety.specs.Lengths.{IsCounted, IsLongestWithin};
 ghost use Rattle.lrpar_stacks.specs.Chain.{AreChainsShort, HasReductions, IsLongChain, IsShortUntil};
 ghost use Rattle.lrpar_states.specs.PlainRows.{plain_action, plain_goto};
 ghost use Rattle.lrpar_stacks.specs.Stack.{states_of};
@@ -33,26 +34,15 @@ impl<'a, StorageT: StorageIndex> Chains<'a, StorageT> {
         Chains { grm, stable, cap }
     }
 
-    // The same chains, each of which is to make at most so many reductions.
-    fn with(&self, cap: u16) -> Self
-        ensures grammar { result.grm.now ≡ self.now.grm.now }
-        ensures table { result.stable.now ≡ self.now.stable.now }
-        ensures cap { result.cap ≡ cap }
-    {
-        Chains::new(self.grm, self.stable, cap)
-    }
-
     /// The least cap with which the table passes, which is at most that of the check; otherwise the first state, and the first token
     /// there, at which a chain is too long.
     ///
     /// The chains of a state begin with it alone, and with each of its gotos above it, which are read once. Such a chain
-    /// is made at those tokens alone at which the state that it begins with on top stores a reduction, and at none after a
-    /// token at which an earlier one was too long. It takes at most `cap + 1` steps, each with one action and one goto.
-    /// All chains share one small list of states.
+    /// is made at those tokens alone at which the state that it begins with on top stores a reduction. It takes at most
+    /// `cap + 1` steps, each with one action and one goto. All chains share one small list of states.
     ///
-    /// Each chain is made once, to see that it is no longer than those of the states before. Where one is, those of its state are made
-    /// again: once to see that they pass, and then about twice as often as the number of reductions by which they are longer has digits
-    /// in binary.
+    /// Each chain is made once, and what it makes is counted. Where one is too long, those of its state are made again, to find the first
+    /// token: at none behind a token at which an earlier one was too long.
     fn least(&self, alloc: Global) -> Result<u16, CheckFault>
         requires { FitsGrammar self.now.grm.now self.now.stable.now }
         ensures least { IfOk result (IsLeastCap self.now.grm.now self.now.stable.now) }
@@ -83,61 +73,73 @@ impl<'a, StorageT: StorageIndex> Chains<'a, StorageT> {
         ensures within { IfOk result (λ cap. cap ≤ self.now.cap) }
         ensures fault { IfErr result (IsChainFault self.now.grm.now self.now.stable.now self.now.cap) }
     {
-        if self.is_short_at(states, s, from)? {
-            return Ok(from);
+        if let Some(longest) = self.longest_at(states, s, from)? {
+            return Ok(longest);
         }
         match self.first_long_at(states, s)? {
             Some(t) => Err(CheckFault::ChainTooLong(usize::from(s), t)),
-            None => Ok(self.least_above(states, s, from)?),
+            None => unreachable!(),
         }
     }
 
-    // The least cap that no chain of the state exceeds, where one exceeds this one, and none that of the check.
-    fn least_above(
+    // The same; none, where a chain of the state makes more reductions than the cap.
+    fn longest_at(
         &self,
         states: &mut Vec<StIdx<StorageT>>,
         s: StIdx<StorageT>,
         from: u16,
-    ) -> Result<u16, AllocError>
+    ) -> Result<Option<u16>, AllocError>
         requires fits { FitsGrammar self.now.grm.now self.now.stable.now }
         requires closed { IsClosed self.now.stable.now }
         requires state { StorageT.index s.0 < states_len self.now.stable.now }
-        requires long { ¬ (AreShortAt self.now.grm.now self.now.stable.now from (StorageT.index s.0)) }
-        requires short { AreShortAt self.now.grm.now self.now.stable.now self.now.cap (StorageT.index s.0) }
-        ensures least { IfOk result (IsLeastAt self.now.grm.now self.now.stable.now (StorageT.index s.0) from) }
-        ensures within { IfOk result (λ cap. cap ≤ self.now.cap) }
+        requires from { from ≤ self.now.cap }
+        ensures { let g = self.now.grm.now in let table = self.now.stable.now in let cap = self.now.cap in IfOk result (λ found. MatchOption found
+            (¬ (AreShortAt g table cap (StorageT.index s.0)))
+            (λ longest. IsLeastAt g table (StorageT.index s.0) from longest × (longest ≤ cap))) }
     {
-        let mut low = from;
-        let mut high = self.cap;
-        let mut stride: u16 = 1;
-        'strides: while high - low > 1 {
-            let middle = low + stride.min((high - low) / 2);
-            if self.is_short_at(states, s, middle)? {
-                high = middle;
-            } else {
-                low = middle;
-                stride = stride.saturating_mul(2);
+        let Some(mut longest) = self.longest_from(states, s, None, from)? else {
+            return Ok(None);
+        };
+        let (rules, nexts) = self.stable.gotos_of(s);
+        for (place, _) in rules.iter().enumerate() {
+            match self.longest_from(states, s, Some(nexts[place]), longest)? {
+                Some(more) => longest = more,
+                None => return Ok(None),
             }
         }
-        Ok(high)
+        Ok(Some(longest))
     }
 
-    // Whether no chain of the state makes more reductions than this cap.
-    fn is_short_at(
+    // The greatest of this number and of what the chain makes that begins with the state, and with the other one above it, whatever its
+    // token; none, where it makes more reductions than the cap.
+    fn longest_from(
         &self,
         states: &mut Vec<StIdx<StorageT>>,
         s: StIdx<StorageT>,
-        cap: u16,
-    ) -> Result<bool, AllocError>
+        above: Option<StIdx<StorageT>>,
+        from: u16,
+    ) -> Result<Option<u16>, AllocError>
         requires fits { FitsGrammar self.now.grm.now self.now.stable.now }
         requires closed { IsClosed self.now.stable.now }
         requires state { StorageT.index s.0 < states_len self.now.stable.now }
-        ensures { IfOk result (λ short. IsTrue short ↔ AreShortAt self.now.grm.now self.now.stable.now cap (StorageT.index s.0)) }
+        requires above { IsGotoWithin (states_len self.now.stable.now) (plain_goto StorageT.index above) }
+        requires from { from ≤ self.now.cap }
+        ensures { IfOk result (IsLongestWithin self.now.grm.now self.now.stable.now self.now.cap
+            (StorageT.index s.0 ∷ option_to_list (plain_goto StorageT.index above)) from) }
     {
-        match self.with(cap).first_long_at(states, s)? {
-            None => Ok(true),
-            Some(_) => Ok(false),
+        let top = above.unwrap_or(s);
+        let (tokens, actions) = self.stable.actions_of(top);
+        let mut longest = from;
+        for (place, token) in tokens.iter().enumerate() {
+            let action = actions[place];
+            if is_reduction(action) {
+                match self.reductions_from(states, s, above, *token)? {
+                    Some(made) => longest = longest.max(made),
+                    None => return Ok(None),
+                }
+            }
         }
+        Ok(Some(longest))
     }
 
     // The first token at which a chain of the state is too long.
@@ -214,39 +216,63 @@ impl<'a, StorageT: StorageIndex> Chains<'a, StorageT> {
         ensures { IfOk result (λ long. IsTrue long ↔ HasReductions self.now.grm.now self.now.stable.now (StorageT.index t.0)
             (StorageT.index s.0 ∷ option_to_list (plain_goto StorageT.index above)) (self.now.cap + 1)) }
     {
+        match self.reductions_from(states, s, above, t)? {
+            Some(_) => Ok(false),
+            None => Ok(true),
+        }
+    }
+
+    // How many reductions the chain that begins with the state, and with the other one above it, makes at the token; none, where they are
+    // more than the cap.
+    fn reductions_from(
+        &self,
+        states: &mut Vec<StIdx<StorageT>>,
+        s: StIdx<StorageT>,
+        above: Option<StIdx<StorageT>>,
+        t: TIdx<StorageT>,
+    ) -> Result<Option<u16>, AllocError>
+        requires fits { FitsGrammar self.now.grm.now self.now.stable.now }
+        requires closed { IsClosed self.now.stable.now }
+        requires state { StorageT.index s.0 < states_len self.now.stable.now }
+        requires above { IsGotoWithin (states_len self.now.stable.now) (plain_goto StorageT.index above) }
+        requires token { StorageT.index t.0 < self.now.stable.now.tokens }
+        ensures { IfOk result (IsCounted self.now.grm.now self.now.stable.now self.now.cap (StorageT.index t.0)
+            (StorageT.index s.0 ∷ option_to_list (plain_goto StorageT.index above))) }
+    {
         states.clear();
         states.push(s)?;
         if let Some(next) = above {
             states.push(next)?;
         }
-        self.is_long(states, t)
+        self.reductions(states, t)
     }
 
-    // Whether the chain from these states is too long at the token. It is made on them.
-    fn is_long(
+    // How many reductions the chain from these states makes at the token; none, where they are more than the cap. It is made on them.
+    fn reductions(
         &self,
         states: &mut Vec<StIdx<StorageT>>,
         t: TIdx<StorageT>,
-    ) -> Result<bool, AllocError>
+    ) -> Result<Option<u16>, AllocError>
         requires fits { FitsGrammar self.now.grm.now self.now.stable.now }
         requires closed { IsClosed self.now.stable.now }
         requires token { StorageT.index t.0 < self.now.stable.now.tokens }
         requires some { 0 < length states.old.items }
         requires within { All (λ s. s < states_len self.now.stable.now) (states_of StorageT.index states.old.items) }
-        ensures { IfOk result (λ long. IsTrue long ↔ HasReductions self.now.grm.now self.now.stable.now (StorageT.index t.0)
-            (states_of StorageT.index states.old.items) (self.now.cap + 1)) }
+        ensures { IfOk result (IsCounted self.now.grm.now self.now.stable.now self.now.cap (StorageT.index t.0)
+            (states_of StorageT.index states.old.items)) }
     {
-        for _made in 0..self.cap {
+        for made in 0..self.cap {
             let (step, _action) = take_step(self.grm, self.stable, states, t)?;
             match step {
                 Step::Reduced => {}
-                Step::LeavesNone | Step::Stays => return Ok(false),
+                Step::LeavesNone => return Ok(Some(made + 1)),
+                Step::Stays => return Ok(Some(made)),
             }
         }
         let (step, _action) = take_step(self.grm, self.stable, states, t)?;
         match step {
-            Step::Reduced | Step::LeavesNone => Ok(true),
-            Step::Stays => Ok(false),
+            Step::Reduced | Step::LeavesNone => Ok(None),
+            Step::Stays => Ok(Some(self.cap)),
         }
     }
 }

@@ -2,8 +2,8 @@ use Rattle.std.proofs.Common.{◌<◌, length}
 use Rattle.std.specs.List.{All}
 use Rattle.lrpar_states.specs.Table.{states_len}
 use Rattle.lrpar_stacks.specs.Stack.{states_of}
-use Rattle.lrpar_stacks.proofs.StepLemmas.{Remains}
-use Rattle.lrpar_safety.proofs.chains.Chains.is_long.Given as goal
+use Rattle.lrpar_safety.proofs.LengthLemmas.{Comes}
+use Rattle.lrpar_safety.proofs.chains.Chains.reductions.Given as goal
 
 -- there are states, all of the table, to which the chain has come by so many steps
 abbrev pub invariant-loop-made : goal.invariant-loop-made
@@ -13,5 +13,5 @@ invariant-loop-made g l =
     record {
       some : 0 < length l.states.items;
       within : All (λ s. s < states_len table) (states_of index l.states.items);
-      remains : Remains l.self.grm.now table (index l.t.0) (states_of index l.fn.states.items) l.self.cap (states_of index l.states.items) l._made;
+      comes : Comes l.self.grm.now table (index l.t.0) (states_of index l.fn.states.items) (states_of index l.states.items) l.made;
     }
