@@ -1,9 +1,10 @@
 #!/usr/bin/env bash
-# Runs each command of the real program with each of its calls for memory refused in turn, the cases of fail-alloc.cases
-# likewise, and the program with an argument that isn't UTF-8.
+# Runs each command of the real programs with each of its calls for memory refused in turn, the cases of fail-alloc.cases
+# likewise, and `lrpar` with an argument that isn't UTF-8.
 #
-# Wants of a command: where a call is refused, status 2, the one line `lrpar: out of memory` on standard error and a beginning
-# of the whole text on standard output, or else the whole answer as if no call had been refused. Wants of the cases, which are
+# Wants of a command: where a call is refused, status 2, a beginning of the whole text on standard output, and on standard error
+# a beginning of what else stands there and the line `lrpar: out of memory`, or `nimbleparse: out of memory`; or else the whole
+# answer as if no call had been refused. Wants of the cases, which are
 # run twice: where a call is refused, the one line on standard error that memory was wanting, in one case or in what all cases
 # stand on, so that each other case, and the same one in the other run, has its answer; or else no line. Prints how many calls
 # each command and the cases make, what failed, and one closing line. It stands outside the gate. It needs cc and glibc.
@@ -13,10 +14,9 @@ here=$(cd -P "$(dirname "$(readlink -f "${BASH_SOURCE[0]}")")" && pwd) || exit 1
 readonly here
 readonly root=$here/..
 readonly program=${LRPAR_PROGRAM:-$root/crates/lrpar_program/out/lrpar_program}
+readonly nimbleparse=${NIMBLEPARSE_PROGRAM:-$root/crates/nimbleparse/out/nimbleparse}
 readonly runner=${LRPAR_CASES:-$root/crates/lrpar_cases/out/lrpar_cases}
 readonly most_calls=100000
-readonly no_memory='lrpar: out of memory
-'
 
 work=$(mktemp -d) || exit 1
 readonly work
@@ -49,19 +49,26 @@ wrote() {
     [[ $status -eq $1 ]] && cmp -s "$work/out" <(printf '%s' "$2") && cmp -s "$work/err" <(printf '%s' "$3")
 }
 
-# wrote_beginning STATUS OUT ERR: the same, but standard output may end early.
-wrote_beginning() {
-    local len
-    len=$(stat -c %s "$work/out")
-    [[ $status -eq $1 ]] && cmp -s "$work/out" <(printf '%s' "$2" | head -c "$len") && cmp -s "$work/err" <(printf '%s' "$3")
+# begins FILE BYTES TEXT END: whether the file is so many bytes of the text, and then the end.
+begins() {
+    cmp -s "$1" <(printf '%s' "$3" | head -c "$2" && printf '%s' "$4")
+}
+
+# Whether both streams ended early, standard error with the line that memory was wanting.
+wants_memory() {
+    local line=$name': out of memory
+' out err
+    out=$(stat -c %s "$work/out")
+    err=$(($(stat -c %s "$work/err") - ${#line}))
+    [[ $status -eq 2 && $err -ge 0 ]] && begins "$work/out" "$out" "$want_out" '' && begins "$work/err" "$err" "$want_err" "$line"
 }
 
 gives_answer() {
-    wrote "$want_status" "$want_out" ''
+    wrote "$want_status" "$want_out" "$want_err"
 }
 
 gives_answer_or_no_memory() {
-    gives_answer || wrote_beginning 2 "$want_out" "$no_memory"
+    gives_answer || wants_memory
 }
 
 # One line, which begins as the usage line does.
@@ -77,12 +84,12 @@ run_refused() {
     run env FAIL_ALLOC_AT="$call" FAIL_ALLOC_MARK="$work/mark" LD_PRELOAD="$work/fail_alloc.so" "$@"
 }
 
-# refuse_each_call STATUS OUT WORDS..: refuses each call of a command in turn, until a run makes fewer calls than that.
-refuse_each_call() {
-    local want_status=$1 want_out=$2 call
-    shift 2
+# refuse_each PROGRAM WORDS..: refuses each call of a command in turn, until a run makes fewer calls than that.
+refuse_each() {
+    local tool=$1 call
+    shift
     for ((call = 1; call <= most_calls; call++)); do
-        run_refused "$call" "$program" "$@"
+        run_refused "$call" "$tool" "$@"
         if [[ ! -e $work/mark ]]; then
             printf '%s: %s calls\n' "$1" "$((call - 1))"
             count "$*: no call refused" gives_answer
@@ -92,6 +99,20 @@ refuse_each_call() {
         count "$*: call $call refused" gives_answer_or_no_memory
     done
     count "$*: at most $most_calls calls" false
+}
+
+# refuse_each_call STATUS OUT WORDS..: the same of `lrpar`.
+refuse_each_call() {
+    local name=lrpar want_status=$1 want_out=$2 want_err=
+    shift 2
+    refuse_each "$program" "$@"
+}
+
+# refuse_each_call_of_nimbleparse STATUS OUT ERR WORDS..: the same of `nimbleparse`.
+refuse_each_call_of_nimbleparse() {
+    local name=nimbleparse want_status=$1 want_out=$2 want_err=$3
+    shift 3
+    refuse_each "$nimbleparse" "$@"
 }
 
 # Whether the cases were run, and told as wrong at most one, or none and those behind it not run, for want of memory.
@@ -133,6 +154,10 @@ if [[ -z ${LRPAR_PROGRAM:-} ]] && ! "$root/lrpar" demo a+b >/dev/null; then
     printf 'lrpar demo a+b fails before any call is refused\n' >&2
     exit 1
 fi
+if [[ -z ${NIMBLEPARSE_PROGRAM:-} ]] && ! "$root/nimbleparse" -h >/dev/null; then
+    printf 'nimbleparse -h fails before any call is refused\n' >&2
+    exit 1
+fi
 if ! cc -O1 -Wall -shared -fPIC -o "$work/fail_alloc.so" "$here/fail_alloc.c"; then
     printf 'cannot build tools/fail_alloc.c\n' >&2
     exit 1
@@ -145,6 +170,8 @@ printf '%s\n' "n 'N'" "\\+ '+'" "\\( '('" "\\) ')'" >"$work/brackets.lex"
 printf '%s\n' "insert ')'" "insert ')' delete" "insert '+' shift insert ')'" >"$work/brackets.repairs"
 printf '%s\n' 'delete' "insert 'INT'" >"$work/calc.repairs"
 printf '(nn' >"$work/text"
+printf '(n)' >"$work/whole"
+printf '%s' '%% E: F;' >"$work/wrong.y"
 printf '%s\n' '2 + + 3' '' '(2 + 3) * 4' >"$work/input"
 
 refuse_each_call 0 'E
@@ -198,6 +225,21 @@ refuse_each_call 1 'Parsing error at line 1 column 5. Repair sequences found:
 Result: 5
 Result: 20
 ' calc --shifts 1 "$work/calc.repairs"
+
+refuse_each_call_of_nimbleparse 1 '' "$work/text:1:3: error: unexpected 'n', expected '+' or ')'
+1| (nn
+     ^
+repairs that were found, of which the first is taken:
+   1: Insert +, Shift n, Insert )
+   2: Insert ), Delete n
+" -q "$work/brackets.lex" "$work/brackets.y" "$work/text"
+refuse_each_call_of_nimbleparse 0 'E[ "(" E[ N "n" ] ")" ]
+' "$work/brackets.y: note: rules 2, productions 4, tokens 5, states 14, least cap 1
+" "$work/brackets.lex" "$work/brackets.y" "$work/whole"
+refuse_each_call_of_nimbleparse 2 '' "$work/wrong.y:1:7: error: name 'F' is neither a rule nor declared by %token
+1| %% E: F;
+         ^ define it, declare it by %token, or put it in quotes
+" "$work/brackets.lex" "$work/wrong.y"
 
 refuse_each_call_of_cases "$here/fail-alloc.cases"
 

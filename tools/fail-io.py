@@ -1,23 +1,25 @@
 #!/usr/bin/env python3
-"""Runs each command of the real program with each of its reads and each of its writes failing, or being short, in turn.
+"""Runs each command of the real programs with each of its reads and each of its writes failing, or being short, in turn.
 
     fail-io.py
 
 Wants of a run, beside one in which nothing fails:
 
-- a file that can't be opened or read: status 2, and the line `lrpar: cannot read PATH`, or `lrpar: cannot read standard input`;
-- a write to standard output that fails: status 2, and the line `lrpar: cannot write standard output`;
+- a file that can't be opened or read: status 2, and the line `lrpar: cannot read PATH`, or `lrpar: cannot read standard input`; of
+  `nimbleparse` the line `PATH: error: cannot read this file: REASON`, with `-` for standard input;
+- a write to standard output that fails: status 2, and the line `lrpar: cannot write standard output`, or with that of the other
+  program's name;
 - a read or a write that is short or interrupted: the same answer;
 - a write to standard error that fails: the same status and the same standard output;
-- want of memory for a read or a write: status 2, and the line `lrpar: out of memory`;
+- want of memory for a read or a write: status 2, and the line `lrpar: out of memory`, or with that name;
 - a pipe that nobody reads, or a full device, as standard output: as a write that fails, whether or not the program is started
   with the signal SIGPIPE ignored; as standard error: as a write that fails there;
 - always: what stands on standard output is a beginning of the right output, and what stands on standard error is a beginning
   of the right text and perhaps the line of the fault.
 
 Prints how many calls of each kind each command makes, each run that is otherwise, and one closing line. It stands outside the
-gate. It needs Python 3.9, cc and glibc. LRPAR_PROGRAM is the path of the program, where that isn't the one that `./lrpar`
-builds.
+gate. It needs Python 3.9, cc and glibc. LRPAR_PROGRAM and NIMBLEPARSE_PROGRAM are the paths of the programs, where these aren't
+the ones that `./lrpar` and `./nimbleparse` build.
 """
 import errno
 import os
@@ -27,16 +29,12 @@ import tempfile
 from typing import NamedTuple
 
 HERE = os.path.dirname(os.path.abspath(__file__))
-BUILT = os.path.join(HERE, "..", "crates", "lrpar_program", "out", "lrpar_program")
-PROGRAM = os.path.abspath(os.environ.get("LRPAR_PROGRAM", BUILT))
+CRATES = os.path.join(HERE, "..", "crates")
 
 # How long a run may last, in seconds.
 PATIENCE = 60
 # No command here makes more calls of a kind.
 MOST_CALLS = 1_000
-
-NO_MEMORY = "lrpar: out of memory\n"
-NO_OUTPUT = "lrpar: cannot write standard output\n"
 
 # What may become of a call of each kind: the number of an error, `zero` or `short`.
 FAILURES = {
@@ -72,8 +70,8 @@ FILES = {
 SUMS = "2 + + 3\n\n(2 + 3) * 4\n"
 MANY_SUMS = "1 + 2\n" * 5_000 + "99999999999999999999\n(\n" * 10
 
-# Each command's words, and its standard input.
-COMMANDS = [
+# The words and the standard input of each command of `lrpar`.
+LRPAR_COMMANDS = [
     (["demo", "a+b"], ""),
     (["demo", "a++"], ""),
     (["demo", "a-b"], ""),
@@ -106,11 +104,56 @@ COMMANDS = [
     (["nothing"], ""),
 ]
 
+# The same of `nimbleparse`.
+NIMBLEPARSE_COMMANDS = [
+    (["brackets.lex", "brackets.y", "whole", "broken", "unknown"], ""),
+    (["-q", "-r", "none", "brackets.lex", "brackets.y", "broken"], ""),
+    (["--format", "tree", "list.lex", "list.y", "long"], ""),
+    (["--format", "json", "brackets.lex", "brackets.y"], "(n+n)"),
+    (["--format", "dot", "brackets.lex", "brackets.y", "-", "whole"], "((n)"),
+    (["brackets.lex", "wrong.y", "whole"], ""),
+    (["wrong.lex", "brackets.y", "whole"], ""),
+    (["brackets.lex", "brackets.y", "missing"], ""),
+    (["-h"], ""),
+    (["nothing"], ""),
+]
+
+
+class Program(NamedTuple):
+    """A program, its commands, and its line of a file that can't be read, for a reason that has a number."""
+
+    name: str
+    path: str
+    commands: list
+    unreadable: str
+
+    def unreadable_line(self, path, how):
+        """the line of a file that can't be read"""
+        if self.name == "nimbleparse":
+            path = "-" if path == "standard input" else path
+        return self.unreadable.format(path=path, reason=os.strerror(how), number=how)
+
 
 class Answer(NamedTuple):
     status: int
     out: bytes
     err: bytes
+
+
+PROGRAMS = [
+    Program(
+        "lrpar",
+        os.path.abspath(os.environ.get("LRPAR_PROGRAM", os.path.join(CRATES, "lrpar_program", "out", "lrpar_program"))),
+        LRPAR_COMMANDS,
+        "lrpar: cannot read {path}\n",
+    ),
+    Program(
+        "nimbleparse",
+        os.path.abspath(os.environ.get("NIMBLEPARSE_PROGRAM", os.path.join(CRATES, "nimbleparse", "out", "nimbleparse"))),
+        NIMBLEPARSE_COMMANDS,
+        "{path}: error: cannot read this file: {reason} (os error {number})\n",
+    ),
+]
 
 
 class Failing(NamedTuple):
@@ -122,10 +165,10 @@ class Failing(NamedTuple):
 
 
 class Runs:
-    """Runs of the program in a folder, of which each is wanted to end in one way; and how many did."""
+    """Runs of a program in a folder, of which each is wanted to end in one way; and how many did."""
 
-    def __init__(self, folder, shim):
-        self.folder, self.shim, self.mark = folder, shim, os.path.join(folder, "mark")
+    def __init__(self, program, folder, shim):
+        self.program, self.folder, self.shim, self.mark = program, folder, shim, os.path.join(folder, "mark")
         self.passed = self.failed = 0
 
     def answer(self, words, given, failing=None):
@@ -138,7 +181,7 @@ class Runs:
             content.write(given.encode())
             content.seek(0)
             ran = subprocess.run(
-                [PROGRAM, *words], cwd=self.folder, env=settings, stdin=content, capture_output=True, timeout=PATIENCE
+                [self.program.path, *words], cwd=self.folder, env=settings, stdin=content, capture_output=True, timeout=PATIENCE
             )
         return Answer(ran.returncode, ran.stdout, ran.stderr)
 
@@ -178,26 +221,31 @@ class Runs:
                     self.count(came == right, f"{name}: no {kind} {at}", came)
                     return at - 1
                 told = errno.errorcode.get(how, how)
-                self.count(is_right(right, came, Failing(kind, at, how), path, self.folder), f"{name}: {kind} {at}: {told}", came)
+                self.count(is_right(self.program, right, came, Failing(kind, at, how), path, self.folder), f"{name}: {kind} {at}: {told}", came)
         self.count(False, f"{name}: fewer than {MOST_CALLS} calls of {kind}", right)
         return MOST_CALLS
 
 
-def is_right(right, came, failing, path, folder):
+def is_right(program, right, came, failing, path, folder):
     """whether the answer is what is wanted where a call for the file at the path fails"""
     if failing.how in HARMLESS:
         return came == right
     if failing.kind == "err":
         return came.status == right.status and came.out == right.out and is_part_of(right.err, came.err)
-    line = fault_line(failing, os.path.relpath(path, folder) if os.path.isabs(path) else path)
+    line = fault_line(program, failing, os.path.relpath(path, folder) if os.path.isabs(path) else path)
     return came.status == 2 and right.out.startswith(came.out) and ends_in(right.err, came.err, line.encode())
 
 
-def fault_line(failing, path):
+def fault_line(program, failing, path):
     """the line of the fault"""
     if failing.how == errno.ENOMEM:
-        return NO_MEMORY
-    return NO_OUTPUT if failing.kind == "out" else f"lrpar: cannot read {path}\n"
+        return f"{program.name}: out of memory\n"
+    return no_output(program) if failing.kind == "out" else program.unreadable_line(path, failing.how)
+
+
+def no_output(program):
+    """the line of standard output that takes no more"""
+    return f"{program.name}: cannot write standard output\n"
 
 
 def is_part_of(text, part):
@@ -215,14 +263,14 @@ def try_output(runs, words, given, name, stream, taker, is_signalled):
     """writes one of the two streams to what takes nothing; the program may start with SIGPIPE ignored, or not"""
     right = runs.answer(words, given)
     streams = {"stdout": subprocess.PIPE, "stderr": subprocess.PIPE, stream: taker}
-    ran = subprocess.run([PROGRAM, *words], cwd=runs.folder, input=given.encode(), restore_signals=is_signalled, **streams)
+    ran = subprocess.run([runs.program.path, *words], cwd=runs.folder, input=given.encode(), restore_signals=is_signalled, **streams)
     came = Answer(ran.returncode, ran.stdout or b"", ran.stderr or b"")
     if stream == "stderr":
         is_well = (came.status, came.out) == (right.status, right.out)
     elif not right.out:
         is_well = came == right
     else:
-        is_well = came.status == 2 and ends_in(right.err, came.err, NO_OUTPUT.encode())
+        is_well = came.status == 2 and ends_in(right.err, came.err, no_output(runs.program).encode())
     runs.count(is_well, f"{' '.join(words)[:70]}: {stream} to {name}", came)
 
 
@@ -238,9 +286,19 @@ def try_outputs(runs, words, given):
             try_output(runs, words, given, "a full device", stream, full, False)
 
 
+def try_program(program, folder, shim):
+    """tries each command of a program, and gives how many runs passed, and how many failed"""
+    runs = Runs(program, folder, shim)
+    for words, given in program.commands:
+        runs.try_command(words, given)
+        try_outputs(runs, words, given)
+    return runs.passed, runs.failed
+
+
 def main():
-    if not os.access(PROGRAM, os.X_OK):
-        sys.exit(f"no program at {PROGRAM}")
+    for program in PROGRAMS:
+        if not os.access(program.path, os.X_OK):
+            sys.exit(f"no program at {program.path}")
     with tempfile.TemporaryDirectory(prefix="fail-io.") as folder:
         folder = os.path.realpath(folder)
         shim = os.path.join(folder, "fail_io.so")
@@ -250,12 +308,10 @@ def main():
         for name, text in FILES.items():
             with open(os.path.join(folder, name), "w", encoding="utf-8") as out:
                 out.write(text)
-        runs = Runs(folder, shim)
-        for words, given in COMMANDS:
-            runs.try_command(words, given)
-            try_outputs(runs, words, given)
-    print(f"{runs.passed} passed, {runs.failed} failed")
-    return 1 if runs.failed else 0
+        counts = [try_program(program, folder, shim) for program in PROGRAMS]
+    passed, failed = map(sum, zip(*counts))
+    print(f"{passed} passed, {failed} failed")
+    return 1 if failed else 0
 
 
 if __name__ == "__main__":

@@ -1,5 +1,5 @@
 //! The whole program: its words to commands, their answers to standard output, their faults to a line and a status.
-ghost use Rattle.std.specs.Prelude.{◌≤◌, IfOk};
+ghost use Rattle.std.specs.Prelude.{◌≤◌};
 
 use crate::arguments::{Command, TreePaths, command_of};
 use crate::check::check;
@@ -7,21 +7,12 @@ use crate::conflicts::conflicts;
 use crate::tree::{TreeTexts, tree};
 use lrpar_inputs::fault::Fault;
 use lrpar_inputs::files::{file_text, text_if_any};
+use lrpar_inputs::streams::{Status, ended, finished, words};
 use lrpar_sums::calc::calc;
 use lrpar_sums::demo::demo;
 use std::alloc::Global;
 use std::io::{BufWriter, Read, Write};
 use std::rt::Files;
-use std::{env, io};
-
-/// The status of a command that has its answer.
-const SUCCESS: u8 = 0;
-
-/// The status of a command that found errors in its input.
-const ERRORS: u8 = 1;
-
-/// The status of a command that has no answer.
-const FAULT: u8 = 2;
 
 /// Runs the program on the process's own arguments and streams, and answers its exit status, as [`run`] does. An argument that
 /// isn't UTF-8 is a wrong one.
@@ -30,7 +21,7 @@ pub fn run_of_process(rt: &HostRuntime) -> u8
 {
     match words(rt) {
         Ok(args) => run(rt, rt.alloc(), &args, rt.stdin(), rt.stdout(), rt.stderr()),
-        Err(error) => refused(&Fault::of_arguments(&error), &mut rt.stderr()),
+        Err(error) => ended(Err(Fault::of_arguments(&error)), &mut rt.stderr()),
     }
 }
 
@@ -51,15 +42,8 @@ pub fn run<R: Files, I: Read + Drop, O: Write + Drop, E: Write + Drop>(
 ) -> u8
     ensures status { result ≤ 2 }
 {
-    match written(rt, alloc, args, input, out, &mut err) {
-        Ok(status) => status,
-        Err(fault) => refused(&fault, &mut err),
-    }
-}
-
-// The words after the program's name.
-fn words(rt: &HostRuntime) -> io::Result<Vec<String>> {
-    Ok(env::args(rt)?.skip(1).collect(rt.alloc())?)
+    let ending = written(rt, alloc, args, input, out, &mut err);
+    ended(ending, &mut err)
 }
 
 // The status of the command, once all that it prints is written.
@@ -70,9 +54,7 @@ fn written<R: Files, I: Read + Drop, O: Write + Drop, E: Write>(
     input: I,
     out: O,
     err: &mut E,
-) -> Result<u8, Fault>
-    ensures { IfOk result (λ status. status ≤ 2) }
-{
+) -> Result<Status, Fault> {
     match BufWriter::new(alloc, out) {
         Ok(mut out) => {
             let status = printed(rt, alloc, args, input, &mut out, err);
@@ -90,24 +72,20 @@ fn printed<R: Files, I: Read + Drop, O: Write, E: Write>(
     input: I,
     out: &mut O,
     err: &mut E,
-) -> Result<u8, Fault>
-    ensures { IfOk result (λ status. status ≤ 2) }
-{
+) -> Result<Status, Fault> {
     match command_of(args)? {
-        Command::Demo { text } => Ok(status_of(demo(alloc, text, out)?, ERRORS)),
+        Command::Demo { text } => Ok(Status::of(demo(alloc, text, out)?)),
         Command::Tree { shifts, paths } => {
-            Ok(status_of(tree_of_files(rt, alloc, paths, shifts, out)?, ERRORS))
+            Ok(Status::of(tree_of_files(rt, alloc, paths, shifts, out)?))
         }
-        Command::Check { grammar, cap } => {
-            Ok(status_of(check_file(rt, alloc, grammar, cap, out)?, FAULT))
-        }
+        Command::Check { grammar, cap } => check_file(rt, alloc, grammar, cap, out),
         Command::Conflicts { grammar } => {
             conflicts_of_file(rt, alloc, grammar, out)?;
-            Ok(SUCCESS)
+            Ok(Status::Success)
         }
         Command::Calc { shifts, repairs } => {
             let clean = calc_input(rt, alloc, repairs, shifts, input, out, err)?;
-            Ok(status_of(clean, ERRORS))
+            Ok(Status::of(clean))
         }
     }
 }
@@ -134,16 +112,20 @@ fn tree_texts<R: Files>(rt: &R, alloc: Global, paths: TreePaths<'_>) -> Result<T
     })
 }
 
-// Checks the table of a file's grammar, and prints what the check says. Answers whether it passes.
+// Checks the table of a file's grammar, and prints what the check says. There is no answer where it doesn't pass.
 fn check_file<R: Files, O: Write>(
     rt: &R,
     alloc: Global,
     grammar: &str,
     cap: u16,
     out: &mut O,
-) -> Result<bool, Fault> {
+) -> Result<Status, Fault> {
     let grammar = file_text(rt, alloc, grammar)?;
-    check(alloc, grammar.as_str(), cap, out)
+    if check(alloc, grammar.as_str(), cap, out)? {
+        Ok(Status::Success)
+    } else {
+        Ok(Status::NoAnswer)
+    }
 }
 
 // Prints the conflicts of the table of a file's grammar, which they name by its path.
@@ -169,47 +151,4 @@ fn calc_input<R: Files, I: Read + Drop, O: Write, E: Write>(
 ) -> Result<bool, Fault> {
     let repairs = text_if_any(rt, alloc, repairs)?;
     calc(alloc, repairs.as_str(), shifts, input, out, err)
-}
-
-// The status of a command that is well, or else another one.
-fn status_of(is_well: bool, other: u8) -> u8
-    requires { other ≤ 2 }
-    ensures { result ≤ 2 }
-{
-    if is_well { SUCCESS } else { other }
-}
-
-// The status, once all that was printed is written. What `out` doesn't take isn't tried again.
-fn finished<O: Write + Drop>(status: Result<u8, Fault>, mut out: BufWriter<O>) -> Result<u8, Fault>
-    requires { IfOk status (λ status. status ≤ 2) }
-    ensures { IfOk result (λ status. status ≤ 2) }
-{
-    let status = flushed(status, &mut out);
-    if status.is_err() {
-        let _ = out.into_parts();
-    }
-    status
-}
-
-// The status, once all that was printed is written.
-fn flushed<O: Write>(status: Result<u8, Fault>, out: &mut O) -> Result<u8, Fault>
-    requires { IfOk status (λ status. status ≤ 2) }
-    ensures { IfOk result (λ status. status ≤ 2) }
-{
-    let written = out.flush();
-    match (status, written) {
-        (Ok(status), Ok(())) => Ok(status),
-        (Ok(_), Err(error)) => Err(error.into()),
-        (Err(fault), _) => Err(fault),
-    }
-}
-
-// Writes the fault's line, as far as that can be done, and answers its status.
-fn refused<E: Write>(fault: &Fault, err: &mut E) -> u8
-    ensures { result ≤ 2 }
-{
-    if writeln!(err, "{fault}").is_ok() {
-        let _ = err.flush();
-    }
-    FAULT
 }

@@ -5,4 +5,5 @@ pub mod fault;
 pub mod files;
 pub mod parsing;
 pub mod repairs;
+pub mod streams;
 pub mod tables;

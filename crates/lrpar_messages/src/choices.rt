@@ -26,8 +26,8 @@ pub fn push_choices<StorageT: StorageIndex>(
     }
 }
 
-// What stands in front of a choice, behind so many others, when so many are left with it.
-fn joint(place: usize, left: usize) -> &'static str {
+/// What stands in front of a choice, behind so many others, when so many are left with it.
+pub(crate) fn joint(place: usize, left: usize) -> &'static str {
     match (place, left) {
         (0, _) => "expected ",
         (_, 1) => " or ",

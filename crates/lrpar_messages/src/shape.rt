@@ -1,4 +1,5 @@
 //! What may stand at a place of a grammar text, which is found by trying it.
+use crate::choices::joint;
 use lrpar_text::outline::{Outline, OutlineFault};
 use std::alloc::{AllocError, Global};
 
@@ -23,15 +24,12 @@ pub(crate) fn push_expected(
     front: &str,
 ) -> Result<(), AllocError> {
     let names = expected(alloc, front)?;
-    let mut left = names.len();
+    if !names.is_empty() {
+        out.push_str(", ")?;
+    }
     for (place, name) in names.iter().enumerate() {
-        out.push_str(match (place, left) {
-            (0, _) => ", expected ",
-            (_, 1) => " or ",
-            _ => ", ",
-        })?;
+        out.push_str(joint(place, names.len().saturating_sub(place)))?;
         out.push_str(name)?;
-        left = left.saturating_sub(1);
     }
     Ok(())
 }

@@ -1,6 +1,6 @@
 //! The texts of files and of standard input.
-use crate::fault::Fault;
 use lrpar_messages::{file_message, text_of};
+use lrpar_nimble_texts::fault::Fault;
 use std::alloc::Global;
 use std::io::Read;
 use std::rt::Files;
@@ -29,7 +29,7 @@ pub(crate) fn input_text<I: Read + Drop>(alloc: Global, input: I) -> Result<Stri
 fn text_or_fault(alloc: Global, path: &str, bytes: Vec<u8>) -> Result<String, Fault> {
     match text_of(alloc, path, bytes)? {
         Ok(text) => Ok(text),
-        Err(message) => Err(Fault::Told(message)),
+        Err(message) => Err(Fault::of_message(message)),
     }
 }
 
@@ -39,7 +39,7 @@ fn unreadable(alloc: Global, path: &str, error: &io::Error) -> Fault {
         return Fault::Memory;
     }
     match file_message(alloc, path, error) {
-        Ok(message) => Fault::Told(message),
+        Ok(message) => Fault::of_message(message),
         Err(_) => Fault::Memory,
     }
 }

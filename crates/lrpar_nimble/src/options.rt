@@ -1,26 +1,7 @@
 //! The words after the program's name as options and paths.
-use crate::fault::Fault;
+use lrpar_nimble_texts::fault::Fault;
+use lrpar_nimble_texts::plan::{Format, Recovery};
 use std::alloc::Global;
-
-/// How trees are printed.
-#[derive(Clone, Copy, Debug, PartialEq, Eq)]
-pub(crate) enum Format {
-    /// On one line, in brackets.
-    Brackets,
-    /// A line for each node, indented by its level.
-    Indented,
-    /// As JSON, on one line.
-    Json,
-    /// As a graph for Graphviz.
-    Graph,
-}
-
-/// Which repairs are looked for.
-#[derive(Clone, Copy, Debug, PartialEq, Eq)]
-pub(crate) enum Recovery {
-    /// None.
-    Nothing,
-}
 
 /// What the words ask for.
 #[derive(Debug, Drop)]
@@ -38,14 +19,19 @@ pub(crate) struct Options<'a> {
     pub(crate) inputs: Vec<&'a str>,
 }
 
+/// How many beginnings of repairs are tried at an error, where no word tells another number.
+const LIMIT: usize = 4_000;
+
 /// What the program says of itself.
 pub(crate) const HELP: &str = "\
-usage: nimbleparse [-q] [-r none] [--shifts K] [--format brackets|tree|json|dot] LEXER GRAMMAR [INPUT..]
+usage: nimbleparse [-q] [-r none|cpctplus] [--limit N] [--shifts K] [--format brackets|tree|json|dot] LEXER GRAMMAR [INPUT..]
 
 Reads the rules of a lexer and a grammar, and parses each input: standard input for none, or for `-`.
 
   -q           print errors alone: no trees, no warnings, no notes
-  -r none      which repairs are looked for at an error
+  -r none      look for no repairs: the first error of an input is the last
+  -r cpctplus  look for the cheapest repairs at each error, and go on with the first of them (this is the default)
+  --limit N    try so many beginnings of repairs at an error, and then give up (4000)
   --shifts K   so many lexemes have to follow a repair (3)
   --format F   print trees in brackets on one line, as an indented tree, as json, or as a graph (dot)
   -h           print this
@@ -53,6 +39,24 @@ Reads the rules of a lexer and a grammar, and parses each input: standard input 
 
 Status 0: each input has a tree and no error; 1: an input has errors; 2: there is no answer.
 ";
+
+// What the words so far say.
+#[derive(Debug, Drop)]
+struct Said<'a> {
+    is_quiet: bool,
+    search: Search,
+    limit: Option<usize>,
+    shifts: Option<usize>,
+    format: Format,
+    paths: Vec<&'a str>,
+}
+
+// Whether repairs are looked for.
+#[derive(Clone, Copy, Debug, PartialEq, Eq)]
+enum Search {
+    Nothing,
+    Cheapest,
+}
 
 /// Whether the words ask for what the program says of itself.
 pub(crate) fn asks_for_help(args: &[String]) -> bool {
@@ -64,75 +68,86 @@ pub(crate) fn asks_for_help(args: &[String]) -> bool {
 
 /// What these words ask for. Options may stand anywhere; behind `--` all words are paths.
 pub(crate) fn options_of(alloc: Global, args: &[String]) -> Result<Options<'_>, Fault> {
-    let mut options = Options {
+    let mut said = Said {
         is_quiet: false,
-        recovery: Recovery::Nothing,
+        search: Search::Cheapest,
+        limit: None,
         shifts: None,
         format: Format::Brackets,
-        lexer: "",
-        grammar: "",
-        inputs: Vec::new(alloc),
+        paths: Vec::new(alloc),
     };
     let mut left = args;
     for _ in 0..args.len() {
         let Some((word, others)) = left.split_first() else {
             break;
         };
-        left = taken(&mut options, word.as_str(), others)?;
+        left = taken(&mut said, word.as_str(), others)?;
     }
-    with_paths(options)
+    options_said(said)
 }
 
 // Takes a word, and the words behind it that belong to it. Answers those that are left.
 fn taken<'a>(
-    options: &mut Options<'a>,
+    said: &mut Said<'a>,
     word: &'a str,
     others: &'a [String],
 ) -> Result<&'a [String], Fault> {
     match word {
-        "-q" => options.is_quiet = true,
-        "-r" => {
-            let (value, left) = value(others, "-r needs none")?;
-            options.recovery = recovery_of(value)?;
-            return Ok(left);
-        }
-        "--shifts" => {
-            let (value, left) = value(others, "--shifts needs a number")?;
-            options.shifts = Some(shifts_of(value)?);
-            return Ok(left);
-        }
-        "--format" => {
-            let (value, left) = value(others, "--format needs brackets, tree, json or dot")?;
-            options.format = format_of(value)?;
+        "-q" => said.is_quiet = true,
+        "-r" | "--limit" | "--shifts" | "--format" => {
+            let (value, left) = value(word, others)?;
+            take_value(said, word, value)?;
             return Ok(left);
         }
         "--" => {
             for path in others {
-                options.inputs.push(path.as_str())?;
+                said.paths.push(path.as_str())?;
             }
             return Ok(&[]);
         }
         _ if word.starts_with('-') && word != "-" => {
             return Err(Fault::Usage("unknown option"));
         }
-        _ => options.inputs.push(word)?,
+        _ => said.paths.push(word)?,
     }
     Ok(others)
 }
 
 // The word that belongs to an option, and those behind it.
-fn value<'a>(words: &'a [String], missing: &'static str) -> Result<(&'a str, &'a [String]), Fault> {
+fn value<'a>(option: &str, words: &'a [String]) -> Result<(&'a str, &'a [String]), Fault> {
     match words.split_first() {
         Some((value, left)) => Ok((value.as_str(), left)),
-        None => Err(Fault::Usage(missing)),
+        None => Err(Fault::Usage(needs(option))),
     }
 }
 
-// The repairs of that name.
-fn recovery_of(name: &str) -> Result<Recovery, Fault> {
+// What an option needs behind it.
+fn needs(option: &str) -> &'static str {
+    match option {
+        "-r" => "-r needs none or cpctplus",
+        "--limit" => "--limit needs a number",
+        "--shifts" => "--shifts needs a number",
+        _ => "--format needs brackets, tree, json or dot",
+    }
+}
+
+// Takes an option with the word that belongs to it.
+fn take_value(said: &mut Said<'_>, option: &str, value: &str) -> Result<(), Fault> {
+    match option {
+        "-r" => said.search = search_of(value)?,
+        "--limit" => said.limit = Some(number_of(option, value)?),
+        "--shifts" => said.shifts = Some(shifts_of(option, value)?),
+        _ => said.format = format_of(value)?,
+    }
+    Ok(())
+}
+
+// The search of that name.
+fn search_of(name: &str) -> Result<Search, Fault> {
     match name {
-        "none" => Ok(Recovery::Nothing),
-        _ => Err(Fault::Usage("-r needs none")),
+        "none" => Ok(Search::Nothing),
+        "cpctplus" => Ok(Search::Cheapest),
+        _ => Err(Fault::Usage(needs("-r"))),
     }
 }
 
@@ -143,33 +158,41 @@ fn format_of(name: &str) -> Result<Format, Fault> {
         "tree" => Ok(Format::Indented),
         "json" => Ok(Format::Json),
         "dot" => Ok(Format::Graph),
-        _ => Err(Fault::Usage("--format needs brackets, tree, json or dot")),
+        _ => Err(Fault::Usage(needs("--format"))),
     }
 }
 
 // How many lexemes have to follow a repair.
-fn shifts_of(digits: &str) -> Result<usize, Fault> {
-    if !digits.bytes().all(|byte| byte.is_ascii_digit()) {
-        return Err(Fault::Usage("--shifts needs a number"));
-    }
-    match digits.parse::<usize>() {
-        Ok(0) => Err(Fault::Usage("--shifts must be at least 1")),
-        Ok(count) => Ok(count),
-        Err(_) => Err(Fault::Usage("--shifts needs a number")),
+fn shifts_of(option: &str, digits: &str) -> Result<usize, Fault> {
+    match number_of(option, digits)? {
+        0 => Err(Fault::Usage("--shifts must be at least 1")),
+        count => Ok(count),
     }
 }
 
-// The options with their paths: those of lexer and grammar, and those of the inputs, which are standard input where there are none.
-fn with_paths(options: Options<'_>) -> Result<Options<'_>, Fault> {
-    let Options {
+// The number that belongs to an option.
+fn number_of(option: &str, digits: &str) -> Result<usize, Fault> {
+    if !digits.bytes().all(|byte| byte.is_ascii_digit()) {
+        return Err(Fault::Usage(needs(option)));
+    }
+    match digits.parse::<usize>() {
+        Ok(number) => Ok(number),
+        Err(_) => Err(Fault::Usage(needs(option))),
+    }
+}
+
+// The options that are said: the first two paths are those of lexer and grammar, and the inputs are standard input where there are no
+// others.
+fn options_said(said: Said<'_>) -> Result<Options<'_>, Fault> {
+    let recovery = recovery_of(said.search, said.limit)?;
+    let Said {
         is_quiet,
-        recovery,
+        search: _,
+        limit: _,
         shifts,
         format,
-        lexer: _,
-        grammar: _,
-        inputs: mut paths,
-    } = options;
+        mut paths,
+    } = said;
     if paths.len() < 2 {
         return Err(Fault::Usage("LEXER and GRAMMAR are missing"));
     }
@@ -187,4 +210,15 @@ fn with_paths(options: Options<'_>) -> Result<Options<'_>, Fault> {
         grammar,
         inputs: paths,
     })
+}
+
+// Which repairs are looked for, with this limit, where it is told.
+fn recovery_of(search: Search, limit: Option<usize>) -> Result<Recovery, Fault> {
+    match (search, limit) {
+        (Search::Nothing, None) => Ok(Recovery::Nothing),
+        (Search::Nothing, Some(_)) => Err(Fault::Usage("--limit needs -r cpctplus")),
+        (Search::Cheapest, limit) => Ok(Recovery::Cheapest {
+            limit: limit.unwrap_or(LIMIT),
+        }),
+    }
 }

@@ -1,31 +1,24 @@
 //! The whole program: its words to a grammar, a lexer and inputs, their trees to standard output, and messages to standard error.
 ghost use Rattle.std.specs.Prelude.{◌≤◌};
 
-use crate::fault::Fault;
-use crate::grammar::data_of;
 use crate::inputs::{STANDARD_INPUT, file_text, input_text};
 use crate::options::{HELP, Options, asks_for_help, options_of};
-use crate::parse::{Plan, parse};
-use crate::rules::lexer_rules;
-use crate::show::{push_message, tell};
-use crate::warnings::push_token_warnings;
 use lrpar_inputs::parsing::printed_names;
+use lrpar_inputs::streams::{Status, ended, finished, words};
 use lrpar_lexer::LexRule;
 use lrpar_messages::{Level, Look, Reporter};
+use lrpar_nimble_texts::fault::Fault;
+use lrpar_nimble_texts::grammar::data_of;
+use lrpar_nimble_texts::parse::parse;
+use lrpar_nimble_texts::plan::Plan;
+use lrpar_nimble_texts::rules::lexer_rules;
+use lrpar_nimble_texts::show::{push_message, tell};
+use lrpar_nimble_texts::warnings::push_token_warnings;
 use lrpar_parser::ParserData;
 use std::alloc::{AllocError, Global};
 use std::io::{BufWriter, IsTerminal, Read, Write};
 use std::rt::Files;
 use std::{env, io};
-
-/// The status of inputs of which each has a tree, and no error.
-const SUCCESS: u8 = 0;
-
-/// The status where an input has errors.
-const ERRORS: u8 = 1;
-
-/// The status where there is no answer.
-const FAULT: u8 = 2;
 
 /// What messages may rely on: that they come to a terminal, or not.
 #[derive(Clone, Copy, Debug, PartialEq, Eq)]
@@ -51,7 +44,7 @@ pub fn run_of_process(rt: &HostRuntime) -> u8
             rt.stdout(),
             rt.stderr(),
         ),
-        Err(error) => refused(&fault_of_arguments(&error), &mut rt.stderr()),
+        Err(error) => ended(Err(fault_of_arguments(&error)), &mut rt.stderr()),
     }
 }
 
@@ -72,16 +65,8 @@ pub fn run<R: Files, I: Read + Drop, O: Write + Drop, E: Write + Drop>(
 ) -> u8
     ensures status { result ≤ 2 }
 {
-    match written(rt, alloc, args, terminal, input, out, &mut err) {
-        Ok(true) => SUCCESS,
-        Ok(false) => ERRORS,
-        Err(fault) => refused(&fault, &mut err),
-    }
-}
-
-// The words after the program's name.
-fn words(rt: &HostRuntime) -> io::Result<Vec<String>> {
-    Ok(env::args(rt)?.skip(1).collect(rt.alloc())?)
+    let ending = written(rt, alloc, args, terminal, input, out, &mut err);
+    ended(ending, &mut err)
 }
 
 // The fault of a failed look at the program's arguments.
@@ -113,7 +98,7 @@ fn may_colour(rt: &HostRuntime) -> bool {
     }
 }
 
-// Whether each input has a tree and no error, once all that is printed is written.
+// How the program ends, once all that it prints is written.
 fn written<R: Files, I: Read + Drop, O: Write + Drop, E: Write>(
     rt: &R,
     alloc: Global,
@@ -122,11 +107,11 @@ fn written<R: Files, I: Read + Drop, O: Write + Drop, E: Write>(
     input: I,
     out: O,
     err: &mut E,
-) -> Result<bool, Fault> {
+) -> Result<Status, Fault> {
     match BufWriter::new(alloc, out) {
         Ok(mut out) => {
-            let clean = printed(rt, alloc, args, terminal, input, &mut out, err);
-            finished(clean, out)
+            let status = printed(rt, alloc, args, terminal, input, &mut out, err);
+            finished(status, out)
         }
         Err(_) => Err(Fault::Memory),
     }
@@ -141,16 +126,16 @@ fn printed<R: Files, I: Read + Drop, O: Write, E: Write>(
     input: I,
     out: &mut O,
     err: &mut E,
-) -> Result<bool, Fault> {
+) -> Result<Status, Fault> {
     if asks_for_help(args) {
         out.write_all(HELP.as_bytes())?;
-        return Ok(true);
+        return Ok(Status::Success);
     }
     let options = options_of(alloc, args)?;
     let grammar = file_text(rt, alloc, options.grammar)?;
     let lexer = file_text(rt, alloc, options.lexer)?;
     let data = grammar_data(alloc, &options, terminal, grammar.as_str(), out, err)?;
-    let rules = rules_of_lexer(alloc, &options, terminal, &data, lexer.as_str(), out, err)?;
+    let rules = rules_of_lexer(alloc, &options, terminal, &data, lexer.as_str())?;
     warn(
         alloc,
         &options,
@@ -161,9 +146,10 @@ fn printed<R: Files, I: Read + Drop, O: Write, E: Write>(
         out,
         err,
     )?;
-    parse_inputs(
+    let are_clean = parse_inputs(
         rt, alloc, &options, terminal, &data, &rules, input, out, err,
-    )
+    )?;
+    Ok(Status::of(are_clean))
 }
 
 // The checked table of the grammar.
@@ -183,14 +169,12 @@ fn grammar_data<O: Write, E: Write>(
 }
 
 // The rules of the lexer.
-fn rules_of_lexer<O: Write, E: Write>(
+fn rules_of_lexer(
     alloc: Global,
     options: &Options<'_>,
     terminal: Terminal,
     data: &ParserData<u32>,
     text: &str,
-    out: &mut O,
-    err: &mut E,
 ) -> Result<Vec<LexRule>, Fault> {
     let reporter = Reporter::new(alloc, text, options.lexer, terminal.look)?;
     lexer_rules(alloc, &reporter, data.grm(), text)
@@ -295,40 +279,4 @@ fn text_of_input<R: Files, I: Read + Drop>(
         Some(input) => input_text(alloc, input),
         None => Err(Fault::Usage("standard input can be read once")),
     }
-}
-
-// The answer, once all that was printed is written. What `out` doesn't take isn't tried again.
-fn finished<O: Write + Drop>(
-    clean: Result<bool, Fault>,
-    mut out: BufWriter<O>,
-) -> Result<bool, Fault> {
-    let clean = flushed(clean, &mut out);
-    if clean.is_err() {
-        let _ = out.into_parts();
-    }
-    clean
-}
-
-// The answer, once all that was printed is written.
-fn flushed<O: Write>(clean: Result<bool, Fault>, out: &mut O) -> Result<bool, Fault> {
-    let written = out.flush();
-    match (clean, written) {
-        (Ok(clean), Ok(())) => Ok(clean),
-        (Ok(_), Err(error)) => Err(error.into()),
-        (Err(fault), _) => Err(fault),
-    }
-}
-
-// Writes the fault's text, as far as that can be done, and answers its status.
-fn refused<E: Write>(fault: &Fault, err: &mut E) -> u8
-    ensures { result ≤ 2 }
-{
-    let done = match fault {
-        Fault::Told(text) => err.write_all(text.as_bytes()),
-        fault => writeln!(err, "{fault}"),
-    };
-    if done.is_ok() {
-        let _ = err.flush();
-    }
-    FAULT
 }

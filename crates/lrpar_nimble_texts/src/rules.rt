@@ -7,7 +7,7 @@ use lrpar_parser::grammar::YaccGrammar;
 use std::alloc::Global;
 
 /// The rules of a text.
-pub(crate) fn lexer_rules(
+pub fn lexer_rules(
     alloc: Global,
     reporter: &Reporter<'_>,
     grm: &YaccGrammar<u32>,

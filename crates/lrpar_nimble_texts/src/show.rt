@@ -6,7 +6,7 @@ use std::alloc::{AllocError, Global};
 use std::io::Write;
 
 /// Writes the text to standard error, once what stands before it on standard output is written. That `err` fails changes nothing.
-pub(crate) fn tell<O: Write, E: Write>(out: &mut O, err: &mut E, text: &str) -> Result<(), Fault> {
+pub fn tell<O: Write, E: Write>(out: &mut O, err: &mut E, text: &str) -> Result<(), Fault> {
     out.flush()?;
     if err.write_all(text.as_bytes()).is_ok() {
         let _ = err.flush();
@@ -17,24 +17,20 @@ pub(crate) fn tell<O: Write, E: Write>(out: &mut O, err: &mut E, text: &str) -> 
 /// The fault that shows this message about a text.
 pub(crate) fn told(alloc: Global, reporter: &Reporter<'_>, message: &Message) -> Fault {
     match shown(alloc, reporter, message) {
-        Ok(text) => Fault::Told(text),
+        Ok(text) => Fault::of_message(text),
         Err(_) => Fault::Memory,
     }
 }
 
-/// The text of a message.
-pub(crate) fn shown(
-    alloc: Global,
-    reporter: &Reporter<'_>,
-    message: &Message,
-) -> Result<String, AllocError> {
+// The text of a message.
+fn shown(alloc: Global, reporter: &Reporter<'_>, message: &Message) -> Result<String, AllocError> {
     let mut text = String::new(alloc);
     reporter.push(&mut text, alloc, message)?;
     Ok(text)
 }
 
 /// Adds a message of this level, place, text and label.
-pub(crate) fn push_message(
+pub fn push_message(
     out: &mut String,
     alloc: Global,
     reporter: &Reporter<'_>,

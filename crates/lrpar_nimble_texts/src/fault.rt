@@ -1,6 +1,6 @@
 //! Why the program ends without an answer.
 ghost use Rattle.std.specs.Prelude.{◌≡◌};
-ghost use Rattle.lrpar_nimble.specs.declared.fault.Fault.TheVariants.{Memory};
+ghost use Rattle.lrpar_nimble_texts.specs.declared.fault.Fault.TheVariants.{Memory};
 
 use lrpar_parser::parser::ParseFault;
 use std::alloc::{AllocError, AllocFailed};
@@ -9,11 +9,11 @@ use thiserror::Error;
 
 /// Why the program ends without an answer. Its text, with a line feed behind it, is what standard error gets.
 #[derive(Debug, Drop, Error)]
-pub(crate) enum Fault {
+pub enum Fault {
     /// The words are no command of the program, as this says.
-    #[error("nimbleparse: {0}\nusage: nimbleparse [-q] [-r none] [--shifts K] [--format brackets|tree|json|dot] LEXER GRAMMAR [INPUT..]")]
+    #[error("nimbleparse: {0}\nusage: nimbleparse [-q] [-r none|cpctplus] [--limit N] [--shifts K] [--format brackets|tree|json|dot] LEXER GRAMMAR [INPUT..]")]
     Usage(&'static str),
-    /// What is wrong with a file, as messages show it.
+    /// What is wrong with a file, as messages show it, without its last line feed.
     #[error("{0}")]
     Told(String),
     /// A parse is refused for a lexeme, which the lexer of the program doesn't answer.
@@ -25,6 +25,16 @@ pub(crate) enum Fault {
     /// Standard output takes no more.
     #[error("nimbleparse: cannot write standard output")]
     Output,
+}
+
+impl Fault {
+    /// The fault that shows a message, which ends with a line feed.
+    pub fn of_message(mut message: String) -> Fault {
+        if message.as_str().ends_with('\n') {
+            let _ = message.pop();
+        }
+        Fault::Told(message)
+    }
 }
 
 impl From<ParseFault> for Fault {

@@ -21,7 +21,7 @@ use std::io::Write;
 const MOST: u16 = u16::MAX;
 
 /// The checked table of a grammar's text. Tells of rules that are of no use, and of conflicts, unless it is to be quiet.
-pub(crate) fn data_of<O: Write, E: Write>(
+pub fn data_of<O: Write, E: Write>(
     alloc: Global,
     reporter: &Reporter<'_>,
     text: &str,
@@ -85,13 +85,7 @@ fn unbuilt(
     let start = Some(grm.rule_name_span(grm.start_rule_idx()));
     match fault {
         BuildFault::Memory => Fault::Memory,
-        BuildFault::TooManyStates | BuildFault::StorageTooSmall => fault_of(
-            alloc,
-            reporter,
-            None,
-            "the table would have more than 10000 states",
-            "",
-        ),
+        BuildFault::TooManyStates | BuildFault::StorageTooSmall => too_large(alloc, reporter),
         BuildFault::AcceptReduceConflict(_) => fault_of(
             alloc,
             reporter,
@@ -99,6 +93,14 @@ fn unbuilt(
             "the start rule derives itself, so that a text has trees without end",
             "leave out the production by which it does",
         ),
+    }
+}
+
+// The fault of a grammar whose table would be too large.
+fn too_large(alloc: Global, reporter: &Reporter<'_>) -> Fault {
+    match format!(in alloc; "the table would have more than {MAX_STATES} states") {
+        Ok(text) => fault_of(alloc, reporter, None, text.as_str(), ""),
+        Err(_) => Fault::Memory,
     }
 }
 
@@ -164,7 +166,7 @@ fn fault_of(
     label: &str,
 ) -> Fault {
     match error_text(alloc, reporter, span, text, label) {
-        Ok(text) => Fault::Told(text),
+        Ok(text) => Fault::of_message(text),
         Err(_) => Fault::Memory,
     }
 }

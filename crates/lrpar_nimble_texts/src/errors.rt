@@ -1,7 +1,7 @@
 //! Errors of inputs.
 ghost use Rattle.std.specs.Prelude.{◌≡◌};
 
-use crate::options::Recovery;
+use crate::plan::Recovery;
 use crate::show::push_message;
 use lrpar_inputs::parsing::{TextError, error_text};
 use lrpar_lexer::{NoToken, Token, TokenTypes};
@@ -142,9 +142,18 @@ pub(crate) fn push_repairs<'a, L: NonStreamingLexer<'a, TokenTypes>>(
             out.push_str(repairs)?;
             out.push('\n')?;
         }
-        None => out.push_str(match recovery {
-            Recovery::Nothing => "no repairs were looked for\n",
-        })?,
+        None => push_no_repairs(out, recovery)?,
     }
     Ok(())
+}
+
+// Adds that no repairs were found, or that none were looked for.
+fn push_no_repairs(out: &mut String, recovery: Recovery) -> Result<(), AllocError> {
+    match recovery {
+        Recovery::Nothing => out.push_str("no repairs were looked for\n"),
+        Recovery::Cheapest { limit } => writeln!(
+            out,
+            "no repair was found within --limit {limit}; a larger one tries more"
+        ),
+    }
 }

@@ -64,7 +64,7 @@ fn push_rule(
 }
 
 /// Adds a warning for each token of the grammar that no rule of the lexer gives.
-pub(crate) fn push_token_warnings(
+pub fn push_token_warnings(
     out: &mut String,
     alloc: Global,
     reporter: &Reporter<'_>,

@@ -3,11 +3,12 @@ ghost use Rattle.std.specs.Prelude.{◌≡◌};
 
 use crate::errors::{Subject, push_lexing_error, push_parse_error, push_repairs};
 use crate::fault::Fault;
-use crate::options::{Format, Recovery};
+use crate::plan::{Format, Plan, Recovery};
 use crate::show::tell;
+use lrpar_cpct::CpctPlus;
 use lrpar_inputs::parsing::{TextError, Tree};
-use lrpar_lexer::{LexRule, RuleLexer, Token, TokenTypes};
-use lrpar_messages::{Look, Reporter};
+use lrpar_lexer::{RuleLexer, Token, TokenTypes};
+use lrpar_messages::Reporter;
 use lrpar_parser::repair::Recoverer;
 use lrpar_parser::span::{StIdx, TIdx};
 use lrpar_parser::{LexParseError, NonStreamingLexer, ParserData, RTParserBuilder};
@@ -15,25 +16,9 @@ use lrpar_tree_forms::{Form, write_graph, write_nested};
 use std::alloc::{AllocError, Global};
 use std::io::Write;
 
-/// What inputs are parsed by, and how trees are printed.
-#[derive(Clone, Copy)]
-pub(crate) struct Plan<'a> {
-    pub(crate) data: &'a ParserData<u32>,
-    pub(crate) rules: &'a [LexRule],
-    /// What messages print for the tokens, in their order.
-    pub(crate) names: &'a [&'a str],
-    pub(crate) recovery: Recovery,
-    pub(crate) shifts: Option<usize>,
-    pub(crate) format: Format,
-    pub(crate) is_quiet: bool,
-    /// Whether trees are headed by the path of their input.
-    pub(crate) shows_paths: bool,
-    pub(crate) look: Look,
-}
-
 /// Parses the input of this path and text: tells its errors, and prints its tree, if there is one. Answers whether there is one, and no
 /// error.
-pub(crate) fn parse<O: Write, E: Write>(
+pub fn parse<O: Write, E: Write>(
     alloc: Global,
     plan: &Plan<'_>,
     path: &str,
@@ -79,6 +64,10 @@ fn parsed(
     let parser = RTParserBuilder::new(plan.data);
     match plan.recovery {
         Recovery::Nothing => parsed_by(alloc, parser, plan.shifts, lexer),
+        Recovery::Cheapest { limit } => {
+            let parser = parser.recoverer(CpctPlus::new(limit));
+            parsed_by(alloc, parser, plan.shifts, lexer)
+        }
     }
 }
 
@@ -114,9 +103,9 @@ fn errors_text<'a, L: NonStreamingLexer<'a, TokenTypes>>(
     let reporter = Reporter::new(alloc, input, path, plan.look)?;
     let mut text = String::new(alloc);
     for (place, error) in errors.iter().enumerate() {
-        let tokens = tokens_of(alloc, plan.data, expected, place, error)?;
+        let tokens = tokens_of(plan.data, expected, place, error);
         push_error(
-            &mut text, alloc, plan, &reporter, lexer, input, &tokens, error,
+            &mut text, alloc, plan, &reporter, lexer, input, tokens, error,
         )?;
     }
     Ok(text)
@@ -139,31 +128,26 @@ fn expected_tokens(
 }
 
 // What may come at an error: at the first one these tokens, and at a later one those at which its state has an action.
-fn tokens_of(
-    alloc: Global,
-    data: &ParserData<u32>,
-    first: &[TIdx<u32>],
+fn tokens_of<'a>(
+    data: &'a ParserData<u32>,
+    first: &'a [TIdx<u32>],
     place: usize,
     error: &TextError,
-) -> Result<Vec<TIdx<u32>>, AllocError> {
+) -> &'a [TIdx<u32>] {
     match error {
-        _ if place == 0 => Vec::from_slice(alloc, first),
-        LexParseError::ParseError(failure) => tokens_at(alloc, data, failure.stidx()),
-        LexParseError::LexError(_) => Ok(Vec::new(alloc)),
+        _ if place == 0 => first,
+        LexParseError::ParseError(failure) => tokens_at(data, failure.stidx()),
+        LexParseError::LexError(_) => &[],
     }
 }
 
 // The tokens at which a state has an action.
-fn tokens_at(
-    alloc: Global,
-    data: &ParserData<u32>,
-    state: StIdx<u32>,
-) -> Result<Vec<TIdx<u32>>, AllocError> {
+fn tokens_at(data: &ParserData<u32>, state: StIdx<u32>) -> &[TIdx<u32>] {
     if usize::from(state) >= data.stable().states_len() {
-        return Ok(Vec::new(alloc));
+        return &[];
     }
     let (tokens, _) = data.stable().actions_of(state);
-    Vec::from_slice(alloc, tokens)
+    tokens
 }
 
 // Adds the message of an error.
