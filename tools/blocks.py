@@ -1,7 +1,7 @@
 #!/usr/bin/env python3
 """Looks whether each Rust block of README.md and docs/GUIDE.md stands in a source, as it stands there: blocks.py
 
-A block is looked for in the sources of two crates of tests, which the gate proves and runs, but for their `pub(crate)`. Each block that
+A block is looked for in the sources of two crates of tests and of the examples, which the gate proves and runs, but for their `pub(crate)`. Each block that
 stands in none is told, and the status is then 1."""
 
 import pathlib
@@ -10,7 +10,7 @@ import sys
 
 ROOT = pathlib.Path(__file__).resolve().parent.parent
 PAGES = ["README.md", "docs/GUIDE.md"]
-CRATES = ["lrpar_test_guide", "lrpar_tests"]
+CRATES = ["lrpar_test_guide", "lrpar_tests", "example_language", "example_linter"]
 
 
 def main():
