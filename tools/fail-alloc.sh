@@ -56,7 +56,7 @@ begins() {
 
 # Whether both streams ended early, standard error with the line that memory was wanting.
 wants_memory() {
-    local line=$name': out of memory
+    local line=$speaker': out of memory
 ' out err
     out=$(stat -c %s "$work/out")
     err=$(($(stat -c %s "$work/err") - ${#line}))
@@ -103,14 +103,14 @@ refuse_each() {
 
 # refuse_each_call STATUS OUT WORDS..: the same of `lrpar`.
 refuse_each_call() {
-    local name=lrpar want_status=$1 want_out=$2 want_err=
+    local speaker=lrpar want_status=$1 want_out=$2 want_err=
     shift 2
     refuse_each "$program" "$@"
 }
 
 # refuse_each_call_of_nimbleparse STATUS OUT ERR WORDS..: the same of `nimbleparse`.
 refuse_each_call_of_nimbleparse() {
-    local name=nimbleparse want_status=$1 want_out=$2 want_err=$3
+    local speaker=nimbleparse want_status=$1 want_out=$2 want_err=$3
     shift 3
     refuse_each "$nimbleparse" "$@"
 }
@@ -231,14 +231,15 @@ refuse_each_call_of_nimbleparse 1 '' "$work/text:1:3: error: unexpected 'n', exp
      ^
 repairs that were found, of which the first is taken:
    1: Insert +, Shift n, Insert )
-   2: Insert ), Delete n
+   2: Insert ), Insert +
+   3: Insert ), Delete n
 " -q "$work/brackets.lex" "$work/brackets.y" "$work/text"
 refuse_each_call_of_nimbleparse 0 'E[ "(" E[ N "n" ] ")" ]
 ' "$work/brackets.y: note: rules 2, productions 4, tokens 5, states 14, least cap 1
 " "$work/brackets.lex" "$work/brackets.y" "$work/whole"
 refuse_each_call_of_nimbleparse 2 '' "$work/wrong.y:1:7: error: name 'F' is neither a rule nor declared by %token
 1| %% E: F;
-         ^ define it, declare it by %token, or put it in quotes
+         ^ did you mean 'E'?
 " "$work/brackets.lex" "$work/wrong.y"
 
 refuse_each_call_of_cases "$here/fail-alloc.cases"
