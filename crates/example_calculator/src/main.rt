@@ -62,6 +62,7 @@ impl<'a, 'rules, 'input> Actions<u32, Token<u32>, RuleLexer<'rules, 'input>> for
         ensures fact { IfOk result (λ _. Unit {0}) }
         ensures answers { IfOk result (λ _. Unit {0}) }
     {
+        // Productions are numbered in the order in which the grammar has them.
         let word = self.line.get(span.start()..span.end()).unwrap_or("");
         Ok(match (pidx.as_storaget(), args.as_slice()) {
             (0, [ActionType(Some(left)), _, ActionType(Some(right))]) => left.checked_add(*right),

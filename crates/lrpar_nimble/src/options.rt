@@ -22,9 +22,8 @@ pub(crate) struct Options<'a> {
 /// How many beginnings of repairs are tried at an error, where no word tells another number.
 const LIMIT: usize = 4_000;
 
-/// What the program says of itself.
-pub(crate) const HELP: &str = "\
-usage: nimbleparse [-q] [-r none|cpctplus] [--limit N] [--shifts K] [--format brackets|tree|json|dot] LEXER GRAMMAR [INPUT..]
+/// What the program says of itself, behind its usage.
+pub(crate) const HELP: &str = "
 
 Reads the rules of a lexer and a grammar, and parses each input: standard input for none, or for `-`.
 
@@ -49,6 +48,15 @@ struct Said<'a> {
     shifts: Option<usize>,
     format: Format,
     paths: Vec<&'a str>,
+}
+
+// An option with a word that belongs to it.
+#[derive(Clone, Copy, Debug, PartialEq, Eq)]
+enum Valued {
+    Recovery,
+    Limit,
+    Shifts,
+    Format,
 }
 
 // Whether repairs are looked for.
@@ -92,13 +100,13 @@ fn taken<'a>(
     word: &'a str,
     others: &'a [String],
 ) -> Result<&'a [String], Fault> {
+    if let Some(option) = valued(word) {
+        let (value, left) = value(option, others)?;
+        take_value(said, option, value)?;
+        return Ok(left);
+    }
     match word {
         "-q" => said.is_quiet = true,
-        "-r" | "--limit" | "--shifts" | "--format" => {
-            let (value, left) = value(word, others)?;
-            take_value(said, word, value)?;
-            return Ok(left);
-        }
         "--" => {
             for path in others {
                 said.paths.push(path.as_str())?;
@@ -113,8 +121,19 @@ fn taken<'a>(
     Ok(others)
 }
 
+// The option of that name, where a word belongs to it.
+fn valued(word: &str) -> Option<Valued> {
+    match word {
+        "-r" => Some(Valued::Recovery),
+        "--limit" => Some(Valued::Limit),
+        "--shifts" => Some(Valued::Shifts),
+        "--format" => Some(Valued::Format),
+        _ => None,
+    }
+}
+
 // The word that belongs to an option, and those behind it.
-fn value<'a>(option: &str, words: &'a [String]) -> Result<(&'a str, &'a [String]), Fault> {
+fn value<'a>(option: Valued, words: &'a [String]) -> Result<(&'a str, &'a [String]), Fault> {
     match words.split_first() {
         Some((value, left)) => Ok((value.as_str(), left)),
         None => Err(Fault::Usage(needs(option))),
@@ -122,22 +141,22 @@ fn value<'a>(option: &str, words: &'a [String]) -> Result<(&'a str, &'a [String]
 }
 
 // What an option needs behind it.
-fn needs(option: &str) -> &'static str {
+fn needs(option: Valued) -> &'static str {
     match option {
-        "-r" => "-r needs none or cpctplus",
-        "--limit" => "--limit needs a number",
-        "--shifts" => "--shifts needs a number",
-        _ => "--format needs brackets, tree, json or dot",
+        Valued::Recovery => "-r needs none or cpctplus",
+        Valued::Limit => "--limit needs a number",
+        Valued::Shifts => "--shifts needs a number",
+        Valued::Format => "--format needs brackets, tree, json or dot",
     }
 }
 
 // Takes an option with the word that belongs to it.
-fn take_value(said: &mut Said<'_>, option: &str, value: &str) -> Result<(), Fault> {
+fn take_value(said: &mut Said<'_>, option: Valued, value: &str) -> Result<(), Fault> {
     match option {
-        "-r" => said.search = search_of(value)?,
-        "--limit" => said.limit = Some(number_of(option, value)?),
-        "--shifts" => said.shifts = Some(shifts_of(option, value)?),
-        _ => said.format = format_of(value)?,
+        Valued::Recovery => said.search = search_of(value)?,
+        Valued::Limit => said.limit = Some(number_of(option, value)?),
+        Valued::Shifts => said.shifts = Some(shifts_of(value)?),
+        Valued::Format => said.format = format_of(value)?,
     }
     Ok(())
 }
@@ -147,7 +166,7 @@ fn search_of(name: &str) -> Result<Search, Fault> {
     match name {
         "none" => Ok(Search::Nothing),
         "cpctplus" => Ok(Search::Cheapest),
-        _ => Err(Fault::Usage(needs("-r"))),
+        _ => Err(Fault::Usage(needs(Valued::Recovery))),
     }
 }
 
@@ -158,20 +177,20 @@ fn format_of(name: &str) -> Result<Format, Fault> {
         "tree" => Ok(Format::Indented),
         "json" => Ok(Format::Json),
         "dot" => Ok(Format::Graph),
-        _ => Err(Fault::Usage(needs("--format"))),
+        _ => Err(Fault::Usage(needs(Valued::Format))),
     }
 }
 
 // How many lexemes have to follow a repair.
-fn shifts_of(option: &str, digits: &str) -> Result<usize, Fault> {
-    match number_of(option, digits)? {
-        0 => Err(Fault::Usage("--shifts must be at least 1")),
+fn shifts_of(digits: &str) -> Result<usize, Fault> {
+    match number_of(Valued::Shifts, digits)? {
+        0 => Err(Fault::zero_shifts()),
         count => Ok(count),
     }
 }
 
 // The number that belongs to an option.
-fn number_of(option: &str, digits: &str) -> Result<usize, Fault> {
+fn number_of(option: Valued, digits: &str) -> Result<usize, Fault> {
     if !digits.bytes().all(|byte| byte.is_ascii_digit()) {
         return Err(Fault::Usage(needs(option)));
     }

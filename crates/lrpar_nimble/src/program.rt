@@ -7,7 +7,7 @@ use lrpar_inputs::parsing::printed_names;
 use lrpar_inputs::streams::{Status, ended, finished, words};
 use lrpar_lexer::LexRule;
 use lrpar_messages::{Level, Look, Reporter};
-use lrpar_nimble_texts::fault::Fault;
+use lrpar_nimble_texts::fault::{Fault, USAGE};
 use lrpar_nimble_texts::grammar::data_of;
 use lrpar_nimble_texts::parse::parse;
 use lrpar_nimble_texts::plan::Plan;
@@ -128,6 +128,7 @@ fn printed<R: Files, I: Read + Drop, O: Write, E: Write>(
     err: &mut E,
 ) -> Result<Status, Fault> {
     if asks_for_help(args) {
+        out.write_all(USAGE.as_bytes())?;
         out.write_all(HELP.as_bytes())?;
         return Ok(Status::Success);
     }

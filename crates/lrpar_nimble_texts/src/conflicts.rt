@@ -31,12 +31,12 @@ pub(crate) fn push_conflicts(
     match conflict_examples(alloc, grm, sgraph, stable, BOUND) {
         Ok(examples) => push_examples(out, alloc, reporter, grm, &examples),
         Err(ExampleFault::Memory) => Err(AllocError),
-        Err(_) => push_uncounted(out, alloc, reporter, stable),
+        Err(_) => push_count(out, alloc, reporter, stable),
     }
 }
 
 // Adds how many conflicts there are, of which none has an example.
-fn push_uncounted(
+fn push_count(
     out: &mut String,
     alloc: Global,
     reporter: &Reporter<'_>,
@@ -46,7 +46,7 @@ fn push_uncounted(
         return Ok(());
     };
     let count = conflicts.rr_len().saturating_add(conflicts.sr_len());
-    let text = format!(in alloc; "{count} conflicts, without examples, as a rule derives no text")?;
+    let text = format!(in alloc; "conflicts without examples, as a rule derives no text: {count}")?;
     push_message(out, alloc, reporter, Level::Warning, None, text, "")
 }
 

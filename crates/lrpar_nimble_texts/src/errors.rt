@@ -20,7 +20,7 @@ const MOST_CHARACTERS: usize = 40;
 pub(crate) struct Subject<'a> {
     pub(crate) grm: &'a YaccGrammar<u32>,
     pub(crate) input: &'a str,
-    /// What may come at the first error.
+    /// What may come at the error.
     pub(crate) expected: &'a [TIdx<u32>],
 }
 
@@ -153,7 +153,7 @@ fn push_no_repairs(out: &mut String, recovery: Recovery) -> Result<(), AllocErro
         Recovery::Nothing => out.push_str("no repairs were looked for\n"),
         Recovery::Cheapest { limit } => writeln!(
             out,
-            "no repair was found within --limit {limit}; a larger one tries more"
+            "no repair was found within --limit {limit}; a larger limit may find one"
         ),
     }
 }

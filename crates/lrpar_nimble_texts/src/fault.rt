@@ -7,11 +7,14 @@ use std::alloc::{AllocError, AllocFailed};
 use std::io;
 use thiserror::Error;
 
+/// How the program is called.
+pub const USAGE: &str = "usage: nimbleparse [-q] [-r none|cpctplus] [--limit N] [--shifts K] [--format brackets|tree|json|dot] LEXER GRAMMAR [INPUT..]";
+
 /// Why the program ends without an answer. Its text, with a line feed behind it, is what standard error gets.
 #[derive(Debug, Drop, Error)]
 pub enum Fault {
     /// The words are no command of the program, as this says.
-    #[error("nimbleparse: {0}\nusage: nimbleparse [-q] [-r none|cpctplus] [--limit N] [--shifts K] [--format brackets|tree|json|dot] LEXER GRAMMAR [INPUT..]")]
+    #[error("nimbleparse: {0}\n{usage}", usage = USAGE)]
     Usage(&'static str),
     /// What is wrong with a file, as messages show it, without its last line feed.
     #[error("{0}")]
@@ -28,6 +31,11 @@ pub enum Fault {
 }
 
 impl Fault {
+    /// The fault where no lexeme has to follow a repair.
+    pub fn zero_shifts() -> Fault {
+        Fault::Usage("--shifts must be at least 1")
+    }
+
     /// The fault that shows a message, which ends with a line feed.
     pub fn of_message(mut message: String) -> Fault {
         if message.as_str().ends_with('\n') {

@@ -82,7 +82,7 @@ fn parsed_by<R: Recoverer<u32, Token<u32>> + Drop>(
         None => parser,
         Some(count) => match parser.shifts(count) {
             Ok(parser) => parser,
-            Err(_) => return Err(Fault::Usage("--shifts must be at least 1")),
+            Err(_) => return Err(Fault::zero_shifts()),
         },
     };
     Ok(parser.parse_generictree(alloc, lexer)?)
