@@ -71,7 +71,7 @@ nothing_fed g table t st prods next fails feeds =
     let e : ShiftTo feeds.next ≡ Fails = sym feeds.shifts ∙ none in cc
 
 -- and a parse can't go on there
-nothing_goes_on : {X : Type 0} (token : X → ℕ) (g : Grammar) (table : Table) (lexemes : List X) (k : ℕ) (st : List ℕ) (i : ℕ) → 0 < k
+pub nothing_goes_on : {X : Type 0} (token : X → ℕ) (g : Grammar) (table : Table) (lexemes : List X) (k : ℕ) (st : List ℕ) (i : ℕ) → 0 < k
     → top_action table (token_at token g lexemes i) st ≡ Fails → ¬ (CanGoOn token g table lexemes k st i)
 nothing_goes_on token g table lexemes zero st i some fails h = absurd (omega (arith, some))
 nothing_goes_on token g table lexemes (suc k) st i some fails h =

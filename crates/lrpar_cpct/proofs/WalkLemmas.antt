@@ -64,6 +64,19 @@ module _ {X : Type 0} (token : X → ℕ) (at : Asked X) where
       (subst (λ (l : List ℕ). StepsTo token g at.checked.table at.lexemes l place s step.0 step.1 step.2) same.1
       (subst (λ (m : ℕ). StepsTo token g at.checked.table at.lexemes parts.mid m s step.0 step.1 step.2) same.2 step.4))
 
+  -- a Delete that is taken back leaves the stack as it is
+  delete_back : (p : List PlainStep) (states : List ℕ) (place : ℕ) → LeadsTo token at (p ++ PlainDelete ∷ []) states place → LeadsTo token at p states (place - 1)
+  delete_back p states place leads =
+      let g = at.checked.grammar in
+      let parts = replays_parted token g at.checked.table at.lexemes at.stack at.place p (PlainDelete ∷ []) leads.0 states place leads.1 in
+      let step = parts.behind in
+      let same : parts.mid ≡ states = sym (step.5.1 ∙ step.4.2) in
+      let here : parts.place ≡ place - 1 = omega (arith, step.5.2, step.4.3) in (
+        parts.first,
+        subst (λ (l : List ℕ). Replays token g at.checked.table at.lexemes at.stack at.place p parts.first l (place - 1)) same
+            (subst (λ (m : ℕ). Replays token g at.checked.table at.lexemes at.stack at.place p parts.first parts.mid m) here parts.before),
+      )
+
 -- steps cost at most 255 each
 pub cost_most : {X : Type 0} (token : X → ℕ) (at : Asked X) (costs : List ℕ) → AreCosts costs → (i : ℕ) (p : List PlainStep)
     → steps_cost token at.checked.grammar at.lexemes costs i p ≤ 255 * length p
@@ -163,11 +176,11 @@ module _ {S X : Type 0} (index : S → ℕ) (parts : X → LexemeParts S) (searc
       (front, here, sum ∙ ap (λ (m : ℕ). cost_by index parts search p + step_cost_by index parts search m x) (sym front))
 
   -- the last step was taken back
-  pub walk_left : (p : List PlainStep) (x : PlainStep) (base states : List ℕ) (fresh : Bool) (place front cost less : ℕ) → AreCosts search.terms.now.costs
-      → IsWalked index parts search (p ++ x ∷ []) base states fresh place cost
+  pub walk_left : (p : List PlainStep) (x : PlainStep) (base states : List ℕ) (fresh kept : Bool) (place front cost less : ℕ) → AreCosts search.terms.now.costs
+      → IsWalked index parts search (p ++ x ∷ []) base states fresh place cost → (kept ≡ true → (fresh ≡ true) × (x ≡ PlainDelete))
       → front ≡ place_in_front place x → less ≡ cost - step_cost_by index parts search front x
-      → IsWalked index parts search p base states false front less
-  walk_left p x base states fresh place front cost less each w is sum =
+      → IsWalked index parts search p base states kept front less
+  walk_left p x base states fresh kept place front cost less each w stays is sum =
       let token = token_by index parts in
       let at = search.point.now in
       let known = walk_front p x base states fresh place cost w in
@@ -184,7 +197,11 @@ module _ {S X : Type 0} (index : S → ℕ) (parts : X → LexemeParts S) (searc
         cheap = omega (arith, rest, cost_most token at search.terms.now.costs each at.place p);
         lies_over = w.lies_over;
         stack = w.stack;
-        stands = λ f. absurd (let e : false ≡ true = f in cc);
+        stands = λ f.
+            let deleted = stays f in
+            let leads = subst (λ (y : PlainStep). LeadsTo token at (p ++ y ∷ []) states place) deleted.1 (w.stands deleted.0) in
+            let back : place - 1 ≡ front = sym (is ∙ ap (λ (y : PlainStep). place_in_front place y) deleted.1) in
+            subst (λ (m : ℕ). LeadsTo token at p states m) back (delete_back token at p states place leads);
       }
 
 -- one step more of steps that can be taken was taken

@@ -231,6 +231,16 @@ impl<'a, 'p, StorageT: StorageIndex, LexemeT: Lexeme<StorageT>> Search<'a, 'p, S
         Ok(true)
     }
 
+    /// Whether it shows at once that no parse can go on: the top state finds an error at the token of the place.
+    pub(crate) fn stops(&self, states: &Overlay<'_, StorageT>, place: usize) -> bool
+        requires stack { IsStack self.now.point.now.checked.table (overlaid states.now) }
+        ensures { IsTrue result → ¬ (GoesOnFrom StorageT.index LexemeT.parts self.now (overlaid states.now) place) }
+    {
+        // At least one lexeme has to follow.
+        let _shifts = self.point.shifts();
+        finds_error(self.point.data(), states, self.token_at(place))
+    }
+
     /// How far a parse goes on from the states at the place: to the first lexeme that can't be fed, and not much further than the stop;
     /// one more, where all are fed and the states then accept.
     pub(crate) fn reach(

@@ -5,6 +5,7 @@ ghost use Rattle.lrpar_stacks.specs.Overlay.{overlaid};
 ghost use Rattle.lrpar_stacks.specs.Stack.{IsStack};
 ghost use Rattle.lrpar_steps.specs.Known.{token_by};
 ghost use Rattle.lrpar_steps.specs.PlainSteps.{plain_step, plain_steps};
+ghost use Rattle.lrpar_steps.specs.Sequences.{PlainDelete};
 ghost use Rattle.lrpar_cpct.specs.Cheapest.{BeginsWithin, CanBeTaken, IsRepair, LeadsTo, RepairsAt};
 ghost use Rattle.lrpar_cpct.specs.Reaching.{GoesAsFar};
 ghost use Rattle.lrpar_cpct.specs.SearchView.{sequences_found};
@@ -173,7 +174,7 @@ impl<'a, 'p, StorageT: StorageIndex, LexemeT: Lexeme<StorageT>> Search<'a, 'p, S
         let Some(last) = walk.path.pop() else {
             return None;
         };
-        walk.fresh = false;
+        walk.fresh = stays_fresh(walk.fresh, last);
         walk.place = place_in_front(walk.place, last);
         walk.cost -= u128::from(self.cost_at(walk.place, last));
         Some(self.rank_of(last))
@@ -255,6 +256,9 @@ impl<'a, 'p, StorageT: StorageIndex, LexemeT: Lexeme<StorageT>> Search<'a, 'p, S
             return Ok(false);
         }
         self.refresh(walk)?;
+        if self.stops(&walk.states, walk.place) {
+            return Ok(false);
+        }
         walk.fresh = false;
         self.can_go_on(&mut walk.states, walk.place)
     }
@@ -269,6 +273,16 @@ impl<'a, 'p, StorageT: StorageIndex, LexemeT: Lexeme<StorageT>> Search<'a, 'p, S
         self.refresh(walk)?;
         walk.fresh = false;
         self.reach(&mut walk.states, walk.place)
+    }
+}
+
+// Whether states that are those behind a path, or aren't, are those in front of its last step: a Delete changes none.
+fn stays_fresh<StorageT: StorageIndex>(fresh: bool, last: RepairStep<StorageT>) -> bool
+    ensures { IsTrue result → (fresh ≡ true) × (plain_step StorageT.index last ≡ PlainDelete) }
+{
+    match last {
+        RepairStep::Delete => fresh,
+        RepairStep::Insert(_) | RepairStep::Shift => false,
     }
 }
 

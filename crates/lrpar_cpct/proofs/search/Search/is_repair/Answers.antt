@@ -26,3 +26,20 @@ returns-clause-repair g c =
     IfOk-weaker c.can_go_on.result _ _
     (λ told h. repair_told (token_by index parts) at old (overlaid now.states) now.place (IsTrue told) c.requires.walking.begins.formed last leads h)
     c.can_go_on.ensures.goes_on
+
+pub returns-then-stops-clause-repair : goal.returns-then-stops-clause-repair
+returns-then-stops-clause-repair g c =
+    let index = g.StorageT.StorageIndex.index in
+    let parts = g.LexemeT.Lexeme.parts in
+    let at = c.args.self.now.point.now in
+    let old = plain_steps index c.args.walk.now.path.items in
+    let now = c.refresh.new.walk in
+    let path_is : plain_steps index now.path.items ≡ old = rw c.in_ok-refresh.ensures.path refl in
+    let leads = subst (λ (l : List PlainStep). LeadsTo (token_by index parts) at l (overlaid now.states) now.place) path_is
+    (c.in_ok-refresh.ensures.walking.stands c.in_ok-refresh.ensures.fresh) in
+    let last : ¬ (EndsIn old (PlainShift ∷ [])) = λ ends.
+    let there = subst (λ (l : List (RepairStep g.row.StorageT.Denot)). EndsIn (plain_steps index l) (PlainShift ∷ [])) (sym c.deref.ensures.value) ends in
+    let e : false ≡ true = sym c.if-ends_in_shifts.false ∙ c.ends_in_shifts.ensures.1 there in cc in
+    let none = c.stops.ensures c.if-stops.true in
+    repair_told (token_by index parts) at old (overlaid now.states) now.place (IsTrue false) c.requires.walking.begins.formed last leads
+    ((λ h. let e : false ≡ true = h in cc), (λ goes_on. absurd (none goes_on)))

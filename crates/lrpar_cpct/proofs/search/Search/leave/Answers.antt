@@ -49,8 +49,8 @@ returns-clause-walking g c =
     let whole : plain_steps index old.path.items ≡ new ++ x ∷ [] =
     ap (λ (l : List (RepairStep g.row.StorageT.Denot)). plain_steps index l) c.in-Some.ensures.items ∙ map-append (plain_step index) c.pop.new.self.items (c.in-Some.last ∷ []) in
     let w = subst (λ (l : List PlainStep). IsWalked index parts search l old.states.base (overlaid old.states) old.fresh old.place old.cost) whole c.requires.walking in
-    walk_left index parts search new x old.states.base (overlaid old.states) old.fresh old.place c.place_in_front-walk.result old.cost _
-    c.limit-limit.ensures.costs w c.place_in_front-walk.ensures (ap (λ m. old.cost - m) (c.from.ensures ∙ c.cost_at.ensures.cost))
+    walk_left index parts search new x old.states.base (overlaid old.states) old.fresh c.stays_fresh-walk.result old.place c.place_in_front-walk.result old.cost _
+    c.limit-limit.ensures.costs w c.stays_fresh-walk.ensures c.place_in_front-walk.ensures (ap (λ m. old.cost - m) (c.from.ensures ∙ c.cost_at.ensures.cost))
 
 pub returns-clause-left : goal.returns-clause-left
 returns-clause-left g c =
