@@ -8,7 +8,7 @@ use lrpar_case_tables::rows::{push_conflicts, text_of_data};
 use lrpar_grammar::grammar::YaccGrammar;
 use lrpar_grammar::span::StorageIndex;
 use lrpar_table::build::{BuildFault, Unbuilt, from_yacc, parser_data};
-use lrpar_table::check::{ParserData, Refused};
+use lrpar_table::check::{CheckFault, ParserData, Refused};
 use lrpar_table::table::{StateGraph, StateTable};
 use std::alloc::{AllocError, Global};
 
@@ -166,12 +166,19 @@ fn push_refusal<S: StorageIndex>(
     refused: Refused<S>,
     then: Option<u16>,
 ) -> Result<(), Fault> {
-    let fault = told(refused.fault())?;
-    writeln!(came, "refused chains: {fault}")?;
-    match then {
+    let first = push_chains(came, refused.fault());
+    let second = match then {
         None => Ok(()),
         Some(cap) => push_again(came, alloc, refused, cap),
-    }
+    };
+    first?;
+    second
+}
+
+// Which chain is too long.
+fn push_chains(came: &mut String, fault: CheckFault) -> Result<(), Fault> {
+    let fault = told(fault)?;
+    Ok(writeln!(came, "refused chains: {fault}")?)
 }
 
 // What comes of the check of what is handed back.
@@ -181,10 +188,22 @@ fn push_again<S: StorageIndex>(
     refused: Refused<S>,
     cap: u16,
 ) -> Result<(), Fault> {
+    match checked_again(alloc, refused, cap) {
+        Ok(data) => push_rows(came, alloc, &data),
+        Err(fault) => push_told(came, Some(fault)),
+    }
+}
+
+// What is handed back, checked with another cap.
+fn checked_again<S: StorageIndex>(
+    alloc: Global,
+    refused: Refused<S>,
+    cap: u16,
+) -> Result<ParserData<S>, CheckFault> {
     let (grm, graph, table) = refused.into_parts();
     match ParserData::new(alloc, grm, graph, table, cap) {
-        Ok(data) => push_rows(came, alloc, &data),
-        Err(refused) => push_told(came, Some(refused.fault())),
+        Ok(data) => Ok(data),
+        Err(refused) => Err(refused.fault()),
     }
 }
 

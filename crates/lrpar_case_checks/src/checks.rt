@@ -141,12 +141,31 @@ fn push_refusal(
     was: &str,
     refused: Refused<u32>,
 ) -> Result<(), Fault> {
-    let fault = told(refused.fault())?;
-    writeln!(came, "refused {fault}")?;
+    let first = push_fault(came, refused.fault());
+    let second = checked_again(came, alloc, trial, was, refused);
+    first?;
+    push_told(came, second?)
+}
+
+// Why the table is refused.
+fn push_fault(came: &mut String, fault: CheckFault) -> Result<(), Fault> {
+    let fault = told(fault)?;
+    Ok(writeln!(came, "refused {fault}")?)
+}
+
+// Says where what is handed back isn't as it was, and for what it is refused once that is mended, if it is.
+fn checked_again(
+    came: &mut String,
+    alloc: Global,
+    trial: Trial<'_, '_>,
+    was: &str,
+    refused: Refused<u32>,
+) -> Result<Option<CheckFault>, Fault> {
     let (grm, mut graph, mut table) = refused.into_parts();
-    push_back(came, alloc, trial, was, &grm, &mut graph, &mut table)?;
+    let mended = push_back(came, alloc, trial, was, &grm, &mut graph, &mut table);
     let fault = fault_of(alloc, grm, graph, table, trial.then);
-    push_told(came, fault)
+    mended?;
+    Ok(fault)
 }
 
 // Says where what is handed back isn't as it was, and mends what was changed.

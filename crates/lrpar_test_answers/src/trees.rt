@@ -8,6 +8,7 @@ use lrpar_test_parts::built::{SUM, built};
 use lrpar_test_parts::lexer::{Given, lexer_of};
 use std::alloc::Global;
 use std::io;
+use std::process::Abort;
 use std::test::Fail;
 
 /// A tree of the tests.
@@ -85,23 +86,41 @@ fn cloned(alloc: Global, tree: Tree) -> Result<Tree, Fail> {
 
 #[test]
 fn deep_trees(rt: HostRuntime) -> Result<(), Fail> {
-    let alloc = rt.alloc();
-    let data = built(alloc, SUM)?;
-    let tree = cloned(alloc, tree_of_sum(alloc, &data, LEVELS, 1)?)?;
-    assert_eq!(rt; levels(&tree), LEVELS + 1);
-    let other = tree_of_sum(alloc, &data, LEVELS, 2)?;
-    assert!(rt; tree != other, "another last leaf");
+    are_deep(&rt, rt.alloc(), &built(rt.alloc(), SUM)?)
+}
+
+// A clone of the tree of a deep sum has its levels.
+fn are_deep(rt: &impl Abort, alloc: Global, data: &ParserData<u32>) -> Result<(), Fail> {
+    assert_eq!(rt; cloned_levels(alloc, data, LEVELS)?, LEVELS + 1);
     Ok(())
+}
+
+// How many levels a clone of the tree of such a sum has.
+fn cloned_levels(alloc: Global, data: &ParserData<u32>, terms: usize) -> Result<usize, Fail> {
+    let tree = cloned(alloc, tree_of_sum(alloc, data, terms, 1)?)?;
+    Ok(levels(&tree))
 }
 
 #[test]
 fn trees_of_a_million_levels(rt: HostRuntime) -> Result<(), Fail> {
-    let data = built(rt.alloc(), SUM)?;
-    let tree = cloned(rt.alloc(), chain_of(rt.alloc(), 1_000_000)?)?;
-    assert_eq!(rt; levels(&tree), 1_000_000);
-    assert!(rt; tree.fits(data.grm(), "a"), "a lexeme of one byte");
-    assert!(rt; !tree.fits(data.grm(), ""), "a lexeme past the text");
+    are_chained(&rt, rt.alloc(), built(rt.alloc(), SUM)?.grm())
+}
+
+// So it is of a chain of a million levels.
+fn are_chained(rt: &impl Abort, alloc: Global, grm: &YaccGrammar<u32>) -> Result<(), Fail> {
+    let found = found_of_chain(alloc, grm, 1_000_000)?;
+    assert_eq!(rt; found, (1_000_000, true, false));
     Ok(())
+}
+
+// How many levels a clone of a chain of so many has; and whether its lexeme of one byte fits a text of one byte, and an empty one.
+fn found_of_chain(
+    alloc: Global,
+    grm: &YaccGrammar<u32>,
+    count: usize,
+) -> Result<(usize, bool, bool), Fail> {
+    let tree = cloned(alloc, chain_of(alloc, count)?)?;
+    Ok((levels(&tree), tree.fits(grm, "a"), tree.fits(grm, "")))
 }
 
 // How many bytes the text of a chain of so many rules `E` has. Each line has a space for each level.
@@ -115,25 +134,56 @@ fn printed_len(alloc: Global, grm: &YaccGrammar<u32>, levels: usize) -> Result<u
 
 #[test]
 fn deep_trees_are_printed(rt: HostRuntime) -> Result<(), Fail> {
-    let data = built(rt.alloc(), SUM)?;
-    let printed = printed_len(rt.alloc(), data.grm(), 20_000)?;
-    assert_eq!(rt; printed, 200_050_005);
-    let tree = chain_of(rt.alloc(), 50_000)?;
-    tree.write(rt.alloc(), data.grm(), "a", &mut io::sink())?;
+    are_printed(&rt, rt.alloc(), built(rt.alloc(), SUM)?.grm())
+}
+
+// A chain of 20,000 levels has a text of so many bytes.
+fn are_printed(rt: &impl Abort, alloc: Global, grm: &YaccGrammar<u32>) -> Result<(), Fail> {
+    assert_eq!(rt; printed_len(alloc, grm, 20_000)?, 200_050_005);
     Ok(())
 }
 
-// Whether the sum of three terms has the tree of this one.
-fn equals(alloc: Global, data: &ParserData<u32>, terms: usize, len: usize) -> Result<bool, Fail> {
-    let tree = tree_of_sum(alloc, data, 3, 1)?;
+#[test]
+fn deep_trees_are_written(rt: HostRuntime) -> Result<(), Fail> {
+    write_chain(rt.alloc(), built(rt.alloc(), SUM)?.grm(), 50_000)
+}
+
+// Writes a chain of so many rules `E`.
+fn write_chain(alloc: Global, grm: &YaccGrammar<u32>, levels: usize) -> Result<(), Fail> {
+    let tree = chain_of(alloc, levels)?;
+    tree.write(alloc, grm, "a", &mut io::sink())?;
+    Ok(())
+}
+
+// How many terms two sums have, how many bytes the last term of the second one has, and whether both have one tree.
+const SUMS: [(usize, usize, usize, bool); 4] = [
+    (3, 3, 1, true),
+    (3, 3, 2, false),
+    (3, 2, 1, false),
+    (LEVELS, LEVELS, 2, false),
+];
+
+// Whether a sum of so many terms has the tree of this one.
+fn equals(
+    alloc: Global,
+    data: &ParserData<u32>,
+    first: usize,
+    terms: usize,
+    len: usize,
+) -> Result<bool, Fail> {
+    let tree = tree_of_sum(alloc, data, first, 1)?;
     Ok(tree == tree_of_sum(alloc, data, terms, len)?)
 }
 
 #[test]
 fn trees_that_differ(rt: HostRuntime) -> Result<(), Fail> {
-    let data = built(rt.alloc(), SUM)?;
-    for (terms, len, want) in [(3, 1, true), (3, 2, false), (2, 1, false)] {
-        assert_eq!(rt; equals(rt.alloc(), &data, terms, len)?, want);
+    differ(&rt, rt.alloc(), &built(rt.alloc(), SUM)?)
+}
+
+// In each row the trees of both sums are equal, where the row says so.
+fn differ(rt: &impl Abort, alloc: Global, data: &ParserData<u32>) -> Result<(), Fail> {
+    for (first, terms, len, want) in SUMS {
+        assert_eq!(rt; equals(alloc, data, first, terms, len)?, want);
     }
     Ok(())
 }
@@ -193,11 +243,25 @@ fn is_written(
 
 #[test]
 fn trees_are_written_over_their_text(rt: HostRuntime) -> Result<(), Fail> {
-    let data = built(rt.alloc(), SUM)?;
+    are_written(&rt, rt.alloc(), &built(rt.alloc(), SUM)?)
+}
+
+// The trees of sums of one to three terms are written over these texts.
+fn are_written(rt: &impl Abort, alloc: Global, data: &ParserData<u32>) -> Result<(), Fail> {
     for (terms, text) in [(1, "a"), (2, "a+b"), (3, "a+b+c")] {
-        let tree = tree_of_sum(rt.alloc(), &data, terms, 1)?;
-        let grm = data.grm();
-        assert!(rt; is_written(rt.alloc(), grm, &tree, text)?, "{text}");
+        let is_written = sum_is_written(alloc, data, terms, text)?;
+        assert!(rt; is_written, "{text}");
     }
     Ok(())
+}
+
+// Whether the tree of such a sum is written over this text.
+fn sum_is_written(
+    alloc: Global,
+    data: &ParserData<u32>,
+    terms: usize,
+    text: &str,
+) -> Result<bool, Fail> {
+    let tree = tree_of_sum(alloc, data, terms, 1)?;
+    is_written(alloc, data.grm(), &tree, text)
 }

@@ -117,27 +117,43 @@ fn value_of(alloc: Global, data: &ParserData<u32>, given: &[Given]) -> Result<Op
     Ok(value)
 }
 
-// The lexemes of `2+3*4`, `2*3+4` and `2+`, where each number is as long as it says.
-const PRODUCT_LAST: [Given; 5] = [(2, 2), (0, 1), (2, 3), (1, 1), (2, 4)];
+/// Lexemes, and the value that the calculator makes of them.
+type Computed = (&'static [Given], Option<Value>);
 
-const PRODUCT_FIRST: [Given; 5] = [(2, 2), (1, 1), (2, 3), (0, 1), (2, 4)];
-
-const NO_SUM: [Given; 2] = [(2, 2), (0, 1)];
+// `2+3*4`, `2*3+4` and `2+`, where each number is as long as it says.
+const COMPUTED: [Computed; 3] = [
+    (
+        &[(2, 2), (0, 1), (2, 3), (1, 1), (2, 4)],
+        Some(Value::Sum(14)),
+    ),
+    (
+        &[(2, 2), (1, 1), (2, 3), (0, 1), (2, 4)],
+        Some(Value::Sum(10)),
+    ),
+    (&[(2, 2), (0, 1)], None),
+];
 
 #[test]
 fn values_of_a_calculator(rt: HostRuntime) -> Result<(), Fail> {
-    let alloc = rt.alloc();
-    let data = built(alloc, ARITHMETIC)?;
-    let (last, first) = (Some(Value::Sum(14)), Some(Value::Sum(10)));
-    assert_eq!(rt; value_of(alloc, &data, &PRODUCT_LAST)?, last);
-    assert_eq!(rt; value_of(alloc, &data, &PRODUCT_FIRST)?, first);
-    assert_eq!(rt; value_of(alloc, &data, &NO_SUM)?, None);
-    Ok(())
+    are_computed(&rt, rt.alloc(), &built(rt.alloc(), ARITHMETIC)?, &COMPUTED)
 }
 
 #[test]
 fn a_calculator_of_another_grammar(rt: HostRuntime) -> Result<(), Fail> {
-    let data = built(rt.alloc(), SUM)?;
-    assert_eq!(rt; value_of(rt.alloc(), &data, &[(1, 1)])?, None);
+    let nothing: [Computed; 1] = [(&[(1, 1)], None)];
+    are_computed(&rt, rt.alloc(), &built(rt.alloc(), SUM)?, &nothing)
+}
+
+// In each row the calculator makes the value that the row says.
+fn are_computed(
+    rt: &impl Abort,
+    alloc: Global,
+    data: &ParserData<u32>,
+    rows: &[Computed],
+) -> Result<(), Fail> {
+    for (given, want) in rows {
+        let value = value_of(alloc, data, *given)?;
+        assert!(rt; value == *want, "another value");
+    }
     Ok(())
 }

@@ -8,6 +8,9 @@ use lrpar_test_parts::lexer::lexer_of;
 use std::alloc::Global;
 use std::test::Fail;
 
+/// A parser that is handed the same sequences at each error.
+type Handing<'a> = RTParserBuilder<'a, u32, TokenTypes, FixedRecoverer<u32>>;
+
 const D: RepairStep<u32> = RepairStep::Delete;
 
 const I0: RepairStep<u32> = RepairStep::Insert(TIdx(0));
@@ -22,7 +25,11 @@ fn counted(
     handed: Vec<Vec<RepairStep<u32>>>,
 ) -> Result<(usize, usize, usize), Fail> {
     let recoverer = FixedRecoverer::new(handed);
-    let parser = RTParserBuilder::<u32, TokenTypes>::new(data).recoverer(recoverer);
+    counted_by(alloc, &RTParserBuilder::new(data).recoverer(recoverer))
+}
+
+// The same by a parser.
+fn counted_by(alloc: Global, parser: &Handing<'_>) -> Result<(usize, usize, usize), Fail> {
     let lexer = lexer_of(&[(0, 1), (0, 1)]);
     let (leaves, errors) = parser.parse_map(alloc, &lexer, |_| 1, |_, below| sum(&below))?;
     let Some(LexParseError::ParseError(error)) = errors.first() else {

@@ -3,6 +3,7 @@ use lrpar_grammar::span::TIdx;
 use lrpar_lexemes::lex_api::Lexer;
 use lrpar_lexer::{LexRule, RuleLexer};
 use std::alloc::Global;
+use std::process::Abort;
 use std::test::Fail;
 
 // What the rules answer over the text, by the texts of lexemes and of errors.
@@ -28,17 +29,24 @@ const ANSWERS: &[(&str, &str)] = &[
     ("?b", "no token fits at byte 0\n"),
 ];
 
+// The rules of words and of blanks.
+fn rules(alloc: Global) -> Result<Vec<LexRule>, Fail> {
+    let mut rules = Vec::new(alloc);
+    rules.push(LexRule::new(alloc, "[a-z]+", Some(TIdx(3)))?)?;
+    rules.push(LexRule::new(alloc, " +", None)?)?;
+    Ok(rules)
+}
+
 #[test]
 fn rules_give_their_lexemes(rt: HostRuntime) -> Result<(), Fail> {
-    let word = LexRule::new(rt.alloc(), "[a-z]+", Some(TIdx(3)))?;
-    let blank = LexRule::new(rt.alloc(), " +", None)?;
-    let rules = vec![in rt.alloc(); word, blank]?;
+    are_answered(&rt, rt.alloc(), &rules(rt.alloc())?)
+}
+
+// The rules answer this over each text.
+fn are_answered(rt: &impl Abort, alloc: Global, rules: &[LexRule]) -> Result<(), Fail> {
     for (input, wanted) in ANSWERS {
-        assert_eq!(rt;
-            answers(rt.alloc(), &rules, input)?.as_str(),
-            *wanted,
-            "{input}"
-        );
+        let found = answers(alloc, rules, input)?;
+        assert_eq!(rt; found.as_str(), *wanted, "{input}");
     }
     Ok(())
 }
@@ -49,10 +57,14 @@ const REFUSED: &[&str] = &["(", "a)", "[b", "*"];
 #[test]
 fn refused_patterns_make_no_rule(rt: HostRuntime) -> Result<(), Fail> {
     for pattern in REFUSED {
-        let refused = LexRule::new(rt.alloc(), pattern, Some(TIdx(0))).is_err();
-        assert!(rt; refused, "{pattern}");
-        let refused = LexRule::new(rt.alloc(), pattern, None).is_err();
-        assert!(rt; refused, "{pattern}");
+        let is_refused = is_refused(rt.alloc(), pattern);
+        assert!(rt; is_refused, "{pattern}");
     }
     Ok(())
+}
+
+// Whether the pattern makes no rule, of a token or of none.
+fn is_refused(alloc: Global, pattern: &str) -> bool {
+    LexRule::new(alloc, pattern, Some(TIdx(0))).is_err()
+        && LexRule::new(alloc, pattern, None).is_err()
 }

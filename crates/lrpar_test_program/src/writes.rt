@@ -246,15 +246,23 @@ const REFUSALS: &[(&[&str], bool, &str)] = &[
 #[test]
 fn input_fails(rt: HostRuntime) -> Result<(), Fail> {
     for (words, has_given, wanted) in REFUSALS {
-        let args = strings(rt.alloc(), words)?;
-        let (mut out, mut err) = (Vec::new(rt.alloc()), Vec::new(rt.alloc()));
-        let input = Broken {
-            has_given: *has_given,
-        };
-        let status = run(&rt, rt.alloc(), &args, input, &mut out, &mut err);
-        assert_eq!(rt; status, 2, "{words:?}");
-        assert!(rt; out.is_empty(), "{words:?}");
-        assert_eq!(rt; err.as_slice(), wanted.as_bytes(), "{words:?}");
+        let found = broken(&rt, rt.alloc(), words, *has_given)?;
+        let is_refused = found.status == 2 && found.out.is_empty();
+        assert!(rt; is_refused, "{words:?}");
+        assert_eq!(rt; found.err.as_slice(), wanted.as_bytes(), "{words:?}");
     }
     Ok(())
+}
+
+// What the command leaves whose input can't be read to its end.
+fn broken<R: Files>(
+    rt: &R,
+    alloc: Global,
+    words: &[&str],
+    has_given: bool,
+) -> Result<Outcome, Fail> {
+    let args = strings(alloc, words)?;
+    let (mut out, mut err) = (Vec::new(alloc), Vec::new(alloc));
+    let status = run(rt, alloc, &args, Broken { has_given }, &mut out, &mut err);
+    Ok(Outcome { status, out, err })
 }

@@ -3,6 +3,7 @@ use lrpar_grammar::grammar::{GrammarParts, ProdPart, RulePart, TokenPart, YaccGr
 use lrpar_grammar::lines::NewlineCache;
 use lrpar_grammar::span::{RIdx, Span, Symbol, TIdx};
 use std::alloc::Global;
+use std::process::Abort;
 use std::test::Fail;
 
 const TEXT: &str = "ab\n\ncé\n";
@@ -53,7 +54,14 @@ fn bytes_of_lines(rt: HostRuntime) -> Result<(), Fail> {
 
 #[test]
 fn places_of_sums_fit_their_text(rt: HostRuntime) -> Result<(), Fail> {
-    let grm = YaccGrammar::<u8>::new_with_storaget(rt.alloc(), "%% E: T '+' E | T; T: 'ID';")?;
+    fit_sums(
+        &rt,
+        &YaccGrammar::new_with_storaget(rt.alloc(), "%% E: T '+' E | T; T: 'ID';")?,
+    )
+}
+
+// The places of the grammar fit these texts, or don't.
+fn fit_sums(rt: &impl Abort, grm: &YaccGrammar<u8>) -> Result<(), Fail> {
     let rows = [
         ("%% E: T '+' E | T; T: 'ID';", true),
         ("%% E: T\n'+' E | T; T: 'ID';", true),

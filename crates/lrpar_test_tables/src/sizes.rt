@@ -3,6 +3,7 @@ use lrpar_grammar::grammar::{GrammarFault, YaccGrammar};
 use lrpar_grammar::span::{StIdx, TIdx};
 use lrpar_table::table::{Action, SparseRows, StateTable};
 use std::alloc::{AllocError, Global};
+use std::process::Abort;
 use std::test::Fail;
 
 // A table of one state and all tokens, which shifts the last one.
@@ -28,13 +29,17 @@ fn action_at(table: &StateTable<u32>, token: u32) -> Option<Action<u32>> {
     }
 }
 
+// Whether the table has all tokens, and an action at the last one alone.
+fn has_all_tokens(table: &StateTable<u32>) -> bool {
+    action_at(table, u32::MAX) == Some(Action::Shift(StIdx(0)))
+        && action_at(table, 0) == Some(Action::Error)
+        && table.tokens_len() == 4_294_967_296
+        && table.entries() == 1
+}
+
 #[test]
 fn table_of_all_tokens(rt: HostRuntime) -> Result<(), Fail> {
-    let table = all_tokens(rt.alloc())?;
-    assert_eq!(rt; action_at(&table, u32::MAX), Some(Action::Shift(StIdx(0))));
-    assert_eq!(rt; action_at(&table, 0), Some(Action::Error));
-    assert_eq!(rt; table.tokens_len(), 4_294_967_296);
-    assert_eq!(rt; table.entries(), 1);
+    assert!(rt; has_all_tokens(&all_tokens(rt.alloc())?));
     Ok(())
 }
 
@@ -51,16 +56,26 @@ fn long_text(alloc: Global, rules: u32) -> Result<String, AllocError> {
     Ok(text)
 }
 
+// How many rules, productions and tokens the grammar of the text has.
+fn sizes_of(alloc: Global, text: &str) -> Result<(usize, usize, usize), Fail> {
+    let grm: YaccGrammar<u32> = YaccGrammar::new_with_storaget(alloc, text)?;
+    Ok((grm.rules_len(), grm.prods_len(), grm.tokens_len()))
+}
+
+// Why the text has no grammar whose numbers are bytes.
+fn fault_of(alloc: Global, text: &str) -> Option<GrammarFault> {
+    YaccGrammar::<u8>::new_with_storaget(alloc, text).err()
+}
+
 #[test]
 fn long_texts(rt: HostRuntime) -> Result<(), Fail> {
-    let alloc = rt.alloc();
-    let text = long_text(alloc, 18_000)?;
+    are_read(&rt, rt.alloc(), long_text(rt.alloc(), 18_000)?.as_str())
+}
+
+// The long text has a grammar, and none whose numbers are bytes.
+fn are_read(rt: &impl Abort, alloc: Global, text: &str) -> Result<(), Fail> {
     assert!(rt; text.len() > 1_000_000);
-    let grm: YaccGrammar<u32> = YaccGrammar::new_with_storaget(alloc, text.as_str())?;
-    assert_eq!(rt; grm.rules_len(), 18_001);
-    assert_eq!(rt; grm.prods_len(), 54_001);
-    assert_eq!(rt; grm.tokens_len(), 5);
-    let fault = YaccGrammar::<u8>::new_with_storaget(alloc, text.as_str()).err();
-    assert_eq!(rt; fault, Some(GrammarFault::StorageTooSmall));
+    assert_eq!(rt; sizes_of(alloc, text)?, (18_001, 54_001, 5));
+    assert_eq!(rt; fault_of(alloc, text), Some(GrammarFault::StorageTooSmall));
     Ok(())
 }

@@ -5,6 +5,8 @@ use lrpar_table::build::{BuildFault, Unbuilt, from_yacc, parser_data};
 use lrpar_table::check::{CheckFault, Overlay, ParserData, Refused};
 use lrpar_table::table::{Action, Conflicts, Item, StateGraph, StateTable, TableFault, TableRows};
 use std::alloc::Global;
+use std::fmt;
+use std::process::Abort;
 use std::test::Fail;
 
 /// The grammar *sum*, which has no conflicts: tokens `+` 0, `ID` 1.
@@ -59,10 +61,14 @@ fn has_state(graph: &StateGraph<u8>, state: u8) -> bool {
 
 #[test]
 fn items_and_cores_of_sums(rt: HostRuntime) -> Result<(), Fail> {
-    let (graph, _) = built(rt.alloc(), SUM)?;
-    assert!(rt; lists(&graph, 5, (PIdx(0), 3, TIdx(2))));
+    have_items(&rt, &built(rt.alloc(), SUM)?.0)
+}
+
+// The graph has in each state the items and the cores that it lists.
+fn have_items(rt: &impl Abort, graph: &StateGraph<u8>) -> Result<(), Fail> {
+    assert!(rt; lists(graph, 5, (PIdx(0), 3, TIdx(2))));
     for state in 0..8u8 {
-        assert!(rt; has_state(&graph, state), "state {state}");
+        assert!(rt; has_state(graph, state), "state {state}");
     }
     Ok(())
 }
@@ -99,12 +105,7 @@ fn checked_again(alloc: Global) -> Result<ParserData<u8>, Fail> {
 
 #[test]
 fn items_and_cores_that_come_back(rt: HostRuntime) -> Result<(), Fail> {
-    let data = checked_again(rt.alloc())?;
-    assert!(rt; lists(data.sgraph(), 5, (PIdx(0), 3, TIdx(2))));
-    for state in 0..8u8 {
-        assert!(rt; has_state(data.sgraph(), state), "state {state}");
-    }
-    Ok(())
+    have_items(&rt, checked_again(rt.alloc())?.sgraph())
 }
 
 // The cores of the state whose dot isn't at the front: their productions and dots.
@@ -118,19 +119,25 @@ fn begun(alloc: Global, graph: &StateGraph<u8>, state: u8) -> Result<Vec<(u8, us
     Ok(begun)
 }
 
+// States of the table of sums, and their cores whose dot isn't at the front.
+const BEGUN: [(u8, &[(u8, usize)]); 6] = [
+    (0, &[]),
+    (1, &[(3, 1)]),
+    (2, &[(0, 1), (1, 1)]),
+    (3, &[(2, 1)]),
+    (4, &[(0, 2)]),
+    (5, &[(0, 3)]),
+];
+
 #[test]
 fn begun_cores_of_sums(rt: HostRuntime) -> Result<(), Fail> {
-    let (graph, _) = built(rt.alloc(), SUM)?;
-    let rows: [(u8, &[(u8, usize)]); 6] = [
-        (0, &[]),
-        (1, &[(3, 1)]),
-        (2, &[(0, 1), (1, 1)]),
-        (3, &[(2, 1)]),
-        (4, &[(0, 2)]),
-        (5, &[(0, 3)]),
-    ];
-    for (state, cores) in rows {
-        let found = begun(rt.alloc(), &graph, state)?;
+    have_begun(&rt, rt.alloc(), &built(rt.alloc(), SUM)?.0)
+}
+
+// The states of the graph have these cores.
+fn have_begun(rt: &impl Abort, alloc: Global, graph: &StateGraph<u8>) -> Result<(), Fail> {
+    for (state, cores) in BEGUN {
+        let found = begun(alloc, graph, state)?;
         assert_eq!(rt; found.as_slice(), cores, "state {state}");
     }
     Ok(())
@@ -149,23 +156,30 @@ fn bare(alloc: Global, conflicts: Option<Conflicts<u8>>) -> Result<StateTable<u8
     Ok(StateTable::from_rows(alloc, rows)?)
 }
 
+// One conflict between two reductions, and two between a shift and a reduction.
+fn three_conflicts(alloc: Global) -> Result<Conflicts<u8>, Fail> {
+    let rr = vec![in alloc; (TIdx(2), PIdx(0), PIdx(1), StIdx(5))]?;
+    let sr = vec![in alloc; (TIdx(0), PIdx(1), StIdx(2)), (TIdx(1), PIdx(2), StIdx(3))]?;
+    Ok(Conflicts::new(rr, sr))
+}
+
+// Whether the table has those.
+fn has_three(table: &StateTable<u8>) -> bool {
+    let Some(conflicts) = table.conflicts() else {
+        return false;
+    };
+    conflicts.rr_len() == 1
+        && conflicts.sr_len() == 2
+        && conflicts.rr_conflicts() == [(TIdx(2), PIdx(0), PIdx(1), StIdx(5))].as_slice()
+        && conflicts.sr_conflicts()
+            == [(TIdx(0), PIdx(1), StIdx(2)), (TIdx(1), PIdx(2), StIdx(3))].as_slice()
+}
+
 #[test]
 fn conflicts_of_a_table(rt: HostRuntime) -> Result<(), Fail> {
     let alloc = rt.alloc();
     assert!(rt; bare(alloc, None)?.conflicts().is_none());
-    let rr = vec![in alloc; (TIdx(2), PIdx(0), PIdx(1), StIdx(5))]?;
-    let sr = vec![in alloc; (TIdx(0), PIdx(1), StIdx(2)), (TIdx(1), PIdx(2), StIdx(3))]?;
-    let table = bare(alloc, Some(Conflicts::new(rr, sr)))?;
-    let Some(conflicts) = table.conflicts() else {
-        return Err(Fail::new("no conflicts"));
-    };
-    assert_eq!(rt; conflicts.rr_len(), 1);
-    assert_eq!(rt; conflicts.sr_len(), 2);
-    assert!(rt; conflicts.rr_conflicts() == [(TIdx(2), PIdx(0), PIdx(1), StIdx(5))].as_slice());
-    assert!(rt;
-        conflicts.sr_conflicts()
-            == [(TIdx(0), PIdx(1), StIdx(2)), (TIdx(1), PIdx(2), StIdx(3))].as_slice()
-    );
+    assert!(rt; has_three(&bare(alloc, Some(three_conflicts(alloc)?))?));
     Ok(())
 }
 
@@ -198,12 +212,15 @@ fn a_new_overlay_is_its_base(rt: HostRuntime) -> Result<(), Fail> {
 
 #[test]
 fn want_of_memory_as_text(rt: HostRuntime) -> Result<(), Fail> {
-    let (alloc, want) = (rt.alloc(), "out of memory");
-    let (grammar, built) = (GrammarFault::Memory, BuildFault::Memory);
-    let (table, checked) = (TableFault::Memory, CheckFault::Memory);
-    assert_eq!(rt; format!(in alloc; "{grammar}")?.as_str(), want);
-    assert_eq!(rt; format!(in alloc; "{built}")?.as_str(), want);
-    assert_eq!(rt; format!(in alloc; "{table}")?.as_str(), want);
-    assert_eq!(rt; format!(in alloc; "{checked}")?.as_str(), want);
+    let alloc = rt.alloc();
+    assert!(rt; is_told(alloc, &GrammarFault::Memory)?);
+    assert!(rt; is_told(alloc, &BuildFault::Memory)?);
+    assert!(rt; is_told(alloc, &TableFault::Memory)?);
+    assert!(rt; is_told(alloc, &CheckFault::Memory)?);
     Ok(())
+}
+
+// Whether the fault has the text of want of memory.
+fn is_told<E: fmt::Display>(alloc: Global, fault: &E) -> Result<bool, Fail> {
+    Ok(format!(in alloc; "{fault}")?.as_str() == "out of memory")
 }
