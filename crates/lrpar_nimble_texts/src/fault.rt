@@ -8,7 +8,8 @@ use std::io;
 use thiserror::Error;
 
 /// How the program is called.
-pub const USAGE: &str = "usage: nimbleparse [-q] [-r none|cpctplus] [--limit N] [--shifts K] [--format brackets|tree|json|dot] LEXER GRAMMAR [INPUT..]";
+pub const USAGE: &str =
+    "usage: nimbleparse [-q] [-r none|cpctplus] [--limit N] [--shifts K] [--format brackets|tree|json|dot] LEXER GRAMMAR [INPUT..]";
 
 /// Why the program ends without an answer. Its text, with a line feed behind it, is what standard error gets.
 #[derive(Debug, Drop, Error)]
