@@ -100,7 +100,7 @@ fn taken<'a>(
     word: &'a str,
     others: &'a [String],
 ) -> Result<&'a [String], Fault> {
-    if let Some(option) = valued(word) {
+    if let Some(option) = option_named(word) {
         let (value, left) = value(option, others)?;
         take_value(said, option, value)?;
         return Ok(left);
@@ -122,7 +122,7 @@ fn taken<'a>(
 }
 
 // The option of that name, where a word belongs to it.
-fn valued(word: &str) -> Option<Valued> {
+fn option_named(word: &str) -> Option<Valued> {
     match word {
         "-r" => Some(Valued::Recovery),
         "--limit" => Some(Valued::Limit),
