@@ -16,9 +16,9 @@ ghost use Rattle.lrpar_cpct.specs.Walking.{IsStepOf, MayFollow, rank_of};
 
 use crate::cpct_plus::CpctPlus;
 use lrpar_check::check::{Overlay, ParserData};
+use lrpar_course::repair::{RecoveryPoint, RepairStep};
 use lrpar_grammar::span::{StorageIndex, TIdx};
 use lrpar_lexemes::lex_api::Lexeme;
-use lrpar_parser::repair::{RecoveryPoint, RepairStep};
 use lrpar_states::table::Action;
 use std::alloc::AllocError;
 

@@ -8,7 +8,7 @@ use Rattle.lrpar_builds.specs.Arguments.{IsArgument}
 use Rattle.lrpar_builds.specs.Entries.{HasValueEntry}
 use Rattle.lrpar_parser.specs.Parse.{ParsesTo}
 use Rattle.lrpar_steps.specs.Standing.{StandsFor}
-use Rattle.lrpar_parser.specs.Subject.{Subject}
+use Rattle.lrpar_course.specs.Subject.{Subject}
 use Rattle.lrpar_builds.specs.Placed.{IsPlacedLexeme, IsPlacedValue}
 use Rattle.lrpar_builds.specs.declared.actions.Placed.{Placed}
 use Rattle.lrpar_answers.specs.declared.errors.LexParseError.{LexParseError}

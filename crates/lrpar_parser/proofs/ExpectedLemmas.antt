@@ -15,14 +15,14 @@ use Rattle.lrpar_check.proofs.ExpectedRunLemmas.{checked_tables_end_at_sentences
 use Rattle.lrpar_stacks.proofs.Reductions.{settles_one_way}
 use Rattle.lrpar_stacks.proofs.RunLemmas.{comes_more, token_at_lexeme}
 use Rattle.lrpar_parser.specs.ExpectedAnswer.{ComesFurthest, IsExpectedAfter, IsExpectedAnswer}
-use Rattle.lrpar_parser.specs.Lexed.{first_error, lexemes_of}
-use Rattle.lrpar_parser.specs.LexemeFault.{IsLexemeFault}
+use Rattle.lrpar_course.specs.Lexed.{first_error, lexemes_of}
+use Rattle.lrpar_course.specs.LexemeFault.{IsLexemeFault}
 use Rattle.lrpar_parser.specs.Parse.{lexeme_facts}
 use Rattle.lrpar_parser.specs.declared.expected.Expected.{Expected}
-use Rattle.lrpar_parser.specs.declared.fault.ParseFault.{ParseFault}
-use Rattle.lrpar_parser.specs.declared.fault.ParseFault.TheVariants.{BadToken, StartsDecrease}
+use Rattle.lrpar_course.specs.declared.fault.ParseFault.{ParseFault}
+use Rattle.lrpar_course.specs.declared.fault.ParseFault.TheVariants.{BadToken, StartsDecrease}
 use Rattle.lrpar_steps.proofs.TokenLemmas.{good_token}
-use Rattle.lrpar_parser.proofs.LexemeLemmas.{valid_not_bad, valid_not_early}
+use Rattle.lrpar_course.proofs.LexemeLemmas.{valid_not_bad, valid_not_early}
 use Rattle.lrpar_parser.proofs.ParseLemmas.{ok_not_err, same_fault, same_some}
 
 -- a lexeme of a valid list has a token of a checked table, which isn't the end token

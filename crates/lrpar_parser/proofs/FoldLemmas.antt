@@ -8,14 +8,14 @@ use Rattle.lrpar_steps.specs.Building.{Building}
 use Rattle.lrpar_runs.specs.End.{IsOfTree}
 use Rattle.lrpar_builds.specs.Entries.{Gives, HasValueEntry, IsLexemeEntry, IsMadeEntry}
 use Rattle.lrpar_builds.specs.Folds.{Folds, ForestFolds}
-use Rattle.lrpar_parser.specs.Lexed.{first_error}
+use Rattle.lrpar_course.specs.Lexed.{first_error}
 use Rattle.lrpar_builds.specs.Nodes.{IsNonterm, IsTerm}
 use Rattle.lrpar_parser.specs.Parse.{ParsesTo}
-use Rattle.lrpar_parser.specs.Subject.{Subject}
+use Rattle.lrpar_course.specs.Subject.{Subject}
 use Rattle.lrpar_answers.specs.declared.errors.LexParseError.{LexParseError}
 use Rattle.lrpar_builds.specs.declared.values.AStackType.{AStackType}
 use Rattle.lrpar_builds.specs.declared.values.AStackType.TheVariants.{ActionType}
-use Rattle.lrpar_parser.specs.declared.fault.ParseFault.{ParseFault}
+use Rattle.lrpar_course.specs.declared.fault.ParseFault.{ParseFault}
 use Rattle.lrpar_answers.specs.declared.node.Node.{Node}
 use Rattle.lrpar_runs.proofs.ListLemmas.{zip_same}
 use Rattle.lrpar_parser.proofs.ParseLemmas.{parse_as, refusal_as}

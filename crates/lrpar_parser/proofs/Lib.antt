@@ -1,14 +1,8 @@
-pub mod LexemeLemmas
-pub mod StartLemmas
 pub mod ParseLemmas
 pub mod FoldLemmas
 pub mod ActedLemmas
 pub mod SumLemmas
 pub mod RepairRunLemmas
 pub mod StopStackLemmas
-pub mod AskedLemmas
 pub mod RepairWayLemmas
-pub mod CompleteAnswerLemmas
-pub mod CourseLemmas
-pub mod ComparisonLemmas
 pub mod ExpectedLemmas

@@ -2,18 +2,18 @@
 use Rattle.std.proofs.Common.{◌≡◌, ◌∙◌, ℕ, List, [], ◌∷◌, map, Option, Some, None, Result, Ok, Err, inl, inr, sym, subst, ap, refl}
 use Rattle.std.specs.List.{AllZip}
 use Rattle.lrpar_grammar.specs.Sentence.{IsFirstBadToken, IsFirstEarlyStart}
-use Rattle.lrpar_parser.proofs.CompleteAnswerLemmas.{errors_as}
-use Rattle.lrpar_parser.specs.Lexed.{first_error, lexemes_of}
-use Rattle.lrpar_parser.specs.LexemeFault.{IsLexemeFault}
+use Rattle.lrpar_course.proofs.CompleteAnswerLemmas.{errors_as}
+use Rattle.lrpar_course.specs.Lexed.{first_error, lexemes_of}
+use Rattle.lrpar_course.specs.LexemeFault.{IsLexemeFault}
 use Rattle.lrpar_parser.specs.Parse.{IsParse, Parses, lexeme_facts}
-use Rattle.lrpar_parser.specs.RepairAnswer.{IsRepairAnswer, IsRepairErrorOf}
+use Rattle.lrpar_course.specs.RepairAnswer.{IsRepairAnswer, IsRepairErrorOf}
 use Rattle.lrpar_runs.specs.RunAnswer.{IsOneWay}
-use Rattle.lrpar_parser.specs.Subject.{Subject}
+use Rattle.lrpar_course.specs.Subject.{Subject}
 use Rattle.lrpar_answers.specs.declared.errors.LexParseError.{LexParseError}
 use Rattle.lrpar_answers.specs.declared.errors.LexParseError.TheVariants.{LexError}
-use Rattle.lrpar_parser.specs.declared.fault.ParseFault.{ParseFault}
-use Rattle.lrpar_parser.specs.declared.fault.ParseFault.TheVariants.{BadToken, StartsDecrease, Memory}
-use Rattle.lrpar_parser.proofs.LexemeLemmas.{valid_not_bad, valid_not_early}
+use Rattle.lrpar_course.specs.declared.fault.ParseFault.{ParseFault}
+use Rattle.lrpar_course.specs.declared.fault.ParseFault.TheVariants.{BadToken, StartsDecrease, Memory}
+use Rattle.lrpar_course.proofs.LexemeLemmas.{valid_not_bad, valid_not_early}
 
 -- an answer isn't none and some at once
 none_not_some : {A : Type 0} (o : Option A) (x : A) → o ≡ None → o ≡ Some x → ⊥

@@ -22,6 +22,7 @@ use Rattle.lrpar_stacks.specs.Run.{Far, FarEnd, Accepted, Stopped, accepts, goes
 use Rattle.lrpar_steps.specs.Sequences.{PlainStep, PlainInsert, PlainDelete, PlainShift, Replays, StepsTo}
 use Rattle.lrpar_steps.proofs.TokenLemmas.{good_token}
 use Rattle.lrpar_stacks.proofs.RunLemmas.{far_ends_by_failing, token_at_end, token_at_lexeme}
+use Rattle.lrpar_course.proofs.AskedLemmas.{keeps_off_end}
 
 module _ (g : Grammar) (table : Table) (cap : ℕ) (run : IsRun g table cap) where
   -- all reductions at a token keep a stack one
@@ -120,18 +121,6 @@ module _ {X : Type 0} (facts : X → LexemeFacts) (allows : Point X → List (Li
       let next = replays_stack g table cap run (λ x. (facts x).token) lexemes known last stop.stack stop.place first made after j here replays in
       let fails = far_ends_by_failing (λ x. (facts x).token) g table lexemes st i prods (Stopped stop) never good (stack_has_path table st stack) far in
       All-cons Fails_at (record { stop = stop; listed = first ∷ listed }) found fails (run_fails after j found consumed rest next more)
-
--- no lexeme of a valid list has the end token
-pub keeps_off_end : {X : Type 0} (facts : X → LexemeFacts) (g : Grammar) (lexemes : List X) → IsValidList g (map facts lexemes) → KeepOffEnd (λ x. (facts x).token) g lexemes
-keeps_off_end {X} facts g lexemes valid j within same =
-    let token : X → ℕ = λ x. (facts x).token in
-    elim (slice_get_cases lexemes j).1 as (λ _. ⊥) [
-      | inl found ↦
-          let less : (facts found.0).token < end_token g = good_token facts g lexemes j found.0 valid found.2 in
-          let is : token_at token g lexemes j ≡ token found.0 = token_at_lexeme token g lexemes j found.0 found.2 in
-          absurd (omega (arith, less, is, same))
-      | inr past ↦ let over = past.0 in absurd (omega (arith, over, within))
-    ]
 
 pub stops_by_failing : {X : Type 0} (facts : X → LexemeFacts) (allows : Point X → List (List PlainStep) → Type 0) → StopsByFailing facts allows
 stops_by_failing facts allows d k lexemes st found consumed prods checked valid stack more =

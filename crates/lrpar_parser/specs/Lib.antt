@@ -1,14 +1,5 @@
-pub mod Asked
-pub mod Lexed
-pub mod LexemeFault
 pub mod SumRun
 pub mod Parse
 pub mod ExpectedAnswer
-pub mod Subject
 pub mod Parser
-pub mod CompleteAnswer
-pub mod RepairAnswer
-pub mod TreeAnswer
-pub mod Mending
-pub mod CourseView
 pub mod RepairLaws

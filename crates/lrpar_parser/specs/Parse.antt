@@ -2,14 +2,14 @@
 use Rattle.std.specs.Prelude.{◌≡◌, ◌↔◌, ◌⊎◌, ℕ, List, [], ◌∷◌, map, Option, Some, None, Result, IfOk, IsOkAnd, IsErrOf, Vec}
 use Rattle.lrpar_grammar.specs.Sentence.{LexemeFacts, IsFirstBadToken, IsFirstEarlyStart}
 use Rattle.lrpar_grammar.specs.Tree.{Tree}
-use Rattle.lrpar_parser.specs.Lexed.{first_error, lexemes_of}
-use Rattle.lrpar_parser.specs.RepairAnswer.{IsRepairAnswer}
+use Rattle.lrpar_course.specs.Lexed.{first_error, lexemes_of}
+use Rattle.lrpar_course.specs.RepairAnswer.{IsRepairAnswer}
 use Rattle.lrpar_runs.specs.RunAnswer.{HasValue, HasNoValue}
-use Rattle.lrpar_parser.specs.Subject.{Subject}
+use Rattle.lrpar_course.specs.Subject.{Subject}
 use Rattle.lrpar_answers.specs.declared.errors.LexParseError.{LexParseError}
 use Rattle.lrpar_answers.specs.declared.errors.LexParseError.TheVariants.{LexError}
-use Rattle.lrpar_parser.specs.declared.fault.ParseFault.{ParseFault}
-use Rattle.lrpar_parser.specs.declared.fault.ParseFault.TheVariants.{BadToken, StartsDecrease, Memory}
+use Rattle.lrpar_course.specs.declared.fault.ParseFault.{ParseFault}
+use Rattle.lrpar_course.specs.declared.fault.ParseFault.TheVariants.{BadToken, StartsDecrease, Memory}
 
 -- what is known of the lexemes of a lexer that answered no error
 abbrev pub lexeme_facts : {X E : Type 0} → (X → LexemeFacts) → List (Result X E) → List LexemeFacts

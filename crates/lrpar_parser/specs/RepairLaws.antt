@@ -1,5 +1,5 @@
 -- Laws of sequences of repairs and of runs with repairs.
-use Rattle.std.specs.Prelude.{◌≡◌, ◌≢◌, ◌<◌, ◌≤◌, ◌+◌, ◌/◌, ◌↔◌, ℕ, List, [], ◌∷◌, All, length, map, option_map, Option, IsSome}
+use Rattle.std.specs.Prelude.{◌≡◌, ◌≢◌, ◌<◌, ◌≤◌, ◌+◌, ◌/◌, ◌↔◌, ℕ, List, [], All, length, map, option_map, Option, IsSome}
 use Rattle.std.specs.List.{AllPairs}
 use Rattle.lrpar_grammar.specs.Grammar.{Grammar, end_token}
 use Rattle.lrpar_grammar.specs.Sentence.{IsValidList, LexemeFacts}
@@ -10,33 +10,14 @@ use Rattle.lrpar_stacks.specs.Stack.{IsStack}
 use Rattle.lrpar_steps.specs.Recovery.{Point}
 use Rattle.lrpar_runs.specs.RepairRun.{RepairRun, RepairStop}
 use Rattle.lrpar_stacks.specs.Run.{Run, Stop, token_at}
-use Rattle.lrpar_steps.specs.Sequences.{PlainStep, PlainInsert, PlainDelete, PlainShift, CanGoOn, Replays, Works}
-
--- a sequence works exactly where it can be replayed, and k lexemes can be fed after that
-abbrev pub WorksByReplay : Type 0 → Type 0
-WorksByReplay X =
-    (token : X → ℕ) (g : Grammar) (table : Table) (lexemes : List X) (k : ℕ) (st : List ℕ) (i : ℕ) (steps : List PlainStep)
-    → Works token g table lexemes k st i steps
-    ↔ ((prods after : List ℕ) × (j : ℕ) × Replays token g table lexemes st i steps prods after j × CanGoOn token g table lexemes k after j)
-
--- a sequence is replayed in one way: to one stack and one place, by the same reductions
-abbrev pub ReplaysOneWay : Type 0 → Type 0
-ReplaysOneWay X =
-    (token : X → ℕ) (g : Grammar) (table : Table) (lexemes : List X) (st : List ℕ) (i : ℕ) (steps : List PlainStep) (ps a : List ℕ) (j : ℕ) (qs b : List ℕ) (k : ℕ)
-    → Replays token g table lexemes st i steps ps a j → Replays token g table lexemes st i steps qs b k → (ps ≡ qs) × (a ≡ b) × (j ≡ k)
+use Rattle.lrpar_steps.specs.Sequences.{PlainStep, PlainInsert, PlainDelete, PlainShift}
+use Rattle.lrpar_course.specs.Replays.{places_of}
 
 -- an Insert is of a token of the grammar other than the end token
 abbrev pub InsertsListed : Grammar → PlainStep → Type 0
 InsertsListed g (PlainInsert t) = t < end_token g
 InsertsListed g PlainDelete = Unit {0}
 InsertsListed g PlainShift = Unit {0}
-
--- how many lexemes of the input the steps go past: one for each Delete and each Shift
-abbrev pub places_of : List PlainStep → ℕ
-places_of [] = 0
-places_of (PlainInsert t ∷ steps) = places_of steps
-places_of (PlainDelete ∷ steps) = places_of steps + 1
-places_of (PlainShift ∷ steps) = places_of steps + 1
 
 -- the sequence has a step; it inserts tokens of the grammar other than the end token; and from place i it goes past no lexeme
 -- that isn't there

@@ -1,19 +1,19 @@
 //! Laws about the definitions that contracts cite: each function has one as its contract, and does nothing.
-ghost use Rattle.std.specs.Prelude.{◌≡◌, ◌↔◌, ℕ, IsTrue};
+ghost use Rattle.std.specs.Prelude.{◌≡◌, ℕ};
 ghost use Rattle.lrpar_stacks.specs.Chain.{most_productions};
 ghost use Rattle.lrpar_grammar.specs.Sentence.{LexemeFacts};
-ghost use Rattle.lrpar_parser.specs.declared.fault.ParseFault.{ParseFault};
 ghost use Rattle.lrpar_stacks.specs.Run.{RunsOneWay};
 ghost use Rattle.lrpar_steps.specs.Known.{facts_by};
-ghost use Rattle.lrpar_parser.specs.Asked.{allowed_at};
+ghost use Rattle.lrpar_course.specs.Asked.{allowed_at};
 ghost use Rattle.lrpar_safety.specs.Checked.{Checked};
-ghost use Rattle.lrpar_parser.specs.RepairLaws.{AcceptsWhereRepaired, ListsSound, RepairRunsOneWay, ReplaysOneWay, RunsWithoutRepairs, StopsAtStacks, StopsByFailing, StopsLieApart, WorksByReplay};
+ghost use Rattle.lrpar_parser.specs.RepairLaws.{AcceptsWhereRepaired, ListsSound, RepairRunsOneWay, RunsWithoutRepairs, StopsAtStacks, StopsByFailing, StopsLieApart};
+ghost use Rattle.lrpar_course.specs.Replays.{ReplaysOneWay, WorksByReplay};
 ghost use Rattle.lrpar_stacks.specs.RunLaws.{RunsEndOneWay, RunsGoOnOrEnd, RunsStopByFailing};
 ghost use Rattle.lrpar_parser.specs.SumRun.{SumRunsThrough};
 
-use crate::fault::ParseFault;
-use crate::repair::Recoverer;
 pub use lrpar_builds::laws::spans_are_worked_out;
+pub use lrpar_course::laws::faults_are_compared_by_contents;
+use lrpar_course::repair::Recoverer;
 use lrpar_grammar::span::StorageIndex;
 use lrpar_lexemes::lex_api::Lexeme;
 pub use lrpar_repairs::laws::repairs_are_compared_by_contents;
@@ -90,9 +90,4 @@ pub fn runs_with_repairs_have_one_answer<
 pub fn runs_without_a_recoverer<LexemeT>()
     ensures runs { RunsWithoutRepairs LexemeT }
     ensures facts_run { RunsWithoutRepairs LexemeFacts }
-{}
-
-/// Two faults of a parse are equal exactly where they are of one kind and name the same lexeme.
-pub fn faults_are_compared_by_contents()
-    ensures { (x y : ParseFault) → IsTrue (⟦<ParseFault as PartialEq>⟧.eq x y) ↔ (x ≡ y) }
 {}

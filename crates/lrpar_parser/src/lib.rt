@@ -1,17 +1,14 @@
 //! Parses over a grammar and its state table: lexers and lexemes in, values and errors out.
 #![tactic(auto)]
 
-mod course;
 mod expected;
-mod fault;
 pub mod laws;
-mod lexed;
 pub mod parser;
-pub mod repair;
 mod shifts;
 
 pub use lrpar_answers::{LexParseError, Node, ParseError, ParseRepair, errors};
 pub use lrpar_builds::trees::action_generictree;
+pub use lrpar_course::repair;
 pub use lrpar_grammar::{grammar, lines, span};
 pub use lrpar_lexemes::{LexError, Lexeme, Lexer, LexerTypes, NonStreamingLexer, lex_api};
 pub use lrpar_table::check::ParserData;

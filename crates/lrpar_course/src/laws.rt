@@ -1,0 +1,10 @@
+//! A law about faults of parses: a function has it as its contract, and does nothing.
+ghost use Rattle.std.specs.Prelude.{◌≡◌, ◌↔◌, IsTrue};
+ghost use Rattle.lrpar_course.specs.declared.fault.ParseFault.{ParseFault};
+
+use crate::fault::ParseFault;
+
+/// Two faults of a parse are equal exactly where they are of one kind and name the same lexeme.
+pub fn faults_are_compared_by_contents()
+    ensures { (x y : ParseFault) → IsTrue (⟦<ParseFault as PartialEq>⟧.eq x y) ↔ (x ≡ y) }
+{}
