@@ -9,7 +9,7 @@ use Rattle.std.proofs.lemmas.List.Elements.{filter-append}
 use Rattle.std.proofs.lemmas.List.Folds.{list_any-append, list_any_at}
 use Rattle.lrpar_grammar.proofs.ListLemmas.{map-take_more, range_more}
 use Rattle.lrpar_states.specs.Table.{ReduceReduce}
-use Rattle.lrpar_build.specs.Cores.{CoreSet}
+use Rattle.lrpar_closure.specs.Cores.{CoreSet}
 use Rattle.lrpar_first.specs.Tokens.{has}
 use Rattle.lrpar_build.specs.Wanted.{AscendFrom, accepts_at, items_of_core, items_of_cores, prods_at, reduce_conflicts_at}
 

@@ -8,9 +8,9 @@ use Rattle.std.proofs.lemmas.List.Elements.{All-contains, All-head, All-tail, Co
 use Rattle.lrpar_grammar.specs.Grammar.{Grammar, rule_of}
 use Rattle.lrpar_states.specs.Graph.{ItemOf}
 use Rattle.lrpar_build.specs.Canonical.{AreSame}
-use Rattle.lrpar_build.specs.Cores.{CoreSet, IsAmong, IsOfCore}
+use Rattle.lrpar_closure.specs.Cores.{CoreSet, IsAmong, IsOfCore}
 use Rattle.lrpar_first.specs.FirstRows.{mark_of}
-use Rattle.lrpar_build.specs.Kernels.{AreCores, AreCoresInOrder, ComesBefore, IsFilled, IsListedBefore, Precedes}
+use Rattle.lrpar_closure.specs.CoreOrder.{AreCores, AreCoresInOrder, ComesBefore, IsFilled, IsListedBefore, Precedes}
 use Rattle.lrpar_first.specs.Tokens.{has}
 use Rattle.lrpar_build.specs.Wanted.{AreOnce}
 

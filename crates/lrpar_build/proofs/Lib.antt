@@ -1,9 +1,3 @@
-pub mod BroughtLemmas
-pub mod ProdLemmas
-pub mod SpreadLemmas
-pub mod ClosureLemmas
-pub mod BringLemmas
-pub mod AmongLemmas
 pub mod EntryLemmas
 pub mod WantedLemmas
 pub mod StateRowLemmas
@@ -23,7 +17,6 @@ pub mod NextLemmas
 pub mod StatesLemmas
 pub mod FaultLemmas
 pub mod NumberLemmas
-pub mod PutLemmas
 pub mod StepLemmas
 pub mod SuccessorLemmas
 pub mod FindLemmas

@@ -8,9 +8,10 @@ use Rattle.std.proofs.lemmas.List.Elements.{All-filter, All-head, All-map, All-w
 use Rattle.std.proofs.lemmas.Option.{slice_get-map, slice_get_past, slice_get_read, slice_get_within}
 use Rattle.lrpar_grammar.specs.Grammar.{Grammar, GrammarSymbol, Nonterminal, Terminal, symbols_of}
 use Rattle.lrpar_states.specs.Graph.{ItemOf, item_at}
-use Rattle.lrpar_build.specs.Cores.{CoreSet, IsAmong, IsCoreOf, IsOfCore}
-use Rattle.lrpar_build.specs.ItemSets.{IsAdvanced}
-use Rattle.lrpar_build.specs.Kernels.{AreCores, AreCoresInOrder, ComesBefore, IsBegun, IsFilled, IsKernel, StandBefore, advanced, is_symbol, next_kernel, symbol_behind}
+use Rattle.lrpar_closure.specs.Cores.{CoreSet, IsAmong, IsCoreOf, IsOfCore}
+use Rattle.lrpar_closure.specs.ItemSets.{IsAdvanced}
+use Rattle.lrpar_closure.specs.CoreOrder.{AreCores, AreCoresInOrder, ComesBefore, IsBegun, IsFilled, IsKernel}
+use Rattle.lrpar_build.specs.Kernels.{StandBefore, advanced, is_symbol, next_kernel, symbol_behind}
 use Rattle.lrpar_build.proofs.KernelLemmas.{among_cons, among_nil}
 
 -- the test of a symbol holds where it is that symbol

@@ -6,11 +6,12 @@ use Rattle.std.proofs.lemmas.List.Elements.{All-cons, All-nil}
 use Rattle.lrpar_grammar.specs.Grammar.{Grammar, GrammarSymbol, IsWellFormed, end_token, prods_len, start_prod}
 use Rattle.lrpar_states.specs.Graph.{item_at}
 use Rattle.lrpar_build.specs.Canonical.{AreSame, ReachesMore}
-use Rattle.lrpar_build.specs.Cores.{CoreSet, IsAmong, IsCoreOf}
+use Rattle.lrpar_closure.specs.Cores.{CoreSet, IsAmong, IsCoreOf}
 use Rattle.lrpar_first.specs.FirstRows.{mark_of}
 use Rattle.lrpar_first.specs.Tokens.{has}
-use Rattle.lrpar_build.specs.ItemSets.{IsAdvanced, IsInClosure, IsReachedBy, IsStartItem}
-use Rattle.lrpar_build.specs.Kernels.{AreCores, AreKept, AreKernels, ComesBefore, GoesTo, IsBegun, IsFilled, IsKernel, IsReachedKernel, kernel_at, next_kernel, path_at}
+use Rattle.lrpar_closure.specs.ItemSets.{IsAdvanced, IsInClosure, IsReachedBy, IsStartItem}
+use Rattle.lrpar_closure.specs.CoreOrder.{AreCores, ComesBefore, IsBegun, IsFilled, IsKernel}
+use Rattle.lrpar_build.specs.Kernels.{AreKept, AreKernels, GoesTo, IsReachedKernel, kernel_at, next_kernel, path_at}
 use Rattle.lrpar_build.specs.Numbers.{AreNumbered, IsFaultOfStates, IsFound, IsFresh, IsNumberFault, IsNumberOf, IsStepFault, IsStepTo}
 use Rattle.lrpar_build.specs.States.{AreExpanded, AreSteps, IsExpanded, StartsRight, StateOf, state_at}
 use Rattle.lrpar_build.specs.declared.fault.BuildFault.{BuildFault}

@@ -7,7 +7,7 @@ use Rattle.std.proofs.lemmas.List.Elements.{All-cons, All-get_or, All-head, All-
 use Rattle.std.proofs.lemmas.Option.{get_or_from_slice_get, slice_get_past, slice_get_within}
 use Rattle.std.specs.Option.{option_map, option_map_or}
 use Rattle.lrpar_grammar.specs.Grammar.{Grammar, GrammarSymbol, IsListedSymbol, IsWellFormed, Nonterminal, Terminal, end_token, rules_len, start_prod, symbols_of, tokens_len}
-use Rattle.lrpar_build.specs.Cores.{CoreSet}
+use Rattle.lrpar_closure.specs.Cores.{CoreSet}
 use Rattle.lrpar_first.specs.FirstRows.{IsSymbolBelow}
 use Rattle.lrpar_build.specs.Kernels.{AreKept, GoesTo}
 use Rattle.lrpar_build.specs.States.{AreSteps, AreStepsBelow}

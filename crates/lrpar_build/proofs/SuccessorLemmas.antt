@@ -4,10 +4,10 @@ use Rattle.std.proofs.lemmas.Bool.{cases_eq, ne_eqb}
 use Rattle.std.proofs.lemmas.List.{append-nil, get_or-map, get_or-set_other, get_or-set_same, length-map, length-set, map-set}
 use Rattle.std.proofs.Math.Seq.{take-append_seam}
 use Rattle.lrpar_grammar.specs.Grammar.{Grammar, GrammarSymbol, Nonterminal, Terminal}
-use Rattle.lrpar_build.specs.Cores.{CoreSet, core_set}
+use Rattle.lrpar_closure.specs.Cores.{CoreSet, core_set}
 use Rattle.lrpar_build.specs.KernelMap.{kernel_rows}
 use Rattle.lrpar_build.specs.Kernels.{AreNext, ArePutTo, advanced, is_symbol, kernel_at, next_kernel, symbol_behind}
-use Rattle.lrpar_build.specs.declared.cores.CoreItems.{CoreItems}
+use Rattle.lrpar_closure.specs.declared.cores.CoreItems.{CoreItems}
 use Rattle.lrpar_build.proofs.FindLemmas.{mapped_at}
 use Rattle.lrpar_build.proofs.NextLemmas.{next_more, next_none, next_one, symbol_to}
 

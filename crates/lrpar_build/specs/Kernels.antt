@@ -1,50 +1,12 @@
--- Kernels: the cores from which the items of a state come by closure. They stand in an order, so that a set of items has one kernel.
-use Rattle.std.specs.Prelude.{◌≡◌, ◌<◌, ◌≤◌, ◌+◌, ◌==◌, ◌⊎◌, ◌++◌, ℕ, Bool, false, IsTrue, List, [], ◌∷◌, All, Option, Some, None, length, map, slice_get, slice_index_or}
+-- Kernels: those to which cores go by symbols, and those of the sets that are reached.
+use Rattle.std.specs.Prelude.{◌≡◌, ◌<◌, ◌≤◌, ◌+◌, ◌==◌, ◌++◌, ℕ, Bool, false, List, [], ◌∷◌, Option, Some, None, length, map, slice_get, slice_index_or}
 use Rattle.std.specs.List.{filter}
-use Rattle.lrpar_grammar.specs.Grammar.{Grammar, GrammarSymbol, Nonterminal, Terminal, rule_of, start_prod, symbols_of}
+use Rattle.lrpar_grammar.specs.Grammar.{Grammar, GrammarSymbol, Nonterminal, Terminal, symbols_of}
 use Rattle.lrpar_states.specs.Graph.{ItemOf}
+use Rattle.lrpar_closure.specs.CoreOrder.{IsKernel}
+use Rattle.lrpar_closure.specs.Cores.{CoreSet, IsAmong}
+use Rattle.lrpar_closure.specs.ItemSets.{IsAdvanced, IsInClosure, IsReachedBy}
 use Rattle.lrpar_build.specs.Canonical.{AreSame}
-use Rattle.lrpar_build.specs.Cores.{CoreSet, IsAmong, IsCoreOf}
-use Rattle.lrpar_build.specs.ItemSets.{IsAdvanced, IsInClosure, IsReachedBy}
-use Rattle.lrpar_first.specs.Tokens.{has}
-
--- production p is listed before q: by their rules, and those of one rule by their numbers
-abbrev pub IsListedBefore : Grammar → ℕ → ℕ → Type 0
-IsListedBefore g p q = (rule_of g p < rule_of g q) ⊎ ((rule_of g p ≡ rule_of g q) × (p < q))
-
--- production p with k symbols before the dot comes before production q with l: k is greater, or they are equal and p is listed
--- before q. The dots of all items are advanced together, so that their order stays
-abbrev pub Precedes : Grammar → ℕ → ℕ → ℕ → ℕ → Type 0
-Precedes g p k q l = (l < k) ⊎ ((k ≡ l) × IsListedBefore g p q)
-
--- one core comes before the other
-abbrev pub ComesBefore : Grammar → CoreSet → CoreSet → Type 0
-ComesBefore g a b = Precedes g a.prod a.dot b.prod b.dot
-
--- each core comes before all behind it
-abbrev pub AreCoresInOrder : Grammar → List CoreSet → Type 0
-AreCoresInOrder g [] = Unit {0}
-AreCoresInOrder g (core ∷ cores) = All (ComesBefore g core) cores × AreCoresInOrder g cores
-
--- the core has some lookahead
-abbrev pub IsFilled : CoreSet → Type 0
-IsFilled core = (t : ℕ) × IsTrue (has core.tokens t)
-
--- the dot isn't at the front, or it is the start production's
-abbrev pub IsBegun : Grammar → CoreSet → Type 0
-IsBegun g core = (0 < core.dot) ⊎ (core.prod ≡ start_prod g)
-
--- cores of the grammar in their order, each with some lookahead
-pub record AreCores (g : Grammar) (cores : List CoreSet) : Type 0 where
-  pub in_order : AreCoresInOrder g cores
-  pub of_grammar : All (IsCoreOf g) cores
-  pub filled : All IsFilled cores
-
--- the cores from which a state's others come by closure
-pub record IsKernel (g : Grammar) (kernel : List CoreSet) : Type 0 where
-  pub cores : AreCores g kernel
-  pub begun : All (IsBegun g) kernel
-  pub some : 0 < length kernel
 
 -- the symbol behind the dot
 abbrev pub symbol_behind : Grammar → CoreSet → Option GrammarSymbol
@@ -109,7 +71,3 @@ abbrev pub GoesTo : Grammar → List (List CoreSet) → List CoreSet → Grammar
 GoesTo g kernels cores symbol None = ¬ (StandBefore g cores symbol)
 GoesTo g kernels cores symbol (Some next) =
     StandBefore g cores symbol × (next < length kernels) × AreSame (IsAmong (kernel_at kernels next)) (IsAdvanced g (IsAmong cores) symbol)
-
--- the core comes before the productions of rule r, and of those behind it, with the dot at the front
-abbrev pub IsAhead : Grammar → ℕ → CoreSet → Type 0
-IsAhead g r core = (0 < core.dot) ⊎ (rule_of g core.prod < r)

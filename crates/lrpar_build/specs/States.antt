@@ -7,13 +7,14 @@ use Rattle.lrpar_grammar.specs.Grammar.{Grammar, GrammarSymbol, Nonterminal, Ter
 use Rattle.lrpar_states.specs.Graph.{ItemOf}
 use Rattle.lrpar_states.specs.PlainRows.{goto_entry}
 use Rattle.lrpar_build.specs.Canonical.{AreCanonical, AreSame, IsTransition}
-use Rattle.lrpar_build.specs.Cores.{CoreSet, IsAmong, IsCoreOf, core_set}
-use Rattle.lrpar_build.specs.ItemSets.{IsInClosure, IsStartItem}
+use Rattle.lrpar_closure.specs.Cores.{CoreSet, IsAmong, IsCoreOf, core_set}
+use Rattle.lrpar_closure.specs.ItemSets.{IsInClosure, IsStartItem}
 use Rattle.lrpar_build.specs.KernelMap.{kernel_rows}
-use Rattle.lrpar_build.specs.Kernels.{AreCores, AreNext, GoesTo, kernel_at}
+use Rattle.lrpar_closure.specs.CoreOrder.{AreCores}
+use Rattle.lrpar_build.specs.Kernels.{AreNext, GoesTo, kernel_at}
 use Rattle.lrpar_build.specs.Wanted.{AreOnce, AscendFrom, shift_entry}
 use Rattle.lrpar_first.specs.FirstRows.{AreFirsts, HaveRoom, mark_of, rows_of}
-use Rattle.lrpar_build.specs.declared.cores.CoreItems.{CoreItems}
+use Rattle.lrpar_closure.specs.declared.cores.CoreItems.{CoreItems}
 use Rattle.lrpar_build.specs.declared.item_set.State.{State}
 use Rattle.lrpar_build.specs.declared.states.Sets.{Sets}
 use Rattle.lrpar_build.specs.declared.states.Successors.{Successors}

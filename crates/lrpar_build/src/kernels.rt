@@ -1,12 +1,12 @@
 //! Kernels, each with its number.
 ghost use Rattle.std.specs.Prelude.{◌≡◌, ◌<◌, ◌≤◌, ◌↔◌, ◌∷◌, ◌++◌, ℕ, [], IfErr, IfOk, IsTrue, MatchOption, OnOk, length, map};
-ghost use Rattle.lrpar_build.specs.Cores.{core_set};
+ghost use Rattle.lrpar_closure.specs.Cores.{core_set};
 ghost use Rattle.lrpar_build.specs.Numbers.{IsFound, IsFresh, IsNumberFault, IsNumberOf};
 ghost use Rattle.lrpar_build.specs.Kernels.{kernel_at};
 ghost use Rattle.lrpar_build.specs.declared.fault.BuildFault.TheVariants.{Memory};
 
-use crate::cores::CoreItems;
 use crate::fault::BuildFault;
+use lrpar_closure::cores::CoreItems;
 use lrpar_grammar::span::{StIdx, StorageIndex};
 use std::alloc::{AllocError, Global};
 use std::collections::BTreeMap;
@@ -21,7 +21,7 @@ pub(crate) struct Kernels<StorageT: StorageIndex> {
 
 impl<StorageT: StorageIndex> Model for Kernels<StorageT> {
     ghost use Rattle.std.specs.Prelude.{List};
-    ghost use Rattle.lrpar_build.specs.Cores.{CoreSet};
+    ghost use Rattle.lrpar_closure.specs.Cores.{CoreSet};
     ghost use Rattle.lrpar_build.specs.KernelMap.{NumbersKernels, kernel_rows};
 
     ghost Value = { List (List CoreSet) };

@@ -7,12 +7,12 @@ ghost use Rattle.lrpar_grammar.specs.Symbols.{prod_numbers};
 ghost use Rattle.lrpar_states.specs.PlainConflicts.{reduce_reduce_of, shift_reduce_of};
 ghost use Rattle.lrpar_states.specs.PlainItems.{item_of};
 ghost use Rattle.lrpar_states.specs.PlainRows.{action_entry, plain_goto};
-ghost use Rattle.lrpar_build.specs.Cores.{core_set};
+ghost use Rattle.lrpar_closure.specs.Cores.{core_set};
 ghost use Rattle.lrpar_first.specs.Tokens.{has};
 ghost use Rattle.lrpar_build.specs.Wanted.{AcceptsBeside, AreOnce, AscendFrom, HasAcceptReduce, IsAcceptReduce, IsRefusal, accepts_at, entry_at, items_of_core, items_of_cores, prods_at, reduce_conflicts, reduce_conflicts_at, shift_conflicts, shift_conflicts_at, shift_entry, wanted, wanted_row};
 
-use crate::cores::CoreItems;
 use crate::fault::BuildFault;
+use lrpar_closure::cores::CoreItems;
 use lrpar_grammar::grammar::YaccGrammar;
 use lrpar_grammar::span::{PIdx, StIdx, StorageIndex, TIdx};
 use lrpar_states::table::{Action, Item};

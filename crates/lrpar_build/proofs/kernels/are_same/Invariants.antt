@@ -1,5 +1,5 @@
 use Rattle.std.proofs.Common.{◌≡◌, map, take}
-use Rattle.lrpar_build.specs.Cores.{core_set}
+use Rattle.lrpar_closure.specs.Cores.{core_set}
 use Rattle.lrpar_build.proofs.kernels.are_same.Given as goal
 
 -- the cores so far are the same

@@ -1,7 +1,7 @@
 use Rattle.std.proofs.Common.{◌≡◌, ◌∙◌, sym, ap, arith}
 use Rattle.std.specs.Cmp.{booleans_Decides}
 use lib.Pointwise.{pointwise_decides}
-use Rattle.lrpar_build.specs.Cores.{CoreSet, core_set}
+use Rattle.lrpar_closure.specs.Cores.{CoreSet, core_set}
 use Rattle.lrpar_build.proofs.KernelLemmas.{core_is}
 use Rattle.lrpar_build.proofs.kernels.is_same.Goals as goal
 

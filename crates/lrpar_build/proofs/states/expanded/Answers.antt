@@ -2,9 +2,9 @@ use Rattle.std.proofs.Common.{ap, subst, sym, map}
 use Rattle.lrpar_grammar.specs.Grammar.{Nonterminal}
 use Rattle.lrpar_states.specs.PlainRows.{goto_entry}
 use Rattle.lrpar_build.specs.Canonical.{AreSame}
-use Rattle.lrpar_build.specs.Cores.{IsAmong, core_set}
-use Rattle.lrpar_build.specs.ItemSets.{IsInClosure}
-use Rattle.lrpar_build.specs.Kernels.{AreCores}
+use Rattle.lrpar_closure.specs.Cores.{IsAmong, core_set}
+use Rattle.lrpar_closure.specs.ItemSets.{IsInClosure}
+use Rattle.lrpar_closure.specs.CoreOrder.{AreCores}
 use Rattle.lrpar_build.proofs.NumberLemmas.{cores_reached, kept_twice, steps_kept}
 use Rattle.lrpar_first.proofs.FaultLemmas.{no_value, nothing_done}
 use Rattle.lrpar_build.proofs.states.expanded.Goals as goal

@@ -2,7 +2,7 @@ use Rattle.std.proofs.Common.{◌≡◌, ◌<◌, ◌∙◌, sym, ap, subst, ari
 use Rattle.std.proofs.lemmas.Result.{on_ok_weaker}
 use Rattle.lrpar_grammar.specs.Grammar.{Nonterminal, Terminal, rules_len, tokens_len}
 use Rattle.lrpar_grammar.specs.Symbols.{symbol_of}
-use Rattle.lrpar_build.specs.Cores.{core_set}
+use Rattle.lrpar_closure.specs.Cores.{core_set}
 use Rattle.lrpar_first.specs.FirstRows.{IsSymbolBelow}
 use Rattle.lrpar_build.specs.Kernels.{symbol_behind}
 use Rattle.lrpar_build.proofs.SuccessorLemmas.{put_rule, put_token}

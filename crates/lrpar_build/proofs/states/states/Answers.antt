@@ -1,7 +1,8 @@
 use Rattle.std.proofs.Common.{List, ◌≡◌, ◌<◌, ◌≤◌, ◌∷◌, ◌++◌, ◌∙◌, [], sym, ap, subst, arith, length, map}
 use Rattle.std.proofs.lemmas.List.{length-map, length_push, map_push}
-use Rattle.lrpar_build.specs.Cores.{core_set}
-use Rattle.lrpar_build.specs.Kernels.{IsKernel, IsReachedKernel, kernel_at, path_at}
+use Rattle.lrpar_closure.specs.Cores.{core_set}
+use Rattle.lrpar_closure.specs.CoreOrder.{IsKernel}
+use Rattle.lrpar_build.specs.Kernels.{IsReachedKernel, kernel_at, path_at}
 use Rattle.lrpar_build.specs.States.{AreExpanded, IsExpanded, StateOf, state_of}
 use Rattle.lrpar_build.proofs.NumberLemmas.{expanded_more, starts_kept}
 use Rattle.lrpar_build.proofs.StatesLemmas.{are_states}

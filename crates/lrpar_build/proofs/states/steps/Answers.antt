@@ -1,7 +1,7 @@
 use Rattle.std.proofs.Common.{◌≡◌, ◌+◌, ◌∷◌, ◌++◌, ◌∙◌, ℕ, [], arith, ap, subst, sym, map}
 use Rattle.std.specs.Option.{option_map}
 use Rattle.std.proofs.lemmas.List.{map-append}
-use Rattle.lrpar_build.specs.Cores.{core_set}
+use Rattle.lrpar_closure.specs.Cores.{core_set}
 use Rattle.lrpar_build.specs.Kernels.{GoesTo}
 use Rattle.lrpar_build.specs.States.{AreStepsBelow, step_entry}
 use Rattle.lrpar_build.specs.Numbers.{IsFaultOfStates}

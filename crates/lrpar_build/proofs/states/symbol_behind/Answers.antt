@@ -2,7 +2,7 @@ use Rattle.std.proofs.Common.{◌≡◌, ◌∙◌, ap}
 use Rattle.std.specs.Option.{option_map}
 use Rattle.lrpar_grammar.specs.Grammar.{symbols_of}
 use Rattle.lrpar_grammar.specs.Symbols.{symbol_of}
-use Rattle.lrpar_build.specs.Cores.{core_set}
+use Rattle.lrpar_closure.specs.Cores.{core_set}
 use Rattle.lrpar_build.specs.Kernels.{symbol_behind}
 use Rattle.lrpar_build.proofs.NextLemmas.{behind_read}
 use Rattle.lrpar_build.proofs.StepLemmas.{symbol_below}

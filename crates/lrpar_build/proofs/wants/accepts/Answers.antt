@@ -1,6 +1,6 @@
 use Rattle.std.proofs.Common.{◌∙◌, sym, ap, map}
 use Rattle.std.proofs.lemmas.List.{take_all}
-use Rattle.lrpar_build.specs.Cores.{core_set}
+use Rattle.lrpar_closure.specs.Cores.{core_set}
 use Rattle.lrpar_build.specs.Wanted.{accepts_at}
 use Rattle.lrpar_build.proofs.EntryLemmas.{accepts_no, accepts_yes}
 use Rattle.lrpar_build.proofs.wants.accepts.Goals as goal

@@ -1,6 +1,6 @@
 use Rattle.std.proofs.Common.{◌≡◌, ◌==◌, filter, map, take}
 use Rattle.lrpar_grammar.specs.Grammar.{prod_len}
-use Rattle.lrpar_build.specs.Cores.{core_set}
+use Rattle.lrpar_closure.specs.Cores.{core_set}
 use Rattle.lrpar_build.proofs.wants.complete_cores.Given as goal
 
 -- the complete ones of the cores so far

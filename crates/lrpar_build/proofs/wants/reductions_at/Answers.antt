@@ -1,6 +1,6 @@
 use Rattle.std.proofs.Common.{◌++◌, ◌∷◌, [], ◌∙◌, sym, ap, map}
 use Rattle.std.proofs.lemmas.List.{map-append, take_all}
-use Rattle.lrpar_build.specs.Cores.{core_set}
+use Rattle.lrpar_closure.specs.Cores.{core_set}
 use Rattle.lrpar_build.specs.Wanted.{prods_at}
 use Rattle.lrpar_build.proofs.EntryLemmas.{prods_no, prods_yes}
 use Rattle.lrpar_build.proofs.wants.reductions_at.Goals as goal

@@ -1,7 +1,7 @@
 use Rattle.std.proofs.Common.{◌++◌, ◌∙◌, sym, ap, map}
 use Rattle.std.proofs.lemmas.List.{take_all}
 use Rattle.lrpar_grammar.specs.Grammar.{tokens_len}
-use Rattle.lrpar_build.specs.Cores.{core_set}
+use Rattle.lrpar_closure.specs.Cores.{core_set}
 use Rattle.lrpar_build.specs.Wanted.{items_of_core, items_of_cores}
 use Rattle.lrpar_build.proofs.EntryLemmas.{cores_more}
 use Rattle.lrpar_build.proofs.wants.single_items.Goals as goal

@@ -2,7 +2,7 @@ use Rattle.std.proofs.Common.{◌∙◌, sym, ap, subst, map, All}
 use Rattle.std.proofs.lemmas.List.{take_all}
 use Rattle.lrpar_grammar.specs.Grammar.{Nonterminal, Terminal}
 use Rattle.lrpar_grammar.proofs.ListLemmas.{All-map-at}
-use Rattle.lrpar_build.specs.Cores.{IsCoreOf, core_set}
+use Rattle.lrpar_closure.specs.Cores.{IsCoreOf, core_set}
 use Rattle.lrpar_build.specs.KernelMap.{kernel_rows}
 use Rattle.lrpar_build.specs.Kernels.{AreNext}
 use Rattle.lrpar_build.proofs.SuccessorLemmas.{back_len, back_next}

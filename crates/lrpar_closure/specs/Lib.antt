@@ -1,0 +1,4 @@
+pub mod ItemSets
+pub mod Brought
+pub mod Cores
+pub mod CoreOrder
