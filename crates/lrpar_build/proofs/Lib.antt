@@ -13,11 +13,8 @@ pub mod ListedLemmas
 pub mod BuiltLemmas
 pub mod TablesLemmas
 pub mod KernelLemmas
-pub mod NextLemmas
 pub mod StatesLemmas
 pub mod FaultLemmas
 pub mod NumberLemmas
 pub mod StepLemmas
-pub mod SuccessorLemmas
-pub mod FindLemmas
 pub mod KernelMapLemmas

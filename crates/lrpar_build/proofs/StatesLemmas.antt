@@ -9,11 +9,12 @@ use Rattle.lrpar_build.specs.Canonical.{AreCanonical, AreSame, IsTransition, Rea
 use Rattle.lrpar_closure.specs.Cores.{CoreSet, IsAmong}
 use Rattle.lrpar_closure.specs.ItemSets.{IsAdvanced, IsInClosure, Own, Added, IsReachedBy, IsStartItem}
 use Rattle.lrpar_closure.specs.CoreOrder.{IsBegun, IsKernel}
-use Rattle.lrpar_build.specs.Kernels.{AreKernels, GoesTo, kernel_at, path_at}
+use Rattle.lrpar_build.specs.Kernels.{AreKernels, GoesTo, path_at}
+use Rattle.lrpar_closure.specs.Next.{kernel_at}
 use Rattle.lrpar_build.specs.States.{AreStates, IsExpanded, StateOf, sets_at, state_at}
 use Rattle.lrpar_closure.proofs.AddedLemmas.{rule_behind_listed}
 use Rattle.lrpar_build.proofs.KernelLemmas.{once_in_order, one_kernel}
-use Rattle.lrpar_build.proofs.NextLemmas.{some_item}
+use Rattle.lrpar_closure.proofs.NextLemmas.{some_item}
 
 -- what is the same as a third is the same
 pub same_via : (items others more : ItemOf → Type 0) → AreSame items others → AreSame others more → AreSame items more

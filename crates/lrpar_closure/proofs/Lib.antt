@@ -6,3 +6,9 @@ pub mod BringLemmas
 pub mod AmongLemmas
 pub mod AddedLemmas
 pub mod PutLemmas
+pub mod CoreLemmas
+pub mod FindLemmas
+pub mod NextLemmas
+pub mod SymbolLemmas
+pub mod SuccessorLemmas
+pub mod CompleteLemmas

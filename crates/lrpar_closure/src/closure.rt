@@ -19,7 +19,7 @@ use std::alloc::{AllocError, Global};
 
 /// The closure of the kernel's cores: they themselves, and with its lookaheads each production of each rule that comes with them. The last
 /// three are sets to work with, of which the first are one for each rule.
-pub fn closure<StorageT: StorageIndex>(
+pub(crate) fn closure<StorageT: StorageIndex>(
     alloc: Global,
     grm: &YaccGrammar<StorageT>,
     firsts: &[TokenSet],

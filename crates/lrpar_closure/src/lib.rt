@@ -1,6 +1,10 @@
-//! Sets of items by their cores, and their closure.
+//! Sets of items by their cores: their closures, where they go, and what their complete cores tell.
 #![tactic(auto)]
 
-pub mod closure;
+mod closure;
+pub mod complete;
 pub mod cores;
+pub mod items;
 mod reach;
+pub mod sets;
+pub mod successors;
