@@ -1,47 +1,19 @@
 -- A set of items has one kernel: cores in their order, each with some lookahead, are told by their items.
-use Rattle.std.proofs.Common.{◌≡◌, ◌≤◌, ◌+◌, ◌==◌, ◌&&◌, ◌↔◌, ◌⊎◌, ◌∙◌, refl, sym, ap, subst, inl, inr, arith, zero-add, ℕ, Bool, false, cond, List, [], ◌∷◌, All, length, IsTrue}
+use Rattle.std.proofs.Common.{◌≡◌, ◌≤◌, ◌+◌, ◌==◌, ◌&&◌, ◌⊎◌, ◌∙◌, refl, sym, ap, subst, inl, inr, arith, zero-add, ℕ, Bool, false, cond, List, [], ◌∷◌, All, length, IsTrue}
 use Rattle.std.specs.List.{Contains, count_by}
 use Rattle.std.proofs.lemmas.List.Sums.{sum_by-cons}
 use Rattle.std.proofs.lemmas.Bool.{and_parts, cases_Bool, eqb-true, false≢true}
 use Rattle.std.proofs.lemmas.List.{ext_get_or}
-use Rattle.std.proofs.lemmas.List.Elements.{All-contains, All-head, All-tail, Contains-append_cases, Contains-append_left, Contains-append_right, Contains-push, Contains-push_cases}
+use Rattle.std.proofs.lemmas.List.Elements.{All-contains, All-head, All-tail, Contains-append_left, Contains-append_right, Contains-push}
 use Rattle.lrpar_grammar.specs.Grammar.{Grammar, rule_of}
 use Rattle.lrpar_states.specs.Graph.{ItemOf}
 use Rattle.lrpar_build.specs.Canonical.{AreSame}
-use Rattle.lrpar_build.specs.Cores.{CoreSet, IsAmong, IsOfCore}
+use Rattle.lrpar_closure.specs.Cores.{CoreSet, IsAmong}
 use Rattle.lrpar_first.specs.FirstRows.{mark_of}
-use Rattle.lrpar_build.specs.Kernels.{AreCores, AreCoresInOrder, ComesBefore, IsFilled, IsListedBefore, Precedes}
+use Rattle.lrpar_closure.specs.CoreOrder.{AreCores, AreCoresInOrder, ComesBefore, IsFilled, IsListedBefore, Precedes}
 use Rattle.lrpar_first.specs.Tokens.{has}
 use Rattle.lrpar_build.specs.Wanted.{AreOnce}
-
--- nothing is among no cores
-pub among_nil : (x : ItemOf) → IsAmong [] x → ⊥
-among_nil x h = let low = h.1.1 in omega (arith, low)
-
--- and among a core and others is what is of that core or among the others
-pub among_cons : (core : CoreSet) (cores : List CoreSet) (x : ItemOf) → IsAmong (core ∷ cores) x ↔ (IsOfCore core x ⊎ IsAmong cores x)
-among_cons core cores x = (
-  λ h. elim (Contains-append_cases (core ∷ []) cores h.0 h.1) [
-    | inl first ↦
-        elim (Contains-push_cases [] core h.0 first) [
-          | inl none ↦ let low = none.1 in absurd (omega (arith, low))
-          | inr is ↦ inl (subst (λ c. IsOfCore c x) (sym is) h.2)
-        ]
-    | inr later ↦ inr (h.0, later, h.2)
-  ],
-  λ h. elim h [
-    | inl first ↦ (core, Contains-append_left (core ∷ []) cores core (Contains-push [] core), first)
-    | inr later ↦ (later.0, Contains-append_right (core ∷ []) cores later.0 later.1, later.2)
-  ],
-)
-
-abbrev core_of : ℕ → ℕ → List Bool → CoreSet
-core_of prod dot tokens = record { prod = prod; dot = dot; tokens = tokens }
-
--- the parts of a core make it
-pub core_is : (a b : CoreSet) → a.prod ≡ b.prod → a.dot ≡ b.dot → a.tokens ≡ b.tokens → a ≡ b
-core_is a b prod dot tokens =
-    ap (λ n. core_of n a.dot a.tokens) prod ∙ ap (λ n. core_of b.prod n a.tokens) dot ∙ ap (core_of b.prod b.dot) tokens
+use Rattle.lrpar_closure.proofs.CoreLemmas.{among_cons, among_nil, core_is}
 
 -- sets with room for as many tokens that have the same ones are the same
 bits_is : (xs ys : List Bool) → length xs ≡ length ys → ((t : ℕ) → IsTrue (has xs t) → IsTrue (has ys t)) → ((t : ℕ) → IsTrue (has ys t) → IsTrue (has xs t)) → xs ≡ ys

@@ -14,12 +14,12 @@ use Rattle.std.proofs.lemmas.List.{get_or-map, get_or_append_left, get_or_push, 
 use Rattle.std.proofs.lemmas.Map.Lookups.{exact_unsigned}
 use Rattle.lrpar_text.specs.declared.span.StIdx.{StIdx}
 use Rattle.lrpar_states.specs.Ascending.{TellsApart}
-use Rattle.lrpar_build.specs.Cores.{CoreSet, core_set}
-use Rattle.lrpar_build.specs.KernelMap.{NumbersKernels, core_cmp, kernel_rows, key_cmp}
-use Rattle.lrpar_build.specs.Kernels.{kernel_at}
+use Rattle.lrpar_closure.specs.Cores.{CoreSet, core_set}
+use Rattle.lrpar_build.specs.KernelMap.{NumbersKernels, core_cmp, key_cmp}
+use Rattle.lrpar_closure.specs.Next.{kernel_rows, kernel_at}
 use Rattle.lrpar_build.specs.Numbers.{IsFresh}
-use Rattle.lrpar_build.specs.declared.cores.CoreItems.{CoreItems}
-use Rattle.lrpar_build.proofs.KernelLemmas.{core_is}
+use Rattle.lrpar_closure.specs.declared.cores.CoreItems.{CoreItems}
+use Rattle.lrpar_closure.proofs.CoreLemmas.{core_is}
 
 -- two comparisons, the second asked where the first ties, tie where both do
 both_tie : (a b : Ordering) → ordering_then a b ≡ Equal → (a ≡ Equal) × (b ≡ Equal)

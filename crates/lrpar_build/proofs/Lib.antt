@@ -1,9 +1,3 @@
-pub mod BroughtLemmas
-pub mod ProdLemmas
-pub mod SpreadLemmas
-pub mod ClosureLemmas
-pub mod BringLemmas
-pub mod AmongLemmas
 pub mod EntryLemmas
 pub mod WantedLemmas
 pub mod StateRowLemmas
@@ -19,12 +13,8 @@ pub mod ListedLemmas
 pub mod BuiltLemmas
 pub mod TablesLemmas
 pub mod KernelLemmas
-pub mod NextLemmas
 pub mod StatesLemmas
 pub mod FaultLemmas
 pub mod NumberLemmas
-pub mod PutLemmas
 pub mod StepLemmas
-pub mod SuccessorLemmas
-pub mod FindLemmas
 pub mod KernelMapLemmas

@@ -6,17 +6,19 @@ use Rattle.std.proofs.lemmas.List.Elements.{All-cons, All-nil}
 use Rattle.lrpar_grammar.specs.Grammar.{Grammar, GrammarSymbol, IsWellFormed, end_token, prods_len, start_prod}
 use Rattle.lrpar_states.specs.Graph.{item_at}
 use Rattle.lrpar_build.specs.Canonical.{AreSame, ReachesMore}
-use Rattle.lrpar_build.specs.Cores.{CoreSet, IsAmong, IsCoreOf}
+use Rattle.lrpar_closure.specs.Cores.{CoreSet, IsAmong, IsCoreOf}
 use Rattle.lrpar_first.specs.FirstRows.{mark_of}
 use Rattle.lrpar_first.specs.Tokens.{has}
-use Rattle.lrpar_build.specs.ItemSets.{IsAdvanced, IsInClosure, IsReachedBy, IsStartItem}
-use Rattle.lrpar_build.specs.Kernels.{AreCores, AreKept, AreKernels, ComesBefore, GoesTo, IsBegun, IsFilled, IsKernel, IsReachedKernel, kernel_at, next_kernel, path_at}
+use Rattle.lrpar_closure.specs.ItemSets.{IsAdvanced, IsInClosure, IsReachedBy, IsStartItem}
+use Rattle.lrpar_closure.specs.CoreOrder.{AreCores, ComesBefore, IsBegun, IsFilled, IsKernel}
+use Rattle.lrpar_build.specs.Kernels.{AreKept, AreKernels, GoesTo, IsReachedKernel, path_at}
+use Rattle.lrpar_closure.specs.Next.{kernel_at, next_kernel}
 use Rattle.lrpar_build.specs.Numbers.{AreNumbered, IsFaultOfStates, IsFound, IsFresh, IsNumberFault, IsNumberOf, IsStepFault, IsStepTo}
 use Rattle.lrpar_build.specs.States.{AreExpanded, AreSteps, IsExpanded, StartsRight, StateOf, state_at}
 use Rattle.lrpar_build.specs.declared.fault.BuildFault.{BuildFault}
 use Rattle.lrpar_build.specs.declared.fault.BuildFault.TheVariants.{AcceptReduceConflict, Memory, StorageTooSmall, TooManyStates}
-use Rattle.lrpar_build.proofs.KernelLemmas.{among_cons, among_nil}
-use Rattle.lrpar_build.proofs.NextLemmas.{next_is, next_kernel_is, next_some, next_stands}
+use Rattle.lrpar_closure.proofs.CoreLemmas.{among_cons, among_nil}
+use Rattle.lrpar_closure.proofs.NextLemmas.{next_is, next_kernel_is, next_some, next_stands}
 use Rattle.lrpar_build.proofs.StatesLemmas.{advanced_same, closure_same, reaches_more, same_via}
 
 -- a list that is tested for being empty

@@ -8,7 +8,7 @@ use Rattle.lrpar_grammar.specs.Grammar.{Grammar, GrammarSymbol, IsListedSymbol, 
 use Rattle.lrpar_states.specs.Graph.{ItemOf, item_at}
 use Rattle.lrpar_states.specs.Safe.{IsItem}
 use Rattle.lrpar_first.specs.First.{IsFirst, Behind, Rule, Token}
-use Rattle.lrpar_build.specs.ItemSets.{Adds, Added, IsAdvanced, IsInClosure, IsReachedBy, IsStartItem, Own}
+use Rattle.lrpar_closure.specs.ItemSets.{Adds, Added, IsAdvanced, IsInClosure, IsReachedBy, IsStartItem, Own}
 use Rattle.lrpar_first.proofs.FirstLemmas.{AreBelow, AreBelow-append}
 use Rattle.lrpar_first.proofs.GrowthLemmas.{prods_below}
 

@@ -1,20 +1,20 @@
 -- States that were worked out from all kernels have the canonical sets.
-use Rattle.std.proofs.Common.{◌≡◌, ◌<◌, ◌⊎◌, ◌∙◌, sym, ap, subst, inl, inr, arith, ℕ, List, [], ◌∷◌, All, Option, Some, None, drop, length, nat_eq, slice_index_or}
+use Rattle.std.proofs.Common.{◌≡◌, ◌<◌, ◌⊎◌, ◌∙◌, sym, ap, subst, inl, inr, arith, ℕ, List, [], ◌∷◌, All, Option, Some, None, length, nat_eq, slice_index_or}
 use Rattle.std.specs.Map.{lookup}
-use Rattle.std.proofs.lemmas.Bool.{cases_order}
-use Rattle.std.proofs.lemmas.List.Elements.{All-cons, All-contains, All-drop, All-head, All-nil, All-weaker}
+use Rattle.std.proofs.lemmas.List.Elements.{All-contains}
 use Rattle.std.proofs.lemmas.List.{get_or_default}
-use Rattle.std.proofs.lemmas.Option.{slice_get_past}
-use Rattle.std.specs.Option.{option_map_or}
-use Rattle.lrpar_grammar.specs.Grammar.{Grammar, GrammarSymbol, IsListedSymbol, IsWellFormed, Nonterminal, Terminal, end_token, rule_of, rules_len, start_prod, symbols_of}
+use Rattle.lrpar_grammar.specs.Grammar.{Grammar, GrammarSymbol, IsWellFormed, Nonterminal, Terminal, rule_of, start_prod}
 use Rattle.lrpar_states.specs.Graph.{ItemOf}
 use Rattle.lrpar_build.specs.Canonical.{AreCanonical, AreSame, IsTransition, ReachesMore}
-use Rattle.lrpar_build.specs.Cores.{CoreSet, IsAmong}
-use Rattle.lrpar_build.specs.ItemSets.{IsAdvanced, IsInClosure, Own, Added, IsReachedBy, IsStartItem}
-use Rattle.lrpar_build.specs.Kernels.{AreKernels, GoesTo, IsBegun, IsKernel, kernel_at, path_at}
+use Rattle.lrpar_closure.specs.Cores.{CoreSet, IsAmong}
+use Rattle.lrpar_closure.specs.ItemSets.{IsAdvanced, IsInClosure, Own, Added, IsReachedBy, IsStartItem}
+use Rattle.lrpar_closure.specs.CoreOrder.{IsBegun, IsKernel}
+use Rattle.lrpar_build.specs.Kernels.{AreKernels, GoesTo, path_at}
+use Rattle.lrpar_closure.specs.Next.{kernel_at}
 use Rattle.lrpar_build.specs.States.{AreStates, IsExpanded, StateOf, sets_at, state_at}
+use Rattle.lrpar_closure.proofs.AddedLemmas.{rule_behind_listed}
 use Rattle.lrpar_build.proofs.KernelLemmas.{once_in_order, one_kernel}
-use Rattle.lrpar_build.proofs.NextLemmas.{some_item}
+use Rattle.lrpar_closure.proofs.NextLemmas.{some_item}
 
 -- what is the same as a third is the same
 pub same_via : (items others more : ItemOf → Type 0) → AreSame items others → AreSame others more → AreSame items more
@@ -22,15 +22,6 @@ same_via items others more first second x = (λ h. (second x).0 ((first x).0 h),
 
 pub same_back : (items others : ItemOf → Type 0) → AreSame items others → AreSame others items
 same_back items others same x = ((same x).1, (same x).0)
-
--- the symbol isn't the added rule
-abbrev IsNotAdded : GrammarSymbol → Type 0
-IsNotAdded (Nonterminal r) = 0 < r
-IsNotAdded (Terminal t) = Unit {0}
-
-listed_not_added : (rules tokens : ℕ) (symbol : GrammarSymbol) → IsListedSymbol rules tokens symbol → IsNotAdded symbol
-listed_not_added rules tokens (Nonterminal r) listed = listed.0
-listed_not_added rules tokens (Terminal t) listed = tt
 
 module _ (g : Grammar) where
   -- more items have a greater closure
@@ -51,28 +42,6 @@ module _ (g : Grammar) where
   closure_of_some items x (Added y z h adds) = closure_of_some items y h
 
   module _ (well : IsWellFormed g) where
-    -- a rule on a right side isn't the added one
-    listed_rules : (p : ℕ) → All IsNotAdded (symbols_of g p)
-    listed_rules p =
-        elim (cases_order p (start_prod g)) [
-          | inl last ↦
-              subst (λ n. All IsNotAdded (symbols_of g n)) (sym last)
-              (subst (All IsNotAdded) (sym well.last_symbols) (All-cons IsNotAdded (Nonterminal g.start) [] well.start_added (All-nil IsNotAdded)))
-          | inr apart ↦
-              elim apart [
-                | inl low ↦
-                    All-weaker (IsListedSymbol (rules_len g) (end_token g)) IsNotAdded (listed_not_added (rules_len g) (end_token g)) (symbols_of g p)
-                    (well.symbols p low)
-                | inr past ↦
-                    let none : symbols_of g p ≡ [] = ap (λ x. option_map_or (λ y. y.symbols) x []) (slice_get_past g.prods p (omega (arith, past))) in
-                    subst (All IsNotAdded) (sym none) (All-nil IsNotAdded)
-              ]
-        ]
-
-    pub rule_behind_listed : (p k r : ℕ) (rest : List GrammarSymbol) → drop k (symbols_of g p) ≡ Nonterminal r ∷ rest → 0 < r
-    rule_behind_listed p k r rest is =
-        All-head IsNotAdded (Nonterminal r) rest (subst (All IsNotAdded) is (All-drop IsNotAdded k (symbols_of g p) (listed_rules p)))
-
     -- an item of a closure whose dot isn't at the front, or which is the start production's, isn't added
     pub own_of_begun : (items : ItemOf → Type 0) (x : ItemOf) → IsInClosure g items x → (0 < x.dot) ⊎ (x.prod ≡ start_prod g) → items x
     own_of_begun items x (Own y h) begun = h
@@ -81,7 +50,7 @@ module _ (g : Grammar) where
           | inl front ↦ let zero_dot = adds.fresh in absurd (omega (arith, front, zero_dot))
           | inr start ↦
               let zero_rule : adds.rule ≡ 0 = sym adds.of_rule ∙ ap (rule_of g) start ∙ well.last_rule in
-              let listed = rule_behind_listed y.prod y.dot adds.rule adds.rest adds.before in absurd (omega (arith, zero_rule, listed))
+              let listed = rule_behind_listed g well y.prod y.dot adds.rule adds.rest adds.before in absurd (omega (arith, zero_rule, listed))
         ]
 
     begun_item : (kernel : List CoreSet) → All (IsBegun g) kernel → (x : ItemOf) → IsAmong kernel x → (0 < x.dot) ⊎ (x.prod ≡ start_prod g)

@@ -1,14 +1,13 @@
 -- Rows of where cores go, one symbol after the other.
-use Rattle.std.proofs.Common.{◌≡◌, ◌≢◌, ◌<◌, ◌≤◌, ◌+◌, ◌∙◌, refl, sym, ap, subst, inl, inr, arith, ℕ, cond, List, [], ◌∷◌, ◌++◌, All, Option, IfSome, Some, None, nat_eq, slice_get}
+use Rattle.std.proofs.Common.{◌≡◌, ◌≢◌, ◌<◌, ◌≤◌, ◌+◌, ◌∙◌, refl, sym, ap, subst, inl, inr, arith, ℕ, cond, List, [], ◌∷◌, ◌++◌, All, Some, None, nat_eq}
 use Rattle.std.specs.Map.{keys_of, lookup}
-use Rattle.std.proofs.lemmas.Bool.{cases_eq, cases_lt, cases_order, eq-eqb, ne_eqb}
+use Rattle.std.proofs.lemmas.Bool.{cases_eq, cases_lt, eq-eqb, ne_eqb}
 use Rattle.std.proofs.lemmas.List.{map-append}
-use Rattle.std.proofs.lemmas.List.Elements.{All-cons, All-get_or, All-head, All-nil, All-push, All-tail, All-weaker}
-use Rattle.std.proofs.lemmas.Option.{get_or_from_slice_get, slice_get_past, slice_get_within}
-use Rattle.std.specs.Option.{option_map, option_map_or}
-use Rattle.lrpar_grammar.specs.Grammar.{Grammar, GrammarSymbol, IsListedSymbol, IsWellFormed, Nonterminal, Terminal, end_token, rules_len, start_prod, symbols_of, tokens_len}
-use Rattle.lrpar_build.specs.Cores.{CoreSet}
+use Rattle.std.proofs.lemmas.List.Elements.{All-head, All-nil, All-push, All-tail, All-weaker}
+use Rattle.lrpar_grammar.specs.Grammar.{Grammar, GrammarSymbol, IsWellFormed, rules_len, tokens_len}
+use Rattle.lrpar_closure.specs.Cores.{CoreSet}
 use Rattle.lrpar_first.specs.FirstRows.{IsSymbolBelow}
+use Rattle.lrpar_closure.proofs.SymbolLemmas.{stands_below}
 use Rattle.lrpar_build.specs.Kernels.{AreKept, GoesTo}
 use Rattle.lrpar_build.specs.States.{AreSteps, AreStepsBelow}
 use Rattle.lrpar_build.specs.Wanted.{AscendFrom}
@@ -87,39 +86,6 @@ module _ (g : Grammar) (before after : List (List CoreSet)) (kept : AreKept befo
       subst (λ rs. AreStepsBelow g after cores symbol rs (n + 1)) (sym is) pushed
 
 module _ (g : Grammar) (well : IsWellFormed g) where
-  -- a symbol of a production is one of the grammar's
-  listed_in : (rules tokens : ℕ) (symbol : GrammarSymbol) → IsListedSymbol rules tokens symbol → IsSymbolBelow rules (tokens + 1) symbol
-  listed_in rules tokens (Nonterminal r) listed = listed.1
-  listed_in rules tokens (Terminal t) listed = omega (arith, listed)
-
-  all_below : (p : ℕ) → All (IsSymbolBelow (rules_len g) (tokens_len g)) (symbols_of g p)
-  all_below p =
-      let Below = IsSymbolBelow (rules_len g) (tokens_len g) in
-      elim (cases_order p (start_prod g)) [
-        | inl last ↦
-            subst (λ n. All Below (symbols_of g n)) (sym last)
-            (subst (All Below) (sym well.last_symbols) (All-cons Below (Nonterminal g.start) [] well.start_within (All-nil Below)))
-        | inr apart ↦
-            elim apart [
-              | inl low ↦
-                  All-weaker (IsListedSymbol (rules_len g) (end_token g)) Below (listed_in (rules_len g) (end_token g)) (symbols_of g p) (well.symbols p low)
-              | inr past ↦
-                  let none : symbols_of g p ≡ [] = ap (λ x. option_map_or (λ y. y.symbols) x []) (slice_get_past g.prods p (omega (arith, past))) in
-                  subst (All Below) (sym none) (All-nil Below)
-            ]
-      ]
-
-  pub stands_below : (p k : ℕ) (symbol : GrammarSymbol) → slice_get (symbols_of g p) k ≡ Some symbol → IsSymbolBelow (rules_len g) (tokens_len g) symbol
-  stands_below p k symbol is =
-      let Below = IsSymbolBelow (rules_len g) (tokens_len g) in
-      subst Below (get_or_from_slice_get (symbols_of g p) k symbol symbol is)
-      (All-get_or Below (symbols_of g p) k symbol (slice_get_within (symbols_of g p) k symbol is) (all_below p))
-
-  pub symbol_below : {X : Type 0} (f : X → GrammarSymbol) (p k : ℕ) (found : Option X) → option_map f found ≡ slice_get (symbols_of g p) k
-      → IfSome found (λ x. IsSymbolBelow (rules_len g) (tokens_len g) (f x))
-  symbol_below f p k None is = tt
-  symbol_below f p k (Some x) is = stands_below p k (f x) (sym is)
-
   -- by no symbol past the grammar's do cores go anywhere
   pub all_steps : (kernels : List (List CoreSet)) (cores : List CoreSet) (symbol : ℕ → GrammarSymbol) (rows : List (ℕ × ℕ)) (n : ℕ)
       → ((k : ℕ) → IsSymbolBelow (rules_len g) (tokens_len g) (symbol k) → k < n) → AreStepsBelow g kernels cores symbol rows n
@@ -131,7 +97,7 @@ module _ (g : Grammar) (well : IsWellFormed g) where
           | inl low ↦ steps.goes k low
           | inr past ↦
               let nowhere : GoesTo g kernels cores (symbol k) None =
-              λ stands. let low = known k (stands_below stands.0.prod stands.0.dot (symbol k) stands.2) in omega (arith, low, past) in
+              λ stands. let low = known k (stands_below g well stands.0.prod stands.0.dot (symbol k) stands.2) in omega (arith, low, past) in
               subst (GoesTo g kernels cores (symbol k)) (sym (lookup_past rows n k steps.below past)) nowhere
         ];
   }

@@ -12,8 +12,8 @@ use Rattle.lrpar_states.specs.Graph.{item_at}
 use Rattle.lrpar_states.specs.Table.{AreEntries, IsActionEntry, IsActionWithin, IsGotoEntry, IsTable, TableAction, ShiftTo, ReduceBy, Accepts, Fails, action_of, actions_at, goto_of}
 use Rattle.lrpar_states.proofs.EntryLemmas.{entry_found}
 use Rattle.lrpar_build.specs.Canonical.{IsTransition, StandsBefore}
-use Rattle.lrpar_build.specs.Cores.{IsAmong}
-use Rattle.lrpar_build.specs.ItemSets.{Own}
+use Rattle.lrpar_closure.specs.Cores.{IsAmong}
+use Rattle.lrpar_closure.specs.ItemSets.{Own}
 use Rattle.lrpar_build.specs.StateRows.{table_of_states}
 use Rattle.lrpar_build.specs.States.{AreStates, StateOf, sets_at, state_at}
 use Rattle.lrpar_build.specs.Wanted.{AscendFrom, entry_at, is_complete_at, reductions, wanted, wanted_at, wanted_row}

@@ -8,9 +8,10 @@ use Rattle.std.proofs.lemmas.List.Elements.{All-cons, All-head, All-nil, All-tai
 use Rattle.std.proofs.lemmas.List.Sums.{sum_by-cons}
 use Rattle.std.proofs.lemmas.List.Sorted.{list_any-IsPermutation, sum_by-IsPermutation}
 use Rattle.lrpar_grammar.specs.Grammar.{Grammar, prod_len, start_prod}
-use Rattle.lrpar_build.specs.Cores.{CoreSet}
+use Rattle.lrpar_closure.specs.Cores.{CoreSet}
 use Rattle.lrpar_first.specs.Tokens.{has}
-use Rattle.lrpar_build.specs.Wanted.{AreOnce, AscendFrom, is_complete, is_complete_at, prods_at, reductions}
+use Rattle.lrpar_build.specs.Wanted.{AreOnce, AscendFrom, is_complete, is_complete_at, reductions}
+use Rattle.lrpar_closure.specs.Complete.{prods_at}
 
 -- counts of one element more
 count_yes : {X : Type 0} (q : X → Bool) (x : X) (xs : List X) → q x ≡ true → count_by q (x ∷ xs) ≡ 1 + count_by q xs

@@ -4,7 +4,7 @@ use Rattle.std.specs.Prelude.{◌≡◌, ◌≢◌, ◌<◌, ◌≤◌, ◌↔�
 use Rattle.lrpar_grammar.specs.Grammar.{Grammar, GrammarSymbol, Nonterminal, Terminal, end_token, prod_len, start_prod, symbols_of}
 use Rattle.lrpar_states.specs.Graph.{Graph, ItemOf, graph_len, item_at, items_of}
 use Rattle.lrpar_states.specs.Table.{ReduceReduce, ShiftReduce, Table, ShiftTo, ReduceBy, Accepts, Fails, action_of, goto_of}
-use Rattle.lrpar_build.specs.ItemSets.{IsInNext, IsReachedBy}
+use Rattle.lrpar_closure.specs.ItemSets.{IsInNext, IsReachedBy}
 
 -- two sets have the same items
 abbrev pub AreSame : (ItemOf → Type 0) → (ItemOf → Type 0) → Type 0

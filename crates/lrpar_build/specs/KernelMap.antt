@@ -7,13 +7,9 @@ use Rattle.std.specs.Ordering.{bool_cmp, nat_cmp, ordering_then}
 use Rattle.std.specs.declared.cmp.Ordering.{Ordering}
 use Rattle.std.specs.declared.vec.Vec.{Vec}
 use Rattle.lrpar_text.specs.declared.span.StIdx.{StIdx}
-use Rattle.lrpar_build.specs.Cores.{CoreSet, core_set}
-use Rattle.lrpar_build.specs.Kernels.{kernel_at}
-use Rattle.lrpar_build.specs.declared.cores.CoreItems.{CoreItems}
-
--- the kernels of the code
-abbrev pub kernel_rows : {S A : Type 0} → (S → ℕ) → List (Vec (CoreItems S) A) → List (List CoreSet)
-kernel_rows index kernels = map (λ kernel. map (core_set index) kernel.items) kernels
+use Rattle.lrpar_closure.specs.Cores.{CoreSet, core_set}
+use Rattle.lrpar_closure.specs.Next.{kernel_at}
+use Rattle.lrpar_closure.specs.declared.cores.CoreItems.{CoreItems}
 
 -- cores are in the order of their productions, then of their dots, then of their lookaheads
 abbrev pub core_cmp : CoreSet → CoreSet → Ordering

@@ -1,7 +1,4 @@
-pub mod ItemSets
 pub mod Canonical
-pub mod Brought
-pub mod Cores
 pub mod Wanted
 pub mod Kernels
 pub mod KernelMap

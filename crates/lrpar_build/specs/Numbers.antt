@@ -2,8 +2,9 @@
 use Rattle.std.specs.Prelude.{◌≡◌, ◌≢◌, ◌<◌, ◌≤◌, ◌⊎◌, ◌++◌, ℕ, List, [], ◌∷◌, Option, Some, None, length}
 use Rattle.lrpar_grammar.specs.Grammar.{Grammar}
 use Rattle.lrpar_build.specs.Canonical.{ReachesMore}
-use Rattle.lrpar_build.specs.Cores.{CoreSet}
-use Rattle.lrpar_build.specs.Kernels.{AreKernels, kernel_at}
+use Rattle.lrpar_closure.specs.Cores.{CoreSet}
+use Rattle.lrpar_build.specs.Kernels.{AreKernels}
+use Rattle.lrpar_closure.specs.Next.{kernel_at}
 use Rattle.lrpar_build.specs.declared.fault.BuildFault.{BuildFault}
 use Rattle.lrpar_build.specs.declared.fault.BuildFault.TheVariants.{AcceptReduceConflict, Memory, StorageTooSmall, TooManyStates}
 

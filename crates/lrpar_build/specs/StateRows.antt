@@ -5,7 +5,8 @@ use Rattle.lrpar_grammar.specs.Grammar.{Grammar, rules_len, tokens_len}
 use Rattle.lrpar_states.specs.Graph.{Graph}
 use Rattle.lrpar_states.specs.Table.{ConflictLists, ReduceReduce, ShiftReduce, Table, TableAction}
 use Rattle.lrpar_build.specs.States.{StateOf, state_at}
-use Rattle.lrpar_build.specs.Wanted.{HasAcceptReduce, items_of_cores, reduce_conflicts, shift_conflicts, wanted_row}
+use Rattle.lrpar_build.specs.Wanted.{HasAcceptReduce, reduce_conflicts, shift_conflicts, wanted_row}
+use Rattle.lrpar_closure.specs.Complete.{items_of_cores}
 use Rattle.lrpar_build.specs.declared.fault.BuildFault.{BuildFault}
 use Rattle.lrpar_build.specs.declared.fault.BuildFault.TheVariants.{AcceptReduceConflict, Memory, StorageTooSmall, TooManyStates}
 
@@ -35,6 +36,10 @@ unless_empty [] [] = None
 unless_empty [] (x ∷ xs) = Some (record { reduce_reduce = []; shift_reduce = x ∷ xs })
 unless_empty (x ∷ xs) ys = Some (record { reduce_reduce = x ∷ xs; shift_reduce = ys })
 
+-- the conflicts of the states, if there are any
+abbrev pub conflicts_of_states : Grammar → List StateOf → Option ConflictLists
+conflicts_of_states g states = unless_empty (reduce_conflicts_below g states (length states)) (shift_conflicts_below g states (length states))
+
 -- the table of the states, which starts in number 0
 abbrev pub table_of_states : Grammar → List StateOf → Table
 table_of_states g states = record {
@@ -44,7 +49,7 @@ table_of_states g states = record {
   rules = rules_len g;
   actions = action_rows g states;
   gotos = goto_rows states;
-  conflicts = unless_empty (reduce_conflicts_below g states (length states)) (shift_conflicts_below g states (length states));
+  conflicts = conflicts_of_states g states;
 }
 
 -- state s wants at some token to accept beside a reduction, where there is no shift

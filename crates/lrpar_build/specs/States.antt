@@ -1,22 +1,22 @@
 -- The states that are built: each with its cores, and where it goes by the symbols that its items stand before.
-use Rattle.std.specs.Prelude.{◌≡◌, ◌<◌, ◌+◌, ℕ, List, [], All, length, map, nat_eq, slice_index_or}
+use Rattle.std.specs.Prelude.{◌≡◌, ◌<◌, ℕ, List, [], All, length, map, nat_eq, slice_index_or}
 use Rattle.std.specs.Map.{keys_of, lookup}
 use Rattle.std.specs.declared.vec.Vec.{Vec}
 use Rattle.lrpar_text.specs.declared.span.StIdx.{StIdx}
-use Rattle.lrpar_grammar.specs.Grammar.{Grammar, GrammarSymbol, Nonterminal, Terminal, rules_len, tokens_len}
+use Rattle.lrpar_grammar.specs.Grammar.{Grammar, GrammarSymbol, Nonterminal, Terminal}
 use Rattle.lrpar_states.specs.Graph.{ItemOf}
 use Rattle.lrpar_states.specs.PlainRows.{goto_entry}
 use Rattle.lrpar_build.specs.Canonical.{AreCanonical, AreSame, IsTransition}
-use Rattle.lrpar_build.specs.Cores.{CoreSet, IsAmong, IsCoreOf, core_set}
-use Rattle.lrpar_build.specs.ItemSets.{IsInClosure, IsStartItem}
-use Rattle.lrpar_build.specs.KernelMap.{kernel_rows}
-use Rattle.lrpar_build.specs.Kernels.{AreCores, AreNext, GoesTo, kernel_at}
+use Rattle.lrpar_closure.specs.Cores.{CoreSet, IsAmong, IsCoreOf, core_set}
+use Rattle.lrpar_closure.specs.ItemSets.{IsInClosure, IsStartItem}
+use Rattle.lrpar_closure.specs.Next.{kernel_rows, AreNext, kernel_at}
+use Rattle.lrpar_closure.specs.Working.{AreSuccessors}
+use Rattle.lrpar_closure.specs.CoreOrder.{AreCores}
+use Rattle.lrpar_build.specs.Kernels.{GoesTo}
 use Rattle.lrpar_build.specs.Wanted.{AreOnce, AscendFrom, shift_entry}
-use Rattle.lrpar_first.specs.FirstRows.{AreFirsts, HaveRoom, mark_of, rows_of}
-use Rattle.lrpar_build.specs.declared.cores.CoreItems.{CoreItems}
+use Rattle.lrpar_closure.specs.declared.cores.CoreItems.{CoreItems}
 use Rattle.lrpar_build.specs.declared.item_set.State.{State}
-use Rattle.lrpar_build.specs.declared.states.Sets.{Sets}
-use Rattle.lrpar_build.specs.declared.states.Successors.{Successors}
+use Rattle.lrpar_closure.specs.declared.successors.Successors.{Successors}
 
 -- a state: its cores with their lookaheads, the states to which it goes by rules, and those to which it goes by tokens
 pub record StateOf : Type 0 where
@@ -73,20 +73,6 @@ pub record AreStepsBelow (g : Grammar) (kernels : List (List CoreSet)) (cores : 
   pub ascend : AscendFrom 0 (keys_of rows)
   pub below : All (λ k. k < n) (keys_of rows)
   pub goes : (k : ℕ) → k < n → GoesTo g kernels cores (symbol k) (lookup (nat_eq k) rows)
-
--- sets to work with, for a closure
-pub record AreSets (g : Grammar) (sets : Sets) : Type 0 where
-  pub firsts : AreFirsts g (rows_of sets.firsts.items)
-  pub room : HaveRoom g (rows_of sets.brought.items)
-  pub front : length sets.front.bits.items ≡ mark_of g + 1
-  pub fresh : length sets.fresh.bits.items ≡ mark_of g + 1
-
--- a kernel for each rule and one for each token: those to which the cores go by them
-pub record AreSuccessors {S : Type 0} (index : S → ℕ) (g : Grammar) (successors : Successors S) : Type 0 where
-  pub rules_len : length successors.rules.items ≡ rules_len g
-  pub tokens_len : length successors.tokens.items ≡ tokens_len g
-  pub rules : AreNext g (map (core_set index) successors.items.items) Nonterminal (kernel_rows index successors.rules.items)
-  pub tokens : AreNext g (map (core_set index) successors.items.items) Terminal (kernel_rows index successors.tokens.items)
 
 -- these are the kernels to which the item set goes by the symbols of one kind, of which a grammar has so many
 abbrev pub AreKernelsBy : {S A : Type 0} → (S → ℕ) → (ℕ → GrammarSymbol) → (Grammar → ℕ) → Successors S → List (Vec (CoreItems S) A) → Type 0

@@ -1,14 +1,13 @@
 -- What a set of items wants to be done at each token, and its conflicts, as in Aho and Ullman, 'The Theory of Parsing, Translation,
 -- and Compiling'. The set is told by its cores, each with its lookaheads, and by its shifts: tokens, each with the state that is next.
-use Rattle.std.specs.Prelude.{◌≡◌, ◌≢◌, ◌<◌, ◌≤◌, ◌==◌, ◌&&◌, ℕ, Bool, true, false, IsTrue, List, [], ◌∷◌, Option, Some, None, count_by, filter, map, nat_eq, not, ◌+◌}
+use Rattle.std.specs.Prelude.{◌≡◌, ◌≢◌, ◌<◌, ◌≤◌, ◌==◌, ◌&&◌, ℕ, Bool, true, false, IsTrue, List, [], ◌∷◌, Option, Some, None, count_by, filter, map, nat_eq, ◌+◌}
 use Rattle.std.specs.List.{flat_map, list_any, range_with_len}
 use Rattle.std.specs.Map.{lookup}
 use Rattle.lrpar_text.specs.declared.span.TIdx.{TIdx}
 use Rattle.lrpar_text.specs.declared.span.StIdx.{StIdx}
 use Rattle.lrpar_grammar.specs.Grammar.{Grammar, prod_len, start_prod, tokens_len}
-use Rattle.lrpar_states.specs.Graph.{ItemOf, item_at}
 use Rattle.lrpar_states.specs.Table.{ReduceReduce, ShiftReduce, TableAction, ShiftTo, ReduceBy, Accepts, Fails}
-use Rattle.lrpar_build.specs.Cores.{CoreSet}
+use Rattle.lrpar_closure.specs.Cores.{CoreSet}
 use Rattle.lrpar_first.specs.Tokens.{has}
 use Rattle.lrpar_build.specs.declared.fault.BuildFault.{BuildFault}
 use Rattle.lrpar_build.specs.declared.fault.BuildFault.TheVariants.{AcceptReduceConflict, Memory, StorageTooSmall, TooManyStates}
@@ -95,22 +94,6 @@ IsRefusal s reason StorageTooSmall = ⊥
 -- each core stands at most once
 abbrev pub AreOnce : List CoreSet → Type 0
 AreOnce cores = (p k : ℕ) → count_by (λ core. (core.prod == p) && (core.dot == k)) cores ≤ 1
-
--- the items of one core, their lookaheads ascending
-abbrev pub items_of_core : ℕ → CoreSet → List ItemOf
-items_of_core tokens core = map (item_at core.prod core.dot) (filter (has core.tokens) (range_with_len 0 tokens))
-
--- the items of all cores
-abbrev pub items_of_cores : ℕ → List CoreSet → List ItemOf
-items_of_cores tokens cores = flat_map (items_of_core tokens) cores
-
--- the productions other than the start production, of complete cores that have token t
-abbrev pub prods_at : ℕ → List CoreSet → ℕ → List ℕ
-prods_at start complete t = map (λ core. core.prod) (filter (λ core. not (core.prod == start) && has core.tokens t) complete)
-
--- whether the start production is one of those of complete cores that have token t
-abbrev pub accepts_at : ℕ → List CoreSet → ℕ → Bool
-accepts_at start complete t = list_any (λ core. (core.prod == start) && has core.tokens t) complete
 
 -- the numbers ascend, from a number on
 abbrev pub AscendFrom : ℕ → List ℕ → Type 0

@@ -1,5 +1,5 @@
 //! The states that are built.
-use crate::cores::CoreItems;
+use lrpar_closure::cores::CoreItems;
 use lrpar_grammar::span::{RIdx, StIdx, TIdx};
 
 /// An item set, by its cores, and the states to which it goes by the symbols before which items stand: by rules, ascending, and by

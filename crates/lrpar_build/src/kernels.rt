@@ -1,12 +1,12 @@
 //! Kernels, each with its number.
-ghost use Rattle.std.specs.Prelude.{◌≡◌, ◌<◌, ◌≤◌, ◌↔◌, ◌∷◌, ◌++◌, ℕ, [], IfErr, IfOk, IsTrue, MatchOption, OnOk, length, map};
-ghost use Rattle.lrpar_build.specs.Cores.{core_set};
+ghost use Rattle.std.specs.Prelude.{◌≡◌, ◌<◌, ◌∷◌, ◌++◌, [], IfErr, IfOk, MatchOption, OnOk, length, map};
+ghost use Rattle.lrpar_closure.specs.Cores.{core_set};
 ghost use Rattle.lrpar_build.specs.Numbers.{IsFound, IsFresh, IsNumberFault, IsNumberOf};
-ghost use Rattle.lrpar_build.specs.Kernels.{kernel_at};
+ghost use Rattle.lrpar_closure.specs.Next.{kernel_at};
 ghost use Rattle.lrpar_build.specs.declared.fault.BuildFault.TheVariants.{Memory};
 
-use crate::cores::CoreItems;
 use crate::fault::BuildFault;
+use lrpar_closure::cores::{CoreItems, are_same, copied};
 use lrpar_grammar::span::{StIdx, StorageIndex};
 use std::alloc::{AllocError, Global};
 use std::collections::BTreeMap;
@@ -21,8 +21,9 @@ pub(crate) struct Kernels<StorageT: StorageIndex> {
 
 impl<StorageT: StorageIndex> Model for Kernels<StorageT> {
     ghost use Rattle.std.specs.Prelude.{List};
-    ghost use Rattle.lrpar_build.specs.Cores.{CoreSet};
-    ghost use Rattle.lrpar_build.specs.KernelMap.{NumbersKernels, kernel_rows};
+    ghost use Rattle.lrpar_closure.specs.Cores.{CoreSet};
+    ghost use Rattle.lrpar_build.specs.KernelMap.{NumbersKernels};
+    ghost use Rattle.lrpar_closure.specs.Next.{kernel_rows};
 
     ghost Value = { List (List CoreSet) };
 
@@ -123,53 +124,4 @@ impl<StorageT: StorageIndex> Kernels<StorageT> {
         self.kernels.push(kernel)?;
         Ok(())
     }
-}
-
-// Whether the cores are the same.
-fn are_same<StorageT: StorageIndex>(
-    cores: &[CoreItems<StorageT>],
-    others: &[CoreItems<StorageT>],
-) -> bool
-    ensures { IsTrue result ↔ (map (core_set StorageT.index) cores.now ≡ map (core_set StorageT.index) others.now) }
-{
-    if cores.len() != others.len() {
-        return false;
-    }
-    for place in 0..cores.len() {
-        if !is_same(&cores[place], &others[place]) {
-            return false;
-        }
-    }
-    true
-}
-
-// Whether the core is the same.
-fn is_same<StorageT: StorageIndex>(core: &CoreItems<StorageT>, other: &CoreItems<StorageT>) -> bool
-    ensures { IsTrue result ↔ (core_set StorageT.index core.now ≡ core_set StorageT.index other.now) }
-{
-    let prod = usize::from(core.prod);
-    let same = usize::from(other.prod);
-    if prod != same || core.dot != other.dot {
-        return false;
-    }
-    core.tokens.bits == other.tokens.bits
-}
-
-// The same cores.
-fn copied<StorageT: StorageIndex>(
-    alloc: Global,
-    cores: &[CoreItems<StorageT>],
-) -> Result<Vec<CoreItems<StorageT>>, AllocError>
-    ensures { IfOk result (λ copy. map (core_set StorageT.index) copy.items ≡ map (core_set StorageT.index) cores.now) }
-{
-    let mut copy = Vec::with_capacity(alloc, cores.len())?;
-    for core in cores {
-        let tokens = core.tokens.copy(alloc)?;
-        copy.push(CoreItems {
-            prod: core.prod,
-            dot: core.dot,
-            tokens,
-        })?;
-    }
-    Ok(copy)
 }

@@ -2,13 +2,10 @@
 #![tactic(auto)]
 
 pub mod build;
-mod closure;
-mod cores;
 mod fault;
 mod item_set;
 mod kernels;
 pub mod laws;
-mod reach;
 mod states;
 mod tables;
 mod wants;

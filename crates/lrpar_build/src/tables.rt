@@ -1,13 +1,13 @@
 //! The graph and the table that states make.
 ghost use Rattle.std.specs.Prelude.{◌≡◌, ◌≢◌, ◌<◌, ◌≤◌, ◌↔◌, ◌++◌, ℕ, IfErr, IfOk, OnOk, length, map};
-ghost use Rattle.lrpar_grammar.specs.Grammar.{tokens_len};
+ghost use Rattle.lrpar_grammar.specs.Grammar.{IsWellFormed, tokens_len};
 ghost use Rattle.lrpar_states.specs.Graph.{HasItem, graph_len};
 ghost use Rattle.lrpar_states.specs.PlainConflicts.{reduce_reduce_of, shift_reduce_of};
 ghost use Rattle.lrpar_states.specs.PlainItems.{graph_of_rows};
 ghost use Rattle.lrpar_states.specs.PlainRows.{action_entry, goto_entry, sparse_table_of};
 ghost use Rattle.lrpar_states.specs.Table.{IsTable};
 ghost use Rattle.lrpar_build.specs.Built.{IsBuilt};
-ghost use Rattle.lrpar_build.specs.StateRows.{IsRefusalOf, IsRefusedState, action_rows, goto_rows, item_rows, reduce_conflicts_below, shift_conflicts_below, unless_empty};
+ghost use Rattle.lrpar_build.specs.StateRows.{IsRefusalOf, IsRefusedState, action_rows, conflicts_of_states, goto_rows, item_rows, reduce_conflicts_below, shift_conflicts_below, table_of_states, unless_empty};
 ghost use Rattle.lrpar_build.specs.States.{AreStates, state_at, state_of};
 ghost use Rattle.lrpar_build.specs.Wanted.{IsAcceptReduce};
 ghost use Rattle.lrpar_build.specs.declared.fault.BuildFault.TheVariants.{Memory};
@@ -15,7 +15,8 @@ ghost use Rattle.lrpar_states.specs.declared.fault.TableFault.{TableFault};
 
 use crate::fault::BuildFault;
 use crate::item_set::State;
-use crate::wants::{ReduceReduce, ShiftReduce, single_items, state_row};
+use crate::wants::{ReduceReduce, ShiftReduce, state_row};
+use lrpar_closure::items::single_items;
 use lrpar_grammar::grammar::YaccGrammar;
 use lrpar_grammar::span::{RIdx, StIdx, StorageIndex, TIdx};
 use lrpar_states::table::{
@@ -45,23 +46,31 @@ pub(crate) fn tables<StorageT: StorageIndex>(
     ensures refused { IfErr result (IsRefusalOf (length states.items) (IsRefusedState grm.now (map (state_of StorageT.index) states.items))) }
 {
     let _start = grm.start_prod();
-    let len = states.len();
+    let (actions, conflicts) = all_actions(alloc, grm, &states)?;
+    let graph = graph_of(alloc, grm, &states)?;
+    let table = table_of_states(alloc, grm, states, actions, conflicts)?;
+    Ok((graph, table))
+}
+
+// What each state does at each token where it does something, and the conflicts of the states, if there are any.
+fn all_actions<StorageT: StorageIndex>(
+    alloc: Global,
+    grm: &YaccGrammar<StorageT>,
+    states: &[State<StorageT>],
+) -> Result<(Vec<ActionRow<StorageT>>, Option<Conflicts<StorageT>>), BuildFault>
+    requires states { AreStates grm.now (map (state_of StorageT.index) states.now) }
+    requires fit { length states.now ≤ StorageT.limit }
+    ensures rows { IfOk result (λ made. map (λ row. map (action_entry StorageT.index) row.items) made.0.items
+        ≡ action_rows grm.now (map (state_of StorageT.index) states.now)) }
+    ensures conflicts { IfOk result (λ made. made.1 ≡ conflicts_of_states grm.now (map (state_of StorageT.index) states.now)) }
+    ensures none { IfOk result (λ _. (s t : ℕ) → s < length states.now → t < tokens_len grm.now
+        → ¬ (let state = state_at (map (state_of StorageT.index) states.now) s in IsAcceptReduce grm.now state.cores state.shifts t)) }
+    ensures refused { IfErr result (IsRefusalOf (length states.now) (IsRefusedState grm.now (map (state_of StorageT.index) states.now))) }
+{
     let mut rr = Vec::new(alloc);
     let mut sr = Vec::new(alloc);
-    let actions = rows_of_actions(alloc, grm, &states, &mut rr, &mut sr)?;
-    let graph = graph_of(alloc, grm, &states)?;
-    let gotos = rows_of_gotos(alloc, states)?;
-    let rows = SparseRows {
-        start: StIdx(StorageT::from_index(0).unwrap()),
-        states: len,
-        tokens: grm.tokens_len(),
-        rules: grm.rules_len(),
-        actions,
-        gotos,
-        conflicts: conflicts_of(rr, sr),
-    };
-    let table = table_of(alloc, rows)?;
-    Ok((graph, table))
+    let rows = rows_of_actions(alloc, grm, states, &mut rr, &mut sr)?;
+    Ok((rows, conflicts_of(rr, sr)))
 }
 
 // What each state does at each token where it does something. The conflicts of the states are appended to `rr` and `sr`.
@@ -155,6 +164,38 @@ fn conflicts_of<StorageT: StorageIndex>(
     } else {
         Some(Conflicts::new(rr, sr))
     }
+}
+
+// The table of the states, of which this is what they do, and these are the conflicts.
+fn table_of_states<StorageT: StorageIndex>(
+    alloc: Global,
+    grm: &YaccGrammar<StorageT>,
+    states: Vec<State<StorageT>>,
+    actions: Vec<ActionRow<StorageT>>,
+    conflicts: Option<Conflicts<StorageT>>,
+) -> Result<StateTable<StorageT>, BuildFault>
+    requires well_formed { IsWellFormed grm.now }
+    requires states { AreStates grm.now (map (state_of StorageT.index) states.items) }
+    requires fit { length states.items ≤ StorageT.limit }
+    requires actions { map (λ row. map (action_entry StorageT.index) row.items) actions.items
+        ≡ action_rows grm.now (map (state_of StorageT.index) states.items) }
+    requires conflicts { conflicts ≡ conflicts_of_states grm.now (map (state_of StorageT.index) states.items) }
+    ensures table { IfOk result (λ table. table ≡ table_of_states grm.now (map (state_of StorageT.index) states.items)) }
+    ensures valid { IfOk result (IsTable StorageT.limit) }
+    ensures refused { IfErr result (λ fault. fault ≡ Memory) }
+{
+    let len = states.len();
+    let gotos = rows_of_gotos(alloc, states)?;
+    let rows = SparseRows {
+        start: StIdx(StorageT::from_index(0).unwrap()),
+        states: len,
+        tokens: grm.tokens_len(),
+        rules: grm.rules_len(),
+        actions,
+        gotos,
+        conflicts,
+    };
+    table_of(alloc, rows)
 }
 
 // The table of rows that are those of one.

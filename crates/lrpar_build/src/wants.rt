@@ -1,21 +1,19 @@
 //! What a state does at each token, and its conflicts.
-ghost use Rattle.std.specs.Prelude.{◌≡◌, ◌<◌, ◌+◌, ◌++◌, ◌∷◌, ◌==◌, ◌&&◌, ℕ, All, IfErr, IfOk, OnOk, filter, map, nat_eq, not};
-ghost use Rattle.std.specs.List.Sorted.{IsNonDecreasingBy, IsPermutation};
+ghost use Rattle.std.specs.Prelude.{◌≡◌, ◌<◌, ◌+◌, ◌++◌, ◌∷◌, ◌==◌, ℕ, All, IfErr, IfOk, OnOk, map, nat_eq};
 ghost use Rattle.std.specs.Map.{keys_of, lookup};
-ghost use Rattle.lrpar_grammar.specs.Grammar.{prod_len, prods_len, tokens_len};
+ghost use Rattle.lrpar_grammar.specs.Grammar.{prods_len, tokens_len};
 ghost use Rattle.lrpar_grammar.specs.Symbols.{prod_numbers};
 ghost use Rattle.lrpar_states.specs.PlainConflicts.{reduce_reduce_of, shift_reduce_of};
-ghost use Rattle.lrpar_states.specs.PlainItems.{item_of};
 ghost use Rattle.lrpar_states.specs.PlainRows.{action_entry, plain_goto};
-ghost use Rattle.lrpar_build.specs.Cores.{core_set};
-ghost use Rattle.lrpar_first.specs.Tokens.{has};
-ghost use Rattle.lrpar_build.specs.Wanted.{AcceptsBeside, AreOnce, AscendFrom, HasAcceptReduce, IsAcceptReduce, IsRefusal, accepts_at, entry_at, items_of_core, items_of_cores, prods_at, reduce_conflicts, reduce_conflicts_at, shift_conflicts, shift_conflicts_at, shift_entry, wanted, wanted_row};
+ghost use Rattle.lrpar_closure.specs.Cores.{core_set};
+ghost use Rattle.lrpar_build.specs.Wanted.{AcceptsBeside, AreOnce, AscendFrom, HasAcceptReduce, IsAcceptReduce, IsRefusal, entry_at, reduce_conflicts, reduce_conflicts_at, shift_conflicts, shift_conflicts_at, shift_entry, wanted, wanted_row};
 
-use crate::cores::CoreItems;
 use crate::fault::BuildFault;
+use lrpar_closure::complete::{accepts, complete_cores, reductions_at};
+use lrpar_closure::cores::CoreItems;
 use lrpar_grammar::grammar::YaccGrammar;
 use lrpar_grammar::span::{PIdx, StIdx, StorageIndex, TIdx};
-use lrpar_states::table::{Action, Item};
+use lrpar_states::table::Action;
 use std::alloc::{AllocError, Global};
 
 /// The token, the two productions and the state of a conflict between reductions.
@@ -28,96 +26,6 @@ pub(crate) type ReduceReduce<StorageT> = (
 
 /// The token, the production and the state of a conflict between a shift and a reduction.
 pub(crate) type ShiftReduce<StorageT> = (TIdx<StorageT>, PIdx<StorageT>, StIdx<StorageT>);
-
-/// The items one by one, each with its lookahead: core by core, and a core's lookaheads ascending.
-pub(crate) fn single_items<StorageT: StorageIndex>(
-    alloc: Global,
-    grm: &YaccGrammar<StorageT>,
-    cores: &[CoreItems<StorageT>],
-) -> Result<Vec<Item<StorageT>>, AllocError>
-    ensures { IfOk result (λ items. map (item_of StorageT.index) items.items
-        ≡ items_of_cores (tokens_len grm.now) (map (core_set StorageT.index) cores.now)) }
-{
-    let mut items = Vec::new(alloc);
-    for core in cores {
-        push_items(grm, core, &mut items)?;
-    }
-    Ok(items)
-}
-
-// Appends the items of the core.
-fn push_items<StorageT: StorageIndex>(
-    grm: &YaccGrammar<StorageT>,
-    core: &CoreItems<StorageT>,
-    items: &mut Vec<Item<StorageT>>,
-) -> Result<(), AllocError>
-    ensures { OnOk result (map (item_of StorageT.index) items.new.items ≡ map (item_of StorageT.index) items.old.items
-        ++ items_of_core (tokens_len grm.now) (core_set StorageT.index core.now)) }
-{
-    for token in 0..grm.tokens_len() {
-        if core.tokens.contains(token) {
-            let tidx = TIdx(StorageT::from_index(token).unwrap());
-            items.push((core.prod, core.dot, tidx))?;
-        }
-    }
-    Ok(())
-}
-
-// Whether the core's dot stands behind all symbols.
-fn ends<StorageT: StorageIndex>(grm: &YaccGrammar<StorageT>, core: &CoreItems<StorageT>) -> bool
-    requires { StorageT.index core.now.prod.0 < prods_len grm.now }
-    ensures { result ≡ (core.now.dot == prod_len grm.now (StorageT.index core.now.prod.0)) }
-{
-    core.dot == grm.prod(core.prod).len()
-}
-
-// The complete cores of those, by their productions.
-fn complete_cores<'a, StorageT: StorageIndex>(
-    alloc: Global,
-    grm: &YaccGrammar<StorageT>,
-    cores: &'a [CoreItems<StorageT>],
-) -> Result<Vec<&'a CoreItems<StorageT>>, AllocError>
-    requires { All (λ core. core.prod < prods_len grm.now) (map (core_set StorageT.index) cores.now) }
-    ensures all { IfOk result (λ complete. IsPermutation
-        (filter (λ core. core.dot == prod_len grm.now core.prod) (map (core_set StorageT.index) cores.now))
-        (map (λ core. core_set StorageT.index core.now) complete.items)) }
-    ensures sorted { IfOk result (λ complete. IsNonDecreasingBy (λ core. StorageT.index core.now.prod.0) complete.items) }
-{
-    let mut complete = Vec::new(alloc);
-    for core in cores {
-        if ends(grm, core) {
-            complete.push(core)?;
-        }
-    }
-    complete.sort_unstable_by_key(|core| usize::from(core.prod));
-    Ok(complete)
-}
-
-// The productions other than the start production, of complete cores that have the token.
-fn reductions_at<StorageT: StorageIndex>(
-    alloc: Global,
-    start: usize,
-    complete: &[&CoreItems<StorageT>],
-    token: usize,
-) -> Result<Vec<PIdx<StorageT>>, AllocError>
-    ensures { IfOk result (λ prods. prod_numbers StorageT.index prods.items
-        ≡ prods_at start (map (λ core. core_set StorageT.index core.now) complete.now) token) }
-{
-    let mut prods = Vec::new(alloc);
-    for core in complete {
-        if reduces(core, start, token) {
-            prods.push(core.prod)?;
-        }
-    }
-    Ok(prods)
-}
-
-// Whether the core is of another production than the start production, and has the token.
-fn reduces<StorageT: StorageIndex>(core: &CoreItems<StorageT>, start: usize, token: usize) -> bool
-    ensures { result ≡ (not (StorageT.index core.now.prod.0 == start) && has core.now.tokens.bits.items token) }
-{
-    usize::from(core.prod) != start && core.tokens.contains(token)
-}
 
 // Appends a conflict with the first of the productions for each later one.
 fn push_conflicts<StorageT: StorageIndex>(
@@ -150,33 +58,6 @@ fn push_later<StorageT: StorageIndex>(
         rr.push((*tidx, *least, *prod, *state))?;
     }
     Ok(())
-}
-
-// Whether the start production is one of those of complete cores that have the token.
-fn accepts<StorageT: StorageIndex>(
-    start: usize,
-    complete: &[&CoreItems<StorageT>],
-    token: usize,
-) -> bool
-    ensures { result ≡ accepts_at start (map (λ core. core_set StorageT.index core.now) complete.now) token }
-{
-    for core in complete {
-        if accepts_by(core, start, token) {
-            return true;
-        }
-    }
-    false
-}
-
-// Whether the core is of the start production, and has the token.
-fn accepts_by<StorageT: StorageIndex>(
-    core: &CoreItems<StorageT>,
-    start: usize,
-    token: usize,
-) -> bool
-    ensures { result ≡ ((StorageT.index core.now.prod.0 == start) && has core.now.tokens.bits.items token) }
-{
-    usize::from(core.prod) == start && core.tokens.contains(token)
 }
 
 // The state of the first shift, if that is by the token, and the shifts that are left then.

@@ -8,7 +8,7 @@ use Rattle.lrpar_grammar.specs.Grammar.{Grammar, GrammarSymbol, IsWellFormed, No
 use Rattle.lrpar_grammar.specs.Tree.{Forest, Tree, Branch, Cons, Nil, forest_leaves, leaves}
 use Rattle.lrpar_grammar.proofs.ForestLemmas.{joined, joined_leaves, splits}
 use Rattle.lrpar_states.specs.Graph.{ItemOf, item_at}
-use Rattle.lrpar_build.specs.ItemSets.{IsAdvanced, IsReachedBy}
+use Rattle.lrpar_closure.specs.ItemSets.{IsAdvanced, IsReachedBy}
 use Rattle.lrpar_build.proofs.ReachedLemmas.{closure_cases, start_is_fresh}
 use Rattle.lrpar_shortest.specs.Moves.{MoveOf, Makes, forest_moves, moves_of}
 use Rattle.lrpar_shortest.specs.Texts.{AreTreesOf, IsTreeOf}

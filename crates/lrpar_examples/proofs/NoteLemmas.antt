@@ -4,7 +4,7 @@ use Rattle.std.proofs.lemmas.Bool.{false≢true}
 use Rattle.lrpar_grammar.specs.Grammar.{Grammar, GrammarSymbol, IsWellFormed, Nonterminal, rules_len, symbols_of, tokens_len}
 use Rattle.lrpar_first.specs.FirstRows.{AreFirsts, IsSymbolBelow, begins, mark_of}
 use Rattle.lrpar_first.proofs.BeforeLemmas.{begins_is, symbols_below}
-use Rattle.lrpar_build.proofs.SpreadLemmas.{same_rest, same_rule}
+use Rattle.lrpar_closure.proofs.SpreadLemmas.{same_rest, same_rule}
 use Rattle.lrpar_examples.specs.Links.{AreNoted, HasLink, IsStep, LinkOf, PassesOn}
 
 -- a link that was made so is a step

@@ -8,7 +8,7 @@ use Rattle.lrpar_states.specs.Safe.{GoesBy}
 use Rattle.lrpar_states.specs.Table.{IsClosed, Table, goto_of, states_len}
 use Rattle.lrpar_build.specs.BuilderLaws.{IsWantedTable}
 use Rattle.lrpar_build.specs.Canonical.{AreSame, LeadsTo, sets_of}
-use Rattle.lrpar_build.specs.ItemSets.{IsReachedBy}
+use Rattle.lrpar_closure.specs.ItemSets.{IsReachedBy}
 use Rattle.lrpar_build.proofs.DecidedLemmas.{Accepting, Failing, IsActing, Reducing, Shifting, acting, before_decided}
 use Rattle.lrpar_build.proofs.SetLemmas.{next_more}
 use Rattle.lrpar_shortest.specs.Ways.{IsPathTo, StepOf, StepsLead, step_of, steps_of, symbols_in}

@@ -9,7 +9,7 @@ use Rattle.lrpar_states.specs.Graph.{Graph, HasCore, ItemOf, graph_len, item_at}
 use Rattle.lrpar_first.specs.First.{IsFirst, Behind, Rule, Token}
 use Rattle.lrpar_first.proofs.FirstLemmas.{AreBelow, AreBelow-append}
 use Rattle.lrpar_build.specs.Canonical.{AreSame, IsCanonical}
-use Rattle.lrpar_build.specs.ItemSets.{IsReachedBy}
+use Rattle.lrpar_closure.specs.ItemSets.{IsReachedBy}
 use Rattle.lrpar_shortest.specs.Reached.{EachReachedHasTree, IsReachedRule, IsReachedSymbol}
 use Rattle.lrpar_shortest.specs.Texts.{AreTreesOf, BeginWith, HaveTrees}
 use Rattle.lrpar_shortest.proofs.BehindLemmas.{behind_reached, drop_at_get, have_trees, item_reached, prod_reached, rest_reached}

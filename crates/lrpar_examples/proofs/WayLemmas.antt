@@ -4,7 +4,7 @@ use Rattle.std.proofs.lemmas.List.{append_assoc, append-nil, length-reverse, len
 use Rattle.std.proofs.lemmas.Bool.{eq-eqb, ne_eqb}
 use Rattle.lrpar_grammar.specs.Grammar.{Grammar, GrammarSymbol, IsWellFormed, end_token, start_prod}
 use Rattle.lrpar_states.specs.Graph.{Graph, HasItem, item_at}
-use Rattle.lrpar_build.specs.ItemSets.{IsReachedBy}
+use Rattle.lrpar_closure.specs.ItemSets.{IsReachedBy}
 use Rattle.lrpar_build.proofs.ReachedLemmas.{reached_at_end, start_item_at_start}
 use Rattle.lrpar_shortest.specs.Moves.{MoveOf, Makes}
 use Rattle.lrpar_shortest.specs.Ways.{StepOf, symbols_in}

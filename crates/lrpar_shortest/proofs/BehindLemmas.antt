@@ -7,7 +7,7 @@ use Rattle.std.proofs.lemmas.Option.{get_or_from_slice_get, slice_get_within}
 use Rattle.lrpar_grammar.specs.Grammar.{Grammar, GrammarSymbol, IsWellFormed, Nonterminal, Terminal, prods_len, rule_of, symbols_of}
 use Rattle.lrpar_grammar.specs.Tree.{Tree, Cons, Leaf, Nil}
 use Rattle.lrpar_states.specs.Graph.{ItemOf}
-use Rattle.lrpar_build.specs.ItemSets.{IsReachedBy}
+use Rattle.lrpar_closure.specs.ItemSets.{IsReachedBy}
 use Rattle.lrpar_build.proofs.ReachedLemmas.{head_after, known_by_symbol, reached_each}
 use Rattle.lrpar_shortest.specs.Reached.{Added, EachReachedHasTree, IsReachedRule, IsReachedSymbol, OnRight}
 use Rattle.lrpar_shortest.specs.Texts.{HaveTrees, IsTreeOf}

@@ -10,7 +10,7 @@ use Rattle.lrpar_states.specs.Table.{Accepts, Fails, ReduceBy, ShiftTo, Table, T
 use Rattle.lrpar_build.specs.Built.{IsBuilt}
 use Rattle.lrpar_build.specs.BuilderLaws.{IsWantedTable, WantOneAction, Wants}
 use Rattle.lrpar_build.specs.Canonical.{AreSame, IsCanonical, LeadsTo, StandsBefore, WantsReduce, sets_of}
-use Rattle.lrpar_build.specs.ItemSets.{Added, Adds, IsReachedBy, Own}
+use Rattle.lrpar_closure.specs.ItemSets.{Added, Adds, IsReachedBy, Own}
 use Rattle.lrpar_build.proofs.ReachedLemmas.{reached_items, symbol_listed}
 use Rattle.lrpar_safety.specs.Checked.{Checked, IsChecked}
 use Rattle.lrpar_complete.specs.Complete.{IsComplete, IsCompleteAt, StepsOn}

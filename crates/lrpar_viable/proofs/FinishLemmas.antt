@@ -9,7 +9,7 @@ use Rattle.lrpar_grammar.specs.Grammar.{Grammar, GrammarSymbol, IsWellFormed, No
 use Rattle.lrpar_grammar.specs.Tree.{Branch, Cons, Forest, Nil, forest_leaves, leaves}
 use Rattle.lrpar_grammar.proofs.ForestLemmas.{joined, joined_fits, joined_leaves, split_leaves, splits}
 use Rattle.lrpar_states.specs.Graph.{ItemOf, item_at}
-use Rattle.lrpar_build.specs.ItemSets.{Adds, IsAdvanced, IsReachedBy, IsStartItem}
+use Rattle.lrpar_closure.specs.ItemSets.{Adds, IsAdvanced, IsReachedBy, IsStartItem}
 use Rattle.lrpar_build.proofs.ReachedLemmas.{closure_each}
 use Rattle.lrpar_shortest.specs.Reached.{Added, EachReachedHasTree, IsReachedRule}
 use Rattle.lrpar_shortest.specs.Texts.{AreTreesOf, HaveTrees}

@@ -13,7 +13,7 @@ use Rattle.lrpar_grammar.proofs.ForestLemmas.{joined, joined_fits, joined_leaves
 use Rattle.lrpar_states.specs.Graph.{Graph}
 use Rattle.lrpar_states.specs.Table.{IsClosed, Table, states_len}
 use Rattle.lrpar_build.specs.Built.{IsBuilt}
-use Rattle.lrpar_build.specs.ItemSets.{IsReachedBy}
+use Rattle.lrpar_closure.specs.ItemSets.{IsReachedBy}
 use Rattle.lrpar_build.proofs.ReachedLemmas.{reached_items}
 use Rattle.lrpar_stacks.specs.Path.{IsPath, Leads, NeverSticks}
 use Rattle.lrpar_stacks.specs.Reduction.{Feeds, Reduces, Settles}

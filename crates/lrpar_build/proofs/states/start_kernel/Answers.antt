@@ -1,10 +1,10 @@
 use Rattle.std.proofs.Common.{◌≡◌, ◌<◌, ◌+◌, ◌==◌, ◌||◌, ◌∷◌, ◌++◌, refl, ◌∙◌, [], ℕ, sym, ap, subst, arith, length, map}
 use Rattle.lrpar_grammar.specs.Grammar.{end_token, prods_len, start_prod}
 use Rattle.lrpar_build.specs.Canonical.{AreSame}
-use Rattle.lrpar_build.specs.Cores.{CoreSet, IsAmong, core_set}
+use Rattle.lrpar_closure.specs.Cores.{CoreSet, IsAmong, core_set}
 use Rattle.lrpar_first.specs.FirstRows.{mark_of}
-use Rattle.lrpar_build.specs.ItemSets.{IsStartItem}
-use Rattle.lrpar_build.specs.Kernels.{IsKernel}
+use Rattle.lrpar_closure.specs.ItemSets.{IsStartItem}
+use Rattle.lrpar_closure.specs.CoreOrder.{IsKernel}
 use Rattle.lrpar_first.specs.Tokens.{has}
 use Rattle.lrpar_build.proofs.NumberLemmas.{start_items, start_kernel_is}
 use Rattle.lrpar_build.proofs.states.start_kernel.Goals as goal

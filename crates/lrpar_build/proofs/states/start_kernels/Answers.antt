@@ -1,7 +1,7 @@
 use Rattle.std.proofs.Common.{[], sym, subst, map, List}
 use Rattle.lrpar_build.specs.Canonical.{AreSame}
-use Rattle.lrpar_build.specs.Cores.{CoreSet, IsAmong, core_set}
-use Rattle.lrpar_build.specs.ItemSets.{IsStartItem}
+use Rattle.lrpar_closure.specs.Cores.{CoreSet, IsAmong, core_set}
+use Rattle.lrpar_closure.specs.ItemSets.{IsStartItem}
 use Rattle.lrpar_build.specs.Numbers.{IsFaultOfStates, IsNumberFault, IsNumberOf}
 use Rattle.lrpar_build.proofs.FaultLemmas.{fault_same}
 use Rattle.lrpar_build.proofs.NumberLemmas.{first_number, none_numbered, number_fault, number_numbered, start_reached}

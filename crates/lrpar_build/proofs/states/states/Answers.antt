@@ -1,82 +1,8 @@
-use Rattle.std.proofs.Common.{List, ◌≡◌, ◌<◌, ◌≤◌, ◌∷◌, ◌++◌, ◌∙◌, [], sym, ap, subst, arith, length, map}
-use Rattle.std.proofs.lemmas.List.{length-map, length_push, map_push}
-use Rattle.lrpar_build.specs.Cores.{core_set}
-use Rattle.lrpar_build.specs.Kernels.{IsKernel, IsReachedKernel, kernel_at, path_at}
-use Rattle.lrpar_build.specs.States.{AreExpanded, IsExpanded, StateOf, state_of}
-use Rattle.lrpar_build.proofs.NumberLemmas.{expanded_more, starts_kept}
-use Rattle.lrpar_build.proofs.StatesLemmas.{are_states}
 use Rattle.lrpar_build.specs.Numbers.{IsFaultOfStates}
 use Rattle.lrpar_build.specs.declared.fault.BuildFault.TheVariants.{Memory}
 use Rattle.lrpar_first.proofs.FaultLemmas.{no_value}
 use Rattle.lrpar_build.proofs.FaultLemmas.{fault_same}
 use Rattle.lrpar_build.proofs.states.states.Goals as goal
-
-pub expanded-requires-clause-kernel : goal.expanded-requires-clause-kernel
-expanded-requires-clause-kernel g c =
-    let index = g.StorageT.StorageIndex.index in
-    let kernels = c.states.kernels in
-    let low : c.len-in-states-2.result < length kernels = omega (arith, c.states-test.true, c.len.ensures, c.len-in-states.ensures, c.len-in-states-2.ensures) in
-    subst (IsKernel c.args.grm.now) (sym c.in_ok-kernel.ensures) (c.states.invariant.numbered.are.each c.len-in-states-2.result low)
-
-pub expanded-requires-clause-reached : goal.expanded-requires-clause-reached
-expanded-requires-clause-reached g c =
-    let index = g.StorageT.StorageIndex.index in
-    let kernels = c.states.kernels in
-    let are = c.states.invariant.numbered.are in
-    let low : c.len-in-states-2.result < length kernels = omega (arith, c.states-test.true, c.len.ensures, c.len-in-states.ensures, c.len-in-states-2.ensures) in
-    let path = path_at are.paths c.len-in-states-2.result in
-    (path, subst (λ k. IsReachedKernel c.args.grm.now k path) (sym c.in_ok-kernel.ensures) (are.reached c.len-in-states-2.result low))
-
-pub states-init : goal.states-init
-states-init g c =
-    let index = g.StorageT.StorageIndex.index in
-    let kernels = c.in_ok-kernels.kernels in
-    let none : map (state_of index) c.new-states.result.items ≡ [] = ap (map (state_of index)) c.new-states.ensures.items in record {
-      sets = c.in_ok-sets.ensures;
-      numbered = c.in_ok-kernels.ensures.kernels;
-      start = c.in_ok-kernels.ensures.start;
-      few = subst (λ (states : List StateOf). length states ≤ length kernels) (sym none) (omega arith);
-      expanded = subst (AreExpanded c.args.grm.now kernels) (sym none) (λ s low. absurd (omega (arith, low)));
-    }
-
-pub states-preserved : goal.states-preserved
-states-preserved g c =
-    let index = g.StorageT.StorageIndex.index in
-    let grm = c.args.grm.now in
-    let before = c.states.kernels in
-    let after = c.expanded.new.kernels in
-    let states = map (state_of index) c.states.states.items in
-    let state = state_of index c.in_ok-state.state in
-    let kept = c.in_ok-state.ensures.kept in
-    let count = length-map c.states.states.items (state_of index) in
-    let at : c.len-in-states-2.result ≡ length states = omega (arith, count, c.states.states.ok, c.len-in-states-2.ensures) in
-    let low : length states < length before = omega (arith, count, c.states.states.ok, c.states-test.true, c.len.ensures, c.len-in-states.ensures) in
-    let kernel : map (core_set index) c.in_ok-kernel.kernel.items ≡ kernel_at before (length states) =
-    c.in_ok-kernel.ensures ∙ ap (kernel_at before) at in
-    let new = subst (λ k. IsExpanded grm after k state) kernel c.in_ok-state.ensures.state in
-    let all : map (state_of index) c.push.new.self.items ≡ states ++ state ∷ [] =
-    ap (map (state_of index)) c.in_ok-push.ensures.items ∙ map_push (state_of index) c.states.states.items c.in_ok-state.state in
-    let more = length_push states state in
-    let longer = kept.len in record {
-      sets = c.in_ok-state.ensures.sets;
-      numbered = c.in_ok-state.ensures.kernels;
-      start = starts_kept grm before after kept c.states.invariant.start;
-      few = (let total = ap length all in omega (arith, total, more, low, longer));
-      expanded =
-          subst (AreExpanded grm after) (sym all) (expanded_more grm before after states state kept low c.states.invariant.expanded new);
-    }
-
-pub returns-clause-states : goal.returns-clause-states
-returns-clause-states g c =
-    let index = g.StorageT.StorageIndex.index in
-    let kernels = c.states.kernels in
-    let states = map (state_of index) c.states.states.items in
-    let few = c.states.invariant.few in
-    let count = length-map c.states.states.items (state_of index) in
-    let full : length states ≡ length kernels =
-    omega (arith, few, count, c.states.states.ok, c.states-test.false, c.len.ensures, c.len-in-states.ensures) in
-    are_states c.args.grm.now c.start_kernels.ensures.well_formed kernels c.states.invariant.numbered.are c.states.invariant.start.some
-    c.states.invariant.start.is states full c.states.invariant.expanded
 
 pub returns-in_err-sets : goal.returns-in_err-sets
 returns-in_err-sets g c =
@@ -94,31 +20,4 @@ returns-in_err-kernels g c =
       within = no_value c.from_residual-in_err-kernels.result _ _ told;
       fits = no_value c.from_residual-in_err-kernels.result _ _ told;
       fault = fault_same c.from_residual-in_err-kernels.result (IsFaultOfStates c.args.grm.now c.args.max_states g.StorageT.StorageIndex.limit) c.in_err-kernels.field-0.0 told c.in_err-kernels.ensures.fault;
-    }
-
-pub returns-in_err-kernel : goal.returns-in_err-kernel
-returns-in_err-kernel g c =
-    let told = c.from_residual-in_err-kernel.ensures.1 in record {
-      states = no_value c.from_residual-in_err-kernel.result _ _ told;
-      within = no_value c.from_residual-in_err-kernel.result _ _ told;
-      fits = no_value c.from_residual-in_err-kernel.result _ _ told;
-      fault = fault_same c.from_residual-in_err-kernel.result (IsFaultOfStates c.args.grm.now c.args.max_states g.StorageT.StorageIndex.limit) Memory told tt;
-    }
-
-pub returns-in_err-state : goal.returns-in_err-state
-returns-in_err-state g c =
-    let told = c.from_residual-in_err-state.ensures.1 in record {
-      states = no_value c.from_residual-in_err-state.result _ _ told;
-      within = no_value c.from_residual-in_err-state.result _ _ told;
-      fits = no_value c.from_residual-in_err-state.result _ _ told;
-      fault = fault_same c.from_residual-in_err-state.result (IsFaultOfStates c.args.grm.now c.args.max_states g.StorageT.StorageIndex.limit) c.in_err-state.field-0.0 told c.in_err-state.ensures.fault;
-    }
-
-pub returns-in_err-push : goal.returns-in_err-push
-returns-in_err-push g c =
-    let told = c.from_residual-in_err-push.ensures.1 in record {
-      states = no_value c.from_residual-in_err-push.result _ _ told;
-      within = no_value c.from_residual-in_err-push.result _ _ told;
-      fits = no_value c.from_residual-in_err-push.result _ _ told;
-      fault = fault_same c.from_residual-in_err-push.result (IsFaultOfStates c.args.grm.now c.args.max_states g.StorageT.StorageIndex.limit) Memory told tt;
     }

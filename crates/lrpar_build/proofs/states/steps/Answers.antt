@@ -1,13 +1,13 @@
 use Rattle.std.proofs.Common.{◌≡◌, ◌+◌, ◌∷◌, ◌++◌, ◌∙◌, ℕ, [], arith, ap, subst, sym, map}
 use Rattle.std.specs.Option.{option_map}
 use Rattle.std.proofs.lemmas.List.{map-append}
-use Rattle.lrpar_build.specs.Cores.{core_set}
+use Rattle.lrpar_closure.specs.Cores.{core_set}
 use Rattle.lrpar_build.specs.Kernels.{GoesTo}
 use Rattle.lrpar_build.specs.States.{AreStepsBelow, step_entry}
 use Rattle.lrpar_build.specs.Numbers.{IsFaultOfStates}
 use Rattle.lrpar_build.proofs.FaultLemmas.{fault_same}
 use Rattle.lrpar_build.proofs.NumberLemmas.{IsStepDone, kept_itself, kept_twice, step_done, step_failed}
-use Rattle.lrpar_build.proofs.SuccessorLemmas.{next_at}
+use Rattle.lrpar_closure.proofs.SuccessorLemmas.{next_at}
 use Rattle.lrpar_build.proofs.StepLemmas.{all_steps, no_steps, step_none, step_some}
 use Rattle.lrpar_build.proofs.states.steps.Goals as goal
 use Rattle.lrpar_build.proofs.states.steps.Goals.{in-None, in-Some+in_ok-push-in-Some}

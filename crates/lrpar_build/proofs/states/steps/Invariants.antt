@@ -1,5 +1,5 @@
 use Rattle.std.proofs.Common.{map}
-use Rattle.lrpar_build.specs.Cores.{core_set}
+use Rattle.lrpar_closure.specs.Cores.{core_set}
 use Rattle.lrpar_build.specs.Kernels.{AreKept}
 use Rattle.lrpar_build.specs.Numbers.{AreNumbered}
 use Rattle.lrpar_build.specs.States.{AreStepsBelow, step_entry}

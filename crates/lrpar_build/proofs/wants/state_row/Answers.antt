@@ -5,7 +5,7 @@ use Rattle.std.proofs.lemmas.List.{append-nil}
 use Rattle.lrpar_grammar.specs.Grammar.{tokens_len}
 use Rattle.lrpar_states.specs.PlainConflicts.{reduce_reduce_of, shift_reduce_of}
 use Rattle.lrpar_states.specs.PlainRows.{action_entry, plain_goto}
-use Rattle.lrpar_build.specs.Cores.{core_set}
+use Rattle.lrpar_closure.specs.Cores.{core_set}
 use Rattle.lrpar_build.specs.Wanted.{AcceptsBeside, IsAcceptReduce, entry_at, reduce_conflicts_at, reductions, shift_conflicts_at, shift_entry, wanted_at}
 use Rattle.lrpar_build.proofs.EntryLemmas.{joined_more}
 use Rattle.lrpar_build.proofs.WantedLemmas.{sorted_image}

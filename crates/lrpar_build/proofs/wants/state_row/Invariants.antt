@@ -3,7 +3,7 @@ use Rattle.std.specs.List.{flat_map, range_with_len}
 use Rattle.std.specs.Map.{keys_of, lookup}
 use Rattle.lrpar_states.specs.PlainConflicts.{reduce_reduce_of, shift_reduce_of}
 use Rattle.lrpar_states.specs.PlainRows.{action_entry}
-use Rattle.lrpar_build.specs.Cores.{core_set}
+use Rattle.lrpar_closure.specs.Cores.{core_set}
 use Rattle.lrpar_build.specs.Wanted.{AscendFrom, IsAcceptReduce, entry_at, reduce_conflicts_at, reductions, shift_conflicts_at, shift_entry, wanted_at}
 use Rattle.lrpar_build.proofs.wants.state_row.Given as goal
 

@@ -1,11 +1,11 @@
 use Rattle.std.proofs.Common.{Global, Vec, ◌≡◌, ◌∙◌, [], sym, ap, subst, arith, length, map, List, MatchOption}
 use Rattle.std.proofs.lemmas.Bool.{false≢true}
 use Rattle.std.proofs.lemmas.List.{length-map}
-use Rattle.lrpar_build.specs.Cores.{CoreSet, core_set}
-use Rattle.lrpar_build.specs.Kernels.{kernel_at}
+use Rattle.lrpar_closure.specs.Cores.{CoreSet, core_set}
+use Rattle.lrpar_closure.specs.Next.{kernel_at}
 use Rattle.lrpar_build.specs.Numbers.{IsFound, IsFresh}
-use Rattle.lrpar_build.specs.declared.cores.CoreItems.{CoreItems}
-use Rattle.lrpar_build.proofs.FindLemmas.{mapped_at}
+use Rattle.lrpar_closure.specs.declared.cores.CoreItems.{CoreItems}
+use Rattle.lrpar_closure.proofs.FindLemmas.{mapped_at}
 use Rattle.lrpar_build.proofs.KernelMapLemmas.{new_beside, new_without}
 use Rattle.lrpar_build.proofs.kernels.Kernels.find.Goals as goal
 

@@ -1,6 +1,6 @@
 use Rattle.std.proofs.Common.{◌≡◌, ◌<◌, ◌≤◌, ◌∷◌, ◌++◌, ◌∙◌, [], List, ap, arith, inl, inr, length, map, refl, subst, sym}
 use Rattle.std.proofs.lemmas.Bool.{cases_lt, false≢true}
-use Rattle.lrpar_build.specs.Cores.{CoreSet, core_set}
+use Rattle.lrpar_closure.specs.Cores.{CoreSet, core_set}
 use Rattle.lrpar_build.specs.Numbers.{IsNumberFault}
 use Rattle.lrpar_build.specs.declared.fault.BuildFault.TheVariants.{Memory}
 use Rattle.lrpar_first.proofs.FaultLemmas.{no_value}

@@ -1,6 +1,7 @@
 use Rattle.std.proofs.Common.{◌∙◌, sym, ap, subst, map}
-use Rattle.lrpar_build.specs.Cores.{core_set}
-use Rattle.lrpar_build.specs.KernelMap.{NumbersKernels, kernel_rows}
+use Rattle.lrpar_closure.specs.Cores.{core_set}
+use Rattle.lrpar_build.specs.KernelMap.{NumbersKernels}
+use Rattle.lrpar_closure.specs.Next.{kernel_rows}
 use Rattle.lrpar_build.proofs.KernelMapLemmas.{new_stands, others_stay, same_numbers}
 use Rattle.lrpar_first.proofs.FaultLemmas.{nothing_done}
 use Rattle.lrpar_build.proofs.kernels.Kernels.push.Goals as goal

@@ -1,0 +1,14 @@
+pub mod BroughtLemmas
+pub mod ProdLemmas
+pub mod SpreadLemmas
+pub mod ClosureLemmas
+pub mod BringLemmas
+pub mod AmongLemmas
+pub mod AddedLemmas
+pub mod PutLemmas
+pub mod CoreLemmas
+pub mod FindLemmas
+pub mod NextLemmas
+pub mod SymbolLemmas
+pub mod SuccessorLemmas
+pub mod CompleteLemmas
