@@ -1,5 +1,5 @@
 //! Tables that are built of grammar texts, and texts of which none is.
-use crate::checks::{push_told, told};
+use crate::checks::{checked, push_fault, push_second};
 use lrpar_case_lines::cases::Case;
 use lrpar_case_lines::fault::Fault;
 use lrpar_case_lines::values::{cap_of, number_at, number_of};
@@ -8,12 +8,15 @@ use lrpar_case_tables::rows::{push_conflicts, text_of_data};
 use lrpar_grammar::grammar::YaccGrammar;
 use lrpar_grammar::span::StorageIndex;
 use lrpar_table::build::{BuildFault, Unbuilt, from_yacc, parser_data};
-use lrpar_table::check::{CheckFault, ParserData, Refused};
+use lrpar_table::check::{ParserData, Refused};
 use lrpar_table::table::{StateGraph, StateTable};
 use std::alloc::{AllocError, Global};
 
 /// The keys that say what is done.
 pub const INPUTS: &[&str] = &["text", "symbols", "storage", "most", "cap", "then-cap"];
+
+/// What stands in front of a chain that is too long.
+const CHAINS: &str = "refused chains:";
 
 // What is allowed.
 #[derive(Clone, Copy)]
@@ -109,9 +112,16 @@ fn push_table_of<S: StorageIndex>(
     most: usize,
 ) -> Result<(), Fault> {
     match from_yacc(alloc, grm, most) {
-        Err(BuildFault::Memory) => Err(Fault::Memory),
-        Err(fault) => Ok(writeln!(came, "fault {fault}")?),
         Ok((graph, table)) => push_table(came, grm, &graph, &table),
+        Err(fault) => push_build_fault(came, "fault", fault),
+    }
+}
+
+// Adds the fault behind these words. Want of memory isn't told of a table.
+fn push_build_fault(came: &mut String, words: &str, fault: BuildFault) -> Result<(), Fault> {
+    match fault {
+        BuildFault::Memory => Err(Fault::Memory),
+        fault => Ok(writeln!(came, "{words} {fault}")?),
     }
 }
 
@@ -137,9 +147,20 @@ fn push_checked<S: StorageIndex>(
 ) -> Result<(), Fault> {
     match parser_data(alloc, grm, limits.most, cap) {
         Ok(data) => push_data(came, alloc, &data),
-        Err(Unbuilt::Table(BuildFault::Memory, _)) => Err(Fault::Memory),
-        Err(Unbuilt::Table(fault, _)) => Ok(writeln!(came, "refused table: {fault}")?),
-        Err(Unbuilt::Chains(refused)) => push_refusal(came, alloc, refused, limits.then),
+        Err(unbuilt) => push_unbuilt(came, alloc, unbuilt, limits.then),
+    }
+}
+
+// Why there is no table, or which chain of it is too long.
+fn push_unbuilt<S: StorageIndex>(
+    came: &mut String,
+    alloc: Global,
+    unbuilt: Unbuilt<S>,
+    then: Option<u16>,
+) -> Result<(), Fault> {
+    match unbuilt {
+        Unbuilt::Table(fault, _) => push_build_fault(came, "refused table:", fault),
+        Unbuilt::Chains(refused) => push_refusal(came, alloc, refused, then),
     }
 }
 
@@ -166,19 +187,23 @@ fn push_refusal<S: StorageIndex>(
     refused: Refused<S>,
     then: Option<u16>,
 ) -> Result<(), Fault> {
-    let first = push_chains(came, refused.fault());
-    let second = match then {
-        None => Ok(()),
-        Some(cap) => push_again(came, alloc, refused, cap),
-    };
-    first?;
-    second
+    match then {
+        None => push_fault(came, CHAINS, refused.fault()),
+        Some(cap) => push_both(came, alloc, refused, cap),
+    }
 }
 
-// Which chain is too long.
-fn push_chains(came: &mut String, fault: CheckFault) -> Result<(), Fault> {
-    let fault = told(fault)?;
-    Ok(writeln!(came, "refused chains: {fault}")?)
+// The same with the second check. A failure to tell the first waits, so that there are few ways out while what is refused is held.
+fn push_both<S: StorageIndex>(
+    came: &mut String,
+    alloc: Global,
+    refused: Refused<S>,
+    cap: u16,
+) -> Result<(), Fault> {
+    let first = push_fault(came, CHAINS, refused.fault());
+    let second = push_again(came, alloc, refused, cap);
+    first?;
+    second
 }
 
 // What comes of the check of what is handed back.
@@ -188,22 +213,10 @@ fn push_again<S: StorageIndex>(
     refused: Refused<S>,
     cap: u16,
 ) -> Result<(), Fault> {
-    match checked_again(alloc, refused, cap) {
-        Ok(data) => push_rows(came, alloc, &data),
-        Err(fault) => push_told(came, Some(fault)),
-    }
-}
-
-// What is handed back, checked with another cap.
-fn checked_again<S: StorageIndex>(
-    alloc: Global,
-    refused: Refused<S>,
-    cap: u16,
-) -> Result<ParserData<S>, CheckFault> {
     let (grm, graph, table) = refused.into_parts();
-    match ParserData::new(alloc, grm, graph, table, cap) {
-        Ok(data) => Ok(data),
-        Err(refused) => Err(refused.fault()),
+    match checked(alloc, grm, graph, table, cap) {
+        Ok(data) => push_rows(came, alloc, &data),
+        Err(fault) => push_second(came, Some(fault)),
     }
 }
 
@@ -214,6 +227,6 @@ fn push_rows<S: StorageIndex>(
     data: &ParserData<S>,
 ) -> Result<(), Fault> {
     let text = text_of_data(alloc, data)?;
-    push_told(came, None)?;
+    push_second(came, None)?;
     Ok(came.push_str(text.as_str())?)
 }

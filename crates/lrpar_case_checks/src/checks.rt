@@ -6,6 +6,7 @@ use lrpar_case_tables::hand::{By, Hand};
 use lrpar_case_tables::rows::{agreed, text_of};
 use lrpar_case_tables::subject::Subject;
 use lrpar_grammar::grammar::YaccGrammar;
+use lrpar_grammar::span::StorageIndex;
 use lrpar_table::check::{CheckFault, CompleteFault, ParserData, Refused};
 use lrpar_table::table::{StateGraph, StateTable};
 use std::alloc::Global;
@@ -133,7 +134,8 @@ fn push_kept(
     }
 }
 
-// Why the table is refused, and what comes of what is handed back.
+// Why the table is refused, and what comes of what is handed back. A failure to tell the first waits, so that there are few
+// ways out while what is refused is held.
 fn push_refusal(
     came: &mut String,
     alloc: Global,
@@ -141,16 +143,10 @@ fn push_refusal(
     was: &str,
     refused: Refused<u32>,
 ) -> Result<(), Fault> {
-    let first = push_fault(came, refused.fault());
+    let first = push_fault(came, "refused", refused.fault());
     let second = checked_again(came, alloc, trial, was, refused);
     first?;
-    push_told(came, second?)
-}
-
-// Why the table is refused.
-fn push_fault(came: &mut String, fault: CheckFault) -> Result<(), Fault> {
-    let fault = told(fault)?;
-    Ok(writeln!(came, "refused {fault}")?)
+    push_second(came, second?)
 }
 
 // Says where what is handed back isn't as it was, and for what it is refused once that is mended, if it is.
@@ -163,9 +159,9 @@ fn checked_again(
 ) -> Result<Option<CheckFault>, Fault> {
     let (grm, mut graph, mut table) = refused.into_parts();
     let mended = push_back(came, alloc, trial, was, &grm, &mut graph, &mut table);
-    let fault = fault_of(alloc, grm, graph, table, trial.then);
+    let second = checked(alloc, grm, graph, table, trial.then);
     mended?;
-    Ok(fault)
+    Ok(second.err())
 }
 
 // Says where what is handed back isn't as it was, and mends what was changed.
@@ -182,36 +178,33 @@ fn push_back(
     mend(alloc, trial.hand, trial.by, grm, graph, table)
 }
 
-// For what the parts are refused with the cap, if they are.
-fn fault_of(
+/// The parts, checked with the cap, or why they are refused.
+pub(crate) fn checked<S: StorageIndex>(
     alloc: Global,
-    grm: YaccGrammar<u32>,
-    graph: StateGraph<u32>,
-    table: StateTable<u32>,
+    grm: YaccGrammar<S>,
+    graph: StateGraph<S>,
+    table: StateTable<S>,
     cap: u16,
-) -> Option<CheckFault> {
+) -> Result<ParserData<S>, CheckFault> {
     match ParserData::new(alloc, grm, graph, table, cap) {
-        Ok(_) => None,
-        Err(refused) => Some(refused.fault()),
+        Ok(data) => Ok(data),
+        Err(refused) => Err(refused.fault()),
     }
 }
 
 /// Adds what comes of the second check.
-pub(crate) fn push_told(came: &mut String, fault: Option<CheckFault>) -> Result<(), Fault> {
+pub(crate) fn push_second(came: &mut String, fault: Option<CheckFault>) -> Result<(), Fault> {
     match fault {
         None => Ok(came.push_str("then checked\n")?),
-        Some(fault) => {
-            let fault = told(fault)?;
-            Ok(writeln!(came, "then refused {fault}")?)
-        }
+        Some(fault) => push_fault(came, "then refused", fault),
     }
 }
 
-/// The fault as one that is told of a table, which want of memory isn't.
-pub(crate) fn told(fault: CheckFault) -> Result<CheckFault, Fault> {
+/// Adds the fault behind these words. Want of memory isn't told of a table.
+pub(crate) fn push_fault(came: &mut String, words: &str, fault: CheckFault) -> Result<(), Fault> {
     match fault {
         CheckFault::Memory => Err(Fault::Memory),
-        fault => Ok(fault),
+        fault => Ok(writeln!(came, "{words} {fault}")?),
     }
 }
 

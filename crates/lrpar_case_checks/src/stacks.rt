@@ -2,8 +2,8 @@
 use lrpar_case_lines::cases::Case;
 use lrpar_case_lines::fault::Fault;
 use lrpar_case_lines::names::token_of;
-use lrpar_case_lines::values::index_of;
 use lrpar_case_tables::rows::agreed;
+use lrpar_case_tables::stack::states_of;
 use lrpar_case_tables::subject::Subject;
 use lrpar_grammar::span::{StIdx, TIdx};
 use lrpar_table::check::{Overlay, ParserData};
@@ -26,17 +26,6 @@ pub fn outcome(
             came_by(alloc, case, &subject.tables.by_entries, &states)?,
         ),
     }
-}
-
-// The states of the case, bottom first.
-fn states_of(alloc: Global, case: Case<'_, '_>) -> Result<Vec<StIdx<u32>>, Fault> {
-    let mut states = Vec::new(alloc);
-    for word in case.value_or_nothing("states").split(' ') {
-        if !word.is_empty() {
-            states.push(StIdx(index_of(word, case.number)?))?;
-        }
-    }
-    Ok(states)
 }
 
 // What comes by one table.
@@ -107,12 +96,17 @@ fn push_call(
     over.set_back();
     let by_list = by_list(alloc, data, states, call)?;
     let by_overlay = by_overlay(alloc, data, over, call)?;
-    let kept = over.kept();
-    came.push_str(by_list.as_str())?;
+    push_both(came, by_list.as_str(), by_overlay.as_str(), over.kept())
+}
+
+// What the call gives at a list, how many states of the base it leaves, and what it gives over the base, where that is something
+// else.
+fn push_both(came: &mut String, by_list: &str, by_overlay: &str, kept: usize) -> Result<(), Fault> {
+    came.push_str(by_list)?;
     writeln!(came, ", keeps {kept}")?;
     if by_list != by_overlay {
         came.push_str("over")?;
-        came.push_str(by_overlay.as_str())?;
+        came.push_str(by_overlay)?;
         came.push('\n')?;
     }
     Ok(())

@@ -1,7 +1,7 @@
 //! Tables by hand: item sets and rows that are lines of a case, and what another case has in their place.
 use crate::actions::action_of;
-use crate::faults::{of_check, of_rows};
-use crate::subject::{Tables, grammar_of, rows_of};
+use crate::faults::of_rows;
+use crate::subject::{Tables, checked, grammar_of, table_of};
 use lrpar_case_lines::cases::{Case, from_key, value_of};
 use lrpar_case_lines::fault::Fault;
 use lrpar_case_lines::line::{Content, Line, in_two};
@@ -19,6 +19,12 @@ pub enum By {
     Rows,
     Entries,
 }
+
+// The actions of a state that aren't `Error`, each behind its token.
+type ActionEntries = Vec<(TIdx<u32>, Action<u32>)>;
+
+// The gotos of a state, each behind its rule.
+type GotoEntries = Vec<(RIdx<u32>, StIdx<u32>)>;
 
 /// A table by hand.
 #[derive(Clone, Copy)]
@@ -141,19 +147,7 @@ impl<'t, 'a> Hand<'t, 'a> {
         let stored = self.table_of_entries(alloc, grm)?;
         match by {
             By::Entries => Ok(stored),
-            By::Rows => self.table_of_rows(alloc, &stored),
-        }
-    }
-
-    // The same table, made of its full rows.
-    fn table_of_rows(
-        self,
-        alloc: Global,
-        stored: &StateTable<u32>,
-    ) -> Result<StateTable<u32>, Fault> {
-        match StateTable::from_rows(alloc, rows_of(alloc, stored)?) {
-            Ok(table) => Ok(table),
-            Err(fault) => Err(of_rows(fault, self.table.number, "the rows make no table")),
+            By::Rows => table_of(alloc, self.table, &stored),
         }
     }
 
@@ -174,11 +168,8 @@ impl<'t, 'a> Hand<'t, 'a> {
         let states = self.number("states", 0)?;
         let tokens = self.number("tokens", grm.tokens_len())?;
         let rules = self.number("rules", grm.rules_len())?;
-        let (mut actions, mut gotos) = (Vec::new(alloc), Vec::new(alloc));
-        for state in 0..states {
-            actions.push(self.actions(alloc, grm, state, tokens)?)?;
-            gotos.push(self.gotos(alloc, grm, state, rules)?)?;
-        }
+        let actions = self.action_rows(alloc, grm, states, tokens)?;
+        let gotos = self.goto_rows(alloc, grm, states, rules)?;
         Ok(SparseRows {
             start: StIdx(0),
             states,
@@ -190,6 +181,36 @@ impl<'t, 'a> Hand<'t, 'a> {
         })
     }
 
+    // What so many states do at the first so many tokens.
+    fn action_rows(
+        self,
+        alloc: Global,
+        grm: &YaccGrammar<u32>,
+        states: usize,
+        tokens: usize,
+    ) -> Result<Vec<ActionEntries>, Fault> {
+        let mut rows = Vec::new(alloc);
+        for state in 0..states {
+            rows.push(self.actions(alloc, grm, state, tokens)?)?;
+        }
+        Ok(rows)
+    }
+
+    // Where so many states go by the first so many rules.
+    fn goto_rows(
+        self,
+        alloc: Global,
+        grm: &YaccGrammar<u32>,
+        states: usize,
+        rules: usize,
+    ) -> Result<Vec<GotoEntries>, Fault> {
+        let mut rows = Vec::new(alloc);
+        for state in 0..states {
+            rows.push(self.gotos(alloc, grm, state, rules)?)?;
+        }
+        Ok(rows)
+    }
+
     // What the state does at the first so many tokens.
     fn actions(
         self,
@@ -197,7 +218,7 @@ impl<'t, 'a> Hand<'t, 'a> {
         grm: &YaccGrammar<u32>,
         state: usize,
         tokens: usize,
-    ) -> Result<Vec<(TIdx<u32>, Action<u32>)>, Fault> {
+    ) -> Result<ActionEntries, Fault> {
         let mut row = Vec::new(alloc);
         for token in grm.iter_tidxs().take(tokens) {
             match self.said("actions", state, token_name(grm, token)) {
@@ -217,7 +238,7 @@ impl<'t, 'a> Hand<'t, 'a> {
         grm: &YaccGrammar<u32>,
         state: usize,
         rules: usize,
-    ) -> Result<Vec<(RIdx<u32>, StIdx<u32>)>, Fault> {
+    ) -> Result<GotoEntries, Fault> {
         let mut row = Vec::new(alloc);
         for rule in grm.iter_rules().take(rules) {
             match self.said("gotos", state, rule_name(grm, rule)) {
@@ -232,16 +253,11 @@ impl<'t, 'a> Hand<'t, 'a> {
 
     // The checked table, made by this call.
     fn data(self, alloc: Global, by: By) -> Result<ParserData<u32>, Fault> {
+        let cap = self.cap("cap", CAP)?;
         let grm = self.grammar(alloc)?;
-        let (graph, table) = (self.graph(alloc, &grm)?, self.table(alloc, &grm, by)?);
-        match ParserData::new(alloc, grm, graph, table, self.cap("cap", CAP)?) {
-            Ok(data) => Ok(data),
-            Err(refused) => Err(of_check(
-                refused.fault(),
-                self.table.number,
-                "the table is refused",
-            )),
-        }
+        let graph = self.graph(alloc, &grm)?;
+        let table = self.table(alloc, &grm, by)?;
+        checked(alloc, self.table, grm, graph, table, cap)
     }
 }
 

@@ -5,4 +5,5 @@ pub mod actions;
 pub mod faults;
 pub mod hand;
 pub mod rows;
+pub mod stack;
 pub mod subject;

@@ -16,8 +16,6 @@ const MAX_STATES: usize = 10_000;
 
 const UNBUILT: &str = "the grammar has no checked table";
 
-const UNCHECKED: &str = "the rows make no checked table";
-
 /// What cases are about.
 #[derive(Clone, Copy)]
 pub struct Subject<'d, 't, 'a> {
@@ -100,35 +98,53 @@ fn read_back(
     text: &str,
     data: &ParserData<u32>,
 ) -> Result<ParserData<u32>, Fault> {
-    let rows = rows_of(alloc, data.stable())?;
-    let items = items_of(alloc, data.sgraph())?;
     let grm = grammar_of(alloc, case, text)?;
-    checked(alloc, case, grm, items, rows, data.cap())
+    let sgraph = graph_of(alloc, case, data.sgraph())?;
+    let stable = table_of(alloc, case, data.stable())?;
+    checked(alloc, case, grm, sgraph, stable, data.cap())
 }
 
-// The checked table of these parts.
-fn checked(
+// The same item sets, of their items.
+fn graph_of(
     alloc: Global,
     case: Case<'_, '_>,
-    grm: YaccGrammar<u32>,
-    items: Vec<Vec<Item<u32>>>,
-    rows: TableRows<u32>,
-    cap: u16,
-) -> Result<ParserData<u32>, Fault> {
-    match (
-        StateGraph::from_rows(alloc, items),
-        StateTable::from_rows(alloc, rows),
-    ) {
-        (Ok(sgraph), Ok(stable)) => match ParserData::new(alloc, grm, sgraph, stable, cap) {
-            Ok(data) => Ok(data),
-            Err(refused) => Err(of_check(refused.fault(), case.number, UNCHECKED)),
-        },
-        (Err(fault), _) | (_, Err(fault)) => Err(of_rows(fault, case.number, UNCHECKED)),
+    graph: &StateGraph<u32>,
+) -> Result<StateGraph<u32>, Fault> {
+    match StateGraph::from_rows(alloc, items_of(alloc, graph)?) {
+        Ok(graph) => Ok(graph),
+        Err(fault) => Err(of_rows(fault, case.number, "the items make no item sets")),
     }
 }
 
-/// The full rows of a table, without its conflicts.
-pub(crate) fn rows_of(alloc: Global, table: &StateTable<u32>) -> Result<TableRows<u32>, Fault> {
+/// The same table, made of its full rows.
+pub(crate) fn table_of(
+    alloc: Global,
+    case: Case<'_, '_>,
+    table: &StateTable<u32>,
+) -> Result<StateTable<u32>, Fault> {
+    match StateTable::from_rows(alloc, rows_of(alloc, table)?) {
+        Ok(table) => Ok(table),
+        Err(fault) => Err(of_rows(fault, case.number, "the rows make no table")),
+    }
+}
+
+/// The checked table of these parts.
+pub(crate) fn checked(
+    alloc: Global,
+    case: Case<'_, '_>,
+    grm: YaccGrammar<u32>,
+    sgraph: StateGraph<u32>,
+    stable: StateTable<u32>,
+    cap: u16,
+) -> Result<ParserData<u32>, Fault> {
+    match ParserData::new(alloc, grm, sgraph, stable, cap) {
+        Ok(data) => Ok(data),
+        Err(refused) => Err(of_check(refused.fault(), case.number, "the table is refused")),
+    }
+}
+
+// The full rows of a table, without its conflicts.
+fn rows_of(alloc: Global, table: &StateTable<u32>) -> Result<TableRows<u32>, Fault> {
     let (mut actions, mut gotos) = (Vec::new(alloc), Vec::new(alloc));
     for number in 0..table.states_len() {
         if let Ok(state) = u32::try_from(number) {

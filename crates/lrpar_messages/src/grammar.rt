@@ -1,7 +1,7 @@
 //! Faults of grammar texts.
 use crate::choices::push_quoted;
 use crate::message::{Level, Message};
-use crate::near::nearest;
+use crate::near::push_nearest;
 use crate::shape::push_expected;
 use lrpar_grammar::grammar::GrammarFault;
 use lrpar_grammar::span::Span;
@@ -87,33 +87,28 @@ fn part(text: &str, span: Span) -> &str {
 
 // The message of a name that is neither a rule nor a declared token.
 fn unknown_rule(alloc: Global, text: &str, span: Span) -> Result<Message, AllocError> {
-    let what = "is neither a rule nor declared by %token";
-    let mut message = named(alloc, text, span, "name", what, "")?;
+    let mut label = String::new(alloc);
     if let Ok(outline) = outline_of(alloc, text)? {
-        let names = names_of(alloc, &[&outline.defined, &outline.declared])?;
-        push_near(&mut message.label, part(text, span), &names)?;
+        let lists = [&outline.defined, &outline.declared];
+        push_near(&mut label, alloc, part(text, span), &lists)?;
     }
-    if message.label.is_empty() {
-        message
-            .label
-            .push_str("define it, declare it by %token, or put it in quotes")?;
+    if label.is_empty() {
+        label.push_str("define it, declare it by %token, or put it in quotes")?;
     }
-    Ok(message)
+    let what = "is neither a rule nor declared by %token";
+    named(alloc, text, span, "name", what, label.as_str())
 }
 
 // The message of a name behind `%epp` that is no token.
 fn unknown_token(alloc: Global, text: &str, span: Span) -> Result<Message, AllocError> {
-    let mut message = named(alloc, text, span, "name", "is no token", "")?;
+    let mut label = String::new(alloc);
     if let Ok(outline) = outline_of(alloc, text)? {
-        let names = names_of(alloc, &[&outline.declared])?;
-        push_near(&mut message.label, part(text, span), &names)?;
+        push_near(&mut label, alloc, part(text, span), &[&outline.declared])?;
     }
-    if message.label.is_empty() {
-        message
-            .label
-            .push_str("no rule uses it, and no %token declares it")?;
+    if label.is_empty() {
+        label.push_str("no rule uses it, and no %token declares it")?;
     }
-    Ok(message)
+    named(alloc, text, span, "name", "is no token", label.as_str())
 }
 
 // The declarations and rules of the text, if it has that shape.
@@ -135,16 +130,15 @@ fn names_of<'a>(alloc: Global, lists: &[&Vec<Word<'a>>]) -> Result<Vec<&'a str>,
     Ok(names)
 }
 
-// Adds the name that somebody may have meant, if one is near.
-fn push_near(label: &mut String, name: &str, names: &[&str]) -> Result<(), AllocError> {
-    match nearest(name, names) {
-        Some(near) => {
-            label.push_str("did you mean ")?;
-            push_quoted(label, near)?;
-            label.push('?')
-        }
-        None => Ok(()),
-    }
+// Adds the name of these lists that somebody may have meant, if one is near.
+fn push_near(
+    label: &mut String,
+    alloc: Global,
+    name: &str,
+    lists: &[&Vec<Word<'_>>],
+) -> Result<(), AllocError> {
+    let names = names_of(alloc, lists)?;
+    push_nearest(label, name, &names)
 }
 
 // The message of a text that isn't one of a grammar from a byte on.

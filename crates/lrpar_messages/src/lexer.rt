@@ -1,7 +1,7 @@
 //! Faults of the rules of a lexer.
 use crate::choices::push_quoted;
 use crate::message::{Level, Message};
-use crate::near::nearest;
+use crate::near::push_nearest;
 use lrpar_grammar::grammar::YaccGrammar;
 use lrpar_grammar::span::Span;
 use lrpar_lexer::LineFault;
@@ -95,14 +95,11 @@ fn push_near_token(
     for (token, _) in grm.tokens_map(alloc)? {
         names.push(token)?;
     }
-    match nearest(name, &names) {
-        Some(near) => {
-            label.push_str("did you mean ")?;
-            push_quoted(label, near)?;
-            label.push('?')
-        }
-        None => label.push_str("a token stands in quotes in the grammar, or is declared by %token"),
+    push_nearest(label, name, &names)?;
+    if label.is_empty() {
+        label.push_str("a token stands in quotes in the grammar, or is declared by %token")?;
     }
+    Ok(())
 }
 
 // The message of a pattern that is refused.
