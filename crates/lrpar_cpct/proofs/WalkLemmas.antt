@@ -1,5 +1,5 @@
 -- Walks of the search: what each move keeps.
-use Rattle.std.proofs.Common.{◌≡◌, ◌<◌, ◌≤◌, ◌+◌, ◌-◌, ◌*◌, ◌∙◌, ◌↔◌, ℕ, List, [], ◌∷◌, ◌++◌, Bool, true, false, Option, Some, None, drop, get_or, length, take, refl, sym, subst, ap, arith, replicate}
+use Rattle.std.proofs.Common.{◌≡◌, ◌<◌, ◌≤◌, ◌+◌, ◌-◌, ◌*◌, ◌∙◌, ◌↔◌, ℕ, List, [], ◌∷◌, ◌++◌, Bool, IsTrue, true, false, Option, Some, None, drop, get_or, length, take, refl, sym, subst, ap, arith, replicate}
 use Rattle.std.proofs.lemmas.List.{length-append, map-append, take-append-drop}
 use Rattle.lrpar_grammar.specs.Grammar.{end_token}
 use Rattle.lrpar_lexemes.specs.Lexemes.{LexemeParts}
@@ -101,6 +101,13 @@ module _ {S X : Type 0} (index : S → ℕ) (parts : X → LexemeParts S) (searc
     stack = subst (λ (l : List ℕ). IsStack search.point.now.checked.table l) (sym same) stop.stack;
     stands = λ f. ([], (refl, same, refl));
   }
+
+  -- where the stack is fresh, the path leads to it
+  pub fresh_leads : {path : List PlainStep} {base states : List ℕ} {fresh : Bool} {place cost : ℕ} (p : List PlainStep)
+      → IsWalked index parts search path base states fresh place cost → fresh ≡ true → path ≡ p
+      → LeadsTo (token_by index parts) search.point.now p states place
+  fresh_leads {path} {base} {states} {fresh} {place} p w is same =
+      subst (λ (l : List PlainStep). LeadsTo (token_by index parts) search.point.now l states place) same (w.stands is)
 
   -- a step was taken
   pub walk_pushed : IsStop (token_by index parts) search.point.now → (p : List PlainStep) (s : PlainStep) (base states more after : List ℕ) (place j cost sum : ℕ) (next : Option ℕ)
@@ -264,6 +271,13 @@ tried_by index parts search p s base states fresh place cost one wide w is may c
       costs = omega (arith, w.costs, costs, same, there, cost_push token at.checked.grammar at.lexemes search.terms.now.costs at.place p s);
       cheap = omega (arith, w.cheap, same, most);
     }
+
+-- steps that are told not to end in a Shift don't
+pub last_not : {S : Type 0} (index : S → ℕ) {lent : List (RepairStep S)} {told : Bool} (steps : List (RepairStep S)) → lent ≡ steps → told ≡ false
+    → IsTrue told ↔ EndsIn (plain_steps index lent) (PlainShift ∷ []) → ¬ (EndsIn (plain_steps index steps) (PlainShift ∷ []))
+last_not {S} index steps same unsaid tells ends =
+    let there = subst (λ (l : List (RepairStep S)). EndsIn (plain_steps index l) (PlainShift ∷ [])) (sym same) ends in
+    let e : false ≡ true = sym unsaid ∙ tells.1 there in cc
 
 -- whether a path is a repair, from whether a parse can go on behind it
 pub repair_told : {X : Type 0} (token : X → ℕ) (at : Asked X) (p : List PlainStep) (states : List ℕ) (place : ℕ) (Told : Type 0)

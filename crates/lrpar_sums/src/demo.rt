@@ -1,16 +1,19 @@
 //! The command `demo`: sums of names.
 use crate::lexer::SumLexer;
-use crate::sum::sum_data;
 use lrpar_inputs::fault::Fault;
 use lrpar_inputs::parsing::{Parser, parser_by, print_tree, printed_names};
+use lrpar_inputs::tables::data_of;
 use lrpar_parser::ParserData;
 use lrpar_parser::repair::FixedRecoverer;
 use std::alloc::Global;
 use std::io::Write;
 
+/// The grammar of sums, whose first token is `+`, and whose second one is `ID`.
+const GRAMMAR: &str = "%% E: T '+' E | T; T: 'ID';";
+
 /// Parses the text as a sum, and prints its errors and its tree. Answers whether there is a tree, and no error.
 pub fn demo<O: Write>(alloc: Global, text: &str, out: &mut O) -> Result<bool, Fault> {
-    let data = sum_data(alloc)?;
+    let data = data_of(alloc, GRAMMAR)?;
     demo_by(alloc, &data, text, out)
 }
 

@@ -13,10 +13,10 @@ use lrpar_parser::{Lexeme, Lexer, NonStreamingLexer};
 use std::alloc::{AllocError, Global};
 
 /// The token `+`.
-pub(crate) const PLUS: u32 = 0;
+const PLUS: u32 = 0;
 
 /// The token `ID`.
-pub(crate) const ID: u32 = 1;
+const ID: u32 = 1;
 
 /// The lexer of sums over a text: `+` is a token, an ASCII letter and `_` are the token `ID` each, and no token fits
 /// any other character.

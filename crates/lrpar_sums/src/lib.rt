@@ -4,4 +4,3 @@
 pub mod calc;
 pub mod demo;
 mod lexer;
-mod sum;

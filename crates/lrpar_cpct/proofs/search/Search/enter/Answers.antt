@@ -8,7 +8,7 @@ use Rattle.lrpar_steps.specs.declared.steps.RepairStep.{RepairStep}
 use Rattle.lrpar_cpct.specs.Cheapest.{LeadsTo}
 use Rattle.lrpar_cpct.specs.SearchView.{IsTakenBy, IsWalked}
 use Rattle.lrpar_cpct.specs.WalkView.{IsTried}
-use Rattle.lrpar_cpct.proofs.WalkLemmas.{taken_not, walk_pushed}
+use Rattle.lrpar_cpct.proofs.WalkLemmas.{fresh_leads, taken_not, walk_pushed}
 use Rattle.lrpar_cpct.proofs.search.Search.enter.Goals as goal
 
 pub returns-then-refuses-clause-stays : goal.returns-then-refuses-clause-stays
@@ -19,8 +19,7 @@ returns-then-refuses-clause-stays g c = λ n.
     let old = plain_steps index c.args.walk.now.path.items in
     let now = c.refresh.new.walk in
     let path_is : plain_steps index now.path.items ≡ old = rw c.in_ok-refresh.ensures.path refl in
-    let leads = subst (λ (l : List PlainStep). LeadsTo (token_by index parts) at l (overlaid now.states) now.place) path_is
-    (c.in_ok-refresh.ensures.walking.stands c.in_ok-refresh.ensures.fresh) in
+    let leads = fresh_leads index parts c.args.self.now old c.in_ok-refresh.ensures.walking c.in_ok-refresh.ensures.fresh path_is in
     (path_is, taken_not (token_by index parts) at old (overlaid now.states) now.place (plain_step index c.args.step) leads (c.refuses.ensures c.if-refuses.true))
 
 pub returns-in_default-clause-stays : goal.returns-in_default-clause-stays
@@ -31,8 +30,7 @@ returns-in_default-clause-stays g c = λ n.
     let old = plain_steps index c.args.walk.now.path.items in
     let now = c.refresh.new.walk in
     let path_is : plain_steps index now.path.items ≡ old = rw c.in_ok-refresh.ensures.path refl in
-    let leads = subst (λ (l : List PlainStep). LeadsTo (token_by index parts) at l (overlaid now.states) now.place) path_is
-    (c.in_ok-refresh.ensures.walking.stands c.in_ok-refresh.ensures.fresh) in
+    let leads = fresh_leads index parts c.args.self.now old c.in_ok-refresh.ensures.walking c.in_ok-refresh.ensures.fresh path_is in
     let fails = subst (λ o. IsTakenBy index parts c.args.self.now (overlaid now.states) now.place (plain_step index c.args.step) (overlaid c.take.new.states) o)
     c.in_default.is c.in_ok-next.ensures.taken in
     (path_is, taken_not (token_by index parts) at old (overlaid now.states) now.place (plain_step index c.args.step) leads fails)

@@ -7,7 +7,7 @@ use Rattle.lrpar_steps.specs.Sequences.{PlainStep, PlainShift}
 use Rattle.lrpar_steps.specs.declared.steps.RepairStep.{RepairStep}
 use Rattle.lrpar_cpct.specs.Cheapest.{LeadsTo}
 use Rattle.lrpar_cpct.specs.Forms.{EndsIn}
-use Rattle.lrpar_cpct.proofs.WalkLemmas.{repair_told}
+use Rattle.lrpar_cpct.proofs.WalkLemmas.{fresh_leads, last_not, repair_told}
 use Rattle.lrpar_cpct.proofs.search.Search.is_repair.Goals as goal
 
 pub returns-clause-repair : goal.returns-clause-repair
@@ -18,11 +18,8 @@ returns-clause-repair g c =
     let old = plain_steps index c.args.walk.now.path.items in
     let now = c.refresh.new.walk in
     let path_is : plain_steps index now.path.items ≡ old = rw c.in_ok-refresh.ensures.path refl in
-    let leads = subst (λ (l : List PlainStep). LeadsTo (token_by index parts) at l (overlaid now.states) now.place) path_is
-    (c.in_ok-refresh.ensures.walking.stands c.in_ok-refresh.ensures.fresh) in
-    let last : ¬ (EndsIn old (PlainShift ∷ [])) = λ ends.
-    let there = subst (λ (l : List (RepairStep g.row.StorageT.Denot)). EndsIn (plain_steps index l) (PlainShift ∷ [])) (sym c.deref.ensures.value) ends in
-    let e : false ≡ true = sym c.if-ends_in_shifts.false ∙ c.ends_in_shifts.ensures.1 there in cc in
+    let leads = fresh_leads index parts c.args.self.now old c.in_ok-refresh.ensures.walking c.in_ok-refresh.ensures.fresh path_is in
+    let last = last_not index c.args.walk.now.path.items c.deref.ensures.value c.if-ends_in_shifts.false c.ends_in_shifts.ensures in
     IfOk-weaker c.can_go_on.result _ _
     (λ told h. repair_told (token_by index parts) at old (overlaid now.states) now.place (IsTrue told) c.requires.walking.begins.formed last leads h)
     c.can_go_on.ensures.goes_on
@@ -35,11 +32,8 @@ returns-then-stops-clause-repair g c =
     let old = plain_steps index c.args.walk.now.path.items in
     let now = c.refresh.new.walk in
     let path_is : plain_steps index now.path.items ≡ old = rw c.in_ok-refresh.ensures.path refl in
-    let leads = subst (λ (l : List PlainStep). LeadsTo (token_by index parts) at l (overlaid now.states) now.place) path_is
-    (c.in_ok-refresh.ensures.walking.stands c.in_ok-refresh.ensures.fresh) in
-    let last : ¬ (EndsIn old (PlainShift ∷ [])) = λ ends.
-    let there = subst (λ (l : List (RepairStep g.row.StorageT.Denot)). EndsIn (plain_steps index l) (PlainShift ∷ [])) (sym c.deref.ensures.value) ends in
-    let e : false ≡ true = sym c.if-ends_in_shifts.false ∙ c.ends_in_shifts.ensures.1 there in cc in
+    let leads = fresh_leads index parts c.args.self.now old c.in_ok-refresh.ensures.walking c.in_ok-refresh.ensures.fresh path_is in
+    let last = last_not index c.args.walk.now.path.items c.deref.ensures.value c.if-ends_in_shifts.false c.ends_in_shifts.ensures in
     let none = c.stops.ensures c.if-stops.true in
     repair_told (token_by index parts) at old (overlaid now.states) now.place (IsTrue false) c.requires.walking.begins.formed last leads
     ((λ h. let e : false ≡ true = h in cc), (λ goes_on. absurd (none goes_on)))

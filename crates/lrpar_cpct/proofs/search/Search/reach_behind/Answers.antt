@@ -5,6 +5,7 @@ use Rattle.lrpar_steps.specs.Known.{token_by}
 use Rattle.lrpar_steps.specs.PlainSteps.{plain_steps}
 use Rattle.lrpar_steps.specs.Sequences.{PlainStep}
 use Rattle.lrpar_cpct.specs.Cheapest.{LeadsTo}
+use Rattle.lrpar_cpct.proofs.WalkLemmas.{fresh_leads}
 use Rattle.lrpar_cpct.proofs.search.Search.reach_behind.Goals as goal
 
 pub returns-clause-reach : goal.returns-clause-reach
@@ -15,6 +16,5 @@ returns-clause-reach g c =
     let old = plain_steps index c.args.walk.now.path.items in
     let now = c.refresh.new.walk in
     let path_is : plain_steps index now.path.items ≡ old = rw c.in_ok-refresh.ensures.path refl in
-    let leads = subst (λ (l : List PlainStep). LeadsTo (token_by index parts) at l (overlaid now.states) now.place) path_is
-    (c.in_ok-refresh.ensures.walking.stands c.in_ok-refresh.ensures.fresh) in
+    let leads = fresh_leads index parts c.args.self.now old c.in_ok-refresh.ensures.walking c.in_ok-refresh.ensures.fresh path_is in
     IfOk-weaker c.reach.result _ _ (λ far h. (overlaid now.states, now.place, leads, h)) c.reach.ensures.reach
