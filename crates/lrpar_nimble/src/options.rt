@@ -4,7 +4,7 @@ use lrpar_nimble_texts::plan::{Format, Recovery};
 use std::alloc::Global;
 
 /// What the words ask for.
-#[derive(Debug, Drop)]
+#[derive(Drop)]
 pub(crate) struct Options<'a> {
     /// Whether errors alone are printed.
     pub(crate) is_quiet: bool,
@@ -40,7 +40,7 @@ Status 0: each input has a tree and no error; 1: an input has errors; 2: there i
 ";
 
 // What the words so far say.
-#[derive(Debug, Drop)]
+#[derive(Drop)]
 struct Said<'a> {
     is_quiet: bool,
     search: Search,
@@ -51,7 +51,7 @@ struct Said<'a> {
 }
 
 // An option with a word that belongs to it.
-#[derive(Clone, Copy, Debug, PartialEq, Eq)]
+#[derive(Clone, Copy)]
 enum Valued {
     Recovery,
     Limit,
@@ -60,7 +60,7 @@ enum Valued {
 }
 
 // Whether repairs are looked for.
-#[derive(Clone, Copy, Debug, PartialEq, Eq)]
+#[derive(Clone, Copy)]
 enum Search {
     Nothing,
     Cheapest,

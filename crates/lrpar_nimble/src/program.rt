@@ -128,78 +128,163 @@ fn printed<R: Files, I: Read + Drop, O: Write, E: Write>(
     err: &mut E,
 ) -> Result<Status, Fault> {
     if asks_for_help(args) {
-        out.write_all(USAGE.as_bytes())?;
-        out.write_all(HELP.as_bytes())?;
-        return Ok(Status::Success);
+        return helped(out);
     }
     let options = options_of(alloc, args)?;
+    printed_by_options(rt, alloc, &options, terminal, input, out, err)
+}
+
+// What the program says of itself.
+fn helped<O: Write>(out: &mut O) -> Result<Status, Fault> {
+    out.write_all(USAGE.as_bytes())?;
+    out.write_all(HELP.as_bytes())?;
+    Ok(Status::Success)
+}
+
+// The same by options.
+fn printed_by_options<R: Files, I: Read + Drop, O: Write, E: Write>(
+    rt: &R,
+    alloc: Global,
+    options: &Options<'_>,
+    terminal: Terminal,
+    input: I,
+    out: &mut O,
+    err: &mut E,
+) -> Result<Status, Fault> {
     let grammar = file_text(rt, alloc, options.grammar)?;
     let lexer = file_text(rt, alloc, options.lexer)?;
-    let data = grammar_data(alloc, &options, terminal, grammar.as_str(), out, err)?;
-    let rules = rules_of_lexer(alloc, &options, terminal, &data, lexer.as_str())?;
-    warn(
-        alloc,
-        &options,
+    let work = Work {
+        options,
         terminal,
-        &data,
-        &rules,
-        grammar.as_str(),
-        out,
-        err,
-    )?;
-    let are_clean = parse_inputs(
-        rt, alloc, &options, terminal, &data, &rules, input, out, err,
-    )?;
-    Ok(Status::of(are_clean))
+        grammar: grammar.as_str(),
+        lexer: lexer.as_str(),
+    };
+    printed_by_texts(rt, alloc, work, input, out, err)
+}
+
+// What the words ask for, and the texts of the files that they name.
+#[derive(Clone, Copy)]
+struct Work<'a> {
+    options: &'a Options<'a>,
+    terminal: Terminal,
+    grammar: &'a str,
+    lexer: &'a str,
+}
+
+impl<'a> Work<'a> {
+    // What messages about the grammar's text need.
+    fn grammar_reporter(self, alloc: Global) -> Result<Reporter<'a>, AllocError> {
+        Reporter::new(
+            alloc,
+            self.grammar,
+            self.options.grammar,
+            self.terminal.look,
+        )
+    }
+
+    // How inputs are parsed and trees are printed.
+    fn plan(
+        self,
+        data: &'a ParserData<u32>,
+        rules: &'a [LexRule],
+        names: &'a [&'a str],
+    ) -> Plan<'a> {
+        Plan {
+            data,
+            rules,
+            names,
+            recovery: self.options.recovery,
+            shifts: self.options.shifts,
+            format: self.options.format,
+            is_quiet: self.options.is_quiet,
+            shows_paths: self.options.inputs.len() > 1,
+            look: self.terminal.look,
+        }
+    }
+}
+
+// The same by the texts.
+fn printed_by_texts<R: Files, I: Read + Drop, O: Write, E: Write>(
+    rt: &R,
+    alloc: Global,
+    work: Work<'_>,
+    input: I,
+    out: &mut O,
+    err: &mut E,
+) -> Result<Status, Fault> {
+    let data = grammar_data(alloc, work, out, err)?;
+    printed_by_table(rt, alloc, work, &data, input, out, err)
+}
+
+// The same by the checked table of the grammar.
+fn printed_by_table<R: Files, I: Read + Drop, O: Write, E: Write>(
+    rt: &R,
+    alloc: Global,
+    work: Work<'_>,
+    data: &ParserData<u32>,
+    input: I,
+    out: &mut O,
+    err: &mut E,
+) -> Result<Status, Fault> {
+    let rules = rules_of_lexer(alloc, work, data)?;
+    warn(alloc, work, data, &rules, out, err)?;
+    parse_inputs(rt, alloc, work, data, &rules, input, out, err)
 }
 
 // The checked table of the grammar.
 fn grammar_data<O: Write, E: Write>(
     alloc: Global,
-    options: &Options<'_>,
-    terminal: Terminal,
-    text: &str,
+    work: Work<'_>,
     out: &mut O,
     err: &mut E,
 ) -> Result<ParserData<u32>, Fault> {
-    if terminal.shows_progress && !options.is_quiet {
+    let is_quiet = work.options.is_quiet;
+    if work.terminal.shows_progress && !is_quiet {
         tell(out, err, "nimbleparse: building the table ..\n")?;
     }
-    let reporter = Reporter::new(alloc, text, options.grammar, terminal.look)?;
-    data_of(alloc, &reporter, text, options.is_quiet, out, err)
+    let reporter = work.grammar_reporter(alloc)?;
+    data_of(alloc, &reporter, work.grammar, is_quiet, out, err)
 }
 
 // The rules of the lexer.
 fn rules_of_lexer(
     alloc: Global,
-    options: &Options<'_>,
-    terminal: Terminal,
+    work: Work<'_>,
     data: &ParserData<u32>,
-    text: &str,
 ) -> Result<Vec<LexRule>, Fault> {
-    let reporter = Reporter::new(alloc, text, options.lexer, terminal.look)?;
-    lexer_rules(alloc, &reporter, data.grm(), text)
+    let path = work.options.lexer;
+    let reporter = Reporter::new(alloc, work.lexer, path, work.terminal.look)?;
+    lexer_rules(alloc, &reporter, data.grm(), work.lexer)
 }
 
 // Warns of tokens that the lexer never gives, and tells how large the grammar and its table are, unless it is to be quiet.
 fn warn<O: Write, E: Write>(
     alloc: Global,
-    options: &Options<'_>,
-    terminal: Terminal,
+    work: Work<'_>,
     data: &ParserData<u32>,
     rules: &[LexRule],
-    grammar: &str,
     out: &mut O,
     err: &mut E,
 ) -> Result<(), Fault> {
-    if options.is_quiet {
+    if work.options.is_quiet {
         return Ok(());
     }
-    let reporter = Reporter::new(alloc, grammar, options.grammar, terminal.look)?;
+    let text = warnings(alloc, work, data, rules)?;
+    tell(out, err, text.as_str())
+}
+
+// The text of the warnings and of the note.
+fn warnings(
+    alloc: Global,
+    work: Work<'_>,
+    data: &ParserData<u32>,
+    rules: &[LexRule],
+) -> Result<String, AllocError> {
+    let reporter = work.grammar_reporter(alloc)?;
     let mut text = String::new(alloc);
     push_token_warnings(&mut text, alloc, &reporter, data.grm(), rules)?;
     push_sizes(&mut text, alloc, &reporter, data)?;
-    tell(out, err, text.as_str())
+    Ok(text)
 }
 
 // Adds a note of how large a grammar and its table are, and of the least cap.
@@ -220,34 +305,23 @@ fn push_sizes(
     push_message(out, alloc, reporter, Level::Note, None, text, "")
 }
 
-// Parses the inputs, and prints what comes of them. Answers whether each has a tree, and no error.
+// Parses the inputs, and prints what comes of them: how that ends.
 fn parse_inputs<R: Files, I: Read + Drop, O: Write, E: Write>(
     rt: &R,
     alloc: Global,
-    options: &Options<'_>,
-    terminal: Terminal,
+    work: Work<'_>,
     data: &ParserData<u32>,
     rules: &[LexRule],
     input: I,
     out: &mut O,
     err: &mut E,
-) -> Result<bool, Fault> {
+) -> Result<Status, Fault> {
     let names = printed_names(alloc, data.grm())?;
-    let plan = Plan {
-        data,
-        rules,
-        names: &names,
-        recovery: options.recovery,
-        shifts: options.shifts,
-        format: options.format,
-        is_quiet: options.is_quiet,
-        shows_paths: options.inputs.len() > 1,
-        look: terminal.look,
-    };
-    parse_paths(rt, alloc, &plan, &options.inputs, input, out, err)
+    let plan = work.plan(data, rules, &names);
+    parse_paths(rt, alloc, &plan, &work.options.inputs, input, out, err)
 }
 
-// The same for the inputs of these paths.
+// The same for the inputs of these paths: it's a success where each has a tree, and no error.
 fn parse_paths<R: Files, I: Read + Drop, O: Write, E: Write>(
     rt: &R,
     alloc: Global,
@@ -256,14 +330,14 @@ fn parse_paths<R: Files, I: Read + Drop, O: Write, E: Write>(
     input: I,
     out: &mut O,
     err: &mut E,
-) -> Result<bool, Fault> {
+) -> Result<Status, Fault> {
     let mut input = Some(input);
     let mut are_clean = true;
     for path in paths {
         let text = text_of_input(rt, alloc, path, &mut input)?;
         are_clean = parse(alloc, plan, path, text.as_str(), out, err)? && are_clean;
     }
-    Ok(are_clean)
+    Ok(Status::of(are_clean))
 }
 
 // The text of an input.

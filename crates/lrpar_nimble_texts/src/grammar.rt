@@ -1,5 +1,6 @@
 //! The grammar of a text and its table, and why there is none.
 ghost use Rattle.std.specs.Prelude.{IfOk};
+ghost use Rattle.lrpar_build.specs.Built.{IsBuilt};
 ghost use Rattle.lrpar_states.specs.Safe.{IsSafe};
 
 use crate::conflicts::push_conflicts;
@@ -33,15 +34,30 @@ pub fn data_of<O: Write, E: Write>(
     match from_yacc(alloc, &grm, MAX_STATES) {
         Ok((sgraph, stable)) => {
             if !is_quiet {
-                let mut notes = String::new(alloc);
-                push_rule_warnings(&mut notes, alloc, reporter, &grm)?;
-                push_conflicts(&mut notes, alloc, reporter, &grm, &sgraph, &stable)?;
-                tell(out, err, notes.as_str())?;
+                tell_notes(alloc, reporter, &grm, &sgraph, &stable, out, err)?;
             }
             checked(alloc, reporter, grm, sgraph, stable)
         }
         Err(fault) => Err(unbuilt(alloc, reporter, &grm, fault)),
     }
+}
+
+// Tells of rules that are of no use, and of conflicts.
+fn tell_notes<O: Write, E: Write>(
+    alloc: Global,
+    reporter: &Reporter<'_>,
+    grm: &YaccGrammar<u32>,
+    sgraph: &StateGraph<u32>,
+    stable: &StateTable<u32>,
+    out: &mut O,
+    err: &mut E,
+) -> Result<(), Fault>
+    requires { IsBuilt grm.now sgraph.now stable.now }
+{
+    let mut notes = String::new(alloc);
+    push_rule_warnings(&mut notes, alloc, reporter, grm)?;
+    push_conflicts(&mut notes, alloc, reporter, grm, sgraph, stable)?;
+    tell(out, err, notes.as_str())
 }
 
 // The grammar of a text.

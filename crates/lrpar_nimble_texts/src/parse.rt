@@ -40,19 +40,52 @@ fn parse_text<'a, O: Write, E: Write>(
 ) -> Result<bool, Fault> {
     let lexer = RuleLexer::new(alloc, plan.rules, input)?;
     let (tree, errors) = parsed(alloc, plan, &lexer)?;
+    let tree = tree.as_ref();
+    printed(alloc, plan, &lexer, path, input, tree, &errors, out, err)
+}
+
+// Tells the errors, and prints the tree. Answers whether there is a tree, and no error.
+fn printed<'a, O: Write, E: Write>(
+    alloc: Global,
+    plan: &'a Plan<'_>,
+    lexer: &RuleLexer<'_, 'a>,
+    path: &str,
+    input: &str,
+    tree: Option<&Tree>,
+    errors: &[TextError],
+    out: &mut O,
+    err: &mut E,
+) -> Result<bool, Fault>
+    requires { lexer.now.input.now ≡ input.now }
+{
     if !errors.is_empty() {
-        let expected = expected_tokens(alloc, plan, &lexer, &errors)?;
-        let text = errors_text(alloc, plan, &lexer, path, input, &expected, &errors)?;
-        tell(out, err, text.as_str())?;
+        tell_errors(alloc, plan, lexer, path, input, errors, out, err)?;
     }
     match tree {
-        Some(tree) if !plan.is_quiet => {
-            print_tree(alloc, plan, path, input, &tree, out)?;
+        Some(tree) => {
+            print_tree(alloc, plan, path, input, tree, out)?;
             Ok(errors.is_empty())
         }
-        Some(_) => Ok(errors.is_empty()),
         None => Ok(false),
     }
+}
+
+// Tells the errors.
+fn tell_errors<'a, O: Write, E: Write>(
+    alloc: Global,
+    plan: &'a Plan<'_>,
+    lexer: &RuleLexer<'_, 'a>,
+    path: &str,
+    input: &str,
+    errors: &[TextError],
+    out: &mut O,
+    err: &mut E,
+) -> Result<(), Fault>
+    requires { lexer.now.input.now ≡ input.now }
+{
+    let expected = expected_tokens(alloc, plan, lexer, errors)?;
+    let text = errors_text(alloc, plan, lexer, path, input, &expected, errors)?;
+    tell(out, err, text.as_str())
 }
 
 // The tree of the lexer's text, if there is one, and the errors.
@@ -177,7 +210,7 @@ fn push_error<'a, L: NonStreamingLexer<'a, TokenTypes>>(
     }
 }
 
-// Prints the tree of an input.
+// Prints the tree of an input, unless it is to be quiet.
 fn print_tree<O: Write>(
     alloc: Global,
     plan: &Plan<'_>,
@@ -186,6 +219,9 @@ fn print_tree<O: Write>(
     tree: &Tree,
     out: &mut O,
 ) -> Result<(), Fault> {
+    if plan.is_quiet {
+        return Ok(());
+    }
     let grm = plan.data.grm();
     match plan.format {
         Format::Brackets => {
