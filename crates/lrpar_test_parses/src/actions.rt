@@ -2,12 +2,13 @@
 ghost use Rattle.std.specs.Prelude.{◌↔◌, IfOk, IsTrue};
 
 use lrpar_lexer::{Token, TokenTypes};
-use lrpar_parser::parser::{AStackType, Actions};
+use lrpar_parser::parser::{AStackType, Actions, ParseFault};
 use lrpar_parser::span::{PIdx, RIdx, Span, Symbol};
 use lrpar_parser::{ParserData, RTParserBuilder};
 use lrpar_test_parts::built::{ARITHMETIC, SUM, built};
 use lrpar_test_parts::calculator::{Calculator, Value};
-use lrpar_test_parts::lexer::{Given, lexer_of};
+use lrpar_test_parts::drops::{drop_errors, drop_table};
+use lrpar_test_parts::lexer::{Given, HandedLexer, lexer_of};
 use std::alloc::{AllocError, Global};
 use std::cell::Cell;
 use std::process::Abort;
@@ -59,6 +60,9 @@ impl<LexerT> Actions<u32, Token<u32>, LexerT> for Counting {
     }
 }
 
+/// A parser that is handed nothing.
+type Parser<'a> = RTParserBuilder<'a, u32, TokenTypes>;
+
 // Two parses by one parser and by these actions, as text: each fault, or whether there is a value, and how often the actions were
 // called up to there.
 fn acted_twice(
@@ -68,16 +72,38 @@ fn acted_twice(
     counting: &Counting,
 ) -> Result<String, Fail> {
     let (lexer, mut text) = (lexer_of(given), String::new(alloc));
-    let parser = RTParserBuilder::<u32, TokenTypes>::new(data);
+    let parser = Parser::new(data);
     for _ in 0..2 {
-        match parser.parse_actions(alloc, &lexer, counting, &()) {
-            Ok((value, _)) => write!(text, "{}", value.is_some())?,
-            Err(fault) => write!(text, "{fault}")?,
-        }
-        let calls = counting.calls.get();
-        write!(text, " {calls} ")?;
+        let found = has_value(alloc, &parser, &lexer, counting);
+        push_found(&mut text, found, counting.calls.get())?;
     }
     Ok(text)
+}
+
+// Whether the parse has a value.
+fn has_value(
+    alloc: Global,
+    parser: &Parser<'_>,
+    lexer: &HandedLexer<'_>,
+    counting: &Counting,
+) -> Result<bool, ParseFault> {
+    let (value, errors) = parser.parse_actions(alloc, lexer, counting, &())?;
+    drop_errors(errors);
+    Ok(value.is_some())
+}
+
+// Adds whether a parse has a value, or its fault; and a number of calls.
+fn push_found(
+    text: &mut String,
+    found: Result<bool, ParseFault>,
+    calls: usize,
+) -> Result<(), Fail> {
+    match found {
+        Ok(has_value) => write!(text, "{has_value}")?,
+        Err(fault) => write!(text, "{fault}")?,
+    }
+    write!(text, " {calls} ")?;
+    Ok(())
 }
 
 // Lexemes of the grammar *sum*, the call at which the actions find no memory, and what comes of two parses.
@@ -90,7 +116,10 @@ const TWO_PARSES: [(&[Given], usize, &str); 4] = [
 
 #[test]
 fn calls_of_actions(rt: HostRuntime) -> Result<(), Fail> {
-    are_called(&rt, rt.alloc(), &built(rt.alloc(), SUM)?)
+    let data = built(rt.alloc(), SUM)?;
+    let are_called = are_called(&rt, rt.alloc(), &data);
+    drop_table(data);
+    are_called
 }
 
 // In each row the actions are called as the row says.
@@ -109,11 +138,12 @@ fn are_called(rt: &impl Abort, alloc: Global, data: &ParserData<u32>) -> Result<
 // The value that the calculator makes of these lexemes, if it takes the grammar and there is one.
 fn value_of(alloc: Global, data: &ParserData<u32>, given: &[Given]) -> Result<Option<Value>, Fail> {
     let lexer = lexer_of(given);
-    let parser = RTParserBuilder::<u32, TokenTypes>::new(data);
+    let parser = Parser::new(data);
     if !parser.takes_all(&lexer, &Calculator) {
         return Ok(None);
     }
-    let (value, _) = parser.parse_actions(alloc, &lexer, &Calculator, &())?;
+    let (value, errors) = parser.parse_actions(alloc, &lexer, &Calculator, &())?;
+    drop_errors(errors);
     Ok(value)
 }
 
@@ -135,13 +165,19 @@ const COMPUTED: [Computed; 3] = [
 
 #[test]
 fn values_of_a_calculator(rt: HostRuntime) -> Result<(), Fail> {
-    are_computed(&rt, rt.alloc(), &built(rt.alloc(), ARITHMETIC)?, &COMPUTED)
+    let data = built(rt.alloc(), ARITHMETIC)?;
+    let are_computed = are_computed(&rt, rt.alloc(), &data, &COMPUTED);
+    drop_table(data);
+    are_computed
 }
 
 #[test]
 fn a_calculator_of_another_grammar(rt: HostRuntime) -> Result<(), Fail> {
     let nothing: [Computed; 1] = [(&[(1, 1)], None)];
-    are_computed(&rt, rt.alloc(), &built(rt.alloc(), SUM)?, &nothing)
+    let data = built(rt.alloc(), SUM)?;
+    let are_computed = are_computed(&rt, rt.alloc(), &data, &nothing);
+    drop_table(data);
+    are_computed
 }
 
 // In each row the calculator makes the value that the row says.

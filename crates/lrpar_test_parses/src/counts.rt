@@ -7,6 +7,7 @@ use lrpar_parser::parser::ParseFault;
 use lrpar_parser::span::{StIdx, TIdx};
 use lrpar_parser::{LexParseError, Lexeme, ParseError, ParseRepair, ParserData, RTParserBuilder};
 use lrpar_test_parts::built::{BRACKETS, SUM, TWICE, built};
+use lrpar_test_parts::drops::{drop_error, drop_errors, drop_table};
 use lrpar_test_parts::lexer::{Given, HandedLexer, lexer_of};
 use std::alloc::Global;
 use std::cell::Cell;
@@ -56,19 +57,23 @@ fn errors_of<V: Drop>(
 }
 
 // Adds the state and the start of each parse error, or the fault.
-fn push_told(text: &mut String, answer: &Errors) -> Result<(), Fail> {
+fn push_told(text: &mut String, answer: Errors) -> Result<(), Fail> {
     match answer {
-        Err(fault) => write!(text, "{fault} ")?,
+        Err(fault) => Ok(write!(text, "{fault} ")?),
         Ok(errors) => {
-            for error in errors {
-                if let LexParseError::ParseError(error) = error {
-                    let (state, start) = (
-                        error.stidx().as_storaget(),
-                        error.lexeme().span().start(),
-                    );
-                    write!(text, "{state}@{start} ")?;
-                }
-            }
+            let told = push_places(text, &errors);
+            drop_errors(errors);
+            told
+        }
+    }
+}
+
+// Adds the state and the start of each parse error.
+fn push_places(text: &mut String, errors: &[LexParseError<u32, TokenTypes>]) -> Result<(), Fail> {
+    for error in errors {
+        if let LexParseError::ParseError(error) = error {
+            let (state, start) = (error.stidx().as_storaget(), error.lexeme().span().start());
+            write!(text, "{state}@{start} ")?;
         }
     }
     Ok(())
@@ -101,7 +106,10 @@ const ROWS: [Row; 6] = [
 
 #[test]
 fn lexers_and_recoverers_are_asked_once(rt: HostRuntime) -> Result<(), Fail> {
-    all_ask(&rt, rt.alloc(), &built(rt.alloc(), BRACKETS)?)
+    let data = built(rt.alloc(), BRACKETS)?;
+    let all_ask = all_ask(&rt, rt.alloc(), &data);
+    drop_table(data);
+    all_ask
 }
 
 // In each row each call asks as often as the row says.
@@ -120,8 +128,8 @@ fn each_asks(
     row: &Row,
 ) -> Result<(), Fail> {
     let (_, _, want, asked) = *row;
-    for call in FOUR {
-        let (text, found) = asks(alloc, call, data, row)?;
+    for call in &FOUR {
+        let (text, found) = asks(alloc, *call, data, row)?;
         assert_eq!(rt; text.as_str(), want, "{call:?}");
         assert_eq!(rt; found, asked, "{call:?} {text}");
     }
@@ -159,8 +167,8 @@ fn told_twice(
     lexer: &HandedLexer<'_>,
 ) -> Result<String, Fail> {
     let mut text = String::new(alloc);
-    push_told(&mut text, &errors_by(alloc, call, parser, lexer))?;
-    push_told(&mut text, &errors_by(alloc, call, parser, lexer))?;
+    push_told(&mut text, errors_by(alloc, call, parser, lexer))?;
+    push_told(&mut text, errors_by(alloc, call, parser, lexer))?;
     Ok(text)
 }
 
@@ -172,13 +180,16 @@ fn asked(alloc: Global, data: &ParserData<u32>, given: &[Given]) -> Result<(usiz
         asked: &asked,
         fails_at: 0,
     });
-    let _ = parser.parse_noaction(alloc, &lexer_of(given))?;
+    drop_errors(parser.parse_noaction(alloc, &lexer_of(given))?);
     Ok((calls.get(), asked.get()))
 }
 
 #[test]
 fn what_a_recoverer_is_handed(rt: HostRuntime) -> Result<(), Fail> {
-    is_handed(&rt, rt.alloc(), &built(rt.alloc(), BRACKETS)?)
+    let data = built(rt.alloc(), BRACKETS)?;
+    let is_handed = is_handed(&rt, rt.alloc(), &data);
+    drop_table(data);
+    is_handed
 }
 
 // At the second name behind a bracket a recoverer is asked once, and is handed what belongs to that place.
@@ -193,13 +204,8 @@ fn count(asked: &Cell<usize>) {
     asked.set(asked.get().saturating_add(1));
 }
 
-// How often the text of an error with these repairs asks what is printed for a token.
-fn names_asked(
-    alloc: Global,
-    repairs: Vec<Vec<ParseRepair<Token<u32>, u32>>>,
-) -> Result<usize, Fail> {
-    let error = ParseError::new(StIdx(0), Token::new(1, 0, 0), repairs);
-    let error: LexParseError<u32, TokenTypes> = LexParseError::from(error);
+// How often the text of the error asks what is printed for a token.
+fn names_asked(alloc: Global, error: &LexParseError<u32, TokenTypes>) -> Result<usize, Fail> {
     if !error.fits("") {
         return Err(Fail::new("an error outside of its text"));
     }
@@ -211,9 +217,8 @@ fn names_asked(
     Ok(asked.get())
 }
 
-#[test]
-fn each_insertion_is_asked_for_once(rt: HostRuntime) -> Result<(), Fail> {
-    let alloc = rt.alloc();
+// An error with two sequences of repairs, of three insertions and a deletion in all.
+fn error_of(alloc: Global) -> Result<LexParseError<u32, TokenTypes>, Fail> {
     let (first, second) = (TIdx(0), TIdx(1));
     let deleted = Token::new(1, 0, 0);
     let repairs = vec![in alloc;
@@ -224,7 +229,15 @@ fn each_insertion_is_asked_for_once(rt: HostRuntime) -> Result<(), Fail> {
         ]?,
         vec![in alloc; ParseRepair::Insert(second)]?,
     ]?;
-    assert_eq!(rt; names_asked(alloc, repairs)?, 3);
+    Ok(LexParseError::from(ParseError::new(StIdx(0), Token::new(1, 0, 0), repairs)))
+}
+
+#[test]
+fn each_insertion_is_asked_for_once(rt: HostRuntime) -> Result<(), Fail> {
+    let error = error_of(rt.alloc())?;
+    let asked = names_asked(rt.alloc(), &error);
+    drop_error(error);
+    assert_eq!(rt; asked?, 3);
     Ok(())
 }
 
@@ -251,12 +264,13 @@ fn note(calls: &Cell<Calls>, call: Called) {
 fn calls_of(alloc: Global, data: &ParserData<u32>, given: &[Given]) -> Result<Calls, Fail> {
     let calls = Cell::new((0, [Called::Rule(0); 8]));
     let parser = RTParserBuilder::<u32, TokenTypes>::new(data);
-    let _ = parser.parse_map(
+    let (_, errors) = parser.parse_map(
         alloc,
         &lexer_of(given),
         |lexeme: Token<u32>| note(&calls, Called::Lexeme(lexeme.span().start())),
         |rule, _| note(&calls, Called::Rule(rule.as_storaget())),
     )?;
+    drop_errors(errors);
     Ok(calls.get())
 }
 
@@ -296,12 +310,18 @@ const IN_BRACKETS: [Order; 1] = [(
 
 #[test]
 fn calls_of_the_functions(rt: HostRuntime) -> Result<(), Fail> {
-    are_called(&rt, rt.alloc(), &built(rt.alloc(), SUM)?, &SUMS)
+    let data = built(rt.alloc(), SUM)?;
+    let are_called = are_called(&rt, rt.alloc(), &data, &SUMS);
+    drop_table(data);
+    are_called
 }
 
 #[test]
 fn calls_of_one_right_side(rt: HostRuntime) -> Result<(), Fail> {
-    are_called(&rt, rt.alloc(), &built(rt.alloc(), BRACKETS)?, &IN_BRACKETS)
+    let data = built(rt.alloc(), BRACKETS)?;
+    let are_called = are_called(&rt, rt.alloc(), &data, &IN_BRACKETS);
+    drop_table(data);
+    are_called
 }
 
 // In each row the functions are called as the row says.

@@ -4,8 +4,10 @@ use lrpar_parser::repair::{FixedRecoverer, NoRecovery, RepairStep};
 use lrpar_parser::span::TIdx;
 use lrpar_parser::{LexParseError, ParserData, RTParserBuilder};
 use lrpar_test_parts::built::{BRACKETS, built};
+use lrpar_test_parts::drops::{drop_errors, drop_table};
 use lrpar_test_parts::lexer::lexer_of;
 use std::alloc::Global;
+use std::process::Abort;
 use std::test::Fail;
 
 /// A parser that is handed the same sequences at each error.
@@ -32,15 +34,23 @@ fn counted(
 fn counted_by(alloc: Global, parser: &Handing<'_>) -> Result<(usize, usize, usize), Fail> {
     let lexer = lexer_of(&[(0, 1), (0, 1)]);
     let (leaves, errors) = parser.parse_map(alloc, &lexer, |_| 1, |_, below| sum(&below))?;
+    let listed = listed(&errors);
+    drop_errors(errors);
+    let (count, first) = listed.ok_or("no parse error")?;
+    Ok((count, first, leaves.unwrap_or(0)))
+}
+
+// How many sequences the first error lists, and the length of the first one, if it is a parse error.
+fn listed(errors: &[LexParseError<u32, TokenTypes>]) -> Option<(usize, usize)> {
     let Some(LexParseError::ParseError(error)) = errors.first() else {
-        return Err(Fail::new("no parse error"));
+        return None;
     };
     let listed = error.repairs();
     let first = match listed.first() {
         Some(sequence) => sequence.len(),
         None => 0,
     };
-    Ok((listed.len(), first, leaves.unwrap_or(0)))
+    Some((listed.len(), first))
 }
 
 // The sum of the numbers.
@@ -86,12 +96,16 @@ fn many(alloc: Global) -> Result<Vec<Vec<RepairStep<u32>>>, Fail> {
 
 #[test]
 fn long_sequences_and_many(rt: HostRuntime) -> Result<(), Fail> {
-    let alloc = rt.alloc();
-    let data = built(alloc, BRACKETS)?;
-    let found = counted(alloc, &data, long(alloc)?)?;
-    assert_eq!(rt; found, (1, 5_001, 5_003));
-    let found = counted(alloc, &data, many(alloc)?)?;
-    assert_eq!(rt; found, (10_000, 1, 1));
+    let data = built(rt.alloc(), BRACKETS)?;
+    let are_counted = are_counted(&rt, rt.alloc(), &data);
+    drop_table(data);
+    are_counted
+}
+
+// Two long sequences and many short ones are listed, and each first one is replayed.
+fn are_counted(rt: &impl Abort, alloc: Global, data: &ParserData<u32>) -> Result<(), Fail> {
+    assert_eq!(rt; counted(alloc, data, long(alloc)?)?, (1, 5_001, 5_003));
+    assert_eq!(rt; counted(alloc, data, many(alloc)?)?, (10_000, 1, 1));
     Ok(())
 }
 
@@ -113,7 +127,10 @@ fn shift_counts(alloc: Global, data: &ParserData<u32>) -> Result<([usize; 3], St
 
 #[test]
 fn numbers_of_lexemes_that_follow(rt: HostRuntime) -> Result<(), Fail> {
-    let (counts, text) = shift_counts(rt.alloc(), &built(rt.alloc(), BRACKETS)?)?;
+    let data = built(rt.alloc(), BRACKETS)?;
+    let shift_counts = shift_counts(rt.alloc(), &data);
+    drop_table(data);
+    let (counts, text) = shift_counts?;
     assert_eq!(rt; counts, [3, 7, 7]);
     assert_eq!(rt; text.as_str(), "shifts must be at least 1");
     Ok(())
