@@ -5,9 +5,10 @@ use crate::recoverer::no_recoverer;
 use lrpar_case_lines::cases::Case;
 use lrpar_case_lines::fault::Fault;
 use lrpar_case_lines::names::{token_name, token_of};
-use lrpar_case_lines::values::index_of;
 use lrpar_case_tables::rows::agreed;
+use lrpar_case_tables::stack::states_of;
 use lrpar_case_tables::subject::Subject;
+use lrpar_lexer::NoToken;
 use lrpar_parser::check::Overlay;
 use lrpar_parser::grammar::YaccGrammar;
 use lrpar_parser::parser::Expected;
@@ -42,22 +43,37 @@ pub fn outcome(
 
 // What may come next at the states of the case, bottom first, over which its tokens are fed.
 fn at_states(alloc: Global, case: Case<'_, '_>, data: &ParserData<u32>) -> Result<String, Fault> {
-    let mut states = Vec::new(alloc);
-    for word in case.value_or_nothing("states").split(' ') {
-        if !word.is_empty() {
-            states.push(StIdx(index_of(word, case.number)?))?;
-        }
-    }
+    let states = states_of(alloc, case)?;
     if states.is_empty() || !data.is_stack(&states) {
         return Err(Fault::Line(case.number, "a stack is wanted"));
     }
-    let mut over = Overlay::new(alloc, &states);
+    over_states(alloc, case, data, &states)
+}
+
+// The same over these states, which are a stack.
+fn over_states(
+    alloc: Global,
+    case: Case<'_, '_>,
+    data: &ParserData<u32>,
+    states: &[StIdx<u32>],
+) -> Result<String, Fault> {
+    let mut over = Overlay::new(alloc, states);
+    feed_tokens(case, data, &mut over)?;
+    at_overlay(alloc, data, &over)
+}
+
+// Feeds the tokens of the case.
+fn feed_tokens(
+    case: Case<'_, '_>,
+    data: &ParserData<u32>,
+    over: &mut Overlay<'_, u32>,
+) -> Result<(), Fault> {
     for word in case.value_or_nothing("feed").split(' ') {
-        if !word.is_empty() && !is_fed(data, &mut over, token_of(data.grm(), word, case.number)?)? {
+        if !word.is_empty() && !is_fed(data, over, token_of(data.grm(), word, case.number)?)? {
             return Err(Fault::Line(case.number, "a token that can be fed is wanted"));
         }
     }
-    at_overlay(alloc, data, &over)
+    Ok(())
 }
 
 // Feeds the token, if there is such a one; answers whether it was fed.
@@ -79,16 +95,26 @@ fn at_overlay(
     data: &ParserData<u32>,
     over: &Overlay<'_, u32>,
 ) -> Result<String, Fault> {
-    let mut came = String::new(alloc);
     let states = over.to_vec()?;
     if !data.is_stack(&states) {
         return Err(Fault::Line(0, "a stack is wanted"));
     }
     let by_list = data.expected(alloc, &states)?;
     let by_overlay = data.expected_over(alloc, over)?;
-    push_tokens(&mut came, data.grm(), "expected", &by_list)?;
+    text_of_tokens(alloc, data.grm(), &by_list, &by_overlay)
+}
+
+// What may come next at the list, and at the overlay, where that is something else.
+fn text_of_tokens(
+    alloc: Global,
+    grm: &YaccGrammar<u32>,
+    by_list: &[TIdx<u32>],
+    by_overlay: &[TIdx<u32>],
+) -> Result<String, Fault> {
+    let mut came = String::new(alloc);
+    push_tokens(&mut came, grm, "expected", by_list)?;
     if by_overlay != by_list {
-        push_tokens(&mut came, data.grm(), "over", &by_overlay)?;
+        push_tokens(&mut came, grm, "over", by_overlay)?;
     }
     Ok(came)
 }
@@ -97,23 +123,25 @@ fn at_overlay(
 fn after_lexemes(alloc: Global, data: &ParserData<u32>, given: &[Given]) -> Result<String, Fault> {
     let lexer = HandedLexer::new(alloc, given, "")?;
     let parser: Parser<'_> = RTParserBuilder::new(data).recoverer(no_recoverer(alloc));
-    let mut came = String::new(alloc);
     match parser.expected(alloc, &lexer) {
-        Err(fault) => writeln!(came, "fault {fault}")?,
-        Ok(
-            Expected {
-                place,
-                tokens,
-                lexing_error,
-            },
-        ) => {
-            writeln!(came, "place {place}")?;
-            push_tokens(&mut came, data.grm(), "expected", &tokens)?;
-            if let Some(error) = lexing_error {
-                let (start, end) = (error.span().start(), error.span().end());
-                writeln!(came, "lexing error {start}..{end}")?;
-            }
-        }
+        Err(fault) => Ok(format!(in alloc; "fault {fault}\n")?),
+        Ok(expected) => text_of(alloc, data.grm(), &expected),
+    }
+}
+
+// How many lexemes were fed, what may come next, and the lexing error.
+fn text_of(
+    alloc: Global,
+    grm: &YaccGrammar<u32>,
+    expected: &Expected<u32, NoToken>,
+) -> Result<String, Fault> {
+    let mut came = String::new(alloc);
+    let place = expected.place;
+    writeln!(came, "place {place}")?;
+    push_tokens(&mut came, grm, "expected", &expected.tokens)?;
+    if let Some(error) = &expected.lexing_error {
+        let (start, end) = (error.span().start(), error.span().end());
+        writeln!(came, "lexing error {start}..{end}")?;
     }
     Ok(came)
 }

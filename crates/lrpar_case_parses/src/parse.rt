@@ -95,11 +95,25 @@ fn by_parsers(
 ) -> Result<String, Fault> {
     let places = RefCell::new(Vec::new(alloc));
     let answer = answer_by(alloc, Call::ParseActions, first, lexer, &places);
+    by_answer(alloc, case, first, second, lexer, input, &places, &answer)
+}
+
+// The same by the answer of the first one, and by where its rules lie.
+fn by_answer(
+    alloc: Global,
+    case: Case<'_, '_>,
+    first: &Parser<'_>,
+    second: &Parser<'_>,
+    lexer: &HandedLexer<'_>,
+    input: &str,
+    places: &Places,
+    answer: &Answer,
+) -> Result<String, Fault> {
     let mut came = String::new(alloc);
-    push_answer(alloc, &mut came, case, first.grammar(), &answer)?;
-    push_noted(&mut came, case, first.grammar(), &places)?;
-    push_printed(alloc, &mut came, case, first.grammar(), input, &answer)?;
-    push_differing(alloc, &mut came, case, &answer, first, second, lexer)?;
+    push_answer(alloc, &mut came, case, first.grammar(), answer)?;
+    push_noted(&mut came, case, first.grammar(), places)?;
+    push_printed(alloc, &mut came, case, first.grammar(), input, answer)?;
+    push_differing(alloc, &mut came, case, answer, first, second, lexer)?;
     Ok(came)
 }
 
@@ -262,12 +276,23 @@ fn push_difference(
     parser: &Parser<'_>,
     lexer: &HandedLexer<'_>,
 ) -> Result<(), Fault> {
-    let places = RefCell::new(Vec::new(alloc));
-    let answer = answer_by(alloc, call, parser, lexer, &places);
-    let told = told_of(alloc, case, parser.grammar(), &answer)?;
+    let told = told_by(alloc, case, call, parser, lexer)?;
     let is_same_tree = told.tree == wanted.tree || matches!(call, Call::ParseNoaction);
     if told.errors != wanted.errors || !is_same_tree {
         writeln!(out, "differs {call:?}")?;
     }
     Ok(())
+}
+
+// What comes of the parse by the call.
+fn told_by(
+    alloc: Global,
+    case: Case<'_, '_>,
+    call: Call,
+    parser: &Parser<'_>,
+    lexer: &HandedLexer<'_>,
+) -> Result<Told, Fault> {
+    let places = RefCell::new(Vec::new(alloc));
+    let answer = answer_by(alloc, call, parser, lexer, &places);
+    told_of(alloc, case, parser.grammar(), &answer)
 }

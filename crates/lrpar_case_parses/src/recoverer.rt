@@ -11,7 +11,7 @@ use lrpar_parser::span::TIdx;
 use std::alloc::{AllocError, Global};
 
 /// What hands in sequences at the errors of a case.
-#[derive(Debug, Drop)]
+#[derive(Drop)]
 pub(crate) enum CaseRecoverer {
     /// The same ones at each.
     Fixed(FixedRecoverer<u32>),
