@@ -44,19 +44,19 @@ pub fn outcome(
 // What may come next at the states of the case, bottom first, over which its tokens are fed.
 fn at_states(alloc: Global, case: Case<'_, '_>, data: &ParserData<u32>) -> Result<String, Fault> {
     let states = states_of(alloc, case)?;
-    if states.is_empty() || !data.is_stack(&states) {
-        return Err(Fault::Line(case.number, "a stack is wanted"));
-    }
     over_states(alloc, case, data, &states)
 }
 
-// The same over these states, which are a stack.
+// The same over these states.
 fn over_states(
     alloc: Global,
     case: Case<'_, '_>,
     data: &ParserData<u32>,
     states: &[StIdx<u32>],
 ) -> Result<String, Fault> {
+    if states.is_empty() || !data.is_stack(states) {
+        return Err(Fault::Line(case.number, "a stack is wanted"));
+    }
     let mut over = Overlay::new(alloc, states);
     feed_tokens(case, data, &mut over)?;
     at_overlay(alloc, data, &over)
