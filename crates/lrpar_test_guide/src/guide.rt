@@ -3,8 +3,9 @@ use crate::example::{Failed, language, told};
 use lrpar::grammar::YaccGrammar;
 use lrpar::span::TIdx;
 use lrpar::{Lexeme, Node, ParserData, RTParserBuilder};
-use lrpar_lexer::{RuleLexer, Token};
+use lrpar_lexer::{LexRule, RuleLexer, Token};
 use std::alloc::{AllocError, Global};
+use std::process::Abort;
 use std::test::Fail;
 
 /// The names that a file sets, in order.
@@ -69,39 +70,69 @@ fn printed(grm: &YaccGrammar<u32>, token: TIdx<u32>) -> Option<&str> {
 }
 
 #[test]
-fn names_are_listed(rt: HostRuntime) -> Result<(), Fail> {
+fn settings(rt: HostRuntime) -> Result<(), Fail> {
     let (data, rules) = language(rt.alloc())?;
+    are_shown(&rt, rt.alloc(), &data, &rules)
+}
+
+// The names of settings, what may come next, and what is told are as the guide shows them.
+fn are_shown(
+    rt: &impl Abort,
+    alloc: Global,
+    data: &ParserData<u32>,
+    rules: &[LexRule],
+) -> Result<(), Fail> {
+    names_are_listed(rt, alloc, data, rules)?;
+    values_may_come_behind_an_equals_sign(rt, alloc, data, rules)?;
+    settings_are_told(rt, alloc, data, rules)
+}
+
+fn names_are_listed(
+    rt: &impl Abort,
+    alloc: Global,
+    data: &ParserData<u32>,
+    rules: &[LexRule],
+) -> Result<(), Fail> {
     let input = "width = 80; title = \"a\";";
-    let lexer = RuleLexer::new(rt.alloc(), &rules, input)?;
-    let names = names(rt.alloc(), &data, &lexer, input)?;
+    let lexer = RuleLexer::new(alloc, rules, input)?;
+    let names = names(alloc, data, &lexer, input)?;
     assert_eq!(rt; names.as_slice(), ["width", "title"].as_slice());
     Ok(())
 }
 
-#[test]
-fn values_may_come_behind_an_equals_sign(rt: HostRuntime) -> Result<(), Fail> {
-    let (data, rules) = language(rt.alloc())?;
-    let lexer = RuleLexer::new(rt.alloc(), &rules, "width =")?;
-    assert_eq!(rt;
-        completions(rt.alloc(), &data, &lexer)?.as_str(),
-        "NUMBER\nTEXT\n"
-    );
+fn values_may_come_behind_an_equals_sign(
+    rt: &impl Abort,
+    alloc: Global,
+    data: &ParserData<u32>,
+    rules: &[LexRule],
+) -> Result<(), Fail> {
+    let lexer = RuleLexer::new(alloc, rules, "width =")?;
+    let text = completions(alloc, data, &lexer)?;
+    assert_eq!(rt; text.as_str(), "NUMBER\nTEXT\n");
     Ok(())
 }
 
-// What is told of the text.
-fn told_of(alloc: Global, input: &str) -> Result<String, Fail> {
-    let (data, rules) = language(alloc)?;
-    Ok(told(alloc, &data, &rules, input)?)
-}
+// Texts, and what is told of them.
+const TOLD: [(&str, &str); 2] = [
+    (
+        "width = 80;\n",
+        "File\n File\n Setting\n  NAME width\n  = =\n  Value\n   NUMBER 80\n  ; ;\n",
+    ),
+    (
+        "width = 80",
+        "Parsing error at line 1 column 11. No repair sequences found.\n",
+    ),
+];
 
-#[test]
-fn settings_are_told(rt: HostRuntime) -> Result<(), Fail> {
-    let text = told_of(rt.alloc(), "width = 80;\n")?;
-    let tree = "File\n File\n Setting\n  NAME width\n  = =\n  Value\n   NUMBER 80\n  ; ;\n";
-    assert_eq!(rt; text.as_str(), tree);
-    let text = told_of(rt.alloc(), "width = 80")?;
-    let error = "Parsing error at line 1 column 11. No repair sequences found.\n";
-    assert_eq!(rt; text.as_str(), error);
+fn settings_are_told(
+    rt: &impl Abort,
+    alloc: Global,
+    data: &ParserData<u32>,
+    rules: &[LexRule],
+) -> Result<(), Fail> {
+    for (input, wanted) in &TOLD {
+        let text = told(alloc, data, rules, *input)?;
+        assert_eq!(rt; text.as_str(), *wanted);
+    }
     Ok(())
 }

@@ -17,8 +17,16 @@ use std::test::Fail;
 /// Counts its calls, and finds no memory at one of them. Of its answers it states nothing.
 #[derive(Drop)]
 pub(crate) struct Counting {
-    pub(crate) calls: Cell<usize>,
-    pub(crate) fails_at: usize,
+    calls: Cell<usize>,
+    fails_at: usize,
+}
+
+/// Those that find no memory at this call.
+pub(crate) fn failing_at(fails_at: usize) -> Counting {
+    Counting {
+        calls: Cell::new(0),
+        fails_at,
+    }
 }
 
 impl<LexerT> Actions<u32, Token<u32>, LexerT> for Counting {
@@ -63,18 +71,18 @@ impl<LexerT> Actions<u32, Token<u32>, LexerT> for Counting {
 /// A parser that is handed nothing.
 type Parser<'a> = RTParserBuilder<'a, u32, TokenTypes>;
 
-// Two parses by one parser and by these actions, as text: each fault, or whether there is a value, and how often the actions were
-// called up to there.
+// Two parses by one parser and by actions that find no memory at this call, as text: each fault, or whether there is a value, and how
+// often the actions were called up to there.
 fn acted_twice(
     alloc: Global,
     data: &ParserData<u32>,
     given: &[Given],
-    counting: &Counting,
+    fails_at: usize,
 ) -> Result<String, Fail> {
     let (lexer, mut text) = (lexer_of(given), String::new(alloc));
-    let parser = Parser::new(data);
+    let (parser, counting) = (Parser::new(data), failing_at(fails_at));
     for _ in 0..2 {
-        let found = has_value(alloc, &parser, &lexer, counting);
+        let found = has_value(alloc, &parser, &lexer, &counting);
         push_found(&mut text, found, counting.calls.get())?;
     }
     Ok(text)
@@ -125,11 +133,7 @@ fn calls_of_actions(rt: HostRuntime) -> Result<(), Fail> {
 // In each row the actions are called as the row says.
 fn are_called(rt: &impl Abort, alloc: Global, data: &ParserData<u32>) -> Result<(), Fail> {
     for (given, fails_at, want) in &TWO_PARSES {
-        let counting = Counting {
-            calls: Cell::new(0),
-            fails_at: *fails_at,
-        };
-        let text = acted_twice(alloc, data, *given, &counting)?;
+        let text = acted_twice(alloc, data, *given, *fails_at)?;
         assert_eq!(rt; text.as_str(), *want);
     }
     Ok(())
@@ -163,6 +167,9 @@ const COMPUTED: [Computed; 3] = [
     (&[(2, 2), (0, 1)], None),
 ];
 
+// A lexeme of another grammar.
+const NOT_COMPUTED: [Computed; 1] = [(&[(1, 1)], None)];
+
 #[test]
 fn values_of_a_calculator(rt: HostRuntime) -> Result<(), Fail> {
     let data = built(rt.alloc(), ARITHMETIC)?;
@@ -173,9 +180,8 @@ fn values_of_a_calculator(rt: HostRuntime) -> Result<(), Fail> {
 
 #[test]
 fn a_calculator_of_another_grammar(rt: HostRuntime) -> Result<(), Fail> {
-    let nothing: [Computed; 1] = [(&[(1, 1)], None)];
     let data = built(rt.alloc(), SUM)?;
-    let are_computed = are_computed(&rt, rt.alloc(), &data, &nothing);
+    let are_computed = are_computed(&rt, rt.alloc(), &data, &NOT_COMPUTED);
     drop_table(data);
     are_computed
 }

@@ -1,13 +1,13 @@
 //! How often a parse asks its lexer and its recoverer, in which order it calls the functions of its caller, and what comes where one
 //! of them finds no memory; and how often the text of an error asks for a token's.
-use crate::actions::Counting;
+use crate::actions::failing_at;
 use crate::recoverer::{Asked, Deleting};
 use lrpar_lexer::{Token, TokenTypes};
 use lrpar_parser::parser::ParseFault;
 use lrpar_parser::span::{StIdx, TIdx};
 use lrpar_parser::{LexParseError, Lexeme, ParseError, ParseRepair, ParserData, RTParserBuilder};
 use lrpar_test_parts::built::{BRACKETS, SUM, TWICE, built};
-use lrpar_test_parts::drops::{drop_error, drop_errors, drop_table};
+use lrpar_test_parts::drops::{drop_error, drop_errors, drop_table, drop_tree};
 use lrpar_test_parts::lexer::{Given, HandedLexer, lexer_of};
 use std::alloc::Global;
 use std::cell::Cell;
@@ -35,24 +35,31 @@ type Parser<'a> = RTParserBuilder<'a, u32, TokenTypes, Deleting<'a>>;
 // The errors of the parse by the call.
 fn errors_by(alloc: Global, call: Call, parser: &Parser<'_>, lexer: &HandedLexer<'_>) -> Errors {
     match call {
-        Call::Map => errors_of(parser.parse_map(alloc, lexer, |_| {}, |_, _| {})),
-        Call::Actions => {
-            let counting = Counting {
-                calls: Cell::new(0),
-                fails_at: 0,
-            };
-            errors_of(parser.parse_actions(alloc, lexer, &counting, &()))
-        }
-        Call::Tree => errors_of(parser.parse_generictree(alloc, lexer)),
+        Call::Map => mapped_errors(alloc, parser, lexer),
+        Call::Actions => acted_errors(alloc, parser, lexer),
+        Call::Tree => tree_errors(alloc, parser, lexer),
         Call::Errors => parser.parse_noaction(alloc, lexer),
     }
 }
 
-// The errors of an answer.
-fn errors_of<V: Drop>(
-    answer: Result<(Option<V>, Vec<LexParseError<u32, TokenTypes>>), ParseFault>,
-) -> Errors {
-    let (_, errors) = answer?;
+// Those of a parse by two functions.
+fn mapped_errors(alloc: Global, parser: &Parser<'_>, lexer: &HandedLexer<'_>) -> Errors {
+    let (_, errors) = parser.parse_map(alloc, lexer, |_| {}, |_, _| {})?;
+    Ok(errors)
+}
+
+// Those of a parse by actions.
+fn acted_errors(alloc: Global, parser: &Parser<'_>, lexer: &HandedLexer<'_>) -> Errors {
+    let (_, errors) = parser.parse_actions(alloc, lexer, &failing_at(0), &())?;
+    Ok(errors)
+}
+
+// Those of a parse to a tree.
+fn tree_errors(alloc: Global, parser: &Parser<'_>, lexer: &HandedLexer<'_>) -> Errors {
+    let (tree, errors) = parser.parse_generictree(alloc, lexer)?;
+    if let Some(tree) = tree {
+        drop_tree(tree);
+    }
     Ok(errors)
 }
 
@@ -130,8 +137,8 @@ fn each_asks(
     let (_, _, want, asked) = *row;
     for call in &FOUR {
         let (text, found) = asks(alloc, *call, data, row)?;
-        assert_eq!(rt; text.as_str(), want, "{call:?}");
-        assert_eq!(rt; found, asked, "{call:?} {text}");
+        let asks = text.as_str() == want && found == asked;
+        assert!(rt; asks, "{call:?}: {text}, {found:?}");
     }
     Ok(())
 }
