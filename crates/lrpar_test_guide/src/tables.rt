@@ -1,4 +1,4 @@
-//! The examples of the guide, as a user writes them.
+//! A parse by a table of one's own, and a calculation, as a user writes them.
 use crate::calculation::calculated;
 use lrpar::check::CheckFault;
 use lrpar::grammar::{GrammarFault, YaccGrammar};
