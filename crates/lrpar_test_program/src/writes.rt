@@ -136,7 +136,7 @@ fn strings(alloc: Global, words: &[&str]) -> Result<Vec<String>, AllocError> {
 fn outcome_of<R: Files>(
     rt: &R,
     alloc: Global,
-    row: &Row,
+    row: Row,
     out_calls: usize,
     err_calls: usize,
 ) -> Result<Outcome, Fail> {
@@ -162,47 +162,38 @@ fn outcome_of<R: Files>(
 }
 
 // Each call of the command's standard output fails in turn, and then none.
-fn output_fails<R: Abort + Files>(rt: &R, alloc: Global, row: &Row) -> Result<(), Fail> {
+fn output_fails<R: Abort + Files>(rt: &R, alloc: Global, row: Row) -> Result<(), Fail> {
     for calls in 0..=row.calls {
         let found = outcome_of(rt, alloc, row, calls, usize::MAX)?;
-        assert!(rt; is_wanted(row, calls, &found), "{row:?} at {calls}");
+        let said = if calls < row.before { "" } else { row.err };
+        let (last, status) = if calls < row.calls {
+            (NO_OUTPUT, 2)
+        } else {
+            ("", row.status)
+        };
+        let wanted = format!(in alloc; "{said}{last}")?;
+        assert_eq!(rt;
+            found.err.as_slice(),
+            wanted.as_bytes(),
+            "{row:?} at {calls}"
+        );
+        assert_eq!(rt; found.status, status, "{row:?} at {calls}");
     }
     Ok(())
 }
 
-// Whether a command is to leave this whose standard output fails after so many calls: what it said before, and why it ends.
-fn is_wanted(row: &Row, calls: usize, found: &Outcome) -> bool {
-    let said = if calls < row.before { "" } else { row.err };
-    let (last, status) = if calls < row.calls {
-        (NO_OUTPUT, 2)
-    } else {
-        ("", row.status)
-    };
-    found.status == status
-        && found.err.as_slice().strip_prefix(said.as_bytes()) == Some(last.as_bytes())
-}
-
-const ROWS: [Row; 6] = [DEMO, CALC, TREE, CHECK, REFUSED, CONFLICTS];
-
-// The files of these commands, and their texts.
-const FILES: [(&str, &str); 5] = [
-    ("grammar", "%% S: A; A: 'A';"),
-    ("lexer", "a 'A'"),
-    ("input", "aa"),
-    ("repairs", "delete"),
-    ("sums", "%% E: E '+' E | 'N';"),
-];
-
 #[test]
 fn each_write_to_standard_output_fails(rt: HostRuntime) -> Result<(), Fail> {
-    for (path, text) in &FILES {
-        fs::write(&rt, *path, *text)?;
-    }
-    for row in &ROWS {
+    fs::write(&rt, "grammar", "%% S: A; A: 'A';")?;
+    fs::write(&rt, "lexer", "a 'A'")?;
+    fs::write(&rt, "input", "aa")?;
+    fs::write(&rt, "repairs", "delete")?;
+    fs::write(&rt, "sums", "%% E: E '+' E | 'N';")?;
+    for row in [DEMO, CALC, TREE, CHECK, REFUSED, CONFLICTS] {
         output_fails(&rt, rt.alloc(), row)?;
     }
-    for (path, _) in &FILES {
-        fs::remove_file(&rt, *path)?;
+    for path in ["grammar", "lexer", "input", "repairs", "sums"] {
+        fs::remove_file(&rt, path)?;
     }
     Ok(())
 }
@@ -211,7 +202,7 @@ fn each_write_to_standard_output_fails(rt: HostRuntime) -> Result<(), Fail> {
 fn error_fails<R: Abort + Files>(
     rt: &R,
     alloc: Global,
-    row: &Row,
+    row: Row,
     wanted: &str,
 ) -> Result<(), Fail> {
     for calls in 0..=row.err.len() {
@@ -227,9 +218,9 @@ fn error_fails<R: Abort + Files>(
 
 #[test]
 fn each_write_to_standard_error_fails(rt: HostRuntime) -> Result<(), Fail> {
-    error_fails(&rt, rt.alloc(), &CALC, SUMS)?;
-    error_fails(&rt, rt.alloc(), &WRONG_WORDS, "")?;
-    for row in &UNREAD {
+    error_fails(&rt, rt.alloc(), CALC, SUMS)?;
+    error_fails(&rt, rt.alloc(), WRONG_WORDS, "")?;
+    for row in UNREAD {
         error_fails(&rt, rt.alloc(), row, "")?;
     }
     Ok(())
@@ -238,10 +229,10 @@ fn each_write_to_standard_error_fails(rt: HostRuntime) -> Result<(), Fail> {
 #[test]
 fn both_streams_fail(rt: HostRuntime) -> Result<(), Fail> {
     for calls in 0..DEMO.calls {
-        let found = outcome_of(&rt, rt.alloc(), &DEMO, calls, calls)?;
+        let found = outcome_of(&rt, rt.alloc(), DEMO, calls, calls)?;
         assert_eq!(rt; found.status, 2, "at {calls}");
     }
-    let found = outcome_of(&rt, rt.alloc(), &DEMO, DEMO.calls, 0)?;
+    let found = outcome_of(&rt, rt.alloc(), DEMO, DEMO.calls, 0)?;
     assert_eq!(rt; found.status, 0);
     Ok(())
 }

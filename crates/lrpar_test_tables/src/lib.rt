@@ -2,8 +2,6 @@
 #![tactic(auto)]
 
 #[cfg(test)]
-mod drops;
-#[cfg(test)]
 mod lines;
 #[cfg(test)]
 mod sizes;

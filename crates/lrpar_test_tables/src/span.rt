@@ -59,21 +59,13 @@ fn numbers_of_four_kinds(rt: HostRuntime) -> Result<(), Fail> {
     Ok(())
 }
 
-// The start, the end and the length of spans, and whether they are empty.
-const SPANS: [(usize, usize, usize, bool); 3] = [
-    (0, 0, 0, true),
-    (3, 7, 4, false),
-    (5, 5, 0, true),
-];
-
 #[test]
 fn spans(rt: HostRuntime) -> Result<(), Fail> {
-    for row in &SPANS {
-        let (start, end, _, _) = *row;
+    for (start, end, len, is_empty) in [(0, 0, 0, true), (3, 7, 4, false), (5, 5, 0, true)] {
         assert!(rt; start <= end);
         let span = Span::new(start, end);
         let found = (span.start(), span.end(), span.len(), span.is_empty());
-        assert_eq!(rt; found, *row);
+        assert_eq!(rt; found, (start, end, len, is_empty));
         assert_eq!(rt; span == Span::new(3, 7), start == 3, "{start}..{end}");
     }
     Ok(())

@@ -1,5 +1,4 @@
 //! Item sets, conflicts and stacks, and texts of faults, where no case can say it.
-use crate::drops::{Built, drop_built, drop_grammar, drop_table};
 use lrpar_grammar::grammar::{GrammarFault, YaccGrammar};
 use lrpar_grammar::span::{PIdx, StIdx, TIdx};
 use lrpar_table::build::{BuildFault, Unbuilt, from_yacc, parser_data};
@@ -17,11 +16,9 @@ const SUM: &str = "%% E: T '+' E | T; T: 'ID';";
 const CONFLICTS: &str = "%start A\n%%\nA : 'a' 'b' | B 'b';\nB : 'a' | C;\nC : 'a';";
 
 // What is built of the text.
-fn built(alloc: Global, text: &str) -> Result<Built, Fail> {
+fn built(alloc: Global, text: &str) -> Result<(StateGraph<u8>, StateTable<u8>), Fail> {
     let grm = YaccGrammar::new_with_storaget(alloc, text)?;
-    let built = from_yacc(alloc, &grm, 100);
-    drop_grammar(grm);
-    Ok(built?)
+    Ok(from_yacc(alloc, &grm, 100)?)
 }
 
 // Whether the graph lists the item in the state; none out of range.
@@ -64,10 +61,7 @@ fn has_state(graph: &StateGraph<u8>, state: u8) -> bool {
 
 #[test]
 fn items_and_cores_of_sums(rt: HostRuntime) -> Result<(), Fail> {
-    let built = built(rt.alloc(), SUM)?;
-    let have_items = have_items(&rt, &built.0);
-    drop_built(built);
-    have_items
+    have_items(&rt, &built(rt.alloc(), SUM)?.0)
 }
 
 // The graph has in each state the items and the cores that it lists.
@@ -137,37 +131,29 @@ const BEGUN: [(u8, &[(u8, usize)]); 6] = [
 
 #[test]
 fn begun_cores_of_sums(rt: HostRuntime) -> Result<(), Fail> {
-    let built = built(rt.alloc(), SUM)?;
-    let have_begun = have_begun(&rt, rt.alloc(), &built.0);
-    drop_built(built);
-    have_begun
+    have_begun(&rt, rt.alloc(), &built(rt.alloc(), SUM)?.0)
 }
 
 // The states of the graph have these cores.
 fn have_begun(rt: &impl Abort, alloc: Global, graph: &StateGraph<u8>) -> Result<(), Fail> {
-    for (state, cores) in &BEGUN {
-        let found = begun(alloc, graph, *state)?;
-        assert_eq!(rt; found.as_slice(), *cores, "state {state}");
+    for (state, cores) in BEGUN {
+        let found = begun(alloc, graph, state)?;
+        assert_eq!(rt; found.as_slice(), cores, "state {state}");
     }
     Ok(())
 }
 
-// The rows of a state without entries, and no conflicts.
-fn bare_rows(alloc: Global) -> Result<TableRows<u8>, Fail> {
-    Ok(TableRows {
+// A table of one state without entries, with these conflicts.
+fn bare(alloc: Global, conflicts: Option<Conflicts<u8>>) -> Result<StateTable<u8>, Fail> {
+    let rows = TableRows {
         start: StIdx(0),
         tokens: 1,
         rules: 1,
         actions: vec![in alloc; vec![in alloc; Action::Error]?]?,
         gotos: vec![in alloc; vec![in alloc; None]?]?,
-        conflicts: None,
-    })
-}
-
-// A table of these rows, with these conflicts.
-fn bare(alloc: Global, conflicts: Option<Conflicts<u8>>) -> Result<StateTable<u8>, Fail> {
-    let rows = bare_rows(alloc)?;
-    Ok(StateTable::from_rows(alloc, TableRows { conflicts, ..rows })?)
+        conflicts,
+    };
+    Ok(StateTable::from_rows(alloc, rows)?)
 }
 
 // One conflict between two reductions, and two between a shift and a reduction.
@@ -192,38 +178,18 @@ fn has_three(table: &StateTable<u8>) -> bool {
 #[test]
 fn conflicts_of_a_table(rt: HostRuntime) -> Result<(), Fail> {
     let alloc = rt.alloc();
-    let table = bare(alloc, None)?;
-    let has_none = table.conflicts().is_none();
-    drop_table(table);
-    assert!(rt; has_none);
-    let table = bare(alloc, Some(three_conflicts(alloc)?))?;
-    let has_three = has_three(&table);
-    drop_table(table);
-    assert!(rt; has_three);
+    assert!(rt; bare(alloc, None)?.conflicts().is_none());
+    assert!(rt; has_three(&bare(alloc, Some(three_conflicts(alloc)?))?));
     Ok(())
 }
 
 // Whether the conflicts of the grammar *conflicts* fit the grammar of this text.
 fn fit(alloc: Global, text: &str) -> Result<bool, Fail> {
-    let grm = YaccGrammar::new_with_storaget(alloc, text)?;
-    let fit = fit_grammar(alloc, &grm);
-    drop_grammar(grm);
-    fit
-}
-
-// Whether they fit this grammar.
-fn fit_grammar(alloc: Global, grm: &YaccGrammar<u8>) -> Result<bool, Fail> {
-    let built = built(alloc, CONFLICTS)?;
-    let fit = table_fits(&built.1, grm);
-    drop_built(built);
-    Ok(fit.ok_or("no conflicts")?)
-}
-
-// Whether the table's conflicts fit the grammar, if it has some.
-fn table_fits(table: &StateTable<u8>, grm: &YaccGrammar<u8>) -> Option<bool> {
+    let grm = YaccGrammar::<u8>::new_with_storaget(alloc, text)?;
+    let (_, table) = built(alloc, CONFLICTS)?;
     match table.conflicts() {
-        Some(conflicts) => Some(conflicts.fit(grm)),
-        None => None,
+        Some(conflicts) => Ok(conflicts.fit(&grm)),
+        None => Err(Fail::new("no conflicts")),
     }
 }
 
