@@ -3,7 +3,6 @@ use lrpar_lexer::{NoToken, Token, TokenTypes};
 use lrpar_parser::parser::{ParseFault, PpFault};
 use lrpar_parser::span::{Span, StIdx, TIdx};
 use lrpar_parser::{LexParseError, Lexeme, ParseError, ParseRepair};
-use lrpar_test_parts::drops::drop_error;
 use std::alloc::Global;
 use std::fmt;
 use std::hash::{DefaultHasher, Hash, Hasher};
@@ -13,16 +12,18 @@ use std::test::Fail;
 /// A repair of the tests.
 type Repair = ParseRepair<Token<u32>, u32>;
 
-/// A parse error of the tests.
-type Parsed = ParseError<Token<u32>, u32>;
-
 // The lexeme of the token 1 at the byte.
 fn lexeme(start: usize) -> Token<u32> {
     Token::new(1, start.min(1_000), 1)
 }
 
 // The error in this state at the lexeme of this byte, with so many sequences of one deletion.
-fn error(alloc: Global, state: u32, start: usize, sequences: usize) -> Result<Parsed, Fail> {
+fn error(
+    alloc: Global,
+    state: u32,
+    start: usize,
+    sequences: usize,
+) -> Result<ParseError<Token<u32>, u32>, Fail> {
     let mut listed = Vec::new(alloc);
     for _ in 0..sequences {
         listed.push(vec![in alloc; ParseRepair::Delete(lexeme(start))]?)?;
@@ -47,27 +48,20 @@ fn is_told<E: fmt::Display>(alloc: Global, error: &E, want: &str) -> Result<bool
 
 // Whether the text of a parse error names its lexeme, by itself and as one of both kinds.
 fn parse_error_is_told(alloc: Global) -> Result<bool, Fail> {
-    let error: LexParseError<u32, TokenTypes> = LexParseError::from(error(alloc, 3, 1, 0)?);
-    let is_told = lexeme_is_told(alloc, &error);
-    drop_error(error);
-    is_told
-}
-
-// Whether the text of the error, and of the parse error that it is, names the lexeme of the byte 1.
-fn lexeme_is_told(alloc: Global, error: &LexParseError<u32, TokenTypes>) -> Result<bool, Fail> {
-    let LexParseError::ParseError(inner) = error else {
+    let lexeme = lexeme(1);
+    let want = format!(in alloc; "Parse error at lexeme {lexeme:?}")?;
+    let error = error(alloc, 3, 1, 0)?;
+    if !is_told(alloc, &error, want.as_str())? {
         return Ok(false);
-    };
-    let want = format!(in alloc; "Parse error at lexeme {:?}", lexeme(1))?;
-    Ok(is_told(alloc, inner, want.as_str())? && is_told(alloc, error, want.as_str())?)
+    }
+    let error: LexParseError<u32, TokenTypes> = LexParseError::from(error);
+    is_told(alloc, &error, want.as_str())
 }
 
 // Whether the text of a lexing error names its byte.
 fn lexing_error_is_told(alloc: Global) -> Result<bool, Fail> {
     let error: LexParseError<u32, TokenTypes> = LexParseError::from(NoToken::new(Span::new(7, 8)));
-    let is_told = is_told(alloc, &error, "no token fits at byte 7");
-    drop_error(error);
-    is_told
+    is_told(alloc, &error, "no token fits at byte 7")
 }
 
 // The state, the start and the number of sequences of errors; the first is that of each other row.
@@ -76,38 +70,16 @@ const ERRORS: [(u32, usize, usize); 4] = [(3, 1, 2), (4, 1, 2), (3, 2, 2), (3, 1
 // Whether the first error equals that of the row, and its own clone.
 fn equals(alloc: Global, row: (u32, usize, usize)) -> Result<(bool, bool), Fail> {
     let first = error(alloc, 3, 1, 2)?;
-    let compared = compared(alloc, &first, row);
-    drop_error(LexParseError::from(first));
-    compared
-}
-
-// Whether this error does.
-fn compared(alloc: Global, first: &Parsed, row: (u32, usize, usize)) -> Result<(bool, bool), Fail> {
-    Ok((equals_row(alloc, first, row)?, equals_clone(first)?))
-}
-
-// Whether the error equals that of the row.
-fn equals_row(alloc: Global, first: &Parsed, row: (u32, usize, usize)) -> Result<bool, Fail> {
     let (state, start, sequences) = row;
     let other = error(alloc, state, start, sequences)?;
-    let equals = *first == other;
-    drop_error(LexParseError::from(other));
-    Ok(equals)
-}
-
-// Whether the error equals its clone.
-fn equals_clone(first: &Parsed) -> Result<bool, Fail> {
-    let copy = first.clone()?;
-    let equals = *first == copy;
-    drop_error(LexParseError::from(copy));
-    Ok(equals)
+    Ok((first == other, first == first.clone()?))
 }
 
 #[test]
 fn equality_of_errors(rt: HostRuntime) -> Result<(), Fail> {
-    for row in &ERRORS {
-        let found = equals(rt.alloc(), *row)?;
-        assert_eq!(rt; found, (*row == (3, 1, 2), true), "{row:?}");
+    for row in ERRORS {
+        let found = equals(rt.alloc(), row)?;
+        assert_eq!(rt; found, (row == (3, 1, 2), true), "{row:?}");
     }
     Ok(())
 }

@@ -5,7 +5,6 @@ use lrpar_parser::parser::AStackType;
 use lrpar_parser::span::{RIdx, Span};
 use lrpar_parser::{Lexeme, Node, ParserData, RTParserBuilder, action_generictree};
 use lrpar_test_parts::built::{SUM, built};
-use lrpar_test_parts::drops::{drop_errors, drop_table, drop_tree};
 use lrpar_test_parts::lexer::{Given, lexer_of};
 use std::alloc::Global;
 use std::io;
@@ -32,8 +31,7 @@ fn sum_of(alloc: Global, terms: usize, len: usize) -> Result<Vec<Given>, Fail> {
 // The tree of these lexemes.
 fn tree_of(alloc: Global, data: &ParserData<u32>, given: &[Given]) -> Result<Tree, Fail> {
     let parser = RTParserBuilder::<u32, TokenTypes>::new(data);
-    let (tree, errors) = parser.parse_generictree(alloc, &lexer_of(given))?;
-    drop_errors(errors);
+    let (tree, _) = parser.parse_generictree(alloc, &lexer_of(given))?;
     Ok(tree.ok_or("no tree")?)
 }
 
@@ -67,37 +65,28 @@ fn chain_of(alloc: Global, levels: usize) -> Result<Tree, Fail> {
         lexeme: Token::new(1, 0, 1),
     };
     for _ in 0..levels {
-        tree = rule_over(alloc, tree)?;
+        let mut nodes = Vec::new(alloc);
+        nodes.push(tree)?;
+        tree = Node::Nonterm {
+            ridx: RIdx(1),
+            nodes,
+        };
     }
     Ok(tree)
-}
-
-// The rule 1 over this tree.
-fn rule_over(alloc: Global, tree: Tree) -> Result<Tree, Fail> {
-    Ok(Node::Nonterm {
-        ridx: RIdx(1),
-        nodes: vec![in alloc; tree]?,
-    })
 }
 
 // A clone of the tree, which has to equal it and outlives it.
 fn cloned(alloc: Global, tree: Tree) -> Result<Tree, Fail> {
     let again = tree.clone(alloc)?;
-    let is_same = again == tree;
-    drop_tree(tree);
-    if is_same {
-        Ok(again)
-    } else {
-        Err(Fail::new("a clone that differs"))
+    if again != tree {
+        return Err(Fail::new("a clone that differs"));
     }
+    Ok(again)
 }
 
 #[test]
 fn deep_trees(rt: HostRuntime) -> Result<(), Fail> {
-    let data = built(rt.alloc(), SUM)?;
-    let are_deep = are_deep(&rt, rt.alloc(), &data);
-    drop_table(data);
-    are_deep
+    are_deep(&rt, rt.alloc(), &built(rt.alloc(), SUM)?)
 }
 
 // A clone of the tree of a deep sum has its levels.
@@ -114,10 +103,7 @@ fn cloned_levels(alloc: Global, data: &ParserData<u32>, terms: usize) -> Result<
 
 #[test]
 fn trees_of_a_million_levels(rt: HostRuntime) -> Result<(), Fail> {
-    let data = built(rt.alloc(), SUM)?;
-    let are_chained = are_chained(&rt, rt.alloc(), data.grm());
-    drop_table(data);
-    are_chained
+    are_chained(&rt, rt.alloc(), built(rt.alloc(), SUM)?.grm())
 }
 
 // So it is of a chain of a million levels.
@@ -140,26 +126,15 @@ fn found_of_chain(
 // How many bytes the text of a chain of so many rules `E` has. Each line has a space for each level.
 fn printed_len(alloc: Global, grm: &YaccGrammar<u32>, levels: usize) -> Result<usize, Fail> {
     let tree = chain_of(alloc, levels)?;
-    let len = len_of(alloc, grm, &tree);
-    drop_tree(tree);
-    len
-}
-
-// How many bytes the text of the tree has, over a text of one byte.
-fn len_of(alloc: Global, grm: &YaccGrammar<u32>, tree: &Tree) -> Result<usize, Fail> {
-    if tree.fits(grm, "a") {
-        Ok(tree.pp(alloc, grm, "a")?.len())
-    } else {
-        Err(Fail::new("a chain that doesn't fit"))
+    if !tree.fits(grm, "a") {
+        return Err(Fail::new("a chain that doesn't fit"));
     }
+    Ok(tree.pp(alloc, grm, "a")?.len())
 }
 
 #[test]
 fn deep_trees_are_printed(rt: HostRuntime) -> Result<(), Fail> {
-    let data = built(rt.alloc(), SUM)?;
-    let are_printed = are_printed(&rt, rt.alloc(), data.grm());
-    drop_table(data);
-    are_printed
+    are_printed(&rt, rt.alloc(), built(rt.alloc(), SUM)?.grm())
 }
 
 // A chain of 20,000 levels has a text of so many bytes.
@@ -170,18 +145,14 @@ fn are_printed(rt: &impl Abort, alloc: Global, grm: &YaccGrammar<u32>) -> Result
 
 #[test]
 fn deep_trees_are_written(rt: HostRuntime) -> Result<(), Fail> {
-    let data = built(rt.alloc(), SUM)?;
-    let is_written = write_chain(rt.alloc(), data.grm(), 50_000);
-    drop_table(data);
-    is_written
+    write_chain(rt.alloc(), built(rt.alloc(), SUM)?.grm(), 50_000)
 }
 
 // Writes a chain of so many rules `E`.
 fn write_chain(alloc: Global, grm: &YaccGrammar<u32>, levels: usize) -> Result<(), Fail> {
     let tree = chain_of(alloc, levels)?;
-    let is_written = tree.write(alloc, grm, "a", &mut io::sink());
-    drop_tree(tree);
-    Ok(is_written?)
+    tree.write(alloc, grm, "a", &mut io::sink())?;
+    Ok(())
 }
 
 // How many terms two sums have, how many bytes the last term of the second one has, and whether both have one tree.
@@ -201,35 +172,18 @@ fn equals(
     len: usize,
 ) -> Result<bool, Fail> {
     let tree = tree_of_sum(alloc, data, first, 1)?;
-    let equals = sum_is(alloc, data, terms, len, &tree);
-    drop_tree(tree);
-    equals
-}
-
-// Whether the tree of such a sum is this one.
-fn sum_is(
-    alloc: Global,
-    data: &ParserData<u32>,
-    terms: usize,
-    len: usize,
-    tree: &Tree,
-) -> Result<bool, Fail> {
-    Ok(tree_of_sum(alloc, data, terms, len)? == *tree)
+    Ok(tree == tree_of_sum(alloc, data, terms, len)?)
 }
 
 #[test]
 fn trees_that_differ(rt: HostRuntime) -> Result<(), Fail> {
-    let data = built(rt.alloc(), SUM)?;
-    let differ = differ(&rt, rt.alloc(), &data);
-    drop_table(data);
-    differ
+    differ(&rt, rt.alloc(), &built(rt.alloc(), SUM)?)
 }
 
 // In each row the trees of both sums are equal, where the row says so.
 fn differ(rt: &impl Abort, alloc: Global, data: &ParserData<u32>) -> Result<(), Fail> {
-    for (first, terms, len, want) in &SUMS {
-        let equals = equals(alloc, data, *first, *terms, *len)?;
-        assert_eq!(rt; equals, *want);
+    for (first, terms, len, want) in SUMS {
+        assert_eq!(rt; equals(alloc, data, first, terms, len)?, want);
     }
     Ok(())
 }
@@ -237,63 +191,37 @@ fn differ(rt: &impl Abort, alloc: Global, data: &ParserData<u32>) -> Result<(), 
 #[test]
 fn trees_of_no_grammar(rt: HostRuntime) -> Result<(), Fail> {
     let data = built(rt.alloc(), SUM)?;
-    let leaf_fits = leaf_fits(data.grm());
-    let rule_fits = rule_fits(rt.alloc(), data.grm());
-    drop_table(data);
-    assert!(rt; !leaf_fits, "the end token has no name");
-    assert!(rt; !rule_fits, "the grammar has three rules");
-    Ok(())
-}
-
-// Whether a lexeme of the token 2 fits.
-fn leaf_fits(grm: &YaccGrammar<u32>) -> bool {
     let leaf: Tree = Node::Term {
         lexeme: Token::new(2, 0, 1),
     };
-    leaf.fits(grm, "a")
-}
-
-// Whether the rule 3 fits, over nothing.
-fn rule_fits(alloc: Global, grm: &YaccGrammar<u32>) -> bool {
+    assert!(rt; !leaf.fits(data.grm(), "a"), "the end token has no name");
     let rule: Tree = Node::Nonterm {
         ridx: RIdx(3),
-        nodes: Vec::new(alloc),
+        nodes: Vec::new(rt.alloc()),
     };
-    rule.fits(grm, "a")
+    assert!(rt; !rule.fits(data.grm(), "a"), "the grammar has three rules");
+    Ok(())
 }
 
 // The node that an action makes of the rule 1 and the lexeme.
 fn acted_leaf(alloc: Global, lexeme: Token<u32>) -> Result<Tree, Fail> {
-    let args = vec![in alloc; AStackType::Lexeme(lexeme)]?;
+    let mut args = Vec::new(alloc);
+    args.push(AStackType::Lexeme(lexeme))?;
     let (rule, lexer) = (RIdx(1), lexer_of(&[]));
     Ok(action_generictree(alloc, rule, &lexer, Span::new(0, 1), args, &())?)
-}
-
-// Whether that is this tree.
-fn acted_leaf_is(alloc: Global, lexeme: Token<u32>, tree: &Tree) -> Result<bool, Fail> {
-    Ok(acted_leaf(alloc, lexeme)? == *tree)
 }
 
 #[test]
 fn an_action_makes_a_node(rt: HostRuntime) -> Result<(), Fail> {
     let lexeme: Token<u32> = Token::new(3, 0, 1);
-    let rule = rule_over(rt.alloc(), Node::Term { lexeme })?;
-    let is_made = acted_leaf_is(rt.alloc(), lexeme, &rule);
-    drop_tree(rule);
-    assert!(rt; is_made?);
+    let mut nodes = Vec::new(rt.alloc());
+    nodes.push(Node::Term { lexeme })?;
+    let rule = Node::Nonterm {
+        ridx: RIdx(1),
+        nodes,
+    };
+    assert!(rt; acted_leaf(rt.alloc(), lexeme)? == rule);
     Ok(())
-}
-
-// What is written of the tree over this text.
-fn written(
-    alloc: Global,
-    grm: &YaccGrammar<u32>,
-    tree: &Tree,
-    text: &str,
-) -> Result<Vec<u8>, Fail> {
-    let mut written = Vec::new(alloc);
-    tree.write(alloc, grm, text, &mut written)?;
-    Ok(written)
 }
 
 // Whether the tree is written over this text as it is printed, and isn't written over no text.
@@ -306,27 +234,22 @@ fn is_written(
     if !tree.fits(grm, text) {
         return Err(Fail::new("a tree outside the text"));
     }
-    let is_refused = tree.write(alloc, grm, "", &mut Vec::new(alloc)).is_err();
-    let written = written(alloc, grm, tree, text)?;
     let printed = tree.pp(alloc, grm, text)?;
+    let mut written = Vec::new(alloc);
+    tree.write(alloc, grm, text, &mut written)?;
+    let is_refused = tree.write(alloc, grm, "", &mut Vec::new(alloc)).is_err();
     Ok(is_refused && written.as_slice() == printed.as_bytes())
 }
 
-// How many terms a sum has, and its text.
-const WRITTEN: [(usize, &str); 3] = [(1, "a"), (2, "a+b"), (3, "a+b+c")];
-
 #[test]
 fn trees_are_written_over_their_text(rt: HostRuntime) -> Result<(), Fail> {
-    let data = built(rt.alloc(), SUM)?;
-    let are_written = are_written(&rt, rt.alloc(), &data);
-    drop_table(data);
-    are_written
+    are_written(&rt, rt.alloc(), &built(rt.alloc(), SUM)?)
 }
 
-// The trees of these sums are written over their texts.
+// The trees of sums of one to three terms are written over these texts.
 fn are_written(rt: &impl Abort, alloc: Global, data: &ParserData<u32>) -> Result<(), Fail> {
-    for (terms, text) in &WRITTEN {
-        let is_written = sum_is_written(alloc, data, *terms, *text)?;
+    for (terms, text) in [(1, "a"), (2, "a+b"), (3, "a+b+c")] {
+        let is_written = sum_is_written(alloc, data, terms, text)?;
         assert!(rt; is_written, "{text}");
     }
     Ok(())
@@ -340,7 +263,5 @@ fn sum_is_written(
     text: &str,
 ) -> Result<bool, Fail> {
     let tree = tree_of_sum(alloc, data, terms, 1)?;
-    let is_written = is_written(alloc, data.grm(), &tree, text);
-    drop_tree(tree);
-    is_written
+    is_written(alloc, data.grm(), &tree, text)
 }
