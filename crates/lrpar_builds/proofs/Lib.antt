@@ -1,2 +1,1 @@
 pub mod PlacedLemmas
-pub mod ReversedLemmas

@@ -10,7 +10,7 @@ use Rattle.lrpar_builds.specs.PlacedRising.{rise_back, spans_both}
 use Rattle.lrpar_builds.specs.Spans.{Rise, last_part, last_span, span_after, span_over}
 use Rattle.lrpar_steps.specs.Standing.{AllStand, StandsFor}
 use Rattle.lrpar_builds.specs.declared.actions.Placed.{Placed}
-use Rattle.lrpar_builds.specs.declared.values.AStackType.{AStackType}
+use Rattle.lrpar_steps.specs.declared.values.AStackType.{AStackType}
 
 -- An entry that stands for a tree after a span has the tree's span, and its argument is one to which the tree folds.
 pub record IsActedAt {X V : Type 0} (span : X → Extent) (acts : ℕ → Extent → List (AStackType X V) → V → Type 0) (before : Extent) (t : Tree X) (e : Placed (AStackType X V)) : Type 0 where

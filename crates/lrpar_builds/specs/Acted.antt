@@ -4,8 +4,8 @@ use Rattle.lrpar_grammar.specs.Grammar.{Grammar, rule_of}
 use Rattle.lrpar_grammar.specs.Tree.{Tree, Forest, Leaf, Branch, Nil, Cons}
 use Rattle.lrpar_text.specs.Span.{Extent, nowhere}
 use Rattle.lrpar_builds.specs.Spans.{span_after}
-use Rattle.lrpar_builds.specs.declared.values.AStackType.{AStackType}
-use Rattle.lrpar_builds.specs.declared.values.AStackType.TheVariants.{ActionType, Lexeme}
+use Rattle.lrpar_steps.specs.declared.values.AStackType.{AStackType}
+use Rattle.lrpar_steps.specs.declared.values.AStackType.TheVariants.{ActionType, Lexeme}
 
 -- `acts p span args v`: production p at this span has the value v over these arguments. A leaf folds to its lexeme, and an
 -- inner node to a value of its production, at the node's span, over arguments to which its children fold.

@@ -2,8 +2,8 @@
 use Rattle.std.specs.Prelude.{◌≡◌, ◌<◌, ℕ, List}
 use Rattle.std.specs.List.{AllZip}
 use Rattle.lrpar_grammar.specs.Grammar.{Grammar, GrammarSymbol, Nonterminal, Terminal, rule_of, start_prod, symbols_of}
-use Rattle.lrpar_builds.specs.declared.values.AStackType.{AStackType}
-use Rattle.lrpar_builds.specs.declared.values.AStackType.TheVariants.{ActionType, Lexeme}
+use Rattle.lrpar_steps.specs.declared.values.AStackType.{AStackType}
+use Rattle.lrpar_steps.specs.declared.values.AStackType.TheVariants.{ActionType, Lexeme}
 
 -- An argument for a token is a lexeme of it, and one for a rule a value that has the rule's fact. `token` gives the token
 -- of a lexeme, and `fact r v` says that value v has the fact of rule r.

@@ -1,6 +1,4 @@
 pub mod Folds
-pub mod Made
-pub mod Entries
 pub mod Nodes
 pub mod Spans
 pub mod Arguments

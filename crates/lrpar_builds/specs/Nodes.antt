@@ -4,8 +4,8 @@ use Rattle.std.specs.declared.alloc.Global.{Global}
 use Rattle.lrpar_text.specs.declared.span.RIdx.{RIdx}
 use Rattle.lrpar_answers.specs.declared.node.Node.{Node}
 use Rattle.lrpar_answers.specs.declared.node.Node.TheVariants.{Term, Nonterm}
-use Rattle.lrpar_builds.specs.declared.values.AStackType.{AStackType}
-use Rattle.lrpar_builds.specs.declared.values.AStackType.TheVariants.{ActionType, Lexeme}
+use Rattle.lrpar_steps.specs.declared.values.AStackType.{AStackType}
+use Rattle.lrpar_steps.specs.declared.values.AStackType.TheVariants.{ActionType, Lexeme}
 
 -- the node of a lexeme
 abbrev pub IsTerm : {X S : Type 0} → X → Node X S → Type 0

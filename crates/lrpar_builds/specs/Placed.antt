@@ -4,8 +4,8 @@ use Rattle.std.specs.Option.{option_map_or}
 use Rattle.lrpar_text.specs.Span.{Extent, nowhere}
 use Rattle.lrpar_builds.specs.Spans.{span_over}
 use Rattle.lrpar_builds.specs.declared.actions.Placed.{Placed}
-use Rattle.lrpar_builds.specs.declared.values.AStackType.{AStackType}
-use Rattle.lrpar_builds.specs.declared.values.AStackType.TheVariants.{ActionType, Lexeme}
+use Rattle.lrpar_steps.specs.declared.values.AStackType.{AStackType}
+use Rattle.lrpar_steps.specs.declared.values.AStackType.TheVariants.{ActionType, Lexeme}
 
 -- the spans of entries, and the arguments that they are
 abbrev pub spans_of : {T : Type 0} → List (Placed T) → List Extent

@@ -6,7 +6,7 @@ use Rattle.lrpar_builds.specs.Placed.{IsPlacedLexeme, IsPlacedValue, span_before
 use Rattle.lrpar_steps.specs.Rising.{KeepsRising}
 use Rattle.lrpar_builds.specs.Spans.{Rise, span_over}
 use Rattle.lrpar_builds.specs.declared.actions.Placed.{Placed}
-use Rattle.lrpar_builds.specs.declared.values.AStackType.{AStackType}
+use Rattle.lrpar_steps.specs.declared.values.AStackType.{AStackType}
 
 -- the start of the last of these parts; the bound, where there is none
 abbrev pub last_start : ℕ → List Extent → ℕ

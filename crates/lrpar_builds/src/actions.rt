@@ -4,7 +4,7 @@ ghost use Rattle.std.specs.List.{last_or};
 ghost use Rattle.lrpar_text.specs.Span.{Extent};
 ghost use Rattle.lrpar_grammar.specs.Grammar.{GrammarSymbol};
 ghost use Rattle.lrpar_grammar.specs.Symbols.{symbol_of};
-ghost use Rattle.lrpar_builds.specs.declared.values.AStackType.{AStackType};
+ghost use Rattle.lrpar_steps.specs.declared.values.AStackType.{AStackType};
 ghost use Rattle.lrpar_builds.specs.Acted.{acts_by};
 ghost use Rattle.lrpar_builds.specs.Arguments.{AreArguments, IsArgument, TakesAll};
 ghost use Rattle.lrpar_steps.specs.Known.{span_by, token_by};
@@ -12,12 +12,12 @@ ghost use Rattle.lrpar_builds.specs.Placed.{IsPlacedLexeme, IsPlacedValue, argum
 ghost use Rattle.lrpar_builds.specs.PlacedRising.{placed_rise};
 ghost use Rattle.lrpar_builds.specs.Spans.{Rise, span_over};
 
-use crate::top::made_of_top;
-use crate::values::AStackType;
 use lrpar_grammar::grammar::YaccGrammar;
 use lrpar_grammar::span::{PIdx, RIdx, Span, StorageIndex, Symbol};
 use lrpar_lexemes::lex_api::Lexeme;
 use lrpar_steps::building::Build;
+use lrpar_steps::top::made_of_top;
+use lrpar_steps::values::AStackType;
 use std::alloc::{AllocError, Global};
 
 /// What makes the values of a parse by `parse_actions`, production by production. An implementation states three things:

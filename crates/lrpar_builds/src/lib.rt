@@ -3,7 +3,4 @@
 
 pub mod actions;
 pub mod laws;
-pub mod nothing;
-mod top;
 pub mod trees;
-pub mod values;

@@ -3,12 +3,12 @@ ghost use Rattle.std.specs.Prelude.{◌≡◌, ◌<◌, ◌≤◌, ◌-◌, IfOk
 ghost use Rattle.lrpar_grammar.specs.Grammar.{rule_of, start_prod};
 ghost use Rattle.lrpar_builds.specs.Nodes.{IsNonterm, IsTerm, node_of};
 
-use crate::values::AStackType;
 use lrpar_answers::node::Node;
 use lrpar_grammar::grammar::YaccGrammar;
 use lrpar_grammar::span::{PIdx, RIdx, Span, StorageIndex};
 use lrpar_lexemes::lex_api::{Lexeme, LexerTypes, NonStreamingLexer};
 use lrpar_steps::building::Build;
+use lrpar_steps::values::AStackType;
 use std::alloc::{AllocError, Global};
 
 /// Builds the tree of the parse.

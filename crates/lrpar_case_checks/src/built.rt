@@ -1,10 +1,11 @@
 //! Tables that are built of grammar texts, and texts of which none is.
-use crate::checks::{checked, push_fault, push_second};
+use crate::checks::{checked, push_fault};
 use lrpar_case_lines::cases::Case;
 use lrpar_case_lines::fault::Fault;
+use lrpar_case_lines::told::Told;
 use lrpar_case_lines::values::{cap_of, number_at, number_of};
 use lrpar_case_tables::faults::of_grammar;
-use lrpar_case_tables::rows::{push_conflicts, text_of_data};
+use lrpar_case_tables::rows::{push_conflicts, push_data};
 use lrpar_grammar::grammar::YaccGrammar;
 use lrpar_grammar::span::StorageIndex;
 use lrpar_table::build::{BuildFault, Unbuilt, from_yacc, parser_data};
@@ -14,9 +15,6 @@ use std::alloc::{AllocError, Global};
 
 /// The keys that say what is done.
 pub const INPUTS: &[&str] = &["text", "symbols", "storage", "most", "cap", "then-cap"];
-
-/// What stands in front of a chain that is too long.
-const CHAINS: &str = "refused chains:";
 
 // What is allowed.
 #[derive(Clone, Copy)]
@@ -30,15 +28,13 @@ struct Limits {
 }
 
 /// What is built of the text: in the smallest storage type, or in that which is named.
-pub fn outcome(alloc: Global, case: Case<'_, '_>) -> Result<String, Fault> {
+pub fn outcome(told: &mut Told, alloc: Global, case: Case<'_, '_>) -> Result<(), Fault> {
     let limits = limits_of(case)?;
     let text = source(alloc, case)?;
-    let mut came = String::new(alloc);
     match case.value_or_nothing("storage") {
-        "u16" => push_built::<u16>(&mut came, alloc, case, text.as_str(), limits)?,
-        _ => push_built::<u8>(&mut came, alloc, case, text.as_str(), limits)?,
+        "u16" => push_built::<u16>(told, alloc, case, text.as_str(), limits),
+        _ => push_built::<u8>(told, alloc, case, text.as_str(), limits),
     }
-    Ok(came)
 }
 
 // What the case allows.
@@ -90,143 +86,111 @@ fn grammar<S: StorageIndex>(
 
 // What is built of the text, and where a cap is named, what comes of the check with it.
 fn push_built<S: StorageIndex>(
-    came: &mut String,
+    told: &mut Told,
     alloc: Global,
     case: Case<'_, '_>,
     text: &str,
     limits: Limits,
 ) -> Result<(), Fault> {
-    let grm = grammar::<S>(alloc, case, text)?;
-    push_table_of(came, alloc, &grm, limits.most)?;
-    match limits.cap {
-        None => Ok(()),
-        Some(cap) => push_checked(came, alloc, grm, cap, limits),
+    match YaccGrammar::<S>::new_with_storaget(alloc, text) {
+        Ok(grm) => push_tables(told, alloc, grm, limits),
+        Err(fault) => return Err(of_grammar(fault, case.number, "the text is no grammar")),
+    }
+    Ok(())
+}
+
+// The same of the grammar.
+fn push_tables<S: StorageIndex>(
+    told: &mut Told,
+    alloc: Global,
+    grm: YaccGrammar<S>,
+    limits: Limits,
+) {
+    push_table_of(told, alloc, &grm, limits.most);
+    if let Some(cap) = limits.cap {
+        push_checked(told, alloc, grm, cap, limits);
     }
 }
 
 // What is built of the grammar.
 fn push_table_of<S: StorageIndex>(
-    came: &mut String,
+    told: &mut Told,
     alloc: Global,
     grm: &YaccGrammar<S>,
     most: usize,
-) -> Result<(), Fault> {
+) {
     match from_yacc(alloc, grm, most) {
-        Ok((graph, table)) => push_table(came, grm, &graph, &table),
-        Err(fault) => push_build_fault(came, "fault", fault),
+        Ok((graph, table)) => push_table(told, grm, &graph, &table),
+        Err(fault) => push_build_fault(told, "fault ", fault),
     }
 }
 
 // Adds the fault behind these words. Want of memory isn't told of a table.
-fn push_build_fault(came: &mut String, words: &str, fault: BuildFault) -> Result<(), Fault> {
+fn push_build_fault(told: &mut Told, words: &str, fault: BuildFault) {
     match fault {
-        BuildFault::Memory => Err(Fault::Memory),
-        fault => Ok(writeln!(came, "{words} {fault}")?),
+        BuildFault::Memory => told.lack_memory(),
+        fault => told.line(words, &fault),
     }
 }
 
 // How many states there are, and the conflicts.
 fn push_table<S: StorageIndex>(
-    came: &mut String,
+    told: &mut Told,
     grm: &YaccGrammar<S>,
     graph: &StateGraph<S>,
     table: &StateTable<S>,
-) -> Result<(), Fault> {
-    let (sets, states) = (graph.states_len(), table.states_len());
-    writeln!(came, "built {states} states, {sets} item sets")?;
-    push_conflicts(came, grm, table)
+) {
+    told.number("built ", table.states_len());
+    told.number(" states, ", graph.states_len());
+    told.text(" item sets\n");
+    push_conflicts(told, grm, table);
 }
 
 // What comes of the check with the cap.
 fn push_checked<S: StorageIndex>(
-    came: &mut String,
+    told: &mut Told,
     alloc: Global,
     grm: YaccGrammar<S>,
     cap: u16,
     limits: Limits,
-) -> Result<(), Fault> {
+) {
     match parser_data(alloc, grm, limits.most, cap) {
-        Ok(data) => push_data(came, alloc, &data),
-        Err(unbuilt) => push_unbuilt(came, alloc, unbuilt, limits.then),
-    }
-}
-
-// Why there is no table, or which chain of it is too long.
-fn push_unbuilt<S: StorageIndex>(
-    came: &mut String,
-    alloc: Global,
-    unbuilt: Unbuilt<S>,
-    then: Option<u16>,
-) -> Result<(), Fault> {
-    match unbuilt {
-        Unbuilt::Table(fault, _) => push_build_fault(came, "refused table:", fault),
-        Unbuilt::Chains(refused) => push_refusal(came, alloc, refused, then),
+        Ok(data) => push_as_built(told, alloc, &data),
+        Err(Unbuilt::Table(fault, _)) => push_build_fault(told, "refused table: ", fault),
+        Err(Unbuilt::Chains(refused)) => push_refusal(told, alloc, refused, limits.then),
     }
 }
 
 // That the table is checked; and its states and conflicts, where they aren't those that were built.
-fn push_data<S: StorageIndex>(
-    came: &mut String,
-    alloc: Global,
-    data: &ParserData<S>,
-) -> Result<(), Fault> {
-    let mut text = String::new(alloc);
-    push_table(&mut text, data.grm(), data.sgraph(), data.stable())?;
-    let is_as_built = came.as_str() == text.as_str();
-    came.push_str("checked\n")?;
+fn push_as_built<S: StorageIndex>(told: &mut Told, alloc: Global, data: &ParserData<S>) {
+    let mut text = Told::new(alloc);
+    push_table(&mut text, data.grm(), data.sgraph(), data.stable());
+    let is_as_built = told.so_far() == text.so_far();
+    told.text("checked\n");
     if !is_as_built {
-        came.push_str(text.as_str())?;
+        told.told(&text);
     }
-    Ok(())
 }
 
 // Which chain is too long, and where another cap is named, what comes of the check of what is handed back.
 fn push_refusal<S: StorageIndex>(
-    came: &mut String,
+    told: &mut Told,
     alloc: Global,
     refused: Refused<S>,
     then: Option<u16>,
-) -> Result<(), Fault> {
-    match then {
-        None => push_fault(came, CHAINS, refused.fault()),
-        Some(cap) => push_both(came, alloc, refused, cap),
-    }
-}
-
-// The same with the second check. A failure to tell the first waits, so that there are few ways out while what is refused is held.
-fn push_both<S: StorageIndex>(
-    came: &mut String,
-    alloc: Global,
-    refused: Refused<S>,
-    cap: u16,
-) -> Result<(), Fault> {
-    let first = push_fault(came, CHAINS, refused.fault());
-    let second = push_again(came, alloc, refused, cap);
-    first?;
-    second
-}
-
-// What comes of the check of what is handed back.
-fn push_again<S: StorageIndex>(
-    came: &mut String,
-    alloc: Global,
-    refused: Refused<S>,
-    cap: u16,
-) -> Result<(), Fault> {
-    let (grm, graph, table) = refused.into_parts();
-    match checked(alloc, grm, graph, table, cap) {
-        Ok(data) => push_rows(came, alloc, &data),
-        Err(fault) => push_second(came, Some(fault)),
+) {
+    push_fault(told, "refused chains: ", refused.fault());
+    if let Some(cap) = then {
+        let (grm, graph, table) = refused.into_parts();
+        match checked(alloc, grm, graph, table, cap) {
+            Ok(data) => push_rows(told, &data),
+            Err(fault) => push_fault(told, "then refused ", fault),
+        }
     }
 }
 
 // That the table is checked with the other cap, and its rows.
-fn push_rows<S: StorageIndex>(
-    came: &mut String,
-    alloc: Global,
-    data: &ParserData<S>,
-) -> Result<(), Fault> {
-    let text = text_of_data(alloc, data)?;
-    push_second(came, None)?;
-    Ok(came.push_str(text.as_str())?)
+fn push_rows<S: StorageIndex>(told: &mut Told, data: &ParserData<S>) {
+    told.text("then checked\n");
+    push_data(told, data);
 }

@@ -2,6 +2,7 @@
 use lrpar_case_lines::cases::Case;
 use lrpar_case_lines::fault::Fault;
 use lrpar_case_lines::line::{Content, Line, in_two};
+use lrpar_case_lines::told::Told;
 use lrpar_case_lines::values::{index_of, number_at};
 use lrpar_case_tables::actions::action_of;
 use lrpar_grammar::span::{RIdx, StIdx, TIdx};
@@ -12,45 +13,49 @@ use std::alloc::Global;
 pub const INPUTS: &[&str] = &["start", "states", "tokens", "rules", "actions", "gotos"];
 
 /// Whether there is a table of the full rows.
-pub fn outcome_of_rows(alloc: Global, case: Case<'_, '_>) -> Result<String, Fault> {
+pub fn outcome_of_rows(told: &mut Told, alloc: Global, case: Case<'_, '_>) -> Result<(), Fault> {
     let rows = full_rows(alloc, case)?;
-    told(alloc, StateTable::from_rows(alloc, rows))
+    push_made(told, StateTable::from_rows(alloc, rows));
+    Ok(())
 }
 
 /// Whether there is a table of the stored entries.
-pub fn outcome_of_entries(alloc: Global, case: Case<'_, '_>) -> Result<String, Fault> {
+pub fn outcome_of_entries(told: &mut Told, alloc: Global, case: Case<'_, '_>) -> Result<(), Fault> {
     let rows = stored(alloc, case)?;
-    told(alloc, StateTable::from_sparse(alloc, rows))
+    push_made(told, StateTable::from_sparse(alloc, rows));
+    Ok(())
 }
 
 /// Whether there are so many item sets, all empty.
-pub fn outcome_of_sets(alloc: Global, case: Case<'_, '_>) -> Result<String, Fault> {
+pub fn outcome_of_sets(told: &mut Told, alloc: Global, case: Case<'_, '_>) -> Result<(), Fault> {
     let mut rows = Vec::new(alloc);
     for _ in 0..number_at(case, "states", 0)? {
         rows.push(Vec::new(alloc))?;
     }
     match StateGraph::<u8>::from_rows(alloc, rows) {
-        Ok(graph) => told_len(alloc, graph.states_len()),
-        Err(fault) => told_fault(alloc, fault),
+        Ok(graph) => push_len(told, graph.states_len()),
+        Err(fault) => push_fault(told, fault),
     }
+    Ok(())
 }
 
 // How many states the table has, or why there is none.
-fn told(alloc: Global, made: Result<StateTable<u8>, TableFault>) -> Result<String, Fault> {
+fn push_made(told: &mut Told, made: Result<StateTable<u8>, TableFault>) {
     match made {
-        Ok(table) => told_len(alloc, table.states_len()),
-        Err(fault) => told_fault(alloc, fault),
+        Ok(table) => push_len(told, table.states_len()),
+        Err(fault) => push_fault(told, fault),
     }
 }
 
-fn told_len(alloc: Global, states: usize) -> Result<String, Fault> {
-    Ok(format!(in alloc; "made {states} states\n")?)
+fn push_len(told: &mut Told, states: usize) {
+    told.number("made ", states);
+    told.text(" states\n");
 }
 
-fn told_fault(alloc: Global, fault: TableFault) -> Result<String, Fault> {
+fn push_fault(told: &mut Told, fault: TableFault) {
     match fault {
-        TableFault::Memory => Err(Fault::Memory),
-        TableFault::BadIndex => Ok(format!(in alloc; "fault {fault}\n")?),
+        TableFault::Memory => told.lack_memory(),
+        TableFault::BadIndex => told.line("fault ", &fault),
     }
 }
 

@@ -2,7 +2,8 @@
 use lrpar_case_lines::cases::Case;
 use lrpar_case_lines::fault::Fault;
 use lrpar_case_lines::names::token_of;
-use lrpar_case_tables::rows::agreed;
+use lrpar_case_lines::told::Told;
+use lrpar_case_tables::rows::push_agreed;
 use lrpar_case_tables::stack::states_of;
 use lrpar_case_tables::subject::Subject;
 use lrpar_grammar::span::{StIdx, TIdx};
@@ -14,39 +15,47 @@ pub const INPUTS: &[&str] = &["states", "tokens"];
 
 /// Whether the states are a stack; or what each of the tokens does at it, settled and fed.
 pub fn outcome(
+    told: &mut Told,
     alloc: Global,
     subject: Option<Subject<'_, '_, '_>>,
     case: Case<'_, '_>,
-) -> Result<String, Fault> {
+) -> Result<(), Fault> {
+    let Some(subject) = subject else {
+        return Err(Fault::Line(case.number, "a table in front is wanted"));
+    };
     let states = states_of(alloc, case)?;
-    match subject {
-        None => Err(Fault::Line(case.number, "a table in front is wanted")),
-        Some(subject) => agreed(
-            came_by(alloc, case, &subject.tables.by_rows, &states)?,
-            came_by(alloc, case, &subject.tables.by_entries, &states)?,
-        ),
-    }
+    let (mut by_rows, mut by_entries) = (Told::new(alloc), Told::new(alloc));
+    push_by(&mut by_rows, alloc, case, &subject.tables.by_rows, &states)?;
+    push_by(
+        &mut by_entries,
+        alloc,
+        case,
+        &subject.tables.by_entries,
+        &states,
+    )?;
+    push_agreed(told, &by_rows, &by_entries);
+    Ok(())
 }
 
 // What comes by one table.
-fn came_by(
+fn push_by(
+    told: &mut Told,
     alloc: Global,
     case: Case<'_, '_>,
     data: &ParserData<u32>,
     states: &[StIdx<u32>],
-) -> Result<String, Fault> {
-    let mut came = String::new(alloc);
+) -> Result<(), Fault> {
     match (case.value("tokens"), data.is_stack(states)) {
-        (None, true) => came.push_str("stack yes\n")?,
-        (Some((tokens, _)), true) => push_tokens(&mut came, alloc, case, data, states, tokens)?,
-        (_, false) => came.push_str("stack no\n")?,
+        (None, true) => told.text("stack yes\n"),
+        (Some((tokens, _)), true) => push_tokens(told, alloc, case, data, states, tokens)?,
+        (_, false) => told.text("stack no\n"),
     }
-    Ok(came)
+    Ok(())
 }
 
 // What each of the tokens does at a stack: by a list of its own, and over the stack, where the one before is set back.
 fn push_tokens(
-    came: &mut String,
+    told: &mut Told,
     alloc: Global,
     case: Case<'_, '_>,
     data: &ParserData<u32>,
@@ -59,10 +68,10 @@ fn push_tokens(
     let mut over = Overlay::new(alloc, states);
     for word in tokens.split(' ') {
         let token = token_of(data.grm(), word, case.number)?;
-        write!(came, "settles {word}")?;
-        push_call(came, alloc, data, states, &mut over, Call::Settle(token))?;
-        write!(came, "feeds {word}")?;
-        push_call(came, alloc, data, states, &mut over, Call::Feed(token))?;
+        told.texts("settles ", word);
+        push_call(told, alloc, data, states, &mut over, Call::Settle(token))?;
+        told.texts("feeds ", word);
+        push_call(told, alloc, data, states, &mut over, Call::Feed(token))?;
     }
     Ok(())
 }
@@ -86,7 +95,7 @@ enum Answer {
 // What the call answers and gives at a list, and how many states of the base it leaves; and what it answers and gives over the
 // base, where that is something else.
 fn push_call(
-    came: &mut String,
+    told: &mut Told,
     alloc: Global,
     data: &ParserData<u32>,
     states: &[StIdx<u32>],
@@ -94,34 +103,31 @@ fn push_call(
     call: Call,
 ) -> Result<(), Fault> {
     over.set_back();
-    let by_list = by_list(alloc, data, states, call)?;
-    let by_overlay = by_overlay(alloc, data, over, call)?;
-    push_both(came, by_list.as_str(), by_overlay.as_str(), over.kept())
-}
-
-// What the call gives at a list, how many states of the base it leaves, and what it gives over the base, where that is something
-// else.
-fn push_both(came: &mut String, by_list: &str, by_overlay: &str, kept: usize) -> Result<(), Fault> {
-    came.push_str(by_list)?;
-    writeln!(came, ", keeps {kept}")?;
-    if by_list != by_overlay {
-        came.push_str("over")?;
-        came.push_str(by_overlay)?;
-        came.push('\n')?;
+    let (mut by_list, mut by_overlay) = (Told::new(alloc), Told::new(alloc));
+    push_by_list(&mut by_list, alloc, data, states, call)?;
+    push_by_overlay(&mut by_overlay, data, over, call)?;
+    told.told(&by_list);
+    told.line(", keeps ", &over.kept());
+    if !told.agree(&by_list, &by_overlay) {
+        told.text("over");
+        told.told(&by_overlay);
+        told.text("\n");
     }
     Ok(())
 }
 
 // What the call answers and gives at a list of these states.
-fn by_list(
+fn push_by_list(
+    told: &mut Told,
     alloc: Global,
     data: &ParserData<u32>,
     states: &[StIdx<u32>],
     call: Call,
-) -> Result<String, Fault> {
+) -> Result<(), AllocError> {
     let mut stack = Vec::from_slice(alloc, states)?;
-    let answer = called(data, &mut stack, call)?;
-    text_of(alloc, answer, &stack)
+    push_answer(told, called(data, &mut stack, call)?);
+    push_states(told, &stack);
+    Ok(())
 }
 
 // What the call answers at the list.
@@ -146,15 +152,15 @@ fn called(
 }
 
 // What the call answers and gives at the overlay.
-fn by_overlay(
-    alloc: Global,
+fn push_by_overlay(
+    told: &mut Told,
     data: &ParserData<u32>,
     over: &mut Overlay<'_, u32>,
     call: Call,
-) -> Result<String, Fault> {
-    let answer = called_over(data, over, call)?;
-    let states = over.to_vec()?;
-    text_of(alloc, answer, &states)
+) -> Result<(), AllocError> {
+    push_answer(told, called_over(data, over, call)?);
+    push_states(told, &over.to_vec()?);
+    Ok(())
 }
 
 // What the call answers at the overlay.
@@ -179,17 +185,23 @@ fn called_over(
     }
 }
 
-// The answer, and the states.
-fn text_of(alloc: Global, answer: Answer, states: &[StIdx<u32>]) -> Result<String, Fault> {
-    let mut text = match answer {
-        Answer::Settled(count) => format!(in alloc; " {count}, gives")?,
-        Answer::Fed(true) => format!(in alloc; " yes, gives")?,
-        Answer::Fed(false) => format!(in alloc; " no, gives")?,
-        Answer::Nothing => format!(in alloc; " nothing of")?,
-    };
-    for state in states {
-        let number = usize::from(*state);
-        write!(text, " {number}")?;
+// The answer.
+fn push_answer(told: &mut Told, answer: Answer) {
+    match answer {
+        Answer::Settled(count) => {
+            told.text(" ");
+            told.show(&count);
+            told.text(", gives");
+        }
+        Answer::Fed(true) => told.text(" yes, gives"),
+        Answer::Fed(false) => told.text(" no, gives"),
+        Answer::Nothing => told.text(" nothing of"),
     }
-    Ok(text)
+}
+
+// The states.
+fn push_states(told: &mut Told, states: &[StIdx<u32>]) {
+    for state in states {
+        told.number(" ", usize::from(*state));
+    }
 }

@@ -3,259 +3,204 @@ use crate::uses::push_uses;
 use lrpar_case_lines::cases::Case;
 use lrpar_case_lines::fault::Fault;
 use lrpar_case_lines::names::{rule_name, token_name};
+use lrpar_case_lines::told::Told;
 use lrpar_grammar::grammar::{GrammarFault, YaccGrammar};
-use lrpar_grammar::span::{PIdx, RIdx, Span, Symbol, TIdx};
+use lrpar_grammar::span::{Span, Symbol};
 use std::alloc::Global;
 
 /// The keys that say what is done.
 pub const INPUTS: &[&str] = &["text", "over", "show", "find"];
 
 /// The grammar of the text, in the smallest storage type.
-pub fn outcome(alloc: Global, case: Case<'_, '_>) -> Result<String, Fault> {
+pub fn outcome(told: &mut Told, alloc: Global, case: Case<'_, '_>) -> Result<(), Fault> {
     let text = case.text(alloc, "text")?;
-    shown(
-        alloc,
-        case,
-        YaccGrammar::new_with_storaget(alloc, text.as_str()),
-    )
+    let made = YaccGrammar::new_with_storaget(alloc, text.as_str());
+    push_made(told, alloc, case, made)
 }
 
-/// What is asked for of the grammar, or why there is none.
-pub fn shown(
+/// Adds what is asked for of the grammar, or why there is none.
+pub fn push_made(
+    told: &mut Told,
     alloc: Global,
     case: Case<'_, '_>,
     made: Result<YaccGrammar<u8>, GrammarFault>,
-) -> Result<String, Fault> {
-    let mut came = String::new(alloc);
+) -> Result<(), Fault> {
     match made {
-        Ok(grm) => push_shown(&mut came, alloc, case, &grm)?,
-        Err(fault) => push_fault(&mut came, &fault)?,
+        Ok(grm) => push_shown(told, alloc, case, &grm),
+        Err(fault) => {
+            push_fault(told, &fault);
+            Ok(())
+        }
     }
-    Ok(came)
 }
 
 /// Why there is no grammar of each beginning of a text.
-pub fn outcome_of_cuts(alloc: Global, case: Case<'_, '_>) -> Result<String, Fault> {
+pub fn outcome_of_cuts(told: &mut Told, alloc: Global, case: Case<'_, '_>) -> Result<(), Fault> {
     let text = case.text(alloc, "text")?;
-    let mut came = String::new(alloc);
     for (len, _) in text.as_str().char_indices() {
-        let cut = text.as_str().get(..len).unwrap_or("");
-        write!(came, "cut {len}: ")?;
-        push_cut(&mut came, alloc, cut)?;
+        told.number("cut ", len);
+        told.text(": ");
+        push_cut(told, alloc, text.as_str().get(..len).unwrap_or(""));
     }
-    Ok(came)
+    Ok(())
 }
 
 // Why the text is no grammar.
-fn push_cut(came: &mut String, alloc: Global, cut: &str) -> Result<(), Fault> {
+fn push_cut(told: &mut Told, alloc: Global, cut: &str) {
     let fault = YaccGrammar::<u8>::new_with_storaget(alloc, cut).err();
     match fault {
-        None => Ok(came.push_str("a grammar\n")?),
-        Some(fault) => push_fault(came, &fault),
+        None => told.text("a grammar\n"),
+        Some(fault) => push_fault(told, &fault),
     }
 }
 
 // The fault, with where its span ends, if it has one.
-fn push_fault(came: &mut String, fault: &GrammarFault) -> Result<(), Fault> {
-    if matches!(fault, GrammarFault::Memory) {
-        return Err(Fault::Memory);
-    }
-    write!(came, "fault {fault}")?;
+fn push_fault(told: &mut Told, fault: &GrammarFault) {
+    told.text("fault ");
+    told.show(fault);
     match fault {
         GrammarFault::UnknownRule(span)
         | GrammarFault::UnknownToken(span)
         | GrammarFault::TokenIsRule(span)
         | GrammarFault::RepeatedStart(span)
-        | GrammarFault::RepeatedEpp(span) => {
-            let end = span.end();
-            Ok(writeln!(came, "..{end}")?)
-        }
+        | GrammarFault::RepeatedEpp(span) => told.line("..", &span.end()),
+        GrammarFault::Memory => told.lack_memory(),
         GrammarFault::BadSymbol
         | GrammarFault::BadStart
         | GrammarFault::NoRules
         | GrammarFault::StorageTooSmall
-        | GrammarFault::Syntax(_)
-        | GrammarFault::Memory => Ok(came.push('\n')?),
+        | GrammarFault::Syntax(_) => told.text("\n"),
     }
 }
 
 // What is asked for of the grammar.
 fn push_shown(
-    came: &mut String,
+    told: &mut Told,
     alloc: Global,
     case: Case<'_, '_>,
     grm: &YaccGrammar<u8>,
 ) -> Result<(), Fault> {
     for word in case.value_or_nothing("show").split(' ') {
-        push_about(came, alloc, case, grm, word)?;
+        match word {
+            "counts" => push_counts(told, grm),
+            "rules" => push_rules(told, grm),
+            "productions" => push_prods(told, grm),
+            "tokens" => push_tokens(told, grm),
+            "map" => push_map(told, alloc, grm),
+            "find" => push_found(told, case, grm),
+            "fits" => push_fits(told, alloc, case, grm)?,
+            "uses" => push_uses(told, alloc, grm)?,
+            _ => return Err(Fault::Line(case.number, "what is shown isn't known")),
+        }
     }
     Ok(())
-}
-
-// What one word asks for.
-fn push_about(
-    came: &mut String,
-    alloc: Global,
-    case: Case<'_, '_>,
-    grm: &YaccGrammar<u8>,
-    word: &str,
-) -> Result<(), Fault> {
-    match word {
-        "counts" => push_counts(came, grm),
-        "rules" => push_rules(came, grm),
-        "productions" => push_prods(came, grm),
-        "tokens" => push_tokens(came, grm),
-        "map" => push_map(came, alloc, grm),
-        "find" => push_found(came, case, grm),
-        "fits" => push_fits(came, alloc, case, grm),
-        "uses" => push_uses(came, alloc, grm),
-        _ => Err(Fault::Line(case.number, "what is shown isn't known")),
-    }
 }
 
 // How many of each there are, and the start.
-fn push_counts(came: &mut String, grm: &YaccGrammar<u8>) -> Result<(), Fault> {
-    let (rules, prods, tokens) = (grm.rules_len(), grm.prods_len(), grm.tokens_len());
-    let start = grm.start_rule_idx().as_storaget();
-    let (prod, end) = (
-        grm.start_prod().as_storaget(),
-        grm.eof_token_idx().as_storaget(),
-    );
-    Ok(writeln!(
-        came,
-        "counts {rules} rules, {prods} productions, {tokens} tokens, start rule {start} by {prod}, end {end}"
-    )?)
+fn push_counts(told: &mut Told, grm: &YaccGrammar<u8>) {
+    told.number("counts ", grm.rules_len());
+    told.number(" rules, ", grm.prods_len());
+    told.number(" productions, ", grm.tokens_len());
+    told.number(" tokens, start rule ", usize::from(grm.start_rule_idx()));
+    told.number(" by ", usize::from(grm.start_prod()));
+    told.line(", end ", &usize::from(grm.eof_token_idx()));
 }
 
-// A line for each rule.
-fn push_rules(came: &mut String, grm: &YaccGrammar<u8>) -> Result<(), Fault> {
+// A line for each rule: its number, its name, where that stands, and its productions.
+fn push_rules(told: &mut Told, grm: &YaccGrammar<u8>) {
     for rule in grm.iter_rules() {
-        push_rule(came, grm, rule)?;
-    }
-    Ok(())
-}
-
-// The rule's number, its name, where that stands, and its productions.
-fn push_rule(came: &mut String, grm: &YaccGrammar<u8>, rule: RIdx<u8>) -> Result<(), Fault> {
-    let (number, name) = (rule.as_storaget(), rule_name(grm, rule));
-    if usize::from(rule) < grm.rules_len() {
-        write!(came, "rule {number} {name}")?;
-        push_span(came, grm.rule_name_span(rule))?;
-        came.push(':')?;
-        for prod in grm.rule_to_prods(rule) {
-            let prod = prod.as_storaget();
-            write!(came, " {prod}")?;
+        told.number("rule ", usize::from(rule));
+        told.texts(" ", rule_name(grm, rule));
+        if usize::from(rule) < grm.rules_len() {
+            push_span(told, grm.rule_name_span(rule));
+            told.text(":");
+            for prod in grm.rule_to_prods(rule) {
+                told.number(" ", usize::from(*prod));
+            }
         }
+        told.text("\n");
     }
-    Ok(came.push('\n')?)
 }
 
 // Where something stands.
-fn push_span(came: &mut String, span: Span) -> Result<(), Fault> {
-    let (start, end) = (span.start(), span.end());
-    Ok(write!(came, " {start}..{end}")?)
+fn push_span(told: &mut Told, span: Span) {
+    told.number(" ", span.start());
+    told.number("..", span.end());
 }
 
-// A line for each production.
-fn push_prods(came: &mut String, grm: &YaccGrammar<u8>) -> Result<(), Fault> {
+// A line for each production: its number, its rule, where it stands, and its symbols.
+fn push_prods(told: &mut Told, grm: &YaccGrammar<u8>) {
     for prod in grm.iter_pidxs() {
-        push_prod(came, grm, prod)?;
+        told.number("production ", usize::from(prod));
+        if usize::from(prod) < grm.prods_len() {
+            told.texts(" of ", rule_name(grm, grm.prod_to_rule(prod)));
+            push_span(told, grm.prod_span(prod));
+            push_symbols(told, grm, grm.prod(prod), grm.symbol_spans(prod));
+        }
+        told.text("\n");
     }
-    Ok(())
 }
 
-// The production's number, its rule, where it stands, and its symbols.
-fn push_prod(came: &mut String, grm: &YaccGrammar<u8>, prod: PIdx<u8>) -> Result<(), Fault> {
-    let number = prod.as_storaget();
-    if usize::from(prod) < grm.prods_len() {
-        let rule = rule_name(grm, grm.prod_to_rule(prod));
-        write!(came, "production {number} of {rule}")?;
-        push_span(came, grm.prod_span(prod))?;
-        push_symbols(came, grm, grm.prod(prod), grm.symbol_spans(prod))?;
-    }
-    Ok(came.push('\n')?)
-}
-
-// Symbols, each with where it stands.
-fn push_symbols(
-    came: &mut String,
-    grm: &YaccGrammar<u8>,
-    symbols: &[Symbol<u8>],
-    spans: &[Span],
-) -> Result<(), Fault> {
+// Symbols, each with where it stands; the names of tokens in quotes.
+fn push_symbols(told: &mut Told, grm: &YaccGrammar<u8>, symbols: &[Symbol<u8>], spans: &[Span]) {
     let mut mark = ':';
     for (symbol, span) in symbols.iter().zip(spans) {
-        came.push(mark)?;
-        push_symbol(came, grm, *symbol)?;
-        push_span(came, *span)?;
+        told.show(&mark);
+        told.text(" ");
+        match symbol {
+            Symbol::Rule(rule) => told.text(rule_name(grm, *rule)),
+            Symbol::Token(token) => told.quoted('\'', token_name(grm, *token)),
+        }
+        push_span(told, *span);
         mark = ',';
     }
-    Ok(())
 }
 
-// The name of a symbol; that of a token in quotes.
-fn push_symbol(came: &mut String, grm: &YaccGrammar<u8>, symbol: Symbol<u8>) -> Result<(), Fault> {
-    match symbol {
-        Symbol::Rule(rule) => {
-            let name = rule_name(grm, rule);
-            Ok(write!(came, " {name}")?)
-        }
-        Symbol::Token(token) => {
-            let name = token_name(grm, token);
-            Ok(write!(came, " '{name}'")?)
-        }
-    }
-}
-
-// A line for each token.
-fn push_tokens(came: &mut String, grm: &YaccGrammar<u8>) -> Result<(), Fault> {
+// A line for each token: its number, its name, its printed text, and where it stands; `$` for the end token, which has none of these.
+fn push_tokens(told: &mut Told, grm: &YaccGrammar<u8>) {
     for token in grm.iter_tidxs() {
-        push_token(came, grm, token)?;
-    }
-    Ok(())
-}
-
-// The token's number, its name, its printed text, and where it stands; `$` for the end token, which has none of these.
-fn push_token(came: &mut String, grm: &YaccGrammar<u8>, token: TIdx<u8>) -> Result<(), Fault> {
-    let (number, name) = (token.as_storaget(), token_name(grm, token));
-    write!(came, "token {number} {name}")?;
-    if usize::from(token) < grm.tokens_len() {
-        if let Some(epp) = grm.token_epp(token) {
-            write!(came, " \"{epp}\"")?;
+        told.number("token ", usize::from(token));
+        told.texts(" ", token_name(grm, token));
+        if usize::from(token) < grm.tokens_len() {
+            if let Some(epp) = grm.token_epp(token) {
+                told.text(" ");
+                told.quoted('"', epp);
+            }
+            if let Some(span) = grm.token_span(token) {
+                push_span(told, span);
+            }
         }
-        if let Some(span) = grm.token_span(token) {
-            push_span(came, span)?;
-        }
+        told.text("\n");
     }
-    Ok(came.push('\n')?)
 }
 
 // The tokens with names, each with its number.
-fn push_map(came: &mut String, alloc: Global, grm: &YaccGrammar<u8>) -> Result<(), Fault> {
-    for (name, token) in &grm.tokens_map(alloc)? {
-        let number = token.as_storaget();
-        writeln!(came, "map {name} {number}")?;
+fn push_map(told: &mut Told, alloc: Global, grm: &YaccGrammar<u8>) {
+    match grm.tokens_map(alloc) {
+        Ok(map) => {
+            for (name, token) in &map {
+                told.texts("map ", name);
+                told.line(" ", &usize::from(*token));
+            }
+        }
+        Err(_) => told.lack_memory(),
     }
-    Ok(())
 }
 
 // The number of each token that is looked for by its name.
-fn push_found(came: &mut String, case: Case<'_, '_>, grm: &YaccGrammar<u8>) -> Result<(), Fault> {
+fn push_found(told: &mut Told, case: Case<'_, '_>, grm: &YaccGrammar<u8>) {
     for name in case.value_or_nothing("find").split(' ') {
+        told.texts("found ", name);
         match grm.token_idx(name) {
-            Some(token) => {
-                let number = token.as_storaget();
-                writeln!(came, "found {name} {number}")?;
-            }
-            None => writeln!(came, "found {name} none")?,
+            Some(token) => told.line(" ", &usize::from(token)),
+            None => told.text(" none\n"),
         }
     }
-    Ok(())
 }
 
 // Whether the places fit the text, or the other one that is named.
 fn push_fits(
-    came: &mut String,
+    told: &mut Told,
     alloc: Global,
     case: Case<'_, '_>,
     grm: &YaccGrammar<u8>,
@@ -265,8 +210,9 @@ fn push_fits(
         None => "text",
     };
     let text = case.text(alloc, key)?;
-    match grm.spans_fit(text.as_str()) {
-        true => Ok(came.push_str("fits yes\n")?),
-        false => Ok(came.push_str("fits no\n")?),
-    }
+    told.text(match grm.spans_fit(text.as_str()) {
+        true => "fits yes\n",
+        false => "fits no\n",
+    });
+    Ok(())
 }

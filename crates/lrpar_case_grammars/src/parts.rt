@@ -1,8 +1,9 @@
 //! Grammars of parts.
-use crate::grammars::shown;
+use crate::grammars::push_made;
 use lrpar_case_lines::cases::Case;
 use lrpar_case_lines::fault::Fault;
 use lrpar_case_lines::line::{Content, in_two};
+use lrpar_case_lines::told::Told;
 use lrpar_case_lines::values::{index_of, number_of, span_of};
 use lrpar_grammar::grammar::{GrammarParts, ProdPart, RulePart, TokenPart, YaccGrammar};
 use lrpar_grammar::span::{RIdx, Span, Symbol, TIdx};
@@ -24,9 +25,9 @@ pub const INPUTS: &[&str] = &[
 const NO_SPAN: &str = "a span is wanted, as 3..4";
 
 /// The grammar of the parts, in the smallest storage type.
-pub fn outcome(alloc: Global, case: Case<'_, '_>) -> Result<String, Fault> {
+pub fn outcome(told: &mut Told, alloc: Global, case: Case<'_, '_>) -> Result<(), Fault> {
     let parts = parts_of(alloc, case)?;
-    shown(alloc, case, YaccGrammar::from_parts(alloc, parts))
+    push_made(told, alloc, case, YaccGrammar::from_parts(alloc, parts))
 }
 
 // The parts that the lines have.

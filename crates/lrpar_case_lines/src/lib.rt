@@ -6,5 +6,6 @@ pub mod fault;
 pub mod line;
 pub mod names;
 pub mod text;
+pub mod told;
 pub mod values;
 pub mod verdict;

@@ -1,4 +1,4 @@
-//! Texts of cases: escapes, and how a text that came is shown.
+//! Escapes in the values of lines.
 use crate::fault::Fault;
 use std::alloc::Global;
 
@@ -50,42 +50,4 @@ fn digit_of(digit: u8) -> Option<u8> {
         b'a'..=b'f' => Some(digit - b'a' + 10),
         _ => None,
     }
-}
-
-/// Adds a text that came, under its key: nothing where it is empty; as lines of text where it ends in a line feed; else beside the
-/// key, with escapes.
-pub fn push_text(came: &mut String, key: &str, text: &str) -> Result<(), Fault> {
-    if text.is_empty() {
-        return Ok(());
-    }
-    match text.strip_suffix('\n') {
-        Some(lines) => push_lines(came, key, lines),
-        None => push_inline(came, key, text),
-    }
-}
-
-// Adds the lines of a text below its key.
-fn push_lines(came: &mut String, key: &str, lines: &str) -> Result<(), Fault> {
-    came.push_str(key)?;
-    for line in lines.split('\n') {
-        came.push_str("\n|")?;
-        came.push_str(line)?;
-    }
-    Ok(came.push('\n')?)
-}
-
-// Adds a text of one line beside its key.
-fn push_inline(came: &mut String, key: &str, text: &str) -> Result<(), Fault> {
-    came.push_str(key)?;
-    came.push(' ')?;
-    for c in text.chars() {
-        match c {
-            '\n' => came.push_str("\\n")?,
-            '\r' => came.push_str("\\r")?,
-            '\t' => came.push_str("\\t")?,
-            '\\' => came.push_str("\\\\")?,
-            c => came.push(c)?,
-        }
-    }
-    Ok(came.push('\n')?)
 }

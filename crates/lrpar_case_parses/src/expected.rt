@@ -5,13 +5,14 @@ use crate::recoverer::no_recoverer;
 use lrpar_case_lines::cases::Case;
 use lrpar_case_lines::fault::Fault;
 use lrpar_case_lines::names::{token_name, token_of};
-use lrpar_case_tables::rows::agreed;
+use lrpar_case_lines::told::Told;
+use lrpar_case_tables::rows::push_agreed;
 use lrpar_case_tables::stack::states_of;
 use lrpar_case_tables::subject::Subject;
 use lrpar_lexer::NoToken;
 use lrpar_parser::check::Overlay;
 use lrpar_parser::grammar::YaccGrammar;
-use lrpar_parser::parser::Expected;
+use lrpar_parser::parser::{Expected, ParseFault};
 use lrpar_parser::span::{StIdx, TIdx};
 use lrpar_parser::{LexError, ParserData, RTParserBuilder};
 use std::alloc::Global;
@@ -21,45 +22,51 @@ pub const INPUTS: &[&str] = &["states", "feed", "lexemes"];
 
 /// What may come next at the states, once the tokens are fed; or after the lexemes.
 pub fn outcome(
+    told: &mut Told,
     alloc: Global,
     subject: Option<Subject<'_, '_, '_>>,
     case: Case<'_, '_>,
-) -> Result<String, Fault> {
+) -> Result<(), Fault> {
     let Some(Subject { case: _, tables }) = subject else {
         return Err(Fault::Line(case.number, "a table in front is wanted"));
     };
+    let (mut by_rows, mut by_entries) = (Told::new(alloc), Told::new(alloc));
+    expected_by(&mut by_rows, alloc, case, &tables.by_rows)?;
+    expected_by(&mut by_entries, alloc, case, &tables.by_entries)?;
+    push_agreed(told, &by_rows, &by_entries);
+    Ok(())
+}
+
+// The same by one table.
+fn expected_by(
+    told: &mut Told,
+    alloc: Global,
+    case: Case<'_, '_>,
+    data: &ParserData<u32>,
+) -> Result<(), Fault> {
     if case.value("lexemes").is_none() {
-        return agreed(
-            at_states(alloc, case, &tables.by_rows)?,
-            at_states(alloc, case, &tables.by_entries)?,
-        );
+        let states = states_of(alloc, case)?;
+        return over_states(told, alloc, case, data, &states);
     }
-    let given = given_of(alloc, tables.by_rows.grm(), case)?;
-    agreed(
-        after_lexemes(alloc, &tables.by_rows, &given)?,
-        after_lexemes(alloc, &tables.by_entries, &given)?,
-    )
+    let given = given_of(alloc, data.grm(), case)?;
+    after_lexemes(told, alloc, data, &given);
+    Ok(())
 }
 
-// What may come next at the states of the case, bottom first, over which its tokens are fed.
-fn at_states(alloc: Global, case: Case<'_, '_>, data: &ParserData<u32>) -> Result<String, Fault> {
-    let states = states_of(alloc, case)?;
-    over_states(alloc, case, data, &states)
-}
-
-// The same over these states.
+// What may come next at these states, bottom first, over which the tokens of the case are fed.
 fn over_states(
+    told: &mut Told,
     alloc: Global,
     case: Case<'_, '_>,
     data: &ParserData<u32>,
     states: &[StIdx<u32>],
-) -> Result<String, Fault> {
+) -> Result<(), Fault> {
     if states.is_empty() || !data.is_stack(states) {
         return Err(Fault::Line(case.number, "a stack is wanted"));
     }
     let mut over = Overlay::new(alloc, states);
     feed_tokens(case, data, &mut over)?;
-    at_overlay(alloc, data, &over)
+    at_overlay(told, alloc, data, &over)
 }
 
 // Feeds the tokens of the case.
@@ -91,72 +98,51 @@ fn is_fed(
 
 // What may come next at the overlay, and at a list of its states, where that is something else.
 fn at_overlay(
+    told: &mut Told,
     alloc: Global,
     data: &ParserData<u32>,
     over: &Overlay<'_, u32>,
-) -> Result<String, Fault> {
+) -> Result<(), Fault> {
     let states = over.to_vec()?;
     if !data.is_stack(&states) {
         return Err(Fault::Line(0, "a stack is wanted"));
     }
     let by_list = data.expected(alloc, &states)?;
     let by_overlay = data.expected_over(alloc, over)?;
-    text_of_tokens(alloc, data.grm(), &by_list, &by_overlay)
-}
-
-// What may come next at the list, and at the overlay, where that is something else.
-fn text_of_tokens(
-    alloc: Global,
-    grm: &YaccGrammar<u32>,
-    by_list: &[TIdx<u32>],
-    by_overlay: &[TIdx<u32>],
-) -> Result<String, Fault> {
-    let mut came = String::new(alloc);
-    push_tokens(&mut came, grm, "expected", by_list)?;
+    push_tokens(told, data.grm(), "expected", &by_list);
     if by_overlay != by_list {
-        push_tokens(&mut came, grm, "over", by_overlay)?;
+        push_tokens(told, data.grm(), "over", &by_overlay);
     }
-    Ok(came)
+    Ok(())
 }
 
 // What may come next after the lexemes.
-fn after_lexemes(alloc: Global, data: &ParserData<u32>, given: &[Given]) -> Result<String, Fault> {
-    let lexer = HandedLexer::new(alloc, given, "")?;
+fn after_lexemes(told: &mut Told, alloc: Global, data: &ParserData<u32>, given: &[Given]) {
+    let Ok(lexer) = HandedLexer::new(alloc, given, "") else {
+        return told.lack_memory();
+    };
     let parser: Parser<'_> = RTParserBuilder::new(data).recoverer(no_recoverer(alloc));
     match parser.expected(alloc, &lexer) {
-        Err(fault) => Ok(format!(in alloc; "fault {fault}\n")?),
-        Ok(expected) => text_of(alloc, data.grm(), &expected),
+        Err(ParseFault::Memory) => told.lack_memory(),
+        Err(fault) => told.line("fault ", &fault),
+        Ok(expected) => push_expected(told, data.grm(), &expected),
     }
 }
 
 // How many lexemes were fed, what may come next, and the lexing error.
-fn text_of(
-    alloc: Global,
-    grm: &YaccGrammar<u32>,
-    expected: &Expected<u32, NoToken>,
-) -> Result<String, Fault> {
-    let mut came = String::new(alloc);
-    let place = expected.place;
-    writeln!(came, "place {place}")?;
-    push_tokens(&mut came, grm, "expected", &expected.tokens)?;
+fn push_expected(told: &mut Told, grm: &YaccGrammar<u32>, expected: &Expected<u32, NoToken>) {
+    told.line("place ", &expected.place);
+    push_tokens(told, grm, "expected", &expected.tokens);
     if let Some(error) = &expected.lexing_error {
-        let (start, end) = (error.span().start(), error.span().end());
-        writeln!(came, "lexing error {start}..{end}")?;
+        told.place("lexing error ", error.span());
     }
-    Ok(came)
 }
 
 // Adds a line of tokens.
-fn push_tokens(
-    out: &mut String,
-    grm: &YaccGrammar<u32>,
-    key: &str,
-    tokens: &[TIdx<u32>],
-) -> Result<(), Fault> {
-    out.push_str(key)?;
+fn push_tokens(told: &mut Told, grm: &YaccGrammar<u32>, key: &str, tokens: &[TIdx<u32>]) {
+    told.text(key);
     for token in tokens {
-        out.push_str(" ")?;
-        out.push_str(token_name(grm, *token))?;
+        told.texts(" ", token_name(grm, *token));
     }
-    Ok(out.push_str("\n")?)
+    told.text("\n");
 }

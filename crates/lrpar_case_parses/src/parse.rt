@@ -7,7 +7,7 @@ use crate::recoverer::recoverer_of;
 use crate::shown::{CaseError, Tree, push_errors, push_places, push_tree};
 use lrpar_case_lines::cases::Case;
 use lrpar_case_lines::fault::Fault;
-use lrpar_case_lines::text::push_text;
+use lrpar_case_lines::told::Told;
 use lrpar_case_tables::subject::{Subject, Tables};
 use lrpar_lexer::RuleLexer;
 use lrpar_parser::grammar::YaccGrammar;
@@ -30,41 +30,44 @@ pub const INPUTS: &[&str] = &[
     "hide",
 ];
 
-/// What comes of a parse.
+// What comes of a parse.
 #[derive(Drop)]
-struct Told {
-    /// Its fault, or its errors.
-    errors: String,
-    /// Its tree.
-    tree: String,
+struct Parsed {
+    // Its fault, or its errors.
+    errors: Told,
+    // Its tree.
+    tree: Told,
 }
 
 /// What comes of the case.
 pub fn outcome(
+    told: &mut Told,
     alloc: Global,
     subject: Option<Subject<'_, '_, '_>>,
     case: Case<'_, '_>,
-) -> Result<String, Fault> {
+) -> Result<(), Fault> {
     let Some(Subject { case: _, tables }) = subject else {
         return Err(Fault::Line(case.number, "a grammar is wanted above"));
     };
     let given = given_of(alloc, tables.by_rows.grm(), case)?;
     let input = case.text(alloc, "input")?;
-    by_lexemes(alloc, tables, case, &given, input.as_str())
+    by_lexemes(told, alloc, tables, case, &given, input.as_str())
 }
 
 // What comes of these lexemes.
 fn by_lexemes<'a>(
+    told: &mut Told,
     alloc: Global,
     tables: &Tables,
     case: Case<'_, '_>,
     given: &'a [Given],
     input: &'a str,
-) -> Result<String, Fault> {
+) -> Result<(), Fault> {
     let lexer = HandedLexer::new(alloc, given, input)?;
     let by_rows = parser_of(alloc, &tables.by_rows, case)?;
     let by_entries = parser_of(alloc, &tables.by_entries, case)?;
-    by_parsers(alloc, case, &by_rows, &by_entries, &lexer, input)
+    by_parsers(told, alloc, case, &by_rows, &by_entries, &lexer, input);
+    Ok(())
 }
 
 // The parser of the case by a table.
@@ -86,141 +89,105 @@ fn parser_of<'a>(
 
 // What comes of the parses by both parsers: of the first one by actions, and what differs from that in any.
 fn by_parsers(
+    told: &mut Told,
     alloc: Global,
     case: Case<'_, '_>,
     first: &Parser<'_>,
     second: &Parser<'_>,
     lexer: &HandedLexer<'_>,
     input: &str,
-) -> Result<String, Fault> {
+) {
     let places = RefCell::new(Vec::new(alloc));
     let answer = answer_by(alloc, Call::ParseActions, first, lexer, &places);
-    by_answer(alloc, case, first, second, lexer, input, &places, &answer)
-}
-
-// The same by the answer of the first one, and by where its rules lie.
-fn by_answer(
-    alloc: Global,
-    case: Case<'_, '_>,
-    first: &Parser<'_>,
-    second: &Parser<'_>,
-    lexer: &HandedLexer<'_>,
-    input: &str,
-    places: &Places,
-    answer: &Answer,
-) -> Result<String, Fault> {
-    let mut came = String::new(alloc);
-    push_answer(alloc, &mut came, case, first.grammar(), answer)?;
-    push_noted(&mut came, case, first.grammar(), places)?;
-    push_printed(alloc, &mut came, case, first.grammar(), input, answer)?;
-    push_differing(alloc, &mut came, case, answer, first, second, lexer)?;
-    Ok(came)
+    let wanted = answered(alloc, case, first.grammar(), &answer);
+    told.told(&wanted.errors);
+    told.field("tree", wanted.tree.so_far());
+    push_noted(told, case, first.grammar(), &places);
+    push_printed(told, alloc, case, first.grammar(), input, &answer);
+    for call in CALLS {
+        push_difference(told, alloc, case, &wanted, call, first, lexer);
+        push_difference(told, alloc, case, &wanted, call, second, lexer);
+    }
 }
 
 // What comes of an answer.
-fn told_of(
-    alloc: Global,
-    case: Case<'_, '_>,
-    grm: &YaccGrammar<u32>,
-    answer: &Answer,
-) -> Result<Told, Fault> {
-    let (mut errors, mut tree) = (String::new(alloc), String::new(alloc));
+fn answered(alloc: Global, case: Case<'_, '_>, grm: &YaccGrammar<u32>, answer: &Answer) -> Parsed {
+    let (mut errors, mut tree) = (Told::new(alloc), Told::new(alloc));
     match answer {
-        Err(ParseFault::Memory) => return Err(Fault::Memory),
-        Err(fault) => writeln!(errors, "fault {fault}")?,
+        Err(ParseFault::Memory) => errors.lack_memory(),
+        Err(fault) => errors.line("fault ", fault),
         Ok((value, listed)) => {
-            push_errors(&mut errors, grm, case.value("hide").is_none(), listed)?;
+            push_errors(&mut errors, grm, case.value("hide").is_none(), listed);
             if let Some(value) = value {
-                push_tree(&mut tree, grm, value)?;
+                push_tree(&mut tree, grm, value);
             }
         }
     }
-    Ok(Told { errors, tree })
-}
-
-// Adds an answer.
-fn push_answer(
-    alloc: Global,
-    out: &mut String,
-    case: Case<'_, '_>,
-    grm: &YaccGrammar<u32>,
-    answer: &Answer,
-) -> Result<(), Fault> {
-    let told = told_of(alloc, case, grm, answer)?;
-    out.push_str(told.errors.as_str())?;
-    push_text(out, "tree", told.tree.as_str())
+    Parsed { errors, tree }
 }
 
 // Adds where the rules lie, where the case asks.
-fn push_noted(
-    out: &mut String,
-    case: Case<'_, '_>,
-    grm: &YaccGrammar<u32>,
-    places: &Places,
-) -> Result<(), Fault> {
-    match places.try_borrow() {
-        Ok(noted) if case.value("show").is_some() => push_places(out, grm, &noted),
-        _ => Ok(()),
+fn push_noted(told: &mut Told, case: Case<'_, '_>, grm: &YaccGrammar<u32>, places: &Places) {
+    if let (Some(_), Ok(noted)) = (case.value("show"), places.try_borrow()) {
+        push_places(told, grm, &noted);
     }
 }
 
 // Adds the texts of the errors and of the tree, where the case asks.
 fn push_printed<'a>(
+    told: &mut Told,
     alloc: Global,
-    out: &mut String,
     case: Case<'_, '_>,
     grm: &'a YaccGrammar<u32>,
     input: &'a str,
     answer: &Answer,
-) -> Result<(), Fault> {
+) {
     if let (Some((value, _)), Ok((tree, errors))) = (case.value("print"), answer) {
         let without = value.strip_prefix("all but ").unwrap_or("");
-        push_texts(alloc, out, grm, without.trim_matches('\''), input, errors)?;
+        push_texts(told, alloc, grm, without.trim_matches('\''), input, errors);
         if let Some(tree) = tree {
-            push_tree_text(alloc, out, grm, input, tree)?;
+            push_tree_text(told, alloc, grm, input, tree);
         }
     }
-    Ok(())
 }
 
 // Adds the texts of errors, where all tokens but this one have a printed name.
 fn push_texts<'a>(
+    told: &mut Told,
     alloc: Global,
-    out: &mut String,
     grm: &'a YaccGrammar<u32>,
     without: &str,
     input: &'a str,
     errors: &[CaseError],
-) -> Result<(), Fault> {
-    let lexer = RuleLexer::new(alloc, &[], input)?;
+) {
+    let Ok(lexer) = RuleLexer::new(alloc, &[], input) else {
+        return told.lack_memory();
+    };
     for error in errors {
-        match error_text(alloc, grm, without, &lexer, input, error) {
-            Ok(Some(text)) => push_text(out, "text", text.as_str())?,
-            Ok(None) => out.push_str("unfit error\n")?,
-            Err(PpFault::Memory) => return Err(Fault::Memory),
-            Err(fault) => writeln!(out, "{fault}")?,
-        }
+        push_error_text(told, alloc, grm, without, &lexer, input, error);
     }
-    Ok(())
 }
 
-// The text of an error, and a line feed; none where it doesn't fit the input.
-fn error_text<'a>(
+// Adds the text of an error; or that there is none.
+fn push_error_text<'a>(
+    told: &mut Told,
     alloc: Global,
     grm: &'a YaccGrammar<u32>,
     without: &str,
     lexer: &RuleLexer<'a, 'a>,
     input: &'a str,
     error: &CaseError,
-) -> Result<Option<String>, PpFault<u32>>
+)
     requires { lexer.now.input.now ≡ input.now }
 {
     if !error.fits(input) {
-        return Ok(None);
+        return told.text("unfit error\n");
     }
-    let mut text = error.pp(alloc, lexer, |token| printed_name(grm, without, token))?;
-    text.push('\n')?;
-    Ok(Some(text))
+    match error.pp(alloc, lexer, |token| printed_name(grm, without, token)) {
+        Ok(text) => told.lines("text", text.as_str()),
+        Err(PpFault::Memory) => told.lack_memory(),
+        Err(fault) => told.line("", &fault),
+    }
 }
 
 // What is printed for a token, if it isn't the one without a printed name.
@@ -234,65 +201,39 @@ fn printed_name<'a>(grm: &'a YaccGrammar<u32>, without: &str, token: TIdx<u32>) 
 
 // Adds the text of a tree.
 fn push_tree_text(
+    told: &mut Told,
     alloc: Global,
-    out: &mut String,
     grm: &YaccGrammar<u32>,
     input: &str,
     tree: &Tree,
-) -> Result<(), Fault> {
-    if tree.fits(grm, input) {
-        let text = tree.pp(alloc, grm, input)?;
-        push_text(out, "text", text.as_str())
-    } else {
-        Ok(out.push_str("unfit tree\n")?)
+) {
+    if !tree.fits(grm, input) {
+        return told.text("unfit tree\n");
     }
-}
-
-// Adds a line for each parse that doesn't come to this answer.
-fn push_differing(
-    alloc: Global,
-    out: &mut String,
-    case: Case<'_, '_>,
-    answer: &Answer,
-    first: &Parser<'_>,
-    second: &Parser<'_>,
-    lexer: &HandedLexer<'_>,
-) -> Result<(), Fault> {
-    let wanted = told_of(alloc, case, first.grammar(), answer)?;
-    for call in CALLS {
-        push_difference(alloc, out, case, &wanted, call, first, lexer)?;
-        push_difference(alloc, out, case, &wanted, call, second, lexer)?;
+    match tree.pp(alloc, grm, input) {
+        Ok(text) => told.field("text", text.as_str()),
+        Err(_) => told.lack_memory(),
     }
-    Ok(())
 }
 
 // Adds a line where the parse by the call doesn't come to what is wanted. Errors alone have no tree.
 fn push_difference(
+    told: &mut Told,
     alloc: Global,
-    out: &mut String,
     case: Case<'_, '_>,
-    wanted: &Told,
+    wanted: &Parsed,
     call: Call,
     parser: &Parser<'_>,
     lexer: &HandedLexer<'_>,
-) -> Result<(), Fault> {
-    let told = told_by(alloc, case, call, parser, lexer)?;
-    let is_same_tree = told.tree == wanted.tree || matches!(call, Call::ParseNoaction);
-    if told.errors != wanted.errors || !is_same_tree {
-        writeln!(out, "differs {call:?}")?;
-    }
-    Ok(())
-}
-
-// What comes of the parse by the call.
-fn told_by(
-    alloc: Global,
-    case: Case<'_, '_>,
-    call: Call,
-    parser: &Parser<'_>,
-    lexer: &HandedLexer<'_>,
-) -> Result<Told, Fault> {
+) {
     let places = RefCell::new(Vec::new(alloc));
     let answer = answer_by(alloc, call, parser, lexer, &places);
-    told_of(alloc, case, parser.grammar(), &answer)
+    let found = answered(alloc, case, parser.grammar(), &answer);
+    let is_same_tree = told.agree(&found.tree, &wanted.tree);
+    let is_tree_right = is_same_tree || matches!(call, Call::ParseNoaction);
+    if !told.agree(&found.errors, &wanted.errors) || !is_tree_right {
+        told.text("differs ");
+        told.debug(&call);
+        told.text("\n");
+    }
 }

@@ -1,7 +1,7 @@
 //! Tables by hand: item sets and rows that are lines of a case, and what another case has in their place.
 use crate::actions::action_of;
 use crate::faults::of_rows;
-use crate::subject::{Tables, checked, grammar_of, table_of};
+use crate::subject::{Tables, checked, grammar_of, table_of, tables_made};
 use lrpar_case_lines::cases::{Case, from_key, value_of};
 use lrpar_case_lines::fault::Fault;
 use lrpar_case_lines::line::{Content, Line, in_two};
@@ -263,12 +263,8 @@ impl<'t, 'a> Hand<'t, 'a> {
 
 /// The checked table of the lines of a case, made by each of the two calls.
 pub(crate) fn tables_by_hand(alloc: Global, case: Case<'_, '_>) -> Result<Tables, Fault> {
-    let by_rows = Hand::of(case).data(alloc, By::Rows)?;
-    let by_entries = Hand::of(case).data(alloc, By::Entries)?;
-    Ok(Tables {
-        by_rows,
-        by_entries,
-    })
+    let by_rows = Hand::of(case).data(alloc, By::Rows);
+    tables_made(by_rows, Hand::of(case).data(alloc, By::Entries))
 }
 
 // What the first of these lines has that is a list of this key and this state with an entry of this name: what stands beside the

@@ -3,6 +3,7 @@ use crate::subject::Subject;
 use lrpar_case_lines::cases::Case;
 use lrpar_case_lines::fault::Fault;
 use lrpar_case_lines::names::{rule_name, token_name};
+use lrpar_case_lines::told::Told;
 use lrpar_grammar::grammar::YaccGrammar;
 use lrpar_grammar::span::{RIdx, StIdx, StorageIndex, TIdx};
 use lrpar_table::check::ParserData;
@@ -11,130 +12,123 @@ use std::alloc::Global;
 
 /// The item sets and the rows of the tables that the case is about.
 pub fn outcome(
+    told: &mut Told,
     alloc: Global,
     subject: Option<Subject<'_, '_, '_>>,
     case: Case<'_, '_>,
-) -> Result<String, Fault> {
-    match subject {
-        None => Err(Fault::Line(case.number, "a table in front is wanted")),
-        Some(subject) => agreed(
-            text_of_data(alloc, &subject.tables.by_rows)?,
-            text_of_data(alloc, &subject.tables.by_entries)?,
-        ),
+) -> Result<(), Fault> {
+    let Some(subject) = subject else {
+        return Err(Fault::Line(case.number, "a table in front is wanted"));
+    };
+    let (mut by_rows, mut by_entries) = (Told::new(alloc), Told::new(alloc));
+    push_data(&mut by_rows, &subject.tables.by_rows);
+    push_data(&mut by_entries, &subject.tables.by_entries);
+    push_agreed(told, &by_rows, &by_entries);
+    Ok(())
+}
+
+/// Adds what comes by full rows; and below it what comes by stored entries, where that is something else.
+pub fn push_agreed(told: &mut Told, by_rows: &Told, by_entries: &Told) {
+    told.told(by_rows);
+    if !told.agree(by_rows, by_entries) {
+        told.text("by-entries\n");
+        told.told(by_entries);
     }
 }
 
-/// What comes by full rows; and below it what comes by stored entries, where that is something else.
-pub fn agreed(mut by_rows: String, by_entries: String) -> Result<String, Fault> {
-    if by_rows != by_entries {
-        by_rows.push_str("by-entries\n")?;
-        by_rows.push_str(by_entries.as_str())?;
-    }
-    Ok(by_rows)
+/// Adds the item sets and the rows of a checked table.
+pub fn push_data<S: StorageIndex>(told: &mut Told, data: &ParserData<S>) {
+    push_table(told, data.grm(), data.sgraph(), data.stable());
 }
 
-/// The item sets and the rows of a checked table.
-pub fn text_of_data<S: StorageIndex>(alloc: Global, data: &ParserData<S>) -> Result<String, Fault> {
-    text_of(alloc, data.grm(), data.sgraph(), data.stable())
-}
-
-/// The item sets and the rows of a table: how many there are of each, and a line for the items, the actions and the gotos of each
+/// Adds the item sets and the rows of a table: how many there are of each, and a line for the items, the actions and the gotos of each
 /// state, where it has any.
-pub fn text_of<S: StorageIndex>(
-    alloc: Global,
+pub fn push_table<S: StorageIndex>(
+    told: &mut Told,
     grm: &YaccGrammar<S>,
     graph: &StateGraph<S>,
     table: &StateTable<S>,
-) -> Result<String, Fault> {
-    let mut text = String::new(alloc);
-    push_counts(&mut text, graph, table)?;
+) {
+    push_counts(told, graph, table);
     for number in 0..graph.states_len().max(table.states_len()) {
         if let Some(state) = S::from_index(number) {
-            push_items(&mut text, grm, graph, StIdx(state))?;
-            push_actions(&mut text, grm, table, StIdx(state))?;
-            push_gotos(&mut text, grm, table, StIdx(state))?;
+            push_items(told, grm, graph, StIdx(state));
+            push_actions(told, grm, table, StIdx(state));
+            push_gotos(told, grm, table, StIdx(state));
         }
     }
-    Ok(text)
 }
 
 // How many there are of each.
-fn push_counts<S: StorageIndex>(
-    text: &mut String,
-    graph: &StateGraph<S>,
-    table: &StateTable<S>,
-) -> Result<(), Fault> {
-    let (sets, states, start) = (
-        graph.states_len(),
-        table.states_len(),
-        usize::from(table.start_state()),
-    );
-    let (tokens, rules, entries) = (table.tokens_len(), table.rules_len(), table.entries());
-    writeln!(
-        text,
-        "has {sets} item sets, {states} states, {tokens} tokens, {rules} rules"
-    )?;
-    Ok(writeln!(text, "has {entries} entries, start {start}")?)
+fn push_counts<S: StorageIndex>(told: &mut Told, graph: &StateGraph<S>, table: &StateTable<S>) {
+    told.number("has ", graph.states_len());
+    told.number(" item sets, ", table.states_len());
+    told.number(" states, ", table.tokens_len());
+    told.number(" tokens, ", table.rules_len());
+    told.text(" rules\n");
+    told.text("has ");
+    told.show(&table.entries());
+    told.line(" entries, start ", &usize::from(table.start_state()));
 }
 
 // The items of the state.
 fn push_items<S: StorageIndex>(
-    text: &mut String,
+    told: &mut Told,
     grm: &YaccGrammar<S>,
     graph: &StateGraph<S>,
     state: StIdx<S>,
-) -> Result<(), Fault> {
+) {
     if usize::from(state) >= graph.states_len() {
-        return Ok(());
+        return;
     }
     let mut line = Entries::new("items", usize::from(state));
     for (prod, dot, token) in graph.items(state) {
-        line.begin(text)?;
-        let prod = usize::from(*prod);
-        write!(text, " {prod}.{dot}")?;
-        push_token(text, grm, *token)?;
+        line.begin(told);
+        told.number(" ", usize::from(*prod));
+        told.number(".", *dot);
+        push_token(told, grm, *token);
     }
-    line.end(text)
+    line.end(told);
 }
 
 // What the state does at tokens.
 fn push_actions<S: StorageIndex>(
-    text: &mut String,
+    told: &mut Told,
     grm: &YaccGrammar<S>,
     table: &StateTable<S>,
     state: StIdx<S>,
-) -> Result<(), Fault> {
+) {
     if usize::from(state) >= table.states_len() {
-        return Ok(());
+        return;
     }
     let mut line = Entries::new("actions", usize::from(state));
     let (tokens, actions) = table.actions_of(state);
     for (token, action) in tokens.iter().zip(actions) {
-        line.begin(text)?;
-        push_token(text, grm, *token)?;
-        push_action(text, *action)?;
+        line.begin(told);
+        push_token(told, grm, *token);
+        push_action(told, *action);
     }
-    line.end(text)
+    line.end(told);
 }
 
 // Where the state goes by rules.
 fn push_gotos<S: StorageIndex>(
-    text: &mut String,
+    told: &mut Told,
     grm: &YaccGrammar<S>,
     table: &StateTable<S>,
     state: StIdx<S>,
-) -> Result<(), Fault> {
+) {
     if usize::from(state) >= table.states_len() {
-        return Ok(());
+        return;
     }
     let mut line = Entries::new("gotos", usize::from(state));
     let (rules, states) = table.gotos_of(state);
     for (rule, next) in rules.iter().zip(states) {
-        line.begin(text)?;
-        let (name, next) = (rule_name(grm, *rule), usize::from(*next));
-        write!(text, " {name} {next}")?;
+        line.begin(told);
+        told.texts(" ", rule_name(grm, *rule));
+        told.number(" ", usize::from(*next));
     }
-    line.end(text)
+    line.end(told);
 }
 
 // A line of entries of a state, as far as it is written.
@@ -155,98 +149,88 @@ impl Entries {
     }
 
     // What stands in front of an entry.
-    fn begin(&mut self, text: &mut String) -> Result<(), Fault> {
+    fn begin(&mut self, told: &mut Told) {
         if self.is_begun {
-            return Ok(text.push(',')?);
+            told.text(",");
+        } else {
+            self.is_begun = true;
+            told.texts(self.key, " ");
+            told.show(&self.state);
+            told.text(":");
         }
-        self.is_begun = true;
-        let (key, state) = (self.key, self.state);
-        Ok(write!(text, "{key} {state}:")?)
     }
 
     // The end of the line, if there is one.
-    fn end(self, text: &mut String) -> Result<(), Fault> {
+    fn end(self, told: &mut Told) {
         if self.is_begun {
-            text.push('\n')?;
+            told.text("\n");
         }
-        Ok(())
     }
 }
 
 // The token; its number out of range.
-fn push_token<S: StorageIndex>(
-    text: &mut String,
-    grm: &YaccGrammar<S>,
-    token: TIdx<S>,
-) -> Result<(), Fault> {
-    let (name, number) = (token_name(grm, token), usize::from(token));
-    Ok(match name.is_empty() {
-        true => write!(text, " {number}")?,
-        false => write!(text, " {name}")?,
-    })
+fn push_token<S: StorageIndex>(told: &mut Told, grm: &YaccGrammar<S>, token: TIdx<S>) {
+    let name = token_name(grm, token);
+    if name.is_empty() {
+        told.number(" ", usize::from(token));
+    } else {
+        told.texts(" ", name);
+    }
 }
 
 // What a state does at a token.
-fn push_action<S: StorageIndex>(text: &mut String, action: Action<S>) -> Result<(), Fault> {
-    Ok(match action {
-        Action::Shift(state) => {
-            let number = usize::from(state);
-            write!(text, " shift {number}")?
-        }
-        Action::Reduce(prod) => {
-            let number = usize::from(prod);
-            write!(text, " reduce {number}")?
-        }
-        Action::Accept => text.push_str(" accept")?,
-        Action::Error => text.push_str(" error")?,
-    })
+fn push_action<S: StorageIndex>(told: &mut Told, action: Action<S>) {
+    match action {
+        Action::Shift(state) => told.number(" shift ", usize::from(state)),
+        Action::Reduce(prod) => told.number(" reduce ", usize::from(prod)),
+        Action::Accept => told.text(" accept"),
+        Action::Error => told.text(" error"),
+    }
 }
 
 /// Adds the conflicts of a table, a line each; `conflicts none` where it has none.
 pub fn push_conflicts<S: StorageIndex>(
-    text: &mut String,
+    told: &mut Told,
     grm: &YaccGrammar<S>,
     table: &StateTable<S>,
-) -> Result<(), Fault> {
+) {
     match table.conflicts() {
-        None => Ok(text.push_str("conflicts none\n")?),
+        None => told.text("conflicts none\n"),
         Some(conflicts) => {
-            push_reductions(text, grm, conflicts)?;
-            push_shifts(text, grm, conflicts)
+            push_reductions(told, grm, conflicts);
+            push_shifts(told, grm, conflicts);
         }
     }
 }
 
 // The conflicts between two reductions.
 fn push_reductions<S: StorageIndex>(
-    text: &mut String,
+    told: &mut Told,
     grm: &YaccGrammar<S>,
     conflicts: &Conflicts<S>,
-) -> Result<(), Fault> {
+) {
     for (token, kept, other, state) in conflicts.rr_conflicts() {
-        let (name, state) = (token_name(grm, *token), usize::from(*state));
-        let (kept, other) = (usize::from(*kept), usize::from(*other));
-        writeln!(
-            text,
-            "conflict state {state}, {name}: reduce {kept} or {other}"
-        )?;
+        push_place(told, grm, *state, *token);
+        told.number(": reduce ", usize::from(*kept));
+        told.line(" or ", &usize::from(*other));
     }
-    Ok(())
 }
 
 // The conflicts between a shift and a reduction.
-fn push_shifts<S: StorageIndex>(
-    text: &mut String,
-    grm: &YaccGrammar<S>,
-    conflicts: &Conflicts<S>,
-) -> Result<(), Fault> {
+fn push_shifts<S: StorageIndex>(told: &mut Told, grm: &YaccGrammar<S>, conflicts: &Conflicts<S>) {
     for (token, prod, state) in conflicts.sr_conflicts() {
-        let (name, state) = (token_name(grm, *token), usize::from(*state));
-        let prod = usize::from(*prod);
-        writeln!(
-            text,
-            "conflict state {state}, {name}: shift or reduce {prod}"
-        )?;
+        push_place(told, grm, *state, *token);
+        told.line(": shift or reduce ", &usize::from(*prod));
     }
-    Ok(())
+}
+
+// In which state and at which token a conflict is.
+fn push_place<S: StorageIndex>(
+    told: &mut Told,
+    grm: &YaccGrammar<S>,
+    state: StIdx<S>,
+    token: TIdx<S>,
+) {
+    told.number("conflict state ", usize::from(state));
+    told.texts(", ", token_name(grm, token));
 }

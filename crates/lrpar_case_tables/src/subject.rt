@@ -56,10 +56,18 @@ fn tables_of_text(
     cap: u16,
 ) -> Result<Tables, Fault> {
     let by_entries = built(alloc, case, text, cap)?;
-    let by_rows = read_back(alloc, case, text, &by_entries)?;
+    let by_rows = read_back(alloc, case, text, &by_entries);
+    tables_made(by_rows, Ok(by_entries))
+}
+
+/// Both tables, if they were made.
+pub(crate) fn tables_made(
+    by_rows: Result<ParserData<u32>, Fault>,
+    by_entries: Result<ParserData<u32>, Fault>,
+) -> Result<Tables, Fault> {
     Ok(Tables {
-        by_rows,
-        by_entries,
+        by_rows: by_rows?,
+        by_entries: by_entries?,
     })
 }
 
@@ -85,9 +93,16 @@ fn built(
     let grm = grammar_of(alloc, case, text)?;
     match parser_data(alloc, grm, MAX_STATES, cap) {
         Ok(data) => Ok(data),
-        Err(Unbuilt::Table(BuildFault::Memory, _)) => Err(Fault::Memory),
-        Err(Unbuilt::Chains(refused)) => Err(of_check(refused.fault(), case.number, UNBUILT)),
-        Err(Unbuilt::Table(..)) => Err(Fault::Line(case.number, UNBUILT)),
+        Err(unbuilt) => Err(of_unbuilt(&unbuilt, case.number)),
+    }
+}
+
+// Why no checked table is built.
+fn of_unbuilt(unbuilt: &Unbuilt<u32>, line: usize) -> Fault {
+    match unbuilt {
+        Unbuilt::Table(BuildFault::Memory, _) => Fault::Memory,
+        Unbuilt::Table(..) => Fault::Line(line, UNBUILT),
+        Unbuilt::Chains(refused) => of_check(refused.fault(), line, UNBUILT),
     }
 }
 

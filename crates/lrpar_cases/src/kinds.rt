@@ -1,12 +1,11 @@
 //! The kinds of cases: what says what is done in each, and what comes of it.
+use crate::commands;
 use lrpar_case_checks::{built, checks, refusals, stacks};
-use lrpar_case_commands::commands;
-use lrpar_case_examples::examples;
-use lrpar_case_grammars::{grammars, parts};
+use lrpar_case_grammars::{examples, grammars, parts, underlines};
 use lrpar_case_lines::cases::Case;
 use lrpar_case_lines::fault::Fault;
+use lrpar_case_lines::told::Told;
 use lrpar_case_parses::{expected, parse};
-use lrpar_case_places::underlines;
 use lrpar_case_tables::rows;
 use lrpar_case_tables::subject::Subject;
 use std::alloc::Global;
@@ -30,30 +29,31 @@ pub(crate) fn inputs_of(kind: &str) -> &'static [&'static str] {
     }
 }
 
-/// What comes of the case, a line `KEY VALUE` for each thing, in the order in which the case has to want them.
+/// Writes what comes of the case, a line `KEY VALUE` for each thing, in the order in which the case has to want them.
 pub(crate) fn outcome<R: Files>(
+    told: &mut Told,
     rt: &R,
     alloc: Global,
     subject: Option<Subject<'_, '_, '_>>,
     case: Case<'_, '_>,
-) -> Result<String, Fault> {
+) -> Result<(), Fault> {
     match case.kind {
-        "parse" => parse::outcome(alloc, subject, case),
-        "run" | "nimble" => commands::outcome(rt, alloc, case),
-        "nothing" => Ok(String::new(alloc)),
-        "text" => grammars::outcome(alloc, case),
-        "cuts" => grammars::outcome_of_cuts(alloc, case),
-        "parts" => parts::outcome(alloc, case),
-        "build" => built::outcome(alloc, case),
-        "rows" => rows::outcome(alloc, subject, case),
-        "check" => checks::outcome(alloc, subject, case),
-        "stack" => stacks::outcome(alloc, subject, case),
-        "expected" => expected::outcome(alloc, subject, case),
-        "full" => refusals::outcome_of_rows(alloc, case),
-        "stored" => refusals::outcome_of_entries(alloc, case),
-        "sets" => refusals::outcome_of_sets(alloc, case),
-        "underlines" => underlines::outcome(alloc, case),
-        "examples" => examples::outcome(rt, alloc, case),
+        "parse" => parse::outcome(told, alloc, subject, case),
+        "run" | "nimble" => commands::outcome(told, rt, alloc, case),
+        "nothing" => Ok(()),
+        "text" => grammars::outcome(told, alloc, case),
+        "cuts" => grammars::outcome_of_cuts(told, alloc, case),
+        "parts" => parts::outcome(told, alloc, case),
+        "build" => built::outcome(told, alloc, case),
+        "rows" => rows::outcome(told, alloc, subject, case),
+        "check" => checks::outcome(told, alloc, subject, case),
+        "stack" => stacks::outcome(told, alloc, subject, case),
+        "expected" => expected::outcome(told, alloc, subject, case),
+        "full" => refusals::outcome_of_rows(told, alloc, case),
+        "stored" => refusals::outcome_of_entries(told, alloc, case),
+        "sets" => refusals::outcome_of_sets(told, alloc, case),
+        "underlines" => underlines::outcome(told, alloc, case),
+        "examples" => examples::outcome(told, rt, alloc, case),
         _ => Err(Fault::Line(case.number, "a kind of case that isn't known")),
     }
 }

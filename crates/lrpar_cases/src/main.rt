@@ -1,6 +1,7 @@
 //! A program that runs the case files that it is told, and prints how many cases each has.
 #![tactic(auto)]
 
+mod commands;
 mod kinds;
 mod runner;
 

@@ -3,6 +3,7 @@ use crate::kinds::{inputs_of, outcome};
 use lrpar_case_lines::cases::{Case, case_at, section_behind};
 use lrpar_case_lines::fault::Fault;
 use lrpar_case_lines::line::{Line, lines_of};
+use lrpar_case_lines::told::Told;
 use lrpar_case_lines::verdict::wrong_of;
 use lrpar_case_tables::subject::{Subject, Tables, tables_of};
 use std::alloc::Global;
@@ -133,7 +134,11 @@ fn run_case<R: Files>(
     report: &mut Report,
 ) -> Result<(), Fault> {
     report.cases = report.cases.saturating_add(1);
-    let came = outcome(rt, alloc, subject, case);
+    let mut told = Told::new(alloc);
+    let came = match outcome(&mut told, rt, alloc, subject, case) {
+        Ok(()) => told.end(),
+        Err(fault) => Err(fault),
+    };
     match wrong_of(alloc, case, inputs_of(case.kind), came)? {
         None => Ok(()),
         Some(text) => report.add(name, case, text.as_str()),

@@ -7,7 +7,6 @@ use lrpar_parser::build::BuildFault;
 use lrpar_parser::check::CheckFault;
 use lrpar_parser::grammar::GrammarFault;
 use lrpar_parser::parser::ParseFault;
-use lrpar_parser::table::TableFault;
 use std::alloc::{AllocError, AllocFailed, Global};
 use std::io;
 use thiserror::Error;
@@ -33,9 +32,6 @@ pub enum Fault {
     /// A grammar is refused.
     #[error("lrpar: grammar: {0}")]
     Grammar(GrammarFault),
-    /// A table is refused.
-    #[error("lrpar: table: {0}")]
-    Table(TableFault),
     /// No table is built of a grammar.
     #[error("lrpar: table: {0}")]
     Build(BuildFault),
@@ -93,15 +89,6 @@ impl From<GrammarFault> for Fault {
         match fault {
             GrammarFault::Memory => Fault::Memory,
             refusal => Fault::Grammar(refusal),
-        }
-    }
-}
-
-impl From<TableFault> for Fault {
-    fn from(fault: TableFault) -> Fault {
-        match fault {
-            TableFault::Memory => Fault::Memory,
-            refusal => Fault::Table(refusal),
         }
     }
 }

@@ -107,14 +107,9 @@ pub fn print_tree<'a, L: NonStreamingLexer<'a, TokenTypes>, O: Write>(
     requires { L.text lexer.now ≡ input.now }
 {
     let (tree, errors) = tree_and_errors(alloc, parser, lexer)?;
-    print_errors(alloc, names, lexer, input, &errors, out)?;
-    match tree {
-        Some(tree) => {
-            print_node(alloc, parser.grammar(), input, &tree, out)?;
-            Ok(errors.is_empty())
-        }
-        None => Ok(false),
-    }
+    let printed = print_errors(alloc, names, lexer, input, &errors, out);
+    print_node(alloc, parser.grammar(), input, tree.as_ref(), printed, out)?;
+    Ok(tree.is_some() && errors.is_empty())
 }
 
 // The tree of the lexer's text, if there is one, and the errors.
@@ -177,14 +172,18 @@ fn name_at<'a>(names: &'a [&'a str], token: TIdx<u32>) -> &'a str {
     }
 }
 
-// Prints the text of a tree.
+// Prints the text of a tree, if there is one, once what stands in front of it is printed.
 fn print_node<O: Write>(
     alloc: Global,
     grm: &YaccGrammar<u32>,
     input: &str,
-    tree: &Tree,
+    tree: Option<&Tree>,
+    printed: Result<(), Fault>,
     out: &mut O,
 ) -> Result<(), Fault> {
-    tree.write(alloc, grm, input, out)?;
-    Ok(())
+    printed?;
+    match tree {
+        Some(tree) => Ok(tree.write(alloc, grm, input, out)?),
+        None => Ok(()),
+    }
 }

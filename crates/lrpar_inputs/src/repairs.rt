@@ -2,7 +2,6 @@
 use crate::fault::Fault;
 use lrpar_parser::grammar::YaccGrammar;
 use lrpar_parser::repair::{FixedRecoverer, RepairStep};
-use lrpar_parser::span::TIdx;
 use std::alloc::Global;
 
 /// A step, and the text after it.
@@ -52,24 +51,33 @@ fn sequence_of(
 
 // The step with which a text begins, and the text after it and the gap behind it.
 fn step_of<'a>(grm: &YaccGrammar<u32>, text: &'a str) -> Option<StepAndRest<'a>> {
-    if let Some(after) = text.strip_prefix("insert") {
-        let (token, after) = token_of(grm, after_gap(after)?)?;
-        return Some((RepairStep::Insert(token), after_step(after)?));
-    }
-    if let Some(after) = text.strip_prefix("delete") {
-        return Some((RepairStep::Delete, after_step(after)?));
-    }
-    let after = text.strip_prefix("shift")?;
-    Some((RepairStep::Shift, after_step(after)?))
+    let (step, after) = named_step(grm, text)?;
+    Some((step, after_step(after)?))
 }
 
-// The token whose quoted name a text begins with, and the text after it.
-fn token_of<'a>(grm: &YaccGrammar<u32>, text: &'a str) -> Option<(TIdx<u32>, &'a str)> {
-    let (name, after) = match text.strip_prefix('\'') {
-        Some(quoted) => quoted.split_once('\'')?,
-        None => text.strip_prefix('"')?.split_once('"')?,
-    };
-    Some((grm.token_idx(name)?, after))
+// The step with which a text begins, and the text right after it.
+fn named_step<'a>(grm: &YaccGrammar<u32>, text: &'a str) -> Option<StepAndRest<'a>> {
+    if let Some(after) = text.strip_prefix("insert") {
+        return insertion(grm, after_gap(after)?);
+    }
+    match text.strip_prefix("delete") {
+        Some(after) => Some((RepairStep::Delete, after)),
+        None => Some((RepairStep::Shift, text.strip_prefix("shift")?)),
+    }
+}
+
+// The insertion of the token whose quoted name a text begins with, and the text after it.
+fn insertion<'a>(grm: &YaccGrammar<u32>, text: &'a str) -> Option<StepAndRest<'a>> {
+    let (name, after) = quoted(text)?;
+    Some((RepairStep::Insert(grm.token_idx(name)?), after))
+}
+
+// What stands in the quotes with which a text begins, and the text after them.
+fn quoted(text: &str) -> Option<(&str, &str)> {
+    match text.strip_prefix('\'') {
+        Some(inside) => inside.split_once('\''),
+        None => text.strip_prefix('"')?.split_once('"'),
+    }
 }
 
 // What stands after a step: nothing, or a gap and other steps, of which the gap is left out.

@@ -5,15 +5,15 @@ use Rattle.lrpar_grammar.specs.Grammar.{Nonterminal}
 use Rattle.lrpar_grammar.specs.Tree.{Tree}
 use Rattle.lrpar_builds.specs.Acted.{ActedTo, IsActedValue, acts_by}
 use Rattle.lrpar_builds.specs.Arguments.{IsArgument}
-use Rattle.lrpar_builds.specs.Entries.{HasValueEntry}
+use Rattle.lrpar_steps.specs.Entries.{HasValueEntry}
 use Rattle.lrpar_parser.specs.Parse.{ParsesTo}
 use Rattle.lrpar_steps.specs.Standing.{StandsFor}
 use Rattle.lrpar_course.specs.Subject.{Subject}
 use Rattle.lrpar_builds.specs.Placed.{IsPlacedLexeme, IsPlacedValue}
 use Rattle.lrpar_builds.specs.declared.actions.Placed.{Placed}
 use Rattle.lrpar_answers.specs.declared.errors.LexParseError.{LexParseError}
-use Rattle.lrpar_builds.specs.declared.values.AStackType.{AStackType}
-use Rattle.lrpar_builds.specs.declared.values.AStackType.TheVariants.{ActionType, Lexeme}
+use Rattle.lrpar_steps.specs.declared.values.AStackType.{AStackType}
+use Rattle.lrpar_steps.specs.declared.values.AStackType.TheVariants.{ActionType, Lexeme}
 use Rattle.lrpar_parser.proofs.FoldLemmas.{parse_mapped, parse_mapped_on, value_told}
 use Rattle.lrpar_builds.proofs.PlacedLemmas.{stands_acted}
 

@@ -12,9 +12,9 @@ use Rattle.lrpar_steps.specs.Building.{Building}
 use Rattle.lrpar_runs.specs.Moves.{GoesFar, Moves, and_settles, and_shifts, rests}
 use Rattle.lrpar_runs.specs.RepairRun.{fed_between}
 use Rattle.lrpar_stacks.specs.Run.{Comes, stays}
-use Rattle.lrpar_runs.specs.Stacked.{SettlesTo, Shifts, Sticks}
+use Rattle.lrpar_steps.specs.Stacked.{SettlesTo, Shifts, Sticks}
 use Rattle.lrpar_steps.specs.Standing.{Stacked}
-use Rattle.lrpar_runs.proofs.StackedLemmas.{states_settle}
+use Rattle.lrpar_steps.proofs.StackedLemmas.{states_settle}
 use Rattle.lrpar_stacks.proofs.RunLemmas.{comes_by, comes_to_accept, comes_to_end, comes_to_stop}
 
 -- no lexeme is fed between a place and itself

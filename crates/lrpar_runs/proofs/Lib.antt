@@ -1,7 +1,5 @@
 pub mod ListLemmas
 pub mod ReadLemmas
-pub mod ReducingLemmas
-pub mod StackedLemmas
 pub mod StandingLemmas
 pub mod RisingLemmas
 pub mod MovesLemmas

@@ -19,9 +19,9 @@ use Rattle.lrpar_runs.specs.Moves.{IsReplayed, Moves, RiseUpTo, StartsRise, and_
 use Rattle.lrpar_steps.specs.Rising.{KeepsRising}
 use Rattle.lrpar_stacks.specs.Run.{token_at}
 use Rattle.lrpar_steps.specs.Sequences.{PlainStep, PlainInsert, PlainDelete, PlainShift, Replays}
-use Rattle.lrpar_runs.specs.Stacked.{SettlesTo, Shifts, Sticks}
+use Rattle.lrpar_steps.specs.Stacked.{SettlesTo, Shifts, Sticks}
 use Rattle.lrpar_steps.specs.Standing.{Stacked}
-use Rattle.lrpar_runs.proofs.StackedLemmas.{states_settle}
+use Rattle.lrpar_steps.proofs.StackedLemmas.{states_settle}
 use Rattle.lrpar_runs.proofs.RisingLemmas.{rise_reduce_all}
 use Rattle.lrpar_stacks.proofs.RunLemmas.{token_at_lexeme}
 use Rattle.lrpar_steps.proofs.SequenceLemmas.{steps_one_way}

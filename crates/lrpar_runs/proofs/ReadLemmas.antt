@@ -1,28 +1,14 @@
 -- What is read of a list: of the list that it is mapped to, and the lexeme of an error.
-use Rattle.std.proofs.Common.{◌≡◌, ◌<◌, ◌-◌, ◌∙◌, ℕ, List, MatchOption, None, Option, Some, get_or, length, map, ap, arith, refl, subst, sym}
+use Rattle.std.proofs.Common.{◌≡◌, ◌-◌, ◌∙◌, ℕ, List, MatchOption, None, Option, Some, length, map, ap, subst, sym}
 use Rattle.std.specs.List.{slice_get}
 use Rattle.std.specs.Option.{option_map, option_map_or}
 use Rattle.std.proofs.lemmas.List.{length-map}
-use Rattle.std.proofs.lemmas.Option.{slice_get-map, slice_get_read}
+use Rattle.std.proofs.lemmas.Option.{slice_get-map}
 use Rattle.lrpar_grammar.specs.Grammar.{Grammar, end_token}
 use Rattle.lrpar_grammar.specs.Sentence.{LexemeFacts}
-use Rattle.lrpar_stacks.specs.Stack.{top_of}
 use Rattle.lrpar_lexemes.specs.Lexemes.{last_end, lexeme_past}
 use Rattle.lrpar_steps.specs.Mended.{start_at}
 use Rattle.lrpar_runs.specs.RunAnswer.{IsLexemeAt}
-
--- what is read of a list is read, mapped, of the list that it is mapped to
-pub map_at : {A : Type 0} (f : A → ℕ) (xs : List A) (i : ℕ) (x : A) → i < length (map f xs) → x ≡ get_or xs i x → slice_get (map f xs) i ≡ Some (f x)
-map_at f xs i x within read =
-    let count : length (map f xs) ≡ length xs = length-map xs f in
-    slice_get-map f xs i ∙ ap (option_map f) (slice_get_read xs (length xs) i x refl (omega (arith, within, count)) read)
-
--- and so at its end
-pub map_last : {A : Type 0} (f : A → ℕ) (xs : List A) (n : ℕ) (x : A) → 0 < length (map f xs) → n ≡ length xs → x ≡ get_or xs (n - 1) x → top_of (map f xs) ≡ Some (f x)
-map_last f xs n x some is read =
-    let count : length (map f xs) ≡ length xs = length-map xs f in
-    let place : length (map f xs) - 1 ≡ n - 1 = omega (arith, count, is) in
-    ap (slice_get (map f xs)) place ∙ map_at f xs (n - 1) x (omega (arith, some, count, is)) read
 
 -- the lexeme at a place, and the one past the last
 module _ {X : Type 0} (facts : X → LexemeFacts) (g : Grammar) (lexemes : List X) (i : ℕ) (x : X) where

@@ -10,7 +10,7 @@ use Rattle.lrpar_steps.specs.Mended.{Consumes, start_at}
 use Rattle.lrpar_runs.specs.RepairRun.{fed_between}
 use Rattle.lrpar_stacks.specs.Run.{Accepted, Far, FarEnd, Stopped}
 use Rattle.lrpar_steps.specs.Sequences.{PlainStep, Replays, StepsTo}
-use Rattle.lrpar_runs.specs.Stacked.{SettlesTo, Shifts}
+use Rattle.lrpar_steps.specs.Stacked.{SettlesTo, Shifts}
 use Rattle.lrpar_steps.specs.Standing.{Stacked}
 
 -- the starts of the lexemes don't decrease, nor does the end of the last one lie before its start

@@ -7,11 +7,11 @@ ghost use Rattle.lrpar_runs.specs.Moves.{GoesFar, RiseUpTo, StartsRise};
 ghost use Rattle.lrpar_steps.specs.Standing.{IsRunStack};
 
 use crate::run::Run;
-use crate::run_stack::Stack;
 use lrpar_grammar::span::StorageIndex;
 use lrpar_lexemes::lex_api::Lexeme;
 use lrpar_states::table::Action;
 use lrpar_steps::building::Build;
+use lrpar_steps::run_stack::Stack;
 use std::alloc::{AllocError, Global};
 
 impl<'a, StorageT: StorageIndex, LexemeT: Lexeme<StorageT>, B: Build<StorageT, LexemeT>> Run<

@@ -2,7 +2,5 @@
 #![tactic(auto)]
 
 mod far;
-mod reducing;
 pub mod replay;
 pub mod run;
-pub mod run_stack;

@@ -9,14 +9,14 @@ ghost use Rattle.lrpar_steps.specs.Known.{facts_by, known};
 ghost use Rattle.lrpar_steps.specs.Mended.{start_at};
 ghost use Rattle.lrpar_runs.specs.Moves.{CanReplay, CanStep, IsReplayed, RiseUpTo, StartsRise};
 ghost use Rattle.lrpar_steps.specs.PlainSteps.{plain_step, plain_steps};
-ghost use Rattle.lrpar_runs.specs.Stacked.{Shifts};
+ghost use Rattle.lrpar_steps.specs.Stacked.{Shifts};
 ghost use Rattle.lrpar_steps.specs.Standing.{IsRunStack};
 
 use crate::run::Run;
-use crate::run_stack::Stack;
 use lrpar_grammar::span::StorageIndex;
 use lrpar_lexemes::lex_api::Lexeme;
 use lrpar_steps::building::Build;
+use lrpar_steps::run_stack::Stack;
 use lrpar_steps::steps::RepairStep;
 use std::alloc::{AllocError, Global};
 

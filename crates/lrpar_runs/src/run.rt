@@ -7,16 +7,16 @@ ghost use Rattle.lrpar_states.specs.PlainRows.{plain_action};
 ghost use Rattle.lrpar_lexemes.specs.Lexemes.{lexeme_past};
 ghost use Rattle.lrpar_steps.specs.Known.{facts_by, known};
 ghost use Rattle.lrpar_steps.specs.Standing.{IsRunStack};
-ghost use Rattle.lrpar_runs.specs.Stacked.{SettlesTo, Shifts, Sticks};
+ghost use Rattle.lrpar_steps.specs.Stacked.{SettlesTo, Shifts, Sticks};
 
-use crate::reducing::Reducing;
 use crate::replay::end_of;
-use crate::run_stack::Stack;
 use lrpar_check::check::ParserData;
 use lrpar_grammar::span::{StorageIndex, TIdx};
 use lrpar_lexemes::lex_api::Lexeme;
 use lrpar_states::table::Action;
 use lrpar_steps::building::Build;
+use lrpar_steps::reducing::Reducing;
+use lrpar_steps::run_stack::Stack;
 use std::alloc::{AllocError, Global};
 use std::marker::PhantomData;
 

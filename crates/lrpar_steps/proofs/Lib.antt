@@ -1,3 +1,9 @@
 pub mod TokenLemmas
 pub mod SequenceLemmas
 pub mod StepComparisonLemmas
+pub mod TestWorkLemmas
+pub mod ReducingLemmas
+pub mod StackedLemmas
+pub mod TrialLemmas
+pub mod ReversedLemmas
+pub mod MapLemmas

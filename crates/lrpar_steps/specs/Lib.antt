@@ -8,3 +8,11 @@ pub mod Building
 pub mod Rising
 pub mod Standing
 pub mod ZipLaws
+pub mod TestWork
+pub mod Counting
+pub mod Stacked
+pub mod Reducing
+pub mod ReducingLaws
+pub mod ReducingView
+pub mod Made
+pub mod Entries

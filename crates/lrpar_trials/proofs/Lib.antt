@@ -1,3 +1,1 @@
 pub mod ListedLemmas
-pub mod TestWorkLemmas
-pub mod TrialLemmas

@@ -1,3 +1,1 @@
-pub mod TestWork
-pub mod Counting
 pub mod TrialView

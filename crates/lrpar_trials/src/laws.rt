@@ -1,6 +1,6 @@
 //! Laws about the definitions that contracts cite: each function has one as its contract, and does nothing.
 ghost use Rattle.lrpar_grammar.specs.Sentence.{LexemeFacts};
-ghost use Rattle.lrpar_trials.specs.TestWork.{BoundsTests};
+ghost use Rattle.lrpar_steps.specs.TestWork.{BoundsTests};
 
 /// The test of a sequence of m steps from a stack of h states makes at most `cap * (h + (m + k + 1) * (cap + 3))` reductions,
 /// whatever the steps, where k lexemes have to follow: those of the steps that can be taken, and of the one at which the test

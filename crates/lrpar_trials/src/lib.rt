@@ -1,6 +1,5 @@
 //! Whether repair sequences work: each is tried on a stack of states.
 #![tactic(auto)]
 
-mod counter;
 pub mod laws;
 pub mod trial;

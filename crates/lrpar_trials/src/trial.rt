@@ -3,18 +3,18 @@ ghost use Rattle.std.specs.Prelude.{◌≡◌, ◌<◌, ◌≤◌, ◌+◌, ◌�
 ghost use Rattle.lrpar_stacks.specs.Overlay.{overlaid};
 ghost use Rattle.lrpar_stacks.specs.Stack.{IsStack, states_of};
 ghost use Rattle.lrpar_grammar.specs.Sentence.{IsValidList};
-ghost use Rattle.lrpar_trials.specs.Counting.{CostsAtMost, most_listed};
+ghost use Rattle.lrpar_steps.specs.Counting.{CostsAtMost, most_listed};
 ghost use Rattle.lrpar_steps.specs.Known.{known};
 ghost use Rattle.lrpar_steps.specs.Mended.{repairs_over};
 ghost use Rattle.lrpar_steps.specs.PlainSteps.{plain_sequences, plain_step, plain_steps};
 ghost use Rattle.lrpar_repairs.specs.Repairs.{repair_of, repairs_of};
 ghost use Rattle.lrpar_steps.specs.Sequences.{PlainInsert, PlainShift, PlainStep, AreThoseWith};
 
-use crate::counter::Counter;
 use lrpar_answers::errors::ParseRepair;
 use lrpar_check::check::ParserData;
 use lrpar_grammar::span::{StIdx, StorageIndex, TIdx};
 use lrpar_lexemes::lex_api::Lexeme;
+use lrpar_steps::counter::Counter;
 use lrpar_steps::steps::RepairStep;
 use std::alloc::{AllocError, Global};
 

@@ -2,7 +2,7 @@ use Rattle.std.proofs.Common.{◌≡◌, rules}
 use Rattle.std.proofs.lemmas.Result.{IfOk-weaker}
 use Rattle.std.proofs.lemmas.Slice.Zip.{AllZip-map}
 use Rattle.lrpar_builds.specs.declared.actions.Placed.{Placed}
-use Rattle.lrpar_builds.proofs.ReversedLemmas.{zip_wider}
+use Rattle.lrpar_steps.proofs.ReversedLemmas.{zip_wider}
 use Rattle.lrpar_builds.proofs.actions.arguments_of.Goals as goal
 
 pub returns-clause-arguments : goal.returns-clause-arguments

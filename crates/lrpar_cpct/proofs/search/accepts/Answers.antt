@@ -1,7 +1,7 @@
 use Rattle.std.proofs.Common.{◌≡◌}
 use Rattle.lrpar_grammar.specs.Grammar.{end_token}
 use Rattle.lrpar_stacks.specs.Overlay.{overlaid}
-use Rattle.lrpar_trials.proofs.TrialLemmas.{top_known}
+use Rattle.lrpar_steps.proofs.TrialLemmas.{top_known}
 use Rattle.lrpar_cpct.proofs.StackAnswerLemmas.{accepts_told}
 use Rattle.lrpar_cpct.proofs.search.accepts.Goals as goal
 

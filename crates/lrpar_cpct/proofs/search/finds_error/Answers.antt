@@ -1,7 +1,7 @@
 use Rattle.std.proofs.Common.{◌∙◌, sym}
 use Rattle.lrpar_stacks.specs.Overlay.{overlaid}
 use Rattle.lrpar_stacks.proofs.StepLemmas.{action_by_top}
-use Rattle.lrpar_trials.proofs.TrialLemmas.{top_known}
+use Rattle.lrpar_steps.proofs.TrialLemmas.{top_known}
 use Rattle.lrpar_cpct.proofs.search.finds_error.Goals as goal
 
 pub action-requires-clause-state : goal.action-requires-clause-state

@@ -1,4 +1,4 @@
-use Rattle.lrpar_trials.proofs.TestWorkLemmas.{bounds_tests}
+use Rattle.lrpar_steps.proofs.TestWorkLemmas.{bounds_tests}
 use Rattle.lrpar_trials.proofs.laws.tests_of_sequences_are_bounded.Goals as goal
 
 pub returns : goal.returns

@@ -11,7 +11,7 @@ use Rattle.lrpar_runs.specs.Moves.{GoesFar, RiseUpTo}
 use Rattle.lrpar_runs.proofs.FarLemmas.{come_more, come_none, come_to_accept, come_to_last, come_to_stop}
 use Rattle.lrpar_runs.proofs.MovesLemmas.{rise_by_settle, rise_to_next}
 use Rattle.lrpar_steps.proofs.TokenLemmas.{good_token}
-use Rattle.lrpar_runs.proofs.StackedLemmas.{no_reduce, no_shift}
+use Rattle.lrpar_steps.proofs.StackedLemmas.{no_reduce, no_shift}
 use Rattle.lrpar_runs.proofs.run.Run.far.Goals as goal
 
 pub loop-at-init : goal.loop-at-init

@@ -1,7 +1,7 @@
 use Rattle.std.proofs.Common.{◌≡◌, ap, arith}
 use Rattle.lrpar_stacks.proofs.StackLemmas.{path_is_stack}
-use Rattle.lrpar_runs.specs.ReducingView.{built}
-use Rattle.lrpar_runs.proofs.ReducingLemmas.{builds_settle}
+use Rattle.lrpar_steps.specs.ReducingView.{built}
+use Rattle.lrpar_steps.proofs.ReducingLemmas.{builds_settle}
 use Rattle.lrpar_runs.proofs.run.Run.settle.Goals as goal
 
 pub settle_on-requires-clause-stack : goal.settle_on-requires-clause-stack

@@ -2,7 +2,7 @@ use Rattle.std.proofs.Common.{◌≡◌, ◌∙◌, ap, sym}
 use Rattle.lrpar_stacks.specs.Reduction.{top_action}
 use Rattle.lrpar_states.specs.PlainRows.{plain_action}
 use Rattle.lrpar_states.specs.Table.{Fails, ShiftTo}
-use Rattle.lrpar_runs.proofs.StackedLemmas.{run_stack_shift}
+use Rattle.lrpar_steps.proofs.StackedLemmas.{run_stack_shift}
 use Rattle.lrpar_runs.proofs.run.Run.take.Goals as goal
 
 pub returns-in_ok-push-in-Shift : goal.returns-in_ok-push-in-Shift

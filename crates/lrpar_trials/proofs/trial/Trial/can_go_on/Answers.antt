@@ -3,7 +3,7 @@ use Rattle.std.proofs.lemmas.Result.{IfOk-weaker, on_ok_weaker}
 use Rattle.lrpar_stacks.specs.Overlay.{overlaid}
 use Rattle.lrpar_steps.specs.Sequences.{PlainShift}
 use Rattle.lrpar_steps.proofs.SequenceLemmas.{go_on_ends, go_on_next, go_on_stops, taken_within}
-use Rattle.lrpar_trials.proofs.TrialLemmas.{costs_more}
+use Rattle.lrpar_steps.proofs.TrialLemmas.{costs_more}
 use Rattle.lrpar_trials.proofs.trial.Trial.can_go_on.Goals as goal
 
 pub returns-then-at-self-clause-goes_on : goal.returns-then-at-self-clause-goes_on

@@ -1,7 +1,7 @@
 use Rattle.std.proofs.Common.{◌≡◌, ◌≤◌, ◌-◌, ◌↔◌, length}
 use Rattle.lrpar_stacks.specs.Overlay.{overlaid}
 use Rattle.lrpar_stacks.specs.Stack.{IsStack}
-use Rattle.lrpar_trials.specs.Counting.{CostsAtMost}
+use Rattle.lrpar_steps.specs.Counting.{CostsAtMost}
 use Rattle.lrpar_steps.specs.Sequences.{CanGoOn}
 use Rattle.lrpar_trials.proofs.trial.Trial.can_go_on.Given as goal
 

@@ -1,7 +1,7 @@
 use Rattle.std.proofs.Common.{◌∙◌}
 use Rattle.lrpar_stacks.specs.Overlay.{overlaid}
 use Rattle.lrpar_steps.proofs.SequenceLemmas.{listed_more, listed_no_more}
-use Rattle.lrpar_trials.proofs.TrialLemmas.{listed_costs}
+use Rattle.lrpar_steps.proofs.TrialLemmas.{listed_costs}
 use Rattle.lrpar_trials.proofs.trial.Trial.tested.Goals as goal
 
 pub loop-steps-preserved-then-not-works : goal.loop-steps-preserved-then-not-works

@@ -1,5 +1,5 @@
 use Rattle.std.proofs.Common.{◌≡◌, ◌≤◌, ◌+◌, length}
-use Rattle.lrpar_trials.specs.Counting.{most_listed}
+use Rattle.lrpar_steps.specs.Counting.{most_listed}
 use Rattle.lrpar_steps.specs.PlainSteps.{plain_sequences}
 use Rattle.lrpar_steps.specs.Sequences.{AreThoseWith, Works}
 use Rattle.lrpar_trials.proofs.trial.Trial.tested.Given as goal

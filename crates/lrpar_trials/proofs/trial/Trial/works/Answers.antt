@@ -2,7 +2,7 @@ use Rattle.std.proofs.Common.{◌∙◌, ◌+◌, arith, length}
 use Rattle.lrpar_stacks.specs.Overlay.{overlaid}
 use Rattle.lrpar_steps.specs.PlainSteps.{plain_step}
 use Rattle.lrpar_steps.proofs.SequenceLemmas.{taken_within, works_next, works_stops}
-use Rattle.lrpar_trials.proofs.TrialLemmas.{costs_more}
+use Rattle.lrpar_steps.proofs.TrialLemmas.{costs_more}
 use Rattle.lrpar_trials.proofs.trial.Trial.works.Goals as goal
 
 pub returns-in-None-clause-works : goal.returns-in-None-clause-works

@@ -1,4 +1,0 @@
-//! Cases of the program.
-#![tactic(auto)]
-
-pub mod commands;

@@ -1,4 +1,0 @@
-//! Cases of the examples of conflicts.
-#![tactic(auto)]
-
-pub mod examples;

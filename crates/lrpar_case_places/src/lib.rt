@@ -1,4 +1,0 @@
-//! Cases of messages that show places of a text.
-#![tactic(auto)]
-
-pub mod underlines;

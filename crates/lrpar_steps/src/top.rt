@@ -1,0 +1,38 @@
+//! What is made of the entries on top of a stack.
+ghost use Rattle.std.specs.Prelude.{◌≡◌, ◌≤◌, ◌-◌, ◌++◌, IfOk, OnOk, length, take, drop, reverse};
+ghost use Rattle.std.specs.List.{AllZip};
+
+use std::alloc::{AllocError, Global};
+
+/// What the function makes of the top `count` entries, which are taken off, the lowest first. They are turned round on their
+/// place, so that the list of what is made is the only one that takes memory.
+pub fn made_of_top<E: Drop, V: Drop, F: Fn(E) -> V>(
+    alloc: Global,
+    count: usize,
+    entries: &mut Vec<E>,
+    make: &F,
+) -> Result<Vec<V>, AllocError>
+    requires callable { F.IsAlwaysCallable make.now }
+    requires deep { count ≤ length entries.old.items }
+    ensures kept { OnOk result (entries.new.items ≡ take (length entries.old.items - count) entries.old.items) }
+    ensures made { IfOk result (λ made. AllZip (F.post make.now) (drop (length entries.old.items - count) entries.old.items) made.items) }
+{
+    let at = turn_top(count, entries);
+    let mut made = Vec::with_capacity(alloc, count)?;
+    for _i in 0..count {
+        let entry = entries.pop().unwrap();
+        made.push(make(entry))?;
+    }
+    Ok(made)
+}
+
+// Turns the top `count` entries round, and answers how many stand below them.
+fn turn_top<E>(count: usize, entries: &mut Vec<E>) -> usize
+    requires { count ≤ length entries.old.items }
+    ensures below { result ≡ length entries.old.items - count }
+    ensures turned { entries.new.items ≡ take (length entries.old.items - count) entries.old.items ++ reverse (drop (length entries.old.items - count) entries.old.items) }
+{
+    let at = entries.len() - count;
+    entries[at..].reverse();
+    at
+}
