@@ -5,7 +5,7 @@ use std::alloc::Global;
 use std::fmt;
 
 /// What comes of a case, as far as it is written. That memory was wanting is kept until the end, so that what writes needn't fail
-/// (Rob Pike, "Errors are values", 2015).
+/// ("Errors are values", The Go Blog, 2015).
 #[derive(Drop)]
 pub struct Told {
     text: String,
