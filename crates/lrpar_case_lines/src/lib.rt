@@ -1,4 +1,4 @@
-//! Case files: their lines, the cases that these are, values and names in them, and whether what came of a case is what it wants.
+//! Case files: their lines, the cases that these are, values and names in them, what comes of a case, and whether it is what it wants.
 #![tactic(auto)]
 
 pub mod cases;
