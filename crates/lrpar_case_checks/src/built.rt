@@ -92,10 +92,8 @@ fn push_built<S: StorageIndex>(
     text: &str,
     limits: Limits,
 ) -> Result<(), Fault> {
-    match YaccGrammar::<S>::new_with_storaget(alloc, text) {
-        Ok(grm) => push_tables(told, alloc, grm, limits),
-        Err(fault) => return Err(of_grammar(fault, case.number, "the text is no grammar")),
-    }
+    let grm = grammar::<S>(alloc, case, text)?;
+    push_tables(told, alloc, grm, limits);
     Ok(())
 }
 
@@ -168,7 +166,7 @@ fn push_as_built<S: StorageIndex>(told: &mut Told, alloc: Global, data: &ParserD
     let is_as_built = told.so_far() == text.so_far();
     told.text("checked\n");
     if !is_as_built {
-        told.told(&text);
+        told.append(&text);
     }
 }
 
@@ -181,11 +179,16 @@ fn push_refusal<S: StorageIndex>(
 ) {
     push_fault(told, "refused chains: ", refused.fault());
     if let Some(cap) = then {
-        let (grm, graph, table) = refused.into_parts();
-        match checked(alloc, grm, graph, table, cap) {
-            Ok(data) => push_rows(told, &data),
-            Err(fault) => push_fault(told, "then refused ", fault),
-        }
+        push_second(told, alloc, refused, cap);
+    }
+}
+
+// What comes of the check of what is handed back, with this cap.
+fn push_second<S: StorageIndex>(told: &mut Told, alloc: Global, refused: Refused<S>, cap: u16) {
+    let (grm, graph, table) = refused.into_parts();
+    match checked(alloc, grm, graph, table, cap) {
+        Ok(data) => push_rows(told, &data),
+        Err(fault) => push_fault(told, "then refused ", fault),
     }
 }
 

@@ -106,11 +106,11 @@ fn push_call(
     let (mut by_list, mut by_overlay) = (Told::new(alloc), Told::new(alloc));
     push_by_list(&mut by_list, alloc, data, states, call)?;
     push_by_overlay(&mut by_overlay, data, over, call)?;
-    told.told(&by_list);
+    told.append(&by_list);
     told.line(", keeps ", &over.kept());
     if !told.agree(&by_list, &by_overlay) {
         told.text("over");
-        told.told(&by_overlay);
+        told.append(&by_overlay);
         told.text("\n");
     }
     Ok(())

@@ -6,12 +6,12 @@ use std::alloc::{AllocError, AllocFailed};
 use std::{fmt, io};
 
 /// Why a case has no outcome, or why there are no more cases.
-#[derive(Drop)]
+#[derive(Clone, Copy)]
 pub enum Fault {
     /// What stands in this line of the file can't be read as what is said here.
     Line(usize, &'static str),
     /// A file can't be read or written, or a stream takes no more.
-    Io(io::Error),
+    Io(io::ErrorKind),
     /// Memory was wanting.
     Memory,
 }
@@ -20,7 +20,7 @@ impl fmt::Display for Fault {
     fn fmt<W: fmt::Write>(&self, f: &mut fmt::Formatter<W>) -> fmt::Result {
         match self {
             Fault::Line(number, text) => write!(f, "line {number}: {text}"),
-            Fault::Io(error) => write!(f, "{error}"),
+            Fault::Io(kind) => write!(f, "{kind}"),
             Fault::Memory => write!(f, "out of memory"),
         }
     }
@@ -28,7 +28,7 @@ impl fmt::Display for Fault {
 
 impl From<io::Error> for Fault {
     fn from(error: io::Error) -> Fault {
-        Fault::Io(error)
+        Fault::Io(error.kind())
     }
 }
 

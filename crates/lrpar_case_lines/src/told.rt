@@ -58,8 +58,8 @@ impl Told {
         self.show(&number);
     }
 
-    /// Writes a text, the ends of a span, and the end of the line.
-    pub fn place(&mut self, text: &str, span: Span) {
+    /// Writes a text, the two ends of a span, and the end of the line.
+    pub fn span_line(&mut self, text: &str, span: Span) {
         self.number(text, span.start());
         self.line("..", &span.end());
     }
@@ -85,7 +85,7 @@ impl Told {
     }
 
     /// Writes what another one has.
-    pub fn told(&mut self, other: &Told) {
+    pub fn append(&mut self, other: &Told) {
         self.text(other.so_far());
         self.is_whole &= other.is_whole;
     }

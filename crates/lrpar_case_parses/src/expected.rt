@@ -134,7 +134,7 @@ fn push_expected(told: &mut Told, grm: &YaccGrammar<u32>, expected: &Expected<u3
     told.line("place ", &expected.place);
     push_tokens(told, grm, "expected", &expected.tokens);
     if let Some(error) = &expected.lexing_error {
-        told.place("lexing error ", error.span());
+        told.span_line("lexing error ", error.span());
     }
 }
 

@@ -100,7 +100,7 @@ fn by_parsers(
     let places = RefCell::new(Vec::new(alloc));
     let answer = answer_by(alloc, Call::ParseActions, first, lexer, &places);
     let wanted = answered(alloc, case, first.grammar(), &answer);
-    told.told(&wanted.errors);
+    told.append(&wanted.errors);
     told.field("tree", wanted.tree.so_far());
     push_noted(told, case, first.grammar(), &places);
     push_printed(told, alloc, case, first.grammar(), input, &answer);

@@ -23,7 +23,7 @@ pub(crate) fn push_errors(
 ) {
     for error in errors {
         match error {
-            LexParseError::LexError(error) => told.place("lexing error ", error.span()),
+            LexParseError::LexError(error) => told.span_line("lexing error ", error.span()),
             LexParseError::ParseError(error) => push_error(told, grm, tells_states, error),
         }
     }

@@ -29,10 +29,10 @@ pub fn outcome(
 
 /// Adds what comes by full rows; and below it what comes by stored entries, where that is something else.
 pub fn push_agreed(told: &mut Told, by_rows: &Told, by_entries: &Told) {
-    told.told(by_rows);
+    told.append(by_rows);
     if !told.agree(by_rows, by_entries) {
         told.text("by-entries\n");
-        told.told(by_entries);
+        told.append(by_entries);
     }
 }
 

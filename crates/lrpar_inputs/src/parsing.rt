@@ -20,6 +20,9 @@ pub type Tree = Node<Token<u32>, u32>;
 /// An error of a parse.
 pub type TextError = LexParseError<u32, TokenTypes>;
 
+/// The tree of a text, if there is one, and the errors.
+type Parsed = (Option<Tree>, Vec<TextError>);
+
 /// A parser of texts, with the rules of its lexer and what its messages print.
 #[derive(Drop)]
 pub struct TextParser<'a> {
@@ -106,19 +109,37 @@ pub fn print_tree<'a, L: NonStreamingLexer<'a, TokenTypes>, O: Write>(
 ) -> Result<bool, Fault>
     requires { L.text lexer.now ≡ input.now }
 {
-    let (tree, errors) = tree_and_errors(alloc, parser, lexer)?;
-    let printed = print_errors(alloc, names, lexer, input, &errors, out);
-    print_node(alloc, parser.grammar(), input, tree.as_ref(), printed, out)?;
-    Ok(tree.is_some() && errors.is_empty())
+    let parsed = parsed_of(alloc, parser, lexer)?;
+    print_parsed(alloc, parser.grammar(), names, lexer, input, &parsed, out)
 }
 
 // The tree of the lexer's text, if there is one, and the errors.
-fn tree_and_errors<'a, L: NonStreamingLexer<'a, TokenTypes>>(
+fn parsed_of<'a, L: NonStreamingLexer<'a, TokenTypes>>(
     alloc: Global,
     parser: &Parser<'_>,
     lexer: &L,
-) -> Result<(Option<Tree>, Vec<TextError>), Fault> {
+) -> Result<Parsed, Fault> {
     Ok(parser.parse_generictree(alloc, lexer)?)
+}
+
+// Prints the errors and the tree.
+fn print_parsed<'a, L: NonStreamingLexer<'a, TokenTypes>, O: Write>(
+    alloc: Global,
+    grm: &YaccGrammar<u32>,
+    names: &'a [&'a str],
+    lexer: &L,
+    input: &str,
+    parsed: &Parsed,
+    out: &mut O,
+) -> Result<bool, Fault>
+    requires { L.text lexer.now ≡ input.now }
+{
+    let (tree, errors) = parsed;
+    print_errors(alloc, names, lexer, input, errors, out)?;
+    if let Some(tree) = tree {
+        tree.write(alloc, grm, input, out)?;
+    }
+    Ok(tree.is_some() && errors.is_empty())
 }
 
 /// Prints each error's text and a line feed.
@@ -169,21 +190,5 @@ fn name_at<'a>(names: &'a [&'a str], token: TIdx<u32>) -> &'a str {
     match names.get(usize::from(token)) {
         Some(name) => *name,
         None => "",
-    }
-}
-
-// Prints the text of a tree, if there is one, once what stands in front of it is printed.
-fn print_node<O: Write>(
-    alloc: Global,
-    grm: &YaccGrammar<u32>,
-    input: &str,
-    tree: Option<&Tree>,
-    printed: Result<(), Fault>,
-    out: &mut O,
-) -> Result<(), Fault> {
-    printed?;
-    match tree {
-        Some(tree) => Ok(tree.write(alloc, grm, input, out)?),
-        None => Ok(()),
     }
 }

@@ -7,7 +7,7 @@ use std::fmt::Display;
 use std::io::{self, BufWriter, Write};
 
 /// How a program ends.
-#[derive(Clone, Copy, Debug, PartialEq, Eq)]
+#[derive(Clone, Copy)]
 pub enum Status {
     /// With an answer.
     Success,

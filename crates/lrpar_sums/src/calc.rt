@@ -1,12 +1,14 @@
 //! The command `calc`: sums and products, one a line.
+ghost use Rattle.std.specs.Prelude.{◌≡◌};
+
 use lrpar_inputs::fault::Fault;
 use lrpar_inputs::files::input_text;
 use lrpar_inputs::parsing::{TextError, TextParser, print_errors, print_line, text_parser_of};
-use lrpar_inputs::tables::data_of;
-use lrpar_lexer::{RuleLexer, Token};
+use lrpar_inputs::tables::{data_of, drop_table};
+use lrpar_lexer::{RuleLexer, Token, TokenTypes};
 use lrpar_parser::grammar::YaccGrammar;
 use lrpar_parser::span::{Span, TIdx};
-use lrpar_parser::{Lexeme, ParserData};
+use lrpar_parser::{Lexeme, NonStreamingLexer, ParserData};
 use std::alloc::Global;
 use std::io::{Read, Write};
 
@@ -32,6 +34,9 @@ enum Sign {
     Bracket,
 }
 
+/// The value of a line, if it has one, and its errors.
+type Parsed = (Option<Part>, Vec<TextError>);
+
 /// What a line gives.
 #[derive(Clone, Copy)]
 struct Found {
@@ -52,7 +57,9 @@ pub fn calc<I: Read + Drop, O: Write, E: Write>(
     err: &mut E,
 ) -> Result<bool, Fault> {
     let data = data_of(alloc, GRAMMAR)?;
-    calc_by(alloc, &data, repairs, shifts, input, out, err)
+    let all = calc_by(alloc, &data, repairs, shifts, input, out, err);
+    drop_table(data);
+    all
 }
 
 // The same by the table of sums and products.
@@ -117,24 +124,17 @@ fn computed<'a, O: Write>(
     out: &mut O,
 ) -> Result<Found, Fault> {
     let lexer = RuleLexer::new(alloc, &text_parser.rules, line)?;
-    let (value, errors) = value_and_errors(alloc, text_parser, &lexer, line)?;
-    print_errors(alloc, &text_parser.names, &lexer, line, &errors, out)?;
-    Ok(Found {
-        number: match value {
-            Some(part) => number_of(part),
-            None => None,
-        },
-        has_errors: !errors.is_empty(),
-    })
+    let parsed = parsed_of(alloc, text_parser, &lexer, line)?;
+    print_parsed(alloc, &text_parser.names, &lexer, line, &parsed, out)
 }
 
 // The value of a line, if it has one, and its errors.
-fn value_and_errors(
+fn parsed_of(
     alloc: Global,
     text_parser: &TextParser<'_>,
     lexer: &RuleLexer<'_, '_>,
     line: &str,
-) -> Result<(Option<Part>, Vec<TextError>), Fault> {
+) -> Result<Parsed, Fault> {
     let grm = text_parser.parser.grammar();
     Ok(
         text_parser.parser.parse_map(
@@ -144,6 +144,28 @@ fn value_and_errors(
             |_, parts| joined(&parts),
         )?,
     )
+}
+
+// Prints the errors of a line, and gives its number.
+fn print_parsed<'a, L: NonStreamingLexer<'a, TokenTypes>, O: Write>(
+    alloc: Global,
+    names: &'a [&'a str],
+    lexer: &L,
+    line: &str,
+    parsed: &Parsed,
+    out: &mut O,
+) -> Result<Found, Fault>
+    requires { L.text lexer.now ≡ line.now }
+{
+    let (value, errors) = parsed;
+    print_errors(alloc, names, lexer, line, errors, out)?;
+    Ok(Found {
+        number: match value {
+            Some(part) => number_of(*part),
+            None => None,
+        },
+        has_errors: !errors.is_empty(),
+    })
 }
 
 // What a lexeme stands for. One that a repair made has no number, and neither has one whose number is too large.

@@ -180,18 +180,25 @@ fn output_fails<R: Abort + Files>(rt: &R, alloc: Global, row: Row) {
     }
 }
 
+// The files that the rows name, and their texts.
+const FILES: &[(&str, &str)] = &[
+    ("grammar", "%% S: A; A: 'A';"),
+    ("lexer", "a 'A'"),
+    ("input", "aa"),
+    ("repairs", "delete"),
+    ("sums", "%% E: E '+' E | 'N';"),
+];
+
 #[test]
 fn each_write_to_standard_output_fails(rt: HostRuntime) -> Result<(), Fail> {
-    fs::write(&rt, "grammar", "%% S: A; A: 'A';")?;
-    fs::write(&rt, "lexer", "a 'A'")?;
-    fs::write(&rt, "input", "aa")?;
-    fs::write(&rt, "repairs", "delete")?;
-    fs::write(&rt, "sums", "%% E: E '+' E | 'N';")?;
+    for (path, text) in FILES {
+        fs::write(&rt, *path, *text)?;
+    }
     for row in [DEMO, CALC, TREE, CHECK, REFUSED, CONFLICTS] {
         output_fails(&rt, rt.alloc(), row);
     }
-    for path in ["grammar", "lexer", "input", "repairs", "sums"] {
-        fs::remove_file(&rt, path)?;
+    for (path, _) in FILES {
+        fs::remove_file(&rt, *path)?;
     }
     Ok(())
 }
