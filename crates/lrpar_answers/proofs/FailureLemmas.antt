@@ -1,6 +1,6 @@
 -- Parse errors that differ in nothing.
 use Rattle.std.proofs.Common.{◌≡◌, ℕ, List, ap}
-use Rattle.lrpar_repairs.specs.Repair.{Repair}
+use Rattle.lrpar_lexemes.specs.Repair.{Repair}
 use Rattle.lrpar_answers.specs.Failure.{Failure}
 
 -- parse errors with the same repairs

@@ -5,7 +5,7 @@ use Rattle.std.specs.List.{AllByRecursion, AllZip, flat_map}
 use Rattle.lrpar_text.specs.Lines.{line_of, column_of}
 use Rattle.lrpar_text.specs.Span.{Extent}
 use Rattle.lrpar_grammar.specs.SpansFit.{IsPartOf}
-use Rattle.lrpar_repairs.specs.Repair.{Repair}
+use Rattle.lrpar_lexemes.specs.Repair.{Repair}
 use Rattle.lrpar_answers.specs.Failure.{Failure}
 use Rattle.lrpar_repairs.specs.SequenceText.{IsPartsText, RepairsFit, inserted, parts_of}
 

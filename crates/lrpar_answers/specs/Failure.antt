@@ -3,7 +3,7 @@ use Rattle.std.specs.Prelude.{ℕ, List, Bool, ◌==◌, ◌++◌, Option, codes
 use Rattle.std.specs.Option.{option_map}
 use Rattle.std.specs.Ordering.{on, eq_of_both}
 use Rattle.std.specs.Cmp.Lexicographic.{pointwise}
-use Rattle.lrpar_repairs.specs.Repair.{Repair, repair_eq}
+use Rattle.lrpar_lexemes.specs.Repair.{Repair, repair_eq}
 
 -- the state and the lexeme at which a parse found no action, and the sequences of repairs that it found
 pub record Failure (X : Type 0) : Type 0 where

@@ -2,7 +2,7 @@
 use Rattle.std.specs.Prelude.{Bool}
 use Rattle.std.specs.Cmp.{IsPartialEquivalence, on_per, and_per}
 use Rattle.std.specs.Cmp.Lexicographic.{lists_per}
-use Rattle.lrpar_repairs.specs.RepairLaws.{nat_per, repair_per}
+use Rattle.lrpar_lexemes.specs.RepairLaws.{nat_per, repair_per}
 use Rattle.lrpar_answers.specs.Failure.{failure_eq}
 
 -- the laws of `failure_eq`

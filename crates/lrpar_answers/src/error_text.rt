@@ -5,15 +5,15 @@ ghost use Rattle.std.specs.String.{string_bytes};
 ghost use Rattle.std.specs.Str.{IsCharBoundary};
 ghost use Rattle.lrpar_answers.specs.ErrorText.{digits, numbered, numbering, place_text, repairs_text, tokens_of};
 ghost use Rattle.lrpar_repairs.specs.Printed.{IsPpFault, printed_by};
-ghost use Rattle.lrpar_repairs.specs.Repairs.{repair_of, repairs_of};
+ghost use Rattle.lrpar_lexemes.specs.Repairs.{repair_of, repairs_of};
 ghost use Rattle.lrpar_grammar.specs.SpansFit.{IsPartOf};
 ghost use Rattle.lrpar_repairs.specs.SequenceText.{IsPartsText, RepairFits, RepairsFit, parts_of};
 
 use crate::errors::LexParseError;
 use lrpar_grammar::span::{Span, StorageIndex, TIdx};
 use lrpar_lexemes::lex_api::{LexError, Lexeme, LexerTypes, NonStreamingLexer};
+use lrpar_lexemes::{ParseRepair, PpFault};
 use lrpar_repairs::sequence_text::push_sequence;
-use lrpar_repairs::{ParseRepair, PpFault};
 use std::alloc::{AllocError, Global};
 
 impl<StorageT: StorageIndex, LexerTypesT: LexerTypes<StorageT = StorageT>> LexParseError<

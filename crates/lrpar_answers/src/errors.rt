@@ -1,11 +1,11 @@
 //! Parse errors, and the repairs that they offer.
 ghost use Rattle.std.specs.Prelude.{◌≡◌, ⊤};
 ghost use Rattle.lrpar_answers.specs.Failure.{failure_text};
-ghost use Rattle.lrpar_repairs.specs.Repairs.{repairs_of};
+ghost use Rattle.lrpar_lexemes.specs.Repairs.{repairs_of};
 
 use lrpar_grammar::span::{StIdx, StorageIndex};
 use lrpar_lexemes::lex_api::{LexError, Lexeme, LexerTypes};
-pub use lrpar_repairs::{ParseRepair, PpFault};
+pub use lrpar_lexemes::{ParseRepair, PpFault};
 use std::alloc::AllocError;
 use std::error::Error;
 use std::fmt;
@@ -21,7 +21,7 @@ pub struct ParseError<LexemeT: Lexeme<StorageT>, StorageT: StorageIndex> {
 
 impl<LexemeT: Lexeme<StorageT>, StorageT: StorageIndex> Model for ParseError<LexemeT, StorageT> {
     ghost use Rattle.lrpar_answers.specs.Failure.{Failure};
-    ghost use Rattle.lrpar_repairs.specs.Repairs.{repairs_of};
+    ghost use Rattle.lrpar_lexemes.specs.Repairs.{repairs_of};
 
     ghost Value = { Failure LexemeT };
 

@@ -5,7 +5,7 @@ use Rattle.std.specs.Map.{keys_of, lookup}
 use Rattle.std.proofs.lemmas.Bool.{ne_eqb}
 use Rattle.std.proofs.lemmas.List.{append-nil, append_assoc, map-append}
 use Rattle.std.proofs.lemmas.List.Concat.{flat_map-append}
-use Rattle.lrpar_grammar.proofs.ListLemmas.{map-take_more, range_more}
+use Rattle.lrpar_text.proofs.ListLemmas.{map-take_more, range_more}
 use Rattle.lrpar_states.specs.Table.{ReduceReduce}
 use Rattle.lrpar_build.specs.Wanted.{AscendFrom, reduce_conflicts_at}
 

@@ -8,7 +8,7 @@ use Rattle.lrpar_states.specs.Graph.{item_at}
 use Rattle.lrpar_build.specs.Canonical.{AreSame, ReachesMore}
 use Rattle.lrpar_closure.specs.Cores.{CoreSet, IsAmong, IsCoreOf}
 use Rattle.lrpar_first.specs.FirstRows.{mark_of}
-use Rattle.lrpar_first.specs.Tokens.{has}
+use Rattle.lrpar_grammar.specs.Tokens.{has}
 use Rattle.lrpar_closure.specs.ItemSets.{IsAdvanced, IsInClosure, IsReachedBy, IsStartItem}
 use Rattle.lrpar_closure.specs.CoreOrder.{AreCores, ComesBefore, IsBegun, IsFilled, IsKernel}
 use Rattle.lrpar_build.specs.Kernels.{AreKept, AreKernels, GoesTo, IsReachedKernel, path_at}

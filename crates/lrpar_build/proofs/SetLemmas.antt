@@ -12,7 +12,7 @@ use Rattle.lrpar_closure.specs.Cores.{CoreSet, IsAmong}
 use Rattle.lrpar_closure.specs.ItemSets.{Added, IsAdvanced, IsInClosure, IsInNext, IsReachedBy, Own}
 use Rattle.lrpar_build.specs.StateRows.{item_rows}
 use Rattle.lrpar_build.specs.States.{StateOf, sets_at, state_at}
-use Rattle.lrpar_first.specs.Tokens.{has}
+use Rattle.lrpar_grammar.specs.Tokens.{has}
 use Rattle.lrpar_closure.specs.Complete.{items_of_core, items_of_cores}
 use Rattle.lrpar_build.proofs.MemberLemmas.{filter_has, filter_member, joined_has, joined_member, member_none, range_has, range_member}
 use Rattle.lrpar_build.proofs.ReachedLemmas.{reached_items}

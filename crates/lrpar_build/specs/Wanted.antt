@@ -8,7 +8,7 @@ use Rattle.lrpar_text.specs.declared.span.StIdx.{StIdx}
 use Rattle.lrpar_grammar.specs.Grammar.{Grammar, prod_len, start_prod, tokens_len}
 use Rattle.lrpar_states.specs.Table.{ReduceReduce, ShiftReduce, TableAction, ShiftTo, ReduceBy, Accepts, Fails}
 use Rattle.lrpar_closure.specs.Cores.{CoreSet}
-use Rattle.lrpar_first.specs.Tokens.{has}
+use Rattle.lrpar_grammar.specs.Tokens.{has}
 use Rattle.lrpar_build.specs.declared.fault.BuildFault.{BuildFault}
 use Rattle.lrpar_build.specs.declared.fault.BuildFault.TheVariants.{AcceptReduceConflict, Memory, StorageTooSmall, TooManyStates}
 

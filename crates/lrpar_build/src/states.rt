@@ -21,9 +21,9 @@ use crate::kernels::Kernels;
 use lrpar_closure::cores::CoreItems;
 use lrpar_closure::sets::{Sets, closed};
 use lrpar_closure::successors::Successors;
-use lrpar_first::tokens::TokenSet;
 use lrpar_grammar::grammar::YaccGrammar;
 use lrpar_grammar::span::{Numbered, RIdx, StIdx, StorageIndex, TIdx};
+use lrpar_grammar::token_set::TokenSet;
 use std::alloc::{AllocError, Global};
 
 /// The states of the grammar, at most so many: each item set that is reached, once, and where it goes.

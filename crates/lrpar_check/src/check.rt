@@ -12,11 +12,12 @@ ghost use Rattle.lrpar_safety.specs.declared.fault.CheckFault.TheVariants.{Memor
 
 pub use lrpar_complete::complete_fault::CompleteFault;
 pub use lrpar_complete::completeness::CompletenessCondition;
+use lrpar_conditions::parts::Parts;
 use lrpar_grammar::grammar::YaccGrammar;
 use lrpar_grammar::span::StorageIndex;
 use lrpar_safety::chains::least_cap;
 pub use lrpar_safety::fault::CheckFault;
-use lrpar_safety::safety::Parts;
+use lrpar_safety::safety::first_fault;
 pub use lrpar_stacks::overlay::Overlay;
 pub use lrpar_states::condition::SafetyCondition;
 use lrpar_states::table::{StateGraph, StateTable};
@@ -71,7 +72,7 @@ impl<StorageT: StorageIndex> ParserData<StorageT> {
         ensures exact { IsSafe grm sgraph stable → AreChainsShort grm stable cap → IfErr result (λ r. r.fault ≡ Memory) }
         ensures back { IfErr result (λ r. (r.grammar ≡ grm) × (r.graph ≡ sgraph) × (r.table ≡ stable)) }
     {
-        match Parts::new(&grm, &sgraph, &stable).fault() {
+        match first_fault(&Parts::new(&grm, &sgraph, &stable)) {
             None => ParserData::of_safe(alloc, grm, sgraph, stable, cap),
             Some(fault) => Err(Refused {
                 fault,

@@ -5,7 +5,7 @@ use Rattle.std.proofs.lemmas.List.Elements.{Contains-append_cases, Contains-appe
 use Rattle.lrpar_grammar.specs.Grammar.{Grammar, rule_of}
 use Rattle.lrpar_states.specs.Graph.{ItemOf}
 use Rattle.lrpar_first.specs.FirstRows.{row_at}
-use Rattle.lrpar_first.specs.Tokens.{has}
+use Rattle.lrpar_grammar.specs.Tokens.{has}
 use Rattle.lrpar_closure.specs.Brought.{HasIn, IsBrought}
 use Rattle.lrpar_closure.specs.Cores.{AreBringing, CoreSet, IsAmong, IsOfCore, IsOfRows, IsOfRule}
 use Rattle.lrpar_closure.specs.ItemSets.{IsInClosure}

@@ -5,10 +5,10 @@ use Rattle.std.proofs.lemmas.List.{get_or-map, get_or-set_other, get_or-set_same
 use Rattle.std.proofs.lemmas.List.Elements.{Contains-append_left, Contains-push, Contains-push_cases}
 use Rattle.lrpar_grammar.specs.Grammar.{Grammar, GrammarSymbol, Nonterminal, rules_len, symbols_of}
 use Rattle.lrpar_first.specs.FirstRows.{HaveRoom, HoldNothing, IsFirstBefore, mark_of, row_at, rows_of}
-use Rattle.lrpar_first.specs.Tokens.{has}
+use Rattle.lrpar_grammar.specs.Tokens.{has}
 use Rattle.lrpar_closure.specs.Brought.{HasIn, IsBrought, Given}
 use Rattle.lrpar_closure.specs.Cores.{AreBringing, Brings, CoreSet}
-use Rattle.lrpar_first.specs.declared.tokens.TokenSet.{TokenSet}
+use Rattle.lrpar_grammar.specs.declared.token_set.TokenSet.{TokenSet}
 use Rattle.lrpar_closure.proofs.BroughtLemmas.{brought_twice}
 use Rattle.lrpar_first.proofs.GrowthLemmas.{room_set, row_in, rows-set, sets_len}
 use Rattle.lrpar_closure.proofs.SpreadLemmas.{same_rest, same_rule}

@@ -5,8 +5,8 @@ use Rattle.std.proofs.lemmas.List.{append-nil, append_assoc, get_or-map, length-
 use Rattle.std.proofs.lemmas.List.Concat.{flat_map-append}
 use Rattle.std.proofs.lemmas.List.Elements.{filter-append}
 use Rattle.std.proofs.lemmas.List.Folds.{list_any-append, list_any_at}
-use Rattle.lrpar_grammar.proofs.ListLemmas.{map-take_more, range_more}
-use Rattle.lrpar_first.specs.Tokens.{has}
+use Rattle.lrpar_text.proofs.ListLemmas.{map-take_more, range_more}
+use Rattle.lrpar_grammar.specs.Tokens.{has}
 use Rattle.lrpar_closure.specs.Complete.{accepts_at, items_of_core, items_of_cores, prods_at}
 use Rattle.lrpar_closure.specs.Cores.{CoreSet}
 

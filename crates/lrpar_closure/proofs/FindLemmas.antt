@@ -1,7 +1,7 @@
 -- Lists that are compared place by place, and what stands in a place.
 use Rattle.std.proofs.Common.{◌≡◌, ◌<◌, ◌+◌, ◌∷◌, ◌++◌, ◌∙◌, [], sym, ap, ℕ, List, get_or, length, map, take}
 use Rattle.std.proofs.lemmas.List.{get_or-map}
-use Rattle.lrpar_grammar.proofs.ListLemmas.{map-take_more}
+use Rattle.lrpar_text.proofs.ListLemmas.{map-take_more}
 
 module _ {X Y : Type 0} (f : X → Y) (xs ys : List X) (i : ℕ) (x y : X) (low : i < length xs) (below : i < length ys) (is : x ≡ get_or xs i x)
     (other : y ≡ get_or ys i y) where

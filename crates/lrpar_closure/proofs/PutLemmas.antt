@@ -7,7 +7,7 @@ use Rattle.lrpar_grammar.specs.Grammar.{Grammar, IsWellFormed, Production, prods
 use Rattle.lrpar_states.specs.Graph.{ItemOf}
 use Rattle.lrpar_states.proofs.ItemLemmas.{Contains-image, Contains-preimage}
 use Rattle.lrpar_first.specs.FirstRows.{mark_of}
-use Rattle.lrpar_first.specs.Tokens.{has}
+use Rattle.lrpar_grammar.specs.Tokens.{has}
 use Rattle.lrpar_closure.specs.Brought.{HasIn, IsBrought, Given, Brought}
 use Rattle.lrpar_closure.specs.Cores.{AreBringing, CoreSet, IsAmong, IsCoreOf, IsOfRows, IsOfRule}
 use Rattle.lrpar_closure.specs.CoreOrder.{AreCores, AreCoresInOrder, ComesBefore, IsAhead, IsBegun, IsFilled}

@@ -7,9 +7,9 @@ use Rattle.std.specs.Bool.{OnFalse, OnTrue}
 use Rattle.lrpar_grammar.specs.Grammar.{Grammar, GrammarSymbol, Nonterminal, Terminal, prods_len, prods_of, rule_of, rules_len, symbols_of}
 use Rattle.lrpar_first.specs.First.{IsFirst}
 use Rattle.lrpar_first.specs.FirstRows.{HaveRoom, IsFirstBefore, mark_of, row_at, rows_of, total_missing}
-use Rattle.lrpar_first.specs.Tokens.{has, missing}
+use Rattle.lrpar_grammar.specs.Tokens.{has, missing}
 use Rattle.lrpar_closure.specs.Brought.{IsBrought, Given, Brought, AreBroughtFrom, HasIn, IsSpreadAt, IsSpreadOf, Keeps}
-use Rattle.lrpar_first.specs.declared.tokens.TokenSet.{TokenSet}
+use Rattle.lrpar_grammar.specs.declared.token_set.TokenSet.{TokenSet}
 use Rattle.lrpar_first.proofs.BeforeLemmas.{united}
 use Rattle.lrpar_closure.proofs.ProdLemmas.{in_prods}
 use Rattle.lrpar_closure.proofs.BroughtLemmas.{brought_twice, closed_brought}

@@ -2,7 +2,7 @@
 use Rattle.std.specs.Prelude.{◌==◌, ◌&&◌, ℕ, Bool, List, filter, map, not}
 use Rattle.std.specs.List.{flat_map, list_any, range_with_len}
 use Rattle.lrpar_states.specs.Graph.{ItemOf, item_at}
-use Rattle.lrpar_first.specs.Tokens.{has}
+use Rattle.lrpar_grammar.specs.Tokens.{has}
 use Rattle.lrpar_closure.specs.Cores.{CoreSet}
 
 -- the items of one core, their lookaheads ascending

@@ -2,7 +2,7 @@
 -- of items has one kernel.
 use Rattle.std.specs.Prelude.{◌≡◌, ◌<◌, ◌⊎◌, ℕ, IsTrue, List, [], ◌∷◌, All, length}
 use Rattle.lrpar_grammar.specs.Grammar.{Grammar, rule_of, start_prod}
-use Rattle.lrpar_first.specs.Tokens.{has}
+use Rattle.lrpar_grammar.specs.Tokens.{has}
 use Rattle.lrpar_closure.specs.Cores.{CoreSet, IsCoreOf}
 
 -- production p is listed before q: by their rules, and those of one rule by their numbers

@@ -4,7 +4,7 @@ use Rattle.lrpar_grammar.specs.Grammar.{Grammar, GrammarSymbol, Nonterminal, pro
 use Rattle.lrpar_states.specs.Graph.{ItemOf}
 use Rattle.lrpar_first.specs.FirstRows.{IsFirstBefore, mark_of}
 use Rattle.lrpar_closure.specs.Brought.{HasIn}
-use Rattle.lrpar_first.specs.Tokens.{has}
+use Rattle.lrpar_grammar.specs.Tokens.{has}
 use Rattle.lrpar_closure.specs.declared.cores.CoreItems.{CoreItems}
 
 -- the items of one core: its production, its dot, and whether each token is a lookahead

@@ -12,9 +12,9 @@ use crate::cores::CoreItems;
 use crate::reach::spread;
 use lrpar_first::behind::rule_behind;
 use lrpar_first::first::{add_first_before, clear_all};
-use lrpar_first::tokens::TokenSet;
 use lrpar_grammar::grammar::YaccGrammar;
 use lrpar_grammar::span::{PIdx, RIdx, StorageIndex};
+use lrpar_grammar::token_set::TokenSet;
 use std::alloc::{AllocError, Global};
 
 /// The closure of the kernel's cores: they themselves, and with its lookaheads each production of each rule that comes with them. The last

@@ -3,7 +3,7 @@ ghost use Rattle.std.specs.Prelude.{◌≡◌, ◌<◌, ◌==◌, ◌&&◌, All,
 ghost use Rattle.std.specs.List.Sorted.{IsNonDecreasingBy, IsPermutation};
 ghost use Rattle.lrpar_grammar.specs.Grammar.{prod_len, prods_len};
 ghost use Rattle.lrpar_grammar.specs.Symbols.{prod_numbers};
-ghost use Rattle.lrpar_first.specs.Tokens.{has};
+ghost use Rattle.lrpar_grammar.specs.Tokens.{has};
 ghost use Rattle.lrpar_closure.specs.Complete.{accepts_at, prods_at};
 ghost use Rattle.lrpar_closure.specs.Cores.{core_set};
 

@@ -2,8 +2,8 @@
 ghost use Rattle.std.specs.Prelude.{◌≡◌, ◌↔◌, IfOk, IsTrue, map};
 ghost use Rattle.lrpar_closure.specs.Cores.{core_set};
 
-use lrpar_first::tokens::TokenSet;
 use lrpar_grammar::span::{PIdx, StorageIndex};
+use lrpar_grammar::token_set::TokenSet;
 use std::alloc::{AllocError, Global};
 
 /// The items of one core: its production, how many of its symbols stand before the dot, and the set of their lookaheads.

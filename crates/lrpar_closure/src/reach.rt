@@ -7,9 +7,9 @@ ghost use Rattle.lrpar_closure.specs.Brought.{AreBroughtFrom, HasIn, IsBrought, 
 
 use lrpar_first::behind::rule_behind;
 use lrpar_first::first::add_first_before;
-use lrpar_first::tokens::TokenSet;
 use lrpar_grammar::grammar::YaccGrammar;
 use lrpar_grammar::span::{PIdx, RIdx, StorageIndex};
+use lrpar_grammar::token_set::TokenSet;
 
 /// Puts into the sets all that comes with what they have, by closure. The last two are sets to work with.
 pub(crate) fn spread<StorageT: StorageIndex>(

@@ -10,9 +10,9 @@ ghost use Rattle.lrpar_closure.specs.Working.{AreSets};
 use crate::closure::closure;
 use crate::cores::CoreItems;
 use lrpar_first::first::{empty_sets, first_sets};
-use lrpar_first::tokens::TokenSet;
 use lrpar_grammar::grammar::YaccGrammar;
 use lrpar_grammar::span::StorageIndex;
+use lrpar_grammar::token_set::TokenSet;
 use std::alloc::{AllocError, Global};
 
 /// The tokens that rules begin with, and sets to work with.

@@ -13,11 +13,11 @@ use Rattle.lrpar_text.specs.declared.span.Symbol.{Symbol}
 use Rattle.lrpar_text.specs.declared.span.TIdx.{TIdx}
 use Rattle.lrpar_grammar.specs.Grammar.{Grammar, GrammarSymbol, IsWellFormed, Nonterminal, Terminal, Production, prod_len, prods_from, prods_len, prods_of, rule_of, rules_len, symbols_of, tokens_len}
 use Rattle.lrpar_grammar.specs.Symbols.{symbol_of}
-use Rattle.lrpar_grammar.proofs.ListLemmas.{All-map-at, map-take_more}
+use Rattle.lrpar_text.proofs.ListLemmas.{All-map-at, map-take_more}
 use Rattle.lrpar_first.specs.First.{IsFirst}
 use Rattle.lrpar_first.specs.FirstRows.{IsFirstBefore, IsSymbolBelow, mark_of, row_at, rows_of}
-use Rattle.lrpar_first.specs.Tokens.{has}
-use Rattle.lrpar_first.specs.declared.tokens.TokenSet.{TokenSet}
+use Rattle.lrpar_grammar.specs.Tokens.{has}
+use Rattle.lrpar_grammar.specs.declared.token_set.TokenSet.{TokenSet}
 use Rattle.lrpar_first.proofs.GrowthLemmas.{row_in, rows-set}
 use Rattle.lrpar_first.proofs.SymbolLemmas.{prod_symbols}
 use Rattle.lrpar_states.specs.Graph.{Graph, HasItem, ItemOf, item_at, items_of}
@@ -32,7 +32,7 @@ use Rattle.lrpar_complete.specs.Itemwise.{AreOfCore, AreStartsOf, ClosesAmong, E
 use Rattle.lrpar_complete.specs.declared.completeness.CompletenessCondition.{CompletenessCondition}
 use Rattle.lrpar_complete.specs.declared.completeness.CompletenessCondition.TheVariants.{C1, C2, C3, C4, C5}
 use Rattle.lrpar_complete.proofs.FirstTokenLemmas.{at_drop}
-use Rattle.lrpar_stacks.proofs.TestLemmas.{accepted, refused}
+use Rattle.lrpar_states.proofs.TestLemmas.{accepted, refused}
 use Rattle.lrpar_complete.specs.Completeness.{condition_number}
 use Rattle.lrpar_complete.specs.declared.completeness.TheConstants.CompletenessCondition.{ALL}
 

@@ -5,7 +5,7 @@ use Rattle.lrpar_text.specs.declared.span.TIdx.{TIdx}
 use Rattle.lrpar_grammar.specs.Grammar.{Grammar, GrammarSymbol, IsWellFormed, Nonterminal, prods_len, rule_of, start_prod, symbols_of}
 use Rattle.lrpar_first.specs.First.{IsFirst}
 use Rattle.lrpar_first.specs.FirstRows.{AreFirsts, HoldNothing, mark_of, row_at, rows_of}
-use Rattle.lrpar_first.specs.Tokens.{has}
+use Rattle.lrpar_grammar.specs.Tokens.{has}
 use Rattle.lrpar_states.specs.Graph.{Graph, ItemOf, item_at}
 use Rattle.lrpar_states.specs.Safe.{HasShape}
 use Rattle.lrpar_states.specs.Table.{Table, TableAction, ReduceBy, Accepts}

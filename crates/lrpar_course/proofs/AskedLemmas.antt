@@ -15,7 +15,7 @@ use Rattle.lrpar_steps.specs.Building.{Building}
 use Rattle.lrpar_steps.specs.Standing.{IsRunStack, Stacked}
 use Rattle.lrpar_steps.proofs.TokenLemmas.{good_token}
 use Rattle.lrpar_runs.specs.Moves.{GoesFar, far_end}
-use Rattle.lrpar_course.specs.Asked.{IsStop, asked_at}
+use Rattle.lrpar_steps.specs.Asked.{IsStop, asked_at}
 
 -- no lexeme of a valid list has the end token
 pub keeps_off_end : {X : Type 0} (facts : X → LexemeFacts) (g : Grammar) (lexemes : List X) → IsValidList g (map facts lexemes) → KeepOffEnd (λ x. (facts x).token) g lexemes

@@ -29,7 +29,7 @@ use Rattle.lrpar_steps.specs.ZipLaws.{zip_push}
 use Rattle.lrpar_course.proofs.CompleteAnswerLemmas.{takes_sentence}
 use Rattle.lrpar_runs.proofs.ListLemmas.{same_one}
 use Rattle.lrpar_runs.proofs.MovesLemmas.{moves_bound, moves_stand}
-use Rattle.lrpar_course.proofs.ReplayLemmas.{far_stops, go_on_far, replay_one_way, replays_place, works_by_replay}
+use Rattle.lrpar_steps.proofs.ReplayLemmas.{far_stops, go_on_far, replay_one_way, replays_place, works_by_replay}
 use Rattle.lrpar_runs.proofs.StandingLemmas.{IsStanding, standing_accept, standing_start}
 
 -- the bound of what was reduced up to a place, and what is reduced up to the next stop and by a repair there

@@ -6,7 +6,7 @@ use Rattle.std.proofs.lemmas.Option.{slice_get_within, same_Some}
 use Rattle.lrpar_grammar.specs.Grammar.{Grammar, end_token}
 use Rattle.lrpar_grammar.specs.Sentence.{LexemeFacts, HasBadToken, HasEarlyStart, HasGoodTokens, HasOrderedStarts, IsValidList, IsFirstBadToken, IsFirstEarlyStart}
 use Rattle.lrpar_course.specs.LexemeFault.{IsLexemeFault}
-use Rattle.lrpar_course.specs.declared.fault.ParseFault.TheVariants.{BadToken, StartsDecrease}
+use Rattle.lrpar_steps.specs.declared.fault.ParseFault.TheVariants.{BadToken, StartsDecrease}
 
 -- the start of the lexeme in front of lexeme i, or 0 in front of the first
 abbrev pub IsPreviousStart : List LexemeFacts → ℕ → ℕ → Type 0

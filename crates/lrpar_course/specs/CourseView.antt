@@ -3,7 +3,7 @@ use Rattle.std.specs.Prelude.{ℕ, List}
 use Rattle.lrpar_lexemes.specs.Lexemes.{LexemeParts}
 use Rattle.lrpar_steps.specs.Known.{facts_by}
 use Rattle.lrpar_steps.specs.Sequences.{PlainStep}
-use Rattle.lrpar_course.specs.Asked.{Asked, allowed_at}
+use Rattle.lrpar_steps.specs.Asked.{Asked, allowed_at}
 use Rattle.lrpar_course.specs.Subject.{Subject}
 use Rattle.lrpar_course.specs.declared.course.Course.{Course}
 

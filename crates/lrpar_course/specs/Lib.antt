@@ -1,8 +1,6 @@
-pub mod Asked
 pub mod Lexed
 pub mod LexemeFault
 pub mod Subject
-pub mod Replays
 pub mod CompleteAnswer
 pub mod RepairAnswer
 pub mod TreeAnswer

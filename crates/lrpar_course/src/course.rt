@@ -15,13 +15,13 @@ ghost use Rattle.lrpar_states.specs.Table.{Fails};
 ghost use Rattle.lrpar_steps.specs.Standing.{IsRunStack};
 ghost use Rattle.lrpar_course.specs.TreeAnswer.{IsTreeAnswer};
 
-use crate::repair::{Recoverer, RecoveryPoint};
 use lrpar_answers::errors::{LexParseError, ParseError};
 use lrpar_grammar::grammar::YaccGrammar;
 use lrpar_grammar::span::StorageIndex;
 use lrpar_lexemes::lex_api::{Lexeme, LexerTypes};
 use lrpar_runs::run::{Run, end_lexeme};
 use lrpar_steps::building::Build;
+use lrpar_steps::repair::{Recoverer, RecoveryPoint};
 use lrpar_steps::run_stack::Stack;
 use lrpar_steps::steps::RepairStep;
 use lrpar_trials::trial::Trial;

@@ -4,10 +4,10 @@ ghost use Rattle.lrpar_course.specs.Lexed.{first_error, lexemes_of};
 ghost use Rattle.lrpar_course.specs.LexemeFault.{IsLexemeFault};
 ghost use Rattle.lrpar_steps.specs.Known.{known};
 
-use crate::fault::ParseFault;
 use lrpar_grammar::grammar::YaccGrammar;
 use lrpar_grammar::span::StorageIndex;
 use lrpar_lexemes::lex_api::Lexeme;
+use lrpar_steps::fault::ParseFault;
 use std::alloc::{AllocError, Global};
 
 /// The lexemes, or the first lexing error, wherever it stands.

@@ -1,8 +1,5 @@
-//! The course of a parse over its lexemes: what a lexer answered, from stop to stop, and what recoverers hand in.
+//! The course of a parse over its lexemes: what a lexer answered, and from stop to stop.
 #![tactic(auto)]
 
 pub mod course;
-pub mod fault;
-pub mod laws;
 pub mod lexed;
-pub mod repair;

@@ -1,7 +1,7 @@
 -- From what the search at a bound comes to, to the answer.
 use Rattle.std.proofs.Common.{◌≡◌, ◌≢◌, ◌<◌, ◌≤◌, ◌+◌, ◌⊎◌, ◌↔◌, inl, inr, ℕ, zero, suc, List, [], Option, Some, None, refl, sym, subst, ap, arith, replicate}
 use Rattle.std.specs.List.{AllPairs, Contains}
-use Rattle.lrpar_course.specs.Asked.{Asked}
+use Rattle.lrpar_steps.specs.Asked.{Asked}
 use Rattle.lrpar_steps.specs.Sequences.{PlainStep, PlainShift}
 use Rattle.lrpar_cpct.specs.Answer.{AreCheapest, AreRepairsAt}
 use Rattle.lrpar_cpct.specs.Cheapest.{AreAtMost, BeginsWithin, IsBeginning, IsLeastCost, IsRepair, RepairsAt, cost_of}

@@ -1,6 +1,6 @@
 -- At a stop there is one answer: lists of the same repairs that stand in the order are the same list.
 use Rattle.std.proofs.Common.{◌≡◌, ◌∙◌, inl, inr, ℕ, List, [], ◌∷◌, ◌++◌, refl, sym, subst, ap₂, arith, All, AllPairs}
-use Rattle.lrpar_course.specs.Asked.{Asked}
+use Rattle.lrpar_steps.specs.Asked.{Asked}
 use Rattle.lrpar_steps.specs.Sequences.{PlainStep, PlainInsert, PlainDelete, PlainShift}
 use Rattle.lrpar_cpct.specs.Answer.{AreRepairsAt}
 use Rattle.lrpar_cpct.specs.OneAnswer.{CheapestAreOne}

@@ -6,7 +6,7 @@ use Rattle.lrpar_states.specs.Table.{Table, Accepts, Fails, ReduceBy, ShiftTo}
 use Rattle.lrpar_stacks.specs.Reduction.{Feeds, Settles, top_action}
 use Rattle.lrpar_stacks.specs.Run.{token_at}
 use Rattle.lrpar_stacks.proofs.RunLemmas.{token_at_end}
-use Rattle.lrpar_course.specs.Asked.{Asked}
+use Rattle.lrpar_steps.specs.Asked.{Asked}
 use Rattle.lrpar_steps.specs.Sequences.{PlainStep, PlainInsert, PlainDelete, PlainShift, CanGoOn, Replays}
 use Rattle.lrpar_cpct.specs.Cheapest.{IsBeginning, IsRepair, cost_of}
 use Rattle.lrpar_cpct.specs.Costs.{token_cost}

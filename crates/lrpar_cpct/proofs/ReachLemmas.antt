@@ -6,8 +6,8 @@ use Rattle.lrpar_states.specs.Table.{Table}
 use Rattle.lrpar_stacks.specs.Expected.{AcceptsAtEnd}
 use Rattle.lrpar_stacks.specs.Run.{token_at}
 use Rattle.lrpar_stacks.proofs.RunLemmas.{feeds_one_way}
-use Rattle.lrpar_course.specs.Asked.{Asked}
-use Rattle.lrpar_course.proofs.ReplayLemmas.{replay_one_way}
+use Rattle.lrpar_steps.specs.Asked.{Asked}
+use Rattle.lrpar_steps.proofs.ReplayLemmas.{replay_one_way}
 use Rattle.lrpar_steps.specs.Sequences.{PlainStep, PlainShift, IsStepTaken}
 use Rattle.lrpar_cpct.specs.Reaching.{GoesAsFar, Reaches, accepts_at, ends_at, fails_at, feeds_on, is_far}
 

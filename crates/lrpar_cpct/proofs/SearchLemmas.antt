@@ -4,7 +4,7 @@ use Rattle.std.proofs.lemmas.List.{append_assoc, get_or_default, length-append, 
 use Rattle.std.proofs.lemmas.List.Quantifiers.{all_pairs_push}
 use Rattle.std.specs.List.{AllPairs, Contains}
 use Rattle.lrpar_grammar.specs.Grammar.{end_token}
-use Rattle.lrpar_course.specs.Asked.{Asked}
+use Rattle.lrpar_steps.specs.Asked.{Asked}
 use Rattle.lrpar_steps.specs.Sequences.{PlainStep, PlainShift, Replays}
 use Rattle.lrpar_cpct.specs.Cheapest.{BeginsWithin, CanBeTaken, IsBeginning, IsRepair, RepairsAt, cost_of}
 use Rattle.lrpar_cpct.specs.Costs.{Terms, token_cost}

@@ -3,7 +3,7 @@ use Rattle.std.proofs.Common.{◌≡◌, ◌<◌, ◌≤◌, ◌+◌, ◌-◌, �
 use Rattle.std.proofs.lemmas.List.{length-append, length-map}
 use Rattle.lrpar_grammar.specs.Grammar.{end_token}
 use Rattle.lrpar_lexemes.specs.Lexemes.{LexemeParts}
-use Rattle.lrpar_course.specs.Asked.{IsStop}
+use Rattle.lrpar_steps.specs.Asked.{IsStop}
 use Rattle.lrpar_steps.specs.Known.{token_by}
 use Rattle.lrpar_steps.specs.PlainSteps.{plain_step, plain_steps}
 use Rattle.lrpar_steps.specs.Sequences.{PlainStep}

@@ -3,8 +3,8 @@ use Rattle.std.proofs.Common.{◌≡◌, ◌<◌, ◌≤◌, ◌+◌, ◌-◌, �
 use Rattle.std.proofs.lemmas.List.{length-append, map-append, take-append-drop}
 use Rattle.lrpar_grammar.specs.Grammar.{end_token}
 use Rattle.lrpar_lexemes.specs.Lexemes.{LexemeParts}
-use Rattle.lrpar_course.specs.Asked.{Asked, IsStop}
-use Rattle.lrpar_course.proofs.ReplayLemmas.{replay_one_way}
+use Rattle.lrpar_steps.specs.Asked.{Asked, IsStop}
+use Rattle.lrpar_steps.proofs.ReplayLemmas.{replay_one_way}
 use Rattle.lrpar_stacks.specs.Run.{token_at}
 use Rattle.lrpar_stacks.specs.Stack.{IsStack}
 use Rattle.lrpar_steps.specs.Known.{token_by}

@@ -1,7 +1,7 @@
 -- What is answered at a stop.
 use Rattle.std.specs.Prelude.{◌≡◌, ◌≢◌, ◌↔◌, ◌⊎◌, ℕ, List, []}
 use Rattle.std.specs.List.{AllPairs, Contains}
-use Rattle.lrpar_course.specs.Asked.{Asked}
+use Rattle.lrpar_steps.specs.Asked.{Asked}
 use Rattle.lrpar_steps.specs.Sequences.{PlainStep}
 use Rattle.lrpar_cpct.specs.Cheapest.{AreAtMost, BeginsWithin, IsLeastCost, RepairsAt}
 use Rattle.lrpar_cpct.specs.Costs.{Terms}

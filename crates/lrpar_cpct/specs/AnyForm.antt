@@ -1,6 +1,6 @@
 -- Sequences of any form that work at a stop, beside the repairs.
 use Rattle.std.specs.Prelude.{◌≤◌, ℕ, List}
-use Rattle.lrpar_course.specs.Asked.{Asked}
+use Rattle.lrpar_steps.specs.Asked.{Asked}
 use Rattle.lrpar_steps.specs.Sequences.{PlainStep, Works}
 use Rattle.lrpar_cpct.specs.Cheapest.{IsLeastCost, IsRepair, cost_of}
 

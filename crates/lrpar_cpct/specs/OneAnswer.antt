@@ -1,6 +1,6 @@
 -- That what is promised of an answer leaves no choice.
 use Rattle.std.specs.Prelude.{◌≡◌, ℕ, List}
-use Rattle.lrpar_course.specs.Asked.{Asked}
+use Rattle.lrpar_steps.specs.Asked.{Asked}
 use Rattle.lrpar_steps.specs.Sequences.{PlainStep}
 use Rattle.lrpar_cpct.specs.Answer.{AreCheapest}
 use Rattle.lrpar_cpct.specs.Costs.{Terms}

@@ -5,7 +5,7 @@ use Rattle.lrpar_states.specs.Table.{Table}
 use Rattle.lrpar_stacks.specs.Expected.{AcceptsAtEnd}
 use Rattle.lrpar_stacks.specs.Reduction.{Feeds}
 use Rattle.lrpar_stacks.specs.Run.{token_at}
-use Rattle.lrpar_course.specs.Asked.{Asked}
+use Rattle.lrpar_steps.specs.Asked.{Asked}
 use Rattle.lrpar_steps.specs.Sequences.{PlainStep}
 use Rattle.lrpar_cpct.specs.Cheapest.{LeadsTo}
 

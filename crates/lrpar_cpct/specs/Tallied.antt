@@ -1,7 +1,7 @@
 -- What the search at a bound comes to.
 use Rattle.std.specs.Prelude.{◌≡◌, ◌<◌, ◌≤◌, ◌*◌, ◌↔◌, ◌⊎◌, ℕ, List, [], ◌∷◌, Option, Some, length}
 use Rattle.std.specs.List.{AllPairs, Contains}
-use Rattle.lrpar_course.specs.Asked.{Asked}
+use Rattle.lrpar_steps.specs.Asked.{Asked}
 use Rattle.lrpar_steps.specs.Sequences.{PlainStep}
 use Rattle.lrpar_cpct.specs.Cheapest.{AreAtMost, BeginsWithin, IsBeginning, RepairsAt, cost_of}
 use Rattle.lrpar_cpct.specs.Costs.{Terms}

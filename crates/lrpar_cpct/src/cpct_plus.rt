@@ -11,10 +11,10 @@ ghost use Rattle.lrpar_cpct.specs.Said.{AreSaid, said_by};
 use crate::fault::CostFault;
 use crate::search::Search;
 use crate::tally::{Tally, sequences_of};
-use lrpar_course::repair::{Recoverer, RecoveryPoint, RepairStep};
 use lrpar_grammar::grammar::YaccGrammar;
 use lrpar_grammar::span::{StorageIndex, TIdx};
 use lrpar_lexemes::lex_api::Lexeme;
+use lrpar_steps::repair::{Recoverer, RecoveryPoint, RepairStep};
 use std::alloc::{AllocError, Global};
 use std::marker::Model;
 

@@ -16,10 +16,10 @@ ghost use Rattle.lrpar_cpct.specs.Walking.{IsStepOf, MayFollow, rank_of};
 
 use crate::cpct_plus::CpctPlus;
 use lrpar_check::check::{Overlay, ParserData};
-use lrpar_course::repair::{RecoveryPoint, RepairStep};
 use lrpar_grammar::span::{StorageIndex, TIdx};
 use lrpar_lexemes::lex_api::Lexeme;
 use lrpar_states::table::Action;
+use lrpar_steps::repair::{RecoveryPoint, RepairStep};
 use std::alloc::AllocError;
 
 /// How many places past a stop a parse is followed to see how far it goes on after a repair.

@@ -4,8 +4,8 @@ ghost use Rattle.lrpar_steps.specs.PlainSteps.{plain_sequences};
 ghost use Rattle.lrpar_cpct.specs.SearchView.{AreSequencesOf, sequences_found};
 ghost use Rattle.lrpar_cpct.specs.Walking.{least_of};
 
-use lrpar_course::repair::RepairStep;
 use lrpar_grammar::span::StorageIndex;
+use lrpar_steps::repair::RepairStep;
 use std::alloc::{AllocError, Global};
 
 /// A repair that is found.

@@ -15,9 +15,9 @@ ghost use Rattle.lrpar_cpct.specs.WalkAnswers.{AreAddedTo, IsLeftBy, place_in_fr
 use crate::search::{Search, ends_in_shifts};
 use crate::tally::{Found, Tally};
 use lrpar_check::check::Overlay;
-use lrpar_course::repair::RepairStep;
 use lrpar_grammar::span::StorageIndex;
 use lrpar_lexemes::lex_api::Lexeme;
+use lrpar_steps::repair::RepairStep;
 use std::alloc::{AllocError, Global};
 
 /// Steps that were taken from a stop, where they lead, and what they cost.

@@ -5,7 +5,7 @@ use Rattle.std.proofs.lemmas.List.Elements.{Contains-get_or}
 use Rattle.std.proofs.lemmas.List.{append-nil, append_assoc, map-append, take_all}
 use Rattle.lrpar_grammar.specs.Grammar.{Grammar, end_token, tokens_len}
 use Rattle.lrpar_grammar.specs.Tree.{Forest, Tree}
-use Rattle.lrpar_grammar.proofs.ListLemmas.{map-take_more}
+use Rattle.lrpar_text.proofs.ListLemmas.{map-take_more}
 use Rattle.lrpar_states.proofs.ItemLemmas.{Contains-image}
 use Rattle.lrpar_states.specs.ConflictsFit.{ConflictsFit, ReductionsFit, ShiftFits}
 use Rattle.lrpar_states.specs.Graph.{Graph}

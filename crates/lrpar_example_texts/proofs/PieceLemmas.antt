@@ -8,7 +8,7 @@ use Rattle.std.proofs.lemmas.List.{append-nil, append_assoc, map-append}
 use Rattle.lrpar_text.specs.declared.span.PIdx.{PIdx}
 use Rattle.lrpar_grammar.specs.Grammar.{Grammar, GrammarSymbol, IsWellFormed, Nonterminal, Terminal, prods_len, symbols_of, tokens_len}
 use Rattle.lrpar_grammar.specs.Tree.{Forest, Tree, Branch, Cons, Leaf, Nil}
-use Rattle.lrpar_grammar.proofs.ListLemmas.{map-take_more}
+use Rattle.lrpar_text.proofs.ListLemmas.{map-take_more}
 use Rattle.lrpar_shortest.specs.Moves.{MoveOf, Makes, Takes, forest_moves, move_of, moves_in, moves_of}
 use Rattle.lrpar_shortest.specs.Texts.{AreTreesOf, IsTreeOf}
 use Rattle.lrpar_shortest.specs.declared.moves.Move.{Move}

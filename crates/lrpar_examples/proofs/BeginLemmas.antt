@@ -3,7 +3,7 @@ use Rattle.std.proofs.Common.{◌≡◌, ◌<◌, ◌≤◌, ◌==◌, ◌||◌,
 use Rattle.std.proofs.lemmas.Bool.{lt-ltb, le-ltb}
 use Rattle.lrpar_grammar.specs.Grammar.{GrammarSymbol, Nonterminal, Terminal}
 use Rattle.lrpar_first.specs.FirstRows.{begins, row_at}
-use Rattle.lrpar_first.specs.Tokens.{has}
+use Rattle.lrpar_grammar.specs.Tokens.{has}
 
 and_nothing : (b : Bool) → (b && false) ≡ false
 and_nothing true = refl

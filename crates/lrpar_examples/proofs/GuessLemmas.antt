@@ -3,7 +3,7 @@ use Rattle.std.proofs.Common.{◌≡◌, ◌<◌, ◌+◌, ◌∙◌, sym, ap, i
 use Rattle.std.proofs.lemmas.List.{drop_more, map-append, take-append-drop}
 use Rattle.lrpar_grammar.specs.Grammar.{Grammar}
 use Rattle.lrpar_grammar.specs.Tree.{forest_leaves, leaves}
-use Rattle.lrpar_grammar.proofs.ListLemmas.{map-take_more}
+use Rattle.lrpar_text.proofs.ListLemmas.{map-take_more}
 use Rattle.lrpar_shortest.specs.Moves.{Makes, MoveOf, Takes, forest_moves, move_of, moves_in}
 use Rattle.lrpar_shortest.specs.Ways.{StepOf}
 use Rattle.lrpar_shortest.specs.declared.moves.Move.{Move}

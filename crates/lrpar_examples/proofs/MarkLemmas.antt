@@ -6,7 +6,7 @@ use Rattle.std.proofs.lemmas.List.{append-nil, append_assoc, get_or-set_other, g
 use Rattle.std.proofs.lemmas.List.Sums.{count_by-le-length, sum_by-set}
 use Rattle.std.proofs.lemmas.List.Elements.{All-append, All-cons, All-nil, All-weaker}
 use Rattle.lrpar_grammar.specs.Grammar.{Grammar}
-use Rattle.lrpar_first.specs.Tokens.{has, missing}
+use Rattle.lrpar_grammar.specs.Tokens.{has, missing}
 use Rattle.lrpar_examples.specs.Links.{AreMarks, AreNoted, ArePut, HasLink, LinkOf, link_at}
 
 -- one mark more is set

@@ -3,7 +3,7 @@ use Rattle.std.proofs.Common.{◌≡◌, ◌<◌, ◌≤◌, ◌+◌, ◌∙◌,
 use Rattle.std.proofs.lemmas.List.{append-nil, get_or-map}
 use Rattle.lrpar_text.specs.declared.span.TIdx.{TIdx}
 use Rattle.lrpar_grammar.specs.Tree.{Forest, Tree, Branch, Cons, Leaf, Nil, forest_leaves, leaves}
-use Rattle.lrpar_grammar.proofs.ListLemmas.{map-take_more}
+use Rattle.lrpar_text.proofs.ListLemmas.{map-take_more}
 use Rattle.lrpar_shortest.specs.Moves.{Makes, MoveOf, Takes, forest_moves, move_of, moves_in, moves_of}
 use Rattle.lrpar_shortest.specs.declared.moves.Move.{Move}
 use Rattle.lrpar_examples.specs.Texts.{takes_in, token_numbers}

@@ -5,7 +5,7 @@ use Rattle.lrpar_grammar.specs.Grammar.{Grammar, GrammarSymbol, Nonterminal, pro
 use Rattle.lrpar_states.specs.Graph.{ItemOf, item_at}
 use Rattle.lrpar_first.specs.First.{IsFirst}
 use Rattle.lrpar_first.specs.FirstRows.{mark_of}
-use Rattle.lrpar_first.specs.Tokens.{has, missing}
+use Rattle.lrpar_grammar.specs.Tokens.{has, missing}
 use Rattle.lrpar_examples.specs.declared.links.Link.{Link}
 
 -- a rule with whether the token is asked for as lookahead; the production and the dot before which it stands; whether the token is asked

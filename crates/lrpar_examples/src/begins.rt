@@ -3,8 +3,8 @@ ghost use Rattle.std.specs.Prelude.{◌≡◌, ◌<◌, All, length, map};
 ghost use Rattle.lrpar_grammar.specs.Symbols.{symbol_of};
 ghost use Rattle.lrpar_first.specs.FirstRows.{IsSymbolBelow, begins, rows_of};
 
-use lrpar_first::tokens::TokenSet;
 use lrpar_grammar::span::{StorageIndex, Symbol};
+use lrpar_grammar::token_set::TokenSet;
 
 /// Whether the symbols begin with the token, where each rule begins with its set. The mark, which no token has as its number, asks whether
 /// they derive nothing.

@@ -12,9 +12,9 @@ ghost use Rattle.lrpar_examples.specs.Climbing.{AreUpLinks, EndsLink, HasClimbed
 ghost use Rattle.lrpar_examples.specs.Links.{HasLink, IsBegunItem, IsStep, link_at, link_of, links_of};
 
 use crate::links::{Link, links_to};
-use lrpar_first::tokens::TokenSet;
 use lrpar_grammar::grammar::YaccGrammar;
 use lrpar_grammar::span::{PIdx, RIdx, StIdx, StorageIndex, TIdx};
+use lrpar_grammar::token_set::TokenSet;
 use lrpar_shortest::moves::Move;
 use lrpar_shortest::shortest::Shortest;
 use lrpar_shortest::ways::Step;

@@ -3,16 +3,16 @@ ghost use Rattle.std.specs.Prelude.{◌≡◌, ◌<◌, ◌≤◌, ◌⊎◌, �
 ghost use Rattle.lrpar_grammar.specs.Grammar.{IsWellFormed, prod_len, prods_len, rules_len, start_prod};
 ghost use Rattle.lrpar_states.specs.Graph.{HasCore, graph_len};
 ghost use Rattle.lrpar_first.specs.FirstRows.{AreFirsts, mark_of, rows_of};
-ghost use Rattle.lrpar_first.specs.Tokens.{has};
+ghost use Rattle.lrpar_grammar.specs.Tokens.{has};
 ghost use Rattle.lrpar_build.specs.Canonical.{IsCanonical, sets_of};
 ghost use Rattle.std.specs.Bool.{OnFalse, OnTrue};
 ghost use Rattle.lrpar_examples.specs.Links.{AreBegun, AreLinks, AreMarks, AreNoted, AreNotedOf, ArePut, HasLink, IsBegunLink, IsLinkBelow, IsNotedCore, IsStep, LinkRule, link_of, links_of};
 
 use crate::begins::can_begin;
 use lrpar_first::behind::rule_behind;
-use lrpar_first::tokens::TokenSet;
 use lrpar_grammar::grammar::YaccGrammar;
 use lrpar_grammar::span::{PIdx, RIdx, StIdx, StorageIndex, TIdx};
+use lrpar_grammar::token_set::TokenSet;
 use lrpar_states::table::StateGraph;
 use std::alloc::{AllocError, Global};
 

@@ -15,9 +15,9 @@ ghost use Rattle.lrpar_examples.specs.Climbing.{IsWay};
 ghost use Rattle.lrpar_examples.specs.Reading.{IsReading};
 
 use crate::climb::climb;
-use lrpar_first::tokens::TokenSet;
 use lrpar_grammar::grammar::YaccGrammar;
 use lrpar_grammar::span::{PIdx, StIdx, StorageIndex, Symbol, TIdx};
+use lrpar_grammar::token_set::TokenSet;
 use lrpar_shortest::moves::Move;
 use lrpar_shortest::shortest::Shortest;
 use lrpar_shortest::ways::Step;

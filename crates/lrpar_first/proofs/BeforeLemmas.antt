@@ -6,7 +6,7 @@ use Rattle.std.proofs.lemmas.List.Elements.{All-head, All-tail}
 use Rattle.lrpar_grammar.specs.Grammar.{Grammar, GrammarSymbol, IsWellFormed, Nonterminal, Terminal, prods_len, rule_of, symbols_of}
 use Rattle.lrpar_first.specs.First.{IsFirst, Behind, Rule}
 use Rattle.lrpar_first.specs.FirstRows.{AreFirsts, IsFirstBefore, IsSymbolBelow, begins, mark_of}
-use Rattle.lrpar_first.specs.Tokens.{has}
+use Rattle.lrpar_grammar.specs.Tokens.{has}
 use Rattle.lrpar_first.proofs.FirstLemmas.{AreBelow, closed_begins, first_behind, first_by_mark, first_from_mark, sound_begins}
 use Rattle.lrpar_first.proofs.GrowthLemmas.{has_room, prods_below}
 

@@ -4,8 +4,8 @@ use Rattle.std.proofs.Math.Seq.{map-set_same}
 use Rattle.std.proofs.lemmas.Bool.{cases_eq}
 use Rattle.std.proofs.lemmas.List.{get_or-set_other, get_or-set_same, length-map}
 use Rattle.lrpar_first.specs.FirstRows.{row_at, rows_of}
-use Rattle.lrpar_first.specs.Tokens.{has}
-use Rattle.lrpar_first.specs.declared.tokens.TokenSet.{TokenSet}
+use Rattle.lrpar_grammar.specs.Tokens.{has}
+use Rattle.lrpar_grammar.specs.declared.token_set.TokenSet.{TokenSet}
 use Rattle.lrpar_first.proofs.GrowthLemmas.{row_in, rows-set}
 
 -- one set more is emptied

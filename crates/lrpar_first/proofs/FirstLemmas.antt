@@ -7,7 +7,7 @@ use Rattle.std.proofs.lemmas.List.{append_assoc}
 use Rattle.lrpar_grammar.specs.Grammar.{Grammar, GrammarSymbol, Nonterminal, Terminal, prods_len, rule_of, symbols_of}
 use Rattle.lrpar_first.specs.First.{IsFirst, Behind, Token, Rule}
 use Rattle.lrpar_first.specs.FirstRows.{begins, row_at}
-use Rattle.lrpar_first.specs.Tokens.{has}
+use Rattle.lrpar_grammar.specs.Tokens.{has}
 
 -- no token of the symbols is the mark, nor above it
 abbrev pub AreBelow : ℕ → List GrammarSymbol → Type 0

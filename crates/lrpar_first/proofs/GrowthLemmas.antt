@@ -7,8 +7,8 @@ use Rattle.std.proofs.lemmas.List.Sums.{sum_by-set}
 use Rattle.lrpar_grammar.specs.Grammar.{Grammar, GrammarSymbol, IsListedSymbol, IsWellFormed, Nonterminal, Terminal, end_token, prods_len, rule_of, rules_len, start_prod, symbols_of}
 use Rattle.lrpar_first.specs.First.{IsFirst, Rule}
 use Rattle.lrpar_first.specs.FirstRows.{AreFirsts, AreSound, HaveRoom, IsClosedAt, begins, mark_of, row_at, rows_of, total_missing}
-use Rattle.lrpar_first.specs.Tokens.{has, missing}
-use Rattle.lrpar_first.specs.declared.tokens.TokenSet.{TokenSet}
+use Rattle.lrpar_grammar.specs.Tokens.{has, missing}
+use Rattle.lrpar_grammar.specs.declared.token_set.TokenSet.{TokenSet}
 use Rattle.lrpar_first.proofs.FirstLemmas.{AreBelow, begins_cases, closed_begins, sound_begins}
 
 -- listed symbols have no token above the last one

@@ -6,10 +6,10 @@ use Rattle.std.proofs.lemmas.List.{get_or-map, length-map}
 use Rattle.lrpar_text.specs.declared.span.Symbol.{Symbol}
 use Rattle.lrpar_grammar.specs.Grammar.{GrammarSymbol, Nonterminal, Terminal}
 use Rattle.lrpar_grammar.specs.Symbols.{symbol_of}
-use Rattle.lrpar_grammar.proofs.ListLemmas.{All-map-at}
+use Rattle.lrpar_text.proofs.ListLemmas.{All-map-at}
 use Rattle.lrpar_first.specs.FirstRows.{begins, row_at, rows_of}
-use Rattle.lrpar_first.specs.Tokens.{has}
-use Rattle.lrpar_first.specs.declared.tokens.TokenSet.{TokenSet}
+use Rattle.lrpar_grammar.specs.Tokens.{has}
+use Rattle.lrpar_grammar.specs.declared.token_set.TokenSet.{TokenSet}
 
 -- the row of a rule is that of the set in its place
 pub row_is : (sets : List TokenSet) (r : ℕ) (set : TokenSet) → r < length sets → set ≡ get_or sets r set → row_at (rows_of sets) r ≡ set.bits.items

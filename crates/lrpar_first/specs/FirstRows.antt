@@ -3,8 +3,8 @@
 use Rattle.std.specs.Prelude.{◌≡◌, ◌<◌, ◌+◌, ◌==◌, ◌||◌, ◌&&◌, ◌↔◌, ℕ, Bool, false, IsTrue, List, [], ◌∷◌, All, length, map, nat_lt, slice_index_or, sum_by}
 use Rattle.lrpar_grammar.specs.Grammar.{Grammar, GrammarSymbol, Nonterminal, Terminal, rule_of, rules_len, symbols_of, tokens_len}
 use Rattle.lrpar_first.specs.First.{IsFirst}
-use Rattle.lrpar_first.specs.Tokens.{has, missing}
-use Rattle.lrpar_first.specs.declared.tokens.TokenSet.{TokenSet}
+use Rattle.lrpar_grammar.specs.Tokens.{has, missing}
+use Rattle.lrpar_grammar.specs.declared.token_set.TokenSet.{TokenSet}
 
 -- the tokens of each set
 abbrev pub rows_of : List TokenSet → List (List Bool)

@@ -1,3 +1,2 @@
 pub mod First
-pub mod Tokens
 pub mod FirstRows

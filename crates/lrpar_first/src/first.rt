@@ -4,11 +4,11 @@ ghost use Rattle.std.specs.Bool.{OnFalse, OnTrue};
 ghost use Rattle.lrpar_grammar.specs.Grammar.{IsWellFormed, prods_len, rules_len, tokens_len};
 ghost use Rattle.lrpar_grammar.specs.Symbols.{symbol_of};
 ghost use Rattle.lrpar_first.specs.FirstRows.{AreFirsts, AreSound, HaveRoom, HoldNothing, IsClosedAt, IsFirstBefore, IsSymbolBelow, begins, mark_of, rows_of, total_missing};
-ghost use Rattle.lrpar_first.specs.Tokens.{has};
+ghost use Rattle.lrpar_grammar.specs.Tokens.{has};
 
-use crate::tokens::TokenSet;
 use lrpar_grammar::grammar::YaccGrammar;
 use lrpar_grammar::span::{PIdx, StorageIndex, Symbol};
+use lrpar_grammar::token_set::TokenSet;
 use std::alloc::{AllocError, Global};
 
 /// For each rule the set of the tokens that it begins with. The number of tokens, which is no token's, stands in the set of a

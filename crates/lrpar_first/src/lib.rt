@@ -1,6 +1,5 @@
-//! Sets of tokens, and what symbols begin with.
+//! What symbols begin with.
 #![tactic(auto)]
 
 pub mod behind;
 pub mod first;
-pub mod tokens;

@@ -7,13 +7,13 @@ use Rattle.std.proofs.lemmas.Str.{IsCharBoundary-start}
 use Rattle.std.proofs.lemmas.List.Elements.{All-cons, All-map}
 use Rattle.lrpar_text.specs.Span.{Extent}
 use Rattle.lrpar_grammar.specs.declared.grammar.prods.SplitProd.{SplitProd}
-use Rattle.lrpar_grammar.specs.declared.grammar.parts.RulePart.{RulePart}
-use Rattle.lrpar_grammar.specs.declared.grammar.parts.TokenPart.{TokenPart}
-use Rattle.lrpar_grammar.specs.Grammar.{added_rule, RuleName, TokenName}
+use Rattle.lrpar_reader.specs.declared.parts.RulePart.{RulePart}
+use Rattle.lrpar_reader.specs.declared.parts.TokenPart.{TokenPart}
+use Rattle.lrpar_reader.specs.Grammar.{added_rule, RuleName, TokenName}
 use Rattle.lrpar_grammar.specs.Kept.{split_prod_of}
-use Rattle.lrpar_grammar.specs.Parts.{rule_name_of, token_name_of}
-use Rattle.lrpar_grammar.specs.SpansFit.{AreSpansInOrder, IsPartOf, ProductionFits}
-use Rattle.lrpar_grammar.proofs.ListLemmas.{All-map-at}
+use Rattle.lrpar_reader.specs.Parts.{rule_name_of, token_name_of}
+use Rattle.lrpar_reader.specs.SpansFit.{AreSpansInOrder, IsPartOf, ProductionFits}
+use Rattle.lrpar_text.proofs.ListLemmas.{All-map-at}
 
 -- the places of the rules, the added one among them, which lies at the start of every text
 pub rules_fit_all : (src : List ℕ) (rules : List RulePart) → IsUtf8 src → All (λ r. IsPartOf src r.span) rules

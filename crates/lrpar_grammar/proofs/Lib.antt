@@ -1,14 +1,6 @@
-pub mod ListLemmas
 pub mod RowsLemmas
 pub mod RuleLemmas
 pub mod PartsLemmas
 pub mod ForestLemmas
 pub mod RewritingLemmas
 pub mod FitLemmas
-pub mod NamesLemmas
-pub mod GrowthLemmas
-pub mod FaultsLemmas
-pub mod SpanLemmas
-pub mod SpellsLemmas
-pub mod SpellsFitLemmas
-pub mod FaultTextLemmas

@@ -3,10 +3,7 @@ pub mod Tree
 pub mod Sentence
 pub mod Rewriting
 pub mod Symbols
-pub mod Parts
 pub mod Kept
 pub mod Sum
 pub mod SpansFit
-pub mod Names
-pub mod Spells
-pub mod TextNames
+pub mod Tokens

@@ -2,11 +2,11 @@
 
 mod fit;
 mod numbers;
-mod parts;
 mod prods;
+mod text;
 mod tokens;
 mod value;
 
+pub use lrpar_reader::parts::{GrammarFault, GrammarParts, ProdPart, RulePart, TokenPart};
 pub use numbers::Numbers;
-pub use parts::{GrammarFault, GrammarParts, ProdPart, RulePart, TokenPart};
 pub use value::YaccGrammar;

@@ -1,1 +1,5 @@
 pub mod Lexemes
+pub mod Repair
+pub mod RepairLaws
+pub mod Repairs
+pub mod FaultText

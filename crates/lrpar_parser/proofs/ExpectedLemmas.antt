@@ -19,8 +19,8 @@ use Rattle.lrpar_course.specs.Lexed.{first_error, lexemes_of}
 use Rattle.lrpar_course.specs.LexemeFault.{IsLexemeFault}
 use Rattle.lrpar_parser.specs.Parse.{lexeme_facts}
 use Rattle.lrpar_parser.specs.declared.expected.Expected.{Expected}
-use Rattle.lrpar_course.specs.declared.fault.ParseFault.{ParseFault}
-use Rattle.lrpar_course.specs.declared.fault.ParseFault.TheVariants.{BadToken, StartsDecrease}
+use Rattle.lrpar_steps.specs.declared.fault.ParseFault.{ParseFault}
+use Rattle.lrpar_steps.specs.declared.fault.ParseFault.TheVariants.{BadToken, StartsDecrease}
 use Rattle.lrpar_steps.proofs.TokenLemmas.{good_token}
 use Rattle.lrpar_course.proofs.LexemeLemmas.{valid_not_bad, valid_not_early}
 use Rattle.lrpar_parser.proofs.ParseLemmas.{ok_not_err, same_fault, same_some}

@@ -15,7 +15,7 @@ use Rattle.lrpar_course.specs.Subject.{Subject}
 use Rattle.lrpar_answers.specs.declared.errors.LexParseError.{LexParseError}
 use Rattle.lrpar_steps.specs.declared.values.AStackType.{AStackType}
 use Rattle.lrpar_steps.specs.declared.values.AStackType.TheVariants.{ActionType}
-use Rattle.lrpar_course.specs.declared.fault.ParseFault.{ParseFault}
+use Rattle.lrpar_steps.specs.declared.fault.ParseFault.{ParseFault}
 use Rattle.lrpar_answers.specs.declared.node.Node.{Node}
 use Rattle.lrpar_runs.proofs.ListLemmas.{zip_same}
 use Rattle.lrpar_parser.proofs.ParseLemmas.{parse_as, refusal_as}

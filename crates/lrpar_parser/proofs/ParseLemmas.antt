@@ -11,8 +11,8 @@ use Rattle.lrpar_runs.specs.RunAnswer.{IsOneWay}
 use Rattle.lrpar_course.specs.Subject.{Subject}
 use Rattle.lrpar_answers.specs.declared.errors.LexParseError.{LexParseError}
 use Rattle.lrpar_answers.specs.declared.errors.LexParseError.TheVariants.{LexError}
-use Rattle.lrpar_course.specs.declared.fault.ParseFault.{ParseFault}
-use Rattle.lrpar_course.specs.declared.fault.ParseFault.TheVariants.{BadToken, StartsDecrease, Memory}
+use Rattle.lrpar_steps.specs.declared.fault.ParseFault.{ParseFault}
+use Rattle.lrpar_steps.specs.declared.fault.ParseFault.TheVariants.{BadToken, StartsDecrease, Memory}
 use Rattle.lrpar_course.proofs.LexemeLemmas.{valid_not_bad, valid_not_early}
 
 -- an answer isn't none and some at once

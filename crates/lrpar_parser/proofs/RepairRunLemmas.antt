@@ -14,7 +14,7 @@ use Rattle.lrpar_runs.specs.RepairRun.{IsListedAt, RepairRun, RepairStop, ends_t
 use Rattle.lrpar_stacks.specs.Run.{Far, Stopped, IsStuck, Run, Stop, comes_through, gives_up, stops, token_at}
 use Rattle.lrpar_steps.specs.Sequences.{PlainStep, PlainInsert, PlainDelete, PlainShift, AreThoseWith, CanGoOn, Replays, StepsTo, Works}
 use Rattle.lrpar_steps.proofs.SequenceLemmas.{steps_within}
-use Rattle.lrpar_course.proofs.ReplayLemmas.{far_stops, go_on_far, replays_one_way, replays_place, works_replays}
+use Rattle.lrpar_steps.proofs.ReplayLemmas.{far_stops, go_on_far, replays_one_way, replays_place, works_replays}
 
 -- all of those with P have P
 those_all : {A : Type 0} (P : A → Type 0) (xs ys : List A) → AreThoseWith P xs ys → All P ys

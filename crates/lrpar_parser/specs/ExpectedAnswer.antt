@@ -11,8 +11,8 @@ use Rattle.lrpar_stacks.specs.Run.{token_at}
 use Rattle.lrpar_course.specs.Lexed.{first_error, lexemes_of}
 use Rattle.lrpar_parser.specs.Parse.{lexeme_facts}
 use Rattle.lrpar_parser.specs.declared.expected.Expected.{Expected}
-use Rattle.lrpar_course.specs.declared.fault.ParseFault.{ParseFault}
-use Rattle.lrpar_course.specs.declared.fault.ParseFault.TheVariants.{BadToken, StartsDecrease, Memory}
+use Rattle.lrpar_steps.specs.declared.fault.ParseFault.{ParseFault}
+use Rattle.lrpar_steps.specs.declared.fault.ParseFault.TheVariants.{BadToken, StartsDecrease, Memory}
 
 -- each token with which some sentence goes on after these lexemes is listed, and the end token exactly where they are a sentence
 pub record ListsNext {X : Type 0} (token : X → ℕ) (g : Grammar) (front : List X) (tokens : List ℕ) : Type 0 where

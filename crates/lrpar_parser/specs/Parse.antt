@@ -8,8 +8,8 @@ use Rattle.lrpar_runs.specs.RunAnswer.{HasValue, HasNoValue}
 use Rattle.lrpar_course.specs.Subject.{Subject}
 use Rattle.lrpar_answers.specs.declared.errors.LexParseError.{LexParseError}
 use Rattle.lrpar_answers.specs.declared.errors.LexParseError.TheVariants.{LexError}
-use Rattle.lrpar_course.specs.declared.fault.ParseFault.{ParseFault}
-use Rattle.lrpar_course.specs.declared.fault.ParseFault.TheVariants.{BadToken, StartsDecrease, Memory}
+use Rattle.lrpar_steps.specs.declared.fault.ParseFault.{ParseFault}
+use Rattle.lrpar_steps.specs.declared.fault.ParseFault.TheVariants.{BadToken, StartsDecrease, Memory}
 
 -- what is known of the lexemes of a lexer that answered no error
 abbrev pub lexeme_facts : {X E : Type 0} → (X → LexemeFacts) → List (Result X E) → List LexemeFacts

@@ -4,7 +4,7 @@ use Rattle.lrpar_lexemes.specs.Lexemes.{LexemeParts}
 use Rattle.lrpar_safety.specs.Checked.{Checked}
 use Rattle.lrpar_steps.specs.Known.{facts_by}
 use Rattle.lrpar_steps.specs.Sequences.{PlainStep}
-use Rattle.lrpar_course.specs.Asked.{Asked, allowed_at}
+use Rattle.lrpar_steps.specs.Asked.{Asked, allowed_at}
 use Rattle.lrpar_course.specs.Subject.{Subject}
 
 -- the checked table, the recoverer that is asked at an error, and how many lexemes have to follow a repair

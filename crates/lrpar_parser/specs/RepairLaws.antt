@@ -11,7 +11,7 @@ use Rattle.lrpar_steps.specs.Recovery.{Point}
 use Rattle.lrpar_runs.specs.RepairRun.{RepairRun, RepairStop}
 use Rattle.lrpar_stacks.specs.Run.{Run, Stop, token_at}
 use Rattle.lrpar_steps.specs.Sequences.{PlainStep, PlainInsert, PlainDelete, PlainShift}
-use Rattle.lrpar_course.specs.Replays.{places_of}
+use Rattle.lrpar_steps.specs.Replays.{places_of}
 
 -- an Insert is of a token of the grammar other than the end token
 abbrev pub InsertsListed : Grammar → PlainStep → Type 0

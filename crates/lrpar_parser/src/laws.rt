@@ -4,20 +4,19 @@ ghost use Rattle.lrpar_stacks.specs.Chain.{most_productions};
 ghost use Rattle.lrpar_grammar.specs.Sentence.{LexemeFacts};
 ghost use Rattle.lrpar_stacks.specs.Run.{RunsOneWay};
 ghost use Rattle.lrpar_steps.specs.Known.{facts_by};
-ghost use Rattle.lrpar_course.specs.Asked.{allowed_at};
+ghost use Rattle.lrpar_steps.specs.Asked.{allowed_at};
 ghost use Rattle.lrpar_safety.specs.Checked.{Checked};
 ghost use Rattle.lrpar_parser.specs.RepairLaws.{AcceptsWhereRepaired, ListsSound, RepairRunsOneWay, RunsWithoutRepairs, StopsAtStacks, StopsByFailing, StopsLieApart};
-ghost use Rattle.lrpar_course.specs.Replays.{ReplaysOneWay, WorksByReplay};
+ghost use Rattle.lrpar_steps.specs.Replays.{ReplaysOneWay, WorksByReplay};
 ghost use Rattle.lrpar_stacks.specs.RunLaws.{RunsEndOneWay, RunsGoOnOrEnd, RunsStopByFailing};
 ghost use Rattle.lrpar_parser.specs.SumRun.{SumRunsThrough};
 
 pub use lrpar_builds::laws::spans_are_worked_out;
-pub use lrpar_course::laws::faults_are_compared_by_contents;
-use lrpar_course::repair::Recoverer;
 use lrpar_grammar::span::StorageIndex;
+pub use lrpar_lexemes::laws::repairs_are_compared_by_contents;
 use lrpar_lexemes::lex_api::Lexeme;
-pub use lrpar_repairs::laws::repairs_are_compared_by_contents;
-pub use lrpar_steps::laws::steps_are_compared_by_contents;
+pub use lrpar_steps::laws::{faults_are_compared_by_contents, steps_are_compared_by_contents};
+use lrpar_steps::repair::Recoverer;
 pub use lrpar_trials::laws::tests_of_sequences_are_bounded;
 
 /// From a stack at a place there is at most one way to run, over lexemes of any type and over those that contracts speak

@@ -1,2 +1,1 @@
-pub mod RepairLemmas
 pub mod SequenceTextLemmas

@@ -5,10 +5,10 @@ use Rattle.std.specs.List.{AllByRecursion, AllZip, flat_map, join_by, position_o
 use Rattle.std.proofs.lemmas.Grind.{flat_map-append}
 use Rattle.lrpar_text.specs.Span.{Extent}
 use Rattle.lrpar_grammar.specs.SpansFit.{IsPartOf}
-use Rattle.lrpar_repairs.specs.Repair.{Repair, Inserted, Deleted, Shifted}
+use Rattle.lrpar_lexemes.specs.Repair.{Repair, Inserted, Deleted, Shifted}
 use Rattle.lrpar_repairs.specs.Printed.{IsPpFault}
-use Rattle.lrpar_repairs.specs.declared.pp_fault.PpFault.{PpFault}
-use Rattle.lrpar_repairs.specs.declared.pp_fault.PpFault.TheVariants.{NoPrintedName, Memory}
+use Rattle.lrpar_lexemes.specs.declared.pp_fault.PpFault.{PpFault}
+use Rattle.lrpar_lexemes.specs.declared.pp_fault.PpFault.TheVariants.{NoPrintedName, Memory}
 use Rattle.lrpar_repairs.specs.SequenceText.{on_one_line, Part, Inserts, Deletes, Shifts, joined, parts_of, IsPartText, IsPartsText, PartFits, RepairsFit, inserted_by, inserted, IsFirstUnnamed}
 
 -- a line feed

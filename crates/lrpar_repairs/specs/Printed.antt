@@ -3,8 +3,8 @@ use denote.Ref.{Bor}
 use Rattle.std.specs.Prelude.{◌≡◌, ℕ, List, Option, option_map}
 use Rattle.lrpar_text.specs.declared.span.TIdx.{TIdx}
 use Rattle.lrpar_repairs.specs.SequenceText.{IsFirstUnnamed}
-use Rattle.lrpar_repairs.specs.declared.pp_fault.PpFault.{PpFault}
-use Rattle.lrpar_repairs.specs.declared.pp_fault.PpFault.TheVariants.{NoPrintedName, Memory}
+use Rattle.lrpar_lexemes.specs.declared.pp_fault.PpFault.{PpFault}
+use Rattle.lrpar_lexemes.specs.declared.pp_fault.PpFault.TheVariants.{NoPrintedName, Memory}
 
 -- `answers` are the function's answers. It is called with a token of this number, and gives this text, or none.
 abbrev pub printed_by : {S : Type 0} → (S → ℕ) → (TIdx S → Option (Bor (List ℕ)) → Type 0) → ℕ → Option (List ℕ) → Type 0

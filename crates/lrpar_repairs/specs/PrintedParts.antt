@@ -1,9 +1,9 @@
 -- Parts of printed sequences of the program as those of the definitions.
 use Rattle.std.specs.Prelude.{ℕ, List, map}
 use Rattle.lrpar_text.specs.Span.{Extent}
-use Rattle.lrpar_repairs.specs.Repairs.{repair_of}
+use Rattle.lrpar_lexemes.specs.Repairs.{repair_of}
 use Rattle.lrpar_repairs.specs.SequenceText as texts
-use Rattle.lrpar_repairs.specs.declared.repairs.ParseRepair.{ParseRepair}
+use Rattle.lrpar_lexemes.specs.declared.repairs.ParseRepair.{ParseRepair}
 use Rattle.lrpar_repairs.specs.declared.sequence_text.Part.{Part}
 use Rattle.lrpar_repairs.specs.declared.sequence_text.Part.TheVariants.{Insert, Delete, Shift}
 

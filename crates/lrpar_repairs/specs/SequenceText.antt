@@ -5,7 +5,7 @@ use Rattle.std.specs.List.{AllByRecursion, AllZip, flat_map, join_by}
 use Rattle.lrpar_text.specs.Lines.{is_line_feed}
 use Rattle.lrpar_text.specs.Span.{Extent}
 use Rattle.lrpar_grammar.specs.SpansFit.{IsPartOf}
-use Rattle.lrpar_repairs.specs.Repair.{Repair, Inserted, Deleted, Shifted}
+use Rattle.lrpar_lexemes.specs.Repair.{Repair, Inserted, Deleted, Shifted}
 
 -- a text on one line: each line feed prints as the two characters `\n`
 abbrev pub on_one_line : List ℕ → List ℕ

@@ -1,15 +1,14 @@
 //! The text of one sequence of repairs.
 ghost use Rattle.std.specs.Prelude.{◌≡◌, ◌<◌, ◌≤◌, ◌∷◌, ◌++◌, [], List, ℕ, MatchOption, IfSome, OnOk, IfErr, length, map};
 ghost use Rattle.lrpar_repairs.specs.Printed.{IsPpFault, printed_by};
-ghost use Rattle.lrpar_repairs.specs.Repairs.{repair_of};
+ghost use Rattle.lrpar_lexemes.specs.Repairs.{repair_of};
 ghost use Rattle.lrpar_repairs.specs.SequenceText.{IsPartText, IsPartsText, PartFits, RepairsFit, inserted, inserted_by, joined, on_one_line};
 ghost use Rattle.lrpar_repairs.specs.PrintedParts.{part_of, sequence_parts};
 ghost use Rattle.std.specs.String.{string_bytes};
 
-use crate::pp_fault::PpFault;
-use crate::repairs::ParseRepair;
 use lrpar_grammar::span::{Span, StorageIndex, TIdx};
 use lrpar_lexemes::lex_api::{Lexeme, LexerTypes, NonStreamingLexer};
+use lrpar_lexemes::{ParseRepair, PpFault};
 use std::alloc::AllocError;
 
 /// A part of a printed sequence.

@@ -12,8 +12,8 @@ use Rattle.lrpar_text.specs.declared.span.StIdx.{StIdx}
 use Rattle.lrpar_text.specs.declared.span.TIdx.{TIdx}
 use Rattle.lrpar_stacks.specs.Chain.{HasReductions, IsLongChain, IsShortUntil}
 use Rattle.lrpar_stacks.specs.Stack.{top_of}
-use Rattle.lrpar_safety.proofs.EntryTests.{entries_len, entry_read}
-use Rattle.lrpar_stacks.proofs.TestLemmas.{each_more}
+use Rattle.lrpar_conditions.proofs.EntryTests.{entries_len, entry_read}
+use Rattle.lrpar_states.proofs.TestLemmas.{each_more}
 use Rattle.lrpar_stacks.proofs.StepLemmas.{action_by_top}
 use Rattle.lrpar_states.specs.PlainRows.{action_entry, plain_action, plain_goto}
 use Rattle.lrpar_states.specs.Table.{IsActionEntry, Table, TableAction, ReduceBy, Fails, action_of, actions_at, goto_of, states_len}

@@ -1,6 +1,5 @@
 pub mod SafetyLemmas
 pub mod ChainEntryLemmas
-pub mod EntryTests
 pub mod LeastCapLemmas
 pub mod LengthLemmas
 pub mod LongestLemmas

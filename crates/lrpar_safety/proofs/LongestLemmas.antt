@@ -5,7 +5,7 @@ use Rattle.std.proofs.Math.Nat.{max-eq_left, max-eq_right}
 use Rattle.std.proofs.lemmas.Bool.{cases_lt}
 use Rattle.lrpar_grammar.specs.Grammar.{Grammar}
 use Rattle.lrpar_stacks.specs.Chain.{HasReductions, IsChainStart}
-use Rattle.lrpar_stacks.proofs.TestLemmas.{each_more}
+use Rattle.lrpar_states.proofs.TestLemmas.{each_more}
 use Rattle.lrpar_states.specs.Table.{Table, TableAction, goto_of}
 use Rattle.lrpar_safety.specs.LeastCap.{AreShortAt, IsLeastAt}
 use Rattle.lrpar_safety.specs.Lengths.{IsLength, IsLongest, IsLongestWithin}

@@ -1,4 +1,3 @@
-pub mod Entrywise
 pub mod Checked
 pub mod LeastCap
 pub mod Lengths

@@ -1,4 +1,3 @@
-pub mod TestLemmas
 pub mod Reductions
 pub mod PathLemmas
 pub mod StackLemmas

@@ -8,7 +8,7 @@ use Rattle.lrpar_grammar.specs.Grammar.{GrammarSymbol, Nonterminal, Terminal}
 use Rattle.lrpar_stacks.specs.Path.{Leads, IsPath}
 use Rattle.lrpar_states.specs.Safe.{GoesBy}
 use Rattle.lrpar_stacks.specs.Stack.{AreJoined, IsJoined, IsStack}
-use Rattle.lrpar_stacks.proofs.TestLemmas.{each_more}
+use Rattle.lrpar_states.proofs.TestLemmas.{each_more}
 use Rattle.lrpar_states.specs.Table.{Table, ShiftTo, Fails, IsClosed, action_of, goto_of, states_len}
 
 module _ (table : Table) (no_token : (s t : ℕ) → table.tokens ≤ t → action_of table s t ≡ Fails)

@@ -9,3 +9,4 @@ pub mod CountLemmas
 pub mod RowLemmas
 pub mod SafeTests
 pub mod TableLemmas
+pub mod TestLemmas

@@ -7,3 +7,5 @@ pub mod StackedLemmas
 pub mod TrialLemmas
 pub mod ReversedLemmas
 pub mod MapLemmas
+pub mod ReplayLemmas
+pub mod FaultComparisonLemmas

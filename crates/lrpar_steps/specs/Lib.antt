@@ -16,3 +16,5 @@ pub mod ReducingLaws
 pub mod ReducingView
 pub mod Made
 pub mod Entries
+pub mod Asked
+pub mod Replays

@@ -2,7 +2,7 @@
 use Rattle.std.specs.Prelude.{◌≡◌, ◌+◌, ℕ, List, [], ◌∷◌, map, slice_get, true, Some}
 use Rattle.std.specs.Option.{option_map_or}
 use Rattle.lrpar_grammar.specs.Sentence.{LexemeFacts}
-use Rattle.lrpar_repairs.specs.Repair.{Repair, Inserted, Deleted, Shifted}
+use Rattle.lrpar_lexemes.specs.Repair.{Repair, Inserted, Deleted, Shifted}
 use Rattle.lrpar_lexemes.specs.Lexemes.{last_end}
 use Rattle.lrpar_steps.specs.Sequences.{PlainStep, PlainInsert, PlainDelete, PlainShift}
 

@@ -8,3 +8,4 @@ pub mod PhraseLemmas
 pub mod AheadLemmas
 pub mod FormLemmas
 pub mod LongestLemmas
+pub mod ListLemmas

@@ -2,9 +2,9 @@
 use Rattle.std.proofs.Common.{◌≡◌, ◌<◌, ◌≤◌, ◌+◌, ◌-◌, ◌∙◌, ℕ, List, [], ◌∷◌, ◌++◌, Vec, ap, drop, get_or, length, sym, take}
 use Rattle.std.specs.Prelude.{map}
 use Rattle.std.proofs.lemmas.List.{append-nil, append_assoc, drop_all, drop_more, map-append, take_more, take_rest}
-use Rattle.lrpar_repairs.specs.Repair.{Repair}
-use Rattle.lrpar_repairs.specs.Repairs.{repair_of, repairs_of}
-use Rattle.lrpar_repairs.specs.declared.repairs.ParseRepair.{ParseRepair}
+use Rattle.lrpar_lexemes.specs.Repair.{Repair}
+use Rattle.lrpar_lexemes.specs.Repairs.{repair_of, repairs_of}
+use Rattle.lrpar_lexemes.specs.declared.repairs.ParseRepair.{ParseRepair}
 use Rattle.lrpar_steps.specs.Mended.{repairs_over}
 use Rattle.lrpar_steps.specs.PlainSteps.{plain_sequences, plain_step, plain_steps}
 use Rattle.lrpar_steps.specs.Sequences.{PlainStep}

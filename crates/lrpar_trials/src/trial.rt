@@ -7,7 +7,7 @@ ghost use Rattle.lrpar_steps.specs.Counting.{CostsAtMost, most_listed};
 ghost use Rattle.lrpar_steps.specs.Known.{known};
 ghost use Rattle.lrpar_steps.specs.Mended.{repairs_over};
 ghost use Rattle.lrpar_steps.specs.PlainSteps.{plain_sequences, plain_step, plain_steps};
-ghost use Rattle.lrpar_repairs.specs.Repairs.{repair_of, repairs_of};
+ghost use Rattle.lrpar_lexemes.specs.Repairs.{repair_of, repairs_of};
 ghost use Rattle.lrpar_steps.specs.Sequences.{PlainInsert, PlainShift, PlainStep, AreThoseWith};
 
 use lrpar_answers::errors::ParseRepair;

@@ -2,14 +2,14 @@
 ghost use Rattle.std.specs.Prelude.{ℕ};
 ghost use Rattle.lrpar_grammar.specs.Sentence.{LexemeFacts};
 ghost use Rattle.lrpar_steps.specs.Known.{facts_by};
-ghost use Rattle.lrpar_course.specs.Asked.{allowed_at};
+ghost use Rattle.lrpar_steps.specs.Asked.{allowed_at};
 ghost use Rattle.lrpar_safety.specs.Checked.{Checked};
 ghost use Rattle.lrpar_viable.specs.FirstErrors.{FirstErrorsAreExact, FirstErrorsComeInTime};
 ghost use Rattle.lrpar_viable.specs.ViableLaws.{BuiltTablesKeepToSentences, CompleteBuiltTablesFollowSentences, SentencesAreOfTokens};
 
-use lrpar_course::repair::Recoverer;
 use lrpar_grammar::span::StorageIndex;
 use lrpar_lexemes::lex_api::Lexeme;
+use lrpar_steps::repair::Recoverer;
 
 /// Lexemes of any type, and those that contracts speak of, are a sentence exactly where their tokens are, each as its own lexeme.
 pub fn sentences_are_of_tokens<LexemeT>()

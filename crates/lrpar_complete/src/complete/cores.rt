@@ -2,7 +2,7 @@
 ghost use Rattle.std.specs.Prelude.{◌≡◌, ◌≢◌, ◌<◌, ◌≤◌, ◌+◌, ◌↔◌, ◌⊎◌, ◌&&◌, ◌==◌, ℕ, All, Contains, IfSome, IsTrue, MatchOption, Some, length, map, not, slice_get};
 ghost use Rattle.lrpar_grammar.specs.Grammar.{Nonterminal, Terminal, prod_len, prods_len, rule_of, rules_len, symbols_of, tokens_len};
 ghost use Rattle.lrpar_first.specs.FirstRows.{HoldNothing, mark_of, row_at, rows_of};
-ghost use Rattle.lrpar_first.specs.Tokens.{has};
+ghost use Rattle.lrpar_grammar.specs.Tokens.{has};
 ghost use Rattle.lrpar_states.specs.Graph.{HasItem, item_at};
 ghost use Rattle.lrpar_states.specs.PlainItems.{item_of};
 ghost use Rattle.lrpar_states.specs.Safe.{IsItem};
@@ -14,8 +14,8 @@ use crate::complete::Completeness;
 use crate::complete::sets::WorkSets;
 use lrpar_first::behind::rule_behind;
 use lrpar_first::first::add_first_before;
-use lrpar_first::tokens::TokenSet;
 use lrpar_grammar::span::{PIdx, RIdx, StIdx, StorageIndex, Symbol, TIdx};
+use lrpar_grammar::token_set::TokenSet;
 use lrpar_states::table::{Action, Item};
 
 impl<'a, StorageT: StorageIndex> Completeness<'a, StorageT> {

@@ -2,7 +2,7 @@
 ghost use Rattle.std.specs.Prelude.{◌≡◌, All, IfOk, length};
 ghost use Rattle.lrpar_first.specs.FirstRows.{HoldNothing, rows_of};
 
-use lrpar_first::tokens::TokenSet;
+use lrpar_grammar::token_set::TokenSet;
 use std::alloc::{AllocError, Global};
 
 /// The lookaheads of a core, what can stand in front of them, and the tokens before which a rule has to come; and for each

@@ -1,7 +1,7 @@
 use Rattle.std.proofs.Common.{map, take}
 use Rattle.std.specs.String.{string_bytes}
 use Rattle.lrpar_repairs.specs.Printed.{printed_by}
-use Rattle.lrpar_repairs.specs.Repairs.{repairs_of}
+use Rattle.lrpar_lexemes.specs.Repairs.{repairs_of}
 use Rattle.lrpar_repairs.specs.SequenceText.{parts_of}
 use Rattle.lrpar_answers.proofs.ErrorTextLemmas.{AreListed}
 use Rattle.lrpar_answers.proofs.error_text.push_listed.Given as goal

@@ -1,6 +1,6 @@
 use Rattle.std.proofs.Common.{subst}
 use Rattle.std.specs.Prelude.{IsTrue}
-use Rattle.lrpar_repairs.specs.Repairs.{repair_of}
+use Rattle.lrpar_lexemes.specs.Repairs.{repair_of}
 use Rattle.lrpar_repairs.specs.SequenceText.{RepairFits}
 use Rattle.lrpar_answers.proofs.ErrorTextLemmas.{mapped_at}
 use Rattle.lrpar_answers.proofs.error_text.repairs_fit.Goals as goal

@@ -1,5 +1,5 @@
 use Rattle.std.proofs.Common.{map, take}
-use Rattle.lrpar_repairs.specs.Repairs.{repair_of}
+use Rattle.lrpar_lexemes.specs.Repairs.{repair_of}
 use Rattle.lrpar_repairs.specs.SequenceText.{RepairsFit}
 use Rattle.lrpar_answers.proofs.error_text.repairs_fit.Given as goal
 

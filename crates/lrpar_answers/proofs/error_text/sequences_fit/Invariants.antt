@@ -1,6 +1,6 @@
 use Rattle.std.proofs.Common.{take}
 use Rattle.std.specs.List.{AllByRecursion}
-use Rattle.lrpar_repairs.specs.Repairs.{repairs_of}
+use Rattle.lrpar_lexemes.specs.Repairs.{repairs_of}
 use Rattle.lrpar_repairs.specs.SequenceText.{RepairsFit}
 use Rattle.lrpar_answers.proofs.error_text.sequences_fit.Given as goal
 

@@ -5,7 +5,7 @@ use Rattle.lrpar_closure.specs.Cores.{CoreSet, IsAmong, core_set}
 use Rattle.lrpar_first.specs.FirstRows.{mark_of}
 use Rattle.lrpar_closure.specs.ItemSets.{IsStartItem}
 use Rattle.lrpar_closure.specs.CoreOrder.{IsKernel}
-use Rattle.lrpar_first.specs.Tokens.{has}
+use Rattle.lrpar_grammar.specs.Tokens.{has}
 use Rattle.lrpar_build.proofs.NumberLemmas.{start_items, start_kernel_is}
 use Rattle.lrpar_build.proofs.states.start_kernel.Goals as goal
 

@@ -1,6 +1,6 @@
 use Rattle.std.proofs.Common.{◌+◌, ◌↔◌, ℕ, sym, subst, map, take}
 use Rattle.std.proofs.lemmas.List.{take_all}
-use Rattle.lrpar_grammar.proofs.ListLemmas.{All-map-at, map-take_more}
+use Rattle.lrpar_text.proofs.ListLemmas.{All-map-at, map-take_more}
 use Rattle.lrpar_closure.specs.Brought.{HasIn}
 use Rattle.lrpar_closure.specs.Cores.{AreBringing, IsCoreOf, core_set}
 use Rattle.lrpar_first.specs.FirstRows.{rows_of}

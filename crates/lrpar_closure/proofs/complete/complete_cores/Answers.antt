@@ -3,7 +3,7 @@ use Rattle.std.specs.List.Sorted.{IsPermutation}
 use Rattle.std.proofs.lemmas.List.{map-append, take_all}
 use Rattle.std.proofs.lemmas.List.Sorted.{IsNonDecreasingBy-from_sort_by_key, IsPermutation-map}
 use Rattle.lrpar_grammar.specs.Grammar.{prod_len, prods_len}
-use Rattle.lrpar_grammar.proofs.ListLemmas.{All-map-at}
+use Rattle.lrpar_text.proofs.ListLemmas.{All-map-at}
 use Rattle.lrpar_closure.specs.Cores.{CoreSet, core_set}
 use Rattle.lrpar_closure.proofs.CompleteLemmas.{passing_no, passing_yes}
 use Rattle.lrpar_closure.proofs.complete.complete_cores.Goals as goal

@@ -1,7 +1,7 @@
 use Rattle.std.proofs.Common.{◌≡◌, ◌++◌, ◌∙◌, sym, ap, map}
 use Rattle.lrpar_states.specs.Graph.{item_at}
 use Rattle.lrpar_states.specs.PlainItems.{item_of}
-use Rattle.lrpar_first.specs.Tokens.{has}
+use Rattle.lrpar_grammar.specs.Tokens.{has}
 use Rattle.lrpar_closure.proofs.CompleteLemmas.{filter_no, pushed_yes}
 use Rattle.lrpar_closure.proofs.items.push_items.Goals as goal
 use Rattle.lrpar_closure.proofs.items.push_items.Goals.{then-contains+in_ok-push, else-contains}

@@ -2,7 +2,7 @@ use Rattle.std.proofs.Common.{◌≡◌, ◌++◌, filter, map}
 use Rattle.std.specs.List.{range_with_len}
 use Rattle.lrpar_states.specs.Graph.{item_at}
 use Rattle.lrpar_states.specs.PlainItems.{item_of}
-use Rattle.lrpar_first.specs.Tokens.{has}
+use Rattle.lrpar_grammar.specs.Tokens.{has}
 use Rattle.lrpar_closure.proofs.items.push_items.Given as goal
 
 -- the items with the tokens so far are appended

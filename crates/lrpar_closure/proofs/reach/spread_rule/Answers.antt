@@ -4,7 +4,7 @@ use Rattle.std.proofs.lemmas.List.{take_all}
 use Rattle.std.proofs.lemmas.List.Elements.{All-nil}
 use Rattle.lrpar_grammar.specs.Grammar.{rules_len}
 use Rattle.lrpar_grammar.specs.Symbols.{prod_numbers}
-use Rattle.lrpar_grammar.proofs.ListLemmas.{map-take_more}
+use Rattle.lrpar_text.proofs.ListLemmas.{map-take_more}
 use Rattle.lrpar_closure.specs.Brought.{IsSpreadAt, IsSpreadOf}
 use Rattle.lrpar_first.specs.FirstRows.{rows_of, total_missing}
 use Rattle.lrpar_first.proofs.GrowthLemmas.{sets_len}

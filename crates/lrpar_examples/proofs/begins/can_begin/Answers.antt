@@ -2,7 +2,7 @@ use Rattle.std.proofs.Common.{◌≡◌, ◌<◌, ◌+◌, ◌∷◌, ◌∙◌,
 use Rattle.lrpar_grammar.specs.Grammar.{Nonterminal}
 use Rattle.lrpar_grammar.specs.Symbols.{symbol_of}
 use Rattle.lrpar_first.specs.FirstRows.{IsSymbolBelow, row_at, rows_of}
-use Rattle.lrpar_first.specs.Tokens.{has}
+use Rattle.lrpar_grammar.specs.Tokens.{has}
 use Rattle.lrpar_first.proofs.RowLemmas.{row_is, symbol_below, symbols_from}
 use Rattle.lrpar_examples.proofs.BeginLemmas.{at_own, at_stop, at_through, at_token, own_by_mark, own_by_set}
 use Rattle.lrpar_examples.proofs.begins.can_begin.Goals.{else-token-mark-via-then-token-mark+else-contains, else-token-mark-via-else-token-mark}

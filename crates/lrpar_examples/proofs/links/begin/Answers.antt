@@ -2,7 +2,7 @@ use Rattle.std.proofs.Common.{◌+◌, inl, sym, subst, arith, map, take}
 use Rattle.std.proofs.lemmas.List.{take_all}
 use Rattle.std.specs.List.{Contains}
 use Rattle.lrpar_grammar.specs.Grammar.{start_prod}
-use Rattle.lrpar_grammar.proofs.ListLemmas.{map-take_more}
+use Rattle.lrpar_text.proofs.ListLemmas.{map-take_more}
 use Rattle.lrpar_states.specs.PlainItems.{core_of}
 use Rattle.lrpar_build.specs.Canonical.{sets_of}
 use Rattle.lrpar_examples.specs.Links.{IsBegunLink, links_of}

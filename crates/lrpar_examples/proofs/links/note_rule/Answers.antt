@@ -2,7 +2,7 @@ use Rattle.std.proofs.Common.{◌+◌, ℕ, List, sym, subst, arith, take}
 use Rattle.std.proofs.lemmas.List.{take_all}
 use Rattle.std.specs.List.{Contains}
 use Rattle.lrpar_grammar.specs.Symbols.{prod_numbers}
-use Rattle.lrpar_grammar.proofs.ListLemmas.{map-take_more}
+use Rattle.lrpar_text.proofs.ListLemmas.{map-take_more}
 use Rattle.lrpar_examples.specs.Links.{IsLinkBelow, IsStep, links_of}
 use Rattle.lrpar_examples.proofs.LinkLemmas.{below_link, in_prods, of_prods, prod_in, prods_more}
 use Rattle.lrpar_examples.proofs.MarkLemmas.{put_none, put_then, put_weaker}

@@ -3,7 +3,7 @@ use Rattle.std.proofs.lemmas.Bool.{false≢true}
 use Rattle.std.proofs.lemmas.List.{take_all}
 use Rattle.std.specs.List.{Contains}
 use Rattle.lrpar_grammar.specs.Grammar.{Terminal, symbols_of}
-use Rattle.lrpar_grammar.proofs.ListLemmas.{map-take_more}
+use Rattle.lrpar_text.proofs.ListLemmas.{map-take_more}
 use Rattle.lrpar_states.specs.PlainItems.{core_of}
 use Rattle.lrpar_examples.proofs.LinkLemmas.{core_in, core_known, cores_fail}
 use Rattle.lrpar_examples.proofs.readings.core_before.Goals as goal

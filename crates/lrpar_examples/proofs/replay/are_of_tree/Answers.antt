@@ -2,7 +2,7 @@ use Rattle.std.proofs.Common.{◌+◌, ◌∷◌, ◌∙◌, [], ℕ, IsTrue, sy
 use Rattle.std.proofs.lemmas.List.{take_all}
 use Rattle.lrpar_grammar.specs.Grammar.{Nonterminal}
 use Rattle.lrpar_grammar.specs.Symbols.{symbol_of}
-use Rattle.lrpar_grammar.proofs.ListLemmas.{map-take_more}
+use Rattle.lrpar_text.proofs.ListLemmas.{map-take_more}
 use Rattle.lrpar_shortest.specs.Moves.{move_of, moves_in}
 use Rattle.lrpar_examples.proofs.ReplayLemmas.{HasMade, made_all, made_more, made_none}
 use Rattle.lrpar_examples.proofs.replay.are_of_tree.Goals as goal

@@ -2,7 +2,7 @@ use Rattle.std.proofs.Common.{◌<◌, ◌+◌, ◌∷◌, ◌∙◌, ◌||◌, 
 use Rattle.lrpar_grammar.specs.Grammar.{Nonterminal}
 use Rattle.lrpar_grammar.specs.Symbols.{symbol_of}
 use Rattle.lrpar_first.specs.FirstRows.{IsSymbolBelow, rows_of}
-use Rattle.lrpar_first.specs.Tokens.{has}
+use Rattle.lrpar_grammar.specs.Tokens.{has}
 use Rattle.lrpar_first.proofs.RowLemmas.{row_is, symbol_below, symbols_from, walk_on, walk_rule, walk_token, wide_at}
 use Rattle.lrpar_first.proofs.first.add_first.Goals as goal
 

@@ -3,7 +3,7 @@ use Rattle.std.proofs.lemmas.Bool.{false≢true}
 use Rattle.lrpar_grammar.specs.Grammar.{rules_len, tokens_len}
 use Rattle.lrpar_grammar.specs.Symbols.{symbol_of}
 use Rattle.lrpar_first.specs.FirstRows.{begins, mark_of, rows_of}
-use Rattle.lrpar_first.specs.Tokens.{has}
+use Rattle.lrpar_grammar.specs.Tokens.{has}
 use Rattle.lrpar_first.proofs.BeforeLemmas.{added_before, added_through, symbols_below}
 use Rattle.lrpar_first.proofs.first.add_first_before.Goals as goal
 

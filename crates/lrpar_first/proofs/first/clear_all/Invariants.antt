@@ -1,6 +1,6 @@
 use Rattle.std.proofs.Common.{◌≡◌, ◌<◌, ℕ, false, length, map}
 use Rattle.lrpar_first.specs.FirstRows.{row_at, rows_of}
-use Rattle.lrpar_first.specs.Tokens.{has}
+use Rattle.lrpar_grammar.specs.Tokens.{has}
 use Rattle.lrpar_first.proofs.first.clear_all.Given as goal
 
 -- the sets so far are empty, and each keeps its room

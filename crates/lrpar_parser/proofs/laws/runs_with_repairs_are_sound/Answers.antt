@@ -1,5 +1,5 @@
 use Rattle.lrpar_lexemes.specs.Lexemes.{facts_of}
-use Rattle.lrpar_course.specs.Asked.{allowed_at}
+use Rattle.lrpar_steps.specs.Asked.{allowed_at}
 use Rattle.lrpar_parser.proofs.RepairRunLemmas.{accepts_where_repaired, lists_sound, stops_lie_apart}
 use Rattle.lrpar_parser.proofs.StopStackLemmas.{stops_at_stacks, stops_by_failing}
 use Rattle.lrpar_parser.proofs.laws.runs_with_repairs_are_sound.Goals as goal

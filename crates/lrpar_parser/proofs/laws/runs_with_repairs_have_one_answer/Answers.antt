@@ -1,5 +1,5 @@
 use Rattle.lrpar_lexemes.specs.Lexemes.{facts_of}
-use Rattle.lrpar_course.specs.Asked.{allowed_at}
+use Rattle.lrpar_steps.specs.Asked.{allowed_at}
 use Rattle.lrpar_parser.proofs.RepairWayLemmas.{repair_runs_one_way}
 use Rattle.lrpar_parser.proofs.laws.runs_with_repairs_have_one_answer.Goals as goal
 

@@ -1,4 +1,4 @@
-use Rattle.lrpar_course.proofs.ReplayLemmas.{replay_one_way, works_by_replay}
+use Rattle.lrpar_steps.proofs.ReplayLemmas.{replay_one_way, works_by_replay}
 use Rattle.lrpar_parser.proofs.laws.sequences_that_work_are_replayed.Goals as goal
 
 pub returns : goal.returns

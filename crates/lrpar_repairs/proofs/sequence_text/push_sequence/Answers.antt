@@ -2,7 +2,7 @@ use Rattle.std.proofs.Common.{rules, ◌++◌, ap, ◌∙◌, map}
 use Rattle.std.specs.String.{string_bytes}
 use Rattle.lrpar_repairs.specs.Printed.{printed_by}
 use Rattle.lrpar_repairs.specs.PrintedParts.{part_of, sequence_parts}
-use Rattle.lrpar_repairs.specs.Repairs.{repair_of}
+use Rattle.lrpar_lexemes.specs.Repairs.{repair_of}
 use Rattle.lrpar_repairs.proofs.SequenceTextLemmas.{printed_none, printed_more, printed_all, parts_fit, fault_next, err_same}
 use Rattle.lrpar_repairs.proofs.sequence_text.push_sequence.Goals as goal
 

@@ -1,6 +1,6 @@
 use Rattle.std.proofs.Common.{ap}
 use Rattle.lrpar_states.specs.PlainRows.{plain_action}
-use Rattle.lrpar_stacks.proofs.TestLemmas.{accepted}
+use Rattle.lrpar_states.proofs.TestLemmas.{accepted}
 use Rattle.lrpar_safety.proofs.chains.is_reduction.Goals as goal
 
 pub returns-in-Reduce : goal.returns-in-Reduce

@@ -2,7 +2,7 @@ use Rattle.std.proofs.Common.{◌≡◌}
 use Rattle.std.proofs.lemmas.Bool.{iff_false}
 use Rattle.lrpar_states.specs.PlainRows.{plain_action}
 use Rattle.lrpar_states.specs.Table.{ShiftTo}
-use Rattle.lrpar_stacks.proofs.TestLemmas.{refused}
+use Rattle.lrpar_states.proofs.TestLemmas.{refused}
 use Rattle.lrpar_stacks.proofs.StackLemmas.{image_more, image_none}
 use Rattle.lrpar_stacks.proofs.stack_check.has_shift.Goals as goal
 

@@ -1,5 +1,5 @@
 use Rattle.std.proofs.Common.{◌∙◌}
-use Rattle.lrpar_stacks.proofs.TestLemmas.{refused}
+use Rattle.lrpar_states.proofs.TestLemmas.{refused}
 use Rattle.lrpar_stacks.proofs.StackLemmas.{image_more, image_none}
 use Rattle.lrpar_stacks.proofs.stack_check.has_state.Goals as goal
 

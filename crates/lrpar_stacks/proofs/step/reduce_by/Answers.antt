@@ -3,7 +3,7 @@ use Rattle.lrpar_grammar.specs.Grammar.{prod_len, rule_of, symbols_of}
 use Rattle.lrpar_grammar.specs.Symbols.{symbol_of}
 use Rattle.lrpar_states.specs.PlainRows.{plain_goto}
 use Rattle.lrpar_states.specs.Table.{states_len}
-use Rattle.lrpar_stacks.proofs.TestLemmas.{length_by_image}
+use Rattle.lrpar_states.proofs.TestLemmas.{length_by_image}
 use Rattle.lrpar_stacks.proofs.SettleLemmas.{on_err_always}
 use Rattle.lrpar_stacks.proofs.StepLemmas.{goto_of_left, no_value, one_left, place_left, too_few, within_at}
 use Rattle.lrpar_stacks.proofs.step.reduce_by.Goals as goal

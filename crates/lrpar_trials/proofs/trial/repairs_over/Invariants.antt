@@ -1,7 +1,7 @@
 use Rattle.std.proofs.Common.{◌≡◌, ◌++◌, drop, map}
 use Rattle.lrpar_steps.specs.Mended.{repairs_over}
 use Rattle.lrpar_steps.specs.PlainSteps.{plain_steps}
-use Rattle.lrpar_repairs.specs.Repairs.{repair_of}
+use Rattle.lrpar_lexemes.specs.Repairs.{repair_of}
 use Rattle.lrpar_trials.proofs.trial.repairs_over.Given as goal
 
 -- the repairs so far and those of the steps that are left are all

@@ -1,5 +1,5 @@
 use Rattle.lrpar_lexemes.specs.Lexemes.{facts_of}
-use Rattle.lrpar_course.specs.Asked.{allowed_at}
+use Rattle.lrpar_steps.specs.Asked.{allowed_at}
 use Rattle.lrpar_viable.proofs.FirstErrorLemmas.{first_errors_are_exact, first_errors_come_in_time}
 use Rattle.lrpar_viable.proofs.laws.first_errors_are_where_texts_go_wrong.Goals as goal
 

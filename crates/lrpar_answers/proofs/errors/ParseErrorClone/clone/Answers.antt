@@ -1,5 +1,5 @@
 use Rattle.std.proofs.Common.{◌∙◌}
-use Rattle.lrpar_repairs.proofs.RepairLemmas.{repairs_clone}
+use Rattle.lrpar_lexemes.proofs.RepairLemmas.{repairs_clone}
 use Rattle.lrpar_answers.proofs.FailureLemmas.{same_repairs}
 use Rattle.lrpar_answers.proofs.errors.ParseErrorClone.clone.Goals as goal
 

@@ -1,5 +1,5 @@
 use Rattle.std.proofs.Common.{rules, refl}
-use Rattle.lrpar_repairs.proofs.RepairLemmas.{repair_alike, answer_eq}
+use Rattle.lrpar_lexemes.proofs.RepairLemmas.{repair_alike, answer_eq}
 use Rattle.lrpar_answers.proofs.errors.ParseErrorPartialEq.eq.Goals as goal
 
 pub returns-then-eq-2 : goal.returns-then-eq-2

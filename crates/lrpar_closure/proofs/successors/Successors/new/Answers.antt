@@ -1,7 +1,7 @@
 use Rattle.std.proofs.Common.{◌∙◌, sym, ap, subst, map, All}
 use Rattle.std.proofs.lemmas.List.{take_all}
 use Rattle.lrpar_grammar.specs.Grammar.{Nonterminal, Terminal}
-use Rattle.lrpar_grammar.proofs.ListLemmas.{All-map-at}
+use Rattle.lrpar_text.proofs.ListLemmas.{All-map-at}
 use Rattle.lrpar_closure.specs.Cores.{IsCoreOf, core_set}
 use Rattle.lrpar_closure.specs.Next.{kernel_rows, AreNext}
 use Rattle.lrpar_closure.proofs.SuccessorLemmas.{back_len, back_next}

@@ -1,7 +1,7 @@
 use Rattle.std.proofs.Common.{◌↔◌, All, IsTrue, List, map, subst}
 use Rattle.lrpar_grammar.specs.Symbols.{symbol_of}
 use Rattle.lrpar_first.specs.FirstRows.{rows_of}
-use Rattle.lrpar_first.specs.declared.tokens.TokenSet.{TokenSet}
+use Rattle.lrpar_grammar.specs.declared.token_set.TokenSet.{TokenSet}
 use Rattle.lrpar_complete.specs.Itemwise.{ClosesAmong, lookaheads_of}
 use Rattle.lrpar_complete.proofs.ItemwiseLemmas.{closed_core}
 use Rattle.lrpar_complete.proofs.complete.Completeness.closes_core.Goals as goal

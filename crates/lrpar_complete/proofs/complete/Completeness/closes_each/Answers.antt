@@ -3,10 +3,10 @@ use Rattle.std.proofs.lemmas.Bool.{iff_false}
 use Rattle.std.proofs.lemmas.List.{get_or_default}
 use Rattle.lrpar_grammar.specs.Grammar.{prod_len, tokens_len}
 use Rattle.lrpar_first.specs.FirstRows.{rows_of}
-use Rattle.lrpar_first.specs.declared.tokens.TokenSet.{TokenSet}
+use Rattle.lrpar_grammar.specs.declared.token_set.TokenSet.{TokenSet}
 use Rattle.lrpar_complete.specs.Itemwise.{ClosesAmong, lookaheads_of}
 use Rattle.lrpar_complete.proofs.ItemwiseLemmas.{core_holds_all, core_holds_on}
-use Rattle.lrpar_stacks.proofs.TestLemmas.{accepted, refused}
+use Rattle.lrpar_states.proofs.TestLemmas.{accepted, refused}
 use Rattle.lrpar_complete.proofs.complete.Completeness.closes_each.Goals as goal
 
 pub closes_core-requires-clause-prod : goal.closes_core-requires-clause-prod

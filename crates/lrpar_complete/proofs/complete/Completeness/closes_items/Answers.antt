@@ -2,7 +2,7 @@ use Rattle.std.proofs.Common.{◌≡◌, ◌∙◌, ◌↔◌, ℕ, All, IsTrue,
 use Rattle.lrpar_text.specs.declared.span.PIdx.{PIdx}
 use Rattle.lrpar_text.specs.declared.span.TIdx.{TIdx}
 use Rattle.lrpar_first.specs.FirstRows.{HoldNothing, rows_of}
-use Rattle.lrpar_first.specs.declared.tokens.TokenSet.{TokenSet}
+use Rattle.lrpar_grammar.specs.declared.token_set.TokenSet.{TokenSet}
 use Rattle.lrpar_first.proofs.GrowthLemmas.{lent_back}
 use Rattle.lrpar_states.proofs.GraphLemmas.{all_items}
 use Rattle.lrpar_states.specs.PlainItems.{item_of}

@@ -2,7 +2,7 @@ use Rattle.std.proofs.Common.{◌∙◌}
 use Rattle.lrpar_grammar.specs.Symbols.{symbol_of}
 use Rattle.lrpar_complete.specs.Itemwise.{lookaheads_of}
 use Rattle.lrpar_complete.proofs.ItemwiseLemmas.{ends_each}
-use Rattle.lrpar_stacks.proofs.TestLemmas.{length_by_image}
+use Rattle.lrpar_states.proofs.TestLemmas.{length_by_image}
 use Rattle.lrpar_complete.proofs.complete.Completeness.ends_core.Goals as goal
 
 pub returns-else-dot-prod : goal.returns-else-dot-prod

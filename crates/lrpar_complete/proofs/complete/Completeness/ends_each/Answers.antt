@@ -3,7 +3,7 @@ use Rattle.std.proofs.lemmas.Bool.{iff_false}
 use Rattle.lrpar_states.specs.Table.{action_of}
 use Rattle.lrpar_complete.specs.Itemwise.{EndsBy}
 use Rattle.lrpar_complete.proofs.ItemwiseLemmas.{each_lookahead, lookahead_at}
-use Rattle.lrpar_stacks.proofs.TestLemmas.{accepted, each_more, refused}
+use Rattle.lrpar_states.proofs.TestLemmas.{accepted, each_more, refused}
 use Rattle.lrpar_complete.proofs.complete.Completeness.ends_each.Goals as goal
 
 pub ends_at-requires-clause-token : goal.ends_at-requires-clause-token

@@ -2,7 +2,7 @@ use Rattle.std.proofs.Common.{◌+◌, arith, subst, sym}
 use Rattle.std.proofs.lemmas.Bool.{iff_false}
 use Rattle.lrpar_states.specs.Graph.{HasItem}
 use Rattle.lrpar_complete.proofs.ItemwiseLemmas.{each_lookahead, found_holds, lookahead_at}
-use Rattle.lrpar_stacks.proofs.TestLemmas.{accepted, each_more, refused}
+use Rattle.lrpar_states.proofs.TestLemmas.{accepted, each_more, refused}
 use Rattle.lrpar_complete.proofs.complete.Completeness.has_advanced.Goals as goal
 
 pub has_near-requires : goal.has_near-requires

@@ -6,7 +6,7 @@ use Rattle.lrpar_states.proofs.GraphLemmas.{all_items}
 use Rattle.lrpar_states.specs.Safe.{IsItem}
 use Rattle.lrpar_complete.specs.Itemwise.{ItemHolds}
 use Rattle.lrpar_complete.proofs.ItemwiseLemmas.{core_holds_all, core_holds_on}
-use Rattle.lrpar_stacks.proofs.TestLemmas.{accepted, refused}
+use Rattle.lrpar_states.proofs.TestLemmas.{accepted, refused}
 use Rattle.lrpar_complete.proofs.complete.Completeness.items_hold.Goals as goal
 
 pub core_holds-requires-clause-prod : goal.core_holds-requires-clause-prod

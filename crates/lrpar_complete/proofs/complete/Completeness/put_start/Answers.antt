@@ -1,6 +1,6 @@
 use Rattle.std.proofs.Common.{◌≡◌, ◌∙◌, ◌↔◌, ◌⊎◌, ℕ, IsTrue, arith, set, subst, sym}
 use Rattle.lrpar_first.specs.FirstRows.{row_at, rows_of}
-use Rattle.lrpar_first.specs.Tokens.{has}
+use Rattle.lrpar_grammar.specs.Tokens.{has}
 use Rattle.lrpar_states.specs.Graph.{item_at}
 use Rattle.lrpar_complete.proofs.ItemwiseLemmas.{no_start, start_put, start_wide, start_within, starts_room}
 use Rattle.lrpar_complete.proofs.complete.Completeness.put_start.Goals as goal

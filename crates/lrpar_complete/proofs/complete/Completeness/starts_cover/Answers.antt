@@ -1,12 +1,12 @@
 use Rattle.std.proofs.Common.{◌<◌, ◌+◌, ◌∙◌, ℕ, IsTrue, All, List, arith, ap, length, map, rules, subst, sym}
 use Rattle.std.proofs.lemmas.Bool.{iff_false}
 use Rattle.std.proofs.lemmas.List.Elements.{All-map}
-use Rattle.lrpar_grammar.proofs.ListLemmas.{All-map-at}
+use Rattle.lrpar_text.proofs.ListLemmas.{All-map-at}
 use Rattle.lrpar_first.specs.FirstRows.{mark_of, row_at, rows_of}
-use Rattle.lrpar_first.specs.Tokens.{has}
+use Rattle.lrpar_grammar.specs.Tokens.{has}
 use Rattle.lrpar_first.proofs.RowLemmas.{row_is, wide_at}
 use Rattle.lrpar_complete.proofs.ItemwiseLemmas.{each_of_rule, of_rule_known, start_within}
-use Rattle.lrpar_stacks.proofs.TestLemmas.{accepted, each_more, refused}
+use Rattle.lrpar_states.proofs.TestLemmas.{accepted, each_more, refused}
 use Rattle.lrpar_complete.proofs.complete.Completeness.starts_cover.Goals as goal
 
 pub bounds-starts-prod : goal.bounds-starts-prod

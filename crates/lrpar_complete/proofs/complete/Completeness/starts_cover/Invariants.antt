@@ -1,6 +1,6 @@
 use Rattle.std.proofs.Common.{◌<◌, ℕ, IsTrue, get_or}
 use Rattle.lrpar_first.specs.FirstRows.{row_at, rows_of}
-use Rattle.lrpar_first.specs.Tokens.{has}
+use Rattle.lrpar_grammar.specs.Tokens.{has}
 use Rattle.lrpar_complete.proofs.complete.Completeness.starts_cover.Given as goal
 
 -- the first items of the productions so far stand before each of the tokens

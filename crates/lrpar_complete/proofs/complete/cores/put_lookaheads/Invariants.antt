@@ -1,6 +1,6 @@
 use Rattle.std.proofs.Common.{◌≡◌, ◌↔◌, ℕ, IsTrue, length, take}
 use Rattle.std.specs.List.{Contains}
-use Rattle.lrpar_first.specs.Tokens.{has}
+use Rattle.lrpar_grammar.specs.Tokens.{has}
 use Rattle.lrpar_complete.specs.Itemwise.{lookaheads_of}
 use Rattle.lrpar_complete.proofs.complete.cores.put_lookaheads.Given as goal
 

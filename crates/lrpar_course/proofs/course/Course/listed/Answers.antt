@@ -1,5 +1,5 @@
 use Rattle.std.proofs.Common.{◌≡◌, subst}
-use Rattle.lrpar_course.specs.Asked.{asked_at}
+use Rattle.lrpar_steps.specs.Asked.{asked_at}
 use Rattle.lrpar_course.specs.CourseView.{subject}
 use Rattle.lrpar_steps.specs.Known.{facts_by}
 use Rattle.lrpar_steps.specs.PlainSteps.{plain_sequences}

@@ -1,6 +1,6 @@
 use Rattle.std.proofs.Common.{◌∙◌, AllPairs, ℕ, List, None, Option, Some, arith, subst, sym}
 use Rattle.std.proofs.lemmas.Result.{IfOk-weaker}
-use Rattle.lrpar_course.specs.Asked.{Asked}
+use Rattle.lrpar_steps.specs.Asked.{Asked}
 use Rattle.lrpar_steps.specs.Known.{token_by}
 use Rattle.lrpar_steps.specs.PlainSteps.{plain_sequences}
 use Rattle.lrpar_steps.specs.Sequences.{PlainStep}

@@ -1,6 +1,6 @@
 use Rattle.std.specs.Option.{option_to_list}
 use Rattle.std.proofs.Common.{◌∷◌}
-use Rattle.lrpar_stacks.proofs.TestLemmas.{accepted, refused}
+use Rattle.lrpar_states.proofs.TestLemmas.{accepted, refused}
 use Rattle.lrpar_states.specs.PlainRows.{plain_goto}
 use Rattle.lrpar_safety.proofs.LengthLemmas.{counted_long, counted_short}
 use Rattle.lrpar_safety.proofs.chains.Chains.is_long_from.Goals as goal

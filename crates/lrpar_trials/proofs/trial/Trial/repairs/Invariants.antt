@@ -1,7 +1,7 @@
 use Rattle.std.proofs.Common.{◌≡◌, drop, map, take}
 use Rattle.lrpar_steps.specs.Mended.{repairs_over}
 use Rattle.lrpar_steps.specs.PlainSteps.{plain_sequences}
-use Rattle.lrpar_repairs.specs.Repairs.{repairs_of}
+use Rattle.lrpar_lexemes.specs.Repairs.{repairs_of}
 use Rattle.lrpar_trials.proofs.trial.Trial.repairs.Given as goal
 
 -- the repairs so far are those of the sequences so far
