@@ -2,6 +2,8 @@
 //! the crates below.
 #![tactic(auto)]
 
+mod storage_num;
+
 pub use lrpar_diagnostics as diagnostics;
 pub use lrpar_example_texts::examples;
 pub use lrpar_parser::{
@@ -14,7 +16,7 @@ pub use lrpar_viable as viable;
 
 /// The parts of a text, and the numbers of rules, productions, tokens and states.
 pub mod span {
-    pub use lrpar_numbers::StorageNum;
+    pub use crate::storage_num::StorageNum;
     pub use lrpar_parser::span::{
         Numbered, PIdx, RIdx, Span, Spanned, SpansKind, StIdx, StorageIndex, Symbol, TIdx,
     };

@@ -1,7 +1,5 @@
 //! Storage numbers as numbers of `num_traits`, whose contracts take long to load. So they stand apart from the index types, which ask
 //! for none of them.
-#![tactic(auto)]
-
 ghost use Rattle.std.specs.Prelude.{◌≡◌, ◌<◌, ◌↔◌, ℕ, pos, Some, refl};
 
 use lrpar_text::span::StorageIndex;
