@@ -1,18 +1,21 @@
 -- What fits, of the trees that a loop has left.
 use denote.Ref.{Bor}
-use Rattle.std.proofs.Common.{rules, ◌≡◌, ℕ, zero, suc, ◌+◌, ◌≤◌, List, [], ◌∷◌, ◌++◌, Vec, refl, ap, sym, ◌∙◌, arith, append_assoc, append-nil}
+use Rattle.std.proofs.Common.{rules, ◌≡◌, ℕ, zero, suc, ◌+◌, ◌<◌, ◌≤◌, List, [], ◌∷◌, ◌++◌, Vec, refl, ap, sym, ◌∙◌, arith, append_assoc, append-nil, subst}
 use Rattle.std.specs.List.{AllByRecursion}
+use Rattle.std.specs.Str.{IsCharBoundary}
 use Rattle.std.specs.declared.alloc.Global.{Global}
 use Rattle.std.proofs.lemmas.Grind.{flat_map-append}
-use Rattle.lrpar_grammar.specs.Grammar.{Grammar}
+use Rattle.lrpar_grammar.specs.Grammar.{Grammar, end_token, rules_len}
 use Rattle.lrpar_grammar.specs.Sentence.{LexemeFacts}
+use Rattle.lrpar_grammar.specs.SpansFit.{IsPartOf}
+use Rattle.lrpar_text.specs.Span.{Extent}
 use Rattle.lrpar_text.specs.declared.span.RIdx.{RIdx}
 use Rattle.lrpar_answers.specs.declared.node.Node.{Node}
 use Rattle.lrpar_answers.specs.declared.node.Node.TheOpen.{Node-F}
 use Rattle.lrpar_answers.specs.declared.node.Node.TheVariants.{Term, Nonterm}
 use Rattle.lrpar_answers.specs.declared.node.Node.TheViews.{out-Node, the_lemmas}
 use Rattle.lrpar_answers.specs.declared.node.Node.TheFolds.{fold_out-Node, map-Node}
-use Rattle.lrpar_answers.specs.TreeText.{Met, MetFits, met_from, layer_met, root_at, layer_nodes, nodes_below, all_met}
+use Rattle.lrpar_answers.specs.TreeText.{Met, LeafAt, RuleAt, MetFits, met_from, layer_met, root_at, layer_nodes, nodes_below, all_met}
 use Rattle.lrpar_answers.proofs.TreeTextLemmas.{all_front, all_back, all_both, fit_root, fit_below, fit_whole}
 use Rattle.lrpar_answers.proofs.WeightLemmas.{weight, weights, weight_step}
 
@@ -97,3 +100,23 @@ below_term node x is = ap nodes_below is ∙ search (rules, the_lemmas)
 
 pub below_nonterm : {X S : Type 0} (node : Node X S) (r : RIdx S) (nodes : Vec (Node X S) Global) → node ≡ Nonterm r nodes → nodes_below node ≡ nodes.items
 below_nonterm node r nodes is = ap nodes_below is ∙ search (rules, the_lemmas)
+
+-- what the root of a tree that fits is
+pub rule_fits : {X S : Type 0} (facts : X → LexemeFacts) (index : S → ℕ) (g : Grammar) (input : List ℕ) (level : ℕ) (node : Node X S) (r : RIdx S) (nodes : Vec (Node X S) Global)
+    → node ≡ Nonterm r nodes → MetFits facts index g input (root_at level node) → index r.0 < rules_len g
+rule_fits facts index g input level node r nodes is fits =
+    let at : root_at level node ≡ RuleAt level r.0 = ap (root_at level) is ∙ search (rules, the_lemmas) in
+    subst (MetFits facts index g input) at fits
+
+pub leaf_fits : {X S : Type 0} (facts : X → LexemeFacts) (index : S → ℕ) (g : Grammar) (input : List ℕ) (level : ℕ) (node : Node X S) (x : X) → node ≡ Term x
+    → MetFits facts index g input (root_at level node) → ((facts x).token < end_token g) × IsPartOf input (facts x).span
+leaf_fits facts index g input level node x is fits =
+    let at : root_at level node ≡ LeafAt level x = ap (root_at level) is ∙ search (rules, the_lemmas) in
+    subst (MetFits facts index g input) at fits
+
+-- the ends of a part of the input
+pub part_starts : (input : List ℕ) (part span : Extent) (start : ℕ) → IsPartOf input part → span ≡ part → start ≡ span.start → IsCharBoundary input start
+part_starts input part span start is same at = subst (IsCharBoundary input) (sym (at ∙ ap (λ (x : Extent). x.start) same)) is.start
+
+pub part_ends : (input : List ℕ) (part span : Extent) (end : ℕ) → IsPartOf input part → span ≡ part → end ≡ span.end → IsCharBoundary input end
+part_ends input part span end is same at = subst (IsCharBoundary input) (sym (at ∙ ap (λ (x : Extent). x.end) same)) is.end

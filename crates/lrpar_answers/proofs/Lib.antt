@@ -1,4 +1,5 @@
 pub mod FailureLemmas
+pub mod FaultLemmas
 pub mod WeightLemmas
 pub mod WalkLemmas
 pub mod PairLemmas
@@ -6,4 +7,5 @@ pub mod GrowingLemmas
 pub mod TreeTextLemmas
 pub mod FitsLemmas
 pub mod ErrorTextLemmas
+pub mod LexParseTextLemmas
 pub mod WriteLemmas

@@ -1,7 +1,8 @@
 -- What is met in a tree by what a loop has left.
 use denote.Ref.{Bor}
-use Rattle.std.proofs.Common.{◌≡◌, ℕ, suc, ◌+◌, List, [], ◌∷◌, ◌++◌, length, refl, ap, sym, ◌∙◌, arith, append_assoc, append-nil, length-append, subst}
+use Rattle.std.proofs.Common.{◌≡◌, ℕ, suc, ◌+◌, ◌*◌, ◌<◌, List, [], ◌∷◌, ◌++◌, length, refl, ap, sym, ◌∙◌, arith, append_assoc, append-nil, length-append, subst}
 use Rattle.std.specs.List.{AllByRecursion, flat_map}
+use Rattle.std.proofs.lemmas.List.{length_push, nil_from_length}
 use Rattle.std.proofs.lemmas.List.Folds.{flat_map-map}
 use Rattle.lrpar_answers.specs.declared.node.Node.{Node}
 use Rattle.lrpar_answers.specs.declared.node.Node.TheOpen.{Node-F}
@@ -121,3 +122,47 @@ text_begins line node out e =
 pub left_length : {X S : Type 0} (below : List (Bor (List (Node X S)))) (rest : Bor (List (Node X S))) (node : Node X S) (left : List (Node X S))
     → left ≡ node ∷ rest.now → length (left_met below left) ≡ suc (length (left_met (below ++ rest ∷ []) (nodes_below node)))
 left_length below rest node left is = ap length (ap (left_met below) is ∙ left_enter below rest node)
+
+-- and with the list of what was put aside, the measure of the loop falls
+entered_falls : (before after n m : ℕ) → before ≡ suc after → m ≡ n + 1 → 2 * after + m < 2 * before + n
+entered_falls before after n m is longer = omega arith
+
+pub left_falls : {X S : Type 0} (below aside : List (Bor (List (Node X S)))) (rest : Bor (List (Node X S))) (node : Node X S) (left inner : List (Node X S))
+    → left ≡ node ∷ rest.now → aside ≡ below ++ rest ∷ [] → inner ≡ nodes_below node
+    → 2 * length (left_met aside inner) + length aside < 2 * length (left_met below left) + length below
+left_falls below aside rest node left inner is put same =
+    rw (put, same) (entered_falls (length (left_met below left)) (length (left_met (below ++ rest ∷ []) (nodes_below node))) (length below) (length (below ++ rest ∷ []))
+    (left_length below rest node left is) (length_push below rest))
+
+-- no tree is in hand, and those that were put aside last are taken again
+pub left_turned : {X S : Type 0} (below aside : List (Bor (List (Node X S)))) (rest : Bor (List (Node X S))) (left : List (Node X S))
+    → length left ≡ 0 → aside ≡ below ++ rest ∷ [] → left_met aside left ≡ left_met below rest.now
+left_turned below aside rest left none put = rw (nil_from_length left none, put) (left_turn below rest)
+
+turned_falls : (before after n m : ℕ) → before ≡ after → m ≡ n + 1 → 2 * after + n < 2 * before + m
+turned_falls before after n m is longer = omega arith
+
+pub turn_falls : {X S : Type 0} (below aside : List (Bor (List (Node X S)))) (rest : Bor (List (Node X S))) (left : List (Node X S))
+    → length left ≡ 0 → aside ≡ below ++ rest ∷ [] → 2 * length (left_met below rest.now) + length below < 2 * length (left_met aside left) + length aside
+turn_falls below aside rest left none put =
+    turned_falls (length (left_met aside left)) (length (left_met below rest.now)) (length below) (length aside)
+    (ap length (left_turned below aside rest left none put)) (ap length put ∙ length_push below rest)
+
+-- nothing is left
+pub left_none : {X S : Type 0} (below : List (Bor (List (Node X S)))) (left : List (Node X S)) → length left ≡ 0 → length below ≡ 0 → left_met below left ≡ []
+left_none below left none lowest = rw (nil_from_length left none, nil_from_length below lowest) refl
+
+pub fit_none : {X S : Type 0} (P : Met X S → Type 0) (below : List (Bor (List (Node X S)))) (left : List (Node X S)) → length left ≡ 0 → length below ≡ 0
+    → AllByRecursion P (left_met below left)
+fit_none {X = X} {S = S} P below left none lowest = let Q : List (Met X S) → Type 0 = AllByRecursion P in subst Q (sym (left_none below left none lowest)) tt
+
+pub text_ends : {X S : Type 0} (line : Met X S → List ℕ) (below : List (Bor (List (Node X S)))) (left : List (Node X S)) (out whole : List ℕ)
+    → length left ≡ 0 → length below ≡ 0 → out ++ flat_map line (left_met below left) ≡ whole → out ≡ whole
+text_ends line below left out whole none lowest is =
+    sym (append-nil out) ∙ ap (λ ms. out ++ flat_map line ms) (sym (left_none below left none lowest)) ∙ is
+
+-- the first tree in hand fits at its level
+pub fit_first : {X S : Type 0} (P : Met X S → Type 0) (below aside : List (Bor (List (Node X S)))) (rest : Bor (List (Node X S))) (node : Node X S) (left : List (Node X S))
+    (level : ℕ) → left ≡ node ∷ rest.now → aside ≡ below ++ rest ∷ [] → level ≡ length aside → AllByRecursion P (left_met below left) → P (root_at level node)
+fit_first P below aside rest node left level is put at all =
+    subst (λ n. P (root_at n node)) (sym (at ∙ ap length put)) (fit_enter P below rest node left is all).0

@@ -1,7 +1,7 @@
 -- Walks through trees.
 use Rattle.std.proofs.Common.{rules, ◌≡◌, ℕ, zero, suc, ◌+◌, ◌≤◌, Bool, true, false, ◌&&◌, List, [], ◌∷◌, ◌++◌, Vec, refl, ap, sym, ◌∙◌, arith, length, append_assoc, length-append}
 use Rattle.std.specs.declared.alloc.Global.{Global}
-use Rattle.std.proofs.lemmas.List.{length-map}
+use Rattle.std.proofs.lemmas.List.{length-map, nil_from_length}
 use Rattle.std.proofs.lemmas.Bool.{eqb-true}
 use Rattle.std.specs.Cmp.{second_so}
 use Rattle.std.specs.Bool.{◌==◌}
@@ -13,7 +13,7 @@ use Rattle.lrpar_answers.specs.declared.node.Node.TheOpen.{Node-F}
 use Rattle.lrpar_answers.specs.declared.node.Node.TheViews.{out-Node, the_lemmas}
 use Rattle.lrpar_answers.specs.declared.node.Node.TheFolds.{fold_out-Node, map-Node}
 use Rattle.lrpar_answers.specs.Visits.{Visit, Met, Entered, visit_eq}
-use Rattle.lrpar_answers.specs.Walks.{walk, walks, walk_step, visit, children, layer_visit, layer_children, nodes_eq}
+use Rattle.lrpar_answers.specs.Walks.{walk, walks, walk_step, visit, children, layer_visit, layer_children, node_eq, nodes_eq}
 use Rattle.lrpar_answers.proofs.WeightLemmas.{weight, weights, weight_step, weights_append}
 
 -- one layer of a walk, and of a weight
@@ -72,6 +72,38 @@ visits_even eq same (Node-F.Nonterm r ns) (Node-F.Nonterm q ms) like =
 pub children_even : {X S : Type 0} (eq : X → X → Bool) (same : S → S → Bool) (a b : Node X S)
     → visit_eq eq same (visit a) (visit b) ≡ true → length (children a) ≡ length (children b)
 children_even {X = X} {S = S} eq same a b like = visits_even eq same (out-Node X S a) (out-Node X S b) like
+
+-- trees are equal where their roots are alike and the trees below these are equal
+node_out : {X S : Type 0} (eq : X → X → Bool) (same : S → S → Bool) (a b : Node X S)
+    → node_eq eq same a b ≡ (visit_eq eq same (visit a) (visit b) && nodes_eq eq same (children a) (children b))
+node_out eq same a b = rw (walk_out a, walk_out b) refl
+
+pub node_unlike : {X S : Type 0} (eq : X → X → Bool) (same : S → S → Bool) (a b : Node X S)
+    → false ≡ visit_eq eq same (visit a) (visit b) → false ≡ node_eq eq same a b
+node_unlike eq same a b like = ap (λ l. l && nodes_eq eq same (children a) (children b)) like ∙ sym (node_out eq same a b)
+
+node_alike : {X S : Type 0} (eq : X → X → Bool) (same : S → S → Bool) (a b : Node X S)
+    → true ≡ visit_eq eq same (visit a) (visit b) → nodes_eq eq same (children a) (children b) ≡ node_eq eq same a b
+node_alike eq same a b like = ap (λ l. l && nodes_eq eq same (children a) (children b)) like ∙ sym (node_out eq same a b)
+
+pub leaf_alike : {X S : Type 0} (eq : X → X → Bool) (same : S → S → Bool) (a b : Node X S) (x : X) → a ≡ Term x
+    → true ≡ visit_eq eq same (visit a) (visit b) → true ≡ node_eq eq same a b
+leaf_alike eq same a b x is like =
+    let left = children_term a x is in
+    let right = nil_from_length (children b) (sym (children_even eq same a b (sym like)) ∙ ap length left) in
+    let none : true ≡ nodes_eq eq same (children a) (children b) = rw (left, right) refl in
+    none ∙ node_alike eq same a b like
+
+-- the same of a rule, over lists of its trees and of the other's; and these are as many
+pub alike_even : {X S : Type 0} (eq : X → X → Bool) (same : S → S → Bool) (a b : Node X S) (r : RIdx S) (nodes : Vec (Node X S) Global) (left right : List (Node X S))
+    → a ≡ Nonterm r nodes → true ≡ visit_eq eq same (visit a) (visit b) → left ≡ nodes.items → right ≡ children b → length left ≡ length right
+alike_even eq same a b r nodes left right is like l o =
+    ap length (l ∙ sym (children_nonterm a r nodes is)) ∙ children_even eq same a b (sym like) ∙ sym (ap length o)
+
+pub alike_nodes : {X S : Type 0} (eq : X → X → Bool) (same : S → S → Bool) (a b : Node X S) (r : RIdx S) (nodes : Vec (Node X S) Global) (left right : List (Node X S))
+    → a ≡ Nonterm r nodes → true ≡ visit_eq eq same (visit a) (visit b) → left ≡ nodes.items → right ≡ children b → nodes_eq eq same left right ≡ node_eq eq same a b
+alike_nodes eq same a b r nodes left right is like l o =
+    ap (λ ns. nodes_eq eq same ns right) (l ∙ sym (children_nonterm a r nodes is)) ∙ ap (nodes_eq eq same (children a)) o ∙ node_alike eq same a b like
 
 -- one step of the next lemma, over what the rests give
 split_step : (like : Bool) (e f g : Bool) → (like ≡ true → e ≡ (f && g)) → (like && e) ≡ ((like && f) && g)

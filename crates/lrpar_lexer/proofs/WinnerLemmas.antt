@@ -5,9 +5,9 @@ use Rattle.std.proofs.lemmas.Bool.{cond_both}
 use Rattle.std.proofs.lemmas.Bool.Decides.{nat_tests}
 use Rattle.std.proofs.lemmas.Grind.{common_steps}
 use Rattle.std.proofs.Math.Seq.{take-append_seam}
-use Rattle.std.proofs.lemmas.List.{map-set, set-get_or, get_or-map, take_more, take-append-le}
+use Rattle.std.proofs.lemmas.List.{map-append, map-set, set-get_or, get_or-map, take_all, take_more, take-append-le}
 use Rattle.std.proofs.lemmas.List.Elements.{All-push, All-same, All-weaker}
-use Rattle.std.proofs.lemmas.Option.{none-some, same_Some, slice_get-get_or, slice_get-map, slice_get_within}
+use Rattle.std.proofs.lemmas.Option.{none-some, same_Some, slice_get-get_or, slice_get-map, slice_get_read, slice_get_within}
 use Rattle.regex.specs.Patterns.{Re, empty}
 use Rattle.regex_hir.proofs.OptionLemmas.{option_cases}
 use Rattle.regex_meta.specs.declared.program.Program.{Program}
@@ -112,3 +112,25 @@ match_of_rule rules programs rest i found same asks pattern at = ⊎_elim
     ap (λ ps. slice_get ps i) same ∙ slice_get-map anchored_of rules i ∙ ap (option_map anchored_of) some.1 in
     subst (λ re. IsMatchLen rest re found) is (asks (anchored_of some.0) (pattern_of some.0) program some.0.finds))
     (option_cases (slice_get rules i))
+
+-- one more search, for the next rule
+pub programs_more : {A : Type 0} (value : A → Program) (all after : List A) (one : A) (rules : List LexRule) (i : ℕ) (rule : LexRule) → i < length rules
+    → rule ≡ get_or rules i rule → after ≡ all ++ one ∷ [] → value one ≡ anchored_of rule → map value all ≡ map anchored_of (take i rules)
+    → map value after ≡ map anchored_of (take (i + 1) rules)
+programs_more value all after one rules i rule within read put is so_far =
+    ap (map value) put ∙ map-append value all (one ∷ []) ∙ ap (λ ps. ps ++ value one ∷ []) so_far
+    ∙ ap (λ p. map anchored_of (take i rules) ++ p ∷ []) (is ∙ ap anchored_of read)
+    ∙ sym (map-append anchored_of (take i rules) (get_or rules i rule ∷ [])) ∙ ap (map anchored_of) (sym (take_more rules i rule within))
+
+pub programs_all : {A : Type 0} (value : A → Program) (all : List A) (rules : List LexRule) (i : ℕ) → length rules ≤ i → map value all ≡ map anchored_of (take i rules)
+    → map value all ≡ map anchored_of rules
+programs_all value all rules i long so_far = so_far ∙ ap (map anchored_of) (take_all i rules long)
+
+-- what one of several searches finds is what its program finds
+pub found_at : {A : Type 0} (value : A → Program) (all : List A) (i : ℕ) (one : A) (rest : List ℕ) (found : Option ℕ) → i < length all → one ≡ get_or all i one
+    → ((pattern : Re) → FindsAtStart (value one) pattern → IsMatchLen rest pattern found)
+    → (program : Program) (pattern : Re) → slice_get (map value all) i ≡ Some program → FindsAtStart program pattern → IsMatchLen rest pattern found
+found_at value all i one rest found within read asks program pattern is finds =
+    let same : value one ≡ program =
+    same_Some (value one) program (sym (slice_get-map value all i ∙ ap (option_map value) (slice_get_read all (length all) i one refl within read)) ∙ is) in
+    asks pattern (subst (λ (p : Program). FindsAtStart p pattern) (sym same) finds)

@@ -1,10 +1,11 @@
 -- What an overlay stands for: the lower states of its base, and those of its tail above them.
-use Rattle.std.proofs.Common.{◌≡◌, ◌<◌, ◌≤◌, ◌+◌, ◌-◌, ◌∙◌, inl, inr, sym, subst, ap, arith, ℕ, suc, List, [], ◌∷◌, ◌++◌, length, map, take, min, get_or, slice_get, Some, None, refl, length-append, append_assoc, append-nil}
+use Rattle.std.proofs.Common.{◌≡◌, ◌<◌, ◌≤◌, ◌+◌, ◌-◌, ◌∙◌, ◌⊎◌, inl, inr, sym, subst, ap, arith, ℕ, suc, List, [], ◌∷◌, ◌++◌, length, map, take, min, get_or, slice_get, Some, None, refl, length-append, append_assoc, append-nil}
 use Rattle.std.proofs.Math.Seq.{take-append-add}
 use Rattle.std.proofs.lemmas.Bool.{cases_lt}
 use Rattle.std.proofs.lemmas.List.{get_or-map, get_or-take, get_or_append_left, length-map, length-take-le, map-append, take-append-le, take-map, take-take}
 use Rattle.std.proofs.lemmas.Option.{none-some, slice_get-get_or, slice_get-map, slice_get_read}
 use Rattle.std.specs.Option.{option_map}
+use Rattle.lrpar_stacks.specs.Overlay.{Overlaid, OverlayFails, OverlayReduces, overlaid}
 use Rattle.lrpar_stacks.specs.Stack.{top_of}
 use Rattle.lrpar_stacks.proofs.StepLemmas.{top_of_left}
 
@@ -118,3 +119,48 @@ module _ {A : Type 0} (number : A → ℕ) where
   over_list base tail first states kept is_first is_states =
       ap (map number) is_states ∙ map-append number first tail
       ∙ ap (λ (st : List ℕ). st ++ map number tail) (ap (map number) is_first ∙ sym (take-map number kept base))
+
+-- a reduction keeps what it leaves of the base
+pub reduces_over : (view old : Overlaid) (more : List ℕ) (grown least len symbols : ℕ) → view ≡ old → len ≡ length (overlaid old) → least ≡ min view.kept (len - symbols)
+    → view.room ≤ grown → OverlayReduces old symbols (record { base = view.base; kept = least; tail = more; room = grown })
+reduces_over view old more grown least len symbols is height lower wider = record {
+  base = ap (λ (o : Overlaid). o.base) is;
+  kept = lower ∙ ap (λ (n : ℕ). min view.kept (n - symbols)) height ∙ ap (λ (o : Overlaid). min o.kept (length (overlaid old) - symbols)) is;
+  room = subst (λ (o : Overlaid). o.room ≤ grown) is wider;
+}
+
+-- where memory was wanting the states stay
+pub stays_over : (view old : Overlaid) (more : List ℕ) (grown : ℕ) → view ≡ old → more ≡ view.tail
+    → overlaid (record { base = view.base; kept = view.kept; tail = more; room = grown }) ≡ overlaid old
+stays_over view old more grown is same = ap (λ (st : List ℕ). take view.kept view.base ++ st) same ∙ ap overlaid is
+
+-- and the tail would have become longer
+longer_over : (kept len symbols at : ℕ) (tail : List ℕ) → len ≡ kept + length tail → at ≡ len - symbols - kept → at ≡ length tail → (symbols ≡ 0) ⊎ (tail ≡ [])
+longer_over kept len symbols at [] height left whole = inr refl
+longer_over kept len symbols at (x ∷ tail) height left whole = inl (omega arith)
+
+pub fails_over : (view old : Overlaid) (more : List ℕ) (grown len symbols at : ℕ) → view ≡ old → view.kept ≤ length view.base → len ≡ length (overlaid old)
+    → at ≡ len - symbols - view.kept → at ≡ length view.tail → more ≡ view.tail → view.room ≤ grown → grown ≤ length more
+    → OverlayFails old symbols (record { base = view.base; kept = view.kept; tail = more; room = grown })
+fails_over view old more grown len symbols at is within height left whole same wider full =
+    let lower : length (take view.kept view.base) ≡ view.kept = length-take-le view.kept view.base within in
+    let many : len ≡ view.kept + length view.tail =
+    height ∙ ap (λ (o : Overlaid). length (overlaid o)) (sym is) ∙ length-append (take view.kept view.base) view.tail ∙ ap (λ (n : ℕ). n + length view.tail) lower in
+    record {
+      stays = record {
+        base = ap (λ (o : Overlaid). o.base) is;
+        kept = ap (λ (o : Overlaid). o.kept) is;
+        tail = same ∙ ap (λ (o : Overlaid). o.tail) is;
+        room = subst (λ (o : Overlaid). o.room ≤ grown) is wider;
+        full = inl full;
+      };
+      longer = subst (λ (o : Overlaid). (symbols ≡ 0) ⊎ (o.tail ≡ [])) is (longer_over view.kept len symbols at view.tail many left whole);
+    }
+
+-- one state more would be more than can be counted
+pub full_over : (old : Overlaid) (symbols len : ℕ) → len ≡ length (overlaid old) → len < 18446744073709551616 → len - symbols ≡ 18446744073709551615
+    → OverlayFails old symbols old
+full_over old symbols len height counted most = record {
+  stays = record { base = refl; kept = refl; tail = refl; room = omega arith; full = inr (omega (arith, height, counted, most)) };
+  longer = inl (omega (arith, counted, most));
+}

@@ -1,17 +1,17 @@
 -- What one step makes of a list of states, and of the chain that goes on from them.
-use Rattle.std.proofs.Common.{◌≡◌, ◌<◌, ◌≤◌, ◌+◌, ◌-◌, ◌∙◌, ◌↔◌, ◌⊎◌, inl, inr, refl, sym, ap, subst, arith, ℕ, zero, suc, List, [], ◌∷◌, ◌++◌, length, map, take, slice_get, Option, Some, None, Result, Ok, Err, IfOk, OnOk}
+use Rattle.std.proofs.Common.{◌≡◌, ◌<◌, ◌≤◌, ◌+◌, ◌-◌, ◌∙◌, ◌↔◌, ◌⊎◌, inl, inr, refl, sym, ap, subst, arith, ℕ, zero, suc, List, [], ◌∷◌, ◌++◌, length, map, take, get_or, slice_get, Option, Some, None, Result, Ok, Err, IfOk, OnOk}
 use Rattle.std.proofs.lemmas.List.{length-append, length-map, length-take-le, map-append, take-map}
 use Rattle.std.proofs.lemmas.List.Elements.{All-push, All-take}
-use Rattle.std.proofs.lemmas.Option.{get_or_from_slice_get, none-some, slice_get_within}
+use Rattle.std.proofs.lemmas.Option.{get_or_from_slice_get, none-some, slice_get-map, slice_get_read, slice_get_within}
 use Rattle.std.specs.List.{All}
 use Rattle.std.specs.Result.{IsErrAnd}
-use Rattle.std.specs.Option.{MatchOption, option_and_then, option_map_or}
+use Rattle.std.specs.Option.{MatchOption, option_and_then, option_map, option_map_or}
 use Rattle.lrpar_grammar.specs.Grammar.{Grammar, prods_len, prod_len, rule_of}
 use Rattle.lrpar_stacks.specs.Chain.{DropsAll, HasReductions}
 use Rattle.lrpar_stacks.specs.Reduction.{Reduces, top_action, top_goto, left_by}
 use Rattle.lrpar_stacks.specs.Stack.{top_of}
 use Rattle.lrpar_stacks.specs.StackReduction.{IsStepShortOfMemory}
-use Rattle.lrpar_stacks.specs.Step.{CanReduce, IsStepOf}
+use Rattle.lrpar_stacks.specs.Step.{CanReduce, IsReduction, IsRestOf, IsStackStep, IsStepOf}
 use Rattle.lrpar_states.specs.Table.{Table, Fails, ReduceBy, IsClosed, action_of, goto_of, states_len}
 use Rattle.lrpar_stacks.specs.declared.step.Step.{Step}
 use Rattle.lrpar_stacks.specs.declared.step.Step.TheVariants.{Reduced, LeavesNone, Stays}
@@ -218,3 +218,46 @@ short_of_memory_at states fails g table t p old new action known can rest stays 
 pub match_none : {A : Type 0} (o : Option A) (P : Type 0) (Q : A → Type 0) → ((x : A) → ¬ (o ≡ Some x)) → MatchOption o P Q → P
 match_none None P Q none h = h
 match_none (Some x) P Q none h = absurd (none x refl)
+
+-- a reduction by the top's action is a step
+pub step_of : (g : Grammar) (table : Table) (t p : ℕ) (st : List ℕ) (step : Step) (after : List ℕ) → top_action table t st ≡ ReduceBy p → p < prods_len g
+    → IsReduction g table p st step after → IsStepOf g table t st step after
+step_of g table t p st Reduced after action known (deep, (state, goto, is)) =
+    (p, record { action = action; known = known; deep = deep; state = state; goto = goto; pushed = is })
+step_of g table t p st LeavesNone after action known (few, same) = ((p, action, few), same)
+step_of g table t p st Stays after action known (deep, none, same) = (
+  (λ q next reduces.
+      let is : q ≡ p = let e : ReduceBy q ≡ ReduceBy p = sym reduces.action ∙ action in cc in
+      let goto : top_goto table (rule_of g p) (left_by g p st) ≡ Some reduces.state =
+      subst (λ (r : ℕ). top_goto table (rule_of g r) (left_by g r st) ≡ Some reduces.state) is reduces.goto in
+      none-some reduces.state (sym none ∙ goto)),
+  (λ drops.
+      let is : drops.0 ≡ p = let e : ReduceBy drops.0 ≡ ReduceBy p = sym drops.1 ∙ action in cc in
+      let many : length st ≤ prod_len g p = subst (λ (r : ℕ). length st ≤ prod_len g r) is drops.2 in
+      omega (arith, deep, many)),
+  same,
+)
+
+-- and one of the whole stack
+pub stack_step_of : {X : Type 0} (states : X → List ℕ) (reduces : X → ℕ → ℕ → ℕ → X → Type 0) (g : Grammar) (table : Table) (t p : ℕ) (old : X) (step : Step) (new : X)
+    → top_action table t (states old) ≡ ReduceBy p → p < prods_len g → IsReduction g table p (states old) step (states new) → IsRestOf reduces g p old step new
+    → IsStackStep states reduces g table t old step new
+stack_step_of states reduces g table t p old Reduced new action known (deep, (state, goto, is)) rest = (
+  p,
+  record { of_states = record { action = action; known = known; deep = deep; state = state; goto = goto; pushed = is }; of_rest = rest },
+)
+stack_step_of states reduces g table t p old LeavesNone new action known reduction rest = rest
+stack_step_of states reduces g table t p old Stays new action known reduction rest = rest
+
+-- a state that is read in a list stands for the number there, and the last one for the top
+pub number_at : {A : Type 0} (number : A → ℕ) (xs : List A) (i : ℕ) (x : A) → i < length (map number xs) → x ≡ get_or xs i x
+    → slice_get (map number xs) i ≡ Some (number x)
+number_at number xs i x below read =
+    slice_get-map number xs i
+    ∙ ap (option_map number) (slice_get_read xs (length xs) i x refl (subst (λ (n : ℕ). i < n) (length-map xs number) below) read)
+
+pub number_top : {A : Type 0} (number : A → ℕ) (xs : List A) (len : ℕ) (x : A) → 0 < length (map number xs) → len ≡ length xs → x ≡ get_or xs (len - 1) x
+    → top_of (map number xs) ≡ Some (number x)
+number_top number xs len x some is read =
+    let last : length (map number xs) ≡ len = length-map xs number ∙ sym is in
+    ap (λ (n : ℕ). slice_get (map number xs) (n - 1)) last ∙ number_at number xs (len - 1) x (omega (arith, some, last)) read

@@ -1,15 +1,18 @@
 -- Rows that are sorted and searched.
-use Rattle.std.proofs.Common.{◌≡◌, ◌+◌, ◌↔◌, ℕ, List, [], length, slice_index_or, IsTrue, Bool, true, false, refl, sym, ◌∙◌, subst, inl, inr, arith, Ok, Err, Result}
+use Rattle.std.proofs.Common.{◌≡◌, ◌+◌, ◌-◌, ◌++◌, ◌∷◌, ◌↔◌, ℕ, Bor, List, [], Option, Some, None, slice_get, length, slice_index_or, IsTrue, Bool, true, false, refl, sym, ◌∙◌, subst, inl, inr, arith, Ok, Err, Result}
 use Rattle.std.specs.Cmp.{IsTotalOrder, IsEquivalence, Equal-is}
 use Rattle.std.specs.List.{Contains}
 use Rattle.std.specs.List.Sorted.{IsStrictlySortedBy, IsSorted, IsBinarySearchResult, IsSearchInRange, IsPermutation, IsPartitionPoint}
 use Rattle.std.specs.List.Retain.{IsFiltered, DiffersFromLast}
+use Rattle.std.specs.Option.{option_copied, option_eq}
 use Rattle.std.specs.Ordering.{is_lt, eq_by_cmp}
 use Rattle.std.specs.Result.{is_ok}
 use Rattle.std.specs.declared.cmp.Ordering.{Ordering}
 use Rattle.std.specs.declared.cmp.Ordering.TheVariants.{Less, Equal, Greater}
 use Rattle.std.proofs.lemmas.Bool.{cases_lt}
 use Rattle.std.proofs.lemmas.Cmp.{tied_itself}
+use Rattle.std.proofs.lemmas.List.Elements.{Contains-append_left, Contains-push_cases}
+use Rattle.std.proofs.lemmas.Option.{get_or_from_slice_get, slice_get_within}
 use Rattle.std.proofs.lemmas.List.Sorted.{searchable_from_sorted, Contains-permutation, IsPermutation-sym}
 use Rattle.std.proofs.lemmas.List.Filters.{dedup_is}
 use Rattle.std.proofs.lemmas.List.Kept.{Contains-dedup, Contains-from_dedup, IsStrictlySortedBy-dedup}
@@ -59,4 +62,24 @@ same_from_sort equals ties exact xs ys zs moved left x =
     let is = dedup_is _ ys zs left in (
       λ h. Contains-permutation ys xs x (IsPermutation-sym xs ys moved) (Contains-from_dedup _ ys x (rw is at h)),
       λ h. rw is (Contains-dedup equals (same_from_equal ties exact) ys x (Contains-permutation xs ys x moved h)),
+    )
+
+-- where the last element is already what is put behind it, the elements stay the same
+pub same_from_last : {X : Type 0} (E : X → X → Bool) → ((x y : X) → E x y ≡ true → x ≡ y) → (xs : List X) (last : Option (Bor X)) (more : Bor X)
+    (r : Bool) → option_copied last ≡ slice_get xs (length xs - 1) → r ≡ option_eq (λ x y. E x.now y.now) last (Some more) → r ≡ true
+    → HaveSame xs (xs ++ more.now ∷ [])
+same_from_last E exact xs None more r read told passed = absurd cc
+same_from_last E exact xs (Some last) more r read told passed =
+    let same : last.now ≡ more.now = exact last.now more.now (sym told ∙ passed) in
+    λ x. (
+      λ h. Contains-append_left xs (more.now ∷ []) x h,
+      λ h.
+          elim (Contains-push_cases xs more.now x h) as (λ _. Contains xs x) [
+            | inl before ↦ before
+            | inr is ↦ (
+              length xs - 1,
+              slice_get_within xs (length xs - 1) last.now (sym read),
+              get_or_from_slice_get xs (length xs - 1) last.now x (sym read) ∙ same ∙ is,
+            )
+          ],
     )

@@ -143,6 +143,19 @@ pub record AreCutSoFar {K V R : Type 0} (items : R → List (K × V)) (starts : 
   pub parts : AreParts starts keys values
   pub rows_so_far : cut starts (zip keys values) ≡ map items (take i rows)
 
+-- at first there are no rows
+pub cut_first : {K V R : Type 0} (items : R → List (K × V)) (starts : List ℕ) (keys : List K) (values : List V) (rows : List R)
+    → starts ≡ 0 ∷ [] → keys ≡ [] → values ≡ [] → AreCutSoFar items starts keys values rows 0
+cut_first items starts keys values rows one no_keys no_values =
+    rw (one, no_keys, no_values)
+    (record {
+      parts = record {
+        placed = record { some = omega arith; first = refl; up = λ s below. absurd (omega (arith, below)); last = refl };
+        paired = refl;
+      };
+      rows_so_far = refl;
+    })
+
 -- one more row
 pub cut_more : {K V R : Type 0} (items : R → List (K × V)) (starts : List ℕ) (keys keys_after : List K) (values values_after : List V) (rows : List R)
     (i more : ℕ) (row : R)

@@ -1,17 +1,18 @@
 -- Entries that ascend, and what a look-up finds among them.
-use Rattle.std.proofs.Common.{◌≡◌, ◌≢◌, ◌<◌, ◌≤◌, ◌↔◌, ◌⊎◌, ◌∙◌, ℕ, zero, suc, Bool, false, IsTrue, nat_eq, List, [], ◌∷◌, All, Option, Some, None, unwrap_or, length, map, slice_index, slice_index_or, refl, ap, sym, subst, inl, inr, arith}
+use Rattle.std.proofs.Common.{◌≡◌, ◌≢◌, ◌<◌, ◌≤◌, ◌↔◌, ◌⊎◌, ◌∙◌, ℕ, zero, suc, Bool, false, IsTrue, nat_eq, nat_lt, List, [], ◌∷◌, All, Option, Some, None, unwrap_or, length, map, slice_index, slice_index_or, refl, ap, sym, subst, inl, inr, arith}
 use Rattle.std.specs.Cmp.{nat_eq_equiv}
 use Rattle.std.specs.List.{Contains, IsDistinct, zip}
 use Rattle.std.specs.List.Sorted.{IsStrictlyIncreasing}
 use Rattle.std.specs.Map.{keys_of, lookup}
-use Rattle.std.proofs.lemmas.Bool.{cases_lt, eqb-true, ne_eqb}
+use Rattle.std.proofs.lemmas.Bool.{cases_lt, eqb-true, ltb-true, ne_eqb}
+use Rattle.std.proofs.lemmas.Bool.Decides.{Decides-ltb}
 use Rattle.std.proofs.lemmas.List.{get_or_past}
 use Rattle.std.proofs.lemmas.List.Elements.{All-contains, All-map}
 use Rattle.std.proofs.lemmas.List.Kept.{AllPairs-from_increasing}
 use Rattle.std.proofs.lemmas.Map.Keys.{IsDistinct-from_apart}
 use Rattle.std.proofs.lemmas.Map.Made.{keys_of-zip}
 use Rattle.std.proofs.lemmas.Map.Views.{Contains-from_lookup, lookup-from_Contains}
-use Rattle.lrpar_states.specs.Table.{AreEntries, IsActionEntry, IsActionWithin, IsClosed, IsGotoEntry, IsGotoWithin, IsTable, Table, TableAction, Fails, action_of, actions_at, goto_of, gotos_at}
+use Rattle.lrpar_states.specs.Table.{AreEntries, IsActionEntry, IsActionWithin, IsClosed, IsGotoEntry, IsGotoWithin, IsTable, Table, TableAction, ShiftTo, Fails, action_of, actions_at, goto_of, gotos_at}
 use Rattle.lrpar_states.proofs.Mapped.{All-unmap}
 use Rattle.lrpar_states.proofs.ItemLemmas.{Contains-image}
 
@@ -133,6 +134,27 @@ pub goto_within_row : (table : Table) (s r next : ℕ) → All (IsGotoEntry tabl
     → next < table.states
 goto_within_row table s r next each there =
     let entry = All-contains (IsGotoEntry table.rules table.states) (gotos_at table s) (r, next) each there in entry.within
+
+-- an entry whose token is out of range is none, as the test of it says
+pub action_out_of_range : (tokens states t : ℕ) (entry : ℕ × TableAction) → t ≡ entry.0 → tokens ≤ t → IsTrue (nat_lt t tokens) ↔ IsActionEntry tokens states entry
+action_out_of_range tokens states t entry same past = (
+  λ h. let less = ltb-true t tokens h in absurd (omega (arith, less, past)),
+  λ is. let less = is.token in absurd (omega (arith, less, same, past)),
+)
+
+-- and of one whose token is in range, and which is a shift, the test of its state tells whether it is one
+pub shift_in_range : (tokens states t next s : ℕ) (entry : ℕ × TableAction) → t ≡ entry.0 → t < tokens → entry.1 ≡ ShiftTo next → s ≡ next
+    → IsTrue (nat_lt s states) ↔ IsActionEntry tokens states entry
+shift_in_range tokens states t next s entry same below shift at = (
+  λ h.
+      let less = ltb-true s states h in
+      record {
+        token = omega (arith, same, below);
+        stored = λ fails. absurd cc;
+        within = subst (IsActionWithin states) (sym shift) (omega (arith, less, at));
+      },
+  λ is. let less : next < states = subst (IsActionWithin states) shift is.within in (Decides-ltb s states).1 (omega (arith, less, at)),
+)
 
 -- a test of the entries of a row whose keys ascend
 pub entries_test : {K V X : Type 0} (number : K → ℕ) (value : V → X) (P : ℕ × X → Type 0) (row : List (K × V)) (b : Bool)

@@ -1,6 +1,6 @@
 -- What state graphs have, told by tests of lists of items, and by what holds of each item.
-use Rattle.std.proofs.Common.{◌≡◌, ◌<◌, ◌↔◌, ℕ, zero, suc, Bool, true, ◌&&◌, nat_eq, List, [], length, map, All, slice_index_or, subst, refl, ap, arith, inl, inr}
-use Rattle.std.proofs.lemmas.Bool.{and_from, and_parts, cases_lt, eq-eqb, eqb-true}
+use Rattle.std.proofs.Common.{◌≡◌, ◌<◌, ◌↔◌, ℕ, zero, suc, Bool, IsTrue, false, true, ◌&&◌, nat_eq, List, [], length, map, All, slice_index_or, subst, refl, ap, arith, inl, inr}
+use Rattle.std.proofs.lemmas.Bool.{and_from, and_parts, cases_lt, eq-eqb, eqb-true, false≢true}
 use Rattle.std.proofs.lemmas.List.{get_or_past}
 use Rattle.std.proofs.lemmas.List.Elements.{All-contains, All-contains_itself}
 use Rattle.std.proofs.lemmas.List.Folds.{Any-from_list_any, list_any-from_Any}
@@ -18,6 +18,10 @@ state_in_range graph s p k t h =
       | inl below ↦ below
       | inr past ↦ let none = ap (λ (xs : List ItemOf). length xs) (get_or_past graph s [] past) in absurd (omega (arith, h.1, none))
     ]
+
+-- where there are no items there are no cores
+pub no_core_there : (p k : ℕ) → IsTrue false ↔ AreWithCore [] p k
+no_core_there p k = (λ h. absurd (false≢true h), λ core. absurd (omega (arith, core.1.1)))
 
 -- the test of an item's three numbers
 abbrev pub is_item : ℕ → ℕ → ℕ → ItemOf → Bool

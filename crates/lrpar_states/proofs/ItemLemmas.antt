@@ -69,7 +69,18 @@ module _ {S : Type 0} (index : S → ℕ) (exact : (x y : S) → index x ≡ ind
       let dot : x.1 ≡ y.1 = ranked x.1 y.1 Equal (sym ties.1) in
       let is : (x.0, x.1) ≡ (y.0, y.1) = cc in is
 
-  -- and so are those that a test counts as the same
+  -- and so are items
+  pub items_told_apart : (cmp : S → S → Ordering) → ((a b : S) → cmp a b ≡ nat_cmp (index a) (index b)) → (x y : PIdx S × ℕ × TIdx S)
+      → ordering_then (ordering_then (cmp x.0.0 y.0.0) (nat_cmp x.1 y.1)) (cmp x.2.0 y.2.0) ≡ Equal → x ≡ y
+  items_told_apart cmp law x y h =
+      let ties = then_ties _ _ h in
+      let core = cores_told_apart cmp law (x.0, x.1) (y.0, y.1) ties.0 in
+      let prod : x.0 ≡ y.0 = ap (λ (c : PIdx S × ℕ). c.0) core in
+      let dot : x.1 ≡ y.1 = ap (λ (c : PIdx S × ℕ). c.1) core in
+      let token : x.2 ≡ y.2 = same_token x.2 y.2 (ranked (index x.2.0) (index y.2.0) Equal (sym ties.1 ∙ law x.2.0 y.2.0)) in
+      let is : (x.0, x.1, x.2) ≡ (y.0, y.1, y.2) = cc in is
+
+  -- and so are cores that a test counts as the same
   pub cores_same_by_test : (eq : S → S → Bool) → ((a b : S) → eq a b ≡ nat_eq (index a) (index b)) → (x y : PIdx S × ℕ)
       → (eq x.0.0 y.0.0 && nat_eq x.1 y.1) ≡ true → x ≡ y
   cores_same_by_test eq law x y h =

@@ -10,3 +10,4 @@ pub mod RowLemmas
 pub mod SafeTests
 pub mod TableLemmas
 pub mod TestLemmas
+pub mod FaultLemmas

@@ -118,6 +118,11 @@ row_of_image f none [] s = sym none
 row_of_image f none (row ∷ rows) zero = refl
 row_of_image f none (row ∷ rows) (suc s) = row_of_image f none rows s
 
+-- the image of the row that was read is the row of the image
+pub image_of_row : {X Y : Type 0} (f : X → Y) (rows : List (List X)) (row : List X) (at s : ℕ) → row ≡ slice_index_or rows at [] → at ≡ s
+    → map f row ≡ slice_index_or (map (map f) rows) s []
+image_of_row f rows row at s is same = ap (map f) (is ∙ ap (λ k. slice_index_or rows k []) same) ∙ sym (row_of_image (map f) refl rows s)
+
 -- what is kept of an action, or else an error, is the action
 unless_error_or : (action : TableAction) → unwrap_or (unless_error action) Fails ≡ action
 unless_error_or (ShiftTo s) = refl

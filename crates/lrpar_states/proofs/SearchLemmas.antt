@@ -3,7 +3,7 @@ use Rattle.std.proofs.Common.{◌≡◌, ◌<◌, ◌≤◌, ◌+◌, ◌-◌, �
 use Rattle.std.specs.List.{Contains}
 use Rattle.std.specs.List.Sorted.{IsStrictlyIncreasing}
 use Rattle.std.proofs.lemmas.Bool.{cases_lt}
-use Rattle.std.proofs.lemmas.List.{get_or-map, get_or_default}
+use Rattle.std.proofs.lemmas.List.{get_or-map, get_or_default, length-map}
 use Rattle.std.proofs.lemmas.List.Kept.{AllPairs-from_increasing}
 
 -- of the places, `size` from `base` on are left: what stands before them is less, and what comes after them greater
@@ -11,6 +11,14 @@ pub record IsSearched (ns : List ℕ) (wanted base size : ℕ) : Type 0 where
   pub within : base + size ≤ length ns
   pub below : (k : ℕ) → k < base → slice_index ns k < wanted
   pub above : (k : ℕ) → base + size ≤ k → k < length ns → wanted < slice_index ns k
+
+-- at first all are left
+pub searched_first : {X : Type 0} (f : X → ℕ) (xs : List X) (wanted : ℕ) → IsSearched (map f xs) wanted 0 (length xs)
+searched_first f xs wanted = record {
+  within = rw length-map (omega arith);
+  below = λ k h. absurd (omega (arith, h));
+  above = λ k low high. let inside : k < length xs = rw length-map at high in absurd (omega (arith, low, inside));
+}
 
 -- where the middle one isn't greater, the part from it on is left
 pub searched_up : (ns : List ℕ) (wanted base size half : ℕ) → IsStrictlyIncreasing ns → IsSearched ns wanted base size → half < size

@@ -109,9 +109,12 @@ fn all_reductions_fit<StorageT: StorageIndex>(
 ) -> bool
     ensures { IsTrue result ↔ All (λ x. ReductionsFit grm.now (reduce_reduce_of StorageT.index x)) conflicts.now }
 {
-    conflicts
-        .iter()
-        .all(|conflict| reductions_fit(*conflict, grm))
+    for conflict in conflicts {
+        if !reductions_fit(*conflict, grm) {
+            return false;
+        }
+    }
+    true
 }
 
 // Whether the conflict between two reductions fits the grammar.
@@ -139,7 +142,12 @@ fn all_shifts_fit<StorageT: StorageIndex>(
 ) -> bool
     ensures { IsTrue result ↔ All (λ x. ShiftFits grm.now (shift_reduce_of StorageT.index x)) conflicts.now }
 {
-    conflicts.iter().all(|conflict| shift_fits(*conflict, grm))
+    for conflict in conflicts {
+        if !shift_fits(*conflict, grm) {
+            return false;
+        }
+    }
+    true
 }
 
 // Whether the conflict between a shift and a reduction fits the grammar.

@@ -34,10 +34,10 @@ impl<K: Key, V: Copy> Entries<K, V> {
         ensures { IfOk result (λ entries. entries ≡ map (λ row. row.items) rows.now) }
     {
         let mut starts = Vec::with_capacity(alloc, rows.len() + 1)?;
+        starts.push(0)?;
         let mut keys = Vec::new(alloc);
         let mut values = Vec::new(alloc);
         let mut hints = Hints::new(alloc);
-        starts.push(0)?;
         for row in rows {
             push_row(&mut keys, &mut values, row)?;
             hints.add_row(row)?;

@@ -51,7 +51,12 @@ fn are_action_rows<StorageT: StorageIndex>(
 ) -> bool
     ensures { IsTrue result ↔ All (λ row. IsActionRow tokens states (map (plain_action StorageT.index) row.items)) rows.now }
 {
-    rows.iter().all(|row| is_action_row(row, tokens, states))
+    for row in rows {
+        if !is_action_row(row, tokens, states) {
+            return false;
+        }
+    }
+    true
 }
 
 /// Whether the row has an action for each token, with states in range.
@@ -69,7 +74,12 @@ fn is_action_row<StorageT: StorageIndex>(
 fn are_actions_within<StorageT: StorageIndex>(row: &[Action<StorageT>], states: usize) -> bool
     ensures { IsTrue result ↔ All (λ action. IsActionWithin states (plain_action StorageT.index action)) row.now }
 {
-    row.iter().all(|action| is_action_within(*action, states))
+    for action in row {
+        if !is_action_within(*action, states) {
+            return false;
+        }
+    }
+    true
 }
 
 /// Whether the action's state, if it has one, is below `states`.
@@ -90,7 +100,12 @@ fn are_goto_rows<StorageT: StorageIndex>(
 ) -> bool
     ensures { IsTrue result ↔ All (λ row. IsGotoRow rules states (map (plain_goto StorageT.index) row.items)) rows.now }
 {
-    rows.iter().all(|row| is_goto_row(row, rules, states))
+    for row in rows {
+        if !is_goto_row(row, rules, states) {
+            return false;
+        }
+    }
+    true
 }
 
 /// Whether the row has an optional state for each rule, in range.
@@ -108,7 +123,12 @@ fn is_goto_row<StorageT: StorageIndex>(
 fn are_gotos_within<StorageT: StorageIndex>(row: &[Option<StIdx<StorageT>>], states: usize) -> bool
     ensures { IsTrue result ↔ All (λ goto. IsGotoWithin states (plain_goto StorageT.index goto)) row.now }
 {
-    row.iter().all(|goto| is_goto_within(*goto, states))
+    for goto in row {
+        if !is_goto_within(*goto, states) {
+            return false;
+        }
+    }
+    true
 }
 
 /// Whether the state to go to, if there is one, is below `states`.

@@ -76,8 +76,12 @@ fn are_action_entries<StorageT: StorageIndex>(
 ) -> bool
     ensures { IsTrue result ↔ All (λ entry. IsActionEntry tokens states (action_entry StorageT.index entry)) row.now }
 {
-    row.iter()
-        .all(|entry| is_action_entry(entry.0, entry.1, tokens, states))
+    for entry in row {
+        if !is_action_entry(entry.0, entry.1, tokens, states) {
+            return false;
+        }
+    }
+    true
 }
 
 /// Whether the token is below `tokens`, the action isn't an error, and its state, if it has one, is below `states`.
@@ -132,8 +136,12 @@ fn are_goto_entries<StorageT: StorageIndex>(
 ) -> bool
     ensures { IsTrue result ↔ All (λ entry. IsGotoEntry rules states (goto_entry StorageT.index entry)) row.now }
 {
-    row.iter()
-        .all(|entry| is_goto_entry(entry.0, entry.1, rules, states))
+    for entry in row {
+        if !is_goto_entry(entry.0, entry.1, rules, states) {
+            return false;
+        }
+    }
+    true
 }
 
 /// Whether the rule is below `rules`, and the state below `states`.

@@ -11,14 +11,24 @@ use lrpar_text::span::{Span, StorageIndex};
 pub(super) fn rules_fit(rules: &[RulePart], src: &str) -> bool
     ensures { IsTrue result ↔ All (λ rule. IsPartOf src.now rule.span) rules.now }
 {
-    rules.iter().all(|rule| is_part(rule.span, src))
+    for rule in rules {
+        if !is_part(rule.span, src) {
+            return false;
+        }
+    }
+    true
 }
 
 // Whether the places of all tokens lie in the text.
 pub(super) fn tokens_fit(tokens: &[TokenPart], src: &str) -> bool
     ensures { IsTrue result ↔ All (λ token. IsPartOf src.now token.span) tokens.now }
 {
-    tokens.iter().all(|token| is_part(token.span, src))
+    for token in tokens {
+        if !is_part(token.span, src) {
+            return false;
+        }
+    }
+    true
 }
 
 // Whether the places of all productions lie in the text, as they have to.
@@ -47,7 +57,12 @@ fn prod_fits<StorageT: StorageIndex>(prod: &SplitProd<StorageT>, src: &str) -> b
 fn are_parts_of_lines(spans: &[Span], src: &str) -> bool
     ensures { IsTrue result ↔ All (IsPartOfLine src.now) spans.now }
 {
-    spans.iter().all(|span| is_part_of_line(*span, src))
+    for span in spans {
+        if !is_part_of_line(*span, src) {
+            return false;
+        }
+    }
+    true
 }
 
 // Whether each part ends before the next one starts.

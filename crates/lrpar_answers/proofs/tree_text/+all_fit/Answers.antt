@@ -1,9 +1,10 @@
-use Rattle.std.proofs.Common.{◌<◌, ◌++◌, subst, ap, arith, length-append}
+use Rattle.std.proofs.Common.{◌++◌, ◌∙◌, length, subst, ap, arith}
 use Rattle.std.specs.Prelude.{IsTrue}
-use Rattle.std.proofs.lemmas.List.{nil_from_length}
+use Rattle.std.proofs.lemmas.Bool.{false≢true}
+use Rattle.std.proofs.lemmas.List.{length_push, nil_from_length}
 use Rattle.lrpar_lexemes.specs.Lexemes.{facts_of}
 use Rattle.lrpar_answers.specs.TreeText.{MetFits, nodes_below}
-use Rattle.lrpar_answers.proofs.WeightLemmas.{weights, weights_append}
+use Rattle.lrpar_answers.proofs.WeightLemmas.{weights_fall, weights_inside, weights_skip, weights_stay, weights_turn, weights_within}
 use Rattle.lrpar_answers.proofs.FitsLemmas.{fits_level, fits_enter, fits_leave, fit_parts, fit_joined, later_trees, later_trees_push, weights_below}
 use Rattle.lrpar_answers.proofs.tree_text.+all_fit.Goals as goal
 
@@ -12,7 +13,7 @@ returns-then-not-root_fits g t c =
     let index = g.StorageT.StorageIndex.index in
     let facts = λ (x : g.row.LexemeT.Denot). facts_of index (g.LexemeT.Lexeme.parts x) in
     let P = MetFits facts index c.args.grm.now c.args.input.now in (
-      (λ h. cc),
+      (λ h. absurd (false≢true h)),
       (λ all. subst IsTrue c.if-not-root_fits.true ((c.root_fits.ensures 1).1
           (fits_enter P (fits_level facts index c.args.grm.now c.args.input.now) c.in-Some.node.now c.in-Some.rest.now c.loop-node.nodes.now
           (later_trees c.loop-node.left.items) c.in-Some.ensures.cases.0 (c.loop-node.invariant.fits.1 all)).0)),
@@ -27,7 +28,7 @@ returns-then-not-all_fit g t c =
     let node = c.in-Some.node.now in
     let more = c.in-Some.rest.now ++ later_trees c.loop-node.left.items in
     let below = rw c.children.ensures at c.all_fit.ensures in (
-      (λ h. cc),
+      (λ h. absurd (false≢true h)),
       (λ all. subst IsTrue c.if-not-all_fit.true (below.1 (fit_parts P (nodes_below node) more
           (fits_enter P same node c.in-Some.rest.now c.loop-node.nodes.now (later_trees c.loop-node.left.items) c.in-Some.ensures.cases.0
           (c.loop-node.invariant.fits.1 all)).1).0)),
@@ -36,17 +37,18 @@ returns-then-not-all_fit g t c =
 pub all_fit-requires : goal.all_fit-requires
 all_fit-requires g t c κs within =
     let entered = weights_below c.in-Some.node.now c.in-Some.rest.now c.loop-node.nodes.now (later_trees c.loop-node.left.items) c.in-Some.ensures.cases.0 in
-    let same = ap weights c.children.ensures in
-    let below : weights c.children.result.now < weights c.args.nodes.now = omega arith in
+    let below = weights_inside c.children.result.now (nodes_below c.in-Some.node.now) _ _ _ entered c.children.ensures c.loop-node.invariant.below in
     (omega arith, within)
 
 pub loop-node-smaller-in-Ok : goal.loop-node-smaller-in-Ok
 loop-node-smaller-in-Ok g t c =
-    let rest = c.in-Some.rest.now in
-    let later = later_trees c.loop-node.left.items in
-    let entered = weights_below c.in-Some.node.now rest c.loop-node.nodes.now later c.in-Some.ensures.cases.0 in
-    let split = weights_append (nodes_below c.in-Some.node.now) (rest ++ later) in
-    rw (c.in-Ok.ensures.items, later_trees_push, c.children-nodes.ensures) (simp length-append (omega arith))
+    let node = c.in-Some.node.now in
+    let rest = c.in-Some.rest in
+    let left = c.loop-node.left.items in
+    let later = later_trees left in
+    weights_fall c.children-nodes.result.now (nodes_below node) rest.now later (later_trees c.push.new.self.items) _ _ _
+    (weights_below node rest.now c.loop-node.nodes.now later c.in-Some.ensures.cases.0) c.children-nodes.ensures
+    (ap later_trees c.in-Ok.ensures.items ∙ later_trees_push left rest) (ap length c.in-Ok.ensures.items ∙ length_push left rest)
 
 pub loop-node-preserved-in-Ok : goal.loop-node-preserved-in-Ok
 loop-node-preserved-in-Ok g t c =
@@ -59,20 +61,22 @@ loop-node-preserved-in-Ok g t c =
     let nodes = c.loop-node.nodes.now in
     let later = later_trees c.loop-node.left.items in
     let entered = weights_below node rest nodes later c.in-Some.ensures.cases.0 in
-    let split = weights_append (nodes_below node) (rest ++ later) in
     let root = (c.root_fits.ensures 1).0 c.if-not-root_fits.false in
     record {
       fits = rw (c.in-Ok.ensures.items, later_trees_push, c.children-nodes.ensures) (
         (λ all. c.loop-node.invariant.fits.0 (fits_leave P same node rest nodes later c.in-Some.ensures.cases.0 root all)),
         (λ all. (fits_enter P same node rest nodes later c.in-Some.ensures.cases.0 (c.loop-node.invariant.fits.1 all)).1),
       );
-      below = rw (c.in-Ok.ensures.items, later_trees_push, c.children-nodes.ensures) (omega arith);
+      below = weights_within c.children-nodes.result.now (nodes_below node) rest later (later_trees c.push.new.self.items) _ _ entered c.children-nodes.ensures
+          (ap later_trees c.in-Ok.ensures.items ∙ later_trees_push c.loop-node.left.items c.in-Some.rest) c.loop-node.invariant.below;
     }
 
 pub loop-node-smaller-in-Err : goal.loop-node-smaller-in-Err
 loop-node-smaller-in-Err g t c =
-    let entered = weights_below c.in-Some.node.now c.in-Some.rest.now c.loop-node.nodes.now (later_trees c.loop-node.left.items) c.in-Some.ensures.cases.0 in
-    rw c.in-Err.ensures.items (omega arith)
+    let rest = c.in-Some.rest.now in
+    let later = later_trees c.loop-node.left.items in
+    weights_skip _ rest later (later_trees c.push.new.self.items) _ _ _
+    (weights_below c.in-Some.node.now rest c.loop-node.nodes.now later c.in-Some.ensures.cases.0) (ap later_trees c.in-Err.ensures.items) (ap length c.in-Err.ensures.items)
 
 pub loop-node-preserved-in-Err : goal.loop-node-preserved-in-Err
 loop-node-preserved-in-Err g t c =
@@ -94,13 +98,16 @@ loop-node-preserved-in-Err g t c =
         (λ all. (fit_parts P (nodes_below node) (rest ++ later)
             (fits_enter P same node rest nodes later c.in-Some.ensures.cases.0 (c.loop-node.invariant.fits.1 all)).1).1),
       );
-      below = rw c.in-Err.ensures.items (omega arith);
+      below = weights_stay _ rest later (later_trees c.push.new.self.items) _ _ entered (ap later_trees c.in-Err.ensures.items) c.loop-node.invariant.below;
     }
 
 pub loop-node-smaller : goal.loop-node-smaller
 loop-node-smaller g t c =
-    let none = nil_from_length c.loop-node.nodes.now c.in-None.ensures.cases in
-    rw (none, c.in-Some-pop.ensures.items, later_trees_push) (simp length-append (omega arith))
+    let rest = c.in-Some-pop.rest in
+    let left = c.pop.new.self.items in
+    weights_turn c.loop-node.nodes.now rest.now (later_trees left) (later_trees c.loop-node.left.items) _ _
+    (nil_from_length c.loop-node.nodes.now c.in-None.ensures.cases) (ap later_trees c.in-Some-pop.ensures.items ∙ later_trees_push left rest)
+    (ap length c.in-Some-pop.ensures.items ∙ length_push left rest)
 
 pub loop-node-preserved : goal.loop-node-preserved
 loop-node-preserved g t c =

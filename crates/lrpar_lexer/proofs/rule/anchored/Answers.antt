@@ -8,6 +8,7 @@ use Rattle.regex_hir.specs.Meaning.{meaning}
 use Rattle.regex_compile.specs.Compilable.{IsCompilable}
 use Rattle.regex_compile.specs.declared.error.Error.{Error}
 use Rattle.regex_compile.specs.declared.error.Error.TheVariants.{TooBig, Malformed, OutOfMemory}
+use Rattle.lrpar_lexer.proofs.RuleFaultLemmas.{no_value}
 use Rattle.lrpar_lexer.proofs.rule.anchored.Goals as goal
 
 not_internal : (e : Error) → e ≢ Malformed → of_compiler e ≢ Internal
@@ -25,3 +26,12 @@ returns-in_err-new-clause-no_internal c =
     let whole : IsCompilable groups (meaning c.in_ok-tree.tree) = rw c.in_ok-tree.ensures (tt, (inner, tt)) in
     let p = err_from_is_err_and c.from_residual-in_err-new.result c.from_residual-in_err-new.ensures.1 in
     rw (p.1, p.2) (not_internal _ (c.in_err-new.ensures.whole whole (omega (arith, c.in_ok-hir.ensures.group_zero.0)) (lit≤ tt)))
+
+pub returns-in_err-hir-clause-read : goal.returns-in_err-hir-clause-read
+returns-in_err-hir-clause-read c = no_value c.from_residual.result _ _ c.from_residual.ensures.1
+
+pub returns-in_err-tree-clause-read : goal.returns-in_err-tree-clause-read
+returns-in_err-tree-clause-read c = no_value c.from_residual-in_err-tree.result _ _ c.from_residual-in_err-tree.ensures.1
+
+pub returns-in_err-new-clause-read : goal.returns-in_err-new-clause-read
+returns-in_err-new-clause-read c = no_value c.from_residual-in_err-new.result _ _ c.from_residual-in_err-new.ensures.1

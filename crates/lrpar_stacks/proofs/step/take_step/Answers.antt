@@ -3,7 +3,7 @@ use Rattle.lrpar_grammar.specs.Grammar.{prods_len}
 use Rattle.lrpar_stacks.specs.Reduction.{top_action}
 use Rattle.lrpar_states.specs.Table.{ReduceBy}
 use Rattle.lrpar_stacks.proofs.SettleLemmas.{on_err_always}
-use Rattle.lrpar_stacks.proofs.StepLemmas.{action_by_top, no_value, reduces_where_can, short_of_memory_at}
+use Rattle.lrpar_stacks.proofs.StepLemmas.{action_by_top, no_value, reduces_where_can, short_of_memory_at, stack_step_of, step_of}
 use Rattle.lrpar_stacks.proofs.step.take_step.Goals as goal
 
 pub reduce_by-requires-clause-can : goal.reduce_by-requires-clause-can
@@ -41,3 +41,35 @@ returns-in_err-step-in-Reduce-clause-made g c = no_value c.from_residual.result 
 
 pub returns-in_err-step-in-Reduce-clause-action : goal.returns-in_err-step-in-Reduce-clause-action
 returns-in_err-step-in-Reduce-clause-action g c = no_value c.from_residual.result _ _ c.from_residual.ensures.1
+
+pub returns-in_ok-step-in-Reduce-clause-step : goal.returns-in_ok-step-in-Reduce-clause-step
+returns-in_ok-step-in-Reduce-clause-step g c =
+    let index = g.StorageT.StorageIndex.index in
+    let states = g.S.StateStack.states c.args.states.now in
+    let table = c.args.table.now in
+    let t = index c.args.t.0 in
+    let s = index c.top.result.0 in
+    let p = index c.in-Reduce.prod.0 in
+    let action : top_action table t states ≡ ReduceBy p = action_by_top table t states s c.top.ensures ∙ sym c.in-Reduce.ensures.action in
+    let known : p < prods_len c.args.grm.now = c.requires.fits.reduces s t p (sym c.in-Reduce.ensures.action) in
+    step_of c.args.grm.now table t p states c.in_ok-step-in-Reduce.step (g.S.StateStack.states c.reduce_by.new.states) action known
+    c.in_ok-step-in-Reduce.ensures.reduction
+
+pub returns-in_ok-step-in-Reduce-clause-made : goal.returns-in_ok-step-in-Reduce-clause-made
+returns-in_ok-step-in-Reduce-clause-made g c =
+    let index = g.StorageT.StorageIndex.index in
+    let states = g.S.StateStack.states c.args.states.now in
+    let table = c.args.table.now in
+    let t = index c.args.t.0 in
+    let s = index c.top.result.0 in
+    let p = index c.in-Reduce.prod.0 in
+    let action : top_action table t states ≡ ReduceBy p = action_by_top table t states s c.top.ensures ∙ sym c.in-Reduce.ensures.action in
+    let known : p < prods_len c.args.grm.now = c.requires.fits.reduces s t p (sym c.in-Reduce.ensures.action) in
+    stack_step_of g.S.StateStack.states g.S.StateStack.reduces c.args.grm.now table t p c.args.states.now c.in_ok-step-in-Reduce.step c.reduce_by.new.states
+    action known c.in_ok-step-in-Reduce.ensures.reduction c.in_ok-step-in-Reduce.ensures.rest
+
+pub returns-in_ok-step-in-Reduce-clause-action : goal.returns-in_ok-step-in-Reduce-clause-action
+returns-in_ok-step-in-Reduce-clause-action g c =
+    c.in-Reduce.ensures.action
+    ∙ sym (action_by_top c.args.table.now (g.StorageT.StorageIndex.index c.args.t.0) (g.S.StateStack.states c.args.states.now) (g.StorageT.StorageIndex.index c.top.result.0)
+    c.top.ensures)

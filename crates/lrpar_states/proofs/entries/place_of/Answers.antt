@@ -1,8 +1,17 @@
-use Rattle.std.proofs.Common.{◌≡◌, ◌<◌, ◌+◌, ◌-◌, ◌/◌, ℕ, length, map, slice_index, subst, sym, arith}
+use Rattle.std.proofs.Common.{◌≡◌, ◌∙◌, ◌<◌, ◌+◌, ◌-◌, ◌/◌, ℕ, length, map, slice_index, subst, sym, arith}
 use Rattle.std.proofs.lemmas.List.{length-map}
-use Rattle.lrpar_states.proofs.SearchLemmas.{IsSearched, number_read, searched_down, searched_out, searched_up}
+use Rattle.lrpar_states.proofs.SearchLemmas.{IsSearched, number_read, searched_down, searched_first, searched_out, searched_up}
 use Rattle.lrpar_states.proofs.entries.place_of.Goals as goal
 use Rattle.lrpar_states.proofs.entries.place_of.Goals.{then-to_number-wanted, else-to_number-wanted, else-size-eq1-via-then-size-eq1+else-to_number-wanted-2, else-size-eq1-via-else-size-eq1}
+
+pub loop-size-init : goal.loop-size-init
+loop-size-init g c = searched_first g.K.Key.number c.args.keys.now c.args.wanted
+
+pub loop-size-smaller : goal.loop-size-smaller
+loop-size-smaller g c = omega (arith, c.loop-size-test.true)
+
+pub bounds-keys-middle : goal.bounds-keys-middle
+bounds-keys-middle g c = omega (arith, simp length-map at c.loop-size.invariant.within, c.loop-size-test.true)
 
 pub loop-size-preserved : goal.loop-size-preserved
 loop-size-preserved g c =
@@ -39,3 +48,13 @@ returns-else-size-eq1 g c =
           absurd (omega (arith, here, is, w.to_number-then-size-eq1.ensures, w.if-to_number-wanted-2.false))
       | else-size-eq1-via-else-size-eq1 w ↦ absurd (omega (arith, one, w.if-size-eq1.false))
     ])
+
+pub bounds-keys-base : goal.bounds-keys-base
+bounds-keys-base g c = omega (arith, simp length-map at c.loop-size.invariant.within, c.if-size-eq1.true)
+
+pub returns-then-to_number-wanted-2 : goal.returns-then-to_number-wanted-2
+returns-then-to_number-wanted-2 g c =
+    let inside : c.loop-size.base < length c.args.keys.now =
+    omega (arith, simp length-map at c.loop-size.invariant.within, c.if-size-eq1.true) in
+    let here = number_read g.K.Key.number c.args.keys.now c.loop-size.base c.index-keys-base.result inside c.index-keys-base.is in
+    (inside, here ∙ (sym c.to_number-then-size-eq1.ensures ∙ c.if-to_number-wanted-2.true))

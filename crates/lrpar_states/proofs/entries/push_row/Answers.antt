@@ -1,5 +1,6 @@
 use Rattle.std.proofs.lemmas.List.{take_all}
 use Rattle.lrpar_states.proofs.CutLemmas.{appended_more}
+use Rattle.lrpar_states.proofs.FaultLemmas.{nothing_done}
 use Rattle.lrpar_states.proofs.entries.push_row.Goals as goal
 
 pub loop-key-preserved : goal.loop-key-preserved
@@ -12,3 +13,21 @@ loop-key-preserved g c =
 pub returns-clause-entries : goal.returns-clause-entries
 returns-clause-entries g c =
     rw (take_all c.loop-key.key-index c.args.row.now c.loop-key-test.false) at c.loop-key.invariant.entries
+
+pub returns-in_err-push-clause-values : goal.returns-in_err-push-clause-values
+returns-in_err-push-clause-values g c = nothing_done c.from_residual.result _ _ c.from_residual.ensures.1
+
+pub returns-in_err-push-clause-len : goal.returns-in_err-push-clause-len
+returns-in_err-push-clause-len g c = nothing_done c.from_residual.result _ _ c.from_residual.ensures.1
+
+pub returns-in_err-push-clause-entries : goal.returns-in_err-push-clause-entries
+returns-in_err-push-clause-entries g c = nothing_done c.from_residual.result _ _ c.from_residual.ensures.1
+
+pub returns-in_err-push-2-clause-values : goal.returns-in_err-push-2-clause-values
+returns-in_err-push-2-clause-values g c = nothing_done c.from_residual-in_err-push-2.result _ _ c.from_residual-in_err-push-2.ensures.1
+
+pub returns-in_err-push-2-clause-len : goal.returns-in_err-push-2-clause-len
+returns-in_err-push-2-clause-len g c = nothing_done c.from_residual-in_err-push-2.result _ _ c.from_residual-in_err-push-2.ensures.1
+
+pub returns-in_err-push-2-clause-entries : goal.returns-in_err-push-2-clause-entries
+returns-in_err-push-2-clause-entries g c = nothing_done c.from_residual-in_err-push-2.result _ _ c.from_residual-in_err-push-2.ensures.1

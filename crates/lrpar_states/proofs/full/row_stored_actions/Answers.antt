@@ -1,7 +1,9 @@
-use Rattle.std.proofs.Common.{◌∙◌, ◌++◌, ap, sym}
+use Rattle.std.proofs.Common.{◌∙◌, ◌++◌, ap, map, sym}
+use Rattle.std.proofs.lemmas.List.{length-map, take_all}
 use Rattle.std.specs.Option.{option_to_list}
 use Rattle.lrpar_states.specs.PlainRows.{plain_action}
 use Rattle.lrpar_states.specs.Rows.{unless_error, kept_entry}
+use Rattle.lrpar_states.proofs.FaultLemmas.{no_value}
 use Rattle.lrpar_states.proofs.RowLemmas.{row_entries_more}
 use Rattle.lrpar_states.proofs.full.row_stored_actions.Goals as goal
 
@@ -14,3 +16,11 @@ loop-number-preserved g c =
     row_entries_more unless_error (plain_action index) c.args.row.now number item c.loop-number-test.true c.index-row-number.is in
     c.in_ok-push_action.ensures
     ∙ (ap (λ es. es ++ option_to_list (kept_entry unless_error (number, plain_action index item))) c.loop-number.invariant ∙ sym more)
+
+pub returns-in_err-push_action : goal.returns-in_err-push_action
+returns-in_err-push_action g c = no_value c.from_residual.result _ _ c.from_residual.ensures.1
+
+pub returns : goal.returns
+returns g c =
+    rw (take_all c.loop-number.number (map (plain_action g.StorageT.StorageIndex.index) c.args.row.now) (rw length-map c.loop-number-test.false))
+    at c.loop-number.invariant

@@ -5,6 +5,7 @@ use Rattle.std.proofs.lemmas.Iterator.Consumers.{YieldsList-end}
 use Rattle.std.proofs.lemmas.Slice.Zip.{all_zipped_more}
 use Rattle.lrpar_states.specs.Ascending.{HaveSame}
 use Rattle.lrpar_states.specs.PlainItems.{row_of}
+use Rattle.lrpar_states.proofs.FaultLemmas.{no_value}
 use Rattle.lrpar_states.proofs.graph.item_sets.Goals as goal
 
 pub loop-row-preserved : goal.loop-row-preserved
@@ -21,3 +22,12 @@ returns g c =
     c.loop-row.yielded c.loop-row.row-iterator c.loop-row.yielded_by c.next.result c.next.new.self c.in-None.is c.next.ensures.steps in
     let all : c.loop-row.yielded ≡ c.args.rows.items = sym (map-id c.loop-row.yielded) ∙ end.0 in
     rw all at c.loop-row.invariant
+
+pub returns-in_err-sets : goal.returns-in_err-sets
+returns-in_err-sets g c = no_value c.from_residual.result _ _ c.from_residual.ensures.1
+
+pub returns-in_err-from_row : goal.returns-in_err-from_row
+returns-in_err-from_row g c = no_value c.from_residual-in_err-from_row.result _ _ c.from_residual-in_err-from_row.ensures.1
+
+pub returns-in_err-push : goal.returns-in_err-push
+returns-in_err-push g c = no_value c.from_residual-in_err-push.result _ _ c.from_residual-in_err-push.ensures.1

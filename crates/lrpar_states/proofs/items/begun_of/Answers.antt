@@ -2,6 +2,7 @@ use Rattle.std.proofs.Common.{◌≡◌, ◌++◌, ◌+◌, ◌∷◌, ◌∙◌
 use Rattle.std.proofs.lemmas.List.{take_all, take_more}
 use Rattle.lrpar_states.specs.PlainItems.{AreBegunOf}
 use Rattle.lrpar_states.proofs.ItemLemmas.{begun_more, begun_no_more, cores_told_apart, exact_index}
+use Rattle.lrpar_states.proofs.FaultLemmas.{no_value}
 use Rattle.lrpar_states.proofs.items.begun_of.Goals as goal
 use Rattle.lrpar_states.proofs.items.begun_of.Goals.{then-core-gt0+in_ok-push, else-core-gt0}
 
@@ -35,3 +36,6 @@ returns g c = λ p k.
     let are : AreBegunOf c.args.cores.now c.loop-core.begun.items = rw all at c.loop-core.invariant in
     let same = c.from_vec.ensures.same (p, k) in
     (λ h. (are p k).0 (same.0 h), λ h. same.1 ((are p k).1 h))
+
+pub returns-in_err-push : goal.returns-in_err-push
+returns-in_err-push g c = no_value c.from_residual.result _ _ c.from_residual.ensures.1

@@ -2,6 +2,7 @@ use Rattle.std.proofs.Common.{◌≡◌, ◌++◌, ◌+◌, ◌∷◌, [], map, 
 use Rattle.std.proofs.lemmas.List.{map-append, take_all, take_more}
 use Rattle.lrpar_states.specs.Ascending.{HaveSame}
 use Rattle.lrpar_states.proofs.ItemLemmas.{HaveSame-push, core_part, cores_from_same, cores_same_by_test, cores_told_apart, exact_index}
+use Rattle.lrpar_states.proofs.FaultLemmas.{no_value}
 use Rattle.lrpar_states.proofs.items.cores_of.Goals as goal
 
 pub push_new-requires : goal.push_new-requires
@@ -33,3 +34,6 @@ returns g c =
     let same : HaveSame c.loop-item.cores.items (map core_part c.args.items.now) = rw all at c.loop-item.invariant in
     cores_from_same c.args.items.now c.from_vec.result
     (λ x. (λ h. (same x).0 ((c.from_vec.ensures.same x).0 h), λ h. (c.from_vec.ensures.same x).1 ((same x).1 h)))
+
+pub returns-in_err-push_new : goal.returns-in_err-push_new
+returns-in_err-push_new g c = no_value c.from_residual.result _ _ c.from_residual.ensures.1

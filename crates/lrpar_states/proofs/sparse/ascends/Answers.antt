@@ -1,4 +1,4 @@
-use Rattle.std.proofs.Common.{◌≡◌, ◌<◌, ◌≤◌, ◌+◌, ◌-◌, length, map, slice_index, inl, inr, arith}
+use Rattle.std.proofs.Common.{◌≡◌, ◌<◌, ◌≤◌, ◌+◌, ◌-◌, length, map, slice_index, inl, inr, refl, arith}
 use Rattle.std.proofs.lemmas.Bool.{cases_lt}
 use Rattle.std.proofs.lemmas.List.{get_or-map, length-map}
 use Rattle.lrpar_states.proofs.sparse.ascends.Goals as goal
@@ -38,3 +38,11 @@ loop-place-preserved g c =
           let next : place - 1 + 1 ≡ place = omega (arith, one) in
           rw (at, next) (omega (arith, here, before, c.to_number.ensures, c.to_number-in-loop-place.ensures, c.if-to_number.false))
     ]
+
+pub returns : goal.returns
+returns g c = (
+  λ h k inside.
+      let below : k + 1 < length c.args.row.now = rw length-map at inside in
+      c.loop-place.invariant k (omega (arith, below, c.loop-place-test.false)),
+  λ up. refl,
+)

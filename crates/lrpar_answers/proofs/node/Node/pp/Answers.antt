@@ -1,10 +1,10 @@
-use Rattle.std.proofs.Common.{◌≡◌, ◌+◌, ◌++◌, [], ◌∷◌, length, length-append, append-nil, ap, sym, ◌∙◌, subst, arith}
+use Rattle.std.proofs.Common.{◌≡◌, ◌+◌, ◌++◌, [], ◌∷◌, length, append-nil, ap, sym, ◌∙◌, subst}
 use Rattle.std.specs.List.{AllByRecursion, flat_map}
 use Rattle.std.specs.String.{string_bytes}
-use Rattle.std.proofs.lemmas.List.{nil_from_length}
 use Rattle.lrpar_lexemes.specs.Lexemes.{facts_of}
 use Rattle.lrpar_answers.specs.TreeText.{MetFits, met_line, root_at, all_met, nodes_below}
-use Rattle.lrpar_answers.proofs.TreeTextLemmas.{fit_below, fit_enter, text_begins, text_enter, left_met, left_turn, left_length}
+use Rattle.lrpar_answers.proofs.FaultLemmas.{no_value}
+use Rattle.lrpar_answers.proofs.TreeTextLemmas.{fit_below, fit_enter, fit_first, fit_root, left_falls, left_turned, text_begins, text_ends, text_enter, turn_falls}
 use Rattle.lrpar_answers.proofs.node.Node.pp.Goals as goal
 
 pub loop-node-init : goal.loop-node-init
@@ -22,10 +22,8 @@ loop-node-init g c =
 
 pub loop-node-smaller-in-Some : goal.loop-node-smaller-in-Some
 loop-node-smaller-in-Some g c =
-    let below = c.loop-node.below.items in
-    let rest = c.in-Some.rest in
-    let fewer = left_length below rest c.in-Some.node.now c.loop-node.left.now c.in-Some.ensures.cases.0 in
-    rw (c.in_ok-push-in-Some.ensures.items, c.children-left-in-Some.ensures) (omega (arith, fewer, length-append below (rest ∷ [])))
+    left_falls c.loop-node.below.items c.push.new.self.items c.in-Some.rest c.in-Some.node.now c.loop-node.left.now c.children-left-in-Some.result.now
+    c.in-Some.ensures.cases.0 c.in_ok-push-in-Some.ensures.items c.children-left-in-Some.ensures
 
 pub loop-node-preserved-in-Some : goal.loop-node-preserved-in-Some
 loop-node-preserved-in-Some g c =
@@ -47,13 +45,7 @@ loop-node-preserved-in-Some g c =
 
 pub loop-node-smaller : goal.loop-node-smaller
 loop-node-smaller g c =
-    let fs = c.pop.new.self.items in
-    let rest = c.in-Some-pop.rest in
-    let left = c.loop-node.left.now in
-    let last = nil_from_length left c.in-None.ensures.cases in
-    let same : left_met c.loop-node.below.items left ≡ left_met fs rest.now =
-    ap (λ b. left_met b left) c.in-Some-pop.ensures.items ∙ ap (left_met (fs ++ rest ∷ [])) last ∙ left_turn fs rest in
-    omega (arith, ap length same, ap length c.in-Some-pop.ensures.items, length-append fs (rest ∷ []))
+    turn_falls c.pop.new.self.items c.loop-node.below.items c.in-Some-pop.rest c.loop-node.left.now c.in-None.ensures.cases c.in-Some-pop.ensures.items
 
 pub loop-node-preserved : goal.loop-node-preserved
 loop-node-preserved g c =
@@ -61,13 +53,41 @@ loop-node-preserved g c =
     let facts = λ (x : g.row.LexemeT.Denot). facts_of index (g.LexemeT.Lexeme.parts x) in
     let P = MetFits facts index c.args.grm.now c.args.input.now in
     let line = met_line facts index c.args.grm.now c.args.input.now in
-    let fs = c.pop.new.self.items in
-    let rest = c.in-Some-pop.rest in
-    let left = c.loop-node.left.now in
-    let last = nil_from_length left c.in-None.ensures.cases in
-    let same : left_met c.loop-node.below.items left ≡ left_met fs rest.now =
-    ap (λ b. left_met b left) c.in-Some-pop.ensures.items ∙ ap (left_met (fs ++ rest ∷ [])) last ∙ left_turn fs rest in
+    let same =
+    left_turned c.pop.new.self.items c.loop-node.below.items c.in-Some-pop.rest c.loop-node.left.now c.in-None.ensures.cases c.in-Some-pop.ensures.items in
     record {
       fits = subst (AllByRecursion P) same c.loop-node.invariant.fits;
       whole = sym (ap (λ ms. string_bytes c.loop-node.out ++ flat_map line ms) same) ∙ c.loop-node.invariant.whole;
     }
+
+pub push_line-requires : goal.push_line-requires
+push_line-requires g c =
+    fit_root (MetFits (λ x. facts_of g.StorageT.StorageIndex.index (g.LexemeT.Lexeme.parts x)) g.StorageT.StorageIndex.index c.args.grm.now c.args.input.now)
+    c.args.self.now 0 c.requires.fits
+
+pub push_line-requires-in-Some : goal.push_line-requires-in-Some
+push_line-requires-in-Some g c =
+    fit_first (MetFits (λ x. facts_of g.StorageT.StorageIndex.index (g.LexemeT.Lexeme.parts x)) g.StorageT.StorageIndex.index c.args.grm.now c.args.input.now)
+    c.loop-node.below.items c.push.new.self.items c.in-Some.rest c.in-Some.node.now c.loop-node.left.now c.len.result c.in-Some.ensures.cases.0
+    c.in_ok-push-in-Some.ensures.items (c.len.ensures ∙ c.push.new.self.ok.0) c.loop-node.invariant.fits
+
+pub returns-in_err-push_line : goal.returns-in_err-push_line
+returns-in_err-push_line g c = record { text = no_value c.from_residual.result _ _ c.from_residual.ensures.1 }
+
+pub returns-in_err-push-in-Some : goal.returns-in_err-push-in-Some
+returns-in_err-push-in-Some g c = record {
+  text = no_value c.from_residual-in_err-push-in-Some.result _ _ c.from_residual-in_err-push-in-Some.ensures.1;
+}
+
+pub returns-in_err-push_line-in-Some : goal.returns-in_err-push_line-in-Some
+returns-in_err-push_line-in-Some g c = record {
+  text = no_value c.from_residual-in_err-push_line-in-Some.result _ _ c.from_residual-in_err-push_line-in-Some.ensures.1;
+}
+
+pub returns-in-None-pop : goal.returns-in-None-pop
+returns-in-None-pop g c = record {
+  text = text_ends
+      (met_line (λ x. facts_of g.StorageT.StorageIndex.index (g.LexemeT.Lexeme.parts x)) g.StorageT.StorageIndex.index c.args.grm.now c.args.input.now)
+      c.loop-node.below.items c.loop-node.left.now (string_bytes c.loop-node.out) _ c.in-None.ensures.cases
+      (sym c.loop-node.below.ok.0 ∙ c.in-None-pop.ensures.cases.0) c.loop-node.invariant.whole;
+}

@@ -1,11 +1,11 @@
-use Rattle.std.proofs.Common.{◌≡◌, ◌++◌, [], ◌∷◌, length, length-append, ap, refl, sym, ◌∙◌, subst, arith}
+use Rattle.std.proofs.Common.{◌≡◌, ◌++◌, [], ◌∷◌, length, ap, refl, sym, ◌∙◌, subst}
 use Rattle.std.specs.List.{AllByRecursion, flat_map}
 use Rattle.std.specs.Io.KnownBytes.{Appends}
-use Rattle.std.proofs.lemmas.List.{nil_from_length}
 use Rattle.lrpar_lexemes.specs.Lexemes.{facts_of}
 use Rattle.lrpar_answers.specs.TreeText.{MetFits, met_line, root_at, nodes_below, tree_text}
-use Rattle.lrpar_answers.proofs.TreeTextLemmas.{fit_begins, fit_left, text_begins, text_enter, left_met, left_turn, left_length}
-use Rattle.lrpar_answers.proofs.WriteLemmas.{appends_both}
+use Rattle.lrpar_answers.proofs.FaultLemmas.{nothing_done}
+use Rattle.lrpar_answers.proofs.TreeTextLemmas.{fit_begins, fit_left, fit_none, left_none, text_begins, text_enter, left_falls, left_met, left_turned, turn_falls}
+use Rattle.lrpar_answers.proofs.WriteLemmas.{appends_both, appends_nothing}
 use Rattle.lrpar_answers.proofs.node.Node.write.Goals as goal
 
 pub loop-node-init : goal.loop-node-init
@@ -30,10 +30,8 @@ loop-node-init g c =
 
 pub loop-node-smaller-in-Some : goal.loop-node-smaller-in-Some
 loop-node-smaller-in-Some g c =
-    let below = c.loop-node.below.items in
-    let rest = c.in-Some.rest in
-    let fewer = left_length below rest c.in-Some.node.now c.loop-node.left.now c.in-Some.ensures.cases.0 in
-    rw (c.in_ok-push-in-Some.ensures.items, c.children-left-in-Some.ensures) (omega (arith, fewer, length-append below (rest ∷ [])))
+    left_falls c.loop-node.below.items c.push.new.self.items c.in-Some.rest c.in-Some.node.now c.loop-node.left.now c.children-left-in-Some.result.now
+    c.in-Some.ensures.cases.0 c.in_ok-push-in-Some.ensures.items c.children-left-in-Some.ensures
 
 pub loop-node-preserved-in-Some : goal.loop-node-preserved-in-Some
 loop-node-preserved-in-Some g c =
@@ -63,13 +61,7 @@ loop-node-preserved-in-Some g c =
 
 pub loop-node-smaller : goal.loop-node-smaller
 loop-node-smaller g c =
-    let fs = c.pop.new.self.items in
-    let rest = c.in-Some-pop.rest in
-    let left = c.loop-node.left.now in
-    let last = nil_from_length left c.in-None.ensures.cases in
-    let same : left_met c.loop-node.below.items left ≡ left_met fs rest.now =
-    ap (λ b. left_met b left) c.in-Some-pop.ensures.items ∙ ap (left_met (fs ++ rest ∷ [])) last ∙ left_turn fs rest in
-    omega (arith, ap length same, ap length c.in-Some-pop.ensures.items, length-append fs (rest ∷ []))
+    turn_falls c.pop.new.self.items c.loop-node.below.items c.in-Some-pop.rest c.loop-node.left.now c.in-None.ensures.cases c.in-Some-pop.ensures.items
 
 pub loop-node-preserved : goal.loop-node-preserved
 loop-node-preserved g c =
@@ -77,13 +69,41 @@ loop-node-preserved g c =
     let facts = λ (x : g.row.LexemeT.Denot). facts_of index (g.LexemeT.Lexeme.parts x) in
     let line = met_line facts index c.args.grm.now c.args.input.now in
     let contents = g.W.Write.contents in
-    let fs = c.pop.new.self.items in
-    let rest = c.in-Some-pop.rest in
-    let left = c.loop-node.left.now in
-    let none = nil_from_length left c.in-None.ensures.cases in
-    let same : left_met c.loop-node.below.items left ≡ left_met fs rest.now =
-    ap (λ b. left_met b left) c.in-Some-pop.ensures.items ∙ ap (left_met (fs ++ rest ∷ [])) none ∙ left_turn fs rest in
+    let same =
+    left_turned c.pop.new.self.items c.loop-node.below.items c.in-Some-pop.rest c.loop-node.left.now c.in-None.ensures.cases c.in-Some-pop.ensures.items in
     record {
       text = λ last more. c.loop-node.invariant.text last (subst (λ ms. Appends (contents c.loop-node.out) last (flat_map line ms)) (sym same) more);
       fits = λ all. c.loop-node.invariant.fits (subst (AllByRecursion (MetFits facts index c.args.grm.now c.args.input.now)) (sym same) all);
     }
+
+pub returns-in_err-write_line-clause-text : goal.returns-in_err-write_line-clause-text
+returns-in_err-write_line-clause-text g c = nothing_done c.from_residual.result _ _ c.from_residual.ensures.1
+
+pub returns-in_err-write_line-clause-fits : goal.returns-in_err-write_line-clause-fits
+returns-in_err-write_line-clause-fits g c = nothing_done c.from_residual.result _ _ c.from_residual.ensures.1
+
+pub returns-in_err-push-in-Some-clause-text : goal.returns-in_err-push-in-Some-clause-text
+returns-in_err-push-in-Some-clause-text g c = nothing_done c.from_residual-in_err-push-in-Some.result _ _ c.from_residual-in_err-push-in-Some.ensures.1
+
+pub returns-in_err-push-in-Some-clause-fits : goal.returns-in_err-push-in-Some-clause-fits
+returns-in_err-push-in-Some-clause-fits g c = nothing_done c.from_residual-in_err-push-in-Some.result _ _ c.from_residual-in_err-push-in-Some.ensures.1
+
+pub returns-in_err-write_line-in-Some-clause-text : goal.returns-in_err-write_line-in-Some-clause-text
+returns-in_err-write_line-in-Some-clause-text g c = nothing_done c.from_residual-in_err-write_line-in-Some.result _ _ c.from_residual-in_err-write_line-in-Some.ensures.1
+
+pub returns-in_err-write_line-in-Some-clause-fits : goal.returns-in_err-write_line-in-Some-clause-fits
+returns-in_err-write_line-in-Some-clause-fits g c = nothing_done c.from_residual-in_err-write_line-in-Some.result _ _ c.from_residual-in_err-write_line-in-Some.ensures.1
+
+pub returns-in-None-pop-clause-text : goal.returns-in-None-pop-clause-text
+returns-in-None-pop-clause-text g c =
+    let facts = λ (x : g.row.LexemeT.Denot). facts_of g.StorageT.StorageIndex.index (g.LexemeT.Lexeme.parts x) in
+    c.loop-node.invariant.text (g.W.Write.contents c.loop-node.out)
+    (appends_nothing (g.W.Write.contents c.loop-node.out) _
+    (ap (flat_map (met_line facts g.StorageT.StorageIndex.index c.args.grm.now c.args.input.now))
+    (left_none c.loop-node.below.items c.loop-node.left.now c.in-None.ensures.cases (sym c.loop-node.below.ok.0 ∙ c.in-None-pop.ensures.cases.0))))
+
+pub returns-in-None-pop-clause-fits : goal.returns-in-None-pop-clause-fits
+returns-in-None-pop-clause-fits g c =
+    c.loop-node.invariant.fits
+    (fit_none (MetFits (λ x. facts_of g.StorageT.StorageIndex.index (g.LexemeT.Lexeme.parts x)) g.StorageT.StorageIndex.index c.args.grm.now c.args.input.now)
+    c.loop-node.below.items c.loop-node.left.now c.in-None.ensures.cases (sym c.loop-node.below.ok.0 ∙ c.in-None-pop.ensures.cases.0))

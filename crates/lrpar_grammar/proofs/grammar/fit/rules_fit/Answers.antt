@@ -1,0 +1,20 @@
+use Rattle.std.proofs.Common.{refl, sym, subst, ◌∙◌, arith}
+use Rattle.std.proofs.lemmas.Bool.{false≢true}
+use Rattle.lrpar_reader.specs.SpansFit.{IsPartOf}
+use Rattle.lrpar_text.proofs.ListLemmas.{holds_more}
+use Rattle.lrpar_grammar.proofs.grammar.fit.rules_fit.Goals as goal
+
+pub loop-rule-preserved : goal.loop-rule-preserved
+loop-rule-preserved c =
+    holds_more (λ x. IsPartOf c.args.src.now x.span) c.args.rules.now c.loop-rule.rule-index c.rule-item.result c.loop-rule.invariant (omega arith) c.rule-item.is
+    (c.is_part.ensures.0 c.if-not-is_part.false)
+
+pub returns-then-not-is_part : goal.returns-then-not-is_part
+returns-then-not-is_part c = (
+  λ h. absurd (cc),
+  λ fit. absurd (false≢true (sym c.if-not-is_part.true ∙ c.is_part.ensures.1
+      (subst (λ x. IsPartOf c.args.src.now x.span) (sym c.rule-item.is) (fit c.loop-rule.rule-index c.rule-item.result (omega arith))))),
+)
+
+pub returns : goal.returns
+returns c = (λ _. λ k d within. c.loop-rule.invariant k d (omega arith), λ _. refl)
