@@ -1,4 +1,5 @@
 //! Cases of the programs `lrpar` and `nimbleparse`: what they write and end with, by words, files and standard input.
+use crate::streams::push_rounds;
 use lrpar_case_lines::cases::{Case, bytes_below};
 use lrpar_case_lines::fault::Fault;
 use lrpar_case_lines::line::{Content, Line, in_two};
@@ -22,7 +23,8 @@ const NO_TERMINAL: Terminal = Terminal {
 /// What a case wants of a stream that may have any text.
 const ANYTHING: &str = "..";
 
-/// What the program of the case's kind writes to its two streams, and its status. The files of the case are there while it runs.
+/// What the program of the case's kind writes to its two streams, and its status; or the same where its streams fail. The files of the
+/// case are there while it runs.
 pub fn outcome<R: Files>(
     told: &mut Told,
     rt: &R,
@@ -44,23 +46,32 @@ fn push_run<R: Files>(
 ) -> Result<(), Fault> {
     let words = words_of(alloc, case.lines)?;
     let input = case.bytes(alloc, "stdin")?;
+    match case.kind {
+        "streams" => push_rounds(told, rt, alloc, case, &words, &input),
+        _ => {
+            push_ending(told, rt, alloc, case, &words, &input);
+            Ok(())
+        }
+    }
+}
+
+// The same, with these words and this input.
+fn push_ending<R: Files>(
+    told: &mut Told,
+    rt: &R,
+    alloc: Global,
+    case: Case<'_, '_>,
+    words: &[String],
+    input: &[u8],
+) {
     let (mut out, mut err) = (Vec::new(alloc), Vec::new(alloc));
     let status = match case.kind {
-        "nimble" => lrpar_nimble::run(
-            rt,
-            alloc,
-            &words,
-            NO_TERMINAL,
-            input.as_slice(),
-            &mut out,
-            &mut err,
-        ),
-        _ => run(rt, alloc, &words, input.as_slice(), &mut out, &mut err),
+        "nimble" => lrpar_nimble::run(rt, alloc, words, NO_TERMINAL, input, &mut out, &mut err),
+        _ => run(rt, alloc, words, input, &mut out, &mut err),
     };
     push_stream(told, case, "out", &out);
     push_stream(told, case, "err", &err);
     told.line("status ", &status);
-    Ok(())
 }
 
 // Adds what a stream took, under its key.

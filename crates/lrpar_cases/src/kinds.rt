@@ -1,5 +1,5 @@
 //! The kinds of cases: what says what is done in each, and what comes of it.
-use crate::commands;
+use crate::{commands, streams};
 use lrpar_case_checks::{built, checks, refusals, stacks};
 use lrpar_case_grammars::{examples, grammars, parts, underlines};
 use lrpar_case_lines::cases::Case;
@@ -16,6 +16,7 @@ pub(crate) fn inputs_of(kind: &str) -> &'static [&'static str] {
     match kind {
         "parse" => parse::INPUTS,
         "run" | "nimble" => commands::INPUTS,
+        "streams" => streams::INPUTS,
         "text" | "cuts" => grammars::INPUTS,
         "parts" => parts::INPUTS,
         "build" => built::INPUTS,
@@ -39,7 +40,7 @@ pub(crate) fn outcome<R: Files>(
 ) -> Result<(), Fault> {
     match case.kind {
         "parse" => parse::outcome(told, alloc, subject, case),
-        "run" | "nimble" => commands::outcome(told, rt, alloc, case),
+        "run" | "nimble" | "streams" => commands::outcome(told, rt, alloc, case),
         "nothing" => Ok(()),
         "text" => grammars::outcome(told, alloc, case),
         "cuts" => grammars::outcome_of_cuts(told, alloc, case),

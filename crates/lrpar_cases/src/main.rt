@@ -4,6 +4,7 @@
 mod commands;
 mod kinds;
 mod runner;
+mod streams;
 
 use std::process::ExitCode;
 

@@ -1,4 +1,4 @@
-//! Tests of what parses call, of repairs, of the rules of lexers, and of commands whose streams fail.
+//! Tests of what parses call, of repairs, and of the rules of lexers.
 #![tactic(auto)]
 
 #[cfg(test)]
@@ -12,8 +12,4 @@ mod repairs;
 #[cfg(test)]
 mod rules;
 #[cfg(test)]
-mod streams;
-#[cfg(test)]
 mod wants;
-#[cfg(test)]
-mod writes;
