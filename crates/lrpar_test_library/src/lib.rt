@@ -1,0 +1,28 @@
+//! Tests of texts and their lines, of numbers, of item sets and tables, of trees, of errors, of what parses call, of repairs, and of the
+//! rules of lexers.
+#![tactic(auto)]
+
+#[cfg(test)]
+mod actions;
+#[cfg(test)]
+mod counts;
+#[cfg(test)]
+mod errors;
+#[cfg(test)]
+mod lines;
+#[cfg(test)]
+mod recoverer;
+#[cfg(test)]
+mod repairs;
+#[cfg(test)]
+mod rules;
+#[cfg(test)]
+mod sizes;
+#[cfg(test)]
+mod span;
+#[cfg(test)]
+mod table;
+#[cfg(test)]
+mod trees;
+#[cfg(test)]
+mod wants;
