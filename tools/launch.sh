@@ -9,7 +9,7 @@ readonly FIRST_BUILD="15 to 45 minutes"
 # The kilobytes that one process of a proof takes at most.
 readonly JOB_MEMORY=2000000
 # A crate gets at most one process, and one more for each so many of its lines: each takes 15 seconds to start.
-readonly JOB_LINES=500
+readonly JOB_LINES=150
 
 say() {
     printf '%s: %s\n' "$label" "$1" >&2
