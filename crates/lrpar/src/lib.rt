@@ -4,20 +4,23 @@
 
 mod storage_num;
 
+pub use lrpar_answers::{LexParseError, Node, ParseError, ParseRepair, errors};
+pub use lrpar_course::trees::action_generictree;
 pub use lrpar_diagnostics as diagnostics;
 pub use lrpar_example_texts::examples;
-pub use lrpar_parser::{
-    LexError, LexParseError, Lexeme, Lexer, LexerTypes, Node, NonStreamingLexer, ParseError,
-    ParseRepair, ParserData, RIdx, RTParserBuilder, action_generictree, build, check, errors,
-    grammar, laws, lex_api, lines, parser, table,
-};
+pub use lrpar_grammar::span::RIdx;
+pub use lrpar_grammar::{grammar, lines};
+pub use lrpar_lexemes::{LexError, Lexeme, Lexer, LexerTypes, NonStreamingLexer, lex_api};
+pub use lrpar_parser::{RTParserBuilder, laws, parser};
 pub use lrpar_shortest as shortest;
+pub use lrpar_table::check::ParserData;
+pub use lrpar_table::{build, check, table};
 pub use lrpar_viable as viable;
 
 /// The parts of a text, and the numbers of rules, productions, tokens and states.
 pub mod span {
     pub use crate::storage_num::StorageNum;
-    pub use lrpar_parser::span::{
+    pub use lrpar_grammar::span::{
         Numbered, PIdx, RIdx, Span, Spanned, SpansKind, StIdx, StorageIndex, Symbol, TIdx,
     };
 }
@@ -25,7 +28,7 @@ pub mod span {
 /// What a parse hands to its caller at an error, the sequences that the caller hands back, and who may hand them in.
 pub mod repair {
     pub use lrpar_cpct::{CostFault, CpctPlus};
-    pub use lrpar_parser::repair::{
+    pub use lrpar_steps::repair::{
         FixedRecoverer, NoRecovery, Recoverer, RecoveryPoint, RepairStep,
     };
 }

@@ -1,14 +1,16 @@
 //! The four parse calls, of which each that makes a value makes a tree.
 ghost use Rattle.std.specs.Prelude.{◌↔◌, IfOk, IsTrue, map};
-ghost use Rattle.lrpar_builds.specs.Nodes.{IsNonterm, node_of};
+ghost use Rattle.lrpar_course.specs.Nodes.{IsNonterm, node_of};
 
 use crate::lexemes::HandedLexer;
 use crate::recoverer::CaseRecoverer;
 use crate::shown::{CaseError, Tree};
+use lrpar_answers::node::Node;
+use lrpar_course::trees::action_generictree;
+use lrpar_grammar::span::{PIdx, RIdx, Span, Symbol};
 use lrpar_lexer::{Token, TokenTypes};
+use lrpar_parser::RTParserBuilder;
 use lrpar_parser::parser::{AStackType, Actions, ParseFault};
-use lrpar_parser::span::{PIdx, RIdx, Span, Symbol};
-use lrpar_parser::{Node, RTParserBuilder, action_generictree};
 use std::alloc::{AllocError, Global};
 use std::cell::RefCell;
 

@@ -9,12 +9,13 @@ use lrpar_case_lines::told::Told;
 use lrpar_case_tables::rows::push_agreed;
 use lrpar_case_tables::stack::states_of;
 use lrpar_case_tables::subject::Subject;
+use lrpar_grammar::grammar::YaccGrammar;
+use lrpar_grammar::span::{StIdx, TIdx};
+use lrpar_lexemes::lex_api::LexError;
 use lrpar_lexer::NoToken;
-use lrpar_parser::check::Overlay;
-use lrpar_parser::grammar::YaccGrammar;
+use lrpar_parser::RTParserBuilder;
 use lrpar_parser::parser::{Expected, ParseFault};
-use lrpar_parser::span::{StIdx, TIdx};
-use lrpar_parser::{LexError, ParserData, RTParserBuilder};
+use lrpar_table::check::{Overlay, ParserData};
 use std::alloc::Global;
 
 /// The keys that say what is done.

@@ -3,10 +3,10 @@ ghost use Rattle.std.specs.Prelude.{◌≡◌, IfOk};
 
 use lrpar_case_lines::cases::Case;
 use lrpar_case_lines::fault::Fault;
+use lrpar_grammar::grammar::YaccGrammar;
+use lrpar_grammar::span::Span;
+use lrpar_lexemes::lex_api::{Lexeme, Lexer, NonStreamingLexer};
 use lrpar_lexer::{NoToken, RuleLexer, Token, TokenTypes};
-use lrpar_parser::grammar::YaccGrammar;
-use lrpar_parser::span::Span;
-use lrpar_parser::{Lexeme, Lexer, NonStreamingLexer};
 use std::alloc::{AllocError, Global};
 
 /// What a lexer answers.

@@ -9,11 +9,12 @@ use lrpar_case_lines::cases::Case;
 use lrpar_case_lines::fault::Fault;
 use lrpar_case_lines::told::Told;
 use lrpar_case_tables::subject::{Subject, Tables};
+use lrpar_grammar::grammar::YaccGrammar;
+use lrpar_grammar::span::TIdx;
 use lrpar_lexer::RuleLexer;
-use lrpar_parser::grammar::YaccGrammar;
+use lrpar_parser::RTParserBuilder;
 use lrpar_parser::parser::{ParseFault, PpFault};
-use lrpar_parser::span::TIdx;
-use lrpar_parser::{ParserData, RTParserBuilder};
+use lrpar_table::check::ParserData;
 use std::alloc::Global;
 use std::cell::RefCell;
 

@@ -4,10 +4,10 @@ use crate::steps::sequences_of;
 use lrpar_case_lines::cases::Case;
 use lrpar_case_lines::fault::Fault;
 use lrpar_cpct::{CostFault, CpctPlus};
+use lrpar_grammar::grammar::YaccGrammar;
+use lrpar_grammar::span::TIdx;
 use lrpar_lexer::Token;
-use lrpar_parser::grammar::YaccGrammar;
-use lrpar_parser::repair::{FixedRecoverer, Recoverer, RecoveryPoint, RepairStep};
-use lrpar_parser::span::TIdx;
+use lrpar_steps::repair::{FixedRecoverer, Recoverer, RecoveryPoint, RepairStep};
 use std::alloc::{AllocError, Global};
 
 /// What hands in sequences at the errors of a case.

@@ -1,9 +1,11 @@
 //! Lexemes, errors and trees as cases write them.
+use lrpar_answers::errors::{LexParseError, ParseError, ParseRepair};
+use lrpar_answers::node::Node;
 use lrpar_case_lines::told::Told;
+use lrpar_grammar::grammar::YaccGrammar;
+use lrpar_grammar::span::{RIdx, Span, TIdx};
+use lrpar_lexemes::lex_api::{LexError, Lexeme};
 use lrpar_lexer::{Token, TokenTypes};
-use lrpar_parser::grammar::YaccGrammar;
-use lrpar_parser::span::{RIdx, Span, TIdx};
-use lrpar_parser::{LexError, LexParseError, Lexeme, Node, ParseError, ParseRepair};
 
 /// A tree of a case.
 pub(crate) type Tree = Node<Token<u32>, u32>;

@@ -2,9 +2,9 @@
 use crate::lexemes::token_number;
 use lrpar_case_lines::cases::Case;
 use lrpar_case_lines::fault::Fault;
-use lrpar_parser::grammar::YaccGrammar;
-use lrpar_parser::repair::RepairStep;
-use lrpar_parser::span::TIdx;
+use lrpar_grammar::grammar::YaccGrammar;
+use lrpar_grammar::span::TIdx;
+use lrpar_steps::repair::RepairStep;
 use std::alloc::Global;
 
 /// The sequences that the line `repairs` of a case says, parted by `|`; none where there is no such line.

@@ -1,13 +1,12 @@
 //! The command `check`: how large the table of a grammar is, whether its chains are short, and whether it is complete. It is safe,
 //! as it is built.
+use lrpar_grammar::grammar::YaccGrammar;
+use lrpar_grammar::span::TIdx;
 use lrpar_inputs::fault::Fault;
 use lrpar_inputs::parsing::print_line;
 use lrpar_inputs::tables::checked;
-use lrpar_parser::ParserData;
-use lrpar_parser::check::{CheckFault, CompleteFault, Refused};
-use lrpar_parser::grammar::YaccGrammar;
-use lrpar_parser::span::TIdx;
-use lrpar_parser::table::StateTable;
+use lrpar_table::check::{CheckFault, CompleteFault, ParserData, Refused};
+use lrpar_table::table::StateTable;
 use std::alloc::Global;
 use std::io::Write;
 

@@ -3,11 +3,11 @@ ghost use Rattle.lrpar_grammar.specs.SpansFit.{SpansFit};
 ghost use Rattle.lrpar_states.specs.ConflictsFit.{ConflictsFit};
 
 use lrpar_diagnostics::SpannedDiagnosticFormatter;
+use lrpar_grammar::grammar::YaccGrammar;
 use lrpar_inputs::fault::Fault;
 use lrpar_inputs::tables::MAX_STATES;
-use lrpar_parser::build::from_yacc;
-use lrpar_parser::grammar::YaccGrammar;
-use lrpar_parser::table::{Conflicts, StateGraph, StateTable};
+use lrpar_table::build::from_yacc;
+use lrpar_table::table::{Conflicts, StateGraph, StateTable};
 use std::alloc::{AllocError, Global};
 use std::io::Write;
 

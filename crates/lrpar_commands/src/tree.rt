@@ -3,7 +3,7 @@ use lrpar_inputs::fault::Fault;
 use lrpar_inputs::parsing::{TextParser, print_tree, text_parser_of};
 use lrpar_inputs::tables::data_of;
 use lrpar_lexer::RuleLexer;
-use lrpar_parser::ParserData;
+use lrpar_table::check::ParserData;
 use std::alloc::Global;
 use std::io::Write;
 

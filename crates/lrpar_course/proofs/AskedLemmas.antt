@@ -14,7 +14,7 @@ use Rattle.lrpar_stacks.proofs.RunLemmas.{far_ends_by_failing, token_at_lexeme}
 use Rattle.lrpar_steps.specs.Building.{Building}
 use Rattle.lrpar_steps.specs.Standing.{IsRunStack, Stacked}
 use Rattle.lrpar_steps.proofs.TokenLemmas.{good_token}
-use Rattle.lrpar_runs.specs.Moves.{GoesFar, far_end}
+use Rattle.lrpar_course.specs.Moves.{GoesFar, far_end}
 use Rattle.lrpar_steps.specs.Asked.{IsStop, asked_at}
 
 -- no lexeme of a valid list has the end token

@@ -12,7 +12,7 @@ use Rattle.lrpar_stacks.proofs.RunLemmas.{runs_one_way}
 use Rattle.lrpar_check.proofs.SentenceLemmas.{complete_tables_take_sentences}
 use Rattle.lrpar_course.specs.CompleteAnswer.{IsTreeOver, TakesSentence}
 use Rattle.lrpar_steps.specs.Recovery.{Point}
-use Rattle.lrpar_runs.specs.RepairRun.{RepairRun, RepairStop, ends_there, is_repaired, runs_through}
+use Rattle.lrpar_course.specs.RepairRun.{RepairRun, RepairStop, ends_there, is_repaired, runs_through}
 use Rattle.lrpar_steps.specs.Sequences.{PlainStep}
 
 some_stop : {A : Type 0} (x : A) (xs : List A) → x ∷ xs ≡ [] → ⊥

@@ -10,15 +10,15 @@ use Rattle.lrpar_stacks.specs.Chain.{most_productions}
 use Rattle.lrpar_safety.specs.Checked.{IsChecked}
 use Rattle.lrpar_stacks.specs.Path.{NeverSticks}
 use Rattle.lrpar_steps.specs.Building.{Building}
-use Rattle.lrpar_runs.specs.End.{IsOfTree}
+use Rattle.lrpar_course.specs.End.{IsOfTree}
 use Rattle.lrpar_answers.specs.Failure.{Failure}
 use Rattle.lrpar_course.specs.Mending.{GoesOnBy, IsListedBy, IsMended}
-use Rattle.lrpar_runs.specs.Moves.{GoesFar, IsReplayed}
+use Rattle.lrpar_course.specs.Moves.{GoesFar, IsReplayed}
 use Rattle.lrpar_steps.specs.PlainSteps.{plain_sequences, plain_steps}
 use Rattle.lrpar_course.specs.RepairAnswer.{HandsInNone, IsRepairAnswer, IsRepairErrorOf, RepairCourse}
-use Rattle.lrpar_runs.specs.RepairRun.{RepairRun, RepairStop, ends_there, fed_between, is_repaired, runs_through}
+use Rattle.lrpar_course.specs.RepairRun.{RepairRun, RepairStop, ends_there, fed_between, is_repaired, runs_through}
 use Rattle.lrpar_stacks.specs.Run.{Stopped}
-use Rattle.lrpar_runs.specs.RunAnswer.{HasValue, IsOneWay, IsValueOf}
+use Rattle.lrpar_course.specs.RunAnswer.{HasValue, IsOneWay, IsValueOf}
 use Rattle.lrpar_steps.specs.Sequences.{PlainStep, AreThoseWith, CanGoOn, Replays, Works}
 use Rattle.lrpar_steps.specs.Standing.{Stacked}
 use Rattle.lrpar_course.specs.Subject.{Subject}
@@ -27,10 +27,10 @@ use Rattle.lrpar_answers.specs.declared.errors.LexParseError.TheVariants.{LexErr
 use Rattle.lrpar_steps.specs.declared.steps.RepairStep.{RepairStep}
 use Rattle.lrpar_steps.specs.ZipLaws.{zip_push}
 use Rattle.lrpar_course.proofs.CompleteAnswerLemmas.{takes_sentence}
-use Rattle.lrpar_runs.proofs.ListLemmas.{same_one}
-use Rattle.lrpar_runs.proofs.MovesLemmas.{moves_bound, moves_stand}
+use Rattle.lrpar_course.proofs.ListLemmas.{same_one}
+use Rattle.lrpar_course.proofs.MovesLemmas.{moves_bound, moves_stand}
 use Rattle.lrpar_steps.proofs.ReplayLemmas.{far_stops, go_on_far, replay_one_way, replays_place, works_by_replay}
-use Rattle.lrpar_runs.proofs.StandingLemmas.{IsStanding, standing_accept, standing_start}
+use Rattle.lrpar_course.proofs.StandingLemmas.{IsStanding, standing_accept, standing_start}
 
 -- the bound of what was reduced up to a place, and what is reduced up to the next stop and by a repair there
 bound_next : (cap p f r a b c u s x y : ℕ) → p + cap * a ≤ cap * (1 + u) + cap * (cap + 2) * (u + s) → f + cap * b ≤ cap * (a + x) + cap * (cap + 2) * (x + 1)

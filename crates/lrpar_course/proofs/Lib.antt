@@ -1,3 +1,11 @@
+pub mod ListedLemmas
+pub mod ListLemmas
+pub mod ReadLemmas
+pub mod StandingLemmas
+pub mod RisingLemmas
+pub mod MovesLemmas
+pub mod FarLemmas
+pub mod PlacedLemmas
 pub mod LexemeLemmas
 pub mod StartLemmas
 pub mod AskedLemmas

@@ -7,7 +7,7 @@ use Rattle.lrpar_grammar.specs.Grammar.{Grammar}
 use Rattle.lrpar_grammar.specs.Sentence.{IsValidList, LexemeFacts}
 use Rattle.lrpar_lexemes.specs.Lexemes.{last_end}
 use Rattle.lrpar_steps.specs.Mended.{start_at}
-use Rattle.lrpar_runs.specs.Moves.{StartsRise}
+use Rattle.lrpar_course.specs.Moves.{StartsRise}
 
 -- a place where nothing is lies past the end
 pub none_past : {A : Type 0} (xs : List A) (i : ℕ) → slice_get xs i ≡ None → length xs ≤ i

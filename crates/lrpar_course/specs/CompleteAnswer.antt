@@ -6,7 +6,7 @@ use Rattle.lrpar_grammar.specs.Tree.{Tree, Fits, leaves, productions}
 use Rattle.lrpar_stacks.specs.Chain.{most_productions}
 use Rattle.lrpar_safety.specs.Checked.{Checked}
 use Rattle.lrpar_check.specs.CompleteRuns.{BeginsNoSentence}
-use Rattle.lrpar_runs.specs.RepairRun.{RepairStop}
+use Rattle.lrpar_course.specs.RepairRun.{RepairStop}
 
 -- the tree fits the start rule, and these lexemes are its leaves
 pub record IsTreeOver {X : Type 0} (token : X → ℕ) (g : Grammar) (lexemes : List X) (tree : Tree X) : Type 0 where

@@ -1,3 +1,15 @@
+pub mod TrialView
+pub mod RunAnswer
+pub mod End
+pub mod RepairRun
+pub mod Moves
+pub mod Folds
+pub mod Nodes
+pub mod Spans
+pub mod Arguments
+pub mod Acted
+pub mod Placed
+pub mod PlacedRising
 pub mod Lexed
 pub mod LexemeFault
 pub mod Subject

@@ -2,9 +2,9 @@
 use Rattle.std.specs.Prelude.{◌≡◌, ℕ, List, [], ◌∷◌, ◌++◌, Option, Some, None}
 use Rattle.lrpar_answers.specs.declared.errors.LexParseError.{LexParseError}
 use Rattle.lrpar_steps.specs.Building.{Building}
-use Rattle.lrpar_runs.specs.Moves.{IsReplayed}
+use Rattle.lrpar_course.specs.Moves.{IsReplayed}
 use Rattle.lrpar_course.specs.RepairAnswer.{IsRepairErrorOf}
-use Rattle.lrpar_runs.specs.RepairRun.{IsListedAt}
+use Rattle.lrpar_course.specs.RepairRun.{IsListedAt}
 use Rattle.lrpar_stacks.specs.Run.{Stop}
 use Rattle.lrpar_steps.specs.Sequences.{PlainStep}
 use Rattle.lrpar_steps.specs.Standing.{Stacked}

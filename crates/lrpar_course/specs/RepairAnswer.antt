@@ -7,8 +7,8 @@ use Rattle.lrpar_stacks.specs.Chain.{most_productions}
 use Rattle.lrpar_complete.specs.Complete.{IsComplete}
 use Rattle.lrpar_course.specs.CompleteAnswer.{TakesSentence}
 use Rattle.lrpar_steps.specs.Recovery.{Point}
-use Rattle.lrpar_runs.specs.RepairRun.{IsRepairFailure, RepairRun, RepairStop}
-use Rattle.lrpar_runs.specs.RunAnswer.{IsOneWay}
+use Rattle.lrpar_course.specs.RepairRun.{IsRepairFailure, RepairRun, RepairStop}
+use Rattle.lrpar_course.specs.RunAnswer.{IsOneWay}
 use Rattle.lrpar_steps.specs.Sequences.{PlainStep}
 use Rattle.lrpar_course.specs.Subject.{Subject}
 use Rattle.lrpar_answers.specs.declared.errors.LexParseError.{LexParseError}

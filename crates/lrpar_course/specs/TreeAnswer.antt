@@ -2,9 +2,9 @@
 use Rattle.std.specs.Prelude.{List, Option, Vec}
 use Rattle.lrpar_answers.specs.declared.errors.LexParseError.{LexParseError}
 use Rattle.lrpar_steps.specs.Building.{Building}
-use Rattle.lrpar_runs.specs.End.{IsOfTree}
+use Rattle.lrpar_course.specs.End.{IsOfTree}
 use Rattle.lrpar_course.specs.RepairAnswer.{IsRepairAnswer}
-use Rattle.lrpar_runs.specs.RunAnswer.{HasValue}
+use Rattle.lrpar_course.specs.RunAnswer.{HasValue}
 use Rattle.lrpar_course.specs.Subject.{Subject}
 
 -- errors, and an entry that stands for a tree of what was consumed, where the run comes to accept

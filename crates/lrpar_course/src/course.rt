@@ -7,7 +7,7 @@ ghost use Rattle.lrpar_stacks.specs.Reduction.{top_action};
 ghost use Rattle.lrpar_steps.specs.Known.{token_by, known};
 ghost use Rattle.lrpar_steps.specs.Mended.{start_at};
 ghost use Rattle.lrpar_course.specs.Mending.{IsListedBy, IsMended, IsNoted};
-ghost use Rattle.lrpar_runs.specs.Moves.{RiseUpTo, StartsRise};
+ghost use Rattle.lrpar_course.specs.Moves.{RiseUpTo, StartsRise};
 ghost use Rattle.lrpar_steps.specs.PlainSteps.{plain_sequences};
 ghost use Rattle.lrpar_course.specs.RepairAnswer.{IsRepairErrorOf};
 ghost use Rattle.lrpar_stacks.specs.Run.{stop_at, token_at};
@@ -15,16 +15,16 @@ ghost use Rattle.lrpar_states.specs.Table.{Fails};
 ghost use Rattle.lrpar_steps.specs.Standing.{IsRunStack};
 ghost use Rattle.lrpar_course.specs.TreeAnswer.{IsTreeAnswer};
 
+use crate::run::{Run, end_lexeme};
+use crate::trial::Trial;
 use lrpar_answers::errors::{LexParseError, ParseError};
 use lrpar_grammar::grammar::YaccGrammar;
 use lrpar_grammar::span::StorageIndex;
 use lrpar_lexemes::lex_api::{Lexeme, LexerTypes};
-use lrpar_runs::run::{Run, end_lexeme};
 use lrpar_steps::building::Build;
 use lrpar_steps::repair::{Recoverer, RecoveryPoint};
 use lrpar_steps::run_stack::Stack;
 use lrpar_steps::steps::RepairStep;
-use lrpar_trials::trial::Trial;
 use std::alloc::{AllocError, Global};
 
 /// What the course of a run is made by: what goes on and what is built, the lexemes, the recoverer, and how many lexemes

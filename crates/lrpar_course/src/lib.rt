@@ -1,5 +1,13 @@
-//! The course of a parse over its lexemes: what a lexer answered, and from stop to stop.
+//! The course of a parse over its lexemes: shifts and reductions, what is built of them, whether sequences of repairs work, and from
+//! stop to stop.
 #![tactic(auto)]
 
+pub mod actions;
 pub mod course;
+mod far;
+pub mod laws;
 pub mod lexed;
+pub mod replay;
+pub mod run;
+pub mod trees;
+pub mod trial;

@@ -2,11 +2,11 @@
 ghost use Rattle.std.specs.Prelude.{◌≡◌};
 ghost use Rattle.lrpar_inputs.specs.declared.fault.Fault.TheVariants.{Memory};
 
+use lrpar_grammar::grammar::GrammarFault;
 use lrpar_lexer::RulesFault;
-use lrpar_parser::build::BuildFault;
-use lrpar_parser::check::CheckFault;
-use lrpar_parser::grammar::GrammarFault;
 use lrpar_parser::parser::ParseFault;
+use lrpar_table::build::BuildFault;
+use lrpar_table::check::CheckFault;
 use std::alloc::{AllocError, AllocFailed, Global};
 use std::io;
 use thiserror::Error;

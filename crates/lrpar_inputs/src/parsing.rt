@@ -3,11 +3,15 @@ ghost use Rattle.std.specs.Prelude.{◌≡◌};
 
 use crate::fault::Fault;
 use crate::repairs::recoverer_of;
+use lrpar_answers::errors::LexParseError;
+use lrpar_answers::node::Node;
+use lrpar_grammar::grammar::YaccGrammar;
+use lrpar_grammar::span::TIdx;
+use lrpar_lexemes::lex_api::NonStreamingLexer;
 use lrpar_lexer::{LexRule, Token, TokenTypes, rules_of};
-use lrpar_parser::grammar::YaccGrammar;
-use lrpar_parser::repair::FixedRecoverer;
-use lrpar_parser::span::TIdx;
-use lrpar_parser::{LexParseError, Node, NonStreamingLexer, ParserData, RTParserBuilder};
+use lrpar_parser::RTParserBuilder;
+use lrpar_steps::repair::FixedRecoverer;
+use lrpar_table::check::ParserData;
 use std::alloc::{AllocError, Global};
 use std::io::Write;
 

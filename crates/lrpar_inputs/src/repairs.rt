@@ -1,7 +1,7 @@
 //! Sequences of repairs as a text.
 use crate::fault::Fault;
-use lrpar_parser::grammar::YaccGrammar;
-use lrpar_parser::repair::{FixedRecoverer, RepairStep};
+use lrpar_grammar::grammar::YaccGrammar;
+use lrpar_steps::repair::{FixedRecoverer, RepairStep};
 use std::alloc::Global;
 
 /// A step, and the text after it.

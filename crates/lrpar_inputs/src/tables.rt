@@ -1,9 +1,8 @@
 //! Tables of grammars.
 use crate::fault::Fault;
-use lrpar_parser::ParserData;
-use lrpar_parser::build::{Unbuilt, parser_data};
-use lrpar_parser::check::Refused;
-use lrpar_parser::grammar::YaccGrammar;
+use lrpar_grammar::grammar::YaccGrammar;
+use lrpar_table::build::{Unbuilt, parser_data};
+use lrpar_table::check::{ParserData, Refused};
 use std::alloc::Global;
 
 /// The cap with which the program checks its tables.

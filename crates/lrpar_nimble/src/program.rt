@@ -14,7 +14,7 @@ use lrpar_nimble_texts::plan::Plan;
 use lrpar_nimble_texts::rules::lexer_rules;
 use lrpar_nimble_texts::show::{push_message, tell};
 use lrpar_nimble_texts::warnings::push_token_warnings;
-use lrpar_parser::ParserData;
+use lrpar_table::check::ParserData;
 use std::alloc::{AllocError, Global};
 use std::io::{BufWriter, IsTerminal, Read, Write};
 use std::rt::Files;

@@ -6,11 +6,11 @@ use crate::show::push_message;
 use lrpar_example_texts::examples::{
     ConflictExample, ExampleFault, conflict_examples, format_examples,
 };
+use lrpar_grammar::grammar::YaccGrammar;
+use lrpar_grammar::span::Span;
 use lrpar_messages::{Level, Reporter, push_quoted, push_token};
-use lrpar_parser::grammar::YaccGrammar;
-use lrpar_parser::span::Span;
-use lrpar_parser::table::{StateGraph, StateTable};
 use lrpar_shortest::moves::Move;
+use lrpar_table::table::{StateGraph, StateTable};
 use std::alloc::{AllocError, Global};
 
 /// How far one text for both readings of a conflict is looked for.

@@ -3,13 +3,13 @@ ghost use Rattle.std.specs.Prelude.{◌≡◌};
 
 use crate::plan::Recovery;
 use crate::show::push_message;
+use lrpar_answers::errors::ParseError;
+use lrpar_grammar::grammar::YaccGrammar;
+use lrpar_grammar::span::{Span, TIdx};
 use lrpar_inputs::parsing::{TextError, error_text};
+use lrpar_lexemes::lex_api::{LexError, Lexeme, NonStreamingLexer};
 use lrpar_lexer::{NoToken, Token, TokenTypes};
 use lrpar_messages::{Level, Reporter, push_choices, push_quoted};
-use lrpar_parser::errors::ParseError;
-use lrpar_parser::grammar::YaccGrammar;
-use lrpar_parser::span::{Span, TIdx};
-use lrpar_parser::{LexError, Lexeme, NonStreamingLexer};
 use std::alloc::{AllocError, Global};
 
 /// How many characters of an unexpected lexeme are told at most.

@@ -1,7 +1,7 @@
 //! What inputs are parsed by, and how trees are printed.
 use lrpar_lexer::LexRule;
 use lrpar_messages::Look;
-use lrpar_parser::ParserData;
+use lrpar_table::check::ParserData;
 
 /// How trees are printed.
 #[derive(Clone, Copy, Debug, PartialEq, Eq)]

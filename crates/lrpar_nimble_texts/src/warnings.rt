@@ -1,9 +1,9 @@
 //! What of a grammar is of no use.
 use crate::show::push_message;
+use lrpar_grammar::grammar::YaccGrammar;
+use lrpar_grammar::span::{RIdx, TIdx};
 use lrpar_lexer::LexRule;
 use lrpar_messages::{Level, Reporter, push_quoted, push_token};
-use lrpar_parser::grammar::YaccGrammar;
-use lrpar_parser::span::{RIdx, TIdx};
 use lrpar_shortest::reached::Reached;
 use lrpar_shortest::shortest::Shortest;
 use std::alloc::{AllocError, Global};

@@ -5,11 +5,11 @@ use Rattle.std.specs.List.{AllZip}
 use Rattle.lrpar_grammar.specs.Grammar.{Grammar, Nonterminal, rule_of}
 use Rattle.lrpar_grammar.specs.Tree.{Tree, Forest, Leaf, Branch, Nil, Cons}
 use Rattle.lrpar_steps.specs.Building.{Building}
-use Rattle.lrpar_runs.specs.End.{IsOfTree}
+use Rattle.lrpar_course.specs.End.{IsOfTree}
 use Rattle.lrpar_steps.specs.Entries.{Gives, HasValueEntry, IsLexemeEntry, IsMadeEntry}
-use Rattle.lrpar_builds.specs.Folds.{Folds, ForestFolds}
+use Rattle.lrpar_course.specs.Folds.{Folds, ForestFolds}
 use Rattle.lrpar_course.specs.Lexed.{first_error}
-use Rattle.lrpar_builds.specs.Nodes.{IsNonterm, IsTerm}
+use Rattle.lrpar_course.specs.Nodes.{IsNonterm, IsTerm}
 use Rattle.lrpar_parser.specs.Parse.{ParsesTo}
 use Rattle.lrpar_course.specs.Subject.{Subject}
 use Rattle.lrpar_answers.specs.declared.errors.LexParseError.{LexParseError}
@@ -17,9 +17,9 @@ use Rattle.lrpar_steps.specs.declared.values.AStackType.{AStackType}
 use Rattle.lrpar_steps.specs.declared.values.AStackType.TheVariants.{ActionType}
 use Rattle.lrpar_steps.specs.declared.fault.ParseFault.{ParseFault}
 use Rattle.lrpar_answers.specs.declared.node.Node.{Node}
-use Rattle.lrpar_runs.proofs.ListLemmas.{zip_same}
+use Rattle.lrpar_course.proofs.ListLemmas.{zip_same}
 use Rattle.lrpar_parser.proofs.ParseLemmas.{parse_as, refusal_as}
-use Rattle.lrpar_runs.specs.RunAnswer.{HasValue}
+use Rattle.lrpar_course.specs.RunAnswer.{HasValue}
 use Rattle.lrpar_steps.specs.Standing.{AllStand, StandsFor}
 
 -- `Values e v`: entry e gives value v. Each value of the entry of a lexeme is one of the lexeme; and each of the entry of a

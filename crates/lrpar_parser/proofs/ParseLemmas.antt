@@ -7,7 +7,7 @@ use Rattle.lrpar_course.specs.Lexed.{first_error, lexemes_of}
 use Rattle.lrpar_course.specs.LexemeFault.{IsLexemeFault}
 use Rattle.lrpar_parser.specs.Parse.{IsParse, Parses, lexeme_facts}
 use Rattle.lrpar_course.specs.RepairAnswer.{IsRepairAnswer, IsRepairErrorOf}
-use Rattle.lrpar_runs.specs.RunAnswer.{IsOneWay}
+use Rattle.lrpar_course.specs.RunAnswer.{IsOneWay}
 use Rattle.lrpar_course.specs.Subject.{Subject}
 use Rattle.lrpar_answers.specs.declared.errors.LexParseError.{LexParseError}
 use Rattle.lrpar_answers.specs.declared.errors.LexParseError.TheVariants.{LexError}

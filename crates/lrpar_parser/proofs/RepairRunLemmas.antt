@@ -10,7 +10,7 @@ use Rattle.lrpar_states.specs.Table.{Table}
 use Rattle.lrpar_stacks.specs.Reduction.{IsSettled}
 use Rattle.lrpar_steps.specs.Recovery.{Point}
 use Rattle.lrpar_parser.specs.RepairLaws.{InsertsListed, IsSound, ListsSound, StopsLieApart, AcceptsWhereRepaired, RunsWithoutRepairs}
-use Rattle.lrpar_runs.specs.RepairRun.{IsListedAt, RepairRun, RepairStop, ends_there, is_repaired, runs_through}
+use Rattle.lrpar_course.specs.RepairRun.{IsListedAt, RepairRun, RepairStop, ends_there, is_repaired, runs_through}
 use Rattle.lrpar_stacks.specs.Run.{Far, Stopped, IsStuck, Run, Stop, comes_through, gives_up, stops, token_at}
 use Rattle.lrpar_steps.specs.Sequences.{PlainStep, PlainInsert, PlainDelete, PlainShift, AreThoseWith, CanGoOn, Replays, StepsTo, Works}
 use Rattle.lrpar_steps.proofs.SequenceLemmas.{steps_within}

@@ -8,7 +8,7 @@ use Rattle.lrpar_states.specs.Table.{Table}
 use Rattle.lrpar_steps.specs.Mended.{Consumes}
 use Rattle.lrpar_steps.specs.Recovery.{Point}
 use Rattle.lrpar_parser.specs.RepairLaws.{HandsInOne, RepairRunsOneWay}
-use Rattle.lrpar_runs.specs.RepairRun.{IsListedAt, RepairRun, RepairStop, ends_there, fed_between, is_repaired, runs_through}
+use Rattle.lrpar_course.specs.RepairRun.{IsListedAt, RepairRun, RepairStop, ends_there, fed_between, is_repaired, runs_through}
 use Rattle.lrpar_stacks.specs.Run.{Accepted, Stop, Stopped}
 use Rattle.lrpar_steps.specs.Sequences.{PlainStep, PlainInsert, PlainDelete, PlainShift, AreThoseWith, Replays, Works}
 use Rattle.lrpar_steps.proofs.ReplayLemmas.{replay_one_way}

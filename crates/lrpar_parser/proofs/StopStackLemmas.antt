@@ -16,7 +16,7 @@ use Rattle.lrpar_stacks.proofs.SettleLemmas.{IsRun, stack_reduced, stack_shifted
 use Rattle.lrpar_stacks.proofs.StackLemmas.{stack_has_path}
 use Rattle.lrpar_steps.specs.Recovery.{Point}
 use Rattle.lrpar_parser.specs.RepairLaws.{StopsAtStacks, StopsByFailing}
-use Rattle.lrpar_runs.specs.RepairRun.{RepairRun, RepairStop, ends_there, is_repaired, runs_through}
+use Rattle.lrpar_course.specs.RepairRun.{RepairRun, RepairStop, ends_there, is_repaired, runs_through}
 use Rattle.lrpar_stacks.specs.RunLaws.{KeepOffEnd}
 use Rattle.lrpar_stacks.specs.Run.{Far, FarEnd, Accepted, Stopped, accepts, goes_on, stops, token_at}
 use Rattle.lrpar_steps.specs.Sequences.{PlainStep, PlainInsert, PlainDelete, PlainShift, Replays, StepsTo}

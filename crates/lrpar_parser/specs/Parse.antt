@@ -4,7 +4,7 @@ use Rattle.lrpar_grammar.specs.Sentence.{LexemeFacts, IsFirstBadToken, IsFirstEa
 use Rattle.lrpar_grammar.specs.Tree.{Tree}
 use Rattle.lrpar_course.specs.Lexed.{first_error, lexemes_of}
 use Rattle.lrpar_course.specs.RepairAnswer.{IsRepairAnswer}
-use Rattle.lrpar_runs.specs.RunAnswer.{HasValue, HasNoValue}
+use Rattle.lrpar_course.specs.RunAnswer.{HasValue, HasNoValue}
 use Rattle.lrpar_course.specs.Subject.{Subject}
 use Rattle.lrpar_answers.specs.declared.errors.LexParseError.{LexParseError}
 use Rattle.lrpar_answers.specs.declared.errors.LexParseError.TheVariants.{LexError}

@@ -8,7 +8,7 @@ use Rattle.lrpar_safety.specs.Checked.{Checked, IsChecked}
 use Rattle.lrpar_stacks.specs.Reduction.{top_action}
 use Rattle.lrpar_stacks.specs.Stack.{IsStack}
 use Rattle.lrpar_steps.specs.Recovery.{Point}
-use Rattle.lrpar_runs.specs.RepairRun.{RepairRun, RepairStop}
+use Rattle.lrpar_course.specs.RepairRun.{RepairRun, RepairStop}
 use Rattle.lrpar_stacks.specs.Run.{Run, Stop, token_at}
 use Rattle.lrpar_steps.specs.Sequences.{PlainStep, PlainInsert, PlainDelete, PlainShift}
 use Rattle.lrpar_steps.specs.Replays.{places_of}

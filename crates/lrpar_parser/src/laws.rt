@@ -11,13 +11,12 @@ ghost use Rattle.lrpar_steps.specs.Replays.{ReplaysOneWay, WorksByReplay};
 ghost use Rattle.lrpar_stacks.specs.RunLaws.{RunsEndOneWay, RunsGoOnOrEnd, RunsStopByFailing};
 ghost use Rattle.lrpar_parser.specs.SumRun.{SumRunsThrough};
 
-pub use lrpar_builds::laws::spans_are_worked_out;
+pub use lrpar_course::laws::{spans_are_worked_out, tests_of_sequences_are_bounded};
 use lrpar_grammar::span::StorageIndex;
 pub use lrpar_lexemes::laws::repairs_are_compared_by_contents;
 use lrpar_lexemes::lex_api::Lexeme;
 pub use lrpar_steps::laws::{faults_are_compared_by_contents, steps_are_compared_by_contents};
 use lrpar_steps::repair::Recoverer;
-pub use lrpar_trials::laws::tests_of_sequences_are_bounded;
 
 /// From a stack at a place there is at most one way to run, over lexemes of any type and over those that contracts speak
 /// of: two runs make the same reductions and end alike, so they have the same stops and consume the same lexemes.

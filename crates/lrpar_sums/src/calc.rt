@@ -1,14 +1,15 @@
 //! The command `calc`: sums and products, one a line.
 ghost use Rattle.std.specs.Prelude.{◌≡◌};
 
+use lrpar_grammar::grammar::YaccGrammar;
+use lrpar_grammar::span::{Span, TIdx};
 use lrpar_inputs::fault::Fault;
 use lrpar_inputs::files::input_text;
 use lrpar_inputs::parsing::{TextError, TextParser, print_errors, print_line, text_parser_of};
 use lrpar_inputs::tables::{data_of, drop_table};
+use lrpar_lexemes::lex_api::{Lexeme, NonStreamingLexer};
 use lrpar_lexer::{RuleLexer, Token, TokenTypes};
-use lrpar_parser::grammar::YaccGrammar;
-use lrpar_parser::span::{Span, TIdx};
-use lrpar_parser::{Lexeme, NonStreamingLexer, ParserData};
+use lrpar_table::check::ParserData;
 use std::alloc::Global;
 use std::io::{Read, Write};
 

@@ -3,8 +3,8 @@ use crate::lexer::SumLexer;
 use lrpar_inputs::fault::Fault;
 use lrpar_inputs::parsing::{Parser, parser_by, print_tree, printed_names};
 use lrpar_inputs::tables::{data_of, drop_table};
-use lrpar_parser::ParserData;
-use lrpar_parser::repair::FixedRecoverer;
+use lrpar_steps::repair::FixedRecoverer;
+use lrpar_table::check::ParserData;
 use std::alloc::Global;
 use std::io::Write;
 

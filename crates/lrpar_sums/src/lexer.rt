@@ -6,10 +6,10 @@ ghost use Rattle.lrpar_text.specs.Lines.{line_of, column_of, line_table};
 ghost use Rattle.lrpar_sums.specs.Sums.{token_of};
 ghost use Rattle.lrpar_sums.specs.SumAnswers.{answer_of};
 
+use lrpar_grammar::lines::NewlineCache;
+use lrpar_grammar::span::Span;
+use lrpar_lexemes::lex_api::{Lexeme, Lexer, NonStreamingLexer};
 use lrpar_lexer::{NoToken, Token, TokenTypes};
-use lrpar_parser::lines::NewlineCache;
-use lrpar_parser::span::Span;
-use lrpar_parser::{Lexeme, Lexer, NonStreamingLexer};
 use std::alloc::{AllocError, Global};
 
 /// The token `+`.

@@ -2,10 +2,11 @@
 ghost use Rattle.std.specs.Prelude.{◌↔◌, IfOk, IsTrue};
 
 use crate::wants::{holds, same};
+use lrpar_grammar::span::{PIdx, RIdx, Span, Symbol};
 use lrpar_lexer::{Token, TokenTypes};
+use lrpar_parser::RTParserBuilder;
 use lrpar_parser::parser::{AStackType, Actions, ParseFault};
-use lrpar_parser::span::{PIdx, RIdx, Span, Symbol};
-use lrpar_parser::{ParserData, RTParserBuilder};
+use lrpar_table::check::ParserData;
 use lrpar_test_parts::built::{ARITHMETIC, SUM, built};
 use lrpar_test_parts::calculator::{Calculator, Value};
 use lrpar_test_parts::drops::{drop_errors, drop_table};

@@ -3,10 +3,13 @@
 use crate::actions::failing_at;
 use crate::recoverer::{Asked, Deleting};
 use crate::wants::{holds, same};
+use lrpar_answers::errors::{LexParseError, ParseError, ParseRepair};
+use lrpar_grammar::span::{StIdx, TIdx};
+use lrpar_lexemes::lex_api::Lexeme;
 use lrpar_lexer::{Token, TokenTypes};
+use lrpar_parser::RTParserBuilder;
 use lrpar_parser::parser::ParseFault;
-use lrpar_parser::span::{StIdx, TIdx};
-use lrpar_parser::{LexParseError, Lexeme, ParseError, ParseRepair, ParserData, RTParserBuilder};
+use lrpar_table::check::ParserData;
 use lrpar_test_parts::built::{BRACKETS, SUM, TWICE, built};
 use lrpar_test_parts::drops::{drop_error, drop_errors, drop_table, drop_tree};
 use lrpar_test_parts::lexer::{Given, HandedLexer, lexer_of};

@@ -1,9 +1,10 @@
 //! Parse errors and repairs: their texts, equality, hashes and clones.
 use crate::wants::{holds, same};
+use lrpar_answers::errors::{LexParseError, ParseError, ParseRepair};
+use lrpar_grammar::span::{Span, StIdx, TIdx};
+use lrpar_lexemes::lex_api::Lexeme;
 use lrpar_lexer::{NoToken, Token, TokenTypes};
 use lrpar_parser::parser::{ParseFault, PpFault};
-use lrpar_parser::span::{Span, StIdx, TIdx};
-use lrpar_parser::{LexParseError, Lexeme, ParseError, ParseRepair};
 use lrpar_test_parts::drops::drop_error;
 use std::alloc::Global;
 use std::fmt;

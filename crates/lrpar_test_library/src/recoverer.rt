@@ -2,7 +2,7 @@
 ghost use Rattle.std.specs.Prelude.{IfOk};
 
 use lrpar_lexer::Token;
-use lrpar_parser::repair::{Recoverer, RecoveryPoint, RepairStep};
+use lrpar_steps::repair::{Recoverer, RecoveryPoint, RepairStep};
 use std::alloc::{AllocError, Global};
 use std::cell::Cell;
 

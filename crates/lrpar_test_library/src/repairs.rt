@@ -1,9 +1,11 @@
 //! Many repairs, and how many lexemes have to follow one.
 use crate::wants::same;
+use lrpar_answers::errors::LexParseError;
+use lrpar_grammar::span::TIdx;
 use lrpar_lexer::TokenTypes;
-use lrpar_parser::repair::{FixedRecoverer, NoRecovery, RepairStep};
-use lrpar_parser::span::TIdx;
-use lrpar_parser::{LexParseError, ParserData, RTParserBuilder};
+use lrpar_parser::RTParserBuilder;
+use lrpar_steps::repair::{FixedRecoverer, NoRecovery, RepairStep};
+use lrpar_table::check::ParserData;
 use lrpar_test_parts::built::{BRACKETS, built};
 use lrpar_test_parts::drops::{drop_errors, drop_table};
 use lrpar_test_parts::lexer::lexer_of;

@@ -1,10 +1,14 @@
 //! Trees: of many levels, of no grammar, those that an action makes, and how they are written.
 use crate::wants::{holds, same};
+use lrpar_answers::node::Node;
+use lrpar_course::trees::action_generictree;
+use lrpar_grammar::grammar::YaccGrammar;
+use lrpar_grammar::span::{RIdx, Span};
+use lrpar_lexemes::lex_api::Lexeme;
 use lrpar_lexer::{Token, TokenTypes};
-use lrpar_parser::grammar::YaccGrammar;
+use lrpar_parser::RTParserBuilder;
 use lrpar_parser::parser::AStackType;
-use lrpar_parser::span::{RIdx, Span};
-use lrpar_parser::{Lexeme, Node, ParserData, RTParserBuilder, action_generictree};
+use lrpar_table::check::ParserData;
 use lrpar_test_parts::built::{SUM, built};
 use lrpar_test_parts::drops::{drop_errors, drop_table, drop_tree};
 use lrpar_test_parts::lexer::{Given, lexer_of};

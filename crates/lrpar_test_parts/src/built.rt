@@ -1,8 +1,8 @@
 //! Grammars, the tables that are built of them, and lists.
 use crate::lexer::Given;
-use lrpar_parser::ParserData;
-use lrpar_parser::build::parser_data;
-use lrpar_parser::grammar::YaccGrammar;
+use lrpar_grammar::grammar::YaccGrammar;
+use lrpar_table::build::parser_data;
+use lrpar_table::check::ParserData;
 use std::alloc::Global;
 use std::test::Fail;
 

@@ -3,12 +3,12 @@
 ghost use Rattle.std.specs.Prelude.{◌≡◌, ◌↔◌, [], ◌∷◌, IfOk, IsSomeAnd, IsTrue, map};
 ghost use Rattle.lrpar_grammar.specs.Grammar.{Nonterminal, Terminal};
 ghost use Rattle.lrpar_grammar.specs.Symbols.{symbol_of};
-ghost use Rattle.lrpar_builds.specs.Arguments.{AreArguments, IsArgument};
+ghost use Rattle.lrpar_course.specs.Arguments.{AreArguments, IsArgument};
 ghost use Rattle.lrpar_test_parts.specs.Calculator.{IsOfKind, IsTaken};
 
-use lrpar_parser::Lexeme;
+use lrpar_grammar::span::{PIdx, RIdx, Span, Symbol, TIdx};
+use lrpar_lexemes::lex_api::Lexeme;
 use lrpar_parser::parser::{AStackType, Actions};
-use lrpar_parser::span::{PIdx, RIdx, Span, Symbol, TIdx};
 use std::alloc::{AllocError, Global};
 
 /// The value of a rule. Each rule has a kind of its own.

@@ -1,6 +1,8 @@
 //! Drops of large values. A crate that lets go of them by these calls has no drop of its own to prove.
+use lrpar_answers::errors::LexParseError;
+use lrpar_answers::node::Node;
 use lrpar_lexer::{Token, TokenTypes};
-use lrpar_parser::{LexParseError, Node, ParserData};
+use lrpar_table::check::ParserData;
 
 /// Drops a table.
 pub fn drop_table(_: ParserData<u32>) {}

@@ -2,9 +2,9 @@
 //! it says.
 ghost use Rattle.std.specs.Prelude.{[]};
 
+use lrpar_grammar::span::Span;
+use lrpar_lexemes::lex_api::{Lexeme, Lexer, NonStreamingLexer};
 use lrpar_lexer::{NoToken, Token, TokenTypes};
-use lrpar_parser::span::Span;
-use lrpar_parser::{Lexeme, Lexer, NonStreamingLexer};
 use std::alloc::{AllocError, Global};
 use std::cell::Cell;
 

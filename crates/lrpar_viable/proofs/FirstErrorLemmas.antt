@@ -5,7 +5,7 @@ use Rattle.lrpar_grammar.specs.Sentence.{LexemeFacts}
 use Rattle.lrpar_states.specs.Table.{Table}
 use Rattle.lrpar_stacks.specs.Run.{Far, Stopped}
 use Rattle.lrpar_steps.specs.Recovery.{Point}
-use Rattle.lrpar_runs.specs.RepairRun.{RepairRun, RepairStop, ends_there, is_repaired, runs_through}
+use Rattle.lrpar_course.specs.RepairRun.{RepairRun, RepairStop, ends_there, is_repaired, runs_through}
 use Rattle.lrpar_steps.specs.Sequences.{PlainStep}
 use Rattle.lrpar_viable.specs.FirstErrors.{FirstErrorsAreExact, FirstErrorsComeInTime}
 use Rattle.lrpar_viable.proofs.ViableLemmas.{built_tables_keep_to_sentences, complete_built_tables_follow_sentences}

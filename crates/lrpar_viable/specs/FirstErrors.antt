@@ -8,7 +8,7 @@ use Rattle.lrpar_states.specs.Table.{Table, IsClosed}
 use Rattle.lrpar_build.specs.Built.{IsBuilt}
 use Rattle.lrpar_complete.specs.Complete.{IsComplete}
 use Rattle.lrpar_steps.specs.Recovery.{Point}
-use Rattle.lrpar_runs.specs.RepairRun.{RepairRun, RepairStop}
+use Rattle.lrpar_course.specs.RepairRun.{RepairRun, RepairStop}
 use Rattle.lrpar_steps.specs.Sequences.{PlainStep}
 use Rattle.lrpar_shortest.specs.Reached.{EachReachedHasTree}
 use Rattle.lrpar_viable.specs.Viable.{BeginSentence, GoWrongAt}

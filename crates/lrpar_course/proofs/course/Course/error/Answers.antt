@@ -3,8 +3,8 @@ use Rattle.std.proofs.lemmas.Bool.{ltb-false, ltb-true}
 use Rattle.std.proofs.lemmas.Option.{slice_get_past, slice_get_read}
 use Rattle.lrpar_grammar.specs.Grammar.{end_token}
 use Rattle.lrpar_steps.specs.Known.{facts_by}
-use Rattle.lrpar_runs.specs.RunAnswer.{IsLexemeAt}
-use Rattle.lrpar_runs.proofs.ReadLemmas.{lexeme_none, lexeme_there}
+use Rattle.lrpar_course.specs.RunAnswer.{IsLexemeAt}
+use Rattle.lrpar_course.proofs.ReadLemmas.{lexeme_none, lexeme_there}
 use Rattle.lrpar_course.proofs.course.Course.error.Goals as goal
 use Rattle.lrpar_course.proofs.course.Course.error.Goals.{in-None, in-Some}
 

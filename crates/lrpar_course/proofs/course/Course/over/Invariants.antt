@@ -3,9 +3,9 @@ use Rattle.std.specs.List.{AllZip}
 use Rattle.std.specs.Prelude.{map}
 use Rattle.lrpar_course.specs.CourseView.{subject}
 use Rattle.lrpar_steps.specs.Mended.{start_at}
-use Rattle.lrpar_runs.specs.Moves.{RiseUpTo}
+use Rattle.lrpar_course.specs.Moves.{RiseUpTo}
 use Rattle.lrpar_course.specs.RepairAnswer.{IsRepairErrorOf}
-use Rattle.lrpar_runs.specs.RepairRun.{RepairStop}
+use Rattle.lrpar_course.specs.RepairRun.{RepairStop}
 use Rattle.lrpar_steps.specs.Sequences.{CanGoOn}
 use Rattle.lrpar_steps.specs.Standing.{IsRunStack}
 use Rattle.lrpar_course.proofs.CourseLemmas.{IsThere}

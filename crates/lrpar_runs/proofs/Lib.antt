@@ -1,6 +1,0 @@
-pub mod ListLemmas
-pub mod ReadLemmas
-pub mod StandingLemmas
-pub mod RisingLemmas
-pub mod MovesLemmas
-pub mod FarLemmas

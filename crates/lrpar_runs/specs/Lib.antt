@@ -1,4 +1,0 @@
-pub mod RunAnswer
-pub mod End
-pub mod RepairRun
-pub mod Moves
