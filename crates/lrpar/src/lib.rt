@@ -5,12 +5,12 @@
 mod storage_num;
 
 pub use lrpar_answers::{LexParseError, Node, ParseError, ParseRepair, errors};
-pub use lrpar_course::trees::action_generictree;
 pub use lrpar_diagnostics as diagnostics;
 pub use lrpar_example_texts::examples;
 pub use lrpar_grammar::span::RIdx;
 pub use lrpar_grammar::{grammar, lines};
 pub use lrpar_lexemes::{LexError, Lexeme, Lexer, LexerTypes, NonStreamingLexer, lex_api};
+pub use lrpar_parser::generictree::action_generictree;
 pub use lrpar_parser::{RTParserBuilder, laws, parser};
 pub use lrpar_shortest as shortest;
 pub use lrpar_table::check::ParserData;

@@ -1,5 +1,4 @@
 pub mod FailureLemmas
-pub mod FaultLemmas
 pub mod WeightLemmas
 pub mod WalkLemmas
 pub mod PairLemmas

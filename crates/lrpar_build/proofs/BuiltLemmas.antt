@@ -12,9 +12,9 @@ use Rattle.lrpar_build.specs.Built.{IsBuildRefusal, IsBuilt}
 use Rattle.lrpar_build.specs.Canonical.{AreCanonical, AreSame, IsAcceptConflict, IsCanonical, IsTransition, WantsAccept, sets_of}
 use Rattle.lrpar_build.specs.StateRows.{IsRefusalOf, IsRefusedState, item_rows, table_of_states}
 use Rattle.lrpar_build.specs.States.{AreStates, StateOf, sets_at, state_at}
-use Rattle.lrpar_build.specs.Wanted.{IsAcceptReduce, is_complete_at, reductions}
-use Rattle.lrpar_build.specs.declared.fault.BuildFault.{BuildFault}
-use Rattle.lrpar_build.specs.declared.fault.BuildFault.TheVariants.{AcceptReduceConflict, Memory, StorageTooSmall, TooManyStates}
+use Rattle.lrpar_closure.specs.Wanted.{IsAcceptReduce, is_complete_at, reductions}
+use Rattle.lrpar_closure.specs.declared.fault.BuildFault.{BuildFault}
+use Rattle.lrpar_closure.specs.declared.fault.BuildFault.TheVariants.{AcceptReduceConflict, Memory, StorageTooSmall, TooManyStates}
 use Rattle.lrpar_build.proofs.ConflictLemmas.{canonical_conflicts_fit, no_conflicts_are_one_action}
 use Rattle.lrpar_build.proofs.ListedLemmas.{conflicts_are, in_order}
 use Rattle.lrpar_build.proofs.MemberLemmas.{member_first, member_none}

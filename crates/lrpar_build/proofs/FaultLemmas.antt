@@ -1,6 +1,6 @@
 -- What a `?` hands on.
 use Rattle.std.proofs.Common.{◌≡◌, sym, subst, Result, Ok, Err, IsErrAnd, IfErr}
-use Rattle.lrpar_build.specs.declared.fault.BuildFault.{BuildFault}
+use Rattle.lrpar_closure.specs.declared.fault.BuildFault.{BuildFault}
 
 -- the fault that a `?` hands on
 pub fault_same : {T : Type 0} (r : Result T BuildFault) (P : BuildFault → Type 0) (fault : BuildFault) → IsErrAnd r (λ other. other ≡ fault) → P fault → IfErr r P

@@ -12,7 +12,7 @@ use Rattle.lrpar_closure.specs.Cores.{CoreSet, IsAmong}
 use Rattle.lrpar_first.specs.FirstRows.{mark_of}
 use Rattle.lrpar_closure.specs.CoreOrder.{AreCores, AreCoresInOrder, ComesBefore, IsFilled, IsListedBefore, Precedes}
 use Rattle.lrpar_grammar.specs.Tokens.{has}
-use Rattle.lrpar_build.specs.Wanted.{AreOnce}
+use Rattle.lrpar_closure.specs.Wanted.{AreOnce}
 use Rattle.lrpar_closure.proofs.CoreLemmas.{among_cons, among_nil, core_is}
 
 -- sets with room for as many tokens that have the same ones are the same

@@ -1,4 +1,3 @@
-pub mod EntryLemmas
 pub mod WantedLemmas
 pub mod StateRowLemmas
 pub mod ReachedLemmas
@@ -17,4 +16,3 @@ pub mod StatesLemmas
 pub mod FaultLemmas
 pub mod NumberLemmas
 pub mod StepLemmas
-pub mod KernelMapLemmas

@@ -13,10 +13,11 @@ use Rattle.lrpar_closure.specs.ItemSets.{IsAdvanced, IsInClosure, IsReachedBy, I
 use Rattle.lrpar_closure.specs.CoreOrder.{AreCores, ComesBefore, IsBegun, IsFilled, IsKernel}
 use Rattle.lrpar_build.specs.Kernels.{AreKept, AreKernels, GoesTo, IsReachedKernel, path_at}
 use Rattle.lrpar_closure.specs.Next.{kernel_at, next_kernel}
-use Rattle.lrpar_build.specs.Numbers.{AreNumbered, IsFaultOfStates, IsFound, IsFresh, IsNumberFault, IsNumberOf, IsStepFault, IsStepTo}
+use Rattle.lrpar_build.specs.Numbers.{AreNumbered, IsFaultOfStates, IsNumberFault, IsNumberOf, IsStepFault, IsStepTo}
+use Rattle.lrpar_closure.specs.KernelMap.{IsFound, IsFresh}
 use Rattle.lrpar_build.specs.States.{AreExpanded, AreSteps, IsExpanded, StartsRight, StateOf, state_at}
-use Rattle.lrpar_build.specs.declared.fault.BuildFault.{BuildFault}
-use Rattle.lrpar_build.specs.declared.fault.BuildFault.TheVariants.{AcceptReduceConflict, Memory, StorageTooSmall, TooManyStates}
+use Rattle.lrpar_closure.specs.declared.fault.BuildFault.{BuildFault}
+use Rattle.lrpar_closure.specs.declared.fault.BuildFault.TheVariants.{AcceptReduceConflict, Memory, StorageTooSmall, TooManyStates}
 use Rattle.lrpar_closure.proofs.CoreLemmas.{among_cons, among_nil}
 use Rattle.lrpar_closure.proofs.NextLemmas.{next_is, next_kernel_is, next_some, next_stands}
 use Rattle.lrpar_build.proofs.StatesLemmas.{advanced_same, closure_same, reaches_more, same_via}

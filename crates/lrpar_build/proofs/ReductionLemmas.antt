@@ -10,7 +10,7 @@ use Rattle.lrpar_states.specs.Table.{ReduceBy, Table, action_of, goto_of}
 use Rattle.lrpar_build.specs.Canonical.{ActsAsWanted, AreSame, GoesAsWanted, IsTransition, WantsAccept, WantsFirst, WantsReduce}
 use Rattle.lrpar_closure.specs.Cores.{CoreSet, IsAmong, IsCoreOf}
 use Rattle.lrpar_grammar.specs.Tokens.{has}
-use Rattle.lrpar_build.specs.Wanted.{AscendFrom, is_complete, is_complete_at, reductions, wanted}
+use Rattle.lrpar_closure.specs.Wanted.{AscendFrom, is_complete, is_complete_at, reductions, wanted}
 use Rattle.lrpar_build.proofs.MemberLemmas.{filter_has, filter_member, member_cases, member_first, member_none, range_has, range_member}
 use Rattle.lrpar_build.proofs.WantedLemmas.{ascend_lower}
 

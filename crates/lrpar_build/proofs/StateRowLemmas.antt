@@ -8,10 +8,10 @@ use Rattle.std.proofs.lemmas.List.Elements.{All-filter}
 use Rattle.std.proofs.lemmas.List.Sorted.{All-permutation}
 use Rattle.lrpar_grammar.specs.Grammar.{Grammar, prod_len, prods_len, start_prod, tokens_len}
 use Rattle.lrpar_closure.specs.Cores.{CoreSet}
-use Rattle.lrpar_build.specs.Wanted.{AcceptsBeside, AreOnce, HasAcceptReduce, IsAcceptReduce, IsRefusal, entry_at, is_complete_at, reductions, shift_conflicts_at, wanted, wanted_at}
+use Rattle.lrpar_closure.specs.Wanted.{AcceptsBeside, AreOnce, HasAcceptReduce, IsAcceptReduce, IsRefusal, entry_at, is_complete_at, reductions, shift_conflicts_at, wanted, wanted_at}
 use Rattle.lrpar_closure.specs.Complete.{accepts_at, prods_at}
-use Rattle.lrpar_build.specs.declared.fault.BuildFault.{BuildFault}
-use Rattle.lrpar_build.specs.declared.fault.BuildFault.TheVariants.{AcceptReduceConflict, Memory, StorageTooSmall, TooManyStates}
+use Rattle.lrpar_closure.specs.declared.fault.BuildFault.{BuildFault}
+use Rattle.lrpar_closure.specs.declared.fault.BuildFault.TheVariants.{AcceptReduceConflict, Memory, StorageTooSmall, TooManyStates}
 use Rattle.lrpar_build.proofs.WantedLemmas.{complete_is, prods_are}
 
 -- the complete cores of a state, sorted, tell the reductions at a token

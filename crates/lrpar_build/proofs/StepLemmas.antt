@@ -10,7 +10,7 @@ use Rattle.lrpar_first.specs.FirstRows.{IsSymbolBelow}
 use Rattle.lrpar_closure.proofs.SymbolLemmas.{stands_below}
 use Rattle.lrpar_build.specs.Kernels.{AreKept, GoesTo}
 use Rattle.lrpar_build.specs.States.{AreSteps, AreStepsBelow}
-use Rattle.lrpar_build.specs.Wanted.{AscendFrom}
+use Rattle.lrpar_closure.specs.Wanted.{AscendFrom}
 use Rattle.lrpar_build.proofs.NumberLemmas.{goes_kept}
 
 -- a number more, which is greater than all

@@ -16,8 +16,8 @@ use Rattle.lrpar_closure.specs.Cores.{IsAmong}
 use Rattle.lrpar_closure.specs.ItemSets.{Own}
 use Rattle.lrpar_build.specs.StateRows.{table_of_states}
 use Rattle.lrpar_build.specs.States.{AreStates, StateOf, sets_at, state_at}
-use Rattle.lrpar_build.specs.Wanted.{AscendFrom, entry_at, is_complete_at, reductions, wanted, wanted_at, wanted_row}
-use Rattle.lrpar_build.proofs.EntryLemmas.{lookup_past}
+use Rattle.lrpar_closure.specs.Wanted.{AscendFrom, entry_at, is_complete_at, reductions, wanted, wanted_at, wanted_row}
+use Rattle.lrpar_closure.proofs.EntryLemmas.{lookup_past}
 use Rattle.lrpar_build.proofs.MemberLemmas.{member_none}
 use Rattle.lrpar_build.proofs.ReachedLemmas.{symbol_listed}
 use Rattle.lrpar_build.proofs.WantedLemmas.{ascend_lower}

@@ -8,9 +8,9 @@ use Rattle.lrpar_states.specs.Table.{ConflictLists, ReduceReduce, ShiftReduce, T
 use Rattle.lrpar_closure.specs.Cores.{CoreSet}
 use Rattle.lrpar_build.specs.StateRows.{IsRefusalOf, action_rows, conflicts_of_states, goto_rows, reduce_conflicts_below, shift_conflicts_below, table_of_states, unless_empty}
 use Rattle.lrpar_build.specs.States.{AreStates, StateOf, state_at}
-use Rattle.lrpar_build.specs.Wanted.{AreOnce, AscendFrom, IsRefusal}
-use Rattle.lrpar_build.specs.declared.fault.BuildFault.{BuildFault}
-use Rattle.lrpar_build.specs.declared.fault.BuildFault.TheVariants.{AcceptReduceConflict, Memory, StorageTooSmall, TooManyStates}
+use Rattle.lrpar_closure.specs.Wanted.{AreOnce, AscendFrom, IsRefusal}
+use Rattle.lrpar_closure.specs.declared.fault.BuildFault.{BuildFault}
+use Rattle.lrpar_closure.specs.declared.fault.BuildFault.TheVariants.{AcceptReduceConflict, Memory, StorageTooSmall, TooManyStates}
 
 -- a state of the code is the one in its place
 pub state_read : {X : Type 0} (f : X → StateOf) (xs : List X) (s : ℕ) (x : X) → s < length xs → x ≡ get_or xs s x → state_at (map f xs) s ≡ f x

@@ -10,7 +10,7 @@ use Rattle.std.proofs.lemmas.List.Sorted.{list_any-IsPermutation, sum_by-IsPermu
 use Rattle.lrpar_grammar.specs.Grammar.{Grammar, prod_len, start_prod}
 use Rattle.lrpar_closure.specs.Cores.{CoreSet}
 use Rattle.lrpar_grammar.specs.Tokens.{has}
-use Rattle.lrpar_build.specs.Wanted.{AreOnce, AscendFrom, is_complete, is_complete_at, reductions}
+use Rattle.lrpar_closure.specs.Wanted.{AreOnce, AscendFrom, is_complete, is_complete_at, reductions}
 use Rattle.lrpar_closure.specs.Complete.{prods_at}
 
 -- counts of one element more

@@ -11,8 +11,8 @@ use Rattle.lrpar_states.specs.Safe.{IsSafe}
 use Rattle.lrpar_states.specs.Table.{ConflictLists, ReduceReduce, ShiftReduce, Table}
 use Rattle.lrpar_build.specs.BuilderLaws.{AcceptAlone, AreConflictsOf, IsWantedTable, WantOneAction, lists_in}
 use Rattle.lrpar_build.specs.Canonical.{IsAcceptConflict, IsCanonical, ReachesMore, sets_of}
-use Rattle.lrpar_build.specs.declared.fault.BuildFault.{BuildFault}
-use Rattle.lrpar_build.specs.declared.fault.BuildFault.TheVariants.{AcceptReduceConflict, Memory, StorageTooSmall, TooManyStates}
+use Rattle.lrpar_closure.specs.declared.fault.BuildFault.{BuildFault}
+use Rattle.lrpar_closure.specs.declared.fault.BuildFault.TheVariants.{AcceptReduceConflict, Memory, StorageTooSmall, TooManyStates}
 
 -- conflicts between two reductions stand in the order of their states, then of their tokens, then of the second productions
 abbrev pub reduce_reduce_cmp : ReduceReduce → ReduceReduce → Ordering

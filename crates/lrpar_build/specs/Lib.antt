@@ -1,7 +1,5 @@
 pub mod Canonical
-pub mod Wanted
 pub mod Kernels
-pub mod KernelMap
 pub mod Numbers
 pub mod States
 pub mod BuilderLaws

@@ -1,21 +1,12 @@
 -- Kernels and their numbers.
-use Rattle.std.specs.Prelude.{◌≡◌, ◌≢◌, ◌<◌, ◌≤◌, ◌⊎◌, ◌++◌, ℕ, List, [], ◌∷◌, Option, Some, None, length}
+use Rattle.std.specs.Prelude.{◌≡◌, ◌<◌, ◌≤◌, ◌⊎◌, ◌++◌, ℕ, List, [], ◌∷◌, Option, Some, None, length}
 use Rattle.lrpar_grammar.specs.Grammar.{Grammar}
 use Rattle.lrpar_build.specs.Canonical.{ReachesMore}
 use Rattle.lrpar_closure.specs.Cores.{CoreSet}
 use Rattle.lrpar_build.specs.Kernels.{AreKernels}
-use Rattle.lrpar_closure.specs.Next.{kernel_at}
-use Rattle.lrpar_build.specs.declared.fault.BuildFault.{BuildFault}
-use Rattle.lrpar_build.specs.declared.fault.BuildFault.TheVariants.{AcceptReduceConflict, Memory, StorageTooSmall, TooManyStates}
-
--- the kernel has this number
-pub record IsFound (kernels : List (List CoreSet)) (kernel : List CoreSet) (number : ℕ) : Type 0 where
-  pub within : number < length kernels
-  pub is : kernel_at kernels number ≡ kernel
-
--- the kernel has no number
-abbrev pub IsFresh : List (List CoreSet) → List CoreSet → Type 0
-IsFresh kernels kernel = (s : ℕ) → s < length kernels → kernel_at kernels s ≢ kernel
+use Rattle.lrpar_closure.specs.KernelMap.{IsFound, IsFresh}
+use Rattle.lrpar_closure.specs.declared.fault.BuildFault.{BuildFault}
+use Rattle.lrpar_closure.specs.declared.fault.BuildFault.TheVariants.{AcceptReduceConflict, Memory, StorageTooSmall, TooManyStates}
 
 -- the kernel had no number, and got the next one, which is below both bounds
 pub record IsPushed (max limit : ℕ) (before : List (List CoreSet)) (kernel : List CoreSet) (after : List (List CoreSet)) : Type 0 where

@@ -5,10 +5,10 @@ use Rattle.lrpar_grammar.specs.Grammar.{Grammar, rules_len, tokens_len}
 use Rattle.lrpar_states.specs.Graph.{Graph}
 use Rattle.lrpar_states.specs.Table.{ConflictLists, ReduceReduce, ShiftReduce, Table, TableAction}
 use Rattle.lrpar_build.specs.States.{StateOf, state_at}
-use Rattle.lrpar_build.specs.Wanted.{HasAcceptReduce, reduce_conflicts, shift_conflicts, wanted_row}
+use Rattle.lrpar_closure.specs.Wanted.{HasAcceptReduce, reduce_conflicts, shift_conflicts, wanted_row}
 use Rattle.lrpar_closure.specs.Complete.{items_of_cores}
-use Rattle.lrpar_build.specs.declared.fault.BuildFault.{BuildFault}
-use Rattle.lrpar_build.specs.declared.fault.BuildFault.TheVariants.{AcceptReduceConflict, Memory, StorageTooSmall, TooManyStates}
+use Rattle.lrpar_closure.specs.declared.fault.BuildFault.{BuildFault}
+use Rattle.lrpar_closure.specs.declared.fault.BuildFault.TheVariants.{AcceptReduceConflict, Memory, StorageTooSmall, TooManyStates}
 
 -- what each state does at the tokens at which it does something
 abbrev pub action_rows : Grammar → List StateOf → List (List (ℕ × TableAction))

@@ -13,7 +13,7 @@ use Rattle.lrpar_closure.specs.Next.{kernel_rows, AreNext, kernel_at}
 use Rattle.lrpar_closure.specs.Working.{AreSuccessors}
 use Rattle.lrpar_closure.specs.CoreOrder.{AreCores}
 use Rattle.lrpar_build.specs.Kernels.{GoesTo}
-use Rattle.lrpar_build.specs.Wanted.{AreOnce, AscendFrom, shift_entry}
+use Rattle.lrpar_closure.specs.Wanted.{AreOnce, AscendFrom, shift_entry}
 use Rattle.lrpar_closure.specs.declared.cores.CoreItems.{CoreItems}
 use Rattle.lrpar_build.specs.declared.item_set.State.{State}
 use Rattle.lrpar_closure.specs.declared.successors.Successors.{Successors}

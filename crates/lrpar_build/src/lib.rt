@@ -2,10 +2,9 @@
 #![tactic(auto)]
 
 pub mod build;
-mod fault;
 mod item_set;
-mod kernels;
 pub mod laws;
+mod numbers;
 mod states;
 mod tables;
 mod wants;

@@ -11,14 +11,15 @@ ghost use Rattle.lrpar_closure.specs.Next.{kernel_at};
 ghost use Rattle.lrpar_closure.specs.CoreOrder.{AreCores, IsKernel};
 ghost use Rattle.lrpar_build.specs.Kernels.{AreKept};
 ghost use Rattle.lrpar_build.specs.Numbers.{AreNumbered, IsFaultOfStates, IsStepFault, IsStepTo};
-ghost use Rattle.lrpar_build.specs.Wanted.{shift_entry};
+ghost use Rattle.lrpar_closure.specs.Wanted.{shift_entry};
 ghost use Rattle.lrpar_build.specs.States.{AreKernelsBy, AreStates, AreSteps, IsExpanded, StartsRight, state_of, step_entry};
 ghost use Rattle.lrpar_closure.specs.Working.{AreSets, AreSuccessors};
 
-use crate::fault::BuildFault;
 use crate::item_set::State;
-use crate::kernels::Kernels;
+use crate::numbers::number;
 use lrpar_closure::cores::CoreItems;
+use lrpar_closure::fault::BuildFault;
+use lrpar_closure::kernels::Kernels;
 use lrpar_closure::sets::{Sets, closed};
 use lrpar_closure::successors::Successors;
 use lrpar_grammar::grammar::YaccGrammar;
@@ -80,7 +81,7 @@ fn start_kernels<StorageT: StorageIndex>(
 {
     let start = start_kernel(alloc, grm)?;
     let mut kernels = Kernels::new(alloc);
-    let _start = kernels.number(alloc, max_states, &start)?;
+    let _start = number(&mut kernels, alloc, max_states, &start)?;
     Ok(kernels)
 }
 
@@ -149,7 +150,7 @@ fn step<StorageT: StorageIndex>(
     if kernel.is_empty() {
         return Ok(None);
     }
-    let state = kernels.number(alloc, max_states, kernel)?;
+    let state = number(kernels, alloc, max_states, kernel)?;
     Ok(Some(state))
 }
 

@@ -9,14 +9,15 @@ ghost use Rattle.lrpar_states.specs.Table.{IsTable};
 ghost use Rattle.lrpar_build.specs.Built.{IsBuilt};
 ghost use Rattle.lrpar_build.specs.StateRows.{IsRefusalOf, IsRefusedState, action_rows, conflicts_of_states, goto_rows, item_rows, reduce_conflicts_below, shift_conflicts_below, table_of_states, unless_empty};
 ghost use Rattle.lrpar_build.specs.States.{AreStates, state_at, state_of};
-ghost use Rattle.lrpar_build.specs.Wanted.{IsAcceptReduce};
-ghost use Rattle.lrpar_build.specs.declared.fault.BuildFault.TheVariants.{Memory};
+ghost use Rattle.lrpar_closure.specs.Wanted.{IsAcceptReduce};
+ghost use Rattle.lrpar_closure.specs.declared.fault.BuildFault.TheVariants.{Memory};
 ghost use Rattle.lrpar_states.specs.declared.fault.TableFault.{TableFault};
 
-use crate::fault::BuildFault;
 use crate::item_set::State;
-use crate::wants::{ReduceReduce, ShiftReduce, state_row};
+use crate::wants::state_row;
+use lrpar_closure::fault::BuildFault;
 use lrpar_closure::items::single_items;
+use lrpar_closure::wants::{ReduceReduce, ShiftReduce};
 use lrpar_grammar::grammar::YaccGrammar;
 use lrpar_grammar::span::{RIdx, StIdx, StorageIndex, TIdx};
 use lrpar_states::table::{

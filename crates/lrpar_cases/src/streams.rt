@@ -94,6 +94,7 @@ fn push_line<R: Files>(
     push_taken(lines, round, "output", &out);
     push_taken(lines, round, "error", &err);
     lines.text("\n");
+    // Not by `||`, whose branches would each have the drops of the streams to prove.
     input.has_failed | out.has_failed | err.has_failed
 }
 

@@ -12,7 +12,7 @@ ghost use Rattle.lrpar_safety.specs.declared.fault.CheckFault.TheVariants.{Memor
 
 pub use lrpar_complete::complete_fault::CompleteFault;
 pub use lrpar_complete::completeness::CompletenessCondition;
-use lrpar_conditions::parts::Parts;
+use lrpar_conditions::checkable::Checkable;
 use lrpar_grammar::grammar::YaccGrammar;
 use lrpar_grammar::span::StorageIndex;
 use lrpar_safety::chains::least_cap;
@@ -72,7 +72,11 @@ impl<StorageT: StorageIndex> ParserData<StorageT> {
         ensures exact { IsSafe grm sgraph stable → AreChainsShort grm stable cap → IfErr result (λ r. r.fault ≡ Memory) }
         ensures back { IfErr result (λ r. (r.grammar ≡ grm) × (r.graph ≡ sgraph) × (r.table ≡ stable)) }
     {
-        match first_fault(&Parts::new(&grm, &sgraph, &stable)) {
+        match first_fault(&Checkable {
+            grm: &grm,
+            sgraph: &sgraph,
+            stable: &stable,
+        }) {
             None => ParserData::of_safe(alloc, grm, sgraph, stable, cap),
             Some(fault) => Err(Refused {
                 fault,

@@ -12,3 +12,5 @@ pub mod NextLemmas
 pub mod SymbolLemmas
 pub mod SuccessorLemmas
 pub mod CompleteLemmas
+pub mod EntryLemmas
+pub mod KernelMapLemmas

@@ -5,3 +5,5 @@ pub mod CoreOrder
 pub mod Next
 pub mod Working
 pub mod Complete
+pub mod Wanted
+pub mod KernelMap

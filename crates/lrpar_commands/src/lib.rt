@@ -2,8 +2,11 @@
 #![tactic(auto)]
 
 mod arguments;
+mod calc;
 mod check;
 mod conflicts;
+mod demo;
+mod lexer;
 mod program;
 mod tree;
 

@@ -2,14 +2,14 @@
 ghost use Rattle.std.specs.Prelude.{◌≤◌};
 
 use crate::arguments::{Command, TreePaths, command_of};
+use crate::calc::calc;
 use crate::check::check;
 use crate::conflicts::conflicts;
+use crate::demo::demo;
 use crate::tree::{TreeTexts, tree};
 use lrpar_inputs::fault::Fault;
 use lrpar_inputs::files::{file_text, text_if_any};
 use lrpar_inputs::streams::{Status, ended, finished, words};
-use lrpar_sums::calc::calc;
-use lrpar_sums::demo::demo;
 use std::alloc::Global;
 use std::io::{BufWriter, Read, Write};
 use std::rt::Files;

@@ -1,9 +1,8 @@
 -- What tests of a state's entries decide.
-use Rattle.std.proofs.Common.{◌≡◌, ◌≢◌, ◌<◌, ◌↔◌, ◌⊎◌, ◌∙◌, ℕ, List, All, Some, length, map, slice_index_or, refl, sym, ap, subst, inl, inr, arith}
-use Rattle.std.specs.List.{Contains, zip}
-use Rattle.std.proofs.lemmas.List.{get_or-map, get_or_default, length-map}
+use Rattle.std.proofs.Common.{◌≡◌, ◌≢◌, ◌<◌, ◌↔◌, ◌⊎◌, ℕ, List, All, Some, slice_index_or, refl, sym, subst, inl, inr}
+use Rattle.std.specs.List.{Contains}
+use Rattle.std.proofs.lemmas.List.{get_or_default}
 use Rattle.std.proofs.lemmas.List.Elements.{All-contains}
-use Rattle.std.proofs.lemmas.Slice.Zip.{get_or-zip, length-zip}
 use Rattle.lrpar_grammar.specs.Grammar.{Grammar, GrammarSymbol, Nonterminal, Terminal, end_token, prods_len}
 use Rattle.lrpar_states.specs.Graph.{Graph}
 use Rattle.lrpar_states.specs.Safe.{AcceptsOnlyAtEnd, GoesBy, NeverShiftsEnd, ReducesComplete, StepsFromCores}
@@ -12,31 +11,6 @@ use Rattle.lrpar_states.specs.declared.condition.SafetyCondition.{SafetyConditio
 use Rattle.lrpar_states.specs.declared.condition.SafetyCondition.TheVariants.{S3, S4, S5, S7, S8}
 use Rattle.lrpar_conditions.specs.Entrywise.{AcceptHolds, ActionHolds, GotoHolds, IsInRange, ReduceHolds, ShiftHolds}
 use Rattle.lrpar_conditions.proofs.CoreLemmas.{never_by_kind, steps_by_kind}
-
--- keys and values side by side, which are the entries of a state
-module _ {K V X : Type 0} (number : K → ℕ) (value : V → X) (ks : List K) (vs : List V) (es : List (ℕ × X)) (paired : length vs ≡ length ks)
-    (is : map (λ e. (number e.0, value e.1)) (zip ks vs) ≡ es) where
-  -- there are as many entries as keys
-  pub entries_len : length es ≡ length ks
-  entries_len =
-      let zipped = length-zip ks vs in
-      let mapped = length-map (zip ks vs) (λ (e : K × V). let made : ℕ × X = (number e.0, value e.1) in made) in
-      let same = ap (λ (l : List (ℕ × X)). length l) is in
-      omega (arith, zipped, mapped, same, paired)
-
-  -- a key that was read with its value is the entry at that place
-  pub entry_read : (i : ℕ) (k : K) (v : V) → i < length ks → k ≡ slice_index_or ks i k → v ≡ slice_index_or vs i v
-      → ◌≡◌ {A = ℕ × X} (number k, value v) (slice_index_or es i (number k, value v))
-  entry_read i k v below key at =
-      let f : K × V → ℕ × X = λ e. (number e.0, value e.1) in
-      let zipped = length-zip ks vs in
-      let here = get_or-zip ks vs i (k, v) below (omega (arith, below, paired)) in
-      let image = get_or-map f (zip ks vs) i (k, v) (number k, value v) (omega (arith, below, paired, zipped)) in
-      let read : f (k, v) ≡ f (slice_index_or (zip ks vs) i (k, v)) = ap f (same_pair k (slice_index_or ks i k) v (slice_index_or vs i v) key at ∙ sym here) in
-      subst (λ (l : List (ℕ × X)). ◌≡◌ {A = ℕ × X} (number k, value v) (slice_index_or l i (number k, value v))) is (read ∙ sym image)
-    where
-      same_pair : (j k : K) (w v : V) → j ≡ k → w ≡ v → ◌≡◌ {A = K × V} (j, w) (k, v)
-      same_pair j k w v key value = cc
 
 -- what holds of each stored action, and of errors, holds of each action
 pub all_actions : (table : Table) (s : ℕ) (es : List (ℕ × TableAction)) (P : ℕ → TableAction → Type 0)

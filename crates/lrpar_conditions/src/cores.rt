@@ -6,10 +6,10 @@ ghost use Rattle.lrpar_grammar.specs.Symbols.{symbol_of};
 ghost use Rattle.lrpar_states.specs.Table.{goto_of, states_len};
 ghost use Rattle.lrpar_states.specs.Safe.{CoresFollow, GoesByRules, HasShape, NeverEntersStart, StartsFresh};
 
-use crate::parts::Parts;
+use crate::checkable::Checkable;
 use lrpar_grammar::span::{PIdx, StIdx, StorageIndex, Symbol};
 
-impl<'a, StorageT: StorageIndex> Parts<'a, StorageT> {
+impl<'a, StorageT: StorageIndex> Checkable<'a, StorageT> {
     /// S2: the items of the start state have dot 0.
     pub fn starts_fresh(&self, s: StIdx<StorageT>) -> bool
         requires shape { HasShape self.now.grm.now self.now.sgraph.now self.now.stable.now }

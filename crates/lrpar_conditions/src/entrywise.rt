@@ -7,12 +7,12 @@ ghost use Rattle.lrpar_states.specs.Table.{IsActionWithin, TableAction, action_o
 ghost use Rattle.lrpar_states.specs.Safe.{AcceptsOnlyAtEnd, GoesBy, HasShape, NeverShiftsEnd, ReducesComplete, StepsFromCores};
 ghost use Rattle.lrpar_conditions.specs.Entrywise.{AcceptHolds, ActionHolds, GotoHolds, IsInRange, ReduceHolds, ShiftHolds};
 
-use crate::parts::Parts;
+use crate::checkable::Checkable;
 use lrpar_grammar::span::{PIdx, RIdx, StIdx, StorageIndex, Symbol, TIdx};
 use lrpar_states::condition::SafetyCondition;
 use lrpar_states::table::Action;
 
-impl<'a, StorageT: StorageIndex> Parts<'a, StorageT> {
+impl<'a, StorageT: StorageIndex> Checkable<'a, StorageT> {
     /// S3: the state doesn't shift the end token.
     pub fn never_shifts_end(&self, s: StIdx<StorageT>) -> bool
         requires shape { HasShape self.now.grm.now self.now.sgraph.now self.now.stable.now }

@@ -7,11 +7,11 @@ ghost use Rattle.lrpar_states.specs.Table.{ReduceBy, action_of, states_len};
 ghost use Rattle.lrpar_states.specs.Safe.{HasShape, IsItem};
 ghost use Rattle.lrpar_conditions.specs.Entrywise.{IsInRange};
 
-use crate::parts::Parts;
+use crate::checkable::Checkable;
 use lrpar_grammar::span::{PIdx, StIdx, StorageIndex, TIdx};
 use lrpar_states::table::Action;
 
-impl<'a, StorageT: StorageIndex> Parts<'a, StorageT> {
+impl<'a, StorageT: StorageIndex> Checkable<'a, StorageT> {
     /// S1: the shape.
     pub fn has_shape(&self) -> bool
         ensures { IsTrue result ↔ HasShape self.now.grm.now self.now.sgraph.now self.now.stable.now }

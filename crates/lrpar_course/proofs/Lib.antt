@@ -1,4 +1,3 @@
-pub mod ListedLemmas
 pub mod ListLemmas
 pub mod ReadLemmas
 pub mod StandingLemmas

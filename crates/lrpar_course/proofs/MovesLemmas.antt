@@ -1,10 +1,9 @@
 -- What the stacks of a run do between two places: what stands on them after that, how many reductions were made, and what the
 -- steps of a sequence of repairs give.
-use Rattle.std.proofs.Common.{◌≡◌, ◌<◌, ◌≤◌, ◌+◌, ◌*◌, ◌∙◌, ℕ, List, [], ◌∷◌, ◌++◌, Option, Some, length, map, ap, arith, refl, subst, sym}
+use Rattle.std.proofs.Common.{◌≡◌, ◌<◌, ◌≤◌, ◌+◌, ◌*◌, ◌∙◌, ℕ, List, [], ◌∷◌, ◌++◌, Some, length, map, ap, arith, refl, subst, sym}
 use Rattle.std.proofs.lemmas.List.{append_assoc, append-nil, length-append, length-map}
-use Rattle.std.proofs.lemmas.Option.{slice_get-map, slice_get_within}
+use Rattle.std.proofs.lemmas.Option.{slice_get_within}
 use Rattle.std.specs.List.{slice_get}
-use Rattle.std.specs.Option.{option_map, option_map_or}
 use Rattle.lrpar_grammar.specs.Grammar.{end_token}
 use Rattle.lrpar_grammar.specs.Sentence.{LexemeFacts}
 use Rattle.lrpar_states.specs.Table.{Fails, ShiftTo}
@@ -12,7 +11,6 @@ use Rattle.lrpar_safety.specs.Checked.{Checked}
 use Rattle.lrpar_stacks.specs.Path.{NeverSticks}
 use Rattle.lrpar_stacks.specs.Reduction.{Feeds, top_action}
 use Rattle.lrpar_stacks.proofs.Reductions.{settles_one_way}
-use Rattle.lrpar_lexemes.specs.Lexemes.{last_end}
 use Rattle.lrpar_steps.specs.Building.{Building}
 use Rattle.lrpar_steps.specs.Mended.{Consumes, inserted_at, start_at}
 use Rattle.lrpar_course.specs.Moves.{IsReplayed, Moves, RiseUpTo, StartsRise, and_settles, and_shifts, rests}
@@ -21,6 +19,7 @@ use Rattle.lrpar_stacks.specs.Run.{token_at}
 use Rattle.lrpar_steps.specs.Sequences.{PlainStep, PlainInsert, PlainDelete, PlainShift, Replays}
 use Rattle.lrpar_steps.specs.Stacked.{SettlesTo, Shifts, Sticks}
 use Rattle.lrpar_steps.specs.Standing.{Stacked}
+use Rattle.lrpar_steps.proofs.PlaceLemmas.{start_at_is}
 use Rattle.lrpar_steps.proofs.StackedLemmas.{states_settle}
 use Rattle.lrpar_course.proofs.RisingLemmas.{rise_reduce_all}
 use Rattle.lrpar_stacks.proofs.RunLemmas.{token_at_lexeme}
@@ -35,12 +34,6 @@ settle_more cap n m a b h x k before here = omega (arith, before, here)
 shift_more : (cap n m a b h x k : ℕ) → n + cap * a ≤ cap * (h + x) + cap * (cap + 2) * k → m + cap * b ≤ cap * (a + cap + 2)
     → (n + m) + cap * (b + 1) ≤ cap * (h + (x + 1)) + cap * (cap + 2) * (k + 1)
 shift_more cap n m a b h x k before here = omega (arith, before, here)
-
--- where lexeme i starts
-pub start_at_is : {X : Type 0} (facts : X → LexemeFacts) (lexemes : List X) (i : ℕ) (x : X) → slice_get lexemes i ≡ Some x
-    → start_at (map facts lexemes) i ≡ (facts x).span.start
-start_at_is facts lexemes i x is =
-    ap (λ (o : Option LexemeFacts). option_map_or (λ x. x.span.start) o (last_end (map facts lexemes))) (slice_get-map facts lexemes i ∙ ap (option_map facts) is)
 
 module _ {X E : Type 0} (facts : X → LexemeFacts) (builds : Building X E) (d : Checked) where
   -- the token of a lexeme

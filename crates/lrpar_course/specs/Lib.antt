@@ -10,7 +10,6 @@ pub mod Arguments
 pub mod Acted
 pub mod Placed
 pub mod PlacedRising
-pub mod Lexed
 pub mod LexemeFault
 pub mod Subject
 pub mod CompleteAnswer

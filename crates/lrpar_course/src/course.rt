@@ -15,13 +15,15 @@ ghost use Rattle.lrpar_states.specs.Table.{Fails};
 ghost use Rattle.lrpar_steps.specs.Standing.{IsRunStack};
 ghost use Rattle.lrpar_course.specs.TreeAnswer.{IsTreeAnswer};
 
-use crate::run::{Run, end_lexeme};
+use crate::run::Run;
 use crate::trial::Trial;
 use lrpar_answers::errors::{LexParseError, ParseError};
 use lrpar_grammar::grammar::YaccGrammar;
 use lrpar_grammar::span::StorageIndex;
 use lrpar_lexemes::lex_api::{Lexeme, LexerTypes};
 use lrpar_steps::building::Build;
+use lrpar_steps::listed_repairs::listed_repairs;
+use lrpar_steps::places::end_lexeme;
 use lrpar_steps::repair::{Recoverer, RecoveryPoint};
 use lrpar_steps::run_stack::Stack;
 use lrpar_steps::steps::RepairStep;
@@ -171,9 +173,7 @@ impl<
         ensures error { IfOk result (IsRepairErrorOf (subject StorageT.index LexerTypesT.LexemeT.parts R.allows self.now) self.now.lexemes.now
             (record { stop = stop_at stack.now.states place; listed = plain_sequences StorageT.index listed.now })) }
     {
-        let repairs = Trial::new(self.run.checked, self.lexemes, self.shifts).repairs(
-            alloc, place, listed,
-        )?;
+        let repairs = listed_repairs(alloc, &self.lexemes[place..], listed)?;
         let lexeme = match self.lexemes.get(place) {
             Some(lexeme) => *lexeme,
             None => end_lexeme(self.run.checked.grm().eof_token_idx(), self.lexemes),

@@ -5,8 +5,7 @@
 pub mod actions;
 pub mod course;
 mod far;
-pub mod laws;
-pub mod lexed;
+pub mod lexeme_fault;
 pub mod replay;
 pub mod run;
 pub mod trees;

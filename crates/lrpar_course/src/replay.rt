@@ -1,10 +1,9 @@
 //! The replay of a sequence of repairs on the stacks of a run.
-ghost use Rattle.std.specs.Prelude.{◌≡◌, ◌<◌, ◌≤◌, ℕ, length, List, IfOk, OnOk, [], ◌∷◌};
+ghost use Rattle.std.specs.Prelude.{◌<◌, ◌≤◌, ℕ, length, List, IfOk, OnOk, [], ◌∷◌};
 ghost use Rattle.lrpar_grammar.specs.Grammar.{end_token};
 ghost use Rattle.lrpar_grammar.specs.Sentence.{IsValidList};
 ghost use Rattle.lrpar_stacks.specs.Path.{NeverSticks};
 ghost use Rattle.lrpar_stacks.specs.Reduction.{Feeds};
-ghost use Rattle.lrpar_lexemes.specs.Lexemes.{last_end};
 ghost use Rattle.lrpar_steps.specs.Known.{facts_by, known};
 ghost use Rattle.lrpar_steps.specs.Mended.{start_at};
 ghost use Rattle.lrpar_course.specs.Moves.{CanReplay, CanStep, IsReplayed, RiseUpTo, StartsRise};
@@ -16,6 +15,7 @@ use crate::run::Run;
 use lrpar_grammar::span::StorageIndex;
 use lrpar_lexemes::lex_api::Lexeme;
 use lrpar_steps::building::Build;
+use lrpar_steps::places::start_of;
 use lrpar_steps::run_stack::Stack;
 use lrpar_steps::steps::RepairStep;
 use std::alloc::{AllocError, Global};
@@ -122,28 +122,5 @@ impl<'a, StorageT: StorageIndex, LexemeT: Lexeme<StorageT>, B: Build<StorageT, L
             unreachable!()
         }
         Ok(())
-    }
-}
-
-/// Where the lexeme at the place starts; past the last one, where that ends.
-pub fn start_of<StorageT: StorageIndex, LexemeT: Lexeme<StorageT>>(
-    lexemes: &[LexemeT],
-    place: usize,
-) -> usize
-    ensures { result ≡ start_at (known StorageT.index LexemeT.parts lexemes.now) place }
-{
-    match lexemes.get(place) {
-        Some(lexeme) => lexeme.span().start(),
-        None => end_of::<StorageT, LexemeT>(lexemes),
-    }
-}
-
-/// Where the last lexeme ends; 0 where there is none.
-pub fn end_of<StorageT: StorageIndex, LexemeT: Lexeme<StorageT>>(lexemes: &[LexemeT]) -> usize
-    ensures { result ≡ last_end (known StorageT.index LexemeT.parts lexemes.now) }
-{
-    match lexemes.last() {
-        Some(lexeme) => lexeme.span().end(),
-        None => 0,
     }
 }

@@ -4,12 +4,9 @@ ghost use Rattle.lrpar_grammar.specs.Grammar.{end_token};
 ghost use Rattle.lrpar_stacks.specs.Path.{NeverSticks};
 ghost use Rattle.lrpar_stacks.specs.Reduction.{top_action};
 ghost use Rattle.lrpar_states.specs.PlainRows.{plain_action};
-ghost use Rattle.lrpar_lexemes.specs.Lexemes.{lexeme_past};
-ghost use Rattle.lrpar_steps.specs.Known.{facts_by, known};
 ghost use Rattle.lrpar_steps.specs.Standing.{IsRunStack};
 ghost use Rattle.lrpar_steps.specs.Stacked.{SettlesTo, Shifts, Sticks};
 
-use crate::replay::end_of;
 use lrpar_check::check::ParserData;
 use lrpar_grammar::span::{StorageIndex, TIdx};
 use lrpar_lexemes::lex_api::Lexeme;
@@ -96,16 +93,4 @@ impl<'a, StorageT: StorageIndex, LexemeT: Lexeme<StorageT>, B: Build<StorageT, L
         let mut reducing = Reducing::new(alloc, self.checked.grm(), self.build, stack);
         Ok(self.checked.settle_on(&mut reducing, token)?.action)
     }
-}
-
-/// The lexeme past the last one.
-pub fn end_lexeme<StorageT: StorageIndex, LexemeT: Lexeme<StorageT>>(
-    end: TIdx<StorageT>,
-    lexemes: &[LexemeT],
-) -> LexemeT
-    ensures { facts_by StorageT.index LexemeT.parts result
-        ≡ lexeme_past (StorageT.index end.0) (known StorageT.index LexemeT.parts lexemes.now) }
-{
-    let place = end_of::<StorageT, LexemeT>(lexemes);
-    LexemeT::new_faulty(end.0, place, 0)
 }

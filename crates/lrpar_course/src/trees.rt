@@ -1,14 +1,13 @@
 //! The trees that a parse builds.
-ghost use Rattle.std.specs.Prelude.{◌≡◌, ◌<◌, ◌≤◌, ◌-◌, IfOk, OnOk, length, map, take, drop};
+ghost use Rattle.std.specs.Prelude.{◌≡◌, ◌<◌, ◌≤◌, ◌-◌, IfOk, OnOk, length, take, drop};
 ghost use Rattle.lrpar_grammar.specs.Grammar.{rule_of, start_prod};
-ghost use Rattle.lrpar_course.specs.Nodes.{IsNonterm, IsTerm, node_of};
+ghost use Rattle.lrpar_course.specs.Nodes.{IsNonterm, IsTerm};
 
 use lrpar_answers::node::Node;
 use lrpar_grammar::grammar::YaccGrammar;
-use lrpar_grammar::span::{PIdx, RIdx, Span, StorageIndex};
-use lrpar_lexemes::lex_api::{Lexeme, LexerTypes, NonStreamingLexer};
+use lrpar_grammar::span::{PIdx, StorageIndex};
+use lrpar_lexemes::lex_api::Lexeme;
 use lrpar_steps::building::Build;
-use lrpar_steps::values::AStackType;
 use std::alloc::{AllocError, Global};
 
 /// Builds the tree of the parse.
@@ -50,51 +49,4 @@ impl<StorageT: StorageIndex, LexemeT: Lexeme<StorageT>> Build<StorageT, LexemeT>
     }
 
     ghost rising = { λ b g. record { with_none = tt; by_leaf = λ es n x e rise low is. tt; by_node = λ kept es n p e rise is. tt } };
-}
-
-/// The node of a rule over the arguments of an action: each lexeme is a node of its own. The span and the parameter aren't
-/// looked at. It fails only where memory is wanting.
-pub fn action_generictree<
-    'input,
-    StorageT: StorageIndex,
-    LexerTypesT: LexerTypes<StorageT = StorageT>,
-    L: NonStreamingLexer<'input, LexerTypesT>,
->(
-    alloc: Global,
-    ridx: RIdx<StorageT>,
-    _lexer: &L,
-    _span: Span,
-    args: Vec<AStackType<LexerTypesT::LexemeT, Node<LexerTypesT::LexemeT, StorageT>>>,
-    _param: &(),
-) -> Result<Node<LexerTypesT::LexemeT, StorageT>, AllocError>
-    ensures { IfOk result (IsNonterm StorageT.index (StorageT.index ridx.0) (map node_of args.items)) }
-{
-    let nodes = nodes_of(alloc, args)?;
-    Ok(Node::Nonterm { ridx, nodes })
-}
-
-// The nodes of arguments, in order.
-fn nodes_of<LexemeT: Drop, StorageT: Drop>(
-    alloc: Global,
-    args: Vec<AStackType<LexemeT, Node<LexemeT, StorageT>>>,
-) -> Result<Vec<Node<LexemeT, StorageT>>, AllocError>
-    ensures { IfOk result (λ nodes. nodes.items ≡ map node_of args.items) }
-{
-    let mut nodes = Vec::with_capacity(alloc, args.len())?;
-    for arg in args {
-        nodes.push(node_of(arg))?;
-    }
-    Ok(nodes)
-}
-
-// The node of an argument.
-fn node_of<LexemeT: Drop, StorageT: Drop>(
-    arg: AStackType<LexemeT, Node<LexemeT, StorageT>>,
-) -> Node<LexemeT, StorageT>
-    ensures { result ≡ node_of arg }
-{
-    match arg {
-        AStackType::ActionType(node) => node,
-        AStackType::Lexeme(lexeme) => Node::Term { lexeme },
-    }
 }

@@ -1,16 +1,13 @@
 //! The test of sequences of repairs, over the states of a parse, which are borrowed.
-ghost use Rattle.std.specs.Prelude.{◌≡◌, ◌<◌, ◌≤◌, ◌+◌, ◌↔◌, [], ◌∷◌, List, drop, length, map, IfOk, IfSome, OnOk, IsTrue, None};
+ghost use Rattle.std.specs.Prelude.{◌≡◌, ◌<◌, ◌≤◌, ◌+◌, ◌↔◌, length, IfOk, OnOk, IsTrue, None};
 ghost use Rattle.lrpar_stacks.specs.Overlay.{overlaid};
 ghost use Rattle.lrpar_stacks.specs.Stack.{IsStack, states_of};
 ghost use Rattle.lrpar_grammar.specs.Sentence.{IsValidList};
 ghost use Rattle.lrpar_steps.specs.Counting.{CostsAtMost, most_listed};
 ghost use Rattle.lrpar_steps.specs.Known.{known};
-ghost use Rattle.lrpar_steps.specs.Mended.{repairs_over};
 ghost use Rattle.lrpar_steps.specs.PlainSteps.{plain_sequences, plain_step, plain_steps};
-ghost use Rattle.lrpar_lexemes.specs.Repairs.{repair_of, repairs_of};
-ghost use Rattle.lrpar_steps.specs.Sequences.{PlainInsert, PlainShift, PlainStep, AreThoseWith};
+ghost use Rattle.lrpar_steps.specs.Sequences.{PlainInsert, PlainShift, AreThoseWith};
 
-use lrpar_answers::errors::ParseRepair;
 use lrpar_check::check::ParserData;
 use lrpar_grammar::span::{StIdx, StorageIndex, TIdx};
 use lrpar_lexemes::lex_api::Lexeme;
@@ -91,25 +88,6 @@ impl<'a, StorageT: StorageIndex, LexemeT: Lexeme<StorageT>> Trial<'a, StorageT, 
             listed.push(steps)?;
         }
         Ok(listed)
-    }
-
-    /// The repairs by which an error at the place lists these sequences, each Delete and Shift with its own lexeme.
-    pub fn repairs(
-        &self,
-        alloc: Global,
-        place: usize,
-        listed: &[Vec<RepairStep<StorageT>>],
-    ) -> Result<Vec<Vec<ParseRepair<LexemeT, StorageT>>>, AllocError>
-        requires within { place ≤ length self.now.lexemes.now }
-        ensures repairs { IfOk result (λ repairs. repairs_of StorageT.index repairs.items
-            ≡ map (repairs_over (drop place self.now.lexemes.now)) (plain_sequences StorageT.index listed.now)) }
-    {
-        let left = &self.lexemes[place..];
-        let mut repairs = Vec::with_capacity(alloc, listed.len())?;
-        for steps in listed {
-            repairs.push(repairs_over(alloc, left, steps)?)?;
-        }
-        Ok(repairs)
     }
 
     // Whether the sequence works from the states at the place.
@@ -236,50 +214,6 @@ impl<'a, StorageT: StorageIndex, LexemeT: Lexeme<StorageT>> Trial<'a, StorageT, 
             Ok(Some(place + 1))
         } else {
             Ok(None)
-        }
-    }
-}
-
-// The repairs of the steps over the lexemes that are left; past the last of these there is none.
-fn repairs_over<StorageT: StorageIndex, LexemeT: Lexeme<StorageT>>(
-    alloc: Global,
-    left: &[LexemeT],
-    steps: &[RepairStep<StorageT>],
-) -> Result<Vec<ParseRepair<LexemeT, StorageT>>, AllocError>
-    ensures repairs { IfOk result (λ repairs. map (repair_of StorageT.index) repairs.items ≡ repairs_over left.now (plain_steps StorageT.index steps.now)) }
-{
-    let mut repairs = Vec::with_capacity(alloc, steps.len())?;
-    let mut rest = left;
-    for step in steps {
-        match repair_over(*step, rest) {
-            None => return Ok(repairs),
-            Some((repair, after)) => {
-                repairs.push(repair)?;
-                rest = after;
-            }
-        }
-    }
-    Ok(repairs)
-}
-
-// The repair of the step over the lexemes that are left, and those that are left after it.
-fn repair_over<'a, StorageT: StorageIndex, LexemeT: Lexeme<StorageT>>(
-    step: RepairStep<StorageT>,
-    left: &'a [LexemeT],
-) -> Option<(ParseRepair<LexemeT, StorageT>, &'a [LexemeT])>
-    ensures none { result ≡ None → (steps : List PlainStep) → repairs_over left.now (plain_step StorageT.index step ∷ steps) ≡ [] }
-    ensures some { IfSome result (λ r. (steps : List PlainStep)
-        → repairs_over left.now (plain_step StorageT.index step ∷ steps) ≡ repair_of StorageT.index r.0 ∷ repairs_over r.1.now steps) }
-{
-    match step {
-        RepairStep::Insert(token) => Some((ParseRepair::Insert(token), left)),
-        RepairStep::Delete => {
-            let (lexeme, rest) = left.split_first()?;
-            Some((ParseRepair::Delete(*lexeme), rest))
-        }
-        RepairStep::Shift => {
-            let (lexeme, rest) = left.split_first()?;
-            Some((ParseRepair::Shift(*lexeme), rest))
         }
     }
 }

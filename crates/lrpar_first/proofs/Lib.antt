@@ -1,4 +1,3 @@
-pub mod FaultLemmas
 pub mod FirstLemmas
 pub mod RowLemmas
 pub mod GrowthLemmas

@@ -7,12 +7,12 @@ use Rattle.std.proofs.lemmas.Str.{IsCharBoundary-start}
 use Rattle.std.proofs.lemmas.List.Elements.{All-cons, All-map}
 use Rattle.lrpar_text.specs.Span.{Extent}
 use Rattle.lrpar_grammar.specs.declared.grammar.prods.SplitProd.{SplitProd}
-use Rattle.lrpar_reader.specs.declared.parts.RulePart.{RulePart}
-use Rattle.lrpar_reader.specs.declared.parts.TokenPart.{TokenPart}
-use Rattle.lrpar_reader.specs.Grammar.{added_rule, RuleName, TokenName}
+use Rattle.lrpar_parts.specs.declared.parts.RulePart.{RulePart}
+use Rattle.lrpar_parts.specs.declared.parts.TokenPart.{TokenPart}
+use Rattle.lrpar_parts.specs.Grammar.{added_rule, RuleName, TokenName}
 use Rattle.lrpar_grammar.specs.Kept.{split_prod_of}
-use Rattle.lrpar_reader.specs.Parts.{rule_name_of, token_name_of}
-use Rattle.lrpar_reader.specs.SpansFit.{AreSpansInOrder, IsPartOf, ProductionFits}
+use Rattle.lrpar_parts.specs.Parts.{rule_name_of, token_name_of}
+use Rattle.lrpar_parts.specs.SpansFit.{AreSpansInOrder, IsPartOf, ProductionFits}
 use Rattle.lrpar_text.proofs.ListLemmas.{All-map-at}
 
 -- the places of the rules, the added one among them, which lies at the start of every text

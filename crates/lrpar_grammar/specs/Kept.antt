@@ -3,11 +3,11 @@ use Rattle.std.specs.Prelude.{◌≡◌, ◌<◌, ◌≤◌, ℕ, List, ◌∷�
 use Rattle.std.specs.declared.alloc.Global.{Global}
 use Rattle.lrpar_text.specs.declared.span.PIdx.{PIdx}
 use Rattle.lrpar_grammar.specs.declared.grammar.prods.SplitProd.{SplitProd}
-use Rattle.lrpar_reader.specs.declared.parts.RulePart.{RulePart}
-use Rattle.lrpar_reader.specs.declared.parts.TokenPart.{TokenPart}
-use Rattle.lrpar_reader.specs.Parts.{rule_name_of, token_name_of}
-use Rattle.lrpar_reader.specs.Grammar.{Grammar, Production, added_rule, prods_from, rules_len, tokens_len, prods_len, IsWellFormed}
-use Rattle.lrpar_reader.specs.Symbols.{prod_numbers, symbol_of}
+use Rattle.lrpar_parts.specs.declared.parts.RulePart.{RulePart}
+use Rattle.lrpar_parts.specs.declared.parts.TokenPart.{TokenPart}
+use Rattle.lrpar_parts.specs.Parts.{rule_name_of, token_name_of}
+use Rattle.lrpar_parts.specs.Grammar.{Grammar, Production, added_rule, prods_from, rules_len, tokens_len, prods_len, IsWellFormed}
+use Rattle.lrpar_parts.specs.Symbols.{prod_numbers, symbol_of}
 
 -- a kept production by its numbers
 abbrev pub split_prod_of : {S : Type 0} → (S → ℕ) → SplitProd S → Production

@@ -1,7 +1,7 @@
 -- Lexemes as contracts see them, valid lists of them, and sentences.
 use Rattle.std.specs.Prelude.{◌≡◌, ◌<◌, ◌≤◌, ◌+◌, ℕ, Bool, List, length, slice_get, Some}
 use Rattle.lrpar_text.specs.Span.{Extent}
-use Rattle.lrpar_reader.specs.Grammar.{Grammar, Nonterminal, end_token}
+use Rattle.lrpar_parts.specs.Grammar.{Grammar, Nonterminal, end_token}
 use Rattle.lrpar_grammar.specs.Tree.{Tree, Fits, leaves}
 
 -- all that a contract knows of a lexeme: its token, where it lies, and whether a repair made it

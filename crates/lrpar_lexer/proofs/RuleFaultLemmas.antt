@@ -1,14 +1,9 @@
--- What a `?` hands on, and what a fault says of the line that it names.
-use Rattle.std.proofs.Common.{◌≡◌, ℕ, Result, Ok, Err, IfErr, IfOk, IsErrAnd, sym, subst}
+-- What a fault says of the line that it names, also where a `?` hands it on.
+use Rattle.std.proofs.Common.{◌≡◌, ℕ, Result, Ok, Err, IfErr, IsErrAnd, sym, subst}
 use Rattle.lrpar_lexer.specs.RuleTexts.{NamesLine}
 use Rattle.lrpar_lexer.specs.declared.rules.LineFault.{LineFault}
 use Rattle.lrpar_lexer.specs.declared.rules.RulesFault.{RulesFault}
 use Rattle.lrpar_lexer.specs.declared.rules.RulesFault.TheVariants.{Line, Memory}
-
--- where an error is handed on, there is no value
-pub no_value : {T E : Type 0} (r : Result T E) (P : T → Type 0) (Q : E → Type 0) → IsErrAnd r Q → IfOk r P
-no_value (Ok x) P Q failed = absurd failed
-no_value (Err e) P Q failed = tt
 
 module _ (P Q : ℕ → LineFault → Type 0) (so : (n : ℕ) (why : LineFault) → P n why → Q n why) where
   -- what holds of the line has consequences

@@ -15,7 +15,7 @@ use Rattle.lrpar_check.proofs.ExpectedRunLemmas.{checked_tables_end_at_sentences
 use Rattle.lrpar_stacks.proofs.Reductions.{settles_one_way}
 use Rattle.lrpar_stacks.proofs.RunLemmas.{comes_more, token_at_lexeme}
 use Rattle.lrpar_parser.specs.ExpectedAnswer.{ComesFurthest, IsExpectedAfter, IsExpectedAnswer}
-use Rattle.lrpar_course.specs.Lexed.{first_error, lexemes_of}
+use Rattle.lrpar_parser.specs.Lexed.{first_error, lexemes_of}
 use Rattle.lrpar_course.specs.LexemeFault.{IsLexemeFault}
 use Rattle.lrpar_parser.specs.Parse.{lexeme_facts}
 use Rattle.lrpar_parser.specs.declared.expected.Expected.{Expected}

@@ -8,7 +8,7 @@ use Rattle.lrpar_steps.specs.Building.{Building}
 use Rattle.lrpar_course.specs.End.{IsOfTree}
 use Rattle.lrpar_steps.specs.Entries.{Gives, HasValueEntry, IsLexemeEntry, IsMadeEntry}
 use Rattle.lrpar_course.specs.Folds.{Folds, ForestFolds}
-use Rattle.lrpar_course.specs.Lexed.{first_error}
+use Rattle.lrpar_parser.specs.Lexed.{first_error}
 use Rattle.lrpar_course.specs.Nodes.{IsNonterm, IsTerm}
 use Rattle.lrpar_parser.specs.Parse.{ParsesTo}
 use Rattle.lrpar_course.specs.Subject.{Subject}

@@ -3,7 +3,7 @@ use Rattle.std.proofs.Common.{◌≡◌, ◌∙◌, ℕ, List, [], ◌∷◌, ma
 use Rattle.std.specs.List.{AllZip}
 use Rattle.lrpar_grammar.specs.Sentence.{IsFirstBadToken, IsFirstEarlyStart}
 use Rattle.lrpar_course.proofs.CompleteAnswerLemmas.{errors_as}
-use Rattle.lrpar_course.specs.Lexed.{first_error, lexemes_of}
+use Rattle.lrpar_parser.specs.Lexed.{first_error, lexemes_of}
 use Rattle.lrpar_course.specs.LexemeFault.{IsLexemeFault}
 use Rattle.lrpar_parser.specs.Parse.{IsParse, Parses, lexeme_facts}
 use Rattle.lrpar_course.specs.RepairAnswer.{IsRepairAnswer, IsRepairErrorOf}

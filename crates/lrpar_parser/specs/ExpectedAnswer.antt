@@ -8,7 +8,7 @@ use Rattle.lrpar_stacks.specs.Expected.{AreExpected, tokens_of}
 use Rattle.lrpar_check.specs.ExpectedRuns.{FeedsFront}
 use Rattle.lrpar_stacks.specs.Reduction.{Feeds}
 use Rattle.lrpar_stacks.specs.Run.{token_at}
-use Rattle.lrpar_course.specs.Lexed.{first_error, lexemes_of}
+use Rattle.lrpar_parser.specs.Lexed.{first_error, lexemes_of}
 use Rattle.lrpar_parser.specs.Parse.{lexeme_facts}
 use Rattle.lrpar_parser.specs.declared.expected.Expected.{Expected}
 use Rattle.lrpar_steps.specs.declared.fault.ParseFault.{ParseFault}

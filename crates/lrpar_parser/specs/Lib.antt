@@ -1,3 +1,4 @@
+pub mod Lexed
 pub mod SumRun
 pub mod Parse
 pub mod ExpectedAnswer

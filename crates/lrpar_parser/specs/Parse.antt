@@ -2,7 +2,7 @@
 use Rattle.std.specs.Prelude.{◌≡◌, ◌↔◌, ◌⊎◌, ℕ, List, [], ◌∷◌, map, Option, Some, None, Result, IfOk, IsOkAnd, IsErrOf, Vec}
 use Rattle.lrpar_grammar.specs.Sentence.{LexemeFacts, IsFirstBadToken, IsFirstEarlyStart}
 use Rattle.lrpar_grammar.specs.Tree.{Tree}
-use Rattle.lrpar_course.specs.Lexed.{first_error, lexemes_of}
+use Rattle.lrpar_parser.specs.Lexed.{first_error, lexemes_of}
 use Rattle.lrpar_course.specs.RepairAnswer.{IsRepairAnswer}
 use Rattle.lrpar_course.specs.RunAnswer.{HasValue, HasNoValue}
 use Rattle.lrpar_course.specs.Subject.{Subject}

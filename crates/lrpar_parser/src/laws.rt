@@ -10,8 +10,9 @@ ghost use Rattle.lrpar_parser.specs.RepairLaws.{AcceptsWhereRepaired, ListsSound
 ghost use Rattle.lrpar_steps.specs.Replays.{ReplaysOneWay, WorksByReplay};
 ghost use Rattle.lrpar_stacks.specs.RunLaws.{RunsEndOneWay, RunsGoOnOrEnd, RunsStopByFailing};
 ghost use Rattle.lrpar_parser.specs.SumRun.{SumRunsThrough};
+ghost use Rattle.lrpar_course.specs.Spans.{SpansAreWorkedOut};
+ghost use Rattle.lrpar_steps.specs.TestWork.{BoundsTests};
 
-pub use lrpar_course::laws::{spans_are_worked_out, tests_of_sequences_are_bounded};
 use lrpar_grammar::span::StorageIndex;
 pub use lrpar_lexemes::laws::repairs_are_compared_by_contents;
 use lrpar_lexemes::lex_api::Lexeme;
@@ -88,4 +89,17 @@ pub fn runs_with_repairs_have_one_answer<
 pub fn runs_without_a_recoverer<LexemeT>()
     ensures runs { RunsWithoutRepairs LexemeT }
     ensures facts_run { RunsWithoutRepairs LexemeFacts }
+{}
+
+/// The test of a sequence of m steps from a stack of h states makes at most `cap * (h + (m + k + 1) * (cap + 3))` reductions,
+/// whatever the steps, where k lexemes have to follow: those of the steps that can be taken, and of the one at which the test
+/// ends. So it is over a table whose runs never stick and whose reductions are bounded by the cap, as a checked one's are.
+pub fn tests_of_sequences_are_bounded<LexemeT>()
+    ensures tests { BoundsTests LexemeT }
+    ensures facts_tests { BoundsTests LexemeFacts }
+{}
+
+/// The spans of trees whose nodes have no children somewhere: what stands in front of such a node is where it is.
+pub fn spans_are_worked_out()
+    ensures { SpansAreWorkedOut }
 {}

@@ -2,7 +2,9 @@
 #![tactic(auto)]
 
 mod expected;
+pub mod generictree;
 pub mod laws;
+mod lexed;
 pub mod parser;
 mod shifts;
 

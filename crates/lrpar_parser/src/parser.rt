@@ -18,15 +18,16 @@ ghost use Rattle.lrpar_course.specs.TreeAnswer.{IsTreeAnswer};
 
 pub use crate::expected::Expected;
 use crate::expected::expected_after;
+pub use crate::generictree::action_generictree;
+use crate::lexed::{lexemes_before_error, lexemes_or_error};
 pub use crate::shifts::ZeroShifts;
 pub use lrpar_answers::{LexParseError, Node, ParseError, ParseRepair, PpFault};
 pub use lrpar_course::actions::Actions;
 use lrpar_course::actions::{Acting, Placed};
 use lrpar_course::course::Course;
-use lrpar_course::lexed::{lexeme_fault, lexemes_before_error, lexemes_or_error};
+use lrpar_course::lexeme_fault::lexeme_fault;
 use lrpar_course::run::Run;
 use lrpar_course::trees::Trees;
-pub use lrpar_course::trees::action_generictree;
 use lrpar_grammar::grammar::YaccGrammar;
 use lrpar_grammar::span::{PIdx, RIdx, StorageIndex};
 use lrpar_lexemes::lex_api::{LexerTypes, NonStreamingLexer};

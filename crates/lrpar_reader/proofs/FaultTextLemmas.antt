@@ -1,10 +1,10 @@
 -- A fault of the declarations and rules of a text is one of the text.
 use Rattle.std.proofs.Common.{ℕ, List}
 use Rattle.lrpar_text.specs.Outline.{IsOutlineOf, TextOutline}
-use Rattle.lrpar_reader.specs.declared.parts.GrammarFault.{GrammarFault}
-use Rattle.lrpar_reader.specs.declared.parts.GrammarFault.TheVariants.{NoRules, StorageTooSmall, BadStart, BadSymbol, Syntax, UnknownRule, UnknownToken, TokenIsRule, RepeatedStart, RepeatedEpp, Memory}
-use Rattle.lrpar_reader.specs.Spells.{IsFaultOf}
-use Rattle.lrpar_reader.specs.TextNames.{IsRefusedAs}
+use Rattle.lrpar_parts.specs.declared.parts.GrammarFault.{GrammarFault}
+use Rattle.lrpar_parts.specs.declared.parts.GrammarFault.TheVariants.{NoRules, StorageTooSmall, BadStart, BadSymbol, Syntax, UnknownRule, UnknownToken, TokenIsRule, RepeatedStart, RepeatedEpp, Memory}
+use Rattle.lrpar_parts.specs.Spells.{IsFaultOf}
+use Rattle.lrpar_parts.specs.TextNames.{IsRefusedAs}
 
 -- what refuses them refuses the text
 pub refusal_of_text : (limit : ℕ) (text : List ℕ) (o : TextOutline) → IsOutlineOf text o → (fault : GrammarFault) → IsRefusedAs limit o fault → IsFaultOf limit text fault

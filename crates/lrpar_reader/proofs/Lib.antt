@@ -1,7 +1,1 @@
-pub mod NamesLemmas
-pub mod GrowthLemmas
-pub mod FaultsLemmas
-pub mod SpanLemmas
-pub mod SpellsLemmas
-pub mod SpellsFitLemmas
 pub mod FaultTextLemmas

@@ -1,6 +1,4 @@
-//! What a grammar is made of: its parts, as a caller hands them in or a text spells them.
+//! The reader: a text, to the parts of the grammar that it spells, or why it spells none.
 #![tactic(auto)]
 
-pub mod laws;
-pub mod parts;
 pub mod reader;

@@ -1,23 +1,18 @@
 //! The parts of a grammar that a text spells.
-ghost use Rattle.std.specs.Prelude.{◌≡◌, IfErr, IfOk};
+ghost use Rattle.std.specs.Prelude.{◌≡◌, ◌≤◌, IfErr, IfOk, OnOk, length};
 ghost use Rattle.lrpar_text.specs.Outline.{AreOfDefinedRules, HasOrderedSymbols, IsOutlineOf, outline_of};
-ghost use Rattle.lrpar_reader.specs.Parts.{AreSound, grammar_of, parts_of};
-ghost use Rattle.lrpar_reader.specs.SpansFit.{SpansFit};
-ghost use Rattle.lrpar_reader.specs.Spells.{AreDeclaredOnce, IsClean, IsFaultOf, IsOutlineFault, Spells, numbering_of};
-ghost use Rattle.lrpar_reader.specs.TextNames.{AreSpelled, IsRefusedAs, numbering_by};
+ghost use Rattle.lrpar_parts.specs.Parts.{AreSound, grammar_of, parts_of};
+ghost use Rattle.lrpar_parts.specs.SpansFit.{SpansFit};
+ghost use Rattle.lrpar_parts.specs.Spells.{AreDeclaredOnce, HasFault, IsClean, IsFaultOf, IsOutlineFault, Spells, numbering_of};
+ghost use Rattle.lrpar_parts.specs.TextNames.{AreSpelled, IsRefusedAs, numbering_by};
 
-mod faults;
-mod names;
-mod spelled;
-mod tables;
-
-use crate::parts::{GrammarFault, GrammarParts};
-use faults::{has_known_names, has_one_start};
+use lrpar_parts::known::has_known_names;
+use lrpar_parts::parts::{GrammarFault, GrammarParts};
+use lrpar_parts::spelled::{fit, spelled_parts};
+use lrpar_parts::tables::Tables;
 use lrpar_text::outline::{Outline, OutlineFault};
 use lrpar_text::span::StorageIndex;
-use spelled::{fit, spelled_parts};
 use std::alloc::Global;
-use tables::Tables;
 
 /// The parts that the text spells: sound ones, and their places fit the text.
 ///
@@ -65,6 +60,17 @@ fn checked_parts<StorageT: StorageIndex>(
     has_one_start(outline)?;
     let tables = Tables::new(alloc, outline)?;
     named_parts(alloc, outline, &tables)
+}
+
+// Refuses a second `%start`.
+fn has_one_start(outline: &Outline) -> Result<(), GrammarFault>
+    ensures ok { OnOk result (length (outline_of outline.now).starts ≤ 1) }
+    ensures err { IfErr result (HasFault (outline_of outline.now)) }
+{
+    match outline.starts.get(1) {
+        Some(word) => Err(GrammarFault::RepeatedStart(word.span())),
+        None => Ok(()),
+    }
 }
 
 // The same, where there is one start and no second text for a token.

@@ -12,7 +12,7 @@ use Rattle.lrpar_text.specs.declared.span.StIdx.{StIdx}
 use Rattle.lrpar_text.specs.declared.span.TIdx.{TIdx}
 use Rattle.lrpar_stacks.specs.Chain.{HasReductions, IsLongChain, IsShortUntil}
 use Rattle.lrpar_stacks.specs.Stack.{top_of}
-use Rattle.lrpar_conditions.proofs.EntryTests.{entries_len, entry_read}
+use Rattle.lrpar_states.proofs.StoredLemmas.{entries_len, entry_read}
 use Rattle.lrpar_states.proofs.TestLemmas.{each_more}
 use Rattle.lrpar_stacks.proofs.StepLemmas.{action_by_top}
 use Rattle.lrpar_states.specs.PlainRows.{action_entry, plain_action, plain_goto}

@@ -1,5 +1,5 @@
 -- What the tests of the safety conditions decide.
-use Rattle.std.proofs.Common.{◌≡◌, ℕ, refl, subst}
+use Rattle.std.proofs.Common.{◌≡◌, ℕ, refl}
 use Rattle.lrpar_grammar.specs.Grammar.{Grammar}
 use Rattle.lrpar_stacks.specs.Chain.{AreChainsShort}
 use Rattle.lrpar_safety.specs.Checked.{IsChainFault, IsCheckFault}
@@ -32,11 +32,3 @@ chains_or_memory g table cap Shape is short = absurd is
 chains_or_memory g table cap (Safety condition s) is short = absurd is
 chains_or_memory g table cap (ChainTooLong s t) is short = absurd (short s t is.0 is.1 is.2)
 chains_or_memory g table cap Memory is short = refl
-
--- a fault of equal parts is a fault
-pub fault_of_same : (g h : Grammar) (graph other : Graph) (table made : Table) (cap : ℕ) (fault : CheckFault) → g ≡ h → graph ≡ other → table ≡ made
-    → IsCheckFault g graph table cap fault → IsCheckFault h other made cap fault
-fault_of_same g h graph other table made cap fault same_g same_graph same_table is =
-    subst (λ (x : Grammar). IsCheckFault x other made cap fault) same_g
-    (subst (λ (x : Graph). IsCheckFault g x made cap fault) same_graph
-    (subst (λ (x : Table). IsCheckFault g graph x cap fault) same_table is))

@@ -5,12 +5,12 @@ ghost use Rattle.lrpar_states.specs.Safe.{HasShape, IsSafe, IsSafeAt};
 ghost use Rattle.lrpar_safety.specs.Checked.{IsCheckFault};
 
 use crate::fault::CheckFault;
-use lrpar_conditions::parts::Parts;
+use lrpar_conditions::checkable::Checkable;
 use lrpar_grammar::span::{StIdx, StorageIndex};
 use lrpar_states::condition::SafetyCondition;
 
 /// The first fault, whatever the cap on chains.
-pub fn first_fault<StorageT: StorageIndex>(parts: &Parts<'_, StorageT>) -> Option<CheckFault>
+pub fn first_fault<StorageT: StorageIndex>(parts: &Checkable<'_, StorageT>) -> Option<CheckFault>
     ensures { MatchOption result (IsSafe parts.now.grm.now parts.now.sgraph.now parts.now.stable.now)
         (λ fault. (cap : ℕ) → IsCheckFault parts.now.grm.now parts.now.sgraph.now parts.now.stable.now cap fault) }
 {
@@ -27,7 +27,7 @@ pub fn first_fault<StorageT: StorageIndex>(parts: &Parts<'_, StorageT>) -> Optio
 
 // The lowest state at which the condition fails.
 fn first_unsafe<StorageT: StorageIndex>(
-    parts: &Parts<'_, StorageT>,
+    parts: &Checkable<'_, StorageT>,
     condition: SafetyCondition,
 ) -> Option<usize>
     requires { HasShape parts.now.grm.now parts.now.sgraph.now parts.now.stable.now }
@@ -46,7 +46,7 @@ fn first_unsafe<StorageT: StorageIndex>(
 
 // Whether the condition holds at the state.
 fn is_safe_at<StorageT: StorageIndex>(
-    parts: &Parts<'_, StorageT>,
+    parts: &Checkable<'_, StorageT>,
     condition: SafetyCondition,
     s: StIdx<StorageT>,
 ) -> bool

@@ -1,10 +1,9 @@
 -- The steps of a table, from the entries that it stores.
-use Rattle.std.proofs.Common.{◌≡◌, ◌<◌, ◌≤◌, ◌+◌, ◌∙◌, refl, sym, ap, subst, inl, inr, arith, lit<, zero-add, ℕ, List, [], ◌∷◌, ◌++◌, Option, Some, None, get_or, length, map, slice_index_or, take}
-use Rattle.std.specs.List.{Contains, flat_map, range_with_len, zip}
+use Rattle.std.proofs.Common.{◌≡◌, ◌<◌, ◌≤◌, ◌+◌, ◌∙◌, refl, sym, ap, subst, inl, inr, arith, lit<, zero-add, ℕ, List, [], ◌∷◌, ◌++◌, Option, Some, None, get_or, length, take}
+use Rattle.std.specs.List.{Contains, flat_map, range_with_len}
 use Rattle.std.proofs.lemmas.Grind.{flat_map-append}
 use Rattle.std.proofs.lemmas.List.Elements.{Contains-append_cases, Contains-append_left, Contains-append_right}
-use Rattle.std.proofs.lemmas.List.{append-nil, append_assoc, get_or-map, length-map, take_all, take_more}
-use Rattle.std.proofs.lemmas.Slice.Zip.{get_or-zip, length-zip}
+use Rattle.std.proofs.lemmas.List.{append-nil, append_assoc, take_all, take_more}
 use Rattle.lrpar_text.proofs.ListLemmas.{range_more}
 use Rattle.lrpar_grammar.specs.Grammar.{GrammarSymbol, Nonterminal, Terminal}
 use Rattle.lrpar_states.specs.Safe.{GoesBy}
@@ -13,31 +12,6 @@ use Rattle.lrpar_build.proofs.MemberLemmas.{joined_has, joined_member, member_ca
 use Rattle.lrpar_shortest.specs.Choices.{ChoiceOf}
 use Rattle.lrpar_shortest.specs.Lens.{len_at}
 use Rattle.lrpar_shortest.specs.WayLens.{AreEdges, EdgeOf, IsStoredAt, edge_if, edges_at, edges_below, goto_edges, shift_edge, shift_edges}
-
--- keys and values side by side, which are the entries of a state
-module _ {K V X : Type 0} (number : K → ℕ) (value : V → X) (ks : List K) (vs : List V) (es : List (ℕ × X)) (paired : length vs ≡ length ks)
-    (is : map (λ e. (number e.0, value e.1)) (zip ks vs) ≡ es) where
-  -- there are as many entries as keys
-  pub entries_len : length es ≡ length ks
-  entries_len =
-      let zipped = length-zip ks vs in
-      let mapped = length-map (zip ks vs) (λ (e : K × V). let made : ℕ × X = (number e.0, value e.1) in made) in
-      let same = ap (λ (l : List (ℕ × X)). length l) is in
-      omega (arith, zipped, mapped, same, paired)
-
-  -- a key that was read with its value is the entry at that place
-  pub entry_read : (i : ℕ) (k : K) (v : V) → i < length ks → k ≡ slice_index_or ks i k → v ≡ slice_index_or vs i v
-      → ◌≡◌ {A = ℕ × X} (number k, value v) (slice_index_or es i (number k, value v))
-  entry_read i k v below key at =
-      let f : K × V → ℕ × X = λ e. (number e.0, value e.1) in
-      let zipped = length-zip ks vs in
-      let here = get_or-zip ks vs i (k, v) below (omega (arith, below, paired)) in
-      let image = get_or-map f (zip ks vs) i (k, v) (number k, value v) (omega (arith, below, paired, zipped)) in
-      let read : f (k, v) ≡ f (slice_index_or (zip ks vs) i (k, v)) = ap f (same_pair k (slice_index_or ks i k) v (slice_index_or vs i v) key at ∙ sym here) in
-      subst (λ (l : List (ℕ × X)). ◌≡◌ {A = ℕ × X} (number k, value v) (slice_index_or l i (number k, value v))) is (read ∙ sym image)
-    where
-      same_pair : (j k : K) (w v : V) → j ≡ k → w ≡ v → ◌≡◌ {A = K × V} (j, w) (k, v)
-      same_pair j k w v key value = cc
 
 -- what is made of one element more stands behind what is made of the first i
 module _ {X Y : Type 0} (f : X → List Y) (xs : List X) (i : ℕ) (x : X) where

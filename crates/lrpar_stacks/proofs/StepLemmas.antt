@@ -1,10 +1,9 @@
 -- What one step makes of a list of states, and of the chain that goes on from them.
-use Rattle.std.proofs.Common.{◌≡◌, ◌<◌, ◌≤◌, ◌+◌, ◌-◌, ◌∙◌, ◌↔◌, ◌⊎◌, inl, inr, refl, sym, ap, subst, arith, ℕ, zero, suc, List, [], ◌∷◌, ◌++◌, length, map, take, get_or, slice_get, Option, Some, None, Result, Ok, Err, IfOk, OnOk}
+use Rattle.std.proofs.Common.{◌≡◌, ◌<◌, ◌≤◌, ◌+◌, ◌-◌, ◌∙◌, ◌↔◌, ◌⊎◌, inl, inr, refl, sym, ap, subst, arith, ℕ, zero, suc, List, [], ◌∷◌, ◌++◌, length, map, take, get_or, slice_get, Option, Some, None}
 use Rattle.std.proofs.lemmas.List.{length-append, length-map, length-take-le, map-append, take-map}
 use Rattle.std.proofs.lemmas.List.Elements.{All-push, All-take}
 use Rattle.std.proofs.lemmas.Option.{get_or_from_slice_get, none-some, slice_get-map, slice_get_read, slice_get_within}
 use Rattle.std.specs.List.{All}
-use Rattle.std.specs.Result.{IsErrAnd}
 use Rattle.std.specs.Option.{MatchOption, option_and_then, option_map, option_map_or}
 use Rattle.lrpar_grammar.specs.Grammar.{Grammar, prods_len, prod_len, rule_of}
 use Rattle.lrpar_stacks.specs.Chain.{DropsAll, HasReductions}
@@ -16,15 +15,6 @@ use Rattle.lrpar_states.specs.Table.{Table, Fails, ReduceBy, IsClosed, action_of
 use Rattle.lrpar_stacks.specs.declared.step.Step.{Step}
 use Rattle.lrpar_stacks.specs.declared.step.Step.TheVariants.{Reduced, LeavesNone, Stays}
 use Rattle.lrpar_stacks.proofs.Reductions.{reduces_to_one}
-
--- where an error is handed on, there is no value
-pub no_value : {T E : Type 0} (r : Result T E) (P : T → Type 0) (Q : E → Type 0) → IsErrAnd r Q → IfOk r P
-no_value (Ok x) P Q failed = absurd failed
-no_value (Err e) P Q failed = tt
-
-pub nothing_done : {T E : Type 0} (r : Result T E) (P : Type 0) (Q : E → Type 0) → IsErrAnd r Q → OnOk r P
-nothing_done (Ok x) P Q failed = absurd failed
-nothing_done (Err e) P Q failed = tt
 
 -- below more symbols than there are, or as many, no state is left; and below less, one is
 pub too_few : (height symbols states len : ℕ) → height ≡ states → symbols ≡ len → height ≤ symbols → states ≤ len

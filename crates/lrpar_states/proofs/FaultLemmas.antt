@@ -1,17 +1,7 @@
--- What a `?` hands on.
-use Rattle.std.proofs.Common.{◌≡◌, ◌<◌, ◌≤◌, ◌↔◌, ℕ, Result, Ok, Err, IsErrAnd, IsErrOf, IfOk, OnOk, refl, arith}
+-- What the refusals of rows say.
+use Rattle.std.proofs.Common.{◌≡◌, ◌<◌, ◌≤◌, ◌↔◌, ℕ, Result, Ok, Err, IsErrAnd, IsErrOf, refl, arith}
 use Rattle.lrpar_states.specs.declared.fault.TableFault.{TableFault}
 use Rattle.lrpar_states.specs.declared.fault.TableFault.TheVariants.{BadIndex, Memory}
-
--- where an error is handed on, there is no value
-pub no_value : {T E : Type 0} (r : Result T E) (P : T → Type 0) (Q : E → Type 0) → IsErrAnd r Q → IfOk r P
-no_value (Ok x) P Q failed = absurd failed
-no_value (Err e) P Q failed = tt
-
--- nor was anything done
-pub nothing_done : {T E : Type 0} (r : Result T E) (P : Type 0) (Q : E → Type 0) → IsErrAnd r Q → OnOk r P
-nothing_done (Ok x) P Q failed = absurd failed
-nothing_done (Err e) P Q failed = tt
 
 -- what is as it should be isn't refused where a value is made of it
 pub made_of_good : {T : Type 0} (A : Type 0) (x : T) → A → IsErrOf (Ok x) BadIndex ↔ ¬ A

@@ -11,3 +11,4 @@ pub mod SafeTests
 pub mod TableLemmas
 pub mod TestLemmas
 pub mod FaultLemmas
+pub mod StoredLemmas

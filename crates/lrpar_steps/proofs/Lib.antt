@@ -9,3 +9,5 @@ pub mod ReversedLemmas
 pub mod MapLemmas
 pub mod ReplayLemmas
 pub mod FaultComparisonLemmas
+pub mod ListedLemmas
+pub mod PlaceLemmas

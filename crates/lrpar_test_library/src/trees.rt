@@ -1,12 +1,12 @@
 //! Trees: of many levels, of no grammar, those that an action makes, and how they are written.
 use crate::wants::{holds, same};
 use lrpar_answers::node::Node;
-use lrpar_course::trees::action_generictree;
 use lrpar_grammar::grammar::YaccGrammar;
 use lrpar_grammar::span::{RIdx, Span};
 use lrpar_lexemes::lex_api::Lexeme;
 use lrpar_lexer::{Token, TokenTypes};
 use lrpar_parser::RTParserBuilder;
+use lrpar_parser::generictree::action_generictree;
 use lrpar_parser::parser::AStackType;
 use lrpar_table::check::ParserData;
 use lrpar_test_parts::built::{SUM, built};

@@ -9,3 +9,4 @@ pub mod AheadLemmas
 pub mod FormLemmas
 pub mod LongestLemmas
 pub mod ListLemmas
+pub mod FaultLemmas

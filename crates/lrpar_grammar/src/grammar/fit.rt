@@ -1,10 +1,10 @@
 //! Whether places lie in a text.
 ghost use Rattle.std.specs.Prelude.{◌≡◌, ◌≤◌, ◌↔◌, All, IsTrue};
-ghost use Rattle.lrpar_reader.specs.SpansFit.{AreSpansInOrder, IsPartOf, IsPartOfLine, ProductionFits};
+ghost use Rattle.lrpar_parts.specs.SpansFit.{AreSpansInOrder, IsPartOf, IsPartOfLine, ProductionFits};
 ghost use Rattle.lrpar_grammar.specs.Kept.{split_prod_of};
 
 use super::prods::SplitProd;
-use lrpar_reader::parts::{RulePart, TokenPart};
+use lrpar_parts::parts::{RulePart, TokenPart};
 use lrpar_text::span::{Span, StorageIndex};
 
 // Whether the places of all rules lie in the text.

@@ -1,10 +1,10 @@
 //! The productions as a grammar keeps them.
 ghost use Rattle.std.specs.Prelude.{◌≡◌, ◌<◌, ◌≤◌, [], ◌∷◌, ◌++◌, All, IfOk, length, map};
-ghost use Rattle.lrpar_reader.specs.Grammar.{added_prod};
-ghost use Rattle.lrpar_reader.specs.Parts.{prod_of};
+ghost use Rattle.lrpar_parts.specs.Grammar.{added_prod};
+ghost use Rattle.lrpar_parts.specs.Parts.{prod_of};
 ghost use Rattle.lrpar_grammar.specs.Kept.{AreRowsOf, split_prod_of};
 
-use lrpar_reader::parts::ProdPart;
+use lrpar_parts::parts::ProdPart;
 use lrpar_text::span::{PIdx, RIdx, Span, StorageIndex, Symbol};
 use std::alloc::{AllocError, Global};
 

@@ -3,7 +3,7 @@ ghost use Rattle.std.specs.Prelude.{◌≡◌, ◌≤◌, IfOk, length, map, pos
 ghost use Rattle.std.specs.List.{range_with_len};
 ghost use Rattle.std.specs.Str.{bytes_eq};
 
-use lrpar_reader::parts::TokenPart;
+use lrpar_parts::parts::TokenPart;
 use lrpar_text::span::{StorageIndex, TIdx};
 use std::alloc::{AllocError, Global};
 

@@ -1,5 +1,5 @@
 use Rattle.lrpar_lexemes.specs.Lexemes.{facts_of}
-use Rattle.lrpar_answers.proofs.FaultLemmas.{nothing_done}
+use Rattle.lrpar_text.proofs.FaultLemmas.{nothing_done}
 use Rattle.lrpar_answers.proofs.FitsLemmas.{leaf_fits, part_ends, part_starts, rule_fits}
 use Rattle.lrpar_answers.proofs.tree_text.push_line.Goals as goal
 

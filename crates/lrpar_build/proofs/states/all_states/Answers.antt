@@ -3,11 +3,11 @@ use Rattle.std.proofs.lemmas.List.{length-map, length_push, map_push}
 use Rattle.lrpar_closure.specs.Next.{kernel_at}
 use Rattle.lrpar_build.specs.States.{AreExpanded, IsExpanded, StateOf, state_of}
 use Rattle.lrpar_build.specs.Numbers.{IsFaultOfStates}
-use Rattle.lrpar_build.specs.declared.fault.BuildFault.TheVariants.{Memory}
+use Rattle.lrpar_closure.specs.declared.fault.BuildFault.TheVariants.{Memory}
 use Rattle.lrpar_build.proofs.NumberLemmas.{expanded_more, starts_kept}
 use Rattle.lrpar_build.proofs.StatesLemmas.{are_states}
 use Rattle.lrpar_build.proofs.FaultLemmas.{fault_same}
-use Rattle.lrpar_first.proofs.FaultLemmas.{no_value}
+use Rattle.lrpar_text.proofs.FaultLemmas.{no_value}
 use Rattle.lrpar_build.proofs.states.all_states.Goals as goal
 
 pub states-init : goal.states-init

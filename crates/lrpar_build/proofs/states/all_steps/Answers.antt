@@ -3,7 +3,7 @@ use Rattle.lrpar_grammar.specs.Grammar.{Nonterminal}
 use Rattle.lrpar_states.specs.PlainRows.{goto_entry}
 use Rattle.lrpar_closure.specs.Cores.{core_set}
 use Rattle.lrpar_build.proofs.NumberLemmas.{kept_twice, steps_kept}
-use Rattle.lrpar_first.proofs.FaultLemmas.{no_value, nothing_done}
+use Rattle.lrpar_text.proofs.FaultLemmas.{no_value, nothing_done}
 use Rattle.lrpar_build.proofs.states.all_steps.Goals as goal
 
 pub returns-clause-kept : goal.returns-clause-kept

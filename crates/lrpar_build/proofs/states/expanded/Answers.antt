@@ -6,7 +6,7 @@ use Rattle.lrpar_closure.specs.Cores.{IsAmong, core_set}
 use Rattle.lrpar_closure.specs.ItemSets.{IsInClosure}
 use Rattle.lrpar_closure.specs.Next.{kernel_at}
 use Rattle.lrpar_build.proofs.NumberLemmas.{cores_reached}
-use Rattle.lrpar_first.proofs.FaultLemmas.{no_value, nothing_done}
+use Rattle.lrpar_text.proofs.FaultLemmas.{no_value, nothing_done}
 use Rattle.lrpar_build.proofs.states.expanded.Goals as goal
 
 pub closed-requires-clause-kernel : goal.closed-requires-clause-kernel

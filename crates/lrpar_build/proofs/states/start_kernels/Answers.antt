@@ -30,7 +30,7 @@ returns-clause-kernels g c =
     let max = c.args.max_states in
     let kernel = map (core_set index) c.in_ok-start.start.items in
     let n = index c.in_ok-_start._start.0 in
-    let after = c.number.new.self in
+    let after = c.number.new.kernels in
     number_numbered grm c.start_kernel.ensures.well_formed max limit [] (none_numbered grm max limit) kernel c.in_ok-start.ensures.kernel []
     (start_reached grm kernel c.in_ok-start.ensures.start) n after
     (subst (λ items. IsNumberOf max limit [] (map (core_set index) items) n after) c.deref.ensures.value
@@ -45,7 +45,7 @@ returns-clause-start g c =
     let max = c.args.max_states in
     let kernel = map (core_set index) c.in_ok-start.start.items in
     let n = index c.in_ok-_start._start.0 in
-    let after = c.number.new.self in
+    let after = c.number.new.kernels in
     let found =
     first_number max limit kernel n after
     (subst (λ items. IsNumberOf max limit [] (map (core_set index) items) n after) c.deref.ensures.value

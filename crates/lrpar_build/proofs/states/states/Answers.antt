@@ -1,6 +1,6 @@
 use Rattle.lrpar_build.specs.Numbers.{IsFaultOfStates}
-use Rattle.lrpar_build.specs.declared.fault.BuildFault.TheVariants.{Memory}
-use Rattle.lrpar_first.proofs.FaultLemmas.{no_value}
+use Rattle.lrpar_closure.specs.declared.fault.BuildFault.TheVariants.{Memory}
+use Rattle.lrpar_text.proofs.FaultLemmas.{no_value}
 use Rattle.lrpar_build.proofs.FaultLemmas.{fault_same}
 use Rattle.lrpar_build.proofs.states.states.Goals as goal
 

@@ -1,4 +1,4 @@
-use Rattle.lrpar_first.proofs.FaultLemmas.{no_value}
+use Rattle.lrpar_text.proofs.FaultLemmas.{no_value}
 use Rattle.lrpar_build.proofs.states.step.Goals as goal
 
 pub returns-in_err-state-clause-step : goal.returns-in_err-state-clause-step

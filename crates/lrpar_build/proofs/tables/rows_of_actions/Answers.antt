@@ -5,11 +5,11 @@ use Rattle.lrpar_states.specs.PlainConflicts.{reduce_reduce_of, shift_reduce_of}
 use Rattle.lrpar_states.specs.PlainRows.{action_entry}
 use Rattle.lrpar_build.specs.StateRows.{IsRefusedState}
 use Rattle.lrpar_build.specs.States.{StateOf, state_at, state_of}
-use Rattle.lrpar_build.specs.Wanted.{HasAcceptReduce, IsAcceptReduce, reduce_conflicts, shift_conflicts, wanted_row}
-use Rattle.lrpar_build.proofs.EntryLemmas.{joined_more}
+use Rattle.lrpar_closure.specs.Wanted.{HasAcceptReduce, IsAcceptReduce, reduce_conflicts, shift_conflicts, wanted_row}
+use Rattle.lrpar_closure.proofs.EntryLemmas.{joined_more}
 use Rattle.lrpar_build.proofs.StateRowLemmas.{below_next, error_same}
 use Rattle.lrpar_build.proofs.TablesLemmas.{cores_known, cores_once, refusal_of, row_more, shifts_ascend, state_read}
-use Rattle.lrpar_first.proofs.FaultLemmas.{no_value, nothing_done}
+use Rattle.lrpar_text.proofs.FaultLemmas.{no_value, nothing_done}
 use Rattle.lrpar_build.proofs.tables.rows_of_actions.Goals as goal
 
 pub state_row-requires-clause-prods : goal.state_row-requires-clause-prods

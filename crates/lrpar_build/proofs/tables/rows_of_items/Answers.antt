@@ -1,4 +1,4 @@
-use Rattle.lrpar_first.proofs.FaultLemmas.{no_value}
+use Rattle.lrpar_text.proofs.FaultLemmas.{no_value}
 use Rattle.lrpar_build.proofs.tables.rows_of_items.Goals as goal
 
 pub returns-in_err-rows : goal.returns-in_err-rows

@@ -7,7 +7,7 @@ use Rattle.lrpar_build.specs.StateRows.{table_of_states}
 use Rattle.lrpar_build.specs.States.{state_of}
 use Rattle.lrpar_build.proofs.TableRowLemmas.{is_table, some_state}
 use Rattle.lrpar_build.proofs.TablesLemmas.{table_is}
-use Rattle.lrpar_first.proofs.FaultLemmas.{no_value}
+use Rattle.lrpar_text.proofs.FaultLemmas.{no_value}
 use Rattle.lrpar_build.proofs.tables.table_of_states.Goals as goal
 
 pub unwrap-requires : goal.unwrap-requires

@@ -4,7 +4,7 @@ use Rattle.lrpar_states.specs.Table.{IsTable}
 use Rattle.lrpar_build.specs.Built.{IsBuilt}
 use Rattle.lrpar_build.specs.States.{state_of}
 use Rattle.lrpar_build.proofs.BuiltLemmas.{is_built}
-use Rattle.lrpar_first.proofs.FaultLemmas.{no_value}
+use Rattle.lrpar_text.proofs.FaultLemmas.{no_value}
 use Rattle.lrpar_build.proofs.tables.tables.Goals as goal
 
 pub table_of_states-requires-clause-actions : goal.table_of_states-requires-clause-actions

@@ -1,7 +1,7 @@
 use Rattle.std.proofs.Common.{◌++◌, ◌∙◌, sym, ap, map}
 use Rattle.lrpar_states.specs.PlainConflicts.{shift_reduce_of}
 use Rattle.lrpar_states.specs.PlainRows.{plain_goto}
-use Rattle.lrpar_build.specs.Wanted.{shift_conflicts_at}
+use Rattle.lrpar_closure.specs.Wanted.{shift_conflicts_at}
 use Rattle.lrpar_build.proofs.wants.push_token.Goals as goal
 
 pub returns-in_ok-push_shift_conflict-in-Some-clause-sr : goal.returns-in_ok-push_shift_conflict-in-Some-clause-sr

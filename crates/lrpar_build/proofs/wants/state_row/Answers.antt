@@ -6,11 +6,11 @@ use Rattle.lrpar_grammar.specs.Grammar.{tokens_len}
 use Rattle.lrpar_states.specs.PlainConflicts.{reduce_reduce_of, shift_reduce_of}
 use Rattle.lrpar_states.specs.PlainRows.{action_entry, plain_goto}
 use Rattle.lrpar_closure.specs.Cores.{core_set}
-use Rattle.lrpar_build.specs.Wanted.{AcceptsBeside, IsAcceptReduce, entry_at, reduce_conflicts_at, reductions, shift_conflicts_at, shift_entry, wanted_at}
-use Rattle.lrpar_build.proofs.EntryLemmas.{joined_more}
+use Rattle.lrpar_closure.specs.Wanted.{AcceptsBeside, IsAcceptReduce, entry_at, reduce_conflicts_at, reductions, shift_conflicts_at, shift_entry, wanted_at}
+use Rattle.lrpar_closure.proofs.EntryLemmas.{joined_more}
 use Rattle.lrpar_build.proofs.WantedLemmas.{sorted_image}
 use Rattle.lrpar_build.proofs.StateRowLemmas.{accepts_are, below_next, beside_is, entry_is, error_same, reductions_are, refused_at, shift_conflict_is}
-use Rattle.lrpar_first.proofs.FaultLemmas.{no_value, nothing_done}
+use Rattle.lrpar_text.proofs.FaultLemmas.{no_value, nothing_done}
 use Rattle.lrpar_build.proofs.wants.state_row.Goals as goal
 
 pub returns-in_err-push_token-clause-refused : goal.returns-in_err-push_token-clause-refused

@@ -4,7 +4,7 @@ use Rattle.std.specs.Map.{keys_of, lookup}
 use Rattle.lrpar_states.specs.PlainConflicts.{reduce_reduce_of, shift_reduce_of}
 use Rattle.lrpar_states.specs.PlainRows.{action_entry}
 use Rattle.lrpar_closure.specs.Cores.{core_set}
-use Rattle.lrpar_build.specs.Wanted.{AscendFrom, IsAcceptReduce, entry_at, reduce_conflicts_at, reductions, shift_conflicts_at, shift_entry, wanted_at}
+use Rattle.lrpar_closure.specs.Wanted.{AscendFrom, IsAcceptReduce, entry_at, reduce_conflicts_at, reductions, shift_conflicts_at, shift_entry, wanted_at}
 use Rattle.lrpar_build.proofs.wants.state_row.Given as goal
 
 -- what the tokens so far give is appended, none of them is refused, and the shifts that are left are by later ones

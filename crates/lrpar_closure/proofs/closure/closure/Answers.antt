@@ -4,7 +4,7 @@ use Rattle.lrpar_closure.specs.Cores.{AreBringing, core_set}
 use Rattle.lrpar_first.specs.FirstRows.{rows_of}
 use Rattle.lrpar_closure.proofs.AmongLemmas.{closure_among}
 use Rattle.lrpar_closure.proofs.PutLemmas.{added_not_brought}
-use Rattle.lrpar_first.proofs.FaultLemmas.{no_value}
+use Rattle.lrpar_text.proofs.FaultLemmas.{no_value}
 use Rattle.lrpar_closure.proofs.closure.closure.Goals as goal
 
 pub push_brought-requires-clause-added : goal.push_brought-requires-clause-added

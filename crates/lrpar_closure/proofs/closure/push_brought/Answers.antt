@@ -6,7 +6,7 @@ use Rattle.lrpar_closure.proofs.PutLemmas.{all_of_rows, begun_ahead, none_of_add
 use Rattle.lrpar_closure.proofs.AmongLemmas.{rows_more}
 use Rattle.lrpar_first.proofs.GrowthLemmas.{sets_len}
 use Rattle.lrpar_first.proofs.RowLemmas.{row_is, wide_at}
-use Rattle.lrpar_first.proofs.FaultLemmas.{nothing_done}
+use Rattle.lrpar_text.proofs.FaultLemmas.{nothing_done}
 use Rattle.lrpar_closure.proofs.closure.push_brought.Goals as goal
 
 pub loop-rule-init : goal.loop-rule-init

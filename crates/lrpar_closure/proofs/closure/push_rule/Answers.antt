@@ -4,7 +4,7 @@ use Rattle.std.proofs.lemmas.List.{append-nil, take_all}
 use Rattle.lrpar_grammar.specs.Grammar.{prods_of}
 use Rattle.lrpar_grammar.specs.Symbols.{prod_numbers}
 use Rattle.lrpar_text.proofs.ListLemmas.{map-take_more}
-use Rattle.lrpar_first.proofs.FaultLemmas.{nothing_done}
+use Rattle.lrpar_text.proofs.FaultLemmas.{nothing_done}
 use Rattle.lrpar_closure.specs.Cores.{core_set}
 use Rattle.lrpar_closure.proofs.PutLemmas.{all_ahead, front_core, front_cores, front_items, no_items, put_more}
 use Rattle.lrpar_closure.proofs.closure.push_rule.Goals as goal

@@ -2,7 +2,7 @@ use Rattle.std.proofs.Common.{◌≡◌, ◌<◌, ◌+◌, ◌∷◌, ◌++◌, 
 use Rattle.std.proofs.lemmas.List.{map_push}
 use Rattle.lrpar_text.proofs.ListLemmas.{map-take_more}
 use Rattle.lrpar_closure.specs.Cores.{CoreSet, core_set}
-use Rattle.lrpar_first.proofs.FaultLemmas.{no_value}
+use Rattle.lrpar_text.proofs.FaultLemmas.{no_value}
 use Rattle.lrpar_closure.proofs.cores.copied.Goals as goal
 
 -- one more is copied

@@ -4,7 +4,7 @@ use Rattle.std.proofs.lemmas.Option.{same_Some}
 use Rattle.std.specs.List.{slice_get}
 use Rattle.lrpar_grammar.specs.Sentence.{LexemeFacts}
 use Rattle.lrpar_steps.specs.Known.{facts_by}
-use Rattle.lrpar_course.proofs.ReadLemmas.{last_mapped}
+use Rattle.lrpar_steps.proofs.PlaceLemmas.{last_mapped}
 use Rattle.lrpar_course.proofs.StartLemmas.{none_past, starts_rise}
 use Rattle.lrpar_course.proofs.course.starts_rise.Goals as goal
 

@@ -1,4 +1,4 @@
-use Rattle.lrpar_first.proofs.FaultLemmas.{no_value}
+use Rattle.lrpar_text.proofs.FaultLemmas.{no_value}
 use Rattle.lrpar_first.proofs.first.empty_sets.Goals as goal
 
 pub returns-in_err-sets : goal.returns-in_err-sets

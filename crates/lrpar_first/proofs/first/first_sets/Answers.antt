@@ -2,7 +2,7 @@ use Rattle.std.proofs.Common.{◌≡◌, ◌∙◌, sym, subst, length}
 use Rattle.std.proofs.lemmas.Bool.{OnFalse_at}
 use Rattle.lrpar_first.specs.FirstRows.{AreFirsts, rows_of}
 use Rattle.lrpar_first.proofs.GrowthLemmas.{exact_sets, lent_back, sets_len}
-use Rattle.lrpar_first.proofs.FaultLemmas.{no_value}
+use Rattle.lrpar_text.proofs.FaultLemmas.{no_value}
 use Rattle.lrpar_first.proofs.first.first_sets.Goals as goal
 
 pub returns : goal.returns

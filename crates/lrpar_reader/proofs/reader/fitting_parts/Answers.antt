@@ -1,10 +1,10 @@
 use Rattle.std.proofs.Common.{sym, subst, ◌∙◌}
 use Rattle.std.proofs.lemmas.Bool.{false≢true}
 use Rattle.lrpar_text.specs.Outline.{outline_of}
-use Rattle.lrpar_reader.specs.Parts.{AreSound}
-use Rattle.lrpar_reader.specs.Spells.{Numbering, numbering_of}
-use Rattle.lrpar_reader.specs.TextNames.{FitAll, numbering_by}
-use Rattle.lrpar_reader.proofs.SpellsLemmas.{clean_sound, fit_parts}
+use Rattle.lrpar_parts.specs.Parts.{AreSound}
+use Rattle.lrpar_parts.specs.Spells.{Numbering, numbering_of}
+use Rattle.lrpar_parts.specs.TextNames.{FitAll, numbering_by}
+use Rattle.lrpar_parts.proofs.SpellsLemmas.{clean_sound, fit_parts}
 use Rattle.lrpar_reader.proofs.reader.fitting_parts.Goals as goal
 
 pub returns-then-not-fit-clause-err : goal.returns-then-not-fit-clause-err

@@ -1,8 +1,8 @@
 use Rattle.std.proofs.Common.{rules, subst}
 use Rattle.lrpar_text.specs.Words.{placed}
 use Rattle.lrpar_text.specs.Outline.{outline_of}
-use Rattle.lrpar_reader.specs.Spells.{AreNamesKnown}
-use Rattle.lrpar_reader.proofs.SpellsLemmas.{mapped_some}
+use Rattle.lrpar_parts.specs.Spells.{AreNamesKnown}
+use Rattle.lrpar_parts.proofs.SpellsLemmas.{mapped_some}
 use Rattle.lrpar_reader.proofs.reader.named_parts.Goals as goal
 
 pub has_known_names-requires : goal.has_known_names-requires

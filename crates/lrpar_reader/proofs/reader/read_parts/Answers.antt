@@ -1,12 +1,12 @@
 use Rattle.std.proofs.Common.{ap, sym, subst}
 use Rattle.std.proofs.lemmas.Result.{IfErr-weaker, IfOk-weaker}
 use Rattle.lrpar_text.specs.Outline.{outline_of}
-use Rattle.lrpar_reader.specs.Parts.{AreSound, grammar_of, parts_of}
-use Rattle.lrpar_reader.specs.SpansFit.{SpansFit}
-use Rattle.lrpar_reader.specs.Spells.{IsFaultOf, Spells}
-use Rattle.lrpar_reader.specs.TextNames.{AreSpelled, IsRefusedAs}
+use Rattle.lrpar_parts.specs.Parts.{AreSound, grammar_of, parts_of}
+use Rattle.lrpar_parts.specs.SpansFit.{SpansFit}
+use Rattle.lrpar_parts.specs.Spells.{IsFaultOf, Spells}
+use Rattle.lrpar_parts.specs.TextNames.{AreSpelled, IsRefusedAs}
 use Rattle.lrpar_reader.proofs.FaultTextLemmas.{refusal_of_text}
-use Rattle.lrpar_reader.proofs.SpellsFitLemmas.{outline_fits}
+use Rattle.lrpar_parts.proofs.SpellsFitLemmas.{outline_fits}
 use Rattle.lrpar_reader.proofs.reader.read_parts.Goals as goal
 
 pub checked_parts-requires : goal.checked_parts-requires

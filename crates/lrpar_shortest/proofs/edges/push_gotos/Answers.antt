@@ -3,7 +3,8 @@ use Rattle.lrpar_grammar.specs.Grammar.{Nonterminal}
 use Rattle.lrpar_shortest.specs.Lens.{len_at}
 use Rattle.lrpar_states.specs.Table.{gotos_at}
 use Rattle.lrpar_shortest.specs.WayLens.{edge_if, edges_of}
-use Rattle.lrpar_shortest.proofs.EdgeLemmas.{entries_len, entry_read, made_all, made_more}
+use Rattle.lrpar_states.proofs.StoredLemmas.{entries_len, entry_read}
+use Rattle.lrpar_shortest.proofs.EdgeLemmas.{made_all, made_more}
 use Rattle.lrpar_shortest.proofs.edges.push_gotos.Goals as goal
 
 pub loop-place-preserved : goal.loop-place-preserved

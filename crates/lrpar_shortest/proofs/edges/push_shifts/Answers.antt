@@ -2,7 +2,8 @@ use Rattle.std.proofs.Common.{◌<◌, ◌≤◌, arith, length}
 use Rattle.lrpar_states.specs.PlainRows.{plain_action}
 use Rattle.lrpar_states.specs.Table.{actions_at}
 use Rattle.lrpar_shortest.specs.WayLens.{edges_of, shift_edge}
-use Rattle.lrpar_shortest.proofs.EdgeLemmas.{entries_len, entry_read, made_all, made_more}
+use Rattle.lrpar_states.proofs.StoredLemmas.{entries_len, entry_read}
+use Rattle.lrpar_shortest.proofs.EdgeLemmas.{made_all, made_more}
 use Rattle.lrpar_shortest.proofs.edges.push_shifts.Goals as goal
 
 pub loop-place-preserved : goal.loop-place-preserved

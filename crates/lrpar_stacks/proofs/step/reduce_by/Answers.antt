@@ -5,7 +5,8 @@ use Rattle.lrpar_states.specs.PlainRows.{plain_goto}
 use Rattle.lrpar_states.specs.Table.{states_len}
 use Rattle.lrpar_states.proofs.TestLemmas.{length_by_image}
 use Rattle.lrpar_stacks.proofs.SettleLemmas.{on_err_always}
-use Rattle.lrpar_stacks.proofs.StepLemmas.{goto_of_left, no_value, one_left, place_left, too_few, within_at}
+use Rattle.lrpar_text.proofs.FaultLemmas.{no_value}
+use Rattle.lrpar_stacks.proofs.StepLemmas.{goto_of_left, one_left, place_left, too_few, within_at}
 use Rattle.lrpar_stacks.proofs.step.reduce_by.Goals as goal
 
 pub returns-in-None-clause-reduction : goal.returns-in-None-clause-reduction

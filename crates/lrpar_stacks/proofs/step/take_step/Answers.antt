@@ -3,7 +3,8 @@ use Rattle.lrpar_grammar.specs.Grammar.{prods_len}
 use Rattle.lrpar_stacks.specs.Reduction.{top_action}
 use Rattle.lrpar_states.specs.Table.{ReduceBy}
 use Rattle.lrpar_stacks.proofs.SettleLemmas.{on_err_always}
-use Rattle.lrpar_stacks.proofs.StepLemmas.{action_by_top, no_value, reduces_where_can, short_of_memory_at, stack_step_of, step_of}
+use Rattle.lrpar_text.proofs.FaultLemmas.{no_value}
+use Rattle.lrpar_stacks.proofs.StepLemmas.{action_by_top, reduces_where_can, short_of_memory_at, stack_step_of, step_of}
 use Rattle.lrpar_stacks.proofs.step.take_step.Goals as goal
 
 pub reduce_by-requires-clause-can : goal.reduce_by-requires-clause-can

@@ -1,5 +1,5 @@
 use Rattle.lrpar_states.proofs.AscendingLemmas.{same_from_last}
-use Rattle.lrpar_states.proofs.FaultLemmas.{nothing_done}
+use Rattle.lrpar_text.proofs.FaultLemmas.{nothing_done}
 use Rattle.lrpar_states.proofs.ascending.push_new.Goals as goal
 
 pub returns-in_err-push : goal.returns-in_err-push

@@ -1,6 +1,6 @@
 use Rattle.std.proofs.lemmas.List.{take_all}
 use Rattle.lrpar_states.proofs.CutLemmas.{appended_more}
-use Rattle.lrpar_states.proofs.FaultLemmas.{nothing_done}
+use Rattle.lrpar_text.proofs.FaultLemmas.{nothing_done}
 use Rattle.lrpar_states.proofs.entries.push_row.Goals as goal
 
 pub loop-key-preserved : goal.loop-key-preserved

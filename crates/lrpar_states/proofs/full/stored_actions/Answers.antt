@@ -3,7 +3,7 @@ use Rattle.std.proofs.lemmas.List.{take_all}
 use Rattle.lrpar_text.proofs.ListLemmas.{follows_more}
 use Rattle.lrpar_states.specs.PlainRows.{action_entry, plain_action}
 use Rattle.lrpar_states.specs.Rows.{row_actions}
-use Rattle.lrpar_states.proofs.FaultLemmas.{no_value}
+use Rattle.lrpar_text.proofs.FaultLemmas.{no_value}
 use Rattle.lrpar_states.proofs.TestLemmas.{all_read}
 use Rattle.lrpar_states.proofs.full.stored_actions.Goals as goal
 

@@ -3,7 +3,7 @@ use Rattle.std.proofs.lemmas.List.{take_all}
 use Rattle.lrpar_text.proofs.ListLemmas.{follows_more}
 use Rattle.lrpar_states.specs.PlainRows.{goto_entry, plain_goto}
 use Rattle.lrpar_states.specs.Rows.{row_gotos}
-use Rattle.lrpar_states.proofs.FaultLemmas.{no_value}
+use Rattle.lrpar_text.proofs.FaultLemmas.{no_value}
 use Rattle.lrpar_states.proofs.TestLemmas.{all_read}
 use Rattle.lrpar_states.proofs.full.stored_gotos.Goals as goal
 

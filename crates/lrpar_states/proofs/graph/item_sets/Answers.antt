@@ -5,7 +5,7 @@ use Rattle.std.proofs.lemmas.Iterator.Consumers.{YieldsList-end}
 use Rattle.std.proofs.lemmas.Slice.Zip.{all_zipped_more}
 use Rattle.lrpar_states.specs.Ascending.{HaveSame}
 use Rattle.lrpar_states.specs.PlainItems.{row_of}
-use Rattle.lrpar_states.proofs.FaultLemmas.{no_value}
+use Rattle.lrpar_text.proofs.FaultLemmas.{no_value}
 use Rattle.lrpar_states.proofs.graph.item_sets.Goals as goal
 
 pub loop-row-preserved : goal.loop-row-preserved

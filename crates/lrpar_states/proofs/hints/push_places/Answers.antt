@@ -1,4 +1,4 @@
-use Rattle.lrpar_states.proofs.FaultLemmas.{nothing_done}
+use Rattle.lrpar_text.proofs.FaultLemmas.{nothing_done}
 use Rattle.lrpar_states.proofs.hints.push_places.Goals as goal
 
 pub returns-in_err-push : goal.returns-in_err-push

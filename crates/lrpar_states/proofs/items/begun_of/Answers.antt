@@ -2,7 +2,7 @@ use Rattle.std.proofs.Common.{◌≡◌, ◌++◌, ◌+◌, ◌∷◌, ◌∙◌
 use Rattle.std.proofs.lemmas.List.{take_all, take_more}
 use Rattle.lrpar_states.specs.PlainItems.{AreBegunOf}
 use Rattle.lrpar_states.proofs.ItemLemmas.{begun_more, begun_no_more, cores_told_apart, exact_index}
-use Rattle.lrpar_states.proofs.FaultLemmas.{no_value}
+use Rattle.lrpar_text.proofs.FaultLemmas.{no_value}
 use Rattle.lrpar_states.proofs.items.begun_of.Goals as goal
 use Rattle.lrpar_states.proofs.items.begun_of.Goals.{then-core-gt0+in_ok-push, else-core-gt0}
 

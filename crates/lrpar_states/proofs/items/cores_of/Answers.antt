@@ -2,7 +2,7 @@ use Rattle.std.proofs.Common.{◌≡◌, ◌++◌, ◌+◌, ◌∷◌, [], map, 
 use Rattle.std.proofs.lemmas.List.{map-append, take_all, take_more}
 use Rattle.lrpar_states.specs.Ascending.{HaveSame}
 use Rattle.lrpar_states.proofs.ItemLemmas.{HaveSame-push, core_part, cores_from_same, cores_same_by_test, cores_told_apart, exact_index}
-use Rattle.lrpar_states.proofs.FaultLemmas.{no_value}
+use Rattle.lrpar_text.proofs.FaultLemmas.{no_value}
 use Rattle.lrpar_states.proofs.items.cores_of.Goals as goal
 
 pub push_new-requires : goal.push_new-requires

@@ -3,7 +3,7 @@ use Rattle.std.specs.List.{AllByRecursion, flat_map}
 use Rattle.std.specs.String.{string_bytes}
 use Rattle.lrpar_lexemes.specs.Lexemes.{facts_of}
 use Rattle.lrpar_answers.specs.TreeText.{MetFits, met_line, root_at, all_met, nodes_below}
-use Rattle.lrpar_answers.proofs.FaultLemmas.{no_value}
+use Rattle.lrpar_text.proofs.FaultLemmas.{no_value}
 use Rattle.lrpar_answers.proofs.TreeTextLemmas.{fit_below, fit_enter, fit_first, fit_root, left_falls, left_turned, text_begins, text_ends, text_enter, turn_falls}
 use Rattle.lrpar_answers.proofs.node.Node.pp.Goals as goal
 

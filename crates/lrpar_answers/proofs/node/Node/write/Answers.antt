@@ -3,7 +3,7 @@ use Rattle.std.specs.List.{AllByRecursion, flat_map}
 use Rattle.std.specs.Io.KnownBytes.{Appends}
 use Rattle.lrpar_lexemes.specs.Lexemes.{facts_of}
 use Rattle.lrpar_answers.specs.TreeText.{MetFits, met_line, root_at, nodes_below, tree_text}
-use Rattle.lrpar_answers.proofs.FaultLemmas.{nothing_done}
+use Rattle.lrpar_text.proofs.FaultLemmas.{nothing_done}
 use Rattle.lrpar_answers.proofs.TreeTextLemmas.{fit_begins, fit_left, fit_none, left_none, text_begins, text_enter, left_falls, left_met, left_turned, turn_falls}
 use Rattle.lrpar_answers.proofs.WriteLemmas.{appends_both, appends_nothing}
 use Rattle.lrpar_answers.proofs.node.Node.write.Goals as goal

@@ -5,7 +5,7 @@ use Rattle.lrpar_states.specs.PlainRows.{plain_action}
 use Rattle.lrpar_states.specs.Table.{ShiftTo}
 use Rattle.lrpar_check.proofs.CheckedLemmas.{run_of_checked}
 use Rattle.lrpar_stacks.proofs.SettleLemmas.{on_err_always, stack_shifted}
-use Rattle.lrpar_stacks.proofs.StepLemmas.{no_value}
+use Rattle.lrpar_text.proofs.FaultLemmas.{no_value}
 use Rattle.lrpar_check.proofs.check.ParserData.feed_on.Goals as goal
 
 pub returns-in_err-shift-in-Shift-clause-short_of_memory : goal.returns-in_err-shift-in-Shift-clause-short_of_memory

@@ -1,22 +1,16 @@
 use Rattle.std.proofs.lemmas.Result.{IfErr-weaker}
 use Rattle.lrpar_safety.specs.Checked.{Unchecked}
-use Rattle.lrpar_safety.proofs.SafetyLemmas.{fault_of_chains, fault_of_same, only_memory}
+use Rattle.lrpar_safety.proofs.SafetyLemmas.{fault_of_chains, only_memory}
 use Rattle.lrpar_states.specs.Safe.{IsSafe}
 use Rattle.lrpar_check.proofs.check.ParserData.new.Goals as goal
 
 pub returns-in-None-clause-fault : goal.returns-in-None-clause-fault
 returns-in-None-clause-fault g c =
-    let safe : IsSafe c.args.grm c.args.sgraph c.args.stable = rw (c.new.ensures.grammar, c.new.ensures.graph, c.new.ensures.table) at c.in-None.ensures in
+    let safe : IsSafe c.args.grm c.args.sgraph c.args.stable = c.in-None.ensures in
     IfErr-weaker _ _ _ (λ (r : Unchecked) is. fault_of_chains c.args.grm c.args.sgraph c.args.stable c.args.cap r.fault safe is) c.of_safe.ensures.fault
 
 pub returns-in-Some-clause-fault : goal.returns-in-Some-clause-fault
-returns-in-Some-clause-fault g c =
-    fault_of_same c.new.result.grm.now c.args.grm c.new.result.sgraph.now c.args.sgraph c.new.result.stable.now c.args.stable c.args.cap
-    c.in-Some.fault c.new.ensures.grammar c.new.ensures.graph c.new.ensures.table (c.in-Some.ensures c.args.cap)
+returns-in-Some-clause-fault g c = c.in-Some.ensures c.args.cap
 
 pub returns-in-Some-clause-exact : goal.returns-in-Some-clause-exact
-returns-in-Some-clause-exact g c =
-    let is =
-    fault_of_same c.new.result.grm.now c.args.grm c.new.result.sgraph.now c.args.sgraph c.new.result.stable.now c.args.stable c.args.cap
-    c.in-Some.fault c.new.ensures.grammar c.new.ensures.graph c.new.ensures.table (c.in-Some.ensures c.args.cap) in
-    only_memory c.args.grm c.args.sgraph c.args.stable c.args.cap c.in-Some.fault is
+returns-in-Some-clause-exact g c = only_memory c.args.grm c.args.sgraph c.args.stable c.args.cap c.in-Some.fault (c.in-Some.ensures c.args.cap)

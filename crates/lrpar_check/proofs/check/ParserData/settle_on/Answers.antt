@@ -6,7 +6,7 @@ use Rattle.lrpar_stacks.specs.Step.{IsStackStep}
 use Rattle.lrpar_stacks.specs.declared.step.Step.{Step}
 use Rattle.lrpar_check.proofs.CheckedLemmas.{run_of_checked}
 use Rattle.lrpar_stacks.proofs.SettleLemmas.{stack_reduced_once, stack_settled_by, stack_states, stays_by_step}
-use Rattle.lrpar_stacks.proofs.StepLemmas.{no_value, nothing_done}
+use Rattle.lrpar_text.proofs.FaultLemmas.{no_value, nothing_done}
 use Rattle.lrpar_check.proofs.check.ParserData.settle_on.Goals as goal
 
 pub take_step-requires-clause-within : goal.take_step-requires-clause-within

@@ -1,4 +1,4 @@
-use Rattle.lrpar_first.proofs.FaultLemmas.{no_value}
+use Rattle.lrpar_text.proofs.FaultLemmas.{no_value}
 use Rattle.lrpar_closure.proofs.sets.Sets.new.Goals as goal
 
 pub returns-in_err-firsts : goal.returns-in_err-firsts

@@ -1,7 +1,7 @@
 use Rattle.std.proofs.Common.{refl, sym, subst, ◌∙◌, arith}
 use Rattle.std.proofs.lemmas.Bool.{false≢true}
 use Rattle.lrpar_grammar.specs.Kept.{split_prod_of}
-use Rattle.lrpar_reader.specs.SpansFit.{ProductionFits}
+use Rattle.lrpar_parts.specs.SpansFit.{ProductionFits}
 use Rattle.lrpar_text.proofs.ListLemmas.{holds_more}
 use Rattle.lrpar_grammar.proofs.grammar.fit.prods_fit.Goals as goal
 

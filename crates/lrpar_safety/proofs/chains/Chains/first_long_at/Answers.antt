@@ -1,6 +1,6 @@
 use Rattle.std.proofs.Common.{◌<◌, length, arith, subst, sym}
 use Rattle.lrpar_states.specs.Table.{IsGotoEntry, gotos_at}
-use Rattle.lrpar_conditions.proofs.EntryTests.{entries_len, entry_read}
+use Rattle.lrpar_states.proofs.StoredLemmas.{entries_len, entry_read}
 use Rattle.lrpar_safety.proofs.ChainEntryLemmas.{first_more, first_of_all}
 use Rattle.lrpar_safety.proofs.chains.Chains.first_long_at.Goals as goal
 

@@ -1,6 +1,6 @@
 use Rattle.std.proofs.Common.{◌<◌, ◌∷◌, [], inl, inr, length, refl, arith, subst, sym}
 use Rattle.lrpar_states.specs.Table.{IsGotoEntry, gotos_at}
-use Rattle.lrpar_conditions.proofs.EntryTests.{entries_len, entry_read}
+use Rattle.lrpar_states.proofs.StoredLemmas.{entries_len, entry_read}
 use Rattle.lrpar_safety.proofs.LongestLemmas.{least_by_longest, longest_found, not_short, of_more}
 use Rattle.lrpar_safety.proofs.chains.Chains.longest_at.Goals as goal
 

@@ -4,7 +4,7 @@ use Rattle.lrpar_stacks.specs.Overlay.{Overlaid, overlaid}
 use Rattle.lrpar_stacks.specs.Stack.{states_of}
 use Rattle.lrpar_stacks.proofs.OverlayLemmas.{fails_over, full_over, over_put, reduces_over, stays_over}
 use Rattle.lrpar_stacks.proofs.SettleLemmas.{on_err_always}
-use Rattle.lrpar_stacks.proofs.StepLemmas.{nothing_done}
+use Rattle.lrpar_text.proofs.FaultLemmas.{nothing_done}
 use Rattle.lrpar_stacks.proofs.overlay.OverlayStateStack.reduce.Goals as goal
 
 pub returns-clause-states : goal.returns-clause-states

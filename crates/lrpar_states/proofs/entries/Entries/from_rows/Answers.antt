@@ -1,7 +1,7 @@
 use Rattle.std.proofs.Common.{◌≡◌, ◌∙◌, ◌∷◌, ◌++◌, [], ap, length, arith}
 use Rattle.std.proofs.lemmas.List.{take_all}
 use Rattle.lrpar_states.proofs.CutLemmas.{cut_first, cut_more}
-use Rattle.lrpar_states.proofs.FaultLemmas.{no_value}
+use Rattle.lrpar_text.proofs.FaultLemmas.{no_value}
 use Rattle.lrpar_states.proofs.entries.Entries.from_rows.Goals as goal
 
 pub loop-row-init : goal.loop-row-init

@@ -4,7 +4,8 @@ use Rattle.std.proofs.lemmas.List.{length-map}
 use Rattle.lrpar_states.specs.Ascending.{HaveSame}
 use Rattle.lrpar_states.specs.Graph.{item_at}
 use Rattle.lrpar_states.specs.PlainItems.{graph_of_rows, row_of}
-use Rattle.lrpar_states.proofs.FaultLemmas.{made_of_few, memory_of_few, no_value, refused_as_many}
+use Rattle.lrpar_text.proofs.FaultLemmas.{no_value}
+use Rattle.lrpar_states.proofs.FaultLemmas.{made_of_few, memory_of_few, refused_as_many}
 use Rattle.lrpar_states.proofs.ItemLemmas.{same_at_each}
 use Rattle.lrpar_states.proofs.TestLemmas.{same_len}
 use Rattle.lrpar_states.proofs.graph.StateGraph.from_rows.Goals as goal

@@ -1,5 +1,5 @@
 use Rattle.lrpar_states.specs.PlainItems.{item_of}
-use Rattle.lrpar_states.proofs.FaultLemmas.{no_value}
+use Rattle.lrpar_text.proofs.FaultLemmas.{no_value}
 use Rattle.lrpar_states.proofs.ItemLemmas.{HaveSame-map, exact_index, items_told_apart}
 use Rattle.lrpar_states.proofs.items.ItemSet.from_row.Goals as goal
 

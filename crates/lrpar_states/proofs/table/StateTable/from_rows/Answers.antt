@@ -2,7 +2,8 @@ use Rattle.std.proofs.Common.{◌≡◌, ℕ, None, false, slice_index_or, [], s
 use Rattle.lrpar_states.specs.PlainRows.{plain_rows}
 use Rattle.lrpar_states.specs.Rows.{AreRows}
 use Rattle.lrpar_states.specs.Table.{Table, Fails, action_of, goto_of}
-use Rattle.lrpar_states.proofs.FaultLemmas.{made_of_good, memory_of_good, no_value, refused_as_bad}
+use Rattle.lrpar_text.proofs.FaultLemmas.{no_value}
+use Rattle.lrpar_states.proofs.FaultLemmas.{made_of_good, memory_of_good, refused_as_bad}
 use Rattle.lrpar_states.proofs.RowLemmas.{action_of_rows, goto_of_rows}
 use Rattle.lrpar_states.proofs.table.StateTable.from_rows.Goals as goal
 

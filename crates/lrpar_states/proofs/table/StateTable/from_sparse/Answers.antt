@@ -1,7 +1,8 @@
 use Rattle.std.proofs.Common.{◌≡◌, false}
 use Rattle.lrpar_states.specs.PlainRows.{sparse_table_of}
 use Rattle.lrpar_states.specs.Table.{IsTable}
-use Rattle.lrpar_states.proofs.FaultLemmas.{made_of_good, memory_of_good, no_value, refused_as_bad}
+use Rattle.lrpar_text.proofs.FaultLemmas.{no_value}
+use Rattle.lrpar_states.proofs.FaultLemmas.{made_of_good, memory_of_good, refused_as_bad}
 use Rattle.lrpar_states.proofs.table.StateTable.from_sparse.Goals as goal
 
 pub returns-then-not-is_sparse_table-clause-refused : goal.returns-then-not-is_sparse_table-clause-refused

@@ -1,7 +1,7 @@
 use Rattle.std.proofs.Common.{◌≡◌, Some, ℕ, string_bytes, sym, ap, ◌∙◌}
 use Rattle.std.specs.List.{position}
 use Rattle.std.specs.Str.{bytes_eq}
-use Rattle.lrpar_reader.specs.Parts.{token_name_of}
+use Rattle.lrpar_parts.specs.Parts.{token_name_of}
 use Rattle.lrpar_text.proofs.ListLemmas.{position-map}
 use Rattle.lrpar_grammar.proofs.grammar.value.YaccGrammar.token_idx.Goals as goal
 

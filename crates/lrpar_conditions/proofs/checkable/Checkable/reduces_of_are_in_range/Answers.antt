@@ -1,0 +1,48 @@
+use Rattle.std.proofs.Common.{◌<◌, length, refl, arith, sym}
+use Rattle.std.proofs.lemmas.Bool.{iff_false}
+use Rattle.std.specs.List.{Contains}
+use Rattle.lrpar_states.specs.PlainRows.{plain_action}
+use Rattle.lrpar_states.specs.Table.{ReduceBy, actions_at}
+use Rattle.lrpar_states.proofs.Mapped.{all_more, all_tested}
+use Rattle.lrpar_conditions.specs.Entrywise.{IsInRange}
+use Rattle.lrpar_states.proofs.StoredLemmas.{entries_len, entry_read}
+use Rattle.lrpar_conditions.proofs.EntryTests.{all_actions, named_each}
+use Rattle.lrpar_states.proofs.TestLemmas.{accepted, refused}
+use Rattle.lrpar_conditions.proofs.checkable.Checkable.reduces_of_are_in_range.Goals as goal
+
+pub loop-place-preserved : goal.loop-place-preserved
+loop-place-preserved g c =
+    let index = g.StorageT.StorageIndex.index in
+    let at = c.actions_of.ensures in
+    let es = actions_at c.args.self.now.stable.now (index c.args.s.0) in
+    let place = c.loop-place.place in
+    let read =
+    entry_read (λ t. index t.0) (plain_action index) c.actions_of.result.0.now c.actions_of.result.1.now es at.actions at.entries place c.index-tokens-place.result c.index-actions-place.result c.loop-place-test.true
+    c.index-tokens-place.is c.index-actions-place.is in
+    let len = entries_len (λ t. index t.0) (plain_action index) c.actions_of.result.0.now c.actions_of.result.1.now es at.actions at.entries in
+    let below : place < length es = omega (arith, len, c.loop-place-test.true) in
+    all_more (λ e. IsInRange c.args.self.now.grm.now e.1) es place (index c.index-tokens-place.result.0, plain_action index c.index-actions-place.result) c.loop-place.invariant below read (c.is_in_range.ensures.0 c.if-not-is_in_range.false)
+
+pub returns : goal.returns
+returns g c =
+    let index = g.StorageT.StorageIndex.index in
+    let at = c.actions_of.ensures in
+    let es = actions_at c.args.self.now.stable.now (index c.args.s.0) in
+    let place = c.loop-place.place in
+    let len = entries_len (λ t. index t.0) (plain_action index) c.actions_of.result.0.now c.actions_of.result.1.now es at.actions at.entries in
+    let asked = all_actions c.args.self.now.stable.now (index c.args.s.0) es (λ _ action. IsInRange c.args.self.now.grm.now action) at.exact (λ t. tt) in
+    accepted (λ t p named. asked.0 ((all_tested (λ e. IsInRange c.args.self.now.grm.now e.1) es place c.loop-place.invariant (omega (arith, len, c.loop-place-test.false))).0 refl) t (ReduceBy p) named)
+
+pub returns-then-not-is_in_range : goal.returns-then-not-is_in_range
+returns-then-not-is_in_range g c =
+    let index = g.StorageT.StorageIndex.index in
+    let at = c.actions_of.ensures in
+    let es = actions_at c.args.self.now.stable.now (index c.args.s.0) in
+    let place = c.loop-place.place in
+    let read =
+    entry_read (λ t. index t.0) (plain_action index) c.actions_of.result.0.now c.actions_of.result.1.now es at.actions at.entries place c.index-tokens-place.result c.index-actions-place.result c.loop-place-test.true
+    c.index-tokens-place.is c.index-actions-place.is in
+    let len = entries_len (λ t. index t.0) (plain_action index) c.actions_of.result.0.now c.actions_of.result.1.now es at.actions at.entries in
+    let below : place < length es = omega (arith, len, c.loop-place-test.true) in
+    let there : Contains es (index c.index-tokens-place.result.0, plain_action index c.index-actions-place.result) = (place, below, sym read) in
+    refused (λ each. iff_false c.is_in_range.ensures c.if-not-is_in_range.true (named_each c.args.self.now.grm.now c.args.self.now.sgraph.now c.args.self.now.stable.now (g.StorageT.StorageIndex.index c.args.s.0) each _ _ ((at.exact _ _).0 there).0))

@@ -1,0 +1,6 @@
+pub mod NamesLemmas
+pub mod GrowthLemmas
+pub mod FaultsLemmas
+pub mod SpanLemmas
+pub mod SpellsLemmas
+pub mod SpellsFitLemmas
