@@ -5,14 +5,14 @@ use Rattle.std.proofs.lemmas.List.{take_more, length-take, map-append}
 use Rattle.std.proofs.lemmas.Grind.{flat_map-append}
 use Rattle.lrpar_text.specs.Span.{Extent}
 use Rattle.lrpar_lexemes.specs.declared.repairs.ParseRepair.{ParseRepair}
-use Rattle.lrpar_repairs.specs.Printed.{IsPpFault}
+use Rattle.lrpar_answers.specs.Printed.{IsPpFault}
 use Rattle.lrpar_repairs.specs.PrintedParts.{sequence_parts}
 use Rattle.lrpar_lexemes.specs.Repairs.{repair_of, repairs_of}
 use Rattle.lrpar_repairs.specs.SequenceText.{Part, IsPartsText, RepairsFit, inserted, parts_of, IsFirstUnnamed}
 use Rattle.lrpar_answers.specs.ErrorText.{digits, numbering, numbered, repairs_text, tokens_of}
 use Rattle.lrpar_lexemes.specs.declared.pp_fault.PpFault.{PpFault}
 use Rattle.lrpar_lexemes.specs.declared.pp_fault.PpFault.TheVariants.{NoPrintedName, Memory}
-use Rattle.lrpar_repairs.proofs.SequenceTextLemmas.{IsInRange, named_append, named_parts, unnamed_within}
+use Rattle.lrpar_answers.proofs.SequenceTextLemmas.{IsInRange, named_append, named_parts, unnamed_within}
 use Rattle.lrpar_answers.proofs.TreeTextLemmas.{all_both}
 
 -- one more sequence behind its number

@@ -4,7 +4,7 @@ use Rattle.std.specs.List.{AllZip}
 use Rattle.lrpar_text.specs.Span.{Extent}
 use Rattle.lrpar_lexemes.specs.Repair.{Repair}
 use Rattle.lrpar_lexemes.specs.declared.pp_fault.PpFault.{PpFault}
-use Rattle.lrpar_repairs.specs.Printed.{IsPpFault}
+use Rattle.lrpar_answers.specs.Printed.{IsPpFault}
 use Rattle.lrpar_repairs.specs.SequenceText.{IsPartsText, parts_of}
 use Rattle.lrpar_answers.specs.Failure.{Failure}
 use Rattle.lrpar_answers.specs.ErrorText.{IsFailureText, place_text, repairs_text, tokens_of}

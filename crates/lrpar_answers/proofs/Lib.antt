@@ -1,3 +1,4 @@
+pub mod SequenceTextLemmas
 pub mod FailureLemmas
 pub mod WeightLemmas
 pub mod WalkLemmas

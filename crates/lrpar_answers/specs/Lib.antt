@@ -1,3 +1,4 @@
+pub mod Printed
 pub mod Failure
 pub mod FailureLaws
 pub mod LexParse

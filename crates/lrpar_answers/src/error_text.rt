@@ -3,17 +3,17 @@ ghost use Rattle.std.specs.Prelude.{◌≡◌, ◌++◌, ◌↔◌, List, ℕ, I
 ghost use Rattle.std.specs.List.{AllByRecursion, AllZip};
 ghost use Rattle.std.specs.String.{string_bytes};
 ghost use Rattle.std.specs.Str.{IsCharBoundary};
-ghost use Rattle.lrpar_answers.specs.ErrorText.{digits, numbered, numbering, place_text, repairs_text, tokens_of};
-ghost use Rattle.lrpar_repairs.specs.Printed.{IsPpFault, printed_by};
+ghost use Rattle.lrpar_answers.specs.ErrorText.{numbered, numbering, place_text, repairs_text, tokens_of};
+ghost use Rattle.lrpar_answers.specs.Printed.{IsPpFault, printed_by};
 ghost use Rattle.lrpar_lexemes.specs.Repairs.{repair_of, repairs_of};
 ghost use Rattle.lrpar_grammar.specs.SpansFit.{IsPartOf};
 ghost use Rattle.lrpar_repairs.specs.SequenceText.{IsPartsText, RepairFits, RepairsFit, parts_of};
 
 use crate::errors::LexParseError;
+use crate::sequence_text::push_sequence;
 use lrpar_grammar::span::{Span, StorageIndex, TIdx};
 use lrpar_lexemes::lex_api::{LexError, Lexeme, LexerTypes, NonStreamingLexer};
 use lrpar_lexemes::{ParseRepair, PpFault};
-use lrpar_repairs::sequence_text::push_sequence;
 use std::alloc::{AllocError, Global};
 
 impl<StorageT: StorageIndex, LexerTypesT: LexerTypes<StorageT = StorageT>> LexParseError<

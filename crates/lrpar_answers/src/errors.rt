@@ -1,5 +1,5 @@
 //! Parse errors, and the repairs that they offer.
-ghost use Rattle.std.specs.Prelude.{◌≡◌, ⊤};
+ghost use Rattle.std.specs.Prelude.{◌≡◌};
 ghost use Rattle.lrpar_answers.specs.Failure.{failure_text};
 ghost use Rattle.lrpar_lexemes.specs.Repairs.{repairs_of};
 
@@ -12,11 +12,23 @@ use std::fmt;
 use std::marker::Model;
 
 /// A place at which a parse found no action, and how the input could be repaired there.
-#[derive(Debug, Drop)]
+#[derive(Debug)]
 pub struct ParseError<LexemeT: Lexeme<StorageT>, StorageT: StorageIndex> {
     stidx: StIdx<StorageT>,
     lexeme: LexemeT,
     repairs: Vec<Vec<ParseRepair<LexemeT, StorageT>>>,
+}
+
+// A drop of its own, so that what lets go of one elsewhere proves one call.
+impl<LexemeT: Lexeme<StorageT>, StorageT: StorageIndex> Drop for ParseError<LexemeT, StorageT> {
+    fn drop(self) {
+        let ParseError {
+            stidx: _,
+            lexeme: _,
+            repairs,
+        } = self;
+        drop(repairs);
+    }
 }
 
 impl<LexemeT: Lexeme<StorageT>, StorageT: StorageIndex> Model for ParseError<LexemeT, StorageT> {

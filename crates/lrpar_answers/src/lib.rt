@@ -4,6 +4,7 @@
 mod error_text;
 pub mod errors;
 pub mod node;
+mod sequence_text;
 mod tree_text;
 mod tree_write;
 

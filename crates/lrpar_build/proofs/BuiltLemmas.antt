@@ -9,9 +9,9 @@ use Rattle.lrpar_states.specs.Table.{IsTable}
 use Rattle.lrpar_states.proofs.EntryLemmas.{no_action_after, no_action_past, no_goto_past}
 use Rattle.lrpar_build.specs.BuilderLaws.{AcceptAlone, IsWantedTable}
 use Rattle.lrpar_build.specs.Built.{IsBuildRefusal, IsBuilt}
-use Rattle.lrpar_build.specs.Canonical.{AreCanonical, AreSame, IsAcceptConflict, IsCanonical, IsTransition, WantsAccept, sets_of}
-use Rattle.lrpar_build.specs.StateRows.{IsRefusalOf, IsRefusedState, item_rows, table_of_states}
-use Rattle.lrpar_build.specs.States.{AreStates, StateOf, sets_at, state_at}
+use Rattle.lrpar_item_sets.specs.Canonical.{AreCanonical, AreSame, IsAcceptConflict, IsCanonical, IsTransition, WantsAccept, sets_of}
+use Rattle.lrpar_item_sets.specs.StateRows.{IsRefusalOf, IsRefusedState, item_rows, table_of_states}
+use Rattle.lrpar_item_sets.specs.States.{AreStates, StateOf, sets_at, state_at}
 use Rattle.lrpar_closure.specs.Wanted.{IsAcceptReduce, is_complete_at, reductions}
 use Rattle.lrpar_closure.specs.declared.fault.BuildFault.{BuildFault}
 use Rattle.lrpar_closure.specs.declared.fault.BuildFault.TheVariants.{AcceptReduceConflict, Memory, StorageTooSmall, TooManyStates}

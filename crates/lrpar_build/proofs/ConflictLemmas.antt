@@ -10,7 +10,7 @@ use Rattle.lrpar_states.specs.Graph.{Graph, ItemOf, graph_len, item_at}
 use Rattle.lrpar_states.specs.Safe.{IsItem}
 use Rattle.lrpar_states.specs.Table.{Accepts, ConflictLists, Fails, ReduceBy, ReduceReduce, ShiftReduce, ShiftTo}
 use Rattle.lrpar_build.specs.BuilderLaws.{AcceptAlone, AreConflictsOf, CanonicalConflictsFit, NoConflictsAreOneAction, WantOneAction, lists_in}
-use Rattle.lrpar_build.specs.Canonical.{IsCanonical, IsTransition, StandsBefore, WantsAccept, WantsFirst, WantsReduce, sets_of}
+use Rattle.lrpar_item_sets.specs.Canonical.{IsCanonical, IsTransition, StandsBefore, WantsAccept, WantsFirst, WantsReduce, sets_of}
 use Rattle.lrpar_closure.specs.ItemSets.{IsReachedBy, Own}
 use Rattle.lrpar_build.proofs.DecidedLemmas.{first_wanted}
 use Rattle.lrpar_build.proofs.ReachedLemmas.{no_end_token, reached_at_end, reached_items, symbol_listed}

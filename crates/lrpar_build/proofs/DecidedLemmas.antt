@@ -6,7 +6,7 @@ use Rattle.lrpar_grammar.specs.Grammar.{Grammar, GrammarSymbol, Nonterminal, Ter
 use Rattle.lrpar_states.specs.Graph.{Graph, ItemOf, item_at, items_of}
 use Rattle.lrpar_states.specs.Table.{Accepts, Fails, ReduceBy, ShiftTo, Table, action_of}
 use Rattle.lrpar_states.proofs.GraphLemmas.{is_item, item_by_test}
-use Rattle.lrpar_build.specs.Canonical.{ActsAsWanted, LeadsTo, StandsBefore, WantsAccept, WantsFirst, WantsReduce, sets_of}
+use Rattle.lrpar_item_sets.specs.Canonical.{ActsAsWanted, LeadsTo, StandsBefore, WantsAccept, WantsFirst, WantsReduce, sets_of}
 use Rattle.lrpar_build.proofs.MemberLemmas.{member_cases}
 
 -- an element of a list has what is decided of each, or none has

@@ -1,5 +1,3 @@
-pub mod WantedLemmas
-pub mod StateRowLemmas
 pub mod ReachedLemmas
 pub mod DecidedLemmas
 pub mod SafeLemmas
@@ -11,8 +9,3 @@ pub mod TableRowLemmas
 pub mod ListedLemmas
 pub mod BuiltLemmas
 pub mod TablesLemmas
-pub mod KernelLemmas
-pub mod StatesLemmas
-pub mod FaultLemmas
-pub mod NumberLemmas
-pub mod StepLemmas

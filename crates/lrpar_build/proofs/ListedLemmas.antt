@@ -13,10 +13,10 @@ use Rattle.lrpar_states.specs.Table.{ConflictLists, ReduceReduce, ShiftReduce}
 use Rattle.lrpar_states.proofs.ItemLemmas.{Contains-image, Contains-preimage}
 use Rattle.lrpar_build.specs.BuilderLaws.{AreConflictsOf, lists_in}
 use Rattle.lrpar_build.specs.Built.{StandInOrder, reduce_reduce_cmp, shift_reduce_cmp}
-use Rattle.lrpar_build.specs.Canonical.{AreSame, IsReduceConflict, IsShiftConflict, IsTransition, StandsBefore, WantsFirst, sets_of}
+use Rattle.lrpar_item_sets.specs.Canonical.{AreSame, IsReduceConflict, IsShiftConflict, IsTransition, StandsBefore, WantsFirst, sets_of}
 use Rattle.lrpar_closure.specs.Cores.{CoreSet, IsAmong, IsCoreOf}
-use Rattle.lrpar_build.specs.StateRows.{reduce_conflicts_below, shift_conflicts_below, unless_empty}
-use Rattle.lrpar_build.specs.States.{AreStates, StateOf, sets_at, state_at}
+use Rattle.lrpar_item_sets.specs.StateRows.{reduce_conflicts_below, shift_conflicts_below, unless_empty}
+use Rattle.lrpar_item_sets.specs.States.{AreStates, StateOf, sets_at, state_at}
 use Rattle.lrpar_closure.specs.Wanted.{AscendFrom, reduce_conflicts, reduce_conflicts_at, reductions, shift_conflicts, shift_conflicts_at}
 use Rattle.lrpar_build.proofs.MemberLemmas.{joined_has, joined_member, member_cases, member_later, member_none, range_has, range_member, sorted_first, sorted_joined, sorted_none}
 use Rattle.lrpar_build.proofs.ReductionLemmas.{first_alone, first_is, first_least, none_is, reductions_ascend, wants_is}

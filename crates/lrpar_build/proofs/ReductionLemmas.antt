@@ -7,12 +7,12 @@ use Rattle.std.proofs.lemmas.List.Folds.{Any-from_list_any, list_any-from_Any}
 use Rattle.lrpar_grammar.specs.Grammar.{Grammar, Nonterminal, Terminal, prod_len, start_prod}
 use Rattle.lrpar_states.specs.Graph.{ItemOf, item_at}
 use Rattle.lrpar_states.specs.Table.{ReduceBy, Table, action_of, goto_of}
-use Rattle.lrpar_build.specs.Canonical.{ActsAsWanted, AreSame, GoesAsWanted, IsTransition, WantsAccept, WantsFirst, WantsReduce}
+use Rattle.lrpar_item_sets.specs.Canonical.{ActsAsWanted, AreSame, GoesAsWanted, IsTransition, WantsAccept, WantsFirst, WantsReduce}
 use Rattle.lrpar_closure.specs.Cores.{CoreSet, IsAmong, IsCoreOf}
 use Rattle.lrpar_grammar.specs.Tokens.{has}
 use Rattle.lrpar_closure.specs.Wanted.{AscendFrom, is_complete, is_complete_at, reductions, wanted}
 use Rattle.lrpar_build.proofs.MemberLemmas.{filter_has, filter_member, member_cases, member_first, member_none, range_has, range_member}
-use Rattle.lrpar_build.proofs.WantedLemmas.{ascend_lower}
+use Rattle.lrpar_item_sets.proofs.WantedLemmas.{ascend_lower}
 
 -- the least of numbers that ascend is the first
 pub first_least : (a p : ℕ) (ks : List ℕ) → AscendFrom a ks → Contains ks p → a ≤ p

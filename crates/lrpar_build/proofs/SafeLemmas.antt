@@ -11,7 +11,7 @@ use Rattle.lrpar_states.specs.declared.condition.SafetyCondition.{SafetyConditio
 use Rattle.lrpar_states.specs.declared.condition.SafetyCondition.TheVariants.{S2, S3, S4, S5, S6, S7, S8}
 use Rattle.lrpar_states.proofs.GraphLemmas.{state_in_range}
 use Rattle.lrpar_build.specs.BuilderLaws.{CanonicalTablesAreSafe, IsWantedTable}
-use Rattle.lrpar_build.specs.Canonical.{AreSame, IsCanonical, LeadsTo, StandsBefore, WantsAccept, WantsReduce, sets_of}
+use Rattle.lrpar_item_sets.specs.Canonical.{AreSame, IsCanonical, LeadsTo, StandsBefore, WantsAccept, WantsReduce, sets_of}
 use Rattle.lrpar_closure.specs.ItemSets.{IsAdvanced, IsInNext, IsReachedBy, Own}
 use Rattle.lrpar_build.proofs.DecidedLemmas.{Accepting, Failing, IsActing, Reducing, Shifting, acting, before_decided}
 use Rattle.lrpar_build.proofs.ReachedLemmas.{added_is_listed, closure_cases, comes_with_rule, no_end_token, reached_at_end, reached_items, start_is_fresh, start_item_at_start}

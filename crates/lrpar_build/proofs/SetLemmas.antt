@@ -7,11 +7,11 @@ use Rattle.std.proofs.lemmas.List.{get_or-map, get_or_past, length-map}
 use Rattle.lrpar_grammar.specs.Grammar.{Grammar, GrammarSymbol, IsWellFormed, tokens_len}
 use Rattle.lrpar_states.specs.Graph.{Graph, HasItem, ItemOf, item_at, items_of}
 use Rattle.lrpar_states.proofs.ItemLemmas.{Contains-image, Contains-preimage}
-use Rattle.lrpar_build.specs.Canonical.{AreCanonical, AreSame, IsTransition, LeadsTo, StandsBefore, sets_of}
+use Rattle.lrpar_item_sets.specs.Canonical.{AreCanonical, AreSame, IsTransition, LeadsTo, StandsBefore, sets_of}
 use Rattle.lrpar_closure.specs.Cores.{CoreSet, IsAmong}
 use Rattle.lrpar_closure.specs.ItemSets.{Added, IsAdvanced, IsInClosure, IsInNext, IsReachedBy, Own}
-use Rattle.lrpar_build.specs.StateRows.{item_rows}
-use Rattle.lrpar_build.specs.States.{StateOf, sets_at, state_at}
+use Rattle.lrpar_item_sets.specs.StateRows.{item_rows}
+use Rattle.lrpar_item_sets.specs.States.{StateOf, sets_at, state_at}
 use Rattle.lrpar_grammar.specs.Tokens.{has}
 use Rattle.lrpar_closure.specs.Complete.{items_of_core, items_of_cores}
 use Rattle.lrpar_build.proofs.MemberLemmas.{filter_has, filter_member, joined_has, joined_member, member_none, range_has, range_member}

@@ -11,16 +11,16 @@ use Rattle.lrpar_grammar.specs.Grammar.{Grammar, GrammarSymbol, IsWellFormed, No
 use Rattle.lrpar_states.specs.Graph.{item_at}
 use Rattle.lrpar_states.specs.Table.{AreEntries, IsActionEntry, IsActionWithin, IsGotoEntry, IsTable, TableAction, ShiftTo, ReduceBy, Accepts, Fails, action_of, actions_at, goto_of}
 use Rattle.lrpar_states.proofs.EntryLemmas.{entry_found}
-use Rattle.lrpar_build.specs.Canonical.{IsTransition, StandsBefore}
+use Rattle.lrpar_item_sets.specs.Canonical.{IsTransition, StandsBefore}
 use Rattle.lrpar_closure.specs.Cores.{IsAmong}
 use Rattle.lrpar_closure.specs.ItemSets.{Own}
-use Rattle.lrpar_build.specs.StateRows.{table_of_states}
-use Rattle.lrpar_build.specs.States.{AreStates, StateOf, sets_at, state_at}
+use Rattle.lrpar_item_sets.specs.StateRows.{table_of_states}
+use Rattle.lrpar_item_sets.specs.States.{AreStates, StateOf, sets_at, state_at}
 use Rattle.lrpar_closure.specs.Wanted.{AscendFrom, entry_at, is_complete_at, reductions, wanted, wanted_at, wanted_row}
 use Rattle.lrpar_closure.proofs.EntryLemmas.{lookup_past}
 use Rattle.lrpar_build.proofs.MemberLemmas.{member_none}
 use Rattle.lrpar_build.proofs.ReachedLemmas.{symbol_listed}
-use Rattle.lrpar_build.proofs.WantedLemmas.{ascend_lower}
+use Rattle.lrpar_item_sets.proofs.WantedLemmas.{ascend_lower}
 
 -- numbers that ascend, each above the one before
 pub increasing_from : (a : ℕ) (ks : List ℕ) → AscendFrom a ks → IsStrictlyIncreasing ks

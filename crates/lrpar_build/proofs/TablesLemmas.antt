@@ -6,8 +6,8 @@ use Rattle.lrpar_grammar.specs.Grammar.{Grammar, prods_len, rules_len, tokens_le
 use Rattle.lrpar_text.proofs.ListLemmas.{map-take_more}
 use Rattle.lrpar_states.specs.Table.{ConflictLists, ReduceReduce, ShiftReduce, Table, TableAction}
 use Rattle.lrpar_closure.specs.Cores.{CoreSet}
-use Rattle.lrpar_build.specs.StateRows.{IsRefusalOf, action_rows, conflicts_of_states, goto_rows, reduce_conflicts_below, shift_conflicts_below, table_of_states, unless_empty}
-use Rattle.lrpar_build.specs.States.{AreStates, StateOf, state_at}
+use Rattle.lrpar_item_sets.specs.StateRows.{IsRefusalOf, action_rows, conflicts_of_states, goto_rows, reduce_conflicts_below, shift_conflicts_below, table_of_states, unless_empty}
+use Rattle.lrpar_item_sets.specs.States.{AreStates, StateOf, state_at}
 use Rattle.lrpar_closure.specs.Wanted.{AreOnce, AscendFrom, IsRefusal}
 use Rattle.lrpar_closure.specs.declared.fault.BuildFault.{BuildFault}
 use Rattle.lrpar_closure.specs.declared.fault.BuildFault.TheVariants.{AcceptReduceConflict, Memory, StorageTooSmall, TooManyStates}

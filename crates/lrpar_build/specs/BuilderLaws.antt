@@ -5,7 +5,7 @@ use Rattle.lrpar_states.specs.ConflictsFit.{ConflictsFit}
 use Rattle.lrpar_states.specs.Graph.{Graph, ItemOf, graph_len}
 use Rattle.lrpar_states.specs.Safe.{IsSafe}
 use Rattle.lrpar_states.specs.Table.{ConflictLists, ReduceReduce, ShiftReduce, Table, TableAction, ShiftTo, ReduceBy, Accepts, Fails, action_of, goto_of, states_len}
-use Rattle.lrpar_build.specs.Canonical.{ActsAsWanted, GoesAsWanted, IsAcceptConflict, IsCanonical, IsReduceConflict, IsShiftConflict, IsTransition, WantsAccept, WantsReduce, sets_of}
+use Rattle.lrpar_item_sets.specs.Canonical.{ActsAsWanted, GoesAsWanted, IsAcceptConflict, IsCanonical, IsReduceConflict, IsShiftConflict, IsTransition, WantsAccept, WantsReduce, sets_of}
 
 -- the table has a state for each set of the graph, and starts in number 0; it has the grammar's tokens and rules; in each state it
 -- does and goes as the set wants; and past its states, its tokens and its rules it does nothing

@@ -10,7 +10,7 @@ use Rattle.lrpar_states.specs.Graph.{Graph, graph_len}
 use Rattle.lrpar_states.specs.Safe.{IsSafe}
 use Rattle.lrpar_states.specs.Table.{ConflictLists, ReduceReduce, ShiftReduce, Table}
 use Rattle.lrpar_build.specs.BuilderLaws.{AcceptAlone, AreConflictsOf, IsWantedTable, WantOneAction, lists_in}
-use Rattle.lrpar_build.specs.Canonical.{IsAcceptConflict, IsCanonical, ReachesMore, sets_of}
+use Rattle.lrpar_item_sets.specs.Canonical.{IsAcceptConflict, IsCanonical, ReachesMore, sets_of}
 use Rattle.lrpar_closure.specs.declared.fault.BuildFault.{BuildFault}
 use Rattle.lrpar_closure.specs.declared.fault.BuildFault.TheVariants.{AcceptReduceConflict, Memory, StorageTooSmall, TooManyStates}
 

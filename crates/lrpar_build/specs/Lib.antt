@@ -1,7 +1,2 @@
-pub mod Canonical
-pub mod Kernels
-pub mod Numbers
-pub mod States
 pub mod BuilderLaws
 pub mod Built
-pub mod StateRows

@@ -3,11 +3,11 @@ ghost use Rattle.std.specs.Prelude.{◌≤◌, IfErr, IfOk};
 ghost use Rattle.lrpar_states.specs.Graph.{graph_len};
 ghost use Rattle.lrpar_build.specs.Built.{IsBuildRefusal, IsBuilt};
 
-use crate::states::states;
 use crate::tables::tables;
 pub use lrpar_closure::fault::BuildFault;
 use lrpar_grammar::grammar::YaccGrammar;
 use lrpar_grammar::span::StorageIndex;
+use lrpar_item_sets::states::states;
 use lrpar_states::table::{StateGraph, StateTable};
 use std::alloc::Global;
 

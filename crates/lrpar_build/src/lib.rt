@@ -2,9 +2,5 @@
 #![tactic(auto)]
 
 pub mod build;
-mod item_set;
 pub mod laws;
-mod numbers;
-mod states;
 mod tables;
-mod wants;

@@ -3,26 +3,23 @@ ghost use Rattle.std.specs.Prelude.{◌≡◌, ◌≢◌, ◌<◌, ◌≤◌, �
 ghost use Rattle.lrpar_grammar.specs.Grammar.{IsWellFormed, tokens_len};
 ghost use Rattle.lrpar_states.specs.Graph.{HasItem, graph_len};
 ghost use Rattle.lrpar_states.specs.PlainConflicts.{reduce_reduce_of, shift_reduce_of};
-ghost use Rattle.lrpar_states.specs.PlainItems.{graph_of_rows};
 ghost use Rattle.lrpar_states.specs.PlainRows.{action_entry, goto_entry, sparse_table_of};
 ghost use Rattle.lrpar_states.specs.Table.{IsTable};
 ghost use Rattle.lrpar_build.specs.Built.{IsBuilt};
-ghost use Rattle.lrpar_build.specs.StateRows.{IsRefusalOf, IsRefusedState, action_rows, conflicts_of_states, goto_rows, item_rows, reduce_conflicts_below, shift_conflicts_below, table_of_states, unless_empty};
-ghost use Rattle.lrpar_build.specs.States.{AreStates, state_at, state_of};
+ghost use Rattle.lrpar_item_sets.specs.StateRows.{IsRefusalOf, IsRefusedState, action_rows, conflicts_of_states, goto_rows, item_rows, reduce_conflicts_below, shift_conflicts_below, table_of_states, unless_empty};
+ghost use Rattle.lrpar_item_sets.specs.States.{AreStates, state_at, state_of};
 ghost use Rattle.lrpar_closure.specs.Wanted.{IsAcceptReduce};
 ghost use Rattle.lrpar_closure.specs.declared.fault.BuildFault.TheVariants.{Memory};
 ghost use Rattle.lrpar_states.specs.declared.fault.TableFault.{TableFault};
 
-use crate::item_set::State;
-use crate::wants::state_row;
 use lrpar_closure::fault::BuildFault;
-use lrpar_closure::items::single_items;
 use lrpar_closure::wants::{ReduceReduce, ShiftReduce};
 use lrpar_grammar::grammar::YaccGrammar;
 use lrpar_grammar::span::{RIdx, StIdx, StorageIndex, TIdx};
-use lrpar_states::table::{
-    Action, Conflicts, Item, SparseRows, StateGraph, StateTable, TableFault,
-};
+use lrpar_item_sets::item_rows::rows_of_items;
+use lrpar_item_sets::item_set::State;
+use lrpar_item_sets::state_row::state_row;
+use lrpar_states::table::{Action, Conflicts, SparseRows, StateGraph, StateTable, TableFault};
 use std::alloc::{AllocError, Global};
 
 /// The entries that a state stores: tokens with actions, ascending.
@@ -121,21 +118,6 @@ fn graph_of<StorageT: StorageIndex>(
         Ok(graph) => Ok(graph),
         Err(fault) => Err(want_of_memory(fault)),
     }
-}
-
-// The items of each state.
-fn rows_of_items<StorageT: StorageIndex>(
-    alloc: Global,
-    grm: &YaccGrammar<StorageT>,
-    states: &[State<StorageT>],
-) -> Result<Vec<Vec<Item<StorageT>>>, AllocError>
-    ensures { IfOk result (λ rows. graph_of_rows StorageT.index rows ≡ item_rows grm.now (map (state_of StorageT.index) states.now)) }
-{
-    let mut rows = Vec::with_capacity(alloc, states.len())?;
-    for state in states {
-        rows.push(single_items(alloc, grm, &state.items)?)?;
-    }
-    Ok(rows)
 }
 
 // Where each state goes by rules.

@@ -5,7 +5,7 @@ use lrpar_case_lines::fault::Fault;
 use lrpar_case_lines::names::{rule_name, token_name};
 use lrpar_case_lines::told::Told;
 use lrpar_grammar::grammar::YaccGrammar;
-use lrpar_grammar::span::{RIdx, StIdx, StorageIndex, TIdx};
+use lrpar_grammar::span::{StIdx, StorageIndex, TIdx};
 use lrpar_table::check::ParserData;
 use lrpar_table::table::{Action, Conflicts, StateGraph, StateTable};
 use std::alloc::Global;

@@ -1,7 +1,7 @@
 -- What a checked table is to a run over it.
 use Rattle.lrpar_stacks.specs.Chain.{IsBounded}
 use Rattle.lrpar_stacks.specs.Path.{NeverSticks}
-use Rattle.lrpar_safety.specs.Checked.{Checked, IsChecked}
+use Rattle.lrpar_check.specs.Checked.{Checked, IsChecked}
 use Rattle.lrpar_stacks.proofs.SettleLemmas.{IsRun}
 
 pub run_of_checked : (d : Checked) → IsChecked d → NeverSticks d.grammar d.table → IsBounded d.grammar d.table d.cap

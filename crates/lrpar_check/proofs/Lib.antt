@@ -1,3 +1,8 @@
+pub mod SafetyLemmas
+pub mod ChainEntryLemmas
+pub mod LeastCapLemmas
+pub mod LengthLemmas
+pub mod LongestLemmas
 pub mod CheckedLemmas
 pub mod ExpectedLemmas
 pub mod OneTreeLemmas

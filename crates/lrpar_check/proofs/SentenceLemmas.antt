@@ -12,7 +12,7 @@ use Rattle.lrpar_grammar.proofs.ForestLemmas.{joined, joined_fits, joined_leaves
 use Rattle.lrpar_states.specs.Graph.{Graph}
 use Rattle.lrpar_states.specs.Safe.{IsSafe}
 use Rattle.lrpar_states.specs.Table.{Table, ShiftTo, IsClosed}
-use Rattle.lrpar_safety.specs.Checked.{Checked, IsChecked}
+use Rattle.lrpar_check.specs.Checked.{Checked, IsChecked}
 use Rattle.lrpar_complete.specs.Complete.{IsComplete}
 use Rattle.lrpar_check.specs.CompleteRuns.{BeginsNoSentence, CompleteTablesTakeSentences, RunsTo, TakesSentences}
 use Rattle.lrpar_stacks.specs.Path.{IsPath, NeverSticks}

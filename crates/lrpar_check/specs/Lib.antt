@@ -1,2 +1,5 @@
+pub mod Checked
+pub mod LeastCap
+pub mod Lengths
 pub mod CompleteRuns
 pub mod ExpectedRuns

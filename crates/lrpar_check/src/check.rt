@@ -1,23 +1,22 @@
 //! The check of a table against its grammar and its item sets, which a parse then trusts.
-ghost use Rattle.std.specs.Prelude.{◌≡◌, IfOk, IfErr, OnOk};
+ghost use Rattle.std.specs.Prelude.{◌≡◌, IfOk, IfErr};
 ghost use Rattle.lrpar_grammar.specs.Grammar.{IsWellFormed};
 ghost use Rattle.lrpar_states.specs.Table.{IsClosed};
 ghost use Rattle.lrpar_states.specs.Safe.{IsSafe};
 ghost use Rattle.lrpar_stacks.specs.Path.{NeverSticks};
 ghost use Rattle.lrpar_stacks.specs.Chain.{AreChainsShort, IsBounded};
-ghost use Rattle.lrpar_safety.specs.Checked.{IsChainFault, IsChecked, IsCheckFault};
-ghost use Rattle.lrpar_safety.specs.LeastCap.{IsLeastCap};
-ghost use Rattle.lrpar_stacks.specs.Step.{FitsGrammar};
-ghost use Rattle.lrpar_safety.specs.declared.fault.CheckFault.TheVariants.{Memory};
+ghost use Rattle.lrpar_check.specs.Checked.{IsChainFault, IsChecked, IsCheckFault};
+ghost use Rattle.lrpar_check.specs.LeastCap.{IsLeastCap};
+ghost use Rattle.lrpar_check.specs.declared.fault.CheckFault.TheVariants.{Memory};
 
+use crate::chains::least_cap;
+pub use crate::fault::CheckFault;
+use crate::safety::first_fault;
 pub use lrpar_complete::complete_fault::CompleteFault;
 pub use lrpar_complete::completeness::CompletenessCondition;
 use lrpar_conditions::checkable::Checkable;
 use lrpar_grammar::grammar::YaccGrammar;
 use lrpar_grammar::span::StorageIndex;
-use lrpar_safety::chains::least_cap;
-pub use lrpar_safety::fault::CheckFault;
-use lrpar_safety::safety::first_fault;
 pub use lrpar_stacks::overlay::Overlay;
 pub use lrpar_states::condition::SafetyCondition;
 use lrpar_states::table::{StateGraph, StateTable};
@@ -25,7 +24,7 @@ use std::alloc::Global;
 use std::marker::Model;
 
 /// A grammar, its item sets and its table, which are safe to parse by, and whose chains of reductions are short.
-#[derive(Debug, Drop)]
+#[derive(Debug)]
 pub struct ParserData<StorageT: StorageIndex> {
     grm: YaccGrammar<StorageT>,
     sgraph: StateGraph<StorageT>,
@@ -34,9 +33,25 @@ pub struct ParserData<StorageT: StorageIndex> {
     least_cap: u16,
 }
 
+// A drop of its own, so that what lets go of one elsewhere proves one call.
+impl<StorageT: StorageIndex> Drop for ParserData<StorageT> {
+    fn drop(self) {
+        let ParserData {
+            grm,
+            sgraph,
+            stable,
+            cap: _,
+            least_cap: _,
+        } = self;
+        drop(grm);
+        drop(sgraph);
+        drop(stable);
+    }
+}
+
 impl<StorageT: StorageIndex> Model for ParserData<StorageT> {
-    ghost use Rattle.lrpar_safety.specs.Checked.{Checked};
-    ghost use Rattle.lrpar_safety.specs.LeastCap.{IsMeasured};
+    ghost use Rattle.lrpar_check.specs.Checked.{Checked};
+    ghost use Rattle.lrpar_check.specs.LeastCap.{IsMeasured};
 
     ghost Value = { Checked };
 
@@ -176,7 +191,7 @@ fn are_sound<StorageT: StorageIndex>(grm: &YaccGrammar<StorageT>, stable: &State
 }
 
 /// A refused table, with its grammar and its item sets as they were.
-#[derive(Debug, Drop)]
+#[derive(Debug)]
 pub struct Refused<StorageT: StorageIndex> {
     fault: CheckFault,
     grm: YaccGrammar<StorageT>,
@@ -184,8 +199,23 @@ pub struct Refused<StorageT: StorageIndex> {
     stable: StateTable<StorageT>,
 }
 
+// A drop of its own, so that what lets go of one elsewhere proves one call.
+impl<StorageT: StorageIndex> Drop for Refused<StorageT> {
+    fn drop(self) {
+        let Refused {
+            fault: _,
+            grm,
+            sgraph,
+            stable,
+        } = self;
+        drop(grm);
+        drop(sgraph);
+        drop(stable);
+    }
+}
+
 impl<StorageT: StorageIndex> Model for Refused<StorageT> {
-    ghost use Rattle.lrpar_safety.specs.Checked.{Unchecked};
+    ghost use Rattle.lrpar_check.specs.Checked.{Unchecked};
 
     ghost Value = { Unchecked };
 

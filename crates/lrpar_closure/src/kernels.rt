@@ -13,10 +13,18 @@ use std::collections::BTreeMap;
 use std::marker::Model;
 
 /// The kernels that were found, by their numbers; and their numbers, to find them quickly.
-#[derive(Drop)]
 pub struct Kernels<StorageT: StorageIndex> {
     kernels: Vec<Vec<CoreItems<StorageT>>>,
     numbers: BTreeMap<Vec<CoreItems<StorageT>>, StIdx<StorageT>>,
+}
+
+// A drop of its own, so that what lets go of one elsewhere proves one call.
+impl<StorageT: StorageIndex> Drop for Kernels<StorageT> {
+    fn drop(self) {
+        let Kernels { kernels, numbers } = self;
+        drop(kernels);
+        drop(numbers);
+    }
 }
 
 impl<StorageT: StorageIndex> Model for Kernels<StorageT> {

@@ -16,12 +16,27 @@ use lrpar_grammar::token_set::TokenSet;
 use std::alloc::{AllocError, Global};
 
 /// The tokens that rules begin with, and sets to work with.
-#[derive(Drop)]
 pub struct Sets {
     pub firsts: Vec<TokenSet>,
     pub brought: Vec<TokenSet>,
     pub front: TokenSet,
     pub fresh: TokenSet,
+}
+
+// A drop of its own, so that what lets go of one elsewhere proves one call.
+impl Drop for Sets {
+    fn drop(self) {
+        let Sets {
+            firsts,
+            brought,
+            front,
+            fresh,
+        } = self;
+        drop(firsts);
+        drop(brought);
+        drop(front);
+        drop(fresh);
+    }
 }
 
 impl Sets {

@@ -22,7 +22,7 @@ pub type ReduceReduce<StorageT> = (
 /// The token, the production and the state of a conflict between a shift and a reduction.
 pub type ShiftReduce<StorageT> = (TIdx<StorageT>, PIdx<StorageT>, StIdx<StorageT>);
 
-/// Appends a conflict with the first of the productions for each later one.
+/// Appends a conflict with the first of the productions for each later one. An Err is for memory; some may have been added then.
 pub fn push_conflicts<StorageT: StorageIndex>(
     prods: &[PIdx<StorageT>],
     tidx: &TIdx<StorageT>,
@@ -81,7 +81,8 @@ pub fn split_shift<StorageT: StorageIndex>(
     }
 }
 
-/// Appends the conflict of a shift by the token with the first production, if there is one.
+/// Appends the conflict of a shift by the token with the first production, if there is one. An Err is for memory; nothing was added
+/// then.
 pub fn push_shift_conflict<StorageT: StorageIndex>(
     prods: &[PIdx<StorageT>],
     tidx: &TIdx<StorageT>,
@@ -100,7 +101,8 @@ pub fn push_shift_conflict<StorageT: StorageIndex>(
     }
 }
 
-/// Appends what is done at the token where there is no shift.
+/// Appends what is done at the token where there is no shift. `AcceptReduceConflict` comes where there is a production beside the
+/// start production's end, and `Memory` where it doesn't suffice; nothing was added then.
 pub fn push_unshifted<StorageT: StorageIndex>(
     prods: &[PIdx<StorageT>],
     accepting: bool,

@@ -6,7 +6,7 @@ use lrpar_grammar::span::{Span, TIdx};
 use lrpar_inputs::fault::Fault;
 use lrpar_inputs::files::input_text;
 use lrpar_inputs::parsing::{TextError, TextParser, print_errors, print_line, text_parser_of};
-use lrpar_inputs::tables::{data_of, drop_table};
+use lrpar_inputs::tables::data_of;
 use lrpar_lexemes::lex_api::{Lexeme, NonStreamingLexer};
 use lrpar_lexer::{RuleLexer, Token, TokenTypes};
 use lrpar_table::check::ParserData;
@@ -58,9 +58,7 @@ pub(crate) fn calc<I: Read + Drop, O: Write, E: Write>(
     err: &mut E,
 ) -> Result<bool, Fault> {
     let data = data_of(alloc, GRAMMAR)?;
-    let all = calc_by(alloc, &data, repairs, shifts, input, out, err);
-    drop_table(data);
-    all
+    calc_by(alloc, &data, repairs, shifts, input, out, err)
 }
 
 // The same by the table of sums and products.

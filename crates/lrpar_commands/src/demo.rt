@@ -2,7 +2,7 @@
 use crate::lexer::SumLexer;
 use lrpar_inputs::fault::Fault;
 use lrpar_inputs::parsing::{Parser, parser_by, print_tree, printed_names};
-use lrpar_inputs::tables::{data_of, drop_table};
+use lrpar_inputs::tables::data_of;
 use lrpar_steps::repair::FixedRecoverer;
 use lrpar_table::check::ParserData;
 use std::alloc::Global;
@@ -14,9 +14,7 @@ const GRAMMAR: &str = "%% E: T '+' E | T; T: 'ID';";
 /// Parses the text as a sum, and prints its errors and its tree. Answers whether there is a tree, and no error.
 pub(crate) fn demo<O: Write>(alloc: Global, text: &str, out: &mut O) -> Result<bool, Fault> {
     let data = data_of(alloc, GRAMMAR)?;
-    let is_clean = demo_by(alloc, &data, text, out);
-    drop_table(data);
-    is_clean
+    demo_by(alloc, &data, text, out)
 }
 
 // The same by a table.

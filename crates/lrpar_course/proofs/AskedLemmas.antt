@@ -4,7 +4,7 @@ use Rattle.std.proofs.lemmas.Option.{slice_get_cases}
 use Rattle.lrpar_grammar.specs.Grammar.{Grammar, end_token}
 use Rattle.lrpar_grammar.specs.Sentence.{LexemeFacts, IsValidList}
 use Rattle.lrpar_states.specs.Table.{Fails}
-use Rattle.lrpar_safety.specs.Checked.{Checked, IsChecked}
+use Rattle.lrpar_check.specs.Checked.{Checked, IsChecked}
 use Rattle.lrpar_stacks.specs.Reduction.{top_action}
 use Rattle.lrpar_stacks.specs.Run.{token_at}
 use Rattle.lrpar_stacks.specs.RunLaws.{KeepOffEnd}

@@ -4,7 +4,7 @@ use Rattle.std.proofs.Common.{◌≡◌, ◌<◌, ◌≤◌, ◌+◌, ◌∙◌,
 use Rattle.lrpar_grammar.specs.Sentence.{IsSentence, LexemeFacts}
 use Rattle.lrpar_grammar.specs.Tree.{Tree, productions}
 use Rattle.lrpar_stacks.specs.Chain.{most_productions}
-use Rattle.lrpar_safety.specs.Checked.{Checked, IsChecked}
+use Rattle.lrpar_check.specs.Checked.{Checked, IsChecked}
 use Rattle.lrpar_complete.specs.Complete.{IsComplete}
 use Rattle.lrpar_check.specs.CompleteRuns.{BeginsNoSentence, RunsTo, TakesSentences}
 use Rattle.lrpar_stacks.specs.Run.{Accepted, Far, Stop, Stopped}

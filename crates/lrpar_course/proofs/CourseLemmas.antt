@@ -7,7 +7,7 @@ use Rattle.lrpar_grammar.specs.Grammar.{end_token}
 use Rattle.lrpar_grammar.specs.Sentence.{IsSentence}
 use Rattle.lrpar_grammar.specs.Tree.{Tree}
 use Rattle.lrpar_stacks.specs.Chain.{most_productions}
-use Rattle.lrpar_safety.specs.Checked.{IsChecked}
+use Rattle.lrpar_check.specs.Checked.{IsChecked}
 use Rattle.lrpar_stacks.specs.Path.{NeverSticks}
 use Rattle.lrpar_steps.specs.Building.{Building}
 use Rattle.lrpar_course.specs.End.{IsOfTree}

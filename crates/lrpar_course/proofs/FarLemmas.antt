@@ -6,7 +6,7 @@ use Rattle.std.specs.List.{slice_get}
 use Rattle.lrpar_grammar.specs.Grammar.{end_token}
 use Rattle.lrpar_grammar.specs.Sentence.{LexemeFacts}
 use Rattle.lrpar_states.specs.Table.{Accepts, Fails}
-use Rattle.lrpar_safety.specs.Checked.{Checked}
+use Rattle.lrpar_check.specs.Checked.{Checked}
 use Rattle.lrpar_stacks.specs.Reduction.{top_action}
 use Rattle.lrpar_steps.specs.Building.{Building}
 use Rattle.lrpar_course.specs.Moves.{GoesFar, Moves, and_settles, and_shifts, rests}

@@ -7,7 +7,7 @@ use Rattle.std.specs.List.{slice_get}
 use Rattle.lrpar_grammar.specs.Grammar.{end_token}
 use Rattle.lrpar_grammar.specs.Sentence.{LexemeFacts}
 use Rattle.lrpar_states.specs.Table.{Fails, ShiftTo}
-use Rattle.lrpar_safety.specs.Checked.{Checked}
+use Rattle.lrpar_check.specs.Checked.{Checked}
 use Rattle.lrpar_stacks.specs.Path.{NeverSticks}
 use Rattle.lrpar_stacks.specs.Reduction.{Feeds, top_action}
 use Rattle.lrpar_stacks.proofs.Reductions.{settles_one_way}

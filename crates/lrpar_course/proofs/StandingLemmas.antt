@@ -5,7 +5,7 @@ use Rattle.std.proofs.lemmas.List.{append_assoc, append-nil, length-append}
 use Rattle.lrpar_grammar.specs.Grammar.{Grammar, GrammarSymbol, Nonterminal, Terminal, symbols_of, prod_len, rule_of}
 use Rattle.lrpar_grammar.specs.Tree.{Tree, Forest, Leaf, Branch, Nil, Cons, Fits, ForestFits, leaves, forest_leaves, productions, forest_productions}
 use Rattle.lrpar_states.specs.Table.{Table}
-use Rattle.lrpar_safety.specs.Checked.{Checked}
+use Rattle.lrpar_check.specs.Checked.{Checked}
 use Rattle.lrpar_stacks.specs.Path.{IsPath, ReducesAlong, NeverSticks}
 use Rattle.lrpar_stacks.proofs.Reductions.{reduces_to_one}
 use Rattle.std.proofs.lemmas.Slice.Zip.{AllZip-long}

@@ -4,7 +4,7 @@ use Rattle.lrpar_grammar.specs.Grammar.{Grammar, Nonterminal}
 use Rattle.lrpar_grammar.specs.Sentence.{IsSentence}
 use Rattle.lrpar_grammar.specs.Tree.{Tree, Fits, leaves, productions}
 use Rattle.lrpar_stacks.specs.Chain.{most_productions}
-use Rattle.lrpar_safety.specs.Checked.{Checked}
+use Rattle.lrpar_check.specs.Checked.{Checked}
 use Rattle.lrpar_check.specs.CompleteRuns.{BeginsNoSentence}
 use Rattle.lrpar_course.specs.RepairRun.{RepairStop}
 

@@ -3,7 +3,7 @@ use Rattle.std.specs.Prelude.{◌≡◌, List, map, Option}
 use Rattle.std.specs.Option.{option_map_or}
 use Rattle.lrpar_text.specs.Span.{Extent, nowhere}
 use Rattle.lrpar_course.specs.Spans.{span_over}
-use Rattle.lrpar_course.specs.declared.actions.Placed.{Placed}
+use Rattle.lrpar_course.specs.declared.placed.Placed.{Placed}
 use Rattle.lrpar_steps.specs.declared.values.AStackType.{AStackType}
 use Rattle.lrpar_steps.specs.declared.values.AStackType.TheVariants.{ActionType, Lexeme}
 

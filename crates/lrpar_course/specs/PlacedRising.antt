@@ -5,7 +5,7 @@ use Rattle.lrpar_text.specs.Span.{Extent}
 use Rattle.lrpar_course.specs.Placed.{IsPlacedLexeme, IsPlacedValue, span_before, spans_of}
 use Rattle.lrpar_steps.specs.Rising.{KeepsRising}
 use Rattle.lrpar_course.specs.Spans.{Rise, span_over}
-use Rattle.lrpar_course.specs.declared.actions.Placed.{Placed}
+use Rattle.lrpar_course.specs.declared.placed.Placed.{Placed}
 use Rattle.lrpar_steps.specs.declared.values.AStackType.{AStackType}
 
 -- the start of the last of these parts; the bound, where there is none

@@ -1,7 +1,7 @@
 -- What a parse is about.
 use Rattle.std.specs.Prelude.{ℕ, List}
 use Rattle.lrpar_grammar.specs.Sentence.{LexemeFacts}
-use Rattle.lrpar_safety.specs.Checked.{Checked}
+use Rattle.lrpar_check.specs.Checked.{Checked}
 use Rattle.lrpar_steps.specs.Recovery.{Point}
 use Rattle.lrpar_steps.specs.Sequences.{PlainStep}
 

@@ -2,10 +2,10 @@
 //! stop to stop.
 #![tactic(auto)]
 
-pub mod actions;
 pub mod course;
 mod far;
 pub mod lexeme_fault;
+pub mod placed;
 pub mod replay;
 pub mod run;
 pub mod trees;

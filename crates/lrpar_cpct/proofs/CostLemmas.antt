@@ -1,5 +1,5 @@
 -- Costs that each token has.
-use Rattle.std.proofs.Common.{◌≡◌, ◌<◌, ◌≤◌, ◌⊎◌, inl, inr, ℕ, List, arith, get_or, length}
+use Rattle.std.proofs.Common.{◌<◌, ◌≤◌, inl, inr, ℕ, List, arith, get_or, length}
 use Rattle.std.proofs.lemmas.List.{get_or_default, get_or_past}
 use Rattle.lrpar_cpct.specs.Costs.{AreCosts}
 use Rattle.lrpar_cpct.proofs.AnswerLemmas.{compare_costs}

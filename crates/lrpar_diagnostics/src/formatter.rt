@@ -1,10 +1,9 @@
 //! Texts that name places of a text and show them.
 ghost use Rattle.std.specs.Prelude.{◌≡◌, ◌%◌, ◌≤◌, ◌++◌, [], if◌then◌else◌, IfOk, OnOk, codes, length};
-ghost use Rattle.std.specs.Str.{IsCharBoundary};
 ghost use Rattle.std.specs.String.{string_bytes};
 ghost use Rattle.lrpar_text.specs.Lines.{line_table};
 ghost use Rattle.lrpar_grammar.specs.SpansFit.{IsPartOf};
-ghost use Rattle.lrpar_diagnostics.specs.Location.{IsLocationText, IsPlaceText, is_teen, ordinal_text, place_text, suffix_of_digit};
+ghost use Rattle.lrpar_diagnostics.specs.Location.{IsLocationText, IsPlaceText, is_teen, ordinal_text, suffix_of_digit};
 ghost use Rattle.lrpar_diagnostics.specs.Underline.{FollowInOrder, block_text, on_line_text};
 
 use crate::source::Source;

@@ -1,5 +1,5 @@
 //! Examples of all conflicts of a table.
-ghost use Rattle.std.specs.Prelude.{◌≡◌, ◌++◌, IfErr, IfOk, OnOk, map};
+ghost use Rattle.std.specs.Prelude.{◌≡◌, IfErr, IfOk, OnOk, map};
 ghost use Rattle.lrpar_build.specs.Built.{IsBuilt};
 ghost use Rattle.lrpar_build.specs.BuilderLaws.{lists_in};
 ghost use Rattle.lrpar_states.specs.PlainConflicts.{reduce_reduce_of, shift_reduce_of};

@@ -3,7 +3,7 @@ use Rattle.std.proofs.Common.{◌≡◌, ◌≢◌, ◌<◌, ◌↔◌, ◌∙�
 use Rattle.lrpar_grammar.specs.Grammar.{Grammar, IsWellFormed, prod_len, prods_len}
 use Rattle.lrpar_grammar.specs.Tree.{Forest, Tree, forest_leaves, leaves}
 use Rattle.lrpar_states.specs.Graph.{Graph, HasItem, graph_len}
-use Rattle.lrpar_build.specs.Canonical.{IsCanonical}
+use Rattle.lrpar_item_sets.specs.Canonical.{IsCanonical}
 use Rattle.lrpar_shortest.specs.Moves.{MoveOf, Makes, Takes, forest_moves}
 use Rattle.lrpar_shortest.specs.Texts.{AreTreesOf}
 use Rattle.lrpar_shortest.specs.Ways.{StepOf, symbols_in}

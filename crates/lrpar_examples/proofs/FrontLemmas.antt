@@ -8,7 +8,7 @@ use Rattle.lrpar_grammar.specs.Tree.{Forest}
 use Rattle.lrpar_states.specs.Graph.{Graph, ItemOf, graph_len}
 use Rattle.lrpar_states.specs.Table.{IsClosed, Table}
 use Rattle.lrpar_build.specs.Built.{IsBuilt}
-use Rattle.lrpar_build.specs.Canonical.{AreSame, sets_of}
+use Rattle.lrpar_item_sets.specs.Canonical.{AreSame, sets_of}
 use Rattle.lrpar_closure.specs.ItemSets.{IsAdvanced, IsReachedBy}
 use Rattle.lrpar_build.proofs.ReachedLemmas.{closure_each, known_by_symbol}
 use Rattle.lrpar_shortest.specs.Moves.{MoveOf, forest_moves}

@@ -18,7 +18,7 @@ use Rattle.lrpar_first.specs.First.{IsFirst}
 use Rattle.lrpar_first.specs.FirstRows.{mark_of}
 use Rattle.lrpar_first.proofs.FirstLemmas.{AreBelow, first_by_mark}
 use Rattle.lrpar_first.proofs.GrowthLemmas.{prods_below}
-use Rattle.lrpar_build.specs.Canonical.{AreSame, IsCanonical, sets_of}
+use Rattle.lrpar_item_sets.specs.Canonical.{AreSame, IsCanonical, sets_of}
 use Rattle.lrpar_closure.specs.ItemSets.{Adds, IsAdvanced, IsReachedBy, IsStartItem, Own}
 use Rattle.lrpar_build.proofs.ReachedLemmas.{closure_each, head_after, known_by_symbol, reached_items, symbol_listed}
 use Rattle.lrpar_examples.specs.Links.{AreBegun, AreLinks, AreNoted, AreNotedOf, ArePut, HasLink, IsBegunItem, IsBegunLink, IsLink, IsLinkBelow, IsNotedCore, IsStep, LinkAll, LinkOf, PassesOn, link_at, link_of, links_of}

@@ -7,7 +7,7 @@ use Rattle.lrpar_states.specs.Graph.{Graph}
 use Rattle.lrpar_states.specs.Safe.{GoesBy}
 use Rattle.lrpar_states.specs.Table.{IsClosed, Table, goto_of, states_len}
 use Rattle.lrpar_build.specs.BuilderLaws.{IsWantedTable}
-use Rattle.lrpar_build.specs.Canonical.{AreSame, LeadsTo, sets_of}
+use Rattle.lrpar_item_sets.specs.Canonical.{AreSame, LeadsTo, sets_of}
 use Rattle.lrpar_closure.specs.ItemSets.{IsReachedBy}
 use Rattle.lrpar_build.proofs.DecidedLemmas.{Accepting, Failing, IsActing, Reducing, Shifting, acting, before_decided}
 use Rattle.lrpar_build.proofs.SetLemmas.{next_more}

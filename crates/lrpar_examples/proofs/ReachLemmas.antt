@@ -8,7 +8,7 @@ use Rattle.lrpar_grammar.proofs.ForestLemmas.{split_leaves, splits}
 use Rattle.lrpar_states.specs.Graph.{Graph, HasCore, ItemOf, graph_len, item_at}
 use Rattle.lrpar_first.specs.First.{IsFirst, Behind, Rule, Token}
 use Rattle.lrpar_first.proofs.FirstLemmas.{AreBelow, AreBelow-append}
-use Rattle.lrpar_build.specs.Canonical.{AreSame, IsCanonical}
+use Rattle.lrpar_item_sets.specs.Canonical.{AreSame, IsCanonical}
 use Rattle.lrpar_closure.specs.ItemSets.{IsReachedBy}
 use Rattle.lrpar_shortest.specs.Reached.{EachReachedHasTree, IsReachedRule, IsReachedSymbol}
 use Rattle.lrpar_shortest.specs.Texts.{AreTreesOf, BeginWith, HaveTrees}

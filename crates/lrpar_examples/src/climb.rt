@@ -3,7 +3,7 @@ ghost use Rattle.std.specs.Prelude.{◌≡◌, ◌≢◌, ◌<◌, IfOk, MatchOp
 ghost use Rattle.lrpar_grammar.specs.Grammar.{IsWellFormed, prods_len, rule_of, start_prod};
 ghost use Rattle.lrpar_states.specs.Graph.{graph_len};
 ghost use Rattle.lrpar_first.specs.FirstRows.{AreFirsts, mark_of, rows_of};
-ghost use Rattle.lrpar_build.specs.Canonical.{IsCanonical, sets_of};
+ghost use Rattle.lrpar_item_sets.specs.Canonical.{IsCanonical, sets_of};
 ghost use Rattle.lrpar_shortest.specs.Choices.{AreShortest};
 ghost use Rattle.lrpar_shortest.specs.Moves.{moves_in};
 ghost use Rattle.lrpar_shortest.specs.Reached.{EachReachedHasTree, IsReachedRule};

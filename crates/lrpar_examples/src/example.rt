@@ -1,5 +1,5 @@
 //! An example of a conflict.
-ghost use Rattle.std.specs.Prelude.{◌≡◌, ◌↔◌, IfOk, IsTrue, map};
+ghost use Rattle.std.specs.Prelude.{◌≡◌, ◌↔◌, IfOk, IsTrue};
 ghost use Rattle.lrpar_shortest.specs.Moves.{moves_in};
 ghost use Rattle.lrpar_examples.specs.Texts.{takes_in, token_numbers};
 
@@ -9,12 +9,27 @@ use std::alloc::{AllocError, Global};
 use std::marker::Model;
 
 /// An example of a conflict: a text that leads to the conflict's state, and two readings of trees that go on from there, as moves.
-#[derive(Debug, Drop)]
+#[derive(Debug)]
 pub struct Example<StorageT: StorageIndex> {
     before: Vec<TIdx<StorageT>>,
     first: Vec<Move<StorageT>>,
     second: Vec<Move<StorageT>>,
     ambiguous: bool,
+}
+
+// A drop of its own, so that what lets go of one elsewhere proves one call.
+impl<StorageT: StorageIndex> Drop for Example<StorageT> {
+    fn drop(self) {
+        let Example {
+            before,
+            first,
+            second,
+            ambiguous: _,
+        } = self;
+        drop(before);
+        drop(first);
+        drop(second);
+    }
 }
 
 impl<StorageT: StorageIndex> Model for Example<StorageT> {

@@ -29,11 +29,24 @@ use std::alloc::{AllocError, Global};
 use std::marker::Model;
 
 /// What the examples of all conflicts of a table share.
-#[derive(Drop)]
 pub struct Examples<StorageT: StorageIndex> {
     firsts: Vec<TokenSet>,
     shortest: Shortest<StorageT>,
     ways: Ways<StorageT>,
+}
+
+// A drop of its own, so that what lets go of one elsewhere proves one call.
+impl<StorageT: StorageIndex> Drop for Examples<StorageT> {
+    fn drop(self) {
+        let Examples {
+            firsts,
+            shortest,
+            ways,
+        } = self;
+        drop(firsts);
+        drop(shortest);
+        drop(ways);
+    }
 }
 
 impl<StorageT: StorageIndex> Model for Examples<StorageT> {

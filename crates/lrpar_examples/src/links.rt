@@ -1,10 +1,10 @@
 //! Why the rules that a state's items begin with stand there.
-ghost use Rattle.std.specs.Prelude.{◌≡◌, ◌<◌, ◌≤◌, ◌⊎◌, ℕ, Bool, [], IfOk, OnOk, false, true, length};
+ghost use Rattle.std.specs.Prelude.{◌≡◌, ◌<◌, ◌≤◌, ◌⊎◌, ℕ, [], IfOk, OnOk, false, true, length};
 ghost use Rattle.lrpar_grammar.specs.Grammar.{IsWellFormed, prod_len, prods_len, rules_len, start_prod};
 ghost use Rattle.lrpar_states.specs.Graph.{HasCore, graph_len};
 ghost use Rattle.lrpar_first.specs.FirstRows.{AreFirsts, mark_of, rows_of};
 ghost use Rattle.lrpar_grammar.specs.Tokens.{has};
-ghost use Rattle.lrpar_build.specs.Canonical.{IsCanonical, sets_of};
+ghost use Rattle.lrpar_item_sets.specs.Canonical.{IsCanonical, sets_of};
 ghost use Rattle.std.specs.Bool.{OnFalse, OnTrue};
 ghost use Rattle.lrpar_examples.specs.Links.{AreBegun, AreLinks, AreMarks, AreNoted, AreNotedOf, ArePut, HasLink, IsBegunLink, IsLinkBelow, IsNotedCore, IsStep, LinkRule, link_of, links_of};
 

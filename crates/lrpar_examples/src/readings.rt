@@ -5,7 +5,7 @@ ghost use Rattle.lrpar_grammar.specs.Symbols.{symbol_of};
 ghost use Rattle.lrpar_grammar.specs.Tree.{Forest, Tree, forest_leaves};
 ghost use Rattle.lrpar_states.specs.Graph.{HasCore, HasItem, graph_len};
 ghost use Rattle.lrpar_first.specs.FirstRows.{AreFirsts, mark_of, rows_of};
-ghost use Rattle.lrpar_build.specs.Canonical.{IsCanonical, StandsBefore, sets_of};
+ghost use Rattle.lrpar_item_sets.specs.Canonical.{IsCanonical, StandsBefore, sets_of};
 ghost use Rattle.lrpar_shortest.specs.Choices.{AreShortest};
 ghost use Rattle.lrpar_shortest.specs.Moves.{Makes, Takes, forest_moves, moves_in};
 ghost use Rattle.lrpar_shortest.specs.Reached.{EachReachedHasTree};

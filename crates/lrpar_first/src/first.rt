@@ -1,5 +1,5 @@
 //! The tokens that rules begin with.
-ghost use Rattle.std.specs.Prelude.{◌≡◌, ◌<◌, ◌≤◌, ◌+◌, ◌||◌, ◌↔◌, ◌⊎◌, ℕ, All, IfOk, IsTrue, false, length, map};
+ghost use Rattle.std.specs.Prelude.{◌≡◌, ◌<◌, ◌+◌, ◌||◌, ◌↔◌, ◌⊎◌, ℕ, All, IfOk, IsTrue, false, length, map};
 ghost use Rattle.std.specs.Bool.{OnFalse, OnTrue};
 ghost use Rattle.lrpar_grammar.specs.Grammar.{IsWellFormed, prods_len, rules_len, tokens_len};
 ghost use Rattle.lrpar_grammar.specs.Symbols.{symbol_of};

@@ -1,14 +1,8 @@
--- Lexemes as contracts see them, valid lists of them, and sentences.
-use Rattle.std.specs.Prelude.{◌≡◌, ◌<◌, ◌≤◌, ◌+◌, ℕ, Bool, List, length, slice_get, Some}
-use Rattle.lrpar_text.specs.Span.{Extent}
+-- Valid lists of lexemes, and sentences.
+use Rattle.std.specs.Prelude.{◌≡◌, ◌<◌, ◌≤◌, ◌+◌, ℕ, List, length, slice_get, Some}
+pub use Rattle.lrpar_text.specs.Facts.{LexemeFacts}
 use Rattle.lrpar_parts.specs.Grammar.{Grammar, Nonterminal, end_token}
 use Rattle.lrpar_grammar.specs.Tree.{Tree, Fits, leaves}
-
--- all that a contract knows of a lexeme: its token, where it lies, and whether a repair made it
-pub record LexemeFacts : Type 0 where
-  pub token : ℕ
-  pub span : Extent
-  pub faulty : Bool
 
 -- the lexemes are the leaves of some tree that fits the start rule
 abbrev pub IsSentence : {X : Type 0} → (X → ℕ) → Grammar → List X → Type 0

@@ -1,2 +1,3 @@
--- Where the places of a grammar have to lie, as the crate below defines it.
-pub use Rattle.lrpar_parts.specs.SpansFit.{IsPartOf, IsPartOfLine, AreSpansInOrder, ProductionFits, NamesFit, SpansFit}
+-- Where the places of a grammar have to lie, as the crates below define it.
+pub use Rattle.lrpar_text.specs.Span.{IsPartOf}
+pub use Rattle.lrpar_parts.specs.SpansFit.{IsPartOfLine, AreSpansInOrder, ProductionFits, NamesFit, SpansFit}

@@ -31,6 +31,3 @@ pub fn checked(alloc: Global, text: &str, cap: u16) -> Result<Checked, Fault> {
         Err(Unbuilt::Table(fault, _)) => Err(fault.into()),
     }
 }
-
-/// Lets go of a table. A crate that calls this has no drops of a table's parts to prove.
-pub fn drop_table(_: ParserData<u32>) {}

@@ -1,5 +1,5 @@
 -- What comparing and cloning lists of repairs says of the repairs that contracts see.
-use Rattle.std.proofs.Common.{◌∙◌, ◌≡◌, ℕ, Bool, List, [], ◌∷◌, refl, ap, Vec, vec_len}
+use Rattle.std.proofs.Common.{◌∙◌, ◌≡◌, ℕ, Bool, List, [], ◌∷◌, refl, Vec, vec_len}
 use Rattle.std.specs.Prelude.{map, false, ◌==◌, ◌&&◌}
 use Rattle.std.specs.List.{AllZip, each_same}
 use Rattle.std.specs.Cmp.Lexicographic.{pointwise}

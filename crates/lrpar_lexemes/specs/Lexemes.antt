@@ -2,7 +2,7 @@
 use Rattle.std.specs.Prelude.{ℕ, ◌+◌, ◌-◌, Bool, true, List, length, slice_get}
 use Rattle.std.specs.Option.{option_map_or}
 use Rattle.lrpar_text.specs.Span.{Extent}
-use Rattle.lrpar_grammar.specs.Sentence.{LexemeFacts}
+use Rattle.lrpar_text.specs.Facts.{LexemeFacts}
 
 -- a lexeme's token, where it lies, and whether a repair made it
 pub record LexemeParts (S : Type 0) : Type 0 where

@@ -10,7 +10,7 @@ ghost use Rattle.lrpar_lexemes.specs.declared.pp_fault.PpFault.{PpFault};
 use crate::lex_api::Lexeme;
 use crate::pp_fault::PpFault;
 use crate::repairs::ParseRepair;
-use lrpar_grammar::span::StorageIndex;
+use lrpar_text::span::StorageIndex;
 use std::hash::Hash;
 
 /// Two repairs are equal exactly where they are of one kind, and their tokens or lexemes are equal. A hasher is fed which of the

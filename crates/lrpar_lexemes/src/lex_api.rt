@@ -5,7 +5,7 @@ ghost use Rattle.lrpar_text.specs.Span.{Extent};
 ghost use Rattle.lrpar_lexemes.specs.Lexemes.{LexemeParts, lexeme_parts};
 ghost use Rattle.lrpar_text.specs.Lines.{lines_of, line_of, column_of};
 
-use lrpar_grammar::span::Span;
+use lrpar_text::span::Span;
 use std::alloc::{AllocError, Global};
 use std::error::Error;
 use std::fmt::{Debug, Display};

@@ -2,7 +2,7 @@
 ghost use Rattle.std.specs.Prelude.{◌≡◌};
 ghost use Rattle.lrpar_lexemes.specs.declared.pp_fault.PpFault.TheVariants.{Memory};
 
-use lrpar_grammar::span::{StorageIndex, TIdx};
+use lrpar_text::span::{StorageIndex, TIdx};
 use std::alloc::{AllocError, AllocFailed};
 use std::error::Error;
 use std::fmt;

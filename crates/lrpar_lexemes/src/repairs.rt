@@ -2,7 +2,7 @@
 ghost use Rattle.std.specs.Prelude.{◌≡◌, ⊤};
 
 use crate::lex_api::Lexeme;
-use lrpar_grammar::span::{StorageIndex, TIdx};
+use lrpar_text::span::{StorageIndex, TIdx};
 use std::alloc::AllocError;
 
 /// One step of a repair.

@@ -13,7 +13,7 @@ use regex_meta::{Program, Searcher};
 use std::alloc::{AllocError, Global};
 
 /// What wins at a place: which of the rules, and how many bytes it takes.
-#[derive(Clone, Copy, Debug)]
+#[derive(Clone, Copy)]
 pub(crate) struct Winner {
     pub(crate) rule: usize,
     pub(crate) len: usize,

@@ -1,5 +1,5 @@
 //! A message, and how it is shown.
-ghost use Rattle.std.specs.Prelude.{◌≡◌, ◌↔◌, IfOk, IsTrue};
+ghost use Rattle.std.specs.Prelude.{◌≡◌, ◌↔◌, IsTrue};
 ghost use Rattle.lrpar_grammar.specs.SpansFit.{IsPartOf};
 
 use lrpar_diagnostics::SpannedDiagnosticFormatter;

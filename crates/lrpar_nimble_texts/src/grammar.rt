@@ -1,5 +1,4 @@
 //! The grammar of a text and its table, and why there is none.
-ghost use Rattle.std.specs.Prelude.{IfOk};
 ghost use Rattle.lrpar_build.specs.Built.{IsBuilt};
 ghost use Rattle.lrpar_states.specs.Safe.{IsSafe};
 

@@ -3,19 +3,19 @@ use Rattle.std.proofs.Common.{◌≡◌, ℕ, IfSome, List, None, Ok, Option, Re
 use Rattle.lrpar_text.specs.Span.{Extent, nowhere}
 use Rattle.lrpar_grammar.specs.Grammar.{Nonterminal}
 use Rattle.lrpar_grammar.specs.Tree.{Tree}
-use Rattle.lrpar_course.specs.Acted.{ActedTo, IsActedValue, acts_by}
-use Rattle.lrpar_course.specs.Arguments.{IsArgument}
+use Rattle.lrpar_parser.specs.Acted.{ActedTo, IsActedValue, acts_by}
+use Rattle.lrpar_parser.specs.Arguments.{IsArgument}
 use Rattle.lrpar_steps.specs.Entries.{HasValueEntry}
 use Rattle.lrpar_parser.specs.Parse.{ParsesTo}
 use Rattle.lrpar_steps.specs.Standing.{StandsFor}
 use Rattle.lrpar_course.specs.Subject.{Subject}
 use Rattle.lrpar_course.specs.Placed.{IsPlacedLexeme, IsPlacedValue}
-use Rattle.lrpar_course.specs.declared.actions.Placed.{Placed}
+use Rattle.lrpar_course.specs.declared.placed.Placed.{Placed}
 use Rattle.lrpar_answers.specs.declared.errors.LexParseError.{LexParseError}
 use Rattle.lrpar_steps.specs.declared.values.AStackType.{AStackType}
 use Rattle.lrpar_steps.specs.declared.values.AStackType.TheVariants.{ActionType, Lexeme}
 use Rattle.lrpar_parser.proofs.FoldLemmas.{parse_mapped, parse_mapped_on, value_told}
-use Rattle.lrpar_course.proofs.PlacedLemmas.{stands_acted}
+use Rattle.lrpar_parser.proofs.ActedEntryLemmas.{stands_acted}
 
 module _ {X V R P : Type 0} (about : Subject X) (token : X → ℕ) (span : X → Extent) (fact : ℕ → V → Type 0) (answers : ℕ → ℕ → R → Extent → List (AStackType X V) → P → V → Type 0) (lexer : R) (param : P) where
   -- the values that the actions may answer

@@ -1,11 +1,11 @@
 -- What may come next after the lexemes of a lexer: the lexemes are fed one by one, as far as they can be, and the answer is that
 -- over them.
-use Rattle.std.proofs.Common.{◌≡◌, ◌≢◌, ◌<◌, ◌≤◌, ◌+◌, ◌↔◌, ◌∙◌, inl, inr, ℕ, List, [], ◌∷◌, ◌++◌, map, length, get_or, slice_get, Bool, true, false, IsTrue, Option, Some, None, Result, Ok, Err, refl, sym, ap, subst, arith}
+use Rattle.std.proofs.Common.{◌≡◌, ◌≢◌, ◌<◌, ◌+◌, ◌↔◌, ◌∙◌, inl, inr, ℕ, List, [], ◌∷◌, ◌++◌, map, length, get_or, slice_get, Bool, true, false, IsTrue, Some, None, Result, Ok, Err, refl, sym, ap, subst, arith}
 use Rattle.std.proofs.lemmas.Option.{slice_get_read, slice_get_within}
 use Rattle.lrpar_grammar.specs.Grammar.{Grammar, end_token, tokens_len}
 use Rattle.lrpar_grammar.specs.Sentence.{LexemeFacts, IsFirstBadToken, IsFirstEarlyStart, IsValidList}
 use Rattle.lrpar_states.specs.Table.{Table, ShiftTo}
-use Rattle.lrpar_safety.specs.Checked.{Checked, IsChecked}
+use Rattle.lrpar_check.specs.Checked.{Checked, IsChecked}
 use Rattle.lrpar_stacks.specs.Expected.{AreExpected, IsExpected, tokens_of}
 use Rattle.lrpar_check.specs.ExpectedRuns.{FeedsFront}
 use Rattle.lrpar_stacks.specs.Reduction.{Feeds, top_action}

@@ -1,5 +1,6 @@
 pub mod ParseLemmas
 pub mod FoldLemmas
+pub mod ActedEntryLemmas
 pub mod ActedLemmas
 pub mod SumLemmas
 pub mod RepairRunLemmas

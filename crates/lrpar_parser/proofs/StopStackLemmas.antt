@@ -5,7 +5,7 @@ use Rattle.std.proofs.lemmas.Option.{slice_get_cases}
 use Rattle.lrpar_grammar.specs.Grammar.{Grammar, end_token, tokens_len}
 use Rattle.lrpar_grammar.specs.Sentence.{IsValidList, LexemeFacts}
 use Rattle.lrpar_states.specs.Table.{Table, Fails}
-use Rattle.lrpar_safety.specs.Checked.{Checked, IsChecked}
+use Rattle.lrpar_check.specs.Checked.{Checked, IsChecked}
 use Rattle.lrpar_stacks.specs.Path.{NeverSticks}
 use Rattle.lrpar_stacks.specs.Reduction.{Feeds, Settles, top_action}
 use Rattle.lrpar_stacks.specs.Stack.{IsStack}

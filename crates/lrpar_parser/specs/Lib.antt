@@ -1,3 +1,5 @@
+pub mod Arguments
+pub mod Acted
 pub mod Lexed
 pub mod SumRun
 pub mod Parse

@@ -1,7 +1,7 @@
 -- Parsers as contracts see them, and what they parse.
 use Rattle.std.specs.Prelude.{ℕ, List}
 use Rattle.lrpar_lexemes.specs.Lexemes.{LexemeParts}
-use Rattle.lrpar_safety.specs.Checked.{Checked}
+use Rattle.lrpar_check.specs.Checked.{Checked}
 use Rattle.lrpar_steps.specs.Known.{facts_by}
 use Rattle.lrpar_steps.specs.Sequences.{PlainStep}
 use Rattle.lrpar_steps.specs.Asked.{Asked, allowed_at}

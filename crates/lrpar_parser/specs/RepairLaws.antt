@@ -4,7 +4,7 @@ use Rattle.std.specs.List.{AllPairs}
 use Rattle.lrpar_grammar.specs.Grammar.{Grammar, end_token}
 use Rattle.lrpar_grammar.specs.Sentence.{IsValidList, LexemeFacts}
 use Rattle.lrpar_states.specs.Table.{Table, Fails}
-use Rattle.lrpar_safety.specs.Checked.{Checked, IsChecked}
+use Rattle.lrpar_check.specs.Checked.{Checked, IsChecked}
 use Rattle.lrpar_stacks.specs.Reduction.{top_action}
 use Rattle.lrpar_stacks.specs.Stack.{IsStack}
 use Rattle.lrpar_steps.specs.Recovery.{Point}

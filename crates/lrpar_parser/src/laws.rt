@@ -5,7 +5,7 @@ ghost use Rattle.lrpar_grammar.specs.Sentence.{LexemeFacts};
 ghost use Rattle.lrpar_stacks.specs.Run.{RunsOneWay};
 ghost use Rattle.lrpar_steps.specs.Known.{facts_by};
 ghost use Rattle.lrpar_steps.specs.Asked.{allowed_at};
-ghost use Rattle.lrpar_safety.specs.Checked.{Checked};
+ghost use Rattle.lrpar_check.specs.Checked.{Checked};
 ghost use Rattle.lrpar_parser.specs.RepairLaws.{AcceptsWhereRepaired, ListsSound, RepairRunsOneWay, RunsWithoutRepairs, StopsAtStacks, StopsByFailing, StopsLieApart};
 ghost use Rattle.lrpar_steps.specs.Replays.{ReplaysOneWay, WorksByReplay};
 ghost use Rattle.lrpar_stacks.specs.RunLaws.{RunsEndOneWay, RunsGoOnOrEnd, RunsStopByFailing};

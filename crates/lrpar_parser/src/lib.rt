@@ -1,6 +1,7 @@
 //! Parses over a grammar and its state table: lexers and lexemes in, values and errors out.
 #![tactic(auto)]
 
+mod actions;
 mod expected;
 pub mod generictree;
 pub mod laws;

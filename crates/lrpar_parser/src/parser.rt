@@ -1,9 +1,9 @@
 //! Parses: the calls that take a lexer and answer a value and the errors.
-ghost use Rattle.std.specs.Prelude.{◌≡◌, ◌<◌, ◌∷◌, ◌↔◌, [], List, Result, IfErr, IfOk, IfSome, IsOk, IsTrue, option_map};
-ghost use Rattle.lrpar_safety.specs.Checked.{IsChecked};
+ghost use Rattle.std.specs.Prelude.{◌≡◌, ◌<◌, ◌∷◌, ◌↔◌, [], Result, IfErr, IfOk, IfSome, IsOk, IsTrue, option_map};
+ghost use Rattle.lrpar_check.specs.Checked.{IsChecked};
 ghost use Rattle.lrpar_grammar.specs.Sentence.{IsValidList};
-ghost use Rattle.lrpar_course.specs.Acted.{IsActedValue};
-ghost use Rattle.lrpar_course.specs.Arguments.{TakesAll};
+ghost use Rattle.lrpar_parser.specs.Acted.{IsActedValue};
+ghost use Rattle.lrpar_parser.specs.Arguments.{TakesAll};
 ghost use Rattle.lrpar_course.specs.End.{IsOfTree};
 ghost use Rattle.lrpar_steps.specs.Entries.{HasValueEntry};
 ghost use Rattle.lrpar_parser.specs.ExpectedAnswer.{Expects};
@@ -16,16 +16,17 @@ ghost use Rattle.lrpar_parser.specs.Parse.{ParsesTo, ParsesToErrors};
 ghost use Rattle.lrpar_parser.specs.Parser.{subject};
 ghost use Rattle.lrpar_course.specs.TreeAnswer.{IsTreeAnswer};
 
+use crate::actions::Acting;
+pub use crate::actions::Actions;
 pub use crate::expected::Expected;
 use crate::expected::expected_after;
 pub use crate::generictree::action_generictree;
 use crate::lexed::{lexemes_before_error, lexemes_or_error};
 pub use crate::shifts::ZeroShifts;
 pub use lrpar_answers::{LexParseError, Node, ParseError, ParseRepair, PpFault};
-pub use lrpar_course::actions::Actions;
-use lrpar_course::actions::{Acting, Placed};
 use lrpar_course::course::Course;
 use lrpar_course::lexeme_fault::lexeme_fault;
+use lrpar_course::placed::Placed;
 use lrpar_course::run::Run;
 use lrpar_course::trees::Trees;
 use lrpar_grammar::grammar::YaccGrammar;

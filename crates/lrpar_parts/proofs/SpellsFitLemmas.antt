@@ -7,7 +7,7 @@ use Rattle.std.proofs.lemmas.List.{get_or-map, length-map}
 use Rattle.std.proofs.lemmas.List.Elements.{All-append, All-cons, All-filter, All-head, All-map, All-nil, All-push, All-tail, All-weaker}
 use Rattle.std.proofs.lemmas.Option.{get_or_from_slice_get, slice_get_within}
 use Rattle.std.proofs.lemmas.Str.{IsCharBoundary-start}
-use Rattle.lrpar_text.specs.Span.{Extent, nowhere}
+use Rattle.lrpar_text.specs.Span.{Extent, nowhere, IsPartOf}
 use Rattle.lrpar_text.specs.declared.words.WordKind.TheVariants.{Name}
 use Rattle.lrpar_text.specs.Words.{PlacedWord}
 use Rattle.lrpar_text.specs.Outline.{AreWordsInOrder, HasOrderedSymbols, IsOutlineOf, TextAlternative, TextOutline}
@@ -17,7 +17,7 @@ use Rattle.lrpar_parts.specs.Names.{first_of_each, is_among, with_name}
 use Rattle.lrpar_parts.specs.Parts.{grammar_of}
 use Rattle.lrpar_parts.specs.Spells.{Numbering, declared_words, is_token, numbering_of, prod_of_alternative, rule_of_word, rule_words, span_between, spelled_parts, symbol_of_word, token_of_word, token_words, used_tokens}
 use Rattle.lrpar_parts.specs.SpansFit as fits
-use Rattle.lrpar_parts.specs.SpansFit.{IsPartOf, IsPartOfLine, ProductionFits, SpansFit}
+use Rattle.lrpar_parts.specs.SpansFit.{IsPartOfLine, ProductionFits, SpansFit}
 
 -- what holds of all words holds of those that are kept by name
 fold_all : (P : PlacedWord → Type 0) (ws known : List PlacedWord) → All P known → All P ws → All P (fold with_name known ws)

@@ -1,16 +1,10 @@
 -- The places of a grammar fit a text: the one that it was read from, or one of which it has the places.
 use Rattle.std.specs.Prelude.{◌≡◌, ◌≢◌, ◌≤◌, ℕ, List, [], All, length, slice_range}
 use Rattle.std.specs.List.{AllAdjacentBelow}
-use Rattle.std.specs.Str.{IsCharBoundary}
-use Rattle.lrpar_text.specs.Span.{Extent}
+use Rattle.lrpar_text.specs.Span.{Extent, IsPartOf}
 use Rattle.lrpar_parts.specs.Grammar.{Grammar, Production}
 
--- the part starts and ends in the text, between two characters each time
-pub record IsPartOf (src : List ℕ) (span : Extent) : Type 0 where
-  pub start : IsCharBoundary src span.start
-  pub end : IsCharBoundary src span.end
-
--- and no line feed lies in it
+-- the part lies in the text, and no line feed lies in it
 pub record IsPartOfLine (src : List ℕ) (span : Extent) : Type 0 where
   pub part : IsPartOf src span
   pub line : All (λ byte. byte ≢ 10) (slice_range src span.start span.end)

@@ -13,10 +13,18 @@ use std::collections::BTreeMap;
 use std::marker::Model;
 
 /// Words of distinct names. The number of each is its place among them.
-#[derive(Drop)]
 pub struct Names<'a> {
     words: Vec<Word<'a>>,
     numbers: BTreeMap<&'a str, usize>,
+}
+
+// A drop of its own, so that what lets go of one elsewhere proves one call.
+impl<'a> Drop for Names<'a> {
+    fn drop(self) {
+        let Names { words, numbers } = self;
+        drop(words);
+        drop(numbers);
+    }
 }
 
 impl<'a> Model for Names<'a> {
@@ -47,7 +55,8 @@ impl<'a> Names<'a> {
         })
     }
 
-    /// The tokens of the `%epp`s, which have to be of distinct names. A second `%start` is looked for before.
+    /// The tokens of the `%epp`s, which have to be of distinct names. `RepeatedEpp` comes at the first one whose name an earlier
+    /// one has, and `Memory` where it doesn't suffice. A second `%start` is looked for before.
     pub fn of_epps(alloc: Global, outline: &Outline<'a>) -> Result<Self, GrammarFault>
         requires { length (outline_of outline.now).starts ≤ 1 }
         ensures names { IfOk result (λ names. names ≡ (outline_of outline.now).epps) }

@@ -1,5 +1,5 @@
 //! The parts of a grammar, by its declarations and rules.
-ghost use Rattle.std.specs.Prelude.{◌≡◌, ◌<◌, ◌≤◌, ◌↔◌, All, IfOk, IsTrue, List, length, map, true};
+ghost use Rattle.std.specs.Prelude.{◌≡◌, ◌<◌, ◌↔◌, All, IfOk, IsTrue, length, map, true};
 ghost use Rattle.lrpar_text.specs.Words.{placed};
 ghost use Rattle.lrpar_text.specs.Outline.{AreWordsInOrder, AreOfDefinedRules, HasOrderedSymbols, alternative_of, outline_of};
 ghost use Rattle.lrpar_parts.specs.Names.{is_among};

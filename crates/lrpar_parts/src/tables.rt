@@ -6,7 +6,7 @@ ghost use Rattle.lrpar_parts.specs.Spells.{AreDistinct, HasFault, is_quoted, is_
 
 use crate::names::Names;
 use crate::parts::GrammarFault;
-use lrpar_text::outline::{Alternative, Outline};
+use lrpar_text::outline::Outline;
 use lrpar_text::words::{Word, WordKind};
 use std::alloc::{AllocError, Global};
 
@@ -23,7 +23,8 @@ impl<'a> Tables<'a> {
     ghost use Rattle.lrpar_parts.specs.Spells.{numbering_of};
     ghost use Rattle.lrpar_parts.specs.TextNames.{numbering_by};
 
-    /// The tables of an outline. Refuses a second `%epp` of one name, once there is no second `%start`.
+    /// The tables of an outline. `RepeatedEpp` comes at a second `%epp` of one name, and `Memory` where it doesn't suffice. A second
+    /// `%start` is looked for before.
     pub fn new(alloc: Global, outline: &Outline<'a>) -> Result<Self, GrammarFault>
         requires { length (outline_of outline.now).starts ≤ 1 }
         ensures numbering { IfOk result (λ tables. numbering_by tables ≡ numbering_of (outline_of outline.now)) }

@@ -6,10 +6,10 @@ ghost use Rattle.lrpar_parts.specs.SpansFit.{SpansFit};
 ghost use Rattle.lrpar_parts.specs.Spells.{AreDeclaredOnce, HasFault, IsClean, IsFaultOf, IsOutlineFault, Spells, numbering_of};
 ghost use Rattle.lrpar_parts.specs.TextNames.{AreSpelled, IsRefusedAs, numbering_by};
 
-use lrpar_parts::known::has_known_names;
 use lrpar_parts::parts::{GrammarFault, GrammarParts};
 use lrpar_parts::spelled::{fit, spelled_parts};
 use lrpar_parts::tables::Tables;
+use lrpar_parts::wrong_names::has_known_names;
 use lrpar_text::outline::{Outline, OutlineFault};
 use lrpar_text::span::StorageIndex;
 use std::alloc::Global;

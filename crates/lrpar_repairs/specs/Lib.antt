@@ -1,3 +1,2 @@
 pub mod SequenceText
-pub mod Printed
 pub mod PrintedParts

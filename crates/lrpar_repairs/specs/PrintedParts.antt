@@ -4,8 +4,8 @@ use Rattle.lrpar_text.specs.Span.{Extent}
 use Rattle.lrpar_lexemes.specs.Repairs.{repair_of}
 use Rattle.lrpar_repairs.specs.SequenceText as texts
 use Rattle.lrpar_lexemes.specs.declared.repairs.ParseRepair.{ParseRepair}
-use Rattle.lrpar_repairs.specs.declared.sequence_text.Part.{Part}
-use Rattle.lrpar_repairs.specs.declared.sequence_text.Part.TheVariants.{Insert, Delete, Shift}
+use Rattle.lrpar_repairs.specs.declared.parts.Part.{Part}
+use Rattle.lrpar_repairs.specs.declared.parts.Part.TheVariants.{Insert, Delete, Shift}
 
 -- one part
 abbrev pub part_of : {S : Type 0} → (S → ℕ) → Part S → texts.Part

@@ -3,8 +3,7 @@
 use Rattle.std.specs.Prelude.{◌≡◌, ◌==◌, if◌then◌else◌, ℕ, List, [], ◌∷◌, ◌++◌, codes, slice_range, Option, Some, None}
 use Rattle.std.specs.List.{AllByRecursion, AllZip, flat_map, join_by}
 use Rattle.lrpar_text.specs.Lines.{is_line_feed}
-use Rattle.lrpar_text.specs.Span.{Extent}
-use Rattle.lrpar_grammar.specs.SpansFit.{IsPartOf}
+use Rattle.lrpar_text.specs.Span.{Extent, IsPartOf}
 use Rattle.lrpar_lexemes.specs.Repair.{Repair, Inserted, Deleted, Shifted}
 
 -- a text on one line: each line feed prints as the two characters `\n`

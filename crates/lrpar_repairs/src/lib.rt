@@ -1,4 +1,4 @@
-//! The texts of sequences of repairs.
+//! How a sequence of repairs is parted where it is printed.
 #![tactic(auto)]
 
-pub mod sequence_text;
+pub mod parts;

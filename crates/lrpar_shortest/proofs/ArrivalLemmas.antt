@@ -8,7 +8,7 @@ use Rattle.lrpar_grammar.specs.Tree.{Forest}
 use Rattle.lrpar_states.specs.Graph.{Graph}
 use Rattle.lrpar_states.specs.Table.{IsClosed, Table, states_len}
 use Rattle.lrpar_build.specs.Built.{IsBuilt}
-use Rattle.lrpar_build.specs.Canonical.{AreSame, sets_of}
+use Rattle.lrpar_item_sets.specs.Canonical.{AreSame, sets_of}
 use Rattle.lrpar_closure.specs.ItemSets.{IsReachedBy}
 use Rattle.lrpar_shortest.specs.Choices.{AreShortest, ChoiceOf}
 use Rattle.lrpar_shortest.specs.Lens.{added, len_at, total_len}

@@ -6,7 +6,7 @@ use Rattle.lrpar_states.specs.Safe.{CoresFollow, GoesBy}
 use Rattle.lrpar_states.specs.declared.condition.SafetyCondition.TheVariants.{S4, S8}
 use Rattle.lrpar_states.specs.Table.{IsClosed, Table, states_len}
 use Rattle.lrpar_build.specs.Built.{IsBuilt}
-use Rattle.lrpar_build.specs.Canonical.{AreSame, LeadsTo, StandsBefore, sets_of}
+use Rattle.lrpar_item_sets.specs.Canonical.{AreSame, LeadsTo, StandsBefore, sets_of}
 use Rattle.lrpar_closure.specs.ItemSets.{Added, IsAdvanced, IsInClosure, IsInNext, IsReachedBy, Own}
 use Rattle.lrpar_build.proofs.ReachedLemmas.{symbol_listed}
 use Rattle.lrpar_build.proofs.SetLemmas.{next_more, same_back, same_on}

@@ -6,7 +6,7 @@ use Rattle.lrpar_grammar.specs.Tree.{Forest}
 use Rattle.lrpar_states.specs.Graph.{Graph, graph_len}
 use Rattle.lrpar_states.specs.Safe.{GoesBy}
 use Rattle.lrpar_states.specs.Table.{Table}
-use Rattle.lrpar_build.specs.Canonical.{AreSame, sets_of}
+use Rattle.lrpar_item_sets.specs.Canonical.{AreSame, sets_of}
 use Rattle.lrpar_closure.specs.ItemSets.{IsReachedBy}
 use Rattle.lrpar_shortest.specs.Texts.{AreTreesOf, IsShortestLen, forest_width}
 use Rattle.lrpar_shortest.specs.declared.steps.Step.{Step}

@@ -4,7 +4,7 @@ ghost use Rattle.std.specs.Bool.{OnFalse, OnTrue};
 ghost use Rattle.lrpar_grammar.specs.Grammar.{Grammar, Nonterminal, prods_len};
 ghost use Rattle.lrpar_grammar.specs.Symbols.{symbol_of};
 ghost use Rattle.lrpar_shortest.specs.Choices.{AreShortest, choices_of};
-ghost use Rattle.lrpar_shortest.specs.Reached.{AreAllMarked, AreMarked, EachReachedHasTree, HasTree, IsFirstBarren, IsMarkedSymbol, IsReachedRule, IsReachedSymbol, MarksOn, is_marked, unmarked};
+ghost use Rattle.lrpar_shortest.specs.Reached.{AreAllMarked, AreMarked, EachReachedHasTree, IsFirstBarren, IsMarkedSymbol, IsReachedRule, IsReachedSymbol, MarksOn, is_marked, unmarked};
 
 use crate::settle::{Choice, choice_of};
 use lrpar_grammar::grammar::YaccGrammar;

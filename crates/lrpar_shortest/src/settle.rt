@@ -1,5 +1,5 @@
 //! The shortest texts of rules, settled in the order of their lengths, as in Knuth, 'A Generalization of Dijkstra's Algorithm'.
-ghost use Rattle.std.specs.Prelude.{◌≡◌, ◌<◌, ℕ, IfOk, MatchOption, length, map, option_map, slice_index_or};
+ghost use Rattle.std.specs.Prelude.{◌≡◌, ◌<◌, ℕ, IfOk, MatchOption, length, map, option_map};
 ghost use Rattle.lrpar_grammar.specs.Grammar.{prods_len, rules_len};
 ghost use Rattle.lrpar_grammar.specs.Symbols.{symbol_of};
 ghost use Rattle.lrpar_shortest.specs.Choices.{AreRight, AreShortest, choice_at, choice_of, choices_of};

@@ -8,7 +8,7 @@ ghost use Rattle.lrpar_shortest.specs.Choices.{AreShortest, choice_at};
 ghost use Rattle.lrpar_shortest.specs.Lens.{len_at, total_len};
 ghost use Rattle.lrpar_shortest.specs.Moves.{forest_moves, moves_in, moves_of};
 ghost use Rattle.lrpar_shortest.specs.Reached.{EachReachedHasTree, HasTree, IsFirstBarren};
-ghost use Rattle.lrpar_shortest.specs.Texts.{AreShortestTrees, BeginWith, CanBeginWith, HaveTrees, IsShortestIfAny, IsShortestTree, IsTreeOf};
+ghost use Rattle.lrpar_shortest.specs.Texts.{AreShortestTrees, BeginWith, CanBeginWith, HaveTrees, IsShortestIfAny, IsShortestTree};
 
 use crate::descend::push_beginning;
 use crate::moves::Move;
@@ -21,9 +21,17 @@ use std::alloc::{AllocError, Global};
 use std::marker::Model;
 
 /// Of each rule of a grammar how many tokens the shortest text has that the rule derives, and a tree of one.
-#[derive(Debug, Drop)]
+#[derive(Debug)]
 pub struct Shortest<StorageT: StorageIndex> {
     choices: Vec<Option<Choice<StorageT>>>,
+}
+
+// A drop of its own, so that what lets go of one elsewhere proves one call.
+impl<StorageT: StorageIndex> Drop for Shortest<StorageT> {
+    fn drop(self) {
+        let Shortest { choices } = self;
+        drop(choices);
+    }
 }
 
 impl<StorageT: StorageIndex> Model for Shortest<StorageT> {

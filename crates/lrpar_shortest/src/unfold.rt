@@ -1,5 +1,5 @@
 //! The moves of the trees that are kept of rules, without recursion.
-ghost use Rattle.std.specs.Prelude.{◌≡◌, ◌<◌, ◌≤◌, ◌+◌, ◌∷◌, ◌++◌, ℕ, [], All, List, IfOk, IfSome, IsTrue, MatchOption, OnOk, drop, length, map, vec_len};
+ghost use Rattle.std.specs.Prelude.{◌≡◌, ◌<◌, ◌≤◌, ◌+◌, ◌∷◌, ◌++◌, ℕ, [], All, List, IfOk, IfSome, IsTrue, MatchOption, OnOk, drop, map, vec_len};
 ghost use Rattle.lrpar_grammar.specs.Grammar.{Grammar, prods_len, symbols_of};
 ghost use Rattle.lrpar_grammar.specs.Symbols.{symbol_of};
 ghost use Rattle.lrpar_grammar.specs.Tree.{Tree, Forest};

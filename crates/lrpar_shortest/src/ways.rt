@@ -1,5 +1,5 @@
 //! Shortest ways to the states of a built table.
-ghost use Rattle.std.specs.Prelude.{◌≡◌, ◌<◌, ◌++◌, ℕ, List, IfOk, IsSome, OnOk, option_map};
+ghost use Rattle.std.specs.Prelude.{◌≡◌, ◌<◌, ◌++◌, List, IfOk, OnOk, option_map};
 ghost use Rattle.lrpar_grammar.specs.Grammar.{Grammar};
 ghost use Rattle.lrpar_states.specs.Graph.{Graph, graph_len};
 ghost use Rattle.lrpar_states.specs.Table.{Table};
@@ -19,9 +19,17 @@ use std::alloc::{AllocError, Global};
 use std::marker::Model;
 
 /// Of each state of a built table how many tokens the shortest text has that leads to it, and the path of one.
-#[derive(Debug, Drop)]
+#[derive(Debug)]
 pub struct Ways<StorageT: StorageIndex> {
     ways: Vec<Option<Way<StorageT>>>,
+}
+
+// A drop of its own, so that what lets go of one elsewhere proves one call.
+impl<StorageT: StorageIndex> Drop for Ways<StorageT> {
+    fn drop(self) {
+        let Ways { ways } = self;
+        drop(ways);
+    }
 }
 
 impl<StorageT: StorageIndex> Model for Ways<StorageT> {

@@ -1,5 +1,5 @@
 //! Laws about the definitions that contracts cite: each function has one as its contract, and does nothing.
-ghost use Rattle.std.specs.Prelude.{◌≡◌, ◌≤◌, ◌^◌, ℕ, List, ◌∷◌, [], Some, None};
+ghost use Rattle.std.specs.Prelude.{◌≡◌, ◌≤◌, ℕ, List, ◌∷◌, [], None};
 ghost use Rattle.lrpar_grammar.specs.Grammar.{GrammarSymbol, Nonterminal, Terminal};
 ghost use Rattle.lrpar_grammar.specs.Sum.{sum_grammar};
 ghost use Rattle.lrpar_stacks.specs.Chain.{AreChainsShort, BoundsReductions, IsLongChain};
@@ -7,7 +7,7 @@ ghost use Rattle.lrpar_stacks.specs.Path.{CheckedRunsNeverStick, IsPath};
 ghost use Rattle.lrpar_stacks.specs.Reduction.{SettlesOneWay, Settles};
 ghost use Rattle.lrpar_stacks.specs.Stack.{IsStack};
 ghost use Rattle.lrpar_states.specs.Sum.{sum_table};
-ghost use Rattle.lrpar_states.specs.Table.{Table, ShiftTo, ReduceBy, Accepts, Fails, action_of, goto_of, states_len};
+ghost use Rattle.lrpar_states.specs.Table.{Table, Fails, action_of, goto_of};
 
 /// From a stack, under a token, there is at most one list of reductions after which none is left, and one stack that
 /// they give.

@@ -1,5 +1,5 @@
 //! A stack of states over one that is borrowed: it can be reduced and fed, and the borrowed one stays as it is.
-ghost use Rattle.std.specs.Prelude.{◌≡◌, ◌<◌, ◌≤◌, ◌-◌, [], ◌∷◌, ◌++◌, length, slice_get, take, Some, OnOk, OnErr, IfOk};
+ghost use Rattle.std.specs.Prelude.{◌≡◌, ◌<◌, ◌≤◌, ◌-◌, [], ◌∷◌, ◌++◌, length, take, Some, OnOk, OnErr, IfOk};
 ghost use Rattle.lrpar_stacks.specs.Stack.{states_of, top_of};
 
 use crate::state_stack::{Reduction, ShiftStack, StateStack, push_on, put_at};

@@ -1,5 +1,5 @@
 //! One step at a token, over any list of states, be it a stack or the states of a chain.
-ghost use Rattle.std.specs.Prelude.{◌≡◌, ◌<◌, All, IfOk, OnOk, OnErr, length};
+ghost use Rattle.std.specs.Prelude.{◌≡◌, ◌<◌, All, IfOk, OnErr, length};
 ghost use Rattle.lrpar_grammar.specs.Grammar.{prods_len, prod_len, rule_of, rules_len};
 ghost use Rattle.lrpar_stacks.specs.Reduction.{top_action};
 ghost use Rattle.lrpar_stacks.specs.StackReduction.{IsStepShortOfMemory};

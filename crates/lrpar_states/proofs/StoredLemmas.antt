@@ -28,3 +28,11 @@ module _ {K V X : Type 0} (number : K → ℕ) (value : V → X) (ks : List K) (
     where
       same_pair : (j k : K) (w v : V) → j ≡ k → w ≡ v → ◌≡◌ {A = K × V} (j, w) (k, v)
       same_pair j k w v key value = cc
+
+  -- so there is an entry at the place of such a key, and it is that key with its value
+  pub entry_at : (i : ℕ) (k : K) (v : V) → i < length ks → k ≡ slice_index_or ks i k → v ≡ slice_index_or vs i v
+      → (i < length es) × ◌≡◌ {A = ℕ × X} (number k, value v) (slice_index_or es i (number k, value v))
+  entry_at i k v below key at =
+      let len : length es ≡ length ks = entries_len in
+      let within : i < length es = omega (arith, len, below) in
+      (within, entry_read i k v below key at)

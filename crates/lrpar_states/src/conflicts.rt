@@ -8,7 +8,7 @@ use lrpar_grammar::span::{PIdx, StIdx, StorageIndex, TIdx};
 use std::marker::Model;
 
 /// The conflicts that were met when a table was made.
-#[derive(Debug, Drop)]
+#[derive(Debug)]
 pub struct Conflicts<StorageT: StorageIndex> {
     rr: Vec<
         (
@@ -19,6 +19,15 @@ pub struct Conflicts<StorageT: StorageIndex> {
         ),
     >,
     sr: Vec<(TIdx<StorageT>, PIdx<StorageT>, StIdx<StorageT>)>,
+}
+
+// A drop of its own, so that what lets go of one elsewhere proves one call.
+impl<StorageT: StorageIndex> Drop for Conflicts<StorageT> {
+    fn drop(self) {
+        let Conflicts { rr, sr } = self;
+        drop(rr);
+        drop(sr);
+    }
 }
 
 impl<StorageT: StorageIndex> Model for Conflicts<StorageT> {

@@ -1,5 +1,5 @@
 //! State graphs: the item sets of the states of an LR automaton.
-ghost use Rattle.std.specs.Prelude.{◌≡◌, ◌<◌, ◌≤◌, ◌↔◌, ℕ, IsTrue, IfOk, IfErr, IsErrOf, length, map};
+ghost use Rattle.std.specs.Prelude.{◌≡◌, ◌<◌, ◌≤◌, ◌↔◌, ℕ, IsTrue, IfOk, IsErrOf, length, map};
 ghost use Rattle.std.specs.List.{Contains, AllZip};
 ghost use Rattle.std.specs.List.Sorted.{IsStrictlySortedBy};
 ghost use Rattle.lrpar_states.specs.Ascending.{HaveSame};
@@ -15,9 +15,17 @@ use std::alloc::{AllocError, Global};
 use std::marker::Model;
 
 /// The item sets of the states of an LR automaton, of which nothing is known: they may fit a table or not.
-#[derive(Debug, Drop)]
+#[derive(Debug)]
 pub struct StateGraph<StorageT: StorageIndex> {
     sets: Vec<ItemSet<StorageT>>,
+}
+
+// A drop of its own, so that what lets go of one elsewhere proves one call.
+impl<StorageT: StorageIndex> Drop for StateGraph<StorageT> {
+    fn drop(self) {
+        let StateGraph { sets } = self;
+        drop(sets);
+    }
 }
 
 impl<StorageT: StorageIndex> Model for StateGraph<StorageT> {

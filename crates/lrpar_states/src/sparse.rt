@@ -1,5 +1,5 @@
 //! Sparse rows: whether they are those of a table.
-ghost use Rattle.std.specs.Prelude.{◌≡◌, ◌≢◌, ◌<◌, ◌≤◌, ◌↔◌, IsTrue, All, length, map};
+ghost use Rattle.std.specs.Prelude.{◌≡◌, ◌<◌, ◌≤◌, ◌↔◌, IsTrue, All, length, map};
 ghost use Rattle.std.specs.List.Sorted.{IsStrictlyIncreasing};
 ghost use Rattle.lrpar_states.specs.PlainRows.{action_entry, goto_entry, sparse_table_of};
 ghost use Rattle.lrpar_states.specs.Table.{AreEntries, IsActionEntry, IsGotoEntry, IsTable};

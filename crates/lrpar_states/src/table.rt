@@ -21,7 +21,7 @@ use std::marker::Model;
 
 /// What a parser does in each state, and where it goes. Only the entries are stored: in each state the tokens at which it
 /// doesn't find an error, and the rules by which it goes anywhere.
-#[derive(Debug, Drop)]
+#[derive(Debug)]
 pub struct StateTable<StorageT: StorageIndex> {
     start: StIdx<StorageT>,
     tokens: usize,
@@ -29,6 +29,23 @@ pub struct StateTable<StorageT: StorageIndex> {
     actions: Entries<TIdx<StorageT>, Action<StorageT>>,
     gotos: Entries<RIdx<StorageT>, StIdx<StorageT>>,
     conflicts: Option<Conflicts<StorageT>>,
+}
+
+// A drop of its own, so that what lets go of one elsewhere proves one call.
+impl<StorageT: StorageIndex> Drop for StateTable<StorageT> {
+    fn drop(self) {
+        let StateTable {
+            start: _,
+            tokens: _,
+            rules: _,
+            actions,
+            gotos,
+            conflicts,
+        } = self;
+        drop(actions);
+        drop(gotos);
+        drop(conflicts);
+    }
 }
 
 impl<StorageT: StorageIndex> Model for StateTable<StorageT> {

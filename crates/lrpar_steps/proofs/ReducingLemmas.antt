@@ -3,7 +3,7 @@ use Rattle.std.proofs.Common.{◌≡◌, ◌-◌, ◌∙◌, ℕ, List, [], ◌�
 use Rattle.std.specs.List.{last_or}
 use Rattle.lrpar_grammar.specs.Grammar.{Grammar, Nonterminal, prod_len, rule_of}
 use Rattle.lrpar_states.specs.Table.{Table}
-use Rattle.lrpar_safety.specs.Checked.{Checked}
+use Rattle.lrpar_check.specs.Checked.{Checked}
 use Rattle.lrpar_stacks.specs.Reduction.{IsSettled, Settles}
 use Rattle.lrpar_stacks.specs.StackReduction.{IsStackSettledBy, StackReducesBy}
 use Rattle.lrpar_steps.specs.Building.{Building}

@@ -7,7 +7,7 @@ use Rattle.lrpar_text.specs.declared.span.StIdx.{StIdx}
 use Rattle.lrpar_states.specs.declared.rows.Action.{Action}
 use Rattle.lrpar_states.specs.declared.rows.Action.TheVariants.{Shift, Reduce}
 use Rattle.lrpar_states.specs.PlainRows.{plain_action}
-use Rattle.lrpar_safety.specs.Checked.{Checked}
+use Rattle.lrpar_check.specs.Checked.{Checked}
 use Rattle.lrpar_stacks.specs.Path.{IsPath, NeverSticks}
 use Rattle.lrpar_stacks.specs.Reduction.{ReducesBy, Settles, top_action}
 use Rattle.lrpar_states.specs.Table.{Table, ShiftTo}

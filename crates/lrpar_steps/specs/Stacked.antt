@@ -3,7 +3,7 @@ use Rattle.std.specs.Prelude.{◌≡◌, ◌≤◌, ◌+◌, ℕ, List, [], ◌�
 use Rattle.lrpar_grammar.specs.Grammar.{Terminal}
 use Rattle.lrpar_states.specs.Table.{ShiftTo, Fails}
 use Rattle.lrpar_stacks.specs.Chain.{most_reductions}
-use Rattle.lrpar_safety.specs.Checked.{Checked}
+use Rattle.lrpar_check.specs.Checked.{Checked}
 use Rattle.lrpar_stacks.specs.Reduction.{IsSettled, top_action}
 use Rattle.lrpar_steps.specs.Building.{Building}
 use Rattle.lrpar_steps.specs.Standing.{Stacked, ReducesAllTo}

@@ -1,5 +1,5 @@
 //! Repairs: what a parse hands to its caller at an error, the sequences that the caller hands back, and two ways to answer.
-ghost use Rattle.std.specs.Prelude.{◌≡◌, [], List, IfOk, IsOk, ⊤};
+ghost use Rattle.std.specs.Prelude.{◌≡◌, [], List, IfOk, IsOk};
 ghost use Rattle.lrpar_stacks.specs.Stack.{states_of};
 ghost use Rattle.lrpar_steps.specs.Known.{token_by};
 ghost use Rattle.lrpar_steps.specs.PlainSteps.{plain_sequences};
@@ -157,9 +157,17 @@ impl<StorageT: StorageIndex, LexemeT: Lexeme<StorageT>> Recoverer<StorageT, Lexe
 }
 
 /// Hands in the same sequences at each error.
-#[derive(Debug, Drop)]
+#[derive(Debug)]
 pub struct FixedRecoverer<StorageT: StorageIndex> {
     sequences: Vec<Vec<RepairStep<StorageT>>>,
+}
+
+// A drop of its own, so that what lets go of one elsewhere proves one call.
+impl<StorageT: StorageIndex> Drop for FixedRecoverer<StorageT> {
+    fn drop(self) {
+        let FixedRecoverer { sequences } = self;
+        drop(sequences);
+    }
 }
 
 impl<StorageT: StorageIndex> Model for FixedRecoverer<StorageT> {

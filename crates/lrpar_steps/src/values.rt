@@ -1,5 +1,5 @@
 //! Values that a caller's two functions make of lexemes and of rules.
-ghost use Rattle.std.specs.Prelude.{◌≡◌, ◌<◌, ◌≤◌, ◌-◌, ◌∷◌, List, IfOk, OnOk, length, take, drop};
+ghost use Rattle.std.specs.Prelude.{◌≡◌, ◌<◌, ◌≤◌, ◌-◌, IfOk, OnOk, length, take, drop};
 ghost use Rattle.std.specs.List.{AllZip};
 ghost use Rattle.lrpar_grammar.specs.Grammar.{Nonterminal, rule_of, start_prod};
 ghost use Rattle.lrpar_steps.specs.Entries.{Gives, IsLexemeEntry, IsMadeEntry, SuitsSymbol};

@@ -9,10 +9,10 @@ use Rattle.lrpar_states.specs.Safe.{IsItem}
 use Rattle.lrpar_states.specs.Table.{Accepts, Fails, ReduceBy, ShiftTo, Table, TableAction, action_of, states_len}
 use Rattle.lrpar_build.specs.Built.{IsBuilt}
 use Rattle.lrpar_build.specs.BuilderLaws.{IsWantedTable, WantOneAction, Wants}
-use Rattle.lrpar_build.specs.Canonical.{AreSame, IsCanonical, LeadsTo, StandsBefore, WantsReduce, sets_of}
+use Rattle.lrpar_item_sets.specs.Canonical.{AreSame, IsCanonical, LeadsTo, StandsBefore, WantsReduce, sets_of}
 use Rattle.lrpar_closure.specs.ItemSets.{Added, Adds, IsReachedBy, Own}
 use Rattle.lrpar_build.proofs.ReachedLemmas.{reached_items, symbol_listed}
-use Rattle.lrpar_safety.specs.Checked.{Checked, IsChecked}
+use Rattle.lrpar_check.specs.Checked.{Checked, IsChecked}
 use Rattle.lrpar_complete.specs.Complete.{IsComplete, IsCompleteAt, StepsOn}
 use Rattle.lrpar_complete.specs.declared.completeness.CompletenessCondition.{CompletenessCondition}
 use Rattle.lrpar_complete.specs.declared.completeness.CompletenessCondition.TheVariants.{C1, C2, C3, C4, C5}

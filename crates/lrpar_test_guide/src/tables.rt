@@ -8,7 +8,6 @@ use lrpar::table::{Action, Item, StateGraph, StateTable, TableFault, TableRows};
 use lrpar::{LexParseError, Node, ParserData, RTParserBuilder};
 use lrpar_lexer::{Token, TokenTypes};
 use lrpar_test_parts::built::{CALC, built, lists};
-use lrpar_test_parts::drops::drop_table;
 use lrpar_test_parts::lexer::{HandedLexer, lexer_of};
 use std::alloc::Global;
 use std::process::Abort;
@@ -133,7 +132,5 @@ fn lines_hold(rt: &impl Abort, alloc: Global, data: &ParserData<u32>) -> Result<
 #[test]
 fn lines_of_a_calculator(rt: HostRuntime) -> Result<(), Fail> {
     let data = built(rt.alloc(), CALC)?;
-    let lines_hold = lines_hold(&rt, rt.alloc(), &data);
-    drop_table(data);
-    lines_hold
+    lines_hold(&rt, rt.alloc(), &data)
 }

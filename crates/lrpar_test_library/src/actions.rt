@@ -9,7 +9,7 @@ use lrpar_parser::parser::{AStackType, Actions, ParseFault};
 use lrpar_table::check::ParserData;
 use lrpar_test_parts::built::{ARITHMETIC, SUM, built};
 use lrpar_test_parts::calculator::{Calculator, Value};
-use lrpar_test_parts::drops::{drop_errors, drop_table};
+use lrpar_test_parts::drops::drop_errors;
 use lrpar_test_parts::lexer::{Given, HandedLexer, lexer_of};
 use std::alloc::{AllocError, Global};
 use std::cell::Cell;
@@ -124,7 +124,6 @@ const TWO_PARSES: [(&[Given], usize, &str); 4] = [
 fn calls_of_actions(rt: HostRuntime) -> Result<(), Fail> {
     let data = built(rt.alloc(), SUM)?;
     are_called(&rt, rt.alloc(), &data);
-    drop_table(data);
     Ok(())
 }
 
@@ -180,7 +179,6 @@ const NOT_COMPUTED: [Computed; 1] = [(&[(1, 1)], None)];
 fn values_of_a_calculator(rt: HostRuntime) -> Result<(), Fail> {
     let data = built(rt.alloc(), ARITHMETIC)?;
     are_computed(&rt, rt.alloc(), &data, &COMPUTED);
-    drop_table(data);
     Ok(())
 }
 
@@ -188,7 +186,6 @@ fn values_of_a_calculator(rt: HostRuntime) -> Result<(), Fail> {
 fn a_calculator_of_another_grammar(rt: HostRuntime) -> Result<(), Fail> {
     let data = built(rt.alloc(), SUM)?;
     are_computed(&rt, rt.alloc(), &data, &NOT_COMPUTED);
-    drop_table(data);
     Ok(())
 }
 

@@ -11,7 +11,7 @@ use lrpar_parser::RTParserBuilder;
 use lrpar_parser::parser::ParseFault;
 use lrpar_table::check::ParserData;
 use lrpar_test_parts::built::{BRACKETS, SUM, TWICE, built};
-use lrpar_test_parts::drops::{drop_error, drop_errors, drop_table, drop_tree};
+use lrpar_test_parts::drops::{drop_error, drop_errors};
 use lrpar_test_parts::lexer::{Given, HandedLexer, lexer_of};
 use std::alloc::Global;
 use std::cell::Cell;
@@ -60,10 +60,7 @@ fn acted_errors(alloc: Global, parser: &Parser<'_>, lexer: &HandedLexer<'_>) -> 
 
 // Those of a parse to a tree.
 fn tree_errors(alloc: Global, parser: &Parser<'_>, lexer: &HandedLexer<'_>) -> Errors {
-    let (tree, errors) = parser.parse_generictree(alloc, lexer)?;
-    if let Some(tree) = tree {
-        drop_tree(tree);
-    }
+    let (_tree, errors) = parser.parse_generictree(alloc, lexer)?;
     Ok(errors)
 }
 
@@ -119,7 +116,6 @@ fn lexers_and_recoverers_are_asked_once(rt: HostRuntime) -> Result<(), Fail> {
     for row in &ROWS {
         each_asks(&rt, rt.alloc(), &data, row);
     }
-    drop_table(data);
     Ok(())
 }
 
@@ -184,7 +180,6 @@ fn asked(
 fn what_a_recoverer_is_handed(rt: HostRuntime) -> Result<(), Fail> {
     let data = built(rt.alloc(), BRACKETS)?;
     let found = asked(&rt, rt.alloc(), &data, &[(2, 1), (0, 1), (0, 1)]);
-    drop_table(data);
     same(&rt, &"asked", &found, &(1, (2, 3, [0, 3, 6], 3, true)));
     Ok(())
 }
@@ -301,7 +296,6 @@ const IN_BRACKETS: [Order; 1] = [(
 fn calls_of_the_functions(rt: HostRuntime) -> Result<(), Fail> {
     let data = built(rt.alloc(), SUM)?;
     are_called(&rt, rt.alloc(), &data, &SUMS);
-    drop_table(data);
     Ok(())
 }
 
@@ -309,7 +303,6 @@ fn calls_of_the_functions(rt: HostRuntime) -> Result<(), Fail> {
 fn calls_of_one_right_side(rt: HostRuntime) -> Result<(), Fail> {
     let data = built(rt.alloc(), BRACKETS)?;
     are_called(&rt, rt.alloc(), &data, &IN_BRACKETS);
-    drop_table(data);
     Ok(())
 }
 

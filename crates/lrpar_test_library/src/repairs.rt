@@ -7,7 +7,7 @@ use lrpar_parser::RTParserBuilder;
 use lrpar_steps::repair::{FixedRecoverer, NoRecovery, RepairStep};
 use lrpar_table::check::ParserData;
 use lrpar_test_parts::built::{BRACKETS, built};
-use lrpar_test_parts::drops::{drop_errors, drop_table};
+use lrpar_test_parts::drops::drop_errors;
 use lrpar_test_parts::lexer::lexer_of;
 use std::alloc::Global;
 use std::process::Abort;
@@ -109,7 +109,6 @@ fn long_sequences_and_many(rt: HostRuntime) -> Result<(), Fail> {
     let (alloc, data) = (rt.alloc(), built(rt.alloc(), BRACKETS)?);
     let of_long = counted(&rt, alloc, &data, long(&rt, alloc));
     let of_many = counted(&rt, alloc, &data, many(&rt, alloc));
-    drop_table(data);
     same(&rt, &"long", &of_long, &(1, 5_001, 5_003));
     same(&rt, &"many", &of_many, &(10_000, 1, 1));
     Ok(())
@@ -144,7 +143,6 @@ fn shift_counts(rt: &impl Abort, alloc: Global, data: &ParserData<u32>) -> [usiz
 fn numbers_of_lexemes_that_follow(rt: HostRuntime) -> Result<(), Fail> {
     let data = built(rt.alloc(), BRACKETS)?;
     let counts = shift_counts(&rt, rt.alloc(), &data);
-    drop_table(data);
     same(&rt, &"counts", &counts, &[3, 7, 7]);
     Ok(())
 }

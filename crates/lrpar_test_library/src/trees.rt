@@ -10,7 +10,7 @@ use lrpar_parser::generictree::action_generictree;
 use lrpar_parser::parser::AStackType;
 use lrpar_table::check::ParserData;
 use lrpar_test_parts::built::{SUM, built};
-use lrpar_test_parts::drops::{drop_errors, drop_table, drop_tree};
+use lrpar_test_parts::drops::drop_errors;
 use lrpar_test_parts::lexer::{Given, lexer_of};
 use std::alloc::Global;
 use std::io;
@@ -94,7 +94,6 @@ fn chain_of(rt: &impl Abort, alloc: Global, levels: usize) -> Tree {
 fn cloned(rt: &impl Abort, alloc: Global, tree: Tree) -> Tree {
     let again = tree.clone(alloc).expect(rt, "memory");
     holds(rt, &"a clone", again == tree);
-    drop_tree(tree);
     again
 }
 
@@ -102,7 +101,6 @@ fn cloned(rt: &impl Abort, alloc: Global, tree: Tree) -> Tree {
 fn deep_trees(rt: HostRuntime) -> Result<(), Fail> {
     let data = built(rt.alloc(), SUM)?;
     are_deep(&rt, rt.alloc(), &data);
-    drop_table(data);
     Ok(())
 }
 
@@ -110,14 +108,12 @@ fn deep_trees(rt: HostRuntime) -> Result<(), Fail> {
 fn are_deep(rt: &impl Abort, alloc: Global, data: &ParserData<u32>) {
     let tree = cloned(rt, alloc, tree_of_sum(rt, alloc, data, LEVELS, 1));
     same(rt, &"levels", &levels(&tree), &(LEVELS + 1));
-    drop_tree(tree);
 }
 
 #[test]
 fn trees_of_a_million_levels(rt: HostRuntime) -> Result<(), Fail> {
     let data = built(rt.alloc(), SUM)?;
     are_chained(&rt, rt.alloc(), data.grm());
-    drop_table(data);
     Ok(())
 }
 
@@ -125,7 +121,6 @@ fn trees_of_a_million_levels(rt: HostRuntime) -> Result<(), Fail> {
 fn are_chained(rt: &impl Abort, alloc: Global, grm: &YaccGrammar<u32>) {
     let tree = cloned(rt, alloc, chain_of(rt, alloc, 1_000_000));
     let found = (levels(&tree), tree.fits(grm, "a"), tree.fits(grm, ""));
-    drop_tree(tree);
     same(rt, &"a chain", &found, &(1_000_000, true, false));
 }
 
@@ -133,7 +128,6 @@ fn are_chained(rt: &impl Abort, alloc: Global, grm: &YaccGrammar<u32>) {
 fn deep_trees_are_printed(rt: HostRuntime) -> Result<(), Fail> {
     let data = built(rt.alloc(), SUM)?;
     are_printed(&rt, rt.alloc(), data.grm());
-    drop_table(data);
     Ok(())
 }
 
@@ -146,7 +140,6 @@ fn are_printed(rt: &impl Abort, alloc: Global, grm: &YaccGrammar<u32>) {
     } else {
         panic!(rt; "a chain that doesn't fit");
     }
-    drop_tree(tree);
 }
 
 #[test]
@@ -155,8 +148,6 @@ fn deep_trees_are_written(rt: HostRuntime) -> Result<(), Fail> {
     let tree = chain_of(&rt, rt.alloc(), 50_000);
     let written = tree.write(rt.alloc(), data.grm(), "a", &mut io::sink());
     holds(&rt, &"a chain is written", written.is_ok());
-    drop_tree(tree);
-    drop_table(data);
     Ok(())
 }
 
@@ -172,7 +163,6 @@ const SUMS: [(usize, usize, usize, bool); 4] = [
 fn trees_that_differ(rt: HostRuntime) -> Result<(), Fail> {
     let data = built(rt.alloc(), SUM)?;
     differ(&rt, rt.alloc(), &data);
-    drop_table(data);
     Ok(())
 }
 
@@ -182,8 +172,6 @@ fn differ(rt: &impl Abort, alloc: Global, data: &ParserData<u32>) {
         let tree = tree_of_sum(rt, alloc, data, first, 1);
         let other = tree_of_sum(rt, alloc, data, terms, len);
         same(rt, &terms, &(tree == other), &want);
-        drop_tree(tree);
-        drop_tree(other);
     }
 }
 
@@ -198,9 +186,6 @@ fn trees_of_no_grammar(rt: HostRuntime) -> Result<(), Fail> {
         nodes: Vec::new(rt.alloc()),
     };
     let found = (leaf.fits(data.grm(), "a"), rule.fits(data.grm(), "a"));
-    drop_tree(leaf);
-    drop_tree(rule);
-    drop_table(data);
     same(
         &rt,
         &"the end token has no name, and the grammar has three rules",
@@ -233,7 +218,6 @@ fn an_action_makes_a_node(rt: HostRuntime) -> Result<(), Fail> {
         } => { matches!(nodes.as_slice(), [Node::Term { lexeme: leaf }] if *leaf == lexeme) }
         _ => false,
     };
-    drop_tree(tree);
     holds(&rt, &"a node of the lexeme", is_node);
     Ok(())
 }
@@ -260,7 +244,6 @@ fn is_written(
 fn trees_are_written_over_their_text(rt: HostRuntime) -> Result<(), Fail> {
     let data = built(rt.alloc(), SUM)?;
     are_written(&rt, rt.alloc(), &data);
-    drop_table(data);
     Ok(())
 }
 
@@ -269,6 +252,5 @@ fn are_written(rt: &impl Abort, alloc: Global, data: &ParserData<u32>) {
     for (terms, text) in [(1, "a"), (2, "a+b"), (3, "a+b+c")] {
         let tree = tree_of_sum(rt, alloc, data, terms, 1);
         holds(rt, &text, is_written(rt, alloc, data.grm(), &tree, text));
-        drop_tree(tree);
     }
 }

@@ -3,7 +3,7 @@
 ghost use Rattle.std.specs.Prelude.{◌≡◌, ◌↔◌, [], ◌∷◌, IfOk, IsSomeAnd, IsTrue, map};
 ghost use Rattle.lrpar_grammar.specs.Grammar.{Nonterminal, Terminal};
 ghost use Rattle.lrpar_grammar.specs.Symbols.{symbol_of};
-ghost use Rattle.lrpar_course.specs.Arguments.{AreArguments, IsArgument};
+ghost use Rattle.lrpar_parser.specs.Arguments.{AreArguments, IsArgument};
 ghost use Rattle.lrpar_test_parts.specs.Calculator.{IsOfKind, IsTaken};
 
 use lrpar_grammar::span::{PIdx, RIdx, Span, Symbol, TIdx};

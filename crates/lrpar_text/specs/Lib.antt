@@ -1,4 +1,5 @@
 pub mod Span
+pub mod Facts
 pub mod Comparisons
 pub mod Lines
 pub mod Words

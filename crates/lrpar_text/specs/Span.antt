@@ -1,5 +1,6 @@
 -- Parts of a text.
-use Rattle.std.specs.Prelude.{ℕ}
+use Rattle.std.specs.Prelude.{ℕ, List}
+use Rattle.std.specs.Str.{IsCharBoundary}
 
 -- the bytes of a text from `start` up to, and not including, `end`
 pub record Extent : Type 0 where
@@ -9,3 +10,8 @@ pub record Extent : Type 0 where
 -- the empty part at the start of every text, where things lie that no text spells
 abbrev pub nowhere : Extent
 nowhere = record { start = 0; end = 0 }
+
+-- the part starts and ends in the text, between two characters each time
+pub record IsPartOf (src : List ℕ) (span : Extent) : Type 0 where
+  pub start : IsCharBoundary src span.start
+  pub end : IsCharBoundary src span.end

@@ -9,7 +9,7 @@ use std::alloc::{AllocError, AllocFailed, Global};
 use std::mem;
 
 /// An alternative of a rule.
-#[derive(Debug, Drop)]
+#[derive(Drop)]
 pub struct Alternative<'a> {
     /// The rule that was defined last before it.
     pub rule: Word<'a>,
@@ -20,7 +20,6 @@ pub struct Alternative<'a> {
 }
 
 /// The declarations and rules of a grammar text, as lists of words in the order of the text.
-#[derive(Debug, Drop)]
 pub struct Outline<'a> {
     /// The names after `%start`.
     pub starts: Vec<Word<'a>>,
@@ -38,8 +37,30 @@ pub struct Outline<'a> {
     pub(crate) symbols: Vec<Word<'a>>,
 }
 
+// A drop of its own, so that what lets go of one elsewhere proves one call.
+impl<'a> Drop for Outline<'a> {
+    fn drop(self) {
+        let Outline {
+            starts,
+            declared,
+            epps,
+            epp_texts,
+            defined,
+            alternatives,
+            symbols,
+        } = self;
+        drop(starts);
+        drop(declared);
+        drop(epps);
+        drop(epp_texts);
+        drop(defined);
+        drop(alternatives);
+        drop(symbols);
+    }
+}
+
 /// Why a text has no outline.
-#[derive(Debug, Drop)]
+#[derive(Drop)]
 pub enum OutlineFault {
     /// The text isn't one of a grammar: at this byte stands the first word that can't be read or can't stand there, a
     /// quote or comment that isn't closed, or the end that comes too early.

@@ -5,7 +5,7 @@ ghost use Rattle.lrpar_text.specs.Shape.{after, colon, declaration, may_end, mor
 use crate::words::WordKind;
 
 /// What may stand next in a grammar text.
-#[derive(Clone, Copy, Debug)]
+#[derive(Clone, Copy)]
 pub enum Expected {
     /// A declaration, or the first `%%`.
     Declaration,
@@ -30,7 +30,7 @@ pub enum Expected {
 }
 
 /// What a word of a grammar text stands for.
-#[derive(Clone, Copy, Debug)]
+#[derive(Clone, Copy)]
 pub enum Role {
     /// A sign that says what comes after it.
     Sign,

@@ -1,5 +1,5 @@
 //! Parts of a text, storage numbers, and the numbers of rules, productions, tokens and states.
-ghost use Rattle.std.specs.Prelude.{◌≡◌, ◌-◌, ◌^◌, ◌<◌, ◌≤◌, ◌==◌, ◌↔◌, ℕ, Some, IsTrue, IsSome, IfSome, List, refl};
+ghost use Rattle.std.specs.Prelude.{◌≡◌, ◌-◌, ◌^◌, ◌<◌, ◌≤◌, ◌==◌, ◌↔◌, ℕ, IsTrue, IsSome, IfSome, List, refl};
 ghost use Rattle.std.specs.Ordering.{nat_cmp};
 ghost use Rattle.lrpar_text.specs.Span.{Extent};
 ghost use Rattle.lrpar_text.specs.declared.span.SpansKind.{SpansKind};

@@ -1,12 +1,12 @@
 //! The words of a grammar text, with their places.
-ghost use Rattle.std.specs.Prelude.{◌≡◌, ◌+◌, ◌-◌, ◌<◌, ◌≤◌, ◌==◌, ◌||◌, ℕ, ◌∷◌, drop, length, IfSome, IsSome, IsNone, IsTrue, slice_index};
+ghost use Rattle.std.specs.Prelude.{◌≡◌, ◌+◌, ◌-◌, ◌<◌, ◌≤◌, ◌==◌, ◌||◌, ℕ, ◌∷◌, drop, length, IfSome, IsNone, IsTrue, slice_index};
 ghost use Rattle.std.specs.List.{prefix_len, position_or_len};
 ghost use Rattle.lrpar_text.specs.Words.{IsWordPiece, IsWithin, begins_name, blank_piece, closed_len, comment_after, is_in_name, name_after, piece_at, piece_from, placed, quote_len, quoted_after, sign_after, word_at, word_piece};
 
 use crate::span::Span;
 
 /// What a word of a grammar text is.
-#[derive(Clone, Copy, Debug, PartialEq, Eq)]
+#[derive(Clone, Copy)]
 pub enum WordKind {
     /// ASCII letters, digits, `_` and `.`, the first of them no digit.
     Name,
@@ -29,7 +29,7 @@ pub enum WordKind {
 }
 
 /// A word of a grammar text.
-#[derive(Clone, Copy, Debug)]
+#[derive(Clone, Copy)]
 pub struct Word<'a> {
     /// What it is.
     pub kind: WordKind,
@@ -49,7 +49,7 @@ impl Word<'_> {
 }
 
 // The longest piece of a text at some place: a word or, where `word` is none, blanks. It has so many bytes.
-#[derive(Clone, Copy, Debug)]
+#[derive(Clone, Copy)]
 pub(crate) struct Piece {
     pub(crate) word: Option<WordKind>,
     pub(crate) len: usize,

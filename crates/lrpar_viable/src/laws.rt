@@ -3,7 +3,7 @@ ghost use Rattle.std.specs.Prelude.{ℕ};
 ghost use Rattle.lrpar_grammar.specs.Sentence.{LexemeFacts};
 ghost use Rattle.lrpar_steps.specs.Known.{facts_by};
 ghost use Rattle.lrpar_steps.specs.Asked.{allowed_at};
-ghost use Rattle.lrpar_safety.specs.Checked.{Checked};
+ghost use Rattle.lrpar_check.specs.Checked.{Checked};
 ghost use Rattle.lrpar_viable.specs.FirstErrors.{FirstErrorsAreExact, FirstErrorsComeInTime};
 ghost use Rattle.lrpar_viable.specs.ViableLaws.{BuiltTablesKeepToSentences, CompleteBuiltTablesFollowSentences, SentencesAreOfTokens};
 

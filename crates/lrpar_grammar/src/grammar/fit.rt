@@ -1,6 +1,7 @@
 //! Whether places lie in a text.
-ghost use Rattle.std.specs.Prelude.{◌≡◌, ◌≤◌, ◌↔◌, All, IsTrue};
-ghost use Rattle.lrpar_parts.specs.SpansFit.{AreSpansInOrder, IsPartOf, IsPartOfLine, ProductionFits};
+ghost use Rattle.std.specs.Prelude.{◌↔◌, All, IsTrue};
+ghost use Rattle.lrpar_text.specs.Span.{IsPartOf};
+ghost use Rattle.lrpar_parts.specs.SpansFit.{AreSpansInOrder, IsPartOfLine, ProductionFits};
 ghost use Rattle.lrpar_grammar.specs.Kept.{split_prod_of};
 
 use super::prods::SplitProd;

@@ -1,5 +1,5 @@
 //! The grammar value.
-ghost use Rattle.std.specs.Prelude.{◌≡◌, ◌<◌, ◌≤◌, ◌+◌, ◌↔◌, IfErr, IfOk, IsErrOf, IsNone, IsTrue, Some, length, map, option_map, position};
+ghost use Rattle.std.specs.Prelude.{◌≡◌, ◌<◌, ◌≤◌, ◌+◌, ◌↔◌, IfErr, IfOk, IsErrOf, IsNone, IsTrue, Some, map, option_map, position};
 ghost use Rattle.std.specs.List.{range_with_len, slice_get};
 ghost use Rattle.std.specs.Str.{bytes_eq};
 ghost use Rattle.lrpar_parts.specs.SpansFit.{NamesFit, SpansFit};
@@ -16,13 +16,30 @@ use std::marker::Model;
 
 /// A context-free grammar with names and places. Rule 0 is the added rule `^`; the last production, the start
 /// production, is of that rule and derives the start rule alone; the last token is the end token, which has no name.
-#[derive(Debug, Drop)]
+#[derive(Debug)]
 pub struct YaccGrammar<StorageT: StorageIndex> {
     rules: Vec<RulePart>,
     tokens: Vec<TokenPart>,
     prods: Vec<SplitProd<StorageT>>,
     start: RIdx<StorageT>,
     rule_prods: Vec<Vec<PIdx<StorageT>>>,
+}
+
+// A drop of its own, so that what lets go of one elsewhere proves one call.
+impl<StorageT: StorageIndex> Drop for YaccGrammar<StorageT> {
+    fn drop(self) {
+        let YaccGrammar {
+            rules,
+            tokens,
+            prods,
+            start: _,
+            rule_prods,
+        } = self;
+        drop(rules);
+        drop(tokens);
+        drop(prods);
+        drop(rule_prods);
+    }
 }
 
 impl<StorageT: StorageIndex> Model for YaccGrammar<StorageT> {

@@ -1,7 +1,7 @@
 use Rattle.std.proofs.Common.{refl}
 use Rattle.std.specs.String.{string_bytes}
-use Rattle.lrpar_repairs.specs.Printed.{printed_by}
-use Rattle.lrpar_repairs.proofs.SequenceTextLemmas.{err_same}
+use Rattle.lrpar_answers.specs.Printed.{printed_by}
+use Rattle.lrpar_answers.proofs.SequenceTextLemmas.{err_same}
 use Rattle.lrpar_answers.proofs.ErrorTextLemmas.{listed_none, listed_next, listed_all, fault_listed, sequence_fits}
 use Rattle.lrpar_answers.proofs.error_text.push_listed.Goals as goal
 

@@ -1,6 +1,6 @@
 use Rattle.std.proofs.Common.{map, take}
 use Rattle.std.specs.String.{string_bytes}
-use Rattle.lrpar_repairs.specs.Printed.{printed_by}
+use Rattle.lrpar_answers.specs.Printed.{printed_by}
 use Rattle.lrpar_lexemes.specs.Repairs.{repairs_of}
 use Rattle.lrpar_repairs.specs.SequenceText.{parts_of}
 use Rattle.lrpar_answers.proofs.ErrorTextLemmas.{AreListed}

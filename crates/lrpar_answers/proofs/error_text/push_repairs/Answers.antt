@@ -2,7 +2,7 @@ use Rattle.std.proofs.Common.{rules, ◌≡◌, ◌<◌, [], length, arith}
 use Rattle.std.proofs.lemmas.List.{nil_from_length}
 use Rattle.std.proofs.lemmas.Result.{on_ok_weaker}
 use Rattle.std.specs.String.{string_bytes}
-use Rattle.lrpar_repairs.specs.Printed.{printed_by}
+use Rattle.lrpar_answers.specs.Printed.{printed_by}
 use Rattle.lrpar_answers.proofs.ErrorTextLemmas.{listed_behind}
 use Rattle.lrpar_answers.proofs.error_text.push_repairs.Goals as goal
 

@@ -2,8 +2,8 @@ use Rattle.std.proofs.Common.{sym, subst, length, map}
 use Rattle.std.proofs.lemmas.List.{length-map}
 use Rattle.std.proofs.lemmas.Result.{IfErr-weaker}
 use Rattle.lrpar_build.specs.Built.{IsBuildRefusal}
-use Rattle.lrpar_build.specs.StateRows.{IsRefusalOf, IsRefusedState}
-use Rattle.lrpar_build.specs.States.{state_of}
+use Rattle.lrpar_item_sets.specs.StateRows.{IsRefusalOf, IsRefusedState}
+use Rattle.lrpar_item_sets.specs.States.{state_of}
 use Rattle.lrpar_build.proofs.BuiltLemmas.{build_refusal}
 use Rattle.lrpar_build.proofs.build.from_yacc.Goals as goal
 

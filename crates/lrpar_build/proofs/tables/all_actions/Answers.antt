@@ -1,7 +1,7 @@
 use Rattle.std.proofs.Common.{sym, length, map}
 use Rattle.std.proofs.lemmas.List.{length-map}
 use Rattle.lrpar_states.specs.PlainConflicts.{reduce_reduce_of, shift_reduce_of}
-use Rattle.lrpar_build.specs.States.{state_of}
+use Rattle.lrpar_item_sets.specs.States.{state_of}
 use Rattle.lrpar_build.proofs.TablesLemmas.{conflicts_are_kept}
 use Rattle.lrpar_text.proofs.FaultLemmas.{no_value}
 use Rattle.lrpar_build.proofs.tables.all_actions.Goals as goal

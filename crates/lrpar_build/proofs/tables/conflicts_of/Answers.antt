@@ -1,7 +1,7 @@
 use Rattle.std.proofs.Common.{◌<◌, ◌⊎◌, ◌∙◌, inl, inr, sym, length, map}
 use Rattle.lrpar_states.specs.PlainConflicts.{reduce_reduce_of, shift_reduce_of}
 use Rattle.lrpar_build.proofs.ListedLemmas.{unless_empty_kept, unless_empty_none}
-use Rattle.lrpar_build.proofs.NumberLemmas.{none_tested, some_tested}
+use Rattle.lrpar_item_sets.proofs.NumberLemmas.{none_tested, some_tested}
 use Rattle.lrpar_build.proofs.tables.conflicts_of.Goals as goal
 use Rattle.lrpar_build.proofs.tables.conflicts_of.Goals.{else-is_empty-via-then-is_empty+else-is_empty-2, else-is_empty-via-else-is_empty}
 

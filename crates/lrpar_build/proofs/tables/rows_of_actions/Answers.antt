@@ -3,11 +3,11 @@ use Rattle.std.proofs.lemmas.List.{length-map}
 use Rattle.lrpar_grammar.specs.Grammar.{tokens_len}
 use Rattle.lrpar_states.specs.PlainConflicts.{reduce_reduce_of, shift_reduce_of}
 use Rattle.lrpar_states.specs.PlainRows.{action_entry}
-use Rattle.lrpar_build.specs.StateRows.{IsRefusedState}
-use Rattle.lrpar_build.specs.States.{StateOf, state_at, state_of}
+use Rattle.lrpar_item_sets.specs.StateRows.{IsRefusedState}
+use Rattle.lrpar_item_sets.specs.States.{StateOf, state_at, state_of}
 use Rattle.lrpar_closure.specs.Wanted.{HasAcceptReduce, IsAcceptReduce, reduce_conflicts, shift_conflicts, wanted_row}
 use Rattle.lrpar_closure.proofs.EntryLemmas.{joined_more}
-use Rattle.lrpar_build.proofs.StateRowLemmas.{below_next, error_same}
+use Rattle.lrpar_item_sets.proofs.StateRowLemmas.{below_next, error_same}
 use Rattle.lrpar_build.proofs.TablesLemmas.{cores_known, cores_once, refusal_of, row_more, shifts_ascend, state_read}
 use Rattle.lrpar_text.proofs.FaultLemmas.{no_value, nothing_done}
 use Rattle.lrpar_build.proofs.tables.rows_of_actions.Goals as goal

@@ -2,8 +2,8 @@ use Rattle.std.proofs.Common.{◌≡◌, ◌<◌, ◌++◌, ℕ, map, take}
 use Rattle.lrpar_grammar.specs.Grammar.{tokens_len}
 use Rattle.lrpar_states.specs.PlainConflicts.{reduce_reduce_of, shift_reduce_of}
 use Rattle.lrpar_states.specs.PlainRows.{action_entry}
-use Rattle.lrpar_build.specs.StateRows.{action_rows, reduce_conflicts_below, shift_conflicts_below}
-use Rattle.lrpar_build.specs.States.{state_at, state_of}
+use Rattle.lrpar_item_sets.specs.StateRows.{action_rows, reduce_conflicts_below, shift_conflicts_below}
+use Rattle.lrpar_item_sets.specs.States.{state_at, state_of}
 use Rattle.lrpar_closure.specs.Wanted.{IsAcceptReduce}
 use Rattle.lrpar_build.proofs.tables.rows_of_actions.Given as goal
 

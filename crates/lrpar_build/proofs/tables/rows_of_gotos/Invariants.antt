@@ -1,7 +1,7 @@
 use Rattle.std.proofs.Common.{◌≡◌, map}
 use Rattle.lrpar_states.specs.PlainRows.{goto_entry}
-use Rattle.lrpar_build.specs.StateRows.{goto_rows}
-use Rattle.lrpar_build.specs.States.{state_of}
+use Rattle.lrpar_item_sets.specs.StateRows.{goto_rows}
+use Rattle.lrpar_item_sets.specs.States.{state_of}
 use Rattle.lrpar_build.proofs.tables.rows_of_gotos.Given as goal
 
 -- the rows of the states so far

@@ -3,8 +3,8 @@ use Rattle.std.proofs.lemmas.List.{length-map}
 use Rattle.std.proofs.lemmas.Result.{IfOk-weaker}
 use Rattle.lrpar_states.specs.PlainRows.{action_entry, goto_entry}
 use Rattle.lrpar_states.specs.Table.{IsTable}
-use Rattle.lrpar_build.specs.StateRows.{table_of_states}
-use Rattle.lrpar_build.specs.States.{state_of}
+use Rattle.lrpar_item_sets.specs.StateRows.{table_of_states}
+use Rattle.lrpar_item_sets.specs.States.{state_of}
 use Rattle.lrpar_build.proofs.TableRowLemmas.{is_table, some_state}
 use Rattle.lrpar_build.proofs.TablesLemmas.{table_is}
 use Rattle.lrpar_text.proofs.FaultLemmas.{no_value}

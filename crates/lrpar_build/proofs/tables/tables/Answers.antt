@@ -2,7 +2,7 @@ use Rattle.std.proofs.Common.{◌∙◌, sym, subst, arith, map}
 use Rattle.std.proofs.lemmas.List.{length-map}
 use Rattle.lrpar_states.specs.Table.{IsTable}
 use Rattle.lrpar_build.specs.Built.{IsBuilt}
-use Rattle.lrpar_build.specs.States.{state_of}
+use Rattle.lrpar_item_sets.specs.States.{state_of}
 use Rattle.lrpar_build.proofs.BuiltLemmas.{is_built}
 use Rattle.lrpar_text.proofs.FaultLemmas.{no_value}
 use Rattle.lrpar_build.proofs.tables.tables.Goals as goal

@@ -1,6 +1,6 @@
 use Rattle.std.proofs.Common.{refl, sym, subst}
 use Rattle.lrpar_states.specs.Graph.{item_at}
-use Rattle.lrpar_build.specs.Canonical.{sets_of}
+use Rattle.lrpar_item_sets.specs.Canonical.{sets_of}
 use Rattle.lrpar_grammar.specs.Grammar.{rule_of}
 use Rattle.lrpar_examples.specs.Climbing.{AreUpLinks, EndsLink, up_of}
 use Rattle.lrpar_examples.specs.Links.{HasLink, IsBegunItem, links_of}

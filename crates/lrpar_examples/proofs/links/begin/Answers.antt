@@ -4,7 +4,7 @@ use Rattle.std.specs.List.{Contains}
 use Rattle.lrpar_grammar.specs.Grammar.{start_prod}
 use Rattle.lrpar_text.proofs.ListLemmas.{map-take_more}
 use Rattle.lrpar_states.specs.PlainItems.{core_of}
-use Rattle.lrpar_build.specs.Canonical.{sets_of}
+use Rattle.lrpar_item_sets.specs.Canonical.{sets_of}
 use Rattle.lrpar_examples.specs.Links.{IsBegunLink, links_of}
 use Rattle.lrpar_examples.proofs.LinkLemmas.{begun_noted, core_in, cores_more, noted_kept}
 use Rattle.lrpar_examples.proofs.MarkLemmas.{put_then}

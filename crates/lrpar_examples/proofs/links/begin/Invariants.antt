@@ -2,7 +2,7 @@ use Rattle.std.proofs.Common.{ℕ, map, take}
 use Rattle.std.specs.List.{Contains}
 use Rattle.lrpar_grammar.specs.Grammar.{rules_len, start_prod}
 use Rattle.lrpar_states.specs.PlainItems.{core_of}
-use Rattle.lrpar_build.specs.Canonical.{sets_of}
+use Rattle.lrpar_item_sets.specs.Canonical.{sets_of}
 use Rattle.lrpar_examples.specs.Links.{AreMarks, ArePut, IsBegunLink, IsNotedCore, links_of}
 use Rattle.lrpar_examples.proofs.links.begin.Given as goal
 

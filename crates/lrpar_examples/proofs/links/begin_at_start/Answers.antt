@@ -1,5 +1,5 @@
 use Rattle.std.proofs.Common.{ℕ, subst}
-use Rattle.lrpar_build.specs.Canonical.{sets_of}
+use Rattle.lrpar_item_sets.specs.Canonical.{sets_of}
 use Rattle.lrpar_examples.specs.Links.{IsNotedCore, links_of}
 use Rattle.lrpar_examples.proofs.links.begin_at_start.Goals as goal
 

@@ -2,7 +2,7 @@ use Rattle.std.proofs.Common.{◌<◌, ◌≤◌, List, [], inl, inr, sym, subst
 use Rattle.std.proofs.lemmas.Bool.{OnFalse_at, OnTrue_at}
 use Rattle.std.proofs.lemmas.List.{length-map}
 use Rattle.lrpar_grammar.specs.Grammar.{rules_len}
-use Rattle.lrpar_build.specs.Canonical.{sets_of}
+use Rattle.lrpar_item_sets.specs.Canonical.{sets_of}
 use Rattle.lrpar_examples.specs.Links.{ArePut, HasLink, IsBegunLink, IsLinkBelow, LinkOf, link_at, link_of, links_of}
 use Rattle.lrpar_examples.proofs.LinkLemmas.{all_linked, begun_kept, length_put, link_is, links_begun, links_below, ofs_more, rule_within}
 use Rattle.lrpar_examples.proofs.links.links_to.Goals as goal

@@ -1,6 +1,6 @@
 use Rattle.std.proofs.Common.{◌<◌, ◌≤◌, ◌-◌, ◌*◌, ℕ, length}
 use Rattle.lrpar_grammar.specs.Grammar.{rules_len}
-use Rattle.lrpar_build.specs.Canonical.{sets_of}
+use Rattle.lrpar_item_sets.specs.Canonical.{sets_of}
 use Rattle.lrpar_examples.specs.Links.{AreBegun, AreLinks, AreMarks, AreNotedOf, link_at, links_of}
 use Rattle.lrpar_examples.proofs.links.links_to.Given as goal
 

@@ -1,4 +1,4 @@
-use Rattle.std.proofs.Common.{string_bytes, ◌≡◌, ◌++◌, ◌∙◌, ap, sym, map-id, append-nil}
+use Rattle.std.proofs.Common.{string_bytes, ◌++◌, ◌∙◌, ap, sym, map-id, append-nil}
 use Rattle.std.specs.List.{flat_map}
 use Rattle.std.proofs.lemmas.Iterator.{YieldsList-from_chars}
 use Rattle.std.proofs.lemmas.Iterator.Consumers.{YieldsList-end}

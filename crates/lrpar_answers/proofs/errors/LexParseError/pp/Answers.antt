@@ -2,8 +2,8 @@ use Rattle.std.proofs.Common.{ap, ◌∙◌}
 use Rattle.std.specs.String.{string_bytes}
 use Rattle.lrpar_lexemes.specs.Repairs.{repairs_of}
 use Rattle.lrpar_lexemes.specs.declared.pp_fault.PpFault.TheVariants.{Memory}
-use Rattle.lrpar_repairs.specs.Printed.{printed_by}
-use Rattle.lrpar_repairs.proofs.SequenceTextLemmas.{err_same}
+use Rattle.lrpar_answers.specs.Printed.{printed_by}
+use Rattle.lrpar_answers.proofs.SequenceTextLemmas.{err_same}
 use Rattle.lrpar_text.proofs.FaultLemmas.{no_value}
 use Rattle.lrpar_answers.proofs.LexParseTextLemmas.{lexing_text, parsing_fault, parsing_text}
 use Rattle.lrpar_answers.proofs.errors.LexParseError.pp.Goals as goal

@@ -1,6 +1,6 @@
 use Rattle.std.proofs.lemmas.Result.{IfErr-weaker}
-use Rattle.lrpar_safety.specs.Checked.{Unchecked}
-use Rattle.lrpar_safety.proofs.SafetyLemmas.{fault_of_chains, only_memory}
+use Rattle.lrpar_check.specs.Checked.{Unchecked}
+use Rattle.lrpar_check.proofs.SafetyLemmas.{fault_of_chains, only_memory}
 use Rattle.lrpar_states.specs.Safe.{IsSafe}
 use Rattle.lrpar_check.proofs.check.ParserData.new.Goals as goal
 

@@ -1,4 +1,4 @@
-use Rattle.lrpar_safety.proofs.SafetyLemmas.{chains_or_memory}
+use Rattle.lrpar_check.proofs.SafetyLemmas.{chains_or_memory}
 use Rattle.lrpar_check.proofs.check.ParserData.of_safe.Goals as goal
 
 pub returns-in-Err-clause-exact : goal.returns-in-Err-clause-exact

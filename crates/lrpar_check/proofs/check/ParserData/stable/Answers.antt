@@ -1,5 +1,5 @@
 use Rattle.std.proofs.Common.{subst}
-use Rattle.lrpar_safety.specs.Checked.{IsChecked}
+use Rattle.lrpar_check.specs.Checked.{IsChecked}
 use Rattle.lrpar_stacks.proofs.ChainLemmas.{bounds_reductions}
 use Rattle.lrpar_stacks.proofs.PathLemmas.{checked_runs_never_stick}
 use Rattle.lrpar_check.proofs.check.ParserData.stable.Goals as goal

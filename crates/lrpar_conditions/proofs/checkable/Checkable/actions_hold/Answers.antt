@@ -1,11 +1,11 @@
-use Rattle.std.proofs.Common.{◌<◌, length, refl, arith, subst, sym}
+use Rattle.std.proofs.Common.{refl, arith, subst, sym}
 use Rattle.std.proofs.lemmas.Bool.{iff_false}
 use Rattle.std.specs.List.{Contains}
 use Rattle.lrpar_states.specs.PlainRows.{plain_action}
 use Rattle.lrpar_states.specs.Table.{IsActionEntry, actions_at}
 use Rattle.lrpar_states.proofs.Mapped.{all_more, all_tested}
 use Rattle.lrpar_conditions.specs.Entrywise.{ActionHolds}
-use Rattle.lrpar_states.proofs.StoredLemmas.{entries_len, entry_read}
+use Rattle.lrpar_states.proofs.StoredLemmas.{entries_len, entry_at}
 use Rattle.lrpar_conditions.proofs.EntryTests.{actions_asked, named_each}
 use Rattle.lrpar_states.proofs.TestLemmas.{accepted, refused}
 use Rattle.lrpar_conditions.proofs.checkable.Checkable.actions_hold.Goals as goal
@@ -16,12 +16,10 @@ action_holds-requires-clause-within g c =
     let at = c.actions_of.ensures in
     let es = actions_at c.args.self.now.stable.now (index c.args.s.0) in
     let place = c.loop-place.place in
-    let read =
-    entry_read (λ t. index t.0) (plain_action index) c.actions_of.result.0.now c.actions_of.result.1.now es at.actions at.entries place c.index-tokens-place.result c.index-actions-place.result c.loop-place-test.true
+    let found =
+    entry_at (λ t. index t.0) (plain_action index) c.actions_of.result.0.now c.actions_of.result.1.now es at.actions at.entries place c.index-tokens-place.result c.index-actions-place.result c.loop-place-test.true
     c.index-tokens-place.is c.index-actions-place.is in
-    let len = entries_len (λ t. index t.0) (plain_action index) c.actions_of.result.0.now c.actions_of.result.1.now es at.actions at.entries in
-    let below : place < length es = omega (arith, len, c.loop-place-test.true) in
-    let entry = subst (IsActionEntry c.args.self.now.stable.now.tokens c.args.self.now.stable.now.states) (sym read) (at.within place (index c.index-tokens-place.result.0, plain_action index c.index-actions-place.result) below) in
+    let entry = subst (IsActionEntry c.args.self.now.stable.now.tokens c.args.self.now.stable.now.states) (sym found.1) (at.within place (index c.index-tokens-place.result.0, plain_action index c.index-actions-place.result) found.0) in
     entry.within
 
 pub action_holds-requires-clause-named : goal.action_holds-requires-clause-named
@@ -30,12 +28,10 @@ action_holds-requires-clause-named g c =
     let at = c.actions_of.ensures in
     let es = actions_at c.args.self.now.stable.now (index c.args.s.0) in
     let place = c.loop-place.place in
-    let read =
-    entry_read (λ t. index t.0) (plain_action index) c.actions_of.result.0.now c.actions_of.result.1.now es at.actions at.entries place c.index-tokens-place.result c.index-actions-place.result c.loop-place-test.true
+    let found =
+    entry_at (λ t. index t.0) (plain_action index) c.actions_of.result.0.now c.actions_of.result.1.now es at.actions at.entries place c.index-tokens-place.result c.index-actions-place.result c.loop-place-test.true
     c.index-tokens-place.is c.index-actions-place.is in
-    let len = entries_len (λ t. index t.0) (plain_action index) c.actions_of.result.0.now c.actions_of.result.1.now es at.actions at.entries in
-    let below : place < length es = omega (arith, len, c.loop-place-test.true) in
-    let there : Contains es (index c.index-tokens-place.result.0, plain_action index c.index-actions-place.result) = (place, below, sym read) in
+    let there : Contains es (index c.index-tokens-place.result.0, plain_action index c.index-actions-place.result) = (place, found.0, sym found.1) in
     named_each c.args.self.now.grm.now c.args.self.now.sgraph.now c.args.self.now.stable.now (g.StorageT.StorageIndex.index c.args.s.0) (c.requires.shape.reduces (index c.args.s.0)) _ _ ((at.exact _ _).0 there).0
 
 pub loop-place-preserved : goal.loop-place-preserved
@@ -44,12 +40,10 @@ loop-place-preserved g c =
     let at = c.actions_of.ensures in
     let es = actions_at c.args.self.now.stable.now (index c.args.s.0) in
     let place = c.loop-place.place in
-    let read =
-    entry_read (λ t. index t.0) (plain_action index) c.actions_of.result.0.now c.actions_of.result.1.now es at.actions at.entries place c.index-tokens-place.result c.index-actions-place.result c.loop-place-test.true
+    let found =
+    entry_at (λ t. index t.0) (plain_action index) c.actions_of.result.0.now c.actions_of.result.1.now es at.actions at.entries place c.index-tokens-place.result c.index-actions-place.result c.loop-place-test.true
     c.index-tokens-place.is c.index-actions-place.is in
-    let len = entries_len (λ t. index t.0) (plain_action index) c.actions_of.result.0.now c.actions_of.result.1.now es at.actions at.entries in
-    let below : place < length es = omega (arith, len, c.loop-place-test.true) in
-    all_more (λ e. ActionHolds c.args.self.now.grm.now c.args.self.now.sgraph.now c.args.self.now.stable.now c.args.condition (index c.args.s.0) e.0 e.1) es place (index c.index-tokens-place.result.0, plain_action index c.index-actions-place.result) c.loop-place.invariant below read (c.action_holds.ensures.0 c.if-not-action_holds.false)
+    all_more (λ e. ActionHolds c.args.self.now.grm.now c.args.self.now.sgraph.now c.args.self.now.stable.now c.args.condition (index c.args.s.0) e.0 e.1) es place (index c.index-tokens-place.result.0, plain_action index c.index-actions-place.result) c.loop-place.invariant found.0 found.1 (c.action_holds.ensures.0 c.if-not-action_holds.false)
 
 pub returns : goal.returns
 returns g c =
@@ -67,10 +61,8 @@ returns-then-not-action_holds g c =
     let at = c.actions_of.ensures in
     let es = actions_at c.args.self.now.stable.now (index c.args.s.0) in
     let place = c.loop-place.place in
-    let read =
-    entry_read (λ t. index t.0) (plain_action index) c.actions_of.result.0.now c.actions_of.result.1.now es at.actions at.entries place c.index-tokens-place.result c.index-actions-place.result c.loop-place-test.true
+    let found =
+    entry_at (λ t. index t.0) (plain_action index) c.actions_of.result.0.now c.actions_of.result.1.now es at.actions at.entries place c.index-tokens-place.result c.index-actions-place.result c.loop-place-test.true
     c.index-tokens-place.is c.index-actions-place.is in
-    let len = entries_len (λ t. index t.0) (plain_action index) c.actions_of.result.0.now c.actions_of.result.1.now es at.actions at.entries in
-    let below : place < length es = omega (arith, len, c.loop-place-test.true) in
-    let there : Contains es (index c.index-tokens-place.result.0, plain_action index c.index-actions-place.result) = (place, below, sym read) in
+    let there : Contains es (index c.index-tokens-place.result.0, plain_action index c.index-actions-place.result) = (place, found.0, sym found.1) in
     refused (λ each. iff_false c.action_holds.ensures c.if-not-action_holds.true (each _ _ ((at.exact _ _).0 there).0))

@@ -5,7 +5,6 @@ use Rattle.lrpar_steps.specs.Known.{token_by}
 use Rattle.lrpar_steps.specs.PlainSteps.{plain_step, plain_steps}
 use Rattle.lrpar_steps.specs.Sequences.{PlainStep}
 use Rattle.lrpar_steps.specs.declared.steps.RepairStep.{RepairStep}
-use Rattle.lrpar_cpct.specs.Cheapest.{LeadsTo}
 use Rattle.lrpar_cpct.specs.SearchView.{IsTakenBy, IsWalked}
 use Rattle.lrpar_cpct.specs.WalkView.{IsTried}
 use Rattle.lrpar_cpct.proofs.WalkLemmas.{fresh_leads, taken_not, walk_pushed}

@@ -1,6 +1,6 @@
 use Rattle.std.proofs.Common.{◌≡◌, ◌≤◌, ◌∙◌, ap, arith, subst}
 use Rattle.lrpar_grammar.specs.Grammar.{end_token}
-use Rattle.lrpar_safety.specs.Checked.{Checked}
+use Rattle.lrpar_check.specs.Checked.{Checked}
 use Rattle.lrpar_stacks.specs.Overlay.{overlaid}
 use Rattle.lrpar_steps.specs.Sequences.{IsTokenFed}
 use Rattle.lrpar_steps.proofs.SequenceLemmas.{insert_fails, insert_refused}

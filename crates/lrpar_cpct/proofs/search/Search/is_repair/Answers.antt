@@ -1,12 +1,8 @@
-use Rattle.std.proofs.Common.{◌≡◌, ◌∙◌, List, [], ◌∷◌, IsTrue, true, false, refl, subst, sym}
+use Rattle.std.proofs.Common.{◌≡◌, IsTrue, true, false, refl}
 use Rattle.std.proofs.lemmas.Result.{IfOk-weaker}
 use Rattle.lrpar_stacks.specs.Overlay.{overlaid}
 use Rattle.lrpar_steps.specs.Known.{token_by}
 use Rattle.lrpar_steps.specs.PlainSteps.{plain_steps}
-use Rattle.lrpar_steps.specs.Sequences.{PlainStep, PlainShift}
-use Rattle.lrpar_steps.specs.declared.steps.RepairStep.{RepairStep}
-use Rattle.lrpar_cpct.specs.Cheapest.{LeadsTo}
-use Rattle.lrpar_cpct.specs.Forms.{EndsIn}
 use Rattle.lrpar_cpct.proofs.WalkLemmas.{fresh_leads, last_not, repair_told}
 use Rattle.lrpar_cpct.proofs.search.Search.is_repair.Goals as goal
 

@@ -1,10 +1,7 @@
-use Rattle.std.proofs.Common.{◌≡◌, List, refl, subst}
+use Rattle.std.proofs.Common.{◌≡◌, refl}
 use Rattle.std.proofs.lemmas.Result.{IfOk-weaker}
 use Rattle.lrpar_stacks.specs.Overlay.{overlaid}
-use Rattle.lrpar_steps.specs.Known.{token_by}
 use Rattle.lrpar_steps.specs.PlainSteps.{plain_steps}
-use Rattle.lrpar_steps.specs.Sequences.{PlainStep}
-use Rattle.lrpar_cpct.specs.Cheapest.{LeadsTo}
 use Rattle.lrpar_cpct.proofs.WalkLemmas.{fresh_leads}
 use Rattle.lrpar_cpct.proofs.search.Search.reach_behind.Goals as goal
 

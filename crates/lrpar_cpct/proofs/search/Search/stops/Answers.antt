@@ -1,5 +1,5 @@
 use Rattle.std.proofs.Common.{◌≡◌, subst}
-use Rattle.lrpar_safety.specs.Checked.{Checked}
+use Rattle.lrpar_check.specs.Checked.{Checked}
 use Rattle.lrpar_states.specs.Table.{Fails}
 use Rattle.lrpar_stacks.specs.Overlay.{overlaid}
 use Rattle.lrpar_stacks.specs.Reduction.{top_action}

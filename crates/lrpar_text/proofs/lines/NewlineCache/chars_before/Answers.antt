@@ -1,4 +1,4 @@
-use Rattle.std.proofs.Common.{◌≡◌, ◌≤◌, ◌<◌, ◌+◌, ◌*◌, ◌/◌, length, get_or, sym, ap, ◌∙◌, subst, arith}
+use Rattle.std.proofs.Common.{◌≡◌, ◌+◌, ◌*◌, ◌/◌, length, get_or, ap, ◌∙◌, arith}
 use Rattle.std.specs.List.{count_by, slice_range}
 use Rattle.lrpar_text.specs.Lines.{begins_char, char_counts, chars_before}
 use Rattle.lrpar_text.proofs.ColumnLemmas.{chars_bound, chars_parted, count_found, counts_reach}

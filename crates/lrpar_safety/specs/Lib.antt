@@ -1,3 +1,0 @@
-pub mod Checked
-pub mod LeastCap
-pub mod Lengths
