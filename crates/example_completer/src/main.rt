@@ -2,7 +2,7 @@
 //! may come next.
 #![tactic(auto)]
 
-use example_language::{Failed, Language, language_of, name_of};
+use example_language::{Failed, Language, language_of};
 use lrpar::{Lexeme, Lexer, RTParserBuilder};
 use lrpar_lexer::{RuleLexer, TokenTypes};
 use std::alloc::Global;
@@ -50,7 +50,7 @@ fn push_next(told: &mut String, alloc: Global, sums: &Language, text: &str) -> R
     let parser = RTParserBuilder::<u32, TokenTypes, _>::new(&sums.data);
     for token in parser.expected(alloc, &lexer)?.tokens {
         told.push(' ')?;
-        told.push_str(name_of(sums.data.grm(), token))?;
+        told.push_str(sums.data.grm().epp_of(token))?;
     }
     told.push('\n')?;
     Ok(())

@@ -61,18 +61,9 @@ pub fn push_errors<'a, L: NonStreamingLexer<'a, TokenTypes>>(
 {
     for error in errors {
         if error.fits(text) {
-            told.push_str(&error.pp(alloc, lexer, |token| Some(name_of(grm, token)))?)?;
+            told.push_str(&error.pp(alloc, lexer, |token| Some(grm.epp_of(token)))?)?;
             told.push('\n')?;
         }
     }
     Ok(())
-}
-
-/// What is printed for a token.
-pub fn name_of(grm: &YaccGrammar<u32>, token: TIdx<u32>) -> &str {
-    if usize::from(token) < grm.tokens_len() {
-        grm.token_epp(token).unwrap_or("the end")
-    } else {
-        "no token"
-    }
 }

@@ -46,7 +46,7 @@ impl<StorageT: StorageIndex, LexerTypesT: LexerTypes<StorageT = StorageT>> LexPa
     ///
     /// Each part of the input that the error speaks of has to start and end between two characters of the lexer's input.
     /// `NoPrintedName` is answered exactly where `epp` has no text for a token to insert, and names the first such token.
-    /// `Memory` is answered only where memory was wanting. Takes time linear in the text, but for what the lexer takes for
+    /// The answer is `Memory` if memory runs out. Takes time linear in the text, but for what the lexer takes for
     /// the line and the column.
     pub fn pp<
         'input,

@@ -16,7 +16,8 @@ use std::alloc::Global;
 ///
 /// Where an item set wants a shift and a reduction, the table shifts; where it wants several reductions, the table makes the first
 /// one: these are the table's conflicts, listed by state, token and production. They fit the grammar, and there are none where no
-/// item set wants two different actions at one token. `AcceptReduceConflict` names a state that wants to accept, and a reduction;
+/// item set wants two different actions at one token. `AcceptReduceConflict` comes if some item set wants to accept and a
+/// reduction; its number is that of the item set in the order in which they are found, which no clause pins.
 /// `TooManyStates` comes where there are more item sets than `max_states`, `StorageTooSmall` where there are more than `StorageT`
 /// has numbers, and `Memory` where it doesn't suffice.
 pub fn from_yacc<StorageT: StorageIndex>(

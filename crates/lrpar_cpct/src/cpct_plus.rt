@@ -19,6 +19,9 @@ use std::alloc::{AllocError, Global};
 use std::marker::Model;
 
 /// Answers the repairs of least cost, after Diekmann and Tratt, *Don't Panic! Better, Fewer, Syntax Errors for LR Parsers*.
+///
+/// It looks for repairs of one cost after the other. For each cost it tries anew the beginnings of sequences that cost no more, and at
+/// the first cost that has more of them than the limit it answers nothing.
 #[derive(Debug, Drop)]
 pub struct CpctPlus {
     limit: usize,
@@ -90,7 +93,7 @@ impl CpctPlus {
         }
     }
 
-    /// How many beginnings may be tried.
+    /// How many beginnings may be tried for one cost.
     pub(crate) fn limit(&self) -> usize
         ensures limit { result ≡ self.now.limit }
         ensures costs { AreCosts self.now.costs }

@@ -37,7 +37,7 @@ impl<'a> SpannedDiagnosticFormatter<'a> {
     ///
     /// The grammar's places have to fit the text (`YaccGrammar::spans_fit`), and the conflicts the grammar (`Conflicts::fit`). The
     /// item sets and the table aren't looked at. Takes time linear in the tokens and in the text that is made, and logarithmic in the
-    /// number of lines for each line of that, and memory for that text. It fails only where memory is wanting.
+    /// number of lines for each line of that, and memory for that text. It fails if memory runs out.
     pub fn format_conflicts<StorageT: StorageIndex>(
         &self,
         alloc: Global,

@@ -16,8 +16,8 @@ use std::marker::Model;
 /// which it names it. Lines count from 1. A line ends in front of its line feed, and a carriage return directly in front of that isn't
 /// printed.
 ///
-/// A place has to start and end between two characters of the text, but for that of a location. Each call fails only where memory
-/// is wanting, but for what `DiagnosticFormatter` says. It takes time linear in the text that it makes and in the lines that it shows,
+/// A place has to start and end between two characters of the text, but for that of a location. Each call fails if
+/// memory runs out, and as `DiagnosticFormatter` says. It takes time linear in the text that it makes and in the lines that it shows,
 /// and logarithmic in the number of lines for each of these, and memory for the text that it makes.
 #[derive(Drop)]
 pub struct SpannedDiagnosticFormatter<'a> {

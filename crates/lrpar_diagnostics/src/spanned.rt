@@ -28,7 +28,7 @@ pub trait DiagnosticFormatter {
     /// The error as one that prints with its places.
     ///
     /// `SeveralSpans` is answered exactly where the places are those of an error and more than one, before anything else is done.
-    /// `Memory` is answered only where memory was wanting, or where the error's own `Display` fails.
+    /// The answer is `Memory` if memory runs out, or if the error's own `Display` fails.
     fn format_error<E: Spanned + Error>(
         &self,
         alloc: Global,

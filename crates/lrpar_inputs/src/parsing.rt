@@ -87,18 +87,9 @@ pub fn parser_by(
 pub fn printed_names(alloc: Global, grm: &YaccGrammar<u32>) -> Result<Vec<&str>, AllocError> {
     let mut names = Vec::new(alloc);
     for token in grm.iter_tidxs() {
-        names.push(printed_name(grm, token))?;
+        names.push(grm.epp_of(token))?;
     }
     Ok(names)
-}
-
-// What messages print for a token. The end token has no text.
-fn printed_name(grm: &YaccGrammar<u32>, token: TIdx<u32>) -> &str {
-    if usize::from(token) < grm.tokens_len() {
-        grm.token_epp(token).unwrap_or("")
-    } else {
-        ""
-    }
 }
 
 /// Parses the lexer's text to its tree, and prints each error's text and a line feed, and then the tree's text, if there is a

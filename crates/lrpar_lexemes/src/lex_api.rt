@@ -67,7 +67,7 @@ pub trait Lexer<LexerTypesT: LexerTypes> {
     ghost allows: { Self → List (Result LexerTypesT.LexemeT LexerTypesT.LexErrorT) → Type 0 };
 
     /// The lexemes and the lexing errors of the whole input, in order. A lexer may stop at an error or go on past it,
-    /// and may answer another list the next time. It fails only where memory is wanting.
+    /// and may answer another list the next time. It fails if memory runs out.
     fn iter(
         &self,
         alloc: Global,

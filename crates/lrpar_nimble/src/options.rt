@@ -19,7 +19,7 @@ pub(crate) struct Options<'a> {
     pub(crate) inputs: Vec<&'a str>,
 }
 
-/// How many beginnings of repairs are tried at an error, where no word tells another number.
+/// How many beginnings of repairs may cost no more than the repairs that are looked for, if no word gives another number.
 const LIMIT: usize = 4_000;
 
 /// What the program says of itself, behind its usage.
@@ -30,7 +30,7 @@ Reads the rules of a lexer and a grammar, and parses each input: standard input 
   -q           print errors alone: no trees, no warnings, no notes
   -r none      look for no repairs: the first error of an input is the last
   -r cpctplus  look for the cheapest repairs at each error, and go on with the first of them (this is the default)
-  --limit N    try so many beginnings of repairs at an error, and then give up (4000)
+  --limit N    give up at an error where more beginnings of repairs than this cost no more (4000)
   --shifts K   so many lexemes have to follow a repair (3)
   --format F   print trees in brackets on one line, as an indented tree, as json, or as a graph (dot)
   -h           print this

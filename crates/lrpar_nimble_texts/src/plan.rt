@@ -23,7 +23,7 @@ pub enum Recovery {
     Nothing,
     /// Those of least cost.
     Cheapest {
-        /// How many beginnings of repairs are tried at most, at each error.
+        /// How many beginnings of repairs may cost no more than the repairs that are looked for.
         limit: usize,
     },
 }

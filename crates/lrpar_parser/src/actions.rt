@@ -50,7 +50,7 @@ pub trait Actions<StorageT: StorageIndex, LexemeT: Lexeme<StorageT>, LexerT> {
 
     /// The value of the production, which is one of this rule, over the arguments for its symbols: a lexeme for a token,
     /// and a value for a rule. It lies at `span`: from the first symbol's start to the last one's end; where it has no
-    /// symbols, where the symbol before it lies, or at 0..0. It fails only where memory is wanting.
+    /// symbols, where the symbol before it lies, or at 0..0. It fails if memory runs out.
     fn act(
         &self,
         alloc: Global,

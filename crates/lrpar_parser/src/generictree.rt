@@ -9,7 +9,7 @@ use lrpar_steps::values::AStackType;
 use std::alloc::{AllocError, Global};
 
 /// The node of a rule over the arguments of an action: each lexeme is a node of its own. The span and the parameter aren't
-/// looked at. It fails only where memory is wanting.
+/// looked at. It fails if memory runs out.
 pub fn action_generictree<
     'input,
     StorageT: StorageIndex,

@@ -153,7 +153,7 @@ impl<
     /// a value as any other.
     ///
     /// `BadToken` and `StartsDecrease` name the first lexeme that has either fault, where the lexer answers no error.
-    /// The answer is `Memory` only where memory was wanting, be it the lexer's or the recoverer's.
+    /// The answer is `Memory` if memory runs out, be it the lexer's or the recoverer's.
     ///
     /// The time grows with the lexemes, the reductions and the steps that are handed in. Under one lookahead there are at
     /// most as many reductions as the cap times the states on the stack before it, and over a whole parse to a value over l
@@ -287,7 +287,7 @@ impl<
     /// before any reduction under the token of the next one; with the end token, where the parse would accept.
     ///
     /// `BadToken` and `StartsDecrease` name the first of these lexemes that has either fault. The recoverer isn't asked. The
-    /// answer is `Memory` only where memory was wanting, be it the lexer's.
+    /// answer is `Memory` if memory runs out, be it the lexer's.
     ///
     /// Reductions are made twice: once to see whether a lexeme can be fed, and once to feed it. The tokens cost one settle
     /// for each at which the top state doesn't find an error.

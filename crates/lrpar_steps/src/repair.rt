@@ -127,7 +127,7 @@ pub trait Recoverer<StorageT: StorageIndex, LexemeT: Lexeme<StorageT>> {
 
     /// Sequences that may repair the input at the point. The parse tests each of them: an error lists those that work, in
     /// the order of the answer, and the parse goes on from what the first one gives. So an answer may have any sequences,
-    /// and may be another one the next time. It fails only where memory is wanting.
+    /// and may be another one the next time. It fails if memory runs out.
     fn recover(
         &self,
         alloc: Global,

@@ -49,8 +49,8 @@ pub(crate) fn told<'a>(
     let lexer = RuleLexer::new(alloc, rules, input)?;
     let (tree, errors) = RTParserBuilder::new(data).parse_generictree(alloc, &lexer)?;
     let mut text = String::new(alloc);
-    push_errors(&mut text, alloc, &lexer, input, &errors)?;
     let grm = data.grm();
+    push_errors(&mut text, alloc, grm, &lexer, input, &errors)?;
     if let Some(tree) = &tree {
         if tree.fits(grm, input) {
             text.push_str(&tree.pp(alloc, grm, input)?)?;
@@ -63,6 +63,7 @@ pub(crate) fn told<'a>(
 fn push_errors<'a, L: NonStreamingLexer<'a, TokenTypes>>(
     text: &mut String,
     alloc: Global,
+    grm: &'a YaccGrammar<u32>,
     lexer: &L,
     input: &str,
     errors: &[LexParseError<u32, TokenTypes>],
@@ -71,7 +72,7 @@ fn push_errors<'a, L: NonStreamingLexer<'a, TokenTypes>>(
 {
     for error in errors {
         if error.fits(input) {
-            text.push_str(&error.pp(alloc, lexer, |_| Some("a token"))?)?;
+            text.push_str(&error.pp(alloc, lexer, |token| Some(grm.epp_of(token)))?)?;
             text.push('\n')?;
         }
     }

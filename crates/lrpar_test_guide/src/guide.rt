@@ -1,6 +1,5 @@
 //! What the guide shows beside the example: a walk through a tree, and the tokens that may come next.
 use crate::example::{Failed, language, told};
-use lrpar::grammar::YaccGrammar;
 use lrpar::span::TIdx;
 use lrpar::{Lexeme, Node, ParserData, RTParserBuilder};
 use lrpar_lexer::{LexRule, RuleLexer, Token};
@@ -54,19 +53,10 @@ fn completions(
     let expected = RTParserBuilder::new(data).expected(alloc, lexer)?;
     let mut text = String::new(alloc);
     for token in &expected.tokens {
-        text.push_str(printed(data.grm(), *token).unwrap_or("the end"))?;
+        text.push_str(data.grm().epp_of(*token))?;
         text.push('\n')?;
     }
     Ok(text)
-}
-
-// What messages print for a token.
-fn printed(grm: &YaccGrammar<u32>, token: TIdx<u32>) -> Option<&str> {
-    if usize::from(token) < grm.tokens_len() {
-        grm.token_epp(token)
-    } else {
-        None
-    }
 }
 
 #[test]
