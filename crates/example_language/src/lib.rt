@@ -7,7 +7,6 @@ use lrpar::build::{Unbuilt, parser_data};
 use lrpar::errors::PpFault;
 use lrpar::grammar::{GrammarFault, YaccGrammar};
 use lrpar::parser::ParseFault;
-use lrpar::span::TIdx;
 use lrpar::{LexParseError, NonStreamingLexer, ParserData};
 use lrpar_lexer::{LexRule, RulesFault, TokenTypes, rules_of};
 use std::alloc::{AllocError, Global};
