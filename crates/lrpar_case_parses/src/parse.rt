@@ -193,11 +193,7 @@ fn push_error_text<'a>(
 
 // What is printed for a token, if it isn't the one without a printed name.
 fn printed_name<'a>(grm: &'a YaccGrammar<u32>, without: &str, token: TIdx<u32>) -> Option<&'a str> {
-    if usize::from(token) < grm.tokens_len() {
-        grm.token_epp(token).filter(|name| *name != without)
-    } else {
-        None
-    }
+    Some(grm.epp_of(token)).filter(|name| *name != without)
 }
 
 // Adds the text of a tree.

@@ -42,13 +42,11 @@ pub fn push_token<StorageT: StorageIndex>(
     grm: &YaccGrammar<StorageT>,
     token: TIdx<StorageT>,
 ) -> Result<(), AllocError> {
-    if usize::from(token) >= grm.tokens_len() {
-        return out.push_str("no token");
-    }
-    match (grm.token_name(token), grm.token_epp(token)) {
-        (Some(name), Some(printed)) if name != printed => out.push_str(printed),
-        (Some(name), _) => push_quoted(out, name),
-        _ => out.push_str("end of input"),
+    let printed = grm.epp_of(token);
+    if usize::from(token) < grm.tokens_len() && grm.token_name(token) == Some(printed) {
+        push_quoted(out, printed)
+    } else {
+        out.push_str(printed)
     }
 }
 
