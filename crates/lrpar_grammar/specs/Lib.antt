@@ -7,3 +7,4 @@ pub mod Kept
 pub mod Sum
 pub mod SpansFit
 pub mod Tokens
+pub mod Printed

@@ -1,5 +1,5 @@
 //! The grammar value.
-ghost use Rattle.std.specs.Prelude.{◌≡◌, ◌<◌, ◌≤◌, ◌+◌, ◌↔◌, IfErr, IfOk, IsErrOf, IsNone, IsTrue, Some, map, option_map, position};
+ghost use Rattle.std.specs.Prelude.{◌≡◌, ◌<◌, ◌≤◌, ◌+◌, ◌↔◌, if◌then◌else◌, codes, IfErr, IfOk, IsErrOf, IsNone, IsTrue, Some, map, option_map, position};
 ghost use Rattle.std.specs.List.{range_with_len, slice_get};
 ghost use Rattle.std.specs.Str.{bytes_eq};
 ghost use Rattle.lrpar_parts.specs.SpansFit.{NamesFit, SpansFit};
@@ -58,6 +58,7 @@ impl<StorageT: StorageIndex> Model for YaccGrammar<StorageT> {
 impl<StorageT: StorageIndex> YaccGrammar<StorageT> {
     ghost use Rattle.lrpar_parts.specs.Parts.{AreSound, grammar_of, parts_of, token_name_of, IsFirstFault, IsRefusalOf};
     ghost use Rattle.lrpar_grammar.specs.Kept.{split_prod_of};
+    ghost use Rattle.lrpar_grammar.specs.Printed.{printed_of};
     ghost use Rattle.lrpar_parts.specs.Grammar.{IsWellFormed, rules_len, prods_len, tokens_len, end_token, start_prod, rule_of, symbols_of, symbol_spans_of, prod_span_of, prods_of, rule_name, rule_span, token_name, token_epp, token_span};
 
     /// The grammar of the parts. Its rules are the added rule and the listed ones, in order; its productions the
@@ -245,6 +246,18 @@ impl<StorageT: StorageIndex> YaccGrammar<StorageT> {
         Some(token.printed())
     }
 
+    /// What messages print for a token, whatever its number: the text of `token_epp`, `end of input` for the end token, and
+    /// `no token` for a number that the grammar doesn't have. So it can be passed as the `epp` of an error's text.
+    pub fn epp_of(&self, tidx: TIdx<StorageT>) -> &str
+        ensures { result.now ≡ printed_of self.now (StorageT.index tidx.0) }
+    {
+        let number = usize::from(tidx);
+        match self.tokens.get(number) {
+            Some(token) => token.printed(),
+            None => unlisted(number == self.tokens.len()),
+        }
+    }
+
     /// Where a token is first declared or used: none for the end token alone.
     pub fn token_span(&self, tidx: TIdx<StorageT>) -> Option<Span>
         requires { StorageT.index tidx.0 < tokens_len self.now }
@@ -321,4 +334,11 @@ impl<StorageT: StorageIndex> YaccGrammar<StorageT> {
     {
         numbered_names(alloc, &self.tokens)
     }
+}
+
+// What is printed for a token that isn't listed: for the end token, or for none.
+fn unlisted(is_end: bool) -> &'static str
+    ensures { result.now ≡ (if is_end then codes "end of input" else codes "no token") }
+{
+    if is_end { "end of input" } else { "no token" }
 }
