@@ -131,8 +131,10 @@ fn answered(alloc: Global, case: Case<'_, '_>, grm: &YaccGrammar<u32>, answer: &
 
 // Adds where the rules lie, where the case asks.
 fn push_noted(told: &mut Told, case: Case<'_, '_>, grm: &YaccGrammar<u32>, places: &Places) {
-    if let ("places", Ok(noted)) = (case.value_or_nothing("show"), places.try_borrow()) {
-        push_places(told, grm, &noted);
+    if case.value_or_nothing("show") == "places" {
+        if let Ok(noted) = places.try_borrow() {
+            push_places(told, grm, &noted);
+        }
     }
 }
 
