@@ -1,7 +1,7 @@
 #!/usr/bin/env bash
 # Runs each command of the real programs with each of its calls for memory refused in turn, and then with all calls refused from
 # each one on; the cases of fail-alloc.cases likewise; and `lrpar` with an argument that isn't UTF-8. Cases with too many calls are
-# in fail-alloc-deep.cases, if that file is there: of their calls each of the first 200 is refused, and then one that lies a quarter
+# in fail-alloc-from.cases, if that file is there: of their calls each of the first 200 is refused, and then one that lies a quarter
 # further each time. A run has a stack of 8 MiB, and 60 seconds.
 #
 # Wants of a command: where a call is refused, status 2, a beginning of the whole text on standard output, and on standard error
@@ -20,8 +20,8 @@ readonly program=${LRPAR_PROGRAM:-$root/crates/lrpar_program/out/lrpar_program}
 readonly nimbleparse=${NIMBLEPARSE_PROGRAM:-$root/crates/nimbleparse/out/nimbleparse}
 readonly runner=${LRPAR_CASES:-$root/crates/lrpar_cases/out/lrpar_cases}
 readonly most_calls=100000
-readonly each_deep=200
-readonly most_deep=1000000000
+readonly each_from=200
+readonly most_from=1000000000
 
 ulimit -S -s 8192 || exit 1
 work=$(mktemp -d) || exit 1
@@ -258,8 +258,8 @@ refuse_each_call_of_nimbleparse 2 '' "$work/wrong.y:1:7: error: name 'F' is neit
 " "$work/brackets.lex" "$work/wrong.y"
 
 refuse_calls_in_both_ways "$most_calls" "$most_calls" "$here/fail-alloc.cases"
-if [[ -e $here/fail-alloc-deep.cases ]]; then
-    refuse_calls_in_both_ways "$each_deep" "$most_deep" "$here/fail-alloc-deep.cases"
+if [[ -e $here/fail-alloc-from.cases ]]; then
+    refuse_calls_in_both_ways "$each_from" "$most_from" "$here/fail-alloc-from.cases"
 fi
 
 run "$program" demo $'\xff'
