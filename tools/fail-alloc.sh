@@ -1,12 +1,15 @@
 #!/usr/bin/env bash
-# Runs each command of the real programs with each of its calls for memory refused in turn, the cases of fail-alloc.cases
-# likewise, and `lrpar` with an argument that isn't UTF-8.
+# Runs each command of the real programs with each of its calls for memory refused in turn, and then with all calls refused from
+# each one on; the cases of fail-alloc.cases likewise; and `lrpar` with an argument that isn't UTF-8. Cases with too many calls are
+# in fail-alloc-from.cases, if that file is there: of their calls each of the first 200 is refused, and then one that lies a quarter
+# further each time. A run has a stack of 8 MiB, and 60 seconds.
 #
 # Wants of a command: where a call is refused, status 2, a beginning of the whole text on standard output, and on standard error
 # a beginning of what else stands there and the line `lrpar: out of memory`, or `nimbleparse: out of memory`; or else the whole
 # answer as if no call had been refused. Wants of the cases, which are
 # run twice: where a call is refused, the one line on standard error that memory was wanting, in one case or in what all cases
-# stand on, so that each other case, and the same one in the other run, has its answer; or else no line. Prints how many calls
+# stand on, so that each other case, and the same one in the other run, has its answer; or else no line. Where all calls are refused
+# from one on, no case behind it has an answer, and that line is all that can be told. Prints how many calls
 # each command and the cases make, what failed, and one closing line. It stands outside the gate. It needs cc and glibc.
 set -u
 
@@ -17,7 +20,10 @@ readonly program=${LRPAR_PROGRAM:-$root/crates/lrpar_program/out/lrpar_program}
 readonly nimbleparse=${NIMBLEPARSE_PROGRAM:-$root/crates/nimbleparse/out/nimbleparse}
 readonly runner=${LRPAR_CASES:-$root/crates/lrpar_cases/out/lrpar_cases}
 readonly most_calls=100000
+readonly each_from=200
+readonly most_from=1000000000
 
+ulimit -S -s 8192 || exit 1
 work=$(mktemp -d) || exit 1
 readonly work
 trap 'rm -rf "$work"' EXIT
@@ -76,27 +82,27 @@ gives_usage_line() {
     [[ $status -eq 2 && ! -s $work/out && $(wc -l <"$work/err") -eq 1 ]] && grep -q '^usage: lrpar ' "$work/err"
 }
 
-# run_refused N PROGRAM WORDS..: runs a program with its Nth call for memory refused.
+# run_refused WAY N PROGRAM WORDS..: runs a program with its Nth call for memory refused (AT), or all from the Nth on (FROM).
 run_refused() {
-    local call=$1
-    shift
+    local way=$1 call=$2
+    shift 2
     rm -f "$work/mark"
-    run env FAIL_ALLOC_AT="$call" FAIL_ALLOC_MARK="$work/mark" LD_PRELOAD="$work/fail_alloc.so" "$@"
+    run env FAIL_ALLOC_"$way"="$call" FAIL_ALLOC_MARK="$work/mark" LD_PRELOAD="$work/fail_alloc.so" "$@"
 }
 
-# refuse_each PROGRAM WORDS..: refuses each call of a command in turn, until a run makes fewer calls than that.
+# refuse_each WAY PROGRAM WORDS..: refuses each call of a command in turn, until a run makes fewer calls than that.
 refuse_each() {
-    local tool=$1 call
-    shift
+    local way=$1 tool=$2 call
+    shift 2
     for ((call = 1; call <= most_calls; call++)); do
-        run_refused "$call" "$tool" "$@"
+        run_refused "$way" "$call" "$tool" "$@"
         if [[ ! -e $work/mark ]]; then
-            printf '%s: %s calls\n' "$1" "$((call - 1))"
+            printf '%s: %s calls, by FAIL_ALLOC_%s\n' "$1" "$((call - 1))" "$way"
             count "$*: no call refused" gives_answer
             count "$*: some call is refused" test "$call" -gt 1
             return
         fi
-        count "$*: call $call refused" gives_answer_or_no_memory
+        count "$*: refused ${way,,} call $call" gives_answer_or_no_memory
     done
     count "$*: at most $most_calls calls" false
 }
@@ -105,14 +111,16 @@ refuse_each() {
 refuse_each_call() {
     local speaker=lrpar want_status=$1 want_out=$2 want_err=
     shift 2
-    refuse_each "$program" "$@"
+    refuse_each AT "$program" "$@"
+    refuse_each FROM "$program" "$@"
 }
 
 # refuse_each_call_of_nimbleparse STATUS OUT ERR WORDS..: the same of `nimbleparse`.
 refuse_each_call_of_nimbleparse() {
     local speaker=nimbleparse want_status=$1 want_out=$2 want_err=$3
     shift 3
-    refuse_each "$nimbleparse" "$@"
+    refuse_each AT "$nimbleparse" "$@"
+    refuse_each FROM "$nimbleparse" "$@"
 }
 
 # Whether the cases were run, and told as wrong at most one, or none and those behind it not run, for want of memory.
@@ -124,26 +132,33 @@ gives_cases_or_no_memory() {
     esac
 }
 
-# refuse_each_call_of_cases FILE: runs the cases twice and refuses each call in turn, until a run makes fewer calls than that.
-refuse_each_call_of_cases() {
-    local call
-    run "$runner" "$1" "$1"
+# refuse_calls_of_cases WAY EACH MOST FILE: runs the cases twice and refuses each of the first EACH calls in turn, and then one that
+# lies a quarter further each time, until a run makes fewer calls than that, which is no more than MOST.
+refuse_calls_of_cases() {
+    local way=$1 each=$2 most=$3 name=${4##*/} call
+    for ((call = 1; call <= most; call += call < each ? 1 : call / 4)); do
+        run_refused "$way" "$call" "$runner" "$4" "$4"
+        if [[ ! -e $work/mark ]]; then
+            printf '%s: fewer than %s calls, by FAIL_ALLOC_%s\n' "$name" "$call" "$way"
+            count "$name: no call refused" test "$status" -eq 0
+            count "$name: some call is refused" test "$call" -gt 1
+            return
+        fi
+        count "$name: refused ${way,,} call $call" gives_cases_or_no_memory
+    done
+    count "$name: at most $most calls" false
+}
+
+# refuse_calls_in_both_ways EACH MOST FILE: the same in both ways, where the cases are right before.
+refuse_calls_in_both_ways() {
+    run "$runner" "$3" "$3"
     if [[ $status -ne 0 ]]; then
-        count 'cases: before any call is refused' false
+        count "${3##*/}: before any call is refused" false
         return
     fi
     mv "$work/out" "$work/all"
-    for ((call = 1; call <= most_calls; call++)); do
-        run_refused "$call" "$runner" "$1" "$1"
-        if [[ ! -e $work/mark ]]; then
-            printf 'cases: %s calls\n' "$((call - 1))"
-            count 'cases: no call refused' test "$status" -eq 0
-            count 'cases: some call is refused' test "$call" -gt 1
-            return
-        fi
-        count "cases: call $call refused" gives_cases_or_no_memory
-    done
-    count "cases: at most $most_calls calls" false
+    refuse_calls_of_cases AT "$@"
+    refuse_calls_of_cases FROM "$@"
 }
 
 if [[ -z ${LRPAR_CASES:-} ]] && ! (cd "$root/crates/lrpar_cases" && rt run -- wrong.cases) >/dev/null 2>&1; then
@@ -242,7 +257,10 @@ refuse_each_call_of_nimbleparse 2 '' "$work/wrong.y:1:7: error: name 'F' is neit
          ^ did you mean 'E'?
 " "$work/brackets.lex" "$work/wrong.y"
 
-refuse_each_call_of_cases "$here/fail-alloc.cases"
+refuse_calls_in_both_ways "$most_calls" "$most_calls" "$here/fail-alloc.cases"
+if [[ -e $here/fail-alloc-from.cases ]]; then
+    refuse_calls_in_both_ways "$each_from" "$most_from" "$here/fail-alloc-from.cases"
+fi
 
 run "$program" demo $'\xff'
 count 'an argument that is not UTF-8' gives_usage_line

@@ -1,8 +1,9 @@
-/* A preloaded allocator of which one call fails.
+/* A preloaded allocator of which one call fails, or all from one on.
  *
  * Calls of malloc, calloc, realloc, aligned_alloc and posix_memalign are counted together, from the start of `main`
- * on. Call number FAIL_ALLOC_AT (from 1) answers that there is no memory; all others go to the C library. When that
- * call comes, the file FAIL_ALLOC_MARK is made, so that the caller sees that a call was refused.
+ * on. Call number FAIL_ALLOC_AT (from 1) answers that there is no memory; all others go to the C library. Where
+ * FAIL_ALLOC_FROM is set in its place, that call and all after it answer so. When the first such call comes, the file
+ * FAIL_ALLOC_MARK is made, so that the caller sees that a call was refused.
  *
  * For glibc: it takes over `__libc_start_main` to see where `main` starts. */
 
@@ -22,20 +23,28 @@ extern void *__libc_memalign(size_t alignment, size_t size);
 typedef int main_function(int, char **, char **);
 
 static main_function *real_main;
-static long calls_until_refusal; /* 0: nothing is counted, or the call was refused */
-static const char *mark;
+static long calls_until_refusal; /* 0: nothing is counted, or nothing more is refused */
+static int refuses_rest;         /* whether all calls after the first refused one are refused, too */
+static const char *mark;         /* NULL: no file is to be made, or it was made */
 
-/* Counts a call, and answers whether it is the one to refuse. */
-static int is_refused(void) {
-    if (calls_until_refusal == 0 || --calls_until_refusal != 0) {
-        return 0;
-    }
+/* Makes the file that says that a call was refused. */
+static void make_mark(void) {
     if (mark != NULL) {
         int file = open(mark, O_CREAT | O_WRONLY, 0600);
         if (file >= 0) {
             close(file);
         }
+        mark = NULL;
     }
+}
+
+/* Counts a call, and answers whether it is to be refused. */
+static int is_refused(void) {
+    if (calls_until_refusal == 0 || --calls_until_refusal != 0) {
+        return 0;
+    }
+    calls_until_refusal = refuses_rest;
+    make_mark();
     errno = ENOMEM;
     return 1;
 }
@@ -70,8 +79,11 @@ int posix_memalign(void **result, size_t alignment, size_t size) {
 
 static int counted_main(int argc, char **argv, char **envp) {
     const char *at = getenv("FAIL_ALLOC_AT");
+    const char *from = getenv("FAIL_ALLOC_FROM");
+    const char *first = from == NULL ? at : from;
     mark = getenv("FAIL_ALLOC_MARK");
-    calls_until_refusal = at == NULL ? 0 : strtol(at, NULL, 10);
+    refuses_rest = from != NULL;
+    calls_until_refusal = first == NULL ? 0 : strtol(first, NULL, 10);
     return real_main(argc, argv, envp);
 }
 

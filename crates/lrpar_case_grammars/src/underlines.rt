@@ -103,6 +103,10 @@ fn push_shown(
         }
         "error" => push_error(told, alloc, case, text, formatter, spans),
         "warning" => push_warning(told, alloc, case, text, formatter, spans),
+        "memory" => {
+            told.line("fault ", &DiagnosticFault::Memory);
+            Ok(())
+        }
         _ => Err(Fault::Line(case.number, "what is shown isn't known")),
     }
 }

@@ -2,6 +2,7 @@
 #![tactic(auto)]
 
 mod calls;
+mod clones;
 pub mod expected;
 mod lexemes;
 pub mod parse;

@@ -2,6 +2,7 @@
 ghost use Rattle.std.specs.Prelude.{◌≡◌};
 
 use crate::calls::{Answer, CALLS, Call, Parser, Places, answer_by};
+use crate::clones::{push_clone_of_tree, push_clones_of_errors};
 use crate::lexemes::{Given, HandedLexer, given_of};
 use crate::recoverer::recoverer_of;
 use crate::shown::{CaseError, Tree, push_errors, push_places, push_tree};
@@ -104,6 +105,7 @@ fn by_parsers(
     told.append(&wanted.errors);
     told.field("tree", wanted.tree.so_far());
     push_noted(told, case, first.grammar(), &places);
+    push_cloned(told, alloc, case, &answer);
     push_printed(told, alloc, case, first.grammar(), input, &answer);
     for call in CALLS {
         push_difference(told, alloc, case, &wanted, call, first, lexer);
@@ -129,8 +131,20 @@ fn answered(alloc: Global, case: Case<'_, '_>, grm: &YaccGrammar<u32>, answer: &
 
 // Adds where the rules lie, where the case asks.
 fn push_noted(told: &mut Told, case: Case<'_, '_>, grm: &YaccGrammar<u32>, places: &Places) {
-    if let (Some(_), Ok(noted)) = (case.value("show"), places.try_borrow()) {
-        push_places(told, grm, &noted);
+    if case.value_or_nothing("show") == "places" {
+        if let Ok(noted) = places.try_borrow() {
+            push_places(told, grm, &noted);
+        }
+    }
+}
+
+// Adds what clones of the errors and of the tree are, where the case asks.
+fn push_cloned(told: &mut Told, alloc: Global, case: Case<'_, '_>, answer: &Answer) {
+    if let ("clones", Ok((tree, errors))) = (case.value_or_nothing("show"), answer) {
+        push_clones_of_errors(told, errors);
+        if let Some(tree) = tree {
+            push_clone_of_tree(told, alloc, tree);
+        }
     }
 }
 

@@ -12,7 +12,7 @@ use lrpar_parser::parser::ParseFault;
 use lrpar_table::check::ParserData;
 use lrpar_test_parts::built::{BRACKETS, SUM, TWICE, built};
 use lrpar_test_parts::drops::{drop_error, drop_errors};
-use lrpar_test_parts::lexer::{Given, HandedLexer, lexer_of};
+use lrpar_test_parts::lexer::{Given, HandedLexer, Last, lexer_of};
 use std::alloc::Global;
 use std::cell::Cell;
 use std::process::Abort;
@@ -75,39 +75,78 @@ fn push_told(rt: &impl Abort, text: &mut String, answer: Errors) {
     }
 }
 
-// Adds the state and the start of each parse error.
+// Adds the state and the start of each parse error, and the text of a lexing error.
 fn push_places(rt: &impl Abort, text: &mut String, errors: &[LexParseError<u32, TokenTypes>]) {
     for error in errors {
-        if let LexParseError::ParseError(error) = error {
-            let (state, start) = (error.stidx().as_storaget(), error.lexeme().span().start());
-            holds(rt, &"memory", write!(text, "{state}@{start} ").is_ok());
-        }
+        let pushed = match error {
+            LexParseError::LexError(error) => write!(text, "{error} "),
+            LexParseError::ParseError(error) => {
+                let (state, start) = (error.stidx().as_storaget(), error.lexeme().span().start());
+                write!(text, "{state}@{start} ")
+            }
+        };
+        holds(rt, &"memory", pushed.is_ok());
     }
 }
 
-/// Lexemes of the grammar *brackets*, the calls at which the lexer and the recoverer find no memory, what comes of two parses, and how
-/// often the lexer and the recoverer are asked in both.
+/// Lexemes of the grammar *brackets* and what comes after them, the calls at which the lexer and the recoverer find no memory, what comes
+/// of two parses, and how often the lexer and the recoverer are asked in both.
 type Row = (
     &'static [Given],
+    Last,
     (usize, usize),
     &'static str,
     (usize, usize),
 );
 
-// Without an error; with one that a deletion mends, and with two; with one that none mends, in front of another; and with two where
-// memory is wanting once.
-const ROWS: [Row; 6] = [
-    (&[(0, 1)], (0, 0), "", (2, 0)),
-    (&[(0, 1), (0, 1)], (0, 0), "2@1 2@1 ", (2, 2)),
-    (&TWICE, (0, 0), "2@1 8@8 2@1 8@8 ", (2, 4)),
+// Without an error; with one that a deletion mends, and with two; with one that none mends, in front of another; with two where memory
+// is wanting once; with a lexing error, behind a parse error; with a lexeme of no token; and with one that starts too early.
+const ROWS: [Row; 9] = [
+    (&[(0, 1)], Last::Nothing, (0, 0), "", (2, 0)),
+    (&[(0, 1), (0, 1)], Last::Nothing, (0, 0), "2@1 2@1 ", (2, 2)),
+    (&TWICE, Last::Nothing, (0, 0), "2@1 8@8 2@1 8@8 ", (2, 4)),
     (
         &[(0, 1), (0, 1), (1, 1), (0, 1), (3, 1)],
+        Last::Nothing,
         (0, 0),
         "2@1 2@1 ",
         (2, 2),
     ),
-    (&TWICE, (1, 0), "out of memory 2@1 8@8 ", (2, 2)),
-    (&TWICE, (0, 2), "out of memory 2@1 8@8 ", (2, 4)),
+    (
+        &TWICE,
+        Last::Nothing,
+        (1, 0),
+        "out of memory 2@1 8@8 ",
+        (2, 2),
+    ),
+    (
+        &TWICE,
+        Last::Nothing,
+        (0, 2),
+        "out of memory 2@1 8@8 ",
+        (2, 4),
+    ),
+    (
+        &[(0, 1), (0, 1)],
+        Last::NoToken,
+        (0, 0),
+        "no token fits at byte 2 no token fits at byte 2 ",
+        (2, 0),
+    ),
+    (
+        &[(0, 1), (9, 1), (0, 1)],
+        Last::Nothing,
+        (0, 0),
+        "bad token at lexeme 1 bad token at lexeme 1 ",
+        (2, 0),
+    ),
+    (
+        &[(0, 1), (1, 1)],
+        Last::First,
+        (0, 0),
+        "start decreases at lexeme 2 start decreases at lexeme 2 ",
+        (2, 0),
+    ),
 ];
 
 #[test]
@@ -121,7 +160,7 @@ fn lexers_and_recoverers_are_asked_once(rt: HostRuntime) -> Result<(), Fail> {
 
 // Each of the four calls asks as often as the row says.
 fn each_asks(rt: &impl Abort, alloc: Global, data: &ParserData<u32>, row: &Row) {
-    let (_, _, want, asked) = *row;
+    let (_, _, _, want, asked) = *row;
     for call in &FOUR {
         let (text, found) = asks(rt, alloc, *call, data, row);
         let found = (*call, text.as_str(), found);
@@ -137,10 +176,11 @@ fn asks(
     data: &ParserData<u32>,
     row: &Row,
 ) -> (String, (usize, usize)) {
-    let (given, (lexing, recovery), _, _) = *row;
+    let (given, last, (lexing, recovery), _, _) = *row;
     let (calls, asked) = (Cell::new(0), Cell::new((0, 0, [0, 0, 0], 0, false)));
     let lexer = HandedLexer {
         given,
+        last,
         calls: Cell::new(0),
         fails_at: lexing,
     };

@@ -3,7 +3,7 @@ use crate::wants::{holds, same};
 use lrpar_grammar::grammar::{GrammarFault, YaccGrammar};
 use lrpar_grammar::span::{PIdx, StIdx, TIdx};
 use lrpar_table::build::{BuildFault, Unbuilt, from_yacc, parser_data};
-use lrpar_table::check::{CheckFault, Overlay, ParserData};
+use lrpar_table::check::{CheckFault, CompleteFault, Overlay, ParserData};
 use lrpar_table::table::{Action, Conflicts, Item, StateGraph, StateTable, TableFault, TableRows};
 use std::alloc::Global;
 use std::fmt;
@@ -221,6 +221,11 @@ fn want_of_memory_as_text(rt: HostRuntime) -> Result<(), Fail> {
     holds(&rt, &"a build", is_told(alloc, &BuildFault::Memory)?);
     holds(&rt, &"a table", is_told(alloc, &TableFault::Memory)?);
     holds(&rt, &"a check", is_told(alloc, &CheckFault::Memory)?);
+    holds(
+        &rt,
+        &"completeness",
+        is_told(alloc, &CompleteFault::Memory)?,
+    );
     Ok(())
 }
 

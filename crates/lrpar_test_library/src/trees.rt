@@ -207,9 +207,10 @@ fn acted_leaf(rt: &impl Abort, alloc: Global, lexeme: Token<u32>) -> Tree {
     }
 }
 
+// Of the rule `E` of the grammar *brackets* and the lexeme of `n` it makes the tree of that text.
 #[test]
 fn an_action_makes_a_node(rt: HostRuntime) -> Result<(), Fail> {
-    let lexeme: Token<u32> = Token::new(3, 0, 1);
+    let lexeme: Token<u32> = Token::new(0, 0, 1);
     let tree = acted_leaf(&rt, rt.alloc(), lexeme);
     let is_node = match &tree {
         Node::Nonterm {

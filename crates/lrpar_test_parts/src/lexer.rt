@@ -11,10 +11,22 @@ use std::cell::Cell;
 /// A lexeme: its token, and how many bytes it has. It begins where the one in front of it ends.
 pub type Given = (u32, usize);
 
+/// What a lexer answers after its lexemes.
+#[derive(Clone, Copy)]
+pub enum Last {
+    /// Nothing more.
+    Nothing,
+    /// An error at the end of the lexemes.
+    NoToken,
+    /// A lexeme of the token 0, of one byte, at byte 0.
+    First,
+}
+
 /// The lexer. At one of its calls it finds no memory.
 #[derive(Drop)]
 pub struct HandedLexer<'a> {
     pub given: &'a [Given],
+    pub last: Last,
     pub calls: Cell<usize>,
     pub fails_at: usize,
 }
@@ -23,8 +35,18 @@ pub struct HandedLexer<'a> {
 pub fn lexer_of(given: &[Given]) -> HandedLexer<'_> {
     HandedLexer {
         given,
+        last: Last::Nothing,
         calls: Cell::new(0),
         fails_at: 0,
+    }
+}
+
+// What is answered after lexemes that end at this byte, if anything is.
+fn answer_after(last: Last, end: usize) -> Option<Result<Token<u32>, NoToken>> {
+    match last {
+        Last::Nothing => None,
+        Last::NoToken => Some(Err(NoToken::new(Span::new(end, end)))),
+        Last::First => Some(Ok(Token::new(0, 0, 1))),
     }
 }
 
@@ -41,6 +63,9 @@ impl<'a> Lexer<TokenTypes> for HandedLexer<'a> {
             let len = (*len).min(1_000);
             answers.push(Ok(Token::new(*token, at.min(1_000_000), len)))?;
             at = at.saturating_add(len);
+        }
+        if let Some(answer) = answer_after(self.last, at) {
+            answers.push(answer)?;
         }
         Ok(answers)
     }
