@@ -5,7 +5,7 @@ use Rattle.std.specs.declared.alloc.Global.{Global}
 use Rattle.std.specs.declared.fmt.Error.{Error}
 use Rattle.std.specs.declared.fmt.Formatter.{Formatter}
 use Rattle.std.proofs.Output.{then_text_assoc}
-use Rattle.std.proofs.Debugs.{Shows, shows_from, shows_then}
+use Rattle.std.proofs.Debugs.{Shows, displays_from, shows_from, shows_then}
 use Rattle.std.specs.Fmt.{◌++?◌, DisplaysOnOk, IsPlainFormatter, comma_space, debug_items}
 use Rattle.lrpar_text.specs.declared.span.RIdx.{RIdx}
 use Rattle.lrpar_answers.specs.declared.node.Node.{Node}
@@ -113,12 +113,26 @@ module _ {W : Type 0} (took : W → List ℕ → W → Type 0) where
   pub continues_first : (f : Formatter W) (whole left : Option (List ℕ)) → whole ≡ left → Continues f whole f left
   continues_first f whole left is plain h next = subst (λ t. Shows took f t h) (sym is) (next plain)
 
-  -- a part of what is left was written, or two parts of it
+  -- a part of what is left was written, or two parts of it, or all of it
   pub continues_then : (began f g : Formatter W) (r : Result (Unit {0}) Error) (whole left part more : Option (List ℕ)) → left ≡ part ++? more
       → DisplaysOnOk took f r part g → IsOk r → Continues began whole f left → Continues began whole g more
   continues_then began f g r whole left part more is wrote ok before plain h next =
       before plain h (λ p. subst (λ t. Shows took f t h) (sym is) (shows_then took f g h part more (shows_from took f g r part wrote p ok) next))
 
+  pub continues_two : (began f g h : Formatter W) (r s : Result (Unit {0}) Error) (whole left first second more : Option (List ℕ))
+      → left ≡ first ++? (second ++? more) → DisplaysOnOk took f r first g → IsOk r → DisplaysOnOk took g s second h → IsOk s
+      → Continues began whole f left → Continues began whole h more
+  continues_two began f g h r s whole left first second more is wrote ok wrote' ok' before =
+      continues_then began g h s whole (second ++? more) second more refl wrote' ok'
+      (continues_then began f g r whole left first (second ++? more) is wrote ok before)
+
   pub continues_last : (began f g : Formatter W) (whole left part : Option (List ℕ)) → left ≡ part
       → (IsPlainFormatter f → Shows took f part g) → Continues began whole f left → IsPlainFormatter began → Shows took began whole g
   continues_last began f g whole left part is wrote before plain = before plain g (λ p. subst (λ t. Shows took f t g) (sym is) (wrote p))
+
+  -- a text in two parts
+  pub displays_two : (f g h : Formatter W) (r s : Result (Unit {0}) Error) (whole first second : Option (List ℕ)) → whole ≡ first ++? second
+      → DisplaysOnOk took f r first g → IsOk r → DisplaysOnOk took g s second h → DisplaysOnOk took f s whole h
+  displays_two f g h r s whole first second is wrote ok wrote' =
+      subst (λ t. DisplaysOnOk took f s t h) (sym is) (displays_from took f h s (first ++? second) (λ plain ok'.
+      shows_then took f g h first second (shows_from took f g r first wrote plain ok) (λ p. shows_from took g h s second wrote' p ok')))

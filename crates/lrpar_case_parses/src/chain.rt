@@ -43,7 +43,11 @@ pub fn outcome(
         None => told.lack_memory(),
     }
     let again = tree.clone(alloc)?;
-    told.text(if again == tree { "cloned\n" } else { "differs\n" });
+    told.text(if again == tree {
+        "cloned\n"
+    } else {
+        "differs\n"
+    });
     Ok(())
 }
 

@@ -13,8 +13,7 @@ use std::test::Fail;
 
 // A rule over a lexeme, over a rule of nothing and over another lexeme.
 fn small_tree(alloc: Global) -> Result<Tree, AllocError> {
-    let nodes = vec![
-        in alloc;
+    let nodes = vec![in alloc;
         Node::Term {
             lexeme: Token::new(1, 0, 1),
         },
@@ -33,7 +32,8 @@ fn small_tree(alloc: Global) -> Result<Tree, AllocError> {
 }
 
 // The texts of that tree.
-const SMALL: &str = "Nonterm { ridx: RIdx(1), nodes: [Term { lexeme: Token { number: 1, span: Span { start: 0, end: 1 }, is_faulty: false } }, Nonterm { ridx: RIdx(2), nodes: [] }, Term { lexeme: Token { number: 0, span: Span { start: 1, end: 3 }, is_faulty: true } }] }";
+const SMALL: &str =
+    "Nonterm { ridx: RIdx(1), nodes: [Term { lexeme: Token { number: 1, span: Span { start: 0, end: 1 }, is_faulty: false } }, Nonterm { ridx: RIdx(2), nodes: [] }, Term { lexeme: Token { number: 0, span: Span { start: 1, end: 3 }, is_faulty: true } }] }";
 
 const SMALL_IN_LINES: &str = "Some(
     Nonterm {
@@ -148,12 +148,20 @@ fn lines_of_chain(alloc: Global, levels: usize) -> Result<String, AllocError> {
     for level in 0..levels {
         push_line(&mut text, level.saturating_mul(8), "Nonterm {\n")?;
         for (spaces, line) in RULE_LINES {
-            push_line(&mut text, level.saturating_mul(8).saturating_add(spaces), line)?;
+            push_line(
+                &mut text,
+                level.saturating_mul(8).saturating_add(spaces),
+                line,
+            )?;
         }
     }
     push_line(&mut text, levels.saturating_mul(8), "Term {\n")?;
     for (spaces, line) in LEXEME_LINES {
-        push_line(&mut text, levels.saturating_mul(8).saturating_add(spaces), line)?;
+        push_line(
+            &mut text,
+            levels.saturating_mul(8).saturating_add(spaces),
+            line,
+        )?;
     }
     for level in 1..levels.saturating_add(1) {
         let spaces = levels.saturating_sub(level).saturating_mul(8);

@@ -134,8 +134,10 @@ fn equal_by_calls<'a, LexemeT: PartialEq, StorageT: PartialEq>(
     requires even { length nodes.now ≡ length others.now }
     ensures { result ≡ nodes_eq LexemeT.PartialEq.eq StorageT.PartialEq.eq nodes.entry.now others.entry.now }
 {
-    while let (Some((node, rest)), Some((other, other_rest))) =
-        (nodes.split_first(), others.split_first()) {
+    while let (Some((node, rest)), Some((other, other_rest))) = (
+        nodes.split_first(),
+        others.split_first(),
+    ) {
         if !node.is_like(other) {
             return false;
         }

@@ -63,10 +63,7 @@ fn fewer_of<LexemeT, StorageT>(
 // How many nodes the trees have, where these are within the budget. Behind each node there are the trees below it and those
 // beside it: the fewer nodes are counted by a call, which has at most half of what is left of the budget.
 #[cycle(count)]
-fn count<LexemeT, StorageT>(
-    mut nodes: &[Node<LexemeT, StorageT>],
-    budget: usize,
-) -> Option<usize>
+fn count<LexemeT, StorageT>(mut nodes: &[Node<LexemeT, StorageT>], budget: usize) -> Option<usize>
     ensures { IfSome result (λ len. len ≤ budget) }
 {
     let mut left = budget;

@@ -191,7 +191,11 @@ impl<'a, W: fmt::Write> Lines<'a, W> {
         self.level = self.level.saturating_add(1);
         write!(self, "ridx: {ridx:#?},\nnodes: [")?;
         self.level = self.level.saturating_add(1);
-        if is_empty { Ok(()) } else { self.write_str("\n") }
+        if is_empty {
+            Ok(())
+        } else {
+            self.write_str("\n")
+        }
     }
 
     // Writes the end of a rule, and goes two levels up.

@@ -57,9 +57,9 @@ loop-node-preserved-in-Ok g c =
     let entered = weights_below node rest nodes later c.in-Some.ensures.cases.0 in
     let root = (c.root_fits.ensures 1).0 c.if-not-root_fits.false in
     rw (c.in-Ok.ensures.items, later_trees_push, c.children-nodes.ensures) (
-        (λ all. c.loop-node.invariant.0 (fits_leave P same node rest nodes later c.in-Some.ensures.cases.0 root all)),
-        (λ all. (fits_enter P same node rest nodes later c.in-Some.ensures.cases.0 (c.loop-node.invariant.1 all)).1),
-      )
+      (λ all. c.loop-node.invariant.0 (fits_leave P same node rest nodes later c.in-Some.ensures.cases.0 root all)),
+      (λ all. (fits_enter P same node rest nodes later c.in-Some.ensures.cases.0 (c.loop-node.invariant.1 all)).1),
+    )
 
 pub loop-node-smaller-in-Err : goal.loop-node-smaller-in-Err
 loop-node-smaller-in-Err g c =
@@ -82,11 +82,11 @@ loop-node-preserved-in-Err g c =
     let root = (c.root_fits.ensures 1).0 c.if-not-root_fits.false in
     let below = rw c.children.ensures at (c.fit_by_calls.ensures.0 c.if-not-fit_by_calls.false) in
     rw c.in-Err.ensures.items (
-        (λ all. c.loop-node.invariant.0 (fits_leave P same node rest nodes later c.in-Some.ensures.cases.0 root
-            (fit_joined P (nodes_below node) (rest ++ later) below all))),
-        (λ all. (fit_parts P (nodes_below node) (rest ++ later)
-            (fits_enter P same node rest nodes later c.in-Some.ensures.cases.0 (c.loop-node.invariant.1 all)).1).1),
-      )
+      (λ all. c.loop-node.invariant.0 (fits_leave P same node rest nodes later c.in-Some.ensures.cases.0 root
+          (fit_joined P (nodes_below node) (rest ++ later) below all))),
+      (λ all. (fit_parts P (nodes_below node) (rest ++ later)
+          (fits_enter P same node rest nodes later c.in-Some.ensures.cases.0 (c.loop-node.invariant.1 all)).1).1),
+    )
 
 pub loop-node-smaller : goal.loop-node-smaller
 loop-node-smaller g c =
