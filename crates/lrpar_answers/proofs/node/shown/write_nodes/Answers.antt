@@ -1,4 +1,3 @@
-use lib.Utf8.{encode}
 use Rattle.std.proofs.Common.{[], ◌∷◌, Some, Ok, length, ap, refl, sym, ◌∙◌}
 use Rattle.std.proofs.Debugs.{displays_from}
 use Rattle.std.proofs.lemmas.List.{length_push, nil_from_length}
@@ -11,7 +10,7 @@ use Rattle.lrpar_answers.proofs.ShownLemmas.{continues_last, continues_then, con
 use Rattle.lrpar_answers.proofs.node.shown.write_nodes.Goals as goal
 
 pub loop-node-preserved-in-Term : goal.loop-node-preserved-in-Term
-unfolding encode
+unfolding lib.Utf8.encode
 loop-node-preserved-in-Term g c =
     let took = g.W.Write.write_str_gives in
     let lexeme = g.LexemeT.Debug.debug_output in
@@ -80,7 +79,7 @@ loop-node-smaller g c =
     (ap length c.in-Some-pop.ensures.items ∙ length_push left rest)
 
 pub loop-node-preserved : goal.loop-node-preserved
-unfolding encode
+unfolding lib.Utf8.encode
 loop-node-preserved g c =
     let took = g.W.Write.write_str_gives in
     let text = shown g.LexemeT.Debug.debug_output g.StorageT.Debug.debug_output in
