@@ -1,6 +1,6 @@
 //! Trees as `Debug` shows them.
-ghost use Rattle.std.specs.Prelude.{◌∷◌, [], Some};
-ghost use Rattle.std.specs.Fmt.{◌++?◌, DisplaysOnOk, WritesOnOk, comma_space, debug_items, debug_list};
+ghost use Rattle.std.specs.Prelude.{[]};
+ghost use Rattle.std.specs.Fmt.{◌++?◌, DisplaysOnOk, WritesOnOk, debug_items};
 ghost use Rattle.lrpar_answers.specs.Shown.{shown, shown_end, shown_lexeme, shown_rule};
 
 use crate::node::Node;

@@ -1,10 +1,10 @@
-use Rattle.std.proofs.Common.{◌++◌, ◌∙◌, length, subst, ap, arith}
+use Rattle.std.proofs.Common.{◌++◌, ◌∙◌, length, subst, ap}
 use Rattle.std.specs.Prelude.{IsTrue}
 use Rattle.std.proofs.lemmas.Bool.{false≢true}
 use Rattle.std.proofs.lemmas.List.{length_push, nil_from_length}
 use Rattle.lrpar_lexemes.specs.Lexemes.{facts_of}
 use Rattle.lrpar_answers.specs.TreeText.{MetFits, nodes_below}
-use Rattle.lrpar_answers.proofs.WeightLemmas.{weights_fall, weights_inside, weights_skip, weights_stay, weights_turn, weights_within}
+use Rattle.lrpar_answers.proofs.WeightLemmas.{weights_fall, weights_skip, weights_turn}
 use Rattle.lrpar_answers.proofs.FitsLemmas.{fits_level, fits_enter, fits_leave, fit_parts, fit_joined, later_trees, later_trees_push, weights_below}
 use Rattle.lrpar_answers.proofs.tree_text.all_fit.Goals as goal
 

@@ -1,10 +1,10 @@
-use Rattle.std.proofs.Common.{length, true, false, ◌&&◌, ◌++◌, Some, ap, sym, ◌∙◌, arith}
+use Rattle.std.proofs.Common.{length, true, false, ◌&&◌, ◌++◌, Some, ap, sym, ◌∙◌}
 use Rattle.std.proofs.lemmas.List.{length_push, nil_from_length}
 use Rattle.std.proofs.lemmas.List.Elements.{All-push, All-pop}
 use Rattle.lrpar_answers.specs.declared.node.equal.Pair.{Pair}
 use Rattle.lrpar_answers.specs.Walks.{nodes_eq, children}
 use Rattle.lrpar_answers.proofs.PairLemmas.{IsEven, later_nodes, later_others, later_nodes_push, later_others_push, rests_even}
-use Rattle.lrpar_answers.proofs.WeightLemmas.{weights_fall, weights_inside, weights_skip, weights_stay, weights_turn, weights_within}
+use Rattle.lrpar_answers.proofs.WeightLemmas.{weights_fall, weights_skip, weights_turn}
 use Rattle.lrpar_answers.proofs.WalkLemmas.{nodes_eq_enter, nodes_eq_append, children_even, weights_entered}
 use Rattle.lrpar_answers.proofs.node.equal.are_equal.Goals as goal
 

@@ -1,4 +1,4 @@
-use Rattle.std.proofs.Common.{◌≡◌, ◌+◌, ◌-◌, ◌*◌, ◌<◌, ◌≤◌}
+use Rattle.std.proofs.Common.{◌+◌, ◌-◌, ◌*◌, ◌<◌, ◌≤◌}
 use Rattle.lrpar_answers.proofs.node.fewer.+count.Given as goal
 
 -- the budget of a count, and the limit for one of two counts, which calls counts with at most this budget

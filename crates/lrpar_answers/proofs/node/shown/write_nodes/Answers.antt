@@ -1,4 +1,4 @@
-use Rattle.std.proofs.Common.{[], ◌∷◌, Some, Ok, length, ap, refl, sym, ◌∙◌}
+use Rattle.std.proofs.Common.{[], Some, Ok, length, ap, refl, sym, ◌∙◌}
 use Rattle.std.proofs.Debugs.{displays_from}
 use Rattle.std.proofs.lemmas.List.{length_push, nil_from_length}
 use Rattle.std.specs.Fmt.{◌++?◌, comma_space, debug_items}
