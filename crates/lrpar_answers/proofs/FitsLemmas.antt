@@ -79,6 +79,26 @@ fits_leave P same node rest nodes more is root all =
     let below = fit_shift P same (weights (nodes_below node)) 1 2 (nodes_below node) (omega arith) parts.0 in
     rw is (all_both P (met_from node 1) (all_met 1 (rest ++ more)) (fit_whole P node 1 root below) parts.1)
 
+-- with no list: several trees have the property where the root of the first has it, the trees below this, and the others
+pub fits_apart : {X S : Type 0} (P : Met X S → Type 0) (same : IsLevel P) (node : Node X S) (rest nodes : List (Node X S)) → nodes ≡ node ∷ rest
+    → AllByRecursion P (all_met 1 nodes) → P (root_at 1 node) × AllByRecursion P (all_met 1 (nodes_below node)) × AllByRecursion P (all_met 1 rest)
+fits_apart P same node rest nodes is all =
+    let whole : AllByRecursion P (met_from node 1 ++ all_met 1 rest) = rw is at all in
+    let here = all_front P (met_from node 1) (all_met 1 rest) whole in
+    let below = fit_shift P same (weights (nodes_below node)) 2 1 (nodes_below node) (omega arith) (fit_below P node 1 here) in
+    (fit_root P node 1 here, below, all_back P (met_from node 1) (all_met 1 rest) whole)
+
+pub fits_together : {X S : Type 0} (P : Met X S → Type 0) (same : IsLevel P) (node : Node X S) (rest nodes : List (Node X S)) → nodes ≡ node ∷ rest
+    → P (root_at 1 node) → AllByRecursion P (all_met 1 (nodes_below node)) → AllByRecursion P (all_met 1 rest) → AllByRecursion P (all_met 1 nodes)
+fits_together P same node rest nodes is root below after =
+    let here = fit_whole P node 1 root (fit_shift P same (weights (nodes_below node)) 1 2 (nodes_below node) (omega arith) below) in
+    rw is (all_both P (met_from node 1) (all_met 1 rest) here after)
+
+-- and how many nodes they have
+pub weights_apart : {X S : Type 0} (node : Node X S) (rest nodes below : List (Node X S)) → nodes ≡ node ∷ rest → below ≡ nodes_below node
+    → weights nodes ≡ 1 + (weights below + weights rest)
+weights_apart node rest nodes below is at = rw (is, at) (omega (arith, weight_below node))
+
 -- what the loop has left behind the trees in hand, the last list first
 abbrev pub later_trees : {X S : Type 0} → List (Bor (List (Node X S))) → List (Node X S)
 later_trees [] = []

@@ -9,3 +9,4 @@ pub mod FitsLemmas
 pub mod ErrorTextLemmas
 pub mod LexParseTextLemmas
 pub mod WriteLemmas
+pub mod ShownLemmas

@@ -143,3 +143,39 @@ pub weights_entered : {X S : Type 0} (a : Node X S) (rest nodes more : List (Nod
     → weights (nodes ++ more) ≡ 1 + (weights (children a) + weights (rest ++ more))
 weights_entered a rest nodes more n =
     rw n (weights_enter a (rest ++ more) ∙ ap (λ k. 1 + k) (weights_append (children a) (rest ++ more)))
+
+-- with no list: several trees are equal where the first nodes are alike, the trees below these are equal, and the others
+nodes_eq_begins : {X S : Type 0} (eq : X → X → Bool) (same : S → S → Bool) (a b : Node X S) (like : Bool) (rest others nodes others' : List (Node X S))
+    → nodes ≡ a ∷ rest → others' ≡ b ∷ others → like ≡ visit_eq eq same (visit a) (visit b)
+    → nodes_eq eq same nodes others' ≡ (like && nodes_eq eq same (children a ++ rest) (children b ++ others))
+nodes_eq_begins eq same a b like rest others nodes others' n o is = rw (n, o, walks_enter a rest, walks_enter b others, is) refl
+
+pub nodes_eq_apart : {X S : Type 0} (eq : X → X → Bool) (same : S → S → Bool) (a b : Node X S) (rest others nodes others' below below' : List (Node X S))
+    → nodes ≡ a ∷ rest → others' ≡ b ∷ others → true ≡ visit_eq eq same (visit a) (visit b) → below ≡ children a → below' ≡ children b
+    → nodes_eq eq same nodes others' ≡ (nodes_eq eq same below below' && nodes_eq eq same rest others)
+nodes_eq_apart eq same a b rest others nodes others' below below' n o is at at' =
+    rw (at, at') (nodes_eq_begins eq same a b true rest others nodes others' n o is
+    ∙ nodes_eq_append eq same (children a) (children b) rest others (children_even eq same a b (sym is)))
+
+pub below_even : {X S : Type 0} (eq : X → X → Bool) (same : S → S → Bool) (a b : Node X S) (below below' : List (Node X S))
+    → true ≡ visit_eq eq same (visit a) (visit b) → below ≡ children a → below' ≡ children b → length below ≡ length below'
+below_even eq same a b below below' is at at' = ap length at ∙ children_even eq same a b (sym is) ∙ sym (ap length at')
+
+pub weights_begin : {X S : Type 0} (a : Node X S) (rest nodes below : List (Node X S)) → nodes ≡ a ∷ rest → below ≡ children a
+    → weights nodes ≡ 1 + (weights below + weights rest)
+weights_begin a rest nodes below n at = rw (n, at) (omega (arith, weight_out a))
+
+-- of two parts that have to be equal one is known
+pub first_unequal : (a b whole : Bool) → whole ≡ (a && b) → false ≡ a → false ≡ whole
+first_unequal a b whole is known = sym (is ∙ ap (λ x. x && b) (sym known))
+
+pub second_unequal : (a b whole : Bool) → whole ≡ (a && b) → false ≡ b → false ≡ whole
+second_unequal false b whole is known = sym is
+second_unequal true b whole is known = known ∙ sym is
+
+pub first_equal : (a b whole : Bool) → whole ≡ (a && b) → true ≡ a → b ≡ whole
+first_equal a b whole is known = sym (is ∙ ap (λ x. x && b) (sym known))
+
+pub second_equal : (a b whole : Bool) → whole ≡ (a && b) → true ≡ b → a ≡ whole
+second_equal false b whole is known = sym is
+second_equal true b whole is known = known ∙ sym is

@@ -58,38 +58,18 @@ weights_append (m ∷ ms) ns = omega (arith, weights_append ms ns)
 entered_falls : (whole below after n m : ℕ) → whole ≡ 1 + (below + after) → m ≡ n + 1 → 2 * (below + after) + m < 2 * whole + n
 entered_falls whole below after n m is longer = omega arith
 
-entered_within : (whole below after bound : ℕ) → whole ≡ 1 + (below + after) → whole ≤ bound → below + after ≤ bound
-entered_within whole below after bound is within = omega arith
-
 pub weights_fall : {X S : Type 0} (inner below rest more later : List (Node X S)) (whole n m : ℕ) → whole ≡ 1 + (weights below + weights (rest ++ more))
     → inner ≡ below → later ≡ rest ++ more → m ≡ n + 1 → 2 * weights (inner ++ later) + m < 2 * whole + n
 weights_fall inner below rest more later whole n m is same aside longer =
     rw (same, aside, weights_append below (rest ++ more)) (entered_falls whole (weights below) (weights (rest ++ more)) n m is longer)
 
-pub weights_within : {X S : Type 0} (inner below rest more later : List (Node X S)) (whole bound : ℕ) → whole ≡ 1 + (weights below + weights (rest ++ more))
-    → inner ≡ below → later ≡ rest ++ more → whole ≤ bound → weights (inner ++ later) ≤ bound
-weights_within inner below rest more later whole bound is same aside within =
-    rw (same, aside, weights_append below (rest ++ more)) (entered_within whole (weights below) (weights (rest ++ more)) bound is within)
-
 -- a tree in hand is done with
 skipped_falls : (whole below after n m : ℕ) → whole ≡ 1 + (below + after) → m ≡ n → 2 * after + m < 2 * whole + n
 skipped_falls whole below after n m is same = omega arith
 
-skipped_within : (whole below after bound : ℕ) → whole ≡ 1 + (below + after) → whole ≤ bound → after ≤ bound
-skipped_within whole below after bound is within = omega arith
-
 pub weights_skip : {X S : Type 0} (below : ℕ) (rest more later : List (Node X S)) (whole n m : ℕ) → whole ≡ 1 + (below + weights (rest ++ more))
     → later ≡ more → m ≡ n → 2 * weights (rest ++ later) + m < 2 * whole + n
 weights_skip below rest more later whole n m is same even = rw same (skipped_falls whole below (weights (rest ++ more)) n m is even)
-
-pub weights_stay : {X S : Type 0} (below : ℕ) (rest more later : List (Node X S)) (whole bound : ℕ) → whole ≡ 1 + (below + weights (rest ++ more))
-    → later ≡ more → whole ≤ bound → weights (rest ++ later) ≤ bound
-weights_stay below rest more later whole bound is same within = rw same (skipped_within whole below (weights (rest ++ more)) bound is within)
-
--- a tree below the first of those in hand weighs less than they all
-pub weights_inside : {X S : Type 0} (inner below : List (Node X S)) (after whole bound : ℕ) → whole ≡ 1 + (weights below + after) → inner ≡ below
-    → whole ≤ bound → weights inner < bound
-weights_inside inner below after whole bound is same within = rw same (omega arith)
 
 -- no tree is in hand, and those that were put aside last are taken again
 turned_falls : (whole n m : ℕ) → n ≡ m + 1 → 2 * whole + m < 2 * whole + n

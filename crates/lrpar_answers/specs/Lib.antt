@@ -8,3 +8,4 @@ pub mod WalkLaws
 pub mod ErrorText
 pub mod LexParseText
 pub mod TreeText
+pub mod Shown

@@ -1,6 +1,8 @@
 //! Trees of lexemes and rules.
 mod copied;
 mod equal;
+pub(crate) mod fewer;
+mod shown;
 
 ghost use Rattle.std.specs.Prelude.{◌≡◌, [], MatchOption};
 
@@ -9,12 +11,14 @@ use std::mem;
 
 /// A tree of lexemes and rules.
 ///
-/// A tree can be as deep as memory allows: `clone`, `==`, `fits` and the drop take time linear in the nodes, and no stack for
-/// a level. The drop takes no memory, the others keep a list with an entry for each level. Where memory is wanting, `clone`
-/// answers so, and `==` and `fits` take stack in place of an entry. `Debug` takes stack for each level.
+/// A tree can be as deep as memory allows: `clone`, `==`, `fits`, `Debug` and the drop take time linear in the nodes, and no
+/// stack for a level. The drop takes no memory. The others keep a list with an entry for each level. If they run out of memory,
+/// `clone` says so, `Debug` is an error, and `==` and `fits` go on without the list: their stack stays bounded, and a tree that is
+/// deep and bushy takes them longer.
+///
+/// `Debug` writes what a derive writes, on one line or, as `{:#?}`, on many.
 ///
 /// As the type has a drop of its own, a pattern looks at a node by reference. `mem::replace` takes the trees out of it.
-#[derive(Debug)]
 pub enum Node<LexemeT, StorageT> {
     /// A lexeme.
     Term {

@@ -7,6 +7,7 @@ ghost use Rattle.lrpar_answers.specs.TreeText.{MetFits, TreeFits, all_met, met_l
 
 use crate::error_text::push_spaces;
 use crate::node::Node;
+use crate::node::fewer::{CALLS, are_fewer};
 use lrpar_grammar::grammar::YaccGrammar;
 use lrpar_grammar::span::{StorageIndex, TIdx};
 use lrpar_lexemes::lex_api::Lexeme;
@@ -15,8 +16,8 @@ use std::alloc::{AllocError, Global};
 impl<LexemeT: Lexeme<StorageT>, StorageT: StorageIndex> Node<LexemeT, StorageT> {
     /// Whether the tree is one of the grammar over the input: its rules are the grammar's, its lexemes have tokens of the
     /// grammar other than the end token, and each lexeme starts and ends between two characters of the input. Takes time
-    /// linear in the tree and no stack for a level; it keeps a list with an entry for each level, and where memory is wanting
-    /// takes stack in place of an entry.
+    /// linear in the tree and no stack for a level; it keeps a list with an entry for each level. If it runs out of memory, it
+    /// goes on without the list: its stack stays bounded, and a tree that is deep and bushy takes it longer.
     pub fn fits(&self, grm: &YaccGrammar<StorageT>, input: &str) -> bool
         ensures { IsTrue result ↔ TreeFits (λ x. facts_of StorageT.index (LexemeT.parts x)) StorageT.index grm.now input.now self.now }
     {
@@ -31,7 +32,7 @@ impl<LexemeT: Lexeme<StorageT>, StorageT: StorageIndex> Node<LexemeT, StorageT> 
 
     /// The text of the tree: a line for each node in front of those of its children, indented by one space a level. A
     /// lexeme's line has its token's name, a space and its part of the input, a rule's line its name. The tree has to fit
-    /// the grammar and the input. It fails only where memory is wanting.
+    /// the grammar and the input. It fails if memory runs out.
     ///
     /// Takes time linear in the text, and beside it a list of as many entries as the tree has levels. However deep the
     /// tree is, the call's own depth stays the same.
@@ -65,8 +66,8 @@ impl<LexemeT: Lexeme<StorageT>, StorageT: StorageIndex> Node<LexemeT, StorageT> 
     }
 }
 
-// Whether these trees fit. A list holds what is left of them, an entry a level. Where it can't grow, the call goes on by itself,
-// one level down.
+// Whether these trees fit. A list holds what is left of them, an entry a level. Where it can't grow, the trees below a node are
+// looked at without one.
 fn all_fit<'a, LexemeT: Lexeme<StorageT>, StorageT: StorageIndex>(
     alloc: Global,
     grm: &YaccGrammar<StorageT>,
@@ -86,7 +87,7 @@ fn all_fit<'a, LexemeT: Lexeme<StorageT>, StorageT: StorageIndex>(
                 match left.push(rest) {
                     Ok(()) => nodes = children(node),
                     Err(_) => {
-                        if !all_fit(alloc, grm, input, children(node)) {
+                        if !fit_by_calls(grm, input, children(node), CALLS) {
                             return false;
                         }
                         nodes = rest;
@@ -99,6 +100,38 @@ fn all_fit<'a, LexemeT: Lexeme<StorageT>, StorageT: StorageIndex>(
             },
         }
     }
+}
+
+// Whether these trees fit, with no list. Behind a node there are the trees below it and those beside it: a call of itself looks
+// at the ones, and the loop goes on with the others. The calls are those below the node, and no deeper than `calls`; from there
+// on they are those of the fewer nodes.
+fn fit_by_calls<'a, LexemeT: Lexeme<StorageT>, StorageT: StorageIndex>(
+    grm: &YaccGrammar<StorageT>,
+    input: &str,
+    mut nodes: &'a [Node<LexemeT, StorageT>],
+    calls: usize,
+) -> bool
+    ensures { IsTrue result ↔ AllByRecursion (MetFits (λ x. facts_of StorageT.index (LexemeT.parts x)) StorageT.index grm.now input.now)
+        (all_met 1 nodes.entry.now) }
+{
+    while let Some((node, rest)) = nodes.split_first() {
+        if !root_fits(grm, input, node) {
+            return false;
+        }
+        let below = children(node);
+        if calls > 0 || are_fewer(below, rest) {
+            if !fit_by_calls(grm, input, below, calls.saturating_sub(1)) {
+                return false;
+            }
+            nodes = rest;
+        } else {
+            if !fit_by_calls(grm, input, rest, 0) {
+                return false;
+            }
+            nodes = below;
+        }
+    }
+    true
 }
 
 // The trees of the node's symbols. A lexeme has none.

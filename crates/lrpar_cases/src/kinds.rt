@@ -5,7 +5,7 @@ use lrpar_case_grammars::{examples, grammars, parts, underlines};
 use lrpar_case_lines::cases::Case;
 use lrpar_case_lines::fault::Fault;
 use lrpar_case_lines::told::Told;
-use lrpar_case_parses::{expected, parse};
+use lrpar_case_parses::{chain, expected, parse};
 use lrpar_case_tables::rows;
 use lrpar_case_tables::subject::Subject;
 use std::alloc::Global;
@@ -23,6 +23,7 @@ pub(crate) fn inputs_of(kind: &str) -> &'static [&'static str] {
         "check" => checks::INPUTS,
         "stack" => stacks::INPUTS,
         "expected" => expected::INPUTS,
+        "chain" => chain::INPUTS,
         "full" | "stored" | "sets" => refusals::INPUTS,
         "underlines" => underlines::INPUTS,
         "examples" => examples::INPUTS,
@@ -50,6 +51,7 @@ pub(crate) fn outcome<R: Files>(
         "check" => checks::outcome(told, alloc, subject, case),
         "stack" => stacks::outcome(told, alloc, subject, case),
         "expected" => expected::outcome(told, alloc, subject, case),
+        "chain" => chain::outcome(told, alloc, subject, case),
         "full" => refusals::outcome_of_rows(told, alloc, case),
         "stored" => refusals::outcome_of_entries(told, alloc, case),
         "sets" => refusals::outcome_of_sets(told, alloc, case),

@@ -18,7 +18,7 @@ use std::process::Abort;
 use std::test::Fail;
 
 /// A tree of the tests.
-type Tree = Node<Token<u32>, u32>;
+pub(crate) type Tree = Node<Token<u32>, u32>;
 
 // A level for each: the first that a drop, a comparison and a clone by recursion have no stack for.
 const LEVELS: usize = 200_000;
@@ -72,8 +72,8 @@ fn levels(tree: &Tree) -> usize {
     levels
 }
 
-// A lexeme below so many rules, each of which has one tree.
-fn chain_of(rt: &impl Abort, alloc: Global, levels: usize) -> Tree {
+/// A lexeme below so many rules, each of which has one tree.
+pub(crate) fn chain_of(rt: &impl Abort, alloc: Global, levels: usize) -> Tree {
     let mut tree: Tree = Node::Term {
         lexeme: Token::new(1, 0, 1),
     };

@@ -8,7 +8,7 @@ use lrpar_grammar::span::RIdx;
 use std::alloc::{AllocError, Global};
 
 impl<LexemeT: Copy, StorageT: Copy> Node<LexemeT, StorageT> {
-    /// The same tree again. It fails only where memory is wanting, and takes one allocation for each rule with children
+    /// The same tree again. It fails if memory runs out, and takes one allocation for each rule with children
     /// and a list with an entry for each level.
     pub fn clone(&self, alloc: Global) -> Result<Self, AllocError>
         ensures equal { IfOk result (λ node. walk node ≡ walk self.now) }

@@ -3,6 +3,7 @@ ghost use Rattle.std.specs.Prelude.{◌≡◌, length};
 ghost use Rattle.lrpar_answers.specs.Walks.{nodes_eq};
 
 use crate::node::Node;
+use crate::node::fewer::{CALLS, are_fewer};
 use std::alloc::Global;
 
 impl<LexemeT: PartialEq, StorageT: PartialEq> PartialEq for Node<LexemeT, StorageT> {
@@ -13,8 +14,7 @@ impl<LexemeT: PartialEq, StorageT: PartialEq> PartialEq for Node<LexemeT, Storag
 
     ghost laws = { node_per LexemeT.PartialEq.laws StorageT.PartialEq.laws };
 
-    // A list holds what is left to compare, by the allocator of the tree's own lists. Where it can't grow, the comparison
-    // takes stack for that level.
+    // A list holds what is left to compare, by the allocator of the tree's own lists.
     fn eq(&self, other: &Self) -> bool {
         if !self.is_like(other) {
             return false;
@@ -39,7 +39,7 @@ impl<LexemeT, StorageT> Node<LexemeT, StorageT> {
     ghost use Rattle.lrpar_answers.specs.Walks.{visit, children};
 
     // The trees of the node's symbols. A lexeme has none.
-    fn children(&self) -> &[Node<LexemeT, StorageT>]
+    pub(super) fn children(&self) -> &[Node<LexemeT, StorageT>]
         ensures children { result.now ≡ children self.now }
     {
         match self {
@@ -76,8 +76,8 @@ struct Pair<'a, LexemeT, StorageT> {
     others: &'a [Node<LexemeT, StorageT>],
 }
 
-// Whether as many nodes are equal one by one. A list holds what is left to compare, an entry a level. Where it can't grow,
-// the call goes on by itself, one level down.
+// Whether as many nodes are equal one by one. A list holds what is left to compare, an entry a level. Where it can't grow, the
+// trees below a node are compared without one.
 fn are_equal<'a, LexemeT: PartialEq, StorageT: PartialEq>(
     alloc: Global,
     mut nodes: &'a [Node<LexemeT, StorageT>],
@@ -103,7 +103,7 @@ fn are_equal<'a, LexemeT: PartialEq, StorageT: PartialEq>(
                         others = other.children();
                     }
                     Err(_) => {
-                        if !are_equal(alloc, node.children(), other.children()) {
+                        if !equal_by_calls(node.children(), other.children(), CALLS) {
                             return false;
                         }
                         nodes = rest;
@@ -121,4 +121,41 @@ fn are_equal<'a, LexemeT: PartialEq, StorageT: PartialEq>(
             _ => return false,
         }
     }
+}
+
+// Whether as many nodes are equal one by one, with no list. Behind a node there are the trees below it and those beside it: a
+// call of itself compares the ones, and the loop goes on with the others. The calls are those below the node, and no deeper
+// than `calls`; from there on they are those of the fewer nodes.
+fn equal_by_calls<'a, LexemeT: PartialEq, StorageT: PartialEq>(
+    mut nodes: &'a [Node<LexemeT, StorageT>],
+    mut others: &'a [Node<LexemeT, StorageT>],
+    calls: usize,
+) -> bool
+    requires even { length nodes.now ≡ length others.now }
+    ensures { result ≡ nodes_eq LexemeT.PartialEq.eq StorageT.PartialEq.eq nodes.entry.now others.entry.now }
+{
+    while let (Some((node, rest)), Some((other, other_rest))) = (
+        nodes.split_first(),
+        others.split_first(),
+    ) {
+        if !node.is_like(other) {
+            return false;
+        }
+        let below = node.children();
+        let other_below = other.children();
+        if calls > 0 || are_fewer(below, rest) {
+            if !equal_by_calls(below, other_below, calls.saturating_sub(1)) {
+                return false;
+            }
+            nodes = rest;
+            others = other_rest;
+        } else {
+            if !equal_by_calls(rest, other_rest, 0) {
+                return false;
+            }
+            nodes = below;
+            others = other_below;
+        }
+    }
+    true
 }

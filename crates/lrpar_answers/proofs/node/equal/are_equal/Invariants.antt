@@ -1,12 +1,8 @@
-use Rattle.std.proofs.Common.{◌≡◌, length, ◌+◌, ◌*◌, ◌≤◌, ◌++◌, All}
+use Rattle.std.proofs.Common.{◌≡◌, length, ◌+◌, ◌*◌, ◌++◌, All}
 use Rattle.lrpar_answers.specs.Walks.{nodes_eq}
 use Rattle.lrpar_answers.proofs.WeightLemmas.{weights}
 use Rattle.lrpar_answers.proofs.PairLemmas.{IsEven, later_nodes, later_others}
-use Rattle.lrpar_answers.proofs.node.equal.+are_equal.Given as goal
-
--- the nodes of the first list, those of its trees among them
-abbrev pub decreases-are_equal : goal.decreases-are_equal
-decreases-are_equal g l = weights l.nodes.now
+use Rattle.lrpar_answers.proofs.node.equal.are_equal.Given as goal
 
 abbrev pub invariant-loop-node : goal.invariant-loop-node
 invariant-loop-node g l = record {
@@ -14,7 +10,6 @@ invariant-loop-node g l = record {
       ≡ nodes_eq g.LexemeT.PartialEq.eq g.StorageT.PartialEq.eq l.fn.nodes l.fn.others;
   even : length l.nodes ≡ length l.others;
   pairs : All IsEven l.left.items;
-  below : weights (l.nodes ++ later_nodes l.left.items) ≤ weights l.fn.nodes;
 }
 
 abbrev pub decreases-loop-node : goal.decreases-loop-node

@@ -1,15 +1,14 @@
-use Rattle.std.proofs.Common.{◌+◌, ◌*◌, ◌≤◌, ◌++◌, length}
+use Rattle.std.proofs.Common.{◌≤◌}
 use Rattle.std.specs.Prelude.{◌↔◌}
 use Rattle.std.specs.List.{AllByRecursion}
 use Rattle.lrpar_lexemes.specs.Lexemes.{facts_of}
 use Rattle.lrpar_answers.specs.TreeText.{MetFits, all_met}
 use Rattle.lrpar_answers.proofs.WeightLemmas.{weights}
-use Rattle.lrpar_answers.proofs.FitsLemmas.{later_trees}
-use Rattle.lrpar_answers.proofs.tree_text.+all_fit.Given as goal
+use Rattle.lrpar_answers.proofs.tree_text.+fit_by_calls.Given as goal
 
 -- the nodes of the trees
-abbrev pub decreases-all_fit : goal.decreases-all_fit
-decreases-all_fit g l = weights l.nodes.now
+abbrev pub decreases-fit_by_calls : goal.decreases-fit_by_calls
+decreases-fit_by_calls g l = weights l.nodes.now
 
 -- what is left fits exactly where the trees do
 abbrev pub invariant-loop-node : goal.invariant-loop-node
@@ -18,10 +17,10 @@ invariant-loop-node g l =
     let facts = λ (x : g.row.LexemeT.Denot). facts_of index (g.LexemeT.Lexeme.parts x) in
     let P = MetFits facts index l.grm l.input in
     record {
-      fits : AllByRecursion P (all_met 1 (l.nodes ++ later_trees l.left.items)) ↔ AllByRecursion P (all_met 1 l.fn.nodes);
-      below : weights (l.nodes ++ later_trees l.left.items) ≤ weights l.fn.nodes;
+      fits : AllByRecursion P (all_met 1 l.nodes) ↔ AllByRecursion P (all_met 1 l.fn.nodes);
+      below : weights l.nodes ≤ weights l.fn.nodes;
     }
 
--- the nodes that are left, and the levels to go back to
+-- the nodes that are left
 abbrev pub decreases-loop-node : goal.decreases-loop-node
-decreases-loop-node g l = 2 * weights (l.nodes ++ later_trees l.left.items) + length l.left.items
+decreases-loop-node g l = weights l.nodes
