@@ -1,18 +1,18 @@
 -- What a parse answers, taken apart: memory aside there is an answer of the lexer, and the parse goes one of two ways over it.
-use Rattle.std.proofs.Common.{◌≡◌, ◌<◌, ◌≤◌, ◌+◌, ◌⊎◌, ℕ, List, [], ◌∷◌, None, Option, Result, Ok, Err, Some, IfErr, IfOk, ap, arith, inl, inr, refl, subst, sym, ◌∙◌}
+use Rattle.std.proofs.Common.{◌≡◌, ◌<◌, ◌≤◌, ◌+◌, ℕ, List, [], ◌∷◌, None, Option, Result, Ok, Err, Some, IfErr, IfOk, ap, arith, inl, inr, refl, ◌∙◌}
 use Rattle.std.proofs.lemmas.Option.{slice_get_within}
-use Rattle.std.specs.Prelude.{length, slice_get}
+use Rattle.std.specs.Prelude.{slice_get}
 use Rattle.lrpar_answers.specs.declared.errors.LexParseError.{LexParseError}
 use Rattle.lrpar_answers.specs.declared.errors.LexParseError.TheVariants.{LexError}
 use Rattle.lrpar_course.specs.RepairAnswer.{IsRepairAnswer}
 use Rattle.lrpar_course.specs.Subject.{Subject}
 use Rattle.lrpar_grammar.specs.Grammar.{Grammar, end_token}
-use Rattle.lrpar_grammar.specs.Sentence.{HasBadToken, HasEarlyStart, IsFirstBadToken, IsFirstEarlyStart, IsValidList, LexemeFacts}
+use Rattle.lrpar_grammar.specs.Sentence.{HasBadToken, HasEarlyStart, IsValidList, LexemeFacts}
 use Rattle.lrpar_parser.specs.Lexed.{first_error, lexemes_of}
 use Rattle.lrpar_parser.specs.Parse.{IsParse, Parses}
 use Rattle.lrpar_steps.specs.declared.fault.ParseFault.{ParseFault}
 use Rattle.lrpar_steps.specs.declared.fault.ParseFault.TheVariants.{BadToken, Memory, StartsDecrease}
-use Rattle.lrpar_test_headline.specs.Answered.{HasFaultyLexeme, IsDueRefusal, OfAnswer}
+use Rattle.lrpar_test_headline.specs.Answered.{IsDueRefusal, OfAnswer}
 
 -- an answer is no refusal
 ok_no_err : {A F : Type 0} (x : A) (f : F) → ◌≡◌ {A = Result A F} (Ok x) (Err f) → ⊥

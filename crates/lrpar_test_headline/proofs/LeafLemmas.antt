@@ -1,5 +1,5 @@
 -- The leaves of a tree of the program are those of the derivation tree that tells it; and a run without an error consumes all lexemes.
-use Rattle.std.proofs.Common.{rules, ◌≡◌, ◌∙◌, ◌++◌, ℕ, List, [], ◌∷◌, MatchOption, None, Option, Result, Some, Vec, ap, drop, length, map, refl, subst, sym}
+use Rattle.std.proofs.Common.{rules, ◌≡◌, ◌∙◌, ◌++◌, ℕ, List, [], ◌∷◌, MatchOption, None, Option, Result, Some, Vec, ap, drop, length, refl, subst, sym}
 use Rattle.std.proofs.lemmas.List.{length-map}
 use Rattle.std.specs.List.{AllZip}
 use Rattle.lrpar_answers.specs.declared.errors.LexParseError.{LexParseError}
@@ -7,10 +7,10 @@ use Rattle.lrpar_answers.specs.declared.errors.LexParseError.TheVariants.{LexErr
 use Rattle.lrpar_answers.specs.declared.node.Node.{Node}
 use Rattle.lrpar_answers.specs.declared.node.Node.TheFolds.{fold_out-Node, map-Node}
 use Rattle.lrpar_answers.specs.declared.node.Node.TheOpen.{Node-F}
-use Rattle.lrpar_answers.specs.declared.node.Node.TheVariants.{Term, Nonterm}
+use Rattle.lrpar_answers.specs.declared.node.Node.TheVariants.{Term}
 use Rattle.lrpar_answers.specs.declared.node.Node.TheViews.{out-Node, the_lemmas}
 use Rattle.lrpar_answers.specs.Visits.{Visit, Met, Entered}
-use Rattle.lrpar_answers.specs.Walks.{children, joined, layer_children, layer_visit, visit, walk, walk_step, walks}
+use Rattle.lrpar_answers.specs.Walks.{children, layer_children, layer_visit, visit, walk, walk_step, walks}
 use Rattle.lrpar_course.specs.Folds.{Folds, ForestFolds}
 use Rattle.lrpar_course.specs.Nodes.{IsNonterm, IsTerm}
 use Rattle.lrpar_course.specs.RepairAnswer.{IsRepairErrorOf}
@@ -20,7 +20,7 @@ use Rattle.lrpar_course.specs.Subject.{Subject}
 use Rattle.lrpar_grammar.specs.Grammar.{Grammar, rule_of}
 use Rattle.lrpar_grammar.specs.Sentence.{LexemeFacts}
 use Rattle.lrpar_grammar.specs.Tree.{Forest, Tree, Branch, Cons, Leaf, Nil, forest_leaves, leaves}
-use Rattle.lrpar_parser.specs.Lexed.{first_error, lexemes_of}
+use Rattle.lrpar_parser.specs.Lexed.{lexemes_of}
 use Rattle.lrpar_states.specs.Table.{Table}
 use Rattle.lrpar_steps.specs.Recovery.{Point}
 use Rattle.lrpar_steps.specs.Sequences.{PlainStep}

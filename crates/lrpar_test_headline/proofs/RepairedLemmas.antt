@@ -2,21 +2,18 @@
 use Rattle.std.proofs.Common.{◌≡◌, ◌≢◌, ◌+◌, ◌∙◌, ◌↔◌, ◌++◌, ℕ, List, [], ◌∷◌, All, IsSome, IfOk, IfSome, None, Option, Result, Some, Vec, ap, arith, drop, false, true, map, option_map, refl, subst, sym}
 use Rattle.std.proofs.lemmas.List.Elements.{All-nil, All-cons, All-head, All-tail}
 use Rattle.std.specs.List.{AllZip}
-use Rattle.lrpar_answers.specs.Failure.{Failure}
 use Rattle.lrpar_answers.specs.declared.errors.LexParseError.{LexParseError}
 use Rattle.lrpar_answers.specs.declared.errors.LexParseError.TheVariants.{LexError, ParseError}
-use Rattle.lrpar_course.specs.RepairAnswer.{IsRepairAnswer, IsRepairErrorOf}
+use Rattle.lrpar_course.specs.RepairAnswer.{IsRepairErrorOf}
 use Rattle.lrpar_course.specs.RepairRun.{RepairRun, RepairStop, ends_there, fed_between, is_repaired, runs_through}
-use Rattle.lrpar_course.specs.RunAnswer.{HasValue, IsValueOf}
+use Rattle.lrpar_course.specs.RunAnswer.{HasValue}
 use Rattle.lrpar_course.specs.Subject.{Subject}
 use Rattle.lrpar_grammar.specs.Grammar.{Grammar}
 use Rattle.lrpar_grammar.specs.Sentence.{LexemeFacts}
 use Rattle.lrpar_grammar.specs.Tree.{Tree, leaves}
-use Rattle.lrpar_lexemes.specs.Repair.{Repair}
 use Rattle.lrpar_parser.specs.Lexed.{first_error, lexemes_of}
 use Rattle.lrpar_parser.specs.RepairLaws.{AcceptsWhereRepaired}
 use Rattle.lrpar_states.specs.Table.{Table}
-use Rattle.lrpar_stacks.specs.Run.{token_at}
 use Rattle.lrpar_steps.specs.Mended.{repairs_over}
 use Rattle.lrpar_steps.specs.Recovery.{Point}
 use Rattle.lrpar_steps.specs.Replays.{places_of}

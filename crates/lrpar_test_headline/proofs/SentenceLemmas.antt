@@ -3,16 +3,14 @@
 use Rattle.std.proofs.lemmas.Bool.{eqb-true}
 use Rattle.std.proofs.lemmas.List.{nil_from_length}
 use Rattle.std.proofs.lemmas.Result.{IfOk-at_ok}
-use Rattle.std.proofs.Common.{Bool, IsTrue, Ok, ◌==◌, eq-eqb, vec_len, ◌≡◌, ◌≤◌, ◌∙◌, ◌⊎◌, ◌↔◌, ℕ, List, [], ◌∷◌, IsSome, MatchOption, None, Option, Result, Some, Vec, ap, arith, false, inl, inr, length, refl, subst, sym, true}
+use Rattle.std.proofs.Common.{Bool, IsTrue, Ok, ◌==◌, eq-eqb, vec_len, ◌≡◌, ◌≤◌, ◌∙◌, ◌↔◌, ℕ, List, [], ◌∷◌, IsSome, MatchOption, None, Option, Result, Some, Vec, ap, arith, false, inl, inr, length, refl, subst, sym, true}
 use Rattle.lrpar_answers.specs.declared.errors.LexParseError.{LexParseError}
 use Rattle.lrpar_answers.specs.declared.errors.LexParseError.TheVariants.{LexError, ParseError}
 use Rattle.lrpar_complete.specs.Complete.{IsComplete}
 use Rattle.lrpar_course.specs.CompleteAnswer.{IsTreeOver}
-use Rattle.lrpar_course.specs.RepairAnswer.{HandsInNone, IsRepairAnswer}
-use Rattle.lrpar_course.specs.RunAnswer.{HasValue, IsOneWay, IsValueOf}
+use Rattle.lrpar_course.specs.RepairAnswer.{HandsInNone}
+use Rattle.lrpar_course.specs.RunAnswer.{HasValue, IsOneWay}
 use Rattle.lrpar_course.specs.Subject.{Subject}
-use Rattle.lrpar_grammar.specs.Grammar.{Grammar}
-use Rattle.lrpar_grammar.specs.Sentence.{IsSentence}
 use Rattle.lrpar_grammar.specs.Tree.{Tree}
 use Rattle.lrpar_parser.specs.Lexed.{first_error, lexemes_of}
 use Rattle.lrpar_parser.specs.Parse.{Parses}

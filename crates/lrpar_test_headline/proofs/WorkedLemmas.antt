@@ -1,10 +1,10 @@
 -- The errors of a parse by a recoverer with one answer list those that work of it.
-use Rattle.std.proofs.Common.{IfOk, Vec, ◌≡◌, ◌≢◌, ◌∙◌, ◌⊎◌, ◌<◌, ℕ, suc, zero, List, [], ◌∷◌, None, Option, Result, Some, ap, arith, drop, inl, inr, length, map, refl, subst, sym}
+use Rattle.std.proofs.Common.{IfOk, Vec, ◌≡◌, ◌∙◌, ◌⊎◌, ℕ, suc, zero, List, [], ◌∷◌, None, Option, Result, Some, ap, arith, inl, inr, map, refl, subst, sym}
 use Rattle.std.specs.List.{AllZip, Contains}
 use Rattle.lrpar_answers.specs.Failure.{Failure}
 use Rattle.lrpar_answers.specs.declared.errors.LexParseError.{LexParseError}
 use Rattle.lrpar_answers.specs.declared.errors.LexParseError.TheVariants.{LexError, ParseError}
-use Rattle.lrpar_course.specs.RepairAnswer.{IsRepairAnswer, IsRepairErrorOf}
+use Rattle.lrpar_course.specs.RepairAnswer.{IsRepairErrorOf}
 use Rattle.lrpar_course.specs.RepairRun.{IsListedAt, IsRepairFailure, RepairRun, RepairStop, ends_there, is_repaired, runs_through}
 use Rattle.lrpar_course.specs.Subject.{Subject}
 use Rattle.lrpar_lexemes.specs.Repair.{Repair}

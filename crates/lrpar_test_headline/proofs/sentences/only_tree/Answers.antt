@@ -1,4 +1,4 @@
-use Rattle.std.proofs.Common.{◌≡◌, subst, sym}
+use Rattle.std.proofs.Common.{subst, sym}
 use Rattle.lrpar_check.specs.Checked.{Checked}
 use Rattle.lrpar_complete.specs.Complete.{IsComplete}
 use Rattle.lrpar_course.specs.Folds.{Folds}
