@@ -1,4 +1,4 @@
--- What a parse answers, taken apart: memory aside there is an answer of the lexer, and the parse goes one of two ways over it.
+-- What a parse answers, taken apart: unless memory ran out there is an answer of the lexer, and the parse goes one of two ways over it.
 use Rattle.std.proofs.Common.{◌≡◌, ◌<◌, ◌≤◌, ◌+◌, ℕ, List, [], ◌∷◌, None, Option, Result, Ok, Err, Some, IfErr, IfOk, ap, arith, inl, inr, refl, ◌∙◌}
 use Rattle.std.proofs.lemmas.Option.{slice_get_within}
 use Rattle.std.specs.Prelude.{slice_get}
@@ -57,7 +57,7 @@ early_is_faulty g lexemes i (j, x, y, next, before, at, early) valid =
     let ordered : x.span.start ≤ y.span.start = valid.starts j x y (slice_get_within lexemes (j + 1) y there) before there in
     omega (arith, ordered, early)
 
--- a parse is refused for want of memory or for a lexeme that has a fault
+-- a parse is refused because memory ran out, or because a lexeme has a fault
 module _ {T S L B C : Type 0} (about : Subject B) (lexes : List (Result B C) → Type 0) (errors_of : T → List (LexParseError S L B C)) (IsValued : Option (List B) → List ℕ → T → Type 0) where
   pub due_refusal : (result : Result T ParseFault) → Parses about lexes errors_of IsValued result → IfErr result (IsDueRefusal about.facts about.checked.grammar lexes)
   due_refusal (Ok answer) parses = tt
