@@ -1,5 +1,5 @@
 -- The leaves of a tree of the program are those of the derivation tree that tells it; and a run without an error consumes all lexemes.
-use Rattle.std.proofs.Common.{rules, ◌≡◌, ◌∙◌, ◌++◌, ℕ, List, [], ◌∷◌, MatchOption, None, Option, Result, Some, Vec, ap, drop, length, refl, subst, sym}
+use Rattle.std.proofs.Common.{rules, ◌≡◌, ◌∙◌, ◌++◌, ℕ, List, [], ◌∷◌, IfOk, MatchOption, None, Option, Result, Some, Vec, ap, drop, length, refl, subst, sym}
 use Rattle.std.proofs.lemmas.List.{length-map}
 use Rattle.std.specs.List.{AllZip}
 use Rattle.lrpar_answers.specs.declared.errors.LexParseError.{LexParseError}
@@ -24,7 +24,10 @@ use Rattle.lrpar_parser.specs.Lexed.{lexemes_of}
 use Rattle.lrpar_states.specs.Table.{Table}
 use Rattle.lrpar_steps.specs.Recovery.{Point}
 use Rattle.lrpar_steps.specs.Sequences.{PlainStep}
-use Rattle.lrpar_test_headline.proofs.AnswerLemmas.{Goes, by_error, by_run}
+use Rattle.lrpar_parser.specs.Parse.{ParsesTo}
+use Rattle.lrpar_steps.specs.declared.fault.ParseFault.{ParseFault}
+use Rattle.lrpar_test_headline.proofs.AnswerLemmas.{Goes, by_error, by_run, of_answer}
+use Rattle.lrpar_test_headline.specs.Answered.{OfAnswer}
 use Rattle.lrpar_test_headline.specs.Leaves.{HasLeaves, lexemes_met, node_leaves}
 
 -- one layer of a walk
@@ -99,7 +102,7 @@ value_leaves index token g lexemes (Some xs) prods answer all (node, is, of) =
     (node, is, told_leaves index g of.tree node of.tells ∙ (of.leaves_are ∙ same))
 
 -- where no error came there is a tree, and its leaves are the lexemes
-pub tree_over_lexemes : {S L B C Z : Type 0} (index : S → ℕ) (about : Subject B) (lexed : List (Result B C)) (answer : Option (Node B S) × Vec (LexParseError S L B C) Z)
+tree_over_lexemes : {S L B C Z : Type 0} (index : S → ℕ) (about : Subject B) (lexed : List (Result B C)) (answer : Option (Node B S) × Vec (LexParseError S L B C) Z)
     → Goes about (λ a. a.1.items) (HasValue (λ x. (about.facts x).token) about.checked.grammar (Folds IsTerm (IsNonterm index) about.checked.grammar)) lexed answer
     → answer.1.items ≡ [] → MatchOption answer.0 ⊥ (λ node. HasLeaves node lexed)
 tree_over_lexemes index about lexed answer (by_error error some errors no_value) none =
@@ -111,3 +114,12 @@ tree_over_lexemes index about lexed answer (by_run no_error is) none =
     (no_stops (IsRepairErrorOf about (lexemes_of lexed)) course.stops answer.1.items is.errors none) in
     let found = value_leaves index (λ x. (about.facts x).token) about.checked.grammar (lexemes_of lexed) course.consumed course.prods answer all is.value in
     subst (λ o. MatchOption o ⊥ (λ node. HasLeaves node lexed)) (sym found.1) (record { no_error = no_error; leaves_are = found.2 })
+
+-- and so of what a parse answers
+pub trees_over_lexemes : {S L B C Z : Type 0} (index : S → ℕ) (about : Subject B) (lexes : List (Result B C) → Type 0)
+    (result : Result (Option (Node B S) × Vec (LexParseError S L B C) Z) ParseFault) → ParsesTo about lexes (Folds IsTerm (IsNonterm index) about.checked.grammar) result
+    → IfOk result (λ answer. OfAnswer lexes (λ lexed. answer.1.items ≡ [] → MatchOption answer.0 ⊥ (λ node. HasLeaves node lexed)))
+trees_over_lexemes index about lexes result parses =
+    of_answer about lexes (λ a. a.1.items) (HasValue (λ x. (about.facts x).token) about.checked.grammar (Folds IsTerm (IsNonterm index) about.checked.grammar))
+    (λ answer lexed. answer.1.items ≡ [] → MatchOption answer.0 ⊥ (λ node. HasLeaves node lexed))
+    (λ lexed answer goes. tree_over_lexemes index about lexed answer goes) result parses

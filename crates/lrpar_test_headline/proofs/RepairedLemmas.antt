@@ -20,7 +20,8 @@ use Rattle.lrpar_steps.specs.Replays.{places_of}
 use Rattle.lrpar_steps.specs.Sequences.{PlainStep, PlainInsert, PlainDelete, PlainShift, Replays}
 use Rattle.lrpar_parser.specs.Parse.{ParsesTo}
 use Rattle.lrpar_steps.specs.declared.fault.ParseFault.{ParseFault}
-use Rattle.lrpar_test_headline.proofs.AnswerLemmas.{Goes, by_error, by_run, of_any}
+use Rattle.lrpar_test_headline.proofs.AnswerLemmas.{Goes, by_error, by_run, of_answer, of_any}
+use Rattle.lrpar_test_headline.specs.Answered.{OfAnswer}
 use Rattle.lrpar_test_headline.specs.Repaired.{AsFirstRepaired, IsValueOfRepaired, ListsRepair}
 
 -- what is there is something
@@ -110,7 +111,7 @@ mapped_from f None y e = absurd (let no : ⊥ = cc in no)
 mapped_from f (Some x) y e = (x, refl, cc)
 
 -- what a run consumes are the lexemes as first repaired
-pub consumes_repaired : {X : Type 0} (facts : X → LexemeFacts) (allows : Point X → List (List PlainStep) → Type 0) (k : ℕ) (g : Grammar) (table : Table) (lexemes : List X)
+consumes_repaired : {X : Type 0} (facts : X → LexemeFacts) (allows : Point X → List (List PlainStep) → Type 0) (k : ℕ) (g : Grammar) (table : Table) (lexemes : List X)
     (st : List ℕ) (i : ℕ) (stops : List RepairStop) (consumed : Option (List X)) (prods : List ℕ) (xs : List X)
     → RepairRun facts allows k g table lexemes st i stops consumed prods → consumed ≡ Some xs → AsFirstRepaired facts lexemes i stops xs
 consumes_repaired facts allows k g table lexemes _ _ _ _ _ xs (runs_through st i prods far) is = cc
@@ -142,9 +143,18 @@ value_repaired about Tells lexed answer stops (Some xs) prods (Some value) none 
       tells = subst (Tells of.tree) same of.tells;
     }
 
-pub value_of_repaired : {V S L B C Z : Type 0} (about : Subject B) (Tells : Tree B → V → Type 0) (lexed : List (Result B C)) (answer : Option V × Vec (LexParseError S L B C) Z)
+value_of_repaired : {V S L B C Z : Type 0} (about : Subject B) (Tells : Tree B → V → Type 0) (lexed : List (Result B C)) (answer : Option V × Vec (LexParseError S L B C) Z)
     → Goes about (λ a. a.1.items) (HasValue (λ x. (about.facts x).token) about.checked.grammar Tells) lexed answer
     → IfSome answer.0 (IsValueOfRepaired about Tells lexed answer.1.items)
 value_of_repaired {V = V} about Tells lexed answer (by_error error some errors none) = subst (λ (o : Option V). IfSome o (IsValueOfRepaired about Tells lexed answer.1.items)) (sym none) tt
 value_of_repaired about Tells lexed answer (by_run none is) =
     value_repaired about Tells lexed answer is.course.stops is.course.consumed is.course.prods answer.0 none is.errors is.course.run is.value refl
+
+-- and so of what a parse answers
+pub values_of_repaired : {V S L B C Z : Type 0} (about : Subject B) (lexes : List (Result B C) → Type 0) (Tells : Tree B → V → Type 0)
+    (result : Result (Option V × Vec (LexParseError S L B C) Z) ParseFault) → ParsesTo about lexes Tells result
+    → IfOk result (λ answer. OfAnswer lexes (λ lexed. IfSome answer.0 (IsValueOfRepaired about Tells lexed answer.1.items)))
+values_of_repaired about lexes Tells result parses =
+    of_answer about lexes (λ a. a.1.items) (HasValue (λ x. (about.facts x).token) about.checked.grammar Tells)
+    (λ answer lexed. IfSome answer.0 (IsValueOfRepaired about Tells lexed answer.1.items))
+    (λ lexed answer goes. value_of_repaired about Tells lexed answer goes) result parses

@@ -3,19 +3,19 @@
 use Rattle.std.proofs.lemmas.Bool.{eqb-true}
 use Rattle.std.proofs.lemmas.List.{nil_from_length}
 use Rattle.std.proofs.lemmas.Result.{IfOk-at_ok}
-use Rattle.std.proofs.Common.{Bool, IsTrue, Ok, ◌==◌, eq-eqb, vec_len, ◌≡◌, ◌≤◌, ◌∙◌, ◌↔◌, ℕ, List, [], ◌∷◌, IsSome, MatchOption, None, Option, Result, Some, Vec, ap, arith, false, inl, inr, length, refl, subst, sym, true}
+use Rattle.std.proofs.Common.{IfOk, Bool, IsTrue, Ok, ◌==◌, eq-eqb, vec_len, ◌≡◌, ◌≤◌, ◌∙◌, ◌↔◌, ℕ, List, [], ◌∷◌, IsSome, MatchOption, None, Option, Result, Some, Vec, ap, arith, false, inl, inr, length, refl, subst, sym, true}
 use Rattle.lrpar_answers.specs.declared.errors.LexParseError.{LexParseError}
 use Rattle.lrpar_answers.specs.declared.errors.LexParseError.TheVariants.{LexError, ParseError}
 use Rattle.lrpar_complete.specs.Complete.{IsComplete}
 use Rattle.lrpar_course.specs.CompleteAnswer.{IsTreeOver}
 use Rattle.lrpar_course.specs.RepairAnswer.{HandsInNone}
-use Rattle.lrpar_course.specs.RunAnswer.{HasValue, IsOneWay}
+use Rattle.lrpar_course.specs.RunAnswer.{HasNoValue, HasValue, IsOneWay}
 use Rattle.lrpar_course.specs.Subject.{Subject}
 use Rattle.lrpar_grammar.specs.Tree.{Tree}
 use Rattle.lrpar_parser.specs.Lexed.{first_error, lexemes_of}
-use Rattle.lrpar_parser.specs.Parse.{Parses}
+use Rattle.lrpar_parser.specs.Parse.{Parses, ParsesToErrors}
 use Rattle.lrpar_steps.specs.declared.fault.ParseFault.{ParseFault}
-use Rattle.lrpar_test_headline.proofs.AnswerLemmas.{Goes, by_error, by_run, of_answer}
+use Rattle.lrpar_test_headline.proofs.AnswerLemmas.{Goes, by_error, by_run, of_answer, of_any}
 use Rattle.lrpar_test_headline.specs.Answered.{OfAnswer}
 use Rattle.lrpar_test_headline.specs.Sentences.{AnswersSentence, IsOfOnlyTree}
 
@@ -27,7 +27,7 @@ one_not_none : {A : Type 0} (xs : List A) (x : A) → xs ≡ x ∷ [] → xs ≡
 one_not_none xs x one none = let differ : x ∷ [] ≡ [] = sym one ∙ none in cc
 
 -- no error, exactly where the lexemes are a sentence
-pub no_error_where_sentence : {T S L B C : Type 0} (about : Subject B) (errors_of : T → List (LexParseError S L B C)) (IsValued : Option (List B) → List ℕ → T → Type 0)
+no_error_where_sentence : {T S L B C : Type 0} (about : Subject B) (errors_of : T → List (LexParseError S L B C)) (IsValued : Option (List B) → List ℕ → T → Type 0)
     → IsComplete about.checked.grammar about.checked.graph about.checked.table → (lexed : List (Result B C)) (answer : T) → Goes about errors_of IsValued lexed answer
     → (errors_of answer ≡ []) ↔ AnswersSentence (λ x. (about.facts x).token) about.checked.grammar lexed
 no_error_where_sentence about errors_of IsValued complete lexed answer (by_error error some errors no_value) = (
@@ -45,11 +45,18 @@ one_way_few : {S L B C Y : Type 0} (consumed : Option Y) (errors : List (LexPars
 one_way_few consumed errors (inl through) = let none : length errors ≡ 0 = ap length through.1 in omega (arith, none)
 one_way_few consumed errors (inr (stopped, (failure, one))) = let so : length errors ≡ 1 = ap length one in omega (arith, so)
 
-pub one_error_at_most : {T S L B C : Type 0} (about : Subject B) (errors_of : T → List (LexParseError S L B C)) (IsValued : Option (List B) → List ℕ → T → Type 0)
+one_error_at_most : {T S L B C : Type 0} (about : Subject B) (errors_of : T → List (LexParseError S L B C)) (IsValued : Option (List B) → List ℕ → T → Type 0)
     → HandsInNone about.allows → (lexed : List (Result B C)) (answer : T) → Goes about errors_of IsValued lexed answer → length (errors_of answer) ≤ 1
 one_error_at_most about errors_of IsValued nothing lexed answer (by_error error some errors no_value) =
     let so : length (errors_of answer) ≡ 1 = ap length errors in omega (arith, so)
 one_error_at_most about errors_of IsValued nothing lexed answer (by_run none is) = one_way_few is.course.consumed (errors_of answer) (is.one_way nothing)
+
+-- and so of what a parse answers
+pub errors_are_few : {S L B C Z : Type 0} (about : Subject B) (lexes : List (Result B C) → Type 0) → HandsInNone about.allows
+    → (result : Result (Vec (LexParseError S L B C) Z) ParseFault) → ParsesToErrors about lexes result → IfOk result (λ errors. length errors.items ≤ 1)
+errors_are_few about lexes nothing result parses =
+    of_any about lexes (λ errors. errors.items) HasNoValue (λ errors. length errors.items ≤ 1)
+    (λ lexed errors goes. one_error_at_most about (λ found. found.items) HasNoValue nothing lexed errors goes) result parses
 
 -- the token of a lexeme
 abbrev token : {B : Type 0} → Subject B → B → ℕ
@@ -79,7 +86,7 @@ module _ {V S L B C Z : Type 0} (about : Subject B) (Tells : Tree B → V → Ty
       let tree_is : of.tree ≡ tree = one of.tree tree (record { fits = of.fits; leaves_are = of.leaves_are ∙ same }) over in
       subst (λ (o : Option V). MatchOption o ⊥ (Tells tree)) (sym is) (subst (λ (t : Tree B). Tells t value) tree_is of.tells)
 
-  pub only_tree : IsComplete about.checked.grammar about.checked.graph about.checked.table → HandsInNone about.allows
+  only_tree : IsComplete about.checked.grammar about.checked.graph about.checked.table → HandsInNone about.allows
       → (answer : Option V × Vec (LexParseError S L B C) Z) → Goes about (λ a. a.1.items) (HasValue (token about) about.checked.grammar Tells) lexed answer
       → IsOfOnlyTree (token about) about.checked.grammar Tells answer.0 lexed
   only_tree complete nothing answer (by_error error some errors no_value) = record {

@@ -18,4 +18,5 @@ returns g c =
     (λ (p : Parser (List (List PlainStep))). IfOk c.parse_noaction.result (λ errors. OfAnswer (g.L.Lexer.allows c.args.lexer.now) (λ lexed. first_error lexed ≡ None →
     EachListsWhatWorks (subject index parts (λ recoverer _ answer. answer ≡ recoverer) p) p.recoverer (lexemes_of lexed) errors.items)))
     parser
-    (errors_list_what_works _ _ c.recoverer-parser.result.recoverer (λ point answer is. is) c.parse_noaction.result c.parse_noaction.ensures.parse)
+    (errors_list_what_works (subject g.StorageT.StorageIndex.index g.LexerTypesT.LexemeT.Lexeme.parts (λ recoverer _ answer. answer ≡ recoverer) c.recoverer-parser.result)
+    (g.L.Lexer.allows c.args.lexer.now) c.recoverer-parser.result.recoverer (λ point answer is. is) c.parse_noaction.result c.parse_noaction.ensures.parse)
