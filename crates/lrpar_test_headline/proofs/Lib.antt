@@ -1,0 +1,5 @@
+pub mod AnswerLemmas
+pub mod RepairedLemmas
+pub mod LeafLemmas
+pub mod SentenceLemmas
+pub mod WorkedLemmas
