@@ -2,7 +2,6 @@
 ghost use Rattle.std.specs.Prelude.{◌≡◌, IfOk, IsTrue};
 ghost use Rattle.std.specs.List.{AllByRecursion};
 ghost use Rattle.lrpar_grammar.specs.SpansFit.{IsPartOf};
-ghost use Rattle.lrpar_diagnostics.specs.Underline.{FollowInOrder};
 
 use lrpar_case_lines::cases::Case;
 use lrpar_case_lines::fault::Fault;
@@ -96,7 +95,12 @@ fn push_shown(
         }
         "location" => push_location(told, alloc, case, formatter, spans),
         "block" => push_block(told, alloc, case, text, formatter, spans),
-        "row" => push_row(told, alloc, case, text, formatter, spans),
+        "row" => push_row(told, alloc, case, formatter, spans),
+        "follow" => {
+            let follow = formatter.spans_follow(spans);
+            told.field("follow", if follow { "yes" } else { "no" });
+            Ok(())
+        }
         "error" => push_error(told, alloc, case, text, formatter, spans),
         "warning" => push_warning(told, alloc, case, text, formatter, spans),
         _ => Err(Fault::Line(case.number, "what is shown isn't known")),
@@ -169,13 +173,10 @@ fn push_row(
     told: &mut Told,
     alloc: Global,
     case: Case<'_, '_>,
-    text: &str,
     formatter: &SpannedDiagnosticFormatter<'_>,
     spans: &[Span],
-) -> Result<(), Fault>
-    requires { (formatter.now).text ≡ text.now }
-{
-    if !follow_in_order(text, spans) {
+) -> Result<(), Fault> {
+    if !formatter.spans_follow(spans) {
         return Err(Fault::Line(case.number, "places in order are wanted"));
     }
     let message = case.text(alloc, "message")?;
@@ -282,22 +283,6 @@ fn are_parts(text: &str, spans: &[Span]) -> bool
         if !is_part(text, *span) {
             return false;
         }
-        rest = others;
-    }
-    true
-}
-
-// Whether they do, and each ends before the next one starts.
-fn follow_in_order(text: &str, spans: &[Span]) -> bool
-    ensures { IsTrue result → FollowInOrder text.now 0 spans.now }
-{
-    let mut end = 0;
-    let mut rest = spans;
-    while let Some((span, others)) = rest.split_first() {
-        if span.start() < end || !is_part(text, *span) {
-            return false;
-        }
-        end = span.end();
         rest = others;
     }
     true

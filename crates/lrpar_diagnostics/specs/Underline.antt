@@ -1,5 +1,5 @@
 -- Parts of a text, underlined on the lines that they touch.
-use Rattle.std.specs.Prelude.{ℕ, ◌+◌, ◌-◌, ◌≤◌, ◌||◌, nat_lt, Bool, List, [], ◌∷◌, ◌++◌, length, filter, min, max}
+use Rattle.std.specs.Prelude.{ℕ, ◌≡◌, ◌+◌, ◌-◌, ◌≤◌, ◌||◌, nat_lt, Bool, List, [], ◌∷◌, ◌++◌, length, filter, min, max}
 use Rattle.std.specs.List.{join_by, range_with_len}
 use Rattle.lrpar_text.specs.Lines.{line_start, line_end, starts_line}
 use Rattle.lrpar_text.specs.Span.{Extent}
@@ -66,3 +66,18 @@ on_line_text src (span ∷ spans) message c = first_mark src c span ++ marks_beh
 abbrev pub FollowInOrder : List ℕ → ℕ → List Extent → Type 0
 FollowInOrder src i [] = Unit {0}
 FollowInOrder src i (span ∷ spans) = (i ≤ span.start) × IsPartOf src span × FollowInOrder src span.end spans
+
+-- parts that all end on the line that starts at byte b
+abbrev pub EndOnLine : List ℕ → ℕ → List Extent → Type 0
+EndOnLine src b [] = Unit {0}
+EndOnLine src b (span ∷ spans) = (line_start src span.end ≡ b) × EndOnLine src b spans
+
+-- the same of the line on which the first part starts
+abbrev pub EndOnFirstLine : List ℕ → List Extent → Type 0
+EndOnFirstLine src [] = Unit {0}
+EndOnFirstLine src (span ∷ spans) = EndOnLine src (line_start src span.start) (span ∷ spans)
+
+-- parts of a text that are in order, none of which overlaps the next, all on one line
+pub record FollowOnLine (src : List ℕ) (spans : List Extent) : Type 0 where
+  pub order : FollowInOrder src 0 spans
+  pub line : EndOnFirstLine src spans

@@ -1,10 +1,10 @@
 //! Texts that name places of a text and show them.
-ghost use Rattle.std.specs.Prelude.{◌≡◌, ◌%◌, ◌≤◌, ◌++◌, [], if◌then◌else◌, IfOk, OnOk, codes, length};
+ghost use Rattle.std.specs.Prelude.{◌≡◌, ◌%◌, ◌≤◌, ◌++◌, ◌↔◌, [], if◌then◌else◌, IfOk, IsTrue, OnOk, codes, length};
 ghost use Rattle.std.specs.String.{string_bytes};
 ghost use Rattle.lrpar_text.specs.Lines.{line_table};
 ghost use Rattle.lrpar_grammar.specs.SpansFit.{IsPartOf};
 ghost use Rattle.lrpar_diagnostics.specs.Location.{IsLocationText, IsPlaceText, is_teen, ordinal_text, suffix_of_digit};
-ghost use Rattle.lrpar_diagnostics.specs.Underline.{FollowInOrder, block_text, on_line_text};
+ghost use Rattle.lrpar_diagnostics.specs.Underline.{FollowInOrder, FollowOnLine, block_text, on_line_text};
 
 use crate::source::Source;
 use lrpar_text::lines::NewlineCache;
@@ -113,9 +113,18 @@ impl<'a> SpannedDiagnosticFormatter<'a> {
         Ok(out)
     }
 
+    /// Whether each span starts and ends between two characters of the text, the spans are in order and don't overlap, and all
+    /// lie on one line. Spans of which this is true can be underlined by `underline_spans_on_line_with_text`. It takes time linear
+    /// in the spans and logarithmic in the number of lines for each, and no memory.
+    pub fn spans_follow(&self, spans: &[Span]) -> bool
+        ensures { IsTrue result ↔ FollowOnLine (self.now).text spans.now }
+    {
+        self.source.follow_on_line(spans)
+    }
+
     /// The line of the first span, as `LINE| TEXT`, and below it the underline of each span, with as many spaces between two as the
     /// text between them has columns, and then the message. The spans have to be in order, and not to overlap; all should lie on
-    /// that line. The text is empty where there are none.
+    /// that line. `spans_follow` tells whether they do. The text is empty if there are none.
     pub fn underline_spans_on_line_with_text(
         &self,
         alloc: Global,

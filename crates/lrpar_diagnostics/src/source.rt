@@ -1,10 +1,10 @@
 //! A text with its lines, and how parts of it are shown: the lines that they touch, with the parts underlined.
-ghost use Rattle.std.specs.Prelude.{◌≡◌, ◌<◌, ◌≤◌, ◌∷◌, ◌++◌, [], IfOk, IfSome, MatchOption, OnOk, length};
+ghost use Rattle.std.specs.Prelude.{◌≡◌, ◌<◌, ◌≤◌, ◌∷◌, ◌++◌, ◌↔◌, [], IfOk, IfSome, IsTrue, MatchOption, OnOk, length};
 ghost use Rattle.std.specs.String.{string_bytes};
 ghost use Rattle.std.specs.Str.{IsCharBoundary, IsUtf8};
 ghost use Rattle.lrpar_text.specs.Lines.{column_of, line_end, line_of, line_start, line_table};
 ghost use Rattle.lrpar_diagnostics.specs.Columns.{columns, margin, printed_line, repeated, text_end};
-ghost use Rattle.lrpar_diagnostics.specs.Underline.{FollowInOrder, block_text, first_mark, is_printed, marked_line, marks_behind, on_line_text, printed_behind, underline};
+ghost use Rattle.lrpar_diagnostics.specs.Underline.{EndOnFirstLine, EndOnLine, FollowInOrder, FollowOnLine, block_text, first_mark, is_printed, marked_line, marks_behind, on_line_text, printed_behind, underline};
 ghost use Rattle.lrpar_grammar.specs.SpansFit.{IsPartOf};
 
 use lrpar_text::lines::NewlineCache;
@@ -261,6 +261,64 @@ impl<'a> Source<'a> {
         }
         Ok(())
     }
+
+    /// Whether the parts lie in the text, are in order and don't overlap, and all lie on one line.
+    pub(crate) fn follow_on_line(&self, spans: &[Span]) -> bool
+        ensures { IsTrue result ↔ FollowOnLine self.now.src.now spans.now }
+    {
+        follow_in_order(self.src, spans) && self.end_on_first_line(spans)
+    }
+
+    // Whether the parts all end on the line on which the first one starts.
+    fn end_on_first_line(&self, spans: &[Span]) -> bool
+        requires { FollowInOrder self.now.src.now 0 spans.now }
+        ensures { IsTrue result ↔ EndOnFirstLine self.now.src.now spans.now }
+    {
+        match spans.split_first() {
+            Some((first, _)) => self.end_on_line(self.line_start(first.start()), spans),
+            None => true,
+        }
+    }
+
+    // Whether the parts all end on the line that starts at a byte.
+    fn end_on_line(&self, start: usize, spans: &[Span]) -> bool
+        requires { FollowInOrder self.now.src.now 0 spans.now }
+        ensures { IsTrue result ↔ EndOnLine self.now.src.now start spans.now }
+    {
+        let mut behind = 0;
+        let mut rest = spans;
+        while let Some((span, others)) = rest.split_first() {
+            if self.line_start(span.end()) != start {
+                return false;
+            }
+            behind = span.end();
+            rest = others;
+        }
+        true
+    }
+}
+
+// Whether the parts lie in the text, are in order and don't overlap.
+fn follow_in_order(src: &str, spans: &[Span]) -> bool
+    ensures { IsTrue result ↔ FollowInOrder src.now 0 spans.now }
+{
+    let mut end = 0;
+    let mut rest = spans;
+    while let Some((span, others)) = rest.split_first() {
+        if !follows(src, end, *span) {
+            return false;
+        }
+        end = span.end();
+        rest = others;
+    }
+    true
+}
+
+// Whether the part lies in the text, and starts at the byte or after it.
+fn follows(src: &str, byte: usize, span: Span) -> bool
+    ensures { IsTrue result ↔ ((byte ≤ span.start) × IsPartOf src.now span) }
+{
+    byte <= span.start() && src.is_char_boundary(span.start()) && src.is_char_boundary(span.end())
 }
 
 // Adds a character so many times.
