@@ -344,8 +344,14 @@ def reason_of(name, lines):
     start = next((at for at in range(end - 1, -1, -1) if re.match(r"fn \S+: ", lines[at])), -1)
     own = f"proofs/{'/'.join(name.split('::')[1:])}/"
     told = [it for it in lines[start + 1 : end] if re.match(r"(?:note: )?src/\S+:\d+:\d+:", it)]
-    told += [it for it in lines if it.removeprefix("./").startswith(own) and ": error" in it and not TAKEN_AWAY.match(it)]
-    return f"refused: {told[0][:160]}" if told else ""
+    return refusal_by(told + [it for it in lines if it.removeprefix("./").startswith(own) and ": error" in it])
+
+
+def refusal_by(told):
+    """Returns what to say of an edit that is refused for these reasons, and nothing where each only names what it took away."""
+    shown = [it for it in told if not TAKEN_AWAY.match(it)]
+    beside = "" if len(shown) == len(told) else ", beside names that it takes away"
+    return f"refused{beside}: {shown[0][:160]}" if shown else ""
 
 
 def judged(edit, status, lines):
@@ -361,12 +367,11 @@ def judged(edit, status, lines):
         said = next((it for it in lines if "error" in it), lines[-1])
         return FAILED, f"BAD EDIT: the check came to no verdict ({why}): {said[:160]}"
     told = [it for it in lines if PLACE.match(it) and (": error" in it or it.startswith("note: "))]
-    first = next((it for it in told if not TAKEN_AWAY.match(it)), "")
-    if told and not first:
+    if refusal_by(told):
+        return REFUSED, refusal_by(told)
+    if told:
         return UNSHOWN, f"REFUSED BY A NAME ALONE: a proof file names what the edit took away: change a value and keep the names: {told[0][:300]}"
-    if not first:
-        return UNSHOWN, "REFUSED BY NO REASON that is told"
-    return REFUSED, f"refused: {first[:160]}"
+    return UNSHOWN, "REFUSED BY NO REASON that is told"
 
 
 def is_unread(line, changed):
