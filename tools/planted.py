@@ -37,6 +37,8 @@ FUNCTION = re.compile(r"( *)(?:pub(?:\(\w+\))? )?(?:const )?(?:unsafe )?fn (\w+)
 OWNER = re.compile(r"(?:unsafe )?impl\b|(?:pub(?:\(\w+\))? )?trait\b")
 # What rattle prints of a place in a file.
 PLACE = re.compile(r"(note: )?\S+:\d+:\d+:")
+# What rattle prints of a function with a goal that it doesn't prove and nobody answers.
+OPEN = re.compile(r"fn \S+: no proof: .*did not prove `")
 # An error in a proof file that names what the edit took away, or in what cites that proof.
 TAKEN_AWAY = re.compile(r"(note: )?(\./)?proofs/.*(has no field|is not in scope|has no `|was not admitted|, which was rejected,)")
 # What the try of an edit comes to: it is refused; it is, by a reason that shows nothing of a contract; or it isn't, or can't be tried.
@@ -344,7 +346,8 @@ def reason_of(name, lines):
     start = next((at for at in range(end - 1, -1, -1) if re.match(r"fn \S+: ", lines[at])), -1)
     own = f"proofs/{'/'.join(name.split('::')[1:])}/"
     told = [it for it in lines[start + 1 : end] if re.match(r"(?:note: )?src/\S+:\d+:\d+:", it)]
-    return refusal_by(told + [it for it in lines if it.removeprefix("./").startswith(own) and ": error" in it])
+    told += [it for it in lines if it.removeprefix("./").startswith(own) and ": error" in it]
+    return refusal_by(told + [it for it in lines[end : end + 1] if OPEN.match(it)])
 
 
 def refusal_by(told):
@@ -367,6 +370,7 @@ def judged(edit, status, lines):
         said = next((it for it in lines if "error" in it), lines[-1])
         return FAILED, f"BAD EDIT: the check came to no verdict ({why}): {said[:160]}"
     told = [it for it in lines if PLACE.match(it) and (": error" in it or it.startswith("note: "))]
+    told += [it for it in lines if OPEN.match(it)]
     if refusal_by(told):
         return REFUSED, refusal_by(told)
     if told:
