@@ -10,6 +10,9 @@ refused for its own edit. Such an edit counts as refused where its function isn'
 one of that check is tried again alone. What passes alone is tried on the whole crate before it counts as not refused. At most N
 checks go on side by side (four, if N isn't given), each in a copy of the repository of its own, whose made files are hard links:
 rattle never writes into a file that it made, but puts another one in its place.
+
+An edit that is refused only because a proof file names what it took away, or by no reason that is told, shows nothing of a
+contract: it counts as failed, and the closing line names it.
 """
 import argparse
 import os
@@ -34,8 +37,12 @@ FUNCTION = re.compile(r"( *)(?:pub(?:\(\w+\))? )?(?:const )?(?:unsafe )?fn (\w+)
 OWNER = re.compile(r"(?:unsafe )?impl\b|(?:pub(?:\(\w+\))? )?trait\b")
 # What rattle prints of a place in a file.
 PLACE = re.compile(r"(note: )?\S+:\d+:\d+:")
+# What rattle prints of a function with a goal that it doesn't prove and nobody answers.
+OPEN = re.compile(r"fn \S+: no proof: .*did not prove `")
 # An error in a proof file that names what the edit took away, or in what cites that proof.
-TAKEN_AWAY = re.compile(r"(\./)?proofs/.*(has no field|is not in scope|has no `|was not admitted)")
+TAKEN_AWAY = re.compile(r"(note: )?(\./)?proofs/.*(has no field|is not in scope|has no `|was not admitted|, which was rejected,)")
+# What the try of an edit comes to: it is refused; it is, by a reason that shows nothing of a contract; or it isn't, or can't be tried.
+REFUSED, UNSHOWN, FAILED = "refused", "unshown", "failed"
 UNREAD = re.compile(r"is not in scope|has no field|is no name|operand is missing|expected the end|cannot continue")
 
 
@@ -275,7 +282,7 @@ def write(folder, texts):
 
 
 def check(folder, jobs, only=()):
-    """Returns the status of a check of the crate in the folder, none after too long a time, and the lines that it printed."""
+    """Returns the status of a check of the crate in the folder, none after too long a time, and the messages that it printed."""
     words = ["rt", "check", "--jobs", str(jobs), *(word for it in only for word in ("--only", it))]
     how = {"cwd": folder, "stdin": subprocess.DEVNULL, "stdout": subprocess.PIPE, "stderr": subprocess.STDOUT}
     with subprocess.Popen(words, **how, text=True, errors="replace") as ran:
@@ -283,21 +290,32 @@ def check(folder, jobs, only=()):
             said, _ = ran.communicate(timeout=LIMIT)
         except subprocess.TimeoutExpired:
             ran.terminate()
-            return None, ran.communicate()[0].split("\n")
-        return ran.returncode, said.rstrip("\n").split("\n")
+            return None, messages_of(ran.communicate()[0])
+        return ran.returncode, messages_of(said)
+
+
+def messages_of(said):
+    """Returns the messages of what a check printed, each on one line: where one goes on in further lines, these stand indented."""
+    messages = []
+    for line in said.rstrip("\n").split("\n"):
+        if messages and line.startswith("  "):
+            messages[-1] += f" {line.strip()}"
+        else:
+            messages.append(line)
+    return messages
 
 
 def try_edit(edit, copy, kept, only):
-    """Returns whether the prover refuses the crate with this edit, and what to say."""
+    """Returns what the try of the crate with this edit comes to, and what to say."""
     folder = f"{copy}/crates/{edit.crate}"
     were = {path: text_of(f"{folder}/{path}") for path in edit.texts}
     try:
         write(folder, edit.texts)
-        refused, text = judged(edit, *check(folder, 1, only))
-        if refused is None:
-            refused, text = judged(edit, *check(folder, 1))
-            text = f"refused, but not by {', '.join(only)}{text.removeprefix('refused')}" if refused else text
-        return bool(refused), text
+        verdict, text = judged(edit, *check(folder, 1, only))
+        if verdict is None:
+            verdict, text = judged(edit, *check(folder, 1))
+            text = f"refused, but not by {', '.join(only)}{text.removeprefix('refused')}" if verdict == REFUSED else text
+        return verdict or FAILED, text
     finally:
         write(folder, were)
         link(kept, f"{folder}/out/incremental")
@@ -328,27 +346,36 @@ def reason_of(name, lines):
     start = next((at for at in range(end - 1, -1, -1) if re.match(r"fn \S+: ", lines[at])), -1)
     own = f"proofs/{'/'.join(name.split('::')[1:])}/"
     told = [it for it in lines[start + 1 : end] if re.match(r"(?:note: )?src/\S+:\d+:\d+:", it)]
-    told += [it for it in lines if it.removeprefix("./").startswith(own) and ": error" in it and not TAKEN_AWAY.match(it)]
-    return f"refused: {told[0][:160]}" if told else ""
+    told += [it for it in lines if it.removeprefix("./").startswith(own) and ": error" in it]
+    return refusal_by(told + [it for it in lines[end : end + 1] if OPEN.match(it)])
+
+
+def refusal_by(told):
+    """Returns what to say of an edit that is refused for these reasons, and nothing where each only names what it took away."""
+    shown = [it for it in told if not TAKEN_AWAY.match(it)]
+    beside = "" if len(shown) == len(told) else ", beside names that it takes away"
+    return f"refused{beside}: {shown[0][:160]}" if shown else ""
 
 
 def judged(edit, status, lines):
-    """Returns whether a check refused the edit, none where it passed, and what to say."""
+    """Returns what a check with the edit comes to, none where it passed, and what to say."""
     ends = [it for it in lines if re.match(r"only=|logic=|rattle: no verdict", it)]
     bad = next((it for it in lines if is_unread(it, edit.texts)), "")
     if bad:
-        return False, f"BAD EDIT: the prover can't read the edited text, so no contract was tried: {bad[:160]}"
+        return FAILED, f"BAD EDIT: the prover can't read the edited text, so no contract was tried: {bad[:160]}"
     if status == 0:
         return None, "NOT REFUSED"
     if status != 1 or not ends or not ends[-1].startswith(("only=", "logic=not-proved")):
         why = "it took too long" if status is None else f"status {status}"
         said = next((it for it in lines if "error" in it), lines[-1])
-        return False, f"BAD EDIT: the check came to no verdict ({why}): {said[:160]}"
+        return FAILED, f"BAD EDIT: the check came to no verdict ({why}): {said[:160]}"
     told = [it for it in lines if PLACE.match(it) and (": error" in it or it.startswith("note: "))]
-    first = next((it for it in told if not TAKEN_AWAY.match(it)), "")
-    if told and not first:
-        return True, f"refused (only because a proof file names what the edit took away: change a value and keep the names): {told[0][:160]}"
-    return True, f"refused: {first[:160]}"
+    told += [it for it in lines if OPEN.match(it)]
+    if refusal_by(told):
+        return REFUSED, refusal_by(told)
+    if told:
+        return UNSHOWN, f"REFUSED BY A NAME ALONE: a proof file names what the edit took away: change a value and keep the names: {told[0][:300]}"
+    return UNSHOWN, "REFUSED BY NO REASON that is told"
 
 
 def is_unread(line, changed):
@@ -363,34 +390,34 @@ def is_unread(line, changed):
 
 
 def try_crate(crate, files, room, workers):
-    """Tries the edits of a crate, prints the verdict of each as it comes, and returns how many are refused."""
+    """Tries the edits of a crate, prints the verdict of each as it comes, and returns the verdicts by what names the edits."""
     first = f"{room}/first"
     if not os.path.isdir(f"{ROOT}/crates/{crate}"):
         say(f"{crate}: NOT TRIED: there is no such crate")
-        return 0
+        return {}
     kept = f"{first}/crates/{crate}/out/incremental"
     status, lines = check(f"{first}/crates/{crate}", workers)
     if status != 0:
         say("\n".join([f"{crate}: NOT TRIED: the unedited crate isn't proved", *lines[-20:]]))
-        return 0
+        return {}
     known = [it[1] for it in (re.match(r"fn (\S+): proved", line) for line in lines) if it]
     copies = queue.SimpleQueue()
     for at in range(min(workers, len(files))):
         copy_repository(first, f"{room}/{at}", ["rlib"])
         link(kept, f"{room}/{at}/crates/{crate}/out/incremental")
         copies.put(f"{room}/{at}")
-    refused = 0
+    verdicts = {}
     pool = ThreadPoolExecutor(workers)
     try:
         tasks = [pool.submit(try_edits, it, copies, kept) for it in grouped(read_edits(crate, files, known))]
         for it in as_completed(tasks):
-            refused += it.result()
+            verdicts |= it.result()
     finally:
         # (after a signal those that are being tried still end)
         pool.shutdown(cancel_futures=True)
     for at in range(min(workers, len(files))):
         shutil.rmtree(f"{room}/{at}")
-    return refused
+    return verdicts
 
 
 def read_edits(crate, files, known):
@@ -407,18 +434,18 @@ def read_edits(crate, files, known):
 
 
 def try_edits(group, copies, kept):
-    """Tries the edits of a group in a copy that is free, says of each what came of it, and returns how many are refused."""
+    """Tries the edits of a group in a copy that is free, says of each what came of it, and returns the verdicts by what names the edits."""
     copy = copies.get()
-    refused = 0
+    verdicts = {}
     try:
         shared = try_group(group, copy, kept) if len(group) > 1 else {}
         for edit in group:
-            is_refused, text = (True, shared[edit.name]) if edit.name in shared else try_edit(edit, copy, kept, edit.names)
-            say(f"{edit.crate}/{edit.name}: {text}")
-            refused += is_refused
+            label = f"{edit.crate}/{edit.name}"
+            verdicts[label], text = (REFUSED, shared[edit.name]) if edit.name in shared else try_edit(edit, copy, kept, edit.names)
+            say(f"{label}: {text}")
     finally:
         copies.put(copy)
-    return refused
+    return verdicts
 
 
 def say(text):
@@ -435,14 +462,17 @@ def main():
     found, lost = edits_named(given.edits)
     for word in lost:
         say(f"{word}: NOT TRIED: there is no such edit")
-    passed = 0
+    verdicts = {}
     with tempfile.TemporaryDirectory(prefix="planted-") as room:
         copy_repository(ROOT, f"{room}/first", ["rlib", "incremental"])
         for crate, files in found.items():
             if files:
-                passed += try_crate(crate, files, room, max(given.workers, 1))
+                verdicts |= try_crate(crate, files, room, max(given.workers, 1))
+    passed = list(verdicts.values()).count(REFUSED)
     failed = sum(len(it) for it in found.values()) + len(lost) - passed
-    say(f"{passed} passed, {failed} failed")
+    unshown = sorted(label for label, verdict in verdicts.items() if verdict == UNSHOWN)
+    shown = f", of which these show nothing of a contract: {' '.join(unshown)}" if unshown else ""
+    say(f"{passed} passed, {failed} failed{shown}")
     return 1 if failed else 0
 
 
