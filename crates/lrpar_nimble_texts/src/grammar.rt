@@ -4,15 +4,16 @@ ghost use Rattle.lrpar_states.specs.Safe.{IsSafe};
 
 use crate::conflicts::push_conflicts;
 use crate::fault::Fault;
+use crate::loops::{LoopKind, LoopStep, loop_of};
 use crate::show::{push_message, tell, told};
 use crate::warnings::push_rule_warnings;
 use lrpar_grammar::grammar::YaccGrammar;
-use lrpar_grammar::span::{Span, StIdx, TIdx};
+use lrpar_grammar::span::{RIdx, Span, TIdx};
 use lrpar_inputs::tables::MAX_STATES;
-use lrpar_messages::{Level, Reporter, grammar_message};
+use lrpar_messages::{Level, Reporter, grammar_message, push_quoted, push_token};
 use lrpar_table::build::{BuildFault, from_yacc};
 use lrpar_table::check::{CheckFault, ParserData, Refused};
-use lrpar_table::table::{Action, StateGraph, StateTable};
+use lrpar_table::table::{StateGraph, StateTable};
 use std::alloc::{AllocError, Global};
 use std::io::Write;
 
@@ -96,93 +97,192 @@ fn unbuilt(
     grm: &YaccGrammar<u32>,
     fault: BuildFault,
 ) -> Fault {
-    let start = Some(grm.rule_name_span(grm.start_rule_idx()));
     match fault {
         BuildFault::Memory => Fault::Memory,
         BuildFault::TooManyStates | BuildFault::StorageTooSmall => too_large(alloc, reporter),
-        BuildFault::AcceptReduceConflict(_) => fault_of(
-            alloc,
-            reporter,
-            start,
-            "the start rule derives itself, so that a text has trees without end",
-            "leave out the production by which it does",
-        ),
+        BuildFault::AcceptReduceConflict(_) => {
+            let rule = Some(grm.start_rule_idx());
+            match loop_text(alloc, reporter, grm, LoopKind::DerivesItself, rule) {
+                Ok(Some(text)) => Fault::of_message(text),
+                Ok(None) => fault_of(alloc, reporter, "the start rule derives itself"),
+                Err(_) => Fault::Memory,
+            }
+        }
     }
 }
 
 // The fault of a grammar whose table would be too large.
 fn too_large(alloc: Global, reporter: &Reporter<'_>) -> Fault {
     match format!(in alloc; "the table would have more than {MAX_STATES} states") {
-        Ok(text) => fault_of(alloc, reporter, None, text.as_str(), ""),
+        Ok(text) => fault_of(alloc, reporter, text.as_str()),
         Err(_) => Fault::Memory,
     }
 }
 
-// The fault of a table with a chain of reductions that is too long, whatever the cap.
+// The fault of a table with a chain of reductions that is too long, whatever the cap: that a rule derives itself, hidden left recursion,
+// or else how long the chain is.
 fn endless(alloc: Global, reporter: &Reporter<'_>, refused: Refused<u32>) -> Fault {
     let CheckFault::ChainTooLong(state, token) = refused.fault() else {
         return Fault::Memory;
     };
-    let (grm, _, stable) = refused.into_parts();
-    let place = place_of_chain(&grm, &stable, state, token);
-    fault_of(
-        alloc,
-        reporter,
-        place,
-        "a rule derives itself, so that a text has trees without end",
-        "leave out the production by which it does",
-    )
+    let (grm, _, _) = refused.into_parts();
+    match endless_text(alloc, reporter, &grm, state, token) {
+        Ok(text) => Fault::of_message(text),
+        Err(_) => Fault::Memory,
+    }
 }
 
-// Where a production is that the state reduces by at a token, or one of those to which it goes by a rule.
-fn place_of_chain(
+// The message of that fault.
+fn endless_text(
+    alloc: Global,
+    reporter: &Reporter<'_>,
     grm: &YaccGrammar<u32>,
-    stable: &StateTable<u32>,
     state: usize,
     token: usize,
-) -> Option<Span> {
-    let state = StIdx(u32::try_from(state).ok()?);
-    let token = TIdx(u32::try_from(token).ok()?);
-    if usize::from(state) >= stable.states_len() || usize::from(token) >= stable.tokens_len() {
-        return None;
+) -> Result<String, AllocError> {
+    if let Some(text) = loop_text(alloc, reporter, grm, LoopKind::DerivesItself, None)? {
+        return Ok(text);
     }
-    if let Some(span) = reduced_at(grm, stable, state, token) {
-        return Some(span);
+    if let Some(text) = loop_text(alloc, reporter, grm, LoopKind::IsHiddenLeft, None)? {
+        return Ok(text);
     }
-    let (_, nexts) = stable.gotos_of(state);
-    nexts
-        .iter()
-        .find_map(|next| reduced_at(grm, stable, *next, token))
+    let mut text = format!(in alloc;
+        "state {state} makes more than {MOST} reductions in a row at "
+    )?;
+    push_token_of(&mut text, grm, token)?;
+    error_text(alloc, reporter, None, text, "")
 }
 
-// Where the production is that the state reduces by at a token.
-fn reduced_at(
-    grm: &YaccGrammar<u32>,
-    stable: &StateTable<u32>,
-    state: StIdx<u32>,
-    token: TIdx<u32>,
-) -> Option<Span> {
-    if usize::from(state) >= stable.states_len() || usize::from(token) >= stable.tokens_len() {
-        return None;
+// Adds the token of this number, as messages name it.
+fn push_token_of(out: &mut String, grm: &YaccGrammar<u32>, token: usize) -> Result<(), AllocError> {
+    match u32::try_from(token) {
+        Ok(number) => push_token(out, grm, TIdx(number)),
+        Err(_) => out.push_str("no token"),
     }
-    match stable.action(state, token) {
-        Action::Reduce(prod) if usize::from(prod) < grm.prods_len() => Some(grm.prod_span(prod)),
+}
+
+// The message of a loop of this kind, if there is one; if a rule is named, of one that begins with it.
+fn loop_text(
+    alloc: Global,
+    reporter: &Reporter<'_>,
+    grm: &YaccGrammar<u32>,
+    kind: LoopKind,
+    rule: Option<RIdx<u32>>,
+) -> Result<Option<String>, AllocError> {
+    let Some(steps) = loop_of(alloc, grm, kind, rule)? else {
+        return Ok(None);
+    };
+    let mut text = String::new(alloc);
+    let mut label = String::new(alloc);
+    push_loop(&mut text, grm, kind, &steps)?;
+    push_loop_label(&mut label, grm, kind, &steps)?;
+    let text = error_text(alloc, reporter, place_of(grm, &steps), text, label.as_str())?;
+    Ok(Some(text))
+}
+
+// Where the first production of a loop stands.
+fn place_of(grm: &YaccGrammar<u32>, steps: &[LoopStep<u32>]) -> Option<Span> {
+    match steps.first() {
+        Some(first) if usize::from(first.prod) < grm.prods_len() => {
+            Some(grm.prod_span(first.prod))
+        }
         _ => None,
     }
 }
 
-// The fault that shows this.
-fn fault_of(
-    alloc: Global,
-    reporter: &Reporter<'_>,
-    span: Option<Span>,
-    text: &str,
-    label: &str,
-) -> Fault {
-    match error_text(alloc, reporter, span, text, label) {
+// Adds what is wrong about a loop, with the rules on the way.
+fn push_loop(
+    out: &mut String,
+    grm: &YaccGrammar<u32>,
+    kind: LoopKind,
+    steps: &[LoopStep<u32>],
+) -> Result<(), AllocError> {
+    match kind {
+        LoopKind::DerivesItself => {
+            out.push_str("rule ")?;
+            push_way(out, grm, " derives itself", steps)?;
+            out.push_str(", so that each of its texts has trees without end")
+        }
+        LoopKind::IsHiddenLeft => {
+            out.push_str("hidden left recursion: rule ")?;
+            push_way(out, grm, " begins with itself", steps)?;
+            out.push_str(", after what may derive nothing")
+        }
+    }
+}
+
+// Adds what would be right in the place of the first production of a loop.
+fn push_loop_label(
+    out: &mut String,
+    grm: &YaccGrammar<u32>,
+    kind: LoopKind,
+    steps: &[LoopStep<u32>],
+) -> Result<(), AllocError> {
+    match kind {
+        LoopKind::DerivesItself => {
+            out.push_str("leave out this production")?;
+            if steps.len() > 1 {
+                out.push_str(", or another one on the way")?;
+            }
+            Ok(())
+        }
+        LoopKind::IsHiddenLeft => {
+            out.push_str("leave out what comes before ")?;
+            if let Some(next) = steps.get(1).or(steps.first()) {
+                push_rule_of(out, grm, *next)?;
+            }
+            out.push_str(", or write one production with it and one without")
+        }
+    }
+}
+
+// Adds the first rule of a loop, what it does, and the other rules on the way.
+fn push_way(
+    out: &mut String,
+    grm: &YaccGrammar<u32>,
+    does: &str,
+    steps: &[LoopStep<u32>],
+) -> Result<(), AllocError> {
+    for (place, step) in steps.iter().enumerate() {
+        match place {
+            0 => {}
+            1 => out.push_str(" by way of ")?,
+            _ if place.saturating_add(1) == steps.len() => out.push_str(" and ")?,
+            _ => out.push_str(", ")?,
+        }
+        push_rule_of(out, grm, *step)?;
+        if place == 0 {
+            out.push_str(does)?;
+        }
+    }
+    Ok(())
+}
+
+// Adds the name of the rule of a step, in quotes.
+fn push_rule_of(
+    out: &mut String,
+    grm: &YaccGrammar<u32>,
+    step: LoopStep<u32>,
+) -> Result<(), AllocError> {
+    if usize::from(step.prod) < grm.prods_len() {
+        push_quoted(out, grm.rule_name_str(grm.prod_to_rule(step.prod)))
+    } else {
+        Ok(())
+    }
+}
+
+// The fault that shows this, about no place.
+fn fault_of(alloc: Global, reporter: &Reporter<'_>, text: &str) -> Fault {
+    match plain_text(alloc, reporter, text) {
         Ok(text) => Fault::of_message(text),
         Err(_) => Fault::Memory,
     }
+}
+
+// The text of an error about no place.
+fn plain_text(alloc: Global, reporter: &Reporter<'_>, text: &str) -> Result<String, AllocError> {
+    let text = String::from_str(alloc, text)?;
+    error_text(alloc, reporter, None, text, "")
 }
 
 // The text of an error.
@@ -190,11 +290,10 @@ fn error_text(
     alloc: Global,
     reporter: &Reporter<'_>,
     span: Option<Span>,
-    text: &str,
+    text: String,
     label: &str,
 ) -> Result<String, AllocError> {
     let mut out = String::new(alloc);
-    let text = String::from_str(alloc, text)?;
     push_message(&mut out, alloc, reporter, Level::Error, span, text, label)?;
     Ok(out)
 }

@@ -5,6 +5,7 @@ mod conflicts;
 mod errors;
 pub mod fault;
 pub mod grammar;
+mod loops;
 pub mod parse;
 pub mod plan;
 pub mod rules;

@@ -1,1 +1,2 @@
 pub mod NestedLemmas
+pub mod GraphLemmas

@@ -1,3 +1,6 @@
 pub mod Escapes
 pub mod Nested
 pub mod Fronts
+pub mod Labels
+pub mod Graph
+pub mod Lines

@@ -32,9 +32,9 @@ fn push_char(out: &mut String, c: char) -> Result<(), AllocError>
     }
 }
 
-// Adds a control character by its number.
-fn push_hex(out: &mut String, number: u32) -> Result<(), AllocError>
-    requires { number < 32 }
+/// Adds a character by its number.
+pub(crate) fn push_hex(out: &mut String, number: u32) -> Result<(), AllocError>
+    requires { number < 256 }
     ensures { OnOk result (string_bytes out.new ≡ string_bytes out.old ++ hex_escape number) }
 {
     out.push_str("\\u00")?;

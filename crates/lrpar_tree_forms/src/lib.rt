@@ -4,6 +4,7 @@
 mod escapes;
 mod form;
 mod graph;
+mod labels;
 mod nested;
 mod parts;
 
