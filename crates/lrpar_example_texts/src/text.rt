@@ -30,8 +30,8 @@ use std::alloc::{AllocError, Global};
 ///     S[ i S[ i S[ x ] e S[ x ] ] ]
 /// ```
 ///
-/// The first line tells the conflict's token and state. Then comes the text of both readings, with a dot where the conflict is; where they
-/// have two texts, each stands in front of its own reading. A reading is told by the move by which it goes on behind the dot, a production
+/// The first line tells the conflict's token and state. Then comes the text of both readings, with a dot where the conflict is. Where they
+/// have two texts, the first line tells the bound within which one for both wasn't found, and each text comes before its own reading. A reading is told by the move by which it goes on behind the dot, a production
 /// whose node is made or a token that is taken, and by its tree.
 ///
 /// The examples have to fit the grammar, as those of `conflict_examples` do. Takes time and memory linear in the examples and in the text
@@ -83,19 +83,23 @@ fn push_title<StorageT: StorageIndex>(
 {
     let name = shown_name(grm, shown.token());
     let state = usize::from(shown.state());
-    let count = count_text(shown.example().is_ambiguous());
-    writeln!(out, "'{name}' in state {state}: {count}")
+    write!(out, "'{name}' in state {state}: ")?;
+    push_count(out, shown.example())?;
+    out.push('\n')
 }
 
-// How many texts the readings have.
-fn count_text(ambiguous: bool) -> &'static str
-    ensures { result.now ≡ count_text ambiguous }
+// Adds how many texts the readings have.
+fn push_count<StorageT: StorageIndex>(
+    out: &mut String,
+    example: &Example<StorageT>,
+) -> Result<(), AllocError>
+    ensures { OnOk result (string_bytes out.new ≡ string_bytes out.old ++ count_text example.now) }
 {
-    if ambiguous {
-        "one text, two readings"
-    } else {
-        "two texts"
+    if !example.is_ambiguous() {
+        let bound = example.bound();
+        return write!(out, "two texts; one for both not found within {bound}");
     }
+    out.push_str("one text, two readings")
 }
 
 // Adds the line of the second reading's text, where it isn't that of the first one.
