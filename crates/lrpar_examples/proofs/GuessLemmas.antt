@@ -70,7 +70,7 @@ lead_more {S} index table state next last step rest others All parted from goes 
     so_far (subst (λ (xs : List (Step S)). StepsLead table state (steps_of index xs) last) (sym parted) (from, (next, goes, more)))
 
 -- no step more
-pub lead_none : {S : Type 0} (index : S → ℕ) (table : Table) (state last : ℕ) (rest : List (Step S)) (All : Type 0) → rest ≡ [] → state ≡ last
+pub lead_none : {S : Type 0} (index : S → ℕ) (table : Table) (state last : ℕ) (rest : List (Step S)) (All : Type 0) → length rest ≡ 0 → state ≡ last
     → (StepsLead table state (steps_of index rest) last → All) → All
-lead_none {S} index table state last rest All none same so_far =
-    so_far (subst (λ (xs : List (Step S)). StepsLead table state (steps_of index xs) last) (sym none) same)
+lead_none index table state last [] All none same so_far = so_far same
+lead_none index table state last (x ∷ rest) All none same so_far = absurd (omega (arith, none))

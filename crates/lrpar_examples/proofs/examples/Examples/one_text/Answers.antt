@@ -20,5 +20,5 @@ believed-requires-clause-front g c =
     let index = g.StorageT.StorageIndex.index in
     let steps = steps_of index c.args.front.now.steps.items in (
       steps,
-      subst (λ xs. IsShortestFront c.args.grm.now c.args.sgraph.now (index c.args.state.0) steps (moves_in index xs)) (sym c.deref-in-Some.ensures.value) c.requires.front,
+      subst (λ xs. IsShortestFront c.args.grm.now c.args.sgraph.now (index c.args.state.0) steps (moves_in index xs)) (sym c.deref.ensures.value) c.requires.front,
     )
