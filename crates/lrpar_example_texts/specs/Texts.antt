@@ -8,9 +8,13 @@ use Rattle.lrpar_example_texts.specs.Conflicts.{ConflictExampleOf}
 use Rattle.lrpar_example_texts.specs.Fits.{AreMovesOf}
 use Rattle.lrpar_example_texts.specs.Words.{reading_text, shown_name, text_line}
 
--- how many texts the readings have; where they have two, how far one for both was looked for
+-- that the readings have two texts, and how far one for both was looked for
+abbrev pub bound_text : ℕ → List ℕ
+bound_text bound = codes "two texts; one for both not found within " ++ decimal bound
+
+-- how many texts the readings have
 abbrev pub count_text : ExampleOf → List ℕ
-count_text x = if x.ambiguous then codes "one text, two readings" else codes "two texts; one for both not found within " ++ decimal x.bound
+count_text x = if x.ambiguous then codes "one text, two readings" else bound_text x.bound
 
 -- the first line
 abbrev pub title_text : Grammar → ConflictExampleOf → List ℕ

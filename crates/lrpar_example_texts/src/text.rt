@@ -6,7 +6,7 @@ ghost use Rattle.lrpar_shortest.specs.Moves.{move_of, moves_in};
 ghost use Rattle.lrpar_examples.specs.Texts.{token_numbers};
 ghost use Rattle.lrpar_example_texts.specs.ExamplesFit.{ExampleFits, ExamplesFit, ReadsFrom};
 ghost use Rattle.lrpar_example_texts.specs.Fits.{AreMovesOf, AreTokensOf, HasTree, IsMoveOf};
-ghost use Rattle.lrpar_example_texts.specs.Texts.{AreExampleTexts, IsExampleText, count_text, other_line, title_text};
+ghost use Rattle.lrpar_example_texts.specs.Texts.{AreExampleTexts, IsExampleText, bound_text, count_text, other_line, title_text};
 ghost use Rattle.lrpar_example_texts.specs.Words.{line_text, reading_text, text_line};
 
 use crate::conflict::ConflictExample;
@@ -97,9 +97,16 @@ fn push_count<StorageT: StorageIndex>(
 {
     if !example.is_ambiguous() {
         let bound = example.bound();
-        return write!(out, "two texts; one for both not found within {bound}");
+        return push_bound(out, bound);
     }
     out.push_str("one text, two readings")
+}
+
+// Adds that the readings have two texts, and how far one for both was looked for.
+fn push_bound(out: &mut String, bound: usize) -> Result<(), AllocError>
+    ensures { OnOk result (string_bytes out.new ≡ string_bytes out.old ++ bound_text bound) }
+{
+    write!(out, "two texts; one for both not found within {bound}")
 }
 
 // Adds the line of the second reading's text, where it isn't that of the first one.
