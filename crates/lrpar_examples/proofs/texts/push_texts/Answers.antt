@@ -1,4 +1,3 @@
-use Rattle.std.proofs.Common.{IsTrue}
 use Rattle.lrpar_examples.proofs.texts.push_texts.Goals as goal
 
 pub push_all_moves-requires-clause-some : goal.push_all_moves-requires-clause-some
