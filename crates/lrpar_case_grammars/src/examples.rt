@@ -91,20 +91,26 @@ fn push_shown(
         return told.lack_memory();
     };
     if case.value_or_nothing("show") == "count" {
-        push_count(told, table, examples.len(), text.as_str());
+        push_count(told, table, examples, text.as_str());
     } else {
         told.field("examples", text.as_str());
     }
 }
 
-// How many conflicts, examples and texts of them there are.
-fn push_count(told: &mut Told, table: &StateTable<u16>, examples: usize, text: &str) {
+// How many conflicts, examples and texts of them there are, and how many of these have one text with two readings.
+fn push_count(
+    told: &mut Told,
+    table: &StateTable<u16>,
+    examples: &[ConflictExample<u16>],
+    text: &str,
+) {
     let conflicts = match table.conflicts() {
         Some(conflicts) => conflicts.rr_len().saturating_add(conflicts.sr_len()),
         None => 0,
     };
     told.number("count ", conflicts);
-    told.number(" conflicts, ", examples);
+    told.number(" conflicts, ", examples.len());
     told.number(" examples, ", text.matches("\n\n").count());
-    told.text(" texts\n");
+    told.number(" texts, ", text.matches("one text, two readings\n").count());
+    told.text(" ambiguous\n");
 }

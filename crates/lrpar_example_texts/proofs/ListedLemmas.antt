@@ -22,14 +22,14 @@ use Rattle.lrpar_example_texts.proofs.KnownLemmas.{all_both}
 abbrev own_conflict : ConflictExampleOf → ConflictOf
 own_conflict x = x.conflict
 
-module _ (g : Grammar) (graph : Graph) where
+module _ (g : Grammar) (graph : Graph) (bound : ℕ) where
   -- none for none
-  pub adds_none : (old : List ConflictExampleOf) → AddsExamples g graph [] old old
+  pub adds_none : (old : List ConflictExampleOf) → AddsExamples g graph bound [] old old
   adds_none old = record { more = []; put = sym (append-nil old); are = record { conflicts_are = refl; each = tt } }
 
   -- one behind the other
-  pub adds_both : (first second : List ConflictOf) (old middle new : List ConflictExampleOf) → AddsExamples g graph first old middle
-      → AddsExamples g graph second middle new → AddsExamples g graph (first ++ second) old new
+  pub adds_both : (first second : List ConflictOf) (old middle new : List ConflictExampleOf) → AddsExamples g graph bound first old middle
+      → AddsExamples g graph bound second middle new → AddsExamples g graph bound (first ++ second) old new
   adds_both first second old middle new one other = record {
     more = one.more ++ other.more;
     put = other.put ∙ ap (λ l. l ++ other.more) one.put ∙ append_assoc old one.more other.more;
@@ -37,24 +37,24 @@ module _ (g : Grammar) (graph : Graph) where
       conflicts_are =
           map-append own_conflict one.more other.more ∙ ap (λ l. l ++ map own_conflict other.more) one.are.conflicts_are
           ∙ ap (λ l. first ++ l) other.are.conflicts_are;
-      each = all_both (IsExampleOf g graph) one.more other.more one.are.each other.are.each;
+      each = all_both (IsExampleOf g graph bound) one.more other.more one.are.each other.are.each;
     };
   }
 
   -- one more
   pub adds_more : (conflicts all : List ConflictOf) (conflict : ConflictOf) (old now new : List ConflictExampleOf) (x : ConflictExampleOf)
-      → AddsExamples g graph conflicts old now → new ≡ now ++ x ∷ [] → x.conflict ≡ conflict → IsExampleOf g graph x
-      → all ≡ conflicts ++ conflict ∷ [] → AddsExamples g graph all old new
+      → AddsExamples g graph bound conflicts old now → new ≡ now ++ x ∷ [] → x.conflict ≡ conflict → IsExampleOf g graph bound x
+      → all ≡ conflicts ++ conflict ∷ [] → AddsExamples g graph bound all old new
   adds_more conflicts all conflict old now new x so_far put own is same =
-      subst (λ cs. AddsExamples g graph cs old new) (sym same)
+      subst (λ cs. AddsExamples g graph bound cs old new) (sym same)
       (adds_both conflicts (conflict ∷ []) old now new so_far
       (record { more = x ∷ []; put = put; are = record { conflicts_are = ap (λ c. c ∷ []) own; each = (is, tt) } }))
 
   -- behind nothing
-  pub adds_first : (conflicts : List ConflictOf) (old new : List ConflictExampleOf) → old ≡ [] → AddsExamples g graph conflicts old new
-      → AreExamplesOf g graph conflicts new
+  pub adds_first : (conflicts : List ConflictOf) (old new : List ConflictExampleOf) → old ≡ [] → AddsExamples g graph bound conflicts old new
+      → AreExamplesOf g graph bound conflicts new
   adds_first conflicts old new none adds =
-      subst (AreExamplesOf g graph conflicts) (sym (adds.put ∙ ap (λ l. l ++ adds.more) none)) adds.are
+      subst (AreExamplesOf g graph bound conflicts) (sym (adds.put ∙ ap (λ l. l ++ adds.more) none)) adds.are
 
 -- the conflicts so far, and one more
 pub one_more : {A B : Type 0} (f : A → B) (own : B → ConflictOf) (xs : List A) (i : ℕ) (x : A) → i < length xs → x ≡ get_or xs i x
@@ -62,15 +62,15 @@ pub one_more : {A B : Type 0} (f : A → B) (own : B → ConflictOf) (xs : List 
 one_more f own xs i x low is = ap (map own) (map-take_more f xs i x low is) ∙ map-append own (map f (take i xs)) (f x ∷ [])
 
 -- at first none
-pub adds_start : {A B : Type 0} (g : Grammar) (graph : Graph) (f : A → B) (own : B → ConflictOf) (xs : List A) (old : List ConflictExampleOf)
-    → AddsExamples g graph (map own (map f (take 0 xs))) old old
-adds_start g graph f own [] old = adds_none g graph old
-adds_start g graph f own (x ∷ xs) old = adds_none g graph old
+pub adds_start : {A B : Type 0} (g : Grammar) (graph : Graph) (bound : ℕ) (f : A → B) (own : B → ConflictOf) (xs : List A) (old : List ConflictExampleOf)
+    → AddsExamples g graph bound (map own (map f (take 0 xs))) old old
+adds_start g graph bound f own [] old = adds_none g graph bound old
+adds_start g graph bound f own (x ∷ xs) old = adds_none g graph bound old
 
 -- in the end all
-pub adds_all : {A B : Type 0} (g : Grammar) (graph : Graph) (f : A → B) (own : B → ConflictOf) (xs : List A) (i : ℕ) (old new : List ConflictExampleOf)
-    → length xs ≤ i → AddsExamples g graph (map own (map f (take i xs))) old new → AddsExamples g graph (map own (map f xs)) old new
-adds_all g graph f own xs i old new past adds = subst (λ l. AddsExamples g graph (map own (map f l)) old new) (take_all i xs past) adds
+pub adds_all : {A B : Type 0} (g : Grammar) (graph : Graph) (bound : ℕ) (f : A → B) (own : B → ConflictOf) (xs : List A) (i : ℕ) (old new : List ConflictExampleOf)
+    → length xs ≤ i → AddsExamples g graph bound (map own (map f (take i xs))) old new → AddsExamples g graph bound (map own (map f xs)) old new
+adds_all g graph bound f own xs i old new past adds = subst (λ l. AddsExamples g graph bound (map own (map f l)) old new) (take_all i xs past) adds
 
 -- an element of a list is one of what it stands for
 pub is_member : {A B : Type 0} (f : A → B) (xs : List A) (all : List B) (i : ℕ) (x : A) → i < length xs → x ≡ get_or xs i x → map f xs ≡ all
@@ -80,11 +80,11 @@ is_member f xs all i x low is same =
     subst (λ l. Contains l (f x)) same (Contains-image f xs x there)
 
 -- where there are none, there are none
-pub no_examples : (g : Grammar) (graph : Graph) (conflicts : Option ConflictLists) (items : List ConflictExampleOf) → conflicts ≡ None → items ≡ []
-    → AreExamplesOf g graph (conflicts_in (lists_in conflicts)) items
-no_examples g graph None [] none empty = record { conflicts_are = refl; each = tt }
-no_examples g graph (Some lists) items none empty = absurd (cc)
-no_examples g graph None (x ∷ items) none empty = absurd (cc)
+pub no_examples : (g : Grammar) (graph : Graph) (bound : ℕ) (conflicts : Option ConflictLists) (items : List ConflictExampleOf) → conflicts ≡ None → items ≡ []
+    → AreExamplesOf g graph bound (conflicts_in (lists_in conflicts)) items
+no_examples g graph bound None [] none empty = record { conflicts_are = refl; each = tt }
+no_examples g graph bound (Some lists) items none empty = absurd (cc)
+no_examples g graph bound None (x ∷ items) none empty = absurd (cc)
 
 -- what a conflict names is of the grammar
 pub record NamesOf (g : Grammar) (c : ConflictOf) : Type 0 where
@@ -121,11 +121,11 @@ reads_from g before token trees next moves tree reading = record {
 }
 
 -- so examples of such conflicts fit
-each_fits : (g : Grammar) (graph : Graph) (xs : List ConflictExampleOf) → AllByRecursion (NamesOf g) (map own_conflict xs)
-    → AllByRecursion (IsExampleOf g graph) xs → ExamplesFit g xs
-each_fits g graph [] named each = tt
-each_fits g graph (x ∷ xs) named each =
-    let own : IsExample g graph x.conflict.state x.conflict.token x.conflict.first x.conflict.second x.example = each.0 in (
+each_fits : (g : Grammar) (graph : Graph) (bound : ℕ) (xs : List ConflictExampleOf) → AllByRecursion (NamesOf g) (map own_conflict xs)
+    → AllByRecursion (IsExampleOf g graph bound) xs → ExamplesFit g xs
+each_fits g graph bound [] named each = tt
+each_fits g graph bound (x ∷ xs) named each =
+    let own : IsExample g graph x.conflict.state x.conflict.token x.conflict.first x.conflict.second x.example = each.0.0 in (
       record {
         token = named.0.token;
         first_move = named.0.first;
@@ -133,21 +133,21 @@ each_fits g graph (x ∷ xs) named each =
         first = reads_from g x.example.before x.conflict.token own.trees x.conflict.first x.example.first own.tree own.first;
         second = reads_from g x.example.before x.conflict.token own.trees x.conflict.second x.example.second own.other_tree own.second;
       },
-      each_fits g graph xs named.1 each.1,
+      each_fits g graph bound xs named.1 each.1,
     )
 
-pub examples_fit : (g : Grammar) (graph : Graph) (lists : ConflictLists) (xs : List ConflictExampleOf) → ConflictsFit g lists
-    → AreExamplesOf g graph (conflicts_in lists) xs → ExamplesFit g xs
-examples_fit g graph lists xs fit are =
-    each_fits g graph xs (subst (AllByRecursion (NamesOf g)) (sym are.conflicts_are) (conflicts_named g lists fit)) are.each
+pub examples_fit : (g : Grammar) (graph : Graph) (bound : ℕ) (lists : ConflictLists) (xs : List ConflictExampleOf) → ConflictsFit g lists
+    → AreExamplesOf g graph bound (conflicts_in lists) xs → ExamplesFit g xs
+examples_fit g graph bound lists xs fit are =
+    each_fits g graph bound xs (subst (AllByRecursion (NamesOf g)) (sym are.conflicts_are) (conflicts_named g lists fit)) are.each
 
 -- those of both lists
-pub all_listed : (g : Grammar) (graph : Graph) (lists : ConflictLists) (reductions : List ReduceReduce) (shifts : List ShiftReduce)
+pub all_listed : (g : Grammar) (graph : Graph) (bound : ℕ) (lists : ConflictLists) (reductions : List ReduceReduce) (shifts : List ShiftReduce)
     (none middle new : List ConflictExampleOf) → none ≡ [] → reductions ≡ lists.reduce_reduce → shifts ≡ lists.shift_reduce
-    → AddsExamples g graph (map of_reductions reductions) none middle → AddsExamples g graph (map of_shift shifts) middle new
-    → AreExamplesOf g graph (conflicts_in lists) new
-all_listed g graph lists reductions shifts none middle new empty first second one other =
-    adds_first g graph (conflicts_in lists) none new empty
-    (subst (λ xs. AddsExamples g graph (map of_reductions xs ++ map of_shift lists.shift_reduce) none new) first
-    (subst (λ ys. AddsExamples g graph (map of_reductions reductions ++ map of_shift ys) none new) second
-    (adds_both g graph (map of_reductions reductions) (map of_shift shifts) none middle new one other)))
+    → AddsExamples g graph bound (map of_reductions reductions) none middle → AddsExamples g graph bound (map of_shift shifts) middle new
+    → AreExamplesOf g graph bound (conflicts_in lists) new
+all_listed g graph bound lists reductions shifts none middle new empty first second one other =
+    adds_first g graph bound (conflicts_in lists) none new empty
+    (subst (λ xs. AddsExamples g graph bound (map of_reductions xs ++ map of_shift lists.shift_reduce) none new) first
+    (subst (λ ys. AddsExamples g graph bound (map of_reductions reductions ++ map of_shift ys) none new) second
+    (adds_both g graph bound (map of_reductions reductions) (map of_shift shifts) none middle new one other)))

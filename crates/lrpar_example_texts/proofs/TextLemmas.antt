@@ -1,8 +1,10 @@
 -- Texts that are written piece by piece.
-use Rattle.std.proofs.Common.{◌≡◌, ◌∙◌, ℕ, List, [], ◌∷◌, ◌++◌, ap, sym, lit<, append_assoc, Result, Ok, Err, is_ok, OnOk, if◌then◌else◌}
-use Rattle.std.specs.Prelude.{encode_utf8}
+use Rattle.std.proofs.Common.{◌≡◌, ◌∙◌, ℕ, Bool, false, List, [], ◌∷◌, ◌++◌, ap, sym, lit<, append_assoc, Result, Ok, Err, is_ok, OnOk, if◌then◌else◌}
+use Rattle.std.specs.Prelude.{codes, encode_utf8}
 use Rattle.std.specs.List.{flat_map}
 use Rattle.std.proofs.lemmas.Str.{encode_ascii}
+use Rattle.lrpar_examples.specs.Example.{ExampleOf}
+use Rattle.lrpar_example_texts.specs.Texts.{bound_text, count_text}
 
 -- the text of one more thing
 pub next_text : {A : Type 0} (f : A → List ℕ) (rest others : List A) (x : A) (out new whole : List ℕ) → rest ≡ x ∷ others → new ≡ out ++ f x
@@ -45,3 +47,13 @@ five_pieces r old o₁ o₂ o₃ o₄ o₅ new a b c d f e₁ e₂ e₃ e₄ e�
 pub on_ok_all : {T E X : Type 0} (P Q : X → Type 0) (r : Result T E) → ((x : X) → P x → OnOk r (Q x)) → OnOk r ((x : X) → P x → Q x)
 on_ok_all P Q (Ok x) each = each
 on_ok_all P Q (Err x) each = tt
+
+-- that there are two texts is added
+pub two_counted : {T E : Type 0} (r : Result T E) (x : ExampleOf) (old new : List ℕ) (n : ℕ) (flag : Bool) → flag ≡ x.ambiguous → flag ≡ false → n ≡ x.bound
+    → OnOk r (new ≡ old ++ bound_text n) → OnOk r (new ≡ old ++ count_text x)
+two_counted (Ok done) x old new n flag is none bound wrote =
+    let two : x.ambiguous ≡ false = sym is ∙ none in
+    let text : bound_text n ≡ count_text x =
+    ap bound_text bound ∙ sym (ap (λ (b : Bool). if b then codes "one text, two readings" else bound_text x.bound) two) in
+    wrote ∙ ap (λ t. old ++ t) text
+two_counted (Err fault) x old new n flag is none bound wrote = tt

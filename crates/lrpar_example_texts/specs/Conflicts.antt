@@ -31,17 +31,18 @@ pub record ConflictExampleOf : Type 0 where
   pub conflict : ConflictOf
   pub example : ExampleOf
 
--- the example is one of the conflict
-abbrev pub IsExampleOf : Grammar → Graph → ConflictExampleOf → Type 0
-IsExampleOf g graph x = IsExample g graph x.conflict.state x.conflict.token x.conflict.first x.conflict.second x.example
+-- the example is one of the conflict, and one text was looked for up to this bound
+abbrev pub IsExampleOf : Grammar → Graph → ℕ → ConflictExampleOf → Type 0
+IsExampleOf g graph bound x =
+    IsExample g graph x.conflict.state x.conflict.token x.conflict.first x.conflict.second x.example × (x.example.bound ≡ bound)
 
 -- an example of each conflict, in order
-pub record AreExamplesOf (g : Grammar) (graph : Graph) (conflicts : List ConflictOf) (examples : List ConflictExampleOf) : Type 0 where
+pub record AreExamplesOf (g : Grammar) (graph : Graph) (bound : ℕ) (conflicts : List ConflictOf) (examples : List ConflictExampleOf) : Type 0 where
   pub conflicts_are : map (λ (x : ConflictExampleOf). x.conflict) examples ≡ conflicts
-  pub each : AllByRecursion (IsExampleOf g graph) examples
+  pub each : AllByRecursion (IsExampleOf g graph bound) examples
 
 -- examples were put behind the others, one of each of these conflicts, in order
-pub record AddsExamples (g : Grammar) (graph : Graph) (conflicts : List ConflictOf) (old new : List ConflictExampleOf) : Type 0 where
+pub record AddsExamples (g : Grammar) (graph : Graph) (bound : ℕ) (conflicts : List ConflictOf) (old new : List ConflictExampleOf) : Type 0 where
   pub more : List ConflictExampleOf
   pub put : new ≡ old ++ more
-  pub are : AreExamplesOf g graph conflicts more
+  pub are : AreExamplesOf g graph bound conflicts more

@@ -1,5 +1,5 @@
 -- The texts of examples.
-use Rattle.std.specs.Prelude.{◌≡◌, ℕ, Bool, List, [], ◌∷◌, ◌++◌, codes, if◌then◌else◌}
+use Rattle.std.specs.Prelude.{◌≡◌, ℕ, List, [], ◌∷◌, ◌++◌, codes, if◌then◌else◌}
 use Rattle.std.specs.Fmt.{decimal}
 use Rattle.lrpar_grammar.specs.Grammar.{Grammar}
 use Rattle.lrpar_grammar.specs.Tree.{Tree, leaves}
@@ -8,14 +8,17 @@ use Rattle.lrpar_example_texts.specs.Conflicts.{ConflictExampleOf}
 use Rattle.lrpar_example_texts.specs.Fits.{AreMovesOf}
 use Rattle.lrpar_example_texts.specs.Words.{reading_text, shown_name, text_line}
 
+-- that the readings have two texts, and how far one for both was looked for
+abbrev pub bound_text : ℕ → List ℕ
+bound_text bound = codes "two texts; one for both not found within " ++ decimal bound
+
 -- how many texts the readings have
-abbrev pub count_text : Bool → List ℕ
-count_text ambiguous = if ambiguous then codes "one text, two readings" else codes "two texts"
+abbrev pub count_text : ExampleOf → List ℕ
+count_text x = if x.ambiguous then codes "one text, two readings" else bound_text x.bound
 
 -- the first line
 abbrev pub title_text : Grammar → ConflictExampleOf → List ℕ
-title_text g x =
-    codes "'" ++ shown_name g x.conflict.token ++ codes "' in state " ++ decimal x.conflict.state ++ codes ": " ++ count_text x.example.ambiguous ++ 10 ∷ []
+title_text g x = codes "'" ++ shown_name g x.conflict.token ++ codes "' in state " ++ decimal x.conflict.state ++ codes ": " ++ count_text x.example ++ 10 ∷ []
 
 -- the line of the second reading's text, where it isn't that of the first one
 abbrev pub other_line : Grammar → ExampleOf → List ℕ → List ℕ

@@ -17,7 +17,8 @@ use std::alloc::{AllocError, Global};
 /// An example of each conflict of a table that was built of the grammar: of those between two reductions first, and each in the order in
 /// which it is listed. Where it has no conflicts, there are none.
 ///
-/// `bound` is that of `Examples::of_reduce_reduce`: how far one text for both readings is looked for, in each conflict; with 0 it isn't.
+/// `bound` is that of `Examples::of_reduce_reduce`: how far one text for both readings is looked for, in each conflict; with 0 it isn't, and
+/// with 1,000 it takes less time than the table took in the grammars that were measured. Each example tells it.
 /// `Barren` comes, as from `Examples::new`, where a rule that the grammar reaches from its start derives no text, and `Memory` where it
 /// doesn't suffice.
 pub fn conflict_examples<StorageT: StorageIndex>(
@@ -28,7 +29,7 @@ pub fn conflict_examples<StorageT: StorageIndex>(
     bound: usize,
 ) -> Result<Vec<ConflictExample<StorageT>>, ExampleFault<StorageT>>
     requires built { IsBuilt grm.now sgraph.now stable.now }
-    ensures examples { IfOk result (λ examples. AreExamplesOf grm.now sgraph.now (conflicts_in (lists_in stable.now.conflicts)) examples.items) }
+    ensures examples { IfOk result (λ examples. AreExamplesOf grm.now sgraph.now bound (conflicts_in (lists_in stable.now.conflicts)) examples.items) }
     ensures fit { IfOk result (λ examples. ExamplesFit grm.now examples.items) }
     ensures refused { IfErr result (IsExampleFault StorageT.index grm.now) }
 {
@@ -49,7 +50,7 @@ fn examples_of<StorageT: StorageIndex>(
 ) -> Result<Vec<ConflictExample<StorageT>>, ExampleFault<StorageT>>
     requires built { IsBuilt grm.now sgraph.now stable.now }
     requires conflicts { conflicts.now ≡ lists_in stable.now.conflicts }
-    ensures examples { IfOk result (λ examples. AreExamplesOf grm.now sgraph.now (conflicts_in (lists_in stable.now.conflicts)) examples.items) }
+    ensures examples { IfOk result (λ examples. AreExamplesOf grm.now sgraph.now bound (conflicts_in (lists_in stable.now.conflicts)) examples.items) }
     ensures fit { IfOk result (λ examples. ExamplesFit grm.now examples.items) }
     ensures refused { IfErr result (IsExampleFault StorageT.index grm.now) }
 {
@@ -97,7 +98,7 @@ fn push_reductions<StorageT: StorageIndex>(
     requires built { IsBuilt grm.now sgraph.now stable.now }
     requires shared { AreExamplesFor grm.now sgraph.now stable.now usize.MAX shared.now }
     requires conflicts { map (reduce_reduce_of StorageT.index) conflicts.now ≡ (lists_in stable.now.conflicts).reduce_reduce }
-    ensures { OnOk result (AddsExamples grm.now sgraph.now (map of_reductions (map (reduce_reduce_of StorageT.index) conflicts.now))
+    ensures { OnOk result (AddsExamples grm.now sgraph.now bound (map of_reductions (map (reduce_reduce_of StorageT.index) conflicts.now))
         examples.old.items examples.new.items) }
 {
     for conflict in conflicts {
@@ -121,7 +122,7 @@ fn push_shifts<StorageT: StorageIndex>(
     requires built { IsBuilt grm.now sgraph.now stable.now }
     requires shared { AreExamplesFor grm.now sgraph.now stable.now usize.MAX shared.now }
     requires conflicts { map (shift_reduce_of StorageT.index) conflicts.now ≡ (lists_in stable.now.conflicts).shift_reduce }
-    ensures { OnOk result (AddsExamples grm.now sgraph.now (map of_shift (map (shift_reduce_of StorageT.index) conflicts.now))
+    ensures { OnOk result (AddsExamples grm.now sgraph.now bound (map of_shift (map (shift_reduce_of StorageT.index) conflicts.now))
         examples.old.items examples.new.items) }
 {
     for conflict in conflicts {

@@ -6,7 +6,7 @@ ghost use Rattle.lrpar_shortest.specs.Moves.{move_of, moves_in};
 ghost use Rattle.lrpar_examples.specs.Texts.{token_numbers};
 ghost use Rattle.lrpar_example_texts.specs.ExamplesFit.{ExampleFits, ExamplesFit, ReadsFrom};
 ghost use Rattle.lrpar_example_texts.specs.Fits.{AreMovesOf, AreTokensOf, HasTree, IsMoveOf};
-ghost use Rattle.lrpar_example_texts.specs.Texts.{AreExampleTexts, IsExampleText, count_text, other_line, title_text};
+ghost use Rattle.lrpar_example_texts.specs.Texts.{AreExampleTexts, IsExampleText, bound_text, count_text, other_line, title_text};
 ghost use Rattle.lrpar_example_texts.specs.Words.{line_text, reading_text, text_line};
 
 use crate::conflict::ConflictExample;
@@ -30,8 +30,8 @@ use std::alloc::{AllocError, Global};
 ///     S[ i S[ i S[ x ] e S[ x ] ] ]
 /// ```
 ///
-/// The first line tells the conflict's token and state. Then comes the text of both readings, with a dot where the conflict is; where they
-/// have two texts, each stands in front of its own reading. A reading is told by the move by which it goes on behind the dot, a production
+/// The first line tells the conflict's token and state. Then comes the text of both readings, with a dot where the conflict is. Where they
+/// have two texts, the first line tells the bound within which one for both wasn't found, and each text comes before its own reading. A reading is told by the move by which it goes on behind the dot, a production
 /// whose node is made or a token that is taken, and by its tree.
 ///
 /// The examples have to fit the grammar, as those of `conflict_examples` do. Takes time and memory linear in the examples and in the text
@@ -83,19 +83,30 @@ fn push_title<StorageT: StorageIndex>(
 {
     let name = shown_name(grm, shown.token());
     let state = usize::from(shown.state());
-    let count = count_text(shown.example().is_ambiguous());
-    writeln!(out, "'{name}' in state {state}: {count}")
+    write!(out, "'{name}' in state {state}: ")?;
+    push_count(out, shown.example())?;
+    out.push('\n')
 }
 
-// How many texts the readings have.
-fn count_text(ambiguous: bool) -> &'static str
-    ensures { result.now ≡ count_text ambiguous }
+// Adds how many texts the readings have.
+fn push_count<StorageT: StorageIndex>(
+    out: &mut String,
+    example: &Example<StorageT>,
+) -> Result<(), AllocError>
+    ensures { OnOk result (string_bytes out.new ≡ string_bytes out.old ++ count_text example.now) }
 {
-    if ambiguous {
-        "one text, two readings"
-    } else {
-        "two texts"
+    if !example.is_ambiguous() {
+        let bound = example.bound();
+        return push_bound(out, bound);
     }
+    out.push_str("one text, two readings")
+}
+
+// Adds that the readings have two texts, and how far one for both was looked for.
+fn push_bound(out: &mut String, bound: usize) -> Result<(), AllocError>
+    ensures { OnOk result (string_bytes out.new ≡ string_bytes out.old ++ bound_text bound) }
+{
+    write!(out, "two texts; one for both not found within {bound}")
 }
 
 // Adds the line of the second reading's text, where it isn't that of the first one.

@@ -1,7 +1,7 @@
 -- How a derivation is finished from an item: from the start item by nothing; from an item with its dot moved on by what finishes it
 -- from the item; and from an item that another one adds by its own node, trees of what the other has behind its rule, and then what
 -- finishes it from the other.
-use Rattle.std.proofs.Common.{◌≡◌, ◌≢◌, ◌<◌, ◌+◌, ◌-◌, ◌≤◌, ◌∙◌, refl, sym, ap, subst, inl, inr, arith, ℕ, zero, suc, Bool, true, false, IsTrue, List, [], ◌∷◌, ◌++◌, Some, drop, length, reverse, slice_get}
+use Rattle.std.proofs.Common.{◌≡◌, ◌<◌, ◌+◌, ◌≤◌, ◌∙◌, refl, sym, ap, subst, inl, inr, arith, ℕ, zero, suc, Bool, true, false, IsTrue, List, [], ◌∷◌, ◌++◌, Some, drop, length, reverse, slice_get}
 use Rattle.std.proofs.lemmas.List.{append_assoc, append-nil, reverse-append}
 use Rattle.std.proofs.lemmas.Bool.{false≢true}
 use Rattle.lrpar_grammar.specs.Grammar.{Grammar, GrammarSymbol, IsWellFormed, Nonterminal, end_token, prods_len, rule_of, start_prod, symbols_of}

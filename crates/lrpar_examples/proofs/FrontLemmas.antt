@@ -1,10 +1,10 @@
 -- A shortest way to a state and shortest trees of its symbols are a shortest text that leads there.
-use Rattle.std.proofs.Common.{◌≡◌, ◌<◌, ◌≤◌, ◌∙◌, refl, sym, ap, subst, inl, inr, arith, ℕ, List, [], ◌∷◌, All, None, Option, Some, length, min, option_map, reverse, slice_get}
+use Rattle.std.proofs.Common.{◌≡◌, ◌<◌, ◌≤◌, ◌∙◌, refl, sym, ap, subst, inl, inr, arith, ℕ, List, [], ◌∷◌, All, None, Option, Some, length, map, min, option_map, reverse, slice_get, take}
 use Rattle.std.proofs.lemmas.Bool.{cases_lt}
-use Rattle.std.proofs.lemmas.List.{reverse-append, reverse-reverse}
+use Rattle.std.proofs.lemmas.List.{get_or_past, length-map, reverse-append, reverse-reverse, take_all}
 use Rattle.std.proofs.lemmas.List.Elements.{All-append, All-cons, All-head, All-nil, All-tail}
 use Rattle.lrpar_grammar.specs.Grammar.{Grammar, GrammarSymbol, IsWellFormed, Nonterminal, Terminal, rule_of, symbols_of}
-use Rattle.lrpar_grammar.specs.Tree.{Forest}
+use Rattle.lrpar_grammar.specs.Tree.{Forest, forest_leaves}
 use Rattle.lrpar_states.specs.Graph.{Graph, ItemOf, graph_len}
 use Rattle.lrpar_states.specs.Table.{IsClosed, Table}
 use Rattle.lrpar_build.specs.Built.{IsBuilt}
@@ -14,9 +14,9 @@ use Rattle.lrpar_build.proofs.ReachedLemmas.{closure_each, known_by_symbol}
 use Rattle.lrpar_shortest.specs.Moves.{MoveOf, forest_moves}
 use Rattle.lrpar_shortest.specs.Reached.{IsReachedRule, IsReachedSymbol, OnRight}
 use Rattle.lrpar_shortest.specs.Texts.{AreShortestTrees, AreTreesOf, HaveTrees, forest_width}
-use Rattle.lrpar_shortest.specs.Ways.{IsPathTo, IsShortestPath, IsShortestWayIfAny, StepOf, WayOf, symbols_in, way_at}
-use Rattle.lrpar_examples.specs.Climbing.{IsWay}
-use Rattle.lrpar_examples.specs.Example.{AreExamplesFor, ExamplesOf, IsFront}
+use Rattle.lrpar_shortest.specs.Ways.{IsPathTo, IsShortestPath, IsShortestWayIfAny, StepOf, StepsLead, WayOf, symbols_in, way_at}
+use Rattle.lrpar_examples.specs.Climbing.{IsWay, state_before}
+use Rattle.lrpar_examples.specs.Example.{AreExamplesFor, ExamplesOf, IsFront, IsShortestFront}
 use Rattle.lrpar_examples.proofs.PathLemmas.{state_reached}
 use Rattle.lrpar_shortest.proofs.BehindLemmas.{contains_at, have_trees, item_reached}
 use Rattle.lrpar_examples.proofs.TextLemmas.{takes_of_trees, takes_short}
@@ -51,6 +51,38 @@ some_by : (g : Grammar) (graph : Graph) (most s : ℕ) (way : Option WayOf) → 
 some_by g graph most s None none symbols path trees = absurd (none symbols trees.0 path trees.1)
 some_by g graph most s (Some found) least symbols path trees = (found, refl)
 
+module _ (g : Grammar) (graph : Graph) (table : Table) (built : IsBuilt g graph table) (s : ℕ) where
+  -- steps that lead from the start are a way
+  pub way_by : IsClosed table → (steps : List StepOf) → StepsLead table table.start steps s → IsWay g graph steps s
+  way_by closed steps lead =
+      let start : IsPathTo g graph table.start [] =
+      subst (λ (n : ℕ). AreSame (sets_of graph n) (IsReachedBy g [])) (sym built.wanted.start) built.canonical.start in
+      state_reached g graph table built.wanted closed steps table.start s [] closed.start_within lead start
+
+-- the symbols of a way lead to its last state
+pub way_leads : (g : Grammar) (graph : Graph) (s : ℕ) (steps : List StepOf) → IsWay g graph steps s → IsPathTo g graph s (symbols_in steps)
+way_leads g graph s steps way =
+    let froms = map (λ (x : StepOf). x.from) steps in
+    let symbols = symbols_in steps in
+    let long : length froms ≡ length steps = length-map steps (λ (x : StepOf). x.from) in
+    let all : length symbols ≡ length steps = length-map steps (λ (x : StepOf). x.symbol) in
+    let last : state_before steps s (length steps) ≡ s = get_or_past froms (length steps) s (omega (arith, long)) in
+    let whole : take (length steps) symbols ≡ symbols = take_all (length steps) symbols (omega (arith, all)) in
+    subst (λ (n : ℕ). IsPathTo g graph n symbols) last
+    (subst (λ (w : List GrammarSymbol). IsPathTo g graph (state_before steps s (length steps)) w) whole (way (length steps) (omega arith)))
+
+-- steps that lead to the state, and moves of trees of their symbols
+pub front_by : (g : Grammar) (graph : Graph) (table : Table) → IsBuilt g graph table → IsClosed table → (s : ℕ) (steps : List StepOf)
+    → StepsLead table table.start steps s → (trees : Forest ℕ) → AreTreesOf g (symbols_in steps) trees → (moves : List MoveOf) → moves ≡ forest_moves trees
+    → IsFront g graph s steps moves
+front_by g graph table built closed s steps lead trees fit moves are =
+    let way = way_by g graph table built s closed steps lead in record {
+      way = way;
+      trees = trees;
+      text = record { leads = way_leads g graph s steps way; fit = fit; tokens = refl };
+      moves_are = are;
+    }
+
 module _ (g : Grammar) (graph : Graph) (table : Table) (most : ℕ) (well : IsWellFormed g) (built : IsBuilt g graph table) (x : ExamplesOf)
     (made : AreExamplesFor g graph table most x) (s : ℕ) (low : s < graph_len graph) where
   -- a way to the state is kept
@@ -66,13 +98,6 @@ module _ (g : Grammar) (graph : Graph) (table : Table) (most : ℕ) (well : IsWe
       some_by g graph most s (way_at x.ways s) (made.ways.lens s low) (reverse path) turned trees
 
   module _ (closed : IsClosed table) (steps : List StepOf) (path : IsShortestPath g graph table most s steps) where
-    -- it is one
-    pub is_way : IsWay g graph steps s
-    is_way =
-        let start : IsPathTo g graph table.start [] =
-        subst (λ (n : ℕ). AreSame (sets_of graph n) (IsReachedBy g [])) (sym built.wanted.start) built.canonical.start in
-        state_reached g graph table built.wanted closed steps table.start s [] closed.start_within path.lead start
-
     -- its symbols have trees
     pub way_trees : HaveTrees g (symbols_in steps)
     way_trees = let some = path.own.some in (some.0, some.1)
@@ -90,17 +115,12 @@ module _ (g : Grammar) (graph : Graph) (table : Table) (most : ℕ) (well : IsWe
         ]
 
     pub front_done : (trees : Forest ℕ) → AreShortestTrees g (symbols_in steps) trees → (moves : List MoveOf) → moves ≡ forest_moves trees → length moves ≤ most
-        → IsFront g graph s steps moves
+        → IsShortestFront g graph s steps moves
     front_done trees least moves are within =
-        let text : length (takes_in moves) ≡ forest_width trees = ap (λ (ms : List MoveOf). length (takes_in ms)) are ∙ ap (λ (xs : List ℕ). length xs) (takes_of_trees trees) in
-        let short = takes_short moves in record {
-          way = is_way;
-          trees = trees;
-          shortest = record {
-            leads = path.path;
-            fit = least.fit;
-            tokens = refl;
-            least = no_shorter trees least (omega (arith, text, short, within));
-          };
-          moves_are = are;
+        let tokens : takes_in moves ≡ forest_leaves trees = ap takes_in are ∙ takes_of_trees trees in
+        let text : length (takes_in moves) ≡ forest_width trees = ap (λ (xs : List ℕ). length xs) tokens in
+        let short = takes_short moves in
+        let shorter = no_shorter trees least (omega (arith, text, short, within)) in record {
+          front = front_by g graph table built closed s steps path.lead trees least.fit moves are;
+          least = λ other others to fit. let less = shorter other others to fit in omega (arith, text, less);
         }

@@ -1,11 +1,15 @@
 -- What follows where readings that were guessed pass the tests.
-use Rattle.std.proofs.Common.{◌≡◌, ◌<◌, ◌+◌, ◌∙◌, sym, ap, inl, arith, ℕ, List, [], ◌∷◌, ◌++◌, drop, get_or, length, take}
+use Rattle.std.proofs.Common.{◌≡◌, ◌<◌, ◌+◌, ◌∙◌, sym, ap, subst, inl, arith, ℕ, List, [], ◌∷◌, ◌++◌, drop, get_or, length, take}
 use Rattle.std.proofs.lemmas.List.{drop_more, map-append, take-append-drop}
 use Rattle.lrpar_grammar.specs.Grammar.{Grammar}
+use Rattle.lrpar_grammar.specs.Symbols.{symbol_of}
 use Rattle.lrpar_grammar.specs.Tree.{forest_leaves, leaves}
+use Rattle.lrpar_states.specs.Safe.{GoesBy}
+use Rattle.lrpar_states.specs.Table.{Table}
 use Rattle.lrpar_text.proofs.ListLemmas.{map-take_more}
 use Rattle.lrpar_shortest.specs.Moves.{Makes, MoveOf, Takes, forest_moves, move_of, moves_in}
-use Rattle.lrpar_shortest.specs.Ways.{StepOf}
+use Rattle.lrpar_shortest.specs.Ways.{StepOf, StepsLead, steps_of}
+use Rattle.lrpar_shortest.specs.declared.steps.Step.{Step}
 use Rattle.lrpar_shortest.specs.declared.moves.Move.{Move}
 use Rattle.lrpar_examples.specs.Replay.{AreOfTree}
 use Rattle.lrpar_examples.specs.Texts.{BeginsBy, TakesFirst, takes_in}
@@ -57,3 +61,16 @@ guess_reads g steps token front rest all next joined begins takes tree trees fit
         ahead = inl takes;
       },
     )
+
+-- one step more
+pub lead_more : {S : Type 0} (index : S → ℕ) (table : Table) (state next last : ℕ) (step : Step S) (rest others : List (Step S)) (All : Type 0)
+    → rest ≡ step ∷ others → index step.from.0 ≡ state → GoesBy table state (symbol_of index step.symbol) next
+    → (StepsLead table state (steps_of index rest) last → All) → StepsLead table next (steps_of index others) last → All
+lead_more {S} index table state next last step rest others All parted from goes so_far more =
+    so_far (subst (λ (xs : List (Step S)). StepsLead table state (steps_of index xs) last) (sym parted) (from, (next, goes, more)))
+
+-- no step more
+pub lead_none : {S : Type 0} (index : S → ℕ) (table : Table) (state last : ℕ) (rest : List (Step S)) (All : Type 0) → length rest ≡ 0 → state ≡ last
+    → (StepsLead table state (steps_of index rest) last → All) → All
+lead_none index table state last [] All none same so_far = so_far same
+lead_none index table state last (x ∷ rest) All none same so_far = absurd (omega (arith, none))

@@ -1,5 +1,5 @@
 -- Examples of conflicts: a text that leads to the conflict's state, and two readings that go on from there.
-use Rattle.std.specs.Prelude.{◌≡◌, ◌≢◌, ◌≤◌, ◌↔◌, ℕ, Bool, IsTrue, List, Option, length}
+use Rattle.std.specs.Prelude.{◌≡◌, ◌≢◌, ◌≤◌, ◌↔◌, ◌⊎◌, ℕ, Bool, IsTrue, List, Option, length}
 use Rattle.lrpar_grammar.specs.Grammar.{Grammar, GrammarSymbol}
 use Rattle.lrpar_grammar.specs.Tree.{Forest, Tree, forest_leaves, leaves}
 use Rattle.lrpar_states.specs.Graph.{Graph}
@@ -12,6 +12,7 @@ use Rattle.lrpar_shortest.specs.Texts.{AreTreesOf}
 use Rattle.lrpar_shortest.specs.Ways.{AreWays, IsPathTo, StepOf, WayOf, symbols_in}
 use Rattle.lrpar_examples.specs.Climbing.{IsWay}
 use Rattle.lrpar_examples.specs.Reading.{IsReading}
+use Rattle.lrpar_examples.specs.Texts.{takes_in}
 use Rattle.lrpar_examples.specs.declared.fault.ExampleFault.{ExampleFault}
 use Rattle.lrpar_examples.specs.declared.fault.ExampleFault.TheVariants.{Barren, Memory}
 
@@ -21,22 +22,30 @@ pub record ExampleOf : Type 0 where
   pub first : List MoveOf
   pub second : List MoveOf
   pub ambiguous : Bool
+  pub shortest : Bool
+  pub bound : ℕ
 
--- The text leads to state s: the symbols do, and these trees fit them and have its tokens. No text that leads there has less tokens
-pub record IsShortestTo (g : Grammar) (graph : Graph) (s : ℕ) (text : List ℕ) (symbols : List GrammarSymbol) (trees : Forest ℕ) : Type 0 where
+-- the text leads to state s: the symbols do, and these trees fit them and have its tokens
+pub record IsTextTo (g : Grammar) (graph : Graph) (s : ℕ) (text : List ℕ) (symbols : List GrammarSymbol) (trees : Forest ℕ) : Type 0 where
   pub leads : IsPathTo g graph s symbols
   pub fit : AreTreesOf g symbols trees
   pub tokens : forest_leaves trees ≡ text
-  pub least : (path : List GrammarSymbol) (others : Forest ℕ) → IsPathTo g graph s path → AreTreesOf g path others
-      → length text ≤ length (forest_leaves others)
 
--- An example of a conflict in state s at a token: a shortest text that leads there, and two readings of trees of the start rule, each of
--- which has made the same trees of that text. One goes on with one move, the other with the other. The grammar is called ambiguous exactly
--- where both trees have one text; they are two trees anyhow
+-- no text that leads to state s has fewer tokens
+abbrev pub IsLeastTo : Grammar → Graph → ℕ → List ℕ → Type 0
+IsLeastTo g graph s text =
+    (path : List GrammarSymbol) (others : Forest ℕ) → IsPathTo g graph s path → AreTreesOf g path others → length text ≤ length (forest_leaves others)
+
+-- An example of a conflict in state s at a token: a text that leads there, and two readings of trees of the start rule, each of which has
+-- made the same trees of that text. One goes on with one move, the other with the other. The grammar is called ambiguous exactly where both
+-- trees have one text; they are two trees anyhow. The text that leads there is called a shortest one exactly where none is shorter, and it
+-- is one, unless both trees have one text
 pub record IsExample (g : Grammar) (graph : Graph) (s token : ℕ) (one other : MoveOf) (x : ExampleOf) : Type 0 where
   pub symbols : List GrammarSymbol
   pub trees : Forest ℕ
-  pub before : IsShortestTo g graph s x.before symbols trees
+  pub before : IsTextTo g graph s x.before symbols trees
+  pub shortest : IsTrue x.shortest ↔ IsLeastTo g graph s x.before
+  pub unless : (IsTrue x.shortest) ⊎ (IsTrue x.ambiguous)
   pub tree : Tree ℕ
   pub first : IsReading g x.before token trees one x.first tree
   pub other_tree : Tree ℕ
@@ -63,9 +72,14 @@ abbrev pub IsExampleFault : {S : Type 0} → (S → ℕ) → Grammar → Example
 IsExampleFault index g (Barren r) = IsFirstBarren g (index r.0)
 IsExampleFault index g Memory = Unit {0}
 
--- the steps of a way to state s, by which each state on it is reached, and moves of trees of its symbols, whose text is a shortest one
+-- the steps of a way to state s, by which each state on it is reached, and moves of trees of its symbols
 pub record IsFront (g : Grammar) (graph : Graph) (s : ℕ) (steps : List StepOf) (moves : List MoveOf) : Type 0 where
   pub way : IsWay g graph steps s
   pub trees : Forest ℕ
-  pub shortest : IsShortestTo g graph s (forest_leaves trees) (symbols_in steps) trees
+  pub text : IsTextTo g graph s (forest_leaves trees) (symbols_in steps) trees
   pub moves_are : moves ≡ forest_moves trees
+
+-- the same, with a text that is a shortest one
+pub record IsShortestFront (g : Grammar) (graph : Graph) (s : ℕ) (steps : List StepOf) (moves : List MoveOf) : Type 0 where
+  pub front : IsFront g graph s steps moves
+  pub least : IsLeastTo g graph s (takes_in moves)

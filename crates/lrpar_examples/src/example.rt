@@ -1,5 +1,5 @@
 //! An example of a conflict.
-ghost use Rattle.std.specs.Prelude.{◌≡◌, ◌↔◌, IfOk, IsTrue};
+ghost use Rattle.std.specs.Prelude.{◌≡◌, ◌↔◌, IfOk, IsTrue, length};
 ghost use Rattle.lrpar_shortest.specs.Moves.{moves_in};
 ghost use Rattle.lrpar_examples.specs.Texts.{takes_in, token_numbers};
 
@@ -15,6 +15,8 @@ pub struct Example<StorageT: StorageIndex> {
     first: Vec<Move<StorageT>>,
     second: Vec<Move<StorageT>>,
     ambiguous: bool,
+    shortest: bool,
+    bound: usize,
 }
 
 // A drop of its own, so that what lets go of one elsewhere proves one call.
@@ -25,6 +27,8 @@ impl<StorageT: StorageIndex> Drop for Example<StorageT> {
             first,
             second,
             ambiguous: _,
+            shortest: _,
+            bound: _,
         } = self;
         drop(before);
         drop(first);
@@ -39,22 +43,26 @@ impl<StorageT: StorageIndex> Model for Example<StorageT> {
 
     ghost Value = { ExampleOf };
 
-    ghost view = { λ x. record { before = token_numbers StorageT.index x.before.items; first = moves_in StorageT.index x.first.items; second = moves_in StorageT.index x.second.items; ambiguous = x.ambiguous } };
+    ghost view = { λ x. record { before = token_numbers StorageT.index x.before.items; first = moves_in StorageT.index x.first.items; second = moves_in StorageT.index x.second.items; ambiguous = x.ambiguous; shortest = x.shortest; bound = x.bound } };
 }
 
 impl<StorageT: StorageIndex> Example<StorageT> {
-    // The example of two readings that begin with the moves in front.
+    // The example of two readings that begin with the moves in front, whose text is a shortest one or not, with the bound of the search.
     pub(crate) fn new(
         alloc: Global,
         front: &[Move<StorageT>],
         first: Vec<Move<StorageT>>,
         second: Vec<Move<StorageT>>,
+        shortest: bool,
+        bound: usize,
     ) -> Result<Self, AllocError>
         ensures before { IfOk result (λ x. x.before ≡ takes_in (moves_in StorageT.index front.now)) }
         ensures first { IfOk result (λ x. x.first ≡ moves_in StorageT.index first.items) }
         ensures second { IfOk result (λ x. x.second ≡ moves_in StorageT.index second.items) }
         ensures ambiguous { IfOk result (λ x. IsTrue x.ambiguous
             ↔ (takes_in (moves_in StorageT.index first.items) ≡ takes_in (moves_in StorageT.index second.items))) }
+        ensures shortest { IfOk result (λ x. x.shortest ≡ shortest) }
+        ensures bound { IfOk result (λ x. x.bound ≡ bound) }
     {
         let before = taken(alloc, front)?;
         let ambiguous = have_same_text(alloc, &first, &second)?;
@@ -63,10 +71,13 @@ impl<StorageT: StorageIndex> Example<StorageT> {
             first,
             second,
             ambiguous,
+            shortest,
+            bound,
         })
     }
 
-    /// The tokens of a shortest text that leads to the conflict's state.
+    /// The tokens of a text that leads to the conflict's state: a shortest one, unless both readings have one text that was found on
+    /// another way.
     pub fn before(&self) -> &[TIdx<StorageT>]
         ensures { token_numbers StorageT.index result.now ≡ self.now.before }
     {
@@ -93,6 +104,34 @@ impl<StorageT: StorageIndex> Example<StorageT> {
     {
         self.ambiguous
     }
+
+    /// Whether no text that leads to the conflict's state has fewer tokens than `before`.
+    pub fn is_shortest(&self) -> bool
+        ensures { result ≡ self.now.shortest }
+    {
+        self.shortest
+    }
+
+    /// How far one text of both readings was looked for, if they weren't of one text from the start.
+    pub fn bound(&self) -> usize
+        ensures { result ≡ self.now.bound }
+    {
+        self.bound
+    }
+}
+
+// Whether both take as many tokens.
+pub(crate) fn have_as_many<StorageT: StorageIndex>(
+    alloc: Global,
+    one: &[Move<StorageT>],
+    other: &[Move<StorageT>],
+) -> Result<bool, AllocError>
+    ensures { IfOk result (λ same. IsTrue same
+        ↔ (length (takes_in (moves_in StorageT.index one.now)) ≡ length (takes_in (moves_in StorageT.index other.now)))) }
+{
+    let one = taken(alloc, one)?;
+    let other = taken(alloc, other)?;
+    Ok(one.len() == other.len())
 }
 
 // Whether the tokens that both take are the same.

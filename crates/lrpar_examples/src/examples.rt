@@ -10,11 +10,15 @@ ghost use Rattle.lrpar_shortest.specs.Choices.{AreShortest};
 ghost use Rattle.lrpar_shortest.specs.Moves.{Makes, Takes, move_of, moves_in};
 ghost use Rattle.lrpar_shortest.specs.Reached.{EachReachedHasTree};
 ghost use Rattle.lrpar_shortest.specs.Ways.{steps_of, symbols_in};
-ghost use Rattle.lrpar_examples.specs.Example.{AreExamplesFor, IsExample, IsExampleFault, IsFront};
+ghost use Rattle.lrpar_examples.specs.Example.{AreExamplesFor, IsExample, IsExampleFault, IsShortestFront};
 
+use crate::backs::Backs;
 pub use crate::example::{Example, taken};
 pub use crate::fault::ExampleFault;
-use crate::guess::example_of;
+use crate::given::Given;
+use crate::guess::{believed, symbols_of};
+use crate::lens::Lens;
+use crate::pairs::Clash;
 use crate::readings::{making, taking};
 use crate::unify::unify;
 use lrpar_first::first::first_sets;
@@ -33,6 +37,8 @@ pub struct Examples<StorageT: StorageIndex> {
     firsts: Vec<TokenSet>,
     shortest: Shortest<StorageT>,
     ways: Ways<StorageT>,
+    lens: Lens,
+    backs: Backs<StorageT>,
 }
 
 // A drop of its own, so that what lets go of one elsewhere proves one call.
@@ -42,10 +48,14 @@ impl<StorageT: StorageIndex> Drop for Examples<StorageT> {
             firsts,
             shortest,
             ways,
+            lens,
+            backs,
         } = self;
         drop(firsts);
         drop(shortest);
         drop(ways);
+        drop(lens);
+        drop(backs);
     }
 }
 
@@ -83,18 +93,23 @@ impl<StorageT: StorageIndex> Examples<StorageT> {
         let firsts = first_sets(alloc, grm)?;
         let shortest = fertile(alloc, grm)?;
         let ways = Ways::new(alloc, grm, sgraph, stable, &shortest)?;
+        let lens = Lens::new(alloc, grm, &shortest)?;
+        let backs = Backs::new(alloc, stable)?;
         Ok(Examples {
             firsts,
             shortest,
             ways,
+            lens,
+            backs,
         })
     }
 
     /// The example of a conflict between two reductions, as token, productions and state: one reading makes the node of the first
     /// production, the other that of the second.
     ///
-    /// Where the trees' texts differ, it looks for one text that has both readings, by at most about `bound` readings of it, and gives
-    /// these in place of the others if it finds some; with a bound of 0 it doesn't look. An `Err` comes where memory doesn't suffice.
+    /// Where the trees' texts differ, it looks for one text that has both readings, on any way to the state, shortest texts first, and gives
+    /// these in place of the others if it finds some. It tries at most `bound` pairs of readings and beginnings of ways; with a bound of 0 it
+    /// doesn't look. An `Err` comes where memory doesn't suffice.
     pub fn of_reduce_reduce(
         &self,
         alloc: Global,
@@ -112,14 +127,15 @@ impl<StorageT: StorageIndex> Examples<StorageT> {
         requires built { IsBuilt grm.now sgraph.now stable.now }
         requires made { AreExamplesFor grm.now sgraph.now stable.now usize.MAX self.now }
         requires member { Contains (lists_in stable.now.conflicts).reduce_reduce (reduce_reduce_of StorageT.index conflict.now) }
-        ensures { IfOk result (λ x. IsExample grm.now sgraph.now (StorageT.index conflict.now.3.0) (StorageT.index conflict.now.0.0)
+        ensures example { IfOk result (λ x. IsExample grm.now sgraph.now (StorageT.index conflict.now.3.0) (StorageT.index conflict.now.0.0)
             (Makes (StorageT.index conflict.now.1.0)) (Makes (StorageT.index conflict.now.2.0)) x) }
+        ensures bound { IfOk result (λ x. x.bound ≡ bound) }
     {
         let (token, one, other, state) = *conflict;
         let front = self.front(alloc, grm, sgraph, stable, state)?;
-        let plain = self.reductions(alloc, grm, sgraph, stable, &front, conflict)?;
+        let plain = self.reductions(alloc, grm, sgraph, stable, &front, conflict, bound)?;
         let (one, other) = (Move::Make(one), Move::Make(other));
-        with_one_text(
+        self.with_one_text(
             alloc, grm, sgraph, stable, &front, state, one, other, token, bound, plain,
         )
     }
@@ -138,14 +154,15 @@ impl<StorageT: StorageIndex> Examples<StorageT> {
         requires built { IsBuilt grm.now sgraph.now stable.now }
         requires made { AreExamplesFor grm.now sgraph.now stable.now usize.MAX self.now }
         requires member { Contains (lists_in stable.now.conflicts).shift_reduce (shift_reduce_of StorageT.index conflict.now) }
-        ensures { IfOk result (λ x. IsExample grm.now sgraph.now (StorageT.index conflict.now.2.0) (StorageT.index conflict.now.0.0)
+        ensures example { IfOk result (λ x. IsExample grm.now sgraph.now (StorageT.index conflict.now.2.0) (StorageT.index conflict.now.0.0)
             (Makes (StorageT.index conflict.now.1.0)) (Takes (StorageT.index conflict.now.0.0)) x) }
+        ensures bound { IfOk result (λ x. x.bound ≡ bound) }
     {
         let (token, prod, state) = *conflict;
         let front = self.front(alloc, grm, sgraph, stable, state)?;
-        let plain = self.shift(alloc, grm, sgraph, stable, &front, conflict)?;
+        let plain = self.shift(alloc, grm, sgraph, stable, &front, conflict, bound)?;
         let (one, other) = (Move::Make(prod), Move::Take(token));
-        with_one_text(
+        self.with_one_text(
             alloc, grm, sgraph, stable, &front, state, one, other, token, bound, plain,
         )
     }
@@ -164,14 +181,16 @@ impl<StorageT: StorageIndex> Examples<StorageT> {
             PIdx<StorageT>,
             StIdx<StorageT>,
         ),
+        bound: usize,
     ) -> Result<Example<StorageT>, AllocError>
         requires built { IsBuilt grm.now sgraph.now stable.now }
         requires made { AreExamplesFor grm.now sgraph.now stable.now usize.MAX self.now }
         requires member { Contains (lists_in stable.now.conflicts).reduce_reduce (reduce_reduce_of StorageT.index conflict.now) }
-        requires front { IsFront grm.now sgraph.now (StorageT.index conflict.now.3.0) (steps_of StorageT.index front.now.steps.items)
+        requires front { IsShortestFront grm.now sgraph.now (StorageT.index conflict.now.3.0) (steps_of StorageT.index front.now.steps.items)
             (moves_in StorageT.index front.now.moves.items) }
-        ensures { IfOk result (λ x. IsExample grm.now sgraph.now (StorageT.index conflict.now.3.0) (StorageT.index conflict.now.0.0)
+        ensures example { IfOk result (λ x. IsExample grm.now sgraph.now (StorageT.index conflict.now.3.0) (StorageT.index conflict.now.0.0)
             (Makes (StorageT.index conflict.now.1.0)) (Makes (StorageT.index conflict.now.2.0)) x) }
+        ensures bound { IfOk result (λ x. x.bound ≡ bound) }
     {
         let _start = grm.start_prod();
         let (token, one, other, state) = *conflict;
@@ -200,7 +219,7 @@ impl<StorageT: StorageIndex> Examples<StorageT> {
             other,
             token,
         )?;
-        Example::new(alloc, &front.moves, first, second)
+        Example::new(alloc, &front.moves, first, second, true, bound)
     }
 
     // The same by a way to the state.
@@ -212,14 +231,16 @@ impl<StorageT: StorageIndex> Examples<StorageT> {
         stable: &StateTable<StorageT>,
         front: &Front<StorageT>,
         conflict: &(TIdx<StorageT>, PIdx<StorageT>, StIdx<StorageT>),
+        bound: usize,
     ) -> Result<Example<StorageT>, AllocError>
         requires built { IsBuilt grm.now sgraph.now stable.now }
         requires made { AreExamplesFor grm.now sgraph.now stable.now usize.MAX self.now }
         requires member { Contains (lists_in stable.now.conflicts).shift_reduce (shift_reduce_of StorageT.index conflict.now) }
-        requires front { IsFront grm.now sgraph.now (StorageT.index conflict.now.2.0) (steps_of StorageT.index front.now.steps.items)
+        requires front { IsShortestFront grm.now sgraph.now (StorageT.index conflict.now.2.0) (steps_of StorageT.index front.now.steps.items)
             (moves_in StorageT.index front.now.moves.items) }
-        ensures { IfOk result (λ x. IsExample grm.now sgraph.now (StorageT.index conflict.now.2.0) (StorageT.index conflict.now.0.0)
+        ensures example { IfOk result (λ x. IsExample grm.now sgraph.now (StorageT.index conflict.now.2.0) (StorageT.index conflict.now.0.0)
             (Makes (StorageT.index conflict.now.1.0)) (Takes (StorageT.index conflict.now.0.0)) x) }
+        ensures bound { IfOk result (λ x. x.bound ≡ bound) }
     {
         let _start = grm.start_prod();
         let (token, prod, state) = *conflict;
@@ -247,7 +268,7 @@ impl<StorageT: StorageIndex> Examples<StorageT> {
             &front.moves,
             token,
         )?;
-        Example::new(alloc, &front.moves, first, second)
+        Example::new(alloc, &front.moves, first, second, true, bound)
     }
 
     // A shortest way to the state, and shortest trees of its symbols.
@@ -262,7 +283,7 @@ impl<StorageT: StorageIndex> Examples<StorageT> {
         requires built { IsBuilt grm.now sgraph.now stable.now }
         requires made { AreExamplesFor grm.now sgraph.now stable.now usize.MAX self.now }
         requires state { StorageT.index state.0 < graph_len sgraph.now }
-        ensures { IfOk result (λ front. IsFront grm.now sgraph.now (StorageT.index state.0) (steps_of StorageT.index front.steps.items)
+        ensures { IfOk result (λ front. IsShortestFront grm.now sgraph.now (StorageT.index state.0) (steps_of StorageT.index front.steps.items)
             (moves_in StorageT.index front.moves.items)) }
     {
         let _start = grm.start_prod();
@@ -277,88 +298,99 @@ impl<StorageT: StorageIndex> Examples<StorageT> {
         let _len = moves.len();
         Ok(Front { steps, moves })
     }
-}
 
-// The example of readings of one text that begin so, if one is found within the bound; else the plain one.
-fn with_one_text<StorageT: StorageIndex>(
-    alloc: Global,
-    grm: &YaccGrammar<StorageT>,
-    sgraph: &StateGraph<StorageT>,
-    stable: &StateTable<StorageT>,
-    front: &Front<StorageT>,
-    state: StIdx<StorageT>,
-    one: Move<StorageT>,
-    other: Move<StorageT>,
-    token: TIdx<StorageT>,
-    bound: usize,
-    plain: Example<StorageT>,
-) -> Result<Example<StorageT>, AllocError>
-    requires apart { move_of StorageT.index one ≢ move_of StorageT.index other }
-    requires front { IsFront grm.now sgraph.now (StorageT.index state.0) (steps_of StorageT.index front.now.steps.items)
-        (moves_in StorageT.index front.now.moves.items) }
-    requires plain { IsExample grm.now sgraph.now (StorageT.index state.0) (StorageT.index token.0) (move_of StorageT.index one) (move_of StorageT.index other) plain }
-    ensures { IfOk result (IsExample grm.now sgraph.now (StorageT.index state.0) (StorageT.index token.0) (move_of StorageT.index one) (move_of StorageT.index other)) }
-{
-    if bound == 0 || plain.is_ambiguous() {
-        return Ok(plain);
+    // The example of readings of one text that begin so, if one is found within the bound; else the plain one.
+    fn with_one_text(
+        &self,
+        alloc: Global,
+        grm: &YaccGrammar<StorageT>,
+        sgraph: &StateGraph<StorageT>,
+        stable: &StateTable<StorageT>,
+        front: &Front<StorageT>,
+        state: StIdx<StorageT>,
+        one: Move<StorageT>,
+        other: Move<StorageT>,
+        token: TIdx<StorageT>,
+        bound: usize,
+        plain: Example<StorageT>,
+    ) -> Result<Example<StorageT>, AllocError>
+        requires built { IsBuilt grm.now sgraph.now stable.now }
+        requires made { AreExamplesFor grm.now sgraph.now stable.now usize.MAX self.now }
+        requires apart { move_of StorageT.index one ≢ move_of StorageT.index other }
+        requires front { IsShortestFront grm.now sgraph.now (StorageT.index state.0) (steps_of StorageT.index front.now.steps.items)
+            (moves_in StorageT.index front.now.moves.items) }
+        requires plain { IsExample grm.now sgraph.now (StorageT.index state.0) (StorageT.index token.0) (move_of StorageT.index one) (move_of StorageT.index other) plain }
+        requires bound { plain.bound ≡ bound }
+        ensures example { IfOk result (IsExample grm.now sgraph.now (StorageT.index state.0) (StorageT.index token.0) (move_of StorageT.index one) (move_of StorageT.index other)) }
+        ensures bound { IfOk result (λ x. x.bound ≡ bound) }
+    {
+        if bound == 0 || plain.is_ambiguous() {
+            return Ok(plain);
+        }
+        match self.one_text(
+            alloc, grm, sgraph, stable, front, state, one, other, token, bound,
+        )? {
+            Some(found) => Ok(found),
+            None => Ok(plain),
+        }
     }
-    match one_text(
-        alloc, grm, sgraph, stable, front, state, one, other, token, bound,
-    )? {
-        Some(found) => Ok(found),
-        None => Ok(plain),
-    }
-}
 
-// The example of readings of one text that begin so, if one is found within the bound.
-fn one_text<StorageT: StorageIndex>(
-    alloc: Global,
-    grm: &YaccGrammar<StorageT>,
-    sgraph: &StateGraph<StorageT>,
-    stable: &StateTable<StorageT>,
-    front: &Front<StorageT>,
-    state: StIdx<StorageT>,
-    one: Move<StorageT>,
-    other: Move<StorageT>,
-    token: TIdx<StorageT>,
-    bound: usize,
-) -> Result<Option<Example<StorageT>>, AllocError>
-    requires apart { move_of StorageT.index one ≢ move_of StorageT.index other }
-    requires front { IsFront grm.now sgraph.now (StorageT.index state.0) (steps_of StorageT.index front.now.steps.items)
-        (moves_in StorageT.index front.now.moves.items) }
-    ensures { IfOk result (λ found. IfSome found (IsExample grm.now sgraph.now (StorageT.index state.0) (StorageT.index token.0)
-        (move_of StorageT.index one) (move_of StorageT.index other))) }
-{
-    let states = states_of(alloc, &front.steps, state)?;
-    match unify(
-        alloc, grm, sgraph, stable, &states, one, other, token, bound,
-    )? {
-        None => Ok(None),
-        Some(text) => example_of(
-            alloc,
+    // The example of readings of one text that begin so, if one is found within the bound.
+    fn one_text(
+        &self,
+        alloc: Global,
+        grm: &YaccGrammar<StorageT>,
+        sgraph: &StateGraph<StorageT>,
+        stable: &StateTable<StorageT>,
+        front: &Front<StorageT>,
+        state: StIdx<StorageT>,
+        one: Move<StorageT>,
+        other: Move<StorageT>,
+        token: TIdx<StorageT>,
+        bound: usize,
+    ) -> Result<Option<Example<StorageT>>, AllocError>
+        requires built { IsBuilt grm.now sgraph.now stable.now }
+        requires made { AreExamplesFor grm.now sgraph.now stable.now usize.MAX self.now }
+        requires apart { move_of StorageT.index one ≢ move_of StorageT.index other }
+        requires front { IsShortestFront grm.now sgraph.now (StorageT.index state.0) (steps_of StorageT.index front.now.steps.items)
+            (moves_in StorageT.index front.now.moves.items) }
+        ensures example { IfOk result (λ found. IfSome found (IsExample grm.now sgraph.now (StorageT.index state.0) (StorageT.index token.0)
+            (move_of StorageT.index one) (move_of StorageT.index other))) }
+        ensures bound { IfOk result (λ found. IfSome found (λ x. x.bound ≡ bound)) }
+    {
+        let given = Given {
             grm,
-            &front.moves,
+            graph: sgraph,
+            table: stable,
+            shortest: &self.shortest,
+            ways: &self.ways,
+            lens: &self.lens,
+            backs: &self.backs,
+        };
+        let clash = Clash {
+            state,
+            token,
             one,
             other,
-            token,
-            &text.first,
-            &text.second,
-        ),
+        };
+        match unify(alloc, &given, &clash, bound)? {
+            None => Ok(None),
+            Some(text) => believed(
+                alloc,
+                grm,
+                sgraph,
+                stable,
+                &self.shortest,
+                &front.moves,
+                state,
+                one,
+                other,
+                token,
+                &text,
+                bound,
+            ),
+        }
     }
-}
-
-// The states on the way, the last one too.
-fn states_of<StorageT: StorageIndex>(
-    alloc: Global,
-    steps: &[Step<StorageT>],
-    last: StIdx<StorageT>,
-) -> Result<Vec<StIdx<StorageT>>, AllocError> {
-    let mut states = Vec::new(alloc);
-    for step in steps {
-        states.push(step.from)?;
-    }
-    states.push(last)?;
-    Ok(states)
 }
 
 // The shortest texts of the grammar's rules, if each rule that is reached derives some text.
@@ -375,18 +407,4 @@ fn fertile<StorageT: StorageIndex>(
         Some(rule) => Err(ExampleFault::Barren(rule)),
         None => Ok(shortest),
     }
-}
-
-// The symbols of the steps.
-fn symbols_of<StorageT: StorageIndex>(
-    alloc: Global,
-    steps: &[Step<StorageT>],
-) -> Result<Vec<Symbol<StorageT>>, AllocError>
-    ensures { IfOk result (λ symbols. map (symbol_of StorageT.index) symbols.items ≡ symbols_in (steps_of StorageT.index steps.now)) }
-{
-    let mut symbols = Vec::with_capacity(alloc, steps.len())?;
-    for step in steps {
-        symbols.push(step.symbol)?;
-    }
-    Ok(symbols)
 }

@@ -1,394 +1,243 @@
-//! The search for one text of both readings: breadth first, token by token. What it finds is a guess, which is replayed before it is
-//! believed.
+//! The search for one text of both readings, shortest texts first. What it finds is a guess, which is replayed before it is believed.
+ghost use Rattle.lrpar_shortest.specs.Choices.{AreShortest};
 
-use lrpar_grammar::grammar::YaccGrammar;
-use lrpar_grammar::span::{PIdx, RIdx, StIdx, StorageIndex, TIdx};
+use crate::given::Given;
+use crate::levels::Levels;
+use crate::pairs::{Clash, How, Search, Turn};
+use crate::texts::{push_text, push_texts};
+use lrpar_grammar::span::{PIdx, StorageIndex, Symbol};
 use lrpar_shortest::moves::Move;
-use lrpar_states::table::{Action, Core, StateGraph, StateTable};
+use lrpar_shortest::ways::Step;
 use std::alloc::{AllocError, Global};
-use std::collections::VecDeque;
 
-// A reading on its way: its stack of states, and its moves so far.
-#[derive(Drop)]
-struct Side<StorageT> {
-    stack: Vec<StIdx<StorageT>>,
-    moves: Vec<Move<StorageT>>,
-}
-
-// Two readings that have taken the same tokens.
-#[derive(Drop)]
-struct Pair<StorageT> {
-    one: Side<StorageT>,
-    other: Side<StorageT>,
-}
-
-/// The moves of two readings.
+/// The steps of a way to the conflict's state, and the moves of two readings after it.
 #[derive(Drop)]
 pub(crate) struct OneText<StorageT> {
+    pub(crate) steps: Vec<Step<StorageT>>,
     pub(crate) first: Vec<Move<StorageT>>,
     pub(crate) second: Vec<Move<StorageT>>,
 }
 
-/// The moves of two readings that begin with these moves over the stack of states, and take one text from there on, if some are found
-/// before `bound` readings are tried. Nothing is promised of them.
+/// A way to the conflict's state, and two readings after it that begin with its moves and take one text, if some are found in so many turns.
+/// Nothing is promised of them.
 pub(crate) fn unify<StorageT: StorageIndex>(
     alloc: Global,
-    grm: &YaccGrammar<StorageT>,
-    graph: &StateGraph<StorageT>,
-    table: &StateTable<StorageT>,
-    states: &[StIdx<StorageT>],
-    one: Move<StorageT>,
-    other: Move<StorageT>,
-    token: TIdx<StorageT>,
+    given: &Given<'_, StorageT>,
+    clash: &Clash<StorageT>,
     bound: usize,
-) -> Result<Option<OneText<StorageT>>, AllocError> {
-    let mut left = bound;
-    let mut rounds = bound;
-    let mut queue = VecDeque::new(alloc);
-    begin(
-        alloc, grm, graph, table, states, one, other, token, &mut left, &mut queue,
-    )?;
-    'pairs: while let Some(pair) = queue.pop_front() {
-        if rounds == 0 || left == 0 {
-            return Ok(None);
+) -> Result<Option<OneText<StorageT>>, AllocError>
+    requires { AreShortest given.now.grm.now usize.MAX given.now.shortest.now }
+{
+    let mut search = Search::new(alloc, given, clash)?;
+    for _ in 0..bound {
+        match search.turn(given, clash)? {
+            Turn::Found(number) => return Ok(Some(told(alloc, given, clash, &search, number)?)),
+            Turn::Further => {}
+            Turn::Over => return Ok(None),
         }
-        rounds -= 1;
-        if let Some(found) = finish(alloc, grm, graph, table, &pair, &mut left)? {
-            return Ok(Some(found));
-        }
-        advance_all(alloc, grm, graph, table, &pair, &mut left, &mut queue)?;
     }
     Ok(None)
 }
 
-// The pairs of readings that begin with these moves and then take the token.
-fn begin<StorageT: StorageIndex>(
+// The way and the readings of the pair.
+fn told<StorageT: StorageIndex>(
     alloc: Global,
-    grm: &YaccGrammar<StorageT>,
-    graph: &StateGraph<StorageT>,
-    table: &StateTable<StorageT>,
-    states: &[StIdx<StorageT>],
-    one: Move<StorageT>,
-    other: Move<StorageT>,
-    token: TIdx<StorageT>,
-    left: &mut usize,
-    queue: &mut VecDeque<Pair<StorageT>>,
-) -> Result<(), AllocError> {
-    let front = Side {
-        stack: Vec::from_slice(alloc, states)?,
-        moves: Vec::new(alloc),
+    given: &Given<'_, StorageT>,
+    clash: &Clash<StorageT>,
+    search: &Search<StorageT>,
+    number: usize,
+) -> Result<OneText<StorageT>, AllocError>
+    requires { AreShortest given.now.grm.now usize.MAX given.now.shortest.now }
+{
+    let hows = hows_of(alloc, search, number)?;
+    let mut text = OneText {
+        steps: Vec::new(alloc),
+        first: Vec::new(alloc),
+        second: Vec::new(alloc),
     };
-    let mut ones = Vec::new(alloc);
-    begin_one(
-        alloc, grm, graph, table, &front, one, token, left, &mut ones,
-    )?;
-    let mut others = Vec::new(alloc);
-    begin_one(
-        alloc,
-        grm,
-        graph,
-        table,
-        &front,
-        other,
-        token,
-        left,
-        &mut others,
-    )?;
-    push_pairs(alloc, &ones, &others, queue)
+    push_node(&mut text.first, clash.one)?;
+    push_node(&mut text.second, clash.other)?;
+    for how in &hows {
+        tell(alloc, given, search, *how, &mut text)?;
+    }
+    finish(alloc, given, &search.levels, search.top(number), &mut text)?;
+    Ok(text)
 }
 
-// The readings that begin with the move and then take the token.
-fn begin_one<StorageT: StorageIndex>(
+// How the pair came about, from the way on.
+fn hows_of<StorageT: StorageIndex>(
     alloc: Global,
-    grm: &YaccGrammar<StorageT>,
-    graph: &StateGraph<StorageT>,
-    table: &StateTable<StorageT>,
-    front: &Side<StorageT>,
+    search: &Search<StorageT>,
+    number: usize,
+) -> Result<Vec<How<StorageT>>, AllocError> {
+    let mut hows = Vec::new(alloc);
+    let mut number = number;
+    for _ in 0..search.len() {
+        if let Some((how, by)) = search.how(number) {
+            hows.push(how)?;
+            number = by;
+        }
+    }
+    hows.reverse();
+    Ok(hows)
+}
+
+// Appends the move, if it makes a node.
+fn push_node<StorageT: StorageIndex>(
+    out: &mut Vec<Move<StorageT>>,
     next: Move<StorageT>,
-    token: TIdx<StorageT>,
-    left: &mut usize,
-    done: &mut Vec<Side<StorageT>>,
 ) -> Result<(), AllocError> {
-    match next {
-        Move::Take(_) => go_on(table, copy(alloc, front)?, token, done),
-        Move::Make(prod) => match reduced(alloc, grm, table, front, prod)? {
-            Some(side) => settle(alloc, grm, graph, table, &side, token, left, done),
-            None => Ok(()),
-        },
+    if let Move::Make(_) = next {
+        out.push(next)?;
+    }
+    Ok(())
+}
+
+// Appends what came about.
+fn tell<StorageT: StorageIndex>(
+    alloc: Global,
+    given: &Given<'_, StorageT>,
+    search: &Search<StorageT>,
+    how: How<StorageT>,
+    text: &mut OneText<StorageT>,
+) -> Result<(), AllocError>
+    requires { AreShortest given.now.grm.now usize.MAX given.now.shortest.now }
+{
+    match how {
+        How::Begun(level) => push_steps(&search.levels, level, &mut text.steps),
+        How::One(prod) => Ok(text.first.push(Move::Make(prod))?),
+        How::Other(prod) => Ok(text.second.push(Move::Make(prod))?),
+        How::Both(symbol) => push_symbol(alloc, given, symbol, text),
     }
 }
 
-// The pair's readings once both have accepted at the end, if both can.
+// Appends the steps from the bottom to the level.
+fn push_steps<StorageT: StorageIndex>(
+    levels: &Levels<StorageT>,
+    level: usize,
+    steps: &mut Vec<Step<StorageT>>,
+) -> Result<(), AllocError> {
+    let mut level = level;
+    for _ in 0..levels.len() {
+        if let Some((step, below)) = step_to(levels, level) {
+            steps.push(step)?;
+            level = below;
+        }
+    }
+    steps.reverse();
+    Ok(())
+}
+
+// The step to the level, and the level that it goes from, if there is one.
+fn step_to<StorageT: StorageIndex>(
+    levels: &Levels<StorageT>,
+    level: usize,
+) -> Option<(Step<StorageT>, usize)> {
+    let own = levels.get(level)?;
+    let below = levels.get(own.below)?;
+    let step = Step {
+        from: below.state,
+        symbol: own.symbol,
+    };
+    Some((step, own.below))
+}
+
+// Appends a shortest text of the symbol to both readings.
+fn push_symbol<StorageT: StorageIndex>(
+    alloc: Global,
+    given: &Given<'_, StorageT>,
+    symbol: Symbol<StorageT>,
+    text: &mut OneText<StorageT>,
+) -> Result<(), AllocError>
+    requires { AreShortest given.now.grm.now usize.MAX given.now.shortest.now }
+{
+    push_text(alloc, given.grm, given.shortest, symbol, &mut text.first)?;
+    push_text(alloc, given.grm, given.shortest, symbol, &mut text.second)
+}
+
+// Appends shortest texts of the symbols to both readings.
+fn push_both<StorageT: StorageIndex>(
+    alloc: Global,
+    given: &Given<'_, StorageT>,
+    symbols: &[Symbol<StorageT>],
+    text: &mut OneText<StorageT>,
+) -> Result<(), AllocError>
+    requires { AreShortest given.now.grm.now usize.MAX given.now.shortest.now }
+{
+    let _first = push_texts(alloc, given.grm, given.shortest, symbols, &mut text.first)?;
+    let _second = push_texts(alloc, given.grm, given.shortest, symbols, &mut text.second)?;
+    Ok(())
+}
+
+// Appends moves that finish both readings from the level on which they meet, by the shortest text.
 fn finish<StorageT: StorageIndex>(
     alloc: Global,
-    grm: &YaccGrammar<StorageT>,
-    graph: &StateGraph<StorageT>,
-    table: &StateTable<StorageT>,
-    pair: &Pair<StorageT>,
-    left: &mut usize,
-) -> Result<Option<OneText<StorageT>>, AllocError> {
-    let end = grm.eof_token_idx();
-    let mut ones = Vec::new(alloc);
-    settle(alloc, grm, graph, table, &pair.one, end, left, &mut ones)?;
-    let mut others = Vec::new(alloc);
-    settle(
-        alloc,
-        grm,
-        graph,
-        table,
-        &pair.other,
-        end,
-        left,
-        &mut others,
-    )?;
-    found(alloc, &ones, &others)
-}
-
-// The first reading of each list, if both have one.
-fn found<StorageT: StorageIndex>(
-    alloc: Global,
-    ones: &[Side<StorageT>],
-    others: &[Side<StorageT>],
-) -> Result<Option<OneText<StorageT>>, AllocError> {
-    if ones.is_empty() || others.is_empty() {
-        return Ok(None);
-    }
-    Ok(Some(OneText {
-        first: Vec::from_slice(alloc, &ones[0].moves)?,
-        second: Vec::from_slice(alloc, &others[0].moves)?,
-    }))
-}
-
-// Puts into the queue the pairs that come of this one by one token more.
-fn advance_all<StorageT: StorageIndex>(
-    alloc: Global,
-    grm: &YaccGrammar<StorageT>,
-    graph: &StateGraph<StorageT>,
-    table: &StateTable<StorageT>,
-    pair: &Pair<StorageT>,
-    left: &mut usize,
-    queue: &mut VecDeque<Pair<StorageT>>,
-) -> Result<(), AllocError> {
-    for token in grm.iter_tidxs() {
-        if usize::from(token) != usize::from(grm.eof_token_idx()) {
-            advance(alloc, grm, graph, table, pair, token, left, queue)?;
-        }
-    }
-    Ok(())
-}
-
-// The same by this token.
-fn advance<StorageT: StorageIndex>(
-    alloc: Global,
-    grm: &YaccGrammar<StorageT>,
-    graph: &StateGraph<StorageT>,
-    table: &StateTable<StorageT>,
-    pair: &Pair<StorageT>,
-    token: TIdx<StorageT>,
-    left: &mut usize,
-    queue: &mut VecDeque<Pair<StorageT>>,
-) -> Result<(), AllocError> {
-    let mut ones = Vec::new(alloc);
-    settle(alloc, grm, graph, table, &pair.one, token, left, &mut ones)?;
-    if ones.is_empty() {
+    given: &Given<'_, StorageT>,
+    levels: &Levels<StorageT>,
+    level: usize,
+    text: &mut OneText<StorageT>,
+) -> Result<(), AllocError>
+    requires { AreShortest given.now.grm.now usize.MAX given.now.shortest.now }
+{
+    let Some((prod, dot)) = least_core(given, levels, level) else {
         return Ok(());
-    }
-    let mut others = Vec::new(alloc);
-    settle(
-        alloc,
-        grm,
-        graph,
-        table,
-        &pair.other,
-        token,
-        left,
-        &mut others,
-    )?;
-    push_pairs(alloc, &ones, &others, queue)
-}
-
-// Puts each of the one with each of the others into the queue.
-fn push_pairs<StorageT: StorageIndex>(
-    alloc: Global,
-    ones: &[Side<StorageT>],
-    others: &[Side<StorageT>],
-    queue: &mut VecDeque<Pair<StorageT>>,
-) -> Result<(), AllocError> {
-    for one in ones {
-        push_with(alloc, one, others, queue)?;
-    }
-    Ok(())
-}
-
-// Puts this one with each of the others into the queue.
-fn push_with<StorageT: StorageIndex>(
-    alloc: Global,
-    one: &Side<StorageT>,
-    others: &[Side<StorageT>],
-    queue: &mut VecDeque<Pair<StorageT>>,
-) -> Result<(), AllocError> {
-    for other in others {
-        let pair = Pair {
-            one: copy(alloc, one)?,
-            other: copy(alloc, other)?,
+    };
+    let mut level = levels.below(level, dot);
+    let (mut prod, mut dot) = (prod, dot);
+    for _ in 0..levels.len().saturating_mul(given.table.rules_len()) {
+        push_rest(alloc, given, prod, dot, text)?;
+        let Some(rule) = given.rule_of(prod) else {
+            return Ok(());
         };
-        queue.push_back(pair)?;
-    }
-    Ok(())
-}
-
-// Appends the readings that come of this one by reductions with the token as lookahead, and then take the token, or accept.
-fn settle<StorageT: StorageIndex>(
-    alloc: Global,
-    grm: &YaccGrammar<StorageT>,
-    graph: &StateGraph<StorageT>,
-    table: &StateTable<StorageT>,
-    side: &Side<StorageT>,
-    token: TIdx<StorageT>,
-    left: &mut usize,
-    done: &mut Vec<Side<StorageT>>,
-) -> Result<(), AllocError> {
-    let mut open = Vec::new(alloc);
-    open.push(copy(alloc, side)?)?;
-    'open: while let Some(side) = open.pop() {
-        if *left == 0 {
+        if given.is_start(prod) {
             return Ok(());
         }
-        *left -= 1;
-        reduce_all(alloc, grm, graph, table, &side, token, &mut open)?;
-        go_on(table, side, token, done)?;
+        text.first.push(Move::Make(prod))?;
+        text.second.push(Move::Make(prod))?;
+        let Some(waiting) = levels.waiting(level, rule) else {
+            return Ok(());
+        };
+        level = levels.below(level, waiting.dot);
+        prod = waiting.prod;
+        dot = waiting.dot.saturating_add(1);
     }
     Ok(())
 }
 
-// Appends the readings that come of this one by one reduction with the token as lookahead.
-fn reduce_all<StorageT: StorageIndex>(
+// The core of the level's state from which a text ends soonest, if there is one.
+fn least_core<StorageT: StorageIndex>(
+    given: &Given<'_, StorageT>,
+    levels: &Levels<StorageT>,
+    level: usize,
+) -> Option<(PIdx<StorageT>, usize)> {
+    let top = levels.get(level)?;
+    if usize::from(top.state) >= given.graph.states_len() {
+        return None;
+    }
+    for core in given.graph.begun_cores(top.state) {
+        if levels.rest_of(given, level, *core) == top.rest {
+            return Some(*core);
+        }
+    }
+    None
+}
+
+// Appends shortest texts of what the production has after the dot to both readings.
+fn push_rest<StorageT: StorageIndex>(
     alloc: Global,
-    grm: &YaccGrammar<StorageT>,
-    graph: &StateGraph<StorageT>,
-    table: &StateTable<StorageT>,
-    side: &Side<StorageT>,
-    token: TIdx<StorageT>,
-    open: &mut Vec<Side<StorageT>>,
-) -> Result<(), AllocError> {
-    let Some(state) = side.stack.last() else {
+    given: &Given<'_, StorageT>,
+    prod: PIdx<StorageT>,
+    dot: usize,
+    text: &mut OneText<StorageT>,
+) -> Result<(), AllocError>
+    requires { AreShortest given.now.grm.now usize.MAX given.now.shortest.now }
+{
+    if usize::from(prod) >= given.grm.prods_len() {
         return Ok(());
-    };
-    if usize::from(*state) < graph.states_len() {
-        for core in graph.cores(*state) {
-            if is_complete(grm, *core) && graph.has_item(*state, core.0, core.1, token) {
-                reduce(alloc, grm, table, side, core.0, open)?;
-            }
-        }
     }
-    Ok(())
-}
-
-// Whether the core's dot is behind all symbols.
-fn is_complete<StorageT: StorageIndex>(grm: &YaccGrammar<StorageT>, core: Core<StorageT>) -> bool {
-    usize::from(core.0) < grm.prods_len() && core.1 == grm.prod(core.0).len()
-}
-
-// Appends the reading once it has made the production's node, if it can.
-fn reduce<StorageT: StorageIndex>(
-    alloc: Global,
-    grm: &YaccGrammar<StorageT>,
-    table: &StateTable<StorageT>,
-    side: &Side<StorageT>,
-    prod: PIdx<StorageT>,
-    open: &mut Vec<Side<StorageT>>,
-) -> Result<(), AllocError> {
-    match reduced(alloc, grm, table, side, prod)? {
-        Some(next) => open.push(next)?,
-        None => {}
+    let symbols = given.grm.prod(prod);
+    if dot > symbols.len() {
+        return Ok(());
     }
-    Ok(())
-}
-
-// The reading once it has made the production's node, if it can.
-fn reduced<StorageT: StorageIndex>(
-    alloc: Global,
-    grm: &YaccGrammar<StorageT>,
-    table: &StateTable<StorageT>,
-    side: &Side<StorageT>,
-    prod: PIdx<StorageT>,
-) -> Result<Option<Side<StorageT>>, AllocError> {
-    if usize::from(prod) >= grm.prods_len() || side.stack.len() <= grm.prod(prod).len() {
-        return Ok(None);
-    }
-    let kept = side.stack.len() - grm.prod(prod).len();
-    match goto_from(table, &side.stack[..kept], grm.prod_to_rule(prod)) {
-        Some(state) => {
-            let mut next = copy(alloc, side)?;
-            next.stack.truncate(kept);
-            next.stack.push(state)?;
-            next.moves.push(Move::Make(prod))?;
-            Ok(Some(next))
-        }
-        None => Ok(None),
-    }
-}
-
-// Where the state on top goes by the rule.
-fn goto_from<StorageT: StorageIndex>(
-    table: &StateTable<StorageT>,
-    stack: &[StIdx<StorageT>],
-    rule: RIdx<StorageT>,
-) -> Option<StIdx<StorageT>> {
-    let state = *stack.last()?;
-    if usize::from(state) < table.states_len() && usize::from(rule) < table.rules_len() {
-        table.goto(state, rule)
-    } else {
-        None
-    }
-}
-
-// Appends the reading once it has taken the token, or accepted, if it does.
-fn go_on<StorageT: StorageIndex>(
-    table: &StateTable<StorageT>,
-    side: Side<StorageT>,
-    token: TIdx<StorageT>,
-    done: &mut Vec<Side<StorageT>>,
-) -> Result<(), AllocError> {
-    match action_on(table, &side.stack, token) {
-        Action::Shift(state) => {
-            let Side {
-                mut stack,
-                mut moves,
-            } = side;
-            stack.push(state)?;
-            moves.push(Move::Take(token))?;
-            done.push(Side { stack, moves })?;
-        }
-        Action::Accept => done.push(side)?,
-        Action::Reduce(_) | Action::Error => {}
-    }
-    Ok(())
-}
-
-// What the state on top does at the token.
-fn action_on<StorageT: StorageIndex>(
-    table: &StateTable<StorageT>,
-    stack: &[StIdx<StorageT>],
-    token: TIdx<StorageT>,
-) -> Action<StorageT> {
-    let Some(state) = stack.last() else {
-        return Action::Error;
-    };
-    if usize::from(*state) < table.states_len() && usize::from(token) < table.tokens_len() {
-        table.action(*state, token)
-    } else {
-        Action::Error
-    }
-}
-
-// The same reading.
-fn copy<StorageT: StorageIndex>(
-    alloc: Global,
-    side: &Side<StorageT>,
-) -> Result<Side<StorageT>, AllocError> {
-    Ok(Side {
-        stack: Vec::from_slice(alloc, &side.stack)?,
-        moves: Vec::from_slice(alloc, &side.moves)?,
-    })
+    push_both(alloc, given, &symbols[dot..], text)
 }

@@ -6,5 +6,5 @@ use Rattle.lrpar_example_texts.proofs.listed.push_reductions.Given as goal
 -- an example of each conflict so far was added
 abbrev pub invariant-loop-conflict : goal.invariant-loop-conflict
 invariant-loop-conflict g l =
-    AddsExamples l.grm l.sgraph (map of_reductions (map (reduce_reduce_of g.StorageT.StorageIndex.index) (take l.conflict-index l.conflicts)))
+    AddsExamples l.grm l.sgraph l.bound (map of_reductions (map (reduce_reduce_of g.StorageT.StorageIndex.index) (take l.conflict-index l.conflicts)))
     l.initial.examples.items l.examples.items

@@ -1,4 +1,4 @@
-use Rattle.std.proofs.Common.{◌≡◌, ◌∷◌, ◌++◌, ◌∙◌, [], ap, length, true, false}
+use Rattle.std.proofs.Common.{◌≡◌, ◌∷◌, ◌++◌, ◌∙◌, [], ap, length, false}
 use Rattle.std.proofs.lemmas.List.{map-append}
 use Rattle.lrpar_examples.specs.Links.{link_of, links_of}
 use Rattle.lrpar_examples.proofs.MarkLemmas.{linked_put, marks_any}

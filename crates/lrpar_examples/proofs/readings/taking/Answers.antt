@@ -1,4 +1,4 @@
-use Rattle.std.proofs.Common.{◌≡◌, ◌+◌, ◌-◌, ◌∷◌, ◌++◌, ◌∙◌, [], sym, ap, subst}
+use Rattle.std.proofs.Common.{◌≡◌, ◌+◌, ◌∷◌, ◌++◌, ◌∙◌, [], sym, ap, subst}
 use Rattle.std.proofs.lemmas.List.{map-append}
 use Rattle.lrpar_grammar.specs.Grammar.{Terminal, symbols_of}
 use Rattle.lrpar_grammar.specs.Symbols.{symbol_of}

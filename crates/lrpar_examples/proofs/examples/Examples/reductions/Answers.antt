@@ -8,8 +8,8 @@ use Rattle.lrpar_shortest.specs.Ways.{steps_of, symbols_in}
 use Rattle.lrpar_examples.specs.Climbing.{IsWay}
 use Rattle.lrpar_examples.specs.Example.{ExamplesOf, IsExample}
 use Rattle.lrpar_examples.specs.Texts.{takes_in}
-use Rattle.lrpar_examples.proofs.ExampleLemmas.{Reads, complete_known, example_done, nodes_differ}
-use Rattle.lrpar_examples.proofs.OkLemmas.{IfOk-four}
+use Rattle.lrpar_examples.proofs.ExampleLemmas.{Reads, complete_known, plain_done, nodes_differ}
+use Rattle.lrpar_examples.proofs.OkLemmas.{IfOk-five}
 use Rattle.lrpar_examples.proofs.examples.Examples.reductions.Goals as goal
 
 pub making-requires-clause-firsts : goal.making-requires-clause-firsts
@@ -66,7 +66,7 @@ making-requires-clause-way g c =
     let t = index conflict.0.0 in
     let p = index conflict.1.0 in
     let q = index conflict.2.0 in
-    subst (λ xs. IsWay grm graph (steps_of index xs) s) (sym c.deref-2.ensures.value) c.requires.front.way
+    subst (λ xs. IsWay grm graph (steps_of index xs) s) (sym c.deref-2.ensures.value) c.requires.front.front.way
 
 pub making-requires-clause-prod : goal.making-requires-clause-prod
 making-requires-clause-prod g c =
@@ -164,7 +164,7 @@ making-requires-2-clause-way g c =
     let t = index conflict.0.0 in
     let p = index conflict.1.0 in
     let q = index conflict.2.0 in
-    subst (λ xs. IsWay grm graph (steps_of index xs) s) (sym c.deref-5.ensures.value) c.requires.front.way
+    subst (λ xs. IsWay grm graph (steps_of index xs) s) (sym c.deref-5.ensures.value) c.requires.front.front.way
 
 pub making-requires-2-clause-prod : goal.making-requires-2-clause-prod
 making-requires-2-clause-prod g c =
@@ -208,8 +208,8 @@ making-requires-2-clause-item g c =
     let q = index conflict.2.0 in
     facts.2.1.1
 
-pub returns : goal.returns
-returns g c =
+pub returns-clause-example : goal.returns-clause-example
+returns-clause-example g c =
     let index = g.StorageT.StorageIndex.index in
     let grm = c.args.grm.now in
     let graph = c.args.sgraph.now in
@@ -235,8 +235,8 @@ returns g c =
     (ap (moves_in index) c.deref-6.ensures.value ∙ are) in
     let before = ap (λ xs. takes_in (moves_in index xs)) c.deref-7.ensures.value in
     let made = c.new.ensures in
-    IfOk-four c.new.result _ _ _ _ (IsExample grm graph s t (Makes p) (Makes q))
-    (λ x before_is first_is second_is same.
-    example_done grm graph s t steps moves first second (Makes p) (Makes q) x (nodes_differ p q facts.2.2) c.requires.front reads_one reads_other
-    (before_is ∙ before) first_is second_is same)
-    made.before made.first made.second made.ambiguous
+    IfOk-five c.new.result _ _ _ _ _ (IsExample grm graph s t (Makes p) (Makes q))
+    (λ x before_is first_is second_is same short.
+    plain_done grm graph s t steps moves first second (Makes p) (Makes q) x (nodes_differ p q facts.2.2) c.requires.front reads_one reads_other
+    (before_is ∙ before) first_is second_is same short)
+    made.before made.first made.second made.ambiguous made.shortest

@@ -8,8 +8,8 @@ use Rattle.lrpar_shortest.specs.Ways.{steps_of, symbols_in}
 use Rattle.lrpar_examples.specs.Climbing.{IsWay}
 use Rattle.lrpar_examples.specs.Example.{ExamplesOf, IsExample}
 use Rattle.lrpar_examples.specs.Texts.{takes_in}
-use Rattle.lrpar_examples.proofs.ExampleLemmas.{Reads, complete_known, example_done, node_and_token}
-use Rattle.lrpar_examples.proofs.OkLemmas.{IfOk-four}
+use Rattle.lrpar_examples.proofs.ExampleLemmas.{Reads, complete_known, plain_done, node_and_token}
+use Rattle.lrpar_examples.proofs.OkLemmas.{IfOk-five}
 use Rattle.lrpar_examples.proofs.examples.Examples.shift.Goals as goal
 
 pub making-requires-clause-firsts : goal.making-requires-clause-firsts
@@ -62,7 +62,7 @@ making-requires-clause-way g c =
     let s = index conflict.2.0 in
     let t = index conflict.0.0 in
     let p = index conflict.1.0 in
-    subst (λ xs. IsWay grm graph (steps_of index xs) s) (sym c.deref-2.ensures.value) c.requires.front.way
+    subst (λ xs. IsWay grm graph (steps_of index xs) s) (sym c.deref-2.ensures.value) c.requires.front.front.way
 
 pub making-requires-clause-prod : goal.making-requires-clause-prod
 making-requires-clause-prod g c =
@@ -153,7 +153,7 @@ taking-requires-clause-way g c =
     let s = index conflict.2.0 in
     let t = index conflict.0.0 in
     let p = index conflict.1.0 in
-    subst (λ xs. IsWay grm graph (steps_of index xs) s) (sym c.deref-5.ensures.value) c.requires.front.way
+    subst (λ xs. IsWay grm graph (steps_of index xs) s) (sym c.deref-5.ensures.value) c.requires.front.front.way
 
 pub taking-requires-clause-last : goal.taking-requires-clause-last
 taking-requires-clause-last g c =
@@ -181,8 +181,8 @@ taking-requires-clause-before g c =
     let p = index conflict.1.0 in
     facts.2.0
 
-pub returns : goal.returns
-returns g c =
+pub returns-clause-example : goal.returns-clause-example
+returns-clause-example g c =
     let index = g.StorageT.StorageIndex.index in
     let grm = c.args.grm.now in
     let graph = c.args.sgraph.now in
@@ -207,8 +207,8 @@ returns g c =
     (ap (moves_in index) c.deref-6.ensures.value ∙ are) in
     let before = ap (λ xs. takes_in (moves_in index xs)) c.deref-7.ensures.value in
     let made = c.new.ensures in
-    IfOk-four c.new.result _ _ _ _ (IsExample grm graph s t (Makes p) (Takes t))
-    (λ x before_is first_is second_is same.
-    example_done grm graph s t steps moves first second (Makes p) (Takes t) x (node_and_token p t) c.requires.front reads_one reads_other
-    (before_is ∙ before) first_is second_is same)
-    made.before made.first made.second made.ambiguous
+    IfOk-five c.new.result _ _ _ _ _ (IsExample grm graph s t (Makes p) (Takes t))
+    (λ x before_is first_is second_is same short.
+    plain_done grm graph s t steps moves first second (Makes p) (Takes t) x (node_and_token p t) c.requires.front reads_one reads_other
+    (before_is ∙ before) first_is second_is same short)
+    made.before made.first made.second made.ambiguous made.shortest

@@ -1,7 +1,7 @@
 use Rattle.std.proofs.Common.{◌≡◌, map, take}
 use Rattle.lrpar_grammar.specs.Symbols.{symbol_of}
 use Rattle.lrpar_shortest.specs.Ways.{steps_of, symbols_in}
-use Rattle.lrpar_examples.proofs.examples.symbols_of.Given as goal
+use Rattle.lrpar_examples.proofs.guess.symbols_of.Given as goal
 
 -- the symbols so far
 abbrev pub invariant-loop-step : goal.invariant-loop-step
