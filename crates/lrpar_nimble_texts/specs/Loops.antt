@@ -1,5 +1,5 @@
 -- Rules that lead back to themselves while a parse takes no token.
-use Rattle.std.specs.Prelude.{◌≡◌, ◌<◌, ◌+◌, ◌∷◌, ℕ, All, List, [], Some, drop, length, slice_get, take}
+use Rattle.std.specs.Prelude.{◌≡◌, ◌<◌, ◌+◌, ◌∷◌, ℕ, List, [], Some, drop, slice_get, take}
 use Rattle.lrpar_grammar.specs.Grammar.{Grammar, GrammarSymbol, Nonterminal, prods_len, rule_of, symbols_of}
 use Rattle.lrpar_grammar.specs.Tree.{Forest, forest_leaves}
 use Rattle.lrpar_shortest.specs.Texts.{AreTreesOf}

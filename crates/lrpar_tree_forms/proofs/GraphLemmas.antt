@@ -3,7 +3,7 @@ use denote.Ref.{Bor}
 use Rattle.std.proofs.Common.{◌≡◌, ℕ, ◌+◌, ◌<◌, List, [], ◌∷◌, ◌++◌, Option, codes, map, subst, refl, ap, sym, ◌∙◌, add-zero, arith, append_assoc, append-nil, sum_by}
 use Rattle.std.proofs.lemmas.List.Sums.{sum_by-cons}
 use Rattle.std.specs.Io.KnownBytes.{Appends}
-use Rattle.lrpar_grammar.specs.Grammar.{Grammar, rule_name}
+use Rattle.lrpar_grammar.specs.Grammar.{Grammar}
 use Rattle.lrpar_grammar.specs.Sentence.{LexemeFacts}
 use Rattle.lrpar_answers.specs.declared.node.Node.{Node}
 use Rattle.lrpar_answers.specs.declared.node.Node.TheOpen.{Node-F}
