@@ -8,8 +8,8 @@
 # a beginning of what else stands there and the line `lrpar: out of memory`, or `nimbleparse: out of memory`; or else the whole
 # answer as if no call had been refused. Wants of the cases, which are
 # run twice: where a call is refused, the one line on standard error that memory was wanting, in one case or in what all cases
-# stand on, so that each other case, and the same one in the other run, has its answer; or else no line. Where all calls are refused
-# from one on, no case behind it has an answer, and that line is all that can be told. Prints how many calls
+# stand on, so that each other case, and the same one in the other run, has its answer; or else no line. If all calls are refused
+# from one on, no case after it has an answer, and that line is all that can be said. Prints how many calls
 # each command and the cases make, what failed, and one closing line. It stands outside the gate. It needs cc and glibc.
 set -u
 
@@ -149,7 +149,7 @@ refuse_calls_of_cases() {
     count "$name: at most $most calls" false
 }
 
-# refuse_calls_in_both_ways EACH MOST FILE: the same in both ways, where the cases are right before.
+# refuse_calls_in_both_ways EACH MOST FILE: the same in both ways, if the cases are right before.
 refuse_calls_in_both_ways() {
     run "$runner" "$3" "$3"
     if [[ $status -ne 0 ]]; then

@@ -295,7 +295,7 @@ def check(folder, jobs, only=()):
 
 
 def messages_of(said):
-    """Returns the messages of what a check printed, each on one line: where one goes on in further lines, these stand indented."""
+    """Returns the messages of what a check printed, each on one line: the further lines of one are indented."""
     messages = []
     for line in said.rstrip("\n").split("\n"):
         if messages and line.startswith("  "):
@@ -358,7 +358,7 @@ def refusal_by(told):
 
 
 def judged(edit, status, lines):
-    """Returns what a check with the edit comes to, none where it passed, and what to say."""
+    """Returns what a check with the edit comes to, none if it passed, and what to say."""
     ends = [it for it in lines if re.match(r"only=|logic=|rattle: no verdict", it)]
     bad = next((it for it in lines if is_unread(it, edit.texts)), "")
     if bad:

@@ -79,7 +79,7 @@ fits_leave P same node rest nodes more is root all =
     let below = fit_shift P same (weights (nodes_below node)) 1 2 (nodes_below node) (omega arith) parts.0 in
     rw is (all_both P (met_from node 1) (all_met 1 (rest ++ more)) (fit_whole P node 1 root below) parts.1)
 
--- with no list: several trees have the property where the root of the first has it, the trees below this, and the others
+-- with no list: several trees have the property if the root of the first has it, the trees below this, and the others
 pub fits_apart : {X S : Type 0} (P : Met X S → Type 0) (same : IsLevel P) (node : Node X S) (rest nodes : List (Node X S)) → nodes ≡ node ∷ rest
     → AllByRecursion P (all_met 1 nodes) → P (root_at 1 node) × AllByRecursion P (all_met 1 (nodes_below node)) × AllByRecursion P (all_met 1 rest)
 fits_apart P same node rest nodes is all =

@@ -40,7 +40,7 @@ shown_nonterm {X = X} {S = S} lexeme number node r nodes is =
     ∙ fold-roll-Node X S (Option (List ℕ)) (shown_step lexeme number) (Node-F.Nonterm r nodes)
     ∙ ap (λ t. shown_rule (number r.0) ++? t ++? shown_end) (items_map (shown lexeme number) [] nodes.items)
 
--- what is left behind the trees in hand, the last list first
+-- what is left after the trees in hand, the last list first
 abbrev pub later_shown : {A : Type 0} → (A → Option (List ℕ)) → List (Bor (List A)) → Option (List ℕ)
 later_shown text [] = Some []
 later_shown text (rest ∷ rests) = later_shown text rests ++? (debug_items text comma_space rest.now ++? shown_end)
@@ -54,7 +54,7 @@ later_push text (r ∷ rs) rest =
     let last = debug_items text comma_space r.now ++? shown_end in
     ap (λ t. t ++? last) (later_push text rs rest) ∙ then_text_assoc first (later_shown text rs) last
 
--- all that is left, with trees in hand behind a mark
+-- all that is left, with trees in hand after a mark
 abbrev pub left_shown : {A : Type 0} → (A → Option (List ℕ)) → List ℕ → List A → List (Bor (List A)) → Option (List ℕ)
 left_shown text mark nodes left = (debug_items text mark nodes ++? shown_end) ++? later_shown text left
 

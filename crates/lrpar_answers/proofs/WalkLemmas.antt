@@ -144,7 +144,7 @@ pub weights_entered : {X S : Type 0} (a : Node X S) (rest nodes more : List (Nod
 weights_entered a rest nodes more n =
     rw n (weights_enter a (rest ++ more) ∙ ap (λ k. 1 + k) (weights_append (children a) (rest ++ more)))
 
--- with no list: several trees are equal where the first nodes are alike, the trees below these are equal, and the others
+-- with no list: several trees are equal if the first nodes are alike, the trees below these are equal, and the others
 nodes_eq_begins : {X S : Type 0} (eq : X → X → Bool) (same : S → S → Bool) (a b : Node X S) (like : Bool) (rest others nodes others' : List (Node X S))
     → nodes ≡ a ∷ rest → others' ≡ b ∷ others → like ≡ visit_eq eq same (visit a) (visit b)
     → nodes_eq eq same nodes others' ≡ (like && nodes_eq eq same (children a ++ rest) (children b ++ others))

@@ -66,7 +66,7 @@ impl<LexemeT: Lexeme<StorageT>, StorageT: StorageIndex> Node<LexemeT, StorageT> 
     }
 }
 
-// Whether these trees fit. A list holds what is left of them, an entry a level. Where it can't grow, the trees below a node are
+// Whether these trees fit. A list holds what is left of them, an entry a level. If it can't grow, the trees below a node are
 // looked at without one.
 fn all_fit<'a, LexemeT: Lexeme<StorageT>, StorageT: StorageIndex>(
     alloc: Global,
@@ -102,7 +102,7 @@ fn all_fit<'a, LexemeT: Lexeme<StorageT>, StorageT: StorageIndex>(
     }
 }
 
-// Whether these trees fit, with no list. Behind a node there are the trees below it and those beside it: a call of itself looks
+// Whether these trees fit, with no list. After a node there are the trees below it and those beside it: a call of itself looks
 // at the ones, and the loop goes on with the others. The calls are those below the node, and no deeper than `calls`; from there
 // on they are those of the fewer nodes.
 fn fit_by_calls<'a, LexemeT: Lexeme<StorageT>, StorageT: StorageIndex>(

@@ -16,8 +16,8 @@ use std::fmt::Write;
 /// The keys that say what is done.
 pub const INPUTS: &[&str] = &["levels", "input"];
 
-/// What the calls of a tree answer in which a lexeme lies below so many rules. The calls that answer without memory, too, come
-/// before anything is told: where one of these is wrong, that needs no memory either.
+/// What the calls of a tree answer in which a lexeme lies below so many rules. The calls that work without memory come
+/// before anything is written: if one of these is wrong, saying so needs no memory either.
 pub fn outcome(
     told: &mut Told,
     alloc: Global,
@@ -80,7 +80,7 @@ impl fmt::Write for Counter {
     }
 }
 
-// How many bytes `Debug` writes of the tree, unless memory is wanting.
+// How many bytes `Debug` writes of the tree, unless memory runs out.
 fn bytes_of(tree: &Tree) -> Option<usize> {
     let mut counter = Counter { bytes: 0 };
     match write!(counter, "{tree:?}") {

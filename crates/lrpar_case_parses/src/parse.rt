@@ -138,7 +138,7 @@ fn push_noted(told: &mut Told, case: Case<'_, '_>, grm: &YaccGrammar<u32>, place
     }
 }
 
-// Adds what clones of the errors and of the tree are, where the case asks.
+// Adds what clones of the errors and of the tree are, if the case asks.
 fn push_cloned(told: &mut Told, alloc: Global, case: Case<'_, '_>, answer: &Answer) {
     if let ("clones", Ok((tree, errors))) = (case.value_or_nothing("show"), answer) {
         push_clones_of_errors(told, errors);

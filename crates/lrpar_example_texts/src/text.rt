@@ -30,9 +30,9 @@ use std::alloc::{AllocError, Global};
 ///     S[ i S[ i S[ x ] e S[ x ] ] ]
 /// ```
 ///
-/// The first line tells the conflict's token and state. Then comes the text of both readings, with a dot where the conflict is. If they
-/// have two texts, the first line tells the bound within which one for both wasn't found, and each text comes before its own reading.
-/// A reading is told by the move by which it goes on after the dot, a production whose node is made or a token that is taken, and by
+/// The first line has the conflict's token and state. Then comes the text of both readings, with a dot where the conflict is. If they
+/// have two texts, the first line has the bound within which one for both wasn't found, and each text comes before its own reading.
+/// A reading is shown by the move that it makes after the dot, a production whose node is made or a token that is taken, and by
 /// its tree.
 ///
 /// The examples have to fit the grammar, as those of `conflict_examples` do. Takes time and memory linear in the examples and in the text

@@ -47,7 +47,7 @@ impl<StorageT: StorageIndex> Model for Example<StorageT> {
 }
 
 impl<StorageT: StorageIndex> Example<StorageT> {
-    // The example of two readings that begin with the moves in front, whose text is a shortest one or not, with the bound of the search.
+    // The example of two readings that begin with these first moves, whose text is a shortest one or not, with the bound of the search.
     pub(crate) fn new(
         alloc: Global,
         front: &[Move<StorageT>],

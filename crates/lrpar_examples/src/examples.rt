@@ -107,7 +107,7 @@ impl<StorageT: StorageIndex> Examples<StorageT> {
     /// The example of a conflict between two reductions, as token, productions and state: one reading makes the node of the first
     /// production, the other that of the second.
     ///
-    /// Where the trees' texts differ, it looks for one text that has both readings, on any way to the state, shortest texts first, and gives
+    /// If the trees' texts differ, it looks for one text that has both readings, on any way to the state, shortest texts first, and gives
     /// these in place of the others if it finds some. It tries at most `bound` pairs of readings and beginnings of ways; with a bound of 0 it
     /// doesn't look. An `Err` comes where memory doesn't suffice.
     pub fn of_reduce_reduce(

@@ -157,7 +157,7 @@ fn shift_by<StorageT: StorageIndex>(
     }
 }
 
-// The example of two readings that go on so from these moves in front, if they begin with these moves, take the token next, are those of
+// The example of two readings that go on so from these first moves, if they begin with these moves, take the token next, are those of
 // trees, and have one text.
 fn example_of<StorageT: StorageIndex>(
     alloc: Global,

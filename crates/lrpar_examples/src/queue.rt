@@ -5,7 +5,7 @@ use std::alloc::{AllocError, Global};
 /// No number.
 pub(crate) const NONE: usize = usize::MAX;
 
-// How many numbers from the first one on are told apart.
+// How many numbers from the first one on are distinguished.
 const SLOTS: usize = 256;
 
 /// Numbered items that wait, each with a key: one with the least key comes first, and of equals the one that came last.

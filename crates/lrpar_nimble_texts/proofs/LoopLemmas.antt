@@ -17,7 +17,7 @@ pub lead_more : (kind : LoopKind) (g : Grammar) (from mid to : ℕ) (steps more 
 lead_more kind g from mid to steps more step so_far next is =
     subst (λ s. Lead kind g from s to) (sym is) (lead_push kind g from mid to steps step so_far next)
 
--- a place of a symbol, by what stands before it, and after it
+-- a place of a symbol, by what comes before it, and after it
 pub front_place : (kind : LoopKind) (g : Grammar) (symbols : List GrammarSymbol) (place : ℕ) (front : Bool) → kind ≡ IsHiddenLeft
     → OnTrue front (DeriveNothing g (take place symbols)) → OnTrue front (IsPlaceOf kind g symbols place)
 front_place kind g symbols place front is before = subst (λ k. OnTrue front (IsPlaceOf k g symbols place)) (sym is) before

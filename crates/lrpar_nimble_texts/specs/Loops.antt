@@ -19,11 +19,11 @@ step_of index step = record { prod = index step.prod.0; place = step.place }
 abbrev pub DeriveNothing : Grammar → List GrammarSymbol → Type 0
 DeriveNothing g symbols = (trees : Forest ℕ) × AreTreesOf g symbols trees × (forest_leaves trees ≡ [])
 
--- what stands before the symbol derives nothing
+-- what comes before the symbol derives nothing
 abbrev pub IsFrontPlace : Grammar → List GrammarSymbol → ℕ → Type 0
 IsFrontPlace g symbols place = DeriveNothing g (take place symbols)
 
--- nor does what stands after it: the rule derives the symbol alone
+-- nor does what comes after it: the rule derives the symbol alone
 abbrev pub IsLonePlace : Grammar → List GrammarSymbol → ℕ → Type 0
 IsLonePlace g symbols place = IsFrontPlace g symbols place × DeriveNothing g (drop (place + 1) symbols)
 
@@ -31,7 +31,7 @@ abbrev pub IsPlaceOf : LoopKind → Grammar → List GrammarSymbol → ℕ → T
 IsPlaceOf DerivesItself g symbols place = IsLonePlace g symbols place
 IsPlaceOf IsHiddenLeft g symbols place = IsFrontPlace g symbols place
 
--- a step from one rule to another: `from` has the production, at whose place `to` stands
+-- a step from one rule to another: `from` has the production, with the rule `to` at that place
 pub record IsStep (kind : LoopKind) (g : Grammar) (from : ℕ) (step : StepOf) (to : ℕ) : Type 0 where
   pub prod : step.prod < prods_len g
   pub rule : rule_of g step.prod ≡ from

@@ -180,7 +180,7 @@ fn loop_text(
     Ok(Some(text))
 }
 
-// Where the first production of a loop stands.
+// The place of the first production of a loop.
 fn place_of(grm: &YaccGrammar<u32>, steps: &[LoopStep<u32>]) -> Option<Span> {
     match steps.first() {
         Some(first) if usize::from(first.prod) < grm.prods_len() => {

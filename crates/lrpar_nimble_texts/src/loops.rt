@@ -15,7 +15,7 @@ use std::alloc::{AllocError, Global};
 /// How a rule leads back to itself.
 #[derive(Clone, Copy, Debug, PartialEq, Eq)]
 pub(crate) enum LoopKind {
-    /// It derives itself alone: what stands beside the rules on the way derives nothing.
+    /// It derives itself alone: what is beside the rules on the way derives nothing.
     DerivesItself,
     /// Hidden left recursion: it begins with itself, and after symbols that derive nothing.
     IsHiddenLeft,
@@ -108,7 +108,7 @@ fn rule_after<StorageT: StorageIndex>(
     }
 }
 
-// The rule at the place, if one stands there.
+// The rule at the place, if there is one.
 fn rule_at<StorageT: StorageIndex>(
     symbols: &[Symbol<StorageT>],
     place: usize,

@@ -86,7 +86,7 @@ all_consumed facts allows k g table lexemes _ _ _ _ _ (runs_through st i prods f
 all_consumed facts allows k g table lexemes _ _ _ _ _ (ends_there st i prods stop far listed) none = absurd (let no : ⊥ = cc in no)
 all_consumed facts allows k g table lexemes _ _ _ _ _ (is_repaired st i prods stop first listed made after j mended found consumed rest far at replays eaten run) none = absurd (let no : ⊥ = cc in no)
 
--- where no error came, there was no stop
+-- if no error came, there was no stop
 no_stops : {A B : Type 0} (R : A → B → Type 0) (xs : List A) (ys : List B) → AllZip R xs ys → ys ≡ [] → xs ≡ []
 no_stops R [] ys zip none = refl
 no_stops R (x ∷ xs) [] zip none = absurd zip
@@ -101,7 +101,7 @@ value_leaves index token g lexemes (Some xs) prods answer all (node, is, of) =
     let same : xs ≡ lexemes = cc in
     (node, is, told_leaves index g of.tree node of.tells ∙ (of.leaves_are ∙ same))
 
--- where no error came there is a tree, and its leaves are the lexemes
+-- if no error came there is a tree, and its leaves are the lexemes
 tree_over_lexemes : {S L B C Z : Type 0} (index : S → ℕ) (about : Subject B) (lexed : List (Result B C)) (answer : Option (Node B S) × Vec (LexParseError S L B C) Z)
     → Goes about (λ a. a.1.items) (HasValue (λ x. (about.facts x).token) about.checked.grammar (Folds IsTerm (IsNonterm index) about.checked.grammar)) lexed answer
     → answer.1.items ≡ [] → MatchOption answer.0 ⊥ (λ node. HasLeaves node lexed)

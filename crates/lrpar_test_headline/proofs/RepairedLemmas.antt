@@ -46,7 +46,7 @@ module _ {S L B C : Type 0} (about : Subject B) (lexemes : List B) where
         λ some none. some (is.repairs ∙ ap (map (repairs_over (drop s.stop.place lexemes))) none),
       )
 
-  -- and so all errors do where one is at each stop
+  -- and so all errors do if one is at each stop
   errors_list : (stops : List RepairStop) (errors : List (LexParseError S L B C)) → AllZip (IsRepairErrorOf about lexemes) stops errors
       → All (λ s. s.listed ≢ []) stops ↔ All ListsRepair errors
   errors_list [] [] zip = (λ _. All-nil ListsRepair, λ _. All-nil (λ s. s.listed ≢ []))
@@ -94,7 +94,7 @@ values_where_repaired about lexes Tells accepts result parses =
     of_any about lexes (λ a. a.1.items) (HasValue (λ x. (about.facts x).token) about.checked.grammar Tells) (λ answer. IsSome answer.0 ↔ All ListsRepair answer.1.items)
     (λ lexed answer goes. value_where_repaired about Tells accepts lexed answer goes) result parses
 
--- where steps are replayed, they go past these places
+-- if steps are replayed, they go past these places
 replay_places : {X : Type 0} (token : X → ℕ) (g : Grammar) (table : Table) (lexemes : List X) (st : List ℕ) (i : ℕ) (steps : List PlainStep) (prods after : List ℕ) (j : ℕ)
     → Replays token g table lexemes st i steps prods after j → j ≡ i + places_of steps
 replay_places token g table lexemes st i [] prods after j r = omega (arith, r.2)

@@ -1,4 +1,4 @@
--- Over a complete table a parse has no error exactly where the lexemes are a sentence, and its value is told by their only tree; and
+-- Over a complete table a parse has no error exactly where the lexemes are a sentence, and its value is determined by their only tree; and
 -- without a recoverer it has one error at most.
 use Rattle.std.proofs.lemmas.Bool.{eqb-true}
 use Rattle.std.proofs.lemmas.List.{nil_from_length}
@@ -62,7 +62,7 @@ errors_are_few about lexes nothing result parses =
 abbrev token : {B : Type 0} → Subject B → B → ℕ
 token about x = (about.facts x).token
 
--- the value of what a run consumed is told by each tree over the lexemes
+-- the value of what a run consumed is determined by each tree over the lexemes
 module _ {V S L B C Z : Type 0} (about : Subject B) (Tells : Tree B → V → Type 0) (lexed : List (Result B C)) where
   -- there is a value exactly where no error came
   value_where_free : (consumed : Option (List B)) (prods : List ℕ) (answer : Option V × Vec (LexParseError S L B C) Z)
@@ -75,7 +75,7 @@ module _ {V S L B C Z : Type 0} (about : Subject B) (Tells : Tree B → V → Ty
     (λ free. absurd (one_not_none answer.1.items (ParseError failure) one free)),
   )
 
-  -- and it is told by each tree over them, where there is one tree alone
+  -- and it is determined by each tree over them, if there is one tree alone
   told_by_each : (consumed : Option (List B)) (prods : List ℕ) (answer : Option V × Vec (LexParseError S L B C) Z) (tree : Tree B)
       → consumed ≡ Some (lexemes_of lexed) → HasValue (token about) about.checked.grammar Tells consumed prods answer → IsTreeOver (token about) about.checked.grammar (lexemes_of lexed) tree
       → ((t other : Tree B) → IsTreeOver (token about) about.checked.grammar (lexemes_of lexed) t → IsTreeOver (token about) about.checked.grammar (lexemes_of lexed) other → t ≡ other)

@@ -114,7 +114,7 @@ module _ {X : Type 0} (about : Subject X) (handed : List (List PlainStep)) (lexe
   each_lists _ _ _ _ _ (e ∷ errors) (is_repaired st i prods stop first listed made after j mended found consumed rest far at replays eaten run) zip =
       (lists_what_works (record { stop = stop; listed = first ∷ listed }) e at zip.0, each_lists after j found consumed rest errors run zip.1)
 
--- where no lexing error came, each error lists what works of what is handed in
+-- if no lexing error came, each error lists what works of what is supplied
 each_lists_what_works : {T S L B C : Type 0} (about : Subject B) (handed : List (List PlainStep)) (errors_of : T → List (LexParseError S L B C)) (IsValued : Option (List B) → List ℕ → T → Type 0)
     → ((point : Point B) (answer : List (List PlainStep)) → about.allows point answer → answer ≡ handed)
     → (lexed : List (Result B C)) (answer : T) → Goes about errors_of IsValued lexed answer → first_error lexed ≡ None

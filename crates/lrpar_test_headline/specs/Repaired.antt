@@ -28,7 +28,7 @@ AsFirstRepaired {X} facts lexemes i (s ∷ stops) xs =
     × ((mended rest : List X) × Consumes facts lexemes s.stop.place first mended
     × AsFirstRepaired facts lexemes (s.stop.place + places_of first) stops rest × (xs ≡ fed_between lexemes i s.stop.place ++ mended ++ rest))
 
--- No lexing error came, and the value is told by a tree of the start rule, whose leaves are the lexemes as first repaired at the
+-- No lexing error came, and the value is determined by a tree of the start rule, whose leaves are the lexemes as first repaired at the
 -- stops of which these are the errors.
 pub record IsValueOfRepaired {S L B C V : Type 0} (about : Subject B) (Tells : Tree B → V → Type 0) (lexed : List (Result B C)) (errors : List (LexParseError S L B C)) (value : V) : Type 0 where
   pub no_error : first_error lexed ≡ None

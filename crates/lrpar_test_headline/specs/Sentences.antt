@@ -11,7 +11,7 @@ pub record AnswersSentence {X E : Type 0} (token : X → ℕ) (g : Grammar) (lex
   pub no_error : first_error lexed ≡ None
   pub sentence : IsSentence token g (lexemes_of lexed)
 
--- there is a value exactly where the lexemes are a sentence, and each tree over them tells it
+-- there is a value exactly where the lexemes are a sentence, and each tree over them determines it
 pub record IsOfOnlyTree {X E V : Type 0} (token : X → ℕ) (g : Grammar) (Tells : Tree X → V → Type 0) (value : Option V) (lexed : List (Result X E)) : Type 0 where
   pub exact : IsSome value ↔ AnswersSentence token g lexed
   pub only : (tree : Tree X) → IsTreeOver token g (lexemes_of lexed) tree → first_error lexed ≡ None → MatchOption value ⊥ (Tells tree)

@@ -1,4 +1,4 @@
--- Errors that list what works of the sequences that are handed in.
+-- Errors that list what works of the sequences that are supplied.
 use Rattle.std.specs.Prelude.{◌≡◌, ℕ, List, Contains, Some, drop, map}
 use Rattle.std.specs.List.{AllZip}
 use Rattle.lrpar_answers.specs.Failure.{Failure}
@@ -16,7 +16,7 @@ use Rattle.lrpar_course.specs.RepairRun.{RepairStop}
 use Rattle.lrpar_course.specs.RunAnswer.{IsLexemeAt}
 use Rattle.lrpar_course.specs.Subject.{Subject}
 
--- a parse by this table in which these sequences are handed in at each error, and so many lexemes have to follow a repair
+-- a parse by this table in which these sequences are supplied at each error, and so many lexemes have to follow a repair
 abbrev pub handing_in : {X : Type 0} → Checked → (X → LexemeFacts) → ℕ → List (List PlainStep) → Subject X
 handing_in d facts k handed = record { checked = d; facts = facts; allows = λ point answer. answer ≡ handed; shifts = k }
 
@@ -29,8 +29,8 @@ module _ {X : Type 0} (about : Subject X) (handed : List (List PlainStep)) (lexe
   abbrev pub told_at : Stop → List PlainStep → List (Repair X)
   told_at stop steps = repairs_over (drop stop.place lexemes) steps
 
-  -- The error is that of the stop. Each sequence that is handed in and works there is listed, each that is listed was handed in
-  -- and works there, and they stand in the order in which they were handed in, each as often.
+  -- The error is that of the stop. Each sequence that is supplied and works there is listed, each that is listed was supplied
+  -- and works there, in the order in which they were supplied, each as often.
   pub record ListsWhatWorksAt (stop : Stop) (failure : Failure X) : Type 0 where
     pub state : top_of stop.stack ≡ Some failure.state
     pub lexeme : IsLexemeAt about.facts about.checked.grammar lexemes stop.place failure.lexeme

@@ -17,7 +17,7 @@ use lrpar_parser::parser::{Actions, LexParseError, Node, ParseFault};
 use lrpar_steps::repair::Recoverer;
 use std::alloc::Global;
 
-/// The value and the errors of a parse, whatever its recoverer hands in. A value is what a tree of the start rule folds to by the two
+/// The value and the errors of a parse, whatever its recoverer supplies. A value is what a tree of the start rule folds to by the two
 /// functions, and the leaves of this tree are the lexemes as first repaired: at each error the first sequence that it lists is done.
 pub fn folded_value<
     'input,
@@ -44,7 +44,7 @@ pub fn folded_value<
     parser.parse_map(alloc, lexer, fterm, fnonterm)
 }
 
-/// The value and the errors of a parse by actions, whatever its recoverer hands in. A value is what the actions make of a tree of the
+/// The value and the errors of a parse by actions, whatever its recoverer supplies. A value is what the actions make of a tree of the
 /// start rule, node by node, and has the fact of that rule; the leaves of this tree are the lexemes as first repaired.
 pub fn acted_value<
     'input,
@@ -75,7 +75,7 @@ pub fn acted_value<
     parser.parse_actions(alloc, lexer, actions, param)
 }
 
-/// The tree and the errors of a parse, whatever its recoverer hands in. If there is no error there is a tree, and its leaves are
+/// The tree and the errors of a parse, whatever its recoverer supplies. If there is no error there is a tree, and its leaves are
 /// exactly the lexemes, in order.
 pub fn tree_of<
     'input,

@@ -10,7 +10,7 @@ use lrpar_parser::parser::{LexParseError, ParseFault};
 use lrpar_steps::repair::Recoverer;
 use std::alloc::Global;
 
-/// The errors of a parse, whatever its recoverer hands in. It is refused only if memory ran out, or if the lexer answered lexemes of
+/// The errors of a parse, whatever its recoverer supplies. It is refused only if memory ran out, or if the lexer answered lexemes of
 /// which one has a fault. So a parse over valid lexemes ends with an answer, as far as there is memory.
 pub fn errors_of<
     'input,

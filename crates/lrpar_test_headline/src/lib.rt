@@ -1,7 +1,7 @@
 //! What a user concludes of a parse: for every checked table, every list of valid lexemes and every recoverer, the parse ends; it gives
 //! a value exactly where no lexing error came and each parse error lists a repair; the value folds a derivation whose leaves are the
 //! lexemes as first repaired; a complete table gives every sentence its only tree; and each error lists exactly the sequences that were
-//! handed in and work, in the order in which they were handed in. Each file is about one of these. Their proofs know the crates below by
+//! supplied and work, in the order in which they were supplied. Each file is about one of these. Their proofs know the crates below by
 //! the contracts of public functions alone, as a user's proofs do.
 #![tactic(auto)]
 

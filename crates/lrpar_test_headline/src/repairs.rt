@@ -1,4 +1,4 @@
-//! An error lists what works of the sequences that are handed in, and nothing else; and if nothing is handed in, there is one error at
+//! An error lists what works of the sequences that are supplied, and nothing else; and if nothing is supplied, there is one error at
 //! most.
 ghost use Rattle.std.specs.Prelude.{◌≡◌, ◌≤◌, IfOk, None, length};
 ghost use Rattle.lrpar_parser.specs.Lexed.{first_error, lexemes_of};
@@ -15,8 +15,8 @@ use lrpar_steps::repair::{FixedRecoverer, RepairStep};
 use lrpar_table::check::ParserData;
 use std::alloc::Global;
 
-/// The errors of a parse in which these sequences are handed in at each error. If no lexing error came, each error lists exactly
-/// those of the sequences that work where the parse found it, in the order of the list.
+/// The errors of a parse in which these sequences are supplied at each error. If no lexing error came, each error lists exactly
+/// those of the sequences that work at the place where the parse found it, in the order of the list.
 pub fn errors_by<
     'input,
     StorageT: StorageIndex,
@@ -37,7 +37,7 @@ pub fn errors_by<
     parser.parse_noaction(alloc, lexer)
 }
 
-/// The errors of a parse in which nothing is handed in: there is one at most.
+/// The errors of a parse in which nothing is supplied: there is one at most.
 pub fn errors_without_repairs<
     'input,
     StorageT: StorageIndex,

@@ -14,7 +14,7 @@ use lrpar_parser::parser::{Node, ParseFault};
 use lrpar_table::check::{CompleteFault, ParserData};
 use std::alloc::Global;
 
-/// Why nothing is told of the lexemes.
+/// Why nothing is known of the lexemes.
 #[derive(Debug, Drop)]
 pub enum Untold {
     /// The table isn't known to be complete.

@@ -10,7 +10,7 @@ use lrpar_parser::parser::{LexParseError, ParseFault};
 use lrpar_steps::repair::Recoverer;
 use std::alloc::Global;
 
-/// The value and the errors of a parse, whatever its recoverer hands in. There is a value exactly if each error is a parse error
+/// The value and the errors of a parse, whatever its recoverer supplies. There is a value exactly if each error is a parse error
 /// that lists a repair.
 pub fn value_of<
     'input,

@@ -99,8 +99,8 @@ type Row = (
     (usize, usize),
 );
 
-// Without an error; with one that a deletion mends, and with two; with one that none mends, in front of another; with two where memory
-// is wanting once; with a lexing error, behind a parse error; with a lexeme of no token; and with one that starts too early.
+// Without an error; with one that a deletion mends, and with two; with one that none mends, before another; with two if memory
+// runs out once; with a lexing error, after a parse error; with a lexeme of no token; and with one that starts too early.
 const ROWS: [Row; 9] = [
     (&[(0, 1)], Last::Nothing, (0, 0), "", (2, 0)),
     (&[(0, 1), (0, 1)], Last::Nothing, (0, 0), "2@1 2@1 ", (2, 2)),

@@ -110,7 +110,7 @@ fn are_shown(rt: &impl Abort, alloc: Global) {
     same(rt, &"bytes", &counter.bytes, &36_000_087);
 }
 
-// Adds a line behind so many spaces.
+// Adds a line after so many spaces.
 fn push_line(text: &mut String, spaces: usize, line: &str) -> Result<(), AllocError> {
     for _ in 0..spaces / 8 {
         text.push_str("        ")?;
@@ -121,7 +121,7 @@ fn push_line(text: &mut String, spaces: usize, line: &str) -> Result<(), AllocEr
     text.push_str(line)
 }
 
-// The lines of a lexeme, each behind as many spaces, and its own.
+// The lines of a lexeme, each after as many spaces, and its own.
 const LEXEME_LINES: [(usize, &str); 9] = [
     (4, "lexeme: Token {\n"),
     (8, "number: 1,\n"),
@@ -134,7 +134,7 @@ const LEXEME_LINES: [(usize, &str); 9] = [
     (0, "}"),
 ];
 
-// The lines in front of the trees of a rule, likewise.
+// The lines before the trees of a rule, likewise.
 const RULE_LINES: [(usize, &str); 4] = [
     (4, "ridx: RIdx(\n"),
     (8, "1,\n"),

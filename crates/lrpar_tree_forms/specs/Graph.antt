@@ -17,7 +17,7 @@ rule_line number name = codes "  n" ++ decimal number ++ codes " [label=\"" ++ l
 abbrev pub leaf_label : List ℕ → List ℕ → List ℕ
 leaf_label name text = (if bytes_eq name text then [] else label_text name ++ codes "\\n") ++ label_text text
 
--- the line of a lexeme, which stands in a box
+-- the line of a lexeme, which is drawn in a box
 abbrev pub leaf_line : ℕ → List ℕ → List ℕ → List ℕ
 leaf_line number name text = codes "  n" ++ decimal number ++ codes " [label=\"" ++ leaf_label name text ++ codes "\", shape=box];\n"
 

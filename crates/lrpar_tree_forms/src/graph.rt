@@ -132,7 +132,7 @@ fn push_leaf(line: &mut String, number: usize, leaf: Leaf<'_>) -> Result<(), All
     Ok(())
 }
 
-// Adds what stands before the label of the node of this number.
+// Adds the beginning of a node's line, up to its label.
 fn push_front(line: &mut String, number: usize) -> Result<(), AllocError>
     ensures { OnOk result (string_bytes line.new ≡ string_bytes line.old ++ (codes "  n" ++ decimal number ++ codes " [label=\"")) }
 {

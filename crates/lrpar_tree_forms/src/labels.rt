@@ -7,7 +7,7 @@ ghost use Rattle.lrpar_tree_forms.specs.Labels.{is_control, label_char, label_te
 use crate::escapes::push_hex;
 use std::alloc::AllocError;
 
-/// Adds the text as it stands in a label between double quotes, so that Graphviz shows the text: `"` and `\` after a `\`, a line feed
+/// Adds the text as a label has it between double quotes, so that Graphviz shows the text: `"` and `\` after a `\`, a line feed
 /// as `\n`, and `&` as `&amp;`. A tab is shown as `\t`, a carriage return as `\r`, and any other control character as `\u00` and two
 /// hexadecimal digits. Takes time linear in the text. An `Err` leaves some of that after what `out` had.
 pub(crate) fn push_label(out: &mut String, text: &str) -> Result<(), AllocError>

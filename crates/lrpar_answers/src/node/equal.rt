@@ -76,7 +76,7 @@ struct Pair<'a, LexemeT, StorageT> {
     others: &'a [Node<LexemeT, StorageT>],
 }
 
-// Whether as many nodes are equal one by one. A list holds what is left to compare, an entry a level. Where it can't grow, the
+// Whether as many nodes are equal one by one. A list holds what is left to compare, an entry a level. If it can't grow, the
 // trees below a node are compared without one.
 fn are_equal<'a, LexemeT: PartialEq, StorageT: PartialEq>(
     alloc: Global,
@@ -123,7 +123,7 @@ fn are_equal<'a, LexemeT: PartialEq, StorageT: PartialEq>(
     }
 }
 
-// Whether as many nodes are equal one by one, with no list. Behind a node there are the trees below it and those beside it: a
+// Whether as many nodes are equal one by one, with no list. After a node there are the trees below it and those beside it: a
 // call of itself compares the ones, and the loop goes on with the others. The calls are those below the node, and no deeper
 // than `calls`; from there on they are those of the fewer nodes.
 fn equal_by_calls<'a, LexemeT: PartialEq, StorageT: PartialEq>(

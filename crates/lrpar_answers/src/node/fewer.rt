@@ -28,7 +28,7 @@ struct Fewer {
     len: usize,
 }
 
-// Those that have fewer nodes, where these are within the limit. Both are counted with a budget that doubles, so that the time
+// Those that have fewer nodes, if these are within the limit. Both are counted with a budget that doubles, so that the time
 // goes by the fewer ones.
 #[cycle(count)]
 fn fewer_of<LexemeT, StorageT>(
@@ -60,7 +60,7 @@ fn fewer_of<LexemeT, StorageT>(
     }
 }
 
-// How many nodes the trees have, where these are within the budget. Behind each node there are the trees below it and those
+// How many nodes the trees have, if these are within the budget. After each node there are the trees below it and those
 // beside it: the fewer nodes are counted by a call, which has at most half of what is left of the budget.
 #[cycle(count)]
 fn count<LexemeT, StorageT>(mut nodes: &[Node<LexemeT, StorageT>], budget: usize) -> Option<usize>

@@ -12,7 +12,7 @@ use std::fmt::Write;
 impl<LexemeT: fmt::Debug, StorageT: fmt::Debug> fmt::Debug for Node<LexemeT, StorageT> {
     ghost debug_output = { shown LexemeT.debug_output StorageT.debug_output };
 
-    // The text of a derive. A list holds what is left, by the allocator of the tree's own lists. Where that can't grow, it is an
+    // The text of a derive. A list holds what is left, by the allocator of the tree's own lists. If that can't grow, it is an
     // error.
     fn fmt<W: fmt::Write>(&self, f: &mut fmt::Formatter<W>) -> fmt::Result {
         if f.alternate() {
@@ -95,7 +95,7 @@ fn write_nodes<'a, LexemeT: fmt::Debug, StorageT: fmt::Debug, W: fmt::Write>(
     }
 }
 
-// Writes what stands in front of a tree. In front of the first one that is nothing, and no call of the writer.
+// Writes the separator before a tree. The first tree has none, so the writer isn't called.
 fn write_mark<W: fmt::Write>(f: &mut fmt::Formatter<W>, mark: &str) -> fmt::Result
     ensures { WritesOnOk W.write_str_gives f.old result mark.now f.new }
 {
