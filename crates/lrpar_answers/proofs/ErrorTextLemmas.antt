@@ -13,7 +13,7 @@ use Rattle.lrpar_answers.specs.ErrorText.{digits, numbering, numbered, repairs_t
 use Rattle.lrpar_lexemes.specs.declared.pp_fault.PpFault.{PpFault}
 use Rattle.lrpar_lexemes.specs.declared.pp_fault.PpFault.TheVariants.{NoPrintedName, Memory}
 use Rattle.lrpar_answers.proofs.SequenceTextLemmas.{IsInRange, named_append, named_parts, unnamed_within}
-use Rattle.lrpar_answers.proofs.TreeTextLemmas.{all_both}
+use Rattle.lrpar_text.proofs.ListLemmas.{all_both}
 
 -- one more sequence behind its number
 numbered_more : (most i : ℕ) (texts : List (List ℕ)) (text : List ℕ)

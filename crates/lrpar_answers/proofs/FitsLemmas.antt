@@ -16,7 +16,8 @@ use Rattle.lrpar_answers.specs.declared.node.Node.TheVariants.{Term, Nonterm}
 use Rattle.lrpar_answers.specs.declared.node.Node.TheViews.{out-Node, the_lemmas}
 use Rattle.lrpar_answers.specs.declared.node.Node.TheFolds.{fold_out-Node, map-Node}
 use Rattle.lrpar_answers.specs.TreeText.{Met, LeafAt, RuleAt, MetFits, met_from, layer_met, root_at, layer_nodes, nodes_below, all_met}
-use Rattle.lrpar_answers.proofs.TreeTextLemmas.{all_front, all_back, all_both, fit_root, fit_below, fit_whole}
+use Rattle.lrpar_answers.proofs.TreeTextLemmas.{fit_root, fit_below, fit_whole}
+use Rattle.lrpar_text.proofs.ListLemmas.{all_front, all_back, all_both}
 use Rattle.lrpar_answers.proofs.WeightLemmas.{weight, weights, weight_step}
 
 -- a property that asks for no level

@@ -60,19 +60,6 @@ left_turn below rest =
     let turned : 1 + length below ≡ length below + 1 = omega arith in
     later_push 1 below rest ∙ ap (λ m. all_met m rest.now ++ later 1 below) turned
 
--- all of two lists, and of each of them
-pub all_front : {A : Type 0} (P : A → Type 0) (xs ys : List A) → AllByRecursion P (xs ++ ys) → AllByRecursion P xs
-all_front P [] ys all = tt
-all_front P (x ∷ xs) ys all = (all.0, all_front P xs ys all.1)
-
-pub all_back : {A : Type 0} (P : A → Type 0) (xs ys : List A) → AllByRecursion P (xs ++ ys) → AllByRecursion P ys
-all_back P [] ys all = all
-all_back P (x ∷ xs) ys all = all_back P xs ys all.1
-
-pub all_both : {A : Type 0} (P : A → Type 0) (xs ys : List A) → AllByRecursion P xs → AllByRecursion P ys → AllByRecursion P (xs ++ ys)
-all_both P [] ys front back = back
-all_both P (x ∷ xs) ys front back = (front.0, all_both P xs ys front.1 back)
-
 -- a property of all nodes of a tree: of the root, and of those below it
 pub fit_root : {X S : Type 0} (P : Met X S → Type 0) (node : Node X S) (level : ℕ) → AllByRecursion P (met_from node level) → P (root_at level node)
 fit_root P node level all = let both = rw (met_out node level) at all in both.0

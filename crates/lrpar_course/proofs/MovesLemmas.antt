@@ -12,7 +12,8 @@ use Rattle.lrpar_stacks.specs.Path.{NeverSticks}
 use Rattle.lrpar_stacks.specs.Reduction.{Feeds, top_action}
 use Rattle.lrpar_stacks.proofs.Reductions.{settles_one_way}
 use Rattle.lrpar_steps.specs.Building.{Building}
-use Rattle.lrpar_steps.specs.Mended.{Consumes, inserted_at, start_at}
+use Rattle.lrpar_steps.specs.Mended.{Consumes}
+use Rattle.lrpar_lexemes.specs.Lexemes.{inserted_at, start_at}
 use Rattle.lrpar_course.specs.Moves.{IsReplayed, Moves, RiseUpTo, StartsRise, and_settles, and_shifts, rests}
 use Rattle.lrpar_steps.specs.Rising.{KeepsRising}
 use Rattle.lrpar_stacks.specs.Run.{token_at}

@@ -5,8 +5,7 @@ use Rattle.std.specs.List.{slice_get}
 use Rattle.std.specs.Option.{option_map_or}
 use Rattle.lrpar_grammar.specs.Grammar.{Grammar}
 use Rattle.lrpar_grammar.specs.Sentence.{IsValidList, LexemeFacts}
-use Rattle.lrpar_lexemes.specs.Lexemes.{last_end}
-use Rattle.lrpar_steps.specs.Mended.{start_at}
+use Rattle.lrpar_lexemes.specs.Lexemes.{last_end, start_at}
 use Rattle.lrpar_course.specs.Moves.{StartsRise}
 
 -- a place where nothing is lies past the end

@@ -6,7 +6,8 @@ use Rattle.lrpar_check.specs.Checked.{Checked}
 use Rattle.lrpar_stacks.specs.Reduction.{top_action}
 use Rattle.lrpar_states.specs.Table.{Accepts}
 use Rattle.lrpar_steps.specs.Building.{Building}
-use Rattle.lrpar_steps.specs.Mended.{Consumes, start_at}
+use Rattle.lrpar_steps.specs.Mended.{Consumes}
+use Rattle.lrpar_lexemes.specs.Lexemes.{start_at}
 use Rattle.lrpar_course.specs.RepairRun.{fed_between}
 use Rattle.lrpar_stacks.specs.Run.{Accepted, Far, FarEnd, Stopped}
 use Rattle.lrpar_steps.specs.Sequences.{PlainStep, Replays, StepsTo}

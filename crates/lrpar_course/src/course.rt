@@ -5,7 +5,7 @@ ghost use Rattle.lrpar_grammar.specs.Sentence.{IsValidList};
 ghost use Rattle.lrpar_stacks.specs.Stack.{IsStack};
 ghost use Rattle.lrpar_stacks.specs.Reduction.{top_action};
 ghost use Rattle.lrpar_steps.specs.Known.{token_by, known};
-ghost use Rattle.lrpar_steps.specs.Mended.{start_at};
+ghost use Rattle.lrpar_lexemes.specs.Lexemes.{start_at};
 ghost use Rattle.lrpar_course.specs.Mending.{IsListedBy, IsMended, IsNoted};
 ghost use Rattle.lrpar_course.specs.Moves.{RiseUpTo, StartsRise};
 ghost use Rattle.lrpar_steps.specs.PlainSteps.{plain_sequences};

@@ -2,7 +2,7 @@
 ghost use Rattle.std.specs.Prelude.{◌<◌, ◌≤◌, IfOk, IfSome, OnOk, length};
 ghost use Rattle.lrpar_grammar.specs.Sentence.{IsValidList};
 ghost use Rattle.lrpar_steps.specs.Known.{facts_by, known};
-ghost use Rattle.lrpar_steps.specs.Mended.{start_at};
+ghost use Rattle.lrpar_lexemes.specs.Lexemes.{start_at};
 ghost use Rattle.lrpar_course.specs.Moves.{GoesFar, RiseUpTo, StartsRise};
 ghost use Rattle.lrpar_steps.specs.Standing.{IsRunStack};
 

@@ -5,7 +5,7 @@ ghost use Rattle.lrpar_grammar.specs.Sentence.{IsValidList};
 ghost use Rattle.lrpar_stacks.specs.Path.{NeverSticks};
 ghost use Rattle.lrpar_stacks.specs.Reduction.{Feeds};
 ghost use Rattle.lrpar_steps.specs.Known.{facts_by, known};
-ghost use Rattle.lrpar_steps.specs.Mended.{start_at};
+ghost use Rattle.lrpar_lexemes.specs.Lexemes.{start_at};
 ghost use Rattle.lrpar_course.specs.Moves.{CanReplay, CanStep, IsReplayed, RiseUpTo, StartsRise};
 ghost use Rattle.lrpar_steps.specs.PlainSteps.{plain_step, plain_steps};
 ghost use Rattle.lrpar_steps.specs.Stacked.{Shifts};

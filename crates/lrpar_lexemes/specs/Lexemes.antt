@@ -25,3 +25,11 @@ last_end lexemes = option_map_or (λ x. x.span.end) (slice_get lexemes (length l
 -- the lexeme past the last one: it has this token, is empty where the last one ends, and is faulty
 abbrev pub lexeme_past : ℕ → List LexemeFacts → LexemeFacts
 lexeme_past token lexemes = record { token = token; span = record { start = last_end lexemes; end = last_end lexemes }; faulty = true }
+
+-- where lexeme i starts; past the last one, where that ends
+abbrev pub start_at : List LexemeFacts → ℕ → ℕ
+start_at lexemes i = option_map_or (λ x. x.span.start) (slice_get lexemes i) (last_end lexemes)
+
+-- the lexeme that is inserted at place i: it has this token, is empty where lexeme i starts, and is faulty
+abbrev pub inserted_at : ℕ → List LexemeFacts → ℕ → LexemeFacts
+inserted_at token lexemes i = record { token = token; span = record { start = start_at lexemes i; end = start_at lexemes i }; faulty = true }

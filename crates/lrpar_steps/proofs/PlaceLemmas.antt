@@ -5,8 +5,7 @@ use Rattle.std.specs.Option.{option_map, option_map_or}
 use Rattle.std.proofs.lemmas.List.{length-map}
 use Rattle.std.proofs.lemmas.Option.{slice_get-map}
 use Rattle.lrpar_grammar.specs.Sentence.{LexemeFacts}
-use Rattle.lrpar_lexemes.specs.Lexemes.{last_end}
-use Rattle.lrpar_steps.specs.Mended.{start_at}
+use Rattle.lrpar_lexemes.specs.Lexemes.{last_end, start_at}
 
 -- where lexeme i starts
 pub start_at_is : {X : Type 0} (facts : X → LexemeFacts) (lexemes : List X) (i : ℕ) (x : X) → slice_get lexemes i ≡ Some x

@@ -1,18 +1,9 @@
 -- What a sequence of repairs makes of the lexemes: which it consumes, which it makes, and how an error lists it.
-use Rattle.std.specs.Prelude.{◌≡◌, ◌+◌, ℕ, List, [], ◌∷◌, map, slice_get, true, Some}
-use Rattle.std.specs.Option.{option_map_or}
+use Rattle.std.specs.Prelude.{◌≡◌, ◌+◌, ℕ, List, [], ◌∷◌, map, slice_get, Some}
 use Rattle.lrpar_grammar.specs.Sentence.{LexemeFacts}
 use Rattle.lrpar_lexemes.specs.Repair.{Repair, Inserted, Deleted, Shifted}
-use Rattle.lrpar_lexemes.specs.Lexemes.{last_end}
+use Rattle.lrpar_lexemes.specs.Lexemes.{inserted_at}
 use Rattle.lrpar_steps.specs.Sequences.{PlainStep, PlainInsert, PlainDelete, PlainShift}
-
--- where lexeme i starts; past the last one, where that ends
-abbrev pub start_at : List LexemeFacts → ℕ → ℕ
-start_at lexemes i = option_map_or (λ x. x.span.start) (slice_get lexemes i) (last_end lexemes)
-
--- the lexeme that is inserted at place i: it has this token, is empty where lexeme i starts, and is faulty
-abbrev pub inserted_at : ℕ → List LexemeFacts → ℕ → LexemeFacts
-inserted_at token lexemes i = record { token = token; span = record { start = start_at lexemes i; end = start_at lexemes i }; faulty = true }
 
 -- from place i the steps consume these lexemes, in order: the inserted one of each Insert, and the next one of each Shift
 abbrev pub Consumes : {X : Type 0} → (X → LexemeFacts) → List X → ℕ → List PlainStep → List X → Type 0

@@ -1,12 +1,10 @@
 //! Laws about the definitions that contracts cite: each function has one as its contract, and does nothing.
 ghost use Rattle.std.specs.Prelude.{◌≡◌, ◌↔◌, IsTrue};
 ghost use Rattle.lrpar_text.specs.Comparisons.{HashesAs};
-ghost use Rattle.lrpar_steps.specs.declared.fault.ParseFault.{ParseFault};
 ghost use Rattle.lrpar_steps.specs.declared.steps.RepairStep.{RepairStep};
 ghost use Rattle.lrpar_steps.specs.PlainSteps.{plain_step};
 ghost use Rattle.lrpar_steps.specs.StepComparisons.{step_input};
 
-use crate::fault::ParseFault;
 use crate::steps::RepairStep;
 use lrpar_grammar::span::StorageIndex;
 use std::hash::Hash;
@@ -17,9 +15,4 @@ pub fn steps_are_compared_by_contents<StorageT: StorageIndex>()
     ensures equal { (x y : RepairStep StorageT) → IsTrue (⟦<RepairStep<StorageT> as PartialEq>⟧.eq x y)
         ↔ (plain_step StorageT.index x ≡ plain_step StorageT.index y) }
     ensures hash { HashesAs (step_input StorageT.hash_input) ⟦<RepairStep<StorageT> as PartialEq>⟧.eq ⟦<RepairStep<StorageT> as Hash>⟧.hash_input }
-{}
-
-/// Two faults of a parse are equal exactly where they are of one kind and name the same lexeme.
-pub fn faults_are_compared_by_contents()
-    ensures { (x y : ParseFault) → IsTrue (⟦<ParseFault as PartialEq>⟧.eq x y) ↔ (x ≡ y) }
 {}

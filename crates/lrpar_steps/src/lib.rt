@@ -6,6 +6,7 @@
 pub mod building;
 pub mod counter;
 pub mod fault;
+pub mod fault_laws;
 pub mod laws;
 pub mod listed_repairs;
 pub mod nothing;

@@ -1,8 +1,7 @@
 //! Where lexemes start and end, and the lexeme past the last one.
 ghost use Rattle.std.specs.Prelude.{◌≡◌};
-ghost use Rattle.lrpar_lexemes.specs.Lexemes.{last_end, lexeme_past};
+ghost use Rattle.lrpar_lexemes.specs.Lexemes.{last_end, lexeme_past, start_at};
 ghost use Rattle.lrpar_steps.specs.Known.{facts_by, known};
-ghost use Rattle.lrpar_steps.specs.Mended.{start_at};
 
 use lrpar_grammar::span::{StorageIndex, TIdx};
 use lrpar_lexemes::lex_api::Lexeme;

@@ -1,6 +1,6 @@
 -- Lemmas on lists that std lacks.
 use Rattle.std.proofs.Common.{inl, inr, ◌≡◌, ◌<◌, ◌+◌, ◌-◌, ℕ, zero, suc, Bool, cond, not, ltb, Some, None, refl, List, [], ◌∷◌, ◌++◌, length, map, take, get_or, subst, sym, ap, zero-add, ◌≤◌, ◌∙◌, arith}
-use Rattle.std.specs.List.{All, range_with_len, position, prefix_len}
+use Rattle.std.specs.List.{All, AllByRecursion, range_with_len, position, prefix_len}
 use Rattle.std.proofs.lemmas.Bool.{cases_lt}
 use Rattle.std.proofs.lemmas.List.{get_or-map, get_or_default, length-map, take_all, take_more, map-append}
 
@@ -82,3 +82,16 @@ holds_more P xs i x so_far within is holds k d below =
           let same : k ≡ i = omega arith in
           subst (λ n. P (get_or xs n d)) (sym same) (subst P (is ∙ get_or_default xs i x d within) holds)
     ]
+
+-- all of two lists, and of each of them
+pub all_front : {A : Type 0} (P : A → Type 0) (xs ys : List A) → AllByRecursion P (xs ++ ys) → AllByRecursion P xs
+all_front P [] ys all = tt
+all_front P (x ∷ xs) ys all = (all.0, all_front P xs ys all.1)
+
+pub all_back : {A : Type 0} (P : A → Type 0) (xs ys : List A) → AllByRecursion P (xs ++ ys) → AllByRecursion P ys
+all_back P [] ys all = all
+all_back P (x ∷ xs) ys all = all_back P xs ys all.1
+
+pub all_both : {A : Type 0} (P : A → Type 0) (xs ys : List A) → AllByRecursion P xs → AllByRecursion P ys → AllByRecursion P (xs ++ ys)
+all_both P [] ys front back = back
+all_both P (x ∷ xs) ys front back = (front.0, all_both P xs ys front.1 back)

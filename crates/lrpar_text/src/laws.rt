@@ -1,12 +1,8 @@
-//! Laws of spans, numbers and symbols, and of the definitions of grammar texts. Each function does nothing: its clauses are the law.
+//! Laws of spans, numbers and symbols. Each function does nothing: its clauses are the law.
 ghost use Rattle.std.specs.Prelude.{◌≡◌, ◌↔◌, ◌++◌, IsTrue};
 ghost use Rattle.std.specs.Hash as fed;
 ghost use Rattle.lrpar_text.specs.Span.{Extent};
 ghost use Rattle.lrpar_text.specs.Comparisons.{ComparesByNumber, HashesAs, IsSameSymbol, symbol_input};
-ghost use Rattle.lrpar_text.specs.Forms.{NothingIsPassedOver, PiecesAreLongest};
-ghost use Rattle.lrpar_text.specs.Outline.{OutlineIsOne, StuckIsOne};
-ghost use Rattle.lrpar_text.specs.Phrases.{OutlinesAreOfTexts};
-ghost use Rattle.lrpar_text.specs.Words.{ReadsAsOne};
 
 use crate::span::{PIdx, RIdx, Span, StIdx, StorageIndex, Symbol, TIdx};
 use std::hash::Hash;
@@ -35,32 +31,4 @@ pub fn numbers_compare_by_value<StorageT: StorageIndex>()
 pub fn symbols_compare_by_contents<StorageT: StorageIndex>()
     ensures equal { (x y : Symbol StorageT) → IsTrue (⟦<Symbol<StorageT> as PartialEq>⟧.eq x y) ↔ IsSameSymbol StorageT.index x y }
     ensures hash { HashesAs (symbol_input StorageT.hash_input) ⟦<Symbol<StorageT> as PartialEq>⟧.eq ⟦<Symbol<StorageT> as Hash>⟧.hash_input }
-{}
-
-/// What is read at a place of a grammar text is the longest word that stands there, or the longest blanks. Where nothing is read,
-/// none stand there.
-pub fn pieces_are_longest()
-    ensures read { PiecesAreLongest }
-    ensures unread { NothingIsPassedOver }
-{}
-
-/// A grammar text reads as at most one list of words.
-pub fn text_reads_as_one()
-    ensures { ReadsAsOne }
-{}
-
-/// A grammar text has at most one outline: one list of declarations and rules.
-pub fn text_has_one_outline()
-    ensures { OutlineIsOne }
-{}
-
-/// A grammar text that can't be read is stuck at one place: where it can't be read on, by what may stand behind its words so far.
-pub fn text_is_stuck_at_one_place()
-    ensures { StuckIsOne }
-{}
-
-/// Words have an outline exactly where they are those of a grammar text: declarations, `%%`, rules, and perhaps a second `%%`. It
-/// lists what these declare and define, each in the order of the text.
-pub fn outlines_are_of_grammar_texts()
-    ensures { OutlinesAreOfTexts }
 {}

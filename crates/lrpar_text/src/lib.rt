@@ -6,4 +6,5 @@ pub mod lines;
 pub mod outline;
 pub mod shape;
 pub mod span;
+pub mod text_laws;
 pub mod words;

@@ -2,7 +2,7 @@ use Rattle.std.proofs.Common.{◌<◌, ◌≤◌, ◌+◌, ◌-◌, List, length
 use Rattle.std.specs.List.{AllZip}
 use Rattle.std.specs.Prelude.{map}
 use Rattle.lrpar_course.specs.CourseView.{subject}
-use Rattle.lrpar_steps.specs.Mended.{start_at}
+use Rattle.lrpar_lexemes.specs.Lexemes.{start_at}
 use Rattle.lrpar_course.specs.Moves.{RiseUpTo}
 use Rattle.lrpar_course.specs.RepairAnswer.{IsRepairErrorOf}
 use Rattle.lrpar_course.specs.RepairRun.{RepairStop}

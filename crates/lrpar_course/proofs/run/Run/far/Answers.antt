@@ -6,7 +6,7 @@ use Rattle.lrpar_states.specs.PlainRows.{plain_action}
 use Rattle.lrpar_states.specs.Table.{Accepts, Fails}
 use Rattle.lrpar_stacks.specs.Reduction.{top_action}
 use Rattle.lrpar_steps.specs.Known.{facts_by}
-use Rattle.lrpar_steps.specs.Mended.{start_at}
+use Rattle.lrpar_lexemes.specs.Lexemes.{start_at}
 use Rattle.lrpar_course.specs.Moves.{GoesFar, RiseUpTo}
 use Rattle.lrpar_course.proofs.FarLemmas.{come_more, come_none, come_to_accept, come_to_last, come_to_stop}
 use Rattle.lrpar_course.proofs.MovesLemmas.{rise_by_settle, rise_to_next}

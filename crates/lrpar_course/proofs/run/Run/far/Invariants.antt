@@ -1,7 +1,7 @@
 use Rattle.std.proofs.Common.{◌≤◌, length}
 use Rattle.std.specs.Prelude.{map}
 use Rattle.lrpar_steps.specs.Known.{facts_by}
-use Rattle.lrpar_steps.specs.Mended.{start_at}
+use Rattle.lrpar_lexemes.specs.Lexemes.{start_at}
 use Rattle.lrpar_course.specs.Moves.{RiseUpTo}
 use Rattle.lrpar_steps.specs.Standing.{IsRunStack}
 use Rattle.lrpar_course.proofs.FarLemmas.{HasCome}

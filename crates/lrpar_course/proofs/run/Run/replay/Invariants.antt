@@ -1,7 +1,7 @@
 use Rattle.std.proofs.Common.{◌≤◌, drop, length, take}
 use Rattle.std.specs.Prelude.{map}
 use Rattle.lrpar_steps.specs.Known.{facts_by}
-use Rattle.lrpar_steps.specs.Mended.{start_at}
+use Rattle.lrpar_lexemes.specs.Lexemes.{start_at}
 use Rattle.lrpar_course.specs.Moves.{CanReplay, IsReplayed, RiseUpTo}
 use Rattle.lrpar_steps.specs.PlainSteps.{plain_steps}
 use Rattle.lrpar_steps.specs.Standing.{IsRunStack}

@@ -3,9 +3,8 @@ use Rattle.std.specs.Prelude.{map}
 use Rattle.std.proofs.lemmas.Option.{slice_get_read}
 use Rattle.lrpar_grammar.specs.Sentence.{LexemeFacts}
 use Rattle.lrpar_stacks.specs.Reduction.{Feeds}
-use Rattle.lrpar_lexemes.specs.Lexemes.{facts_of}
+use Rattle.lrpar_lexemes.specs.Lexemes.{facts_of, start_at}
 use Rattle.lrpar_steps.specs.Known.{facts_by}
-use Rattle.lrpar_steps.specs.Mended.{start_at}
 use Rattle.lrpar_course.proofs.MovesLemmas.{replayed_delete, replayed_insert, replayed_shift, rise_to_next, rise_to_same}
 use Rattle.lrpar_stacks.proofs.RunLemmas.{token_at_lexeme}
 use Rattle.lrpar_steps.proofs.TokenLemmas.{good_token}

@@ -1,6 +1,6 @@
 use Rattle.std.proofs.Common.{refl}
 use Rattle.lrpar_steps.proofs.FaultComparisonLemmas.{fault_alike}
-use Rattle.lrpar_steps.proofs.laws.faults_are_compared_by_contents.Goals as goal
+use Rattle.lrpar_steps.proofs.fault_laws.faults_are_compared_by_contents.Goals as goal
 
 pub returns : goal.returns
 returns c =

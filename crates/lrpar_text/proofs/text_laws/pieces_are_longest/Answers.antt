@@ -1,5 +1,5 @@
 use Rattle.lrpar_text.proofs.LongestLemmas.{nothing_is_passed_over, pieces_are_longest}
-use Rattle.lrpar_text.proofs.laws.pieces_are_longest.Goals as goal
+use Rattle.lrpar_text.proofs.text_laws.pieces_are_longest.Goals as goal
 
 pub returns-clause-read : goal.returns-clause-read
 returns-clause-read c = pieces_are_longest
