@@ -8,6 +8,7 @@ use Rattle.lrpar_answers.specs.declared.node.Node.{Node}
 use Rattle.lrpar_answers.specs.declared.node.Node.TheOpen.{Node-F}
 use Rattle.lrpar_answers.specs.declared.node.Node.TheViews.{out-Node}
 use Rattle.lrpar_answers.specs.declared.node.Node.TheFolds.{fold_out-Node, map-Node}
+use Rattle.lrpar_text.proofs.ListLemmas.{all_front}
 use Rattle.lrpar_answers.specs.TreeText.{Met, RuleAt, met_step, met_from, layer_met, root_at, layer_nodes, nodes_below, all_met}
 
 -- what is met in a tree: its root, and what is met in the trees below it
