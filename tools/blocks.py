@@ -10,7 +10,7 @@ import sys
 
 ROOT = pathlib.Path(__file__).resolve().parent.parent
 PAGES = ["README.md", "docs/GUIDE.md"]
-CRATES = ["lrpar_test_guide", "example_language", "example_linter"]
+CRATES = ["test_guide", "example_language", "example_linter"]
 
 
 def main():

@@ -18,7 +18,7 @@ readonly here
 readonly root=$here/..
 readonly program=${LRPAR_PROGRAM:-$root/crates/lrpar_program/out/lrpar_program}
 readonly nimbleparse=${NIMBLEPARSE_PROGRAM:-$root/crates/nimbleparse/out/nimbleparse}
-readonly runner=${LRPAR_CASES:-$root/crates/lrpar_cases/out/lrpar_cases}
+readonly runner=${LRPAR_CASES:-$root/crates/test_cases/out/lrpar_cases}
 readonly most_calls=100000
 readonly each_from=200
 readonly most_from=1000000000
@@ -161,7 +161,7 @@ refuse_calls_in_both_ways() {
     refuse_calls_of_cases FROM "$@"
 }
 
-if [[ -z ${LRPAR_CASES:-} ]] && ! (cd "$root/crates/lrpar_cases" && rt run -- wrong.cases) >/dev/null 2>&1; then
+if [[ -z ${LRPAR_CASES:-} ]] && ! (cd "$root/crates/test_cases" && rt run -- wrong.cases) >/dev/null 2>&1; then
     printf 'the cases fail before any call is refused\n' >&2
     exit 1
 fi

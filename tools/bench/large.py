@@ -17,7 +17,7 @@ from typing import Callable, NamedTuple
 HERE = os.path.dirname(os.path.abspath(__file__))
 ROOT = os.path.join(HERE, "..", "..")
 BUILT = os.path.join(ROOT, "crates", "lrpar_program", "out", "lrpar_program")
-JSON = os.path.join(ROOT, "crates", "lrpar_cases", "data", "json")
+JSON = os.path.join(ROOT, "crates", "test_cases", "data", "json")
 
 MARKED = "%token MARK %% L: L 'N' | ; M: 'MARK';"
 MARKED_RULES = "n+ 'N'\n! 'MARK'\n\\n ;\n"

@@ -4,7 +4,7 @@
 
 `--tree` names the built lrpar_program, which is timed as a whole, and `--parts` the built bench_program, which times the
 lexer alone, the lexer with the parse, and the text of the tree. The texts are those of gen_json.py, of 1 and of 10 MB
-where no sizes are given; the grammar and the lexer's rules are those of crates/lrpar_cases/data/json. The runs of the sizes take
+where no sizes are given; the grammar and the lexer's rules are those of crates/test_cases/data/json. The runs of the sizes take
 turns. Prints for each size the median of the seconds, nanoseconds a byte, and the most memory that a process had, in
 bytes a byte; and in a line `growth` how many times as long a byte takes in the last size as in the first, as the median
 of the rounds' ratios.
@@ -18,7 +18,7 @@ import tempfile
 import time
 
 HERE = os.path.dirname(os.path.abspath(__file__))
-JSON = os.path.join(HERE, "..", "..", "crates", "lrpar_cases", "data", "json")
+JSON = os.path.join(HERE, "..", "..", "crates", "test_cases", "data", "json")
 READ_BY = [os.path.join(JSON, "grammar.y"), os.path.join(JSON, "lexer.lex")]
 PARTS = ("lex", "lex_tree", "print")
 # How often a process repeats a part. The first time is left out.

@@ -17,7 +17,7 @@ import tempfile
 HERE = os.path.dirname(os.path.abspath(__file__))
 ROOT = os.path.join(HERE, "..", "..")
 BUILT = os.path.join(ROOT, "crates", "nimbleparse", "out", "nimbleparse")
-C = os.path.join(ROOT, "crates", "lrpar_cases", "data", "c")
+C = os.path.join(ROOT, "crates", "test_cases", "data", "c")
 
 # 50 lexemes.
 FUNCTION = """int f%d(int a, int b)

@@ -38,7 +38,7 @@ copy_repository() {
         to=$copy/crates/bench_program/${file%.txt}
         mkdir -p "$(dirname "$to")" && cp "$here/program/$file" "$to" || return 1
     done < <(cd "$here/program" && find . -name '*.txt')
-    printf 'bench_program: lrpar lrpar_text lrpar_grammar lrpar_lexer thiserror\n' >>"$copy/crates.txt"
+    printf 'bench_program: lrpar lrpar_grammar_places lrpar_grammar lrpar_lexer thiserror\n' >>"$copy/crates.txt"
 }
 
 # Proves the program and all below it, as far as no proof was kept, and builds it.

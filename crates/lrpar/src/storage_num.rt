@@ -2,7 +2,7 @@
 //! for none of them.
 ghost use Rattle.std.specs.Prelude.{◌≡◌, ◌<◌, ◌↔◌, ℕ, pos, Some, refl};
 
-use lrpar_text::span::StorageIndex;
+use lrpar_grammar_places::span::StorageIndex;
 use num_traits::{PrimInt, Unsigned};
 
 /// What rules, productions, tokens and states are numbered by: `u8`, `u16` or `u32`. As a number, a value is its index.

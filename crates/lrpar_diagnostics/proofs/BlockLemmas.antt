@@ -2,8 +2,8 @@
 use Rattle.std.proofs.Common.{◌≡◌, ◌∙◌, ◌+◌, ℕ, List, [], ◌∷◌, ◌++◌, ap, sym, lit<, append_assoc}
 use Rattle.std.specs.Prelude.{encode_utf8}
 use Rattle.std.proofs.lemmas.Str.{encode_ascii}
-use Rattle.lrpar_text.specs.Span.{Extent}
-use Rattle.lrpar_text.specs.declared.span.SpansKind.{SpansKind}
+use Rattle.lrpar_grammar_places.specs.Span.{Extent}
+use Rattle.lrpar_grammar_places.specs.declared.span.SpansKind.{SpansKind}
 use Rattle.lrpar_diagnostics.specs.Blocks.{blocks_behind, dots, label}
 use Rattle.lrpar_diagnostics.specs.ConflictText.{by_line, group_label, groups_text}
 use Rattle.lrpar_diagnostics.specs.Underline.{block_text, on_line_text}

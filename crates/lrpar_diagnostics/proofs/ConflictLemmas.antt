@@ -5,8 +5,8 @@ use Rattle.std.specs.List.{All}
 use Rattle.std.specs.Option.{option_map_or}
 use Rattle.std.specs.Str.{bytes_eq}
 use Rattle.std.proofs.lemmas.Bool.Decides.{nat_tests}
-use Rattle.lrpar_text.specs.Lines.{line_start}
-use Rattle.lrpar_text.specs.Span.{Extent, nowhere}
+use Rattle.lrpar_grammar_places.specs.Lines.{line_start}
+use Rattle.lrpar_grammar_places.specs.Span.{Extent, nowhere}
 use Rattle.lrpar_grammar.specs.Grammar.{Grammar, RuleName, TokenName, Production, added_prod, rules_len, prods_len, rule_span, token_span, prod_span_of, symbol_spans_of}
 use Rattle.lrpar_grammar.specs.SpansFit.{AreSpansInOrder, IsPartOf, IsPartOfLine, NamesFit, ProductionFits, SpansFit}
 use Rattle.lrpar_diagnostics.specs.Subject.{Subject}

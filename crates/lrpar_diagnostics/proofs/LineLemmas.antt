@@ -7,7 +7,7 @@ use Rattle.std.proofs.lemmas.Bool.{cases_eq, cases_lt}
 use Rattle.std.proofs.lemmas.Bool.Decides.{nat_tests}
 use Rattle.std.proofs.lemmas.List.Sums.{prefix_len-drop_yes, prefix_len-drop_no, prefix_len-drop_all}
 use Rattle.std.proofs.lemmas.Str.{IsCharBoundary-after_ascii}
-use Rattle.lrpar_text.specs.Lines.{is_line_feed, is_in_line, starts_line, line_end}
+use Rattle.lrpar_grammar_places.specs.Lines.{is_line_feed, is_in_line, starts_line, line_end}
 use Rattle.lrpar_diagnostics.specs.Columns.{repeated}
 use Rattle.lrpar_diagnostics.specs.Underline.{starts_behind, is_printed, printed_behind}
 

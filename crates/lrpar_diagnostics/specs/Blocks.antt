@@ -1,9 +1,9 @@
 -- The text of an error or a warning: a block for each of its places.
 use Rattle.std.specs.Prelude.{◌≡◌, ℕ, ◌+◌, ◌-◌, ◌<◌, nat_lt, List, [], ◌∷◌, ◌++◌, Option, IfSome, codes, length, if◌then◌else◌}
-use Rattle.lrpar_text.specs.Lines.{line_of}
-use Rattle.lrpar_text.specs.Span.{Extent}
-use Rattle.lrpar_text.specs.declared.span.SpansKind.{SpansKind}
-use Rattle.lrpar_text.specs.declared.span.SpansKind.TheVariants.{Error, DuplicationError, Other}
+use Rattle.lrpar_grammar_places.specs.Lines.{line_of}
+use Rattle.lrpar_grammar_places.specs.Span.{Extent}
+use Rattle.lrpar_grammar_places.specs.declared.span.SpansKind.{SpansKind}
+use Rattle.lrpar_grammar_places.specs.declared.span.SpansKind.TheVariants.{Error, DuplicationError, Other}
 use Rattle.lrpar_diagnostics.specs.Location.{ordinal_text}
 use Rattle.lrpar_diagnostics.specs.Underline.{block_text}
 

@@ -2,7 +2,7 @@
 use Rattle.std.specs.Prelude.{ℕ, ◌-◌, ◌==◌, ◌&&◌, nat_lt, Bool, false, List, [], ◌∷◌, ◌++◌, length, slice_index, slice_range, replicate, codes, chars, encode_utf8_all, if◌then◌else◌}
 use Rattle.std.specs.Fmt.{decimal}
 use Rattle.unicode_width.specs.Width.{str_width}
-use Rattle.lrpar_text.specs.Lines.{line_of, line_end}
+use Rattle.lrpar_grammar_places.specs.Lines.{line_of, line_end}
 
 -- how many columns the bytes from i up to j take
 abbrev pub columns : List ℕ → ℕ → ℕ → ℕ

@@ -3,10 +3,10 @@ use Rattle.std.specs.Prelude.{ℕ, ◌==◌, List, [], ◌∷◌, ◌++◌, Opti
 use Rattle.std.specs.List.{flat_map}
 use Rattle.std.specs.Option.{option_map_or}
 use Rattle.std.specs.Str.{bytes_eq}
-use Rattle.lrpar_text.specs.Lines.{line_start}
-use Rattle.lrpar_text.specs.Span.{Extent, nowhere}
+use Rattle.lrpar_grammar_places.specs.Lines.{line_start}
+use Rattle.lrpar_grammar_places.specs.Span.{Extent, nowhere}
 use Rattle.lrpar_grammar.specs.Grammar.{Grammar, rule_of, rule_name, rule_span, token_name, token_span, symbol_spans_of, prod_span_of}
-use Rattle.lrpar_states.specs.Table.{ConflictLists, ReduceReduce, ShiftReduce}
+use Rattle.lrpar_table_rows.specs.Table.{ConflictLists, ReduceReduce, ShiftReduce}
 use Rattle.lrpar_diagnostics.specs.Subject.{Subject}
 use Rattle.lrpar_diagnostics.specs.Location.{place_text}
 use Rattle.lrpar_diagnostics.specs.Underline.{block_text, on_line_text}

@@ -2,8 +2,8 @@
 use Rattle.std.specs.Prelude.{◌≡◌, ℕ, ◌%◌, ◌==◌, ◌&&◌, nat_le, Bool, List, ◌++◌, Option, Some, None, codes, if◌then◌else◌}
 use Rattle.std.specs.Fmt.{decimal}
 use Rattle.std.specs.Str.{IsCharBoundary}
-use Rattle.lrpar_text.specs.Lines.{line_of, column_of}
-use Rattle.lrpar_text.specs.Span.{Extent}
+use Rattle.lrpar_grammar_places.specs.Lines.{line_of, column_of}
+use Rattle.lrpar_grammar_places.specs.Span.{Extent}
 use Rattle.lrpar_diagnostics.specs.Subject.{Subject}
 
 -- whether a number ends in 11, 12 or 13

@@ -1,8 +1,8 @@
 -- Parts of a text, underlined on the lines that they touch.
 use Rattle.std.specs.Prelude.{ℕ, ◌≡◌, ◌+◌, ◌-◌, ◌≤◌, ◌||◌, nat_lt, Bool, List, [], ◌∷◌, ◌++◌, length, filter, min, max}
 use Rattle.std.specs.List.{join_by, range_with_len}
-use Rattle.lrpar_text.specs.Lines.{line_start, line_end, starts_line}
-use Rattle.lrpar_text.specs.Span.{Extent}
+use Rattle.lrpar_grammar_places.specs.Lines.{line_start, line_end, starts_line}
+use Rattle.lrpar_grammar_places.specs.Span.{Extent}
 use Rattle.lrpar_grammar.specs.SpansFit.{IsPartOf}
 use Rattle.lrpar_diagnostics.specs.Columns.{columns, repeated, text_end, margin, printed_line}
 

@@ -2,11 +2,11 @@
 ghost use Rattle.std.specs.Prelude.{◌≡◌, ◌<◌, ◌≤◌, ◌∷◌, ◌++◌, [], List, ℕ, IfOk, IfSome, OnOk, length, map, option_map, take, drop, unwrap_or};
 ghost use Rattle.std.specs.List.{AllByRecursion, flat_map};
 ghost use Rattle.std.specs.String.{string_bytes};
-ghost use Rattle.lrpar_text.specs.Span.{nowhere};
+ghost use Rattle.lrpar_grammar_places.specs.Span.{nowhere};
 ghost use Rattle.lrpar_grammar.specs.Grammar.{end_token, prods_len, rule_span, rules_len, token_span, tokens_len};
 ghost use Rattle.lrpar_grammar.specs.SpansFit.{IsPartOf, NamesFit, SpansFit};
-ghost use Rattle.lrpar_states.specs.ConflictsFit.{ConflictsFit, ReductionsFit, ShiftFits};
-ghost use Rattle.lrpar_states.specs.PlainConflicts.{reduce_reduce_of, shift_reduce_of};
+ghost use Rattle.lrpar_table_rows.specs.ConflictsFit.{ConflictsFit, ReductionsFit, ShiftFits};
+ghost use Rattle.lrpar_table_rows.specs.PlainConflicts.{reduce_reduce_of, shift_reduce_of};
 ghost use Rattle.lrpar_diagnostics.specs.ConflictText.{by_line, conflicts_text, dollar_span, group_label, groups_text, labelled, lookahead_text, reduce_reduce_line, reduce_reduce_text, reduced_spans, rules_text, shift_or_reduction, shift_reduce_line, shift_reduce_text, shift_text, shown_name, shown_span, shown_spans, two_reductions};
 ghost use Rattle.lrpar_diagnostics.specs.Location.{place_text};
 ghost use Rattle.lrpar_diagnostics.specs.Underline.{FollowInOrder};
@@ -14,8 +14,8 @@ ghost use Rattle.lrpar_diagnostics.specs.Underline.{FollowInOrder};
 use crate::formatter::SpannedDiagnosticFormatter;
 use crate::source::Source;
 use lrpar_grammar::grammar::YaccGrammar;
-use lrpar_states::table::{Conflicts, StateGraph, StateTable};
-use lrpar_text::span::{PIdx, RIdx, Span, StIdx, StorageIndex, TIdx};
+use lrpar_grammar_places::span::{PIdx, RIdx, Span, StIdx, StorageIndex, TIdx};
+use lrpar_table_rows::table::{Conflicts, StateGraph, StateTable};
 use std::alloc::{AllocError, Global};
 
 /// Two reductions at a token: the token, the productions and the state.

@@ -1,14 +1,14 @@
 //! Texts that name places of a text and show them.
 ghost use Rattle.std.specs.Prelude.{◌≡◌, ◌%◌, ◌≤◌, ◌++◌, ◌↔◌, [], if◌then◌else◌, IfOk, IsTrue, OnOk, codes, length};
 ghost use Rattle.std.specs.String.{string_bytes};
-ghost use Rattle.lrpar_text.specs.Lines.{line_table};
+ghost use Rattle.lrpar_grammar_places.specs.Lines.{line_table};
 ghost use Rattle.lrpar_grammar.specs.SpansFit.{IsPartOf};
 ghost use Rattle.lrpar_diagnostics.specs.Location.{IsLocationText, IsPlaceText, is_teen, ordinal_text, suffix_of_digit};
 ghost use Rattle.lrpar_diagnostics.specs.Underline.{FollowInOrder, FollowOnLine, block_text, on_line_text};
 
 use crate::source::Source;
-use lrpar_text::lines::NewlineCache;
-use lrpar_text::span::Span;
+use lrpar_grammar_places::lines::NewlineCache;
+use lrpar_grammar_places::span::Span;
 use std::alloc::{AllocError, Global};
 use std::marker::Model;
 

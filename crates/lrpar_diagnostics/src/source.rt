@@ -2,13 +2,13 @@
 ghost use Rattle.std.specs.Prelude.{◌≡◌, ◌<◌, ◌≤◌, ◌∷◌, ◌++◌, ◌↔◌, [], IfOk, IfSome, IsTrue, MatchOption, OnOk, length};
 ghost use Rattle.std.specs.String.{string_bytes};
 ghost use Rattle.std.specs.Str.{IsCharBoundary, IsUtf8};
-ghost use Rattle.lrpar_text.specs.Lines.{column_of, line_end, line_of, line_start, line_table};
+ghost use Rattle.lrpar_grammar_places.specs.Lines.{column_of, line_end, line_of, line_start, line_table};
 ghost use Rattle.lrpar_diagnostics.specs.Columns.{columns, margin, printed_line, repeated, text_end};
 ghost use Rattle.lrpar_diagnostics.specs.Underline.{EndOnFirstLine, EndOnLine, FollowInOrder, FollowOnLine, block_text, first_mark, is_printed, marked_line, marks_behind, on_line_text, printed_behind, underline};
 ghost use Rattle.lrpar_grammar.specs.SpansFit.{IsPartOf};
 
-use lrpar_text::lines::NewlineCache;
-use lrpar_text::span::Span;
+use lrpar_grammar_places::lines::NewlineCache;
+use lrpar_grammar_places::span::Span;
 use std::alloc::{AllocError, Global};
 use unicode_width::UnicodeWidthStr;
 

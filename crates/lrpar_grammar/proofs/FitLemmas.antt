@@ -5,15 +5,15 @@ use Rattle.std.specs.Str.{IsUtf8}
 use Rattle.std.proofs.lemmas.Bool.{cases_eq}
 use Rattle.std.proofs.lemmas.Str.{IsCharBoundary-start}
 use Rattle.std.proofs.lemmas.List.Elements.{All-cons, All-map}
-use Rattle.lrpar_text.specs.Span.{Extent, IsPartOf}
+use Rattle.lrpar_grammar_places.specs.Span.{Extent, IsPartOf}
 use Rattle.lrpar_grammar.specs.declared.grammar.prods.SplitProd.{SplitProd}
-use Rattle.lrpar_parts.specs.declared.parts.RulePart.{RulePart}
-use Rattle.lrpar_parts.specs.declared.parts.TokenPart.{TokenPart}
-use Rattle.lrpar_parts.specs.Grammar.{added_rule, RuleName, TokenName}
+use Rattle.lrpar_grammar_reader.specs.declared.parts.RulePart.{RulePart}
+use Rattle.lrpar_grammar_reader.specs.declared.parts.TokenPart.{TokenPart}
+use Rattle.lrpar_grammar_reader.specs.Grammar.{added_rule, RuleName, TokenName}
 use Rattle.lrpar_grammar.specs.Kept.{split_prod_of}
-use Rattle.lrpar_parts.specs.Parts.{rule_name_of, token_name_of}
-use Rattle.lrpar_parts.specs.SpansFit.{AreSpansInOrder, ProductionFits}
-use Rattle.lrpar_text.proofs.ListLemmas.{All-map-at}
+use Rattle.lrpar_grammar_reader.specs.Parts.{rule_name_of, token_name_of}
+use Rattle.lrpar_grammar_reader.specs.SpansFit.{AreSpansInOrder, ProductionFits}
+use Rattle.lrpar_grammar_places.proofs.ListLemmas.{All-map-at}
 
 -- the places of the rules, the added one among them, which lies at the start of every text
 pub rules_fit_all : (src : List ℕ) (rules : List RulePart) → IsUtf8 src → All (λ r. IsPartOf src r.span) rules

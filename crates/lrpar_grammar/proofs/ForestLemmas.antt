@@ -1,7 +1,7 @@
 -- Lists of trees: two joined, and one split where its list of symbols is.
 use Rattle.std.proofs.Common.{◌≡◌, ◌∙◌, refl, sym, ap, ℕ, List, [], ◌∷◌, ◌++◌}
 use Rattle.std.proofs.lemmas.List.{append_assoc}
-use Rattle.lrpar_parts.specs.Grammar.{Grammar, GrammarSymbol}
+use Rattle.lrpar_grammar_reader.specs.Grammar.{Grammar, GrammarSymbol}
 use Rattle.lrpar_grammar.specs.Tree.{Forest, Leaf, Nil, Cons, leaves, forest_leaves, ForestFits}
 
 -- one list of trees behind another

@@ -6,17 +6,17 @@ use Rattle.std.specs.Result.{IfErr, IsErrOf, IsErrAnd}
 use Rattle.std.proofs.lemmas.Option.{slice_get-get_or, slice_get-map, slice_get_read}
 use Rattle.std.proofs.lemmas.List.{length-append, length-map, get_or_append_left, get_or_at}
 use Rattle.std.proofs.lemmas.List.Elements.{All-append, All-cons, All-map}
-use Rattle.lrpar_parts.specs.declared.parts.GrammarFault.{GrammarFault}
-use Rattle.lrpar_parts.specs.declared.parts.GrammarFault.TheVariants.{NoRules, StorageTooSmall, BadStart, BadSymbol, Memory}
+use Rattle.lrpar_grammar_reader.specs.declared.parts.GrammarFault.{GrammarFault}
+use Rattle.lrpar_grammar_reader.specs.declared.parts.GrammarFault.TheVariants.{NoRules, StorageTooSmall, BadStart, BadSymbol, Memory}
 use Rattle.std.proofs.lemmas.Bool.{cases_lt}
 use Rattle.std.specs.declared.alloc.Global.{Global}
-use Rattle.lrpar_text.specs.declared.span.PIdx.{PIdx}
-use Rattle.lrpar_parts.specs.declared.parts.GrammarParts.{GrammarParts}
+use Rattle.lrpar_grammar_places.specs.declared.span.PIdx.{PIdx}
+use Rattle.lrpar_grammar_reader.specs.declared.parts.GrammarParts.{GrammarParts}
 use Rattle.lrpar_grammar.specs.declared.grammar.prods.SplitProd.{SplitProd}
 use Rattle.lrpar_grammar.specs.Kept.{AreRowsOf, IsKept, kept_grammar, split_prod_of}
-use Rattle.lrpar_parts.specs.Grammar.{added_rule, Production, IsListedSymbol, IsWellFormed, added_prod, rule_of, symbols_of, symbol_spans_of, prod_len, prods_len, rules_len, end_token, start_prod, Grammar, HasSpans}
-use Rattle.lrpar_parts.specs.Symbols.{symbol_of}
-use Rattle.lrpar_parts.specs.Parts.{Parts, AreSound, IsFirstFault, IsListedProd, IsRefusalOf, grammar_of, parts_of, prod_of, rule_name_of}
+use Rattle.lrpar_grammar_reader.specs.Grammar.{added_rule, Production, IsListedSymbol, IsWellFormed, added_prod, rule_of, symbols_of, symbol_spans_of, prod_len, prods_len, rules_len, end_token, start_prod, Grammar, HasSpans}
+use Rattle.lrpar_grammar_reader.specs.Symbols.{symbol_of}
+use Rattle.lrpar_grammar_reader.specs.Parts.{Parts, AreSound, IsFirstFault, IsListedProd, IsRefusalOf, grammar_of, parts_of, prod_of, rule_name_of}
 
 -- only one fault comes first
 first_fault_alone : (limit : ℕ) (x : Parts) (found fault : GrammarFault) → IsFirstFault limit x found → IsFirstFault limit x fault → found ≡ fault

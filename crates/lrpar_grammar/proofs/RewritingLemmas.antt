@@ -3,7 +3,7 @@
 -- trees of a production's symbols the children of one node.
 use Rattle.std.proofs.Common.{◌≡◌, ◌<◌, ◌∙◌, refl, sym, ap, subst, ℕ, zero, suc, List, [], ◌∷◌, ◌++◌}
 use Rattle.std.proofs.lemmas.List.{append-nil, append_assoc, map-append}
-use Rattle.lrpar_parts.specs.Grammar.{Grammar, GrammarSymbol, Nonterminal, Terminal, prods_len, rule_of, symbols_of}
+use Rattle.lrpar_grammar_reader.specs.Grammar.{Grammar, GrammarSymbol, Nonterminal, Terminal, prods_len, rule_of, symbols_of}
 use Rattle.lrpar_grammar.specs.Tree.{Tree, Forest, Leaf, Branch, Nil, Cons, leaves, forest_leaves, Fits, ForestFits}
 use Rattle.lrpar_grammar.specs.Rewriting.{Rewrites, DerivesIn, Derives, terminals, LeavesAreDerived, DerivedAreLeaves}
 use Rattle.lrpar_grammar.proofs.ForestLemmas.{joined, joined_leaves, joined_fits, splits, split_leaves, leaf_forest, leaf_forest_leaves}

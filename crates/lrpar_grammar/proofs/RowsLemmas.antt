@@ -3,8 +3,8 @@ use Rattle.std.proofs.Common.{◌≡◌, ◌<◌, ◌+◌, ℕ, suc, true, false
 use Rattle.std.specs.declared.alloc.Global.{Global}
 use Rattle.std.proofs.lemmas.List.{length-set, length-append, get_or_at, get_or_append_left, get_or-set_same, get_or-set_other, map-append, append-nil}
 use Rattle.std.proofs.lemmas.Bool.{cases_eq, cases_lt, eq-eqb, ne_eqb}
-use Rattle.lrpar_text.specs.declared.span.PIdx.{PIdx}
-use Rattle.lrpar_parts.specs.Grammar.{Production, prods_from}
+use Rattle.lrpar_grammar_places.specs.declared.span.PIdx.{PIdx}
+use Rattle.lrpar_grammar_reader.specs.Grammar.{Production, prods_from}
 use Rattle.lrpar_grammar.specs.Kept.{AreRowsOf}
 
 -- a production at the end is the last of its rule, and changes no other rule's

@@ -4,10 +4,10 @@ use Rattle.std.specs.List.{slice_get}
 use Rattle.std.specs.Option.{option_map}
 use Rattle.std.proofs.lemmas.List.{length-map}
 use Rattle.std.proofs.lemmas.Option.{slice_get-map, slice_get_read}
-use Rattle.lrpar_text.specs.Span.{Extent, nowhere}
-use Rattle.lrpar_parts.specs.declared.parts.RulePart.{RulePart}
-use Rattle.lrpar_parts.specs.Grammar.{Grammar, added_rule, rules_len}
-use Rattle.lrpar_parts.specs.Parts.{rule_name_of}
+use Rattle.lrpar_grammar_places.specs.Span.{Extent, nowhere}
+use Rattle.lrpar_grammar_reader.specs.declared.parts.RulePart.{RulePart}
+use Rattle.lrpar_grammar_reader.specs.Grammar.{Grammar, added_rule, rules_len}
+use Rattle.lrpar_grammar_reader.specs.Parts.{rule_name_of}
 
 -- a listed rule, behind the added one
 listed_rule_at : (rules : List RulePart) (r : ℕ) (part : RulePart) → r ≢ 0 → r - 1 < length rules → part ≡ get_or rules (r - 1) part

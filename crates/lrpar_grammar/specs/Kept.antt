@@ -1,13 +1,13 @@
 -- What the grammar value keeps, and the grammar that it stands for.
 use Rattle.std.specs.Prelude.{◌≡◌, ◌<◌, ◌≤◌, ℕ, List, ◌∷◌, length, map, slice_index_or, Vec}
 use Rattle.std.specs.declared.alloc.Global.{Global}
-use Rattle.lrpar_text.specs.declared.span.PIdx.{PIdx}
+use Rattle.lrpar_grammar_places.specs.declared.span.PIdx.{PIdx}
 use Rattle.lrpar_grammar.specs.declared.grammar.prods.SplitProd.{SplitProd}
-use Rattle.lrpar_parts.specs.declared.parts.RulePart.{RulePart}
-use Rattle.lrpar_parts.specs.declared.parts.TokenPart.{TokenPart}
-use Rattle.lrpar_parts.specs.Parts.{rule_name_of, token_name_of}
-use Rattle.lrpar_parts.specs.Grammar.{Grammar, Production, added_rule, prods_from, rules_len, tokens_len, prods_len, IsWellFormed}
-use Rattle.lrpar_parts.specs.Symbols.{prod_numbers, symbol_of}
+use Rattle.lrpar_grammar_reader.specs.declared.parts.RulePart.{RulePart}
+use Rattle.lrpar_grammar_reader.specs.declared.parts.TokenPart.{TokenPart}
+use Rattle.lrpar_grammar_reader.specs.Parts.{rule_name_of, token_name_of}
+use Rattle.lrpar_grammar_reader.specs.Grammar.{Grammar, Production, added_rule, prods_from, rules_len, tokens_len, prods_len, IsWellFormed}
+use Rattle.lrpar_grammar_reader.specs.Symbols.{prod_numbers, symbol_of}
 
 -- a kept production by its numbers
 abbrev pub split_prod_of : {S : Type 0} → (S → ℕ) → SplitProd S → Production

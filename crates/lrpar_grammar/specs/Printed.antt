@@ -1,7 +1,7 @@
 -- What messages print for a token.
 use Rattle.std.specs.Prelude.{◌==◌, if◌then◌else◌, ℕ, List, codes}
 use Rattle.std.specs.Option.{option_map_or}
-use Rattle.lrpar_parts.specs.Grammar.{Grammar, end_token, token_epp}
+use Rattle.lrpar_grammar_reader.specs.Grammar.{Grammar, end_token, token_epp}
 
 -- the printed text of a token; `end of input` for the end token; `no token` for a number that the grammar doesn't have
 abbrev pub printed_of : Grammar → ℕ → List ℕ

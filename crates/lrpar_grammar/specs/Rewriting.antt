@@ -1,6 +1,6 @@
 -- Derivations by rewriting: sentential forms are lists of symbols, and a step replaces one nonterminal of a form.
 use Rattle.std.specs.Prelude.{◌≡◌, ◌<◌, ℕ, zero, suc, List, [], ◌∷◌, ◌++◌, map}
-use Rattle.lrpar_parts.specs.Grammar.{Grammar, GrammarSymbol, Nonterminal, Terminal, prods_len, rule_of, symbols_of}
+use Rattle.lrpar_grammar_reader.specs.Grammar.{Grammar, GrammarSymbol, Nonterminal, Terminal, prods_len, rule_of, symbols_of}
 use Rattle.lrpar_grammar.specs.Tree.{Tree, Fits, leaves}
 
 -- one step: somewhere in the form, the rule of a production is replaced by its right side

@@ -1,7 +1,7 @@
 -- Valid lists of lexemes, and sentences.
 use Rattle.std.specs.Prelude.{◌≡◌, ◌<◌, ◌≤◌, ◌+◌, ℕ, List, length, slice_get, Some}
-pub use Rattle.lrpar_text.specs.Facts.{LexemeFacts}
-use Rattle.lrpar_parts.specs.Grammar.{Grammar, Nonterminal, end_token}
+pub use Rattle.lrpar_grammar_places.specs.Facts.{LexemeFacts}
+use Rattle.lrpar_grammar_reader.specs.Grammar.{Grammar, Nonterminal, end_token}
 use Rattle.lrpar_grammar.specs.Tree.{Tree, Fits, leaves}
 
 -- the lexemes are the leaves of some tree that fits the start rule

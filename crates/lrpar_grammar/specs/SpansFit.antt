@@ -1,3 +1,3 @@
 -- Where the places of a grammar have to lie, as the crates below define it.
-pub use Rattle.lrpar_text.specs.Span.{IsPartOf}
-pub use Rattle.lrpar_parts.specs.SpansFit.{IsPartOfLine, AreSpansInOrder, ProductionFits, NamesFit, SpansFit}
+pub use Rattle.lrpar_grammar_places.specs.Span.{IsPartOf}
+pub use Rattle.lrpar_grammar_reader.specs.SpansFit.{IsPartOfLine, AreSpansInOrder, ProductionFits, NamesFit, SpansFit}

@@ -1,8 +1,8 @@
 -- The grammar of the text `%% E: T '+' E | T; T: 'ID';`, on which the definitions are tried: tokens `+` 0, ID 1, the end token 2;
 -- rules E 1, T 2; productions `E: T '+' E` 0, `E: T` 1, `T: 'ID'` 2, `^: E` 3.
 use Rattle.std.specs.Prelude.{◌≡◌, ℕ, false, List, [], ◌∷◌, codes, Some, None}
-use Rattle.lrpar_text.specs.Span.{Extent}
-use Rattle.lrpar_parts.specs.Grammar.{Grammar, GrammarSymbol, Production, Nonterminal, Terminal, added_rule, added_prod, rules_len, prods_len, tokens_len, end_token, start_prod, symbols_of, prod_len, rule_of, symbol_spans_of, prod_span_of, rule_name, rule_span, token_name, token_epp, token_span, prods_of}
+use Rattle.lrpar_grammar_places.specs.Span.{Extent}
+use Rattle.lrpar_grammar_reader.specs.Grammar.{Grammar, GrammarSymbol, Production, Nonterminal, Terminal, added_rule, added_prod, rules_len, prods_len, tokens_len, end_token, start_prod, symbols_of, prod_len, rule_of, symbol_spans_of, prod_span_of, rule_name, rule_span, token_name, token_epp, token_span, prods_of}
 use Rattle.lrpar_grammar.specs.Tree.{Tree, Leaf, Branch, Nil, Cons, leaves, productions, Fits}
 use Rattle.lrpar_grammar.specs.Sentence.{LexemeFacts}
 

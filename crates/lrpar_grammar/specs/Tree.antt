@@ -1,6 +1,6 @@
 -- Derivation trees over lexemes of any kind.
 use Rattle.std.specs.Prelude.{◌≡◌, ◌<◌, ℕ, List, [], ◌∷◌, ◌++◌}
-use Rattle.lrpar_parts.specs.Grammar.{Grammar, GrammarSymbol, Nonterminal, Terminal, prods_len, symbols_of, rule_of}
+use Rattle.lrpar_grammar_reader.specs.Grammar.{Grammar, GrammarSymbol, Nonterminal, Terminal, prods_len, symbols_of, rule_of}
 
 -- a leaf is a lexeme, and an inner node a production with its children
 mutual

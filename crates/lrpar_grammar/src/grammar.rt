@@ -7,6 +7,6 @@ mod text;
 mod tokens;
 mod value;
 
-pub use lrpar_parts::parts::{GrammarFault, GrammarParts, ProdPart, RulePart, TokenPart};
+pub use lrpar_grammar_reader::parts::{GrammarFault, GrammarParts, ProdPart, RulePart, TokenPart};
 pub use numbers::Numbers;
 pub use value::YaccGrammar;

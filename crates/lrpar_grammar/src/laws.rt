@@ -1,12 +1,12 @@
 //! Laws of the definitions that contracts cite. Each function does nothing: its clauses are the law.
 ghost use Rattle.std.specs.Prelude.{◌≡◌, [], ◌∷◌};
-ghost use Rattle.lrpar_parts.specs.Grammar.{Nonterminal};
+ghost use Rattle.lrpar_grammar_reader.specs.Grammar.{Nonterminal};
 ghost use Rattle.lrpar_grammar.specs.Rewriting.{LeavesAreDerived, DerivedAreLeaves};
 ghost use Rattle.lrpar_grammar.specs.Sentence.{LexemeFacts};
 ghost use Rattle.lrpar_grammar.specs.Sum.{SumIsWorkedOut, sum_grammar, sum_lexemes, sum_tree};
 ghost use Rattle.lrpar_grammar.specs.Tree.{Fits, leaves, productions};
 
-pub use lrpar_parts::laws::text_spells_one_grammar;
+pub use lrpar_grammar_reader::laws::text_spells_one_grammar;
 
 /// The definitions give the numbers, names and places of a small grammar, and the leaves and productions of a tree.
 pub fn sum_is_worked_out()

@@ -1,8 +1,8 @@
-//! The grammar value with its names and places, and sets of its tokens; numbers and spans, under the names that a user knows.
+//! The grammar: symbols, rules and productions, with their names and places, and sets of tokens.
 #![tactic(auto)]
 
 pub mod grammar;
 pub mod laws;
 pub mod token_set;
 
-pub use lrpar_text::{lines, span};
+pub use lrpar_grammar_places::{lines, span};

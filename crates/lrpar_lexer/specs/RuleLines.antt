@@ -1,7 +1,7 @@
 -- The lines of a text of rules, and how a line reads.
 use Rattle.std.specs.Prelude.{◌≡◌, ◌≢◌, ℕ, ◌-◌, ◌<◌, ◌==◌, nat_lt, Bool, false, ◌||◌, IsTrue, List, [], ◌∷◌, ◌++◌, length, map, take, drop, filter, Option, Some, None, IfSome}
 use Rattle.std.specs.List.{All, prefix_len, slice_split, suffix_len}
-use Rattle.lrpar_text.specs.Lines.{is_line_feed}
+use Rattle.lrpar_grammar_places.specs.Lines.{is_line_feed}
 
 -- the lines of a text: what stands between its line feeds
 abbrev pub text_lines : List ℕ → List (List ℕ)

@@ -1,13 +1,13 @@
 //! Laws of lexers by rules, of lexemes, and of rules as a text.
 ghost use Rattle.std.specs.Prelude.{◌↔◌, IsTrue};
-ghost use Rattle.lrpar_text.specs.Comparisons.{HashesAs};
+ghost use Rattle.lrpar_grammar_places.specs.Comparisons.{HashesAs};
 ghost use Rattle.lrpar_lexer.specs.LexingLaws.{LexesOneWay};
 ghost use Rattle.lrpar_lexer.specs.RuleLineLaws.{LinesReadOneWay};
 ghost use Rattle.lrpar_lexer.specs.TokenTexts.{IsSameToken, token_input};
 ghost use Rattle.lrpar_lexer.specs.declared.token.Token.{Token};
 
 use crate::token::Token;
-use lrpar_text::span::StorageIndex;
+use lrpar_grammar_places::span::StorageIndex;
 use std::hash::Hash;
 
 /// By the same rules a text has one list of lexemes and errors, from each place on.

@@ -1,16 +1,16 @@
 //! The lexer of a text by rules.
 ghost use Rattle.std.specs.Prelude.{◌≡◌, IfOk};
 ghost use Rattle.std.specs.Str.{IsCharBoundary};
-ghost use Rattle.lrpar_text.specs.Lines.{column_of, line_of, line_table};
+ghost use Rattle.lrpar_grammar_places.specs.Lines.{column_of, line_of, line_table};
 ghost use Rattle.lrpar_lexer.specs.Lexing.{Lexes};
 ghost use Rattle.lrpar_lexer.specs.Rules.{plain_rules};
 
 use crate::lexing::answers;
 use crate::rule::LexRule;
 use crate::token::{NoToken, Token, TokenTypes};
-use lrpar_lexemes::{Lexer, NonStreamingLexer};
-use lrpar_text::lines::NewlineCache;
-use lrpar_text::span::Span;
+use lrpar_grammar_places::lines::NewlineCache;
+use lrpar_grammar_places::span::Span;
+use lrpar_parse_lexemes::{Lexer, NonStreamingLexer};
 use std::alloc::{AllocError, Global};
 
 /// The lexer of a text by rules. At each place the rule wins whose pattern matches most of what follows, and the first such

@@ -6,7 +6,7 @@ ghost use Rattle.lrpar_lexer.specs.Rules.{plain_rules};
 use crate::matching::Matchers;
 use crate::rule::LexRule;
 use crate::token::{NoToken, Token};
-use lrpar_text::span::TIdx;
+use lrpar_grammar_places::span::TIdx;
 use std::alloc::{AllocError, Global};
 
 // The answers for a text, by the rules.

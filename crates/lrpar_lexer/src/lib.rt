@@ -1,4 +1,4 @@
-//! The lexer of the program: rules that are patterns, and the lexemes that they give.
+//! A lexer by rules, each a regular expression and a token; and its rules as a text.
 #![tactic(auto)]
 
 pub mod laws;

@@ -8,7 +8,7 @@ ghost use Rattle.regex_hir.specs.Meaning.{meaning};
 ghost use Rattle.regex_meta.specs.Programs.{pattern_of};
 ghost use Rattle.lrpar_lexer.specs.Anchored.{FindsAtStart, IsBehindStart, behind_start, without_start};
 
-use lrpar_text::span::TIdx;
+use lrpar_grammar_places::span::TIdx;
 use regex::Error;
 use regex_hir::{Hir, Look};
 use regex_meta::Program;

@@ -6,7 +6,7 @@ ghost use Rattle.lrpar_lexer.specs.RuleTexts.{AreRulesOf, IsFaultOf, IsRuleOf, N
 
 use crate::rule::LexRule;
 use lrpar_grammar::grammar::YaccGrammar;
-use lrpar_text::span::TIdx;
+use lrpar_grammar_places::span::TIdx;
 use std::alloc::{AllocError, AllocFailed, Global};
 use thiserror::Error;
 

@@ -2,8 +2,8 @@
 ghost use Rattle.std.specs.Prelude.{◌≡◌, ◌+◌, ◌≤◌};
 ghost use Rattle.lrpar_lexer.specs.Lexing.{lexeme_of, nothing_at};
 
-use lrpar_lexemes::{LexError, Lexeme, LexerTypes};
-use lrpar_text::span::{Span, StorageIndex};
+use lrpar_grammar_places::span::{Span, StorageIndex};
+use lrpar_parse_lexemes::{LexError, Lexeme, LexerTypes};
 use std::error::Error;
 use std::fmt;
 

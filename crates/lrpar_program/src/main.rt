@@ -1,7 +1,7 @@
 //! The program `lrpar`.
 #![tactic(auto)]
 
-use lrpar_commands::run_of_process;
+use program_lrpar::run_of_process;
 use std::process::ExitCode;
 
 fn main(rt: HostRuntime) -> ExitCode {

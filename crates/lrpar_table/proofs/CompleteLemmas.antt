@@ -3,20 +3,20 @@
 -- where each set wants one action C5 holds; and where C5 holds, each action that is wanted is that of the table.
 use Rattle.std.proofs.Common.{◌≡◌, ◌≢◌, ◌<◌, ◌≤◌, ◌+◌, ◌∙◌, refl, sym, ap, subst, arith, ℕ, List, [], ◌∷◌, Some, length, slice_get}
 use Rattle.lrpar_grammar.specs.Grammar.{Grammar, GrammarSymbol, IsWellFormed, Nonterminal, Terminal, end_token, prod_len, start_prod, symbols_of, tokens_len}
-use Rattle.lrpar_states.proofs.GraphLemmas.{state_in_range}
-use Rattle.lrpar_states.specs.Graph.{Graph, HasItem, ItemOf, graph_len, item_at}
-use Rattle.lrpar_states.specs.Safe.{IsItem}
-use Rattle.lrpar_states.specs.Table.{Accepts, Fails, ReduceBy, ShiftTo, Table, TableAction, action_of, states_len}
-use Rattle.lrpar_build.specs.Built.{IsBuilt}
-use Rattle.lrpar_build.specs.BuilderLaws.{IsWantedTable, WantOneAction, Wants}
-use Rattle.lrpar_item_sets.specs.Canonical.{AreSame, IsCanonical, LeadsTo, StandsBefore, WantsReduce, sets_of}
-use Rattle.lrpar_closure.specs.ItemSets.{Added, Adds, IsReachedBy, Own}
-use Rattle.lrpar_build.proofs.ReachedLemmas.{reached_items, symbol_listed}
-use Rattle.lrpar_check.specs.Checked.{Checked, IsChecked}
-use Rattle.lrpar_complete.specs.Complete.{IsComplete, IsCompleteAt, StepsOn}
-use Rattle.lrpar_complete.specs.declared.completeness.CompletenessCondition.{CompletenessCondition}
-use Rattle.lrpar_complete.specs.declared.completeness.CompletenessCondition.TheVariants.{C1, C2, C3, C4, C5}
-use Rattle.lrpar_check.proofs.SentenceLemmas.{complete_tables_take_sentences}
+use Rattle.lrpar_table_rows.proofs.GraphLemmas.{state_in_range}
+use Rattle.lrpar_table_rows.specs.Graph.{Graph, HasItem, ItemOf, graph_len, item_at}
+use Rattle.lrpar_table_rows.specs.Safe.{IsItem}
+use Rattle.lrpar_table_rows.specs.Table.{Accepts, Fails, ReduceBy, ShiftTo, Table, TableAction, action_of, states_len}
+use Rattle.lrpar_table_build.specs.Built.{IsBuilt}
+use Rattle.lrpar_table_build.specs.BuilderLaws.{IsWantedTable, WantOneAction, Wants}
+use Rattle.lrpar_table_items.specs.Canonical.{AreSame, IsCanonical, LeadsTo, StandsBefore, WantsReduce, sets_of}
+use Rattle.lrpar_table_items.specs.ItemSets.{Added, Adds, IsReachedBy, Own}
+use Rattle.lrpar_table_build.proofs.ReachedLemmas.{reached_items, symbol_listed}
+use Rattle.lrpar_table_check.specs.Checked.{Checked, IsChecked}
+use Rattle.lrpar_table_conditions.specs.Complete.{IsComplete, IsCompleteAt, StepsOn}
+use Rattle.lrpar_table_conditions.specs.declared.completeness.CompletenessCondition.{CompletenessCondition}
+use Rattle.lrpar_table_conditions.specs.declared.completeness.CompletenessCondition.TheVariants.{C1, C2, C3, C4, C5}
+use Rattle.lrpar_table_check.proofs.SentenceLemmas.{complete_tables_take_sentences}
 use Rattle.lrpar_table.specs.ParserData.{IsParserDataOf}
 use Rattle.lrpar_table.specs.TableLaws.{AmbiguousGrammarsHaveConflicts, BuiltTablesAreCompleteWithoutConflicts, GrammarsWithoutConflictsHaveOneTree}
 

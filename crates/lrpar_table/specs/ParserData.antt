@@ -1,9 +1,9 @@
 -- A checked table of a grammar alone, and why there is none.
 use Rattle.std.specs.Prelude.{◌≡◌, ◌≤◌, ℕ}
 use Rattle.lrpar_grammar.specs.Grammar.{Grammar}
-use Rattle.lrpar_states.specs.Graph.{graph_len}
-use Rattle.lrpar_build.specs.Built.{IsBuildRefusal, IsBuilt}
-use Rattle.lrpar_check.specs.Checked.{Checked, IsChainFault, IsChecked, Unchecked}
+use Rattle.lrpar_table_rows.specs.Graph.{graph_len}
+use Rattle.lrpar_table_build.specs.Built.{IsBuildRefusal, IsBuilt}
+use Rattle.lrpar_table_check.specs.Checked.{Checked, IsChainFault, IsChecked, Unchecked}
 use Rattle.lrpar_table.specs.TableLaws.{IsCompleteWithoutConflicts}
 use Rattle.lrpar_table.specs.declared.build.Unbuilt.{Unbuilt}
 use Rattle.lrpar_table.specs.declared.build.Unbuilt.TheVariants.{Chains, Table}

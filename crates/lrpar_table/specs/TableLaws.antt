@@ -3,10 +3,10 @@
 use Rattle.std.specs.Prelude.{◌≡◌, ◌≢◌, ◌↔◌, ℕ, None}
 use Rattle.lrpar_grammar.specs.Grammar.{Grammar, IsWellFormed, Nonterminal}
 use Rattle.lrpar_grammar.specs.Tree.{Tree, Fits, leaves}
-use Rattle.lrpar_states.specs.Graph.{Graph}
-use Rattle.lrpar_states.specs.Table.{Table, IsClosed}
-use Rattle.lrpar_build.specs.Built.{IsBuilt}
-use Rattle.lrpar_complete.specs.Complete.{IsComplete}
+use Rattle.lrpar_table_rows.specs.Graph.{Graph}
+use Rattle.lrpar_table_rows.specs.Table.{Table, IsClosed}
+use Rattle.lrpar_table_build.specs.Built.{IsBuilt}
+use Rattle.lrpar_table_conditions.specs.Complete.{IsComplete}
 
 -- the table is complete exactly where it has no conflicts
 abbrev pub IsCompleteWithoutConflicts : Grammar → Graph → Table → Type 0

@@ -2,10 +2,10 @@
 ghost use Rattle.std.specs.Prelude.{IfErr, IfOk};
 ghost use Rattle.lrpar_table.specs.ParserData.{IsParserDataOf, IsUnbuilt};
 
-pub use lrpar_build::build::{BuildFault, from_yacc};
-use lrpar_check::check::{ParserData, Refused};
 use lrpar_grammar::grammar::YaccGrammar;
 use lrpar_grammar::span::StorageIndex;
+pub use lrpar_table_build::build::{BuildFault, from_yacc};
+use lrpar_table_check::check::{ParserData, Refused};
 use std::alloc::Global;
 use std::error::Error;
 use std::fmt;

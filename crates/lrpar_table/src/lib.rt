@@ -1,8 +1,8 @@
-//! State tables, their builder and their check, under the names that a user knows. The crates below have the code.
+//! State tables for users: a table, its builder and its check.
 #![tactic(auto)]
 
 pub mod build;
 pub mod laws;
 
-pub use lrpar_check::check;
-pub use lrpar_states::table;
+pub use lrpar_table_check::check;
+pub use lrpar_table_rows::table;

@@ -1,7 +1,7 @@
 //! The program `nimbleparse`.
 #![tactic(auto)]
 
-use lrpar_nimble::run_of_process;
+use program_nimbleparse::run_of_process;
 use std::process::ExitCode;
 
 fn main(rt: HostRuntime) -> ExitCode {

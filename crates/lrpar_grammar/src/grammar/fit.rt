@@ -1,12 +1,12 @@
 //! Whether places lie in a text.
 ghost use Rattle.std.specs.Prelude.{◌↔◌, All, IsTrue};
-ghost use Rattle.lrpar_text.specs.Span.{IsPartOf};
-ghost use Rattle.lrpar_parts.specs.SpansFit.{AreSpansInOrder, IsPartOfLine, ProductionFits};
+ghost use Rattle.lrpar_grammar_places.specs.Span.{IsPartOf};
+ghost use Rattle.lrpar_grammar_reader.specs.SpansFit.{AreSpansInOrder, IsPartOfLine, ProductionFits};
 ghost use Rattle.lrpar_grammar.specs.Kept.{split_prod_of};
 
 use super::prods::SplitProd;
-use lrpar_parts::parts::{RulePart, TokenPart};
-use lrpar_text::span::{Span, StorageIndex};
+use lrpar_grammar_places::span::{Span, StorageIndex};
+use lrpar_grammar_reader::parts::{RulePart, TokenPart};
 
 // Whether the places of all rules lie in the text.
 pub(super) fn rules_fit(rules: &[RulePart], src: &str) -> bool

@@ -3,7 +3,7 @@ ghost use Rattle.std.specs.Prelude.{◌≡◌, ◌-◌, ◌≤◌};
 ghost use Rattle.std.specs.Iterator.{YieldsFirstBy, item_count};
 ghost use Rattle.std.specs.List.{range_with_len};
 
-use lrpar_text::span::{Numbered, StorageIndex};
+use lrpar_grammar_places::span::{Numbered, StorageIndex};
 use std::marker::{Model, PhantomData};
 
 /// Numbers of one kind, of rules, productions or tokens, one after another.

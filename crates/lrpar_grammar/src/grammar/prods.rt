@@ -1,11 +1,11 @@
 //! The productions as a grammar keeps them.
 ghost use Rattle.std.specs.Prelude.{◌≡◌, ◌<◌, ◌≤◌, [], ◌∷◌, ◌++◌, All, IfOk, length, map};
-ghost use Rattle.lrpar_parts.specs.Grammar.{added_prod};
-ghost use Rattle.lrpar_parts.specs.Parts.{prod_of};
+ghost use Rattle.lrpar_grammar_reader.specs.Grammar.{added_prod};
+ghost use Rattle.lrpar_grammar_reader.specs.Parts.{prod_of};
 ghost use Rattle.lrpar_grammar.specs.Kept.{AreRowsOf, split_prod_of};
 
-use lrpar_parts::parts::ProdPart;
-use lrpar_text::span::{PIdx, RIdx, Span, StorageIndex, Symbol};
+use lrpar_grammar_places::span::{PIdx, RIdx, Span, StorageIndex, Symbol};
+use lrpar_grammar_reader::parts::ProdPart;
 use std::alloc::{AllocError, Global};
 
 // A production whose symbols and their places are lists of their own.

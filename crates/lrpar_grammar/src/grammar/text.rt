@@ -1,16 +1,16 @@
 //! The grammar of a text.
 ghost use Rattle.std.specs.Prelude.{IfErr, IfOk};
-ghost use Rattle.lrpar_parts.specs.SpansFit.{SpansFit};
-ghost use Rattle.lrpar_parts.specs.Spells.{IsFaultOf, Spells};
+ghost use Rattle.lrpar_grammar_reader.specs.SpansFit.{SpansFit};
+ghost use Rattle.lrpar_grammar_reader.specs.Spells.{IsFaultOf, Spells};
 
 use super::value::YaccGrammar;
-use lrpar_parts::parts::GrammarFault;
-use lrpar_reader::reader::read_parts;
-use lrpar_text::span::StorageIndex;
+use lrpar_grammar_places::span::StorageIndex;
+use lrpar_grammar_reader::parts::GrammarFault;
+use lrpar_grammar_reader::reader::read_parts;
 use std::alloc::Global;
 
 impl<StorageT: StorageIndex> YaccGrammar<StorageT> {
-    ghost use Rattle.lrpar_parts.specs.Grammar.{IsWellFormed};
+    ghost use Rattle.lrpar_grammar_reader.specs.Grammar.{IsWellFormed};
 
     /// The grammar of a text: declarations, `%%`, rules, an optional second `%%`.
     ///

@@ -3,8 +3,8 @@ ghost use Rattle.std.specs.Prelude.{◌≡◌, ◌≤◌, IfOk, length, map, pos
 ghost use Rattle.std.specs.List.{range_with_len};
 ghost use Rattle.std.specs.Str.{bytes_eq};
 
-use lrpar_parts::parts::TokenPart;
-use lrpar_text::span::{StorageIndex, TIdx};
+use lrpar_grammar_places::span::{StorageIndex, TIdx};
+use lrpar_grammar_reader::parts::TokenPart;
 use std::alloc::{AllocError, Global};
 
 // The place of the first token of that name.

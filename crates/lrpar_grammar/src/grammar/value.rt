@@ -2,15 +2,15 @@
 ghost use Rattle.std.specs.Prelude.{◌≡◌, ◌<◌, ◌≤◌, ◌+◌, ◌↔◌, if◌then◌else◌, codes, IfErr, IfOk, IsErrOf, IsNone, IsTrue, Some, map, option_map, position};
 ghost use Rattle.std.specs.List.{range_with_len, slice_get};
 ghost use Rattle.std.specs.Str.{bytes_eq};
-ghost use Rattle.lrpar_parts.specs.SpansFit.{NamesFit, SpansFit};
-ghost use Rattle.lrpar_parts.specs.Symbols.{prod_numbers, symbol_of};
+ghost use Rattle.lrpar_grammar_reader.specs.SpansFit.{NamesFit, SpansFit};
+ghost use Rattle.lrpar_grammar_reader.specs.Symbols.{prod_numbers, symbol_of};
 
 use super::fit::{prods_fit, rules_fit, tokens_fit};
 use super::numbers::Numbers;
 use super::prods::{SplitProd, prods_by_rule, split_prods};
 use super::tokens::{first_named, numbered_names};
-use lrpar_parts::parts::{GrammarFault, GrammarParts, RulePart, TokenPart};
-use lrpar_text::span::{PIdx, RIdx, Span, StorageIndex, Symbol, TIdx};
+use lrpar_grammar_places::span::{PIdx, RIdx, Span, StorageIndex, Symbol, TIdx};
+use lrpar_grammar_reader::parts::{GrammarFault, GrammarParts, RulePart, TokenPart};
 use std::alloc::{AllocError, Global};
 use std::marker::Model;
 
@@ -43,7 +43,7 @@ impl<StorageT: StorageIndex> Drop for YaccGrammar<StorageT> {
 }
 
 impl<StorageT: StorageIndex> Model for YaccGrammar<StorageT> {
-    ghost use Rattle.lrpar_parts.specs.Grammar.{Grammar};
+    ghost use Rattle.lrpar_grammar_reader.specs.Grammar.{Grammar};
 
     ghost Value = { Grammar };
 
@@ -56,10 +56,10 @@ impl<StorageT: StorageIndex> Model for YaccGrammar<StorageT> {
 }
 
 impl<StorageT: StorageIndex> YaccGrammar<StorageT> {
-    ghost use Rattle.lrpar_parts.specs.Parts.{AreSound, grammar_of, parts_of, token_name_of, IsFirstFault, IsRefusalOf};
+    ghost use Rattle.lrpar_grammar_reader.specs.Parts.{AreSound, grammar_of, parts_of, token_name_of, IsFirstFault, IsRefusalOf};
     ghost use Rattle.lrpar_grammar.specs.Kept.{split_prod_of};
     ghost use Rattle.lrpar_grammar.specs.Printed.{printed_of};
-    ghost use Rattle.lrpar_parts.specs.Grammar.{IsWellFormed, rules_len, prods_len, tokens_len, end_token, start_prod, rule_of, symbols_of, symbol_spans_of, prod_span_of, prods_of, rule_name, rule_span, token_name, token_epp, token_span};
+    ghost use Rattle.lrpar_grammar_reader.specs.Grammar.{IsWellFormed, rules_len, prods_len, tokens_len, end_token, start_prod, rule_of, symbols_of, symbol_spans_of, prod_span_of, prods_of, rule_name, rule_span, token_name, token_epp, token_span};
 
     /// The grammar of the parts. Its rules are the added rule and the listed ones, in order; its productions the
     /// listed ones, in order, and the start production; its tokens the listed ones, in order, and the end token.

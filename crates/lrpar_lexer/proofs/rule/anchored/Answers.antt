@@ -8,7 +8,7 @@ use Rattle.regex_hir.specs.Meaning.{meaning}
 use Rattle.regex_compile.specs.Compilable.{IsCompilable}
 use Rattle.regex_compile.specs.declared.error.Error.{Error}
 use Rattle.regex_compile.specs.declared.error.Error.TheVariants.{TooBig, Malformed, OutOfMemory}
-use Rattle.lrpar_text.proofs.FaultLemmas.{no_value}
+use Rattle.lrpar_grammar_places.proofs.FaultLemmas.{no_value}
 use Rattle.lrpar_lexer.proofs.rule.anchored.Goals as goal
 
 not_internal : (e : Error) → e ≢ Malformed → of_compiler e ≢ Internal

@@ -1,6 +1,6 @@
 use Rattle.std.proofs.Common.{ap, map}
 use Rattle.std.specs.String.{string_bytes}
-use Rattle.lrpar_states.specs.PlainConflicts.{reduce_reduce_of}
+use Rattle.lrpar_table_rows.specs.PlainConflicts.{reduce_reduce_of}
 use Rattle.lrpar_diagnostics.specs.ConflictText.{reduce_reduce_text}
 use Rattle.lrpar_diagnostics.proofs.TextLemmas.{next_text}
 use Rattle.lrpar_diagnostics.proofs.formatter.SpannedDiagnosticFormatter.push_reduce_reduce.Goals as goal

@@ -1,8 +1,8 @@
 use Rattle.std.proofs.Common.{◌≡◌, ◌++◌, length, map}
 use Rattle.std.specs.List.{AllByRecursion, flat_map}
 use Rattle.std.specs.String.{string_bytes}
-use Rattle.lrpar_states.specs.ConflictsFit.{ReductionsFit}
-use Rattle.lrpar_states.specs.PlainConflicts.{reduce_reduce_of}
+use Rattle.lrpar_table_rows.specs.ConflictsFit.{ReductionsFit}
+use Rattle.lrpar_table_rows.specs.PlainConflicts.{reduce_reduce_of}
 use Rattle.lrpar_diagnostics.specs.ConflictText.{reduce_reduce_text}
 use Rattle.lrpar_diagnostics.proofs.formatter.SpannedDiagnosticFormatter.push_reduce_reduce.Given as goal
 

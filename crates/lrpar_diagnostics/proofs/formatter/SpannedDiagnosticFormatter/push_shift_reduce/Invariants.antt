@@ -1,8 +1,8 @@
 use Rattle.std.proofs.Common.{◌≡◌, ◌++◌, length, map}
 use Rattle.std.specs.List.{AllByRecursion, flat_map}
 use Rattle.std.specs.String.{string_bytes}
-use Rattle.lrpar_states.specs.ConflictsFit.{ShiftFits}
-use Rattle.lrpar_states.specs.PlainConflicts.{shift_reduce_of}
+use Rattle.lrpar_table_rows.specs.ConflictsFit.{ShiftFits}
+use Rattle.lrpar_table_rows.specs.PlainConflicts.{shift_reduce_of}
 use Rattle.lrpar_diagnostics.specs.ConflictText.{shift_reduce_text}
 use Rattle.lrpar_diagnostics.proofs.formatter.SpannedDiagnosticFormatter.push_shift_reduce.Given as goal
 

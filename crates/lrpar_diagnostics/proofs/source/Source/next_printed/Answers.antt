@@ -1,6 +1,6 @@
 use Rattle.std.proofs.Common.{◌+◌, sym, ◌∙◌, arith}
 use Rattle.std.proofs.lemmas.Str.{IsUtf8-had}
-use Rattle.lrpar_text.specs.Lines.{line_end}
+use Rattle.lrpar_grammar_places.specs.Lines.{line_end}
 use Rattle.lrpar_diagnostics.proofs.LineLemmas.{none_printed, next_printed, last_skipped, hidden_is_last, next_boundary}
 use Rattle.lrpar_diagnostics.proofs.source.Source.next_printed.Goals as goal
 

@@ -1,6 +1,6 @@
 use Rattle.std.proofs.Common.{◌≡◌, length, get_or, ap, ◌∙◌, arith}
-use Rattle.lrpar_text.specs.Lines.{line_start}
-use Rattle.lrpar_text.specs.Span.{Extent}
+use Rattle.lrpar_grammar_places.specs.Lines.{line_start}
+use Rattle.lrpar_grammar_places.specs.Span.{Extent}
 use Rattle.lrpar_diagnostics.proofs.ConflictLemmas.{group_of, not_first, part_at, same_item}
 use Rattle.lrpar_diagnostics.proofs.source.Source.on_first_line.Goals as goal
 

@@ -1,6 +1,6 @@
 use Rattle.std.proofs.Common.{◌≡◌, ◌<◌, ℕ, get_or}
-use Rattle.lrpar_text.specs.Lines.{line_start}
-use Rattle.lrpar_text.specs.Span.{Extent}
+use Rattle.lrpar_grammar_places.specs.Lines.{line_start}
+use Rattle.lrpar_grammar_places.specs.Span.{Extent}
 use Rattle.lrpar_diagnostics.proofs.source.Source.on_first_line.Given as goal
 
 -- those so far start on that line

@@ -1,7 +1,7 @@
 use Rattle.std.proofs.Common.{refl, sym, subst, ◌∙◌, arith}
 use Rattle.std.proofs.lemmas.Bool.{false≢true}
-use Rattle.lrpar_parts.specs.SpansFit.{IsPartOfLine}
-use Rattle.lrpar_text.proofs.ListLemmas.{holds_more}
+use Rattle.lrpar_grammar_reader.specs.SpansFit.{IsPartOfLine}
+use Rattle.lrpar_grammar_places.proofs.ListLemmas.{holds_more}
 use Rattle.lrpar_grammar.proofs.grammar.fit.are_parts_of_lines.Goals as goal
 
 pub loop-span-preserved : goal.loop-span-preserved

@@ -1,5 +1,5 @@
 use Rattle.std.proofs.Common.{◌<◌, ℕ, get_or}
-use Rattle.lrpar_parts.specs.SpansFit.{IsPartOfLine}
+use Rattle.lrpar_grammar_reader.specs.SpansFit.{IsPartOfLine}
 use Rattle.lrpar_grammar.proofs.grammar.fit.are_parts_of_lines.Given as goal
 
 -- the parts so far lie on one line each

@@ -1,8 +1,8 @@
 use Rattle.std.proofs.Common.{refl, sym, subst, ◌∙◌, arith}
 use Rattle.std.proofs.lemmas.Bool.{false≢true}
 use Rattle.lrpar_grammar.specs.Kept.{split_prod_of}
-use Rattle.lrpar_parts.specs.SpansFit.{ProductionFits}
-use Rattle.lrpar_text.proofs.ListLemmas.{holds_more}
+use Rattle.lrpar_grammar_reader.specs.SpansFit.{ProductionFits}
+use Rattle.lrpar_grammar_places.proofs.ListLemmas.{holds_more}
 use Rattle.lrpar_grammar.proofs.grammar.fit.prods_fit.Goals as goal
 
 pub loop-prod-preserved : goal.loop-prod-preserved

@@ -1,6 +1,6 @@
 use Rattle.std.proofs.Common.{◌<◌, ℕ, get_or}
 use Rattle.lrpar_grammar.specs.Kept.{split_prod_of}
-use Rattle.lrpar_parts.specs.SpansFit.{ProductionFits}
+use Rattle.lrpar_grammar_reader.specs.SpansFit.{ProductionFits}
 use Rattle.lrpar_grammar.proofs.grammar.fit.prods_fit.Given as goal
 
 -- the places of the productions so far fit

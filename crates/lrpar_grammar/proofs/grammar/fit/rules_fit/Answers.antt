@@ -1,7 +1,7 @@
 use Rattle.std.proofs.Common.{refl, sym, subst, ◌∙◌, arith}
 use Rattle.std.proofs.lemmas.Bool.{false≢true}
-use Rattle.lrpar_text.specs.Span.{IsPartOf}
-use Rattle.lrpar_text.proofs.ListLemmas.{holds_more}
+use Rattle.lrpar_grammar_places.specs.Span.{IsPartOf}
+use Rattle.lrpar_grammar_places.proofs.ListLemmas.{holds_more}
 use Rattle.lrpar_grammar.proofs.grammar.fit.rules_fit.Goals as goal
 
 pub loop-rule-preserved : goal.loop-rule-preserved

@@ -1,5 +1,5 @@
 use Rattle.std.proofs.Common.{◌<◌, ℕ, get_or}
-use Rattle.lrpar_text.specs.Span.{IsPartOf}
+use Rattle.lrpar_grammar_places.specs.Span.{IsPartOf}
 use Rattle.lrpar_grammar.proofs.grammar.fit.rules_fit.Given as goal
 
 -- the places of the rules so far lie in the text

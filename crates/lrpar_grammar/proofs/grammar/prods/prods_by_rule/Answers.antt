@@ -1,7 +1,7 @@
 use Rattle.std.proofs.Common.{◌≡◌, ◌<◌, map, length, take, sym, subst, ◌∙◌, arith}
 use Rattle.std.proofs.lemmas.List.{length-map, length-take-le}
 use Rattle.lrpar_grammar.specs.Kept.{split_prod_of}
-use Rattle.lrpar_text.proofs.ListLemmas.{All-map-at, map-take_more}
+use Rattle.lrpar_grammar_places.proofs.ListLemmas.{All-map-at, map-take_more}
 use Rattle.lrpar_grammar.proofs.RowsLemmas.{AreRowsOf-push}
 use Rattle.lrpar_grammar.proofs.grammar.prods.prods_by_rule.Goals as goal
 

@@ -1,8 +1,8 @@
 use Rattle.std.proofs.Common.{◌≡◌, ◌<◌, map, length, take, ap, ◌∙◌, refl, arith}
 use Rattle.std.proofs.lemmas.List.{take_all}
 use Rattle.std.proofs.lemmas.Simd.{map-map}
-use Rattle.lrpar_parts.specs.Symbols.{symbol_of}
-use Rattle.lrpar_text.proofs.ListLemmas.{copies_more}
+use Rattle.lrpar_grammar_reader.specs.Symbols.{symbol_of}
+use Rattle.lrpar_grammar_places.proofs.ListLemmas.{copies_more}
 use Rattle.lrpar_grammar.proofs.grammar.prods.split_prod.Goals as goal
 
 pub loop-symbol-preserved : goal.loop-symbol-preserved

@@ -1,8 +1,8 @@
 use Rattle.std.proofs.Common.{arith}
-use Rattle.lrpar_parts.specs.Grammar.{added_prod}
+use Rattle.lrpar_grammar_reader.specs.Grammar.{added_prod}
 use Rattle.lrpar_grammar.specs.Kept.{split_prod_of}
-use Rattle.lrpar_parts.specs.Parts.{prod_of}
-use Rattle.lrpar_text.proofs.ListLemmas.{follows_more, follows_all}
+use Rattle.lrpar_grammar_reader.specs.Parts.{prod_of}
+use Rattle.lrpar_grammar_places.proofs.ListLemmas.{follows_more, follows_all}
 use Rattle.lrpar_grammar.proofs.grammar.prods.split_prods.Goals as goal
 
 pub loop-part-preserved : goal.loop-part-preserved

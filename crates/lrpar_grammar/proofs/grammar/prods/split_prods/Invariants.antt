@@ -1,5 +1,5 @@
 use Rattle.std.proofs.Common.{◌≡◌, map, take}
-use Rattle.lrpar_parts.specs.Parts.{prod_of}
+use Rattle.lrpar_grammar_reader.specs.Parts.{prod_of}
 use Rattle.lrpar_grammar.specs.Kept.{split_prod_of}
 use Rattle.lrpar_grammar.proofs.grammar.prods.split_prods.Given as goal
 

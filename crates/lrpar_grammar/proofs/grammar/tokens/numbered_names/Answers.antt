@@ -1,5 +1,5 @@
 use Rattle.std.proofs.Common.{◌≡◌, string_bytes, arith}
-use Rattle.lrpar_text.proofs.ListLemmas.{follows_more, numbers_more}
+use Rattle.lrpar_grammar_places.proofs.ListLemmas.{follows_more, numbers_more}
 use Rattle.lrpar_grammar.proofs.grammar.tokens.numbered_names.Goals as goal
 
 pub loop-number-preserved : goal.loop-number-preserved

@@ -1,4 +1,4 @@
-use Rattle.lrpar_text.proofs.FaultLemmas.{no_value}
+use Rattle.lrpar_grammar_places.proofs.FaultLemmas.{no_value}
 use Rattle.lrpar_lexer.proofs.WinnerLemmas.{programs_all, programs_more}
 use Rattle.lrpar_lexer.proofs.matching.Matchers.new.Goals as goal
 

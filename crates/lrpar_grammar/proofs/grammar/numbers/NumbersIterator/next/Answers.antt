@@ -1,6 +1,6 @@
 use Rattle.std.proofs.Common.{◌≡◌, ◌<◌, ◌∷◌, ◌+◌, ◌-◌, sym, ◌∙◌, arith, rules}
 use Rattle.std.specs.List.{range_with_len}
-use Rattle.lrpar_text.proofs.ListLemmas.{range_first}
+use Rattle.lrpar_grammar_places.proofs.ListLemmas.{range_first}
 use Rattle.lrpar_grammar.proofs.grammar.numbers.NumbersIterator.next.Goals as goal
 
 pub returns-clause-steps : goal.returns-clause-steps

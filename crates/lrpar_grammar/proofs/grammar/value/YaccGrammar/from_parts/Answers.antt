@@ -1,7 +1,7 @@
 use Rattle.std.proofs.Common.{refl}
-use Rattle.lrpar_parts.specs.Parts.{parts_of}
+use Rattle.lrpar_grammar_reader.specs.Parts.{parts_of}
 use Rattle.lrpar_grammar.proofs.PartsLemmas.{answers_first, answers_grammar, answers_memory, first_refuses, memory_refuses}
-use Rattle.lrpar_parts.specs.declared.parts.GrammarFault.TheVariants.{NoRules, StorageTooSmall, BadStart, BadSymbol}
+use Rattle.lrpar_grammar_reader.specs.declared.parts.GrammarFault.TheVariants.{NoRules, StorageTooSmall, BadStart, BadSymbol}
 use Rattle.lrpar_grammar.proofs.grammar.value.YaccGrammar.from_parts.Goals as goal
 
 pub returns-in-Some-clause-refused : goal.returns-in-Some-clause-refused

@@ -1,7 +1,7 @@
 use Rattle.std.proofs.Common.{◌≡◌, length, map, Some, subst, sym, ap, ◌∙◌, arith, rules}
 use Rattle.std.specs.List.{slice_get}
 use Rattle.std.proofs.lemmas.List.{length-map}
-use Rattle.lrpar_parts.specs.Grammar.{IsWellFormed}
+use Rattle.lrpar_grammar_reader.specs.Grammar.{IsWellFormed}
 use Rattle.lrpar_grammar.specs.Kept.{split_prod_of}
 use Rattle.lrpar_grammar.proofs.PartsLemmas.{kept_prod_at, kept_rule_within}
 use Rattle.lrpar_grammar.proofs.grammar.value.YaccGrammar.kept.Goals as goal

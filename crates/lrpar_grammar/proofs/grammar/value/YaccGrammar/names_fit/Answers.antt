@@ -1,9 +1,9 @@
 use Rattle.std.proofs.Common.{sym, subst, true≢false, ◌∙◌}
 use Rattle.std.specs.List.{All}
 use Rattle.std.proofs.lemmas.List.Elements.{All-map}
-use Rattle.lrpar_parts.specs.Parts.{token_name_of}
-use Rattle.lrpar_text.specs.Span.{IsPartOf}
-use Rattle.lrpar_parts.specs.SpansFit.{NamesFit}
+use Rattle.lrpar_grammar_reader.specs.Parts.{token_name_of}
+use Rattle.lrpar_grammar_places.specs.Span.{IsPartOf}
+use Rattle.lrpar_grammar_reader.specs.SpansFit.{NamesFit}
 use Rattle.lrpar_grammar.proofs.FitLemmas.{rules_fit_all, rules_fit_listed, tokens_fit_listed}
 use Rattle.lrpar_grammar.proofs.grammar.value.YaccGrammar.names_fit.Goals as goal
 

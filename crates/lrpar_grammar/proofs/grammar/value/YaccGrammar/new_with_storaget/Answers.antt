@@ -1,6 +1,6 @@
 use Rattle.std.proofs.Common.{sym, subst}
-use Rattle.lrpar_parts.specs.SpansFit.{SpansFit}
-use Rattle.lrpar_parts.specs.Spells.{Spells}
+use Rattle.lrpar_grammar_reader.specs.SpansFit.{SpansFit}
+use Rattle.lrpar_grammar_reader.specs.Spells.{Spells}
 use Rattle.lrpar_grammar.proofs.grammar.value.YaccGrammar.new_with_storaget.Goals as goal
 
 pub returns-clause-spelled : goal.returns-clause-spelled

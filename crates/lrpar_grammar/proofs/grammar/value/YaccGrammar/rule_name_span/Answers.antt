@@ -1,6 +1,6 @@
 use Rattle.std.proofs.Common.{ap, sym, ◌∙◌, arith}
 use Rattle.std.specs.Option.{option_map_or}
-use Rattle.lrpar_text.specs.Span.{nowhere}
+use Rattle.lrpar_grammar_places.specs.Span.{nowhere}
 use Rattle.lrpar_grammar.proofs.RuleLemmas.{added_place, kept_added_rule, kept_rule_at}
 use Rattle.lrpar_grammar.proofs.grammar.value.YaccGrammar.rule_name_span.Goals as goal
 

@@ -2,7 +2,7 @@ use Rattle.std.proofs.Common.{sym, subst, true≢false, ◌∙◌}
 use Rattle.std.specs.List.{All}
 use Rattle.std.proofs.lemmas.List.Elements.{All-map}
 use Rattle.lrpar_grammar.specs.Kept.{split_prod_of}
-use Rattle.lrpar_parts.specs.SpansFit.{NamesFit, ProductionFits}
+use Rattle.lrpar_grammar_reader.specs.SpansFit.{NamesFit, ProductionFits}
 use Rattle.lrpar_grammar.proofs.FitLemmas.{prods_fit_listed}
 use Rattle.lrpar_grammar.proofs.grammar.value.YaccGrammar.spans_fit.Goals as goal
 

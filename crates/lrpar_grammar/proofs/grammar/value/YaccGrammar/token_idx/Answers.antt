@@ -1,8 +1,8 @@
 use Rattle.std.proofs.Common.{◌≡◌, Some, ℕ, string_bytes, sym, ap, ◌∙◌}
 use Rattle.std.specs.List.{position}
 use Rattle.std.specs.Str.{bytes_eq}
-use Rattle.lrpar_parts.specs.Parts.{token_name_of}
-use Rattle.lrpar_text.proofs.ListLemmas.{position-map}
+use Rattle.lrpar_grammar_reader.specs.Parts.{token_name_of}
+use Rattle.lrpar_grammar_places.proofs.ListLemmas.{position-map}
 use Rattle.lrpar_grammar.proofs.grammar.value.YaccGrammar.token_idx.Goals as goal
 
 pub returns-in-Some : goal.returns-in-Some

@@ -1,6 +1,6 @@
 use Rattle.std.proofs.Common.{◌≡◌, map, string_bytes, sym, ap, ◌∙◌}
 use Rattle.std.proofs.lemmas.Simd.{map-map}
-use Rattle.lrpar_parts.specs.Parts.{token_name_of}
+use Rattle.lrpar_grammar_reader.specs.Parts.{token_name_of}
 use Rattle.lrpar_grammar.proofs.grammar.value.YaccGrammar.tokens_map.Goals as goal
 
 pub returns-clause-names : goal.returns-clause-names

@@ -1,8 +1,0 @@
-use Rattle.std.proofs.Common.{◌+◌, ◌*◌, ◌++◌, length}
-use Rattle.lrpar_answers.proofs.WeightLemmas.{weights}
-use Rattle.lrpar_answers.proofs.FitsLemmas.{later_trees}
-use Rattle.lrpar_answers.proofs.node.shown.write_lines_of.Given as goal
-
--- the nodes that are left, and the levels to go back to
-abbrev pub decreases-loop-node : goal.decreases-loop-node
-decreases-loop-node g l = 2 * weights (l.nodes ++ later_trees l.left.items) + length l.left.items

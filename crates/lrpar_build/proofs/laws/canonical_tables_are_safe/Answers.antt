@@ -1,5 +1,0 @@
-use Rattle.lrpar_build.proofs.SafeLemmas as tables
-use Rattle.lrpar_build.proofs.laws.canonical_tables_are_safe.Goals as goal
-
-pub returns : goal.returns
-returns c = tables.canonical_tables_are_safe

@@ -1,2 +1,0 @@
-pub mod FirstTokenLemmas
-pub mod ItemwiseLemmas

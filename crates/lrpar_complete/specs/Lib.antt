@@ -1,3 +1,0 @@
-pub mod Completeness
-pub mod Complete
-pub mod Itemwise

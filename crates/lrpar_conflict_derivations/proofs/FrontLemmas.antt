@@ -1,0 +1,126 @@
+-- A shortest way to a state and shortest trees of its symbols are a shortest text that leads there.
+use Rattle.std.proofs.Common.{◌≡◌, ◌<◌, ◌≤◌, ◌∙◌, refl, sym, ap, subst, inl, inr, arith, ℕ, List, [], ◌∷◌, All, None, Option, Some, length, map, min, option_map, reverse, slice_get, take}
+use Rattle.std.proofs.lemmas.Bool.{cases_lt}
+use Rattle.std.proofs.lemmas.List.{get_or_past, length-map, reverse-append, reverse-reverse, take_all}
+use Rattle.std.proofs.lemmas.List.Elements.{All-append, All-cons, All-head, All-nil, All-tail}
+use Rattle.lrpar_grammar.specs.Grammar.{Grammar, GrammarSymbol, IsWellFormed, Nonterminal, Terminal, rule_of, symbols_of}
+use Rattle.lrpar_grammar.specs.Tree.{Forest, forest_leaves}
+use Rattle.lrpar_table_rows.specs.Graph.{Graph, ItemOf, graph_len}
+use Rattle.lrpar_table_rows.specs.Table.{IsClosed, Table}
+use Rattle.lrpar_table_build.specs.Built.{IsBuilt}
+use Rattle.lrpar_table_items.specs.Canonical.{AreSame, sets_of}
+use Rattle.lrpar_table_items.specs.ItemSets.{IsAdvanced, IsReachedBy}
+use Rattle.lrpar_table_build.proofs.ReachedLemmas.{closure_each, known_by_symbol}
+use Rattle.lrpar_table_sentences.specs.Moves.{MoveOf, forest_moves}
+use Rattle.lrpar_table_sentences.specs.Reached.{IsReachedRule, IsReachedSymbol, OnRight}
+use Rattle.lrpar_table_sentences.specs.Texts.{AreShortestTrees, AreTreesOf, HaveTrees, forest_width}
+use Rattle.lrpar_table_sentences.specs.Ways.{IsPathTo, IsShortestPath, IsShortestWayIfAny, StepOf, StepsLead, WayOf, symbols_in, way_at}
+use Rattle.lrpar_conflict_derivations.specs.Climbing.{IsWay, state_before}
+use Rattle.lrpar_conflict_derivations.specs.Example.{AreExamplesFor, ExamplesOf, IsFront, IsShortestFront}
+use Rattle.lrpar_conflict_derivations.proofs.PathLemmas.{state_reached}
+use Rattle.lrpar_table_sentences.proofs.BehindLemmas.{contains_at, have_trees, item_reached}
+use Rattle.lrpar_conflict_derivations.proofs.TextLemmas.{takes_of_trees, takes_short}
+use Rattle.lrpar_conflict_derivations.specs.Texts.{takes_in}
+
+-- what holds of each of a list holds of each of the list turned round
+All-reverse : {X : Type 0} (P : X → Type 0) (xs : List X) → All P xs → All P (reverse xs)
+All-reverse P [] all = All-nil P
+All-reverse {X} P (x ∷ xs) all =
+    let turned = All-append P (reverse xs) (x ∷ []) (All-reverse P xs (All-tail P x xs all)) (All-cons P x [] (All-head P x xs all) (All-nil P)) in
+    subst (λ (ys : List X). All P ys) (sym (reverse-append (x ∷ []) xs)) turned
+
+module _ (g : Grammar) (well : IsWellFormed g) where
+  -- a symbol behind a dot of a rule that is reached is reached
+  symbol_reached : (q j : ℕ) (s : GrammarSymbol) → slice_get (symbols_of g q) j ≡ Some s → IsReachedRule g (rule_of g q) → IsReachedSymbol g s
+  symbol_reached q j (Terminal t) at reached = tt
+  symbol_reached q j (Nonterminal r) at reached =
+      OnRight q r (known_by_symbol g well q j (Nonterminal r) at) reached (contains_at (symbols_of g q) j (Nonterminal r) at)
+
+  -- so each symbol of a path is
+  path_reached : (path : List GrammarSymbol) (x : ItemOf) → IsReachedBy g path x → All (IsReachedSymbol g) path
+  path_reached [] = λ x reached. All-nil (IsReachedSymbol g)
+  path_reached (s ∷ path) =
+      closure_each g (λ _. All (IsReachedSymbol g) (s ∷ path)) (λ x y all adds. all) (IsAdvanced g (IsReachedBy g path) s)
+      (λ y from.
+      All-cons (IsReachedSymbol g) s path (symbol_reached from.0.prod from.0.dot s from.2 (item_reached g well path from.0 from.1))
+      (path_reached path from.0 from.1))
+
+-- something is kept of a state to which trees lead
+some_by : (g : Grammar) (graph : Graph) (most s : ℕ) (way : Option WayOf) → IsShortestWayIfAny g graph most s (option_map (λ x. x.len) way)
+    → (symbols : List GrammarSymbol) → IsPathTo g graph s symbols → HaveTrees g symbols → (found : WayOf) × (way ≡ Some found)
+some_by g graph most s None none symbols path trees = absurd (none symbols trees.0 path trees.1)
+some_by g graph most s (Some found) least symbols path trees = (found, refl)
+
+module _ (g : Grammar) (graph : Graph) (table : Table) (built : IsBuilt g graph table) (s : ℕ) where
+  -- steps that lead from the start are a way
+  pub way_by : IsClosed table → (steps : List StepOf) → StepsLead table table.start steps s → IsWay g graph steps s
+  way_by closed steps lead =
+      let start : IsPathTo g graph table.start [] =
+      subst (λ (n : ℕ). AreSame (sets_of graph n) (IsReachedBy g [])) (sym built.wanted.start) built.canonical.start in
+      state_reached g graph table built.wanted closed steps table.start s [] closed.start_within lead start
+
+-- the symbols of a way lead to its last state
+pub way_leads : (g : Grammar) (graph : Graph) (s : ℕ) (steps : List StepOf) → IsWay g graph steps s → IsPathTo g graph s (symbols_in steps)
+way_leads g graph s steps way =
+    let froms = map (λ (x : StepOf). x.from) steps in
+    let symbols = symbols_in steps in
+    let long : length froms ≡ length steps = length-map steps (λ (x : StepOf). x.from) in
+    let all : length symbols ≡ length steps = length-map steps (λ (x : StepOf). x.symbol) in
+    let last : state_before steps s (length steps) ≡ s = get_or_past froms (length steps) s (omega (arith, long)) in
+    let whole : take (length steps) symbols ≡ symbols = take_all (length steps) symbols (omega (arith, all)) in
+    subst (λ (n : ℕ). IsPathTo g graph n symbols) last
+    (subst (λ (w : List GrammarSymbol). IsPathTo g graph (state_before steps s (length steps)) w) whole (way (length steps) (omega arith)))
+
+-- steps that lead to the state, and moves of trees of their symbols
+pub front_by : (g : Grammar) (graph : Graph) (table : Table) → IsBuilt g graph table → IsClosed table → (s : ℕ) (steps : List StepOf)
+    → StepsLead table table.start steps s → (trees : Forest ℕ) → AreTreesOf g (symbols_in steps) trees → (moves : List MoveOf) → moves ≡ forest_moves trees
+    → IsFront g graph s steps moves
+front_by g graph table built closed s steps lead trees fit moves are =
+    let way = way_by g graph table built s closed steps lead in record {
+      way = way;
+      trees = trees;
+      text = record { leads = way_leads g graph s steps way; fit = fit; tokens = refl };
+      moves_are = are;
+    }
+
+module _ (g : Grammar) (graph : Graph) (table : Table) (most : ℕ) (well : IsWellFormed g) (built : IsBuilt g graph table) (x : ExamplesOf)
+    (made : AreExamplesFor g graph table most x) (s : ℕ) (low : s < graph_len graph) where
+  -- a way to the state is kept
+  pub some_way : (way : WayOf) × (way_at x.ways s ≡ Some way)
+  some_way =
+      let reached = built.canonical.reached s low in
+      let path = reached.0 in
+      let item = built.canonical.some s low in
+      let all = path_reached g well path item.0 ((reached.1 item.0).0 item.1) in
+      let trees = have_trees g made.each (reverse path) (All-reverse (IsReachedSymbol g) path all) in
+      let turned : IsPathTo g graph s (reverse path) =
+      subst (λ (w : List GrammarSymbol). AreSame (sets_of graph s) (IsReachedBy g w)) (sym (reverse-reverse path)) reached.1 in
+      some_by g graph most s (way_at x.ways s) (made.ways.lens s low) (reverse path) turned trees
+
+  module _ (closed : IsClosed table) (steps : List StepOf) (path : IsShortestPath g graph table most s steps) where
+    -- its symbols have trees
+    pub way_trees : HaveTrees g (symbols_in steps)
+    way_trees = let some = path.own.some in (some.0, some.1)
+
+    -- shortest ones have as few tokens as those of any other way
+    no_shorter : (trees : Forest ℕ) → AreShortestTrees g (symbols_in steps) trees → forest_width trees ≤ most
+        → (other : List GrammarSymbol) (others : Forest ℕ) → IsPathTo g graph s other → AreTreesOf g other others → forest_width trees ≤ forest_width others
+    no_shorter trees least fits other others to fit =
+        let own = path.own.some in
+        let less : forest_width trees ≤ forest_width own.0 = least.least own.0 own.1 in
+        let bound : path.len ≤ forest_width others = path.least.least other others to fit in
+        elim (cases_lt (forest_width own.0) most) [
+          | inl short ↦ let len : min (forest_width own.0) most ≡ path.len = own.2 in omega (arith, less, bound, short, len)
+          | inr long ↦ let len : min (forest_width own.0) most ≡ path.len = own.2 in omega (arith, fits, bound, long, len)
+        ]
+
+    pub front_done : (trees : Forest ℕ) → AreShortestTrees g (symbols_in steps) trees → (moves : List MoveOf) → moves ≡ forest_moves trees → length moves ≤ most
+        → IsShortestFront g graph s steps moves
+    front_done trees least moves are within =
+        let tokens : takes_in moves ≡ forest_leaves trees = ap takes_in are ∙ takes_of_trees trees in
+        let text : length (takes_in moves) ≡ forest_width trees = ap (λ (xs : List ℕ). length xs) tokens in
+        let short = takes_short moves in
+        let shorter = no_shorter trees least (omega (arith, text, short, within)) in record {
+          front = front_by g graph table built closed s steps path.lead trees least.fit moves are;
+          least = λ other others to fit. let less = shorter other others to fit in omega (arith, text, less);
+        }

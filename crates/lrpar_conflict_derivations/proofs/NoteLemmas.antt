@@ -1,0 +1,108 @@
+-- What is linked of a rule that stands behind a dot.
+use Rattle.std.proofs.Common.{◌≡◌, ◌∙◌, sym, ap, subst, ℕ, Bool, true, false, IsTrue, List, ◌∷◌, All, drop}
+use Rattle.std.proofs.lemmas.Bool.{false≢true}
+use Rattle.lrpar_grammar.specs.Grammar.{Grammar, GrammarSymbol, IsWellFormed, Nonterminal, rules_len, symbols_of, tokens_len}
+use Rattle.lrpar_table_first.specs.FirstRows.{AreFirsts, IsSymbolBelow, begins, mark_of}
+use Rattle.lrpar_table_first.proofs.BeforeLemmas.{begins_is, symbols_below}
+use Rattle.lrpar_table_items.proofs.SpreadLemmas.{same_rest, same_rule}
+use Rattle.lrpar_conflict_derivations.specs.Links.{AreNoted, HasLink, IsStep, LinkOf, PassesOn}
+
+-- a link that was made so is a step
+pub step_by : (g : Grammar) (token q j r : ℕ) (w : List GrammarSymbol) (asked further : Bool) (above : ℕ) (x : LinkOf)
+    → x ≡ record { rule = r; asked = asked; prod = q; dot = j; further = further; above = above }
+    → drop j (symbols_of g q) ≡ Nonterminal r ∷ w → PassesOn g token w asked further → IsStep g token q j further above x
+step_by g token q j r w asked further above x is before passes = record {
+  prod = ap (λ (y : LinkOf). y.prod) is;
+  dot = ap (λ (y : LinkOf). y.dot) is;
+  further_is = ap (λ (y : LinkOf). y.further) is;
+  above_is = ap (λ (y : LinkOf). y.above) is;
+  rest = w;
+  before = before ∙ ap (λ (n : ℕ). Nonterminal n ∷ w) (sym (ap (λ (y : LinkOf). y.rule) is));
+  passes = subst (λ (b : Bool). PassesOn g token w b further) (sym (ap (λ (y : LinkOf). y.asked) is)) passes;
+}
+
+-- where no rule stands behind the dot, nothing is to be linked
+pub noted_nothing : (g : Grammar) (token q j : ℕ) (links : List LinkOf) (further : Bool)
+    → ((r : ℕ) (w : List GrammarSymbol) → drop j (symbols_of g q) ≡ Nonterminal r ∷ w → ⊥) → AreNoted g token links q j further
+noted_nothing g token q j links further none r w asked before passes = absurd (none r w before)
+
+module _ (g : Grammar) (well : IsWellFormed g) (rows : List (List Bool)) (firsts : AreFirsts g rows) (token q j r : ℕ) (w : List GrammarSymbol)
+    (before : drop j (symbols_of g q) ≡ Nonterminal r ∷ w) (listed : All (IsSymbolBelow (rules_len g) (tokens_len g)) w) (links : List LinkOf) where
+  -- w begins with a token where it does by the sets
+  pub passes_by : (t mark : ℕ) (b : Bool) → mark ≡ mark_of g → b ≡ begins mark rows w t → b ≡ true → IsTrue (begins (mark_of g) rows w t)
+  passes_by t mark b marked is true_is = sym (ap (λ (n : ℕ). begins n rows w t) marked) ∙ sym is ∙ true_is
+
+  fails_by : (t mark : ℕ) (b : Bool) → mark ≡ mark_of g → b ≡ begins mark rows w t → b ≡ false → begins (mark_of g) rows w t ≡ false
+  fails_by t mark b marked is false_is = sym (ap (λ (n : ℕ). begins n rows w t) marked) ∙ sym is ∙ false_is
+
+  first_by : (t mark : ℕ) (b : Bool) → mark ≡ mark_of g → b ≡ begins mark rows w t → b ≡ true → PassesOn g t w true false
+  first_by t mark b marked is true_is =
+      (begins_is g well rows firsts w (symbols_below (rules_len g) (tokens_len g) w listed) t).0 (passes_by t mark b marked is true_is)
+
+  -- the token is asked for on, where w begins with it
+  pub passes_token : (t mark : ℕ) (b : Bool) → t ≡ token → mark ≡ mark_of g → b ≡ begins mark rows w t → b ≡ true → PassesOn g token w true false
+  passes_token t mark b same marked is true_is = subst (λ (n : ℕ). PassesOn g n w true false) same (first_by t mark b marked is true_is)
+
+  -- and further up, where w derives nothing
+  pub passes_through : (mark : ℕ) (b : Bool) → mark ≡ mark_of g → b ≡ begins mark rows w mark → b ≡ true → PassesOn g token w true true
+  passes_through mark b marked is true_is =
+      subst (λ (n : ℕ). PassesOn g n w true false) marked (first_by mark mark b marked is true_is)
+
+  own_rest : (s : ℕ) (v : List GrammarSymbol) → drop j (symbols_of g q) ≡ Nonterminal s ∷ v → v ≡ w
+  own_rest s v also = same_rest s r v w (sym also ∙ before)
+
+  own_link : (s : ℕ) (v : List GrammarSymbol) (asked : Bool) → drop j (symbols_of g q) ≡ Nonterminal s ∷ v → HasLink links asked r → HasLink links asked s
+  own_link s v asked also has_one = subst (HasLink links asked) (sym (same_rule s r v w (sym also ∙ before))) has_one
+
+  contrary : (t : ℕ) (v : List GrammarSymbol) → v ≡ w → begins (mark_of g) rows w t ≡ false → PassesOn g t v true false → ⊥
+  contrary t v same none passes =
+      let free = symbols_below (rules_len g) (tokens_len g) w listed in
+      let passed = (begins_is g well rows firsts w free t).1 (subst (λ (u : List GrammarSymbol). PassesOn g t u true false) same passes) in
+      false≢true (sym none ∙ passed)
+
+  -- all is linked: where the token is asked for further up
+  noted_further : (asked : Bool) → HasLink links true r → (s : ℕ) (v : List GrammarSymbol) → drop j (symbols_of g q) ≡ Nonterminal s ∷ v
+      → PassesOn g token v asked true → HasLink links asked s
+  noted_further true has_one s v also passes = own_link s v true also has_one
+  noted_further false has_one s v also passes = absurd passes
+
+  pub noted_asked : (further : Bool) → further ≡ true → HasLink links true r → AreNoted g token links q j further
+  noted_asked further is has_one s v asked also passes =
+      noted_further asked has_one s v also (subst (λ (b : Bool). PassesOn g token v asked b) is passes)
+
+  stopped_further : (asked : Bool) → begins (mark_of g) rows w (mark_of g) ≡ false → (s : ℕ) (v : List GrammarSymbol)
+      → drop j (symbols_of g q) ≡ Nonterminal s ∷ v → PassesOn g token v asked true → HasLink links asked s
+  stopped_further true none s v also passes = absurd (contrary (mark_of g) v (own_rest s v also) none passes)
+  stopped_further false none s v also passes = absurd passes
+
+  pub noted_stopped : (mark : ℕ) (b further : Bool) → further ≡ true → mark ≡ mark_of g → b ≡ begins mark rows w mark → b ≡ false
+      → AreNoted g token links q j further
+  noted_stopped mark b further is marked by false_is s v asked also passes =
+      let none = subst (λ (n : ℕ). begins (mark_of g) rows w n ≡ false) marked (fails_by mark mark b marked by false_is) in
+      stopped_further asked none s v also (subst (λ (c : Bool). PassesOn g token v asked c) is passes)
+
+  -- and where it isn't
+  both_here : (asked : Bool) → HasLink links false r → HasLink links true r → (s : ℕ) (v : List GrammarSymbol)
+      → drop j (symbols_of g q) ≡ Nonterminal s ∷ v → HasLink links asked s
+  both_here true any_one asked_one s v also = own_link s v true also asked_one
+  both_here false any_one asked_one s v also = own_link s v false also any_one
+
+  pub noted_both : (further : Bool) → HasLink links false r → HasLink links true r → AreNoted g token links q j further
+  noted_both further any_one asked_one s v asked also passes = both_here asked any_one asked_one s v also
+
+  any_here : (asked : Bool) → HasLink links false r → begins (mark_of g) rows w token ≡ false → (s : ℕ) (v : List GrammarSymbol)
+      → drop j (symbols_of g q) ≡ Nonterminal s ∷ v → PassesOn g token v asked false → HasLink links asked s
+  any_here true any_one none s v also passes = absurd (contrary token v (own_rest s v also) none passes)
+  any_here false any_one none s v also passes = own_link s v false also any_one
+
+  pub noted_any : (t mark : ℕ) (b further : Bool) → further ≡ false → t ≡ token → mark ≡ mark_of g → b ≡ begins mark rows w t → b ≡ false
+      → HasLink links false r → AreNoted g token links q j further
+  noted_any t mark b further is same marked by false_is any_one s v asked also passes =
+      let none = subst (λ (n : ℕ). begins (mark_of g) rows w n ≡ false) same (fails_by t mark b marked by false_is) in
+      any_here asked any_one none s v also (subst (λ (c : Bool). PassesOn g token v asked c) is passes)
+
+-- symbols of a grammar, by the numbers of its sets and tokens
+pub below_by : (rules tokens len mark : ℕ) (w : List GrammarSymbol) → len ≡ rules → mark ≡ tokens → All (IsSymbolBelow rules tokens) w
+    → All (IsSymbolBelow len mark) w
+below_by rules tokens len mark w is marked listed =
+    subst (λ (n : ℕ). All (IsSymbolBelow n mark) w) (sym is) (subst (λ (n : ℕ). All (IsSymbolBelow rules n) w) (sym marked) listed)

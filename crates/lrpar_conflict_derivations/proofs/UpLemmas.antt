@@ -1,0 +1,153 @@
+-- The way up by links, from one to the one above it.
+use Rattle.std.proofs.Common.{◌≡◌, ◌≢◌, ◌<◌, ◌+◌, ◌⊎◌, ◌∙◌, refl, sym, ap, subst, inl, inr, arith, ℕ, suc, Bool, List, [], ◌∷◌, ◌++◌, drop, length}
+use Rattle.std.proofs.lemmas.List.{append_assoc, append-nil}
+use Rattle.lrpar_grammar.specs.Grammar.{Grammar, GrammarSymbol, IsWellFormed, Nonterminal, prods_len, rule_of, start_prod, symbols_of}
+use Rattle.lrpar_table_rows.specs.Graph.{ItemOf}
+use Rattle.lrpar_table_items.specs.Canonical.{AreSame}
+use Rattle.lrpar_table_items.specs.ItemSets.{IsReachedBy}
+use Rattle.lrpar_table_build.proofs.ReachedLemmas.{head_after, known_by_symbol}
+use Rattle.lrpar_table_sentences.specs.Moves.{MoveOf, Makes, forest_moves}
+use Rattle.lrpar_table_sentences.specs.Reached.{IsReachedRule}
+use Rattle.lrpar_conflict_derivations.specs.Climbing.{AreUpLinks, EndsLink, HasClimbed, HasRest, LeadsUp, UpOf, place_at}
+use Rattle.lrpar_conflict_derivations.specs.Links.{AreLinks, IsBegunItem, IsStep, LinkOf, link_at}
+use Rattle.lrpar_table_sentences.proofs.BehindLemmas.{drop_at_get}
+use Rattle.lrpar_conflict_derivations.proofs.ClimbLemmas.{up_added, up_none, up_then}
+use Rattle.lrpar_conflict_derivations.proofs.ReachLemmas.{links_reached}
+
+-- links of a state lead up
+pub up_links : (g : Grammar) → IsWellFormed g → (set : ItemOf → Type 0) (path : List GrammarSymbol) → AreSame set (IsReachedBy g path) → (token : ℕ)
+    (links : List LinkOf) → AreLinks g set token links → AreUpLinks g token links
+up_links g well set path same token links are i low =
+    let x = link_at links i in
+    let step = (are i low).step in record {
+      step = step;
+      known = known_by_symbol g well x.prod x.dot (Nonterminal x.rule) (head_after (symbols_of g x.prod) x.dot (Nonterminal x.rule) step.rest step.before);
+      reached = links_reached g well set path same token links are (suc i) i (omega arith) low;
+      above =
+          λ front listed.
+          elim (are i low).from [
+            | inl begun ↦
+                elim begun.begun [
+                  | inl moved ↦ absurd (omega (arith, moved, front))
+                  | inr last ↦ absurd (listed last)
+                ]
+            | inr below ↦ (below.2, below.3, below.4)
+          ];
+    }
+
+-- and end at an item that isn't there by closure
+pub ends_begun : (g : Grammar) (set : ItemOf → Type 0) (token : ℕ) (links : List LinkOf) (up : UpOf) → AreLinks g set token links → EndsLink g links up
+    → IsBegunItem g set token up.prod up.dot up.asked
+ends_begun g set token links up are ends =
+    let x = link_at links ends.number in
+    let Item = IsBegunItem g set token up.prod up.dot up.asked in
+    elim (are ends.number ends.within).from as (λ _. Item) [
+      | inl begun ↦
+          subst (λ (n : ℕ). IsBegunItem g set token n up.dot up.asked) ends.prod
+          (subst (λ (n : ℕ). IsBegunItem g set token x.prod n up.asked) ends.dot
+          (subst (λ (b : Bool). IsBegunItem g set token x.prod x.dot b) ends.further begun))
+      | inr below ↦
+          elim ends.begun as (λ _. Item) [
+            | inl moved ↦ let front : up.dot ≡ 0 = sym ends.dot ∙ below.0 in absurd (omega (arith, moved, front))
+            | inr last ↦ absurd (below.1 (ends.prod ∙ last))
+          ]
+    ]
+
+-- moves were put behind the others that lead from production p up to production q, with its dot at the front
+pub record IsWayUp (g : Grammar) (token p : ℕ) (asked : Bool) (old new : List MoveOf) (q : ℕ) (further : Bool) : Type 0 where
+  pub done : List MoveOf
+  pub moves : new ≡ old ++ done
+  pub leads : (front : List GrammarSymbol) → LeadsUp g token (place_at front p 0 asked) done (place_at front q 0 further)
+  pub begins : ((done ≡ []) × (q ≡ p)) ⊎ ((rest : List MoveOf) × (done ≡ Makes p ∷ rest))
+
+module _ (g : Grammar) (token p : ℕ) (asked : Bool) (old : List MoveOf) where
+  pub way_none : IsWayUp g token p asked old old p asked
+  way_none = record {
+    done = [];
+    moves = sym (append-nil old);
+    leads = λ front. up_none g token (place_at front p 0 asked);
+    begins = inl (refl, refl);
+  }
+
+  -- a node and trees behind it lead up to the item of the link
+  pub way_further : IsWellFormed g → (middle pushed new : List MoveOf) (q : ℕ) (further : Bool) (x : LinkOf) → IsWayUp g token p asked old middle q further
+      → q < prods_len g → x.rule ≡ rule_of g q → x.asked ≡ further → IsStep g token x.prod x.dot x.further x.above x
+      → pushed ≡ middle ++ Makes q ∷ [] → HasRest g token x pushed new
+      → HasClimbed g token p asked old new (record { prod = x.prod; dot = x.dot; asked = x.further })
+  way_further well middle pushed new q further x way known rule asks step push rest =
+      let at = drop_at_get (symbols_of g x.prod) x.dot (Nonterminal x.rule)
+      (head_after (symbols_of g x.prod) x.dot (Nonterminal x.rule) step.rest step.before) in
+      let behind : drop x.dot (symbols_of g x.prod) ≡ Nonterminal (rule_of g q) ∷ drop (x.dot + 1) (symbols_of g x.prod) =
+      at ∙ ap (λ (n : ℕ). Nonterminal n ∷ drop (x.dot + 1) (symbols_of g x.prod)) rule in
+      let added = λ (front : List GrammarSymbol).
+      up_added g token well front x.prod x.dot q (drop (x.dot + 1) (symbols_of g x.prod)) rest.trees x.asked x.further behind known rest.fit rest.ahead in
+      let own : (front : List GrammarSymbol) → LeadsUp g token (place_at front q 0 further) (Makes q ∷ forest_moves rest.trees) (place_at front x.prod x.dot x.further) =
+      λ front.
+      subst (λ (b : Bool). LeadsUp g token (place_at front q 0 b) (Makes q ∷ forest_moves rest.trees) (place_at front x.prod x.dot x.further)) asks (added front) in
+      let all = λ (front : List GrammarSymbol).
+      up_then g token (place_at front p 0 asked) (place_at front q 0 further) (place_at front x.prod x.dot x.further) way.done (Makes q ∷ forest_moves rest.trees)
+      (way.leads front) (own front) in
+      let moves : new ≡ old ++ (way.done ++ Makes q ∷ forest_moves rest.trees) =
+      rest.moves ∙ ap (λ ms. ms ++ forest_moves rest.trees) push ∙ append_assoc middle (Makes q ∷ []) (forest_moves rest.trees)
+      ∙ ap (λ ms. ms ++ Makes q ∷ forest_moves rest.trees) way.moves ∙ append_assoc old way.done (Makes q ∷ forest_moves rest.trees) in
+      elim way.begins [
+        | inl first ↦
+            let is : way.done ++ Makes q ∷ forest_moves rest.trees ≡ Makes p ∷ forest_moves rest.trees =
+            ap (λ ms. ms ++ Makes q ∷ forest_moves rest.trees) first.0 ∙ ap (λ (n : ℕ). Makes n ∷ forest_moves rest.trees) first.1 in record {
+              more = forest_moves rest.trees;
+              moves = moves ∙ ap (λ ms. old ++ ms) is;
+              leads =
+                  λ front.
+                  subst (λ (ms : List MoveOf). LeadsUp g token (place_at front p 0 asked) ms (place_at front x.prod x.dot x.further)) is (all front);
+            }
+        | inr later ↦
+            let is : way.done ++ Makes q ∷ forest_moves rest.trees ≡ Makes p ∷ (later.0 ++ Makes q ∷ forest_moves rest.trees) =
+            ap (λ ms. ms ++ Makes q ∷ forest_moves rest.trees) later.1 in record {
+              more = later.0 ++ Makes q ∷ forest_moves rest.trees;
+              moves = moves ∙ ap (λ ms. old ++ ms) is;
+              leads =
+                  λ front.
+                  subst (λ (ms : List MoveOf). LeadsUp g token (place_at front p 0 asked) ms (place_at front x.prod x.dot x.further)) is (all front);
+            }
+      ]
+
+  -- from there the way goes on, if the dot is at the front
+  pub way_on : (new : List MoveOf) (q j : ℕ) (further : Bool) (on : Bool) → HasClimbed g token p asked old new (record { prod = q; dot = j; asked = further })
+      → j ≡ 0 → further ≡ on → IsWayUp g token p asked old new q on
+  way_on new q j further on climbed front same = record {
+    done = Makes p ∷ climbed.more;
+    moves = climbed.moves;
+    leads =
+        λ before.
+        subst (λ (b : Bool). LeadsUp g token (place_at before p 0 asked) (Makes p ∷ climbed.more) (place_at before q 0 b)) same
+        (subst (λ (n : ℕ). LeadsUp g token (place_at before p 0 asked) (Makes p ∷ climbed.more) (place_at before q n further)) front (climbed.leads before));
+    begins = inr (climbed.more, refl);
+  }
+
+-- one link of those that lead up
+module _ (g : Grammar) (token : ℕ) (links : List LinkOf) (ups : AreUpLinks g token links) (i : ℕ) (low : i < length links) (x : LinkOf)
+    (is : x ≡ link_at links i) where
+  pub step_here : IsStep g token x.prod x.dot x.further x.above x
+  step_here = subst (λ (y : LinkOf). IsStep g token y.prod y.dot y.further y.above y) (sym is) (ups i low).step
+
+  pub reached_here : IsReachedRule g (rule_of g x.prod)
+  reached_here = subst (λ (y : LinkOf). IsReachedRule g (rule_of g y.prod)) (sym is) (ups i low).reached
+
+  pub known_here : x.prod < prods_len g
+  known_here = subst (λ (y : LinkOf). y.prod < prods_len g) (sym is) (ups i low).known
+
+  pub ends_here : (0 < x.dot) ⊎ (x.prod ≡ start_prod g) → EndsLink g links (record { prod = x.prod; dot = x.dot; asked = x.further })
+  ends_here begun = record {
+    number = i;
+    within = low;
+    prod = sym (ap (λ (y : LinkOf). y.prod) is);
+    dot = sym (ap (λ (y : LinkOf). y.dot) is);
+    further = sym (ap (λ (y : LinkOf). y.further) is);
+    begun = begun;
+  }
+
+  pub above_here : x.dot ≡ 0 → x.prod ≢ start_prod g
+      → (x.above < i) × ((link_at links x.above).rule ≡ rule_of g x.prod) × ((link_at links x.above).asked ≡ x.further)
+  above_here front listed =
+      subst (λ (y : LinkOf). (y.above < i) × ((link_at links y.above).rule ≡ rule_of g y.prod) × ((link_at links y.above).asked ≡ y.further)) (sym is)
+      ((ups i low).above (sym (ap (λ (y : LinkOf). y.dot) is) ∙ front) (λ last. listed (ap (λ (y : LinkOf). y.prod) is ∙ last)))

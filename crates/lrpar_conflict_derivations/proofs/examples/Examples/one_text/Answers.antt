@@ -1,0 +1,24 @@
+use Rattle.std.proofs.Common.{List, Option, sym, ap, subst}
+use Rattle.lrpar_table_sentences.specs.Choices.{AreShortest, ChoiceOf}
+use Rattle.lrpar_table_sentences.specs.Moves.{moves_in}
+use Rattle.lrpar_table_sentences.specs.Ways.{steps_of}
+use Rattle.lrpar_conflict_derivations.specs.Example.{ExamplesOf, IsShortestFront}
+use Rattle.lrpar_conflict_derivations.proofs.examples.Examples.one_text.Goals as goal
+
+pub unify-requires : goal.unify-requires
+unify-requires g c =
+    subst (λ (w : List (Option ChoiceOf)). AreShortest c.args.grm.now 18446744073709551615 w)
+    (sym (ap (λ (x : ExamplesOf). x.shortest) c.self.view_is)) c.requires.made.shortest
+
+pub believed-requires-clause-shortest : goal.believed-requires-clause-shortest
+believed-requires-clause-shortest g c =
+    subst (λ (w : List (Option ChoiceOf)). AreShortest c.args.grm.now 18446744073709551615 w)
+    (sym (ap (λ (x : ExamplesOf). x.shortest) c.self.view_is)) c.requires.made.shortest
+
+pub believed-requires-clause-front : goal.believed-requires-clause-front
+believed-requires-clause-front g c =
+    let index = g.StorageT.StorageIndex.index in
+    let steps = steps_of index c.args.front.now.steps.items in (
+      steps,
+      subst (λ xs. IsShortestFront c.args.grm.now c.args.sgraph.now (index c.args.state.0) steps (moves_in index xs)) (sym c.deref.ensures.value) c.requires.front,
+    )

@@ -1,0 +1,85 @@
+-- Examples of conflicts: a text that leads to the conflict's state, and two readings that go on from there.
+use Rattle.std.specs.Prelude.{◌≡◌, ◌≢◌, ◌≤◌, ◌↔◌, ◌⊎◌, ℕ, Bool, IsTrue, List, Option, length}
+use Rattle.lrpar_grammar.specs.Grammar.{Grammar, GrammarSymbol}
+use Rattle.lrpar_grammar.specs.Tree.{Forest, Tree, forest_leaves, leaves}
+use Rattle.lrpar_table_rows.specs.Graph.{Graph}
+use Rattle.lrpar_table_rows.specs.Table.{Table}
+use Rattle.lrpar_table_first.specs.FirstRows.{AreFirsts}
+use Rattle.lrpar_table_sentences.specs.Choices.{AreShortest, ChoiceOf}
+use Rattle.lrpar_table_sentences.specs.Moves.{MoveOf, forest_moves}
+use Rattle.lrpar_table_sentences.specs.Reached.{EachReachedHasTree, IsFirstBarren}
+use Rattle.lrpar_table_sentences.specs.Texts.{AreTreesOf}
+use Rattle.lrpar_table_sentences.specs.Ways.{AreWays, IsPathTo, StepOf, WayOf, symbols_in}
+use Rattle.lrpar_conflict_derivations.specs.Climbing.{IsWay}
+use Rattle.lrpar_conflict_derivations.specs.Reading.{IsReading}
+use Rattle.lrpar_conflict_derivations.specs.Texts.{takes_in}
+use Rattle.lrpar_conflict_derivations.specs.declared.fault.ExampleFault.{ExampleFault}
+use Rattle.lrpar_conflict_derivations.specs.declared.fault.ExampleFault.TheVariants.{Barren, Memory}
+
+-- what an example tells
+pub record ExampleOf : Type 0 where
+  pub before : List ℕ
+  pub first : List MoveOf
+  pub second : List MoveOf
+  pub ambiguous : Bool
+  pub shortest : Bool
+  pub bound : ℕ
+
+-- the text leads to state s: the symbols do, and these trees fit them and have its tokens
+pub record IsTextTo (g : Grammar) (graph : Graph) (s : ℕ) (text : List ℕ) (symbols : List GrammarSymbol) (trees : Forest ℕ) : Type 0 where
+  pub leads : IsPathTo g graph s symbols
+  pub fit : AreTreesOf g symbols trees
+  pub tokens : forest_leaves trees ≡ text
+
+-- no text that leads to state s has fewer tokens
+abbrev pub IsLeastTo : Grammar → Graph → ℕ → List ℕ → Type 0
+IsLeastTo g graph s text =
+    (path : List GrammarSymbol) (others : Forest ℕ) → IsPathTo g graph s path → AreTreesOf g path others → length text ≤ length (forest_leaves others)
+
+-- An example of a conflict in state s at a token: a text that leads there, and two readings of trees of the start rule, each of which has
+-- made the same trees of that text. One goes on with one move, the other with the other. The grammar is called ambiguous exactly where both
+-- trees have one text; they are two trees anyhow. The text that leads there is called a shortest one exactly where none is shorter, and it
+-- is one, unless both trees have one text
+pub record IsExample (g : Grammar) (graph : Graph) (s token : ℕ) (one other : MoveOf) (x : ExampleOf) : Type 0 where
+  pub symbols : List GrammarSymbol
+  pub trees : Forest ℕ
+  pub before : IsTextTo g graph s x.before symbols trees
+  pub shortest : IsTrue x.shortest ↔ IsLeastTo g graph s x.before
+  pub unless : (IsTrue x.shortest) ⊎ (IsTrue x.ambiguous)
+  pub tree : Tree ℕ
+  pub first : IsReading g x.before token trees one x.first tree
+  pub other_tree : Tree ℕ
+  pub second : IsReading g x.before token trees other x.second other_tree
+  pub different : tree ≢ other_tree
+  pub ambiguous : IsTrue x.ambiguous ↔ (leaves tree ≡ leaves other_tree)
+
+-- what examples are made of: the tokens that rules begin with, their shortest texts, and the shortest ways to states
+pub record ExamplesOf : Type 0 where
+  pub firsts : List (List Bool)
+  pub shortest : List (Option ChoiceOf)
+  pub ways : List (Option WayOf)
+
+-- they are those of a table that was built of a grammar, each of whose rules that are reached from the start derives some text; numbers
+-- of tokens are told up to `most`
+pub record AreExamplesFor (g : Grammar) (graph : Graph) (table : Table) (most : ℕ) (x : ExamplesOf) : Type 0 where
+  pub firsts : AreFirsts g x.firsts
+  pub shortest : AreShortest g most x.shortest
+  pub ways : AreWays g graph table most x.ways
+  pub each : EachReachedHasTree g
+
+-- what a refusal tells: the first rule that is reached from the start and derives no text
+abbrev pub IsExampleFault : {S : Type 0} → (S → ℕ) → Grammar → ExampleFault S → Type 0
+IsExampleFault index g (Barren r) = IsFirstBarren g (index r.0)
+IsExampleFault index g Memory = Unit {0}
+
+-- the steps of a way to state s, by which each state on it is reached, and moves of trees of its symbols
+pub record IsFront (g : Grammar) (graph : Graph) (s : ℕ) (steps : List StepOf) (moves : List MoveOf) : Type 0 where
+  pub way : IsWay g graph steps s
+  pub trees : Forest ℕ
+  pub text : IsTextTo g graph s (forest_leaves trees) (symbols_in steps) trees
+  pub moves_are : moves ≡ forest_moves trees
+
+-- the same, with a text that is a shortest one
+pub record IsShortestFront (g : Grammar) (graph : Graph) (s : ℕ) (steps : List StepOf) (moves : List MoveOf) : Type 0 where
+  pub front : IsFront g graph s steps moves
+  pub least : IsLeastTo g graph s (takes_in moves)

@@ -1,0 +1,35 @@
+//! What symbols begin with.
+ghost use Rattle.std.specs.Prelude.{◌≡◌, ◌<◌, All, length, map};
+ghost use Rattle.lrpar_grammar.specs.Symbols.{symbol_of};
+ghost use Rattle.lrpar_table_first.specs.FirstRows.{IsSymbolBelow, begins, rows_of};
+
+use lrpar_grammar::span::{StorageIndex, Symbol};
+use lrpar_grammar::token_set::TokenSet;
+
+/// Whether the symbols begin with the token, where each rule begins with its set. The mark, which no token has as its number, asks whether
+/// they derive nothing.
+pub(crate) fn can_begin<StorageT: StorageIndex>(
+    firsts: &[TokenSet],
+    symbols: &[Symbol<StorageT>],
+    token: usize,
+    mark: usize,
+) -> bool
+    requires { All (IsSymbolBelow (length firsts.now) mark) (map (symbol_of StorageT.index) symbols.now) }
+    ensures { result ≡ begins mark (rows_of firsts.now) (map (symbol_of StorageT.index) symbols.now) token }
+{
+    for symbol in symbols {
+        match *symbol {
+            Symbol::Token(first) => return token == usize::from(first),
+            Symbol::Rule(rule) => {
+                let set = &firsts[usize::from(rule)];
+                if token < mark && set.contains(token) {
+                    return true;
+                }
+                if !set.contains(mark) {
+                    return false;
+                }
+            }
+        }
+    }
+    token == mark
+}

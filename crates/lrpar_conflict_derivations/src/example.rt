@@ -1,0 +1,181 @@
+//! An example of a conflict.
+ghost use Rattle.std.specs.Prelude.{◌≡◌, ◌↔◌, IfOk, IsTrue, length};
+ghost use Rattle.lrpar_table_sentences.specs.Moves.{moves_in};
+ghost use Rattle.lrpar_conflict_derivations.specs.Texts.{takes_in, token_numbers};
+
+use lrpar_grammar::span::{StorageIndex, TIdx};
+use lrpar_table_sentences::moves::Move;
+use std::alloc::{AllocError, Global};
+use std::marker::Model;
+
+/// An example of a conflict: a text that leads to the conflict's state, and two readings of trees that go on from there, as moves.
+#[derive(Debug)]
+pub struct Example<StorageT: StorageIndex> {
+    before: Vec<TIdx<StorageT>>,
+    first: Vec<Move<StorageT>>,
+    second: Vec<Move<StorageT>>,
+    ambiguous: bool,
+    shortest: bool,
+    bound: usize,
+}
+
+// A drop of its own, so that what lets go of one elsewhere proves one call.
+impl<StorageT: StorageIndex> Drop for Example<StorageT> {
+    fn drop(self) {
+        let Example {
+            before,
+            first,
+            second,
+            ambiguous: _,
+            shortest: _,
+            bound: _,
+        } = self;
+        drop(before);
+        drop(first);
+        drop(second);
+    }
+}
+
+impl<StorageT: StorageIndex> Model for Example<StorageT> {
+    ghost use Rattle.lrpar_table_sentences.specs.Moves.{moves_in};
+    ghost use Rattle.lrpar_conflict_derivations.specs.Example.{ExampleOf};
+    ghost use Rattle.lrpar_conflict_derivations.specs.Texts.{token_numbers};
+
+    ghost Value = { ExampleOf };
+
+    ghost view = { λ x. record { before = token_numbers StorageT.index x.before.items; first = moves_in StorageT.index x.first.items; second = moves_in StorageT.index x.second.items; ambiguous = x.ambiguous; shortest = x.shortest; bound = x.bound } };
+}
+
+impl<StorageT: StorageIndex> Example<StorageT> {
+    // The example of two readings that begin with these first moves, whose text is a shortest one or not, with the bound of the search.
+    pub(crate) fn new(
+        alloc: Global,
+        front: &[Move<StorageT>],
+        first: Vec<Move<StorageT>>,
+        second: Vec<Move<StorageT>>,
+        shortest: bool,
+        bound: usize,
+    ) -> Result<Self, AllocError>
+        ensures before { IfOk result (λ x. x.before ≡ takes_in (moves_in StorageT.index front.now)) }
+        ensures first { IfOk result (λ x. x.first ≡ moves_in StorageT.index first.items) }
+        ensures second { IfOk result (λ x. x.second ≡ moves_in StorageT.index second.items) }
+        ensures ambiguous { IfOk result (λ x. IsTrue x.ambiguous
+            ↔ (takes_in (moves_in StorageT.index first.items) ≡ takes_in (moves_in StorageT.index second.items))) }
+        ensures shortest { IfOk result (λ x. x.shortest ≡ shortest) }
+        ensures bound { IfOk result (λ x. x.bound ≡ bound) }
+    {
+        let before = taken(alloc, front)?;
+        let ambiguous = have_same_text(alloc, &first, &second)?;
+        Ok(Example {
+            before,
+            first,
+            second,
+            ambiguous,
+            shortest,
+            bound,
+        })
+    }
+
+    /// The tokens of a text that leads to the conflict's state: a shortest one, unless both readings have one text that was found on
+    /// another way.
+    pub fn before(&self) -> &[TIdx<StorageT>]
+        ensures { token_numbers StorageT.index result.now ≡ self.now.before }
+    {
+        &self.before
+    }
+
+    /// The moves of the first reading.
+    pub fn first(&self) -> &[Move<StorageT>]
+        ensures { moves_in StorageT.index result.now ≡ self.now.first }
+    {
+        &self.first
+    }
+
+    /// The moves of the second reading.
+    pub fn second(&self) -> &[Move<StorageT>]
+        ensures { moves_in StorageT.index result.now ≡ self.now.second }
+    {
+        &self.second
+    }
+
+    /// Whether both readings have the same text, so that the grammar is ambiguous.
+    pub fn is_ambiguous(&self) -> bool
+        ensures { result ≡ self.now.ambiguous }
+    {
+        self.ambiguous
+    }
+
+    /// Whether no text that leads to the conflict's state has fewer tokens than `before`.
+    pub fn is_shortest(&self) -> bool
+        ensures { result ≡ self.now.shortest }
+    {
+        self.shortest
+    }
+
+    /// How far one text of both readings was looked for, if they weren't of one text from the start.
+    pub fn bound(&self) -> usize
+        ensures { result ≡ self.now.bound }
+    {
+        self.bound
+    }
+}
+
+// Whether both take as many tokens.
+pub(crate) fn have_as_many<StorageT: StorageIndex>(
+    alloc: Global,
+    one: &[Move<StorageT>],
+    other: &[Move<StorageT>],
+) -> Result<bool, AllocError>
+    ensures { IfOk result (λ same. IsTrue same
+        ↔ (length (takes_in (moves_in StorageT.index one.now)) ≡ length (takes_in (moves_in StorageT.index other.now)))) }
+{
+    let one = taken(alloc, one)?;
+    let other = taken(alloc, other)?;
+    Ok(one.len() == other.len())
+}
+
+// Whether the tokens that both take are the same.
+fn have_same_text<StorageT: StorageIndex>(
+    alloc: Global,
+    first: &[Move<StorageT>],
+    second: &[Move<StorageT>],
+) -> Result<bool, AllocError>
+    ensures { IfOk result (λ same. IsTrue same
+        ↔ (takes_in (moves_in StorageT.index first.now) ≡ takes_in (moves_in StorageT.index second.now))) }
+{
+    let one = taken(alloc, first)?;
+    let other = taken(alloc, second)?;
+    Ok(are_same(&one, &other))
+}
+
+// Whether the tokens are the same.
+fn are_same<StorageT: StorageIndex>(one: &[TIdx<StorageT>], other: &[TIdx<StorageT>]) -> bool
+    ensures { IsTrue result ↔ (token_numbers StorageT.index one.now ≡ token_numbers StorageT.index other.now) }
+{
+    if one.len() != other.len() {
+        return false;
+    }
+    for place in 0..one.len() {
+        if usize::from(one[place]) != usize::from(other[place]) {
+            return false;
+        }
+    }
+    true
+}
+
+/// The tokens that the moves take, in order. An `Err` comes where memory doesn't suffice.
+pub fn taken<StorageT: StorageIndex>(
+    alloc: Global,
+    moves: &[Move<StorageT>],
+) -> Result<Vec<TIdx<StorageT>>, AllocError>
+    ensures { IfOk result (λ tokens. token_numbers StorageT.index tokens.items ≡ takes_in (moves_in StorageT.index moves.now)) }
+{
+    let mut tokens = Vec::new(alloc);
+    for step in moves {
+        match *step {
+            Move::Take(token) => tokens.push(token)?,
+            Move::Make(_) => {}
+        }
+    }
+    Ok(tokens)
+}

@@ -1,0 +1,410 @@
+//! Examples of the conflicts of a table that was built of a grammar.
+ghost use Rattle.std.specs.Prelude.{◌≡◌, ◌≢◌, ◌<◌, IfErr, IfOk, IfSome, map};
+ghost use Rattle.std.specs.List.{Contains};
+ghost use Rattle.lrpar_grammar.specs.Symbols.{symbol_of};
+ghost use Rattle.lrpar_table_rows.specs.Graph.{graph_len};
+ghost use Rattle.lrpar_table_rows.specs.PlainConflicts.{reduce_reduce_of, shift_reduce_of};
+ghost use Rattle.lrpar_table_build.specs.Built.{IsBuilt};
+ghost use Rattle.lrpar_table_build.specs.BuilderLaws.{lists_in};
+ghost use Rattle.lrpar_table_sentences.specs.Choices.{AreShortest};
+ghost use Rattle.lrpar_table_sentences.specs.Moves.{Makes, Takes, move_of, moves_in};
+ghost use Rattle.lrpar_table_sentences.specs.Reached.{EachReachedHasTree};
+ghost use Rattle.lrpar_table_sentences.specs.Ways.{steps_of, symbols_in};
+ghost use Rattle.lrpar_conflict_derivations.specs.Example.{AreExamplesFor, IsExample, IsExampleFault, IsShortestFront};
+
+use crate::backs::Backs;
+pub use crate::example::{Example, taken};
+pub use crate::fault::ExampleFault;
+use crate::given::Given;
+use crate::guess::{believed, symbols_of};
+use crate::lens::Lens;
+use crate::pairs::Clash;
+use crate::readings::{making, taking};
+use crate::unify::unify;
+use lrpar_grammar::grammar::YaccGrammar;
+use lrpar_grammar::span::{PIdx, StIdx, StorageIndex, Symbol, TIdx};
+use lrpar_grammar::token_set::TokenSet;
+use lrpar_table_first::first::first_sets;
+use lrpar_table_rows::table::{StateGraph, StateTable};
+use lrpar_table_sentences::moves::Move;
+use lrpar_table_sentences::shortest::Shortest;
+use lrpar_table_sentences::ways::{Step, Ways};
+use std::alloc::{AllocError, Global};
+use std::marker::Model;
+
+/// What the examples of all conflicts of a table share.
+pub struct Examples<StorageT: StorageIndex> {
+    firsts: Vec<TokenSet>,
+    shortest: Shortest<StorageT>,
+    ways: Ways<StorageT>,
+    lens: Lens,
+    backs: Backs<StorageT>,
+}
+
+// A drop of its own, so that what lets go of one elsewhere proves one call.
+impl<StorageT: StorageIndex> Drop for Examples<StorageT> {
+    fn drop(self) {
+        let Examples {
+            firsts,
+            shortest,
+            ways,
+            lens,
+            backs,
+        } = self;
+        drop(firsts);
+        drop(shortest);
+        drop(ways);
+        drop(lens);
+        drop(backs);
+    }
+}
+
+impl<StorageT: StorageIndex> Model for Examples<StorageT> {
+    ghost use Rattle.lrpar_table_first.specs.FirstRows.{rows_of};
+    ghost use Rattle.lrpar_conflict_derivations.specs.Example.{ExamplesOf};
+
+    ghost Value = { ExamplesOf };
+
+    ghost view = { λ x. record { firsts = rows_of x.firsts.items; shortest = x.shortest; ways = x.ways } };
+}
+
+// The steps of a shortest way to a state, and the moves of shortest trees of its symbols.
+#[derive(Drop)]
+struct Front<StorageT> {
+    steps: Vec<Step<StorageT>>,
+    moves: Vec<Move<StorageT>>,
+}
+
+impl<StorageT: StorageIndex> Examples<StorageT> {
+    /// What examples of the conflicts of a table need that was built of the grammar.
+    ///
+    /// `Barren` names the first rule, by its number, that the grammar reaches from its start and that derives no text: with one there are
+    /// no examples. `Memory` comes where it doesn't suffice.
+    pub fn new(
+        alloc: Global,
+        grm: &YaccGrammar<StorageT>,
+        sgraph: &StateGraph<StorageT>,
+        stable: &StateTable<StorageT>,
+    ) -> Result<Self, ExampleFault<StorageT>>
+        requires built { IsBuilt grm.now sgraph.now stable.now }
+        ensures made { IfOk result (AreExamplesFor grm.now sgraph.now stable.now usize.MAX) }
+        ensures refused { IfErr result (IsExampleFault StorageT.index grm.now) }
+    {
+        let firsts = first_sets(alloc, grm)?;
+        let shortest = fertile(alloc, grm)?;
+        let ways = Ways::new(alloc, grm, sgraph, stable, &shortest)?;
+        let lens = Lens::new(alloc, grm, &shortest)?;
+        let backs = Backs::new(alloc, stable)?;
+        Ok(Examples {
+            firsts,
+            shortest,
+            ways,
+            lens,
+            backs,
+        })
+    }
+
+    /// The example of a conflict between two reductions, as token, productions and state: one reading makes the node of the first
+    /// production, the other that of the second.
+    ///
+    /// If the trees' texts differ, it looks for one text that has both readings, on any way to the state, shortest texts first, and gives
+    /// these in place of the others if it finds some. It tries at most `bound` pairs of readings and beginnings of ways; with a bound of 0 it
+    /// doesn't look. An `Err` comes where memory doesn't suffice.
+    pub fn of_reduce_reduce(
+        &self,
+        alloc: Global,
+        grm: &YaccGrammar<StorageT>,
+        sgraph: &StateGraph<StorageT>,
+        stable: &StateTable<StorageT>,
+        conflict: &(
+            TIdx<StorageT>,
+            PIdx<StorageT>,
+            PIdx<StorageT>,
+            StIdx<StorageT>,
+        ),
+        bound: usize,
+    ) -> Result<Example<StorageT>, AllocError>
+        requires built { IsBuilt grm.now sgraph.now stable.now }
+        requires made { AreExamplesFor grm.now sgraph.now stable.now usize.MAX self.now }
+        requires member { Contains (lists_in stable.now.conflicts).reduce_reduce (reduce_reduce_of StorageT.index conflict.now) }
+        ensures example { IfOk result (λ x. IsExample grm.now sgraph.now (StorageT.index conflict.now.3.0) (StorageT.index conflict.now.0.0)
+            (Makes (StorageT.index conflict.now.1.0)) (Makes (StorageT.index conflict.now.2.0)) x) }
+        ensures bound { IfOk result (λ x. x.bound ≡ bound) }
+    {
+        let (token, one, other, state) = *conflict;
+        let front = self.front(alloc, grm, sgraph, stable, state)?;
+        let plain = self.reductions(alloc, grm, sgraph, stable, &front, conflict, bound)?;
+        let (one, other) = (Move::Make(one), Move::Make(other));
+        self.with_one_text(
+            alloc, grm, sgraph, stable, &front, state, one, other, token, bound, plain,
+        )
+    }
+
+    /// The example of a conflict between a shift and a reduction, as token, production and state: one reading makes the node of the
+    /// production, the other takes the token. `bound` is that of `of_reduce_reduce`, and so is an `Err`.
+    pub fn of_shift_reduce(
+        &self,
+        alloc: Global,
+        grm: &YaccGrammar<StorageT>,
+        sgraph: &StateGraph<StorageT>,
+        stable: &StateTable<StorageT>,
+        conflict: &(TIdx<StorageT>, PIdx<StorageT>, StIdx<StorageT>),
+        bound: usize,
+    ) -> Result<Example<StorageT>, AllocError>
+        requires built { IsBuilt grm.now sgraph.now stable.now }
+        requires made { AreExamplesFor grm.now sgraph.now stable.now usize.MAX self.now }
+        requires member { Contains (lists_in stable.now.conflicts).shift_reduce (shift_reduce_of StorageT.index conflict.now) }
+        ensures example { IfOk result (λ x. IsExample grm.now sgraph.now (StorageT.index conflict.now.2.0) (StorageT.index conflict.now.0.0)
+            (Makes (StorageT.index conflict.now.1.0)) (Takes (StorageT.index conflict.now.0.0)) x) }
+        ensures bound { IfOk result (λ x. x.bound ≡ bound) }
+    {
+        let (token, prod, state) = *conflict;
+        let front = self.front(alloc, grm, sgraph, stable, state)?;
+        let plain = self.shift(alloc, grm, sgraph, stable, &front, conflict, bound)?;
+        let (one, other) = (Move::Make(prod), Move::Take(token));
+        self.with_one_text(
+            alloc, grm, sgraph, stable, &front, state, one, other, token, bound, plain,
+        )
+    }
+
+    // The same by a way to the state.
+    fn reductions(
+        &self,
+        alloc: Global,
+        grm: &YaccGrammar<StorageT>,
+        sgraph: &StateGraph<StorageT>,
+        stable: &StateTable<StorageT>,
+        front: &Front<StorageT>,
+        conflict: &(
+            TIdx<StorageT>,
+            PIdx<StorageT>,
+            PIdx<StorageT>,
+            StIdx<StorageT>,
+        ),
+        bound: usize,
+    ) -> Result<Example<StorageT>, AllocError>
+        requires built { IsBuilt grm.now sgraph.now stable.now }
+        requires made { AreExamplesFor grm.now sgraph.now stable.now usize.MAX self.now }
+        requires member { Contains (lists_in stable.now.conflicts).reduce_reduce (reduce_reduce_of StorageT.index conflict.now) }
+        requires front { IsShortestFront grm.now sgraph.now (StorageT.index conflict.now.3.0) (steps_of StorageT.index front.now.steps.items)
+            (moves_in StorageT.index front.now.moves.items) }
+        ensures example { IfOk result (λ x. IsExample grm.now sgraph.now (StorageT.index conflict.now.3.0) (StorageT.index conflict.now.0.0)
+            (Makes (StorageT.index conflict.now.1.0)) (Makes (StorageT.index conflict.now.2.0)) x) }
+        ensures bound { IfOk result (λ x. x.bound ≡ bound) }
+    {
+        let _start = grm.start_prod();
+        let (token, one, other, state) = *conflict;
+        let (firsts, shortest) = (&self.firsts, &self.shortest);
+        let first = making(
+            alloc,
+            grm,
+            firsts,
+            shortest,
+            sgraph,
+            &front.steps,
+            state,
+            &front.moves,
+            one,
+            token,
+        )?;
+        let second = making(
+            alloc,
+            grm,
+            firsts,
+            shortest,
+            sgraph,
+            &front.steps,
+            state,
+            &front.moves,
+            other,
+            token,
+        )?;
+        Example::new(alloc, &front.moves, first, second, true, bound)
+    }
+
+    // The same by a way to the state.
+    fn shift(
+        &self,
+        alloc: Global,
+        grm: &YaccGrammar<StorageT>,
+        sgraph: &StateGraph<StorageT>,
+        stable: &StateTable<StorageT>,
+        front: &Front<StorageT>,
+        conflict: &(TIdx<StorageT>, PIdx<StorageT>, StIdx<StorageT>),
+        bound: usize,
+    ) -> Result<Example<StorageT>, AllocError>
+        requires built { IsBuilt grm.now sgraph.now stable.now }
+        requires made { AreExamplesFor grm.now sgraph.now stable.now usize.MAX self.now }
+        requires member { Contains (lists_in stable.now.conflicts).shift_reduce (shift_reduce_of StorageT.index conflict.now) }
+        requires front { IsShortestFront grm.now sgraph.now (StorageT.index conflict.now.2.0) (steps_of StorageT.index front.now.steps.items)
+            (moves_in StorageT.index front.now.moves.items) }
+        ensures example { IfOk result (λ x. IsExample grm.now sgraph.now (StorageT.index conflict.now.2.0) (StorageT.index conflict.now.0.0)
+            (Makes (StorageT.index conflict.now.1.0)) (Takes (StorageT.index conflict.now.0.0)) x) }
+        ensures bound { IfOk result (λ x. x.bound ≡ bound) }
+    {
+        let _start = grm.start_prod();
+        let (token, prod, state) = *conflict;
+        let (firsts, shortest) = (&self.firsts, &self.shortest);
+        let first = making(
+            alloc,
+            grm,
+            firsts,
+            shortest,
+            sgraph,
+            &front.steps,
+            state,
+            &front.moves,
+            prod,
+            token,
+        )?;
+        let second = taking(
+            alloc,
+            grm,
+            firsts,
+            shortest,
+            sgraph,
+            &front.steps,
+            state,
+            &front.moves,
+            token,
+        )?;
+        Example::new(alloc, &front.moves, first, second, true, bound)
+    }
+
+    // A shortest way to the state, and shortest trees of its symbols.
+    fn front(
+        &self,
+        alloc: Global,
+        grm: &YaccGrammar<StorageT>,
+        sgraph: &StateGraph<StorageT>,
+        stable: &StateTable<StorageT>,
+        state: StIdx<StorageT>,
+    ) -> Result<Front<StorageT>, AllocError>
+        requires built { IsBuilt grm.now sgraph.now stable.now }
+        requires made { AreExamplesFor grm.now sgraph.now stable.now usize.MAX self.now }
+        requires state { StorageT.index state.0 < graph_len sgraph.now }
+        ensures { IfOk result (λ front. IsShortestFront grm.now sgraph.now (StorageT.index state.0) (steps_of StorageT.index front.steps.items)
+            (moves_in StorageT.index front.moves.items)) }
+    {
+        let _start = grm.start_prod();
+        let _states = stable.states_len();
+        let mut steps = Vec::new(alloc);
+        self.ways.push_path(&mut steps, state)?;
+        let symbols = symbols_of(alloc, &steps)?;
+        let mut moves = Vec::new(alloc);
+        self.shortest
+            .push_all_moves(alloc, &mut moves, grm, &symbols)?;
+        let _moves = moves.as_slice();
+        let _len = moves.len();
+        Ok(Front { steps, moves })
+    }
+
+    // The example of readings of one text that begin so, if one is found within the bound; else the plain one.
+    fn with_one_text(
+        &self,
+        alloc: Global,
+        grm: &YaccGrammar<StorageT>,
+        sgraph: &StateGraph<StorageT>,
+        stable: &StateTable<StorageT>,
+        front: &Front<StorageT>,
+        state: StIdx<StorageT>,
+        one: Move<StorageT>,
+        other: Move<StorageT>,
+        token: TIdx<StorageT>,
+        bound: usize,
+        plain: Example<StorageT>,
+    ) -> Result<Example<StorageT>, AllocError>
+        requires built { IsBuilt grm.now sgraph.now stable.now }
+        requires made { AreExamplesFor grm.now sgraph.now stable.now usize.MAX self.now }
+        requires apart { move_of StorageT.index one ≢ move_of StorageT.index other }
+        requires front { IsShortestFront grm.now sgraph.now (StorageT.index state.0) (steps_of StorageT.index front.now.steps.items)
+            (moves_in StorageT.index front.now.moves.items) }
+        requires plain { IsExample grm.now sgraph.now (StorageT.index state.0) (StorageT.index token.0) (move_of StorageT.index one) (move_of StorageT.index other) plain }
+        requires bound { plain.bound ≡ bound }
+        ensures example { IfOk result (IsExample grm.now sgraph.now (StorageT.index state.0) (StorageT.index token.0) (move_of StorageT.index one) (move_of StorageT.index other)) }
+        ensures bound { IfOk result (λ x. x.bound ≡ bound) }
+    {
+        if bound == 0 || plain.is_ambiguous() {
+            return Ok(plain);
+        }
+        match self.one_text(
+            alloc, grm, sgraph, stable, front, state, one, other, token, bound,
+        )? {
+            Some(found) => Ok(found),
+            None => Ok(plain),
+        }
+    }
+
+    // The example of readings of one text that begin so, if one is found within the bound.
+    fn one_text(
+        &self,
+        alloc: Global,
+        grm: &YaccGrammar<StorageT>,
+        sgraph: &StateGraph<StorageT>,
+        stable: &StateTable<StorageT>,
+        front: &Front<StorageT>,
+        state: StIdx<StorageT>,
+        one: Move<StorageT>,
+        other: Move<StorageT>,
+        token: TIdx<StorageT>,
+        bound: usize,
+    ) -> Result<Option<Example<StorageT>>, AllocError>
+        requires built { IsBuilt grm.now sgraph.now stable.now }
+        requires made { AreExamplesFor grm.now sgraph.now stable.now usize.MAX self.now }
+        requires apart { move_of StorageT.index one ≢ move_of StorageT.index other }
+        requires front { IsShortestFront grm.now sgraph.now (StorageT.index state.0) (steps_of StorageT.index front.now.steps.items)
+            (moves_in StorageT.index front.now.moves.items) }
+        ensures example { IfOk result (λ found. IfSome found (IsExample grm.now sgraph.now (StorageT.index state.0) (StorageT.index token.0)
+            (move_of StorageT.index one) (move_of StorageT.index other))) }
+        ensures bound { IfOk result (λ found. IfSome found (λ x. x.bound ≡ bound)) }
+    {
+        let given = Given {
+            grm,
+            graph: sgraph,
+            table: stable,
+            shortest: &self.shortest,
+            ways: &self.ways,
+            lens: &self.lens,
+            backs: &self.backs,
+        };
+        let clash = Clash {
+            state,
+            token,
+            one,
+            other,
+        };
+        match unify(alloc, &given, &clash, bound)? {
+            None => Ok(None),
+            Some(text) => believed(
+                alloc,
+                grm,
+                sgraph,
+                stable,
+                &self.shortest,
+                &front.moves,
+                state,
+                one,
+                other,
+                token,
+                &text,
+                bound,
+            ),
+        }
+    }
+}
+
+// The shortest texts of the grammar's rules, if each rule that is reached derives some text.
+fn fertile<StorageT: StorageIndex>(
+    alloc: Global,
+    grm: &YaccGrammar<StorageT>,
+) -> Result<Shortest<StorageT>, ExampleFault<StorageT>>
+    ensures shortest { IfOk result (AreShortest grm.now usize.MAX) }
+    ensures each { IfOk result (λ _. EachReachedHasTree grm.now) }
+    ensures refused { IfErr result (IsExampleFault StorageT.index grm.now) }
+{
+    let shortest = Shortest::new(alloc, grm)?;
+    match shortest.barren(alloc, grm)? {
+        Some(rule) => Err(ExampleFault::Barren(rule)),
+        None => Ok(shortest),
+    }
+}

@@ -1,0 +1,115 @@
+//! Whether moves are those of a tree: they are replayed over a stack of symbols.
+ghost use Rattle.std.specs.Prelude.{◌≡◌, ◌<◌, ◌∷◌, [], IfOk, IsTrue, length, map};
+ghost use Rattle.lrpar_grammar.specs.Grammar.{prods_len};
+ghost use Rattle.lrpar_grammar.specs.Symbols.{symbol_of};
+ghost use Rattle.lrpar_table_sentences.specs.Moves.{Makes, move_of, moves_in};
+ghost use Rattle.lrpar_conflict_derivations.specs.Replay.{AreOfTree, Replays};
+
+use lrpar_grammar::grammar::YaccGrammar;
+use lrpar_grammar::span::{PIdx, StorageIndex, Symbol};
+use lrpar_table_sentences::moves::Move;
+use std::alloc::{AllocError, Global};
+
+/// Whether the moves are those of a tree of the start rule. Only so much is promised of a yes.
+pub(crate) fn are_of_tree<StorageT: StorageIndex>(
+    alloc: Global,
+    grm: &YaccGrammar<StorageT>,
+    moves: &[Move<StorageT>],
+) -> Result<bool, AllocError>
+    ensures { IfOk result (λ are. IsTrue are → AreOfTree grm.now (moves_in StorageT.index moves.now)) }
+{
+    let mut stack = Vec::new(alloc);
+    for step in moves {
+        if !replay(grm, *step, &mut stack)? {
+            return Ok(false);
+        }
+    }
+    let start = Symbol::Rule(grm.start_rule_idx());
+    Ok(is_alone(&stack, start))
+}
+
+// Whether the symbols are this one.
+fn is_alone<StorageT: StorageIndex>(symbols: &[Symbol<StorageT>], symbol: Symbol<StorageT>) -> bool
+    ensures { IsTrue result → map (symbol_of StorageT.index) symbols.now ≡ symbol_of StorageT.index symbol ∷ [] }
+{
+    if symbols.len() != 1 {
+        return false;
+    }
+    is_same(symbols[0], symbol)
+}
+
+// Replays a move, if that can be.
+fn replay<StorageT: StorageIndex>(
+    grm: &YaccGrammar<StorageT>,
+    step: Move<StorageT>,
+    stack: &mut Vec<Symbol<StorageT>>,
+) -> Result<bool, AllocError>
+    ensures { IfOk result (λ can. IsTrue can → Replays grm.now (move_of StorageT.index step) (map (symbol_of StorageT.index) stack.old.items)
+        (map (symbol_of StorageT.index) stack.new.items)) }
+{
+    match step {
+        Move::Take(token) => {
+            stack.push(Symbol::Token(token))?;
+            Ok(true)
+        }
+        Move::Make(prod) => {
+            if usize::from(prod) < grm.prods_len() {
+                make(grm, prod, stack)
+            } else {
+                Ok(false)
+            }
+        }
+    }
+}
+
+// Puts the production's rule in place of its symbols, if these are on top.
+fn make<StorageT: StorageIndex>(
+    grm: &YaccGrammar<StorageT>,
+    prod: PIdx<StorageT>,
+    stack: &mut Vec<Symbol<StorageT>>,
+) -> Result<bool, AllocError>
+    requires { StorageT.index prod.0 < prods_len grm.now }
+    ensures { IfOk result (λ can. IsTrue can → Replays grm.now (Makes (StorageT.index prod.0)) (map (symbol_of StorageT.index) stack.old.items)
+        (map (symbol_of StorageT.index) stack.new.items)) }
+{
+    let symbols = grm.prod(prod);
+    if stack.len() < symbols.len() {
+        return Ok(false);
+    }
+    let from = stack.len() - symbols.len();
+    if !are_same(&stack[from..], symbols) {
+        return Ok(false);
+    }
+    stack.truncate(from);
+    stack.push(Symbol::Rule(grm.prod_to_rule(prod)))?;
+    Ok(true)
+}
+
+// Whether the symbols, of which there are as many, are the same.
+fn are_same<StorageT: StorageIndex>(one: &[Symbol<StorageT>], other: &[Symbol<StorageT>]) -> bool
+    requires { length one.now ≡ length other.now }
+    ensures { IsTrue result → map (symbol_of StorageT.index) one.now ≡ map (symbol_of StorageT.index) other.now }
+{
+    for place in 0..one.len() {
+        if !is_same(one[place], other[place]) {
+            return false;
+        }
+    }
+    true
+}
+
+// Whether the symbols are the same.
+fn is_same<StorageT: StorageIndex>(one: Symbol<StorageT>, other: Symbol<StorageT>) -> bool
+    ensures { IsTrue result → symbol_of StorageT.index one ≡ symbol_of StorageT.index other }
+{
+    match one {
+        Symbol::Token(own) => match other {
+            Symbol::Token(token) => usize::from(own) == usize::from(token),
+            Symbol::Rule(_) => false,
+        },
+        Symbol::Rule(own) => match other {
+            Symbol::Token(_) => false,
+            Symbol::Rule(rule) => usize::from(own) == usize::from(rule),
+        },
+    }
+}

@@ -1,0 +1,78 @@
+-- What trees of a grammar's symbols name is of the grammar.
+use Rattle.std.proofs.Common.{◌≡◌, ◌<◌, ◌∙◌, refl, sym, ap, subst, arith, inl, inr, ℕ, suc, List, [], ◌∷◌, ◌++◌}
+use Rattle.std.specs.List.{All, AllByRecursion}
+use Rattle.std.proofs.lemmas.Bool.{cases_lt}
+use Rattle.std.proofs.lemmas.List.{append-nil}
+use Rattle.lrpar_grammar.specs.Grammar.{Grammar, GrammarSymbol, IsListedSymbol, IsWellFormed, Nonterminal, Terminal, end_token, prods_len, rules_len, start_prod, symbols_of, tokens_len}
+use Rattle.lrpar_grammar.specs.Tree.{Forest, Tree, Branch, Cons, Leaf, Nil, forest_leaves, leaves}
+use Rattle.lrpar_table_sentences.specs.Moves.{MoveOf, Makes, Takes, forest_moves, moves_of}
+use Rattle.lrpar_table_sentences.specs.Texts.{AreTreesOf, IsTreeOf}
+use Rattle.lrpar_conflict_derivations.specs.Texts.{takes_in}
+use Rattle.lrpar_conflict_examples.specs.Fits.{AreTokensOf, IsSymbolOf}
+
+-- what holds of two lists holds of both together, and the other way round
+pub all_both : {A : Type 0} (P : A → Type 0) (xs ys : List A) → AllByRecursion P xs → AllByRecursion P ys → AllByRecursion P (xs ++ ys)
+all_both P [] ys one other = other
+all_both P (x ∷ xs) ys one other = (one.0, all_both P xs ys one.1 other)
+
+pub all_front : {A : Type 0} (P : A → Type 0) (xs ys : List A) → AllByRecursion P (xs ++ ys) → AllByRecursion P xs
+all_front P [] ys both = tt
+all_front P (x ∷ xs) ys both = (both.0, all_front P xs ys both.1)
+
+pub all_back : {A : Type 0} (P : A → Type 0) (xs ys : List A) → AllByRecursion P (xs ++ ys) → AllByRecursion P ys
+all_back P [] ys both = both
+all_back P (x ∷ xs) ys both = all_back P xs ys both.1
+
+-- a listed symbol is one of the grammar
+listed : (g : Grammar) (s : GrammarSymbol) → IsListedSymbol (rules_len g) (end_token g) s → IsSymbolOf g s
+listed g (Nonterminal r) is = is.1
+listed g (Terminal t) is = omega (arith, is)
+
+all_listed : (g : Grammar) (symbols : List GrammarSymbol) → All (IsListedSymbol (rules_len g) (end_token g)) symbols → AllByRecursion (IsSymbolOf g) symbols
+all_listed g [] all = tt
+all_listed g (s ∷ symbols) all = (listed g s (all 0 s (omega arith)), all_listed g symbols (λ k d h. all (suc k) d (omega (arith, h))))
+
+-- and so is each symbol of a production
+pub symbols_known : (g : Grammar) → IsWellFormed g → (p : ℕ) → p < prods_len g → AllByRecursion (IsSymbolOf g) (symbols_of g p)
+symbols_known g well p known =
+    elim (cases_lt p (start_prod g)) as (λ _. AllByRecursion (IsSymbolOf g) (symbols_of g p)) [
+      | inl own ↦ all_listed g (symbols_of g p) (well.symbols p own)
+      | inr last ↦
+          let is : p ≡ start_prod g = omega (arith, known, last) in
+          let symbols : symbols_of g p ≡ Nonterminal g.start ∷ [] = ap (symbols_of g) is ∙ well.last_symbols in
+          subst (AllByRecursion (IsSymbolOf g)) (sym symbols) (well.start_within, tt)
+    ]
+
+-- the tokens of trees of such symbols are the grammar's
+module _ (g : Grammar) (well : IsWellFormed g) where
+  mutual
+    pub leaves_known : (tree : Tree ℕ) (s : GrammarSymbol) → IsTreeOf g s tree → IsSymbolOf g s → AreTokensOf g (leaves tree)
+    leaves_known (Leaf x) (Terminal t) fits known = (subst (λ n. n < tokens_len g) (sym fits) known, tt)
+    leaves_known (Leaf x) (Nonterminal r) fits known = absurd fits
+    leaves_known (Branch p children) (Terminal t) fits known = absurd fits
+    leaves_known (Branch p children) (Nonterminal r) fits known = all_leaves_known children (symbols_of g p) fits.2 (symbols_known g well p fits.0)
+
+    pub all_leaves_known : (trees : Forest ℕ) (symbols : List GrammarSymbol) → AreTreesOf g symbols trees → AllByRecursion (IsSymbolOf g) symbols
+        → AreTokensOf g (forest_leaves trees)
+    all_leaves_known Nil symbols fit known = tt
+    all_leaves_known (Cons t ts) [] fit known = absurd fit
+    all_leaves_known (Cons t ts) (s ∷ ss) fit known =
+        all_both (λ x. x < tokens_len g) (leaves t) (forest_leaves ts) (leaves_known t s fit.0 known.0) (all_leaves_known ts ss fit.1 known.1)
+
+-- the moves of a tree take its leaves
+takes-append : (moves more : List MoveOf) → takes_in (moves ++ more) ≡ takes_in moves ++ takes_in more
+takes-append [] more = refl
+takes-append (Takes t ∷ moves) more = ap (λ ts. t ∷ ts) (takes-append moves more)
+takes-append (Makes p ∷ moves) more = takes-append moves more
+
+mutual
+  pub takes_of_tree : (tree : Tree ℕ) → takes_in (moves_of tree) ≡ leaves tree
+  takes_of_tree (Leaf t) = refl
+  takes_of_tree (Branch p children) =
+      takes-append (forest_moves children) (Makes p ∷ []) ∙ append-nil (takes_in (forest_moves children)) ∙ takes_of_trees children
+
+  pub takes_of_trees : (trees : Forest ℕ) → takes_in (forest_moves trees) ≡ forest_leaves trees
+  takes_of_trees Nil = refl
+  takes_of_trees (Cons t ts) =
+      takes-append (moves_of t) (forest_moves ts) ∙ ap (λ xs. xs ++ takes_in (forest_moves ts)) (takes_of_tree t)
+      ∙ ap (λ xs. leaves t ++ xs) (takes_of_trees ts)

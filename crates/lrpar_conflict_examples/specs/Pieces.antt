@@ -1,0 +1,33 @@
+-- The pieces of the text of a tree, from right to left.
+use Rattle.std.specs.Prelude.{◌≡◌, ◌<◌, ℕ, List, [], ◌∷◌, ◌++◌, codes, replicate}
+use Rattle.lrpar_grammar.specs.Grammar.{Grammar, prod_len, prods_len, tokens_len}
+use Rattle.lrpar_table_sentences.specs.declared.moves.Move.{Move}
+use Rattle.lrpar_table_sentences.specs.declared.moves.Move.TheVariants.{Make, Take}
+use Rattle.lrpar_conflict_examples.specs.Words.{front_text, word_text}
+use Rattle.lrpar_conflict_examples.specs.declared.pieces.Piece.{Piece}
+use Rattle.lrpar_conflict_examples.specs.declared.pieces.Piece.TheVariants.{End, Front, Word}
+use Rattle.lrpar_conflict_examples.specs.declared.pieces.Waiting.{Waiting}
+use Rattle.lrpar_conflict_examples.specs.declared.pieces.Waiting.TheVariants.{Before, Tree}
+
+-- a piece is of the grammar
+abbrev pub PieceFits : {S : Type 0} → (S → ℕ) → Grammar → Piece S → Type 0
+PieceFits index g (Word t) = index t.0 < tokens_len g
+PieceFits index g (Front p) = index p.0 < prods_len g
+PieceFits index g End = Unit {0}
+
+-- its text
+abbrev pub piece_text : {S : Type 0} → (S → ℕ) → Grammar → Piece S → List ℕ
+piece_text index g (Word t) = word_text g (index t.0)
+piece_text index g (Front p) = front_text g (index p.0)
+piece_text index g End = codes " ]"
+
+-- the text of pieces that are listed from right to left
+abbrev pub backward_text : {S : Type 0} → (S → ℕ) → Grammar → List (Piece S) → List ℕ
+backward_text index g [] = []
+backward_text index g (x ∷ xs) = backward_text index g xs ++ piece_text index g x
+
+-- a tree is met whose last move is this one: a token is all of it; of a node the end is, and its trees wait, and in front of them its front
+abbrev pub Meets : {S : Type 0} → (S → ℕ) → Grammar → Move S → List (Piece S) → List (Piece S) → List (Waiting S) → List (Waiting S) → Type 0
+Meets index g (Take t) old new waits waiting = (new ≡ old ++ Word t ∷ []) × (waiting ≡ waits)
+Meets index g (Make p) old new waits waiting =
+    (new ≡ old ++ End ∷ []) × (waiting ≡ (waits ++ Before p ∷ []) ++ replicate (prod_len g (index p.0)) Tree)

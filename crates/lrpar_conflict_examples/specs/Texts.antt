@@ -1,0 +1,44 @@
+-- The texts of examples.
+use Rattle.std.specs.Prelude.{◌≡◌, ℕ, List, [], ◌∷◌, ◌++◌, codes, if◌then◌else◌}
+use Rattle.std.specs.Fmt.{decimal}
+use Rattle.lrpar_grammar.specs.Grammar.{Grammar}
+use Rattle.lrpar_grammar.specs.Tree.{Tree, leaves}
+use Rattle.lrpar_conflict_derivations.specs.Example.{ExampleOf}
+use Rattle.lrpar_conflict_examples.specs.Conflicts.{ConflictExampleOf}
+use Rattle.lrpar_conflict_examples.specs.Fits.{AreMovesOf}
+use Rattle.lrpar_conflict_examples.specs.Words.{reading_text, shown_name, text_line}
+
+-- that the readings have two texts, and how far one for both was looked for
+abbrev pub bound_text : ℕ → List ℕ
+bound_text bound = codes "two texts; one for both not found within " ++ decimal bound
+
+-- how many texts the readings have
+abbrev pub count_text : ExampleOf → List ℕ
+count_text x = if x.ambiguous then codes "one text, two readings" else bound_text x.bound
+
+-- the first line
+abbrev pub title_text : Grammar → ConflictExampleOf → List ℕ
+title_text g x = codes "'" ++ shown_name g x.conflict.token ++ codes "' in state " ++ decimal x.conflict.state ++ codes ": " ++ count_text x.example ++ 10 ∷ []
+
+-- the line of the second reading's text, where it isn't that of the first one
+abbrev pub other_line : Grammar → ExampleOf → List ℕ → List ℕ
+other_line g x text = if x.ambiguous then [] else text_line g x.before text
+
+-- an example whose readings are those of these trees
+abbrev pub example_text : Grammar → ConflictExampleOf → Tree ℕ → Tree ℕ → List ℕ
+example_text g x first second =
+    title_text g x ++ text_line g x.example.before (leaves first) ++ reading_text g x.conflict.first first
+    ++ other_line g x.example (leaves second) ++ reading_text g x.conflict.second second ++ 10 ∷ []
+
+-- the text of an example: that of the trees whose moves its readings are
+pub record IsExampleText (g : Grammar) (x : ConflictExampleOf) (text : List ℕ) : Type 0 where
+  pub first : Tree ℕ
+  pub of_first : AreMovesOf g x.example.first first
+  pub second : Tree ℕ
+  pub of_second : AreMovesOf g x.example.second second
+  pub is : text ≡ example_text g x first second
+
+-- the texts of examples, one behind the other
+abbrev pub AreExampleTexts : Grammar → List ConflictExampleOf → List ℕ → Type 0
+AreExampleTexts g [] text = text ≡ []
+AreExampleTexts g (x ∷ xs) text = (own : List ℕ) × (others : List ℕ) × IsExampleText g x own × AreExampleTexts g xs others × (text ≡ own ++ others)

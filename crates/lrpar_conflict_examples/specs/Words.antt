@@ -1,0 +1,56 @@
+-- The texts of tokens, symbols, moves and trees.
+use Rattle.std.specs.Prelude.{ℕ, List, [], ◌∷◌, ◌++◌, codes, drop, length, unwrap_or}
+use Rattle.std.specs.List.{flat_map}
+use Rattle.lrpar_grammar.specs.Grammar.{Grammar, GrammarSymbol, Nonterminal, Terminal, rule_name, rule_of, symbols_of, token_name}
+use Rattle.lrpar_grammar.specs.Tree.{Forest, Tree, Branch, Cons, Leaf, Nil}
+use Rattle.lrpar_table_sentences.specs.Moves.{MoveOf, Makes, Takes}
+
+-- a token as conflicts name it: by its name, and the end token by `$`
+abbrev pub shown_name : Grammar → ℕ → List ℕ
+shown_name g t = unwrap_or (token_name g t) (codes "$")
+
+-- tokens, each behind a space
+abbrev pub word_text : Grammar → ℕ → List ℕ
+word_text g t = 32 ∷ shown_name g t
+
+abbrev pub words_text : Grammar → List ℕ → List ℕ
+words_text g tokens = flat_map (word_text g) tokens
+
+-- the front of a node: ` S[`
+abbrev pub front_text : Grammar → ℕ → List ℕ
+front_text g p = 32 ∷ (rule_name g (rule_of g p) ++ 91 ∷ [])
+
+-- a tree, and a list of trees: a token is a word, and a node has its rule in front of its trees, which stand in brackets
+abbrev mutual
+  pub tree_text : Grammar → Tree ℕ → List ℕ
+  tree_text g (Leaf t) = word_text g t
+  tree_text g (Branch p children) = front_text g p ++ (forest_text g children ++ codes " ]")
+
+  pub forest_text : Grammar → Forest ℕ → List ℕ
+  forest_text g Nil = []
+  forest_text g (Cons t ts) = tree_text g t ++ forest_text g ts
+
+-- a symbol of a production, behind a space: a rule by its name, and a token by its name in quotes
+abbrev pub symbol_text : Grammar → GrammarSymbol → List ℕ
+symbol_text g (Nonterminal r) = 32 ∷ rule_name g r
+symbol_text g (Terminal t) = codes " '" ++ shown_name g t ++ codes "'"
+
+-- the node of a production is made: `make S: 'i' S`
+abbrev pub make_text : Grammar → ℕ → List ℕ
+make_text g p = codes "make " ++ rule_name g (rule_of g p) ++ codes ":" ++ flat_map (symbol_text g) (symbols_of g p)
+
+-- what a move does: that, or `take 'e'`
+abbrev pub move_text : Grammar → MoveOf → List ℕ
+move_text g (Takes t) = codes "take '" ++ shown_name g t ++ codes "'"
+move_text g (Makes p) = make_text g p
+
+-- the line of a text, with a dot between what stands in front of the conflict and the rest
+abbrev pub line_text : Grammar → List ℕ → List ℕ → List ℕ
+line_text g before rest = codes " " ++ words_text g before ++ codes " ." ++ words_text g rest ++ 10 ∷ []
+
+abbrev pub text_line : Grammar → List ℕ → List ℕ → List ℕ
+text_line g before text = line_text g before (drop (length before) text)
+
+-- the two lines of a reading: the move by which it goes on, and its tree
+abbrev pub reading_text : Grammar → MoveOf → Tree ℕ → List ℕ
+reading_text g next tree = codes "  " ++ move_text g next ++ codes "\n   " ++ tree_text g tree ++ 10 ∷ []

@@ -1,0 +1,105 @@
+//! A conflict with its example.
+ghost use Rattle.std.specs.Prelude.{◌≡◌};
+ghost use Rattle.lrpar_table_rows.specs.PlainConflicts.{reduce_reduce_of, shift_reduce_of};
+ghost use Rattle.lrpar_table_sentences.specs.Moves.{move_of};
+ghost use Rattle.lrpar_conflict_examples.specs.Conflicts.{of_reductions, of_shift};
+
+use lrpar_conflict_derivations::examples::Example;
+use lrpar_grammar::span::{PIdx, StIdx, StorageIndex, TIdx};
+use lrpar_table_sentences::moves::Move;
+use std::marker::Model;
+
+/// A conflict of a table, with its example.
+#[derive(Debug, Drop)]
+pub struct ConflictExample<StorageT: StorageIndex> {
+    token: TIdx<StorageT>,
+    state: StIdx<StorageT>,
+    first: Move<StorageT>,
+    second: Move<StorageT>,
+    example: Example<StorageT>,
+}
+
+impl<StorageT: StorageIndex> Model for ConflictExample<StorageT> {
+    ghost use Rattle.lrpar_table_sentences.specs.Moves.{move_of};
+    ghost use Rattle.lrpar_conflict_examples.specs.Conflicts.{ConflictExampleOf};
+
+    ghost Value = { ConflictExampleOf };
+
+    ghost view = { λ x. record { conflict = record { token = StorageT.index x.token.0; state = StorageT.index x.state.0; first = move_of StorageT.index x.first; second = move_of StorageT.index x.second }; example = x.example } };
+}
+
+impl<StorageT: StorageIndex> ConflictExample<StorageT> {
+    // A conflict between two reductions.
+    pub(crate) fn of_reductions(
+        conflict: &(
+            TIdx<StorageT>,
+            PIdx<StorageT>,
+            PIdx<StorageT>,
+            StIdx<StorageT>,
+        ),
+        example: Example<StorageT>,
+    ) -> Self
+        ensures { result ≡ record { conflict = of_reductions (reduce_reduce_of StorageT.index conflict.now); example = example } }
+    {
+        let (token, first, second, state) = *conflict;
+        ConflictExample {
+            token,
+            state,
+            first: Move::Make(first),
+            second: Move::Make(second),
+            example,
+        }
+    }
+
+    // A conflict between a reduction and a shift.
+    pub(crate) fn of_shift(
+        conflict: &(TIdx<StorageT>, PIdx<StorageT>, StIdx<StorageT>),
+        example: Example<StorageT>,
+    ) -> Self
+        ensures { result ≡ record { conflict = of_shift (shift_reduce_of StorageT.index conflict.now); example = example } }
+    {
+        let (token, prod, state) = *conflict;
+        ConflictExample {
+            token,
+            state,
+            first: Move::Make(prod),
+            second: Move::Take(token),
+            example,
+        }
+    }
+
+    /// The token at which the state has the conflict.
+    pub fn token(&self) -> TIdx<StorageT>
+        ensures { StorageT.index result.0 ≡ self.now.conflict.token }
+    {
+        self.token
+    }
+
+    /// The state that has the conflict.
+    pub fn state(&self) -> StIdx<StorageT>
+        ensures { StorageT.index result.0 ≡ self.now.conflict.state }
+    {
+        self.state
+    }
+
+    /// The move by which the first reading goes on: it makes the node of the conflict's production, or of the first one.
+    pub fn first(&self) -> Move<StorageT>
+        ensures { move_of StorageT.index result ≡ self.now.conflict.first }
+    {
+        self.first
+    }
+
+    /// The move by which the second reading goes on: it takes the token, or makes the node of the second production.
+    pub fn second(&self) -> Move<StorageT>
+        ensures { move_of StorageT.index result ≡ self.now.conflict.second }
+    {
+        self.second
+    }
+
+    /// The example.
+    pub fn example(&self) -> &Example<StorageT>
+        ensures { result.now ≡ self.now.example }
+    {
+        &self.example
+    }
+}

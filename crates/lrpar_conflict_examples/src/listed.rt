@@ -1,0 +1,133 @@
+//! Examples of all conflicts of a table.
+ghost use Rattle.std.specs.Prelude.{◌≡◌, IfErr, IfOk, OnOk, map};
+ghost use Rattle.lrpar_table_build.specs.Built.{IsBuilt};
+ghost use Rattle.lrpar_table_build.specs.BuilderLaws.{lists_in};
+ghost use Rattle.lrpar_table_rows.specs.PlainConflicts.{reduce_reduce_of, shift_reduce_of};
+ghost use Rattle.lrpar_conflict_derivations.specs.Example.{AreExamplesFor, IsExampleFault};
+ghost use Rattle.lrpar_conflict_examples.specs.Conflicts.{AddsExamples, AreExamplesOf, conflicts_in, of_reductions, of_shift};
+ghost use Rattle.lrpar_conflict_examples.specs.ExamplesFit.{ExamplesFit};
+
+use crate::conflict::ConflictExample;
+use lrpar_conflict_derivations::examples::{ExampleFault, Examples};
+use lrpar_grammar::grammar::YaccGrammar;
+use lrpar_grammar::span::{PIdx, StIdx, StorageIndex, TIdx};
+use lrpar_table_rows::table::{Conflicts, StateGraph, StateTable};
+use std::alloc::{AllocError, Global};
+
+/// An example of each conflict of a table that was built of the grammar: of those between two reductions first, and each in the order in
+/// which it is listed. Where it has no conflicts, there are none.
+///
+/// `bound` is that of `Examples::of_reduce_reduce`: how far one text for both readings is looked for, in each conflict; with 0 it isn't, and
+/// with 1,000 it takes less time than the table took in the grammars that were measured. Each example tells it.
+/// `Barren` comes, as from `Examples::new`, where a rule that the grammar reaches from its start derives no text, and `Memory` where it
+/// doesn't suffice.
+pub fn conflict_examples<StorageT: StorageIndex>(
+    alloc: Global,
+    grm: &YaccGrammar<StorageT>,
+    sgraph: &StateGraph<StorageT>,
+    stable: &StateTable<StorageT>,
+    bound: usize,
+) -> Result<Vec<ConflictExample<StorageT>>, ExampleFault<StorageT>>
+    requires built { IsBuilt grm.now sgraph.now stable.now }
+    ensures examples { IfOk result (λ examples. AreExamplesOf grm.now sgraph.now bound (conflicts_in (lists_in stable.now.conflicts)) examples.items) }
+    ensures fit { IfOk result (λ examples. ExamplesFit grm.now examples.items) }
+    ensures refused { IfErr result (IsExampleFault StorageT.index grm.now) }
+{
+    match stable.conflicts() {
+        Some(conflicts) => examples_of(alloc, grm, sgraph, stable, conflicts, bound),
+        None => Ok(Vec::new(alloc)),
+    }
+}
+
+// An example of each of the conflicts of the table.
+fn examples_of<StorageT: StorageIndex>(
+    alloc: Global,
+    grm: &YaccGrammar<StorageT>,
+    sgraph: &StateGraph<StorageT>,
+    stable: &StateTable<StorageT>,
+    conflicts: &Conflicts<StorageT>,
+    bound: usize,
+) -> Result<Vec<ConflictExample<StorageT>>, ExampleFault<StorageT>>
+    requires built { IsBuilt grm.now sgraph.now stable.now }
+    requires conflicts { conflicts.now ≡ lists_in stable.now.conflicts }
+    ensures examples { IfOk result (λ examples. AreExamplesOf grm.now sgraph.now bound (conflicts_in (lists_in stable.now.conflicts)) examples.items) }
+    ensures fit { IfOk result (λ examples. ExamplesFit grm.now examples.items) }
+    ensures refused { IfErr result (IsExampleFault StorageT.index grm.now) }
+{
+    let shared = Examples::new(alloc, grm, sgraph, stable)?;
+    let mut examples = Vec::new(alloc);
+    push_reductions(
+        alloc,
+        grm,
+        sgraph,
+        stable,
+        &shared,
+        conflicts.rr_conflicts(),
+        bound,
+        &mut examples,
+    )?;
+    push_shifts(
+        alloc,
+        grm,
+        sgraph,
+        stable,
+        &shared,
+        conflicts.sr_conflicts(),
+        bound,
+        &mut examples,
+    )?;
+    Ok(examples)
+}
+
+// Adds an example of each of these conflicts between two reductions.
+fn push_reductions<StorageT: StorageIndex>(
+    alloc: Global,
+    grm: &YaccGrammar<StorageT>,
+    sgraph: &StateGraph<StorageT>,
+    stable: &StateTable<StorageT>,
+    shared: &Examples<StorageT>,
+    conflicts: &[(
+        TIdx<StorageT>,
+        PIdx<StorageT>,
+        PIdx<StorageT>,
+        StIdx<StorageT>,
+    )],
+    bound: usize,
+    examples: &mut Vec<ConflictExample<StorageT>>,
+) -> Result<(), AllocError>
+    requires built { IsBuilt grm.now sgraph.now stable.now }
+    requires shared { AreExamplesFor grm.now sgraph.now stable.now usize.MAX shared.now }
+    requires conflicts { map (reduce_reduce_of StorageT.index) conflicts.now ≡ (lists_in stable.now.conflicts).reduce_reduce }
+    ensures { OnOk result (AddsExamples grm.now sgraph.now bound (map of_reductions (map (reduce_reduce_of StorageT.index) conflicts.now))
+        examples.old.items examples.new.items) }
+{
+    for conflict in conflicts {
+        let example = shared.of_reduce_reduce(alloc, grm, sgraph, stable, conflict, bound)?;
+        examples.push(ConflictExample::of_reductions(conflict, example))?;
+    }
+    Ok(())
+}
+
+// Adds an example of each of these conflicts between a shift and a reduction.
+fn push_shifts<StorageT: StorageIndex>(
+    alloc: Global,
+    grm: &YaccGrammar<StorageT>,
+    sgraph: &StateGraph<StorageT>,
+    stable: &StateTable<StorageT>,
+    shared: &Examples<StorageT>,
+    conflicts: &[(TIdx<StorageT>, PIdx<StorageT>, StIdx<StorageT>)],
+    bound: usize,
+    examples: &mut Vec<ConflictExample<StorageT>>,
+) -> Result<(), AllocError>
+    requires built { IsBuilt grm.now sgraph.now stable.now }
+    requires shared { AreExamplesFor grm.now sgraph.now stable.now usize.MAX shared.now }
+    requires conflicts { map (shift_reduce_of StorageT.index) conflicts.now ≡ (lists_in stable.now.conflicts).shift_reduce }
+    ensures { OnOk result (AddsExamples grm.now sgraph.now bound (map of_shift (map (shift_reduce_of StorageT.index) conflicts.now))
+        examples.old.items examples.new.items) }
+{
+    for conflict in conflicts {
+        let example = shared.of_shift_reduce(alloc, grm, sgraph, stable, conflict, bound)?;
+        examples.push(ConflictExample::of_shift(conflict, example))?;
+    }
+    Ok(())
+}

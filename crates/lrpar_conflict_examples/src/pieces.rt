@@ -1,0 +1,145 @@
+//! The text of a tree that is told by its moves. They are read from the last one back: each node then comes in front of its trees, and of
+//! these the last one first. So the text's pieces come from right to left, and nothing recurs, however deep the tree is.
+ghost use Rattle.std.specs.Prelude.{◌≡◌, ◌<◌, ◌++◌, ℕ, All, IfOk, OnOk, replicate};
+ghost use Rattle.std.specs.String.{string_bytes};
+ghost use Rattle.lrpar_grammar.specs.Grammar.{prods_len};
+ghost use Rattle.lrpar_grammar.specs.Tree.{Tree};
+ghost use Rattle.lrpar_table_sentences.specs.Moves.{move_of, moves_in};
+ghost use Rattle.lrpar_conflict_examples.specs.Fits.{AreMovesOf, HasTree, IsMoveOf};
+ghost use Rattle.lrpar_conflict_examples.specs.Pieces.{Meets, PieceFits, backward_text, piece_text};
+ghost use Rattle.lrpar_conflict_examples.specs.Words.{front_text, tree_text};
+
+use crate::words::push_word;
+use lrpar_grammar::grammar::YaccGrammar;
+use lrpar_grammar::span::{PIdx, StorageIndex, TIdx};
+use lrpar_table_sentences::moves::Move;
+use std::alloc::{AllocError, Global};
+
+/// A piece of a tree's text.
+#[derive(Clone, Copy)]
+pub(crate) enum Piece<StorageT> {
+    /// A token.
+    Word(TIdx<StorageT>),
+    /// What stands in front of the trees of a node.
+    Front(PIdx<StorageT>),
+    /// What stands behind them.
+    End,
+}
+
+/// What is still to be met.
+#[derive(Clone, Copy)]
+pub(crate) enum Waiting<StorageT> {
+    /// A tree.
+    Tree,
+    /// What stands in front of the trees of a node.
+    Before(PIdx<StorageT>),
+}
+
+/// Adds the text of the tree that has these moves.
+pub(crate) fn push_tree<StorageT: StorageIndex>(
+    out: &mut String,
+    alloc: Global,
+    grm: &YaccGrammar<StorageT>,
+    moves: &[Move<StorageT>],
+) -> Result<(), AllocError>
+    requires { HasTree grm.now (moves_in StorageT.index moves.now) }
+    ensures { OnOk result ((tree : Tree ℕ) → AreMovesOf grm.now (moves_in StorageT.index moves.now) tree
+        → string_bytes out.new ≡ string_bytes out.old ++ tree_text grm.now tree) }
+{
+    let mut pieces = pieces_of(alloc, grm, moves)?;
+    while let Some(piece) = pieces.pop() {
+        push_piece(out, grm, piece)?;
+    }
+    Ok(())
+}
+
+// The pieces of the text of the tree that has these moves, from right to left.
+fn pieces_of<StorageT: StorageIndex>(
+    alloc: Global,
+    grm: &YaccGrammar<StorageT>,
+    moves: &[Move<StorageT>],
+) -> Result<Vec<Piece<StorageT>>, AllocError>
+    requires { HasTree grm.now (moves_in StorageT.index moves.now) }
+    ensures fit { IfOk result (λ pieces. All (PieceFits StorageT.index grm.now) pieces.items) }
+    ensures text { IfOk result (λ pieces. (tree : Tree ℕ) → AreMovesOf grm.now (moves_in StorageT.index moves.now) tree
+        → backward_text StorageT.index grm.now pieces.items ≡ tree_text grm.now tree) }
+{
+    let _start = grm.start_prod();
+    let mut pieces = Vec::new(alloc);
+    let mut waiting = Vec::new(alloc);
+    waiting.push(Waiting::Tree)?;
+    let mut left = moves.len();
+    'nodes: while let Some(next) = waiting.pop() {
+        match next {
+            Waiting::Before(prod) => pieces.push(Piece::Front(prod))?,
+            Waiting::Tree => {
+                left -= 1;
+                meet(grm, moves[left], &mut pieces, &mut waiting)?;
+            }
+        }
+    }
+    Ok(pieces)
+}
+
+// Meets the tree that is finished by this move: a token is all of it, and behind a node's end its trees wait, and in front of them its
+// front.
+fn meet<StorageT: StorageIndex>(
+    grm: &YaccGrammar<StorageT>,
+    step: Move<StorageT>,
+    pieces: &mut Vec<Piece<StorageT>>,
+    waiting: &mut Vec<Waiting<StorageT>>,
+) -> Result<(), AllocError>
+    requires { IsMoveOf grm.now (move_of StorageT.index step) }
+    ensures { OnOk result (Meets StorageT.index grm.now step pieces.old.items pieces.new.items waiting.old.items waiting.new.items) }
+{
+    match step {
+        Move::Take(token) => Ok(pieces.push(Piece::Word(token))?),
+        Move::Make(prod) => {
+            pieces.push(Piece::End)?;
+            waiting.push(Waiting::Before(prod))?;
+            push_trees(waiting, grm.prod(prod).len())
+        }
+    }
+}
+
+// Adds so many trees.
+fn push_trees<StorageT: StorageIndex>(
+    waiting: &mut Vec<Waiting<StorageT>>,
+    count: usize,
+) -> Result<(), AllocError>
+    ensures { OnOk result (waiting.new.items ≡ waiting.old.items ++ replicate count Waiting.Tree) }
+{
+    for _i in 0..count {
+        waiting.push(Waiting::Tree)?;
+    }
+    Ok(())
+}
+
+// Adds a piece.
+fn push_piece<StorageT: StorageIndex>(
+    out: &mut String,
+    grm: &YaccGrammar<StorageT>,
+    piece: Piece<StorageT>,
+) -> Result<(), AllocError>
+    requires { PieceFits StorageT.index grm.now piece }
+    ensures { OnOk result (string_bytes out.new ≡ string_bytes out.old ++ piece_text StorageT.index grm.now piece) }
+{
+    match piece {
+        Piece::Word(token) => push_word(out, grm, token),
+        Piece::Front(prod) => push_front(out, grm, prod),
+        Piece::End => out.push_str(" ]"),
+    }
+}
+
+// Adds what stands in front of the trees of a node.
+fn push_front<StorageT: StorageIndex>(
+    out: &mut String,
+    grm: &YaccGrammar<StorageT>,
+    prod: PIdx<StorageT>,
+) -> Result<(), AllocError>
+    requires { StorageT.index prod.0 < prods_len grm.now }
+    ensures { OnOk result (string_bytes out.new ≡ string_bytes out.old ++ front_text grm.now (StorageT.index prod.0)) }
+{
+    let name = grm.rule_name_str(grm.prod_to_rule(prod));
+    write!(out, " {name}[")
+}

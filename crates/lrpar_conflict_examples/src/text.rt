@@ -1,0 +1,192 @@
+//! The texts of examples.
+ghost use Rattle.std.specs.Prelude.{◌≡◌, ◌≤◌, ◌++◌, ℕ, List, IfOk, OnOk, drop, length};
+ghost use Rattle.std.specs.String.{string_bytes};
+ghost use Rattle.lrpar_grammar.specs.Tree.{Tree, leaves};
+ghost use Rattle.lrpar_table_sentences.specs.Moves.{move_of, moves_in};
+ghost use Rattle.lrpar_conflict_derivations.specs.Texts.{token_numbers};
+ghost use Rattle.lrpar_conflict_examples.specs.ExamplesFit.{ExampleFits, ExamplesFit, ReadsFrom};
+ghost use Rattle.lrpar_conflict_examples.specs.Fits.{AreMovesOf, AreTokensOf, HasTree, IsMoveOf};
+ghost use Rattle.lrpar_conflict_examples.specs.Texts.{AreExampleTexts, IsExampleText, bound_text, count_text, other_line, title_text};
+ghost use Rattle.lrpar_conflict_examples.specs.Words.{line_text, reading_text, text_line};
+
+use crate::conflict::ConflictExample;
+use crate::pieces::push_tree;
+use crate::words::{push_move, push_words, shown_name};
+use lrpar_conflict_derivations::examples::{Example, taken};
+use lrpar_grammar::grammar::YaccGrammar;
+use lrpar_grammar::span::{StorageIndex, TIdx};
+use lrpar_table_sentences::moves::Move;
+use std::alloc::{AllocError, Global};
+
+/// The texts of the examples, one behind the other, each with an empty line behind it. Rules and tokens are told by their names, and the
+/// end token by `$`.
+///
+/// ```text
+/// 'e' in state 8: one text, two readings
+///   i i x . e x
+///   make S: 'i' S
+///     S[ i S[ i S[ x ] ] e S[ x ] ]
+///   take 'e'
+///     S[ i S[ i S[ x ] e S[ x ] ] ]
+/// ```
+///
+/// The first line has the conflict's token and state. Then comes the text of both readings, with a dot where the conflict is. If they
+/// have two texts, the first line has the bound within which one for both wasn't found, and each text comes before its own reading.
+/// A reading is shown by the move that it makes after the dot, a production whose node is made or a token that is taken, and by
+/// its tree.
+///
+/// The examples have to fit the grammar, as those of `conflict_examples` do. Takes time and memory linear in the examples and in the text
+/// that is made, and no stack for a tree's levels. It fails if memory runs out.
+pub fn format_examples<StorageT: StorageIndex>(
+    alloc: Global,
+    grm: &YaccGrammar<StorageT>,
+    examples: &[ConflictExample<StorageT>],
+) -> Result<String, AllocError>
+    requires fit { ExamplesFit grm.now examples.now }
+    ensures { IfOk result (λ text. AreExampleTexts grm.now examples.now (string_bytes text)) }
+{
+    let mut out = String::new(alloc);
+    let mut rest = examples;
+    while let Some((example, others)) = rest.split_first() {
+        push_example(&mut out, alloc, grm, example)?;
+        rest = others;
+    }
+    Ok(out)
+}
+
+// Adds the text of an example.
+fn push_example<StorageT: StorageIndex>(
+    out: &mut String,
+    alloc: Global,
+    grm: &YaccGrammar<StorageT>,
+    shown: &ConflictExample<StorageT>,
+) -> Result<(), AllocError>
+    requires { ExampleFits grm.now shown.now }
+    ensures { OnOk result ((text : List ℕ) × IsExampleText grm.now shown.now text × (string_bytes out.new ≡ string_bytes out.old ++ text)) }
+{
+    let example = shown.example();
+    push_title(out, grm, shown)?;
+    push_text(out, alloc, grm, example.before(), example.first())?;
+    push_reading(out, alloc, grm, shown.first(), example.first())?;
+    push_other_text(out, alloc, grm, example)?;
+    push_reading(out, alloc, grm, shown.second(), example.second())?;
+    out.push('\n')
+}
+
+// Adds the first line of an example.
+fn push_title<StorageT: StorageIndex>(
+    out: &mut String,
+    grm: &YaccGrammar<StorageT>,
+    shown: &ConflictExample<StorageT>,
+) -> Result<(), AllocError>
+    requires { ExampleFits grm.now shown.now }
+    ensures { OnOk result (string_bytes out.new ≡ string_bytes out.old ++ title_text grm.now shown.now) }
+{
+    let name = shown_name(grm, shown.token());
+    let state = usize::from(shown.state());
+    write!(out, "'{name}' in state {state}: ")?;
+    push_count(out, shown.example())?;
+    out.push('\n')
+}
+
+// Adds how many texts the readings have.
+fn push_count<StorageT: StorageIndex>(
+    out: &mut String,
+    example: &Example<StorageT>,
+) -> Result<(), AllocError>
+    ensures { OnOk result (string_bytes out.new ≡ string_bytes out.old ++ count_text example.now) }
+{
+    if !example.is_ambiguous() {
+        let bound = example.bound();
+        return push_bound(out, bound);
+    }
+    out.push_str("one text, two readings")
+}
+
+// Adds that the readings have two texts, and how far one for both was looked for.
+fn push_bound(out: &mut String, bound: usize) -> Result<(), AllocError>
+    ensures { OnOk result (string_bytes out.new ≡ string_bytes out.old ++ bound_text bound) }
+{
+    write!(out, "two texts; one for both not found within {bound}")
+}
+
+// Adds the line of the second reading's text, where it isn't that of the first one.
+fn push_other_text<StorageT: StorageIndex>(
+    out: &mut String,
+    alloc: Global,
+    grm: &YaccGrammar<StorageT>,
+    example: &Example<StorageT>,
+) -> Result<(), AllocError>
+    requires { ReadsFrom grm.now example.now.before example.now.second }
+    ensures { OnOk result ((tree : Tree ℕ) → AreMovesOf grm.now example.now.second tree
+        → string_bytes out.new ≡ string_bytes out.old ++ other_line grm.now example.now (leaves tree)) }
+{
+    if example.is_ambiguous() {
+        return Ok(());
+    }
+    push_text(out, alloc, grm, example.before(), example.second())
+}
+
+// Adds the line of a reading's text.
+fn push_text<StorageT: StorageIndex>(
+    out: &mut String,
+    alloc: Global,
+    grm: &YaccGrammar<StorageT>,
+    before: &[TIdx<StorageT>],
+    moves: &[Move<StorageT>],
+) -> Result<(), AllocError>
+    requires { ReadsFrom grm.now (token_numbers StorageT.index before.now) (moves_in StorageT.index moves.now) }
+    ensures { OnOk result ((tree : Tree ℕ) → AreMovesOf grm.now (moves_in StorageT.index moves.now) tree
+        → string_bytes out.new ≡ string_bytes out.old ++ text_line grm.now (token_numbers StorageT.index before.now) (leaves tree)) }
+{
+    let _start = grm.start_prod();
+    let text = taken(alloc, moves)?;
+    push_line(out, grm, before, rest_of(&text, before.len()))
+}
+
+// What stands behind so many tokens.
+fn rest_of<StorageT>(tokens: &[TIdx<StorageT>], count: usize) -> &[TIdx<StorageT>]
+    requires { count ≤ length tokens.now }
+    ensures { result.now ≡ drop count tokens.now }
+{
+    &tokens[count..]
+}
+
+// Adds the line of a text of which so much stands in front of the dot, and the rest behind it.
+fn push_line<StorageT: StorageIndex>(
+    out: &mut String,
+    grm: &YaccGrammar<StorageT>,
+    before: &[TIdx<StorageT>],
+    rest: &[TIdx<StorageT>],
+) -> Result<(), AllocError>
+    requires before { AreTokensOf grm.now (token_numbers StorageT.index before.now) }
+    requires rest { AreTokensOf grm.now (token_numbers StorageT.index rest.now) }
+    ensures { OnOk result (string_bytes out.new ≡ string_bytes out.old
+        ++ line_text grm.now (token_numbers StorageT.index before.now) (token_numbers StorageT.index rest.now)) }
+{
+    out.push(' ')?;
+    push_words(out, grm, before)?;
+    out.push_str(" .")?;
+    push_words(out, grm, rest)?;
+    out.push('\n')
+}
+
+// Adds the lines of a reading: the move by which it goes on, and its tree.
+fn push_reading<StorageT: StorageIndex>(
+    out: &mut String,
+    alloc: Global,
+    grm: &YaccGrammar<StorageT>,
+    next: Move<StorageT>,
+    moves: &[Move<StorageT>],
+) -> Result<(), AllocError>
+    requires next { IsMoveOf grm.now (move_of StorageT.index next) }
+    requires tree { HasTree grm.now (moves_in StorageT.index moves.now) }
+    ensures { OnOk result ((tree : Tree ℕ) → AreMovesOf grm.now (moves_in StorageT.index moves.now) tree
+        → string_bytes out.new ≡ string_bytes out.old ++ reading_text grm.now (move_of StorageT.index next) tree) }
+{
+    out.push_str("  ")?;
+    push_move(out, grm, next)?;
+    out.push_str("\n   ")?;
+    push_tree(out, alloc, grm, moves)?;
+    out.push('\n')
+}

@@ -1,0 +1,127 @@
+//! The words of examples' texts.
+ghost use Rattle.std.specs.Prelude.{◌≡◌, ◌<◌, ◌++◌, OnOk, map};
+ghost use Rattle.std.specs.List.{AllByRecursion, flat_map};
+ghost use Rattle.std.specs.String.{string_bytes};
+ghost use Rattle.lrpar_grammar.specs.Grammar.{prods_len, tokens_len};
+ghost use Rattle.lrpar_grammar.specs.Symbols.{symbol_of};
+ghost use Rattle.lrpar_table_sentences.specs.Moves.{move_of};
+ghost use Rattle.lrpar_conflict_examples.specs.Fits.{AreTokensOf, IsMoveOf, IsSymbolOf};
+ghost use Rattle.lrpar_conflict_examples.specs.Words.{make_text, move_text, shown_name, symbol_text, word_text, words_text};
+
+use lrpar_grammar::grammar::YaccGrammar;
+use lrpar_grammar::span::{PIdx, StorageIndex, Symbol, TIdx};
+use lrpar_table_sentences::moves::Move;
+use std::alloc::AllocError;
+
+/// A token as conflicts name it: by its name, and the end token by `$`.
+pub(crate) fn shown_name<StorageT: StorageIndex>(
+    grm: &YaccGrammar<StorageT>,
+    token: TIdx<StorageT>,
+) -> &str
+    requires { StorageT.index token.0 < tokens_len grm.now }
+    ensures { result.now ≡ shown_name grm.now (StorageT.index token.0) }
+{
+    grm.token_name(token).unwrap_or("$")
+}
+
+/// Adds a token, behind a space.
+pub(crate) fn push_word<StorageT: StorageIndex>(
+    out: &mut String,
+    grm: &YaccGrammar<StorageT>,
+    token: TIdx<StorageT>,
+) -> Result<(), AllocError>
+    requires { StorageT.index token.0 < tokens_len grm.now }
+    ensures { OnOk result (string_bytes out.new ≡ string_bytes out.old ++ word_text grm.now (StorageT.index token.0)) }
+{
+    out.push(' ')?;
+    out.push_str(shown_name(grm, token))
+}
+
+/// Adds tokens, each behind a space.
+pub(crate) fn push_words<StorageT: StorageIndex>(
+    out: &mut String,
+    grm: &YaccGrammar<StorageT>,
+    tokens: &[TIdx<StorageT>],
+) -> Result<(), AllocError>
+    requires { AreTokensOf grm.now (map (λ t. StorageT.index t.0) tokens.now) }
+    ensures { OnOk result (string_bytes out.new ≡ string_bytes out.old ++ words_text grm.now (map (λ t. StorageT.index t.0) tokens.now)) }
+{
+    let mut rest = tokens;
+    while let Some((token, others)) = rest.split_first() {
+        push_word(out, grm, *token)?;
+        rest = others;
+    }
+    Ok(())
+}
+
+/// Adds what a move does.
+pub(crate) fn push_move<StorageT: StorageIndex>(
+    out: &mut String,
+    grm: &YaccGrammar<StorageT>,
+    step: Move<StorageT>,
+) -> Result<(), AllocError>
+    requires { IsMoveOf grm.now (move_of StorageT.index step) }
+    ensures { OnOk result (string_bytes out.new ≡ string_bytes out.old ++ move_text grm.now (move_of StorageT.index step)) }
+{
+    match step {
+        Move::Take(token) => {
+            let name = shown_name(grm, token);
+            write!(out, "take '{name}'")
+        }
+        Move::Make(prod) => push_make(out, grm, prod),
+    }
+}
+
+// Adds which node is made: that of a production.
+fn push_make<StorageT: StorageIndex>(
+    out: &mut String,
+    grm: &YaccGrammar<StorageT>,
+    prod: PIdx<StorageT>,
+) -> Result<(), AllocError>
+    requires { StorageT.index prod.0 < prods_len grm.now }
+    ensures { OnOk result (string_bytes out.new ≡ string_bytes out.old ++ make_text grm.now (StorageT.index prod.0)) }
+{
+    let _start = grm.start_prod();
+    let name = grm.rule_name_str(grm.prod_to_rule(prod));
+    write!(out, "make {name}:")?;
+    push_symbols(out, grm, grm.prod(prod))
+}
+
+// Adds symbols, each behind a space.
+fn push_symbols<StorageT: StorageIndex>(
+    out: &mut String,
+    grm: &YaccGrammar<StorageT>,
+    symbols: &[Symbol<StorageT>],
+) -> Result<(), AllocError>
+    requires { AllByRecursion (IsSymbolOf grm.now) (map (symbol_of StorageT.index) symbols.now) }
+    ensures { OnOk result (string_bytes out.new ≡ string_bytes out.old
+        ++ flat_map (symbol_text grm.now) (map (symbol_of StorageT.index) symbols.now)) }
+{
+    let mut rest = symbols;
+    while let Some((symbol, others)) = rest.split_first() {
+        push_symbol(out, grm, *symbol)?;
+        rest = others;
+    }
+    Ok(())
+}
+
+// Adds a symbol behind a space: a rule by its name, and a token by its name in quotes.
+fn push_symbol<StorageT: StorageIndex>(
+    out: &mut String,
+    grm: &YaccGrammar<StorageT>,
+    symbol: Symbol<StorageT>,
+) -> Result<(), AllocError>
+    requires { IsSymbolOf grm.now (symbol_of StorageT.index symbol) }
+    ensures { OnOk result (string_bytes out.new ≡ string_bytes out.old ++ symbol_text grm.now (symbol_of StorageT.index symbol)) }
+{
+    match symbol {
+        Symbol::Rule(rule) => {
+            let name = grm.rule_name_str(rule);
+            write!(out, " {name}")
+        }
+        Symbol::Token(token) => {
+            let name = shown_name(grm, token);
+            write!(out, " '{name}'")
+        }
+    }
+}

@@ -1,6 +1,0 @@
-use Rattle.std.proofs.Common.{◌<◌, ℕ, get_or}
-use Rattle.lrpar_cpct.proofs.cpct_plus.first_free.Given as goal
-
--- each token so far costs something
-abbrev pub invariant-loop-token : goal.invariant-loop-token
-invariant-loop-token l = (k : ℕ) → k < l.token → 0 < get_or l.costs k 1

@@ -1,9 +1,0 @@
-//! Examples of all conflicts of a table, and their texts.
-#![tactic(auto)]
-
-mod conflict;
-pub mod examples;
-mod listed;
-mod pieces;
-mod text;
-mod words;

@@ -1,9 +1,0 @@
-use Rattle.lrpar_examples.proofs.examples.Examples.new.Goals as goal
-
-pub returns-clause-made : goal.returns-clause-made
-returns-clause-made g c = record {
-  firsts = c.in_ok-firsts.ensures;
-  shortest = c.in_ok-shortest.ensures.shortest;
-  ways = c.in_ok-ways.ensures;
-  each = c.in_ok-shortest.ensures.each;
-}

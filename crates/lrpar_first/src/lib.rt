@@ -1,5 +1,0 @@
-//! What symbols begin with.
-#![tactic(auto)]
-
-pub mod behind;
-pub mod first;

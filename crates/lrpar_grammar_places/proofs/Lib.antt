@@ -1,0 +1,4 @@
+pub mod LineLemmas
+pub mod ColumnLemmas
+pub mod ListLemmas
+pub mod FaultLemmas

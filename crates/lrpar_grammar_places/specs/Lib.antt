@@ -1,0 +1,4 @@
+pub mod Span
+pub mod Facts
+pub mod Comparisons
+pub mod Lines

@@ -1,0 +1,157 @@
+//! Lines and columns of a text.
+ghost use Rattle.std.specs.Prelude.{◌≡◌, ◌↔◌, ◌≤◌, ℕ, List, IsSome, IfSome, IfOk, count_by, length, take};
+ghost use Rattle.std.specs.Str.{IsCharBoundary, IsUtf8};
+ghost use Rattle.lrpar_grammar_places.specs.Lines.{begins_char, chars_before, column_of, is_line_feed, line_end, line_of, line_start, line_table};
+
+use crate::span::Span;
+use std::alloc::{AllocError, Global};
+use std::marker::Model;
+
+// How many bytes stand between two places of a text up to which the characters are counted.
+const STEP: usize = 128;
+
+/// Where the lines of a text start. Lines start at byte 0 and after each line feed, and count from 1. A line ends before its line
+/// feed or, the last one, at the text's end. Counts of characters go with them, so that a column in a long line is found as soon
+/// as one in a short line.
+#[derive(Debug, Drop)]
+pub struct NewlineCache {
+    // where each line but the first starts
+    starts: Vec<usize>,
+    // how many characters begin before each `STEP`th byte, from byte 0 on
+    counts: Vec<usize>,
+    len: usize,
+}
+
+impl Model for NewlineCache {
+    ghost use Rattle.std.specs.Prelude.{◌<◌, All};
+    ghost use Rattle.lrpar_grammar_places.specs.Lines.{LineTable};
+
+    ghost Value = { LineTable };
+
+    ghost view = { λ s. record { starts = s.starts.items; counts = s.counts.items; len = s.len } };
+
+    ghost invariant = { λ s. All (λ start. 0 < start) s.starts.items };
+}
+
+impl NewlineCache {
+    /// The lines of a text. Takes time linear in it, and memory for each line feed and for each 128 bytes.
+    pub fn new(alloc: Global, src: &str) -> Result<Self, AllocError>
+        ensures { IfOk result (λ cache. cache ≡ line_table src.now) }
+    {
+        let mut starts = Vec::new(alloc);
+        let mut counts = vec![in alloc; 0]?;
+        let mut chars = 0;
+        for (at, byte) in src.as_bytes().iter().enumerate() {
+            chars += usize::from(begins_char(*byte));
+            if *byte == b'\n' {
+                starts.push(at + 1)?;
+            }
+            if (at + 1) % STEP == 0 {
+                counts.push(chars)?;
+            }
+        }
+        Ok(NewlineCache {
+            starts,
+            counts,
+            len: src.len(),
+        })
+    }
+
+    /// The line of a byte, counted from 1: none past the length of the text, at which there is one. Takes time logarithmic in the
+    /// number of lines.
+    pub fn byte_to_line_num(&self, byte: usize) -> Option<usize>
+        ensures within { IsSome result ↔ (byte ≤ (self.now).len) }
+        ensures line { (text : List ℕ) → self.now ≡ line_table text → IfSome result (λ line. line ≡ line_of text byte) }
+    {
+        if byte > self.len {
+            return None;
+        }
+        Some(1 + self.feeds_before(byte))
+    }
+
+    /// The line and the column of a byte, each counted from 1, and columns in characters: none past the length of the text, at
+    /// which there is one, or inside a character. The text must be the one whose lines these are. Takes time logarithmic in the
+    /// number of lines, however long they are.
+    pub fn byte_to_line_num_and_col_num(&self, src: &str, byte: usize) -> Option<(usize, usize)>
+        requires { self.now ≡ line_table src.now }
+        ensures boundary { IsSome result ↔ IsCharBoundary src.now byte }
+        ensures line { IfSome result (λ place. place.0 ≡ line_of src.now byte) }
+        ensures column { IfSome result (λ place. place.1 ≡ column_of src.now byte) }
+    {
+        if !src.is_char_boundary(byte) {
+            return None;
+        }
+        let line = 1 + self.feeds_before(byte);
+        let in_front = self.chars_before(src, self.line_start(byte));
+        let column = 1 + self.chars_before(src, byte) - in_front;
+        Some((line, column))
+    }
+
+    /// Where the line of the start of a span starts, and where that of its end ends, in bytes. The span must end within the text.
+    /// Takes time logarithmic in the number of lines.
+    pub fn span_line_bytes(&self, span: Span) -> (usize, usize)
+        requires { span.end ≤ (self.now).len }
+        ensures start { (text : List ℕ) → self.now ≡ line_table text → result.0 ≡ line_start text span.start }
+        ensures end { (text : List ℕ) → self.now ≡ line_table text → result.1 ≡ line_end text span.end }
+        ensures boundaries { (text : List ℕ) → self.now ≡ line_table text → IsUtf8 text → IsCharBoundary text result.0 × IsCharBoundary text result.1 }
+    {
+        (self.line_start(span.start()), self.line_end(span.end()))
+    }
+
+    // How many line feeds stand before a byte.
+    fn feeds_before(&self, byte: usize) -> usize
+        requires { byte ≤ (self.now).len }
+        ensures bound { result ≤ length (self.now).starts }
+        ensures count { (text : List ℕ) → self.now ≡ line_table text → result ≡ count_by is_line_feed (take byte text) }
+    {
+        self.starts.partition_point(|start| *start <= byte)
+    }
+
+    // How many characters begin before a byte. Looks at fewer than `STEP` bytes.
+    fn chars_before(&self, src: &str, byte: usize) -> usize
+        requires table { self.now ≡ line_table src.now }
+        requires within { byte ≤ length src.now }
+        ensures { result ≡ chars_before src.now byte }
+    {
+        let step = byte / STEP;
+        self.counts[step] + chars_begun(&src.as_bytes()[step * STEP..byte])
+    }
+
+    // Where the line of a byte starts.
+    fn line_start(&self, byte: usize) -> usize
+        requires { byte ≤ (self.now).len }
+        ensures start { (text : List ℕ) → self.now ≡ line_table text → result ≡ line_start text byte }
+        ensures boundary { (text : List ℕ) → self.now ≡ line_table text → IsUtf8 text → IsCharBoundary text result }
+    {
+        match self.feeds_before(byte) {
+            0 => 0,
+            feeds => self.starts[feeds - 1],
+        }
+    }
+
+    // Where the line of a byte ends, in front of its line feed.
+    fn line_end(&self, byte: usize) -> usize
+        requires { byte ≤ (self.now).len }
+        ensures end { (text : List ℕ) → self.now ≡ line_table text → result ≡ line_end text byte }
+        ensures boundary { (text : List ℕ) → self.now ≡ line_table text → IsUtf8 text → IsCharBoundary text result }
+    {
+        match self.starts.get(self.feeds_before(byte)) {
+            Some(next) => *next - 1,
+            None => self.len,
+        }
+    }
+}
+
+// How many characters begin in bytes of a text.
+fn chars_begun(bytes: &[u8]) -> usize
+    ensures { result ≡ count_by begins_char bytes.now }
+{
+    bytes.iter().filter(|byte| begins_char(**byte)).count()
+}
+
+// Whether a byte begins a character; any other goes on with the one before it.
+fn begins_char(byte: u8) -> bool
+    ensures { result ≡ begins_char byte }
+{
+    byte / 64 != 2
+}

@@ -1,0 +1,187 @@
+-- Words that have a fault, and lists in which none has.
+use Rattle.std.proofs.Common.{◌≡◌, ◌<◌, ◌≤◌, ◌+◌, ℕ, zero, suc, Bool, true, false, cond, not, Bor, List, [], ◌∷◌, ◌++◌, length, length-take, map, take, get_or, Option, Some, None, option_map, nat_cmp, inl, inr, refl, ap, sym, subst, ◌∙◌, arith}
+use Rattle.std.specs.BTreeMap.{BTreeMap, get_by}
+use Rattle.std.specs.Cmp.Lexicographic.{slice_cmp}
+use Rattle.std.specs.List.{All, find, flat_map, slice_get}
+use Rattle.std.specs.Option.{IsNone, is_some, option_or}
+use Rattle.std.proofs.lemmas.Bool.{cases_lt}
+use Rattle.std.proofs.lemmas.List.{get_or-map, get_or-take, length-map, take-take, take_all}
+use Rattle.std.proofs.lemmas.List.Elements.{All-head, All-tail, All-weaker}
+use Rattle.std.proofs.lemmas.List.Folds.{find-append}
+use Rattle.std.proofs.lemmas.Option.{get_or_from_slice_get, slice_get-get_or, slice_get_within}
+use Rattle.lrpar_grammar_places.specs.Span.{Extent}
+use Rattle.lrpar_grammar_words.specs.declared.words.Word.{Word}
+use Rattle.lrpar_grammar_words.specs.Words.{PlacedWord, placed}
+use Rattle.lrpar_grammar_words.specs.Outline.{TextAlternative, TextOutline}
+use Rattle.lrpar_grammar_reader.specs.Names.{AreNumbers, is_among, with_name}
+use Rattle.lrpar_grammar_reader.specs.Spells.{AreDistinct, IsRepeatedAt, Numbering, StandsAt, is_known, token_rule, unknown_rule}
+use Rattle.lrpar_grammar_reader.proofs.GrowthLemmas.{take_map_more}
+use Rattle.lrpar_grammar_reader.proofs.SpanLemmas.{placed_at}
+
+-- none is found where none passes
+pub none_found : {X : Type 0} (p : X → Bool) (xs : List X) → All (λ x. p x ≡ false) xs → IsNone (find p xs)
+none_found p [] none = refl
+none_found p (x ∷ xs) none =
+    ap (λ b. is_some (cond b (Some x) (find p xs))) (All-head (λ y. p y ≡ false) x xs none) ∙ none_found p xs (All-tail (λ y. p y ≡ false) x xs none)
+
+-- the first one that passes is found
+found_at : {X : Type 0} (p : X → Bool) (xs : List X) (i : ℕ) (d : X) → i < length xs → All (λ x. p x ≡ false) (take i xs) → p (get_or xs i d) ≡ true
+    → find p xs ≡ Some (get_or xs i d)
+found_at p [] i d within none is = absurd (omega arith)
+found_at p (x ∷ xs) zero d within none is = ap (λ b. cond b (Some x) (find p xs)) is
+found_at p (x ∷ xs) (suc i) d within none is =
+    ap (λ b. cond b (Some x) (find p xs)) (All-head (λ y. p y ≡ false) x (take i xs) none)
+    ∙ found_at p xs i d (omega arith) (All-tail (λ y. p y ≡ false) x (take i xs) none) is
+
+-- the first word that passes stands at its place
+pub stands : (p : PlacedWord → Bool) (words : List Word) (i : ℕ) (d : Word) (span : Extent) → i < length words → All (λ w. p w ≡ false) (take i (map placed words))
+    → p (placed (get_or words i d)) ≡ true → span ≡ (placed (get_or words i d)).span → StandsAt (find p (map placed words)) span
+stands p words i d span within none is at =
+    let ws = map placed words in
+    let word : get_or ws i (placed d) ≡ placed (get_or words i d) = get_or-map placed words i d (placed d) within in
+    let found : find p ws ≡ Some (get_or ws i (placed d)) =
+    found_at p ws i (placed d) (omega (arith, length-map words placed)) none (subst (λ w. p w ≡ true) (sym word) is) in
+    ap (option_map (λ w. w.span)) (found ∙ ap Some word) ∙ ap Some (sym at)
+
+-- the first of two stands there, or the second, where there is no first
+pub stands_first : (a b : Option PlacedWord) (span : Extent) → StandsAt a span → StandsAt (option_or a b) span
+stands_first None b span at = absurd (cc)
+stands_first (Some w) b span at = at
+
+pub stands_second : (a b : Option PlacedWord) (span : Extent) → IsNone a → StandsAt b span → StandsAt (option_or a b) span
+stands_second None b span none at = at
+stands_second (Some w) b span none at = absurd (cc)
+
+-- there is neither of two
+pub neither : (a b : Option PlacedWord) → IsNone a → IsNone b → IsNone (option_or a b)
+neither None b none other = other
+neither (Some w) b none other = absurd (cc)
+
+-- the first word that passes, among those that elements give
+pub stands_in : {X : Type 0} (p : PlacedWord → Bool) (f : X → List PlacedWord) (xs : List X) (i : ℕ) (d : X) (span : Extent) → i < length xs
+    → All (λ x. All (λ w. p w ≡ false) (f x)) (take i xs) → StandsAt (find p (f (get_or xs i d))) span → StandsAt (find p (flat_map f xs)) span
+stands_in p f [] i d span within none at = absurd (omega arith)
+stands_in p f (x ∷ xs) zero d span within none at =
+    subst (λ r. StandsAt r span) (sym (find-append p (f x) (flat_map f xs))) (stands_first (find p (f x)) (find p (flat_map f xs)) span at)
+stands_in p f (x ∷ xs) (suc i) d span within none at =
+    let before = none_found p (f x) (All-head (λ y. All (λ w. p w ≡ false) (f y)) x (take i xs) none) in
+    let rest = stands_in p f xs i d span (omega arith) (All-tail (λ y. All (λ w. p w ≡ false) (f y)) x (take i xs) none) at in
+    subst (λ r. StandsAt r span) (sym (find-append p (f x) (flat_map f xs))) (stands_second (find p (f x)) (find p (flat_map f xs)) span before rest)
+
+-- none of the words that elements give is found
+pub none_in : {X : Type 0} (p : PlacedWord → Bool) (f : X → List PlacedWord) (xs : List X) → All (λ x. All (λ w. p w ≡ false) (f x)) xs → IsNone (find p (flat_map f xs))
+none_in p f [] none = refl
+none_in p f (x ∷ xs) none =
+    subst IsNone (sym (find-append p (f x) (flat_map f xs)))
+    (neither (find p (f x)) (find p (flat_map f xs)) (none_found p (f x) (All-head (λ y. All (λ w. p w ≡ false) (f y)) x xs none))
+    (none_in p f xs (All-tail (λ y. All (λ w. p w ≡ false) (f y)) x xs none)))
+
+-- words that pass a test fail its opposite
+pub none_fails : {X : Type 0} (p : X → Bool) (xs : List X) → All (λ x. p x ≡ true) xs → All (λ x. not (p x) ≡ false) xs
+none_fails p xs all = All-weaker (λ x. p x ≡ true) (λ x. not (p x) ≡ false) (λ x is. ap not is) xs all
+
+-- the same of words that elements give
+pub none_fails_in : {X Y : Type 0} (p : Y → Bool) (f : X → List Y) (xs : List X) → All (λ x. All (λ y. p y ≡ true) (f x)) xs → All (λ x. All (λ y. not (p y) ≡ false) (f x)) xs
+none_fails_in p f xs all = All-weaker (λ x. All (λ y. p y ≡ true) (f x)) (λ x. All (λ y. not (p y) ≡ false) (f x)) (λ x. none_fails p (f x)) xs all
+
+-- no rule has the name of a declared token
+pub no_token_rule : (n : Numbering) (rules : List PlacedWord) → rules ≡ n.rules → All (λ w. is_among w.name n.declared ≡ false) rules → IsNone (token_rule n)
+no_token_rule n rules same none =
+    none_found (λ w. is_among w.name n.declared) n.rules (subst (All (λ w. is_among w.name n.declared ≡ false)) same none)
+
+-- the first name after `%start` that is no rule
+pub start_unknown : (n : Numbering) (o : TextOutline) (starts : List PlacedWord) (span : Extent) → starts ≡ o.starts
+    → StandsAt (find (λ w. not (is_among w.name n.rules)) starts) span → StandsAt (unknown_rule n o) span
+start_unknown n o starts span same at =
+    stands_first (find (λ w. not (is_among w.name n.rules)) o.starts) (find (λ w. not (is_known n w)) (flat_map (λ x. x.symbols) o.alternatives)) span
+    (subst (λ ws. StandsAt (find (λ w. not (is_among w.name n.rules)) ws) span) same at)
+
+-- each name after `%start` is one of a rule
+starts_known : (n : Numbering) (o : TextOutline) (starts : List PlacedWord) → starts ≡ o.starts → All (λ w. is_among w.name n.rules ≡ true) starts
+    → IsNone (find (λ w. not (is_among w.name n.rules)) o.starts)
+starts_known n o starts same known =
+    none_found (λ w. not (is_among w.name n.rules)) o.starts
+    (subst (All (λ w. not (is_among w.name n.rules) ≡ false)) same (none_fails (λ (w : PlacedWord). is_among w.name n.rules) starts known))
+
+-- the first symbol that is neither a token nor a rule, where those names are known
+pub symbol_unknown : (n : Numbering) (o : TextOutline) (starts : List PlacedWord) (alternatives : List TextAlternative) (span : Extent) → starts ≡ o.starts → alternatives ≡ o.alternatives
+    → All (λ w. is_among w.name n.rules ≡ true) starts → StandsAt (find (λ w. not (is_known n w)) (flat_map (λ x. x.symbols) alternatives)) span → StandsAt (unknown_rule n o) span
+symbol_unknown n o starts alternatives span same alike known at =
+    stands_second (find (λ w. not (is_among w.name n.rules)) o.starts) (find (λ w. not (is_known n w)) (flat_map (λ x. x.symbols) o.alternatives)) span
+    (starts_known n o starts same known)
+    (subst (λ (xs : List TextAlternative). StandsAt (find (λ w. not (is_known n w)) (flat_map (λ x. x.symbols) xs)) span) alike at)
+
+-- no such name and no such symbol
+pub no_unknown_rule : (n : Numbering) (o : TextOutline) (starts : List PlacedWord) (alternatives : List TextAlternative) → starts ≡ o.starts → alternatives ≡ o.alternatives
+    → All (λ w. is_among w.name n.rules ≡ true) starts → All (λ x. All (λ w. is_known n w ≡ true) x.symbols) alternatives → IsNone (unknown_rule n o)
+no_unknown_rule n o starts alternatives same alike starts_are symbols_are =
+    neither (find (λ w. not (is_among w.name n.rules)) o.starts) (find (λ w. not (is_known n w)) (flat_map (λ x. x.symbols) o.alternatives))
+    (starts_known n o starts same starts_are)
+    (none_in (λ w. not (is_known n w)) (λ (x : TextAlternative). x.symbols) o.alternatives
+    (none_fails_in (is_known n) (λ (x : TextAlternative). x.symbols) o.alternatives
+    (subst (All (λ (x : TextAlternative). All (λ w. is_known n w ≡ true) x.symbols)) alike symbols_are)))
+
+-- what holds of as many elements as there are holds of all
+pub all_of : {X Y : Type 0} (P : Y → Type 0) (f : X → Y) (xs : List X) (i : ℕ) → length xs ≤ i → All P (take i (map f xs)) → All P (map f xs)
+all_of P f xs i past so_far = subst (All P) (take_all i (map f xs) (omega (arith, length-map xs f))) so_far
+
+-- one more word whose name isn't one before it
+pub unrepeated_more : (words items : List Word) (i : ℕ) (w : Word) → items ≡ words → i < length items → is_among (get_or items i w).name.now (take i (map placed words)) ≡ false
+    → ((k : ℕ) (d : PlacedWord) → k < i → is_among (get_or (map placed words) k d).name (take k (map placed words)) ≡ false)
+    → (k : ℕ) (d : PlacedWord) → k < i + 1 → is_among (get_or (map placed words) k d).name (take k (map placed words)) ≡ false
+unrepeated_more words items i w same within new before k d below =
+    let ws = map placed words in
+    let within' : i < length words = omega (arith, ap length same) in
+    let new' : is_among (get_or words i w).name.now (take i ws) ≡ false = subst (λ s. is_among (get_or s i w).name.now (take i ws) ≡ false) same new in
+    elim (cases_lt k i) [
+      | inl earlier ↦ before k d earlier
+      | inr last ↦
+          let here : i ≡ k = omega arith in
+          let at : get_or ws i d ≡ placed (get_or words i w) = get_or-map placed words i w d within' in
+          subst (λ j. is_among (get_or ws j d).name (take j ws) ≡ false) here (subst (λ y. is_among y.name (take i ws) ≡ false) (sym at) new')
+    ]
+
+-- whether a name is known, by the map of its numbers
+pub known_is : (numbers : BTreeMap (Bor (List ℕ)) ℕ) (words front : List PlacedWord) (q : List ℕ) (found b : Bool) → AreNumbers numbers words → words ≡ front
+    → found ≡ is_some (get_by (λ k. slice_cmp nat_cmp q k.now) numbers) → found ≡ b → is_among q front ≡ b
+known_is numbers words front q found b all same asked is = sym (ap is_some (all q) ∙ ap (is_among q) same) ∙ sym asked ∙ is
+
+-- words so far of which none has the name of one before it are distinct
+distinct_front : (words : List PlacedWord) (i : ℕ) → i < length words → ((k : ℕ) (d : PlacedWord) → k < i → is_among (get_or words k d).name (take k words) ≡ false)
+    → AreDistinct (take i words)
+distinct_front words i within before k d below =
+    let below' : k < i = omega (arith, length-take i words) in
+    subst (λ s. is_among (get_or (take i words) k d).name s ≡ false) (sym (take-take k i words (omega arith)))
+    (subst (λ w. is_among w.name (take k words) ≡ false) (sym (get_or-take i words k d below')) (before k d below'))
+
+-- the first word whose name is one before it
+pub repeated_at : (words items : List Word) (i : ℕ) (d : Word) (span : Extent) → items ≡ words → i < length items
+    → is_among (get_or items i d).name.now (take i (map placed words)) ≡ true → span ≡ (placed (get_or items i d)).span
+    → ((k : ℕ) (e : PlacedWord) → k < i → is_among (get_or (map placed words) k e).name (take k (map placed words)) ≡ false) → IsRepeatedAt (map placed words) span
+repeated_at words items i d span same within again at before = record {
+  word = placed (get_or items i d);
+  place = i;
+  stands = placed_at words items i i (get_or items i d) same refl (sym (slice_get-get_or items i d within));
+  again = again;
+  first = distinct_front (map placed words) i (omega (arith, ap length same, length-map words placed)) before;
+  at = sym at;
+}
+
+-- a new word is put behind those before
+pub new_more : (words items before after : List Word) (i : ℕ) (d : Word) → items ≡ words → i < length items → map placed before ≡ take i (map placed words)
+    → is_among (get_or items i d).name.now (take i (map placed words)) ≡ false → map placed after ≡ with_name (map placed before) (placed (get_or items i d))
+    → map placed after ≡ take (i + 1) (map placed words)
+new_more words items before after i d same within so_far new is =
+    let front = take i (map placed words) in
+    let w = placed (get_or items i d) in
+    let within' : i < length words = omega (arith, ap length same) in
+    is ∙ ap (λ ws. with_name ws w) so_far ∙ ap (λ b. cond b front (front ++ w ∷ [])) new
+    ∙ ap (λ s. front ++ placed (get_or s i d) ∷ []) same ∙ sym (take_map_more placed words i d within')
+
+-- a start rule that is defined
+pub known_start : (starts items : List Word) (rules : List PlacedWord) (w : Word) → items ≡ starts → ◌≡◌ {A = Option Word} (Some w) (slice_get items 0)
+    → All (λ (x : PlacedWord). is_among x.name rules ≡ true) (map placed starts) → is_among w.name.now rules ≡ true
+known_start starts items rules w same is all =
+    let at = placed_at starts items 0 0 w same refl is in
+    subst (λ (x : PlacedWord). is_among x.name rules ≡ true) (get_or_from_slice_get (map placed starts) 0 (placed w) (placed w) at)
+    (all 0 (placed w) (slice_get_within (map placed starts) 0 (placed w) at))

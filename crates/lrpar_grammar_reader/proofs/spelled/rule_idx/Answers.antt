@@ -1,0 +1,10 @@
+use Rattle.std.proofs.Common.{sym, arith}
+use Rattle.lrpar_grammar_reader.proofs.NamesLemmas.{number_within}
+use Rattle.lrpar_grammar_reader.proofs.spelled.rule_idx.Goals as goal
+
+pub overflow_add-number : goal.overflow_add-number
+overflow_add-number g c =
+    omega (arith, number_within c.args.rules.now c.args.name.now c.in-Some.number (sym c.in-Some.ensures), g.met.StorageT.StorageIndex.limit_law)
+
+pub unwrap-requires : goal.unwrap-requires
+unwrap-requires g c = c.from_index.ensures.within.1 (omega (arith, number_within c.args.rules.now c.args.name.now c.in-Some.number (sym c.in-Some.ensures)))

@@ -1,0 +1,121 @@
+//! Words of a grammar text by their names.
+ghost use Rattle.std.specs.Prelude.{◌≡◌, ◌≤◌, IfOk, OnOk, IfErr, List, length, map};
+ghost use Rattle.lrpar_grammar_words.specs.Words.{PlacedWord, placed};
+ghost use Rattle.lrpar_grammar_words.specs.Outline.{outline_of};
+ghost use Rattle.lrpar_grammar_reader.specs.Spells.{AreDistinct, HasFault};
+ghost use Rattle.lrpar_grammar_reader.specs.Names.{AreNumbers, first_of_each, is_among, number_of, with_name};
+
+use crate::parts::GrammarFault;
+use lrpar_grammar_words::outline::Outline;
+use lrpar_grammar_words::words::Word;
+use std::alloc::{AllocError, Global};
+use std::collections::BTreeMap;
+use std::marker::Model;
+
+/// Words of distinct names. The number of each is its place among them.
+pub struct Names<'a> {
+    words: Vec<Word<'a>>,
+    numbers: BTreeMap<&'a str, usize>,
+}
+
+// A drop of its own, so that what lets go of one elsewhere proves one call.
+impl<'a> Drop for Names<'a> {
+    fn drop(self) {
+        let Names { words, numbers } = self;
+        drop(words);
+        drop(numbers);
+    }
+}
+
+impl<'a> Model for Names<'a> {
+    ghost use Rattle.std.specs.Prelude.{List, map};
+    ghost use Rattle.lrpar_grammar_words.specs.Words.{PlacedWord, placed};
+    ghost use Rattle.lrpar_grammar_reader.specs.Names.{AreNumbers};
+
+    ghost Value = { List PlacedWord };
+
+    ghost view = { λ s. map placed s.words.items };
+
+    ghost invariant = { λ s. AreNumbers s.numbers (map placed s.words.items) };
+}
+
+impl<'a> Names<'a> {
+    /// The words of distinct names among these, each where it stands first. Takes logarithmic time for each word.
+    pub fn first_of_each(alloc: Global, words: &[Word<'a>]) -> Result<Self, AllocError>
+        ensures { IfOk result (λ names. names ≡ first_of_each (map placed words.now)) }
+    {
+        let mut first = Vec::new(alloc);
+        let mut numbers = BTreeMap::new(alloc);
+        for word in words {
+            add(&mut first, &mut numbers, *word)?;
+        }
+        Ok(Names {
+            words: first,
+            numbers,
+        })
+    }
+
+    /// The tokens of the `%epp`s, which have to be of distinct names. `RepeatedEpp` comes at the first one whose name an earlier
+    /// one has, and `Memory` where it doesn't suffice. A second `%start` is looked for before.
+    pub fn of_epps(alloc: Global, outline: &Outline<'a>) -> Result<Self, GrammarFault>
+        requires { length (outline_of outline.now).starts ≤ 1 }
+        ensures names { IfOk result (λ names. names ≡ (outline_of outline.now).epps) }
+        ensures distinct { OnOk result (AreDistinct (outline_of outline.now).epps) }
+        ensures err { IfErr result (HasFault (outline_of outline.now)) }
+    {
+        let mut words = Vec::new(alloc);
+        let mut numbers = BTreeMap::new(alloc);
+        for word in &outline.epps {
+            if numbers.contains_key(word.name) {
+                return Err(GrammarFault::RepeatedEpp(word.span()));
+            }
+            add(&mut words, &mut numbers, *word)?;
+        }
+        Ok(Names { words, numbers })
+    }
+
+    /// The words, by number.
+    pub fn words(&self) -> &[Word<'a>]
+        ensures { map placed result.now ≡ self.now }
+    {
+        &self.words
+    }
+
+    /// How many words there are.
+    pub fn len(&self) -> usize
+        ensures { result ≡ length self.now }
+    {
+        self.words.len()
+    }
+
+    /// The number of a name.
+    pub fn number(&self, name: &str) -> Option<usize>
+        ensures { result ≡ number_of name.now self.now }
+    {
+        self.numbers.get(name).copied()
+    }
+
+    /// Whether a word has that name.
+    pub fn contains(&self, name: &str) -> bool
+        ensures { result ≡ is_among name.now self.now }
+    {
+        self.numbers.contains_key(name)
+    }
+}
+
+// Gives the word the next number, where its name is new.
+fn add<'a>(
+    first: &mut Vec<Word<'a>>,
+    numbers: &mut BTreeMap<&'a str, usize>,
+    word: Word<'a>,
+) -> Result<(), AllocError>
+    requires { AreNumbers numbers.old (map placed first.old.items) }
+    ensures words { OnOk result (map placed first.new.items ≡ with_name (map placed first.old.items) (placed word.entry)) }
+    ensures numbers { OnOk result (AreNumbers numbers.new (map placed first.new.items)) }
+{
+    if !numbers.contains_key(word.name) {
+        numbers.insert(word.name, first.len())?;
+        first.push(word)?;
+    }
+    Ok(())
+}

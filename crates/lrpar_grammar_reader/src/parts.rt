@@ -1,0 +1,213 @@
+//! The parts that a grammar is made of, as a reader or a caller hands them in, and their faults.
+ghost use Rattle.std.specs.Prelude.{◌≡◌, ◌↔◌, ◌<◌, ◌+◌, IsTrue, IfSome, IfNone};
+ghost use Rattle.lrpar_grammar_reader.specs.declared.parts.GrammarFault.TheVariants.{Memory};
+ghost use Rattle.lrpar_grammar_reader.specs.Grammar.{IsListedSymbol};
+ghost use Rattle.lrpar_grammar_reader.specs.Symbols.{symbol_of};
+
+use lrpar_grammar_places::span::{RIdx, Span, StorageIndex, Symbol};
+use std::alloc::{AllocError, AllocFailed};
+use thiserror::Error;
+
+/// A rule: its name, and where it is first defined.
+#[derive(Debug, Drop)]
+pub struct RulePart {
+    /// The rule's name, which needn't be distinct.
+    pub name: String,
+    /// Where it is first defined.
+    pub span: Span,
+}
+
+/// A token: its name, the text that messages print for it, and where it is first declared or used.
+#[derive(Debug, Drop)]
+pub struct TokenPart {
+    /// The token's name, which needn't be distinct.
+    pub name: String,
+    /// The text that messages print, where it isn't the name.
+    pub epp: Option<String>,
+    /// Where it is first declared or used.
+    pub span: Span,
+}
+
+impl TokenPart {
+    ghost use Rattle.lrpar_grammar_reader.specs.Parts.{token_name_of};
+
+    /// The text that messages print.
+    pub fn printed(&self) -> &str
+        ensures { result.now ≡ (token_name_of self.now).epp }
+    {
+        match &self.epp {
+            Some(epp) => epp.as_str(),
+            None => self.name.as_str(),
+        }
+    }
+}
+
+/// A production: its rule, the symbols of its right side, each with its place, and its own place.
+#[derive(Debug, Drop)]
+pub struct ProdPart<StorageT> {
+    /// The rule, numbered from 1 in the order of the listed rules.
+    pub rule: RIdx<StorageT>,
+    /// The right side: rules numbered from 1 and tokens from 0, each with its place.
+    pub symbols: Vec<(Symbol<StorageT>, Span)>,
+    /// Where the production stands.
+    pub span: Span,
+}
+
+/// All that a grammar is made of. Rules are numbered from 1, tokens and productions from 0, each in the order listed.
+#[derive(Debug, Drop)]
+pub struct GrammarParts<StorageT> {
+    /// The rules, of which there has to be one.
+    pub rules: Vec<RulePart>,
+    /// The tokens, without the end token.
+    pub tokens: Vec<TokenPart>,
+    /// The productions. A rule may have none.
+    pub prods: Vec<ProdPart<StorageT>>,
+    /// The start rule.
+    pub start: RIdx<StorageT>,
+}
+
+/// Why there is no grammar.
+#[derive(Debug, Drop, PartialEq, Eq, Error)]
+pub enum GrammarFault {
+    /// A production's rule or a symbol isn't the number of a listed rule or token.
+    #[error("bad symbol")]
+    BadSymbol,
+    /// The start rule isn't the number of a listed rule.
+    #[error("bad start rule")]
+    BadStart,
+    /// No rule is listed.
+    #[error("no rules")]
+    NoRules,
+    /// There are more rules, productions or tokens than the storage type numbers, the added ones counted.
+    #[error("storage type too small")]
+    StorageTooSmall,
+    /// The text isn't one of a grammar: at this byte stands the first word that can't be read or can't stand there, a
+    /// quote or comment that isn't closed, or the end that comes too early.
+    #[error("syntax at byte {0}")]
+    Syntax(usize),
+    /// A name after `%start` that is no rule, or a symbol that is neither a declared token nor a rule.
+    #[error("unknown rule at byte {at}", at = .0.start())]
+    UnknownRule(Span),
+    /// The name after `%epp` is no token.
+    #[error("unknown token at byte {at}", at = .0.start())]
+    UnknownToken(Span),
+    /// A rule has the name of a token that `%token` declares.
+    #[error("token is a rule at byte {at}", at = .0.start())]
+    TokenIsRule(Span),
+    /// A second `%start`.
+    #[error("repeated %start at byte {at}", at = .0.start())]
+    RepeatedStart(Span),
+    /// A second `%epp` of one name.
+    #[error("repeated %epp at byte {at}", at = .0.start())]
+    RepeatedEpp(Span),
+    /// Memory was wanting.
+    #[error("out of memory")]
+    Memory,
+}
+
+impl<StorageT: StorageIndex> GrammarParts<StorageT> {
+    ghost use Rattle.lrpar_grammar_reader.specs.Parts.{parts_of, AreSound, FitStorage, HasListedStart, HasListedSymbols, IsFirstFault};
+
+    /// The first fault but want of memory: none where a grammar can be made of the parts. Takes time linear in them, and no
+    /// memory.
+    pub fn fault(&self) -> Option<GrammarFault>
+        ensures found { IfSome result (IsFirstFault StorageT.limit (parts_of StorageT.index self.now)) }
+        ensures sound { IfNone result (AreSound StorageT.limit (parts_of StorageT.index self.now)) }
+    {
+        if self.rules.is_empty() {
+            Some(GrammarFault::NoRules)
+        } else if !self.fit_storage() {
+            Some(GrammarFault::StorageTooSmall)
+        } else if !self.has_listed_start() {
+            Some(GrammarFault::BadStart)
+        } else if !self.has_listed_symbols() {
+            Some(GrammarFault::BadSymbol)
+        } else {
+            None
+        }
+    }
+
+    // Whether all can be numbered, with the added rule, production and end token.
+    fn fit_storage(&self) -> bool
+        ensures { IsTrue result ↔ FitStorage StorageT.limit (parts_of StorageT.index self.now) }
+    {
+        StorageT::from_index(self.rules.len()).is_some()
+            && StorageT::from_index(self.tokens.len()).is_some()
+            && StorageT::from_index(self.prods.len()).is_some()
+    }
+
+    // Whether the start rule is a listed one.
+    fn has_listed_start(&self) -> bool
+        ensures { IsTrue result ↔ HasListedStart (parts_of StorageT.index self.now) }
+    {
+        is_listed_rule(self.start, self.rules.len())
+    }
+
+    // Whether every production is of a listed rule and has listed symbols.
+    fn has_listed_symbols(&self) -> bool
+        ensures { IsTrue result ↔ HasListedSymbols (parts_of StorageT.index self.now) }
+    {
+        let rules = self.rules.len();
+        let tokens = self.tokens.len();
+        for prod in &self.prods {
+            if !prod.is_listed(rules, tokens) {
+                return false;
+            }
+        }
+        true
+    }
+}
+
+impl<StorageT: StorageIndex> ProdPart<StorageT> {
+    ghost use Rattle.lrpar_grammar_reader.specs.Parts.{IsListedProd, prod_of};
+
+    // Whether the production is of one of `rules` listed rules, and its symbols are listed ones.
+    fn is_listed(&self, rules: usize, tokens: usize) -> bool
+        ensures { IsTrue result ↔ IsListedProd (rules + 1) tokens (prod_of StorageT.index self.now) }
+    {
+        for (symbol, _) in &self.symbols {
+            if !is_listed_symbol(*symbol, rules, tokens) {
+                return false;
+            }
+        }
+        is_listed_rule(self.rule, rules)
+    }
+}
+
+// Whether the rule is one of `rules` listed rules.
+fn is_listed_rule<StorageT: StorageIndex>(rule: RIdx<StorageT>, rules: usize) -> bool
+    ensures { IsTrue result ↔ ((0 < StorageT.index rule.0) × (StorageT.index rule.0 < rules + 1)) }
+{
+    let rule = usize::from(rule);
+    0 < rule && rule <= rules
+}
+
+// Whether the symbol is one of `rules` listed rules or `tokens` listed tokens.
+fn is_listed_symbol<StorageT: StorageIndex>(
+    symbol: Symbol<StorageT>,
+    rules: usize,
+    tokens: usize,
+) -> bool
+    ensures { IsTrue result ↔ IsListedSymbol (rules + 1) tokens (symbol_of StorageT.index symbol) }
+{
+    match symbol {
+        Symbol::Rule(rule) => is_listed_rule(rule, rules),
+        Symbol::Token(token) => usize::from(token) < tokens,
+    }
+}
+
+impl From<AllocError> for GrammarFault {
+    ghost from_gives = { λ _ fault. fault ≡ Memory };
+
+    fn from(_: AllocError) -> GrammarFault {
+        GrammarFault::Memory
+    }
+}
+
+impl<T: Drop> From<AllocFailed<T>> for GrammarFault {
+    ghost from_gives = { λ _ fault. fault ≡ Memory };
+
+    fn from(_: AllocFailed<T>) -> GrammarFault {
+        GrammarFault::Memory
+    }
+}

@@ -1,0 +1,105 @@
+//! The tables of names that a grammar is read with.
+ghost use Rattle.std.specs.Prelude.{◌≡◌, ◌++◌, ◌≤◌, IfErr, IfOk, OnOk, filter, length, map};
+ghost use Rattle.lrpar_grammar_words.specs.Words.{placed};
+ghost use Rattle.lrpar_grammar_words.specs.Outline.{alternative_of, outline_of};
+ghost use Rattle.lrpar_grammar_reader.specs.Spells.{AreDistinct, HasFault, is_quoted, is_token, used_tokens};
+
+use crate::names::Names;
+use crate::parts::GrammarFault;
+use lrpar_grammar_words::outline::Outline;
+use lrpar_grammar_words::words::{Word, WordKind};
+use std::alloc::{AllocError, Global};
+
+/// The rules, the declared tokens, all tokens, and the tokens of the `%epp`s of a grammar text.
+#[derive(Drop)]
+pub struct Tables<'a> {
+    pub rules: Names<'a>,
+    pub declared: Names<'a>,
+    pub tokens: Names<'a>,
+    pub epps: Names<'a>,
+}
+
+impl<'a> Tables<'a> {
+    ghost use Rattle.lrpar_grammar_reader.specs.Spells.{numbering_of};
+    ghost use Rattle.lrpar_grammar_reader.specs.TextNames.{numbering_by};
+
+    /// The tables of an outline. `RepeatedEpp` comes at a second `%epp` of one name, and `Memory` where it doesn't suffice. A second
+    /// `%start` is looked for before.
+    pub fn new(alloc: Global, outline: &Outline<'a>) -> Result<Self, GrammarFault>
+        requires { length (outline_of outline.now).starts ≤ 1 }
+        ensures numbering { IfOk result (λ tables. numbering_by tables ≡ numbering_of (outline_of outline.now)) }
+        ensures epps { IfOk result (λ tables. tables.epps ≡ (outline_of outline.now).epps) }
+        ensures distinct { OnOk result (AreDistinct (outline_of outline.now).epps) }
+        ensures err { IfErr result (HasFault (outline_of outline.now)) }
+    {
+        let epps = Names::of_epps(alloc, outline)?;
+        let rules = Names::first_of_each(alloc, &outline.defined)?;
+        let declared = Names::first_of_each(alloc, &outline.declared)?;
+        let words = token_words(alloc, outline, &declared)?;
+        let tokens = Names::first_of_each(alloc, &words)?;
+        Ok(Tables {
+            rules,
+            declared,
+            tokens,
+            epps,
+        })
+    }
+}
+
+/// Whether the word stands for a token.
+pub fn is_token(word: &Word, declared: &Names) -> bool
+    ensures { result ≡ is_token declared.now (placed word.now) }
+{
+    is_quoted(word.kind) || declared.contains(word.name)
+}
+
+// Whether the word is a quoted one.
+fn is_quoted(kind: WordKind) -> bool
+    ensures { result ≡ is_quoted kind }
+{
+    matches!(kind, WordKind::Quoted)
+}
+
+// The declared tokens, and after them those that the alternatives use.
+fn token_words<'a>(
+    alloc: Global,
+    outline: &Outline<'a>,
+    declared: &Names,
+) -> Result<Vec<Word<'a>>, AllocError>
+    ensures { IfOk result (λ words. map placed words.items ≡ map placed (outline.now).declared.items
+        ++ used_tokens declared.now (map alternative_of (outline.now).alternatives.items)) }
+{
+    let mut words = Vec::new(alloc);
+    push_all(&mut words, &outline.declared)?;
+    for alternative in &outline.alternatives {
+        push_tokens(&mut words, &alternative.symbols, declared)?;
+    }
+    Ok(words)
+}
+
+// Puts the words behind the others.
+fn push_all<'a>(words: &mut Vec<Word<'a>>, more: &[Word<'a>]) -> Result<(), AllocError>
+    ensures { OnOk result (map placed words.new.items ≡ map placed words.old.items ++ map placed more.now) }
+{
+    for word in more {
+        words.push(*word)?;
+    }
+    Ok(())
+}
+
+// Puts those that stand for tokens behind the others.
+fn push_tokens<'a>(
+    words: &mut Vec<Word<'a>>,
+    symbols: &[Word<'a>],
+    declared: &Names,
+) -> Result<(), AllocError>
+    ensures { OnOk result (map placed words.new.items
+        ≡ map placed words.old.items ++ filter (is_token declared.now) (map placed symbols.now)) }
+{
+    for word in symbols {
+        if is_token(word, declared) {
+            words.push(*word)?;
+        }
+    }
+    Ok(())
+}

@@ -1,0 +1,7 @@
+//! The words of a grammar text, and the declarations and rules that they make.
+#![tactic(auto)]
+
+pub mod laws;
+pub mod outline;
+pub mod shape;
+pub mod words;

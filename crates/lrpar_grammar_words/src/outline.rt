@@ -1,0 +1,168 @@
+//! The declarations and rules of a grammar text.
+ghost use Rattle.std.specs.Prelude.{◌≡◌, IfOk, IfErr, OnOk};
+ghost use Rattle.lrpar_grammar_words.specs.Words.{placed};
+ghost use Rattle.lrpar_grammar_words.specs.declared.outline.OutlineFault.TheVariants.{Memory};
+
+use crate::shape::{Expected, Role};
+use crate::words::{Word, piece_at, word_at};
+use std::alloc::{AllocError, AllocFailed, Global};
+use std::mem;
+
+/// An alternative of a rule.
+#[derive(Drop)]
+pub struct Alternative<'a> {
+    /// The rule that was defined last before it.
+    pub rule: Word<'a>,
+    /// Its symbols.
+    pub symbols: Vec<Word<'a>>,
+    /// The `|` or `;` that ends it.
+    pub end: Word<'a>,
+}
+
+/// The declarations and rules of a grammar text, as lists of words in the order of the text.
+pub struct Outline<'a> {
+    /// The names after `%start`.
+    pub starts: Vec<Word<'a>>,
+    /// The tokens that a `%token` declares.
+    pub declared: Vec<Word<'a>>,
+    /// The token of each `%epp`.
+    pub epps: Vec<Word<'a>>,
+    /// The printed text of each `%epp`.
+    pub epp_texts: Vec<Word<'a>>,
+    /// The rules that are defined.
+    pub defined: Vec<Word<'a>>,
+    /// The alternatives of the rules.
+    pub alternatives: Vec<Alternative<'a>>,
+    // the symbols of an alternative that hasn't ended
+    pub(crate) symbols: Vec<Word<'a>>,
+}
+
+// A drop of its own, so that what lets go of one elsewhere proves one call.
+impl<'a> Drop for Outline<'a> {
+    fn drop(self) {
+        let Outline {
+            starts,
+            declared,
+            epps,
+            epp_texts,
+            defined,
+            alternatives,
+            symbols,
+        } = self;
+        drop(starts);
+        drop(declared);
+        drop(epps);
+        drop(epp_texts);
+        drop(defined);
+        drop(alternatives);
+        drop(symbols);
+    }
+}
+
+/// Why a text has no outline.
+#[derive(Drop)]
+pub enum OutlineFault {
+    /// The text isn't one of a grammar: at this byte stands the first word that can't be read or can't stand there, a
+    /// quote or comment that isn't closed, or the end that comes too early.
+    Syntax(usize),
+    /// Memory was wanting.
+    Memory,
+}
+
+impl From<AllocError> for OutlineFault {
+    ghost from_gives = { λ _ fault. fault ≡ Memory };
+
+    fn from(_: AllocError) -> OutlineFault {
+        OutlineFault::Memory
+    }
+}
+
+impl<T: Drop> From<AllocFailed<T>> for OutlineFault {
+    ghost from_gives = { λ _ fault. fault ≡ Memory };
+
+    fn from(_: AllocFailed<T>) -> OutlineFault {
+        OutlineFault::Memory
+    }
+}
+
+impl<'a> Outline<'a> {
+    ghost use Rattle.lrpar_grammar_words.specs.Outline.{outline_of, no_words, with_word, AreOfDefinedRules, HasOrderedSymbols, IsOutlineOf, IsRefused};
+
+    /// The declarations and rules of the text. Takes time and memory linear in the text.
+    pub fn read(alloc: Global, text: &'a str) -> Result<Self, OutlineFault>
+        ensures outline { IfOk result (λ o. IsOutlineOf text.now (outline_of o)) }
+        ensures rules { IfOk result (λ o. AreOfDefinedRules (outline_of o)) }
+        ensures order { IfOk result (λ o. HasOrderedSymbols (outline_of o)) }
+        ensures refused { IfErr result (IsRefused text.now) }
+    {
+        let bytes = text.as_bytes();
+        let mut outline = Outline::new(alloc);
+        let mut expected = Expected::Declaration;
+        let mut place = 0;
+        while place < bytes.len() {
+            let Some(piece) = piece_at(&bytes[place..]) else {
+                return Err(OutlineFault::Syntax(place));
+            };
+            if let Some(kind) = piece.word {
+                let Some((role, next)) = expected.after(kind) else {
+                    return Err(OutlineFault::Syntax(place));
+                };
+                let word = word_at(text, place, kind, piece.len);
+                outline.take(alloc, role, word)?;
+                expected = next;
+            }
+            place += piece.len;
+        }
+        if expected.may_end() {
+            Ok(outline)
+        } else {
+            Err(OutlineFault::Syntax(place))
+        }
+    }
+
+    // The outline of a text without words.
+    fn new(alloc: Global) -> Self
+        ensures { outline_of result ≡ no_words }
+    {
+        Outline {
+            starts: Vec::new(alloc),
+            declared: Vec::new(alloc),
+            epps: Vec::new(alloc),
+            epp_texts: Vec::new(alloc),
+            defined: Vec::new(alloc),
+            alternatives: Vec::new(alloc),
+            symbols: Vec::new(alloc),
+        }
+    }
+
+    // Takes one more word, by what it stands for.
+    #[tactic(auto, unfolding(lrpar_grammar_words::specs::Outline::with_word))]
+    fn take(&mut self, alloc: Global, role: Role, word: Word<'a>) -> Result<(), AllocError>
+        ensures { OnOk result (outline_of self.new ≡ with_word (outline_of self.old) role (placed word.entry)) }
+    {
+        match role {
+            Role::Sign => {}
+            Role::Start => self.starts.push(word)?,
+            Role::Declared => self.declared.push(word)?,
+            Role::EppOf => self.epps.push(word)?,
+            Role::Epp => self.epp_texts.push(word)?,
+            Role::Defined => self.defined.push(word)?,
+            Role::Symbol => self.symbols.push(word)?,
+            Role::AlternativeEnd => self.end_alternative(alloc, word)?,
+        }
+        Ok(())
+    }
+
+    // Ends the alternative of the symbols so far.
+    #[tactic(auto, unfolding(lrpar_grammar_words::specs::Outline::with_word))]
+    fn end_alternative(&mut self, alloc: Global, end: Word<'a>) -> Result<(), AllocError>
+        ensures { OnOk result (outline_of self.new ≡ with_word (outline_of self.old) Role.AlternativeEnd (placed end.entry)) }
+    {
+        let symbols = mem::replace(&mut self.symbols, Vec::new(alloc));
+        if let Some(rule) = self.defined.last() {
+            let rule = *rule;
+            self.alternatives.push(Alternative { rule, symbols, end })?;
+        }
+        Ok(())
+    }
+}

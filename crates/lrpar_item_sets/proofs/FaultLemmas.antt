@@ -1,8 +1,0 @@
--- What a `?` hands on.
-use Rattle.std.proofs.Common.{◌≡◌, sym, subst, Result, Ok, Err, IsErrAnd, IfErr}
-use Rattle.lrpar_closure.specs.declared.fault.BuildFault.{BuildFault}
-
--- the fault that a `?` hands on
-pub fault_same : {T : Type 0} (r : Result T BuildFault) (P : BuildFault → Type 0) (fault : BuildFault) → IsErrAnd r (λ other. other ≡ fault) → P fault → IfErr r P
-fault_same (Ok x) P fault is holds = tt
-fault_same (Err other) P fault is holds = subst P (sym is) holds

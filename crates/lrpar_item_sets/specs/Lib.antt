@@ -1,5 +1,0 @@
-pub mod Canonical
-pub mod Kernels
-pub mod Numbers
-pub mod States
-pub mod StateRows

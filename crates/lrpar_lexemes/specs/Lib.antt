@@ -1,5 +1,0 @@
-pub mod Lexemes
-pub mod Repair
-pub mod RepairLaws
-pub mod Repairs
-pub mod FaultText

@@ -1,0 +1,11 @@
+pub mod LexemeLemmas
+pub mod ParseLemmas
+pub mod FoldLemmas
+pub mod ActedEntryLemmas
+pub mod ActedLemmas
+pub mod SumLemmas
+pub mod RepairRunLemmas
+pub mod StopStackLemmas
+pub mod RepairWayLemmas
+pub mod ExpectedLemmas
+pub mod FaultComparisonLemmas

@@ -1,0 +1,12 @@
+-- The fault for which a list of lexemes is refused.
+use Rattle.std.specs.Prelude.{◌≡◌, ◌↔◌, ℕ, List, Option, Some, None}
+use Rattle.lrpar_grammar.specs.Grammar.{Grammar}
+use Rattle.lrpar_grammar.specs.Sentence.{LexemeFacts, IsFirstBadToken, IsFirstEarlyStart, IsValidList}
+use Rattle.lrpar_parse.specs.declared.fault.ParseFault.{ParseFault}
+use Rattle.lrpar_parse.specs.declared.fault.ParseFault.TheVariants.{BadToken, StartsDecrease}
+
+-- it names the first lexeme that has a fault, with its fault, and there is none exactly where the list is valid
+pub record IsLexemeFault (g : Grammar) (lexemes : List LexemeFacts) (fault : Option ParseFault) : Type 0 where
+  pub bad_token : (i : ℕ) → (fault ≡ Some (BadToken i)) ↔ IsFirstBadToken g lexemes i
+  pub starts_decrease : (i : ℕ) → (fault ≡ Some (StartsDecrease i)) ↔ IsFirstEarlyStart g lexemes i
+  pub none : (fault ≡ None) ↔ IsValidList g lexemes

@@ -1,0 +1,39 @@
+//! A lexer's answer: its lexemes or its first error.
+ghost use Rattle.std.specs.Prelude.{◌≡◌, IfOk, MatchResult, Some, None};
+ghost use Rattle.lrpar_parse.specs.Lexed.{first_error, lexemes_of};
+
+use std::alloc::{AllocError, Global};
+
+/// The lexemes, or the first lexing error, wherever it stands.
+pub(crate) fn lexemes_or_error<LexemeT: Drop, LexErrorT: Drop>(
+    alloc: Global,
+    answers: Vec<Result<LexemeT, LexErrorT>>,
+) -> Result<Result<Vec<LexemeT>, LexErrorT>, AllocError>
+    ensures { IfOk result (λ lexed. MatchResult lexed
+        (λ lexemes. (first_error answers.items ≡ None) × (lexemes.items ≡ lexemes_of answers.items))
+        (λ error. first_error answers.items ≡ Some error)) }
+{
+    let (lexemes, error) = lexemes_before_error(alloc, answers)?;
+    match error {
+        None => Ok(Ok(lexemes)),
+        Some(error) => Ok(Err(error)),
+    }
+}
+
+/// The lexemes in front of the first lexing error, and that error; all of them, where there is none.
+pub(crate) fn lexemes_before_error<LexemeT: Drop, LexErrorT: Drop>(
+    alloc: Global,
+    answers: Vec<Result<LexemeT, LexErrorT>>,
+) -> Result<(Vec<LexemeT>, Option<LexErrorT>), AllocError>
+    ensures lexemes { IfOk result (λ lexed. lexed.0.items ≡ lexemes_of answers.items) }
+    ensures error { IfOk result (λ lexed. lexed.1 ≡ first_error answers.items) }
+{
+    let mut lexemes = Vec::with_capacity(alloc, answers.len())?;
+    for answer in answers {
+        match answer {
+            Ok(lexeme) => lexemes.push(lexeme)?,
+            Err(error) => return Ok((lexemes, Some(error))),
+        }
+    }
+    Ok((lexemes, None))
+}

@@ -1,0 +1,14 @@
+//! The parse calls: lexers in, a value or a tree and errors out.
+#![tactic(auto)]
+
+mod actions;
+mod expected;
+pub mod fault;
+pub mod generictree;
+pub mod laws;
+mod lexed;
+pub mod lexeme_fault;
+pub mod parser;
+mod shifts;
+
+pub use parser::RTParserBuilder;

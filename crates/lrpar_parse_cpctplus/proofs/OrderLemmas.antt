@@ -1,0 +1,154 @@
+-- The order of the repairs that are answered: what is tried before a repair is earlier than it, no repair comes first before itself, and a
+-- stable sort leaves those that tie in their order.
+use Rattle.std.proofs.Common.{◌≡◌, ◌≢◌, ◌<◌, ◌∙◌, ◌⊎◌, inl, inr, ℕ, zero, suc, List, [], ◌∷◌, ◌++◌, Bool, true, false, cond, filter, length, get_or, map, refl, sym, subst, ap, arith, All, AllPairs}
+use Rattle.std.specs.List.Sorted.{IsStableBy, ties}
+use Rattle.std.proofs.lemmas.List.{append_cancel_left, get_or-map, length-map}
+use Rattle.std.proofs.lemmas.List.Elements.{All-map}
+use Rattle.std.proofs.lemmas.List.Kept.{AllPairs-cons, AllPairs-filter}
+use Rattle.lrpar_parse_repair.specs.Asked.{Asked}
+use Rattle.lrpar_parse_repair.specs.Sequences.{PlainStep, PlainInsert, PlainDelete, PlainShift}
+use Rattle.lrpar_parse_cpctplus.specs.Order.{ComesFirst, IsEarlier, IsStepBefore}
+use Rattle.lrpar_parse_cpctplus.specs.Reaching.{GoesAsFar}
+use Rattle.lrpar_parse_cpctplus.specs.Walking.{IsStepOf, rank_of}
+use Rattle.lrpar_parse_cpctplus.proofs.BeforeLemmas.{AreStepsOf, IsBefore}
+use Rattle.lrpar_parse_cpctplus.proofs.ReachLemmas.{goes_one_far}
+
+-- of two steps the one of the smaller rank comes before the other
+step_before : (end : ℕ) (x y : PlainStep) → IsStepOf end x → IsStepOf end y → rank_of end x < rank_of end y → IsStepBefore x y
+step_before end (PlainInsert t) (PlainInsert u) a b less = less
+step_before end (PlainInsert t) PlainDelete a b less = tt
+step_before end (PlainInsert t) PlainShift a b less = tt
+step_before end PlainDelete (PlainInsert u) a b less = absurd (omega (arith, b, less))
+step_before end PlainDelete PlainDelete a b less = absurd (omega (arith, less))
+step_before end PlainDelete PlainShift a b less = tt
+step_before end PlainShift (PlainInsert u) a b less = absurd (omega (arith, b, less))
+step_before end PlainShift PlainDelete a b less = absurd (omega (arith, less))
+step_before end PlainShift PlainShift a b less = absurd (omega (arith, less))
+
+-- what comes before a path with one step more is earlier, or the path begins with it
+pub earlier_or_begins : (end : ℕ) (q p : List PlainStep) (s : PlainStep) → AreStepsOf end q → AreStepsOf end (p ++ s ∷ []) → IsBefore end q p (rank_of end s)
+    → IsEarlier q (p ++ s ∷ []) ⊎ ((rest : List PlainStep) × (p ≡ q ++ rest))
+earlier_or_begins end [] p s is are h = inr (p, refl)
+earlier_or_begins end (x ∷ q) [] s is are h =
+    inl (record {
+      same = [];
+      x = x;
+      y = s;
+      after_x = q;
+      after_y = [];
+      left = refl;
+      right = refl;
+      before = step_before end x s is.0 are.0 h;
+    })
+earlier_or_begins end (x ∷ q) (y ∷ p) s is are h =
+    elim h as (λ _. IsEarlier (x ∷ q) (y ∷ (p ++ s ∷ [])) ⊎ ((rest : List PlainStep) × (y ∷ p ≡ x ∷ (q ++ rest)))) [
+      | inl less ↦ inl (record {
+        same = [];
+        x = x;
+        y = y;
+        after_x = q;
+        after_y = p ++ s ∷ [];
+        left = refl;
+        right = refl;
+        before = step_before end x y is.0 are.0 less;
+      })
+      | inr both ↦ elim (earlier_or_begins end q p s is.1 are.1 both.1)
+          as (λ _. IsEarlier (x ∷ q) (y ∷ (p ++ s ∷ [])) ⊎ ((rest : List PlainStep) × (y ∷ p ≡ x ∷ (q ++ rest)))) [
+            | inl e ↦ inl (record {
+              same = x ∷ e.same;
+              x = e.x;
+              y = e.y;
+              after_x = e.after_x;
+              after_y = e.after_y;
+              left = ap (λ (l : List PlainStep). x ∷ l) e.left;
+              right = ap (λ (z : PlainStep). z ∷ (p ++ s ∷ [])) (sym both.0) ∙ ap (λ (l : List PlainStep). x ∷ l) e.right;
+              before = e.before;
+            })
+            | inr begins ↦ inr (begins.0, ap (λ (z : PlainStep). z ∷ p) (sym both.0) ∙ ap (λ (l : List PlainStep). x ∷ l) begins.1)
+          ]
+    ]
+
+-- no step comes before itself, no sequence is earlier than itself, and no repair comes first before itself
+pub not_before_itself : (x : PlainStep) → ¬ (IsStepBefore x x)
+not_before_itself (PlainInsert t) h = omega (arith, h)
+not_before_itself PlainDelete h = h
+not_before_itself PlainShift h = h
+
+pub earlier_apart : (xs ys : List PlainStep) → IsEarlier xs ys → xs ≢ ys
+earlier_apart xs ys e same =
+    let rest : e.x ∷ e.after_x ≡ e.y ∷ e.after_y =
+    append_cancel_left e.same (e.x ∷ e.after_x) (e.y ∷ e.after_y) (sym e.left ∙ same ∙ e.right) in
+    let first : e.x ≡ e.y = cc in
+    not_before_itself e.y (subst (λ (z : PlainStep). IsStepBefore z e.y) first e.before)
+
+pub first_apart : {X : Type 0} (token : X → ℕ) (at : Asked X) (xs ys : List PlainStep) → ComesFirst token at xs ys → xs ≢ ys
+first_apart token at xs ys h same =
+    let there = subst (λ (l : List PlainStep). GoesAsFar token at l h.1) (sym same) h.3 in
+    let one = goes_one_far token at xs h.0 h.1 h.2 there in
+    elim h.4 as (λ _. ⊥) [ inl less ↦ omega (arith, less, one) | inr both ↦ earlier_apart xs ys both.1 same ]
+
+-- pairs of a list, in order
+module _ {A : Type 0} (R : A → A → Type 0) where
+  pub pairs_head : (x : A) (xs : List A) → AllPairs R (x ∷ xs) → All (R x) xs
+  pairs_head x xs h k d within = h zero (suc k) d (omega arith) (omega (arith, within))
+
+  pub pairs_tail : (x : A) (xs : List A) → AllPairs R (x ∷ xs) → AllPairs R xs
+  pairs_tail x xs h i j d less within = h (suc i) (suc j) d (omega (arith, less)) (omega (arith, within))
+
+  kept_tail : (b : Bool) (x : A) (xs : List A) → AllPairs R (cond b (x ∷ xs) xs) → AllPairs R xs
+  kept_tail true x xs h = pairs_tail x xs h
+  kept_tail false x xs h = h
+
+pub pairs_none : {A : Type 0} (R : A → A → Type 0) → AllPairs R []
+pairs_none R i j d less within = absurd (omega (arith, within))
+
+pub pairs_weaker : {A : Type 0} (R Q : A → A → Type 0) → ((x y : A) → R x y → Q x y) → (xs : List A) → AllPairs R xs → AllPairs Q xs
+pairs_weaker R Q weaker xs h i j d less within = weaker (get_or xs i d) (get_or xs j d) (h i j d less within)
+
+-- of what a list is mapped to
+pub pairs_map : {A B : Type 0} (R : B → B → Type 0) (f : A → B) (xs : List A) → AllPairs (λ x y. R (f x) (f y)) xs → AllPairs R (map f xs)
+pairs_map R f [] h = pairs_none R
+pairs_map R f (x ∷ xs) h =
+    AllPairs-cons R (f x) (map f xs) (All-map (R (f x)) f xs (pairs_head (λ x y. R (f x) (f y)) x xs h))
+    (pairs_map R f xs (pairs_tail (λ x y. R (f x) (f y)) x xs h))
+
+pub pairs_mapped : {A B : Type 0} (R : B → B → Type 0) (f : A → B) (xs : List A) → AllPairs R (map f xs) → AllPairs (λ x y. R (f x) (f y)) xs
+pairs_mapped R f [] h = pairs_none (λ x y. R (f x) (f y))
+pairs_mapped R f (x ∷ xs) h =
+    AllPairs-cons (λ x y. R (f x) (f y)) x xs (all_mapped (R (f x)) f xs (pairs_head R (f x) (map f xs) h))
+    (pairs_mapped R f xs (pairs_tail R (f x) (map f xs) h))
+  where
+    all_mapped : {A B : Type 0} (P : B → Type 0) (f : A → B) (ys : List A) → All P (map f ys) → All (λ y. P (f y)) ys
+    all_mapped P f ys all k d within =
+        let there : get_or (map f ys) k (f d) ≡ f (get_or ys k d) = get_or-map f ys k d (f d) within in
+        subst P there (all k (f d) (omega (arith, within, length-map ys f)))
+
+-- elements that pass
+kept_all : {A : Type 0} (P : A → Type 0) (b : Bool) (x : A) (xs : List A) → All P (cond b (x ∷ xs) xs) → All P xs
+kept_all P true x xs h = λ k d within. h (suc k) d (omega (arith, within))
+kept_all P false x xs h = h
+
+all_that_pass : {A : Type 0} (P : A → Type 0) (p : A → Bool) (xs : List A) → All P (filter p xs) → (k : ℕ) (d : A) → k < length xs → p (get_or xs k d) ≡ true
+    → P (get_or xs k d)
+all_that_pass P p [] h k d within passes = absurd (omega (arith, within))
+all_that_pass P p (x ∷ xs) h zero d within passes =
+    let whole : filter p (x ∷ xs) ≡ x ∷ filter p xs = ap (λ (b : Bool). cond b (x ∷ filter p xs) (filter p xs)) passes in
+    subst (λ l. All P l) whole h zero d (omega arith)
+all_that_pass P p (x ∷ xs) h (suc k) d within passes =
+    all_that_pass P p xs (kept_all P (p x) x (filter p xs) h) k d (omega (arith, within)) passes
+
+-- elements that tie
+module _ {A : Type 0} (R : A → A → Type 0) (tie : A → A → Bool) (itself : (x : A) → tie x x ≡ true) where
+  tied_pairs : (xs : List A) → ((x : A) → AllPairs R (filter (tie x) xs)) → AllPairs (λ x y. tie x y ≡ true → R x y) xs
+  tied_pairs [] h = pairs_none (λ x y. tie x y ≡ true → R x y)
+  tied_pairs (x ∷ xs) h =
+      let whole : filter (tie x) (x ∷ xs) ≡ x ∷ filter (tie x) xs = ap (λ (b : Bool). cond b (x ∷ filter (tie x) xs) (filter (tie x) xs)) (itself x) in
+      let first = pairs_head R x (filter (tie x) xs) (subst (λ l. AllPairs R l) whole (h x)) in
+      AllPairs-cons (λ x y. tie x y ≡ true → R x y) x xs (λ k d within. all_that_pass (R x) (tie x) xs first k d within)
+      (tied_pairs xs (λ y. kept_tail R (tie y x) x (filter (tie y) xs) (h y)))
+
+-- a stable sort leaves those that tie in their order
+pub stable_pairs : {A : Type 0} (R : A → A → Type 0) (lt : A → A → Bool) → ((x : A) → ties lt x x ≡ true) → (xs ys : List A) → AllPairs R xs → IsStableBy lt xs ys
+    → AllPairs (λ x y. ties lt x y ≡ true → R x y) ys
+stable_pairs {A} R lt itself xs ys h stable =
+    tied_pairs R (ties lt) itself ys (λ x. subst (λ (l : List A). AllPairs R l) (sym (stable x)) (AllPairs-filter R (ties lt x) xs h))

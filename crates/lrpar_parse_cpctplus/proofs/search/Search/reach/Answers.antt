@@ -1,0 +1,76 @@
+use Rattle.std.proofs.Common.{◌≡◌, ◌<◌, ◌≤◌, ◌+◌, ◌∙◌, ◌↔◌, ℕ, IsTrue, List, ap, arith, length, min, refl, subst}
+use Rattle.std.specs.Int.{from_bool}
+use Rattle.lrpar_table_check.specs.Checked.{Checked}
+use Rattle.lrpar_table_stacks.specs.Expected.{AcceptsAtEnd}
+use Rattle.lrpar_table_stacks.specs.Overlay.{overlaid}
+use Rattle.lrpar_parse_lexemes.specs.Known.{token_by}
+use Rattle.lrpar_parse_cpctplus.specs.Reaching.{is_far}
+use Rattle.lrpar_parse_cpctplus.specs.SearchView.{ReachesFrom}
+use Rattle.lrpar_parse_cpctplus.proofs.ReachLemmas.{reach_ends, reach_fails, reach_fed}
+use Rattle.lrpar_parse_cpctplus.proofs.search.Search.reach.Goals as goal
+
+pub feeding-init : goal.feeding-init
+feeding-init g c = record { stack = c.requires.stack; base = refl; last = omega arith; left = λ far h. h }
+
+pub returns-in_default-clause-reach : goal.returns-in_default-clause-reach
+returns-in_default-clause-reach g c =
+    let token = token_by g.StorageT.StorageIndex.index g.LexemeT.Lexeme.parts in
+    let at = c.args.self.now.point.now in
+    let l = c.feeding in
+    let long : length c.lexemes-end.result.now ≡ length at.lexemes = ap (λ (ls : List g.row.LexemeT.Denot). length ls) c.lexemes-end.ensures.lexemes in
+    let within : l.at < at.place + 250 = omega (arith, c.feeding-test.true, c.min-at-end.ensures, c.saturating_add-most.ensures, c.place.ensures.place) in
+    let inside : l.at < length at.lexemes = omega (arith, c.feeding-test.true, c.min-at-end.ensures, long) in
+    l.invariant.left l.at
+    (reach_fails token at.checked.grammar at.checked.table at.lexemes (at.place + 250) (overlaid l.states) (overlaid c.shift.new.states) l.at _ within inside
+    c.in_ok-_next.ensures.taken c.in_default.is)
+
+pub feeding-preserved : goal.feeding-preserved
+feeding-preserved g c =
+    let token = token_by g.StorageT.StorageIndex.index g.LexemeT.Lexeme.parts in
+    let at = c.args.self.now.point.now in
+    let l = c.feeding in
+    let within : l.at < at.place + 250 = omega (arith, c.feeding-test.true, c.min-at-end.ensures, c.saturating_add-most.ensures, c.place.ensures.place) in
+    record {
+      stack = c.in_ok-_next.ensures.stack;
+      base = c.in_ok-_next.ensures.base ∙ l.invariant.base;
+      last = omega (arith, c.feeding-test.true);
+      left = λ far rest.
+          l.invariant.left far
+          (reach_fed token at.checked.grammar at.checked.table at.lexemes (at.place + 250) (overlaid l.states) (overlaid c.shift.new.states) l.at c.in-Some._next _ within
+          c.in_ok-_next.ensures.taken c.in-Some.is far rest);
+    }
+
+pub returns-then-max-end-clause-reach : goal.returns-then-max-end-clause-reach
+returns-then-max-end-clause-reach g c =
+    let index = g.StorageT.StorageIndex.index in
+    let search = c.args.self.now in
+    let at = search.point.now in
+    let l = c.feeding in
+    let long : length c.lexemes-end.result.now ≡ length at.lexemes = ap (λ (ls : List g.row.LexemeT.Denot). length ls) c.lexemes-end.ensures.lexemes in
+    let short = c.if-max-end.true in
+    let most : at.place + 250 ≡ c.saturating_add-most.result =
+    omega (arith, short, c.max.ensures, c.saturating_add-most.ensures, c.place.ensures.place, c.lexemes-end.type_inv.0) in
+    let past : at.place + 250 ≤ l.at =
+    omega (arith, most, short, c.max.ensures, c.feeding-test.false, c.min-at-end.ensures) in
+    let inside : l.at < length at.lexemes = omega (arith, long, short, c.max.ensures, l.invariant.last, c.min-at-end.ensures) in
+    subst (λ (n : ℕ). ReachesFrom index g.LexemeT.Lexeme.parts search (overlaid c.args.states.now) c.args.place n) most
+    (l.invariant.left (at.place + 250) (is_far (overlaid l.states) l.at past inside))
+
+pub returns-clause-reach : goal.returns-clause-reach
+returns-clause-reach g c =
+    let index = g.StorageT.StorageIndex.index in
+    let token = token_by index g.LexemeT.Lexeme.parts in
+    let search = c.args.self.now in
+    let at = search.point.now in
+    let l = c.feeding in
+    let long : length c.lexemes-end.result.now ≡ length at.lexemes = ap (λ (ls : List g.row.LexemeT.Denot). length ls) c.lexemes-end.ensures.lexemes in
+    let past : length at.lexemes ≤ l.at =
+    omega (arith, long, c.if-max-end.false, c.max.ensures, c.feeding-test.false, c.min-at-end.ensures, c.feeding.auto.at) in
+    let last : l.at ≤ length at.lexemes = omega (arith, long, l.invariant.last, c.min-at-end.ensures, c.requires.within) in
+    let told = subst (λ (d : Checked). IsTrue c.in_ok-ends.ends ↔ AcceptsAtEnd d.grammar d.table (overlaid l.states)) c.data.ensures.data c.in_ok-ends.ensures.accepts in
+    let far = reach_ends token at.checked.grammar at.checked.table at.lexemes (at.place + 250) (overlaid l.states) l.at c.in_ok-ends.ends past told in
+    let same : min l.at (at.place + 250) ≡ c.min.result =
+    omega (arith, past, last, long, c.min.ensures, c.saturating_add-most.ensures, c.place.ensures.place, c.lexemes-end.type_inv.0) in
+    let sum : min l.at (at.place + 250) + from_bool c.in_ok-ends.ends ≡ c.min.result + c.from.result = rw (same, c.from.ensures) refl in
+    subst (λ (n : ℕ). ReachesFrom index g.LexemeT.Lexeme.parts search (overlaid c.args.states.now) c.args.place n) sum
+    (l.invariant.left (min l.at (at.place + 250) + from_bool c.in_ok-ends.ends) far)

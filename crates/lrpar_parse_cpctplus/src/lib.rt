@@ -1,0 +1,12 @@
+//! The recoverer CPCT+: a search for the repairs of least cost.
+#![tactic(auto)]
+
+mod cpct_plus;
+mod fault;
+pub mod laws;
+mod search;
+mod tally;
+mod walk;
+
+pub use cpct_plus::CpctPlus;
+pub use fault::CostFault;

@@ -1,0 +1,4 @@
+pub mod SequenceTextLemmas
+pub mod FailureLemmas
+pub mod ErrorTextLemmas
+pub mod LexParseTextLemmas

@@ -1,0 +1,46 @@
+use Rattle.std.proofs.Common.{refl}
+use Rattle.std.specs.String.{string_bytes}
+use Rattle.lrpar_parse_errors.specs.Printed.{printed_by}
+use Rattle.lrpar_parse_errors.proofs.SequenceTextLemmas.{err_same}
+use Rattle.lrpar_parse_errors.proofs.ErrorTextLemmas.{listed_none, listed_next, listed_all, fault_listed, sequence_fits}
+use Rattle.lrpar_parse_errors.proofs.error_text.push_listed.Goals as goal
+
+pub loop-i-init : goal.loop-i-init
+loop-i-init g c = listed_none _ _ _ _
+
+pub push_sequence-requires : goal.push_sequence-requires
+push_sequence-requires g c κs =
+    let index = g.StorageT.StorageIndex.index in
+    let span = λ (x : g.row.LexerTypesT-LexemeT.Denot). (g.LexerTypesT.LexemeT.Lexeme.parts x).span in (
+      (refl, tt),
+      (
+        c.requires.epp,
+        sequence_fits index span (g.L.NonStreamingLexer.text c.args.lexer.now) c.args.sequences.now c.loop-i.i c.index-sequences-i.result c.loop-i-test.true c.index-sequences-i.is c.requires.fits,
+      ),
+    )
+
+pub returns-in_err-push_sequence-clause-fault : goal.returns-in_err-push_sequence-clause-fault
+returns-in_err-push_sequence-clause-fault g c =
+    let index = g.StorageT.StorageIndex.index in
+    let span = λ (x : g.row.LexerTypesT-LexemeT.Denot). (g.LexerTypesT.LexemeT.Lexeme.parts x).span in
+    err_same c.from_residual-in_err-push_sequence.result _ c.in_err-push_sequence.field-0.0 c.from_residual-in_err-push_sequence.ensures.1
+    (fault_listed index span (printed_by index (λ t name. g.F.Fn.post c.args.epp.now (t, tt) name)) (g.L.NonStreamingLexer.text c.args.lexer.now) c.args.most
+    c.args.sequences.now c.loop-i.i c.index-sequences-i.result (string_bytes c.args.out.now) (string_bytes c.loop-i.out) c.in_err-push_sequence.field-0.0
+    c.loop-i-test.true c.index-sequences-i.is c.loop-i.invariant c.in_err-push_sequence.ensures.fault)
+
+pub loop-i-preserved : goal.loop-i-preserved
+loop-i-preserved g c =
+    let index = g.StorageT.StorageIndex.index in
+    let span = λ (x : g.row.LexerTypesT-LexemeT.Denot). (g.LexerTypesT.LexemeT.Lexeme.parts x).span in
+    let text = c.in_ok-push_sequence.ensures.text in
+    listed_next index span (printed_by index (λ t name. g.F.Fn.post c.args.epp.now (t, tt) name)) (g.L.NonStreamingLexer.text c.args.lexer.now) c.args.most
+    c.args.sequences.now c.loop-i.i c.index-sequences-i.result (string_bytes c.args.out.now) (string_bytes c.loop-i.out) (string_bytes c.push_numbering.new.out)
+    text.0 (string_bytes c.push_sequence.new.out)
+    c.loop-i-test.true c.index-sequences-i.is c.loop-i.invariant text.2 c.in_ok-push_numbering.ensures text.1
+
+pub returns-clause-text : goal.returns-clause-text
+returns-clause-text g c =
+    let index = g.StorageT.StorageIndex.index in
+    let span = λ (x : g.row.LexerTypesT-LexemeT.Denot). (g.LexerTypesT.LexemeT.Lexeme.parts x).span in
+    listed_all index span (printed_by index (λ t name. g.F.Fn.post c.args.epp.now (t, tt) name)) (g.L.NonStreamingLexer.text c.args.lexer.now) c.args.most
+    c.args.sequences.now c.loop-i.i (string_bytes c.args.out.now) (string_bytes c.loop-i.out) c.loop-i-test.false c.loop-i.invariant

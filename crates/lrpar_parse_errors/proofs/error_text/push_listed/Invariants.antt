@@ -1,0 +1,15 @@
+use Rattle.std.proofs.Common.{map, take}
+use Rattle.std.specs.String.{string_bytes}
+use Rattle.lrpar_parse_errors.specs.Printed.{printed_by}
+use Rattle.lrpar_parse_lexemes.specs.Repairs.{repairs_of}
+use Rattle.lrpar_parse_errors.specs.SequenceText.{parts_of}
+use Rattle.lrpar_parse_errors.proofs.ErrorTextLemmas.{AreListed}
+use Rattle.lrpar_parse_errors.proofs.error_text.push_listed.Given as goal
+
+-- the sequences so far are listed
+abbrev pub invariant-loop-i : goal.invariant-loop-i
+invariant-loop-i g l =
+    let index = g.StorageT.StorageIndex.index in
+    let span = λ (x : g.row.LexerTypesT-LexemeT.Denot). (g.LexerTypesT.LexemeT.Lexeme.parts x).span in
+    AreListed (printed_by index (λ t name. g.F.Fn.post l.epp (t, tt) name)) (g.L.NonStreamingLexer.text l.lexer) l.most
+    (map (parts_of span) (repairs_of index (take l.i l.sequences))) (string_bytes l.initial.out) (string_bytes l.out)

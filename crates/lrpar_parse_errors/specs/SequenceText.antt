@@ -1,0 +1,76 @@
+-- The texts of sequences of repairs, over the bytes of the input. `names` says what is printed for a token: a name, or
+-- nothing.
+use Rattle.std.specs.Prelude.{◌≡◌, ◌==◌, if◌then◌else◌, ℕ, List, [], ◌∷◌, ◌++◌, codes, slice_range, Option, Some, None}
+use Rattle.std.specs.List.{AllByRecursion, AllZip, flat_map, join_by}
+use Rattle.lrpar_grammar_places.specs.Lines.{is_line_feed}
+use Rattle.lrpar_grammar_places.specs.Span.{Extent, IsPartOf}
+use Rattle.lrpar_parse_lexemes.specs.Repair.{Repair, Inserted, Deleted, Shifted}
+
+-- a text on one line: each line feed prints as the two characters `\n`
+abbrev pub on_one_line : List ℕ → List ℕ
+on_one_line text = flat_map (λ byte. if is_line_feed byte then 92 ∷ 110 ∷ [] else byte ∷ []) text
+
+-- a part of a printed sequence: a token to insert, or a part of the input to delete or to shift
+pub data Part : Type 0 where
+  Inserts : (token : ℕ) → Part
+  Deletes : (span : Extent) → Part
+  Shifts : (span : Extent) → Part
+
+-- A deletion in front of other parts: it is one with a first deletion that starts exactly where it ends.
+abbrev pub joined : Extent → List Part → List Part
+joined a [] = Deletes a ∷ []
+joined a (Inserts t ∷ parts) = Deletes a ∷ Inserts t ∷ parts
+joined a (Shifts b ∷ parts) = Deletes a ∷ Shifts b ∷ parts
+joined a (Deletes b ∷ parts) =
+    if a.end == b.start then Deletes (record { start = a.start; end = b.end }) ∷ parts else Deletes a ∷ Deletes b ∷ parts
+
+-- the parts of a sequence
+abbrev pub parts_of : {X : Type 0} → (X → Extent) → List (Repair X) → List Part
+parts_of span [] = []
+parts_of span (Inserted t ∷ repairs) = Inserts t ∷ parts_of span repairs
+parts_of span (Deleted x ∷ repairs) = joined (span x) (parts_of span repairs)
+parts_of span (Shifted x ∷ repairs) = Shifts (span x) ∷ parts_of span repairs
+
+-- the text of a part
+abbrev pub IsPartText : (ℕ → Option (List ℕ) → Type 0) → List ℕ → Part → List ℕ → Type 0
+IsPartText names input (Inserts t) text = (name : List ℕ) × names t (Some name) × (text ≡ codes "Insert " ++ name)
+IsPartText names input (Deletes span) text = text ≡ codes "Delete " ++ on_one_line (slice_range input span.start span.end)
+IsPartText names input (Shifts span) text = text ≡ codes "Shift " ++ on_one_line (slice_range input span.start span.end)
+
+-- the text of parts: the parts' texts, joined by `, `
+pub record IsPartsText (names : ℕ → Option (List ℕ) → Type 0) (input : List ℕ) (parts : List Part) (text : List ℕ) : Type 0 where
+  pub texts : List (List ℕ)
+  pub each : AllZip (IsPartText names input) parts texts
+  pub is : text ≡ join_by (λ part. part) (codes ", ") texts
+
+-- the parts of the input that a repair or a printed part speaks of lie in it, between two characters
+abbrev pub RepairFits : {X : Type 0} → (X → Extent) → List ℕ → Repair X → Type 0
+RepairFits span input (Inserted t) = Unit {0}
+RepairFits span input (Deleted x) = IsPartOf input (span x)
+RepairFits span input (Shifted x) = IsPartOf input (span x)
+
+abbrev pub PartFits : List ℕ → Part → Type 0
+PartFits input (Inserts t) = Unit {0}
+PartFits input (Deletes span) = IsPartOf input span
+PartFits input (Shifts span) = IsPartOf input span
+
+-- all repairs of a sequence fit
+abbrev pub RepairsFit : {X : Type 0} → (X → Extent) → List ℕ → List (Repair X) → Type 0
+RepairsFit span input repairs = AllByRecursion (RepairFits span input) repairs
+
+-- the token that a part, and the tokens that a list of parts would insert, in order
+abbrev pub inserted_by : Part → List ℕ
+inserted_by (Inserts t) = t ∷ []
+inserted_by (Deletes span) = []
+inserted_by (Shifts span) = []
+
+abbrev pub inserted : List Part → List ℕ
+inserted parts = flat_map inserted_by parts
+
+-- t is the first of the tokens for which nothing is printed: each one in front of it has a name
+pub record IsFirstUnnamed (names : ℕ → Option (List ℕ) → Type 0) (tokens : List ℕ) (t : ℕ) : Type 0 where
+  pub before : List ℕ
+  pub after : List ℕ
+  pub at : tokens ≡ before ++ t ∷ after
+  pub named : AllByRecursion (λ u. (name : List ℕ) × names u (Some name)) before
+  pub unnamed : names t None

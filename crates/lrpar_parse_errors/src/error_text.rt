@@ -1,0 +1,222 @@
+//! The texts of errors.
+ghost use Rattle.std.specs.Prelude.{◌≡◌, ◌++◌, ◌↔◌, List, ℕ, IfOk, OnOk, IfErr, IsTrue, map};
+ghost use Rattle.std.specs.List.{AllByRecursion, AllZip};
+ghost use Rattle.std.specs.String.{string_bytes};
+ghost use Rattle.std.specs.Str.{IsCharBoundary};
+ghost use Rattle.lrpar_parse_errors.specs.ErrorText.{numbered, numbering, place_text, repairs_text, tokens_of};
+ghost use Rattle.lrpar_parse_errors.specs.Printed.{IsPpFault, printed_by};
+ghost use Rattle.lrpar_parse_lexemes.specs.Repairs.{repair_of, repairs_of};
+ghost use Rattle.lrpar_grammar.specs.SpansFit.{IsPartOf};
+ghost use Rattle.lrpar_parse_errors.specs.SequenceText.{IsPartsText, RepairFits, RepairsFit, parts_of};
+
+use crate::errors::LexParseError;
+use crate::sequence_text::push_sequence;
+use crate::spaces::push_spaces;
+use lrpar_grammar::span::{Span, StorageIndex, TIdx};
+use lrpar_parse_lexemes::lex_api::{LexError, Lexeme, LexerTypes, NonStreamingLexer};
+use lrpar_parse_lexemes::{ParseRepair, PpFault};
+use std::alloc::{AllocError, Global};
+
+impl<StorageT: StorageIndex, LexerTypesT: LexerTypes<StorageT = StorageT>> LexParseError<
+    StorageT,
+    LexerTypesT,
+> {
+    ghost use Rattle.lrpar_parse_errors.specs.LexParseText.{ErrorFits, IsErrorText, error_tokens};
+
+    /// Whether each part of the input that the error speaks of starts and ends between two characters of the input. Takes
+    /// time linear in the repairs, and no memory.
+    pub fn fits(&self, input: &str) -> bool
+        ensures { IsTrue result ↔ ErrorFits LexerTypesT.LexErrorT.place (λ x. (LexerTypesT.LexemeT.parts x).span) input.now self.now }
+    {
+        match self {
+            LexParseError::LexError(error) => is_part(error.span(), input),
+            LexParseError::ParseError(error) => {
+                is_part(error.lexeme().span(), input) && sequences_fit(error.repairs(), input)
+            }
+        }
+    }
+
+    /// The text of the error. Where it starts it says `Lexing error at line L column C.` or
+    /// `Parsing error at line L column C.`, of the start of the part or of the lexeme in question. Lines and columns count
+    /// from 1, and columns count characters.
+    ///
+    /// After a parse error follows ` No repair sequences found.`, or ` Repair sequences found:` and a line for each
+    /// sequence, with its number, right-aligned, and its steps, parted by `, `: `Insert` and what `epp` prints for the
+    /// token, `Delete` or `Shift` and a part of the input. Deletions that touch are one step. A line feed in a part of the
+    /// input prints as the two characters `\n`.
+    ///
+    /// Each part of the input that the error speaks of has to start and end between two characters of the lexer's input.
+    /// `NoPrintedName` is answered exactly where `epp` has no text for a token to insert, and names the first such token.
+    /// The answer is `Memory` if memory runs out. Takes time linear in the text, but for what the lexer takes for
+    /// the line and the column.
+    pub fn pp<
+        'input,
+        L: NonStreamingLexer<'input, LexerTypesT>,
+        F: Fn(TIdx<StorageT>) -> Option<&'input str> + Drop,
+    >(&self, alloc: Global, lexer: &L, epp: F) -> Result<String, PpFault<StorageT>>
+        requires epp { F.IsAlwaysCallable epp }
+        requires fits { ErrorFits LexerTypesT.LexErrorT.place (λ x. (LexerTypesT.LexemeT.parts x).span) (L.text lexer.now) self.now }
+        ensures text { IfOk result (λ text. IsErrorText LexerTypesT.LexErrorT.place (λ x. (LexerTypesT.LexemeT.parts x).span)
+            (printed_by StorageT.index (F.post epp)) (L.text lexer.now) self.now (string_bytes text)) }
+        ensures fault { IfErr result (IsPpFault StorageT.index
+            (printed_by StorageT.index (F.post epp)) (error_tokens (λ x. (LexerTypesT.LexemeT.parts x).span) self.now)) }
+    {
+        let mut out = String::new(alloc);
+        match self {
+            LexParseError::LexError(error) => {
+                push_place(&mut out, lexer, "Lexing error", error.span())?;
+                Ok(out)
+            }
+            LexParseError::ParseError(error) => {
+                push_place(&mut out, lexer, "Parsing error", error.lexeme().span())?;
+                push_repairs(&mut out, alloc, lexer, &epp, error.repairs())?;
+                Ok(out)
+            }
+        }
+    }
+}
+
+// Whether the part starts and ends in the input, between two characters each time.
+fn is_part(span: Span, input: &str) -> bool
+    ensures { IsTrue result ↔ IsPartOf input.now span }
+{
+    input.is_char_boundary(span.start()) && input.is_char_boundary(span.end())
+}
+
+// Whether the lexemes of all sequences lie in the input.
+fn sequences_fit<LexemeT: Lexeme<StorageT>, StorageT: StorageIndex>(
+    sequences: &[Vec<ParseRepair<LexemeT, StorageT>>],
+    input: &str,
+) -> bool
+    ensures { IsTrue result ↔ AllByRecursion (RepairsFit (λ x. (LexemeT.parts x).span) input.now) (repairs_of StorageT.index sequences.now) }
+{
+    for sequence in sequences {
+        if !repairs_fit(sequence, input) {
+            return false;
+        }
+    }
+    true
+}
+
+// Whether the lexemes of a sequence lie in the input.
+fn repairs_fit<LexemeT: Lexeme<StorageT>, StorageT: StorageIndex>(
+    repairs: &[ParseRepair<LexemeT, StorageT>],
+    input: &str,
+) -> bool
+    ensures { IsTrue result ↔ RepairsFit (λ x. (LexemeT.parts x).span) input.now (map (repair_of StorageT.index) repairs.now) }
+{
+    for repair in repairs {
+        if !repair_fits(repair, input) {
+            return false;
+        }
+    }
+    true
+}
+
+// Whether the lexeme of a repair lies in the input, where it has one.
+fn repair_fits<LexemeT: Lexeme<StorageT>, StorageT: StorageIndex>(
+    repair: &ParseRepair<LexemeT, StorageT>,
+    input: &str,
+) -> bool
+    ensures { IsTrue result ↔ RepairFits (λ x. (LexemeT.parts x).span) input.now (repair_of StorageT.index repair.now) }
+{
+    match repair {
+        ParseRepair::Insert(_) => true,
+        ParseRepair::Delete(lexeme) | ParseRepair::Shift(lexeme) => is_part(lexeme.span(), input),
+    }
+}
+
+// Adds what is wrong, with the line and the column of the start of the span.
+fn push_place<'input, LexerTypesT: LexerTypes, L: NonStreamingLexer<'input, LexerTypesT>>(
+    out: &mut String,
+    lexer: &L,
+    what: &str,
+    span: Span,
+) -> Result<(), AllocError>
+    requires start { IsCharBoundary (L.text lexer.now) span.start }
+    requires end { IsCharBoundary (L.text lexer.now) span.end }
+    ensures { OnOk result (string_bytes out.new ≡ string_bytes out.old ++ place_text what.now (L.text lexer.now) span.start) }
+{
+    let ((line, column), _) = lexer.line_col(span);
+    write!(out, "{what} at line {line} column {column}.")
+}
+
+// Adds what stands in front of a sequence: its number, right-aligned below numbers of so many digits at most.
+fn push_numbering(
+    out: &mut String,
+    alloc: Global,
+    most: usize,
+    number: usize,
+) -> Result<(), AllocError>
+    ensures { OnOk result (string_bytes out.new ≡ string_bytes out.old ++ numbering most number) }
+{
+    let number = number.to_string(alloc)?;
+    out.push_str("\n  ")?;
+    push_spaces(out, most.saturating_sub(number.len()))?;
+    out.push(' ')?;
+    out.push_str(number.as_str())?;
+    out.push_str(": ")
+}
+
+// Adds the text of the sequences of an error.
+fn push_repairs<
+    'input,
+    StorageT: StorageIndex,
+    LexerTypesT: LexerTypes<StorageT = StorageT>,
+    L: NonStreamingLexer<'input, LexerTypesT>,
+    F: Fn(TIdx<StorageT>) -> Option<&'input str>,
+>(
+    out: &mut String,
+    alloc: Global,
+    lexer: &L,
+    epp: &F,
+    sequences: &[Vec<ParseRepair<LexerTypesT::LexemeT, StorageT>>],
+) -> Result<(), PpFault<StorageT>>
+    requires epp { F.IsAlwaysCallable epp.now }
+    requires fits { AllByRecursion (RepairsFit (λ x. (LexerTypesT.LexemeT.parts x).span) (L.text lexer.now)) (repairs_of StorageT.index sequences.now) }
+    ensures text { OnOk result ((texts : List (List ℕ)) × (string_bytes out.new ≡ string_bytes out.old ++ repairs_text texts)
+        × AllZip (IsPartsText (printed_by StorageT.index (F.post epp.now)) (L.text lexer.now))
+        (map (parts_of (λ x. (LexerTypesT.LexemeT.parts x).span)) (repairs_of StorageT.index sequences.now)) texts) }
+    ensures fault { IfErr result (IsPpFault StorageT.index
+        (printed_by StorageT.index (F.post epp.now))
+        (tokens_of (λ x. (LexerTypesT.LexemeT.parts x).span) (repairs_of StorageT.index sequences.now))) }
+{
+    if sequences.is_empty() {
+        out.push_str(" No repair sequences found.")?;
+        return Ok(());
+    }
+    out.push_str(" Repair sequences found:")?;
+    let most = sequences.len().to_string(alloc)?.len();
+    push_listed(out, alloc, lexer, epp, most, sequences)
+}
+
+// Adds the sequences, each behind its number, where the numbers have so many digits at most.
+fn push_listed<
+    'input,
+    StorageT: StorageIndex,
+    LexerTypesT: LexerTypes<StorageT = StorageT>,
+    L: NonStreamingLexer<'input, LexerTypesT>,
+    F: Fn(TIdx<StorageT>) -> Option<&'input str>,
+>(
+    out: &mut String,
+    alloc: Global,
+    lexer: &L,
+    epp: &F,
+    most: usize,
+    sequences: &[Vec<ParseRepair<LexerTypesT::LexemeT, StorageT>>],
+) -> Result<(), PpFault<StorageT>>
+    requires epp { F.IsAlwaysCallable epp.now }
+    requires fits { AllByRecursion (RepairsFit (λ x. (LexerTypesT.LexemeT.parts x).span) (L.text lexer.now)) (repairs_of StorageT.index sequences.now) }
+    ensures text { OnOk result ((texts : List (List ℕ)) × (string_bytes out.new ≡ string_bytes out.old ++ numbered most 1 texts)
+        × AllZip (IsPartsText (printed_by StorageT.index (F.post epp.now)) (L.text lexer.now))
+        (map (parts_of (λ x. (LexerTypesT.LexemeT.parts x).span)) (repairs_of StorageT.index sequences.now)) texts) }
+    ensures fault { IfErr result (IsPpFault StorageT.index
+        (printed_by StorageT.index (F.post epp.now))
+        (tokens_of (λ x. (LexerTypesT.LexemeT.parts x).span) (repairs_of StorageT.index sequences.now))) }
+{
+    for (i, sequence) in sequences.iter().enumerate() {
+        push_numbering(out, alloc, most, i + 1)?;
+        push_sequence(out, lexer, epp, sequence)?;
+    }
+    Ok(())
+}

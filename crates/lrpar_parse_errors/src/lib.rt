@@ -1,0 +1,10 @@
+//! Parse errors with their repairs, and the texts of both.
+#![tactic(auto)]
+
+mod error_text;
+pub mod errors;
+pub mod printed_parts;
+mod sequence_text;
+pub mod spaces;
+
+pub use errors::{LexParseError, ParseError, ParseRepair, PpFault};

@@ -1,0 +1,63 @@
+//! The parts of a printed sequence of repairs.
+ghost use Rattle.std.specs.Prelude.{◌≡◌, ◌<◌, ◌≤◌, ◌∷◌, [], MatchOption, IfSome, length};
+ghost use Rattle.lrpar_parse_errors.specs.SequenceText.{joined};
+ghost use Rattle.lrpar_parse_errors.specs.PrintedParts.{part_of, sequence_parts};
+
+use lrpar_grammar_places::span::{Span, StorageIndex, TIdx};
+use lrpar_parse_lexemes::ParseRepair;
+use lrpar_parse_lexemes::lex_api::Lexeme;
+
+/// A part of a printed sequence.
+#[derive(Clone, Copy, Drop)]
+pub enum Part<StorageT> {
+    /// A token to insert.
+    Insert(TIdx<StorageT>),
+    /// A part of the input to delete: that of one lexeme, or of lexemes that touch.
+    Delete(Span),
+    /// A lexeme to shift.
+    Shift(Span),
+}
+
+/// The first part of a sequence, and the repairs behind it: none where the sequence is at its end.
+pub fn next_part<LexemeT: Lexeme<StorageT>, StorageT: StorageIndex>(
+    repairs: &[ParseRepair<LexemeT, StorageT>],
+) -> Option<(Part<StorageT>, &[ParseRepair<LexemeT, StorageT>])>
+    ensures shorter { IfSome result (λ next. length next.1.now < length repairs.now) }
+    ensures next { MatchOption result
+        (sequence_parts StorageT.index (λ x. (LexemeT.parts x).span) repairs.now ≡ [])
+        (λ next. sequence_parts StorageT.index (λ x. (LexemeT.parts x).span) repairs.now
+        ≡ part_of StorageT.index next.0 ∷ sequence_parts StorageT.index (λ x. (LexemeT.parts x).span) next.1.now) }
+{
+    let (first, others) = repairs.split_first()?;
+    Some(match first {
+        ParseRepair::Insert(tidx) => (Part::Insert(*tidx), others),
+        ParseRepair::Shift(lexeme) => (Part::Shift(lexeme.span()), others),
+        ParseRepair::Delete(lexeme) => {
+            let (span, behind) = deletion(lexeme.span(), others);
+            (Part::Delete(span), behind)
+        }
+    })
+}
+
+// The deletion that begins with `first`, and the repairs behind it: each deletion in `repairs` that starts exactly where
+// the one in front of it ends belongs to it.
+fn deletion<LexemeT: Lexeme<StorageT>, StorageT: StorageIndex>(
+    first: Span,
+    repairs: &[ParseRepair<LexemeT, StorageT>],
+) -> (Span, &[ParseRepair<LexemeT, StorageT>])
+    ensures shorter { length result.1.now ≤ length repairs.now }
+    ensures whole { joined first (sequence_parts StorageT.index (λ x. (LexemeT.parts x).span) repairs.now)
+        ≡ part_of StorageT.index (Part.Delete result.0) ∷ sequence_parts StorageT.index (λ x. (LexemeT.parts x).span) result.1.now }
+{
+    let mut end = first.end();
+    let mut rest = repairs;
+    while let Some((ParseRepair::Delete(lexeme), others)) = rest.split_first() {
+        let next = lexeme.span();
+        if next.start() != end {
+            break;
+        }
+        end = next.end();
+        rest = others;
+    }
+    (Span::new(first.start(), end), rest)
+}

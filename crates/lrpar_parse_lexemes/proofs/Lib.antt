@@ -1,0 +1,2 @@
+pub mod RepairLemmas
+pub mod PlaceLemmas

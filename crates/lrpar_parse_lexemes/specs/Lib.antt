@@ -1,0 +1,6 @@
+pub mod Lexemes
+pub mod Repair
+pub mod RepairLaws
+pub mod Repairs
+pub mod FaultText
+pub mod Known

@@ -1,0 +1,23 @@
+-- Repairs of the program as those of the definitions; `index` is the number that a storage number stands for.
+use Rattle.std.specs.Prelude.{◌++◌, ℕ, pos, List, map, Vec}
+use Rattle.std.specs.Hash as fed
+use Rattle.lrpar_parse_lexemes.specs.Repair.{Repair, Inserted, Deleted, Shifted}
+use Rattle.lrpar_parse_lexemes.specs.declared.repairs.ParseRepair.{ParseRepair}
+use Rattle.lrpar_parse_lexemes.specs.declared.repairs.ParseRepair.TheVariants.{Insert, Delete, Shift}
+
+-- one repair
+abbrev pub repair_of : {X S : Type 0} → (S → ℕ) → ParseRepair X S → Repair X
+repair_of index (Insert token) = Inserted (index token.0)
+repair_of index (Delete lexeme) = Deleted lexeme
+repair_of index (Shift lexeme) = Shifted lexeme
+
+-- a list of sequences of repairs
+abbrev pub repairs_of : {X S A : Type 0} → (S → ℕ) → List (Vec (ParseRepair X S) A) → List (List (Repair X))
+repairs_of index sequences = map (λ sequence. map (repair_of index) sequence.items) sequences
+
+-- what a hasher is fed of a repair: 0 for an insertion, 1 for a deletion and 2 for a shift, and then what it is fed of the
+-- token's number or of the lexeme
+abbrev pub repair_input : {X S : Type 0} → (S → List (List ℕ)) → (X → List (List ℕ)) → ParseRepair X S → List (List ℕ)
+repair_input number lexeme (Insert token) = fed.isize (pos 0) ++ number token.0
+repair_input number lexeme (Delete deleted) = fed.isize (pos 1) ++ lexeme deleted
+repair_input number lexeme (Shift shifted) = fed.isize (pos 2) ++ lexeme shifted

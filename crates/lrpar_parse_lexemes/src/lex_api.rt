@@ -1,0 +1,105 @@
+//! What a parse takes from its caller: lexemes, lexing errors and lexers.
+ghost use Rattle.std.specs.Prelude.{◌≡◌, ◌+◌, ◌<◌, ◌^◌, ℕ, List, Result, IfOk, true, false, slice_range};
+ghost use Rattle.std.specs.Str.{IsCharBoundary};
+ghost use Rattle.lrpar_grammar_places.specs.Span.{Extent};
+ghost use Rattle.lrpar_parse_lexemes.specs.Lexemes.{LexemeParts, lexeme_parts};
+ghost use Rattle.lrpar_grammar_places.specs.Lines.{lines_of, line_of, column_of};
+
+use lrpar_grammar_places::span::Span;
+use std::alloc::{AllocError, Global};
+use std::error::Error;
+use std::fmt::{Debug, Display};
+use std::hash::Hash;
+
+/// The types that a lexer and its parser share.
+pub trait LexerTypes: Debug + Clone {
+    /// The lexemes.
+    type LexemeT: Lexeme<Self::StorageT>;
+
+    /// What tokens, rules, productions and states are numbered by. Parsers ask that it be a `StorageIndex`.
+    type StorageT;
+
+    /// What the lexer answers where no token fits.
+    type LexErrorT: LexError;
+}
+
+/// A part of the input that stands for one token.
+pub trait Lexeme<StorageT>: Copy + Debug + Display + Eq + Hash {
+    /// The lexeme's token, where it lies, and whether a repair made it.
+    ghost parts: { Self → LexemeParts StorageT };
+
+    /// The lexeme of token `tok_id` with `len` bytes from byte `start` on. It isn't faulty.
+    fn new(tok_id: StorageT, start: usize, len: usize) -> Self
+        requires fits { start + len < 2 ^ 64 }
+        ensures parts { parts result ≡ lexeme_parts tok_id start len false };
+
+    /// The lexeme that `new` gives for the same arguments, but faulty: a repair made it, and the input needn't have it.
+    fn new_faulty(tok_id: StorageT, start: usize, len: usize) -> Self
+        requires fits { start + len < 2 ^ 64 }
+        ensures parts { parts result ≡ lexeme_parts tok_id start len true };
+
+    /// The number of the lexeme's token.
+    fn tok_id(&self) -> StorageT
+        ensures token { result ≡ (parts self.now).token };
+
+    /// Where the lexeme lies, in bytes.
+    fn span(&self) -> Span
+        ensures span { result ≡ (parts self.now).span };
+
+    /// Whether the lexeme is faulty: a repair made it.
+    fn faulty(&self) -> bool
+        ensures faulty { result ≡ (parts self.now).faulty };
+}
+
+/// A part of the input that no token fits.
+pub trait LexError: Error {
+    /// Where the part lies.
+    ghost place: { Self → Extent };
+
+    /// Where the part lies, in bytes.
+    fn span(&self) -> Span
+        ensures place { result ≡ place self.now };
+}
+
+/// What gives a parse its lexemes.
+pub trait Lexer<LexerTypesT: LexerTypes> {
+    /// The answers that `iter` may give.
+    ghost allows: { Self → List (Result LexerTypesT.LexemeT LexerTypesT.LexErrorT) → Type 0 };
+
+    /// The lexemes and the lexing errors of the whole input, in order. A lexer may stop at an error or go on past it,
+    /// and may answer another list the next time. It fails if memory runs out.
+    fn iter(
+        &self,
+        alloc: Global,
+    ) -> Result<Vec<Result<LexerTypesT::LexemeT, LexerTypesT::LexErrorT>>, AllocError>
+        ensures allowed { IfOk result (λ answers. allows self.now answers.items) };
+}
+
+/// A lexer that has its whole input, and so can give parts of it, and lines and columns.
+pub trait NonStreamingLexer<'input, LexerTypesT: LexerTypes>: Lexer<LexerTypesT> {
+    /// The input's bytes.
+    ghost text: { Self → List ℕ };
+
+    /// The input at `span`, which must start and end between two characters of the input.
+    fn span_str(&self, span: Span) -> &'input str
+        requires start { IsCharBoundary (text self.now) span.start }
+        requires end { IsCharBoundary (text self.now) span.end }
+        ensures part { result.now ≡ slice_range (text self.now) span.start span.end };
+
+    /// The input's lines from that of the start of `span` to that of its end, without the last line feed. The span
+    /// must start and end between two characters of the input.
+    fn span_lines_str(&self, span: Span) -> &'input str
+        requires start { IsCharBoundary (text self.now) span.start }
+        requires end { IsCharBoundary (text self.now) span.end }
+        ensures lines { result.now ≡ lines_of (text self.now) span.start span.end };
+
+    /// The line and the column of the start of `span`, and those of its end, each counted from 1, and columns in
+    /// characters. The span must start and end between two characters of the input.
+    fn line_col(&self, span: Span) -> ((usize, usize), (usize, usize))
+        requires start { IsCharBoundary (text self.now) span.start }
+        requires end { IsCharBoundary (text self.now) span.end }
+        ensures start_line { result.0.0 ≡ line_of (text self.now) span.start }
+        ensures start_column { result.0.1 ≡ column_of (text self.now) span.start }
+        ensures end_line { result.1.0 ≡ line_of (text self.now) span.end }
+        ensures end_column { result.1.1 ≡ column_of (text self.now) span.end };
+}

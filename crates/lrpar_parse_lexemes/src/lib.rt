@@ -1,0 +1,12 @@
+//! Lexemes, lexers, and the repairs of an input.
+#![tactic(auto)]
+
+pub mod laws;
+pub mod lex_api;
+pub mod places;
+pub mod pp_fault;
+pub mod repairs;
+
+pub use lex_api::{LexError, Lexeme, Lexer, LexerTypes, NonStreamingLexer};
+pub use pp_fault::PpFault;
+pub use repairs::ParseRepair;

@@ -1,0 +1,34 @@
+-- Where a run with repairs stops first, by the sentences of a grammar, over a table that was built of it. Up to there it is a run
+-- without repairs. `facts` is what is known of a lexeme, and `allows` tells which answers the recoverer may give at a point.
+use Rattle.std.specs.Prelude.{ℕ, List, [], ◌∷◌, Option, map, take}
+use Rattle.lrpar_grammar.specs.Grammar.{Grammar, IsWellFormed}
+use Rattle.lrpar_grammar.specs.Sentence.{LexemeFacts}
+use Rattle.lrpar_table_rows.specs.Graph.{Graph}
+use Rattle.lrpar_table_rows.specs.Table.{Table, IsClosed}
+use Rattle.lrpar_table_build.specs.Built.{IsBuilt}
+use Rattle.lrpar_table_conditions.specs.Complete.{IsComplete}
+use Rattle.lrpar_parse_repair.specs.Recovery.{Point}
+use Rattle.lrpar_parse_run.specs.RepairRun.{RepairRun, RepairStop}
+use Rattle.lrpar_parse_repair.specs.Sequences.{PlainStep}
+use Rattle.lrpar_table_sentences.specs.Reached.{EachReachedHasTree}
+use Rattle.lrpar_parse_prefixes.specs.Viable.{BeginSentence, GoWrongAt}
+
+-- runs with repairs over lexemes of this kind, from the start state at the first lexeme, where k lexemes have to follow a repair
+module _ {X : Type 0} (facts : X → LexemeFacts) (allows : Point X → List (List PlainStep) → Type 0) where
+  -- the lexemes in front of the first stop begin a sentence
+  abbrev pub FirstErrorsComeInTime : Type 0
+  FirstErrorsComeInTime =
+      (k : ℕ) (g : Grammar) (graph : Graph) (table : Table) (lexemes : List X) (first : RepairStop) (later : List RepairStop)
+      (consumed : Option (List X)) (prods : List ℕ)
+      → IsWellFormed g → IsClosed table → IsBuilt g graph table → EachReachedHasTree g
+      → RepairRun facts allows k g table lexemes (table.start ∷ []) 0 (first ∷ later) consumed prods
+      → BeginSentence g (map (λ x. (facts x).token) (take first.stop.place lexemes))
+
+  -- where the table is complete, it is where the lexemes go wrong
+  abbrev pub FirstErrorsAreExact : Type 0
+  FirstErrorsAreExact =
+      (k : ℕ) (g : Grammar) (graph : Graph) (table : Table) (lexemes : List X) (first : RepairStop) (later : List RepairStop)
+      (consumed : Option (List X)) (prods : List ℕ)
+      → IsWellFormed g → IsClosed table → IsBuilt g graph table → EachReachedHasTree g → IsComplete g graph table
+      → RepairRun facts allows k g table lexemes (table.start ∷ []) 0 (first ∷ later) consumed prods
+      → GoWrongAt g (map (λ x. (facts x).token) lexemes) first.stop.place

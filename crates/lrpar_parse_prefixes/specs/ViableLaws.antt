@@ -1,0 +1,50 @@
+-- What runs without repairs feed, expect and refuse, by the sentences of a grammar, over a table that was built of it. A run begins
+-- with the start state alone, at the first lexeme. Lexemes may be of any type: their tokens are what counts.
+use Rattle.std.specs.Prelude.{◌↔◌, ℕ, List, map, take}
+use Rattle.lrpar_grammar.specs.Grammar.{Grammar, IsWellFormed}
+use Rattle.lrpar_grammar.specs.Sentence.{IsSentence}
+use Rattle.lrpar_table_rows.specs.Graph.{Graph}
+use Rattle.lrpar_table_rows.specs.Table.{Table, IsClosed}
+use Rattle.lrpar_table_build.specs.Built.{IsBuilt}
+use Rattle.lrpar_table_conditions.specs.Complete.{IsComplete}
+use Rattle.lrpar_table_check.specs.CompleteRuns.{RunsTo}
+use Rattle.lrpar_table_stacks.specs.Expected.{IsExpected}
+use Rattle.lrpar_table_check.specs.ExpectedRuns.{FeedsFront}
+use Rattle.lrpar_table_stacks.specs.Run.{Stop, Stopped}
+use Rattle.lrpar_table_sentences.specs.Reached.{EachReachedHasTree}
+use Rattle.lrpar_parse_prefixes.specs.Viable.{AreSentence, BeginSentence, CanFollow, GoWrongAt}
+
+-- lexemes are a sentence exactly where their tokens are
+abbrev pub SentencesAreOfTokens : Type 0 → Type 0
+SentencesAreOfTokens X =
+    (token : X → ℕ) (g : Grammar) (lexemes : List X) → IsSentence token g lexemes ↔ AreSentence g (map token lexemes)
+
+-- Runs keep to sentences: the lexemes that are fed begin one; each token that may come next goes on to one, or is the end token where
+-- they are one; and where a run stops, the lexemes in front of that place begin one: no error comes too late
+pub record KeepsToSentences {X : Type 0} (token : X → ℕ) (g : Grammar) (table : Table) : Type 0 where
+  pub fed : (lexemes : List X) (i : ℕ) (st : List ℕ) → FeedsFront token g table lexemes i st → BeginSentence g (map token (take i lexemes))
+  pub next : (lexemes : List X) (i : ℕ) (st : List ℕ) → FeedsFront token g table lexemes i st → (t : ℕ) → IsExpected g table st t
+      → CanFollow g (map token (take i lexemes)) t
+  pub stop : (lexemes : List X) (prods : List ℕ) (stop : Stop) → RunsTo token g table lexemes prods (Stopped stop)
+      → BeginSentence g (map token (take stop.place lexemes))
+
+-- Runs follow the sentences: the tokens that may come next are exactly those that can; and a run stops exactly where its lexemes go
+-- wrong: at the first one with which no sentence begins, or at the end
+pub record FollowsSentences {X : Type 0} (token : X → ℕ) (g : Grammar) (table : Table) : Type 0 where
+  pub next : (lexemes : List X) (i : ℕ) (st : List ℕ) → FeedsFront token g table lexemes i st
+      → (t : ℕ) → IsExpected g table st t ↔ CanFollow g (map token (take i lexemes)) t
+  pub stop : (lexemes : List X) (prods : List ℕ) (stop : Stop) → RunsTo token g table lexemes prods (Stopped stop)
+      → GoWrongAt g (map token lexemes) stop.place
+
+-- over lexemes of type X, runs of a table that was built of a grammar keep to its sentences, where each rule that is reached derives
+-- some text; the table may have conflicts
+abbrev pub BuiltTablesKeepToSentences : Type 0 → Type 0
+BuiltTablesKeepToSentences X =
+    (token : X → ℕ) (g : Grammar) (graph : Graph) (table : Table) → IsWellFormed g → IsClosed table → IsBuilt g graph table
+    → EachReachedHasTree g → KeepsToSentences token g table
+
+-- and where the table is complete, they follow them
+abbrev pub CompleteBuiltTablesFollowSentences : Type 0 → Type 0
+CompleteBuiltTablesFollowSentences X =
+    (token : X → ℕ) (g : Grammar) (graph : Graph) (table : Table) → IsWellFormed g → IsClosed table → IsBuilt g graph table
+    → EachReachedHasTree g → IsComplete g graph table → FollowsSentences token g table

@@ -1,0 +1,7 @@
+pub mod TokenLemmas
+pub mod SequenceLemmas
+pub mod StepComparisonLemmas
+pub mod TestWorkLemmas
+pub mod TrialLemmas
+pub mod ReplayLemmas
+pub mod ListedLemmas

@@ -1,0 +1,22 @@
+use Rattle.std.proofs.Common.{◌≡◌, ◌≤◌, ◌↔◌, drop, length}
+use Rattle.lrpar_table_stacks.specs.Overlay.{overlaid}
+use Rattle.lrpar_table_stacks.specs.Stack.{IsStack}
+use Rattle.lrpar_parse_repair.specs.Counting.{CostsAtMost}
+use Rattle.lrpar_parse_repair.specs.PlainSteps.{plain_steps}
+use Rattle.lrpar_parse_repair.specs.Sequences.{Works}
+use Rattle.lrpar_parse_repair.proofs.trial.Trial.works.Given as goal
+
+-- the steps that are left work from here, exactly where all do from the start
+abbrev pub invariant-loop-step : goal.invariant-loop-step
+invariant-loop-step g l =
+    let index = g.StorageT.StorageIndex.index in
+    let token = λ (x : g.row.LexemeT.Denot). index (g.LexemeT.Lexeme.parts x).token in
+    let d = l.self.checked.now in
+    let works = Works token d.grammar d.table l.self.lexemes.now l.self.shifts in
+    record {
+      stack : IsStack d.table (overlaid l.states.stack);
+      within : l.at ≤ length l.self.lexemes.now;
+      base : l.states.stack.base ≡ l.fn.states.stack.base;
+      cost : CostsAtMost d.cap l.step-index l.fn.states l.states;
+      left : works (overlaid l.states.stack) l.at (plain_steps index (drop l.step-index l.steps)) ↔ works (overlaid l.fn.states.stack) l.fn.place (plain_steps index l.steps);
+    }

@@ -1,0 +1,37 @@
+-- What a recoverer is handed at an error, and what is known of it.
+use Rattle.std.specs.Prelude.{◌≡◌, ◌<◌, ◌≤◌, ℕ, List, length, slice_get, Some}
+use Rattle.lrpar_grammar.specs.Grammar.{end_token}
+use Rattle.lrpar_table_rows.specs.Table.{Fails}
+use Rattle.lrpar_table_check.specs.Checked.{Checked, IsChecked}
+use Rattle.lrpar_table_stacks.specs.Reduction.{top_action}
+use Rattle.lrpar_table_stacks.specs.Run.{token_at}
+use Rattle.lrpar_table_stacks.specs.Stack.{IsStack}
+use Rattle.lrpar_parse_repair.specs.Recovery.{Point}
+use Rattle.lrpar_parse_repair.specs.Sequences.{PlainStep}
+
+-- the checked table; how many lexemes have to follow a repair; the lexemes of the parse; the place of the one that no action takes, one
+-- past the last for the end; and the states of the stack after all reductions at its token, bottom first
+pub record Asked (X : Type 0) : Type 0 where
+  pub checked : Checked
+  pub shifts : ℕ
+  pub lexemes : List X
+  pub place : ℕ
+  pub stack : List ℕ
+
+-- what is asked at a point of a parse
+abbrev pub asked_at : {X : Type 0} → Checked → ℕ → Point X → Asked X
+asked_at d k point = record { checked = d; shifts = k; lexemes = point.lexemes; place = point.place; stack = point.stack }
+
+-- the answers that a recoverer may give at the points of a parse
+abbrev pub allowed_at : {X : Type 0} → (Asked X → List (List PlainStep) → Type 0) → Checked → ℕ → Point X → List (List PlainStep) → Type 0
+allowed_at allows d k point answer = allows (asked_at d k point) answer
+
+-- A parse stops there: at least one lexeme has to follow a repair; the place is one of a lexeme, or one past the last; each lexeme has a
+-- token of the grammar that isn't the end token; the stack is one of the table; and its top has no action at the token of the place
+pub record IsStop {X : Type 0} (token : X → ℕ) (at : Asked X) : Type 0 where
+  pub checked : IsChecked at.checked
+  pub shifts : 0 < at.shifts
+  pub within : at.place ≤ length at.lexemes
+  pub tokens : (i : ℕ) (x : X) → slice_get at.lexemes i ≡ Some x → token x < end_token at.checked.grammar
+  pub stack : IsStack at.checked.table at.stack
+  pub fails : top_action at.checked.table (token_at token at.checked.grammar at.lexemes at.place) at.stack ≡ Fails

@@ -1,0 +1,10 @@
+pub mod TrialView
+pub mod Sequences
+pub mod PlainSteps
+pub mod Mended
+pub mod Recovery
+pub mod StepComparisons
+pub mod TestWork
+pub mod Counting
+pub mod Asked
+pub mod Replays

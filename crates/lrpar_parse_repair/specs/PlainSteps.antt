@@ -1,0 +1,19 @@
+-- Steps of the program as those of the definitions; `index` is the number that a storage number stands for.
+use Rattle.std.specs.Prelude.{ℕ, List, map, Vec}
+use Rattle.lrpar_parse_repair.specs.Sequences.{PlainStep, PlainInsert, PlainDelete, PlainShift}
+use Rattle.lrpar_parse_repair.specs.declared.steps.RepairStep.{RepairStep}
+use Rattle.lrpar_parse_repair.specs.declared.steps.RepairStep.TheVariants.{Insert, Delete, Shift}
+
+-- one step
+abbrev pub plain_step : {S : Type 0} → (S → ℕ) → RepairStep S → PlainStep
+plain_step index (Insert token) = PlainInsert (index token.0)
+plain_step index Delete = PlainDelete
+plain_step index Shift = PlainShift
+
+-- a sequence of steps
+abbrev pub plain_steps : {S : Type 0} → (S → ℕ) → List (RepairStep S) → List PlainStep
+plain_steps index steps = map (plain_step index) steps
+
+-- a list of sequences
+abbrev pub plain_sequences : {S A : Type 0} → (S → ℕ) → List (Vec (RepairStep S) A) → List (List PlainStep)
+plain_sequences index sequences = map (λ steps. plain_steps index steps.items) sequences

@@ -1,0 +1,18 @@
+//! Laws about the definitions that contracts cite: each function has one as its contract, and does nothing.
+ghost use Rattle.std.specs.Prelude.{◌≡◌, ◌↔◌, IsTrue};
+ghost use Rattle.lrpar_grammar_places.specs.Comparisons.{HashesAs};
+ghost use Rattle.lrpar_parse_repair.specs.declared.steps.RepairStep.{RepairStep};
+ghost use Rattle.lrpar_parse_repair.specs.PlainSteps.{plain_step};
+ghost use Rattle.lrpar_parse_repair.specs.StepComparisons.{step_input};
+
+use crate::steps::RepairStep;
+use lrpar_grammar::span::StorageIndex;
+use std::hash::Hash;
+
+/// Two steps are equal exactly where they are of one kind, and insertions have tokens of one number. A hasher is fed which of the
+/// three a step is, and after that, of an insertion, what it is fed of the token's number.
+pub fn steps_are_compared_by_contents<StorageT: StorageIndex>()
+    ensures equal { (x y : RepairStep StorageT) → IsTrue (⟦<RepairStep<StorageT> as PartialEq>⟧.eq x y)
+        ↔ (plain_step StorageT.index x ≡ plain_step StorageT.index y) }
+    ensures hash { HashesAs (step_input StorageT.hash_input) ⟦<RepairStep<StorageT> as PartialEq>⟧.eq ⟦<RepairStep<StorageT> as Hash>⟧.hash_input }
+{}

@@ -1,0 +1,9 @@
+//! Repair sequences: their steps, the recoverers that supply them, and the test whether one works.
+#![tactic(auto)]
+
+pub mod counter;
+pub mod laws;
+pub mod listed_repairs;
+pub mod repair;
+pub mod steps;
+pub mod trial;

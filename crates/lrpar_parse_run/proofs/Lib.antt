@@ -1,0 +1,15 @@
+pub mod ListLemmas
+pub mod ReadLemmas
+pub mod StandingLemmas
+pub mod RisingLemmas
+pub mod MovesLemmas
+pub mod FarLemmas
+pub mod PlacedLemmas
+pub mod StartLemmas
+pub mod AskedLemmas
+pub mod CompleteAnswerLemmas
+pub mod CourseLemmas
+pub mod ReducingLemmas
+pub mod StackedLemmas
+pub mod ReversedLemmas
+pub mod MapLemmas

@@ -1,0 +1,134 @@
+use Rattle.std.proofs.Common.{◌≡◌, ◌<◌, ◌∙◌, Some, inl, inr, length, ap, arith, refl, subst, sym}
+use Rattle.std.specs.Prelude.{map}
+use Rattle.std.proofs.lemmas.Option.{slice_get_read}
+use Rattle.lrpar_grammar.specs.Grammar.{end_token, tokens_len}
+use Rattle.lrpar_table_rows.specs.PlainRows.{plain_action}
+use Rattle.lrpar_table_rows.specs.Table.{Accepts, Fails}
+use Rattle.lrpar_table_stacks.specs.Reduction.{top_action}
+use Rattle.lrpar_parse_lexemes.specs.Known.{facts_by}
+use Rattle.lrpar_parse_lexemes.specs.Lexemes.{start_at}
+use Rattle.lrpar_parse_run.specs.Moves.{GoesFar, RiseUpTo}
+use Rattle.lrpar_parse_run.proofs.FarLemmas.{come_more, come_none, come_to_accept, come_to_last, come_to_stop}
+use Rattle.lrpar_parse_run.proofs.MovesLemmas.{rise_by_settle, rise_to_next}
+use Rattle.lrpar_parse_repair.proofs.TokenLemmas.{good_token}
+use Rattle.lrpar_parse_run.proofs.StackedLemmas.{no_reduce, no_shift}
+use Rattle.lrpar_parse_run.proofs.run.Run.far.Goals as goal
+
+pub loop-at-init : goal.loop-at-init
+loop-at-init g c =
+    let facts = facts_by g.StorageT.StorageIndex.index g.LexemeT.Lexeme.parts in
+    let self = c.args.self.now in
+    record {
+      run_stack = c.requires.run_stack;
+      rises = c.requires.rises;
+      past = omega arith;
+      within = c.requires.within;
+      come = come_none facts (g.B.Build.builds self.build.now) self.checked.now c.args.lexemes.now c.args.stack.now c.args.place;
+    }
+
+pub take-requires : goal.take-requires
+take-requires g c =
+    let facts = facts_by g.StorageT.StorageIndex.index g.LexemeT.Lexeme.parts in
+    let d = c.args.self.now.checked.now in
+    let lexemes = c.args.lexemes.now in
+    let l = c.loop-at in
+    let x = c.index-lexemes-at.result in
+    let is = slice_get_read lexemes (length lexemes) l.at x refl c.loop-at-test.true c.index-lexemes-at.is in
+    let good : (facts x).token < end_token d.grammar = good_token facts d.grammar lexemes l.at x c.requires.valid is in
+    let all : d.table.tokens ≡ tokens_len d.grammar = c.stable-table.ensures.checked.safe.shape.tokens in
+    record {
+      can = c.requires.can;
+      runs = c.stable-table.ensures.runs;
+      token = omega (arith, good, all);
+      inner = λ same. omega (arith, good, same);
+      run_stack = l.invariant.run_stack;
+      rises = (l.invariant.rises.0, l.invariant.rises.2);
+    }
+
+pub returns-then-not-branch : goal.returns-then-not-branch
+returns-then-not-branch g c =
+    let facts = facts_by g.StorageT.StorageIndex.index g.LexemeT.Lexeme.parts in
+    let self = c.args.self.now in
+    let d = self.checked.now in
+    let builds = g.B.Build.builds self.build.now in
+    let lexemes = c.args.lexemes.now in
+    let l = c.loop-at in
+    let x = c.index-lexemes-at.result in
+    let is = slice_get_read lexemes (length lexemes) l.at x refl c.loop-at-test.true c.index-lexemes-at.is in
+    let sticks = c.in_ok-take.ensures.sticks c.if-not-branch.true in
+    record {
+      run_stack = c.in_ok-take.ensures.run_stack;
+      rises = rise_by_settle facts builds d (g.met.B.Build.rising self.build.now d.grammar) (facts x).token (start_at (map facts lexemes) l.at) l.stack c.take.new.stack sticks.settles l.invariant.rises;
+      within = l.invariant.within;
+      far = come_to_stop facts builds d lexemes c.args.stack.now c.args.place l.stack l.at l.invariant.come c.take.new.stack x is sticks;
+    }
+
+pub loop-at-preserved : goal.loop-at-preserved
+loop-at-preserved g c =
+    let facts = facts_by g.StorageT.StorageIndex.index g.LexemeT.Lexeme.parts in
+    let self = c.args.self.now in
+    let d = self.checked.now in
+    let builds = g.B.Build.builds self.build.now in
+    let lexemes = c.args.lexemes.now in
+    let l = c.loop-at in
+    let x = c.index-lexemes-at.result in
+    let is = slice_get_read lexemes (length lexemes) l.at x refl c.loop-at-test.true c.index-lexemes-at.is in
+    let shifts = c.in_ok-take.ensures.shifts c.if-not-branch.false in
+    record {
+      run_stack = c.in_ok-take.ensures.run_stack;
+      rises = rise_to_next facts builds d (g.met.B.Build.rising self.build.now d.grammar) lexemes l.at x l.stack c.take.new.stack c.requires.starts is shifts l.invariant.rises;
+      past = omega (arith, l.invariant.past);
+      within = omega (arith, c.loop-at-test.true);
+      come = come_more facts builds d lexemes c.args.stack.now c.args.place l.stack l.at l.invariant.come c.take.new.stack x l.invariant.past is shifts;
+    }
+
+pub unreachable-requires : goal.unreachable-requires
+unreachable-requires g c =
+    let index = g.StorageT.StorageIndex.index in
+    let self = c.args.self.now in
+    let d = self.checked.now in
+    let builds = g.B.Build.builds self.build.now in
+    let end : index c.eof_token_idx-end.result.0 ≡ end_token d.grammar = rw c.grm.ensures at c.eof_token_idx-end.ensures in
+    let settles = rw end at c.in_ok-settle.ensures.settles in
+    let action = rw end at c.in_ok-settle.ensures.action in
+    elim c.in-Reduce.is [
+      | inl (p, reduce) ↦ no_reduce index builds d _ _ c.settle.new.stack c.in_ok-settle.field-0 p settles action reduce
+      | inr (s, shift) ↦ no_shift index builds.suits d c.settle.new.stack c.in_ok-settle.field-0 s c.stable-table.ensures.runs c.in_ok-settle.ensures.run_stack action shift
+    ]
+
+pub returns-in-Accept-clause-far : goal.returns-in-Accept-clause-far
+returns-in-Accept-clause-far g c =
+    let index = g.StorageT.StorageIndex.index in
+    let self = c.args.self.now in
+    let d = self.checked.now in
+    let lexemes = c.args.lexemes.now in
+    let l = c.loop-at in
+    let end : index c.eof_token_idx-end.result.0 ≡ end_token d.grammar = rw c.grm.ensures at c.eof_token_idx-end.ensures in
+    let settles = rw end at c.in_ok-settle.ensures.settles in
+    let last : l.at ≡ length lexemes = omega (arith, c.loop-at-test.false, l.invariant.within) in
+    let accepts : top_action d.table (end_token d.grammar) c.settle.new.stack.states ≡ Accepts =
+    sym (rw end at c.in_ok-settle.ensures.action) ∙ ap (plain_action index) c.in-Accept.is in
+    come_to_accept (facts_by index g.LexemeT.Lexeme.parts) (g.B.Build.builds self.build.now) d lexemes c.args.stack.now c.args.place l.stack l.at l.invariant.come c.settle.new.stack last settles accepts
+
+pub returns-in-Error : goal.returns-in-Error
+returns-in-Error g c =
+    let index = g.StorageT.StorageIndex.index in
+    let facts = facts_by index g.LexemeT.Lexeme.parts in
+    let self = c.args.self.now in
+    let d = self.checked.now in
+    let builds = g.B.Build.builds self.build.now in
+    let lexemes = c.args.lexemes.now in
+    let l = c.loop-at in
+    let end : index c.eof_token_idx-end.result.0 ≡ end_token d.grammar = rw c.grm.ensures at c.eof_token_idx-end.ensures in
+    let settles = rw end at c.in_ok-settle.ensures.settles in
+    let last : l.at ≡ length lexemes = omega (arith, c.loop-at-test.false, l.invariant.within) in
+    let fails : top_action d.table (end_token d.grammar) c.settle.new.stack.states ≡ Fails =
+    sym (rw end at c.in_ok-settle.ensures.action) ∙ ap (plain_action index) c.in-Error.is in
+    let before = subst (λ n. RiseUpTo builds.rises l.stack.entries (start_at (map facts lexemes) n)) last l.invariant.rises in
+    let here = come_to_last facts builds d lexemes c.args.stack.now c.args.place l.stack l.at l.invariant.come c.settle.new.stack last settles fails in
+    record {
+      run_stack = c.in_ok-settle.ensures.run_stack;
+      rises = rise_by_settle facts builds d (g.met.B.Build.rising self.build.now d.grammar) (end_token d.grammar) (start_at (map facts lexemes) (length lexemes)) l.stack c.settle.new.stack settles before;
+      within = omega arith;
+      far = subst (λ n. GoesFar facts builds d lexemes c.args.stack.now c.args.place (Some n) c.settle.new.stack) last here;
+    }

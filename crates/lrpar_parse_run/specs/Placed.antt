@@ -1,0 +1,32 @@
+-- Entries with their spans, as they stand on the stack of a parse by actions.
+use Rattle.std.specs.Prelude.{◌≡◌, List, map, Option}
+use Rattle.std.specs.Option.{option_map_or}
+use Rattle.lrpar_grammar_places.specs.Span.{Extent, nowhere}
+use Rattle.lrpar_parse_run.specs.Spans.{span_over}
+use Rattle.lrpar_parse_run.specs.declared.placed.Placed.{Placed}
+use Rattle.lrpar_parse_run.specs.declared.values.AStackType.{AStackType}
+use Rattle.lrpar_parse_run.specs.declared.values.AStackType.TheVariants.{ActionType, Lexeme}
+
+-- the spans of entries, and the arguments that they are
+abbrev pub spans_of : {T : Type 0} → List (Placed T) → List Extent
+spans_of es = map (λ e. e.span) es
+
+abbrev pub arguments_of : {T : Type 0} → List (Placed T) → List T
+arguments_of es = map (λ e. e.argument) es
+
+-- the span of an entry; 0..0 for none
+abbrev pub span_before : {T : Type 0} → Option (Placed T) → Extent
+span_before before = option_map_or (λ e. e.span) before nowhere
+
+-- the entry is a lexeme at its place
+pub record IsPlacedLexeme {X V : Type 0} (span : X → Extent) (x : X) (e : Placed (AStackType X V)) : Type 0 where
+  pub lies : e.span ≡ span x
+  pub is : e.argument ≡ Lexeme x
+
+-- The entry is a value over the entries `es`, to the right of `before`. `acts span args v`: at this span there may be the
+-- value v over these arguments.
+pub record IsPlacedValue {X V : Type 0} (acts : Extent → List (AStackType X V) → V → Type 0) (before : Option (Placed (AStackType X V))) (es : List (Placed (AStackType X V))) (e : Placed (AStackType X V)) : Type 0 where
+  pub value : V
+  pub lies : e.span ≡ span_over (span_before before) (spans_of es)
+  pub acted : acts e.span (arguments_of es) value
+  pub is : e.argument ≡ ActionType value

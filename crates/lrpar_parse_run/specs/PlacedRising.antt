@@ -1,0 +1,71 @@
+-- Entries with their spans keep the order of their starts.
+use Rattle.std.proofs.Common.{◌≡◌, ◌≤◌, ℕ, List, [], ◌∷◌, ◌++◌, None, Option, Some, ap, arith, refl}
+use Rattle.std.specs.List.{last_or}
+use Rattle.lrpar_grammar_places.specs.Span.{Extent}
+use Rattle.lrpar_parse_run.specs.Placed.{IsPlacedLexeme, IsPlacedValue, span_before, spans_of}
+use Rattle.lrpar_parse_run.specs.Rising.{KeepsRising}
+use Rattle.lrpar_parse_run.specs.Spans.{Rise, span_over}
+use Rattle.lrpar_parse_run.specs.declared.placed.Placed.{Placed}
+use Rattle.lrpar_parse_run.specs.declared.values.AStackType.{AStackType}
+
+-- the start of the last of these parts; the bound, where there is none
+abbrev pub last_start : ℕ → List Extent → ℕ
+last_start low [] = low
+last_start low (part ∷ parts) = last_start part.start parts
+
+-- parts that rise can be cut: those in front rise to the start of their last one, and those behind from there
+rise_front : (low : ℕ) (xs ys : List Extent) (high : ℕ) → Rise low (xs ++ ys) high → Rise low xs (last_start low xs)
+rise_front low [] ys high rise = omega arith
+rise_front low (x ∷ xs) ys high rise = (rise.0, rise_front x.start xs ys high rise.1)
+
+pub rise_back : (low : ℕ) (xs ys : List Extent) (high : ℕ) → Rise low (xs ++ ys) high → Rise (last_start low xs) ys high
+rise_back low [] ys high rise = rise
+rise_back low (x ∷ xs) ys high rise = rise_back x.start xs ys high rise.1
+
+-- and put together
+rise_both : (low mid : ℕ) (xs ys : List Extent) (high : ℕ) → Rise low xs mid → (last_start low xs ≤ mid → Rise (last_start low xs) ys high) → Rise low (xs ++ ys) high
+rise_both low mid [] ys high front back = back front
+rise_both low mid (x ∷ xs) ys high front back = (front.0, rise_both x.start mid xs ys high front.1 back)
+
+-- the bounds of parts that rise
+rise_within : (low : ℕ) (xs : List Extent) (high : ℕ) → Rise low xs high → low ≤ high
+rise_within low [] high rise = rise
+rise_within low (x ∷ xs) high rise =
+    let first : low ≤ x.start = rise.0 in
+    let rest : x.start ≤ high = rise_within x.start xs high rise.1 in
+    omega arith
+
+-- one part more at the end
+rise_one : (low mid : ℕ) (xs : List Extent) (y : Extent) (high : ℕ) → Rise low xs mid → mid ≤ y.start → y.start ≤ high → Rise low (xs ++ y ∷ []) high
+rise_one low mid xs y high front above below = rise_both low mid xs (y ∷ []) high front (λ least. (omega arith, below))
+
+-- the start of the last of them, as the span before what comes next
+last_start_is : {T : Type 0} (before : Option (Placed T)) (kept : List (Placed T)) → last_start (span_before before).start (spans_of kept) ≡ (span_before (last_or before kept)).start
+last_start_is before [] = refl
+last_start_is before (e ∷ es) = last_start_is (Some e) es
+
+-- the spans of two lists of entries
+pub spans_both : {T : Type 0} (xs ys : List (Placed T)) → spans_of (xs ++ ys) ≡ spans_of xs ++ spans_of ys
+spans_both [] ys = refl
+spans_both (x ∷ xs) ys = ap (λ w. x.span ∷ w) (spans_both xs ys)
+
+-- the entry of a node starts where the order allows
+over_start : (mid : ℕ) (before : Extent) (parts : List Extent) (high : ℕ) → mid ≡ before.start → Rise mid parts high → (mid ≤ (span_over before parts).start) × ((span_over before parts).start ≤ high)
+over_start mid before [] high is rise = (omega (arith, is), omega (arith, is, rise))
+over_start mid before (x ∷ xs) high is rise = (rise.0, rise_within x.start xs high rise.1)
+
+-- entries with their spans keep the order of their starts
+pub placed_rise : {X V : Type 0} (span : X → Extent) (acts : ℕ → Extent → List (AStackType X V) → V → Type 0)
+    → KeepsRising (λ x. (span x).start) (λ x e. IsPlacedLexeme span x e) (λ p before es e. IsPlacedValue {X = X} {V = V} (acts p) before es e) (λ es n. Rise 0 (spans_of es) n)
+placed_rise {X} {V} span acts = record {
+  with_none = omega arith;
+  by_leaf = λ es n x e rise low is.
+      rw (spans_both es (e ∷ []))
+      (rise_one 0 n (spans_of es) e.span (span x).start rise (rw is.lies low) (rw is.lies (omega arith)));
+  by_node = λ kept es n p e rise is.
+      let whole : Rise 0 (spans_of kept ++ spans_of es) n = rw (spans_both kept es) at rise in
+      let front = rise_front 0 (spans_of kept) (spans_of es) n whole in
+      let bounds = over_start (last_start 0 (spans_of kept)) (span_before (last_or None kept)) (spans_of es) n (last_start_is None kept) (rise_back 0 (spans_of kept) (spans_of es) n whole) in
+      rw (spans_both kept (e ∷ []))
+      (rise_one 0 (last_start 0 (spans_of kept)) (spans_of kept) e.span n front (rw is.lies bounds.0) (rw is.lies bounds.1));
+}

@@ -1,0 +1,47 @@
+-- Spans of trees. What stands in front of a tree decides where a node without children is.
+use Rattle.std.specs.Prelude.{◌≡◌, ◌≤◌, ℕ, List, [], ◌∷◌}
+use Rattle.lrpar_grammar_places.specs.Span.{Extent, nowhere}
+use Rattle.lrpar_grammar.specs.Tree.{Tree, Forest, Leaf, Branch, Nil, Cons}
+
+-- The span of a tree after the span `before`, which is 0..0 where nothing stands there. A leaf has its lexeme's. A node
+-- without children has the span before it. Another node runs from its first child's start to its last child's end; its
+-- first child comes after what the node comes after, and each later one after its left neighbour.
+abbrev mutual
+  pub span_after : {X : Type 0} → (X → Extent) → Extent → Tree X → Extent
+  span_after span before (Leaf x) = span x
+  span_after span before (Branch p Nil) = before
+  span_after span before (Branch p (Cons t ts)) =
+      record { start = (span_after span before t).start; end = (last_span span (span_after span before t) ts).end }
+
+  -- the span of the last of these trees, which come after a span; that span, where there is none
+  pub last_span : {X : Type 0} → (X → Extent) → Extent → Forest X → Extent
+  last_span span before Nil = before
+  last_span span before (Cons t ts) = last_span span (span_after span before t) ts
+
+-- the last of a part and those after it
+abbrev pub last_part : Extent → List Extent → Extent
+last_part part [] = part
+last_part part (next ∷ parts) = last_part next parts
+
+-- the span of a node whose children have these spans, after the span `before`
+abbrev pub span_over : Extent → List Extent → Extent
+span_over before [] = before
+span_over before (first ∷ others) = record { start = first.start; end = (last_part first others).end }
+
+-- the starts of these parts don't decrease; they are at least `low` and at most `high`
+abbrev pub Rise : ℕ → List Extent → ℕ → Type 0
+Rise low [] high = low ≤ high
+Rise low (part ∷ parts) high = (low ≤ part.start) × Rise part.start parts high
+
+-- the part from one byte to another
+abbrev pub from_to : ℕ → ℕ → Extent
+from_to start end = record { start = start; end = end }
+
+-- Spans by hand. `S: 'a' L; L: ;` on `a`: L and S are 0..1. `S: L; L: ;` on nothing: both are 0..0.
+-- `S: 'a' T; T: L 'b'; L: ;` on `ab`: L is 0..1, T and S are 0..2. The productions are numbered in this order.
+pub record SpansAreWorkedOut : Type 0 where
+  pub after_lexeme : span_after (λ x. x) nowhere (Branch 0 (Cons (Leaf (from_to 0 1)) (Cons (Branch 1 Nil) Nil))) ≡ from_to 0 1
+  pub of_empty : span_after {X = Extent} (λ x. x) (from_to 0 1) (Branch 1 Nil) ≡ from_to 0 1
+  pub of_nothing : span_after {X = Extent} (λ x. x) nowhere (Branch 0 (Cons (Branch 1 Nil) Nil)) ≡ from_to 0 0
+  pub of_inner : span_after (λ x. x) (from_to 0 1) (Branch 1 (Cons (Branch 2 Nil) (Cons (Leaf (from_to 1 2)) Nil))) ≡ from_to 0 2
+  pub of_whole : span_after (λ x. x) nowhere (Branch 0 (Cons (Leaf (from_to 0 1)) (Cons (Branch 1 (Cons (Branch 2 Nil) (Cons (Leaf (from_to 1 2)) Nil))) Nil))) ≡ from_to 0 2

@@ -1,0 +1,43 @@
+//! Nothing is built: a parse gives its errors alone.
+ghost use Rattle.std.specs.Prelude.{◌≡◌, ◌≤◌, ◌-◌, OnOk, length, take};
+
+use crate::building::Build;
+use lrpar_grammar::grammar::YaccGrammar;
+use lrpar_grammar::span::{PIdx, StorageIndex};
+use lrpar_parse_lexemes::lex_api::Lexeme;
+use std::alloc::{AllocError, Global};
+
+/// Builds nothing, and makes no list.
+#[derive(Drop)]
+pub struct Nothing;
+
+impl<StorageT: StorageIndex, LexemeT: Lexeme<StorageT>> Build<StorageT, LexemeT> for Nothing {
+    type Entry = ();
+
+    ghost builds = { λ b. record {
+      can_build = λ g. Unit {0};
+      suits = λ s e. Unit {0};
+      leaf = λ x e. Unit {0};
+      node = λ g p before es e. Unit {0};
+      rises = λ es n. Unit {0};
+    } };
+
+    fn shifted(&self, _lexeme: LexemeT) {}
+
+    fn reduced(
+        &self,
+        _alloc: Global,
+        _grm: &YaccGrammar<StorageT>,
+        _pidx: &PIdx<StorageT>,
+        count: usize,
+        entries: &mut Vec<()>,
+    ) -> Result<(), AllocError>
+        requires deep { count ≤ length entries.old.items }
+        ensures kept { OnOk result (entries.new.items ≡ take (length entries.old.items - count) entries.old.items) }
+    {
+        entries.truncate(entries.len() - count);
+        Ok(())
+    }
+
+    ghost rising = { λ b g. record { with_none = tt; by_leaf = λ es n x e rise low is. tt; by_node = λ kept es n p e rise is. tt } };
+}

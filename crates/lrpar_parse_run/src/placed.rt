@@ -1,0 +1,29 @@
+//! Where the values that a caller's actions make lie.
+ghost use Rattle.std.specs.Prelude.{◌≡◌, ◌++◌, ℕ};
+ghost use Rattle.std.specs.List.{last_or};
+ghost use Rattle.lrpar_parse_run.specs.Placed.{span_before, spans_of};
+ghost use Rattle.lrpar_parse_run.specs.Spans.{Rise, span_over};
+
+use lrpar_grammar::span::Span;
+
+/// An argument of an action, and where it lies.
+#[derive(Drop)]
+pub struct Placed<T> {
+    pub span: Span,
+    pub argument: T,
+}
+
+/// The span of a production over its own entries, to the right of the others.
+pub fn span_of<T>(before: &[Placed<T>], own: &[Placed<T>]) -> Span
+    requires { (start : ℕ) × Rise 0 (spans_of (before.now ++ own.now)) start }
+    ensures { result ≡ span_over (span_before (last_or None before.now)) (spans_of own.now) }
+{
+    if own.is_empty() {
+        match before.last() {
+            Some(entry) => entry.span,
+            None => Span::new(0, 0),
+        }
+    } else {
+        Span::new(own[0].span.start(), own[own.len() - 1].span.end())
+    }
+}

@@ -1,0 +1,121 @@
+//! The stacks of a run: the states, and what stands between each two neighbours.
+ghost use Rattle.std.specs.Prelude.{◌≡◌, ◌<◌, ◌≤◌, ◌-◌, ℕ, [], ◌∷◌, ◌++◌, length, take, drop, slice_get, Some, OnErr, OnOk, IfOk};
+ghost use Rattle.std.specs.List.{AllZip};
+ghost use Rattle.lrpar_table_stacks.specs.Stack.{states_of, top_of};
+ghost use Rattle.lrpar_grammar.specs.Grammar.{prod_len, rule_of, start_prod, symbols_of};
+ghost use Rattle.lrpar_parse_run.specs.Reducing.{IsBuiltOf};
+
+use crate::building::Build;
+use lrpar_grammar::grammar::YaccGrammar;
+use lrpar_grammar::span::{StIdx, StorageIndex};
+use lrpar_parse_lexemes::lex_api::Lexeme;
+use lrpar_table_stacks::state_stack::{Reduction, StateStack};
+use std::alloc::{AllocError, Global};
+use std::marker::Model;
+
+/// The stacks. Above the lowest state each state has the entry of the symbol that led to it.
+#[derive(Drop)]
+pub struct Stack<StorageT: StorageIndex, E: Drop> {
+    states: Vec<StIdx<StorageT>>,
+    entries: Vec<E>,
+}
+
+impl<StorageT: StorageIndex, E: Drop> Model for Stack<StorageT, E> {
+    ghost use Rattle.lrpar_table_stacks.specs.Stack.{states_of};
+    ghost use Rattle.lrpar_parse_run.specs.Standing.{Stacked};
+
+    ghost Value = { Stacked E };
+
+    ghost view = { λ s. record { states = states_of StorageT.index s.states.items; entries = s.entries.items } };
+}
+
+impl<StorageT: StorageIndex, E: Drop> Stack<StorageT, E> {
+    /// The stack of one state.
+    pub fn new(alloc: Global, start: StIdx<StorageT>) -> Result<Self, AllocError>
+        ensures { IfOk result (λ stack. stack ≡ record { states = StorageT.index start.0 ∷ []; entries = [] }) }
+    {
+        let mut states = Vec::new(alloc);
+        states.push(start)?;
+        Ok(Stack {
+            states,
+            entries: Vec::new(alloc),
+        })
+    }
+
+    /// How many states there are.
+    pub fn height(&self) -> usize
+        ensures { result ≡ length self.now.states }
+    {
+        self.states.len()
+    }
+
+    /// The states, bottom first.
+    pub fn states(&self) -> &[StIdx<StorageT>]
+        ensures { states_of StorageT.index result.now ≡ self.now.states }
+    {
+        &self.states
+    }
+
+    /// The top state.
+    pub fn top(&self) -> StIdx<StorageT>
+        requires { 0 < length self.now.states }
+        ensures { top_of self.now.states ≡ Some (StorageT.index result.0) }
+    {
+        self.states[self.states.len() - 1]
+    }
+
+    /// The state at this height, from 0 on.
+    pub fn state_at(&self, at: usize) -> StIdx<StorageT>
+        requires { at < length self.now.states }
+        ensures { slice_get self.now.states at ≡ Some (StorageT.index result.0) }
+    {
+        self.states[at]
+    }
+
+    /// Puts a state on top, with the entry of the symbol that led to it.
+    pub fn push(&mut self, state: StIdx<StorageT>, entry: E) -> Result<(), AllocError>
+        ensures states { OnOk result (self.new.states ≡ self.old.states ++ StorageT.index state.0 ∷ []) }
+        ensures entries { OnOk result (self.new.entries ≡ self.old.entries ++ entry ∷ []) }
+    {
+        self.states.push(state)?;
+        self.entries.push(entry)?;
+        Ok(())
+    }
+
+    /// Takes the entries of the production's symbols off, puts the one that is made of them in their place, and reduces the
+    /// states. Where memory was wanting, the states stay, and some of the entries may be gone.
+    pub fn reduce<LexemeT: Lexeme<StorageT>, B: Build<StorageT, LexemeT, Entry = E>>(
+        &mut self,
+        alloc: Global,
+        build: &B,
+        grm: &YaccGrammar<StorageT>,
+        by: Reduction<StorageT>,
+    ) -> Result<(), AllocError>
+        requires can { (B.builds build.now).can_build grm.now }
+        requires listed { StorageT.index by.prod.0 < start_prod grm.now }
+        requires symbols { by.symbols ≡ prod_len grm.now (StorageT.index by.prod.0) }
+        requires states { by.symbols < length self.old.states }
+        requires entries { by.symbols ≤ length self.old.entries }
+        requires suit { AllZip (B.builds build.now).suits (symbols_of grm.now (StorageT.index by.prod.0)) (drop (length self.old.entries - by.symbols) self.old.entries) }
+        requires rises { (start : ℕ) × (B.builds build.now).rises self.old.entries start }
+        ensures states { OnOk result (self.new.states ≡ take (length self.old.states - by.symbols) self.old.states ++ StorageT.index by.next.0 ∷ []) }
+        ensures entries { OnOk result (IsBuiltOf (B.builds build.now) grm.now (StorageT.index by.prod.0)
+            (rule_of grm.now (StorageT.index by.prod.0)) by.symbols self.old.entries self.new.entries) }
+        ensures unchanged { OnErr result (self.new.states ≡ self.old.states) }
+    {
+        let entry = build.reduced(alloc, grm, &by.prod, by.symbols, &mut self.entries)?;
+        self.entries.push(entry)?;
+        self.states.reduce(by)
+    }
+
+    /// The entry, where it is all that stands on the stack.
+    pub fn into_entry(mut self) -> E
+        requires { (e : E) × (self.entries ≡ e ∷ []) }
+        ensures { self.entries ≡ result ∷ [] }
+    {
+        match self.entries.pop() {
+            Some(entry) => entry,
+            None => unreachable!(),
+        }
+    }
+}

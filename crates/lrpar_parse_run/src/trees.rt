@@ -1,0 +1,52 @@
+//! The trees that a parse builds.
+ghost use Rattle.std.specs.Prelude.{◌≡◌, ◌<◌, ◌≤◌, ◌-◌, IfOk, OnOk, length, take, drop};
+ghost use Rattle.lrpar_grammar.specs.Grammar.{rule_of, start_prod};
+ghost use Rattle.lrpar_parse_run.specs.Nodes.{IsNonterm, IsTerm};
+
+use crate::building::Build;
+use lrpar_grammar::grammar::YaccGrammar;
+use lrpar_grammar::span::{PIdx, StorageIndex};
+use lrpar_parse_lexemes::lex_api::Lexeme;
+use lrpar_parse_trees::node::Node;
+use std::alloc::{AllocError, Global};
+
+/// Builds the tree of the parse.
+#[derive(Drop)]
+pub struct Trees;
+
+impl<StorageT: StorageIndex, LexemeT: Lexeme<StorageT>> Build<StorageT, LexemeT> for Trees {
+    type Entry = Node<LexemeT, StorageT>;
+
+    ghost builds = { λ b. record {
+      can_build = λ g. Unit {0};
+      suits = λ s e. Unit {0};
+      leaf = λ x e. IsTerm x e;
+      node = λ g p before es e. IsNonterm StorageT.index (rule_of g p) es e;
+      rises = λ es n. Unit {0};
+    } };
+
+    fn shifted(&self, lexeme: LexemeT) -> Node<LexemeT, StorageT> {
+        Node::Term { lexeme }
+    }
+
+    fn reduced(
+        &self,
+        _alloc: Global,
+        grm: &YaccGrammar<StorageT>,
+        pidx: &PIdx<StorageT>,
+        count: usize,
+        entries: &mut Vec<Node<LexemeT, StorageT>>,
+    ) -> Result<Node<LexemeT, StorageT>, AllocError>
+        requires listed { StorageT.index pidx.now.0 < start_prod grm.now }
+        requires deep { count ≤ length entries.old.items }
+        ensures kept { OnOk result (entries.new.items ≡ take (length entries.old.items - count) entries.old.items) }
+        ensures node { IfOk result (IsNonterm StorageT.index (rule_of grm.now (StorageT.index pidx.now.0))
+            (drop (length entries.old.items - count) entries.old.items)) }
+    {
+        let ridx = grm.prod_to_rule(*pidx);
+        let nodes = entries.split_off(entries.len() - count)?;
+        Ok(Node::Nonterm { ridx, nodes })
+    }
+
+    ghost rising = { λ b g. record { with_none = tt; by_leaf = λ es n x e rise low is. tt; by_node = λ kept es n p e rise is. tt } };
+}

@@ -1,0 +1,102 @@
+//! Values that a caller's two functions make of lexemes and of rules.
+ghost use Rattle.std.specs.Prelude.{◌≡◌, ◌<◌, ◌≤◌, ◌-◌, IfOk, OnOk, length, take, drop};
+ghost use Rattle.std.specs.List.{AllZip};
+ghost use Rattle.lrpar_grammar.specs.Grammar.{Nonterminal, rule_of, start_prod};
+ghost use Rattle.lrpar_parse_run.specs.Entries.{Gives, IsLexemeEntry, IsMadeEntry, SuitsSymbol};
+ghost use Rattle.lrpar_parse_run.specs.Made.{made_by};
+
+use crate::building::Build;
+use crate::top::made_of_top;
+use lrpar_grammar::grammar::YaccGrammar;
+use lrpar_grammar::span::{PIdx, RIdx, StorageIndex};
+use lrpar_parse_lexemes::lex_api::Lexeme;
+use std::alloc::{AllocError, Global};
+use std::marker::PhantomData;
+
+/// What stands on a stack for a symbol.
+#[derive(Debug, Drop)]
+pub enum AStackType<LexemeT, ActionT> {
+    /// For a rule: the value that was made for it.
+    ActionType(ActionT),
+    /// For a token: the lexeme that was shifted.
+    Lexeme(LexemeT),
+}
+
+/// The values of two functions: one for lexemes, and one for rules over the values of their symbols.
+#[derive(Drop)]
+pub struct Functions<'a, V, F, G> {
+    pub fterm: &'a F,
+    pub fnonterm: &'a G,
+    pub values: PhantomData<V>,
+}
+
+impl<
+    'a,
+    StorageT: StorageIndex,
+    LexemeT: Lexeme<StorageT>,
+    V: Drop,
+    F: Fn(LexemeT) -> V,
+    G: Fn(RIdx<StorageT>, Vec<V>) -> V,
+> Build<StorageT, LexemeT> for Functions<'a, V, F, G> {
+    type Entry = AStackType<LexemeT, V>;
+
+    ghost builds = { λ b. record {
+      can_build = λ g. F.IsAlwaysCallable b.fterm.now × G.IsAlwaysCallable b.fnonterm.now;
+      suits = λ s e. SuitsSymbol s e;
+      leaf = λ x e. IsLexemeEntry x e;
+      node = λ g p before es e. IsMadeEntry (F.post b.fterm.now) (made_by StorageT.index (G.post b.fnonterm.now)) (rule_of g p) es e;
+      rises = λ es n. Unit {0};
+    } };
+
+    fn shifted(&self, lexeme: LexemeT) -> Self::Entry {
+        AStackType::Lexeme(lexeme)
+    }
+
+    fn reduced(
+        &self,
+        alloc: Global,
+        grm: &YaccGrammar<StorageT>,
+        pidx: &PIdx<StorageT>,
+        count: usize,
+        entries: &mut Vec<AStackType<LexemeT, V>>,
+    ) -> Result<AStackType<LexemeT, V>, AllocError>
+        requires can { F.IsAlwaysCallable self.now.fterm.now × G.IsAlwaysCallable self.now.fnonterm.now }
+        requires listed { StorageT.index pidx.now.0 < start_prod grm.now }
+        requires deep { count ≤ length entries.old.items }
+        ensures kept { OnOk result (entries.new.items ≡ take (length entries.old.items - count) entries.old.items) }
+        ensures node { IfOk result (IsMadeEntry (F.post self.now.fterm.now) (made_by StorageT.index (G.post self.now.fnonterm.now))
+            (rule_of grm.now (StorageT.index pidx.now.0)) (drop (length entries.old.items - count) entries.old.items)) }
+        ensures suit { IfOk result (SuitsSymbol (Nonterminal (rule_of grm.now (StorageT.index pidx.now.0)))) }
+    {
+        let values = values_of(alloc, self.fterm, count, entries)?;
+        let ridx = grm.prod_to_rule(*pidx);
+        let value = (self.fnonterm)(ridx, values);
+        Ok(AStackType::ActionType(value))
+    }
+
+    ghost rising = { λ b g. record { with_none = tt; by_leaf = λ es n x e rise low is. tt; by_node = λ kept es n p e rise is. tt } };
+}
+
+// The values of the top `count` entries, which are taken off, the lowest first.
+fn values_of<LexemeT: Copy, V: Drop, F: Fn(LexemeT) -> V>(
+    alloc: Global,
+    fterm: &F,
+    count: usize,
+    entries: &mut Vec<AStackType<LexemeT, V>>,
+) -> Result<Vec<V>, AllocError>
+    requires callable { F.IsAlwaysCallable fterm.now }
+    requires deep { count ≤ length entries.old.items }
+    ensures kept { OnOk result (entries.new.items ≡ take (length entries.old.items - count) entries.old.items) }
+    ensures values { IfOk result (λ values. AllZip (Gives (F.post fterm.now)) (drop (length entries.old.items - count) entries.old.items) values.items) }
+{
+    let value_of = |entry: AStackType<LexemeT, V>| -> V
+        requires { F.IsAlwaysCallable fterm.now }
+        ensures { Gives (F.post fterm.entry.now) entry result }
+    {
+        match entry {
+            AStackType::ActionType(value) => value,
+            AStackType::Lexeme(lexeme) => fterm(lexeme),
+        }
+    };
+    made_of_top(alloc, count, entries, &value_of)
+}

@@ -1,0 +1,143 @@
+-- What fits, of the trees that a loop has left.
+use denote.Ref.{Bor}
+use Rattle.std.proofs.Common.{rules, ◌≡◌, ℕ, zero, suc, ◌+◌, ◌<◌, ◌≤◌, List, [], ◌∷◌, ◌++◌, Vec, refl, ap, sym, ◌∙◌, arith, append_assoc, append-nil, subst}
+use Rattle.std.specs.List.{AllByRecursion}
+use Rattle.std.specs.Str.{IsCharBoundary}
+use Rattle.std.specs.declared.alloc.Global.{Global}
+use Rattle.std.proofs.lemmas.Grind.{flat_map-append}
+use Rattle.lrpar_grammar.specs.Grammar.{Grammar, end_token, rules_len}
+use Rattle.lrpar_grammar.specs.Sentence.{LexemeFacts}
+use Rattle.lrpar_grammar.specs.SpansFit.{IsPartOf}
+use Rattle.lrpar_grammar_places.specs.Span.{Extent}
+use Rattle.lrpar_grammar_places.specs.declared.span.RIdx.{RIdx}
+use Rattle.lrpar_parse_trees.specs.declared.node.Node.{Node}
+use Rattle.lrpar_parse_trees.specs.declared.node.Node.TheOpen.{Node-F}
+use Rattle.lrpar_parse_trees.specs.declared.node.Node.TheVariants.{Term, Nonterm}
+use Rattle.lrpar_parse_trees.specs.declared.node.Node.TheViews.{out-Node, the_lemmas}
+use Rattle.lrpar_parse_trees.specs.declared.node.Node.TheFolds.{fold_out-Node, map-Node}
+use Rattle.lrpar_parse_trees.specs.TreeText.{Met, LeafAt, RuleAt, MetFits, met_from, layer_met, root_at, layer_nodes, nodes_below, all_met}
+use Rattle.lrpar_parse_trees.proofs.TreeTextLemmas.{fit_root, fit_below, fit_whole}
+use Rattle.lrpar_grammar_places.proofs.ListLemmas.{all_front, all_back, all_both}
+use Rattle.lrpar_parse_trees.proofs.WeightLemmas.{weight, weights, weight_step}
+
+-- a property that asks for no level
+abbrev pub IsLevel : {X S : Type 0} → (Met X S → Type 0) → Type 0
+IsLevel {X = X} {S = S} P = (node : Node X S) (a b : ℕ) → P (root_at a node) → P (root_at b node)
+
+layer_level : {X S : Type 0} (facts : X → LexemeFacts) (index : S → ℕ) (g : Grammar) (input : List ℕ) (layer : Node-F X S (Node X S)) (a b : ℕ)
+    → MetFits facts index g input (layer_met a layer) → MetFits facts index g input (layer_met b layer)
+layer_level facts index g input (Node-F.Term x) a b fits = fits
+layer_level facts index g input (Node-F.Nonterm ridx nodes) a b fits = fits
+
+pub fits_level : {X S : Type 0} (facts : X → LexemeFacts) (index : S → ℕ) (g : Grammar) (input : List ℕ) → IsLevel (MetFits facts index g input)
+fits_level {X = X} {S = S} facts index g input node a b fits = layer_level facts index g input (out-Node X S node) a b fits
+
+-- how many nodes there are below the root
+layer_below : {X S : Type 0} (layer : Node-F X S (Node X S)) → weight_step (map-Node X S (Node X S) ℕ weight layer) ≡ 1 + weights (layer_nodes layer)
+layer_below (Node-F.Term x) = refl
+layer_below (Node-F.Nonterm ridx nodes) = refl
+
+pub weight_below : {X S : Type 0} (node : Node X S) → weight node ≡ 1 + weights (nodes_below node)
+weight_below {X = X} {S = S} node = fold_out-Node X S ℕ weight_step node ∙ layer_below (out-Node X S node)
+
+-- such a property of all nodes of several trees holds at each level
+pub fit_shift : {X S : Type 0} (P : Met X S → Type 0) (same : IsLevel P) (n a b : ℕ) (nodes : List (Node X S)) → weights nodes ≤ n
+    → AllByRecursion P (all_met a nodes) → AllByRecursion P (all_met b nodes)
+fit_shift P same n a b [] within all = tt
+fit_shift P same zero a b (node ∷ rest) within all = absurd (omega (arith, weight_below node))
+fit_shift P same (suc n) a b (node ∷ rest) within all =
+    let here = all_front P (met_from node a) (all_met a rest) all in
+    let after = all_back P (met_from node a) (all_met a rest) all in
+    let below = fit_shift P same n (a + 1) (b + 1) (nodes_below node) (omega (arith, weight_below node)) (fit_below P node a here) in
+    all_both P (met_from node b) (all_met b rest) (fit_whole P node b (same node a b (fit_root P node a here)) below)
+    (fit_shift P same n a b rest (omega (arith, weight_below node)) after)
+
+-- it holds of two lists of trees where it holds of each
+pub fit_parts : {X S : Type 0} (P : Met X S → Type 0) (ms ns : List (Node X S)) → AllByRecursion P (all_met 1 (ms ++ ns))
+    → AllByRecursion P (all_met 1 ms) × AllByRecursion P (all_met 1 ns)
+fit_parts P ms ns all =
+    let both : AllByRecursion P (all_met 1 ms ++ all_met 1 ns) = rw flat_map-append at all in
+    (all_front P (all_met 1 ms) (all_met 1 ns) both, all_back P (all_met 1 ms) (all_met 1 ns) both)
+
+pub fit_joined : {X S : Type 0} (P : Met X S → Type 0) (ms ns : List (Node X S)) → AllByRecursion P (all_met 1 ms) → AllByRecursion P (all_met 1 ns)
+    → AllByRecursion P (all_met 1 (ms ++ ns))
+fit_joined P ms ns front back = rw flat_map-append (all_both P (all_met 1 ms) (all_met 1 ns) front back)
+
+-- the first tree in hand is entered: its root has the property, and what is left has it with the trees below in its place
+pub fits_enter : {X S : Type 0} (P : Met X S → Type 0) (same : IsLevel P) (node : Node X S) (rest nodes more : List (Node X S)) → nodes ≡ node ∷ rest
+    → AllByRecursion P (all_met 1 (nodes ++ more)) → P (root_at 1 node) × AllByRecursion P (all_met 1 (nodes_below node ++ (rest ++ more)))
+fits_enter P same node rest nodes more is all =
+    let whole : AllByRecursion P (met_from node 1 ++ all_met 1 (rest ++ more)) = rw is at all in
+    let here = all_front P (met_from node 1) (all_met 1 (rest ++ more)) whole in
+    let after = all_back P (met_from node 1) (all_met 1 (rest ++ more)) whole in
+    let below = fit_shift P same (weights (nodes_below node)) 2 1 (nodes_below node) (omega arith) (fit_below P node 1 here) in
+    (fit_root P node 1 here, fit_joined P (nodes_below node) (rest ++ more) below after)
+
+pub fits_leave : {X S : Type 0} (P : Met X S → Type 0) (same : IsLevel P) (node : Node X S) (rest nodes more : List (Node X S)) → nodes ≡ node ∷ rest
+    → P (root_at 1 node) → AllByRecursion P (all_met 1 (nodes_below node ++ (rest ++ more))) → AllByRecursion P (all_met 1 (nodes ++ more))
+fits_leave P same node rest nodes more is root all =
+    let parts = fit_parts P (nodes_below node) (rest ++ more) all in
+    let below = fit_shift P same (weights (nodes_below node)) 1 2 (nodes_below node) (omega arith) parts.0 in
+    rw is (all_both P (met_from node 1) (all_met 1 (rest ++ more)) (fit_whole P node 1 root below) parts.1)
+
+-- with no list: several trees have the property if the root of the first has it, the trees below this, and the others
+pub fits_apart : {X S : Type 0} (P : Met X S → Type 0) (same : IsLevel P) (node : Node X S) (rest nodes : List (Node X S)) → nodes ≡ node ∷ rest
+    → AllByRecursion P (all_met 1 nodes) → P (root_at 1 node) × AllByRecursion P (all_met 1 (nodes_below node)) × AllByRecursion P (all_met 1 rest)
+fits_apart P same node rest nodes is all =
+    let whole : AllByRecursion P (met_from node 1 ++ all_met 1 rest) = rw is at all in
+    let here = all_front P (met_from node 1) (all_met 1 rest) whole in
+    let below = fit_shift P same (weights (nodes_below node)) 2 1 (nodes_below node) (omega arith) (fit_below P node 1 here) in
+    (fit_root P node 1 here, below, all_back P (met_from node 1) (all_met 1 rest) whole)
+
+pub fits_together : {X S : Type 0} (P : Met X S → Type 0) (same : IsLevel P) (node : Node X S) (rest nodes : List (Node X S)) → nodes ≡ node ∷ rest
+    → P (root_at 1 node) → AllByRecursion P (all_met 1 (nodes_below node)) → AllByRecursion P (all_met 1 rest) → AllByRecursion P (all_met 1 nodes)
+fits_together P same node rest nodes is root below after =
+    let here = fit_whole P node 1 root (fit_shift P same (weights (nodes_below node)) 1 2 (nodes_below node) (omega arith) below) in
+    rw is (all_both P (met_from node 1) (all_met 1 rest) here after)
+
+-- and how many nodes they have
+pub weights_apart : {X S : Type 0} (node : Node X S) (rest nodes below : List (Node X S)) → nodes ≡ node ∷ rest → below ≡ nodes_below node
+    → weights nodes ≡ 1 + (weights below + weights rest)
+weights_apart node rest nodes below is at = rw (is, at) (omega (arith, weight_below node))
+
+-- what the loop has left behind the trees in hand, the last list first
+abbrev pub later_trees : {X S : Type 0} → List (Bor (List (Node X S))) → List (Node X S)
+later_trees [] = []
+later_trees (rest ∷ rests) = later_trees rests ++ rest.now
+
+pub later_trees_push : {X S : Type 0} (rests : List (Bor (List (Node X S)))) (rest : Bor (List (Node X S)))
+    → later_trees (rests ++ rest ∷ []) ≡ rest.now ++ later_trees rests
+later_trees_push [] rest = sym (append-nil rest.now)
+later_trees_push (r ∷ rs) rest = ap (λ ns. ns ++ r.now) (later_trees_push rs rest) ∙ append_assoc rest.now (later_trees rs) r.now
+
+-- how many nodes are left, when the first tree in hand is entered
+pub weights_below : {X S : Type 0} (node : Node X S) (rest nodes more : List (Node X S)) → nodes ≡ node ∷ rest
+    → weights (nodes ++ more) ≡ 1 + (weights (nodes_below node) + weights (rest ++ more))
+weights_below node rest nodes more is = rw is (omega (arith, weight_below node))
+
+-- the trees below a lexeme, and below a rule
+pub below_term : {X S : Type 0} (node : Node X S) (x : X) → node ≡ Term x → nodes_below node ≡ []
+below_term node x is = ap nodes_below is ∙ search (rules, the_lemmas)
+
+pub below_nonterm : {X S : Type 0} (node : Node X S) (r : RIdx S) (nodes : Vec (Node X S) Global) → node ≡ Nonterm r nodes → nodes_below node ≡ nodes.items
+below_nonterm node r nodes is = ap nodes_below is ∙ search (rules, the_lemmas)
+
+-- what the root of a tree that fits is
+pub rule_fits : {X S : Type 0} (facts : X → LexemeFacts) (index : S → ℕ) (g : Grammar) (input : List ℕ) (level : ℕ) (node : Node X S) (r : RIdx S) (nodes : Vec (Node X S) Global)
+    → node ≡ Nonterm r nodes → MetFits facts index g input (root_at level node) → index r.0 < rules_len g
+rule_fits facts index g input level node r nodes is fits =
+    let at : root_at level node ≡ RuleAt level r.0 = ap (root_at level) is ∙ search (rules, the_lemmas) in
+    subst (MetFits facts index g input) at fits
+
+pub leaf_fits : {X S : Type 0} (facts : X → LexemeFacts) (index : S → ℕ) (g : Grammar) (input : List ℕ) (level : ℕ) (node : Node X S) (x : X) → node ≡ Term x
+    → MetFits facts index g input (root_at level node) → ((facts x).token < end_token g) × IsPartOf input (facts x).span
+leaf_fits facts index g input level node x is fits =
+    let at : root_at level node ≡ LeafAt level x = ap (root_at level) is ∙ search (rules, the_lemmas) in
+    subst (MetFits facts index g input) at fits
+
+-- the ends of a part of the input
+pub part_starts : (input : List ℕ) (part span : Extent) (start : ℕ) → IsPartOf input part → span ≡ part → start ≡ span.start → IsCharBoundary input start
+part_starts input part span start is same at = subst (IsCharBoundary input) (sym (at ∙ ap (λ (x : Extent). x.start) same)) is.start
+
+pub part_ends : (input : List ℕ) (part span : Extent) (end : ℕ) → IsPartOf input part → span ≡ part → end ≡ span.end → IsCharBoundary input end
+part_ends input part span end is same at = subst (IsCharBoundary input) (sym (at ∙ ap (λ (x : Extent). x.end) same)) is.end

@@ -1,0 +1,10 @@
+pub mod WeightLemmas
+pub mod WalkLemmas
+pub mod PairLemmas
+pub mod GrowingLemmas
+pub mod TreeTextLemmas
+pub mod FitsLemmas
+pub mod WriteLemmas
+pub mod ShownLemmas
+pub mod NestedLemmas
+pub mod GraphLemmas

@@ -1,0 +1,109 @@
+use Rattle.std.proofs.Common.{◌≡◌, ◌++◌, [], ◌∷◌, length, ap, refl, sym, ◌∙◌, subst}
+use Rattle.std.specs.List.{AllByRecursion, flat_map}
+use Rattle.std.specs.Io.KnownBytes.{Appends}
+use Rattle.lrpar_parse_lexemes.specs.Lexemes.{facts_of}
+use Rattle.lrpar_parse_trees.specs.TreeText.{MetFits, met_line, root_at, nodes_below, tree_text}
+use Rattle.lrpar_grammar_places.proofs.FaultLemmas.{nothing_done}
+use Rattle.lrpar_parse_trees.proofs.TreeTextLemmas.{fit_begins, fit_left, fit_none, left_none, text_begins, text_enter, left_falls, left_met, left_turned, turn_falls}
+use Rattle.lrpar_parse_trees.proofs.WriteLemmas.{appends_both, appends_nothing}
+use Rattle.lrpar_parse_trees.proofs.node.Node.write.Goals as goal
+
+pub loop-node-init : goal.loop-node-init
+loop-node-init g c =
+    let index = g.StorageT.StorageIndex.index in
+    let facts = λ (x : g.row.LexemeT.Denot). facts_of index (g.LexemeT.Lexeme.parts x) in
+    let line = met_line facts index c.args.grm.now c.args.input.now in
+    let self = c.args.self.now in
+    let contents = g.W.Write.contents in
+    let whole : line (root_at 0 self) ++ flat_map line (left_met [] (nodes_below self)) ≡ tree_text facts index c.args.grm.now c.args.input.now self =
+    text_begins line self (line (root_at 0 self)) refl in
+    record {
+      text = λ last more.
+          let rest : Appends (contents c.write_line.new.out) last (flat_map line (left_met [] (nodes_below self))) =
+          (rw (c.new-below.ensures.items, c.children-left.ensures) at more) in
+          subst (Appends (contents c.args.out.now) last) whole
+          (appends_both (contents c.args.out.now) (contents c.write_line.new.out) last (line (root_at 0 self)) (flat_map line (left_met [] (nodes_below self)))
+          c.in_ok-write_line.ensures.text rest);
+      fits = λ all.
+          fit_begins (MetFits facts index c.args.grm.now c.args.input.now) self c.in_ok-write_line.ensures.fits (rw (c.new-below.ensures.items, c.children-left.ensures) at all);
+    }
+
+pub loop-node-smaller-in-Some : goal.loop-node-smaller-in-Some
+loop-node-smaller-in-Some g c =
+    left_falls c.loop-node.below.items c.push.new.self.items c.in-Some.rest c.in-Some.node.now c.loop-node.left.now c.children-left-in-Some.result.now
+    c.in-Some.ensures.cases.0 c.in_ok-push-in-Some.ensures.items c.children-left-in-Some.ensures
+
+pub loop-node-preserved-in-Some : goal.loop-node-preserved-in-Some
+loop-node-preserved-in-Some g c =
+    let index = g.StorageT.StorageIndex.index in
+    let facts = λ (x : g.row.LexemeT.Denot). facts_of index (g.LexemeT.Lexeme.parts x) in
+    let line = met_line facts index c.args.grm.now c.args.input.now in
+    let contents = g.W.Write.contents in
+    let below = c.loop-node.below.items in
+    let rest = c.in-Some.rest in
+    let node = c.in-Some.node.now in
+    let inner = left_met (below ++ rest ∷ []) (nodes_below node) in
+    let here = line (root_at c.len.result node) in
+    let met = MetFits facts index c.args.grm.now c.args.input.now in
+    let level : c.len.result ≡ length (below ++ rest ∷ []) = c.len.ensures ∙ c.push.new.self.ok.0 ∙ ap length c.in_ok-push-in-Some.ensures.items in
+    let whole : here ++ flat_map line inner ≡ flat_map line (left_met below c.loop-node.left.now) =
+    text_enter line below rest node c.loop-node.left.now [] here c.in-Some.ensures.cases.0 (ap (λ n. line (root_at n node)) level) in
+    record {
+      text = λ last more.
+          let after : Appends (contents c.write_line-in-Some.new.out) last (flat_map line inner) =
+          (rw (c.in_ok-push-in-Some.ensures.items, c.children-left-in-Some.ensures) at more) in
+          c.loop-node.invariant.text last (subst (Appends (contents c.loop-node.out) last) whole
+          (appends_both (contents c.loop-node.out) (contents c.write_line-in-Some.new.out) last here (flat_map line inner) c.in_ok-write_line-in-Some.ensures.text after));
+      fits = λ all.
+          c.loop-node.invariant.fits (fit_left met below rest node c.loop-node.left.now c.in-Some.ensures.cases.0
+          (rw level at c.in_ok-write_line-in-Some.ensures.fits) (rw (c.in_ok-push-in-Some.ensures.items, c.children-left-in-Some.ensures) at all));
+    }
+
+pub loop-node-smaller : goal.loop-node-smaller
+loop-node-smaller g c =
+    turn_falls c.pop.new.self.items c.loop-node.below.items c.in-Some-pop.rest c.loop-node.left.now c.in-None.ensures.cases c.in-Some-pop.ensures.items
+
+pub loop-node-preserved : goal.loop-node-preserved
+loop-node-preserved g c =
+    let index = g.StorageT.StorageIndex.index in
+    let facts = λ (x : g.row.LexemeT.Denot). facts_of index (g.LexemeT.Lexeme.parts x) in
+    let line = met_line facts index c.args.grm.now c.args.input.now in
+    let contents = g.W.Write.contents in
+    let same =
+    left_turned c.pop.new.self.items c.loop-node.below.items c.in-Some-pop.rest c.loop-node.left.now c.in-None.ensures.cases c.in-Some-pop.ensures.items in
+    record {
+      text = λ last more. c.loop-node.invariant.text last (subst (λ ms. Appends (contents c.loop-node.out) last (flat_map line ms)) (sym same) more);
+      fits = λ all. c.loop-node.invariant.fits (subst (AllByRecursion (MetFits facts index c.args.grm.now c.args.input.now)) (sym same) all);
+    }
+
+pub returns-in_err-write_line-clause-text : goal.returns-in_err-write_line-clause-text
+returns-in_err-write_line-clause-text g c = nothing_done c.from_residual.result _ _ c.from_residual.ensures.1
+
+pub returns-in_err-write_line-clause-fits : goal.returns-in_err-write_line-clause-fits
+returns-in_err-write_line-clause-fits g c = nothing_done c.from_residual.result _ _ c.from_residual.ensures.1
+
+pub returns-in_err-push-in-Some-clause-text : goal.returns-in_err-push-in-Some-clause-text
+returns-in_err-push-in-Some-clause-text g c = nothing_done c.from_residual-in_err-push-in-Some.result _ _ c.from_residual-in_err-push-in-Some.ensures.1
+
+pub returns-in_err-push-in-Some-clause-fits : goal.returns-in_err-push-in-Some-clause-fits
+returns-in_err-push-in-Some-clause-fits g c = nothing_done c.from_residual-in_err-push-in-Some.result _ _ c.from_residual-in_err-push-in-Some.ensures.1
+
+pub returns-in_err-write_line-in-Some-clause-text : goal.returns-in_err-write_line-in-Some-clause-text
+returns-in_err-write_line-in-Some-clause-text g c = nothing_done c.from_residual-in_err-write_line-in-Some.result _ _ c.from_residual-in_err-write_line-in-Some.ensures.1
+
+pub returns-in_err-write_line-in-Some-clause-fits : goal.returns-in_err-write_line-in-Some-clause-fits
+returns-in_err-write_line-in-Some-clause-fits g c = nothing_done c.from_residual-in_err-write_line-in-Some.result _ _ c.from_residual-in_err-write_line-in-Some.ensures.1
+
+pub returns-in-None-pop-clause-text : goal.returns-in-None-pop-clause-text
+returns-in-None-pop-clause-text g c =
+    let facts = λ (x : g.row.LexemeT.Denot). facts_of g.StorageT.StorageIndex.index (g.LexemeT.Lexeme.parts x) in
+    c.loop-node.invariant.text (g.W.Write.contents c.loop-node.out)
+    (appends_nothing (g.W.Write.contents c.loop-node.out) _
+    (ap (flat_map (met_line facts g.StorageT.StorageIndex.index c.args.grm.now c.args.input.now))
+    (left_none c.loop-node.below.items c.loop-node.left.now c.in-None.ensures.cases (sym c.loop-node.below.ok.0 ∙ c.in-None-pop.ensures.cases.0))))
+
+pub returns-in-None-pop-clause-fits : goal.returns-in-None-pop-clause-fits
+returns-in-None-pop-clause-fits g c =
+    c.loop-node.invariant.fits
+    (fit_none (MetFits (λ x. facts_of g.StorageT.StorageIndex.index (g.LexemeT.Lexeme.parts x)) g.StorageT.StorageIndex.index c.args.grm.now c.args.input.now)
+    c.loop-node.below.items c.loop-node.left.now c.in-None.ensures.cases (sym c.loop-node.below.ok.0 ∙ c.in-None-pop.ensures.cases.0))

@@ -1,0 +1,26 @@
+use Rattle.std.proofs.Common.{◌≤◌}
+use Rattle.std.specs.Prelude.{◌↔◌}
+use Rattle.std.specs.List.{AllByRecursion}
+use Rattle.lrpar_parse_lexemes.specs.Lexemes.{facts_of}
+use Rattle.lrpar_parse_trees.specs.TreeText.{MetFits, all_met}
+use Rattle.lrpar_parse_trees.proofs.WeightLemmas.{weights}
+use Rattle.lrpar_parse_trees.proofs.tree_text.+fit_by_calls.Given as goal
+
+-- the nodes of the trees
+abbrev pub decreases-fit_by_calls : goal.decreases-fit_by_calls
+decreases-fit_by_calls g l = weights l.nodes.now
+
+-- what is left fits exactly where the trees do
+abbrev pub invariant-loop-node : goal.invariant-loop-node
+invariant-loop-node g l =
+    let index = g.StorageT.StorageIndex.index in
+    let facts = λ (x : g.row.LexemeT.Denot). facts_of index (g.LexemeT.Lexeme.parts x) in
+    let P = MetFits facts index l.grm l.input in
+    record {
+      fits : AllByRecursion P (all_met 1 l.nodes) ↔ AllByRecursion P (all_met 1 l.fn.nodes);
+      below : weights l.nodes ≤ weights l.fn.nodes;
+    }
+
+-- the nodes that are left
+abbrev pub decreases-loop-node : goal.decreases-loop-node
+decreases-loop-node g l = weights l.nodes

@@ -1,0 +1,11 @@
+pub mod Visits
+pub mod Walks
+pub mod WalkLaws
+pub mod TreeText
+pub mod Shown
+pub mod Escapes
+pub mod Nested
+pub mod Fronts
+pub mod Labels
+pub mod Graph
+pub mod Lines

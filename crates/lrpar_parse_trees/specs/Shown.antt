@@ -1,0 +1,27 @@
+-- The text that `{:?}` writes of a tree, where those of its lexemes and of its rules' numbers are known.
+use Rattle.std.specs.Prelude.{ℕ, List, [], Option, Some, codes}
+use Rattle.std.specs.Fmt.{◌++?◌, debug_items}
+use Rattle.lrpar_parse_trees.specs.declared.node.Node.{Node}
+use Rattle.lrpar_parse_trees.specs.declared.node.Node.TheOpen.{Node-F}
+use Rattle.lrpar_parse_trees.specs.declared.node.Node.TheFolds.{fold-Node}
+
+-- a lexeme with its field
+abbrev pub shown_lexeme : Option (List ℕ) → Option (List ℕ)
+shown_lexeme lexeme = Some (codes "Term { lexeme: ") ++? lexeme ++? Some (codes " }")
+
+-- a rule with its fields, up to the first of its trees
+abbrev pub shown_rule : Option (List ℕ) → Option (List ℕ)
+shown_rule number = Some (codes "Nonterm { ridx: RIdx(") ++? number ++? Some (codes "), nodes: [")
+
+-- the end of such a list, and of the rule
+abbrev pub shown_end : Option (List ℕ)
+shown_end = Some (codes "] }")
+
+-- a node, over the texts of the trees of its symbols, which have commas between them
+abbrev pub shown_step : {X S : Type 0} → (X → Option (List ℕ)) → (S → Option (List ℕ)) → Node-F X S (Option (List ℕ)) → Option (List ℕ)
+shown_step lexeme number (Node-F.Term x) = shown_lexeme (lexeme x)
+shown_step lexeme number (Node-F.Nonterm ridx texts) = shown_rule (number ridx.0) ++? debug_items (λ text. text) [] texts.items ++? shown_end
+
+-- a tree
+abbrev pub shown : {X S : Type 0} → (X → Option (List ℕ)) → (S → Option (List ℕ)) → Node X S → Option (List ℕ)
+shown {X = X} {S = S} lexeme number = fold-Node X S (Option (List ℕ)) (shown_step lexeme number)

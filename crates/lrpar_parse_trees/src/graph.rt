@@ -1,0 +1,173 @@
+//! Trees as graphs for Graphviz.
+ghost use Rattle.std.specs.Prelude.{◌≡◌, ◌+◌, ◌++◌, [], if◌then◌else◌, IfOk, OnOk, bytes_eq, codes};
+ghost use Rattle.std.specs.Fmt.{decimal};
+ghost use Rattle.std.specs.Io.KnownBytes.{Appends};
+ghost use Rattle.std.specs.String.{string_bytes};
+ghost use Rattle.lrpar_parse_lexemes.specs.Lexemes.{facts_of};
+ghost use Rattle.lrpar_parse_trees.specs.Graph.{edge_line, graph_text, leaf_label, leaf_line, rule_line};
+ghost use Rattle.lrpar_parse_trees.specs.Labels.{label_text};
+ghost use Rattle.lrpar_parse_trees.specs.Lines.{node_line, trees_lines};
+
+use crate::Node;
+use crate::labels::push_label;
+use crate::parts::{Leaf, leaf_of, rule_name, trees_of};
+use lrpar_grammar::grammar::YaccGrammar;
+use lrpar_grammar::span::StorageIndex;
+use lrpar_parse_lexemes::lex_api::Lexeme;
+use std::alloc::{AllocError, Global};
+use std::io::{self, ErrorKind, Write};
+
+/// Writes the tree as a graph in the language of Graphviz (<https://graphviz.org/doc/info/lang.html>): a node a line, before those
+/// below it, each with a line for its edge from the node above; each rule by its name, and each lexeme in a box, by its token's name,
+/// if that is another text, and by its part of the input. Nodes are numbered from 0 in the order of the lines.
+///
+/// It fails as `write_nested` does, and as out of memory where `usize` has no number for a node; and it takes the time and the memory
+/// of that.
+pub fn write_graph<LexemeT: Lexeme<StorageT>, StorageT: StorageIndex, W: Write>(
+    alloc: Global,
+    grm: &YaccGrammar<StorageT>,
+    input: &str,
+    tree: &Node<LexemeT, StorageT>,
+    out: &mut W,
+) -> io::Result<()>
+    ensures { OnOk result (Appends (W.contents out.old) (W.contents out.new)
+        (graph_text (λ x. facts_of StorageT.index (LexemeT.parts x)) StorageT.index grm.now input.now tree.now)) }
+{
+    let mut line = String::new(alloc);
+    out.write_all(b"digraph tree {\n")?;
+    write_node(out, &mut line, grm, input, 0, tree)?;
+    write_below(alloc, out, &mut line, grm, input, trees_of(tree))?;
+    out.write_all(b"}\n")
+}
+
+// Writes the lines of the trees below the root. `line` is where they are made.
+fn write_below<LexemeT: Lexeme<StorageT>, StorageT: StorageIndex, W: Write>(
+    alloc: Global,
+    out: &mut W,
+    line: &mut String,
+    grm: &YaccGrammar<StorageT>,
+    input: &str,
+    nodes: &[Node<LexemeT, StorageT>],
+) -> io::Result<()>
+    ensures { OnOk result (Appends (W.contents out.old) (W.contents out.new)
+        (trees_lines (λ x. facts_of StorageT.index (LexemeT.parts x)) StorageT.index grm.now input.now 0 1 nodes.now)) }
+{
+    let mut above = Vec::new(alloc);
+    let mut left = nodes;
+    let mut parent = 0;
+    let mut next = 1;
+    'nodes: loop {
+        match left.split_first() {
+            Some((node, rest)) => {
+                write_node(out, line, grm, input, next, node)?;
+                write_edge(out, line, parent, next)?;
+                above.push((parent, rest))?;
+                parent = next;
+                next = number_after(next)?;
+                left = trees_of(node);
+            }
+            None => match above.pop() {
+                Some((number, rest)) => {
+                    parent = number;
+                    left = rest;
+                }
+                None => return Ok(()),
+            },
+        }
+    }
+}
+
+// The number after this one. More nodes than there are numbers are more than memory holds.
+fn number_after(number: usize) -> io::Result<usize>
+    ensures { IfOk result (λ next. next ≡ number + 1) }
+{
+    match number.checked_add(1) {
+        Some(next) => Ok(next),
+        None => Err(io::Error::from(ErrorKind::OutOfMemory)),
+    }
+}
+
+// Writes the line of the node of this number.
+fn write_node<LexemeT: Lexeme<StorageT>, StorageT: StorageIndex, W: Write>(
+    out: &mut W,
+    line: &mut String,
+    grm: &YaccGrammar<StorageT>,
+    input: &str,
+    number: usize,
+    node: &Node<LexemeT, StorageT>,
+) -> io::Result<()>
+    ensures { OnOk result (Appends (W.contents out.old) (W.contents out.new)
+        (node_line (λ x. facts_of StorageT.index (LexemeT.parts x)) StorageT.index grm.now input.now number node.now)) }
+{
+    line.clear();
+    match node {
+        Node::Term { lexeme } => match leaf_of(grm, input, lexeme) {
+            Some(leaf) => push_leaf(line, number, leaf)?,
+            None => return Err(io::Error::from(ErrorKind::InvalidInput)),
+        },
+        Node::Nonterm { ridx, nodes: _ } => match rule_name(grm, *ridx) {
+            Some(rule) => push_rule(line, number, rule)?,
+            None => return Err(io::Error::from(ErrorKind::InvalidInput)),
+        },
+    }
+    out.write_all(line.as_bytes())
+}
+
+// Adds the line of a node of a rule.
+fn push_rule(line: &mut String, number: usize, rule: &str) -> Result<(), AllocError>
+    ensures { OnOk result (string_bytes line.new ≡ string_bytes line.old ++ rule_line number rule.now) }
+{
+    push_front(line, number)?;
+    push_label(line, rule)?;
+    line.push_str("\"];\n")
+}
+
+// Adds the line of a lexeme.
+fn push_leaf(line: &mut String, number: usize, leaf: Leaf<'_>) -> Result<(), AllocError>
+    ensures { OnOk result (string_bytes line.new ≡ string_bytes line.old ++ leaf_line number leaf.entry.name.now leaf.entry.text.now) }
+{
+    push_front(line, number)?;
+    push_leaf_label(line, leaf.name, leaf.text)?;
+    line.push_str("\", shape=box];\n")?;
+    Ok(())
+}
+
+// Adds the beginning of a node's line, up to its label.
+fn push_front(line: &mut String, number: usize) -> Result<(), AllocError>
+    ensures { OnOk result (string_bytes line.new ≡ string_bytes line.old ++ (codes "  n" ++ decimal number ++ codes " [label=\"")) }
+{
+    write!(line, "  n{number} [label=\"")
+}
+
+// Adds the label of a lexeme.
+fn push_leaf_label(line: &mut String, name: &str, text: &str) -> Result<(), AllocError>
+    ensures { OnOk result (string_bytes line.new ≡ string_bytes line.old ++ leaf_label name.now text.now) }
+{
+    push_other_name(line, name, text)?;
+    push_label(line, text)
+}
+
+// Adds the name of a token as a line of a label, if the name isn't the text.
+fn push_other_name(line: &mut String, name: &str, text: &str) -> Result<(), AllocError>
+    ensures { OnOk result (string_bytes line.new ≡ string_bytes line.old ++ (if bytes_eq name.now text.now then [] else label_text name.now ++ codes "\\n")) }
+{
+    if name == text {
+        return Ok(());
+    }
+    push_label(line, name)?;
+    line.push_str("\\n")
+}
+
+// Writes the line of the edge between nodes of these numbers.
+fn write_edge<W: Write>(
+    out: &mut W,
+    line: &mut String,
+    parent: usize,
+    child: usize,
+) -> io::Result<()>
+    ensures { OnOk result (Appends (W.contents out.old) (W.contents out.new) (edge_line parent child)) }
+{
+    line.clear();
+    writeln!(line, "  n{parent} -> n{child};")?;
+    out.write_all(line.as_bytes())
+}

@@ -1,0 +1,201 @@
+//! Trees on one line, each node around those of its trees.
+ghost use Rattle.std.specs.Prelude.{◌≡◌, ◌++◌, [], if◌then◌else◌, OnOk, bytes_eq, codes};
+ghost use Rattle.std.specs.Io.KnownBytes.{Appends};
+ghost use Rattle.std.specs.String.{string_bytes};
+ghost use Rattle.lrpar_parse_lexemes.specs.Lexemes.{facts_of};
+ghost use Rattle.lrpar_parse_trees.specs.Nested.{bracket_leaf, bracket_rule, json_leaf, json_place, json_rule, leaf_text, nested_text, rule_front};
+ghost use Rattle.lrpar_parse_trees.specs.Fronts.{front_text, trees_text};
+
+use crate::Node;
+use crate::escapes::push_escaped;
+use crate::form::Form;
+use crate::parts::{Leaf, is_rule, leaf_of, rule_name, trees_of};
+use lrpar_grammar::grammar::YaccGrammar;
+use lrpar_grammar::span::StorageIndex;
+use lrpar_parse_lexemes::lex_api::Lexeme;
+use std::alloc::{AllocError, Global};
+use std::io::{self, ErrorKind, Write};
+
+/// Writes the tree on one line, without a line feed behind it. It fails where a write fails or memory is wanting, and with
+/// `InvalidInput` at the first node that doesn't fit the grammar and the input, as `Node::fits` tells, in front of which all is written.
+///
+/// Takes time linear in the text, which is linear in the tree, and memory for a piece of it and a list of as many entries as the tree
+/// has levels. However deep the tree is, the call's own depth stays the same.
+pub fn write_nested<LexemeT: Lexeme<StorageT>, StorageT: StorageIndex, W: Write>(
+    alloc: Global,
+    form: Form,
+    grm: &YaccGrammar<StorageT>,
+    input: &str,
+    tree: &Node<LexemeT, StorageT>,
+    out: &mut W,
+) -> io::Result<()>
+    ensures { OnOk result (Appends (W.contents out.old) (W.contents out.new)
+        (nested_text form (λ x. facts_of StorageT.index (LexemeT.parts x)) StorageT.index grm.now input.now tree.now)) }
+{
+    let mut piece = String::new(alloc);
+    write_front(out, &mut piece, form, grm, input, tree)?;
+    if is_rule(tree) {
+        write_trees(alloc, out, &mut piece, form, grm, input, trees_of(tree))
+    } else {
+        Ok(())
+    }
+}
+
+// Writes the trees of a node of a rule, and its end. `piece` is where their pieces are made.
+fn write_trees<LexemeT: Lexeme<StorageT>, StorageT: StorageIndex, W: Write>(
+    alloc: Global,
+    out: &mut W,
+    piece: &mut String,
+    form: Form,
+    grm: &YaccGrammar<StorageT>,
+    input: &str,
+    nodes: &[Node<LexemeT, StorageT>],
+) -> io::Result<()>
+    ensures { OnOk result (Appends (W.contents out.old) (W.contents out.new)
+        (trees_text form (λ x. facts_of StorageT.index (LexemeT.parts x)) StorageT.index grm.now input.now nodes.now)) }
+{
+    let mut below = Vec::new(alloc);
+    let mut left = nodes;
+    let mut is_first = true;
+    'nodes: loop {
+        match left.split_first() {
+            Some((node, rest)) => {
+                out.write_all(form.gap(is_first).as_bytes())?;
+                write_front(out, piece, form, grm, input, node)?;
+                is_first = is_rule(node);
+                if is_first {
+                    below.push(rest)?;
+                    left = trees_of(node);
+                } else {
+                    left = rest;
+                }
+            }
+            None => {
+                out.write_all(form.end().as_bytes())?;
+                is_first = false;
+                match below.pop() {
+                    Some(rest) => left = rest,
+                    None => return Ok(()),
+                }
+            }
+        }
+    }
+}
+
+// Writes a lexeme, or what stands in front of the trees of a node. `piece` is where it is made.
+fn write_front<LexemeT: Lexeme<StorageT>, StorageT: StorageIndex, W: Write>(
+    out: &mut W,
+    piece: &mut String,
+    form: Form,
+    grm: &YaccGrammar<StorageT>,
+    input: &str,
+    node: &Node<LexemeT, StorageT>,
+) -> io::Result<()>
+    ensures { OnOk result (Appends (W.contents out.old) (W.contents out.new)
+        (front_text form (λ x. facts_of StorageT.index (LexemeT.parts x)) StorageT.index grm.now input.now node.now)) }
+{
+    piece.clear();
+    match node {
+        Node::Term { lexeme } => match leaf_of(grm, input, lexeme) {
+            Some(leaf) => push_leaf(piece, form, leaf)?,
+            None => return Err(io::Error::from(ErrorKind::InvalidInput)),
+        },
+        Node::Nonterm { ridx, nodes: _ } => match rule_name(grm, *ridx) {
+            Some(name) => push_rule(piece, form, name)?,
+            None => return Err(io::Error::from(ErrorKind::InvalidInput)),
+        },
+    }
+    out.write_all(piece.as_bytes())
+}
+
+// Adds what stands in front of the trees of a rule.
+fn push_rule(piece: &mut String, form: Form, name: &str) -> Result<(), AllocError>
+    ensures { OnOk result (string_bytes piece.new ≡ string_bytes piece.old ++ rule_front form name.now) }
+{
+    match form {
+        Form::Brackets => push_bracket_rule(piece, name),
+        Form::Json => push_json_rule(piece, name),
+    }
+}
+
+// Adds a rule's name and a bracket.
+fn push_bracket_rule(piece: &mut String, name: &str) -> Result<(), AllocError>
+    ensures { OnOk result (string_bytes piece.new ≡ string_bytes piece.old ++ bracket_rule name.now) }
+{
+    piece.push_str(name)?;
+    piece.push('[')
+}
+
+// Adds a rule's name as JSON, and what stands in front of its trees.
+fn push_json_rule(piece: &mut String, name: &str) -> Result<(), AllocError>
+    ensures { OnOk result (string_bytes piece.new ≡ string_bytes piece.old ++ json_rule name.now) }
+{
+    piece.push_str("{\"rule\":\"")?;
+    push_escaped(piece, name)?;
+    piece.push_str("\",\"children\":[")?;
+    Ok(())
+}
+
+// Adds a lexeme.
+fn push_leaf(piece: &mut String, form: Form, leaf: Leaf<'_>) -> Result<(), AllocError>
+    ensures { OnOk result (string_bytes piece.new ≡ string_bytes piece.old ++ leaf_text form leaf.entry.name.now leaf.entry.text.now leaf.entry.start leaf.entry.end leaf.entry.is_faulty) }
+{
+    match form {
+        Form::Brackets => push_bracket_leaf(piece, leaf),
+        Form::Json => push_json_leaf(piece, leaf),
+    }
+}
+
+// Adds a lexeme: its token's name, where that isn't its text, and its text between double quotes.
+fn push_bracket_leaf(piece: &mut String, leaf: Leaf<'_>) -> Result<(), AllocError>
+    ensures { OnOk result (string_bytes piece.new ≡ string_bytes piece.old ++ bracket_leaf leaf.entry.name.now leaf.entry.text.now) }
+{
+    push_other_name(piece, leaf.name, leaf.text)?;
+    piece.push('"')?;
+    push_escaped(piece, leaf.text)?;
+    piece.push('"')
+}
+
+// Adds the name of a token and a space, where the name isn't the text.
+fn push_other_name(piece: &mut String, name: &str, text: &str) -> Result<(), AllocError>
+    ensures { OnOk result (string_bytes piece.new ≡ string_bytes piece.old ++ (if bytes_eq name.now text.now then [] else name.now ++ codes " ")) }
+{
+    if name == text {
+        return Ok(());
+    }
+    piece.push_str(name)?;
+    piece.push(' ')
+}
+
+// Adds a lexeme as JSON.
+fn push_json_leaf(piece: &mut String, leaf: Leaf<'_>) -> Result<(), AllocError>
+    ensures { OnOk result (string_bytes piece.new ≡ string_bytes piece.old ++ json_leaf leaf.entry.name.now leaf.entry.text.now leaf.entry.start leaf.entry.end leaf.entry.is_faulty) }
+{
+    piece.push_str("{\"token\":\"")?;
+    push_escaped(piece, leaf.name)?;
+    piece.push_str("\",\"text\":\"")?;
+    push_escaped(piece, leaf.text)?;
+    push_json_place(piece, leaf)
+}
+
+// Adds the place of a lexeme as JSON, and whether a repair made it.
+fn push_json_place(piece: &mut String, leaf: Leaf<'_>) -> Result<(), AllocError>
+    ensures { OnOk result (string_bytes piece.new ≡ string_bytes piece.old ++ json_place leaf.entry.start leaf.entry.end leaf.entry.is_faulty) }
+{
+    let start = leaf.start;
+    let end = leaf.end;
+    write!(piece, "\",\"start\":{start},\"end\":{end}")?;
+    push_inserted(piece, leaf.is_faulty)?;
+    piece.push('}')
+}
+
+// Adds that a repair made a lexeme, where one did.
+fn push_inserted(piece: &mut String, is_faulty: bool) -> Result<(), AllocError>
+    ensures { OnOk result (string_bytes piece.new ≡ string_bytes piece.old ++ (if is_faulty then codes ",\"inserted\":true" else [])) }
+{
+    if is_faulty {
+        piece.push_str(",\"inserted\":true")
+    } else {
+        Ok(())
+    }
+}

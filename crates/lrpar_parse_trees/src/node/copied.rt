@@ -1,0 +1,72 @@
+//! Copies of trees.
+ghost use Rattle.std.specs.Prelude.{◌≡◌, ◌∷◌, IfOk, length};
+ghost use Rattle.lrpar_parse_trees.specs.Visits.{Entered};
+ghost use Rattle.lrpar_parse_trees.specs.Walks.{walk, walks};
+
+use crate::node::Node;
+use lrpar_grammar::span::RIdx;
+use std::alloc::{AllocError, Global};
+
+impl<LexemeT: Copy, StorageT: Copy> Node<LexemeT, StorageT> {
+    /// The same tree again. It fails if memory runs out, and takes one allocation for each rule with children
+    /// and a list with an entry for each level.
+    pub fn clone(&self, alloc: Global) -> Result<Self, AllocError>
+        ensures equal { IfOk result (λ node. walk node ≡ walk self.now) }
+    {
+        match self {
+            Node::Term { lexeme } => Ok(Node::Term { lexeme: *lexeme }),
+            Node::Nonterm { ridx, nodes } => copied(alloc, *ridx, nodes),
+        }
+    }
+}
+
+// A rule whose trees are being made again: those that are there, and those that are left.
+#[derive(Drop)]
+struct Growing<'a, LexemeT, StorageT> {
+    ridx: RIdx<StorageT>,
+    made: Vec<Node<LexemeT, StorageT>>,
+    left: &'a [Node<LexemeT, StorageT>],
+}
+
+// The node of the rule over the same trees again. A list holds the rules that the tree in hand lies in, an entry a level.
+fn copied<'a, LexemeT: Copy, StorageT: Copy>(
+    alloc: Global,
+    mut ridx: RIdx<StorageT>,
+    nodes: &'a [Node<LexemeT, StorageT>],
+) -> Result<Node<LexemeT, StorageT>, AllocError>
+    ensures { IfOk result (λ node. walk node ≡ Entered ridx.0 (length nodes.entry.now) ∷ walks nodes.entry.now) }
+{
+    let mut below = Vec::new(alloc);
+    let mut made = Vec::with_capacity(alloc, nodes.len())?;
+    let mut left = nodes;
+    loop {
+        match left.split_first() {
+            Some((node, rest)) => match node {
+                Node::Term { lexeme } => {
+                    made.push(Node::Term { lexeme: *lexeme })?;
+                    left = rest;
+                }
+                Node::Nonterm { ridx: rule, nodes } => {
+                    below.push(Growing {
+                        ridx,
+                        made,
+                        left: rest,
+                    })?;
+                    ridx = *rule;
+                    made = Vec::with_capacity(alloc, nodes.len())?;
+                    left = nodes;
+                }
+            },
+            None => {
+                let node = Node::Nonterm { ridx, nodes: made };
+                let Some(parent) = below.pop() else {
+                    return Ok(node);
+                };
+                ridx = parent.ridx;
+                made = parent.made;
+                left = parent.left;
+                made.push(node)?;
+            }
+        }
+    }
+}

@@ -1,0 +1,192 @@
+//! The text of a tree.
+ghost use Rattle.std.specs.Prelude.{◌≡◌, ◌++◌, ◌↔◌, ℕ, IfOk, IsTrue, OnOk};
+ghost use Rattle.std.specs.List.{AllByRecursion};
+ghost use Rattle.std.specs.String.{string_bytes};
+ghost use Rattle.lrpar_parse_lexemes.specs.Lexemes.{facts_of};
+ghost use Rattle.lrpar_parse_trees.specs.TreeText.{MetFits, TreeFits, all_met, met_line, nodes_below, root_at, tree_text};
+
+use crate::node::Node;
+use crate::node::fewer::{CALLS, are_fewer};
+use lrpar_grammar::grammar::YaccGrammar;
+use lrpar_grammar::span::{StorageIndex, TIdx};
+use lrpar_parse_errors::spaces::push_spaces;
+use lrpar_parse_lexemes::lex_api::Lexeme;
+use std::alloc::{AllocError, Global};
+
+impl<LexemeT: Lexeme<StorageT>, StorageT: StorageIndex> Node<LexemeT, StorageT> {
+    /// Whether the tree is one of the grammar over the input: its rules are the grammar's, its lexemes have tokens of the
+    /// grammar other than the end token, and each lexeme starts and ends between two characters of the input. Takes time
+    /// linear in the tree and no stack for a level; it keeps a list with an entry for each level. If it runs out of memory, it
+    /// goes on without the list: its stack stays bounded, and a tree that is deep and bushy takes it longer.
+    pub fn fits(&self, grm: &YaccGrammar<StorageT>, input: &str) -> bool
+        ensures { IsTrue result ↔ TreeFits (λ x. facts_of StorageT.index (LexemeT.parts x)) StorageT.index grm.now input.now self.now }
+    {
+        if !root_fits(grm, input, self) {
+            return false;
+        }
+        match self {
+            Node::Term { lexeme: _ } => true,
+            Node::Nonterm { ridx: _, nodes } => all_fit(*nodes.allocator(), grm, input, nodes),
+        }
+    }
+
+    /// The text of the tree: a line for each node in front of those of its children, indented by one space a level. A
+    /// lexeme's line has its token's name, a space and its part of the input, a rule's line its name. The tree has to fit
+    /// the grammar and the input. It fails if memory runs out.
+    ///
+    /// Takes time linear in the text, and beside it a list of as many entries as the tree has levels. However deep the
+    /// tree is, the call's own depth stays the same.
+    pub fn pp(
+        &self,
+        alloc: Global,
+        grm: &YaccGrammar<StorageT>,
+        input: &str,
+    ) -> Result<String, AllocError>
+        requires fits { TreeFits (λ x. facts_of StorageT.index (LexemeT.parts x)) StorageT.index grm.now input.now self.now }
+        ensures text { IfOk result (λ text. string_bytes text
+            ≡ tree_text (λ x. facts_of StorageT.index (LexemeT.parts x)) StorageT.index grm.now input.now self.now) }
+    {
+        let mut out = String::new(alloc);
+        push_line(&mut out, grm, input, 0, self)?;
+        let mut below = Vec::new(alloc);
+        let mut left = children(self);
+        loop {
+            match left.split_first() {
+                Some((node, rest)) => {
+                    below.push(rest)?;
+                    push_line(&mut out, grm, input, below.len(), node)?;
+                    left = children(node);
+                }
+                None => match below.pop() {
+                    Some(rest) => left = rest,
+                    None => return Ok(out),
+                },
+            }
+        }
+    }
+}
+
+// Whether these trees fit. A list holds what is left of them, an entry a level. If it can't grow, the trees below a node are
+// looked at without one.
+fn all_fit<'a, LexemeT: Lexeme<StorageT>, StorageT: StorageIndex>(
+    alloc: Global,
+    grm: &YaccGrammar<StorageT>,
+    input: &str,
+    mut nodes: &'a [Node<LexemeT, StorageT>],
+) -> bool
+    ensures { IsTrue result ↔ AllByRecursion (MetFits (λ x. facts_of StorageT.index (LexemeT.parts x)) StorageT.index grm.now input.now)
+        (all_met 1 nodes.entry.now) }
+{
+    let mut left = Vec::new(alloc);
+    loop {
+        match nodes.split_first() {
+            Some((node, rest)) => {
+                if !root_fits(grm, input, node) {
+                    return false;
+                }
+                match left.push(rest) {
+                    Ok(()) => nodes = children(node),
+                    Err(_) => {
+                        if !fit_by_calls(grm, input, children(node), CALLS) {
+                            return false;
+                        }
+                        nodes = rest;
+                    }
+                }
+            }
+            None => match left.pop() {
+                Some(rest) => nodes = rest,
+                None => return true,
+            },
+        }
+    }
+}
+
+// Whether these trees fit, with no list. After a node there are the trees below it and those beside it: a call of itself looks
+// at the ones, and the loop goes on with the others. The calls are those below the node, and no deeper than `calls`; from there
+// on they are those of the fewer nodes.
+fn fit_by_calls<'a, LexemeT: Lexeme<StorageT>, StorageT: StorageIndex>(
+    grm: &YaccGrammar<StorageT>,
+    input: &str,
+    mut nodes: &'a [Node<LexemeT, StorageT>],
+    calls: usize,
+) -> bool
+    ensures { IsTrue result ↔ AllByRecursion (MetFits (λ x. facts_of StorageT.index (LexemeT.parts x)) StorageT.index grm.now input.now)
+        (all_met 1 nodes.entry.now) }
+{
+    while let Some((node, rest)) = nodes.split_first() {
+        if !root_fits(grm, input, node) {
+            return false;
+        }
+        let below = children(node);
+        if calls > 0 || are_fewer(below, rest) {
+            if !fit_by_calls(grm, input, below, calls.saturating_sub(1)) {
+                return false;
+            }
+            nodes = rest;
+        } else {
+            if !fit_by_calls(grm, input, rest, 0) {
+                return false;
+            }
+            nodes = below;
+        }
+    }
+    true
+}
+
+// The trees of the node's symbols. A lexeme has none.
+pub(crate) fn children<LexemeT, StorageT>(
+    node: &Node<LexemeT, StorageT>,
+) -> &[Node<LexemeT, StorageT>]
+    ensures { result.now ≡ nodes_below node.now }
+{
+    match node {
+        Node::Term { lexeme: _ } => &[],
+        Node::Nonterm { ridx: _, nodes } => nodes,
+    }
+}
+
+// Whether the root of the tree fits.
+pub(crate) fn root_fits<LexemeT: Lexeme<StorageT>, StorageT: StorageIndex>(
+    grm: &YaccGrammar<StorageT>,
+    input: &str,
+    node: &Node<LexemeT, StorageT>,
+) -> bool
+    ensures { (level : ℕ) → IsTrue result ↔ MetFits (λ x. facts_of StorageT.index (LexemeT.parts x)) StorageT.index grm.now input.now (root_at level node.now) }
+{
+    match node {
+        Node::Term { lexeme } => {
+            let span = lexeme.span();
+            lexeme.tok_id().to_index() < grm.tokens_len() - 1
+                && input.is_char_boundary(span.start())
+                && input.is_char_boundary(span.end())
+        }
+        Node::Nonterm { ridx, nodes: _ } => usize::from(*ridx) < grm.rules_len(),
+    }
+}
+
+// Adds the line of the root of a tree, at a level.
+pub(crate) fn push_line<LexemeT: Lexeme<StorageT>, StorageT: StorageIndex>(
+    out: &mut String,
+    grm: &YaccGrammar<StorageT>,
+    input: &str,
+    level: usize,
+    node: &Node<LexemeT, StorageT>,
+) -> Result<(), AllocError>
+    requires { MetFits (λ x. facts_of StorageT.index (LexemeT.parts x)) StorageT.index grm.now input.now (root_at level node.now) }
+    ensures { OnOk result (string_bytes out.new ≡ string_bytes out.old
+        ++ met_line (λ x. facts_of StorageT.index (LexemeT.parts x)) StorageT.index grm.now input.now (root_at level node.now)) }
+{
+    push_spaces(out, level)?;
+    match node {
+        Node::Term { lexeme } => {
+            let name = grm.token_name(TIdx(lexeme.tok_id())).unwrap();
+            out.push_str(name)?;
+            out.push(' ')?;
+            let span = lexeme.span();
+            out.push_str(&input[span.start()..span.end()])?;
+        }
+        Node::Nonterm { ridx, nodes: _ } => out.push_str(grm.rule_name_str(*ridx))?,
+    }
+    out.push('\n')
+}

@@ -1,7 +1,0 @@
-use Rattle.std.proofs.Common.{◌≡◌, map}
-use Rattle.lrpar_course.specs.Nodes.{node_of}
-use Rattle.lrpar_parser.proofs.generictree.nodes_of.Given as goal
-
--- the nodes so far are those of what was taken so far
-abbrev pub invariant-loop-arg : goal.invariant-loop-arg
-invariant-loop-arg g l = l.nodes.items ≡ map node_of l.yielded

@@ -1,5 +1,0 @@
-use Rattle.lrpar_stacks.proofs.RunLemmas.{runs_go_on_or_end}
-use Rattle.lrpar_parser.proofs.laws.runs_go_on_or_end.Goals as goal
-
-pub returns : goal.returns
-returns g c = record { goes = runs_go_on_or_end; facts_go = runs_go_on_or_end }

@@ -1,5 +1,0 @@
-use Rattle.lrpar_steps.proofs.ReplayLemmas.{replay_one_way, works_by_replay}
-use Rattle.lrpar_parser.proofs.laws.sequences_that_work_are_replayed.Goals as goal
-
-pub returns : goal.returns
-returns g c = record { works = works_by_replay; one_way = replay_one_way; facts_work = works_by_replay; facts_one_way = replay_one_way }

@@ -1,6 +1,0 @@
-pub mod NamesLemmas
-pub mod GrowthLemmas
-pub mod FaultsLemmas
-pub mod SpanLemmas
-pub mod SpellsLemmas
-pub mod SpellsFitLemmas

@@ -1,5 +1,0 @@
-use Rattle.lrpar_parts.proofs.SpellsLemmas.{spells_one}
-use Rattle.lrpar_parts.proofs.laws.text_spells_one_grammar.Goals as goal
-
-pub returns : goal.returns
-returns c = spells_one c.text_has_one_outline.ensures

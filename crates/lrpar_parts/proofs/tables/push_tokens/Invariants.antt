@@ -1,9 +1,0 @@
-use Rattle.std.proofs.Common.{◌≡◌, ◌++◌, map, take}
-use Rattle.std.specs.List.{filter}
-use Rattle.lrpar_text.specs.Words.{placed}
-use Rattle.lrpar_parts.specs.Spells.{is_token}
-use Rattle.lrpar_parts.proofs.tables.push_tokens.Given as goal
-
--- the tokens so far stand behind the others
-abbrev pub invariant-loop-word : goal.invariant-loop-word
-invariant-loop-word l = map placed l.words.items ≡ map placed l.fn.words.items ++ filter (is_token l.declared) (take l.word-index (map placed l.symbols))

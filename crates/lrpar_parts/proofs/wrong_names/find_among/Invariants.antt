@@ -1,9 +1,0 @@
-use Rattle.std.proofs.Common.{◌≡◌, false, map, take}
-use Rattle.std.specs.List.{All}
-use Rattle.lrpar_text.specs.Words.{PlacedWord, placed}
-use Rattle.lrpar_parts.specs.Names.{is_among}
-use Rattle.lrpar_parts.proofs.wrong_names.find_among.Given as goal
-
--- none of the words so far is the one
-abbrev pub invariant-loop-word : goal.invariant-loop-word
-invariant-loop-word l = All (λ (w : PlacedWord). is_among w.name l.names ≡ false) (take l.word-index (map placed l.words))

@@ -1,2 +1,0 @@
-pub mod SequenceText
-pub mod PrintedParts

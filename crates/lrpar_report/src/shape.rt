@@ -1,0 +1,59 @@
+//! What may stand at a place of a grammar text, which is found by trying it.
+use crate::choices::joint;
+use lrpar_grammar_words::outline::{Outline, OutlineFault};
+use std::alloc::{AllocError, Global};
+
+/// Words of each kind, and how messages name them.
+const WORDS: [(&str, &str); 9] = [
+    (" %start", "%start"),
+    (" %token", "%token"),
+    (" %epp", "%epp"),
+    (" %%", "%%"),
+    (" a", "a name"),
+    (" 'a'", "a quoted word"),
+    (" :", "':'"),
+    (" |", "'|'"),
+    (" ;", "';'"),
+];
+
+/// Adds the kinds of words that may stand behind this beginning of a grammar text, which has whole words that can stand as they do:
+/// `, expected A, B or C`.
+pub(crate) fn push_expected(
+    out: &mut String,
+    alloc: Global,
+    front: &str,
+) -> Result<(), AllocError> {
+    let names = expected(alloc, front)?;
+    if !names.is_empty() {
+        out.push_str(", ")?;
+    }
+    for (place, name) in names.iter().enumerate() {
+        out.push_str(joint(place, names.len().saturating_sub(place)))?;
+        out.push_str(name)?;
+    }
+    Ok(())
+}
+
+// The kinds of words that may stand behind the beginning.
+fn expected(alloc: Global, front: &str) -> Result<Vec<&'static str>, AllocError> {
+    let mut names = Vec::new(alloc);
+    for (word, name) in WORDS {
+        if can_stand(alloc, front, word)? {
+            names.push(name)?;
+        }
+    }
+    if can_stand(alloc, front, "")? {
+        names.push("the end")?;
+    }
+    Ok(names)
+}
+
+// Whether the word may stand behind the beginning: the text is then read to its end.
+fn can_stand(alloc: Global, front: &str, word: &str) -> Result<bool, AllocError> {
+    let text = format!(in alloc; "{front}{word}")?;
+    match Outline::read(alloc, text.as_str()) {
+        Ok(_) => Ok(true),
+        Err(OutlineFault::Syntax(place)) => Ok(!word.is_empty() && place == text.len()),
+        Err(OutlineFault::Memory) => Err(AllocError),
+    }
+}

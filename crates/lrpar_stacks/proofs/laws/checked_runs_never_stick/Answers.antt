@@ -1,5 +1,0 @@
-use Rattle.lrpar_stacks.proofs.PathLemmas as paths
-use Rattle.lrpar_stacks.proofs.laws.checked_runs_never_stick.Goals as goal
-
-pub returns : goal.returns
-returns c = paths.checked_runs_never_stick

@@ -1,5 +1,0 @@
-use Rattle.lrpar_stacks.proofs.Reductions.{settles_one_way}
-use Rattle.lrpar_stacks.proofs.laws.reductions_have_one_answer.Goals as goal
-
-pub returns : goal.returns
-returns c = settles_one_way

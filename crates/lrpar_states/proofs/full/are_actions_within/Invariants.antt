@@ -1,9 +1,0 @@
-use Rattle.std.proofs.Common.{All, take}
-use Rattle.lrpar_states.specs.PlainRows.{plain_action}
-use Rattle.lrpar_states.specs.Table.{IsActionWithin}
-use Rattle.lrpar_states.proofs.full.are_actions_within.Given as goal
-
--- the actions so far are as they should be
-abbrev pub invariant-loop-action : goal.invariant-loop-action
-invariant-loop-action g l =
-    All (λ action. IsActionWithin l.states (plain_action g.StorageT.StorageIndex.index action)) (take l.action-index l.row)

@@ -1,9 +1,0 @@
-use Rattle.std.proofs.Common.{All, take}
-use Rattle.lrpar_states.specs.PlainRows.{plain_goto}
-use Rattle.lrpar_states.specs.Table.{IsGotoWithin}
-use Rattle.lrpar_states.proofs.full.are_gotos_within.Given as goal
-
--- the gotos so far are as they should be
-abbrev pub invariant-loop-goto : goal.invariant-loop-goto
-invariant-loop-goto g l =
-    All (λ goto. IsGotoWithin l.states (plain_goto g.StorageT.StorageIndex.index goto)) (take l.goto-index l.row)

@@ -1,5 +1,0 @@
-use Rattle.lrpar_text.proofs.FaultLemmas.{nothing_done}
-use Rattle.lrpar_states.proofs.full.push_goto.Goals as goal
-
-pub returns-in_err-push : goal.returns-in_err-push
-returns-in_err-push g c = nothing_done c.from_residual.result _ _ c.from_residual.ensures.1

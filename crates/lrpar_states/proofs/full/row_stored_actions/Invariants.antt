@@ -1,9 +1,0 @@
-use Rattle.std.proofs.Common.{◌≡◌, map, take}
-use Rattle.lrpar_states.specs.PlainRows.{action_entry, plain_action}
-use Rattle.lrpar_states.specs.Rows.{row_actions}
-use Rattle.lrpar_states.proofs.full.row_stored_actions.Given as goal
-
--- what is stored is what the row so far stores
-abbrev pub invariant-loop-number : goal.invariant-loop-number
-invariant-loop-number g l =
-    map (action_entry g.StorageT.StorageIndex.index) l.stored.items ≡ row_actions (take l.number (map (plain_action g.StorageT.StorageIndex.index) l.row))

@@ -1,7 +1,0 @@
-use Rattle.std.proofs.Common.{take}
-use Rattle.lrpar_states.specs.PlainItems.{AreBegunOf}
-use Rattle.lrpar_states.proofs.items.begun_of.Given as goal
-
--- they are those of the cores so far
-abbrev pub invariant-loop-core : goal.invariant-loop-core
-invariant-loop-core g l = AreBegunOf (take l.core-index l.cores) l.begun.items

@@ -1,0 +1,158 @@
+-- A graph and a table of the states are built as they should be.
+use Rattle.std.proofs.Common.{◌≡◌, ◌≢◌, ◌<◌, ◌↔◌, ◌∷◌, refl, sym, ap, subst, arith, ℕ, List, [], Option, Some, None, length, nat_eq}
+use Rattle.std.specs.List.{Contains}
+use Rattle.std.specs.Map.{lookup}
+use Rattle.std.proofs.lemmas.List.{length-map}
+use Rattle.lrpar_grammar.specs.Grammar.{Grammar, GrammarSymbol, IsWellFormed, Nonterminal, Terminal, end_token, prod_len, start_prod, tokens_len}
+use Rattle.lrpar_table_rows.specs.Graph.{Graph, HasItem, ItemOf, graph_len, item_at}
+use Rattle.lrpar_table_rows.specs.Table.{IsTable}
+use Rattle.lrpar_table_rows.proofs.EntryLemmas.{no_action_after, no_action_past, no_goto_past}
+use Rattle.lrpar_table_build.specs.BuilderLaws.{AcceptAlone, IsWantedTable}
+use Rattle.lrpar_table_build.specs.Built.{IsBuildRefusal, IsBuilt}
+use Rattle.lrpar_table_items.specs.Canonical.{AreCanonical, AreSame, IsAcceptConflict, IsCanonical, IsTransition, WantsAccept, sets_of}
+use Rattle.lrpar_table_items.specs.StateRows.{IsRefusalOf, IsRefusedState, item_rows, table_of_states}
+use Rattle.lrpar_table_items.specs.States.{AreStates, StateOf, sets_at, state_at}
+use Rattle.lrpar_table_items.specs.Wanted.{IsAcceptReduce, is_complete_at, reductions}
+use Rattle.lrpar_table_items.specs.declared.fault.BuildFault.{BuildFault}
+use Rattle.lrpar_table_items.specs.declared.fault.BuildFault.TheVariants.{AcceptReduceConflict, Memory, StorageTooSmall, TooManyStates}
+use Rattle.lrpar_table_build.proofs.ConflictLemmas.{canonical_conflicts_fit, no_conflicts_are_one_action}
+use Rattle.lrpar_table_build.proofs.ListedLemmas.{conflicts_are, in_order}
+use Rattle.lrpar_table_build.proofs.MemberLemmas.{member_first, member_none}
+use Rattle.lrpar_table_build.proofs.ReachedLemmas.{no_end_token, reached_at_end}
+use Rattle.lrpar_table_build.proofs.ReductionLemmas.{accept_is, acts_as_wanted, goes_as_wanted, wants_is}
+use Rattle.lrpar_table_build.proofs.SafeLemmas.{canonical_tables_are_safe}
+use Rattle.lrpar_table_build.proofs.SetLemmas.{canonical_same, graph_same, rows_same, same_on, step_same}
+use Rattle.lrpar_table_build.proofs.TableRowLemmas.{action_is, goto_is}
+
+-- the start production has one symbol
+pub start_len : (g : Grammar) → IsWellFormed g → prod_len g (start_prod g) ≡ 1
+start_len g well = ap (λ (w : List GrammarSymbol). length w) well.last_symbols
+
+-- numbers that aren't none have one among them
+one_of : (ks : List ℕ) → ks ≢ [] → (k : ℕ) × Contains ks k
+one_of [] some = absurd (some refl)
+one_of (k ∷ ks) some = (k, member_first k ks)
+
+module _ (g : Grammar) (well : IsWellFormed g) (states : List StateOf) (are : AreStates g states) (sets : ℕ → ItemOf → Type 0)
+    (same : (s : ℕ) → AreSame (sets s) (sets_at states s)) where
+  -- a state that wants to accept does so at the end token
+  accepts_only_at_end : (s t : ℕ) → s < length states → WantsAccept g sets s t → t ≡ end_token g
+  accepts_only_at_end s t below wants =
+      let item = item_at (start_prod g) 1 t in
+      let reached = are.canonical.reached s below in
+      reached_at_end g well reached.0 item ((reached.1 item).0 ((same s item).0 wants)) refl
+
+  -- a state that is refused wants to accept and a reduction
+  pub refused_conflict : (s : ℕ) → s < length states → IsRefusedState g states s → IsAcceptConflict g sets s
+  refused_conflict s below refused =
+      let t = refused.0 in
+      let beside = refused.2 in
+      let cores = (state_at states s).cores in
+      let known = are.cores s below in
+      let wants = (accept_is g sets s cores known (same s) t (start_len g well)).1 beside.accept in
+      let end = accepts_only_at_end s t below wants in
+      let one = one_of (reductions g cores t) beside.some in
+      let there = subst (λ n. Contains (reductions g cores n) one.0) end one.1 in
+      (subst (WantsAccept g sets s) end wants, (one.0, (wants_is g sets s cores known (same s) (end_token g) one.0).1 there))
+
+  -- no step is by the end token
+  no_step_at_end : (s : ℕ) (step : Option ℕ) → IsTransition g (length states) (sets_at states) s (Terminal (end_token g)) step → step ≡ None
+  no_step_at_end s None h = refl
+  no_step_at_end s (Some next) h =
+      let before = h.0 in absurd (no_end_token g well before.0.prod before.0.dot (end_token g) refl before.2)
+
+  -- and where none is refused, none wants that
+  pub accept_alone : ((s t : ℕ) → s < length states → t < tokens_len g → ¬ (IsAcceptReduce g (state_at states s).cores (state_at states s).shifts t))
+      → AcceptAlone g (length states) sets
+  accept_alone none s below conflict =
+      let t = end_token g in
+      let cores = (state_at states s).cores in
+      let known = are.cores s below in
+      none s t below (omega arith) (record {
+        no_shift = no_step_at_end s (lookup (nat_eq t) (state_at states s).shifts) (are.shifts s t below);
+        some = λ empty.
+            let there = (wants_is g sets s cores known (same s) t conflict.1.0).0 conflict.1.1 in
+            member_none conflict.1.0 (subst (λ (ks : List ℕ). Contains ks conflict.1.0) empty there);
+        accept = (accept_is g sets s cores known (same s) t (start_len g well)).0 conflict.0;
+      })
+
+-- the rows of the states are a graph with the canonical sets
+rows_canonical : (g : Grammar) → IsWellFormed g → (states : List StateOf) → AreStates g states → IsCanonical g (item_rows g states)
+rows_canonical g well states are =
+    let len : graph_len (item_rows g states) ≡ length states = length-map states _ in
+    subst (λ n. AreCanonical g n (sets_of (item_rows g states))) (sym len)
+    (canonical_same g (sets_of (item_rows g states)) (sets_at states) (rows_same g states well are.canonical) (length states) are.canonical)
+
+-- what a refusal of a state tells
+pub build_refusal : (g : Grammar) → IsWellFormed g → (states : List StateOf) → AreStates g states → (most limit : ℕ) (fault : BuildFault)
+    → IsRefusalOf (length states) (IsRefusedState g states) fault → IsBuildRefusal g most limit fault
+build_refusal g well states are most limit (AcceptReduceConflict n) h =
+    let rows = item_rows g states in
+    let len : graph_len rows ≡ length states = length-map states _ in (
+      rows,
+      rows_canonical g well states are,
+      subst (λ k. n < k) (sym len) h.0,
+      refused_conflict g well states are (sets_of rows) (rows_same g states well are.canonical) n h.0 h.1,
+    )
+build_refusal g well states are most limit Memory h = tt
+build_refusal g well states are most limit TooManyStates h = absurd h
+build_refusal g well states are most limit StorageTooSmall h = absurd h
+
+module _ (g : Grammar) (well : IsWellFormed g) (states : List StateOf) (are : AreStates g states) (graph : Graph) (len : graph_len graph ≡ length states)
+    (items : (s p k t : ℕ) → HasItem graph s p k t ↔ HasItem (item_rows g states) s p k t) where
+  -- the graph has the sets of the states
+  graph_sets : (s : ℕ) → AreSame (sets_of graph s) (sets_at states s)
+  graph_sets s =
+      same_on (sets_of graph s) (sets_of (item_rows g states) s) (sets_at states s) (graph_same graph (item_rows g states) items s)
+      (rows_same g states well are.canonical s)
+
+  graph_canonical : IsCanonical g graph
+  graph_canonical =
+      subst (λ n. AreCanonical g n (sets_of graph)) (sym len)
+      (canonical_same g (sets_of graph) (sets_at states) graph_sets (length states) are.canonical)
+
+  -- the table does in each state what the set wants
+  graph_wanted : (limit : ℕ) → IsTable limit (table_of_states g states) → IsWantedTable g graph (table_of_states g states)
+  graph_wanted limit is =
+      let table = table_of_states g states in
+      record {
+        states = len;
+        start = refl;
+        tokens = refl;
+        rules = refl;
+        acts = λ s t below within.
+            let cores = (state_at states s).cores in
+            let shifts = (state_at states s).shifts in
+            acts_as_wanted g (sets_of graph) s cores (are.cores s below) (graph_sets s) (length states) t table (lookup (nat_eq t) shifts) (reductions g cores t)
+            (is_complete_at g cores t (start_prod g)) (start_len g well)
+            (step_same g (sets_of graph) (sets_at states) graph_sets (length states) s (Terminal t) (lookup (nat_eq t) shifts) (are.shifts s t below)) refl refl
+            (action_is g states are well s t below within);
+        goes = λ s r below within.
+            let gotos = (state_at states s).gotos in
+            goes_as_wanted g (sets_of graph) (length states) s r table (lookup (nat_eq r) gotos)
+            (step_same g (sets_of graph) (sets_at states) graph_sets (length states) s (Nonterminal r) (lookup (nat_eq r) gotos) (are.gotos s r below))
+            (goto_is g states are well s r below);
+        no_state = no_action_after limit table is;
+        no_token = no_action_past limit table is;
+        no_rule = no_goto_past limit table is;
+      }
+
+  -- so both are built
+  pub is_built : (limit : ℕ) → IsTable limit (table_of_states g states)
+      → ((s t : ℕ) → s < length states → t < tokens_len g → ¬ (IsAcceptReduce g (state_at states s).cores (state_at states s).shifts t))
+      → IsBuilt g graph (table_of_states g states)
+  is_built limit is none =
+      let table = table_of_states g states in
+      let conflicts = conflicts_are g states are graph len graph_sets in
+      let alone : AcceptAlone g (graph_len graph) (sets_of graph) =
+      subst (λ n. AcceptAlone g n (sets_of graph)) (sym len) (accept_alone g well states are (sets_of graph) graph_sets none) in
+      record {
+        canonical = graph_canonical;
+        wanted = graph_wanted limit is;
+        safe = canonical_tables_are_safe g graph table well graph_canonical (graph_wanted limit is);
+        conflicts = conflicts;
+        in_order = in_order g states (length states);
+        fit = canonical_conflicts_fit g graph table.conflicts well graph_canonical conflicts;
+        no_conflicts = no_conflicts_are_one_action g graph table.conflicts well graph_canonical conflicts alone;
+        accept_alone = alone;
+      }

@@ -1,0 +1,182 @@
+-- A table that does what the canonical sets want is safe. What the table does is traced back to what a set wants; and what a set has
+-- follows from how it is reached.
+use Rattle.std.proofs.Common.{◌≡◌, ◌<◌, ◌+◌, ◌∙◌, refl, sym, ap, subst, inl, inr, arith, ℕ, List, [], None, Some, slice_get}
+use Rattle.std.proofs.lemmas.Bool.{cases_lt}
+use Rattle.lrpar_grammar.proofs.PartsLemmas.{rule_of_within}
+use Rattle.lrpar_grammar.specs.Grammar.{Grammar, GrammarSymbol, IsWellFormed, Nonterminal, Terminal, end_token, prod_len, rule_of, rules_len, start_prod, symbols_of, tokens_len}
+use Rattle.lrpar_table_rows.specs.Graph.{Graph, HasCore, HasItem, ItemOf, item_at}
+use Rattle.lrpar_table_rows.specs.Safe.{GoesBy, IsSafe, IsSafeAt}
+use Rattle.lrpar_table_rows.specs.Table.{Accepts, ReduceBy, ShiftTo, Table, action_of, goto_of, states_len}
+use Rattle.lrpar_table_rows.specs.declared.condition.SafetyCondition.{SafetyCondition}
+use Rattle.lrpar_table_rows.specs.declared.condition.SafetyCondition.TheVariants.{S2, S3, S4, S5, S6, S7, S8}
+use Rattle.lrpar_table_rows.proofs.GraphLemmas.{state_in_range}
+use Rattle.lrpar_table_build.specs.BuilderLaws.{CanonicalTablesAreSafe, IsWantedTable}
+use Rattle.lrpar_table_items.specs.Canonical.{AreSame, IsCanonical, LeadsTo, StandsBefore, WantsAccept, WantsReduce, sets_of}
+use Rattle.lrpar_table_items.specs.ItemSets.{IsAdvanced, IsInNext, IsReachedBy, Own}
+use Rattle.lrpar_table_build.proofs.DecidedLemmas.{Accepting, Failing, IsActing, Reducing, Shifting, acting, before_decided}
+use Rattle.lrpar_table_build.proofs.ReachedLemmas.{added_is_listed, closure_cases, comes_with_rule, no_end_token, reached_at_end, reached_items, start_is_fresh, start_item_at_start}
+
+-- an item of the set to which a set goes, with its dot past the front, is one of that set's, advanced by one
+advanced_from : (g : Grammar) (items : ItemOf → Type 0) (x : GrammarSymbol) (p k t : ℕ) → IsInNext g items x (item_at p (k + 1) t)
+    → (slice_get (symbols_of g p) k ≡ Some x) × items (item_at p k t)
+advanced_from g items x p k t h =
+    elim (closure_cases g (IsAdvanced g items x) (item_at p (k + 1) t) h) [
+      | inl own ↦
+          let from = own.0 in
+          let prod : from.prod ≡ p = sym (ap (λ y. y.prod) own.3) in
+          let dot : from.dot ≡ k = let moved = ap (λ y. y.dot) own.3 in omega (arith, moved) in
+          let token : from.token ≡ t = sym (ap (λ y. y.token) own.3) in
+          let is : item_at from.prod from.dot from.token ≡ item_at p k t = cc in (
+            subst (λ (y : ItemOf). slice_get (symbols_of g y.prod) y.dot ≡ Some x) is own.2,
+            subst items is own.1,
+          )
+      | inr more ↦ let front : k + 1 ≡ 0 = more.2.fresh in absurd (omega (arith, front))
+    ]
+
+module _ (g : Grammar) (graph : Graph) (table : Table) (well : IsWellFormed g) (canonical : IsCanonical g graph)
+    (wanted : IsWantedTable g graph table) where
+  -- each state is reached by a path
+  reached_by : (s p k t : ℕ) → HasItem graph s p k t → (path : List GrammarSymbol) × IsReachedBy g path (item_at p k t)
+  reached_by s p k t has =
+      let reached = canonical.reached s (state_in_range graph s p k t has) in
+      (reached.0, (reached.1 (item_at p k t)).0 has)
+
+  -- state 0 has the start item
+  start_there : HasItem graph 0 (start_prod g) 0 (end_token g)
+  start_there = (canonical.start (item_at (start_prod g) 0 (end_token g))).1 (Own (item_at (start_prod g) 0 (end_token g)) refl)
+
+  -- what the table does is what the set wants, in range, and nothing out of range
+  acts_in : (s t : ℕ) → IsActing g graph s table t
+  acts_in s t =
+      elim (cases_lt s (states_len table)) [
+        | inr past ↦ Failing (wanted.no_state s t past)
+        | inl within ↦
+            elim (cases_lt t (tokens_len g)) [
+              | inr past ↦ let is = wanted.tokens in Failing (wanted.no_token s t (omega (arith, past, is)))
+              | inl below ↦ acting g graph s table t (wanted.acts s t within below)
+            ]
+      ]
+
+  shift_wanted : (s t next : ℕ) → action_of table s t ≡ ShiftTo next
+      → StandsBefore g (sets_of graph) s (Terminal t) × LeadsTo g (sets_of graph) s (Terminal t) next
+  shift_wanted s t next at =
+      elim (acts_in s t) [
+        | Shifting to is before leads ↦
+            let same : to ≡ next = cc in (before, subst (λ (n : ℕ). LeadsTo g (sets_of graph) s (Terminal t) n) same leads)
+        | Reducing p is wants ↦ absurd (cc)
+        | Accepting is wants ↦ absurd (cc)
+        | Failing is ↦ absurd (cc)
+      ]
+
+  reduction_wanted : (s t p : ℕ) → action_of table s t ≡ ReduceBy p → WantsReduce g (sets_of graph) s t p
+  reduction_wanted s t p at =
+      elim (acts_in s t) [
+        | Shifting to is before leads ↦ absurd (cc)
+        | Reducing by is wants ↦ let same : by ≡ p = cc in subst (λ (n : ℕ). WantsReduce g (sets_of graph) s t n) same wants.0
+        | Accepting is wants ↦ absurd (cc)
+        | Failing is ↦ absurd (cc)
+      ]
+
+  accept_wanted : (s t : ℕ) → action_of table s t ≡ Accepts → WantsAccept g (sets_of graph) s t
+  accept_wanted s t at =
+      elim (acts_in s t) [
+        | Shifting to is before leads ↦ absurd (cc)
+        | Reducing by is wants ↦ absurd (cc)
+        | Accepting is wants ↦ wants
+        | Failing is ↦ absurd (cc)
+      ]
+
+  -- so is where it goes by a rule
+  goto_wanted : (s r next : ℕ) → s < states_len table → goto_of table s r ≡ Some next → LeadsTo g (sets_of graph) s (Nonterminal r) next
+  goto_wanted s r next within at =
+      elim (cases_lt r (rules_len g)) [
+        | inr past ↦
+            let is = wanted.rules in
+            let none : goto_of table s r ≡ None = wanted.no_rule s r (omega (arith, past, is)) in absurd (cc)
+        | inl below ↦
+            let goes = wanted.goes s r within below in
+            elim (before_decided g graph s (Nonterminal r)) [
+              | inl before ↦
+                  let to = goes.goes before in
+                  let there : goto_of table s r ≡ Some to.0 = to.1 in
+                  let same : to.0 ≡ next = cc in subst (λ (n : ℕ). LeadsTo g (sets_of graph) s (Nonterminal r) n) same to.2
+              | inr none ↦ let stays : goto_of table s r ≡ None = goes.stays none in absurd (cc)
+            ]
+      ]
+
+  leads_by : (s : ℕ) (x : GrammarSymbol) (next : ℕ) → s < states_len table → GoesBy table s x next → LeadsTo g (sets_of graph) s x next
+  leads_by s (Terminal t) next within goes = (shift_wanted s t next goes).1
+  leads_by s (Nonterminal r) next within goes = goto_wanted s r next within goes
+
+  -- no set leads to that of the start
+  never_to_start : (s : ℕ) (x : GrammarSymbol) → LeadsTo g (sets_of graph) s x 0 → ⊥
+  never_to_start s x leads =
+      let start = item_at (start_prod g) 0 (end_token g) in
+      elim (closure_cases g (IsAdvanced g (sets_of graph s) x) start ((leads start).0 start_there)) [
+        | inl own ↦ let moved : 0 ≡ own.0.dot + 1 = ap (λ y. y.dot) own.3 in omega (arith, moved)
+        | inr more ↦ added_is_listed g well more.0 start more.2 refl
+      ]
+
+  -- the start production's first core is in state 0 alone
+  start_alone : (s : ℕ) → HasCore graph s (start_prod g) 0 → s ≡ 0
+  start_alone s has =
+      let item = item_at (start_prod g) 0 has.0 in
+      let within = state_in_range graph s (start_prod g) 0 has.0 has.1 in
+      let reached = canonical.reached s within in
+      let at_start : reached.0 ≡ [] = start_item_at_start g well reached.0 item ((reached.1 item).0 has.1) refl refl in
+      let by_path = λ (x : ItemOf) (path : List GrammarSymbol). IsReachedBy g path x in
+      let same : AreSame (sets_of graph s) (sets_of graph 0) = λ x. (
+        λ h. (canonical.start x).1 (subst (by_path x) at_start ((reached.1 x).0 h)),
+        λ h. (reached.1 x).1 (subst (by_path x) (sym at_start) ((canonical.start x).0 h)),
+      ) in
+      canonical.once s 0 within (state_in_range graph 0 (start_prod g) 0 (end_token g) start_there) same
+
+  safe_at : (condition : SafetyCondition) (s : ℕ) → s < states_len table → IsSafeAt g graph table condition s
+  safe_at S2 s within = λ here p k has.
+      let zero : s ≡ 0 = here ∙ wanted.start in
+      let item = item_at p k has.0 in
+      start_is_fresh g well item ((canonical.start item).0 (subst (λ (n : ℕ). HasItem graph n p k has.0) zero has.1))
+  safe_at S3 s within = λ next at.
+      let before = (shift_wanted s (end_token g) next at).0 in no_end_token g well before.0.prod before.0.dot (end_token g) refl before.2
+  safe_at S4 s within = λ x next goes p k has.
+      let item = (leads_by s x next within goes (item_at p (k + 1) has.0)).0 has.1 in
+      let from = advanced_from g (sets_of graph s) x p k has.0 item in (from.0, (has.0, from.1))
+  safe_at S5 s within = λ t p at. let wants = reduction_wanted s t p at in (wants.0, (t, wants.1))
+  safe_at S6 s within = λ p has listed.
+      let item = item_at p 0 has.0 in
+      let reached = canonical.reached s (state_in_range graph s p 0 has.0 has.1) in
+      let here = (reached.1 item).0 has.1 in
+      let from = comes_with_rule g well reached.0 item here refl listed in
+      let before : StandsBefore g (sets_of graph) s (Nonterminal (rule_of g p)) = (from.0, (reached.1 from.0).1 from.1, from.2) in
+      let known = (reached_items g well reached.0 item here).prod in
+      let goes = (wanted.goes s (rule_of g p) within (rule_of_within g p well known)).goes before in (goes.0, goes.1)
+  safe_at S7 s within = λ t at.
+      let wants = accept_wanted s t at in
+      let reached = reached_by s (start_prod g) 1 t wants in
+      (reached_at_end g well reached.0 (item_at (start_prod g) 1 t) reached.1 refl, (t, wants))
+  safe_at S8 s within = record {
+    never_back = λ x goes.
+        never_to_start s x (subst (λ (n : ℕ). LeadsTo g (sets_of graph) s x n) wanted.start (leads_by s x table.start within goes));
+    first_core = λ has. start_alone s has ∙ sym wanted.start;
+  }
+
+  safe : IsSafe g graph table
+  safe = record {
+    shape = record {
+      states = wanted.states;
+      some =
+          let first = state_in_range graph 0 (start_prod g) 0 (end_token g) start_there in
+          let is = wanted.states in omega (arith, first, is);
+      tokens = wanted.tokens;
+      rules = wanted.rules;
+      reduces = λ s t p at.
+          let wants = reduction_wanted s t p at in
+          let reached = reached_by s p (prod_len g p) t wants.1 in
+          (reached_items g well reached.0 (item_at p (prod_len g p) t) reached.1).prod;
+      items = λ s p k t has. let reached = reached_by s p k t has in reached_items g well reached.0 (item_at p k t) reached.1;
+    };
+    each = safe_at;
+  }
+
+pub canonical_tables_are_safe : CanonicalTablesAreSafe
+canonical_tables_are_safe g graph table well canonical wanted = safe g graph table well canonical wanted

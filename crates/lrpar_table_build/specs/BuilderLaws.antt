@@ -1,0 +1,68 @@
+-- What follows where a table does what the canonical sets want.
+use Rattle.std.specs.Prelude.{◌≡◌, ◌<◌, ◌≤◌, ◌↔◌, ℕ, [], Contains, Option, Some, None}
+use Rattle.lrpar_grammar.specs.Grammar.{Grammar, IsWellFormed, Terminal, rules_len, tokens_len}
+use Rattle.lrpar_table_rows.specs.ConflictsFit.{ConflictsFit}
+use Rattle.lrpar_table_rows.specs.Graph.{Graph, ItemOf, graph_len}
+use Rattle.lrpar_table_rows.specs.Safe.{IsSafe}
+use Rattle.lrpar_table_rows.specs.Table.{ConflictLists, ReduceReduce, ShiftReduce, Table, TableAction, ShiftTo, ReduceBy, Accepts, Fails, action_of, goto_of, states_len}
+use Rattle.lrpar_table_items.specs.Canonical.{ActsAsWanted, GoesAsWanted, IsAcceptConflict, IsCanonical, IsReduceConflict, IsShiftConflict, IsTransition, WantsAccept, WantsReduce, sets_of}
+
+-- the table has a state for each set of the graph, and starts in number 0; it has the grammar's tokens and rules; in each state it
+-- does and goes as the set wants; and past its states, its tokens and its rules it does nothing
+pub record IsWantedTable (g : Grammar) (graph : Graph) (table : Table) : Type 0 where
+  pub states : graph_len graph ≡ states_len table
+  pub start : table.start ≡ 0
+  pub tokens : table.tokens ≡ tokens_len g
+  pub rules : table.rules ≡ rules_len g
+  pub acts : (s t : ℕ) → s < states_len table → t < tokens_len g → ActsAsWanted g (sets_of graph) table s t
+  pub goes : (s r : ℕ) → s < states_len table → r < rules_len g → GoesAsWanted g (sets_of graph) table s r
+  pub no_state : (s t : ℕ) → states_len table ≤ s → action_of table s t ≡ Fails
+  pub no_token : (s t : ℕ) → table.tokens ≤ t → action_of table s t ≡ Fails
+  pub no_rule : (s r : ℕ) → table.rules ≤ r → goto_of table s r ≡ None
+
+-- a table that does what the canonical sets of a grammar want is safe
+abbrev pub CanonicalTablesAreSafe : Type 0
+CanonicalTablesAreSafe =
+    (g : Grammar) (graph : Graph) (table : Table) → IsWellFormed g → IsCanonical g graph → IsWantedTable g graph table
+    → IsSafe g graph table
+
+-- set s, one of len, wants the action at token t
+abbrev pub Wants : Grammar → ℕ → (ℕ → ItemOf → Type 0) → ℕ → ℕ → TableAction → Type 0
+Wants g len sets s t (ShiftTo next) = IsTransition g len sets s (Terminal t) (Some next)
+Wants g len sets s t (ReduceBy p) = WantsReduce g sets s t p
+Wants g len sets s t Accepts = WantsAccept g sets s t
+Wants g len sets s t Fails = ⊥
+
+-- none of the len sets wants two different actions at one token
+abbrev pub WantOneAction : Grammar → ℕ → (ℕ → ItemOf → Type 0) → Type 0
+WantOneAction g len sets = (s t : ℕ) (a b : TableAction) → s < len → Wants g len sets s t a → Wants g len sets s t b → a ≡ b
+
+-- none of the len sets wants to accept and a reduction
+abbrev pub AcceptAlone : Grammar → ℕ → (ℕ → ItemOf → Type 0) → Type 0
+AcceptAlone g len sets = (s : ℕ) → s < len → ¬ (IsAcceptConflict g sets s)
+
+-- the lists, or empty ones
+abbrev pub lists_in : Option ConflictLists → ConflictLists
+lists_in (Some lists) = lists
+lists_in None = record { reduce_reduce = []; shift_reduce = [] }
+
+-- what is listed are the conflicts of the graph's sets, and no others; where there are none, there are no lists
+pub record AreConflictsOf (g : Grammar) (graph : Graph) (conflicts : Option ConflictLists) : Type 0 where
+  pub reduce_reduce : (x : ReduceReduce) → Contains (lists_in conflicts).reduce_reduce x
+      ↔ ((x.state < graph_len graph) × (x.token < tokens_len g) × IsReduceConflict g (sets_of graph) x)
+  pub shift_reduce : (x : ShiftReduce) → Contains (lists_in conflicts).shift_reduce x
+      ↔ ((x.state < graph_len graph) × (x.token < tokens_len g) × IsShiftConflict g (sets_of graph) x)
+  pub some : (lists : ConflictLists) → conflicts ≡ Some lists → lists.reduce_reduce ≡ [] → lists.shift_reduce ≡ [] → ⊥
+
+-- canonical sets have no conflicts exactly where none wants two different actions at one token, accepting beside a reduction aside
+abbrev pub NoConflictsAreOneAction : Type 0
+NoConflictsAreOneAction =
+    (g : Grammar) (graph : Graph) (conflicts : Option ConflictLists) → IsWellFormed g → IsCanonical g graph
+    → AreConflictsOf g graph conflicts → AcceptAlone g (graph_len graph) (sets_of graph)
+    → (conflicts ≡ None) ↔ WantOneAction g (graph_len graph) (sets_of graph)
+
+-- what is listed of canonical sets fits the grammar
+abbrev pub CanonicalConflictsFit : Type 0
+CanonicalConflictsFit =
+    (g : Grammar) (graph : Graph) (conflicts : Option ConflictLists) → IsWellFormed g → IsCanonical g graph
+    → AreConflictsOf g graph conflicts → ConflictsFit g (lists_in conflicts)

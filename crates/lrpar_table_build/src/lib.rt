@@ -1,0 +1,6 @@
+//! The table builder: the canonical LR(1) table of a grammar.
+#![tactic(auto)]
+
+pub mod build;
+pub mod laws;
+mod tables;

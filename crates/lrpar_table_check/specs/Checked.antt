@@ -1,0 +1,44 @@
+-- A checked table, and a refused one.
+use Rattle.std.specs.Prelude.{◌<◌, ℕ}
+use Rattle.lrpar_grammar.specs.Grammar.{Grammar, IsWellFormed}
+use Rattle.lrpar_table_stacks.specs.Chain.{AreChainsShort, IsLongChain}
+use Rattle.lrpar_table_rows.specs.Graph.{Graph}
+use Rattle.lrpar_table_rows.specs.Table.{Table, IsClosed, states_len}
+use Rattle.lrpar_table_rows.specs.Safe.{HasShape, IsSafe, IsSafeAt}
+use Rattle.lrpar_table_check.specs.declared.fault.CheckFault.{CheckFault}
+use Rattle.lrpar_table_check.specs.declared.fault.CheckFault.TheVariants.{Shape, Safety, ChainTooLong, Memory}
+
+-- a grammar with its item sets and its table, and the cap
+pub record Checked : Type 0 where
+  pub grammar : Grammar
+  pub graph : Graph
+  pub table : Table
+  pub cap : ℕ
+
+-- the grammar is well formed, the table's states are its own, it is safe, and no chain makes more reductions than the cap
+pub record IsChecked (d : Checked) : Type 0 where
+  pub well_formed : IsWellFormed d.grammar
+  pub closed : IsClosed d.table
+  pub safe : IsSafe d.grammar d.graph d.table
+  pub chains : AreChainsShort d.grammar d.table d.cap
+
+-- the same without a cap, and why it is refused
+pub record Unchecked : Type 0 where
+  pub fault : CheckFault
+  pub grammar : Grammar
+  pub graph : Graph
+  pub table : Table
+
+-- the fault names what fails; memory is wanted only where the table is safe
+abbrev pub IsCheckFault : Grammar → Graph → Table → ℕ → CheckFault → Type 0
+IsCheckFault g graph table cap Shape = ¬ (HasShape g graph table)
+IsCheckFault g graph table cap (Safety condition s) = HasShape g graph table × (s < states_len table) × ¬ (IsSafeAt g graph table condition s)
+IsCheckFault g graph table cap (ChainTooLong s t) = IsSafe g graph table × (s < states_len table) × (t < table.tokens) × IsLongChain g table cap s t
+IsCheckFault g graph table cap Memory = IsSafe g graph table
+
+-- the fault names a chain that is too long; memory aside, a safe table is refused for nothing else
+abbrev pub IsChainFault : Grammar → Table → ℕ → CheckFault → Type 0
+IsChainFault g table cap Shape = ⊥
+IsChainFault g table cap (Safety condition s) = ⊥
+IsChainFault g table cap (ChainTooLong s t) = (s < states_len table) × (t < table.tokens) × IsLongChain g table cap s t
+IsChainFault g table cap Memory = Unit {0}

@@ -1,0 +1,304 @@
+//! The loop check: whether each chain of reductions under one token is short, and how short.
+ghost use Rattle.std.specs.Prelude.{◌≡◌, ◌<◌, ◌≤◌, ◌+◌, ◌↔◌, ◌∷◌, ℕ, All, IsTrue, IfErr, IfOk, MatchOption, OnOk, length};
+ghost use Rattle.std.specs.Option.{option_to_list};
+ghost use Rattle.lrpar_table_check.specs.Checked.{IsChainFault};
+ghost use Rattle.lrpar_table_check.specs.LeastCap.{AreShortAt, IsLeastAt, IsLeastCap};
+ghost use Rattle.lrpar_table_check.specs.Lengths.{IsCounted, IsLongestWithin};
+ghost use Rattle.lrpar_table_stacks.specs.Chain.{AreChainsShort, HasReductions, IsLongChain, IsShortUntil};
+ghost use Rattle.lrpar_table_rows.specs.PlainRows.{plain_action, plain_goto};
+ghost use Rattle.lrpar_table_stacks.specs.Stack.{states_of};
+ghost use Rattle.lrpar_table_stacks.specs.Step.{FitsGrammar};
+ghost use Rattle.lrpar_table_rows.specs.Table.{IsClosed, IsGotoWithin, ReduceBy, states_len};
+
+use crate::fault::CheckFault;
+use lrpar_grammar::grammar::YaccGrammar;
+use lrpar_grammar::span::{StIdx, StorageIndex, TIdx};
+use lrpar_table_rows::table::{Action, StateTable};
+use lrpar_table_stacks::step::{Step, take_step};
+use std::alloc::{AllocError, Global};
+
+/// The chains of a table, each of which is to make at most `cap` reductions.
+#[derive(Drop)]
+struct Chains<'a, StorageT: StorageIndex> {
+    grm: &'a YaccGrammar<StorageT>,
+    stable: &'a StateTable<StorageT>,
+    cap: u16,
+}
+
+impl<'a, StorageT: StorageIndex> Chains<'a, StorageT> {
+    fn new(grm: &'a YaccGrammar<StorageT>, stable: &'a StateTable<StorageT>, cap: u16) -> Self
+        ensures grammar { result.grm.now ≡ grm.now }
+        ensures table { result.stable.now ≡ stable.now }
+        ensures cap { result.cap ≡ cap }
+    {
+        Chains { grm, stable, cap }
+    }
+
+    /// The least cap with which the table passes, which is at most that of the check; otherwise the first state, and the first token
+    /// there, at which a chain is too long.
+    ///
+    /// The chains of a state begin with it alone, and with each of its gotos above it, which are read once. Such a chain
+    /// is made at those tokens alone at which the state that it begins with on top stores a reduction. It takes at most
+    /// `cap + 1` steps, each with one action and one goto. All chains share one small list of states.
+    ///
+    /// Each chain is made once, and what it makes is counted. Where one is too long, those of its state are made again, to find the first
+    /// token: at none behind a token at which an earlier one was too long.
+    fn least(&self, alloc: Global) -> Result<u16, CheckFault>
+        requires { FitsGrammar self.now.grm.now self.now.stable.now }
+        ensures least { IfOk result (IsLeastCap self.now.grm.now self.now.stable.now) }
+        ensures short { OnOk result (AreChainsShort self.now.grm.now self.now.stable.now self.now.cap) }
+        ensures fault { IfErr result (IsChainFault self.now.grm.now self.now.stable.now self.now.cap) }
+    {
+        let mut states = Vec::new(alloc);
+        let mut least = 0;
+        for s in 0..self.stable.states_len() {
+            let state = StIdx(StorageT::from_index(s).unwrap());
+            least = self.least_at(&mut states, state, least)?;
+        }
+        Ok(least)
+    }
+
+    // The least cap from this one on that no chain of the state exceeds.
+    fn least_at(
+        &self,
+        states: &mut Vec<StIdx<StorageT>>,
+        s: StIdx<StorageT>,
+        from: u16,
+    ) -> Result<u16, CheckFault>
+        requires fits { FitsGrammar self.now.grm.now self.now.stable.now }
+        requires closed { IsClosed self.now.stable.now }
+        requires state { StorageT.index s.0 < states_len self.now.stable.now }
+        requires from { from ≤ self.now.cap }
+        ensures least { IfOk result (IsLeastAt self.now.grm.now self.now.stable.now (StorageT.index s.0) from) }
+        ensures within { IfOk result (λ cap. cap ≤ self.now.cap) }
+        ensures fault { IfErr result (IsChainFault self.now.grm.now self.now.stable.now self.now.cap) }
+    {
+        if let Some(longest) = self.longest_at(states, s, from)? {
+            return Ok(longest);
+        }
+        match self.first_long_at(states, s)? {
+            Some(t) => Err(CheckFault::ChainTooLong(usize::from(s), t)),
+            None => unreachable!(),
+        }
+    }
+
+    // The same; none, where a chain of the state makes more reductions than the cap.
+    fn longest_at(
+        &self,
+        states: &mut Vec<StIdx<StorageT>>,
+        s: StIdx<StorageT>,
+        from: u16,
+    ) -> Result<Option<u16>, AllocError>
+        requires fits { FitsGrammar self.now.grm.now self.now.stable.now }
+        requires closed { IsClosed self.now.stable.now }
+        requires state { StorageT.index s.0 < states_len self.now.stable.now }
+        requires from { from ≤ self.now.cap }
+        ensures { let g = self.now.grm.now in let table = self.now.stable.now in let cap = self.now.cap in IfOk result (λ found. MatchOption found
+            (¬ (AreShortAt g table cap (StorageT.index s.0)))
+            (λ longest. IsLeastAt g table (StorageT.index s.0) from longest × (longest ≤ cap))) }
+    {
+        let Some(mut longest) = self.longest_from(states, s, None, from)? else {
+            return Ok(None);
+        };
+        let (rules, nexts) = self.stable.gotos_of(s);
+        for (place, _) in rules.iter().enumerate() {
+            match self.longest_from(states, s, Some(nexts[place]), longest)? {
+                Some(more) => longest = more,
+                None => return Ok(None),
+            }
+        }
+        Ok(Some(longest))
+    }
+
+    // The greatest of this number and of what the chain makes that begins with the state, and with the other one above it, whatever its
+    // token; none, where it makes more reductions than the cap.
+    fn longest_from(
+        &self,
+        states: &mut Vec<StIdx<StorageT>>,
+        s: StIdx<StorageT>,
+        above: Option<StIdx<StorageT>>,
+        from: u16,
+    ) -> Result<Option<u16>, AllocError>
+        requires fits { FitsGrammar self.now.grm.now self.now.stable.now }
+        requires closed { IsClosed self.now.stable.now }
+        requires state { StorageT.index s.0 < states_len self.now.stable.now }
+        requires above { IsGotoWithin (states_len self.now.stable.now) (plain_goto StorageT.index above) }
+        requires from { from ≤ self.now.cap }
+        ensures { IfOk result (IsLongestWithin self.now.grm.now self.now.stable.now self.now.cap
+            (StorageT.index s.0 ∷ option_to_list (plain_goto StorageT.index above)) from) }
+    {
+        let top = above.unwrap_or(s);
+        let (tokens, actions) = self.stable.actions_of(top);
+        let mut longest = from;
+        for (place, token) in tokens.iter().enumerate() {
+            let action = actions[place];
+            if is_reduction(action) {
+                match self.reductions_from(states, s, above, *token)? {
+                    Some(made) => longest = longest.max(made),
+                    None => return Ok(None),
+                }
+            }
+        }
+        Ok(Some(longest))
+    }
+
+    // The first token at which a chain of the state is too long.
+    fn first_long_at(
+        &self,
+        states: &mut Vec<StIdx<StorageT>>,
+        s: StIdx<StorageT>,
+    ) -> Result<Option<usize>, AllocError>
+        requires fits { FitsGrammar self.now.grm.now self.now.stable.now }
+        requires closed { IsClosed self.now.stable.now }
+        requires state { StorageT.index s.0 < states_len self.now.stable.now }
+        ensures { let g = self.now.grm.now in let table = self.now.stable.now in let cap = self.now.cap in IfOk result (λ found. MatchOption found
+            (AreShortAt g table cap (StorageT.index s.0))
+            (λ t. (t < table.tokens) × IsLongChain g table cap (StorageT.index s.0) t
+            × ((k : ℕ) → k < t → ¬ (IsLongChain g table cap (StorageT.index s.0) k)))) }
+    {
+        let tokens = self.stable.tokens_len();
+        let mut end = self.short_until(states, s, None, tokens)?;
+        let (rules, nexts) = self.stable.gotos_of(s);
+        for (place, _) in rules.iter().enumerate() {
+            end = self.short_until(states, s, Some(nexts[place]), end)?;
+        }
+        if end < tokens {
+            Ok(Some(end))
+        } else {
+            Ok(None)
+        }
+    }
+
+    // The first token below `end` at which the chain that begins with the state, and with the other one above it, is too
+    // long; or `end`.
+    fn short_until(
+        &self,
+        states: &mut Vec<StIdx<StorageT>>,
+        s: StIdx<StorageT>,
+        above: Option<StIdx<StorageT>>,
+        end: usize,
+    ) -> Result<usize, AllocError>
+        requires fits { FitsGrammar self.now.grm.now self.now.stable.now }
+        requires closed { IsClosed self.now.stable.now }
+        requires state { StorageT.index s.0 < states_len self.now.stable.now }
+        requires above { IsGotoWithin (states_len self.now.stable.now) (plain_goto StorageT.index above) }
+        ensures { IfOk result (λ found. IsShortUntil self.now.grm.now self.now.stable.now self.now.cap
+            (StorageT.index s.0 ∷ option_to_list (plain_goto StorageT.index above)) end found) }
+    {
+        let top = above.unwrap_or(s);
+        let (tokens, actions) = self.stable.actions_of(top);
+        for (place, token) in tokens.iter().enumerate() {
+            let t = usize::from(*token);
+            let action = actions[place];
+            if t >= end {
+                return Ok(end);
+            }
+            if is_reduction(action) && self.is_long_from(states, s, above, *token)? {
+                return Ok(t);
+            }
+        }
+        Ok(end)
+    }
+
+    // Whether the chain that begins with the state, and with the other one above it, is too long at the token.
+    fn is_long_from(
+        &self,
+        states: &mut Vec<StIdx<StorageT>>,
+        s: StIdx<StorageT>,
+        above: Option<StIdx<StorageT>>,
+        t: TIdx<StorageT>,
+    ) -> Result<bool, AllocError>
+        requires fits { FitsGrammar self.now.grm.now self.now.stable.now }
+        requires closed { IsClosed self.now.stable.now }
+        requires state { StorageT.index s.0 < states_len self.now.stable.now }
+        requires above { IsGotoWithin (states_len self.now.stable.now) (plain_goto StorageT.index above) }
+        requires token { StorageT.index t.0 < self.now.stable.now.tokens }
+        ensures { IfOk result (λ long. IsTrue long ↔ HasReductions self.now.grm.now self.now.stable.now (StorageT.index t.0)
+            (StorageT.index s.0 ∷ option_to_list (plain_goto StorageT.index above)) (self.now.cap + 1)) }
+    {
+        match self.reductions_from(states, s, above, t)? {
+            Some(_) => Ok(false),
+            None => Ok(true),
+        }
+    }
+
+    // How many reductions the chain that begins with the state, and with the other one above it, makes at the token; none, where they are
+    // more than the cap.
+    fn reductions_from(
+        &self,
+        states: &mut Vec<StIdx<StorageT>>,
+        s: StIdx<StorageT>,
+        above: Option<StIdx<StorageT>>,
+        t: TIdx<StorageT>,
+    ) -> Result<Option<u16>, AllocError>
+        requires fits { FitsGrammar self.now.grm.now self.now.stable.now }
+        requires closed { IsClosed self.now.stable.now }
+        requires state { StorageT.index s.0 < states_len self.now.stable.now }
+        requires above { IsGotoWithin (states_len self.now.stable.now) (plain_goto StorageT.index above) }
+        requires token { StorageT.index t.0 < self.now.stable.now.tokens }
+        ensures { IfOk result (IsCounted self.now.grm.now self.now.stable.now self.now.cap (StorageT.index t.0)
+            (StorageT.index s.0 ∷ option_to_list (plain_goto StorageT.index above))) }
+    {
+        states.clear();
+        states.push(s)?;
+        if let Some(next) = above {
+            states.push(next)?;
+        }
+        self.reductions(states, t)
+    }
+
+    // How many reductions the chain from these states makes at the token; none, where they are more than the cap. It is made on them.
+    fn reductions(
+        &self,
+        states: &mut Vec<StIdx<StorageT>>,
+        t: TIdx<StorageT>,
+    ) -> Result<Option<u16>, AllocError>
+        requires fits { FitsGrammar self.now.grm.now self.now.stable.now }
+        requires closed { IsClosed self.now.stable.now }
+        requires token { StorageT.index t.0 < self.now.stable.now.tokens }
+        requires some { 0 < length states.old.items }
+        requires within { All (λ s. s < states_len self.now.stable.now) (states_of StorageT.index states.old.items) }
+        ensures { IfOk result (IsCounted self.now.grm.now self.now.stable.now self.now.cap (StorageT.index t.0)
+            (states_of StorageT.index states.old.items)) }
+    {
+        for made in 0..self.cap {
+            let (step, _action) = take_step(self.grm, self.stable, states, t)?;
+            match step {
+                Step::Reduced => {}
+                Step::LeavesNone => return Ok(Some(made + 1)),
+                Step::Stays => return Ok(Some(made)),
+            }
+        }
+        let (step, _action) = take_step(self.grm, self.stable, states, t)?;
+        match step {
+            Step::Reduced | Step::LeavesNone => Ok(None),
+            Step::Stays => Ok(Some(self.cap)),
+        }
+    }
+}
+
+// Whether the action is a reduction.
+fn is_reduction<StorageT: StorageIndex>(action: Action<StorageT>) -> bool
+    ensures { IsTrue result ↔ ((p : ℕ) × (plain_action StorageT.index action ≡ ReduceBy p)) }
+{
+    match action {
+        Action::Reduce(_) => true,
+        Action::Shift(_) | Action::Accept | Action::Error => false,
+    }
+}
+
+/// The least cap with which a safe table passes, where that is no more than this one; otherwise the first chain that makes more reductions
+/// than this one, or `Memory`, where it was wanting for a list of at most `cap + 3` states.
+pub(crate) fn least_cap<StorageT: StorageIndex>(
+    alloc: Global,
+    grm: &YaccGrammar<StorageT>,
+    stable: &StateTable<StorageT>,
+    cap: u16,
+) -> Result<u16, CheckFault>
+    requires { FitsGrammar grm.now stable.now }
+    ensures least { IfOk result (IsLeastCap grm.now stable.now) }
+    ensures short { OnOk result (AreChainsShort grm.now stable.now cap) }
+    ensures fault { IfErr result (IsChainFault grm.now stable.now cap) }
+{
+    Chains::new(grm, stable, cap).least(alloc)
+}

@@ -1,0 +1,253 @@
+//! The check of a table against its grammar and its item sets, which a parse then trusts.
+ghost use Rattle.std.specs.Prelude.{◌≡◌, IfOk, IfErr};
+ghost use Rattle.lrpar_grammar.specs.Grammar.{IsWellFormed};
+ghost use Rattle.lrpar_table_rows.specs.Table.{IsClosed};
+ghost use Rattle.lrpar_table_rows.specs.Safe.{IsSafe};
+ghost use Rattle.lrpar_table_stacks.specs.Path.{NeverSticks};
+ghost use Rattle.lrpar_table_stacks.specs.Chain.{AreChainsShort, IsBounded};
+ghost use Rattle.lrpar_table_check.specs.Checked.{IsChainFault, IsChecked, IsCheckFault};
+ghost use Rattle.lrpar_table_check.specs.LeastCap.{IsLeastCap};
+ghost use Rattle.lrpar_table_check.specs.declared.fault.CheckFault.TheVariants.{Memory};
+
+use crate::chains::least_cap;
+pub use crate::fault::CheckFault;
+use crate::safety::first_fault;
+use lrpar_grammar::grammar::YaccGrammar;
+use lrpar_grammar::span::StorageIndex;
+use lrpar_table_conditions::checkable::Checkable;
+pub use lrpar_table_conditions::complete_fault::CompleteFault;
+pub use lrpar_table_conditions::completeness::CompletenessCondition;
+pub use lrpar_table_rows::condition::SafetyCondition;
+use lrpar_table_rows::table::{StateGraph, StateTable};
+pub use lrpar_table_stacks::overlay::Overlay;
+use std::alloc::Global;
+use std::marker::Model;
+
+/// A grammar, its item sets and its table, which are safe to parse by, and whose chains of reductions are short.
+#[derive(Debug)]
+pub struct ParserData<StorageT: StorageIndex> {
+    grm: YaccGrammar<StorageT>,
+    sgraph: StateGraph<StorageT>,
+    stable: StateTable<StorageT>,
+    cap: u16,
+    least_cap: u16,
+}
+
+// A drop of its own, so that what lets go of one elsewhere proves one call.
+impl<StorageT: StorageIndex> Drop for ParserData<StorageT> {
+    fn drop(self) {
+        let ParserData {
+            grm,
+            sgraph,
+            stable,
+            cap: _,
+            least_cap: _,
+        } = self;
+        drop(grm);
+        drop(sgraph);
+        drop(stable);
+    }
+}
+
+impl<StorageT: StorageIndex> Model for ParserData<StorageT> {
+    ghost use Rattle.lrpar_table_check.specs.Checked.{Checked};
+    ghost use Rattle.lrpar_table_check.specs.LeastCap.{IsMeasured};
+
+    ghost Value = { Checked };
+
+    ghost view = { λ d. record { grammar = d.grm; graph = d.sgraph; table = d.stable; cap = d.cap } };
+
+    ghost invariant = { λ d. IsMeasured (record { grammar = d.grm; graph = d.sgraph; table = d.stable; cap = d.cap }) d.least_cap };
+}
+
+impl<StorageT: StorageIndex> ParserData<StorageT> {
+    /// Checks that the table is safe: that it has its shape, and that each condition holds in each state; and that no chain
+    /// of reductions under one token is longer than the cap.
+    ///
+    /// The fault of a refusal is the first of these: the shape, then the conditions S2 to S8 in turn, each with states
+    /// ascending, then the chains, with states and then tokens ascending; it does fail there. `Memory` comes where the
+    /// table is safe and memory was wanting for a list of at most `cap + 3` states, which the chains are made on. A refusal
+    /// keeps the three parts as they were.
+    ///
+    /// The conditions take time near the size of the input: with I items and A entries of the table, about (I + A) times
+    /// the logarithm of I, where each entry that leads to a state counts the state's cores with a dot past 0. The chains
+    /// take longer: a state has one for each reduction that it stores, and one for each reduction that the state of one of
+    /// its gotos stores. Each is made once, and makes at most `cap + 1` reductions, which are counted; where one is too long, those of
+    /// its state are made again, to find the first token.
+    pub fn new(
+        alloc: Global,
+        grm: YaccGrammar<StorageT>,
+        sgraph: StateGraph<StorageT>,
+        stable: StateTable<StorageT>,
+        cap: u16,
+    ) -> Result<Self, Refused<StorageT>>
+        ensures made { IfOk result (λ d. d ≡ record { grammar = grm; graph = sgraph; table = stable; cap = cap }) }
+        ensures checked { IfOk result IsChecked }
+        ensures fault { IfErr result (λ r. IsCheckFault grm sgraph stable cap r.fault) }
+        ensures exact { IsSafe grm sgraph stable → AreChainsShort grm stable cap → IfErr result (λ r. r.fault ≡ Memory) }
+        ensures back { IfErr result (λ r. (r.grammar ≡ grm) × (r.graph ≡ sgraph) × (r.table ≡ stable)) }
+    {
+        match first_fault(&Checkable {
+            grm: &grm,
+            sgraph: &sgraph,
+            stable: &stable,
+        }) {
+            None => ParserData::of_safe(alloc, grm, sgraph, stable, cap),
+            Some(fault) => Err(Refused {
+                fault,
+                grm,
+                sgraph,
+                stable,
+            }),
+        }
+    }
+
+    /// Of a table that is safe, as its caller knows: it checks only that no chain of reductions under one token is longer
+    /// than the cap.
+    ///
+    /// A refusal names the first chain that is too long, with states and then tokens ascending; or it is for want of
+    /// memory, for the list on which the chains are made. It keeps the three parts as they were. The chains take the time
+    /// that they take in `new`.
+    pub fn of_safe(
+        alloc: Global,
+        grm: YaccGrammar<StorageT>,
+        sgraph: StateGraph<StorageT>,
+        stable: StateTable<StorageT>,
+        cap: u16,
+    ) -> Result<Self, Refused<StorageT>>
+        requires { IsSafe grm sgraph stable }
+        ensures made { IfOk result (λ d. d ≡ record { grammar = grm; graph = sgraph; table = stable; cap = cap }) }
+        ensures checked { IfOk result IsChecked }
+        ensures fault { IfErr result (λ r. IsChainFault grm stable cap r.fault) }
+        ensures exact { AreChainsShort grm stable cap → IfErr result (λ r. r.fault ≡ Memory) }
+        ensures back { IfErr result (λ r. (r.grammar ≡ grm) × (r.graph ≡ sgraph) × (r.table ≡ stable)) }
+    {
+        are_sound(&grm, &stable);
+        match least_cap(alloc, &grm, &stable, cap) {
+            Ok(least_cap) => Ok(ParserData {
+                grm,
+                sgraph,
+                stable,
+                cap,
+                least_cap,
+            }),
+            Err(fault) => Err(Refused {
+                fault,
+                grm,
+                sgraph,
+                stable,
+            }),
+        }
+    }
+
+    /// The grammar.
+    pub fn grm(&self) -> &YaccGrammar<StorageT>
+        ensures { result.now ≡ self.now.grammar }
+    {
+        &self.grm
+    }
+
+    /// The item sets.
+    pub fn sgraph(&self) -> &StateGraph<StorageT>
+        ensures { result.now ≡ self.now.graph }
+    {
+        &self.sgraph
+    }
+
+    /// The table.
+    pub fn stable(&self) -> &StateTable<StorageT>
+        ensures table { result.now ≡ self.now.table }
+        ensures checked { IsChecked self.now }
+        ensures runs { NeverSticks self.now.grammar self.now.table }
+        ensures bounds { IsBounded self.now.grammar self.now.table self.now.cap }
+    {
+        &self.stable
+    }
+
+    /// The cap.
+    pub fn cap(&self) -> u16
+        ensures { result ≡ self.now.cap }
+    {
+        self.cap
+    }
+
+    /// The least cap with which the table passes: no chain makes more reductions, and for each smaller cap some chain does. It was found
+    /// by the check, and takes no time here. A table that is refused with the cap 65,535 passes with no cap; so to choose one, take the
+    /// table with that cap and ask for the least.
+    pub fn least_cap(&self) -> u16
+        ensures { IsLeastCap self.now.grammar self.now.table result }
+    {
+        self.least_cap
+    }
+}
+
+// Whatever they were made of, a grammar is well formed, and a table's states are its own.
+fn are_sound<StorageT: StorageIndex>(grm: &YaccGrammar<StorageT>, stable: &StateTable<StorageT>)
+    ensures well_formed { IsWellFormed grm.now }
+    ensures closed { IsClosed stable.now }
+{
+    let _start = grm.start_prod();
+    let _states = stable.states_len();
+}
+
+/// A refused table, with its grammar and its item sets as they were.
+#[derive(Debug)]
+pub struct Refused<StorageT: StorageIndex> {
+    fault: CheckFault,
+    grm: YaccGrammar<StorageT>,
+    sgraph: StateGraph<StorageT>,
+    stable: StateTable<StorageT>,
+}
+
+// A drop of its own, so that what lets go of one elsewhere proves one call.
+impl<StorageT: StorageIndex> Drop for Refused<StorageT> {
+    fn drop(self) {
+        let Refused {
+            fault: _,
+            grm,
+            sgraph,
+            stable,
+        } = self;
+        drop(grm);
+        drop(sgraph);
+        drop(stable);
+    }
+}
+
+impl<StorageT: StorageIndex> Model for Refused<StorageT> {
+    ghost use Rattle.lrpar_table_check.specs.Checked.{Unchecked};
+
+    ghost Value = { Unchecked };
+
+    ghost view = { λ r. record { fault = r.fault; grammar = r.grm; graph = r.sgraph; table = r.stable } };
+}
+
+impl<StorageT: StorageIndex> Refused<StorageT> {
+    /// Why the table is refused.
+    pub fn fault(&self) -> CheckFault
+        ensures { result ≡ self.now.fault }
+    {
+        self.fault
+    }
+
+    /// The grammar, the item sets and the table, as they were handed in.
+    pub fn into_parts(
+        self,
+    ) -> (
+        YaccGrammar<StorageT>,
+        StateGraph<StorageT>,
+        StateTable<StorageT>,
+    )
+        ensures grammar { result.0 ≡ self.grammar }
+        ensures graph { result.1 ≡ self.graph }
+        ensures table { result.2 ≡ self.table }
+    {
+        let Refused {
+            fault: _,
+            grm,
+            sgraph,
+            stable,
+        } = self;
+        (grm, sgraph, stable)
+    }
+}

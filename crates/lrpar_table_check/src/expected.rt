@@ -1,0 +1,103 @@
+//! What may come next at a stack: the tokens that can be fed there, and the end token, where it accepts.
+ghost use Rattle.std.specs.Prelude.{◌≡◌, ◌<◌, ◌↔◌, IfOk, IsTrue, OnOk, OnErr};
+ghost use Rattle.lrpar_table_stacks.specs.Expected.{AreExpected, IsExpected, IsListShortOfMemory, IsTriedShortOfMemory, tokens_of};
+ghost use Rattle.lrpar_table_stacks.specs.Overlay.{IsShortOfMemoryOver, overlaid};
+ghost use Rattle.lrpar_table_stacks.specs.Stack.{IsStack, states_of};
+
+use crate::check::ParserData;
+use lrpar_grammar::span::{StIdx, StorageIndex, TIdx};
+use lrpar_table_rows::table::Action;
+use lrpar_table_stacks::overlay::Overlay;
+use lrpar_table_stacks::probe::Probe;
+use std::alloc::{AllocError, Global};
+
+impl<StorageT: StorageIndex> ParserData<StorageT> {
+    /// The tokens that may come next at the stack, bottom first, ascending: those other than the end token that `feed`
+    /// shifts there, and the end token where the stack, settled under it, accepts. The list stays as it is.
+    ///
+    /// It makes one settle for each token at which the top state doesn't find an error. Memory is wanted only for the
+    /// answer, and for the states that reductions put over the stack.
+    pub fn expected(
+        &self,
+        alloc: Global,
+        stack: &[StIdx<StorageT>],
+    ) -> Result<Vec<TIdx<StorageT>>, AllocError>
+        requires stack { IsStack self.now.table (states_of StorageT.index stack.now) }
+
+        // Exactly these tokens may come next.
+        ensures expected { IfOk result (λ tokens. AreExpected self.now.grammar self.now.table (states_of StorageT.index stack.now)
+            (tokens_of StorageT.index tokens.items)) }
+
+        // Some token may come next, and is listed; or a reduction under some token is due, for which there is no room.
+        ensures short_of_memory { OnErr result (IsListShortOfMemory self.now.grammar self.now.table (states_of StorageT.index stack.now)) }
+    {
+        let overlay = Overlay::new(alloc, stack);
+        self.expected_over(alloc, &overlay)
+    }
+
+    /// As `expected`, at what the overlay stands for, which stays as it is: nothing of it is copied.
+    pub fn expected_over(
+        &self,
+        alloc: Global,
+        overlay: &Overlay<'_, StorageT>,
+    ) -> Result<Vec<TIdx<StorageT>>, AllocError>
+        requires stack { IsStack self.now.table (overlaid overlay.now) }
+
+        // Exactly these tokens may come next.
+        ensures expected { IfOk result (λ tokens. AreExpected self.now.grammar self.now.table (overlaid overlay.now)
+            (tokens_of StorageT.index tokens.items)) }
+
+        // Some token may come next, and is listed; or a reduction under some token is due, for which there is no room.
+        ensures short_of_memory { OnErr result (IsListShortOfMemory self.now.grammar self.now.table (overlaid overlay.now)) }
+    {
+        let (tokens, _) = self.stable().actions_of(overlay.top());
+        let mut probe = Probe::new(alloc, overlay);
+        let mut expected = Vec::new(alloc);
+        for token in tokens {
+            probe.set_back();
+            if self.takes(&mut probe, *token)? {
+                expected.push(*token)?;
+            }
+        }
+        Ok(expected)
+    }
+
+    /// Whether the token may come next at the stack, which stays as it is. Internal: a run that must not lose its stack asks
+    /// this before it feeds.
+    pub fn is_expected(
+        &self,
+        alloc: Global,
+        stack: &[StIdx<StorageT>],
+        t: TIdx<StorageT>,
+    ) -> Result<bool, AllocError>
+        requires stack { IsStack self.now.table (states_of StorageT.index stack.now) }
+        requires token { StorageT.index t.0 < self.now.table.tokens }
+        ensures expected { IfOk result (λ yes. IsTrue yes ↔ IsExpected self.now.grammar self.now.table (states_of StorageT.index stack.now) (StorageT.index t.0)) }
+
+        // A reduction is due, for which there is no room.
+        ensures short_of_memory { OnErr result (IsTriedShortOfMemory self.now.grammar self.now.table (StorageT.index t.0) (states_of StorageT.index stack.now)) }
+    {
+        let overlay = Overlay::new(alloc, stack);
+        self.takes(&mut Probe::new(alloc, &overlay), t)
+    }
+
+    // Makes all reductions of the states under the token, and answers whether it may come next.
+    fn takes(
+        &self,
+        states: &mut Probe<'_, '_, StorageT>,
+        t: TIdx<StorageT>,
+    ) -> Result<bool, AllocError>
+        requires stack { IsStack self.now.table (overlaid states.old) }
+        requires token { StorageT.index t.0 < self.now.table.tokens }
+        ensures expected { IfOk result (λ yes. IsTrue yes ↔ IsExpected self.now.grammar self.now.table (overlaid states.old) (StorageT.index t.0)) }
+        ensures base { OnOk result (states.new.base ≡ states.old.base) }
+        ensures short_of_memory { OnErr result (IsShortOfMemoryOver self.now.grammar self.now.table (StorageT.index t.0) states.old states.new) }
+    {
+        // Checked: it shifts no end token, and accepts at that alone.
+        let _table = self.stable();
+        match self.settle_on(states, t)?.action {
+            Action::Shift(_) | Action::Accept => Ok(true),
+            Action::Reduce(_) | Action::Error => Ok(false),
+        }
+    }
+}

@@ -1,0 +1,12 @@
+//! The check of a table: its conditions, and the lengths of its chains of reductions.
+#![tactic(auto)]
+
+mod chains;
+pub mod check;
+mod complete;
+mod expected;
+mod fault;
+pub mod laws;
+mod safety;
+mod settle;
+mod stack_check;

@@ -1,0 +1,4 @@
+pub mod FirstTokenLemmas
+pub mod ItemwiseLemmas
+pub mod CoreLemmas
+pub mod EntryTests

@@ -1,0 +1,10 @@
+use Rattle.std.proofs.Common.{All, take}
+use Rattle.lrpar_table_rows.specs.Table.{actions_at}
+use Rattle.lrpar_table_conditions.specs.Entrywise.{ActionHolds}
+use Rattle.lrpar_table_conditions.proofs.checkable.Checkable.actions_hold.Given as goal
+
+-- the condition holds of the entries so far
+abbrev pub invariant-loop-place : goal.invariant-loop-place
+invariant-loop-place g l =
+    let s = g.StorageT.StorageIndex.index l.s.0 in
+    All (λ e. ActionHolds l.self.grm.now l.self.sgraph.now l.self.stable.now l.condition s e.0 e.1) (take l.place (actions_at l.self.stable.now s))

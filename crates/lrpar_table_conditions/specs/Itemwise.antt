@@ -1,0 +1,71 @@
+-- The conditions of completeness at a state, told for the items of one core, and what is known where they are tested.
+use Rattle.std.specs.Prelude.{◌≡◌, ◌≢◌, ◌≤◌, ◌<◌, ◌+◌, ◌↔◌, ℕ, Bool, IsTrue, List, ◌∷◌, All, Contains, drop, length, map, slice_index_or}
+use Rattle.lrpar_grammar_places.specs.declared.span.PIdx.{PIdx}
+use Rattle.lrpar_grammar_places.specs.declared.span.TIdx.{TIdx}
+use Rattle.lrpar_grammar.specs.Grammar.{Grammar, GrammarSymbol, IsWellFormed, Nonterminal, prods_len, rule_of, start_prod, symbols_of}
+use Rattle.lrpar_table_first.specs.First.{IsFirst}
+use Rattle.lrpar_table_first.specs.FirstRows.{AreFirsts, HoldNothing, mark_of, row_at, rows_of}
+use Rattle.lrpar_grammar.specs.Tokens.{has}
+use Rattle.lrpar_table_rows.specs.Graph.{Graph, ItemOf, item_at}
+use Rattle.lrpar_table_rows.specs.Safe.{HasShape}
+use Rattle.lrpar_table_rows.specs.Table.{Table, TableAction, ReduceBy, Accepts}
+use Rattle.lrpar_table_conditions.specs.Complete.{CarriesItem, EndsItem, ShiftsItem}
+use Rattle.lrpar_table_conditions.specs.declared.completeness.CompletenessCondition.{CompletenessCondition}
+use Rattle.lrpar_table_conditions.specs.declared.completeness.CompletenessCondition.TheVariants.{C3, C4, C5}
+use Rattle.lrpar_table_conditions.specs.declared.complete.sets.WorkSets.{WorkSets}
+
+-- the grammar is well formed, the table has its shape, and these are the sets of what its rules begin with
+pub record IsKnown (g : Grammar) (graph : Graph) (table : Table) (firsts : List (List Bool)) : Type 0 where
+  pub well_formed : IsWellFormed g
+  pub shape : HasShape g graph table
+  pub exact : AreFirsts g firsts
+
+-- there is a set for each production, with room for each token and for the mark
+pub record HaveStarts (g : Grammar) (rows : List (List Bool)) : Type 0 where
+  pub prods : length rows ≡ prods_len g
+  pub wide : All (λ row. length row ≡ mark_of g + 1) rows
+
+-- each of the sets has room for each token and for the mark
+pub record HaveRoomFor (g : Grammar) (sets : WorkSets) : Type 0 where
+  pub after : length sets.after.bits.items ≡ mark_of g + 1
+  pub front : length sets.front.bits.items ≡ mark_of g + 1
+  pub begun : length sets.begun.bits.items ≡ mark_of g + 1
+  pub starts : HaveStarts g (rows_of sets.starts.items)
+
+-- and those of the productions hold nothing
+pub record AreReady (g : Grammar) (sets : WorkSets) : Type 0 where
+  pub room : HaveRoomFor g sets
+  pub none : HoldNothing (rows_of sets.starts.items)
+
+-- each production's set has the lookaheads with which its first item is among these items
+abbrev pub AreStartsOf : List ItemOf → List (List Bool) → Type 0
+AreStartsOf items rows = (q t : ℕ) → IsTrue (has (row_at rows q) t) ↔ Contains items (item_at q 0 t)
+
+-- C2 for an item `A: v . B w  {t}`, by these sets: `B: . u` has b for each production of B and each b of First(w, t)
+abbrev pub ClosesAmong : Grammar → List (List Bool) → ℕ → ℕ → ℕ → Type 0
+ClosesAmong g rows p k t =
+    (r : ℕ) (w : List GrammarSymbol) → drop k (symbols_of g p) ≡ Nonterminal r ∷ w
+    → (q b : ℕ) → q < prods_len g → rule_of g q ≡ r → IsFirst g t w b → IsTrue (has (row_at rows q) b)
+
+-- the lookaheads of items
+abbrev pub lookaheads_of : {S : Type 0} → (S → ℕ) → List (PIdx S × ℕ × TIdx S) → List ℕ
+lookaheads_of index items = map (λ item. index item.2.0) items
+
+-- what a condition asks of state s for an item, but for C1 and C2
+abbrev pub ItemHolds : Grammar → Graph → Table → CompletenessCondition → ℕ → ℕ → ℕ → ℕ → Type 0
+ItemHolds g graph table C3 s p k t = ShiftsItem g graph table s p k t
+ItemHolds g graph table C4 s p k t = CarriesItem g graph table s p k t
+ItemHolds g graph table C5 s p k t = EndsItem g table s p k t
+ItemHolds g graph table _ s p k t = Unit {0}
+
+-- an action that ends the production: a reduction by it, or Accept for the start production
+pub record EndsBy (g : Grammar) (p : ℕ) (action : TableAction) : Type 0 where
+  pub reduces : p ≢ start_prod g → action ≡ ReduceBy p
+  pub accepts : p ≡ start_prod g → action ≡ Accepts
+
+-- the items from a place up to an end have the core of the first of them, and are some
+pub record AreOfCore {S : Type 0} (index : S → ℕ) (items : List (PIdx S × ℕ × TIdx S)) (place end : ℕ) : Type 0 where
+  pub some : place < end
+  pub within : end ≤ length items
+  pub prods : (k : ℕ) (d : PIdx S × ℕ × TIdx S) → place ≤ k → k < end → index (slice_index_or items k d).0.0 ≡ index (slice_index_or items place d).0.0
+  pub dots : (k : ℕ) (d : PIdx S × ℕ × TIdx S) → place ≤ k → k < end → (slice_index_or items k d).1 ≡ (slice_index_or items place d).1

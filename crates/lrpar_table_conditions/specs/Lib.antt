@@ -1,0 +1,4 @@
+pub mod Completeness
+pub mod Complete
+pub mod Itemwise
+pub mod Entrywise

@@ -1,0 +1,52 @@
+//! The sets of tokens that the test of completeness works with.
+ghost use Rattle.std.specs.Prelude.{◌≡◌, All, IfOk, length};
+ghost use Rattle.lrpar_table_first.specs.FirstRows.{HoldNothing, rows_of};
+
+use lrpar_grammar::token_set::TokenSet;
+use std::alloc::{AllocError, Global};
+
+/// The lookaheads of a core, what can stand in front of them, and the tokens before which a rule has to come; and for each
+/// production the lookaheads of its first item in a state.
+#[derive(Drop)]
+pub(crate) struct WorkSets {
+    pub(crate) after: TokenSet,
+    pub(crate) front: TokenSet,
+    pub(crate) begun: TokenSet,
+    pub(crate) starts: Vec<TokenSet>,
+}
+
+impl WorkSets {
+    /// Empty sets, which have room for the tokens below `len`, for so many productions.
+    pub(crate) fn new(alloc: Global, prods: usize, len: usize) -> Result<Self, AllocError>
+        ensures after { IfOk result (λ sets. length sets.after.bits.items ≡ len) }
+        ensures front { IfOk result (λ sets. length sets.front.bits.items ≡ len) }
+        ensures begun { IfOk result (λ sets. length sets.begun.bits.items ≡ len) }
+        ensures prods { IfOk result (λ sets. length (rows_of sets.starts.items) ≡ prods) }
+        ensures starts { IfOk result (λ sets. All (λ row. length row ≡ len) (rows_of sets.starts.items)) }
+        ensures none { IfOk result (λ sets. HoldNothing (rows_of sets.starts.items)) }
+    {
+        let starts = empty_sets(alloc, prods, len)?;
+        let after = TokenSet::new(alloc, len)?;
+        let front = TokenSet::new(alloc, len)?;
+        let begun = TokenSet::new(alloc, len)?;
+        Ok(WorkSets {
+            after,
+            front,
+            begun,
+            starts,
+        })
+    }
+}
+
+// So many empty sets, which have room for the tokens below `len`.
+fn empty_sets(alloc: Global, count: usize, len: usize) -> Result<Vec<TokenSet>, AllocError>
+    ensures count { IfOk result (λ sets. length (rows_of sets.items) ≡ count) }
+    ensures room { IfOk result (λ sets. All (λ row. length row ≡ len) (rows_of sets.items)) }
+    ensures none { IfOk result (λ sets. HoldNothing (rows_of sets.items)) }
+{
+    let mut sets = Vec::with_capacity(alloc, count)?;
+    for _ in 0..count {
+        sets.push(TokenSet::new(alloc, len)?)?;
+    }
+    Ok(sets)
+}

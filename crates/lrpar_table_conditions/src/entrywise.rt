@@ -1,0 +1,210 @@
+//! The conditions that are tested entry by entry: of each action and each goto that a state stores.
+ghost use Rattle.std.specs.Prelude.{◌≡◌, ◌<◌, ◌↔◌, ℕ, IsTrue, Some};
+ghost use Rattle.lrpar_grammar.specs.Grammar.{GrammarSymbol, end_token, prods_len, start_prod};
+ghost use Rattle.lrpar_table_rows.specs.Graph.{HasCore};
+ghost use Rattle.lrpar_table_rows.specs.PlainRows.{plain_action};
+ghost use Rattle.lrpar_table_rows.specs.Table.{IsActionWithin, TableAction, action_of, goto_of, states_len};
+ghost use Rattle.lrpar_table_rows.specs.Safe.{AcceptsOnlyAtEnd, GoesBy, HasShape, NeverShiftsEnd, ReducesComplete, StepsFromCores};
+ghost use Rattle.lrpar_table_conditions.specs.Entrywise.{AcceptHolds, ActionHolds, GotoHolds, IsInRange, ReduceHolds, ShiftHolds};
+
+use crate::checkable::Checkable;
+use lrpar_grammar::span::{PIdx, RIdx, StIdx, StorageIndex, Symbol, TIdx};
+use lrpar_table_rows::condition::SafetyCondition;
+use lrpar_table_rows::table::Action;
+
+impl<'a, StorageT: StorageIndex> Checkable<'a, StorageT> {
+    /// S3: the state doesn't shift the end token.
+    pub fn never_shifts_end(&self, s: StIdx<StorageT>) -> bool
+        requires shape { HasShape self.now.grm.now self.now.sgraph.now self.now.stable.now }
+        requires state { StorageT.index s.0 < states_len self.now.stable.now }
+        ensures { IsTrue result ↔ NeverShiftsEnd self.now.grm.now self.now.stable.now (StorageT.index s.0) }
+    {
+        self.actions_hold(SafetyCondition::S3, s)
+    }
+
+    /// S4: the cores of each state that the state goes to come from its own.
+    pub fn steps_from_cores(&self, s: StIdx<StorageT>) -> bool
+        requires shape { HasShape self.now.grm.now self.now.sgraph.now self.now.stable.now }
+        requires state { StorageT.index s.0 < states_len self.now.stable.now }
+        ensures { IsTrue result ↔ StepsFromCores self.now.grm.now self.now.sgraph.now self.now.stable.now (StorageT.index s.0) }
+    {
+        self.actions_hold(SafetyCondition::S4, s) && self.gotos_hold(SafetyCondition::S4, s)
+    }
+
+    /// S5: the state reduces by complete cores alone, and not by the start production.
+    pub fn reduces_complete(&self, s: StIdx<StorageT>) -> bool
+        requires shape { HasShape self.now.grm.now self.now.sgraph.now self.now.stable.now }
+        requires state { StorageT.index s.0 < states_len self.now.stable.now }
+        ensures { IsTrue result ↔ ReducesComplete self.now.grm.now self.now.sgraph.now self.now.stable.now (StorageT.index s.0) }
+    {
+        self.actions_hold(SafetyCondition::S5, s)
+    }
+
+    /// S7: the state accepts at the end token alone, and has the start production's complete core where it does.
+    pub fn accepts_only_at_end(&self, s: StIdx<StorageT>) -> bool
+        requires shape { HasShape self.now.grm.now self.now.sgraph.now self.now.stable.now }
+        requires state { StorageT.index s.0 < states_len self.now.stable.now }
+        ensures { IsTrue result ↔ AcceptsOnlyAtEnd self.now.grm.now self.now.sgraph.now self.now.stable.now (StorageT.index s.0) }
+    {
+        self.actions_hold(SafetyCondition::S7, s)
+    }
+
+    // Whether the state doesn't go to the start state.
+    pub(crate) fn goes_never_back(&self, s: StIdx<StorageT>) -> bool
+        requires shape { HasShape self.now.grm.now self.now.sgraph.now self.now.stable.now }
+        requires state { StorageT.index s.0 < states_len self.now.stable.now }
+        ensures { IsTrue result ↔ ((x : GrammarSymbol) → ¬ (GoesBy self.now.stable.now (StorageT.index s.0) x self.now.stable.now.start)) }
+    {
+        self.actions_hold(SafetyCondition::S8, s) && self.gotos_hold(SafetyCondition::S8, s)
+    }
+
+    // Whether the condition holds of each action that the state stores.
+    fn actions_hold(&self, condition: SafetyCondition, s: StIdx<StorageT>) -> bool
+        requires shape { HasShape self.now.grm.now self.now.sgraph.now self.now.stable.now }
+        requires state { StorageT.index s.0 < states_len self.now.stable.now }
+        ensures { let g = self.now.grm.now in let graph = self.now.sgraph.now in let table = self.now.stable.now in IsTrue result
+            ↔ ((t : ℕ) (action : TableAction) → action_of table (StorageT.index s.0) t ≡ action → ActionHolds g graph table condition (StorageT.index s.0) t action) }
+    {
+        let (tokens, actions) = self.stable.actions_of(s);
+        for (place, token) in tokens.iter().enumerate() {
+            if !self.action_holds(condition, s, *token, actions[place]) {
+                return false;
+            }
+        }
+        true
+    }
+
+    // Whether the condition holds of an action of the state.
+    fn action_holds(
+        &self,
+        condition: SafetyCondition,
+        s: StIdx<StorageT>,
+        token: TIdx<StorageT>,
+        action: Action<StorageT>,
+    ) -> bool
+        requires shape { HasShape self.now.grm.now self.now.sgraph.now self.now.stable.now }
+        requires state { StorageT.index s.0 < states_len self.now.stable.now }
+        requires within { IsActionWithin (states_len self.now.stable.now) (plain_action StorageT.index action) }
+        requires named { IsInRange self.now.grm.now (plain_action StorageT.index action) }
+        ensures { IsTrue result ↔ ActionHolds self.now.grm.now self.now.sgraph.now self.now.stable.now condition (StorageT.index s.0)
+            (StorageT.index token.0) (plain_action StorageT.index action) }
+    {
+        match action {
+            Action::Shift(next) => self.shift_holds(condition, s, token, next),
+            Action::Reduce(pidx) => self.reduce_holds(condition, s, pidx),
+            Action::Accept => self.accept_holds(condition, s, token),
+            Action::Error => true,
+        }
+    }
+
+    // Whether the condition holds of a shift of the state.
+    fn shift_holds(
+        &self,
+        condition: SafetyCondition,
+        s: StIdx<StorageT>,
+        token: TIdx<StorageT>,
+        next: StIdx<StorageT>,
+    ) -> bool
+        requires shape { HasShape self.now.grm.now self.now.sgraph.now self.now.stable.now }
+        requires state { StorageT.index s.0 < states_len self.now.stable.now }
+        requires next { StorageT.index next.0 < states_len self.now.stable.now }
+        ensures { IsTrue result ↔ ShiftHolds self.now.grm.now self.now.sgraph.now self.now.stable.now condition (StorageT.index s.0)
+            (StorageT.index token.0) (StorageT.index next.0) }
+    {
+        match condition {
+            SafetyCondition::S3 => !self.is_end(token),
+            SafetyCondition::S4 => self.cores_follow(s, Symbol::Token(token), next),
+            SafetyCondition::S8 => !self.is_start(next),
+            _ => true,
+        }
+    }
+
+    // Whether the condition holds of a reduction of the state.
+    fn reduce_holds(
+        &self,
+        condition: SafetyCondition,
+        s: StIdx<StorageT>,
+        pidx: PIdx<StorageT>,
+    ) -> bool
+        requires shape { HasShape self.now.grm.now self.now.sgraph.now self.now.stable.now }
+        requires state { StorageT.index s.0 < states_len self.now.stable.now }
+        requires prod { StorageT.index pidx.0 < prods_len self.now.grm.now }
+        ensures { IsTrue result ↔ ReduceHolds self.now.grm.now self.now.sgraph.now condition (StorageT.index s.0) (StorageT.index pidx.0) }
+    {
+        match condition {
+            SafetyCondition::S5 => self.is_complete(s, pidx),
+            _ => true,
+        }
+    }
+
+    // Whether the condition holds of an acceptance of the state.
+    fn accept_holds(
+        &self,
+        condition: SafetyCondition,
+        s: StIdx<StorageT>,
+        token: TIdx<StorageT>,
+    ) -> bool
+        requires shape { HasShape self.now.grm.now self.now.sgraph.now self.now.stable.now }
+        requires state { StorageT.index s.0 < states_len self.now.stable.now }
+        ensures { IsTrue result ↔ AcceptHolds self.now.grm.now self.now.sgraph.now condition (StorageT.index s.0) (StorageT.index token.0) }
+    {
+        match condition {
+            SafetyCondition::S7 => self.accepts_complete(s, token),
+            _ => true,
+        }
+    }
+
+    // Whether the token is the end token, and the state has the start production's complete core.
+    fn accepts_complete(&self, s: StIdx<StorageT>, token: TIdx<StorageT>) -> bool
+        requires shape { HasShape self.now.grm.now self.now.sgraph.now self.now.stable.now }
+        requires state { StorageT.index s.0 < states_len self.now.stable.now }
+        ensures { IsTrue result ↔ ((StorageT.index token.0 ≡ end_token self.now.grm.now)
+            × HasCore self.now.sgraph.now (StorageT.index s.0) (start_prod self.now.grm.now) 1) }
+    {
+        self.is_end(token) && self.sgraph.has_core(s, self.grm.start_prod(), 1)
+    }
+
+    // Whether the condition holds of each goto that the state stores.
+    fn gotos_hold(&self, condition: SafetyCondition, s: StIdx<StorageT>) -> bool
+        requires shape { HasShape self.now.grm.now self.now.sgraph.now self.now.stable.now }
+        requires state { StorageT.index s.0 < states_len self.now.stable.now }
+        ensures { let g = self.now.grm.now in let graph = self.now.sgraph.now in let table = self.now.stable.now in IsTrue result
+            ↔ ((r next : ℕ) → goto_of table (StorageT.index s.0) r ≡ Some next → GotoHolds g graph table condition (StorageT.index s.0) r next) }
+    {
+        let (rules, states) = self.stable.gotos_of(s);
+        for (place, rule) in rules.iter().enumerate() {
+            if !self.goto_holds(condition, s, *rule, states[place]) {
+                return false;
+            }
+        }
+        true
+    }
+
+    // Whether the condition holds of a goto of the state.
+    fn goto_holds(
+        &self,
+        condition: SafetyCondition,
+        s: StIdx<StorageT>,
+        rule: RIdx<StorageT>,
+        next: StIdx<StorageT>,
+    ) -> bool
+        requires shape { HasShape self.now.grm.now self.now.sgraph.now self.now.stable.now }
+        requires state { StorageT.index s.0 < states_len self.now.stable.now }
+        requires next { StorageT.index next.0 < states_len self.now.stable.now }
+        ensures { IsTrue result ↔ GotoHolds self.now.grm.now self.now.sgraph.now self.now.stable.now condition (StorageT.index s.0)
+            (StorageT.index rule.0) (StorageT.index next.0) }
+    {
+        match condition {
+            SafetyCondition::S4 => self.cores_follow(s, Symbol::Rule(rule), next),
+            SafetyCondition::S8 => !self.is_start(next),
+            _ => true,
+        }
+    }
+
+    // Whether the token is the end token.
+    fn is_end(&self, token: TIdx<StorageT>) -> bool
+        ensures { IsTrue result ↔ (StorageT.index token.0 ≡ end_token self.now.grm.now) }
+    {
+        usize::from(token) == usize::from(self.grm.eof_token_idx())
+    }
+}

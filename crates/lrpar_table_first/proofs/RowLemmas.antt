@@ -1,0 +1,71 @@
+-- Sets of tokens in a list, one for each rule, and what a walk over symbols puts into a set.
+use Rattle.std.proofs.Common.{◌≡◌, ◌<◌, ◌+◌, ◌==◌, ◌||◌, ◌&&◌, ◌∙◌, refl, sym, ap, subst, arith, ℕ, suc, Bool, true, false, List, [], ◌∷◌, All, length, map, set, drop, get_or, nat_lt}
+use Rattle.std.proofs.Math.Bool.{or_assoc}
+use Rattle.std.proofs.Math.Seq.{drop-cons}
+use Rattle.std.proofs.lemmas.List.{get_or-map, length-map}
+use Rattle.lrpar_grammar_places.specs.declared.span.Symbol.{Symbol}
+use Rattle.lrpar_grammar.specs.Grammar.{GrammarSymbol, Nonterminal, Terminal}
+use Rattle.lrpar_grammar.specs.Symbols.{symbol_of}
+use Rattle.lrpar_grammar_places.proofs.ListLemmas.{All-map-at}
+use Rattle.lrpar_table_first.specs.FirstRows.{begins, row_at, rows_of}
+use Rattle.lrpar_grammar.specs.Tokens.{has}
+use Rattle.lrpar_grammar.specs.declared.token_set.TokenSet.{TokenSet}
+
+-- the row of a rule is that of the set in its place
+pub row_is : (sets : List TokenSet) (r : ℕ) (set : TokenSet) → r < length sets → set ≡ get_or sets r set → row_at (rows_of sets) r ≡ set.bits.items
+row_is sets r set within is = get_or-map (λ s. s.bits.items) sets r set [] within ∙ sym (ap (λ s. s.bits.items) is)
+
+-- a set of a list whose sets have this room has it
+pub wide_at : (sets : List TokenSet) (r n : ℕ) (set : TokenSet) → All (λ row. length row ≡ n) (rows_of sets) → r < length sets → set ≡ get_or sets r set
+    → length set.bits.items ≡ n
+wide_at sets r n set wide within is =
+    subst (λ s. length s.bits.items ≡ n) (sym is) (All-map-at (λ row. length row ≡ n) (λ s. s.bits.items) sets wide r set within)
+
+-- the symbols from a place on are the one there and those behind it
+pub symbols_from : {S : Type 0} (index : S → ℕ) (symbols : List (Symbol S)) (i : ℕ) (symbol : Symbol S) → i < length symbols → symbol ≡ get_or symbols i symbol
+    → drop i (map (symbol_of index) symbols) ≡ symbol_of index symbol ∷ drop (i + 1) (map (symbol_of index) symbols)
+symbols_from index symbols i symbol within is =
+    let all = map (symbol_of index) symbols in
+    let inside : i < length all = omega (arith, length-map symbols (symbol_of index)) in
+    let here : get_or all i (symbol_of index symbol) ≡ symbol_of index symbol =
+    get_or-map (symbol_of index) symbols i symbol (symbol_of index symbol) within ∙ ap (symbol_of index) (sym is) in
+    let next : suc i ≡ i + 1 = omega arith in
+    drop-cons all i (symbol_of index symbol) inside ∙ ap (λ s. s ∷ drop (suc i) all) here ∙ ap (λ n. symbol_of index symbol ∷ drop n all) next
+
+or_nothing : (x : Bool) → (x || false) ≡ x
+or_nothing true = refl
+or_nothing false = refl
+
+module _ (mark : ℕ) (rows : List (List Bool)) (symbols : List GrammarSymbol) (i : ℕ) (old front new : List Bool)
+    (so_far : (t : ℕ) → (has front t || begins mark rows (drop i symbols) t) ≡ (has old t || begins mark rows symbols t)) where
+  -- a token ends the walk
+  pub walk_token : (s : ℕ) (w : List GrammarSymbol) → drop i symbols ≡ Terminal s ∷ w → ((t : ℕ) → has new t ≡ (has front t || t == s))
+      → (t : ℕ) → has new t ≡ (has old t || begins mark rows symbols t)
+  walk_token s w at put t = put t ∙ subst (λ x. (has front t || begins mark rows x t) ≡ (has old t || begins mark rows symbols t)) at (so_far t)
+
+  -- a rule that derives something ends it too
+  pub walk_rule : (r : ℕ) (w : List GrammarSymbol) → drop i symbols ≡ Nonterminal r ∷ w → has (row_at rows r) mark ≡ false
+      → ((t : ℕ) → has new t ≡ (has front t || (nat_lt t mark && has (row_at rows r) t)))
+      → (t : ℕ) → has new t ≡ (has old t || begins mark rows symbols t)
+  walk_rule r w at none put t =
+      let own = nat_lt t mark && has (row_at rows r) t in
+      let ends : begins mark rows (Nonterminal r ∷ w) t ≡ own = ap (λ b. own || (b && begins mark rows w t)) none ∙ or_nothing own in
+      put t ∙ ap (λ b. has front t || b) (sym ends)
+      ∙ subst (λ x. (has front t || begins mark rows x t) ≡ (has old t || begins mark rows symbols t)) at (so_far t)
+
+  -- one that derives nothing is walked over
+  pub walk_on : (r : ℕ) → drop i symbols ≡ Nonterminal r ∷ drop (i + 1) symbols → has (row_at rows r) mark ≡ true
+      → ((t : ℕ) → has new t ≡ (has front t || (nat_lt t mark && has (row_at rows r) t)))
+      → (t : ℕ) → (has new t || begins mark rows (drop (i + 1) symbols) t) ≡ (has old t || begins mark rows symbols t)
+  walk_on r at through put t =
+      let own = nat_lt t mark && has (row_at rows r) t in
+      let rest = begins mark rows (drop (i + 1) symbols) t in
+      let goes : begins mark rows (Nonterminal r ∷ drop (i + 1) symbols) t ≡ (own || rest) = ap (λ b. own || (b && rest)) through in
+      ap (λ b. b || rest) (put t) ∙ or_assoc (has front t) own rest ∙ ap (λ b. has front t || b) (sym goes)
+      ∙ subst (λ x. (has front t || begins mark rows x t) ≡ (has old t || begins mark rows symbols t)) at (so_far t)
+
+-- a symbol of a list is as all of it are
+pub symbol_below : {S : Type 0} (index : S → ℕ) (P : GrammarSymbol → Type 0) (symbols : List (Symbol S)) (i : ℕ) (symbol shown : Symbol S)
+    → All P (map (symbol_of index) symbols) → i < length symbols → symbol ≡ get_or symbols i symbol → symbol ≡ shown → P (symbol_of index shown)
+symbol_below index P symbols i symbol shown all within is shows =
+    subst (λ s. P (symbol_of index s)) (sym is ∙ shows) (All-map-at P (symbol_of index) symbols all i symbol within)

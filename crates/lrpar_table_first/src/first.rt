@@ -1,0 +1,169 @@
+//! The tokens that rules begin with.
+ghost use Rattle.std.specs.Prelude.{◌≡◌, ◌<◌, ◌+◌, ◌||◌, ◌↔◌, ◌⊎◌, ℕ, All, IfOk, IsTrue, false, length, map};
+ghost use Rattle.std.specs.Bool.{OnFalse, OnTrue};
+ghost use Rattle.lrpar_grammar.specs.Grammar.{IsWellFormed, prods_len, rules_len, tokens_len};
+ghost use Rattle.lrpar_grammar.specs.Symbols.{symbol_of};
+ghost use Rattle.lrpar_table_first.specs.FirstRows.{AreFirsts, AreSound, HaveRoom, HoldNothing, IsClosedAt, IsFirstBefore, IsSymbolBelow, begins, mark_of, rows_of, total_missing};
+ghost use Rattle.lrpar_grammar.specs.Tokens.{has};
+
+use lrpar_grammar::grammar::YaccGrammar;
+use lrpar_grammar::span::{PIdx, StorageIndex, Symbol};
+use lrpar_grammar::token_set::TokenSet;
+use std::alloc::{AllocError, Global};
+
+/// For each rule the set of the tokens that it begins with. The number of tokens, which is no token's, stands in the set of a
+/// rule that derives nothing.
+pub fn first_sets<StorageT: StorageIndex>(
+    alloc: Global,
+    grm: &YaccGrammar<StorageT>,
+) -> Result<Vec<TokenSet>, AllocError>
+    ensures { IfOk result (λ sets. AreFirsts grm.now (rows_of sets.items)) }
+{
+    let _start = grm.start_prod();
+    let mut sets = empty_sets(alloc, grm)?;
+    let mut front = TokenSet::new(alloc, grm.tokens_len() + 1)?;
+    'passes: while grow_all(grm, &mut sets, &mut front) {}
+    Ok(sets)
+}
+
+/// A set for each rule, with nothing in it.
+pub fn empty_sets<StorageT: StorageIndex>(
+    alloc: Global,
+    grm: &YaccGrammar<StorageT>,
+) -> Result<Vec<TokenSet>, AllocError>
+    ensures room { IfOk result (λ sets. HaveRoom grm.now (rows_of sets.items)) }
+    ensures none { IfOk result (λ sets. HoldNothing (rows_of sets.items)) }
+{
+    let mut sets = Vec::with_capacity(alloc, grm.rules_len())?;
+    for _ in 0..grm.rules_len() {
+        sets.push(TokenSet::new(alloc, grm.tokens_len() + 1)?)?;
+    }
+    Ok(sets)
+}
+
+/// Takes everything out of the sets.
+pub fn clear_all(sets: &mut [TokenSet])
+    ensures none { HoldNothing (rows_of sets.new) }
+    ensures room { map (λ row. length row) (rows_of sets.new) ≡ map (λ row. length row) (rows_of sets.old) }
+{
+    for rule in 0..sets.len() {
+        sets[rule].clear();
+    }
+}
+
+// Puts into the set of each production's rule what the production begins with, and tells whether anything was new. `front`
+// is a set to work with.
+fn grow_all<StorageT: StorageIndex>(
+    grm: &YaccGrammar<StorageT>,
+    sets: &mut [TokenSet],
+    front: &mut TokenSet,
+) -> bool
+    requires well_formed { IsWellFormed grm.now }
+    requires room { HaveRoom grm.now (rows_of sets.old) }
+    requires front { length front.old.bits.items ≡ mark_of grm.now + 1 }
+    ensures room { HaveRoom grm.now (rows_of sets.new) }
+    ensures front { length front.new.bits.items ≡ mark_of grm.now + 1 }
+    ensures sound { AreSound grm.now (rows_of sets.old) → AreSound grm.now (rows_of sets.new) }
+    ensures grown { OnTrue result (total_missing (rows_of sets.new) < total_missing (rows_of sets.old)) }
+    ensures closed { OnFalse result ((p : ℕ) → p < prods_len grm.now → IsClosedAt grm.now (rows_of sets.new) p) }
+{
+    let mut grown = false;
+    for prod in 0..grm.prods_len() {
+        let pidx = PIdx(StorageT::from_index(prod).unwrap());
+        if grow(grm, pidx, sets, front) {
+            grown = true;
+        }
+    }
+    grown
+}
+
+// Puts into the set of the production's rule what the production begins with, and tells whether anything was new.
+fn grow<StorageT: StorageIndex>(
+    grm: &YaccGrammar<StorageT>,
+    pidx: PIdx<StorageT>,
+    sets: &mut [TokenSet],
+    front: &mut TokenSet,
+) -> bool
+    requires prod { StorageT.index pidx.0 < prods_len grm.now }
+    requires well_formed { IsWellFormed grm.now }
+    requires room { HaveRoom grm.now (rows_of sets.old) }
+    requires front { length front.old.bits.items ≡ mark_of grm.now + 1 }
+    ensures room { HaveRoom grm.now (rows_of sets.new) }
+    ensures front { length front.new.bits.items ≡ mark_of grm.now + 1 }
+    ensures sound { AreSound grm.now (rows_of sets.old) → AreSound grm.now (rows_of sets.new) }
+    ensures grown { OnTrue result (total_missing (rows_of sets.new) < total_missing (rows_of sets.old)) }
+    ensures same { OnFalse result (rows_of sets.new ≡ rows_of sets.old) }
+    ensures closed { OnFalse result (IsClosedAt grm.now (rows_of sets.new) (StorageT.index pidx.0)) }
+{
+    let mark = grm.tokens_len();
+    front.clear();
+    add_first(sets, grm.prod(pidx), mark, front);
+    let rule = usize::from(grm.prod_to_rule(pidx));
+    sets[rule].unite_below(front, mark + 1)
+}
+
+/// Puts into `set` what the symbols begin with before any token of `after`: nothing, where `after` is empty. `front` is a set to
+/// work with.
+pub fn add_first_before<StorageT: StorageIndex>(
+    grm: &YaccGrammar<StorageT>,
+    sets: &[TokenSet],
+    symbols: &[Symbol<StorageT>],
+    after: &TokenSet,
+    front: &mut TokenSet,
+    set: &mut TokenSet,
+)
+    requires well_formed { IsWellFormed grm.now }
+    requires firsts { AreFirsts grm.now (rows_of sets.now) }
+    requires symbols { All (IsSymbolBelow (rules_len grm.now) (tokens_len grm.now)) (map (symbol_of StorageT.index) symbols.now) }
+    requires after { length after.now.bits.items ≡ mark_of grm.now + 1 }
+    requires front { length front.old.bits.items ≡ mark_of grm.now + 1 }
+    requires set { length set.old.bits.items ≡ mark_of grm.now + 1 }
+    ensures front { length front.new.bits.items ≡ mark_of grm.now + 1 }
+    ensures set { length set.new.bits.items ≡ mark_of grm.now + 1 }
+    ensures tokens { (t : ℕ) → IsTrue (has set.new.bits.items t) ↔ (IsTrue (has set.old.bits.items t)
+        ⊎ IsFirstBefore grm.now after.now.bits.items (map (symbol_of StorageT.index) symbols.now) t) }
+{
+    if !after.has_any() {
+        return;
+    }
+    let mark = grm.tokens_len();
+    front.clear();
+    add_first(sets, symbols, mark, front);
+    let _new = set.unite_below(front, mark);
+    if front.contains(mark) {
+        let _more = set.unite_below(after, mark + 1);
+    }
+}
+
+/// Puts into `front` the tokens that the symbols begin with, where each rule begins with its set; and the mark, where each
+/// symbol's set has it.
+pub fn add_first<StorageT: StorageIndex>(
+    sets: &[TokenSet],
+    symbols: &[Symbol<StorageT>],
+    mark: usize,
+    front: &mut TokenSet,
+)
+    requires rules { All (IsSymbolBelow (length sets.now) mark) (map (symbol_of StorageT.index) symbols.now) }
+    requires wide { All (λ row. length row ≡ mark + 1) (rows_of sets.now) }
+    requires front { length front.old.bits.items ≡ mark + 1 }
+    ensures front { length front.new.bits.items ≡ mark + 1 }
+    ensures tokens { (t : ℕ) → has front.new.bits.items t
+        ≡ (has front.old.bits.items t || begins mark (rows_of sets.now) (map (symbol_of StorageT.index) symbols.now) t) }
+{
+    for symbol in symbols {
+        match *symbol {
+            Symbol::Token(token) => {
+                front.insert(usize::from(token));
+                return;
+            }
+            Symbol::Rule(rule) => {
+                let set = &sets[usize::from(rule)];
+                let _grown = front.unite_below(set, mark);
+                if !set.contains(mark) {
+                    return;
+                }
+            }
+        }
+    }
+    front.insert(mark);
+}

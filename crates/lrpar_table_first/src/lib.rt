@@ -1,0 +1,5 @@
+//! Nullable rules, and FIRST sets.
+#![tactic(auto)]
+
+pub mod behind;
+pub mod first;

@@ -1,0 +1,189 @@
+-- One production brings the rule that it begins with: what was worked out is put into the set of that rule.
+use Rattle.std.proofs.Common.{◌≡◌, ◌<◌, ◌+◌, ◌||◌, ◌&&◌, ◌↔◌, ◌⊎◌, ◌∙◌, sym, ap, subst, inl, inr, arith, ℕ, Bool, false, List, [], ◌∷◌, ◌++◌, All, length, set, get_or, drop, nat_lt, IsTrue}
+use Rattle.std.proofs.lemmas.Bool.{OnFalse_at, OnTrue_at, cases_Bool, cases_eq, cases_lt, false≢true}
+use Rattle.std.proofs.lemmas.List.{get_or-set_other, get_or-set_same, set-get_or}
+use Rattle.std.proofs.lemmas.List.Elements.{All-contains, All-get_or, All-push}
+use Rattle.std.specs.Bool.{OnFalse, OnTrue}
+use Rattle.lrpar_grammar.specs.Grammar.{Grammar, GrammarSymbol, Nonterminal, Terminal, prods_len, prods_of, rule_of, rules_len, symbols_of}
+use Rattle.lrpar_table_first.specs.First.{IsFirst}
+use Rattle.lrpar_table_first.specs.FirstRows.{HaveRoom, IsFirstBefore, mark_of, row_at, rows_of, total_missing}
+use Rattle.lrpar_grammar.specs.Tokens.{has, missing}
+use Rattle.lrpar_table_items.specs.Brought.{IsBrought, Given, Brought, AreBroughtFrom, HasIn, IsSpreadAt, IsSpreadOf, Keeps}
+use Rattle.lrpar_grammar.specs.declared.token_set.TokenSet.{TokenSet}
+use Rattle.lrpar_table_first.proofs.BeforeLemmas.{united}
+use Rattle.lrpar_table_items.proofs.ProdLemmas.{in_prods}
+use Rattle.lrpar_table_items.proofs.BroughtLemmas.{brought_twice, closed_brought}
+use Rattle.lrpar_table_first.proofs.GrowthLemmas.{has_room, missing_set, room_set, row_in, rows-set, sets_len}
+
+-- what was given comes
+pub brought_itself : (g : Grammar) (rows : List (List Bool)) → AreBroughtFrom g rows rows
+brought_itself g rows r t h = Given r t h
+
+first_rule : List GrammarSymbol → ℕ
+first_rule [] = 0
+first_rule (Terminal t ∷ w) = 0
+first_rule (Nonterminal r ∷ w) = r
+
+-- lists that begin with rules are alike in both parts
+pub same_rule : (r s : ℕ) (v w : List GrammarSymbol) → Nonterminal r ∷ v ≡ Nonterminal s ∷ w → r ≡ s
+unfolding first_rule
+same_rule r s v w e = ap first_rule e
+
+pub same_rest : (r s : ℕ) (v w : List GrammarSymbol) → Nonterminal r ∷ v ≡ Nonterminal s ∷ w → v ≡ w
+same_rest r s v w e = ap (drop 1) e
+
+-- what holds where a production has put what it brings to the set of the rule that it begins with
+pub record IsSpreadTo (g : Grammar) (sets : List TokenSet) (p target : ℕ) (old new : TokenSet) : Type 0 where
+  pub room : HaveRoom g (rows_of (set sets target new))
+  pub kept : Keeps (rows_of sets) (rows_of (set sets target new))
+  pub sound : AreBroughtFrom g (rows_of sets) (rows_of (set sets target new))
+  pub grown : missing new.bits.items < missing (get_or sets target old).bits.items → total_missing (rows_of (set sets target new)) < total_missing (rows_of sets)
+  pub same : new.bits.items ≡ (get_or sets target old).bits.items → rows_of (set sets target new) ≡ rows_of sets
+  pub closed : new.bits.items ≡ (get_or sets target old).bits.items → IsSpreadAt g (rows_of (set sets target new)) p
+
+module _ (g : Grammar) (sets : List TokenSet) (p rule target mark : ℕ) (w : List GrammarSymbol) (known : p < prods_len g) (is : rule ≡ rule_of g p)
+    (rule_low : rule_of g p < rules_len g) (begins : symbols_of g p ≡ Nonterminal target ∷ w) (low : target < rules_len g) (marked : mark ≡ mark_of g)
+    (room : HaveRoom g (rows_of sets)) (d d' new : TokenSet) (fresh cleared : List Bool) (none : (t : ℕ) → has cleared t ≡ false)
+    (came : (t : ℕ) → IsTrue (has fresh t) ↔ (IsTrue (has cleared t) ⊎ IsFirstBefore g (get_or sets rule d).bits.items w t))
+    (long : length fresh ≡ mark_of g + 1) (wide : length new.bits.items ≡ length (get_or sets target d').bits.items)
+    (put : (t : ℕ) → has new.bits.items t ≡ (has (get_or sets target d').bits.items t || (nat_lt t (mark + 1) && has fresh t))) where
+  inside : target < length (rows_of sets)
+  inside = let count = room.rules in omega (arith, count, low)
+
+  old_row : (get_or sets target d').bits.items ≡ row_at (rows_of sets) target
+  old_row = let count = sets_len g sets room in row_in sets target d' (omega (arith, count, low))
+
+  from_row : (get_or sets rule d).bits.items ≡ row_at (rows_of sets) (rule_of g p)
+  from_row =
+      let count = sets_len g sets room in
+      row_in sets rule d (omega (arith, count, is, rule_low)) ∙ ap (row_at (rows_of sets)) is
+
+  new_rows : rows_of (set sets target new) ≡ set (rows_of sets) target new.bits.items
+  new_rows = rows-set sets target new
+
+  new_row : row_at (set (rows_of sets) target new.bits.items) target ≡ new.bits.items
+  new_row = get_or-set_same (rows_of sets) target new.bits.items [] inside
+
+  new_has : (t : ℕ) → IsTrue (has new.bits.items t) ↔ (HasIn (rows_of sets) target t ⊎ ((t < mark + 1) × IsTrue (has fresh t)))
+  new_has t = united (row_at (rows_of sets) target) fresh new.bits.items (mark + 1) t
+      (put t ∙ ap (λ b. has b t || (nat_lt t (mark + 1) && has fresh t)) old_row)
+
+  fresh_is : (t : ℕ) → IsTrue (has fresh t) ↔ IsFirstBefore g (row_at (rows_of sets) (rule_of g p)) w t
+  fresh_is t = (
+    λ h. elim ((came t).0 h) [
+      | inl before ↦ absurd (false≢true (sym (none t) ∙ before))
+      | inr first ↦ subst (λ b. IsFirstBefore g b w t) from_row first
+    ],
+    λ first. (came t).1 (inr (subst (λ b. IsFirstBefore g b w t) (sym from_row) first)),
+  )
+
+  spread_room : HaveRoom g (rows_of (set sets target new))
+  spread_room =
+      let old_wide = All-get_or (λ row. length row ≡ mark_of g + 1) (rows_of sets) target [] inside room.wide in
+      subst (HaveRoom g) (sym new_rows) (room_set g (rows_of sets) target new.bits.items room (wide ∙ ap length old_row ∙ old_wide))
+
+  spread_keeps : Keeps (rows_of sets) (rows_of (set sets target new))
+  spread_keeps r t h =
+      subst (λ rows. HasIn rows r t) (sym new_rows)
+      (elim (cases_eq r target) as (λ _. HasIn (set (rows_of sets) target new.bits.items) r t) [
+        | inl same ↦
+            let now = (new_has t).1 (inl (subst (λ n. HasIn (rows_of sets) n t) same h)) in
+            subst (λ n. HasIn (set (rows_of sets) target new.bits.items) n t) (sym same) (subst (λ b. IsTrue (has b t)) (sym new_row) now)
+        | inr other ↦ subst (λ b. IsTrue (has b t)) (sym (get_or-set_other (rows_of sets) target r new.bits.items [] other)) h
+      ])
+
+  spread_sound : AreBroughtFrom g (rows_of sets) (rows_of (set sets target new))
+  spread_sound r t h =
+      let h' = subst (λ rows. HasIn rows r t) new_rows h in
+      elim (cases_eq r target) as (λ _. IsBrought g (HasIn (rows_of sets)) r t) [
+        | inl same ↦
+            let there = subst (λ n. HasIn (set (rows_of sets) target new.bits.items) n t) same h' in
+            let now = subst (λ b. IsTrue (has b t)) new_row there in
+            subst (λ n. IsBrought g (HasIn (rows_of sets)) n t) (sym same)
+            (elim ((new_has t).0 now) as (λ _. IsBrought g (HasIn (rows_of sets)) target t) [
+              | inl before ↦ Given target t before
+              | inr came ↦ let first = (fresh_is t).0 came.1 in Brought p target first.0 t w known begins (Given (rule_of g p) first.0 first.1) first.2
+            ])
+        | inr other ↦ Given r t (subst (λ b. IsTrue (has b t)) (get_or-set_other (rows_of sets) target r new.bits.items [] other) h')
+      ]
+
+  spread_less : missing new.bits.items < missing (get_or sets target d').bits.items → total_missing (rows_of (set sets target new)) < total_missing (rows_of sets)
+  spread_less less =
+      let less' = subst (λ b. missing new.bits.items < missing b) old_row less in
+      subst (λ rows. total_missing rows < total_missing (rows_of sets)) (sym new_rows) (missing_set (rows_of sets) target new.bits.items inside less')
+
+  spread_same : new.bits.items ≡ (get_or sets target d').bits.items → rows_of (set sets target new) ≡ rows_of sets
+  spread_same same = new_rows ∙ ap (set (rows_of sets) target) (same ∙ old_row) ∙ set-get_or (rows_of sets) target []
+
+  spread_closed : new.bits.items ≡ (get_or sets target d').bits.items → IsSpreadAt g (rows_of (set sets target new)) p
+  spread_closed same =
+      subst (λ rows. IsSpreadAt g rows p) (sym (spread_same same)) (λ r s t v begins' has_s first.
+      let alike = sym begins ∙ begins' in
+      let first' = subst (λ u. IsFirst g s u t) (sym (same_rest target r w v alike)) first in
+      let in_fresh = (fresh_is t).1 (s, has_s, first') in
+      let room_t = has_room fresh t in_fresh in
+      let low_t : t < mark + 1 = omega (arith, room_t, long, marked) in
+      let now = (new_has t).1 (inr (low_t, in_fresh)) in
+      subst (λ n. HasIn (rows_of sets) n t) (same_rule target r w v alike) (subst (λ b. IsTrue (has b t)) (same ∙ old_row) now))
+
+  pub spread_to : IsSpreadTo g sets p target d' new
+  spread_to = record { room = spread_room; kept = spread_keeps; sound = spread_sound; grown = spread_less; same = spread_same; closed = spread_closed }
+
+-- where the production's rule has no lookaheads, it brings nothing
+spread_nothing : (g : Grammar) (sets : List TokenSet) (p rule : ℕ) (d : TokenSet) → rule ≡ rule_of g p → rule_of g p < rules_len g → HaveRoom g (rows_of sets)
+    → ((t : ℕ) → IsTrue (has (get_or sets rule d).bits.items t) → ⊥) → IsSpreadAt g (rows_of sets) p
+spread_nothing g sets p rule d is low room none r s t w begins has_s first =
+    let count = sets_len g sets room in
+    let row = row_in sets rule d (omega (arith, count, is, low)) ∙ ap (row_at (rows_of sets)) is in
+    absurd (none s (subst (λ b. IsTrue (has b s)) (sym row) has_s))
+
+-- one spread after another
+pub brought_on : (g : Grammar) (one two three : List (List Bool)) → AreBroughtFrom g one two → AreBroughtFrom g two three → AreBroughtFrom g one three
+brought_on g one two three before after r t h = brought_twice g (HasIn one) (HasIn two) before r t (after r t h)
+
+pub keeps_on : (one two three : List (List Bool)) → Keeps one two → Keeps two three → Keeps one three
+keeps_on one two three before after r t h = after r t (before r t h)
+
+pub keeps_itself : (rows : List (List Bool)) → Keeps rows rows
+keeps_itself rows r t h = h
+
+-- sets that keep what they had, and have what each production brings, have just what comes with what they had
+pub exact_spread : (g : Grammar) (before after : List (List Bool)) → Keeps before after → AreBroughtFrom g before after
+    → ((p : ℕ) → p < prods_len g → IsSpreadAt g after p) → (r t : ℕ) → HasIn after r t ↔ IsBrought g (HasIn before) r t
+exact_spread g before after kept sound closed r t = (λ h. sound r t h, λ h. closed_brought g (HasIn before) after kept closed r t h)
+
+-- a pass, by one production more: something was new by now, or nothing yet
+pub step_grown : (first before after : List (List Bool)) (grown : Bool) → OnTrue grown (total_missing before < total_missing first)
+    → OnFalse grown (before ≡ first) → total_missing after < total_missing before → total_missing after < total_missing first
+step_grown first before after grown less same fewer =
+    elim (cases_Bool grown) [
+      | inl held ↦ let less' = OnTrue_at held less in omega (arith, less', fewer)
+      | inr fell ↦ let same' = OnFalse_at fell same in subst (λ rows. total_missing after < total_missing rows) same' fewer
+    ]
+
+-- what the productions of one rule more bring
+pub step_closed : (g : Grammar) (before after : List (List Bool)) (n : ℕ) → after ≡ before
+    → ((p : ℕ) → p < prods_len g → rule_of g p < n → IsSpreadAt g before p) → IsSpreadOf g after n
+    → (p : ℕ) → p < prods_len g → rule_of g p < n + 1 → IsSpreadAt g after p
+step_closed g before after n same closed last p known low =
+    elim (cases_lt (rule_of g p) n) [
+      | inl early ↦ subst (λ rows. IsSpreadAt g rows p) (sym same) (closed p known early)
+      | inr late ↦ last p known (omega (arith, low, late))
+    ]
+
+-- what one production more brings
+pub step_listed : (g : Grammar) (before after : List (List Bool)) (prods more : List ℕ) (p : ℕ) → after ≡ before → more ≡ prods ++ p ∷ []
+    → All (IsSpreadAt g before) prods → IsSpreadAt g after p → All (IsSpreadAt g after) more
+step_listed g before after prods more p same is so_far last =
+    subst (All (IsSpreadAt g after)) (sym is)
+    (All-push (IsSpreadAt g after) prods p (subst (λ rows. All (IsSpreadAt g rows) prods) (sym same) so_far) last)
+
+-- what all productions of a rule bring, the rule brings
+pub spread_of : (g : Grammar) (rows : List (List Bool)) (n : ℕ) → All (IsSpreadAt g rows) (prods_of g n) → IsSpreadOf g rows n
+spread_of g rows n all p known is = All-contains (IsSpreadAt g rows) (prods_of g n) p all (in_prods g n p known is)
+
+-- a rule without lookaheads brings nothing
+pub nothing_of : (g : Grammar) (sets : List TokenSet) (n : ℕ) (d : TokenSet) → n < rules_len g → HaveRoom g (rows_of sets)
+    → ((t : ℕ) → IsTrue (has (get_or sets n d).bits.items t) → ⊥) → IsSpreadOf g (rows_of sets) n
+nothing_of g sets n d low room none p known is =
+    spread_nothing g sets p n d (sym is) (subst (λ m. m < rules_len g) (sym is) low) room none

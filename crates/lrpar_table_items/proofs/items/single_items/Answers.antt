@@ -1,0 +1,20 @@
+use Rattle.std.proofs.Common.{◌++◌, ◌∙◌, sym, ap, map}
+use Rattle.std.proofs.lemmas.List.{take_all}
+use Rattle.lrpar_grammar.specs.Grammar.{tokens_len}
+use Rattle.lrpar_table_items.specs.Cores.{core_set}
+use Rattle.lrpar_table_items.specs.Complete.{items_of_core, items_of_cores}
+use Rattle.lrpar_table_items.proofs.CompleteLemmas.{cores_more}
+use Rattle.lrpar_table_items.proofs.items.single_items.Goals as goal
+
+pub loop-core-preserved : goal.loop-core-preserved
+loop-core-preserved g c =
+    let index = g.StorageT.StorageIndex.index in
+    let tokens = tokens_len c.args.grm.now in
+    c.in_ok-push_items.ensures ∙ ap (λ s. s ++ items_of_core tokens (core_set index c.core-item.result)) c.loop-core.invariant
+    ∙ sym (cores_more (core_set index) tokens c.args.cores.now c.loop-core.core-index c.core-item.result c.loop-core-test.true c.core-item.is)
+
+pub returns : goal.returns
+returns g c =
+    let index = g.StorageT.StorageIndex.index in
+    c.loop-core.invariant
+    ∙ ap (λ s. items_of_cores (tokens_len c.args.grm.now) (map (core_set index) s)) (take_all c.loop-core.core-index c.args.cores.now c.loop-core-test.false)

@@ -1,0 +1,14 @@
+pub mod ItemSets
+pub mod Brought
+pub mod Cores
+pub mod CoreOrder
+pub mod Next
+pub mod Working
+pub mod Complete
+pub mod Wanted
+pub mod KernelMap
+pub mod Canonical
+pub mod Kernels
+pub mod Numbers
+pub mod States
+pub mod StateRows

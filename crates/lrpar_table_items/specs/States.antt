@@ -1,0 +1,90 @@
+-- The states that are built: each with its cores, and where it goes by the symbols that its items stand before.
+use Rattle.std.specs.Prelude.{◌≡◌, ◌<◌, ℕ, List, [], All, length, map, nat_eq, slice_index_or}
+use Rattle.std.specs.Map.{keys_of, lookup}
+use Rattle.std.specs.declared.vec.Vec.{Vec}
+use Rattle.lrpar_grammar_places.specs.declared.span.StIdx.{StIdx}
+use Rattle.lrpar_grammar.specs.Grammar.{Grammar, GrammarSymbol, Nonterminal, Terminal}
+use Rattle.lrpar_table_rows.specs.Graph.{ItemOf}
+use Rattle.lrpar_table_rows.specs.PlainRows.{goto_entry}
+use Rattle.lrpar_table_items.specs.Canonical.{AreCanonical, AreSame, IsTransition}
+use Rattle.lrpar_table_items.specs.Cores.{CoreSet, IsAmong, IsCoreOf, core_set}
+use Rattle.lrpar_table_items.specs.ItemSets.{IsInClosure, IsStartItem}
+use Rattle.lrpar_table_items.specs.Next.{kernel_rows, AreNext, kernel_at}
+use Rattle.lrpar_table_items.specs.Working.{AreSuccessors}
+use Rattle.lrpar_table_items.specs.CoreOrder.{AreCores}
+use Rattle.lrpar_table_items.specs.Kernels.{GoesTo}
+use Rattle.lrpar_table_items.specs.Wanted.{AreOnce, AscendFrom, shift_entry}
+use Rattle.lrpar_table_items.specs.declared.cores.CoreItems.{CoreItems}
+use Rattle.lrpar_table_items.specs.declared.item_set.State.{State}
+use Rattle.lrpar_table_items.specs.declared.successors.Successors.{Successors}
+
+-- a state: its cores with their lookaheads, the states to which it goes by rules, and those to which it goes by tokens
+pub record StateOf : Type 0 where
+  pub cores : List CoreSet
+  pub gotos : List (ℕ × ℕ)
+  pub shifts : List (ℕ × ℕ)
+
+-- that of the code
+abbrev pub state_of : {S : Type 0} → (S → ℕ) → State S → StateOf
+state_of index state = record {
+  cores = map (core_set index) state.items.items;
+  gotos = map (goto_entry index) state.gotos.items;
+  shifts = map (shift_entry index) state.shifts.items;
+}
+
+-- state s; out of range, one without items
+abbrev pub state_at : List StateOf → ℕ → StateOf
+state_at states s = slice_index_or states s (record { cores = []; gotos = []; shifts = [] })
+
+-- the items of each state
+abbrev pub sets_at : List StateOf → ℕ → ItemOf → Type 0
+sets_at states s = IsAmong (state_at states s).cores
+
+-- the states have the canonical sets, each core of a state once, and where they go they list by ascending numbers
+pub record AreStates (g : Grammar) (states : List StateOf) : Type 0 where
+  pub canonical : AreCanonical g (length states) (sets_at states)
+  pub cores : (s : ℕ) → s < length states → All (IsCoreOf g) (state_at states s).cores
+  pub once : (s : ℕ) → s < length states → AreOnce (state_at states s).cores
+  pub gotos_ascend : (s : ℕ) → s < length states → AscendFrom 0 (keys_of (state_at states s).gotos)
+  pub shifts_ascend : (s : ℕ) → s < length states → AscendFrom 0 (keys_of (state_at states s).shifts)
+  pub gotos : (s r : ℕ) → s < length states
+      → IsTransition g (length states) (sets_at states) s (Nonterminal r) (lookup (nat_eq r) (state_at states s).gotos)
+  pub shifts : (s t : ℕ) → s < length states
+      → IsTransition g (length states) (sets_at states) s (Terminal t) (lookup (nat_eq t) (state_at states s).shifts)
+
+-- a symbol's number, and the state to which the step by it leads
+abbrev pub step_entry : {K S : Type 0} → (K → ℕ) → (S → ℕ) → K × StIdx S → ℕ × ℕ
+step_entry number index entry = (number entry.0, index entry.1.0)
+
+-- rows of the numbers of symbols, ascending, with where cores go by each: to one of the kernels, or nowhere
+pub record AreSteps (g : Grammar) (kernels : List (List CoreSet)) (cores : List CoreSet) (symbol : ℕ → GrammarSymbol) (rows : List (ℕ × ℕ)) : Type 0 where
+  pub ascend : AscendFrom 0 (keys_of rows)
+  pub goes : (n : ℕ) → GoesTo g kernels cores (symbol n) (lookup (nat_eq n) rows)
+
+-- the state has the closure of the kernel, and goes to these kernels
+pub record IsExpanded (g : Grammar) (kernels : List (List CoreSet)) (kernel : List CoreSet) (state : StateOf) : Type 0 where
+  pub items : AreSame (IsAmong state.cores) (IsInClosure g (IsAmong kernel))
+  pub cores : AreCores g state.cores
+  pub gotos : AreSteps g kernels state.cores Nonterminal state.gotos
+  pub shifts : AreSteps g kernels state.cores Terminal state.shifts
+
+-- rows of the numbers of symbols below n, ascending, with where cores go by each
+pub record AreStepsBelow (g : Grammar) (kernels : List (List CoreSet)) (cores : List CoreSet) (symbol : ℕ → GrammarSymbol) (rows : List (ℕ × ℕ)) (n : ℕ) : Type 0 where
+  pub ascend : AscendFrom 0 (keys_of rows)
+  pub below : All (λ k. k < n) (keys_of rows)
+  pub goes : (k : ℕ) → k < n → GoesTo g kernels cores (symbol k) (lookup (nat_eq k) rows)
+
+-- these are the kernels to which the item set goes by the symbols of one kind, of which a grammar has so many
+abbrev pub AreKernelsBy : {S A : Type 0} → (S → ℕ) → (ℕ → GrammarSymbol) → (Grammar → ℕ) → Successors S → List (Vec (CoreItems S) A) → Type 0
+AreKernelsBy index symbol len_in successors kernels =
+    (g : Grammar) → AreSuccessors index g successors
+    → (length kernels ≡ len_in g) × AreNext g (map (core_set index) successors.items.items) symbol (kernel_rows index kernels)
+
+-- the first kernel is that of the start item
+pub record StartsRight (g : Grammar) (kernels : List (List CoreSet)) : Type 0 where
+  pub some : 0 < length kernels
+  pub is : AreSame (IsAmong (kernel_at kernels 0)) (IsStartItem g)
+
+-- the states have the closures of the first kernels, and go to these kernels
+abbrev pub AreExpanded : Grammar → List (List CoreSet) → List StateOf → Type 0
+AreExpanded g kernels states = (s : ℕ) → s < length states → IsExpanded g kernels (kernel_at kernels s) (state_at states s)

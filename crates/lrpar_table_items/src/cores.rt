@@ -1,0 +1,64 @@
+//! Items by their cores.
+ghost use Rattle.std.specs.Prelude.{◌≡◌, ◌↔◌, IfOk, IsTrue, map};
+ghost use Rattle.lrpar_table_items.specs.Cores.{core_set};
+
+use lrpar_grammar::span::{PIdx, StorageIndex};
+use lrpar_grammar::token_set::TokenSet;
+use std::alloc::{AllocError, Global};
+
+/// The items of one core: its production, how many of its symbols stand before the dot, and the set of their lookaheads.
+#[derive(PartialEq, Eq, PartialOrd, Ord, Drop)]
+pub struct CoreItems<StorageT> {
+    pub prod: PIdx<StorageT>,
+    pub dot: usize,
+    pub tokens: TokenSet,
+}
+
+/// Whether the cores are the same.
+pub fn are_same<StorageT: StorageIndex>(
+    cores: &[CoreItems<StorageT>],
+    others: &[CoreItems<StorageT>],
+) -> bool
+    ensures { IsTrue result ↔ (map (core_set StorageT.index) cores.now ≡ map (core_set StorageT.index) others.now) }
+{
+    if cores.len() != others.len() {
+        return false;
+    }
+    for place in 0..cores.len() {
+        if !is_same(&cores[place], &others[place]) {
+            return false;
+        }
+    }
+    true
+}
+
+// Whether the core is the same.
+fn is_same<StorageT: StorageIndex>(core: &CoreItems<StorageT>, other: &CoreItems<StorageT>) -> bool
+    ensures { IsTrue result ↔ (core_set StorageT.index core.now ≡ core_set StorageT.index other.now) }
+{
+    let prod = usize::from(core.prod);
+    let same = usize::from(other.prod);
+    if prod != same || core.dot != other.dot {
+        return false;
+    }
+    core.tokens.bits == other.tokens.bits
+}
+
+/// The same cores.
+pub fn copied<StorageT: StorageIndex>(
+    alloc: Global,
+    cores: &[CoreItems<StorageT>],
+) -> Result<Vec<CoreItems<StorageT>>, AllocError>
+    ensures { IfOk result (λ copy. map (core_set StorageT.index) copy.items ≡ map (core_set StorageT.index) cores.now) }
+{
+    let mut copy = Vec::with_capacity(alloc, cores.len())?;
+    for core in cores {
+        let tokens = core.tokens.copy(alloc)?;
+        copy.push(CoreItems {
+            prod: core.prod,
+            dot: core.dot,
+            tokens,
+        })?;
+    }
+    Ok(copy)
+}

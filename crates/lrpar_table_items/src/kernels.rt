@@ -1,0 +1,106 @@
+//! Kernels, each with its number.
+ghost use Rattle.std.specs.Prelude.{◌≡◌, ◌<◌, ◌∷◌, ◌++◌, [], IfErr, IfOk, MatchOption, OnOk, length, map};
+ghost use Rattle.lrpar_table_items.specs.Cores.{core_set};
+ghost use Rattle.lrpar_table_items.specs.KernelMap.{IsFound, IsFresh};
+ghost use Rattle.lrpar_table_items.specs.Next.{kernel_at};
+ghost use Rattle.lrpar_table_items.specs.declared.fault.BuildFault.TheVariants.{Memory};
+
+use crate::cores::{CoreItems, are_same, copied};
+use crate::fault::BuildFault;
+use lrpar_grammar::span::{StIdx, StorageIndex};
+use std::alloc::{AllocError, Global};
+use std::collections::BTreeMap;
+use std::marker::Model;
+
+/// The kernels that were found, by their numbers; and their numbers, to find them quickly.
+pub struct Kernels<StorageT: StorageIndex> {
+    kernels: Vec<Vec<CoreItems<StorageT>>>,
+    numbers: BTreeMap<Vec<CoreItems<StorageT>>, StIdx<StorageT>>,
+}
+
+// A drop of its own, so that what lets go of one elsewhere proves one call.
+impl<StorageT: StorageIndex> Drop for Kernels<StorageT> {
+    fn drop(self) {
+        let Kernels { kernels, numbers } = self;
+        drop(kernels);
+        drop(numbers);
+    }
+}
+
+impl<StorageT: StorageIndex> Model for Kernels<StorageT> {
+    ghost use Rattle.std.specs.Prelude.{List};
+    ghost use Rattle.lrpar_table_items.specs.Cores.{CoreSet};
+    ghost use Rattle.lrpar_table_items.specs.KernelMap.{NumbersKernels};
+    ghost use Rattle.lrpar_table_items.specs.Next.{kernel_rows};
+
+    ghost Value = { List (List CoreSet) };
+
+    ghost view = { λ found. kernel_rows StorageT.index found.kernels.items };
+
+    ghost invariant = { λ found. NumbersKernels StorageT.index (kernel_rows StorageT.index found.kernels.items) found.numbers };
+}
+
+impl<StorageT: StorageIndex> Kernels<StorageT> {
+    /// None yet.
+    pub fn new(alloc: Global) -> Self
+        ensures { result ≡ [] }
+    {
+        Kernels {
+            kernels: Vec::new(alloc),
+            numbers: BTreeMap::new(alloc),
+        }
+    }
+
+    /// How many there are.
+    pub fn len(&self) -> usize
+        ensures { result ≡ length self.now }
+    {
+        self.kernels.len()
+    }
+
+    /// A kernel with the cores of that with this number.
+    pub fn kernel(
+        &self,
+        alloc: Global,
+        number: usize,
+    ) -> Result<Vec<CoreItems<StorageT>>, AllocError>
+        requires { number < length self.now }
+        ensures { IfOk result (λ kernel. map (core_set StorageT.index) kernel.items ≡ kernel_at self.now number) }
+    {
+        copied(alloc, &self.kernels[number])
+    }
+
+    /// The number of the kernel, if it has one. It takes time logarithmic in the kernels.
+    pub fn find(&self, kernel: &[CoreItems<StorageT>]) -> Option<StIdx<StorageT>>
+        ensures { MatchOption result (IsFresh self.now (map (core_set StorageT.index) kernel.now))
+            (λ state. IsFound self.now (map (core_set StorageT.index) kernel.now) (StorageT.index state.0)) }
+    {
+        let state = *self.numbers.get(kernel)?;
+        let number = usize::from(state);
+        let found = self.kernels.get(number)?;
+        if are_same(found, kernel) {
+            Some(state)
+        } else {
+            None
+        }
+    }
+
+    /// Puts the kernel behind the others, with this number; after an Err it isn't there.
+    pub fn push(
+        &mut self,
+        alloc: Global,
+        kernel: Vec<CoreItems<StorageT>>,
+        state: StIdx<StorageT>,
+    ) -> Result<(), BuildFault>
+        requires fresh { IsFresh self.old (map (core_set StorageT.index) kernel.items) }
+        requires next { StorageT.index state.0 ≡ length self.old }
+        ensures pushed { OnOk result (self.new
+            ≡ self.old ++ map (core_set StorageT.index) kernel.items ∷ []) }
+        ensures fault { IfErr result (λ fault. fault ≡ Memory) }
+    {
+        let key = copied(alloc, &kernel)?;
+        self.numbers.insert(key, state)?;
+        self.kernels.push(kernel)?;
+        Ok(())
+    }
+}

@@ -1,0 +1,18 @@
+//! Closure and goto of LR(1) items, and the canonical collection of item sets.
+#![tactic(auto)]
+
+mod closure;
+pub mod complete;
+pub mod cores;
+pub mod fault;
+pub mod item_rows;
+pub mod item_set;
+pub mod items;
+pub mod kernels;
+mod numbers;
+mod reach;
+pub mod sets;
+pub mod state_row;
+pub mod states;
+pub mod successors;
+pub mod wants;

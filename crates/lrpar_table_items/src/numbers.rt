@@ -1,0 +1,39 @@
+//! The numbers of kernels.
+ghost use Rattle.std.specs.Prelude.{IfErr, IfOk, map};
+ghost use Rattle.lrpar_table_items.specs.Cores.{core_set};
+ghost use Rattle.lrpar_table_items.specs.Numbers.{IsNumberFault, IsNumberOf};
+
+use crate::cores::{CoreItems, copied};
+use crate::fault::BuildFault;
+use crate::kernels::Kernels;
+use lrpar_grammar::span::{StIdx, StorageIndex};
+use std::alloc::Global;
+
+/// The number of the kernel, which is the next one if it is new.
+pub(crate) fn number<StorageT: StorageIndex>(
+    kernels: &mut Kernels<StorageT>,
+    alloc: Global,
+    max_states: usize,
+    kernel: &[CoreItems<StorageT>],
+) -> Result<StIdx<StorageT>, BuildFault>
+    ensures number { IfOk result (λ state. IsNumberOf max_states StorageT.limit kernels.old
+        (map (core_set StorageT.index) kernel.now) (StorageT.index state.0) kernels.new) }
+    ensures fault { IfErr result (IsNumberFault max_states StorageT.limit kernels.old
+        (map (core_set StorageT.index) kernel.now)) }
+{
+    if let Some(state) = kernels.find(kernel) {
+        return Ok(state);
+    }
+    let next = kernels.len();
+    if next >= max_states {
+        return Err(BuildFault::TooManyStates);
+    }
+    match StorageT::from_index(next) {
+        None => Err(BuildFault::StorageTooSmall),
+        Some(number) => {
+            let kept = copied(alloc, kernel)?;
+            kernels.push(alloc, kept, StIdx(number))?;
+            Ok(StIdx(number))
+        }
+    }
+}

@@ -1,0 +1,92 @@
+//! What a state does at each token, and its conflicts.
+ghost use Rattle.std.specs.Prelude.{◌≡◌, ◌<◌, ◌+◌, ◌++◌, ℕ, All, IfErr, IfOk, OnOk, map};
+ghost use Rattle.std.specs.Map.{keys_of};
+ghost use Rattle.lrpar_grammar.specs.Grammar.{prods_len, tokens_len};
+ghost use Rattle.lrpar_grammar.specs.Symbols.{prod_numbers};
+ghost use Rattle.lrpar_table_rows.specs.PlainConflicts.{reduce_reduce_of, shift_reduce_of};
+ghost use Rattle.lrpar_table_rows.specs.PlainRows.{action_entry, plain_goto};
+ghost use Rattle.lrpar_table_items.specs.Cores.{core_set};
+ghost use Rattle.lrpar_table_items.specs.Wanted.{AcceptsBeside, AreOnce, AscendFrom, HasAcceptReduce, IsAcceptReduce, IsRefusal, entry_at, reduce_conflicts, shift_conflicts, shift_conflicts_at, shift_entry, wanted, wanted_row};
+
+use crate::complete::{accepts, complete_cores, reductions_at};
+use crate::cores::CoreItems;
+use crate::fault::BuildFault;
+use crate::wants::{
+    ReduceReduce, ShiftReduce, push_conflicts, push_shift_conflict, push_unshifted, split_shift,
+};
+use lrpar_grammar::grammar::YaccGrammar;
+use lrpar_grammar::span::{PIdx, StIdx, StorageIndex, TIdx};
+use lrpar_table_rows::table::Action;
+use std::alloc::Global;
+
+/// What the state does at each token where it does something, ascending. Its conflicts are appended to `rr` and `sr`.
+///
+/// `AcceptReduceConflict` comes where the start production is complete beside another one, at the same token, and there is no
+/// shift; and `Memory` where it doesn't suffice. After an Err the lists hold some of the conflicts. It takes time near the number
+/// of tokens times the complete cores.
+pub fn state_row<StorageT: StorageIndex>(
+    alloc: Global,
+    grm: &YaccGrammar<StorageT>,
+    state: &StIdx<StorageT>,
+    cores: &[CoreItems<StorageT>],
+    shifts: &[(TIdx<StorageT>, StIdx<StorageT>)],
+    rr: &mut Vec<ReduceReduce<StorageT>>,
+    sr: &mut Vec<ShiftReduce<StorageT>>,
+) -> Result<Vec<(TIdx<StorageT>, Action<StorageT>)>, BuildFault>
+    requires prods { All (λ core. core.prod < prods_len grm.now) (map (core_set StorageT.index) cores.now) }
+    requires once { AreOnce (map (core_set StorageT.index) cores.now) }
+    requires shifts { AscendFrom 0 (keys_of (map (shift_entry StorageT.index) shifts.now)) }
+    ensures row { IfOk result (λ row. map (action_entry StorageT.index) row.items
+        ≡ wanted_row grm.now (map (core_set StorageT.index) cores.now) (map (shift_entry StorageT.index) shifts.now)) }
+    ensures rr { OnOk result (map (reduce_reduce_of StorageT.index) rr.new.items ≡ map (reduce_reduce_of StorageT.index) rr.old.items
+        ++ reduce_conflicts grm.now (map (core_set StorageT.index) cores.now) (StorageT.index state.now.0)) }
+    ensures sr { OnOk result (map (shift_reduce_of StorageT.index) sr.new.items ≡ map (shift_reduce_of StorageT.index) sr.old.items
+        ++ shift_conflicts grm.now (map (core_set StorageT.index) cores.now) (map (shift_entry StorageT.index) shifts.now) (StorageT.index state.now.0)) }
+    ensures none { IfOk result (λ _. (t : ℕ) → t < tokens_len grm.now
+        → ¬ (IsAcceptReduce grm.now (map (core_set StorageT.index) cores.now) (map (shift_entry StorageT.index) shifts.now) t)) }
+    ensures refused { IfErr result (IsRefusal (StorageT.index state.now.0)
+        (HasAcceptReduce grm.now (map (core_set StorageT.index) cores.now) (map (shift_entry StorageT.index) shifts.now))) }
+{
+    let start = usize::from(grm.start_prod());
+    let complete = complete_cores(alloc, grm, cores)?;
+    let mut row = Vec::new(alloc);
+    let mut rest = shifts;
+    for token in 0..grm.tokens_len() {
+        let (shift, left) = split_shift(rest, token);
+        rest = left;
+        let prods = reductions_at(alloc, start, &complete, token)?;
+        let accepting = accepts(start, &complete, token);
+        let tidx = TIdx(StorageT::from_index(token).unwrap());
+        push_conflicts(&prods, &tidx, state, rr)?;
+        push_token(&prods, shift, accepting, &tidx, state, &mut row, sr)?;
+    }
+    Ok(row)
+}
+
+// Appends what is done at the token, and the conflict of its shift.
+fn push_token<StorageT: StorageIndex>(
+    prods: &[PIdx<StorageT>],
+    shift: Option<StIdx<StorageT>>,
+    accepting: bool,
+    tidx: &TIdx<StorageT>,
+    state: &StIdx<StorageT>,
+    row: &mut Vec<(TIdx<StorageT>, Action<StorageT>)>,
+    sr: &mut Vec<ShiftReduce<StorageT>>,
+) -> Result<(), BuildFault>
+    ensures row { OnOk result (map (action_entry StorageT.index) row.new.items ≡ map (action_entry StorageT.index) row.old.items
+        ++ entry_at (StorageT.index tidx.now.0) (wanted (plain_goto StorageT.index shift) (prod_numbers StorageT.index prods.now) accepting)) }
+    ensures sr { OnOk result (map (shift_reduce_of StorageT.index) sr.new.items ≡ map (shift_reduce_of StorageT.index) sr.old.items
+        ++ shift_conflicts_at (StorageT.index state.now.0) (StorageT.index tidx.now.0) (plain_goto StorageT.index shift) (prod_numbers StorageT.index prods.now)) }
+    ensures none { IfOk result (λ _. ¬ (AcceptsBeside (plain_goto StorageT.index shift) (prod_numbers StorageT.index prods.now) accepting)) }
+    ensures refused { IfErr result (IsRefusal (StorageT.index state.now.0)
+        (AcceptsBeside (plain_goto StorageT.index shift) (prod_numbers StorageT.index prods.now) accepting)) }
+{
+    match shift {
+        Some(next) => {
+            row.push((*tidx, Action::Shift(next)))?;
+            push_shift_conflict(prods, tidx, state, sr)?;
+            Ok(())
+        }
+        None => push_unshifted(prods, accepting, tidx, state, row),
+    }
+}

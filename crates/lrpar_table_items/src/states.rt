@@ -1,0 +1,274 @@
+//! The states: the item sets that are reached, each once.
+ghost use Rattle.std.specs.Prelude.{◌≡◌, ◌<◌, ◌≤◌, ◌+◌, ℕ, List, IfErr, IfOk, OnOk, length, map};
+ghost use Rattle.std.specs.Option.{option_map};
+ghost use Rattle.lrpar_grammar.specs.Grammar.{Grammar, GrammarSymbol, IsWellFormed, Nonterminal, Terminal, rules_len, tokens_len};
+ghost use Rattle.lrpar_table_rows.specs.PlainRows.{goto_entry};
+ghost use Rattle.lrpar_table_items.specs.Canonical.{AreSame};
+ghost use Rattle.lrpar_table_items.specs.Cores.{IsAmong, core_set};
+ghost use Rattle.lrpar_table_first.specs.FirstRows.{IsSymbolBelow};
+ghost use Rattle.lrpar_table_items.specs.ItemSets.{IsReachedBy, IsStartItem};
+ghost use Rattle.lrpar_table_items.specs.Next.{kernel_at};
+ghost use Rattle.lrpar_table_items.specs.CoreOrder.{AreCores, IsKernel};
+ghost use Rattle.lrpar_table_items.specs.Kernels.{AreKept};
+ghost use Rattle.lrpar_table_items.specs.Numbers.{AreNumbered, IsFaultOfStates, IsStepFault, IsStepTo};
+ghost use Rattle.lrpar_table_items.specs.Wanted.{shift_entry};
+ghost use Rattle.lrpar_table_items.specs.States.{AreKernelsBy, AreStates, AreSteps, IsExpanded, StartsRight, state_of, step_entry};
+ghost use Rattle.lrpar_table_items.specs.Working.{AreSets, AreSuccessors};
+
+use crate::cores::CoreItems;
+use crate::fault::BuildFault;
+use crate::item_set::State;
+use crate::kernels::Kernels;
+use crate::numbers::number;
+use crate::sets::{Sets, closed};
+use crate::successors::Successors;
+use lrpar_grammar::grammar::YaccGrammar;
+use lrpar_grammar::span::{Numbered, RIdx, StIdx, StorageIndex, TIdx};
+use lrpar_grammar::token_set::TokenSet;
+use std::alloc::{AllocError, Global};
+
+/// The states of the grammar, at most so many: each item set that is reached, once, and where it goes.
+///
+/// `TooManyStates` comes where there are more than `max_states`, `StorageTooSmall` where there are more than `StorageT` has
+/// numbers, and `Memory` where it doesn't suffice; after an Err none is left.
+pub fn states<StorageT: StorageIndex>(
+    alloc: Global,
+    grm: &YaccGrammar<StorageT>,
+    max_states: usize,
+) -> Result<Vec<State<StorageT>>, BuildFault>
+    ensures states { IfOk result (λ states. AreStates grm.now (map (state_of StorageT.index) states.items)) }
+    ensures within { IfOk result (λ states. length states.items ≤ max_states) }
+    ensures fits { IfOk result (λ states. length states.items ≤ StorageT.limit) }
+    ensures fault { IfErr result (IsFaultOfStates grm.now max_states StorageT.limit) }
+{
+    let mut sets = Sets::new(alloc, grm)?;
+    let mut kernels = start_kernels(alloc, grm, max_states)?;
+    all_states(alloc, grm, max_states, &mut sets, &mut kernels)
+}
+
+// The states of these kernels, and of those that they lead to.
+fn all_states<StorageT: StorageIndex>(
+    alloc: Global,
+    grm: &YaccGrammar<StorageT>,
+    max_states: usize,
+    sets: &mut Sets,
+    kernels: &mut Kernels<StorageT>,
+) -> Result<Vec<State<StorageT>>, BuildFault>
+    requires well_formed { IsWellFormed grm.now }
+    requires sets { AreSets grm.now sets.old }
+    requires kernels { AreNumbered grm.now max_states StorageT.limit kernels.old }
+    requires start { StartsRight grm.now kernels.old }
+    ensures states { IfOk result (λ states. AreStates grm.now (map (state_of StorageT.index) states.items)) }
+    ensures within { IfOk result (λ states. length states.items ≤ max_states) }
+    ensures fits { IfOk result (λ states. length states.items ≤ StorageT.limit) }
+    ensures fault { IfErr result (IsFaultOfStates grm.now max_states StorageT.limit) }
+{
+    let mut states = Vec::new(alloc);
+    'states: while states.len() < kernels.len() {
+        let state = expanded(alloc, grm, max_states, sets, states.len(), kernels)?;
+        states.push(state)?;
+    }
+    Ok(states)
+}
+
+// The kernel of the start state, with its number.
+fn start_kernels<StorageT: StorageIndex>(
+    alloc: Global,
+    grm: &YaccGrammar<StorageT>,
+    max_states: usize,
+) -> Result<Kernels<StorageT>, BuildFault>
+    ensures kernels { IfOk result (λ kernels. AreNumbered grm.now max_states StorageT.limit kernels) }
+    ensures start { IfOk result (λ kernels. StartsRight grm.now kernels) }
+    ensures well_formed { IsWellFormed grm.now }
+    ensures fault { IfErr result (IsFaultOfStates grm.now max_states StorageT.limit) }
+{
+    let start = start_kernel(alloc, grm)?;
+    let mut kernels = Kernels::new(alloc);
+    let _start = number(&mut kernels, alloc, max_states, &start)?;
+    Ok(kernels)
+}
+
+// The start production, with the end token behind.
+fn start_kernel<StorageT: StorageIndex>(
+    alloc: Global,
+    grm: &YaccGrammar<StorageT>,
+) -> Result<Vec<CoreItems<StorageT>>, AllocError>
+    ensures kernel { IfOk result (λ kernel. IsKernel grm.now (map (core_set StorageT.index) kernel.items)) }
+    ensures start { IfOk result (λ kernel. AreSame (IsAmong (map (core_set StorageT.index) kernel.items)) (IsStartItem grm.now)) }
+    ensures well_formed { IsWellFormed grm.now }
+{
+    let prod = grm.start_prod();
+    let mut tokens = TokenSet::new(alloc, grm.tokens_len() + 1)?;
+    tokens.insert(usize::from(grm.eof_token_idx()));
+    let mut kernel = Vec::new(alloc);
+    kernel.push(CoreItems {
+        prod,
+        dot: 0,
+        tokens,
+    })?;
+    Ok(kernel)
+}
+
+// The state of the kernel with this number, whose successors are numbered.
+fn expanded<StorageT: StorageIndex>(
+    alloc: Global,
+    grm: &YaccGrammar<StorageT>,
+    max_states: usize,
+    sets: &mut Sets,
+    number: usize,
+    kernels: &mut Kernels<StorageT>,
+) -> Result<State<StorageT>, BuildFault>
+    requires well_formed { IsWellFormed grm.now }
+    requires sets { AreSets grm.now sets.old }
+    requires number { number < length kernels.old }
+    requires kernels { AreNumbered grm.now max_states StorageT.limit kernels.old }
+    ensures sets { AreSets grm.now sets.new }
+    ensures kernels { OnOk result (AreNumbered grm.now max_states StorageT.limit kernels.new) }
+    ensures kept { OnOk result (AreKept kernels.old kernels.new) }
+    ensures state { IfOk result (λ state. IsExpanded grm.now kernels.new (kernel_at kernels.old number) (state_of StorageT.index state)) }
+    ensures fault { IfErr result (IsFaultOfStates grm.now max_states StorageT.limit) }
+{
+    let kernel = kernels.kernel(alloc, number)?;
+    let items = closed(alloc, grm, sets, kernel)?;
+    let successors = Successors::new(alloc, grm, items)?;
+    let (gotos, shifts) = all_steps(alloc, grm, max_states, &successors, kernels)?;
+    Ok(State {
+        items: successors.items,
+        gotos,
+        shifts,
+    })
+}
+
+// Where the kernel of a step leads, if it has cores: it gets a number, if it has none.
+fn step<StorageT: StorageIndex>(
+    alloc: Global,
+    max_states: usize,
+    kernel: &[CoreItems<StorageT>],
+    kernels: &mut Kernels<StorageT>,
+) -> Result<Option<StIdx<StorageT>>, BuildFault>
+    ensures step { IfOk result (λ next. IsStepTo max_states StorageT.limit kernels.old (map (core_set StorageT.index) kernel.now)
+        (option_map (λ state. StorageT.index state.0) next) kernels.new) }
+    ensures fault { IfErr result (IsStepFault max_states StorageT.limit kernels.old (map (core_set StorageT.index) kernel.now)) }
+{
+    if kernel.is_empty() {
+        return Ok(None);
+    }
+    let state = number(kernels, alloc, max_states, kernel)?;
+    Ok(Some(state))
+}
+
+// A kind of symbols of a grammar: its rules, or its tokens.
+trait SymbolKind<StorageT: StorageIndex>: Numbered<StorageT> {
+    // The symbol of a number.
+    ghost symbol: { ℕ → GrammarSymbol };
+
+    // How many the grammar has.
+    ghost len_in: { Grammar → ℕ };
+
+    ghost known: { (g : Grammar) (n : ℕ) → IsSymbolBelow (rules_len g) (tokens_len g) (symbol n) → n < len_in g };
+
+    // How many the grammar has.
+    fn len(grm: &YaccGrammar<StorageT>) -> usize
+        ensures len { result ≡ len_in grm.now }
+        ensures within { result ≤ StorageT.limit };
+
+    // The kernels to which the item set goes by them.
+    fn kernels(successors: &Successors<StorageT>) -> &[Vec<CoreItems<StorageT>>]
+        ensures { AreKernelsBy StorageT.index symbol len_in successors.now result.now };
+}
+
+impl<StorageT: StorageIndex> SymbolKind<StorageT> for RIdx<StorageT> {
+    ghost symbol = { Nonterminal };
+
+    ghost len_in = { rules_len };
+
+    ghost known = { λ g n below. below };
+
+    fn len(grm: &YaccGrammar<StorageT>) -> usize {
+        grm.rules_len()
+    }
+
+    fn kernels(successors: &Successors<StorageT>) -> &[Vec<CoreItems<StorageT>>] {
+        &successors.rules
+    }
+}
+
+impl<StorageT: StorageIndex> SymbolKind<StorageT> for TIdx<StorageT> {
+    ghost symbol = { Terminal };
+
+    ghost len_in = { tokens_len };
+
+    ghost known = { λ g n below. below };
+
+    fn len(grm: &YaccGrammar<StorageT>) -> usize {
+        grm.tokens_len()
+    }
+
+    fn kernels(successors: &Successors<StorageT>) -> &[Vec<CoreItems<StorageT>>] {
+        &successors.tokens
+    }
+}
+
+// Where the item set goes by rules, and where by tokens.
+fn all_steps<StorageT: StorageIndex>(
+    alloc: Global,
+    grm: &YaccGrammar<StorageT>,
+    max_states: usize,
+    successors: &Successors<StorageT>,
+    kernels: &mut Kernels<StorageT>,
+) -> Result<
+    (
+        Vec<(RIdx<StorageT>, StIdx<StorageT>)>,
+        Vec<(TIdx<StorageT>, StIdx<StorageT>)>,
+    ),
+    BuildFault,
+>
+    requires well_formed { IsWellFormed grm.now }
+    requires successors { AreSuccessors StorageT.index grm.now successors.now }
+    requires cores { AreCores grm.now (map (core_set StorageT.index) successors.now.items.items) }
+    requires reached { (path : List GrammarSymbol) × AreSame (IsAmong (map (core_set StorageT.index) successors.now.items.items)) (IsReachedBy grm.now path) }
+    requires kernels { AreNumbered grm.now max_states StorageT.limit kernels.old }
+    ensures kernels { OnOk result (AreNumbered grm.now max_states StorageT.limit kernels.new) }
+    ensures kept { OnOk result (AreKept kernels.old kernels.new) }
+    ensures gotos { IfOk result (λ rows. AreSteps grm.now kernels.new (map (core_set StorageT.index) successors.now.items.items)
+        Nonterminal (map (goto_entry StorageT.index) rows.0.items)) }
+    ensures shifts { IfOk result (λ rows. AreSteps grm.now kernels.new (map (core_set StorageT.index) successors.now.items.items)
+        Terminal (map (shift_entry StorageT.index) rows.1.items)) }
+    ensures fault { IfErr result (IsFaultOfStates grm.now max_states StorageT.limit) }
+{
+    let gotos = steps::<StorageT, RIdx<StorageT>>(alloc, grm, max_states, successors, kernels)?;
+    let shifts = steps::<StorageT, TIdx<StorageT>>(alloc, grm, max_states, successors, kernels)?;
+    Ok((gotos, shifts))
+}
+
+// Where the item set goes by the symbols of one kind, ascending.
+fn steps<StorageT: StorageIndex, SymbolT: SymbolKind<StorageT>>(
+    alloc: Global,
+    grm: &YaccGrammar<StorageT>,
+    max_states: usize,
+    successors: &Successors<StorageT>,
+    kernels: &mut Kernels<StorageT>,
+) -> Result<Vec<(SymbolT, StIdx<StorageT>)>, BuildFault>
+    requires well_formed { IsWellFormed grm.now }
+    requires successors { AreSuccessors StorageT.index grm.now successors.now }
+    requires cores { AreCores grm.now (map (core_set StorageT.index) successors.now.items.items) }
+    requires reached { (path : List GrammarSymbol) × AreSame (IsAmong (map (core_set StorageT.index) successors.now.items.items)) (IsReachedBy grm.now path) }
+    requires kernels { AreNumbered grm.now max_states StorageT.limit kernels.old }
+    ensures kernels { OnOk result (AreNumbered grm.now max_states StorageT.limit kernels.new) }
+    ensures kept { OnOk result (AreKept kernels.old kernels.new) }
+    ensures steps { IfOk result (λ rows. AreSteps grm.now kernels.new (map (core_set StorageT.index) successors.now.items.items)
+        SymbolT.symbol (map (step_entry SymbolT.number StorageT.index) rows.items)) }
+    ensures fault { IfErr result (IsFaultOfStates grm.now max_states StorageT.limit) }
+{
+    let reached = SymbolT::kernels(successors);
+    let mut rows = Vec::new(alloc);
+    for number in 0..SymbolT::len(grm) {
+        let symbol = SymbolT::numbered(StorageT::from_index(number).unwrap());
+        let next = step(alloc, max_states, &reached[number], kernels)?;
+        match next {
+            None => {}
+            Some(state) => rows.push((symbol, state))?,
+        }
+    }
+    Ok(rows)
+}

@@ -1,0 +1,14 @@
+use Rattle.lrpar_table_rows.proofs.AscendingLemmas.{row_from_sort, same_from_sort}
+use Rattle.lrpar_table_rows.proofs.ascending.Ascending.from_vec.Goals as goal
+
+pub invariant_of-result : goal.invariant_of-result
+invariant_of-result g c =
+    row_from_sort g.met.T.Ord.total g.met.T.Ord.matches_eq c.requires.exact c.sort_unstable.new.self.items c.dedup.new.self.items
+    c.sort_unstable.ensures.sorted c.dedup.ensures.filtered
+
+pub returns : goal.returns
+returns g c = record {
+  same =
+      same_from_sort g.met.T.Eq.laws g.met.T.Ord.matches_eq c.requires.exact c.args.elements.items c.sort_unstable.new.self.items
+      c.dedup.new.self.items c.sort_unstable.ensures.permutation c.dedup.ensures.filtered;
+}

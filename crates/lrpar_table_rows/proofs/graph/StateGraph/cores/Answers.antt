@@ -1,0 +1,10 @@
+use Rattle.std.proofs.Common.{[], ◌≡◌, slice_index_or, ◌∙◌, length, ◌<◌}
+use Rattle.std.proofs.lemmas.List.{get_or_default}
+use Rattle.lrpar_table_rows.proofs.graph.StateGraph.cores.Goals as goal
+
+pub returns-clause-all : goal.returns-clause-all
+returns-clause-all g c = λ p k.
+    let below : c.from.result < length c.self.inside.sets.items = rw c.from.ensures (rw (← c.self.view_is) at c.requires) in
+    let read : c.index.result.now ≡ slice_index_or c.self.inside.sets.items c.from.result [] =
+    c.index.ensures ∙ get_or_default c.self.inside.sets.items c.from.result c.index.result.now [] below in
+    rw (← c.self.view_is, ← c.from.ensures, ← read) (c.cores.ensures.all p k)

@@ -1,0 +1,171 @@
+//! The conflicts that were met, and decided, when a table was made.
+ghost use Rattle.std.specs.Prelude.{◌≡◌, ◌↔◌, All, IsTrue, length, map};
+ghost use Rattle.lrpar_table_rows.specs.ConflictsFit.{ConflictsFit, ReductionsFit, ShiftFits};
+ghost use Rattle.lrpar_table_rows.specs.PlainConflicts.{reduce_reduce_of, shift_reduce_of};
+
+use lrpar_grammar::grammar::YaccGrammar;
+use lrpar_grammar::span::{PIdx, StIdx, StorageIndex, TIdx};
+use std::marker::Model;
+
+/// The conflicts that were met when a table was made.
+#[derive(Debug)]
+pub struct Conflicts<StorageT: StorageIndex> {
+    rr: Vec<
+        (
+            TIdx<StorageT>,
+            PIdx<StorageT>,
+            PIdx<StorageT>,
+            StIdx<StorageT>,
+        ),
+    >,
+    sr: Vec<(TIdx<StorageT>, PIdx<StorageT>, StIdx<StorageT>)>,
+}
+
+// A drop of its own, so that what lets go of one elsewhere proves one call.
+impl<StorageT: StorageIndex> Drop for Conflicts<StorageT> {
+    fn drop(self) {
+        let Conflicts { rr, sr } = self;
+        drop(rr);
+        drop(sr);
+    }
+}
+
+impl<StorageT: StorageIndex> Model for Conflicts<StorageT> {
+    ghost use Rattle.std.specs.Prelude.{map};
+    ghost use Rattle.lrpar_table_rows.specs.Table.{ConflictLists};
+    ghost use Rattle.lrpar_table_rows.specs.PlainConflicts.{reduce_reduce_of, shift_reduce_of};
+
+    ghost Value = { ConflictLists };
+
+    ghost view = { λ c. record { reduce_reduce = map (reduce_reduce_of StorageT.index) c.rr.items; shift_reduce = map (shift_reduce_of StorageT.index) c.sr.items } };
+}
+
+impl<StorageT: StorageIndex> Conflicts<StorageT> {
+    /// The conflicts of these two lists: `rr` has those between two reductions, as token, productions and state, and
+    /// `sr` those between a shift and a reduction, as token, production and state. No number is looked at.
+    pub fn new(
+        rr: Vec<
+            (
+                TIdx<StorageT>,
+                PIdx<StorageT>,
+                PIdx<StorageT>,
+                StIdx<StorageT>,
+            ),
+        >,
+        sr: Vec<(TIdx<StorageT>, PIdx<StorageT>, StIdx<StorageT>)>,
+    ) -> Self
+        ensures rr { result.reduce_reduce ≡ map (reduce_reduce_of StorageT.index) rr.items }
+        ensures sr { result.shift_reduce ≡ map (shift_reduce_of StorageT.index) sr.items }
+    {
+        Conflicts { rr, sr }
+    }
+
+    /// The conflicts between two reductions, as token, productions and state, in the order in which they were given.
+    pub fn rr_conflicts(
+        &self,
+    ) -> &[(
+        TIdx<StorageT>,
+        PIdx<StorageT>,
+        PIdx<StorageT>,
+        StIdx<StorageT>,
+    )]
+        ensures { map (reduce_reduce_of StorageT.index) result.now ≡ self.now.reduce_reduce }
+    {
+        &self.rr
+    }
+
+    /// The conflicts between a shift and a reduction, as token, production and state, in the order in which they were
+    /// given.
+    pub fn sr_conflicts(&self) -> &[(TIdx<StorageT>, PIdx<StorageT>, StIdx<StorageT>)]
+        ensures { map (shift_reduce_of StorageT.index) result.now ≡ self.now.shift_reduce }
+    {
+        &self.sr
+    }
+
+    /// How many conflicts there are between two reductions.
+    pub fn rr_len(&self) -> usize
+        ensures { result ≡ length self.now.reduce_reduce }
+    {
+        self.rr.len()
+    }
+
+    /// How many conflicts there are between a shift and a reduction.
+    pub fn sr_len(&self) -> usize
+        ensures { result ≡ length self.now.shift_reduce }
+    {
+        self.sr.len()
+    }
+
+    /// Whether the conflicts fit the grammar: each token and each production that they name is one of it, and none
+    /// between a shift and a reduction is at the end token. The states aren't looked at. Takes time linear in the
+    /// conflicts, and no memory.
+    pub fn fit(&self, grm: &YaccGrammar<StorageT>) -> bool
+        ensures { IsTrue result ↔ ConflictsFit grm.now self.now }
+    {
+        all_reductions_fit(&self.rr, grm) && all_shifts_fit(&self.sr, grm)
+    }
+}
+
+// Whether the conflicts between two reductions fit the grammar.
+fn all_reductions_fit<StorageT: StorageIndex>(
+    conflicts: &[(
+        TIdx<StorageT>,
+        PIdx<StorageT>,
+        PIdx<StorageT>,
+        StIdx<StorageT>,
+    )],
+    grm: &YaccGrammar<StorageT>,
+) -> bool
+    ensures { IsTrue result ↔ All (λ x. ReductionsFit grm.now (reduce_reduce_of StorageT.index x)) conflicts.now }
+{
+    for conflict in conflicts {
+        if !reductions_fit(*conflict, grm) {
+            return false;
+        }
+    }
+    true
+}
+
+// Whether the conflict between two reductions fits the grammar.
+fn reductions_fit<StorageT: StorageIndex>(
+    conflict: (
+        TIdx<StorageT>,
+        PIdx<StorageT>,
+        PIdx<StorageT>,
+        StIdx<StorageT>,
+    ),
+    grm: &YaccGrammar<StorageT>,
+) -> bool
+    ensures { IsTrue result ↔ ReductionsFit grm.now (reduce_reduce_of StorageT.index conflict) }
+{
+    let (token, first, second, _) = conflict;
+    usize::from(token) < grm.tokens_len()
+        && usize::from(first) < grm.prods_len()
+        && usize::from(second) < grm.prods_len()
+}
+
+// Whether the conflicts between a shift and a reduction fit the grammar.
+fn all_shifts_fit<StorageT: StorageIndex>(
+    conflicts: &[(TIdx<StorageT>, PIdx<StorageT>, StIdx<StorageT>)],
+    grm: &YaccGrammar<StorageT>,
+) -> bool
+    ensures { IsTrue result ↔ All (λ x. ShiftFits grm.now (shift_reduce_of StorageT.index x)) conflicts.now }
+{
+    for conflict in conflicts {
+        if !shift_fits(*conflict, grm) {
+            return false;
+        }
+    }
+    true
+}
+
+// Whether the conflict between a shift and a reduction fits the grammar.
+fn shift_fits<StorageT: StorageIndex>(
+    conflict: (TIdx<StorageT>, PIdx<StorageT>, StIdx<StorageT>),
+    grm: &YaccGrammar<StorageT>,
+) -> bool
+    ensures { IsTrue result ↔ ShiftFits grm.now (shift_reduce_of StorageT.index conflict) }
+{
+    let (token, prod, _) = conflict;
+    usize::from(token) < usize::from(grm.eof_token_idx()) && usize::from(prod) < grm.prods_len()
+}

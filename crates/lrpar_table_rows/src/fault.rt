@@ -1,0 +1,33 @@
+//! Why a table or its item sets aren't made.
+ghost use Rattle.std.specs.Prelude.{◌≡◌};
+ghost use Rattle.lrpar_table_rows.specs.declared.fault.TableFault.TheVariants.{Memory};
+
+use std::alloc::{AllocError, AllocFailed};
+use thiserror::Error;
+
+/// Why a table isn't made.
+#[derive(Clone, Copy, Debug, PartialEq, Eq, Error)]
+pub enum TableFault {
+    /// The rows aren't those of a table: their numbers or lengths are wrong, or a state is out of range.
+    #[error("bad index")]
+    BadIndex,
+    /// The memory didn't suffice.
+    #[error("out of memory")]
+    Memory,
+}
+
+impl From<AllocError> for TableFault {
+    ghost from_gives = { λ _ fault. fault ≡ Memory };
+
+    fn from(_: AllocError) -> TableFault {
+        TableFault::Memory
+    }
+}
+
+impl<T: Drop> From<AllocFailed<T>> for TableFault {
+    ghost from_gives = { λ _ fault. fault ≡ Memory };
+
+    fn from(_: AllocFailed<T>) -> TableFault {
+        TableFault::Memory
+    }
+}

@@ -1,0 +1,241 @@
+//! Full rows: whether they are those of a table, and what of them is stored.
+ghost use Rattle.std.specs.Prelude.{◌≡◌, ◌<◌, ◌≤◌, ◌↔◌, ◌++◌, IsTrue, IfOk, OnOk, All, length, map};
+ghost use Rattle.std.specs.Option.{option_to_list};
+ghost use Rattle.lrpar_table_rows.specs.Rows.{AreRows, IsActionRow, IsGotoRow, kept_entry, row_actions, row_gotos, unless_error};
+ghost use Rattle.lrpar_table_rows.specs.Table.{IsActionWithin, IsGotoWithin};
+ghost use Rattle.lrpar_table_rows.specs.PlainRows.{action_entry, goto_entry, plain_action, plain_goto, plain_rows};
+
+use crate::numbers::can_number;
+use crate::rows::{Action, TableRows};
+use lrpar_grammar::span::{RIdx, StIdx, StorageIndex, TIdx};
+use std::alloc::{AllocError, Global};
+
+/// Whether the rows are those of a table.
+pub(crate) fn are_rows<StorageT: StorageIndex>(rows: &TableRows<StorageT>) -> bool
+    ensures { IsTrue result ↔ AreRows StorageT.limit (plain_rows StorageT.index rows.now) }
+{
+    are_numbers(rows) && are_entries(rows)
+}
+
+/// Whether there are as many rows of both kinds, numbers for all that is counted, and a start state among the states.
+fn are_numbers<StorageT: StorageIndex>(rows: &TableRows<StorageT>) -> bool
+    ensures { let plain = plain_rows StorageT.index rows.now in IsTrue result ↔ (
+        (length plain.gotos ≡ length plain.actions) × (plain.start < length plain.actions) × (length plain.actions ≤ StorageT.limit)
+        × (plain.tokens ≤ StorageT.limit) × (plain.rules ≤ StorageT.limit)) }
+{
+    let states = rows.actions.len();
+    rows.gotos.len() == states
+        && usize::from(rows.start) < states
+        && can_number::<StorageT>(states)
+        && can_number::<StorageT>(rows.tokens)
+        && can_number::<StorageT>(rows.rules)
+}
+
+/// Whether each row has its length, with states in range.
+fn are_entries<StorageT: StorageIndex>(rows: &TableRows<StorageT>) -> bool
+    ensures { let plain = plain_rows StorageT.index rows.now in IsTrue result ↔ (
+        All (IsActionRow plain.tokens (length plain.actions)) plain.actions
+        × All (IsGotoRow plain.rules (length plain.actions)) plain.gotos) }
+{
+    let actions = rows.actions.as_slice();
+    let gotos = rows.gotos.as_slice();
+    let states = actions.len();
+    are_action_rows(actions, rows.tokens, states) && are_goto_rows(gotos, rows.rules, states)
+}
+
+/// Whether each row has an action for each token, with states in range.
+fn are_action_rows<StorageT: StorageIndex>(
+    rows: &[Vec<Action<StorageT>>],
+    tokens: usize,
+    states: usize,
+) -> bool
+    ensures { IsTrue result ↔ All (λ row. IsActionRow tokens states (map (plain_action StorageT.index) row.items)) rows.now }
+{
+    for row in rows {
+        if !is_action_row(row, tokens, states) {
+            return false;
+        }
+    }
+    true
+}
+
+/// Whether the row has an action for each token, with states in range.
+fn is_action_row<StorageT: StorageIndex>(
+    row: &[Action<StorageT>],
+    tokens: usize,
+    states: usize,
+) -> bool
+    ensures { IsTrue result ↔ IsActionRow tokens states (map (plain_action StorageT.index) row.now) }
+{
+    row.len() == tokens && are_actions_within(row, states)
+}
+
+/// Whether the state of each action that has one is below `states`.
+fn are_actions_within<StorageT: StorageIndex>(row: &[Action<StorageT>], states: usize) -> bool
+    ensures { IsTrue result ↔ All (λ action. IsActionWithin states (plain_action StorageT.index action)) row.now }
+{
+    for action in row {
+        if !is_action_within(*action, states) {
+            return false;
+        }
+    }
+    true
+}
+
+/// Whether the action's state, if it has one, is below `states`.
+fn is_action_within<StorageT: StorageIndex>(action: Action<StorageT>, states: usize) -> bool
+    ensures { IsTrue result ↔ IsActionWithin states (plain_action StorageT.index action) }
+{
+    match action {
+        Action::Shift(state) => usize::from(state) < states,
+        Action::Reduce(_) | Action::Accept | Action::Error => true,
+    }
+}
+
+/// Whether each row has an optional state for each rule, in range.
+fn are_goto_rows<StorageT: StorageIndex>(
+    rows: &[Vec<Option<StIdx<StorageT>>>],
+    rules: usize,
+    states: usize,
+) -> bool
+    ensures { IsTrue result ↔ All (λ row. IsGotoRow rules states (map (plain_goto StorageT.index) row.items)) rows.now }
+{
+    for row in rows {
+        if !is_goto_row(row, rules, states) {
+            return false;
+        }
+    }
+    true
+}
+
+/// Whether the row has an optional state for each rule, in range.
+fn is_goto_row<StorageT: StorageIndex>(
+    row: &[Option<StIdx<StorageT>>],
+    rules: usize,
+    states: usize,
+) -> bool
+    ensures { IsTrue result ↔ IsGotoRow rules states (map (plain_goto StorageT.index) row.now) }
+{
+    row.len() == rules && are_gotos_within(row, states)
+}
+
+/// Whether each state to go to is below `states`.
+fn are_gotos_within<StorageT: StorageIndex>(row: &[Option<StIdx<StorageT>>], states: usize) -> bool
+    ensures { IsTrue result ↔ All (λ goto. IsGotoWithin states (plain_goto StorageT.index goto)) row.now }
+{
+    for goto in row {
+        if !is_goto_within(*goto, states) {
+            return false;
+        }
+    }
+    true
+}
+
+/// Whether the state to go to, if there is one, is below `states`.
+fn is_goto_within<StorageT: StorageIndex>(goto: Option<StIdx<StorageT>>, states: usize) -> bool
+    ensures { IsTrue result ↔ IsGotoWithin states (plain_goto StorageT.index goto) }
+{
+    match goto {
+        Some(state) => usize::from(state) < states,
+        None => true,
+    }
+}
+
+/// What of the rows of actions is stored.
+pub(crate) fn stored_actions<StorageT: StorageIndex>(
+    alloc: Global,
+    rows: &[Vec<Action<StorageT>>],
+) -> Result<Vec<Vec<(TIdx<StorageT>, Action<StorageT>)>>, AllocError>
+    requires { All (λ row. length row.items ≤ StorageT.limit) rows.now }
+    ensures { IfOk result (λ stored. map (λ row. map (action_entry StorageT.index) row.items) stored.items
+        ≡ map (λ row. row_actions (map (plain_action StorageT.index) row.items)) rows.now) }
+{
+    let mut stored = Vec::with_capacity(alloc, rows.len())?;
+    for row in rows {
+        stored.push(row_stored_actions(alloc, row)?)?;
+    }
+    Ok(stored)
+}
+
+/// What of the row is stored: each action but errors, with its token.
+fn row_stored_actions<StorageT: StorageIndex>(
+    alloc: Global,
+    row: &[Action<StorageT>],
+) -> Result<Vec<(TIdx<StorageT>, Action<StorageT>)>, AllocError>
+    requires { length row.now ≤ StorageT.limit }
+    ensures { IfOk result (λ stored. map (action_entry StorageT.index) stored.items ≡ row_actions (map (plain_action StorageT.index) row.now)) }
+{
+    let mut stored = Vec::new(alloc);
+    for (number, action) in row.iter().enumerate() {
+        push_action(&mut stored, number, *action)?;
+    }
+    Ok(stored)
+}
+
+/// Appends the action with the token of this number, unless it is an error.
+fn push_action<StorageT: StorageIndex>(
+    stored: &mut Vec<(TIdx<StorageT>, Action<StorageT>)>,
+    number: usize,
+    action: Action<StorageT>,
+) -> Result<(), AllocError>
+    requires { number < StorageT.limit }
+    ensures { OnOk result (map (action_entry StorageT.index) stored.new.items
+        ≡ map (action_entry StorageT.index) stored.old.items ++ option_to_list (kept_entry unless_error (number, plain_action StorageT.index action))) }
+{
+    match action {
+        Action::Error => Ok(()),
+        Action::Shift(_) | Action::Reduce(_) | Action::Accept => {
+            let token = TIdx(StorageT::from_index(number).unwrap());
+            stored.push((token, action))?;
+            Ok(())
+        }
+    }
+}
+
+/// What of the rows of gotos is stored.
+pub(crate) fn stored_gotos<StorageT: StorageIndex>(
+    alloc: Global,
+    rows: &[Vec<Option<StIdx<StorageT>>>],
+) -> Result<Vec<Vec<(RIdx<StorageT>, StIdx<StorageT>)>>, AllocError>
+    requires { All (λ row. length row.items ≤ StorageT.limit) rows.now }
+    ensures { IfOk result (λ stored. map (λ row. map (goto_entry StorageT.index) row.items) stored.items
+        ≡ map (λ row. row_gotos (map (plain_goto StorageT.index) row.items)) rows.now) }
+{
+    let mut stored = Vec::with_capacity(alloc, rows.len())?;
+    for row in rows {
+        stored.push(row_stored_gotos(alloc, row)?)?;
+    }
+    Ok(stored)
+}
+
+/// What of the row is stored: each state to go to, with its rule.
+fn row_stored_gotos<StorageT: StorageIndex>(
+    alloc: Global,
+    row: &[Option<StIdx<StorageT>>],
+) -> Result<Vec<(RIdx<StorageT>, StIdx<StorageT>)>, AllocError>
+    requires { length row.now ≤ StorageT.limit }
+    ensures { IfOk result (λ stored. map (goto_entry StorageT.index) stored.items ≡ row_gotos (map (plain_goto StorageT.index) row.now)) }
+{
+    let mut stored = Vec::new(alloc);
+    for (number, goto) in row.iter().enumerate() {
+        push_goto(&mut stored, number, *goto)?;
+    }
+    Ok(stored)
+}
+
+/// Appends the state with the rule of this number, if there is a state.
+fn push_goto<StorageT: StorageIndex>(
+    stored: &mut Vec<(RIdx<StorageT>, StIdx<StorageT>)>,
+    number: usize,
+    goto: Option<StIdx<StorageT>>,
+) -> Result<(), AllocError>
+    requires { number < StorageT.limit }
+    ensures { OnOk result (map (goto_entry StorageT.index) stored.new.items
+        ≡ map (goto_entry StorageT.index) stored.old.items ++ option_to_list (kept_entry (λ goto. goto) (number, plain_goto StorageT.index goto))) }
+{
+    if let Some(state) = goto {
+        let rule = RIdx(StorageT::from_index(number).unwrap());
+        stored.push((rule, state))?;
+    }
+    Ok(())
+}

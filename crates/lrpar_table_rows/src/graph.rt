@@ -1,0 +1,144 @@
+//! State graphs: the item sets of the states of an LR automaton.
+ghost use Rattle.std.specs.Prelude.{◌≡◌, ◌<◌, ◌≤◌, ◌↔◌, ℕ, IsTrue, IfOk, IsErrOf, length, map};
+ghost use Rattle.std.specs.List.{Contains, AllZip};
+ghost use Rattle.std.specs.List.Sorted.{IsStrictlySortedBy};
+ghost use Rattle.lrpar_table_rows.specs.Ascending.{HaveSame};
+ghost use Rattle.lrpar_table_rows.specs.Graph.{HasCore, HasItem, core_cmp, graph_len, item_cmp, items_of};
+ghost use Rattle.lrpar_table_rows.specs.PlainItems.{core_of, item_of, graph_of_rows};
+
+use crate::fault::TableFault;
+use crate::items::ItemSet;
+pub use crate::items::{Core, Item};
+use crate::numbers::can_number;
+use lrpar_grammar::span::{PIdx, StIdx, StorageIndex, TIdx};
+use std::alloc::{AllocError, Global};
+use std::marker::Model;
+
+/// The item sets of the states of an LR automaton, of which nothing is known: they may fit a table or not.
+#[derive(Debug)]
+pub struct StateGraph<StorageT: StorageIndex> {
+    sets: Vec<ItemSet<StorageT>>,
+}
+
+// A drop of its own, so that what lets go of one elsewhere proves one call.
+impl<StorageT: StorageIndex> Drop for StateGraph<StorageT> {
+    fn drop(self) {
+        let StateGraph { sets } = self;
+        drop(sets);
+    }
+}
+
+impl<StorageT: StorageIndex> Model for StateGraph<StorageT> {
+    ghost use Rattle.std.specs.Prelude.{◌≤◌, length};
+    ghost use Rattle.lrpar_table_rows.specs.Graph.{Graph};
+
+    ghost Value = { Graph };
+
+    ghost view = { λ graph. graph.sets.items };
+
+    ghost invariant = { λ graph. length graph.sets.items ≤ StorageT.limit };
+}
+
+impl<StorageT: StorageIndex> StateGraph<StorageT> {
+    /// The graph of these rows: for each state, by its number, its items as production, dot and lookahead, in any order,
+    /// repeated or not. An item that is out of range of any grammar is kept as it is.
+    ///
+    /// `BadIndex` comes exactly where there are more states than `StorageT` has numbers, before any memory is asked for,
+    /// and `Memory` where it doesn't suffice. Rows are moved in and sorted in place, in O(n log n) for n items; besides
+    /// them the graph keeps each core once more, and twice where its dot isn't at the front. After a refusal they are
+    /// dropped.
+    pub fn from_rows(
+        alloc: Global,
+        rows: Vec<Vec<(PIdx<StorageT>, usize, TIdx<StorageT>)>>,
+    ) -> Result<Self, TableFault>
+        ensures states { IfOk result (λ graph. graph_len graph ≡ length rows.items) }
+        ensures items { IfOk result (λ graph. (s p k t : ℕ) → HasItem graph s p k t ↔ HasItem (graph_of_rows StorageT.index rows) s p k t) }
+        ensures refused { IsErrOf result TableFault.BadIndex ↔ (StorageT.limit < length rows.items) }
+    {
+        if can_number::<StorageT>(rows.len()) {
+            Ok(StateGraph {
+                sets: item_sets(alloc, rows)?,
+            })
+        } else {
+            Err(TableFault::BadIndex)
+        }
+    }
+
+    /// How many states there are.
+    pub fn states_len(&self) -> usize
+        ensures states { result ≡ graph_len self.now }
+        ensures fits { result ≤ StorageT.limit }
+    {
+        self.sets.len()
+    }
+
+    /// Whether state `s` has the item of production `p` with `dot` symbols before the dot and lookahead `t`. A state
+    /// out of range has none. It is a binary search, in O(log n) for the state's n items.
+    pub fn has_item(
+        &self,
+        s: StIdx<StorageT>,
+        p: PIdx<StorageT>,
+        dot: usize,
+        t: TIdx<StorageT>,
+    ) -> bool
+        ensures found { IsTrue result ↔ HasItem self.now (StorageT.index s.0) (StorageT.index p.0) dot (StorageT.index t.0) }
+    {
+        match self.sets.get(usize::from(s)) {
+            Some(set) => set.has_item(p, dot, t),
+            None => false,
+        }
+    }
+
+    /// Whether state `s` has an item of production `p` with `dot` symbols before the dot, with some lookahead. A state
+    /// out of range has none. It is a binary search, in O(log n) for the state's n cores.
+    pub fn has_core(&self, s: StIdx<StorageT>, p: PIdx<StorageT>, dot: usize) -> bool
+        ensures found { IsTrue result ↔ HasCore self.now (StorageT.index s.0) (StorageT.index p.0) dot }
+    {
+        match self.sets.get(usize::from(s)) {
+            Some(set) => set.has_core(p, dot),
+            None => false,
+        }
+    }
+
+    /// The items of state `s`, ascending, each once.
+    pub fn items(&self, s: StIdx<StorageT>) -> &[Item<StorageT>]
+        requires { StorageT.index s.0 < graph_len self.now }
+        ensures all { map (item_of StorageT.index) result.now ≡ items_of self.now (StorageT.index s.0) }
+        ensures ascending { IsStrictlySortedBy item_cmp (items_of self.now (StorageT.index s.0)) }
+    {
+        self.sets[usize::from(s)].items()
+    }
+
+    /// The cores of the items of state `s`, ascending, each once.
+    pub fn cores(&self, s: StIdx<StorageT>) -> &[Core<StorageT>]
+        requires { StorageT.index s.0 < graph_len self.now }
+        ensures all { (p k : ℕ) → HasCore self.now (StorageT.index s.0) p k ↔ Contains (map (core_of StorageT.index) result.now) (p, k) }
+        ensures ascending { IsStrictlySortedBy core_cmp (map (core_of StorageT.index) result.now) }
+    {
+        self.sets[usize::from(s)].cores()
+    }
+
+    /// The cores of the items of state `s` whose dot isn't at the front, ascending, each once: those to which steps into the state
+    /// have led.
+    pub fn begun_cores(&self, s: StIdx<StorageT>) -> &[Core<StorageT>]
+        requires { StorageT.index s.0 < graph_len self.now }
+        ensures all { (p k : ℕ) → (HasCore self.now (StorageT.index s.0) p k × (0 < k)) ↔ Contains (map (core_of StorageT.index) result.now) (p, k) }
+        ensures ascending { IsStrictlySortedBy core_cmp (map (core_of StorageT.index) result.now) }
+    {
+        self.sets[usize::from(s)].begun()
+    }
+}
+
+/// The item set of each row.
+fn item_sets<StorageT: StorageIndex>(
+    alloc: Global,
+    rows: Vec<Vec<Item<StorageT>>>,
+) -> Result<Vec<ItemSet<StorageT>>, AllocError>
+    ensures { IfOk result (λ sets. AllZip HaveSame sets.items (graph_of_rows StorageT.index rows)) }
+{
+    let mut sets = Vec::with_capacity(alloc, rows.len())?;
+    for row in rows {
+        sets.push(ItemSet::from_row(alloc, row)?)?;
+    }
+    Ok(sets)
+}

@@ -1,0 +1,18 @@
+//! A state table as it is stored: actions, gotos, conflicts, and the item set of each state.
+#![tactic(auto)]
+
+mod ascending;
+pub mod condition;
+mod conflicts;
+mod entries;
+mod fault;
+mod full;
+mod graph;
+mod hints;
+mod items;
+mod key;
+pub mod laws;
+mod numbers;
+mod rows;
+mod sparse;
+pub mod table;

@@ -1,0 +1,169 @@
+//! Sparse rows: whether they are those of a table.
+ghost use Rattle.std.specs.Prelude.{◌≡◌, ◌<◌, ◌≤◌, ◌↔◌, IsTrue, All, length, map};
+ghost use Rattle.std.specs.List.Sorted.{IsStrictlyIncreasing};
+ghost use Rattle.lrpar_table_rows.specs.PlainRows.{action_entry, goto_entry, sparse_table_of};
+ghost use Rattle.lrpar_table_rows.specs.Table.{AreEntries, IsActionEntry, IsGotoEntry, IsTable};
+
+use crate::key::Key;
+use crate::numbers::can_number;
+use crate::rows::{Action, SparseRows};
+use lrpar_grammar::span::{RIdx, StIdx, StorageIndex, TIdx};
+
+/// Whether the rows are those of a table.
+pub(crate) fn is_sparse_table<StorageT: StorageIndex>(rows: &SparseRows<StorageT>) -> bool
+    ensures { IsTrue result ↔ IsTable StorageT.limit (sparse_table_of StorageT.index rows.now) }
+{
+    has_sparse_numbers(rows) && are_entries(rows)
+}
+
+/// Whether there are a row of both kinds for each state, numbers for all that is counted, and a start state among the
+/// states.
+fn has_sparse_numbers<StorageT: StorageIndex>(rows: &SparseRows<StorageT>) -> bool
+    ensures { let table = sparse_table_of StorageT.index rows.now in IsTrue result ↔ (
+        (length table.actions ≡ table.states) × (length table.gotos ≡ table.states) × (table.start < table.states)
+        × (table.states ≤ StorageT.limit) × (table.tokens ≤ StorageT.limit) × (table.rules ≤ StorageT.limit)) }
+{
+    rows.actions.len() == rows.states
+        && rows.gotos.len() == rows.states
+        && usize::from(rows.start) < rows.states
+        && can_number::<StorageT>(rows.states)
+        && can_number::<StorageT>(rows.tokens)
+        && can_number::<StorageT>(rows.rules)
+}
+
+/// Whether each row has entries that ascend, all in range, and no errors among them.
+fn are_entries<StorageT: StorageIndex>(rows: &SparseRows<StorageT>) -> bool
+    ensures { let table = sparse_table_of StorageT.index rows.now in IsTrue result ↔ (
+        All (AreEntries (IsActionEntry table.tokens table.states)) table.actions
+        × All (AreEntries (IsGotoEntry table.rules table.states)) table.gotos) }
+{
+    are_action_rows(&rows.actions, rows.tokens, rows.states)
+        && are_goto_rows(&rows.gotos, rows.rules, rows.states)
+}
+
+/// Whether each row has tokens that ascend, with actions other than errors, all in range.
+fn are_action_rows<StorageT: StorageIndex>(
+    rows: &[Vec<(TIdx<StorageT>, Action<StorageT>)>],
+    tokens: usize,
+    states: usize,
+) -> bool
+    ensures { IsTrue result ↔ All (λ row. AreEntries (IsActionEntry tokens states) (map (action_entry StorageT.index) row.items)) rows.now }
+{
+    for row in rows {
+        if !is_action_row(row, tokens, states) {
+            return false;
+        }
+    }
+    true
+}
+
+/// Whether the row has tokens that ascend, with actions other than errors, all in range.
+fn is_action_row<StorageT: StorageIndex>(
+    row: &[(TIdx<StorageT>, Action<StorageT>)],
+    tokens: usize,
+    states: usize,
+) -> bool
+    ensures { IsTrue result ↔ AreEntries (IsActionEntry tokens states) (map (action_entry StorageT.index) row.now) }
+{
+    ascends(row) && are_action_entries(row, tokens, states)
+}
+
+/// Whether each entry has an action other than an error, and is in range.
+fn are_action_entries<StorageT: StorageIndex>(
+    row: &[(TIdx<StorageT>, Action<StorageT>)],
+    tokens: usize,
+    states: usize,
+) -> bool
+    ensures { IsTrue result ↔ All (λ entry. IsActionEntry tokens states (action_entry StorageT.index entry)) row.now }
+{
+    for entry in row {
+        if !is_action_entry(entry.0, entry.1, tokens, states) {
+            return false;
+        }
+    }
+    true
+}
+
+/// Whether the token is below `tokens`, the action isn't an error, and its state, if it has one, is below `states`.
+fn is_action_entry<StorageT: StorageIndex>(
+    token: TIdx<StorageT>,
+    action: Action<StorageT>,
+    tokens: usize,
+    states: usize,
+) -> bool
+    ensures { IsTrue result ↔ IsActionEntry tokens states (action_entry StorageT.index (token, action)) }
+{
+    usize::from(token) < tokens
+        && match action {
+            Action::Shift(state) => usize::from(state) < states,
+            Action::Reduce(_) | Action::Accept => true,
+            Action::Error => false,
+        }
+}
+
+/// Whether each row has rules that ascend, with states to go to, all in range.
+fn are_goto_rows<StorageT: StorageIndex>(
+    rows: &[Vec<(RIdx<StorageT>, StIdx<StorageT>)>],
+    rules: usize,
+    states: usize,
+) -> bool
+    ensures { IsTrue result ↔ All (λ row. AreEntries (IsGotoEntry rules states) (map (goto_entry StorageT.index) row.items)) rows.now }
+{
+    for row in rows {
+        if !is_goto_row(row, rules, states) {
+            return false;
+        }
+    }
+    true
+}
+
+/// Whether the row has rules that ascend, with states to go to, all in range.
+fn is_goto_row<StorageT: StorageIndex>(
+    row: &[(RIdx<StorageT>, StIdx<StorageT>)],
+    rules: usize,
+    states: usize,
+) -> bool
+    ensures { IsTrue result ↔ AreEntries (IsGotoEntry rules states) (map (goto_entry StorageT.index) row.now) }
+{
+    ascends(row) && are_goto_entries(row, rules, states)
+}
+
+/// Whether each entry is in range.
+fn are_goto_entries<StorageT: StorageIndex>(
+    row: &[(RIdx<StorageT>, StIdx<StorageT>)],
+    rules: usize,
+    states: usize,
+) -> bool
+    ensures { IsTrue result ↔ All (λ entry. IsGotoEntry rules states (goto_entry StorageT.index entry)) row.now }
+{
+    for entry in row {
+        if !is_goto_entry(entry.0, entry.1, rules, states) {
+            return false;
+        }
+    }
+    true
+}
+
+/// Whether the rule is below `rules`, and the state below `states`.
+fn is_goto_entry<StorageT: StorageIndex>(
+    rule: RIdx<StorageT>,
+    state: StIdx<StorageT>,
+    rules: usize,
+    states: usize,
+) -> bool
+    ensures { IsTrue result ↔ IsGotoEntry rules states (goto_entry StorageT.index (rule, state)) }
+{
+    usize::from(rule) < rules && usize::from(state) < states
+}
+
+/// Whether the numbers of the keys ascend, each standing once.
+fn ascends<K: Key, V>(row: &[(K, V)]) -> bool
+    ensures { IsTrue result ↔ IsStrictlyIncreasing (map (λ entry. K.number entry.0) row.now) }
+{
+    for place in 1..row.len() {
+        if row[place].0.to_number() <= row[place - 1].0.to_number() {
+            return false;
+        }
+    }
+    true
+}

@@ -1,0 +1,31 @@
+use Rattle.std.proofs.Common.{◌^◌, ◌-◌, ◌∙◌, sym, subst}
+use Rattle.std.proofs.lemmas.List.{length-map}
+use Rattle.lrpar_table_sentences.specs.Choices.{choice_of, choices_of}
+use Rattle.lrpar_table_sentences.specs.Lens.{NoneIsBelow, NoneIsLess, NoneIsOpen}
+use Rattle.std.specs.Option.{option_map}
+use Rattle.lrpar_table_sentences.proofs.SettleLemmas.{all_settled, none_is_below, right_none}
+use Rattle.lrpar_table_sentences.proofs.settle.settled.Goals as goal
+
+pub levels-init : goal.levels-init
+levels-init g c =
+    let index = g.StorageT.StorageIndex.index in
+    let items = c.in_ok-choices.choices.items in
+    right_none c.args.grm.now (2 ^ 64 - 1) (choices_of index items)
+    (length-map items (option_map (choice_of index)) ∙ c.in_ok-choices.ensures.len ∙ c.rules_len.ensures.len) c.in_ok-choices.ensures.none
+
+pub settle_all-requires-clause-least : goal.settle_all-requires-clause-least
+settle_all-requires-clause-least g c =
+    let index = g.StorageT.StorageIndex.index in
+    let grm = c.args.grm.now in
+    let items = c.levels.choices.items in
+    let less = subst (λ xs. NoneIsLess grm (2 ^ 64 - 1) (choices_of index xs) c.in-Some.len) c.deref.ensures.value c.in-Some.ensures.1 in
+    subst (λ xs. NoneIsBelow grm (choices_of index xs) c.in-Some.len) (sym c.deref_mut.ensures.value)
+    (none_is_below grm (2 ^ 64 - 1) (choices_of index items) c.levels.invariant c.in-Some.len less)
+
+pub returns : goal.returns
+returns g c =
+    let index = g.StorageT.StorageIndex.index in
+    let grm = c.args.grm.now in
+    let items = c.levels.choices.items in
+    let closed = subst (λ xs. NoneIsOpen grm (2 ^ 64 - 1) (choices_of index xs)) c.deref.ensures.value c.in_default.ensures in
+    all_settled grm (2 ^ 64 - 1) (choices_of index items) c.levels.invariant closed

@@ -1,0 +1,54 @@
+-- What is kept of each rule that derives a text: the length of a shortest one, and the production that it begins with.
+use Rattle.std.specs.Prelude.{◌≡◌, ◌<◌, ◌≤◌, ℕ, List, [], ◌∷◌, Option, Some, None, length, map, min, option_map, slice_index_or}
+use Rattle.lrpar_grammar.specs.Grammar.{Grammar, GrammarSymbol, Nonterminal, Terminal, prods_len, rule_of, rules_len, symbols_of}
+use Rattle.lrpar_grammar.specs.Tree.{Tree, Forest, Leaf, Branch, Nil, Cons}
+use Rattle.lrpar_table_sentences.specs.Texts.{IsTreeOf, width}
+use Rattle.lrpar_table_sentences.specs.declared.settle.Choice.{Choice}
+
+-- a number of tokens, and a production
+pub record ChoiceOf : Type 0 where
+  pub len : ℕ
+  pub prod : ℕ
+
+-- those of the code
+abbrev pub choice_of : {S : Type 0} → (S → ℕ) → Choice S → ChoiceOf
+choice_of index x = record { len = x.len; prod = index x.prod.0 }
+
+abbrev pub choices_of : {S : Type 0} → (S → ℕ) → List (Option (Choice S)) → List (Option ChoiceOf)
+choices_of index choices = map (option_map (choice_of index)) choices
+
+-- what is kept of rule r; out of range, nothing
+abbrev pub choice_at : List (Option ChoiceOf) → ℕ → Option ChoiceOf
+choice_at choices r = slice_index_or choices r None
+
+-- the production that is kept of rule r
+abbrev pub prod_at : List (Option ChoiceOf) → ℕ → Option ℕ
+prod_at choices r = option_map (λ x. x.prod) (choice_at choices r)
+
+-- a tree of the symbol, each of whose nodes has the production that is kept of its rule
+abbrev mutual
+  pub Follows : Grammar → List (Option ChoiceOf) → Tree ℕ → GrammarSymbol → Type 0
+  Follows g choices (Leaf x) (Terminal t) = x ≡ t
+  Follows g choices (Leaf x) (Nonterminal r) = ⊥
+  Follows g choices (Branch p children) (Nonterminal r) = (prod_at choices r ≡ Some p) × ForestFollows g choices children (symbols_of g p)
+  Follows g choices (Branch p children) (Terminal t) = ⊥
+
+  pub ForestFollows : Grammar → List (Option ChoiceOf) → Forest ℕ → List GrammarSymbol → Type 0
+  ForestFollows g choices Nil [] = Unit {0}
+  ForestFollows g choices Nil (s ∷ ss) = ⊥
+  ForestFollows g choices (Cons t ts) [] = ⊥
+  ForestFollows g choices (Cons t ts) (s ∷ ss) = Follows g choices t s × ForestFollows g choices ts ss
+
+-- what is kept of rules is right as far as it goes: of each the production is one of its own; no tree of the rule has less tokens than
+-- the length; and one of the productions that are kept has so many, told up to `most`
+pub record AreRight (g : Grammar) (most : ℕ) (choices : List (Option ChoiceOf)) : Type 0 where
+  pub rules : length choices ≡ rules_len g
+  pub own : (r : ℕ) (x : ChoiceOf) → choice_at choices r ≡ Some x → (x.prod < prods_len g) × (rule_of g x.prod ≡ r)
+  pub least : (r : ℕ) (x : ChoiceOf) → choice_at choices r ≡ Some x → (tree : Tree ℕ) → IsTreeOf g (Nonterminal r) tree → x.len ≤ width tree
+  pub trees : (r : ℕ) (x : ChoiceOf) → choice_at choices r ≡ Some x
+      → (tree : Tree ℕ) × Follows g choices tree (Nonterminal r) × (min (width tree) most ≡ x.len)
+
+-- it is right, and something is kept of each rule that has a tree
+pub record AreShortest (g : Grammar) (most : ℕ) (choices : List (Option ChoiceOf)) : Type 0 where
+  pub right : AreRight g most choices
+  pub all : (r : ℕ) → choice_at choices r ≡ None → (tree : Tree ℕ) → ¬ (IsTreeOf g (Nonterminal r) tree)

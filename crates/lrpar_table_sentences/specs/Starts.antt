@@ -1,0 +1,97 @@
+-- How rules can begin with a token: of each that can, a production and the place in it at which the token comes.
+use Rattle.std.specs.Prelude.{◌≡◌, ◌<◌, ◌==◌, ◌+◌, ℕ, zero, suc, Bool, false, if◌then◌else◌, List, [], ◌∷◌, ◌++◌, Option, Some, None, count_by, length, map, option_map, slice_index_or}
+use Rattle.std.specs.Option.{is_none, is_some}
+use Rattle.lrpar_grammar.specs.Grammar.{Grammar, GrammarSymbol, Nonterminal, Terminal, prods_len, rule_of, rules_len, symbols_of}
+use Rattle.lrpar_grammar.specs.Tree.{Tree, Forest, Leaf, Branch, Nil, Cons}
+use Rattle.lrpar_table_sentences.specs.Choices.{ChoiceOf, Follows, ForestFollows}
+use Rattle.lrpar_table_sentences.specs.Frames.{FrameOf, Unfold}
+use Rattle.lrpar_table_sentences.specs.Lens.{len_at, total_len}
+use Rattle.lrpar_table_sentences.specs.Moves.{MoveOf, moves_of}
+use Rattle.lrpar_table_sentences.specs.Texts.{width}
+use Rattle.lrpar_table_sentences.specs.declared.begins.Start.{Start}
+
+-- a production, and a place in it
+pub record StartOf : Type 0 where
+  pub prod : ℕ
+  pub place : ℕ
+
+-- those of the code
+abbrev pub start_of : {S : Type 0} → (S → ℕ) → Start S → StartOf
+start_of index x = record { prod = index x.prod.0; place = x.place }
+
+abbrev pub starts_of : {S : Type 0} → (S → ℕ) → List (Option (Start S)) → List (Option StartOf)
+starts_of index starts = map (option_map (start_of index)) starts
+
+-- that of rule r; out of range, none
+abbrev pub start_at : List (Option StartOf) → ℕ → Option StartOf
+start_at starts r = slice_index_or starts r None
+
+-- that of a symbol: a token has none
+abbrev pub start_by : List (Option StartOf) → GrammarSymbol → Option StartOf
+start_by starts (Terminal t) = None
+start_by starts (Nonterminal r) = start_at starts r
+
+-- the place, if there is a length
+abbrev pub place_if : Option ℕ → Option ℕ → Option ℕ
+place_if (Some len) place = place
+place_if None place = None
+
+-- one place further
+abbrev pub further : Option ℕ → Option ℕ
+further place = option_map (λ n. n + 1) place
+
+-- whether it is zero
+abbrev pub is_zero : Option ℕ → Bool
+is_zero (Some n) = n == 0
+is_zero None = false
+
+-- whether a symbol is the token, or a rule that can begin with it
+abbrev pub begins : List (Option StartOf) → ℕ → GrammarSymbol → Bool
+begins starts first (Terminal t) = t == first
+begins starts first (Nonterminal r) = is_some (start_at starts r)
+
+-- the first place in symbols that can begin with the token, where what stands before it can derive nothing
+abbrev pub place_of : List (Option ChoiceOf) → List (Option StartOf) → ℕ → List GrammarSymbol → Option ℕ
+place_of choices starts first [] = None
+place_of choices starts first (s ∷ ss) =
+    if begins starts first s then Some 0 else (if is_zero (len_at choices s) then further (place_of choices starts first ss) else None)
+
+-- a tree of the symbol that begins with the token by the starts; what stands before and behind it follows the choices, and what stands
+-- before has no tokens
+abbrev mutual
+  pub Starts : Grammar → List (Option ChoiceOf) → List (Option StartOf) → ℕ → Tree ℕ → GrammarSymbol → Type 0
+  Starts g choices starts first (Leaf x) (Terminal t) = (x ≡ t) × (t ≡ first)
+  Starts g choices starts first (Leaf x) (Nonterminal r) = ⊥
+  Starts g choices starts first (Branch p children) (Nonterminal r) =
+      (place : ℕ) × (start_at starts r ≡ Some (record { prod = p; place = place })) × ForestStarts g choices starts first place children (symbols_of g p)
+  Starts g choices starts first (Branch p children) (Terminal t) = ⊥
+
+  pub ForestStarts : Grammar → List (Option ChoiceOf) → List (Option StartOf) → ℕ → ℕ → Forest ℕ → List GrammarSymbol → Type 0
+  ForestStarts g choices starts first place Nil ss = ⊥
+  ForestStarts g choices starts first place (Cons t ts) [] = ⊥
+  ForestStarts g choices starts first zero (Cons t ts) (s ∷ ss) = Starts g choices starts first t s × ForestFollows g choices ts ss
+  ForestStarts g choices starts first (suc place) (Cons t ts) (s ∷ ss) =
+      Follows g choices t s × (width t ≡ 0) × ForestStarts g choices starts first place ts ss
+
+-- how rules can begin is right as far as it goes: by a production of the rule, at one of its places; and there is a tree that does
+pub record AreStarts (g : Grammar) (choices : List (Option ChoiceOf)) (first : ℕ) (starts : List (Option StartOf)) : Type 0 where
+  pub rules : length starts ≡ rules_len g
+  pub within : (r : ℕ) (x : StartOf) → start_at starts r ≡ Some x
+      → (x.prod < prods_len g) × (x.place < length (symbols_of g x.prod)) × (rule_of g x.prod ≡ r)
+  pub trees : (r : ℕ) (x : StartOf) → start_at starts r ≡ Some x → (tree : Tree ℕ) × Starts g choices starts first tree (Nonterminal r)
+
+-- where production p has a length and a place, its rule can begin
+abbrev pub CanStart : Grammar → ℕ → List (Option ChoiceOf) → ℕ → List (Option StartOf) → ℕ → Type 0
+CanStart g most choices first starts p =
+    (len place : ℕ) → total_len most choices (symbols_of g p) ≡ Some len → place_of choices starts first (symbols_of g p) ≡ Some place
+    → (x : StartOf) × (start_at starts (rule_of g p) ≡ Some x)
+
+-- how many rules can't begin yet
+abbrev pub starts_open : List (Option StartOf) → ℕ
+starts_open starts = count_by is_none starts
+
+-- what is left to be made once a tree is begun, down to its first token
+abbrev pub Descends : Grammar → List (Option ChoiceOf) → List (Option StartOf) → ℕ → GrammarSymbol → List FrameOf → List FrameOf → List MoveOf → List MoveOf → Type 0
+Descends g choices starts first s old new before after =
+    (tree : Tree ℕ) (rest : List MoveOf) → Starts g choices starts first tree s → Unfold g choices old rest
+    → (todo : List MoveOf) × Unfold g choices new todo × (after ++ todo ≡ before ++ (moves_of tree ++ rest))

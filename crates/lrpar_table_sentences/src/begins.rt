@@ -1,0 +1,187 @@
+//! Trees of symbols that begin with a token.
+ghost use Rattle.std.specs.Prelude.{◌≡◌, ◌<◌, ℕ, IfOk, None, Some, length, map, option_map, slice_set};
+ghost use Rattle.std.specs.Bool.{OnFalse, OnTrue};
+ghost use Rattle.lrpar_grammar.specs.Grammar.{prods_len, symbols_of};
+ghost use Rattle.lrpar_grammar.specs.Symbols.{symbol_of};
+ghost use Rattle.lrpar_table_sentences.specs.Choices.{AreRight, choices_of};
+ghost use Rattle.lrpar_table_sentences.specs.Lens.{total_len};
+ghost use Rattle.lrpar_table_sentences.specs.Starts.{AreStarts, CanStart, begins, place_if, place_of, start_at, start_by, start_of, starts_of, starts_open};
+
+use crate::settle::{Choice, len_of, total_len};
+use lrpar_grammar::grammar::YaccGrammar;
+use lrpar_grammar::span::{PIdx, StorageIndex, Symbol, TIdx};
+use std::alloc::{AllocError, Global};
+
+/// How a rule can begin with a token: by a production, at a place in it, what stands before that place deriving nothing.
+#[derive(Clone, Copy, Debug, PartialEq, Eq)]
+pub(crate) struct Start<StorageT> {
+    pub(crate) prod: PIdx<StorageT>,
+    pub(crate) place: usize,
+}
+
+/// How rules can begin with the token.
+pub(crate) fn starts<StorageT: StorageIndex>(
+    alloc: Global,
+    grm: &YaccGrammar<StorageT>,
+    choices: &[Option<Choice<StorageT>>],
+    first: TIdx<StorageT>,
+) -> Result<Vec<Option<Start<StorageT>>>, AllocError>
+    requires right { AreRight grm.now usize.MAX (choices_of StorageT.index choices.now) }
+    ensures right { IfOk result (λ starts. AreStarts grm.now (choices_of StorageT.index choices.now) (StorageT.index first.0) (starts_of StorageT.index starts.items)) }
+    ensures closed { IfOk result (λ starts. (p : ℕ) → p < prods_len grm.now
+        → CanStart grm.now usize.MAX (choices_of StorageT.index choices.now) (StorageT.index first.0) (starts_of StorageT.index starts.items) p) }
+{
+    let mut starts = no_starts(alloc, grm.rules_len())?;
+    'passes: while grow_all(grm, choices, &mut starts, first) {}
+    Ok(starts)
+}
+
+// None, for so many rules.
+fn no_starts<StorageT: StorageIndex>(
+    alloc: Global,
+    rules: usize,
+) -> Result<Vec<Option<Start<StorageT>>>, AllocError>
+    ensures len { IfOk result (λ starts. length starts.items ≡ rules) }
+    ensures none { IfOk result (λ starts. (r : ℕ) → start_at (starts_of StorageT.index starts.items) r ≡ None) }
+{
+    let mut starts = Vec::with_capacity(alloc, rules)?;
+    for _ in 0..rules {
+        starts.push(None)?;
+    }
+    Ok(starts)
+}
+
+// Keeps how each production can begin with the token, where its rule couldn't yet, and tells whether any was new.
+fn grow_all<StorageT: StorageIndex>(
+    grm: &YaccGrammar<StorageT>,
+    choices: &[Option<Choice<StorageT>>],
+    starts: &mut [Option<Start<StorageT>>],
+    first: TIdx<StorageT>,
+) -> bool
+    requires right { AreRight grm.now usize.MAX (choices_of StorageT.index choices.now) }
+    requires starts { AreStarts grm.now (choices_of StorageT.index choices.now) (StorageT.index first.0) (starts_of StorageT.index starts.old) }
+    ensures starts { AreStarts grm.now (choices_of StorageT.index choices.now) (StorageT.index first.0) (starts_of StorageT.index starts.new) }
+    ensures grown { OnTrue result (starts_open (starts_of StorageT.index starts.new) < starts_open (starts_of StorageT.index starts.old)) }
+    ensures closed { OnFalse result ((p : ℕ) → p < prods_len grm.now
+        → CanStart grm.now usize.MAX (choices_of StorageT.index choices.now) (StorageT.index first.0) (starts_of StorageT.index starts.new) p) }
+{
+    let mut grown = false;
+    for prod in 0..grm.prods_len() {
+        let pidx = PIdx(StorageT::from_index(prod).unwrap());
+        if grow(grm, choices, starts, first, pidx) {
+            grown = true;
+        }
+    }
+    grown
+}
+
+// Keeps how the production can begin with the token, where its rule couldn't yet, and tells whether it was new.
+fn grow<StorageT: StorageIndex>(
+    grm: &YaccGrammar<StorageT>,
+    choices: &[Option<Choice<StorageT>>],
+    starts: &mut [Option<Start<StorageT>>],
+    first: TIdx<StorageT>,
+    pidx: PIdx<StorageT>,
+) -> bool
+    requires prod { StorageT.index pidx.0 < prods_len grm.now }
+    requires right { AreRight grm.now usize.MAX (choices_of StorageT.index choices.now) }
+    requires starts { AreStarts grm.now (choices_of StorageT.index choices.now) (StorageT.index first.0) (starts_of StorageT.index starts.old) }
+    ensures starts { AreStarts grm.now (choices_of StorageT.index choices.now) (StorageT.index first.0) (starts_of StorageT.index starts.new) }
+    ensures grown { OnTrue result (starts_open (starts_of StorageT.index starts.new) < starts_open (starts_of StorageT.index starts.old)) }
+    ensures same { OnFalse result (starts.new ≡ starts.old) }
+    ensures closed { OnFalse result (CanStart grm.now usize.MAX (choices_of StorageT.index choices.now) (StorageT.index first.0)
+        (starts_of StorageT.index starts.new) (StorageT.index pidx.0)) }
+{
+    let rule = grm.prod_to_rule(pidx);
+    if begins_by(starts, Symbol::Rule(rule), first) {
+        return false;
+    }
+    match start_place(grm, choices, starts, first, pidx) {
+        Some(place) => {
+            keep(starts, usize::from(rule), Start { prod: pidx, place });
+            true
+        }
+        None => false,
+    }
+}
+
+// Keeps how the rule can begin.
+fn keep<StorageT: StorageIndex>(
+    starts: &mut [Option<Start<StorageT>>],
+    rule: usize,
+    start: Start<StorageT>,
+)
+    requires { rule < length starts.old }
+    ensures { starts.new ≡ slice_set starts.old rule (Some start) }
+{
+    starts[rule] = Some(start);
+}
+
+// The place at which the production can begin with the token, if its symbols derive texts and there is one.
+fn start_place<StorageT: StorageIndex>(
+    grm: &YaccGrammar<StorageT>,
+    choices: &[Option<Choice<StorageT>>],
+    starts: &[Option<Start<StorageT>>],
+    first: TIdx<StorageT>,
+    pidx: PIdx<StorageT>,
+) -> Option<usize>
+    requires { StorageT.index pidx.0 < prods_len grm.now }
+    ensures { result ≡ place_if (total_len usize.MAX (choices_of StorageT.index choices.now) (symbols_of grm.now (StorageT.index pidx.0)))
+        (place_of (choices_of StorageT.index choices.now) (starts_of StorageT.index starts.now) (StorageT.index first.0) (symbols_of grm.now (StorageT.index pidx.0))) }
+{
+    match total_len(choices, grm.prod(pidx)) {
+        Some(_) => place_of(choices, starts, grm.prod(pidx), first),
+        None => None,
+    }
+}
+
+/// The first place in the symbols that can begin with the token by the starts, where what stands before it can derive nothing.
+pub(crate) fn place_of<StorageT: StorageIndex>(
+    choices: &[Option<Choice<StorageT>>],
+    starts: &[Option<Start<StorageT>>],
+    symbols: &[Symbol<StorageT>],
+    first: TIdx<StorageT>,
+) -> Option<usize>
+    ensures { result ≡ place_of (choices_of StorageT.index choices.now) (starts_of StorageT.index starts.now) (StorageT.index first.0)
+        (map (symbol_of StorageT.index) symbols.now) }
+{
+    for (place, symbol) in symbols.iter().enumerate() {
+        if begins_by(starts, *symbol, first) {
+            return Some(place);
+        }
+        if len_of(choices, *symbol) != Some(0) {
+            return None;
+        }
+    }
+    None
+}
+
+// Whether the symbol is the token, or a rule that can begin with it by the starts.
+fn begins_by<StorageT: StorageIndex>(
+    starts: &[Option<Start<StorageT>>],
+    symbol: Symbol<StorageT>,
+    first: TIdx<StorageT>,
+) -> bool
+    ensures { result ≡ begins (starts_of StorageT.index starts.now) (StorageT.index first.0) (symbol_of StorageT.index symbol) }
+{
+    match symbol {
+        Symbol::Token(token) => usize::from(token) == usize::from(first),
+        Symbol::Rule(_) => start_of(starts, symbol).is_some(),
+    }
+}
+
+/// What is kept of the symbol, if it is a rule.
+pub(crate) fn start_of<StorageT: StorageIndex>(
+    starts: &[Option<Start<StorageT>>],
+    symbol: Symbol<StorageT>,
+) -> Option<Start<StorageT>>
+    ensures { option_map (start_of StorageT.index) result ≡ start_by (starts_of StorageT.index starts.now) (symbol_of StorageT.index symbol) }
+{
+    match symbol {
+        Symbol::Token(_) => None,
+        Symbol::Rule(rule) => match starts.get(usize::from(rule)) {
+            Some(start) => *start,
+            None => None,
+        },
+    }
+}

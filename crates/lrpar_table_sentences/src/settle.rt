@@ -1,0 +1,160 @@
+//! The shortest texts of rules, settled in the order of their lengths, as in Knuth, 'A Generalization of Dijkstra's Algorithm'.
+ghost use Rattle.std.specs.Prelude.{◌≡◌, ◌<◌, ℕ, IfOk, MatchOption, length, map, option_map};
+ghost use Rattle.lrpar_grammar.specs.Grammar.{prods_len, rules_len};
+ghost use Rattle.lrpar_grammar.specs.Symbols.{symbol_of};
+ghost use Rattle.lrpar_table_sentences.specs.Choices.{AreRight, AreShortest, choice_at, choice_of, choices_of};
+ghost use Rattle.lrpar_table_sentences.specs.Lens.{HasOpen, NoneIsBelow, NoneIsLess, NoneIsOpen, len_at, lesser_of, open_in, open_len, total_len};
+
+use lrpar_grammar::grammar::YaccGrammar;
+use lrpar_grammar::span::{PIdx, RIdx, StorageIndex, Symbol};
+use std::alloc::{AllocError, Global};
+
+/// What is kept of a rule that derives a text: the least number of tokens, and the production that a shortest tree begins with.
+#[derive(Clone, Copy, Debug, PartialEq, Eq)]
+pub(crate) struct Choice<StorageT> {
+    pub(crate) len: usize,
+    pub(crate) prod: PIdx<StorageT>,
+}
+
+/// What is kept of each rule.
+pub(crate) fn settled<StorageT: StorageIndex>(
+    alloc: Global,
+    grm: &YaccGrammar<StorageT>,
+) -> Result<Vec<Option<Choice<StorageT>>>, AllocError>
+    ensures { IfOk result (λ choices. AreShortest grm.now usize.MAX (choices_of StorageT.index choices.items)) }
+{
+    let _start = grm.start_prod();
+    let mut choices = nothing_kept(alloc, grm.rules_len())?;
+    'levels: while let Some(len) = least_open(grm, &choices) {
+        settle_all(grm, &mut choices, len);
+    }
+    Ok(choices)
+}
+
+// Nothing, for so many rules.
+fn nothing_kept<StorageT: StorageIndex>(
+    alloc: Global,
+    rules: usize,
+) -> Result<Vec<Option<Choice<StorageT>>>, AllocError>
+    ensures len { IfOk result (λ choices. length choices.items ≡ rules) }
+    ensures none { IfOk result (λ choices. (r : ℕ) → choice_at (choices_of StorageT.index choices.items) r ≡ None) }
+{
+    let mut choices = Vec::with_capacity(alloc, rules)?;
+    for _ in 0..rules {
+        choices.push(None)?;
+    }
+    Ok(choices)
+}
+
+// The least length of a production whose rule has nothing kept yet.
+fn least_open<StorageT: StorageIndex>(
+    grm: &YaccGrammar<StorageT>,
+    choices: &[Option<Choice<StorageT>>],
+) -> Option<usize>
+    requires rules { length choices.now ≡ rules_len grm.now }
+    ensures { MatchOption result (NoneIsOpen grm.now usize.MAX (choices_of StorageT.index choices.now))
+        (λ len. HasOpen grm.now usize.MAX (choices_of StorageT.index choices.now) len
+        × NoneIsLess grm.now usize.MAX (choices_of StorageT.index choices.now) len) }
+{
+    let mut least = None;
+    for prod in 0..grm.prods_len() {
+        let pidx = PIdx(StorageT::from_index(prod).unwrap());
+        least = lesser(least, open_len(grm, choices, pidx));
+    }
+    least
+}
+
+/// The lesser one of two numbers, as far as there are.
+pub(crate) fn lesser(one: Option<usize>, other: Option<usize>) -> Option<usize>
+    ensures { result ≡ lesser_of one other }
+{
+    match (one, other) {
+        (Some(a), Some(b)) => { if b < a { Some(b) } else { Some(a) } }
+        (Some(a), None) => Some(a),
+        (None, b) => b,
+    }
+}
+
+// The length of the production, if its rule has nothing kept yet.
+fn open_len<StorageT: StorageIndex>(
+    grm: &YaccGrammar<StorageT>,
+    choices: &[Option<Choice<StorageT>>],
+    pidx: PIdx<StorageT>,
+) -> Option<usize>
+    requires prod { StorageT.index pidx.0 < prods_len grm.now }
+    requires rules { length choices.now ≡ rules_len grm.now }
+    ensures { result ≡ open_len grm.now usize.MAX (choices_of StorageT.index choices.now) (StorageT.index pidx.0) }
+{
+    let rule = usize::from(grm.prod_to_rule(pidx));
+    match choices[rule] {
+        Some(_) => None,
+        None => total_len(choices, grm.prod(pidx)),
+    }
+}
+
+// Keeps each open production that has the length, which is the least one.
+fn settle_all<StorageT: StorageIndex>(
+    grm: &YaccGrammar<StorageT>,
+    choices: &mut [Option<Choice<StorageT>>],
+    len: usize,
+)
+    requires right { AreRight grm.now usize.MAX (choices_of StorageT.index choices.old) }
+    requires least { NoneIsBelow grm.now (choices_of StorageT.index choices.old) len }
+    ensures right { AreRight grm.now usize.MAX (choices_of StorageT.index choices.new) }
+    ensures fewer { HasOpen grm.now usize.MAX (choices_of StorageT.index choices.old) len
+        → open_in (choices_of StorageT.index choices.new) < open_in (choices_of StorageT.index choices.old) }
+{
+    for prod in 0..grm.prods_len() {
+        let pidx = PIdx(StorageT::from_index(prod).unwrap());
+        if open_len(grm, choices, pidx) == Some(len) {
+            let rule = usize::from(grm.prod_to_rule(pidx));
+            choices[rule] = Some(Choice { len, prod: pidx });
+        }
+    }
+}
+
+/// The length of a symbol: one for a token, and what is kept of a rule.
+pub(crate) fn len_of<StorageT: StorageIndex>(
+    choices: &[Option<Choice<StorageT>>],
+    symbol: Symbol<StorageT>,
+) -> Option<usize>
+    ensures { result ≡ len_at (choices_of StorageT.index choices.now) (symbol_of StorageT.index symbol) }
+{
+    match symbol {
+        Symbol::Token(_) => Some(1),
+        Symbol::Rule(rule) => match choice_of(choices, rule) {
+            Some(choice) => Some(choice.len),
+            None => None,
+        },
+    }
+}
+
+/// What is kept of the rule; out of range, nothing.
+pub(crate) fn choice_of<StorageT: StorageIndex>(
+    choices: &[Option<Choice<StorageT>>],
+    rule: RIdx<StorageT>,
+) -> Option<Choice<StorageT>>
+    ensures { option_map (choice_of StorageT.index) result ≡ choice_at (choices_of StorageT.index choices.now) (StorageT.index rule.0) }
+{
+    match choices.get(usize::from(rule)) {
+        Some(choice) => *choice,
+        None => None,
+    }
+}
+
+/// The length of symbols.
+pub(crate) fn total_len<StorageT: StorageIndex>(
+    choices: &[Option<Choice<StorageT>>],
+    symbols: &[Symbol<StorageT>],
+) -> Option<usize>
+    ensures { result ≡ total_len usize.MAX (choices_of StorageT.index choices.now) (map (symbol_of StorageT.index) symbols.now) }
+{
+    let mut len: usize = 0;
+    for symbol in symbols {
+        match len_of(choices, *symbol) {
+            Some(more) => len = len.saturating_add(more),
+            None => return None,
+        }
+    }
+    Some(len)
+}

@@ -1,0 +1,156 @@
+//! Shortest texts of rules and symbols, and their trees.
+ghost use Rattle.std.specs.Prelude.{◌≡◌, ◌↔◌, ◌∷◌, ◌++◌, ℕ, [], IfOk, IsTrue, MatchOption, OnOk, map};
+ghost use Rattle.std.specs.Option.{is_some};
+ghost use Rattle.lrpar_grammar.specs.Grammar.{Grammar};
+ghost use Rattle.lrpar_grammar.specs.Symbols.{symbol_of};
+ghost use Rattle.lrpar_grammar.specs.Tree.{Tree, Forest};
+ghost use Rattle.lrpar_table_sentences.specs.Choices.{AreShortest, choice_at};
+ghost use Rattle.lrpar_table_sentences.specs.Lens.{len_at, total_len};
+ghost use Rattle.lrpar_table_sentences.specs.Moves.{forest_moves, moves_in, moves_of};
+ghost use Rattle.lrpar_table_sentences.specs.Reached.{EachReachedHasTree, HasTree, IsFirstBarren};
+ghost use Rattle.lrpar_table_sentences.specs.Texts.{AreShortestTrees, BeginWith, CanBeginWith, HaveTrees, IsShortestIfAny, IsShortestTree};
+
+use crate::descend::push_beginning;
+use crate::moves::Move;
+use crate::reached::barren;
+use crate::settle::{Choice, choice_of, len_of, settled, total_len};
+use crate::unfold::{push_symbol, push_symbols};
+use lrpar_grammar::grammar::YaccGrammar;
+use lrpar_grammar::span::{RIdx, StorageIndex, Symbol, TIdx};
+use std::alloc::{AllocError, Global};
+use std::marker::Model;
+
+/// Of each rule of a grammar how many tokens the shortest text has that the rule derives, and a tree of one.
+#[derive(Debug)]
+pub struct Shortest<StorageT: StorageIndex> {
+    choices: Vec<Option<Choice<StorageT>>>,
+}
+
+// A drop of its own, so that what lets go of one elsewhere proves one call.
+impl<StorageT: StorageIndex> Drop for Shortest<StorageT> {
+    fn drop(self) {
+        let Shortest { choices } = self;
+        drop(choices);
+    }
+}
+
+impl<StorageT: StorageIndex> Model for Shortest<StorageT> {
+    ghost use Rattle.std.specs.Prelude.{List, Option};
+    ghost use Rattle.lrpar_table_sentences.specs.Choices.{ChoiceOf, choices_of};
+
+    ghost Value = { List (Option ChoiceOf) };
+
+    ghost view = { λ shortest. choices_of StorageT.index shortest.choices.items };
+}
+
+impl<StorageT: StorageIndex> Shortest<StorageT> {
+    /// The shortest texts of the grammar's rules.
+    ///
+    /// They are settled in the order of their lengths (Knuth, 'A Generalization of Dijkstra's Algorithm'), by sweeps over the
+    /// productions: few in practice, and at most one more than there are rules. Memory grows with the rules. An `Err` comes where
+    /// memory doesn't suffice.
+    pub fn new(alloc: Global, grm: &YaccGrammar<StorageT>) -> Result<Self, AllocError>
+        ensures { IfOk result (λ shortest. AreShortest grm.now usize.MAX shortest) }
+    {
+        let choices = settled(alloc, grm)?;
+        Ok(Shortest { choices })
+    }
+
+    /// The least number of tokens of a text that the symbol derives: `usize::MAX` where each has so many or more, and `None` where
+    /// it derives none.
+    pub fn len_of(&self, symbol: Symbol<StorageT>) -> Option<usize>
+        ensures len { result ≡ len_at self.now (symbol_of StorageT.index symbol) }
+        ensures shortest { (g : Grammar) → AreShortest g usize.MAX self.now → IsShortestIfAny g usize.MAX (symbol_of StorageT.index symbol ∷ []) result }
+    {
+        len_of(&self.choices, symbol)
+    }
+
+    /// Whether the rule derives some text. No rule past the grammar's does.
+    pub fn derives_text(&self, rule: RIdx<StorageT>) -> bool
+        ensures kept { result ≡ is_some (choice_at self.now (StorageT.index rule.0)) }
+        ensures exact { (g : Grammar) → AreShortest g usize.MAX self.now → IsTrue result ↔ HasTree g (StorageT.index rule.0) }
+    {
+        choice_of(&self.choices, rule).is_some()
+    }
+
+    /// The least number of tokens of a text that the symbols derive: `usize::MAX` where each has so many or more, and `None` where
+    /// one of the symbols derives none.
+    pub fn len_of_all(&self, symbols: &[Symbol<StorageT>]) -> Option<usize>
+        ensures len { result ≡ total_len usize.MAX self.now (map (symbol_of StorageT.index) symbols.now) }
+        ensures shortest { (g : Grammar) → AreShortest g usize.MAX self.now → IsShortestIfAny g usize.MAX (map (symbol_of StorageT.index) symbols.now) result }
+    {
+        total_len(&self.choices, symbols)
+    }
+
+    /// Appends the moves of a tree of the symbol that has as few tokens as any, where there is such a tree.
+    ///
+    /// Time and memory grow with the moves. An `Err` comes where memory doesn't suffice, as it can't for `usize::MAX` tokens, and
+    /// leaves some of the moves behind what `out` had.
+    pub fn push_moves(
+        &self,
+        alloc: Global,
+        out: &mut Vec<Move<StorageT>>,
+        grm: &YaccGrammar<StorageT>,
+        symbol: Symbol<StorageT>,
+    ) -> Result<(), AllocError>
+        requires shortest { AreShortest grm.now usize.MAX self.now }
+        requires some { HaveTrees grm.now (symbol_of StorageT.index symbol ∷ []) }
+        ensures { OnOk result ((tree : Tree ℕ) × IsShortestTree grm.now (symbol_of StorageT.index symbol) tree
+            × (moves_in StorageT.index out.new.items ≡ moves_in StorageT.index out.old.items ++ moves_of tree)) }
+    {
+        push_symbol(alloc, grm, &self.choices, out, symbol)
+    }
+
+    /// Appends the moves of trees of the symbols, one each, that have as few tokens as any, where there are such trees.
+    ///
+    /// Time, memory and `Err` are as with `push_moves`.
+    pub fn push_all_moves(
+        &self,
+        alloc: Global,
+        out: &mut Vec<Move<StorageT>>,
+        grm: &YaccGrammar<StorageT>,
+        symbols: &[Symbol<StorageT>],
+    ) -> Result<(), AllocError>
+        requires shortest { AreShortest grm.now usize.MAX self.now }
+        requires some { HaveTrees grm.now (map (symbol_of StorageT.index) symbols.now) }
+        ensures { OnOk result ((trees : Forest ℕ) × AreShortestTrees grm.now (map (symbol_of StorageT.index) symbols.now) trees
+            × (moves_in StorageT.index out.new.items ≡ moves_in StorageT.index out.old.items ++ forest_moves trees)) }
+    {
+        push_symbols(alloc, grm, &self.choices, out, symbols)
+    }
+
+    /// Appends the moves of trees of the symbols, one each, whose first token is `first`, where there are such trees. What stands
+    /// behind that token in its nodes are shortest trees.
+    ///
+    /// It looks for the rules that can begin with the token, by sweeps over the productions. `Err` is as with `push_moves`.
+    pub fn push_moves_from(
+        &self,
+        alloc: Global,
+        out: &mut Vec<Move<StorageT>>,
+        grm: &YaccGrammar<StorageT>,
+        symbols: &[Symbol<StorageT>],
+        first: TIdx<StorageT>,
+    ) -> Result<(), AllocError>
+        requires shortest { AreShortest grm.now usize.MAX self.now }
+        requires some { CanBeginWith grm.now (map (symbol_of StorageT.index) symbols.now) (StorageT.index first.0) }
+        ensures { OnOk result ((trees : Forest ℕ) × BeginWith grm.now (map (symbol_of StorageT.index) symbols.now) (StorageT.index first.0) trees
+            × (moves_in StorageT.index out.new.items ≡ moves_in StorageT.index out.old.items ++ forest_moves trees)) }
+    {
+        push_beginning(alloc, grm, &self.choices, out, symbols, first)
+    }
+
+    /// The first rule, by its number, that the grammar reaches from its start and that derives no text, if there is one.
+    ///
+    /// It goes over the productions until no rule more is reached: few times in practice, and at most one more than there are rules.
+    /// Memory grows with the rules. An `Err` comes where memory doesn't suffice.
+    pub fn barren(
+        &self,
+        alloc: Global,
+        grm: &YaccGrammar<StorageT>,
+    ) -> Result<Option<RIdx<StorageT>>, AllocError>
+        requires shortest { AreShortest grm.now usize.MAX self.now }
+        ensures { IfOk result (λ found. MatchOption found (EachReachedHasTree grm.now) (λ rule. IsFirstBarren grm.now (StorageT.index rule.0))) }
+    {
+        barren(alloc, grm, &self.choices)
+    }
+}

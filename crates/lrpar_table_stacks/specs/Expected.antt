@@ -1,0 +1,45 @@
+-- What may come next at a stack: the tokens that can be fed, and the end token, where the stack accepts.
+use Rattle.std.specs.Prelude.{◌≡◌, ◌≢◌, ◌↔◌, ◌⊎◌, ℕ, List, [], Contains, length, map}
+use Rattle.std.specs.List.Sorted.{IsStrictlyIncreasing}
+use Rattle.lrpar_grammar_places.specs.declared.span.TIdx.{TIdx}
+use Rattle.lrpar_grammar.specs.Grammar.{Grammar, end_token}
+use Rattle.lrpar_table_rows.specs.Table.{Table, Accepts}
+use Rattle.lrpar_table_stacks.specs.Overlay.{IsShortOfMemoryOver, Overlaid}
+use Rattle.lrpar_table_stacks.specs.Reduction.{Feeds, Settles, top_action}
+
+-- all reductions are made at the end token, and then the top accepts
+pub record AcceptsAtEnd (g : Grammar) (table : Table) (st : List ℕ) : Type 0 where
+  pub prods : List ℕ
+  pub settled : List ℕ
+  pub settles : Settles g table (end_token g) st prods settled
+  pub action : top_action table (end_token g) settled ≡ Accepts
+
+-- token t may come next at the stack: it can be fed; or it is the end token, and the stack accepts
+abbrev pub IsExpected : Grammar → Table → List ℕ → ℕ → Type 0
+IsExpected g table st t =
+    ((t ≢ end_token g) × ((prods after : List ℕ) × Feeds g table t st prods after)) ⊎ ((t ≡ end_token g) × AcceptsAtEnd g table st)
+
+-- these are the tokens that may come next, ascending
+pub record AreExpected (g : Grammar) (table : Table) (st tokens : List ℕ) : Type 0 where
+  pub ascending : IsStrictlyIncreasing tokens
+  pub exact : (t : ℕ) → Contains tokens t ↔ IsExpected g table st t
+
+-- the numbers of these tokens
+abbrev pub tokens_of : {S : Type 0} → (S → ℕ) → List (TIdx S) → List ℕ
+tokens_of index tokens = map (λ t. index t.0) tokens
+
+-- the stack with nothing above it, and room for so many states there
+abbrev pub laid_over : List ℕ → ℕ → Overlaid
+laid_over st room = record { base = st; kept = length st; tail = []; room = room }
+
+-- Memory was wanting where token t was tried. It is wanted for the states that its reductions put over the stack, for which
+-- there was so much room at first, and where those that there is then are full; or for the answer, where the token may come
+-- next.
+pub record IsTriedShortOfMemory (g : Grammar) (table : Table) (t : ℕ) (st : List ℕ) : Type 0 where
+  pub room : ℕ
+  pub new : Overlaid
+  pub short : IsShortOfMemoryOver g table t (laid_over st room) new
+
+-- memory was wanting for a token that may come next, which is listed; or for the reductions under some token
+abbrev pub IsListShortOfMemory : Grammar → Table → List ℕ → Type 0
+IsListShortOfMemory g table st = (t : ℕ) × (IsExpected g table st t ⊎ IsTriedShortOfMemory g table t st)

@@ -1,0 +1,118 @@
+//! Stacks of states: whether a list of states is one of a table.
+ghost use Rattle.std.specs.Prelude.{◌≡◌, ◌<◌, ◌↔◌, ℕ, Contains, IsTrue, Some, map};
+ghost use Rattle.lrpar_table_rows.specs.PlainRows.{plain_action};
+ghost use Rattle.lrpar_table_stacks.specs.Stack.{AreJoined, IsJoined, IsStack, states_of};
+ghost use Rattle.lrpar_table_rows.specs.Table.{ShiftTo, IsClosed, action_of, goto_of, states_len};
+
+use lrpar_grammar::span::{StIdx, StorageIndex};
+use lrpar_table_rows::table::{Action, StateTable};
+
+/// Whether these states, bottom first, are a stack of the table: the start state stands at the bottom, and a shift or a goto leads from
+/// each state to the one above it. Takes no memory. Reads at most the entries of each state but the top.
+pub fn is_stack_of<StorageT: StorageIndex>(
+    table: &StateTable<StorageT>,
+    stack: &[StIdx<StorageT>],
+) -> bool
+    requires { IsClosed table.now }
+    ensures { IsTrue result ↔ IsStack table.now (states_of StorageT.index stack.now) }
+{
+    match stack.split_first() {
+        None => false,
+        Some((bottom, above)) => {
+            usize::from(*bottom) == usize::from(table.start_state())
+                && are_joined(table, *bottom, above)
+        }
+    }
+}
+
+// Whether the state is joined to the first of the states above it, and each of those to the next.
+fn are_joined<StorageT: StorageIndex>(
+    table: &StateTable<StorageT>,
+    bottom: StIdx<StorageT>,
+    above: &[StIdx<StorageT>],
+) -> bool
+    requires closed { IsClosed table.now }
+    requires state { StorageT.index bottom.0 < states_len table.now }
+    ensures { IsTrue result ↔ AreJoined table.now (StorageT.index bottom.0) (states_of StorageT.index above.now) }
+{
+    let mut below = bottom;
+    for next in above {
+        if !is_joined(table, below, *next) {
+            return false;
+        }
+        below = *next;
+    }
+    true
+}
+
+// Whether a shift or a goto leads from the state to state `next`.
+fn is_joined<StorageT: StorageIndex>(
+    table: &StateTable<StorageT>,
+    s: StIdx<StorageT>,
+    next: StIdx<StorageT>,
+) -> bool
+    requires { StorageT.index s.0 < states_len table.now }
+    ensures { IsTrue result ↔ IsJoined table.now (StorageT.index s.0) (StorageT.index next.0) }
+{
+    shifts_to(table, s, usize::from(next)) || goes_to(table, s, usize::from(next))
+}
+
+// Whether a shift leads from the state to state `next`.
+fn shifts_to<StorageT: StorageIndex>(
+    table: &StateTable<StorageT>,
+    s: StIdx<StorageT>,
+    next: usize,
+) -> bool
+    requires { StorageT.index s.0 < states_len table.now }
+    ensures { IsTrue result ↔ ((t : ℕ) × (t < table.now.tokens) × (action_of table.now (StorageT.index s.0) t ≡ ShiftTo next)) }
+{
+    let (_, actions) = table.actions_of(s);
+    has_shift(actions, next)
+}
+
+// Whether one of the actions is a shift to state `next`.
+fn has_shift<StorageT: StorageIndex>(actions: &[Action<StorageT>], next: usize) -> bool
+    ensures { IsTrue result ↔ Contains (map (plain_action StorageT.index) actions.now) (ShiftTo next) }
+{
+    for action in actions {
+        if is_shift_to(*action, next) {
+            return true;
+        }
+    }
+    false
+}
+
+// Whether the action is a shift to state `next`.
+fn is_shift_to<StorageT: StorageIndex>(action: Action<StorageT>, next: usize) -> bool
+    ensures { IsTrue result ↔ plain_action StorageT.index action ≡ ShiftTo next }
+{
+    match action {
+        Action::Shift(state) => usize::from(state) == next,
+        Action::Reduce(_) | Action::Accept | Action::Error => false,
+    }
+}
+
+// Whether a goto leads from the state to state `next`.
+fn goes_to<StorageT: StorageIndex>(
+    table: &StateTable<StorageT>,
+    s: StIdx<StorageT>,
+    next: usize,
+) -> bool
+    requires { StorageT.index s.0 < states_len table.now }
+    ensures { IsTrue result ↔ ((r : ℕ) × (r < table.now.rules) × (goto_of table.now (StorageT.index s.0) r ≡ Some next)) }
+{
+    let (_, states) = table.gotos_of(s);
+    has_state(states, next)
+}
+
+// Whether state `next` is one of the states.
+fn has_state<StorageT: StorageIndex>(states: &[StIdx<StorageT>], next: usize) -> bool
+    ensures { IsTrue result ↔ Contains (states_of StorageT.index states.now) next }
+{
+    for state in states {
+        if usize::from(*state) == next {
+            return true;
+        }
+    }
+    false
+}

@@ -1,0 +1,196 @@
+//! What a stack of states has to do for reductions and shifts, which one function makes over all kinds: internal, and public
+//! for a stack of the crate above, which has more than its states.
+ghost use Rattle.std.specs.Prelude.{◌≡◌, ◌<◌, ◌≤◌, ◌-◌, ℕ, List, [], ◌∷◌, ◌++◌, length, slice_get, take, Some, OnOk, OnErr, vec_capacity};
+ghost use Rattle.lrpar_grammar.specs.Grammar.{Grammar, prod_len, rule_of};
+ghost use Rattle.lrpar_table_stacks.specs.Reduction.{Reduces};
+ghost use Rattle.lrpar_table_stacks.specs.Stack.{states_of, top_of};
+ghost use Rattle.lrpar_table_stacks.specs.StackReduction.{StackReduces};
+ghost use Rattle.lrpar_table_rows.specs.Table.{Table};
+
+use lrpar_grammar::span::{PIdx, RIdx, StIdx, StorageIndex};
+use lrpar_table_rows::table::Action;
+use std::alloc::AllocError;
+
+/// A reduction that is due on a stack.
+#[derive(Clone, Copy)]
+pub struct Reduction<StorageT> {
+    /// The production.
+    pub prod: PIdx<StorageT>,
+    /// Its rule.
+    pub rule: RIdx<StorageT>,
+    /// How many symbols it has.
+    pub symbols: usize,
+    /// The state that is pushed.
+    pub next: StIdx<StorageT>,
+}
+
+/// What comes of all reductions of a stack.
+#[derive(Clone, Copy)]
+pub struct Settled<StorageT> {
+    /// How many were made.
+    pub reductions: u128,
+    /// What the state then on top does.
+    pub action: Action<StorageT>,
+}
+
+/// A stack of states. Its bottom is state 0 of the list that it stands for.
+pub trait StateStack<StorageT: StorageIndex> {
+    /// The states, bottom first.
+    ghost states: { Self → List ℕ };
+
+    /// What holds of the stack beside its states, where it is one to reduce by a grammar and a table.
+    ghost suits: { Grammar → Table → Self → Type 0 };
+
+    /// What has to hold of the stack, beside its height, for a reduction by a production, of a rule and with so many
+    /// symbols.
+    ghost can_reduce: { Self → ℕ → ℕ → ℕ → Type 0 };
+
+    /// What a reduction by a production, of a rule and with so many symbols, makes of the stack beside its states.
+    ghost reduces: { Self → ℕ → ℕ → ℕ → Self → Type 0 };
+
+    /// What is left of the stack where memory was wanting for a reduction of so many symbols.
+    ghost fails: { Self → ℕ → Self → Type 0 };
+
+    /// How many states there are.
+    fn height(&self) -> usize
+        ensures { result ≡ length (states self.now) };
+
+    /// The top state.
+    fn top(&self) -> StIdx<StorageT>
+        requires { 0 < length (states self.now) }
+        ensures { top_of (states self.now) ≡ Some (StorageT.index result.0) };
+
+    /// The state at this height, from 0 on.
+    fn state_at(&self, at: usize) -> StIdx<StorageT>
+        requires { at < length (states self.now) }
+        ensures { slice_get (states self.now) at ≡ Some (StorageT.index result.0) };
+
+    /// Drops the top states, one for each symbol of the reduction, and pushes the state of its goto. Where memory was
+    /// wanting, the states stay.
+    fn reduce(&mut self, by: Reduction<StorageT>) -> Result<(), AllocError>
+        requires can { can_reduce self.old (StorageT.index by.prod.0) (StorageT.index by.rule.0) by.symbols }
+        requires deep { by.symbols < length (states self.old) }
+        ensures states { OnOk result (states self.new
+            ≡ take (length (states self.old) - by.symbols) (states self.old) ++ StorageT.index by.next.0 ∷ []) }
+        ensures reduces { OnOk result (reduces self.old (StorageT.index by.prod.0) (StorageT.index by.rule.0) by.symbols self.new) }
+        ensures unchanged { OnErr result (states self.new ≡ states self.old) }
+        ensures fails { OnErr result (fails self.old by.symbols self.new) };
+
+    /// Where the stack suits a grammar and a table, each reduction that is due by them can be made.
+    ghost due_can: { (g : Grammar) (table : Table) (t : ℕ) (stack : Self) (p : ℕ) (after : List ℕ) → suits g table stack
+        → Reduces g table t (states stack) p after → can_reduce stack p (rule_of g p) (prod_len g p) };
+
+    /// And the stack suits them again when it is made.
+    ghost reduced_suits: { (g : Grammar) (table : Table) (t : ℕ) (old : Self) (p : ℕ) (new : Self) → suits g table old
+        → StackReduces states reduces g table t old p new → suits g table new };
+}
+
+/// A stack onto which a shift puts its state and nothing else.
+pub trait ShiftStack<StorageT: StorageIndex>: StateStack<StorageT> {
+    /// What a shift makes of the stack beside its states.
+    ghost shifts: { Self → Self → Type 0 };
+
+    /// What is left of the stack where memory was wanting for a shift.
+    ghost shift_fails: { Self → Self → Type 0 };
+
+    /// Pushes the state. Where memory was wanting, the states stay.
+    fn shift(&mut self, next: StIdx<StorageT>) -> Result<(), AllocError>
+        ensures states { OnOk result (Self.states self.new ≡ Self.states self.old ++ StorageT.index next.0 ∷ []) }
+        ensures shifts { OnOk result (shifts self.old self.new) }
+        ensures unchanged { OnErr result (Self.states self.new ≡ Self.states self.old) }
+        ensures fails { OnErr result (shift_fails self.old self.new) };
+}
+
+/// A list of states.
+impl<StorageT: StorageIndex> StateStack<StorageT> for Vec<StIdx<StorageT>> {
+    ghost states = { λ v. states_of StorageT.index v.items };
+
+    ghost suits = { λ _ _ _. Unit {0} };
+
+    ghost can_reduce = { λ _ _ _ _. Unit {0} };
+
+    ghost reduces = { λ old _ _ _ new. vec_capacity old ≤ vec_capacity new };
+
+    ghost fails = { λ old symbols new. (symbols ≡ 0) × (vec_capacity old ≤ vec_capacity new) × (vec_capacity new ≤ length new.items) };
+
+    ghost due_can = { λ g table t stack p after suit due. tt };
+
+    ghost reduced_suits = { λ g table t old p new suit reduces. tt };
+
+    fn height(&self) -> usize {
+        self.len()
+    }
+
+    fn top(&self) -> StIdx<StorageT> {
+        self[self.len() - 1]
+    }
+
+    fn state_at(&self, at: usize) -> StIdx<StorageT> {
+        self[at]
+    }
+
+    fn reduce(&mut self, by: Reduction<StorageT>) -> Result<(), AllocError>
+        requires deep { by.symbols < length (states_of StorageT.index self.old.items) }
+        ensures states { OnOk result (states_of StorageT.index self.new.items
+            ≡ take (length (states_of StorageT.index self.old.items) - by.symbols) (states_of StorageT.index self.old.items)
+            ++ StorageT.index by.next.0 ∷ []) }
+        ensures reduces { OnOk result (vec_capacity self.old ≤ vec_capacity self.new) }
+        ensures unchanged { OnErr result (states_of StorageT.index self.new.items ≡ states_of StorageT.index self.old.items) }
+        ensures fails { OnErr result ((by.symbols ≡ 0) × (vec_capacity self.old ≤ vec_capacity self.new) × (vec_capacity self.new ≤ length self.new.items)) }
+    {
+        put_at(self, self.len() - by.symbols, by.next)
+    }
+}
+
+impl<StorageT: StorageIndex> ShiftStack<StorageT> for Vec<StIdx<StorageT>> {
+    ghost shifts = { λ old new. vec_capacity old ≤ vec_capacity new };
+
+    ghost shift_fails = { λ old new. (vec_capacity old ≤ vec_capacity new) × (vec_capacity new ≤ length new.items) };
+
+    fn shift(&mut self, next: StIdx<StorageT>) -> Result<(), AllocError>
+        ensures states { OnOk result (states_of StorageT.index self.new.items
+            ≡ states_of StorageT.index self.old.items ++ StorageT.index next.0 ∷ []) }
+        ensures shifts { OnOk result (vec_capacity self.old ≤ vec_capacity self.new) }
+        ensures unchanged { OnErr result (states_of StorageT.index self.new.items ≡ states_of StorageT.index self.old.items) }
+        ensures fails { OnErr result ((vec_capacity self.old ≤ vec_capacity self.new) × (vec_capacity self.new ≤ length self.new.items)) }
+    {
+        push_on(self, next)
+    }
+}
+
+// Puts a state on the first `left` states, and drops those above.
+pub(crate) fn put_at<StorageT: StorageIndex>(
+    states: &mut Vec<StIdx<StorageT>>,
+    left: usize,
+    next: StIdx<StorageT>,
+) -> Result<(), AllocError>
+    requires { left ≤ length states.old.items }
+    ensures put { OnOk result (states.new.items ≡ take left states.old.items ++ next ∷ []) }
+    ensures room { vec_capacity states.old ≤ vec_capacity states.new }
+    ensures unchanged { OnErr result (states.new.items ≡ states.old.items) }
+    ensures full { OnErr result ((left ≡ length states.old.items) × (vec_capacity states.new ≤ length states.new.items)) }
+{
+    if left == states.len() {
+        push_on(states, next)
+    } else {
+        states.truncate(left + 1);
+        states[left] = next;
+        Ok(())
+    }
+}
+
+// Puts a state on the states. Where memory was wanting, they stay, and fill the room that there is then.
+pub(crate) fn push_on<StorageT: StorageIndex>(
+    states: &mut Vec<StIdx<StorageT>>,
+    next: StIdx<StorageT>,
+) -> Result<(), AllocError>
+    ensures pushed { OnOk result (states.new.items ≡ states.old.items ++ next ∷ []) }
+    ensures room { vec_capacity states.old ≤ vec_capacity states.new }
+    ensures unchanged { OnErr result (states.new.items ≡ states.old.items) }
+    ensures full { OnErr result (vec_capacity states.new ≤ length states.new.items) }
+{
+    // What `push` leaves of the room where it fails isn't told; what `reserve` leaves is.
+    states.reserve(1)?;
+    states.push_reserved(next);
+    Ok(())
+}

@@ -1,5 +1,0 @@
-use Rattle.lrpar_text.proofs.OutlineLemmas.{outline_is_one}
-use Rattle.lrpar_text.proofs.text_laws.text_has_one_outline.Goals as goal
-
-pub returns : goal.returns
-returns c = outline_is_one

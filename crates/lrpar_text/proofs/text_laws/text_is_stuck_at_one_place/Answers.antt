@@ -1,5 +1,0 @@
-use Rattle.lrpar_text.proofs.StuckLemmas.{stuck_is_one}
-use Rattle.lrpar_text.proofs.text_laws.text_is_stuck_at_one_place.Goals as goal
-
-pub returns : goal.returns
-returns c = stuck_is_one

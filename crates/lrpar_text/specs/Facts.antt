@@ -1,9 +1,0 @@
--- Lexemes as contracts see them.
-use Rattle.std.specs.Prelude.{ℕ, Bool}
-use Rattle.lrpar_text.specs.Span.{Extent}
-
--- all that a contract knows of a lexeme: its token, where it lies, and whether a repair made it
-pub record LexemeFacts : Type 0 where
-  pub token : ℕ
-  pub span : Extent
-  pub faulty : Bool

@@ -1,9 +1,0 @@
-pub mod Span
-pub mod Facts
-pub mod Comparisons
-pub mod Lines
-pub mod Words
-pub mod Shape
-pub mod Outline
-pub mod Phrases
-pub mod Forms

@@ -1,2 +1,0 @@
-pub mod NestedLemmas
-pub mod GraphLemmas

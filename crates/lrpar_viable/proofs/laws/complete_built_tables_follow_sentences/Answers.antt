@@ -1,8 +1,0 @@
-use Rattle.lrpar_viable.proofs.ViableLemmas.{complete_built_tables_follow_sentences}
-use Rattle.lrpar_viable.proofs.laws.complete_built_tables_follow_sentences.Goals as goal
-
-pub returns : goal.returns
-returns g c = record {
-  follow = complete_built_tables_follow_sentences;
-  facts_follow = complete_built_tables_follow_sentences;
-}

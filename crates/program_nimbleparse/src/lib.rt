@@ -1,0 +1,19 @@
+//! `nimbleparse` over words, files and streams: grammars, lexers, trees, and messages of each.
+#![tactic(auto)]
+
+mod conflicts;
+mod errors;
+pub mod fault;
+pub mod grammar;
+mod inputs;
+mod loops;
+mod options;
+pub mod parse;
+pub mod plan;
+mod program;
+pub mod rules;
+pub mod show;
+pub mod warnings;
+
+pub use lrpar_report::Look;
+pub use program::{Terminal, run, run_of_process};

@@ -1,0 +1,364 @@
+//! Rules that lead back to themselves while a parse takes no token.
+ghost use Rattle.std.specs.Prelude.{◌≡◌, ◌<◌, ◌∷◌, IfOk, IfSome, List, Some, length, map, slice_get};
+ghost use Rattle.std.specs.Bool.{OnTrue};
+ghost use Rattle.lrpar_grammar.specs.Grammar.{Grammar, Nonterminal, prods_len};
+ghost use Rattle.lrpar_grammar.specs.Symbols.{symbol_of};
+ghost use Rattle.lrpar_table_sentences.specs.Choices.{AreShortest};
+ghost use Rattle.program_nimbleparse.specs.Loops.{Begins, DeriveNothing, IsLoop, IsPlaceOf, IsStep, Lead, StepOf, step_of};
+
+use lrpar_grammar::grammar::YaccGrammar;
+use lrpar_grammar::span::{PIdx, RIdx, StorageIndex, Symbol};
+use lrpar_table_sentences::reached::Reached;
+use lrpar_table_sentences::shortest::Shortest;
+use std::alloc::{AllocError, Global};
+
+/// How a rule leads back to itself.
+#[derive(Clone, Copy, Debug, PartialEq, Eq)]
+pub(crate) enum LoopKind {
+    /// It derives itself alone: what is beside the rules on the way derives nothing.
+    DerivesItself,
+    /// Hidden left recursion: it begins with itself, and after symbols that derive nothing.
+    IsHiddenLeft,
+}
+
+/// A step of such a loop: a production of a rule, and the place of the next rule on its right side.
+#[derive(Clone, Copy, Debug, PartialEq, Eq)]
+pub(crate) struct LoopStep<StorageT> {
+    pub(crate) prod: PIdx<StorageT>,
+    pub(crate) place: usize,
+}
+
+/// How a rule leads to the target: by a step, and by so many steps after it.
+#[derive(Clone, Copy, Debug, PartialEq, Eq)]
+struct Way<StorageT> {
+    step: LoopStep<StorageT>,
+    steps: usize,
+}
+
+/// A loop of this kind between rules that are reached from the start, if one is found: one that begins at the first production at which
+/// one can, and there one of the shortest. If a rule is named, it begins with that.
+///
+/// It looks for the shortest texts of all rules, and for each production at which one can begin by sweeps over all steps of the kind.
+pub(crate) fn loop_of<StorageT: StorageIndex>(
+    alloc: Global,
+    grm: &YaccGrammar<StorageT>,
+    kind: LoopKind,
+    rule: Option<RIdx<StorageT>>,
+) -> Result<Option<Vec<LoopStep<StorageT>>>, AllocError>
+    ensures { IfOk result (λ found. IfSome found (λ steps. IsLoop kind grm.now (map (step_of StorageT.index) steps.items))) }
+{
+    let shortest = Shortest::new(alloc, grm)?;
+    let steps = steps_of(alloc, grm, &shortest, kind)?;
+    for first in &steps {
+        if may_begin(grm, kind, rule, *first) {
+            if let Some(found) = loop_from(alloc, grm, &steps, *first)? {
+                if is_loop(grm, &shortest, kind, &found) {
+                    return Ok(Some(found));
+                }
+            }
+        }
+    }
+    Ok(None)
+}
+
+// Whether a loop can begin with the step.
+fn may_begin<StorageT: StorageIndex>(
+    grm: &YaccGrammar<StorageT>,
+    kind: LoopKind,
+    rule: Option<RIdx<StorageT>>,
+    step: LoopStep<StorageT>,
+) -> bool {
+    match rule {
+        Some(rule) if rule_of(grm, step) != Some(rule) => false,
+        _ => has_begun(kind, step),
+    }
+}
+
+// Whether a loop can begin with the step, if it is one of the kind.
+fn has_begun<StorageT: StorageIndex>(kind: LoopKind, step: LoopStep<StorageT>) -> bool
+    ensures { OnTrue result ((steps : List StepOf) → Begins kind (step_of StorageT.index step ∷ steps)) }
+{
+    match kind {
+        LoopKind::DerivesItself => true,
+        LoopKind::IsHiddenLeft => step.place > 0,
+    }
+}
+
+// The rule of the step's production.
+fn rule_of<StorageT: StorageIndex>(
+    grm: &YaccGrammar<StorageT>,
+    step: LoopStep<StorageT>,
+) -> Option<RIdx<StorageT>> {
+    if usize::from(step.prod) < grm.prods_len() {
+        Some(grm.prod_to_rule(step.prod))
+    } else {
+        None
+    }
+}
+
+// The rule to which the step leads.
+fn rule_after<StorageT: StorageIndex>(
+    grm: &YaccGrammar<StorageT>,
+    step: LoopStep<StorageT>,
+) -> Option<RIdx<StorageT>> {
+    if usize::from(step.prod) < grm.prods_len() {
+        rule_at(grm.prod(step.prod), step.place)
+    } else {
+        None
+    }
+}
+
+// The rule at the place, if there is one.
+fn rule_at<StorageT: StorageIndex>(
+    symbols: &[Symbol<StorageT>],
+    place: usize,
+) -> Option<RIdx<StorageT>>
+    ensures within { IfSome result (λ rule. place < length symbols.now) }
+    ensures rule { IfSome result (λ rule. slice_get (map (symbol_of StorageT.index) symbols.now) place ≡ Some (Nonterminal (StorageT.index rule.0))) }
+{
+    match symbols.get(place) {
+        Some(Symbol::Rule(rule)) => Some(*rule),
+        _ => None,
+    }
+}
+
+// All steps of the kind between rules that are reached from the start, production by production.
+fn steps_of<StorageT: StorageIndex>(
+    alloc: Global,
+    grm: &YaccGrammar<StorageT>,
+    shortest: &Shortest<StorageT>,
+    kind: LoopKind,
+) -> Result<Vec<LoopStep<StorageT>>, AllocError> {
+    let reached = Reached::new(alloc, grm)?;
+    let mut steps = Vec::new(alloc);
+    for prod in grm.iter_pidxs() {
+        if usize::from(prod) < grm.prods_len() && reached.is_reached(grm.prod_to_rule(prod)) {
+            push_steps(&mut steps, grm, shortest, kind, prod)?;
+        }
+    }
+    Ok(steps)
+}
+
+// Adds the steps of the kind by a production.
+fn push_steps<StorageT: StorageIndex>(
+    steps: &mut Vec<LoopStep<StorageT>>,
+    grm: &YaccGrammar<StorageT>,
+    shortest: &Shortest<StorageT>,
+    kind: LoopKind,
+    prod: PIdx<StorageT>,
+) -> Result<(), AllocError>
+    requires { StorageT.index prod.0 < prods_len grm.now }
+{
+    let symbols = grm.prod(prod);
+    for place in 0..symbols.len() {
+        if rule_at(symbols, place).is_some() && is_place(shortest, kind, symbols, place) {
+            steps.push(LoopStep { prod, place })?;
+        }
+        if !derive_nothing(shortest, &symbols[place..place + 1]) {
+            return Ok(());
+        }
+    }
+    Ok(())
+}
+
+// The loop that begins with the step, if there is one.
+fn loop_from<StorageT: StorageIndex>(
+    alloc: Global,
+    grm: &YaccGrammar<StorageT>,
+    steps: &[LoopStep<StorageT>],
+    first: LoopStep<StorageT>,
+) -> Result<Option<Vec<LoopStep<StorageT>>>, AllocError> {
+    let Some(target) = rule_of(grm, first) else {
+        return Ok(None);
+    };
+    let ways = ways_to(alloc, grm, steps, target)?;
+    let mut found = Vec::new(alloc);
+    let mut step = first;
+    for _ in 0..grm.rules_len() {
+        found.push(step)?;
+        let Some(rule) = rule_after(grm, step) else {
+            return Ok(None);
+        };
+        if rule == target {
+            return Ok(Some(found));
+        }
+        match ways.get(usize::from(rule)) {
+            Some(Some(way)) => step = way.step,
+            _ => return Ok(None),
+        }
+    }
+    Ok(None)
+}
+
+// For each rule the first step of a shortest way to the target, if there is one.
+fn ways_to<StorageT: StorageIndex>(
+    alloc: Global,
+    grm: &YaccGrammar<StorageT>,
+    steps: &[LoopStep<StorageT>],
+    target: RIdx<StorageT>,
+) -> Result<Vec<Option<Way<StorageT>>>, AllocError> {
+    let mut ways = Vec::with_capacity(alloc, grm.rules_len())?;
+    for _ in 0..grm.rules_len() {
+        ways.push(None)?;
+    }
+    for sweep in 0..grm.rules_len() {
+        if !add_ways(&mut ways, grm, steps, target, sweep) {
+            return Ok(ways);
+        }
+    }
+    Ok(ways)
+}
+
+// Adds the ways of so many steps after the first one, and tells whether there is one.
+fn add_ways<StorageT: StorageIndex>(
+    ways: &mut [Option<Way<StorageT>>],
+    grm: &YaccGrammar<StorageT>,
+    steps: &[LoopStep<StorageT>],
+    target: RIdx<StorageT>,
+    sweep: usize,
+) -> bool {
+    let mut has_more = false;
+    for step in steps {
+        if leads_on(ways, grm, *step, target, sweep) && add_way(ways, grm, *step, sweep) {
+            has_more = true;
+        }
+    }
+    has_more
+}
+
+// Whether the step leads to the target, or to a rule that was given a way by an earlier sweep.
+fn leads_on<StorageT: StorageIndex>(
+    ways: &[Option<Way<StorageT>>],
+    grm: &YaccGrammar<StorageT>,
+    step: LoopStep<StorageT>,
+    target: RIdx<StorageT>,
+    sweep: usize,
+) -> bool {
+    match rule_after(grm, step) {
+        Some(rule) if rule == target => true,
+        Some(rule) => match ways.get(usize::from(rule)) {
+            Some(Some(way)) => way.steps < sweep,
+            _ => false,
+        },
+        None => false,
+    }
+}
+
+// Keeps the step for its rule, and tells whether that had none.
+fn add_way<StorageT: StorageIndex>(
+    ways: &mut [Option<Way<StorageT>>],
+    grm: &YaccGrammar<StorageT>,
+    step: LoopStep<StorageT>,
+    sweep: usize,
+) -> bool {
+    let Some(rule) = rule_of(grm, step) else {
+        return false;
+    };
+    let rule = usize::from(rule);
+    if rule < ways.len() && ways[rule].is_none() {
+        ways[rule] = Some(Way { step, steps: sweep });
+        true
+    } else {
+        false
+    }
+}
+
+// Whether the steps are a loop of the kind.
+fn is_loop<StorageT: StorageIndex>(
+    grm: &YaccGrammar<StorageT>,
+    shortest: &Shortest<StorageT>,
+    kind: LoopKind,
+    steps: &[LoopStep<StorageT>],
+) -> bool
+    requires { AreShortest grm.now usize.MAX shortest.now }
+    ensures { OnTrue result (IsLoop kind grm.now (map (step_of StorageT.index) steps.now)) }
+{
+    let Some((first, _)) = steps.split_first() else {
+        return false;
+    };
+    match rule_of(grm, *first) {
+        Some(rule) if has_begun(kind, *first) => match end_of(grm, shortest, kind, steps, rule) {
+            Some(end) => usize::from(end) == usize::from(rule),
+            None => false,
+        },
+        _ => false,
+    }
+}
+
+// The rule to which the steps lead from this one, if they are steps of the kind.
+fn end_of<StorageT: StorageIndex>(
+    grm: &YaccGrammar<StorageT>,
+    shortest: &Shortest<StorageT>,
+    kind: LoopKind,
+    steps: &[LoopStep<StorageT>],
+    from: RIdx<StorageT>,
+) -> Option<RIdx<StorageT>>
+    requires { AreShortest grm.now usize.MAX shortest.now }
+    ensures { IfSome result (λ to. Lead kind grm.now (StorageT.index from.0) (map (step_of StorageT.index) steps.now) (StorageT.index to.0)) }
+{
+    let mut rule = from;
+    'steps: for step in steps {
+        match end_of_step(grm, shortest, kind, rule, *step) {
+            Some(next) => rule = next,
+            None => return None,
+        }
+    }
+    Some(rule)
+}
+
+// The rule to which the step leads from this one, if it is a step of the kind.
+fn end_of_step<StorageT: StorageIndex>(
+    grm: &YaccGrammar<StorageT>,
+    shortest: &Shortest<StorageT>,
+    kind: LoopKind,
+    from: RIdx<StorageT>,
+    step: LoopStep<StorageT>,
+) -> Option<RIdx<StorageT>>
+    requires { AreShortest grm.now usize.MAX shortest.now }
+    ensures { IfSome result (λ to. IsStep kind grm.now (StorageT.index from.0) (step_of StorageT.index step) (StorageT.index to.0)) }
+{
+    if usize::from(step.prod) >= grm.prods_len()
+        || usize::from(grm.prod_to_rule(step.prod)) != usize::from(from)
+    {
+        return None;
+    }
+    let symbols = grm.prod(step.prod);
+    let to = rule_at(symbols, step.place)?;
+    if is_place(shortest, kind, symbols, step.place) {
+        Some(to)
+    } else {
+        None
+    }
+}
+
+// Whether a step of the kind can lead to the symbol at the place.
+fn is_place<StorageT: StorageIndex>(
+    shortest: &Shortest<StorageT>,
+    kind: LoopKind,
+    symbols: &[Symbol<StorageT>],
+    place: usize,
+) -> bool
+    requires { place < length symbols.now }
+    ensures { (g : Grammar) → AreShortest g usize.MAX shortest.now → OnTrue result (IsPlaceOf kind g (map (symbol_of StorageT.index) symbols.now) place) }
+{
+    match kind {
+        LoopKind::DerivesItself => {
+            derive_nothing(shortest, &symbols[..place])
+                && derive_nothing(shortest, &symbols[place + 1..])
+        }
+        LoopKind::IsHiddenLeft => derive_nothing(shortest, &symbols[..place]),
+    }
+}
+
+// Whether the symbols derive the empty text.
+fn derive_nothing<StorageT: StorageIndex>(
+    shortest: &Shortest<StorageT>,
+    symbols: &[Symbol<StorageT>],
+) -> bool
+    ensures { (g : Grammar) → AreShortest g usize.MAX shortest.now → OnTrue result (DeriveNothing g (map (symbol_of StorageT.index) symbols.now)) }
+{
+    match shortest.len_of_all(symbols) {
+        Some(len) => len == 0,
+        None => false,
+    }
+}

@@ -1,0 +1,243 @@
+//! The words after the program's name as options and paths.
+use crate::fault::Fault;
+use crate::plan::{Format, Recovery};
+use std::alloc::Global;
+
+/// What the words ask for.
+#[derive(Drop)]
+pub(crate) struct Options<'a> {
+    /// Whether errors alone are printed.
+    pub(crate) is_quiet: bool,
+    pub(crate) recovery: Recovery,
+    /// How many lexemes have to follow a repair, where that is told.
+    pub(crate) shifts: Option<usize>,
+    pub(crate) format: Format,
+    /// The rules of the lexer.
+    pub(crate) lexer: &'a str,
+    pub(crate) grammar: &'a str,
+    /// The inputs, `-` being standard input. There is at least one.
+    pub(crate) inputs: Vec<&'a str>,
+}
+
+/// How many beginnings of repairs may cost no more than the repairs that are looked for, if no word gives another number.
+const LIMIT: usize = 4_000;
+
+/// What the program says of itself, behind its usage.
+pub(crate) const HELP: &str = "
+
+Reads the rules of a lexer and a grammar, and parses each input: standard input for none, or for `-`.
+
+  -q           print errors alone: no trees, no warnings, no notes
+  -r none      look for no repairs: the first error of an input is the last
+  -r cpctplus  look for the cheapest repairs at each error, and go on with the first of them (this is the default)
+  --limit N    give up at an error where more beginnings of repairs than this cost no more (4000)
+  --shifts K   so many lexemes have to follow a repair (3)
+  --format F   print trees in brackets on one line, as an indented tree, as json, or as a graph (dot)
+  -h           print this
+  --           the words behind it are paths
+
+Status 0: each input has a tree and no error; 1: an input has errors; 2: there is no answer.
+";
+
+// What the words so far say.
+#[derive(Drop)]
+struct Said<'a> {
+    is_quiet: bool,
+    search: Search,
+    limit: Option<usize>,
+    shifts: Option<usize>,
+    format: Format,
+    paths: Vec<&'a str>,
+}
+
+// An option with a word that belongs to it.
+#[derive(Clone, Copy)]
+enum Valued {
+    Recovery,
+    Limit,
+    Shifts,
+    Format,
+}
+
+// Whether repairs are looked for.
+#[derive(Clone, Copy)]
+enum Search {
+    Nothing,
+    Cheapest,
+}
+
+/// Whether the words ask for what the program says of itself.
+pub(crate) fn asks_for_help(args: &[String]) -> bool {
+    match args {
+        [word] => matches!(word.as_str(), "-h" | "--help"),
+        _ => false,
+    }
+}
+
+/// What these words ask for. Options may stand anywhere; behind `--` all words are paths.
+pub(crate) fn options_of(alloc: Global, args: &[String]) -> Result<Options<'_>, Fault> {
+    let mut said = Said {
+        is_quiet: false,
+        search: Search::Cheapest,
+        limit: None,
+        shifts: None,
+        format: Format::Brackets,
+        paths: Vec::new(alloc),
+    };
+    let mut left = args;
+    for _ in 0..args.len() {
+        let Some((word, others)) = left.split_first() else {
+            break;
+        };
+        left = taken(&mut said, word.as_str(), others)?;
+    }
+    options_said(said)
+}
+
+// Takes a word, and the words behind it that belong to it. Answers those that are left.
+fn taken<'a>(
+    said: &mut Said<'a>,
+    word: &'a str,
+    others: &'a [String],
+) -> Result<&'a [String], Fault> {
+    if let Some(option) = option_named(word) {
+        let (value, left) = value(option, others)?;
+        take_value(said, option, value)?;
+        return Ok(left);
+    }
+    match word {
+        "-q" => said.is_quiet = true,
+        "--" => {
+            for path in others {
+                said.paths.push(path.as_str())?;
+            }
+            return Ok(&[]);
+        }
+        _ if word.starts_with('-') && word != "-" => {
+            return Err(Fault::Usage("unknown option"));
+        }
+        _ => said.paths.push(word)?,
+    }
+    Ok(others)
+}
+
+// The option of that name, where a word belongs to it.
+fn option_named(word: &str) -> Option<Valued> {
+    match word {
+        "-r" => Some(Valued::Recovery),
+        "--limit" => Some(Valued::Limit),
+        "--shifts" => Some(Valued::Shifts),
+        "--format" => Some(Valued::Format),
+        _ => None,
+    }
+}
+
+// The word that belongs to an option, and those behind it.
+fn value<'a>(option: Valued, words: &'a [String]) -> Result<(&'a str, &'a [String]), Fault> {
+    match words.split_first() {
+        Some((value, left)) => Ok((value.as_str(), left)),
+        None => Err(Fault::Usage(needs(option))),
+    }
+}
+
+// What an option needs behind it.
+fn needs(option: Valued) -> &'static str {
+    match option {
+        Valued::Recovery => "-r needs none or cpctplus",
+        Valued::Limit => "--limit needs a number",
+        Valued::Shifts => "--shifts needs a number",
+        Valued::Format => "--format needs brackets, tree, json or dot",
+    }
+}
+
+// Takes an option with the word that belongs to it.
+fn take_value(said: &mut Said<'_>, option: Valued, value: &str) -> Result<(), Fault> {
+    match option {
+        Valued::Recovery => said.search = search_of(value)?,
+        Valued::Limit => said.limit = Some(number_of(option, value)?),
+        Valued::Shifts => said.shifts = Some(shifts_of(value)?),
+        Valued::Format => said.format = format_of(value)?,
+    }
+    Ok(())
+}
+
+// The search of that name.
+fn search_of(name: &str) -> Result<Search, Fault> {
+    match name {
+        "none" => Ok(Search::Nothing),
+        "cpctplus" => Ok(Search::Cheapest),
+        _ => Err(Fault::Usage(needs(Valued::Recovery))),
+    }
+}
+
+// The format of that name.
+fn format_of(name: &str) -> Result<Format, Fault> {
+    match name {
+        "brackets" => Ok(Format::Brackets),
+        "tree" => Ok(Format::Indented),
+        "json" => Ok(Format::Json),
+        "dot" => Ok(Format::Graph),
+        _ => Err(Fault::Usage(needs(Valued::Format))),
+    }
+}
+
+// How many lexemes have to follow a repair.
+fn shifts_of(digits: &str) -> Result<usize, Fault> {
+    match number_of(Valued::Shifts, digits)? {
+        0 => Err(Fault::zero_shifts()),
+        count => Ok(count),
+    }
+}
+
+// The number that belongs to an option.
+fn number_of(option: Valued, digits: &str) -> Result<usize, Fault> {
+    if !digits.bytes().all(|byte| byte.is_ascii_digit()) {
+        return Err(Fault::Usage(needs(option)));
+    }
+    match digits.parse::<usize>() {
+        Ok(number) => Ok(number),
+        Err(_) => Err(Fault::Usage(needs(option))),
+    }
+}
+
+// The options that are said: the first two paths are those of lexer and grammar, and the inputs are standard input where there are no
+// others.
+fn options_said(said: Said<'_>) -> Result<Options<'_>, Fault> {
+    let recovery = recovery_of(said.search, said.limit)?;
+    let Said {
+        is_quiet,
+        search: _,
+        limit: _,
+        shifts,
+        format,
+        mut paths,
+    } = said;
+    if paths.len() < 2 {
+        return Err(Fault::Usage("LEXER and GRAMMAR are missing"));
+    }
+    let lexer = paths.remove(0);
+    let grammar = paths.remove(0);
+    if paths.is_empty() {
+        paths.push("-")?;
+    }
+    Ok(Options {
+        is_quiet,
+        recovery,
+        shifts,
+        format,
+        lexer,
+        grammar,
+        inputs: paths,
+    })
+}
+
+// Which repairs are looked for, with this limit, where it is told.
+fn recovery_of(search: Search, limit: Option<usize>) -> Result<Recovery, Fault> {
+    match (search, limit) {
+        (Search::Nothing, None) => Ok(Recovery::Nothing),
+        (Search::Nothing, Some(_)) => Err(Fault::Usage("--limit needs -r cpctplus")),
+        (Search::Cheapest, limit) => Ok(Recovery::Cheapest {
+            limit: limit.unwrap_or(LIMIT),
+        }),
+    }
+}

@@ -1,0 +1,254 @@
+//! The parse of one input, and what is printed of it.
+ghost use Rattle.std.specs.Prelude.{◌≡◌};
+
+use crate::errors::{Subject, push_lexing_error, push_parse_error, push_repairs};
+use crate::fault::Fault;
+use crate::plan::{Format, Plan, Recovery};
+use crate::show::tell;
+use lrpar_grammar::span::{StIdx, TIdx};
+use lrpar_lexer::{RuleLexer, Token, TokenTypes};
+use lrpar_parse::RTParserBuilder;
+use lrpar_parse_cpctplus::CpctPlus;
+use lrpar_parse_errors::errors::LexParseError;
+use lrpar_parse_lexemes::lex_api::NonStreamingLexer;
+use lrpar_parse_repair::repair::Recoverer;
+use lrpar_parse_trees::{Form, write_graph, write_nested};
+use lrpar_report::Reporter;
+use lrpar_table::check::ParserData;
+use program_files::parsing::{TextError, Tree};
+use std::alloc::{AllocError, Global};
+use std::io::Write;
+
+/// Parses the input of this path and text: tells its errors, and prints its tree, if there is one. Answers whether there is one, and no
+/// error.
+pub fn parse<O: Write, E: Write>(
+    alloc: Global,
+    plan: &Plan<'_>,
+    path: &str,
+    input: &str,
+    out: &mut O,
+    err: &mut E,
+) -> Result<bool, Fault> {
+    parse_text(alloc, plan, path, input, out, err)
+}
+
+// The same, with one lifetime for what messages print of tokens and of the input.
+fn parse_text<'a, O: Write, E: Write>(
+    alloc: Global,
+    plan: &'a Plan<'_>,
+    path: &str,
+    input: &'a str,
+    out: &mut O,
+    err: &mut E,
+) -> Result<bool, Fault> {
+    let lexer = RuleLexer::new(alloc, plan.rules, input)?;
+    let (tree, errors) = parsed(alloc, plan, &lexer)?;
+    let tree = tree.as_ref();
+    printed(alloc, plan, &lexer, path, input, tree, &errors, out, err)
+}
+
+// Tells the errors, and prints the tree. Answers whether there is a tree, and no error.
+fn printed<'a, O: Write, E: Write>(
+    alloc: Global,
+    plan: &'a Plan<'_>,
+    lexer: &RuleLexer<'_, 'a>,
+    path: &str,
+    input: &str,
+    tree: Option<&Tree>,
+    errors: &[TextError],
+    out: &mut O,
+    err: &mut E,
+) -> Result<bool, Fault>
+    requires { lexer.now.input.now ≡ input.now }
+{
+    if !errors.is_empty() {
+        tell_errors(alloc, plan, lexer, path, input, errors, out, err)?;
+    }
+    match tree {
+        Some(tree) => {
+            print_tree(alloc, plan, path, input, tree, out)?;
+            Ok(errors.is_empty())
+        }
+        None => Ok(false),
+    }
+}
+
+// Tells the errors.
+fn tell_errors<'a, O: Write, E: Write>(
+    alloc: Global,
+    plan: &'a Plan<'_>,
+    lexer: &RuleLexer<'_, 'a>,
+    path: &str,
+    input: &str,
+    errors: &[TextError],
+    out: &mut O,
+    err: &mut E,
+) -> Result<(), Fault>
+    requires { lexer.now.input.now ≡ input.now }
+{
+    let expected = expected_tokens(alloc, plan, lexer, errors)?;
+    let text = errors_text(alloc, plan, lexer, path, input, &expected, errors)?;
+    tell(out, err, text.as_str())
+}
+
+// The tree of the lexer's text, if there is one, and the errors.
+fn parsed(
+    alloc: Global,
+    plan: &Plan<'_>,
+    lexer: &RuleLexer<'_, '_>,
+) -> Result<(Option<Tree>, Vec<TextError>), Fault> {
+    let parser = RTParserBuilder::new(plan.data);
+    match plan.recovery {
+        Recovery::Nothing => parsed_by(alloc, parser, plan.shifts, lexer),
+        Recovery::Cheapest { limit } => {
+            let parser = parser.recoverer(CpctPlus::new(limit));
+            parsed_by(alloc, parser, plan.shifts, lexer)
+        }
+    }
+}
+
+// The same by a parser, and by how many lexemes have to follow a repair, where that is told.
+fn parsed_by<R: Recoverer<u32, Token<u32>> + Drop>(
+    alloc: Global,
+    parser: RTParserBuilder<'_, u32, TokenTypes, R>,
+    shifts: Option<usize>,
+    lexer: &RuleLexer<'_, '_>,
+) -> Result<(Option<Tree>, Vec<TextError>), Fault> {
+    let parser = match shifts {
+        None => parser,
+        Some(count) => match parser.shifts(count) {
+            Ok(parser) => parser,
+            Err(_) => return Err(Fault::zero_shifts()),
+        },
+    };
+    Ok(parser.parse_generictree(alloc, lexer)?)
+}
+
+// The messages of the errors of an input.
+fn errors_text<'a, L: NonStreamingLexer<'a, TokenTypes>>(
+    alloc: Global,
+    plan: &'a Plan<'_>,
+    lexer: &L,
+    path: &str,
+    input: &str,
+    expected: &[TIdx<u32>],
+    errors: &[TextError],
+) -> Result<String, AllocError>
+    requires { L.text lexer.now ≡ input.now }
+{
+    let reporter = Reporter::new(alloc, input, path, plan.look)?;
+    let mut text = String::new(alloc);
+    for (place, error) in errors.iter().enumerate() {
+        let tokens = tokens_of(plan.data, expected, place, error);
+        push_error(
+            &mut text, alloc, plan, &reporter, lexer, input, tokens, error,
+        )?;
+    }
+    Ok(text)
+}
+
+// The tokens that can be fed at the first error, if it is one of the parse.
+fn expected_tokens(
+    alloc: Global,
+    plan: &Plan<'_>,
+    lexer: &RuleLexer<'_, '_>,
+    errors: &[TextError],
+) -> Result<Vec<TIdx<u32>>, Fault> {
+    match errors.first() {
+        Some(LexParseError::ParseError(_)) => {
+            let parser = RTParserBuilder::<u32, TokenTypes, _>::new(plan.data);
+            Ok(parser.expected(alloc, lexer)?.tokens)
+        }
+        _ => Ok(Vec::new(alloc)),
+    }
+}
+
+// What may come at an error: at the first one these tokens, and at a later one those at which its state has an action.
+fn tokens_of<'a>(
+    data: &'a ParserData<u32>,
+    first: &'a [TIdx<u32>],
+    place: usize,
+    error: &TextError,
+) -> &'a [TIdx<u32>] {
+    match error {
+        _ if place == 0 => first,
+        LexParseError::ParseError(failure) => tokens_at(data, failure.stidx()),
+        LexParseError::LexError(_) => &[],
+    }
+}
+
+// The tokens at which a state has an action.
+fn tokens_at(data: &ParserData<u32>, state: StIdx<u32>) -> &[TIdx<u32>] {
+    if usize::from(state) >= data.stable().states_len() {
+        return &[];
+    }
+    let (tokens, _) = data.stable().actions_of(state);
+    tokens
+}
+
+// Adds the message of an error.
+fn push_error<'a, L: NonStreamingLexer<'a, TokenTypes>>(
+    text: &mut String,
+    alloc: Global,
+    plan: &'a Plan<'_>,
+    reporter: &Reporter<'_>,
+    lexer: &L,
+    input: &str,
+    expected: &[TIdx<u32>],
+    error: &TextError,
+) -> Result<(), AllocError>
+    requires { L.text lexer.now ≡ input.now }
+{
+    match error {
+        LexParseError::LexError(error) => push_lexing_error(text, alloc, reporter, input, error),
+        LexParseError::ParseError(failure) => {
+            let subject = Subject {
+                grm: plan.data.grm(),
+                input,
+                expected,
+            };
+            push_parse_error(text, alloc, reporter, &subject, failure)?;
+            push_repairs(text, alloc, plan.recovery, plan.names, lexer, input, error)
+        }
+    }
+}
+
+// Prints the tree of an input, unless it is to be quiet.
+fn print_tree<O: Write>(
+    alloc: Global,
+    plan: &Plan<'_>,
+    path: &str,
+    input: &str,
+    tree: &Tree,
+    out: &mut O,
+) -> Result<(), Fault> {
+    if plan.is_quiet {
+        return Ok(());
+    }
+    let grm = plan.data.grm();
+    match plan.format {
+        Format::Brackets => {
+            print_path(plan, path, out)?;
+            write_nested(alloc, Form::Brackets, grm, input, tree, out)?;
+            out.write_all(b"\n")?;
+        }
+        Format::Indented => {
+            print_path(plan, path, out)?;
+            tree.write(alloc, grm, input, out)?;
+        }
+        Format::Json => {
+            write_nested(alloc, Form::Json, grm, input, tree, out)?;
+            out.write_all(b"\n")?;
+        }
+        Format::Graph => write_graph(alloc, grm, input, tree, out)?,
+    }
+    Ok(())
+}
+
+// Prints the path in front of the tree of an input, where there are several.
+fn print_path<O: Write>(plan: &Plan<'_>, path: &str, out: &mut O) -> Result<(), Fault> {
+    if plan.shows_paths {
+        writeln!(out, "{path}:")?;
+    }
+    Ok(())
+}

@@ -1,0 +1,47 @@
+//! What inputs are parsed by, and how trees are printed.
+use lrpar_lexer::LexRule;
+use lrpar_report::Look;
+use lrpar_table::check::ParserData;
+
+/// How trees are printed.
+#[derive(Clone, Copy, Debug, PartialEq, Eq)]
+pub enum Format {
+    /// On one line, in brackets.
+    Brackets,
+    /// A line for each node, indented by its level.
+    Indented,
+    /// As JSON, on one line.
+    Json,
+    /// As a graph for Graphviz.
+    Graph,
+}
+
+/// Which repairs are looked for.
+#[derive(Clone, Copy, Debug, PartialEq, Eq)]
+pub enum Recovery {
+    /// None.
+    Nothing,
+    /// Those of least cost.
+    Cheapest {
+        /// How many beginnings of repairs may cost no more than the repairs that are looked for.
+        limit: usize,
+    },
+}
+
+/// What inputs are parsed by, and how trees are printed.
+#[derive(Clone, Copy)]
+pub struct Plan<'a> {
+    pub data: &'a ParserData<u32>,
+    pub rules: &'a [LexRule],
+    /// What messages print for the tokens, in their order.
+    pub names: &'a [&'a str],
+    pub recovery: Recovery,
+    /// How many lexemes have to follow a repair, where that is told.
+    pub shifts: Option<usize>,
+    pub format: Format,
+    /// Whether errors alone are printed.
+    pub is_quiet: bool,
+    /// Whether trees are headed by the path of their input.
+    pub shows_paths: bool,
+    pub look: Look,
+}

@@ -1,0 +1,357 @@
+//! The whole program: its words to a grammar, a lexer and inputs, their trees to standard output, and messages to standard error.
+ghost use Rattle.std.specs.Prelude.{◌≤◌};
+
+use crate::fault::{Fault, USAGE};
+use crate::grammar::data_of;
+use crate::inputs::{STANDARD_INPUT, file_text, input_text};
+use crate::options::{HELP, Options, asks_for_help, options_of};
+use crate::parse::parse;
+use crate::plan::Plan;
+use crate::rules::lexer_rules;
+use crate::show::{push_message, tell};
+use crate::warnings::push_token_warnings;
+use lrpar_lexer::LexRule;
+use lrpar_report::{Level, Look, Reporter};
+use lrpar_table::check::ParserData;
+use program_files::parsing::printed_names;
+use program_files::streams::{Status, ended, finished, words};
+use std::alloc::{AllocError, Global};
+use std::io::{BufWriter, IsTerminal, Read, Write};
+use std::rt::Files;
+use std::{env, io};
+
+/// What messages may rely on: that they come to a terminal, or not.
+#[derive(Clone, Copy, Debug, PartialEq, Eq)]
+pub struct Terminal {
+    /// Whether messages have colours.
+    pub look: Look,
+    /// Whether a line tells what is done, where that can take long.
+    pub shows_progress: bool,
+}
+
+/// Runs the program on the process's own arguments and streams, and answers its exit status, as [`run`] does. An argument that isn't
+/// UTF-8 is a wrong one. Messages have colours where standard error is a terminal, and `NO_COLOR` isn't set or is empty.
+pub fn run_of_process(rt: &HostRuntime) -> u8
+    ensures status { result ≤ 2 }
+{
+    match words(rt) {
+        Ok(args) => run(
+            rt,
+            rt.alloc(),
+            &args,
+            terminal_of(rt),
+            rt.stdin(),
+            rt.stdout(),
+            rt.stderr(),
+        ),
+        Err(error) => ended(Err(fault_of_arguments(&error)), &mut rt.stderr()),
+    }
+}
+
+/// Runs the program and answers its exit status: 0 where each input has a tree and no error, 1 where one has errors, 2 where there is no
+/// answer. `args` are the words after the program's name, and the files that they name are read by `rt`.
+///
+/// Trees are written to `out`, and messages to `err`: errors, and unless the words ask for errors alone, warnings and a note of how large
+/// the grammar and its table are. That `err` fails changes nothing. What is written to `out` is kept back until much of it is there, or
+/// something is written to `err`, or the program ends.
+pub fn run<R: Files, I: Read + Drop, O: Write + Drop, E: Write + Drop>(
+    rt: &R,
+    alloc: Global,
+    args: &[String],
+    terminal: Terminal,
+    input: I,
+    out: O,
+    mut err: E,
+) -> u8
+    ensures status { result ≤ 2 }
+{
+    let ending = written(rt, alloc, args, terminal, input, out, &mut err);
+    ended(ending, &mut err)
+}
+
+// The fault of a failed look at the program's arguments.
+fn fault_of_arguments(error: &io::Error) -> Fault {
+    match error.kind() {
+        io::ErrorKind::OutOfMemory => Fault::Memory,
+        _ => Fault::Usage("a word isn't UTF-8"),
+    }
+}
+
+// What is known of the terminal.
+fn terminal_of(rt: &HostRuntime) -> Terminal {
+    let is_terminal = rt.stderr().is_terminal();
+    Terminal {
+        look: if is_terminal && may_colour(rt) {
+            Look::Coloured
+        } else {
+            Look::Plain
+        },
+        shows_progress: is_terminal,
+    }
+}
+
+// Whether `NO_COLOR` isn't set or is empty (<https://no-color.org>).
+fn may_colour(rt: &HostRuntime) -> bool {
+    match env::var(rt, "NO_COLOR") {
+        Ok(text) => text.is_empty(),
+        Err(error) => error == env::VarError::NotPresent,
+    }
+}
+
+// How the program ends, once all that it prints is written.
+fn written<R: Files, I: Read + Drop, O: Write + Drop, E: Write>(
+    rt: &R,
+    alloc: Global,
+    args: &[String],
+    terminal: Terminal,
+    input: I,
+    out: O,
+    err: &mut E,
+) -> Result<Status, Fault> {
+    match BufWriter::new(alloc, out) {
+        Ok(mut out) => {
+            let status = printed(rt, alloc, args, terminal, input, &mut out, err);
+            finished(status, out)
+        }
+        Err(_) => Err(Fault::Memory),
+    }
+}
+
+// The same, with what is printed.
+fn printed<R: Files, I: Read + Drop, O: Write, E: Write>(
+    rt: &R,
+    alloc: Global,
+    args: &[String],
+    terminal: Terminal,
+    input: I,
+    out: &mut O,
+    err: &mut E,
+) -> Result<Status, Fault> {
+    if asks_for_help(args) {
+        return helped(out);
+    }
+    let options = options_of(alloc, args)?;
+    printed_by_options(rt, alloc, &options, terminal, input, out, err)
+}
+
+// What the program says of itself.
+fn helped<O: Write>(out: &mut O) -> Result<Status, Fault> {
+    out.write_all(USAGE.as_bytes())?;
+    out.write_all(HELP.as_bytes())?;
+    Ok(Status::Success)
+}
+
+// The same by options.
+fn printed_by_options<R: Files, I: Read + Drop, O: Write, E: Write>(
+    rt: &R,
+    alloc: Global,
+    options: &Options<'_>,
+    terminal: Terminal,
+    input: I,
+    out: &mut O,
+    err: &mut E,
+) -> Result<Status, Fault> {
+    let grammar = file_text(rt, alloc, options.grammar)?;
+    let lexer = file_text(rt, alloc, options.lexer)?;
+    let work = Work {
+        options,
+        terminal,
+        grammar: grammar.as_str(),
+        lexer: lexer.as_str(),
+    };
+    printed_by_texts(rt, alloc, work, input, out, err)
+}
+
+// What the words ask for, and the texts of the files that they name.
+#[derive(Clone, Copy)]
+struct Work<'a> {
+    options: &'a Options<'a>,
+    terminal: Terminal,
+    grammar: &'a str,
+    lexer: &'a str,
+}
+
+impl<'a> Work<'a> {
+    // What messages about the grammar's text need.
+    fn grammar_reporter(self, alloc: Global) -> Result<Reporter<'a>, AllocError> {
+        Reporter::new(
+            alloc,
+            self.grammar,
+            self.options.grammar,
+            self.terminal.look,
+        )
+    }
+
+    // How inputs are parsed and trees are printed.
+    fn plan(
+        self,
+        data: &'a ParserData<u32>,
+        rules: &'a [LexRule],
+        names: &'a [&'a str],
+    ) -> Plan<'a> {
+        Plan {
+            data,
+            rules,
+            names,
+            recovery: self.options.recovery,
+            shifts: self.options.shifts,
+            format: self.options.format,
+            is_quiet: self.options.is_quiet,
+            shows_paths: self.options.inputs.len() > 1,
+            look: self.terminal.look,
+        }
+    }
+}
+
+// The same by the texts.
+fn printed_by_texts<R: Files, I: Read + Drop, O: Write, E: Write>(
+    rt: &R,
+    alloc: Global,
+    work: Work<'_>,
+    input: I,
+    out: &mut O,
+    err: &mut E,
+) -> Result<Status, Fault> {
+    let data = grammar_data(alloc, work, out, err)?;
+    printed_by_table(rt, alloc, work, &data, input, out, err)
+}
+
+// The same by the checked table of the grammar.
+fn printed_by_table<R: Files, I: Read + Drop, O: Write, E: Write>(
+    rt: &R,
+    alloc: Global,
+    work: Work<'_>,
+    data: &ParserData<u32>,
+    input: I,
+    out: &mut O,
+    err: &mut E,
+) -> Result<Status, Fault> {
+    let rules = rules_of_lexer(alloc, work, data)?;
+    warn(alloc, work, data, &rules, out, err)?;
+    parse_inputs(rt, alloc, work, data, &rules, input, out, err)
+}
+
+// The checked table of the grammar.
+fn grammar_data<O: Write, E: Write>(
+    alloc: Global,
+    work: Work<'_>,
+    out: &mut O,
+    err: &mut E,
+) -> Result<ParserData<u32>, Fault> {
+    let is_quiet = work.options.is_quiet;
+    if work.terminal.shows_progress && !is_quiet {
+        tell(out, err, "nimbleparse: building the table ..\n")?;
+    }
+    let reporter = work.grammar_reporter(alloc)?;
+    data_of(alloc, &reporter, work.grammar, is_quiet, out, err)
+}
+
+// The rules of the lexer.
+fn rules_of_lexer(
+    alloc: Global,
+    work: Work<'_>,
+    data: &ParserData<u32>,
+) -> Result<Vec<LexRule>, Fault> {
+    let path = work.options.lexer;
+    let reporter = Reporter::new(alloc, work.lexer, path, work.terminal.look)?;
+    lexer_rules(alloc, &reporter, data.grm(), work.lexer)
+}
+
+// Warns of tokens that the lexer never gives, and tells how large the grammar and its table are, unless it is to be quiet.
+fn warn<O: Write, E: Write>(
+    alloc: Global,
+    work: Work<'_>,
+    data: &ParserData<u32>,
+    rules: &[LexRule],
+    out: &mut O,
+    err: &mut E,
+) -> Result<(), Fault> {
+    if work.options.is_quiet {
+        return Ok(());
+    }
+    let text = warnings(alloc, work, data, rules)?;
+    tell(out, err, text.as_str())
+}
+
+// The text of the warnings and of the note.
+fn warnings(
+    alloc: Global,
+    work: Work<'_>,
+    data: &ParserData<u32>,
+    rules: &[LexRule],
+) -> Result<String, AllocError> {
+    let reporter = work.grammar_reporter(alloc)?;
+    let mut text = String::new(alloc);
+    push_token_warnings(&mut text, alloc, &reporter, data.grm(), rules)?;
+    push_sizes(&mut text, alloc, &reporter, data)?;
+    Ok(text)
+}
+
+// Adds a note of how large a grammar and its table are, and of the least cap.
+fn push_sizes(
+    out: &mut String,
+    alloc: Global,
+    reporter: &Reporter<'_>,
+    data: &ParserData<u32>,
+) -> Result<(), AllocError> {
+    let states = data.stable().states_len();
+    let rules = data.grm().rules_len();
+    let prods = data.grm().prods_len();
+    let tokens = data.grm().tokens_len();
+    let cap = data.least_cap();
+    let text = format!(in alloc;
+        "rules {rules}, productions {prods}, tokens {tokens}, states {states}, least cap {cap}"
+    )?;
+    push_message(out, alloc, reporter, Level::Note, None, text, "")
+}
+
+// Parses the inputs, and prints what comes of them: how that ends.
+fn parse_inputs<R: Files, I: Read + Drop, O: Write, E: Write>(
+    rt: &R,
+    alloc: Global,
+    work: Work<'_>,
+    data: &ParserData<u32>,
+    rules: &[LexRule],
+    input: I,
+    out: &mut O,
+    err: &mut E,
+) -> Result<Status, Fault> {
+    let names = printed_names(alloc, data.grm())?;
+    let plan = work.plan(data, rules, &names);
+    parse_paths(rt, alloc, &plan, &work.options.inputs, input, out, err)
+}
+
+// The same for the inputs of these paths: it's a success where each has a tree, and no error.
+fn parse_paths<R: Files, I: Read + Drop, O: Write, E: Write>(
+    rt: &R,
+    alloc: Global,
+    plan: &Plan<'_>,
+    paths: &[&str],
+    input: I,
+    out: &mut O,
+    err: &mut E,
+) -> Result<Status, Fault> {
+    let mut input = Some(input);
+    let mut are_clean = true;
+    for path in paths {
+        let text = text_of_input(rt, alloc, path, &mut input)?;
+        are_clean = parse(alloc, plan, path, text.as_str(), out, err)? && are_clean;
+    }
+    Ok(Status::of(are_clean))
+}
+
+// The text of an input.
+fn text_of_input<R: Files, I: Read + Drop>(
+    rt: &R,
+    alloc: Global,
+    path: &str,
+    input: &mut Option<I>,
+) -> Result<String, Fault> {
+    if path != STANDARD_INPUT {
+        return file_text(rt, alloc, path);
+    }
+    match input.take() {
+        Some(input) => input_text(alloc, input),
+        None => Err(Fault::Usage("standard input can be read once")),
+    }
+}

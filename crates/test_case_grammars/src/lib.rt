@@ -1,0 +1,8 @@
+//! Cases of grammars, of underlined messages, and of counterexamples.
+#![tactic(auto)]
+
+pub mod examples;
+pub mod grammars;
+pub mod parts;
+pub mod underlines;
+mod uses;

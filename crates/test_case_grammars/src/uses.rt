@@ -1,0 +1,46 @@
+//! Which rules of a grammar are reached from its start, and which derive some text.
+use lrpar_grammar::grammar::YaccGrammar;
+use lrpar_table_sentences::reached::Reached;
+use lrpar_table_sentences::shortest::Shortest;
+use std::alloc::Global;
+use test_case_lines::fault::Fault;
+use test_case_lines::names::rule_name;
+use test_case_lines::told::Told;
+
+/// A line for each rule, and the first rule that is reached and derives no text.
+pub(crate) fn push_uses(
+    told: &mut Told,
+    alloc: Global,
+    grm: &YaccGrammar<u8>,
+) -> Result<(), Fault> {
+    let shortest = Shortest::new(alloc, grm)?;
+    let reached = Reached::new(alloc, grm)?;
+    for rule in grm.iter_rules() {
+        push_use(
+            told,
+            rule_name(grm, rule),
+            reached.is_reached(rule),
+            shortest.derives_text(rule),
+        );
+    }
+    match shortest.barren(alloc, grm)? {
+        Some(rule) => told.line("barren ", &rule_name(grm, rule)),
+        None => told.text("barren none\n"),
+    }
+    Ok(())
+}
+
+// A rule's name, whether it is reached, and whether it derives some text.
+fn push_use(told: &mut Told, name: &str, is_reached: bool, derives: bool) {
+    told.texts("use ", name);
+    told.text(if is_reached {
+        ": reached"
+    } else {
+        ": not reached"
+    });
+    told.text(if derives {
+        ", derives a text\n"
+    } else {
+        ", derives none\n"
+    });
+}

@@ -1,0 +1,149 @@
+//! What may come next: at a list of states, over which tokens are fed first, or after lexemes.
+use crate::calls::Parser;
+use crate::lexemes::{Given, HandedLexer, given_of};
+use crate::recoverer::no_recoverer;
+use lrpar_grammar::grammar::YaccGrammar;
+use lrpar_grammar::span::{StIdx, TIdx};
+use lrpar_lexer::NoToken;
+use lrpar_parse::RTParserBuilder;
+use lrpar_parse::parser::{Expected, ParseFault};
+use lrpar_parse_lexemes::lex_api::LexError;
+use lrpar_table::check::{Overlay, ParserData};
+use std::alloc::Global;
+use test_case_lines::cases::Case;
+use test_case_lines::fault::Fault;
+use test_case_lines::names::{token_name, token_of};
+use test_case_lines::told::Told;
+use test_case_tables::rows::push_agreed;
+use test_case_tables::stack::states_of;
+use test_case_tables::subject::Subject;
+
+/// The keys that say what is done.
+pub const INPUTS: &[&str] = &["states", "feed", "lexemes"];
+
+/// What may come next at the states, once the tokens are fed; or after the lexemes.
+pub fn outcome(
+    told: &mut Told,
+    alloc: Global,
+    subject: Option<Subject<'_, '_, '_>>,
+    case: Case<'_, '_>,
+) -> Result<(), Fault> {
+    let Some(Subject { case: _, tables }) = subject else {
+        return Err(Fault::Line(case.number, "a table in front is wanted"));
+    };
+    let (mut by_rows, mut by_entries) = (Told::new(alloc), Told::new(alloc));
+    expected_by(&mut by_rows, alloc, case, &tables.by_rows)?;
+    expected_by(&mut by_entries, alloc, case, &tables.by_entries)?;
+    push_agreed(told, &by_rows, &by_entries);
+    Ok(())
+}
+
+// The same by one table.
+fn expected_by(
+    told: &mut Told,
+    alloc: Global,
+    case: Case<'_, '_>,
+    data: &ParserData<u32>,
+) -> Result<(), Fault> {
+    if case.value("lexemes").is_none() {
+        let states = states_of(alloc, case)?;
+        return over_states(told, alloc, case, data, &states);
+    }
+    let given = given_of(alloc, data.grm(), case)?;
+    after_lexemes(told, alloc, data, &given);
+    Ok(())
+}
+
+// What may come next at these states, bottom first, over which the tokens of the case are fed.
+fn over_states(
+    told: &mut Told,
+    alloc: Global,
+    case: Case<'_, '_>,
+    data: &ParserData<u32>,
+    states: &[StIdx<u32>],
+) -> Result<(), Fault> {
+    if states.is_empty() || !data.is_stack(states) {
+        return Err(Fault::Line(case.number, "a stack is wanted"));
+    }
+    let mut over = Overlay::new(alloc, states);
+    feed_tokens(case, data, &mut over)?;
+    at_overlay(told, alloc, data, &over)
+}
+
+// Feeds the tokens of the case.
+fn feed_tokens(
+    case: Case<'_, '_>,
+    data: &ParserData<u32>,
+    over: &mut Overlay<'_, u32>,
+) -> Result<(), Fault> {
+    for word in case.value_or_nothing("feed").split(' ') {
+        if !word.is_empty() && !is_fed(data, over, token_of(data.grm(), word, case.number)?)? {
+            return Err(Fault::Line(case.number, "a token that can be fed is wanted"));
+        }
+    }
+    Ok(())
+}
+
+// Feeds the token, if there is such a one; answers whether it was fed.
+fn is_fed(
+    data: &ParserData<u32>,
+    over: &mut Overlay<'_, u32>,
+    token: TIdx<u32>,
+) -> Result<bool, Fault> {
+    let states = over.to_vec()?;
+    if usize::from(token) >= data.stable().tokens_len() || !data.is_stack(&states) {
+        return Ok(false);
+    }
+    Ok(data.feed_over(over, token)?)
+}
+
+// What may come next at the overlay, and at a list of its states, where that is something else.
+fn at_overlay(
+    told: &mut Told,
+    alloc: Global,
+    data: &ParserData<u32>,
+    over: &Overlay<'_, u32>,
+) -> Result<(), Fault> {
+    let states = over.to_vec()?;
+    if !data.is_stack(&states) {
+        return Err(Fault::Line(0, "a stack is wanted"));
+    }
+    let by_list = data.expected(alloc, &states)?;
+    let by_overlay = data.expected_over(alloc, over)?;
+    push_tokens(told, data.grm(), "expected", &by_list);
+    if by_overlay != by_list {
+        push_tokens(told, data.grm(), "over", &by_overlay);
+    }
+    Ok(())
+}
+
+// What may come next after the lexemes.
+fn after_lexemes(told: &mut Told, alloc: Global, data: &ParserData<u32>, given: &[Given]) {
+    let Ok(lexer) = HandedLexer::new(alloc, given, "") else {
+        return told.lack_memory();
+    };
+    let parser: Parser<'_> = RTParserBuilder::new(data).recoverer(no_recoverer(alloc));
+    match parser.expected(alloc, &lexer) {
+        Err(ParseFault::Memory) => told.lack_memory(),
+        Err(fault) => told.line("fault ", &fault),
+        Ok(expected) => push_expected(told, data.grm(), &expected),
+    }
+}
+
+// How many lexemes were fed, what may come next, and the lexing error.
+fn push_expected(told: &mut Told, grm: &YaccGrammar<u32>, expected: &Expected<u32, NoToken>) {
+    told.line("place ", &expected.place);
+    push_tokens(told, grm, "expected", &expected.tokens);
+    if let Some(error) = &expected.lexing_error {
+        told.span_line("lexing error ", error.span());
+    }
+}
+
+// Adds a line of tokens.
+fn push_tokens(told: &mut Told, grm: &YaccGrammar<u32>, key: &str, tokens: &[TIdx<u32>]) {
+    told.text(key);
+    for token in tokens {
+        told.texts(" ", token_name(grm, *token));
+    }
+    told.text("\n");
+}

@@ -1,0 +1,12 @@
+//! Cases of parses.
+#![tactic(auto)]
+
+mod calls;
+pub mod chain;
+mod clones;
+pub mod expected;
+mod lexemes;
+pub mod parse;
+mod recoverer;
+mod shown;
+mod steps;

@@ -1,0 +1,185 @@
+//! Checks of tables by hand: whether each is taken, for what it is refused, and what is handed back.
+use crate::hand::{By, Hand};
+use crate::rows::{push_agreed, push_table};
+use crate::subject::Subject;
+use lrpar_grammar::grammar::YaccGrammar;
+use lrpar_grammar::span::StorageIndex;
+use lrpar_table::check::{CheckFault, CompleteFault, ParserData, Refused};
+use lrpar_table::table::{StateGraph, StateTable};
+use std::alloc::Global;
+use test_case_lines::cases::Case;
+use test_case_lines::fault::Fault;
+use test_case_lines::told::Told;
+use test_case_lines::values::CAP;
+
+/// The keys that say what is done.
+pub const INPUTS: &[&str] = &[
+    "text", "states", "sets", "tokens", "rules", "items", "without", "actions", "gotos", "cap",
+    "then-cap",
+];
+
+/// What comes of the check of the table that the case is about, with the lines of the case in place of its own; or of the table
+/// that the case has itself, where it is about none.
+pub fn outcome(
+    told: &mut Told,
+    alloc: Global,
+    subject: Option<Subject<'_, '_, '_>>,
+    case: Case<'_, '_>,
+) -> Result<(), Fault> {
+    let hand = match subject {
+        None => Hand::of(case),
+        Some(subject) => Hand {
+            table: subject.case,
+            changes: case.lines,
+        },
+    };
+    let cap = hand.cap("cap", CAP)?;
+    let then = hand.cap("then-cap", Hand::of(hand.table).cap("cap", CAP)?)?;
+    let (mut by_rows, mut by_entries) = (Told::new(alloc), Told::new(alloc));
+    push_made(
+        &mut by_rows,
+        alloc,
+        Trial {
+            hand,
+            by: By::Rows,
+            cap,
+            then,
+        },
+    )?;
+    push_made(
+        &mut by_entries,
+        alloc,
+        Trial {
+            hand,
+            by: By::Entries,
+            cap,
+            then,
+        },
+    )?;
+    push_agreed(told, &by_rows, &by_entries);
+    Ok(())
+}
+
+// What is tried: a table by hand, made by this call; and the caps of its check, and of that of what is handed back.
+#[derive(Clone, Copy)]
+struct Trial<'t, 'a> {
+    hand: Hand<'t, 'a>,
+    by: By,
+    cap: u16,
+    then: u16,
+}
+
+// What comes of the check of the table that is made.
+fn push_made(told: &mut Told, alloc: Global, trial: Trial<'_, '_>) -> Result<(), Fault> {
+    let grm = trial.hand.grammar(alloc)?;
+    let graph = trial.hand.graph(alloc, &grm)?;
+    let table = trial.hand.table(alloc, &grm, trial.by)?;
+    push_checked(told, alloc, trial, grm, graph, table)
+}
+
+// What comes of the check of these parts.
+fn push_checked(
+    told: &mut Told,
+    alloc: Global,
+    trial: Trial<'_, '_>,
+    grm: YaccGrammar<u32>,
+    graph: StateGraph<u32>,
+    table: StateTable<u32>,
+) -> Result<(), Fault> {
+    let mut was = Told::new(alloc);
+    push_table(&mut was, &grm, &graph, &table);
+    match ParserData::new(alloc, grm, graph, table, trial.cap) {
+        Ok(data) => {
+            push_taken(told, alloc, &data, &was);
+            Ok(())
+        }
+        Err(refused) => push_refusal(told, alloc, trial, &was, refused),
+    }
+}
+
+// That the table is taken, whether it is complete, and whether it keeps its parts.
+fn push_taken(told: &mut Told, alloc: Global, data: &ParserData<u32>, was: &Told) {
+    told.text("checked\n");
+    match data.check_complete(alloc) {
+        Ok(()) => told.text("complete\n"),
+        Err(CompleteFault::Memory) => told.lack_memory(),
+        Err(fault) => told.line("incomplete ", &fault),
+    }
+    push_kept(told, alloc, data.grm(), data.sgraph(), data.stable(), was);
+}
+
+// Says where the parts aren't as they were.
+fn push_kept(
+    told: &mut Told,
+    alloc: Global,
+    grm: &YaccGrammar<u32>,
+    graph: &StateGraph<u32>,
+    table: &StateTable<u32>,
+    was: &Told,
+) {
+    let mut is = Told::new(alloc);
+    push_table(&mut is, grm, graph, table);
+    if !told.agree(&is, was) {
+        told.text("lost\n");
+    }
+}
+
+// Why the table is refused, and what comes of what is handed back, once what was changed is mended.
+fn push_refusal(
+    told: &mut Told,
+    alloc: Global,
+    trial: Trial<'_, '_>,
+    was: &Told,
+    refused: Refused<u32>,
+) -> Result<(), Fault> {
+    push_fault(told, "refused ", refused.fault());
+    let (grm, mut graph, mut table) = refused.into_parts();
+    push_kept(told, alloc, &grm, &graph, &table, was);
+    let mended = mend(alloc, trial.hand, trial.by, &grm, &mut graph, &mut table);
+    let second = checked(alloc, grm, graph, table, trial.then).err();
+    match second {
+        None => told.text("then checked\n"),
+        Some(fault) => push_fault(told, "then refused ", fault),
+    }
+    mended
+}
+
+/// The parts, checked with the cap, or why they are refused.
+pub(crate) fn checked<S: StorageIndex>(
+    alloc: Global,
+    grm: YaccGrammar<S>,
+    graph: StateGraph<S>,
+    table: StateTable<S>,
+    cap: u16,
+) -> Result<ParserData<S>, CheckFault> {
+    match ParserData::new(alloc, grm, graph, table, cap) {
+        Ok(data) => Ok(data),
+        Err(refused) => Err(refused.fault()),
+    }
+}
+
+/// Adds the fault behind these words. Want of memory isn't told of a table.
+pub(crate) fn push_fault(told: &mut Told, words: &str, fault: CheckFault) {
+    match fault {
+        CheckFault::Memory => told.lack_memory(),
+        fault => told.line(words, &fault),
+    }
+}
+
+// Puts the table's own parts in the place of those that were changed.
+fn mend(
+    alloc: Global,
+    hand: Hand<'_, '_>,
+    by: By,
+    grm: &YaccGrammar<u32>,
+    graph: &mut StateGraph<u32>,
+    table: &mut StateTable<u32>,
+) -> Result<(), Fault> {
+    if hand.has_changed(&["states", "sets", "items", "without"]) {
+        *graph = Hand::of(hand.table).graph(alloc, grm)?;
+    }
+    if hand.has_changed(&["states", "tokens", "rules", "actions", "gotos"]) {
+        *table = Hand::of(hand.table).table(alloc, grm, by)?;
+    }
+    Ok(())
+}

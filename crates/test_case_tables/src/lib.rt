@@ -1,0 +1,13 @@
+//! Cases of tables: building, checking, stacks, and tables by hand.
+#![tactic(auto)]
+
+pub mod actions;
+pub mod built;
+pub mod checks;
+pub mod faults;
+pub mod hand;
+pub mod refusals;
+pub mod rows;
+pub mod stack;
+pub mod stacks;
+pub mod subject;

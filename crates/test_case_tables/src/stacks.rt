@@ -1,0 +1,207 @@
+//! Stacks: what tokens do at a list of states, and over one.
+use crate::rows::push_agreed;
+use crate::stack::states_of;
+use crate::subject::Subject;
+use lrpar_grammar::span::{StIdx, TIdx};
+use lrpar_table::check::{Overlay, ParserData};
+use std::alloc::{AllocError, Global};
+use test_case_lines::cases::Case;
+use test_case_lines::fault::Fault;
+use test_case_lines::names::token_of;
+use test_case_lines::told::Told;
+
+/// The keys that say what is done.
+pub const INPUTS: &[&str] = &["states", "tokens"];
+
+/// Whether the states are a stack; or what each of the tokens does at it, settled and fed.
+pub fn outcome(
+    told: &mut Told,
+    alloc: Global,
+    subject: Option<Subject<'_, '_, '_>>,
+    case: Case<'_, '_>,
+) -> Result<(), Fault> {
+    let Some(subject) = subject else {
+        return Err(Fault::Line(case.number, "a table in front is wanted"));
+    };
+    let states = states_of(alloc, case)?;
+    let (mut by_rows, mut by_entries) = (Told::new(alloc), Told::new(alloc));
+    push_by(&mut by_rows, alloc, case, &subject.tables.by_rows, &states)?;
+    push_by(
+        &mut by_entries,
+        alloc,
+        case,
+        &subject.tables.by_entries,
+        &states,
+    )?;
+    push_agreed(told, &by_rows, &by_entries);
+    Ok(())
+}
+
+// What comes by one table.
+fn push_by(
+    told: &mut Told,
+    alloc: Global,
+    case: Case<'_, '_>,
+    data: &ParserData<u32>,
+    states: &[StIdx<u32>],
+) -> Result<(), Fault> {
+    match (case.value("tokens"), data.is_stack(states)) {
+        (None, true) => told.text("stack yes\n"),
+        (Some((tokens, _)), true) => push_tokens(told, alloc, case, data, states, tokens)?,
+        (_, false) => told.text("stack no\n"),
+    }
+    Ok(())
+}
+
+// What each of the tokens does at a stack: by a list of its own, and over the stack, where the one before is set back.
+fn push_tokens(
+    told: &mut Told,
+    alloc: Global,
+    case: Case<'_, '_>,
+    data: &ParserData<u32>,
+    states: &[StIdx<u32>],
+    tokens: &str,
+) -> Result<(), Fault> {
+    if states.is_empty() {
+        return Ok(());
+    }
+    let mut over = Overlay::new(alloc, states);
+    for word in tokens.split(' ') {
+        let token = token_of(data.grm(), word, case.number)?;
+        told.texts("settles ", word);
+        push_call(told, alloc, data, states, &mut over, Call::Settle(token))?;
+        told.texts("feeds ", word);
+        push_call(told, alloc, data, states, &mut over, Call::Feed(token))?;
+    }
+    Ok(())
+}
+
+// What is called.
+#[derive(Clone, Copy)]
+enum Call {
+    Settle(TIdx<u32>),
+    Feed(TIdx<u32>),
+}
+
+// What a call answers: how many reductions it made, or whether it shifted.
+#[derive(Clone, Copy)]
+enum Answer {
+    Settled(u128),
+    Fed(bool),
+    // There is no stack, or no such token.
+    Nothing,
+}
+
+// What the call answers and gives at a list, and how many states of the base it leaves; and what it answers and gives over the
+// base, where that is something else.
+fn push_call(
+    told: &mut Told,
+    alloc: Global,
+    data: &ParserData<u32>,
+    states: &[StIdx<u32>],
+    over: &mut Overlay<'_, u32>,
+    call: Call,
+) -> Result<(), Fault> {
+    over.set_back();
+    let (mut by_list, mut by_overlay) = (Told::new(alloc), Told::new(alloc));
+    push_by_list(&mut by_list, alloc, data, states, call)?;
+    push_by_overlay(&mut by_overlay, data, over, call)?;
+    told.append(&by_list);
+    told.line(", keeps ", &over.kept());
+    if !told.agree(&by_list, &by_overlay) {
+        told.text("over");
+        told.append(&by_overlay);
+        told.text("\n");
+    }
+    Ok(())
+}
+
+// What the call answers and gives at a list of these states.
+fn push_by_list(
+    told: &mut Told,
+    alloc: Global,
+    data: &ParserData<u32>,
+    states: &[StIdx<u32>],
+    call: Call,
+) -> Result<(), AllocError> {
+    let mut stack = Vec::from_slice(alloc, states)?;
+    push_answer(told, called(data, &mut stack, call)?);
+    push_states(told, &stack);
+    Ok(())
+}
+
+// What the call answers at the list.
+fn called(
+    data: &ParserData<u32>,
+    stack: &mut Vec<StIdx<u32>>,
+    call: Call,
+) -> Result<Answer, AllocError> {
+    let tokens = data.stable().tokens_len();
+    if !data.is_stack(stack) {
+        return Ok(Answer::Nothing);
+    }
+    match call {
+        Call::Settle(token) if usize::from(token) < tokens => {
+            Ok(Answer::Settled(data.settle(stack, token)?))
+        }
+        Call::Feed(token) if usize::from(token) < tokens => {
+            Ok(Answer::Fed(data.feed(stack, token)?))
+        }
+        _ => Ok(Answer::Nothing),
+    }
+}
+
+// What the call answers and gives at the overlay.
+fn push_by_overlay(
+    told: &mut Told,
+    data: &ParserData<u32>,
+    over: &mut Overlay<'_, u32>,
+    call: Call,
+) -> Result<(), AllocError> {
+    push_answer(told, called_over(data, over, call)?);
+    push_states(told, &over.to_vec()?);
+    Ok(())
+}
+
+// What the call answers at the overlay.
+fn called_over(
+    data: &ParserData<u32>,
+    over: &mut Overlay<'_, u32>,
+    call: Call,
+) -> Result<Answer, AllocError> {
+    let tokens = data.stable().tokens_len();
+    let states = over.to_vec()?;
+    if !data.is_stack(&states) {
+        return Ok(Answer::Nothing);
+    }
+    match call {
+        Call::Settle(token) if usize::from(token) < tokens => {
+            Ok(Answer::Settled(data.settle_over(over, token)?))
+        }
+        Call::Feed(token) if usize::from(token) < tokens => {
+            Ok(Answer::Fed(data.feed_over(over, token)?))
+        }
+        _ => Ok(Answer::Nothing),
+    }
+}
+
+// The answer.
+fn push_answer(told: &mut Told, answer: Answer) {
+    match answer {
+        Answer::Settled(count) => {
+            told.text(" ");
+            told.show(&count);
+            told.text(", gives");
+        }
+        Answer::Fed(true) => told.text(" yes, gives"),
+        Answer::Fed(false) => told.text(" no, gives"),
+        Answer::Nothing => told.text(" nothing of"),
+    }
+}
+
+// The states.
+fn push_states(told: &mut Told, states: &[StIdx<u32>]) {
+    for state in states {
+        told.number(" ", usize::from(*state));
+    }
+}

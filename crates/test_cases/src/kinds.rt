@@ -1,0 +1,61 @@
+//! The kinds of cases: what says what is done in each, and what comes of it.
+use crate::{commands, streams};
+use std::alloc::Global;
+use std::rt::Files;
+use test_case_grammars::{examples, grammars, parts, underlines};
+use test_case_lines::cases::Case;
+use test_case_lines::fault::Fault;
+use test_case_lines::told::Told;
+use test_case_parses::{chain, expected, parse};
+use test_case_tables::subject::Subject;
+use test_case_tables::{built, checks, refusals, rows, stacks};
+
+/// The keys of the lines that say what is done in a case of this kind. All others say what has to come.
+pub(crate) fn inputs_of(kind: &str) -> &'static [&'static str] {
+    match kind {
+        "parse" => parse::INPUTS,
+        "run" | "nimble" => commands::INPUTS,
+        "streams" => streams::INPUTS,
+        "text" | "cuts" => grammars::INPUTS,
+        "parts" => parts::INPUTS,
+        "build" => built::INPUTS,
+        "check" => checks::INPUTS,
+        "stack" => stacks::INPUTS,
+        "expected" => expected::INPUTS,
+        "chain" => chain::INPUTS,
+        "full" | "stored" | "sets" => refusals::INPUTS,
+        "underlines" => underlines::INPUTS,
+        "examples" => examples::INPUTS,
+        _ => &[],
+    }
+}
+
+/// Writes what comes of the case, a line `KEY VALUE` for each thing, in the order in which the case has to want them.
+pub(crate) fn outcome<R: Files>(
+    told: &mut Told,
+    rt: &R,
+    alloc: Global,
+    subject: Option<Subject<'_, '_, '_>>,
+    case: Case<'_, '_>,
+) -> Result<(), Fault> {
+    match case.kind {
+        "parse" => parse::outcome(told, alloc, subject, case),
+        "run" | "nimble" | "streams" => commands::outcome(told, rt, alloc, case),
+        "nothing" => Ok(()),
+        "text" => grammars::outcome(told, alloc, case),
+        "cuts" => grammars::outcome_of_cuts(told, alloc, case),
+        "parts" => parts::outcome(told, alloc, case),
+        "build" => built::outcome(told, alloc, case),
+        "rows" => rows::outcome(told, alloc, subject, case),
+        "check" => checks::outcome(told, alloc, subject, case),
+        "stack" => stacks::outcome(told, alloc, subject, case),
+        "expected" => expected::outcome(told, alloc, subject, case),
+        "chain" => chain::outcome(told, alloc, subject, case),
+        "full" => refusals::outcome_of_rows(told, alloc, case),
+        "stored" => refusals::outcome_of_entries(told, alloc, case),
+        "sets" => refusals::outcome_of_sets(told, alloc, case),
+        "underlines" => underlines::outcome(told, alloc, case),
+        "examples" => examples::outcome(told, rt, alloc, case),
+        _ => Err(Fault::Line(case.number, "a kind of case that isn't known")),
+    }
+}

@@ -1,0 +1,179 @@
+//! Cases of the program `lrpar` whose streams fail, each of their calls in turn: what it writes to the others, and ends with.
+use program_lrpar::run;
+use std::alloc::Global;
+use std::io::{self, Read, Write};
+use std::rt::Files;
+use test_case_lines::cases::Case;
+use test_case_lines::fault::Fault;
+use test_case_lines::told::Told;
+use test_case_lines::values::number_at;
+
+/// The keys of the lines that say what is done: those of commands, how many bytes an output takes a call, and which streams fail.
+pub const INPUTS: &[&str] = &["words", "word", "file", "stdin", "takes", "fails"];
+
+/// How many rounds there are at most.
+const MOST_ROUNDS: usize = 1_000;
+
+// One run of the program.
+#[derive(Clone, Copy)]
+struct Round<'a> {
+    // The names of the streams that fail.
+    fails: &'a str,
+    // After how many of their calls they do.
+    calls: usize,
+    // How many bytes an output takes a call.
+    takes: usize,
+}
+
+// A stream that fails once it was called so many times, at each call from then on.
+#[derive(Drop)]
+struct Stream<'a> {
+    // What is left to be read.
+    rest: &'a [u8],
+    // What was written.
+    taken: Vec<u8>,
+    // How many bytes it takes a call.
+    takes: usize,
+    calls_left: usize,
+    has_failed: bool,
+}
+
+/// What comes of the program where the streams of the case fail at their first call, after one call, after two, and so on, until none
+/// fails any more. Rounds that are alike and follow each other are one line.
+pub fn push_rounds<R: Files>(
+    told: &mut Told,
+    rt: &R,
+    alloc: Global,
+    case: Case<'_, '_>,
+    words: &[String],
+    input: &[u8],
+) -> Result<(), Fault> {
+    let first = Round {
+        fails: case.value_or_nothing("fails"),
+        calls: 0,
+        takes: number_at(case, "takes", usize::MAX)?,
+    };
+    let mut lines = Told::new(alloc);
+    push_lines(&mut lines, rt, alloc, words, input, first);
+    push_joined(told, lines.end()?.as_str());
+    Ok(())
+}
+
+// Adds what comes of each round, a line each, and an empty line.
+fn push_lines<R: Files>(
+    lines: &mut Told,
+    rt: &R,
+    alloc: Global,
+    words: &[String],
+    input: &[u8],
+    first: Round<'_>,
+) {
+    for calls in 0..MOST_ROUNDS {
+        let round = Round { calls, ..first };
+        if !push_line(lines, rt, alloc, words, input, round) {
+            break;
+        }
+    }
+    lines.text("\n");
+}
+
+// Adds what comes of a round: the status, and what the outputs have that don't fail in it. Answers whether a call failed.
+fn push_line<R: Files>(
+    lines: &mut Told,
+    rt: &R,
+    alloc: Global,
+    words: &[String],
+    input: &[u8],
+    round: Round<'_>,
+) -> bool {
+    let mut input = Stream::new(alloc, round, "input", input);
+    let mut out = Stream::new(alloc, round, "output", &[]);
+    let mut err = Stream::new(alloc, round, "error", &[]);
+    let status = run(rt, alloc, words, &mut input, &mut out, &mut err);
+    lines.number("status ", usize::from(status));
+    push_taken(lines, round, "output", &out);
+    push_taken(lines, round, "error", &err);
+    lines.text("\n");
+    // Not by `||`, whose branches would each have the drops of the streams to prove.
+    input.has_failed | out.has_failed | err.has_failed
+}
+
+// Adds what a stream took, if it is none of those that fail.
+fn push_taken(lines: &mut Told, round: Round<'_>, name: &str, stream: &Stream<'_>) {
+    if !round.fails.contains(name) {
+        lines.texts(", ", name);
+        lines.text(" ");
+        match str::from_utf8(&stream.taken) {
+            Ok(text) => lines.debug(&text),
+            Err(_) => lines.text("that isn't UTF-8"),
+        }
+    }
+}
+
+// Adds the lines of the rounds, behind which an empty one stands: those that are alike and follow each other as one.
+fn push_joined(told: &mut Told, lines: &str) {
+    let mut first = 0usize;
+    for (last, (line, next)) in lines.lines().zip(lines.lines().skip(1)).enumerate() {
+        if line != next {
+            push_calls(told, first, last);
+            told.texts(line, "\n");
+            first = last.saturating_add(1);
+        }
+    }
+}
+
+// Adds the numbers of calls after which the streams fail.
+fn push_calls(told: &mut Told, first: usize, last: usize) {
+    told.number("calls ", first);
+    if first < last {
+        told.number(" to ", last);
+    }
+    told.text(": ");
+}
+
+impl<'a> Stream<'a> {
+    // The stream of this name in a round, from which this text can be read.
+    fn new(alloc: Global, round: Round<'_>, name: &str, text: &'a [u8]) -> Stream<'a> {
+        Stream {
+            rest: text,
+            taken: Vec::new(alloc),
+            takes: round.takes,
+            calls_left: if round.fails.contains(name) {
+                round.calls
+            } else {
+                usize::MAX
+            },
+            has_failed: false,
+        }
+    }
+
+    // Counts a call, or fails so.
+    fn call(&mut self, kind: io::ErrorKind) -> io::Result<()> {
+        if self.calls_left == 0 {
+            self.has_failed = true;
+            return Err(io::Error::from(kind));
+        }
+        self.calls_left -= 1;
+        Ok(())
+    }
+}
+
+impl<'a> Read for Stream<'a> {
+    fn read(&mut self, bytes: &mut [u8]) -> io::Result<usize> {
+        self.call(io::ErrorKind::ConnectionReset)?;
+        self.rest.read(bytes)
+    }
+}
+
+impl<'a> Write for Stream<'a> {
+    fn write(&mut self, bytes: &[u8]) -> io::Result<usize> {
+        self.call(io::ErrorKind::BrokenPipe)?;
+        let count = bytes.len().min(self.takes);
+        self.taken.extend_from_slice(&bytes[..count])?;
+        Ok(count)
+    }
+
+    fn flush(&mut self) -> io::Result<()> {
+        self.call(io::ErrorKind::BrokenPipe)
+    }
+}

@@ -1,0 +1,11 @@
+//! Tests of what README.md and GUIDE.md show.
+#![tactic(auto)]
+
+#[cfg(test)]
+mod calculation;
+#[cfg(test)]
+mod example;
+#[cfg(test)]
+mod guide;
+#[cfg(test)]
+mod tables;
