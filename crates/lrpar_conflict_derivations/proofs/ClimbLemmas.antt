@@ -12,9 +12,9 @@ use Rattle.lrpar_table_items.specs.ItemSets.{IsAdvanced, IsReachedBy}
 use Rattle.lrpar_table_build.proofs.ReachedLemmas.{closure_cases, start_is_fresh}
 use Rattle.lrpar_table_sentences.specs.Moves.{MoveOf, Makes, forest_moves, moves_of}
 use Rattle.lrpar_table_sentences.specs.Texts.{AreTreesOf, IsTreeOf}
-use Rattle.lrpar_table_sentences.proofs.BehindLemmas.{drop_at_get}
+use Rattle.lrpar_table_sentences.proofs.AfterLemmas.{drop_at_get}
 use Rattle.lrpar_conflict_derivations.specs.Climbing.{Finishes, FinishesAt, IsNextIf, LeadsUp, Place}
-use Rattle.lrpar_conflict_derivations.specs.Reading.{IsNext}
+use Rattle.lrpar_conflict_derivations.specs.Derivation.{IsNext}
 
 -- the moves of two lists of trees
 pub joined_moves : (first others : Forest ℕ) → forest_moves (joined first others) ≡ forest_moves first ++ forest_moves others
@@ -53,9 +53,9 @@ module _ (g : Grammar) (well : IsWellFormed g) where
   moved_finishes front p k x later text at finishes trees rest fit rest_fit =
       let parts = splits (λ (t : ℕ). t) g trees front (x ∷ []) fit in
       let one = one_tree g parts.others x parts.others_fit in
-      let behind : AreTreesOf g (drop k (symbols_of g p)) (Cons one.0 rest) =
+      let after : AreTreesOf g (drop k (symbols_of g p)) (Cons one.0 rest) =
       subst (λ (w : List GrammarSymbol). AreTreesOf g w (Cons one.0 rest)) (sym (drop_at_get (symbols_of g p) k x at)) (one.1, rest_fit) in
-      let done = finishes parts.first (Cons one.0 rest) parts.first_fits behind in
+      let done = finishes parts.first (Cons one.0 rest) parts.first_fits after in
       let both : trees ≡ joined parts.first (Cons one.0 Nil) = parts.both ∙ ap (joined parts.first) one.2 in
       let moves : forest_moves trees ≡ forest_moves parts.first ++ moves_of one.0 =
       ap forest_moves both ∙ joined_moves parts.first (Cons one.0 Nil) ∙ ap (λ xs. forest_moves parts.first ++ xs) (append-nil (moves_of one.0)) in
@@ -70,15 +70,15 @@ module _ (g : Grammar) (well : IsWellFormed g) where
       )
 
   -- from an item of a production of the rule that another item has behind its dot
-  pub added_finishes : (front : List GrammarSymbol) (q j p : ℕ) (w : List GrammarSymbol) (trees_behind : Forest ℕ) (later : List MoveOf) (text : List ℕ)
-      → drop j (symbols_of g q) ≡ Nonterminal (rule_of g p) ∷ w → p < prods_len g → AreTreesOf g w trees_behind
+  pub added_finishes : (front : List GrammarSymbol) (q j p : ℕ) (w : List GrammarSymbol) (trees_after : Forest ℕ) (later : List MoveOf) (text : List ℕ)
+      → drop j (symbols_of g q) ≡ Nonterminal (rule_of g p) ∷ w → p < prods_len g → AreTreesOf g w trees_after
       → Finishes g front q j later text
-      → Finishes g front p 0 (Makes p ∷ forest_moves trees_behind ++ later) (forest_leaves trees_behind ++ text)
-  added_finishes front q j p w trees_behind later text behind known fit_behind finishes trees rest fit rest_fit =
+      → Finishes g front p 0 (Makes p ∷ forest_moves trees_after ++ later) (forest_leaves trees_after ++ text)
+  added_finishes front q j p w trees_after later text after known fit_after finishes trees rest fit rest_fit =
       let node : IsTreeOf g (Nonterminal (rule_of g p)) (Branch p rest) = (known, refl, rest_fit) in
-      let all : AreTreesOf g (drop j (symbols_of g q)) (Cons (Branch p rest) trees_behind) =
-      subst (λ (v : List GrammarSymbol). AreTreesOf g v (Cons (Branch p rest) trees_behind)) (sym behind) (node, fit_behind) in
-      let done = finishes trees (Cons (Branch p rest) trees_behind) fit all in (
+      let all : AreTreesOf g (drop j (symbols_of g q)) (Cons (Branch p rest) trees_after) =
+      subst (λ (v : List GrammarSymbol). AreTreesOf g v (Cons (Branch p rest) trees_after)) (sym after) (node, fit_after) in
+      let done = finishes trees (Cons (Branch p rest) trees_after) fit all in (
         done.0,
         record { fits = done.1.fits; moves = done.1.moves ∙ (simp append_assoc); tokens = done.1.tokens ∙ (simp append_assoc) },
       )
@@ -139,8 +139,8 @@ module _ (g : Grammar) (token : ℕ) where
       → ((text : List ℕ) → IsNextIf g token further text → IsNextIf g token asked (forest_leaves trees ++ text))
       → LeadsUp g token (record { front = front; prod = p; dot = 0; asked = asked }) (Makes p ∷ forest_moves trees)
       (record { front = front; prod = q; dot = j; asked = further })
-  up_added well front q j p w trees asked further behind known fit ahead later h =
-      (forest_leaves trees ++ h.0, added_finishes g well front q j p w trees later h.0 behind known fit h.1, ahead h.0 h.2)
+  up_added well front q j p w trees asked further after known fit ahead later h =
+      (forest_leaves trees ++ h.0, added_finishes g well front q j p w trees later h.0 after known fit h.1, ahead h.0 h.2)
 
   -- at the start item nothing is left to do: the end token comes next
   pub up_end : IsWellFormed g → (from : Place) (moves : List MoveOf) (asked : Bool) → (IsTrue asked → token ≡ end_token g)

@@ -6,19 +6,19 @@ use Rattle.lrpar_table_rows.specs.Graph.{Graph, HasItem, graph_len}
 use Rattle.lrpar_table_items.specs.Canonical.{IsCanonical}
 use Rattle.lrpar_table_sentences.specs.Moves.{MoveOf, Makes, Takes, forest_moves}
 use Rattle.lrpar_table_sentences.specs.Texts.{AreTreesOf}
-use Rattle.lrpar_table_sentences.specs.Ways.{StepOf, symbols_in}
+use Rattle.lrpar_table_sentences.specs.AccessStrings.{StepOf, symbols_in}
 use Rattle.lrpar_conflict_derivations.specs.Example.{ExampleOf, IsExample, IsFront, IsLeastTo, IsShortestFront, IsTextTo}
-use Rattle.lrpar_conflict_derivations.specs.Reading.{IsReading}
+use Rattle.lrpar_conflict_derivations.specs.Derivation.{IsDerivation}
 use Rattle.lrpar_conflict_derivations.specs.Texts.{takes_in}
 use Rattle.lrpar_conflict_derivations.proofs.LinkLemmas.{core_known}
-use Rattle.lrpar_conflict_derivations.proofs.ReadingLemmas.{readings_differ}
+use Rattle.lrpar_conflict_derivations.proofs.DerivationLemmas.{derivations_differ}
 use Rattle.lrpar_conflict_derivations.proofs.TextLemmas.{takes_of_tree, takes_of_trees}
 
 -- the readings that begin with trees of the way's symbols
 abbrev pub Reads : Grammar → List StepOf → ℕ → List MoveOf → MoveOf → List MoveOf → Type 0
 Reads g steps token front next moves =
     (trees : Forest ℕ) → AreTreesOf g (symbols_in steps) trees → front ≡ forest_moves trees
-    → (tree : Tree ℕ) × IsReading g (forest_leaves trees) token trees next moves tree
+    → (tree : Tree ℕ) × IsDerivation g (forest_leaves trees) token trees next moves tree
 
 pub example_done : (g : Grammar) (graph : Graph) (s token : ℕ) (steps : List StepOf) (front first second : List MoveOf) (one other : MoveOf) (x : ExampleOf)
     → one ≢ other → IsFront g graph s steps front → Reads g steps token front one first → Reads g steps token front other second
@@ -39,13 +39,13 @@ example_done g graph s token steps front first second one other x apart lead rea
       unless = unless;
       tree = a.0;
       first =
-          subst (λ (w : List ℕ). IsReading g w token trees one x.first a.0) (sym before)
-          (subst (λ (ms : List MoveOf). IsReading g (forest_leaves trees) token trees one ms a.0) (sym first_is) a.1);
+          subst (λ (w : List ℕ). IsDerivation g w token trees one x.first a.0) (sym before)
+          (subst (λ (ms : List MoveOf). IsDerivation g (forest_leaves trees) token trees one ms a.0) (sym first_is) a.1);
       other_tree = b.0;
       second =
-          subst (λ (w : List ℕ). IsReading g w token trees other x.second b.0) (sym before)
-          (subst (λ (ms : List MoveOf). IsReading g (forest_leaves trees) token trees other ms b.0) (sym second_is) b.1);
-      different = readings_differ g (forest_leaves trees) token trees one other first second a.0 b.0 apart a.1 b.1;
+          subst (λ (w : List ℕ). IsDerivation g w token trees other x.second b.0) (sym before)
+          (subst (λ (ms : List MoveOf). IsDerivation g (forest_leaves trees) token trees other ms b.0) (sym second_is) b.1);
+      different = derivations_differ g (forest_leaves trees) token trees one other first second a.0 b.0 apart a.1 b.1;
       ambiguous = (λ is. sym text_a ∙ same.0 is ∙ text_b, λ equal. same.1 (text_a ∙ equal ∙ sym text_b));
     }
 

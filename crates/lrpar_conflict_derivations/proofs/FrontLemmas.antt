@@ -12,13 +12,13 @@ use Rattle.lrpar_table_items.specs.Canonical.{AreSame, sets_of}
 use Rattle.lrpar_table_items.specs.ItemSets.{IsAdvanced, IsReachedBy}
 use Rattle.lrpar_table_build.proofs.ReachedLemmas.{closure_each, known_by_symbol}
 use Rattle.lrpar_table_sentences.specs.Moves.{MoveOf, forest_moves}
-use Rattle.lrpar_table_sentences.specs.Reached.{IsReachedRule, IsReachedSymbol, OnRight}
+use Rattle.lrpar_table_sentences.specs.Reachable.{IsReachableRule, IsReachableSymbol, OnRight}
 use Rattle.lrpar_table_sentences.specs.Texts.{AreShortestTrees, AreTreesOf, HaveTrees, forest_width}
-use Rattle.lrpar_table_sentences.specs.Ways.{IsPathTo, IsShortestPath, IsShortestWayIfAny, StepOf, StepsLead, WayOf, symbols_in, way_at}
+use Rattle.lrpar_table_sentences.specs.AccessStrings.{IsPathTo, IsShortestPath, IsShortestAccessIfAny, StepOf, StepsLead, AccessOf, symbols_in, access_at}
 use Rattle.lrpar_conflict_derivations.specs.Climbing.{IsWay, state_before}
 use Rattle.lrpar_conflict_derivations.specs.Example.{AreExamplesFor, ExamplesOf, IsFront, IsShortestFront}
 use Rattle.lrpar_conflict_derivations.proofs.PathLemmas.{state_reached}
-use Rattle.lrpar_table_sentences.proofs.BehindLemmas.{contains_at, have_trees, item_reached}
+use Rattle.lrpar_table_sentences.proofs.AfterLemmas.{contains_at, have_trees, item_reached}
 use Rattle.lrpar_conflict_derivations.proofs.TextLemmas.{takes_of_trees, takes_short}
 use Rattle.lrpar_conflict_derivations.specs.Texts.{takes_in}
 
@@ -31,23 +31,23 @@ All-reverse {X} P (x ∷ xs) all =
 
 module _ (g : Grammar) (well : IsWellFormed g) where
   -- a symbol behind a dot of a rule that is reached is reached
-  symbol_reached : (q j : ℕ) (s : GrammarSymbol) → slice_get (symbols_of g q) j ≡ Some s → IsReachedRule g (rule_of g q) → IsReachedSymbol g s
+  symbol_reached : (q j : ℕ) (s : GrammarSymbol) → slice_get (symbols_of g q) j ≡ Some s → IsReachableRule g (rule_of g q) → IsReachableSymbol g s
   symbol_reached q j (Terminal t) at reached = tt
   symbol_reached q j (Nonterminal r) at reached =
       OnRight q r (known_by_symbol g well q j (Nonterminal r) at) reached (contains_at (symbols_of g q) j (Nonterminal r) at)
 
   -- so each symbol of a path is
-  path_reached : (path : List GrammarSymbol) (x : ItemOf) → IsReachedBy g path x → All (IsReachedSymbol g) path
-  path_reached [] = λ x reached. All-nil (IsReachedSymbol g)
+  path_reached : (path : List GrammarSymbol) (x : ItemOf) → IsReachedBy g path x → All (IsReachableSymbol g) path
+  path_reached [] = λ x reached. All-nil (IsReachableSymbol g)
   path_reached (s ∷ path) =
-      closure_each g (λ _. All (IsReachedSymbol g) (s ∷ path)) (λ x y all adds. all) (IsAdvanced g (IsReachedBy g path) s)
+      closure_each g (λ _. All (IsReachableSymbol g) (s ∷ path)) (λ x y all adds. all) (IsAdvanced g (IsReachedBy g path) s)
       (λ y from.
-      All-cons (IsReachedSymbol g) s path (symbol_reached from.0.prod from.0.dot s from.2 (item_reached g well path from.0 from.1))
+      All-cons (IsReachableSymbol g) s path (symbol_reached from.0.prod from.0.dot s from.2 (item_reached g well path from.0 from.1))
       (path_reached path from.0 from.1))
 
 -- something is kept of a state to which trees lead
-some_by : (g : Grammar) (graph : Graph) (most s : ℕ) (way : Option WayOf) → IsShortestWayIfAny g graph most s (option_map (λ x. x.len) way)
-    → (symbols : List GrammarSymbol) → IsPathTo g graph s symbols → HaveTrees g symbols → (found : WayOf) × (way ≡ Some found)
+some_by : (g : Grammar) (graph : Graph) (most s : ℕ) (way : Option AccessOf) → IsShortestAccessIfAny g graph most s (option_map (λ x. x.len) way)
+    → (symbols : List GrammarSymbol) → IsPathTo g graph s symbols → HaveTrees g symbols → (found : AccessOf) × (way ≡ Some found)
 some_by g graph most s None none symbols path trees = absurd (none symbols trees.0 path trees.1)
 some_by g graph most s (Some found) least symbols path trees = (found, refl)
 
@@ -86,16 +86,16 @@ front_by g graph table built closed s steps lead trees fit moves are =
 module _ (g : Grammar) (graph : Graph) (table : Table) (most : ℕ) (well : IsWellFormed g) (built : IsBuilt g graph table) (x : ExamplesOf)
     (made : AreExamplesFor g graph table most x) (s : ℕ) (low : s < graph_len graph) where
   -- a way to the state is kept
-  pub some_way : (way : WayOf) × (way_at x.ways s ≡ Some way)
+  pub some_way : (way : AccessOf) × (access_at x.access s ≡ Some way)
   some_way =
       let reached = built.canonical.reached s low in
       let path = reached.0 in
       let item = built.canonical.some s low in
       let all = path_reached g well path item.0 ((reached.1 item.0).0 item.1) in
-      let trees = have_trees g made.each (reverse path) (All-reverse (IsReachedSymbol g) path all) in
+      let trees = have_trees g made.each (reverse path) (All-reverse (IsReachableSymbol g) path all) in
       let turned : IsPathTo g graph s (reverse path) =
       subst (λ (w : List GrammarSymbol). AreSame (sets_of graph s) (IsReachedBy g w)) (sym (reverse-reverse path)) reached.1 in
-      some_by g graph most s (way_at x.ways s) (made.ways.lens s low) (reverse path) turned trees
+      some_by g graph most s (access_at x.access s) (made.access.lens s low) (reverse path) turned trees
 
   module _ (closed : IsClosed table) (steps : List StepOf) (path : IsShortestPath g graph table most s steps) where
     -- its symbols have trees

@@ -1,7 +1,7 @@
 pub mod OkLemmas
 pub mod BeginLemmas
 pub mod ClimbLemmas
-pub mod ReadingLemmas
+pub mod DerivationLemmas
 pub mod MarkLemmas
 pub mod NoteLemmas
 pub mod LinkLemmas
@@ -9,9 +9,9 @@ pub mod ReachLemmas
 pub mod PathLemmas
 pub mod RestLemmas
 pub mod UpLemmas
-pub mod WayLemmas
+pub mod AccessLemmas
 pub mod TextLemmas
 pub mod FrontLemmas
 pub mod ExampleLemmas
 pub mod ReplayLemmas
-pub mod GuessLemmas
+pub mod ConfirmLemmas

@@ -15,8 +15,8 @@ use Rattle.lrpar_table_rows.specs.Graph.{Graph, HasCore, HasItem, ItemOf, graph_
 use Rattle.lrpar_table_rows.specs.PlainItems.{core_of}
 use Rattle.lrpar_table_rows.proofs.ItemLemmas.{Contains-image}
 use Rattle.lrpar_table_first.specs.First.{IsFirst}
-use Rattle.lrpar_table_first.specs.FirstRows.{mark_of}
-use Rattle.lrpar_table_first.proofs.FirstLemmas.{AreBelow, first_by_mark}
+use Rattle.lrpar_table_first.specs.FirstRows.{dummy_lookahead}
+use Rattle.lrpar_table_first.proofs.FirstLemmas.{AreBelow, first_by_dummy}
 use Rattle.lrpar_table_first.proofs.GrowthLemmas.{prods_below}
 use Rattle.lrpar_table_items.specs.Canonical.{AreSame, IsCanonical, sets_of}
 use Rattle.lrpar_table_items.specs.ItemSets.{Adds, IsAdvanced, IsReachedBy, IsStartItem, Own}
@@ -102,11 +102,11 @@ listed_of_rule r n (y ∷ ys) p has_one =
     ]
 
 -- what is left of symbols below a mark
-pub AreBelow-drop : (mark n : ℕ) (w : List GrammarSymbol) → AreBelow mark w → AreBelow mark (drop n w)
-AreBelow-drop mark zero w below = below
-AreBelow-drop mark (suc n) [] below = tt
-AreBelow-drop mark (suc n) (Terminal t ∷ w) below = AreBelow-drop mark n w below.1
-AreBelow-drop mark (suc n) (Nonterminal r ∷ w) below = AreBelow-drop mark n w below
+pub AreBelow-drop : (dummy n : ℕ) (w : List GrammarSymbol) → AreBelow dummy w → AreBelow dummy (drop n w)
+AreBelow-drop dummy zero w below = below
+AreBelow-drop dummy (suc n) [] below = tt
+AreBelow-drop dummy (suc n) (Terminal t ∷ w) below = AreBelow-drop dummy n w below.1
+AreBelow-drop dummy (suc n) (Nonterminal r ∷ w) below = AreBelow-drop dummy n w below
 
 module _ (g : Grammar) where
   -- each production of a rule is one of those that are listed of it, and no other one is
@@ -136,12 +136,12 @@ module _ (g : Grammar) (set : ItemOf → Type 0) (token : ℕ) where
       let all : link_at new i ≡ link_at (old ++ put.more) i = ap (λ (xs : List LinkOf). link_at xs i) put.put in
       elim (cases_lt i (length old)) [
         | inl before ↦ inl (before, all ∙ link-append old put.more i before)
-        | inr behind ↦
+        | inr beyond ↦
             let long : length new ≡ length old + length put.more = ap (λ (xs : List LinkOf). length xs) put.put ∙ length-append old put.more in
             let here : link_at (old ++ put.more) i ≡ link_at put.more (i - length old) =
-            get_or-append_right old put.more (length old) i _ refl behind in
-            let within : i - length old < length put.more = omega (arith, low, long, behind) in
-            inr (behind, subst Good (sym (all ∙ here)) (All-get_or Good put.more (i - length old) _ within put.good))
+            get_or-append_right old put.more (length old) i _ refl beyond in
+            let within : i - length old < length put.more = omega (arith, low, long, beyond) in
+            inr (beyond, subst Good (sym (all ∙ here)) (All-get_or Good put.more (i - length old) _ within put.good))
       ]
 
   -- a link stays what it is
@@ -167,7 +167,7 @@ module _ (g : Grammar) (set : ItemOf → Type 0) (token : ℕ) where
   links_begun old new links put i low =
       elim (put_cases (IsBegunLink g set token) old new put i low) [
         | inl before ↦ link_kept (IsBegunLink g set token) old new put i before.0 before.1 (links i before.0)
-        | inr behind ↦ record { step = behind.1.0; from = inl behind.1.1 }
+        | inr beyond ↦ record { step = beyond.1.0; from = inl beyond.1.1 }
       ]
 
   -- a symbol behind a dot is no added rule
@@ -181,24 +181,24 @@ module _ (g : Grammar) (set : ItemOf → Type 0) (token : ℕ) where
       let Good = IsLinkBelow g token at x.rule x.asked in
       elim (put_cases Good old new put i low) [
         | inl before ↦ link_kept Good old new put i before.0 before.1 (links i before.0)
-        | inr behind ↦
+        | inr beyond ↦
             let y = link_at new i in
-            let step = behind.1.0 in
+            let step = beyond.1.0 in
             let above : y.above ≡ at = step.above_is in
             let there : link_at new y.above ≡ x =
             ap (link_at new) above ∙ ap (λ (xs : List LinkOf). link_at xs at) put.put ∙ link-append old put.more at inside ∙ sym is in
             let own = rule_within well x (subst (λ (z : LinkOf). IsStep g token z.prod z.dot z.further z.above z) (sym is) (links at inside).step) in
             let listed : y.prod ≢ start_prod g =
             λ last.
-            let none : x.rule ≡ 0 = sym behind.1.2 ∙ ap (rule_of g) last ∙ well.last_rule in
+            let none : x.rule ≡ 0 = sym beyond.1.2 ∙ ap (rule_of g) last ∙ well.last_rule in
             let some = own.0 in omega (arith, none, some) in record {
               step = own_step g token y.prod 0 x.asked at y step;
               from =
                   inr (
                     step.dot,
                     listed,
-                    (let far = behind.0 in omega (arith, above, inside, far)),
-                    ap (λ (z : LinkOf). z.rule) there ∙ sym behind.1.2,
+                    (let far = beyond.0 in omega (arith, above, inside, far)),
+                    ap (λ (z : LinkOf). z.rule) there ∙ sym beyond.1.2,
                     ap (λ (z : LinkOf). z.asked) there ∙ sym step.further_is,
                   );
             }
@@ -213,10 +213,10 @@ module _ (g : Grammar) (well : IsWellFormed g) (token : ℕ) (links : List LinkO
   IsLinked y = (asked : Bool) → (IsTrue asked → y.token ≡ token)
       → (y.dot ≡ 0 → y.prod ≢ start_prod g → HasLink links asked (rule_of g y.prod)) × AreNoted g token links y.prod y.dot asked
 
-  below_rest : (x y : ItemOf) → x.prod < prods_len g → (adds : Adds g x y) → AreBelow (mark_of g) adds.rest
+  below_rest : (x y : ItemOf) → x.prod < prods_len g → (adds : Adds g x y) → AreBelow (dummy_lookahead g) adds.rest
   below_rest x y known adds =
-      let left = AreBelow-drop (mark_of g) x.dot (symbols_of g x.prod) (prods_below g well x.prod known) in
-      subst (AreBelow (mark_of g)) adds.before left
+      let left = AreBelow-drop (dummy_lookahead g) x.dot (symbols_of g x.prod) (prods_below g well x.prod known) in
+      subst (AreBelow (dummy_lookahead g)) adds.before left
 
   link_by : (x y : ItemOf) (adds : Adds g x y) → IsLinked x → (asked : Bool) → (IsTrue asked → y.token ≡ token) → HasLink links asked adds.rule
   link_by x y adds linked false own = (linked false (λ is. absurd (false≢true is))).1 adds.rule adds.rest false adds.before tt
@@ -224,9 +224,9 @@ module _ (g : Grammar) (well : IsWellFormed g) (token : ℕ) (links : List LinkO
       let known = known_by_symbol g well x.prod x.dot (Nonterminal adds.rule)
       (head_after (symbols_of g x.prod) x.dot (Nonterminal adds.rule) adds.rest adds.before) in
       let same : y.token ≡ token = own refl in
-      elim (first_by_mark g (mark_of g) (prods_below g well) x.token adds.rest y.token (below_rest x y known adds) adds.first) as (λ _. HasLink links true adds.rule) [
+      elim (first_by_dummy g (dummy_lookahead g) (prods_below g well) x.token adds.rest y.token (below_rest x y known adds) adds.first) as (λ _. HasLink links true adds.rule) [
         | inl here ↦
-            let begins = subst (λ (n : ℕ). IsFirst g (mark_of g) adds.rest n) same here.1 in
+            let begins = subst (λ (n : ℕ). IsFirst g (dummy_lookahead g) adds.rest n) same here.1 in
             (linked false (λ is. absurd (false≢true is))).1 adds.rule adds.rest true adds.before begins
         | inr through ↦
             let from : x.token ≡ token = sym through.1 ∙ same in

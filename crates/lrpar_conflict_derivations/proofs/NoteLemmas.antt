@@ -2,7 +2,7 @@
 use Rattle.std.proofs.Common.{◌≡◌, ◌∙◌, sym, ap, subst, ℕ, Bool, true, false, IsTrue, List, ◌∷◌, All, drop}
 use Rattle.std.proofs.lemmas.Bool.{false≢true}
 use Rattle.lrpar_grammar.specs.Grammar.{Grammar, GrammarSymbol, IsWellFormed, Nonterminal, rules_len, symbols_of, tokens_len}
-use Rattle.lrpar_table_first.specs.FirstRows.{AreFirsts, IsSymbolBelow, begins, mark_of}
+use Rattle.lrpar_table_first.specs.FirstRows.{AreFirsts, IsSymbolBelow, begins, dummy_lookahead}
 use Rattle.lrpar_table_first.proofs.BeforeLemmas.{begins_is, symbols_below}
 use Rattle.lrpar_table_items.proofs.SpreadLemmas.{same_rest, same_rule}
 use Rattle.lrpar_conflict_derivations.specs.Links.{AreNoted, HasLink, IsStep, LinkOf, PassesOn}
@@ -29,24 +29,24 @@ noted_nothing g token q j links further none r w asked before passes = absurd (n
 module _ (g : Grammar) (well : IsWellFormed g) (rows : List (List Bool)) (firsts : AreFirsts g rows) (token q j r : ℕ) (w : List GrammarSymbol)
     (before : drop j (symbols_of g q) ≡ Nonterminal r ∷ w) (listed : All (IsSymbolBelow (rules_len g) (tokens_len g)) w) (links : List LinkOf) where
   -- w begins with a token where it does by the sets
-  pub passes_by : (t mark : ℕ) (b : Bool) → mark ≡ mark_of g → b ≡ begins mark rows w t → b ≡ true → IsTrue (begins (mark_of g) rows w t)
-  passes_by t mark b marked is true_is = sym (ap (λ (n : ℕ). begins n rows w t) marked) ∙ sym is ∙ true_is
+  pub passes_by : (t dummy : ℕ) (b : Bool) → dummy ≡ dummy_lookahead g → b ≡ begins dummy rows w t → b ≡ true → IsTrue (begins (dummy_lookahead g) rows w t)
+  passes_by t dummy b marked is true_is = sym (ap (λ (n : ℕ). begins n rows w t) marked) ∙ sym is ∙ true_is
 
-  fails_by : (t mark : ℕ) (b : Bool) → mark ≡ mark_of g → b ≡ begins mark rows w t → b ≡ false → begins (mark_of g) rows w t ≡ false
-  fails_by t mark b marked is false_is = sym (ap (λ (n : ℕ). begins n rows w t) marked) ∙ sym is ∙ false_is
+  fails_by : (t dummy : ℕ) (b : Bool) → dummy ≡ dummy_lookahead g → b ≡ begins dummy rows w t → b ≡ false → begins (dummy_lookahead g) rows w t ≡ false
+  fails_by t dummy b marked is false_is = sym (ap (λ (n : ℕ). begins n rows w t) marked) ∙ sym is ∙ false_is
 
-  first_by : (t mark : ℕ) (b : Bool) → mark ≡ mark_of g → b ≡ begins mark rows w t → b ≡ true → PassesOn g t w true false
-  first_by t mark b marked is true_is =
-      (begins_is g well rows firsts w (symbols_below (rules_len g) (tokens_len g) w listed) t).0 (passes_by t mark b marked is true_is)
+  first_by : (t dummy : ℕ) (b : Bool) → dummy ≡ dummy_lookahead g → b ≡ begins dummy rows w t → b ≡ true → PassesOn g t w true false
+  first_by t dummy b marked is true_is =
+      (begins_is g well rows firsts w (symbols_below (rules_len g) (tokens_len g) w listed) t).0 (passes_by t dummy b marked is true_is)
 
   -- the token is asked for on, where w begins with it
-  pub passes_token : (t mark : ℕ) (b : Bool) → t ≡ token → mark ≡ mark_of g → b ≡ begins mark rows w t → b ≡ true → PassesOn g token w true false
-  passes_token t mark b same marked is true_is = subst (λ (n : ℕ). PassesOn g n w true false) same (first_by t mark b marked is true_is)
+  pub passes_token : (t dummy : ℕ) (b : Bool) → t ≡ token → dummy ≡ dummy_lookahead g → b ≡ begins dummy rows w t → b ≡ true → PassesOn g token w true false
+  passes_token t dummy b same marked is true_is = subst (λ (n : ℕ). PassesOn g n w true false) same (first_by t dummy b marked is true_is)
 
   -- and further up, where w derives nothing
-  pub passes_through : (mark : ℕ) (b : Bool) → mark ≡ mark_of g → b ≡ begins mark rows w mark → b ≡ true → PassesOn g token w true true
-  passes_through mark b marked is true_is =
-      subst (λ (n : ℕ). PassesOn g n w true false) marked (first_by mark mark b marked is true_is)
+  pub passes_through : (dummy : ℕ) (b : Bool) → dummy ≡ dummy_lookahead g → b ≡ begins dummy rows w dummy → b ≡ true → PassesOn g token w true true
+  passes_through dummy b marked is true_is =
+      subst (λ (n : ℕ). PassesOn g n w true false) marked (first_by dummy dummy b marked is true_is)
 
   own_rest : (s : ℕ) (v : List GrammarSymbol) → drop j (symbols_of g q) ≡ Nonterminal s ∷ v → v ≡ w
   own_rest s v also = same_rest s r v w (sym also ∙ before)
@@ -54,7 +54,7 @@ module _ (g : Grammar) (well : IsWellFormed g) (rows : List (List Bool)) (firsts
   own_link : (s : ℕ) (v : List GrammarSymbol) (asked : Bool) → drop j (symbols_of g q) ≡ Nonterminal s ∷ v → HasLink links asked r → HasLink links asked s
   own_link s v asked also has_one = subst (HasLink links asked) (sym (same_rule s r v w (sym also ∙ before))) has_one
 
-  contrary : (t : ℕ) (v : List GrammarSymbol) → v ≡ w → begins (mark_of g) rows w t ≡ false → PassesOn g t v true false → ⊥
+  contrary : (t : ℕ) (v : List GrammarSymbol) → v ≡ w → begins (dummy_lookahead g) rows w t ≡ false → PassesOn g t v true false → ⊥
   contrary t v same none passes =
       let free = symbols_below (rules_len g) (tokens_len g) w listed in
       let passed = (begins_is g well rows firsts w free t).1 (subst (λ (u : List GrammarSymbol). PassesOn g t u true false) same passes) in
@@ -70,15 +70,15 @@ module _ (g : Grammar) (well : IsWellFormed g) (rows : List (List Bool)) (firsts
   noted_asked further is has_one s v asked also passes =
       noted_further asked has_one s v also (subst (λ (b : Bool). PassesOn g token v asked b) is passes)
 
-  stopped_further : (asked : Bool) → begins (mark_of g) rows w (mark_of g) ≡ false → (s : ℕ) (v : List GrammarSymbol)
+  stopped_further : (asked : Bool) → begins (dummy_lookahead g) rows w (dummy_lookahead g) ≡ false → (s : ℕ) (v : List GrammarSymbol)
       → drop j (symbols_of g q) ≡ Nonterminal s ∷ v → PassesOn g token v asked true → HasLink links asked s
-  stopped_further true none s v also passes = absurd (contrary (mark_of g) v (own_rest s v also) none passes)
+  stopped_further true none s v also passes = absurd (contrary (dummy_lookahead g) v (own_rest s v also) none passes)
   stopped_further false none s v also passes = absurd passes
 
-  pub noted_stopped : (mark : ℕ) (b further : Bool) → further ≡ true → mark ≡ mark_of g → b ≡ begins mark rows w mark → b ≡ false
+  pub noted_stopped : (dummy : ℕ) (b further : Bool) → further ≡ true → dummy ≡ dummy_lookahead g → b ≡ begins dummy rows w dummy → b ≡ false
       → AreNoted g token links q j further
-  noted_stopped mark b further is marked by false_is s v asked also passes =
-      let none = subst (λ (n : ℕ). begins (mark_of g) rows w n ≡ false) marked (fails_by mark mark b marked by false_is) in
+  noted_stopped dummy b further is marked by false_is s v asked also passes =
+      let none = subst (λ (n : ℕ). begins (dummy_lookahead g) rows w n ≡ false) marked (fails_by dummy dummy b marked by false_is) in
       stopped_further asked none s v also (subst (λ (c : Bool). PassesOn g token v asked c) is passes)
 
   -- and where it isn't
@@ -90,19 +90,19 @@ module _ (g : Grammar) (well : IsWellFormed g) (rows : List (List Bool)) (firsts
   pub noted_both : (further : Bool) → HasLink links false r → HasLink links true r → AreNoted g token links q j further
   noted_both further any_one asked_one s v asked also passes = both_here asked any_one asked_one s v also
 
-  any_here : (asked : Bool) → HasLink links false r → begins (mark_of g) rows w token ≡ false → (s : ℕ) (v : List GrammarSymbol)
+  any_here : (asked : Bool) → HasLink links false r → begins (dummy_lookahead g) rows w token ≡ false → (s : ℕ) (v : List GrammarSymbol)
       → drop j (symbols_of g q) ≡ Nonterminal s ∷ v → PassesOn g token v asked false → HasLink links asked s
   any_here true any_one none s v also passes = absurd (contrary token v (own_rest s v also) none passes)
   any_here false any_one none s v also passes = own_link s v false also any_one
 
-  pub noted_any : (t mark : ℕ) (b further : Bool) → further ≡ false → t ≡ token → mark ≡ mark_of g → b ≡ begins mark rows w t → b ≡ false
+  pub noted_any : (t dummy : ℕ) (b further : Bool) → further ≡ false → t ≡ token → dummy ≡ dummy_lookahead g → b ≡ begins dummy rows w t → b ≡ false
       → HasLink links false r → AreNoted g token links q j further
-  noted_any t mark b further is same marked by false_is any_one s v asked also passes =
-      let none = subst (λ (n : ℕ). begins (mark_of g) rows w n ≡ false) same (fails_by t mark b marked by false_is) in
+  noted_any t dummy b further is same marked by false_is any_one s v asked also passes =
+      let none = subst (λ (n : ℕ). begins (dummy_lookahead g) rows w n ≡ false) same (fails_by t dummy b marked by false_is) in
       any_here asked any_one none s v also (subst (λ (c : Bool). PassesOn g token v asked c) is passes)
 
 -- symbols of a grammar, by the numbers of its sets and tokens
-pub below_by : (rules tokens len mark : ℕ) (w : List GrammarSymbol) → len ≡ rules → mark ≡ tokens → All (IsSymbolBelow rules tokens) w
-    → All (IsSymbolBelow len mark) w
-below_by rules tokens len mark w is marked listed =
-    subst (λ (n : ℕ). All (IsSymbolBelow n mark) w) (sym is) (subst (λ (n : ℕ). All (IsSymbolBelow rules n) w) (sym marked) listed)
+pub below_by : (rules tokens len dummy : ℕ) (w : List GrammarSymbol) → len ≡ rules → dummy ≡ tokens → All (IsSymbolBelow rules tokens) w
+    → All (IsSymbolBelow len dummy) w
+below_by rules tokens len dummy w is marked listed =
+    subst (λ (n : ℕ). All (IsSymbolBelow n dummy) w) (sym is) (subst (λ (n : ℕ). All (IsSymbolBelow rules n) w) (sym marked) listed)

@@ -6,16 +6,16 @@ use Rattle.lrpar_grammar.specs.Grammar.{Grammar, GrammarSymbol, Nonterminal, Ter
 use Rattle.lrpar_table_rows.specs.Graph.{Graph}
 use Rattle.lrpar_table_rows.specs.Safe.{GoesBy}
 use Rattle.lrpar_table_rows.specs.Table.{IsClosed, Table, goto_of, states_len}
-use Rattle.lrpar_table_build.specs.BuilderLaws.{IsWantedTable}
+use Rattle.lrpar_table_build.specs.BuilderLaws.{IsCanonicalTable}
 use Rattle.lrpar_table_items.specs.Canonical.{AreSame, LeadsTo, sets_of}
 use Rattle.lrpar_table_items.specs.ItemSets.{IsReachedBy}
 use Rattle.lrpar_table_build.proofs.DecidedLemmas.{Accepting, Failing, IsActing, Reducing, Shifting, acting, before_decided}
 use Rattle.lrpar_table_build.proofs.SetLemmas.{next_more}
-use Rattle.lrpar_table_sentences.specs.Ways.{IsPathTo, StepOf, StepsLead, step_of, steps_of, symbols_in}
-use Rattle.lrpar_table_sentences.specs.declared.steps.Step.{Step}
+use Rattle.lrpar_table_sentences.specs.AccessStrings.{IsPathTo, StepOf, StepsLead, step_of, steps_of, symbols_in}
+use Rattle.lrpar_table_sentences.specs.declared.transitions.Step.{Step}
 use Rattle.lrpar_conflict_derivations.specs.Climbing.{state_before}
 
-module _ (g : Grammar) (graph : Graph) (table : Table) (wanted : IsWantedTable g graph table) where
+module _ (g : Grammar) (graph : Graph) (table : Table) (wanted : IsCanonicalTable g graph table) where
   -- what the table does is what the set wants, in range, and nothing out of range
   acts_in : (s t : ℕ) → IsActing g graph s table t
   acts_in s t =
@@ -33,8 +33,8 @@ module _ (g : Grammar) (graph : Graph) (table : Table) (wanted : IsWantedTable g
   leads_by s (Terminal t) next within at =
       elim (acts_in s t) [
         | Shifting to is before leads ↦ let same : to ≡ next = cc in subst (λ (n : ℕ). LeadsTo g (sets_of graph) s (Terminal t) n) same leads
-        | Reducing p is wants ↦ absurd (cc)
-        | Accepting is wants ↦ absurd (cc)
+        | Reducing p is candidate ↦ absurd (cc)
+        | Accepting is candidate ↦ absurd (cc)
         | Failing is ↦ absurd (cc)
       ]
   leads_by s (Nonterminal r) next within at =
@@ -72,7 +72,7 @@ within_by table closed s (Terminal t) next goes = closed.shifts_within s t next 
 within_by table closed s (Nonterminal r) next goes = closed.gotos_within s r next goes
 
 -- each state on the way is reached by the symbols before it
-pub state_reached : (g : Grammar) (graph : Graph) (table : Table) → IsWantedTable g graph table → IsClosed table → (steps : List StepOf) (s last : ℕ)
+pub state_reached : (g : Grammar) (graph : Graph) (table : Table) → IsCanonicalTable g graph table → IsClosed table → (steps : List StepOf) (s last : ℕ)
     (front : List GrammarSymbol) → s < states_len table → StepsLead table s steps last → IsPathTo g graph s front
     → (i : ℕ) → i ≤ length steps → IsPathTo g graph (state_before steps last i) (front ++ take i (symbols_in steps))
 state_reached g graph table wanted closed [] s last front within lead path i low =

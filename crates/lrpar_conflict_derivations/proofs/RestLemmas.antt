@@ -4,16 +4,16 @@ use Rattle.std.proofs.lemmas.Bool.{false≢true}
 use Rattle.std.proofs.lemmas.List.{nil_from_length, take_rest}
 use Rattle.lrpar_grammar.specs.Grammar.{Grammar, GrammarSymbol, IsWellFormed, Nonterminal, rule_of, symbols_of}
 use Rattle.lrpar_grammar.specs.Tree.{Forest, forest_leaves}
-use Rattle.lrpar_table_first.specs.FirstRows.{mark_of}
+use Rattle.lrpar_table_first.specs.FirstRows.{dummy_lookahead}
 use Rattle.lrpar_table_first.proofs.FirstLemmas.{AreBelow}
 use Rattle.lrpar_table_first.proofs.GrowthLemmas.{prods_below}
 use Rattle.lrpar_table_build.proofs.ReachedLemmas.{head_after, known_by_symbol}
 use Rattle.lrpar_table_sentences.specs.Moves.{MoveOf, forest_moves}
-use Rattle.lrpar_table_sentences.specs.Reached.{EachReachedHasTree, IsReachedRule, IsReachedSymbol}
+use Rattle.lrpar_table_sentences.specs.Reachable.{EachReachableHasTree, IsReachableRule, IsReachableSymbol}
 use Rattle.lrpar_table_sentences.specs.Texts.{AreShortestTrees, AreTreesOf, BeginWith, CanBeginWith, HaveTrees}
 use Rattle.lrpar_conflict_derivations.specs.Climbing.{HasRest, IsNextIf}
 use Rattle.lrpar_conflict_derivations.specs.Links.{IsStep, LinkOf, PassesOn}
-use Rattle.lrpar_table_sentences.proofs.BehindLemmas.{drop_at_get, have_trees, rest_reached}
+use Rattle.lrpar_table_sentences.proofs.AfterLemmas.{drop_at_get, have_trees, rest_reached}
 use Rattle.lrpar_conflict_derivations.proofs.ClimbLemmas.{any_ahead, begin_ahead, through_ahead}
 use Rattle.lrpar_conflict_derivations.proofs.LinkLemmas.{AreBelow-drop}
 use Rattle.lrpar_conflict_derivations.proofs.ReachLemmas.{begins_with, derives_nothing}
@@ -28,21 +28,21 @@ map-drop f (suc n) (x ∷ xs) = map-drop f n xs
 pub rest_of : {X Y : Type 0} (f : X → Y) (n : ℕ) (xs : List X) (all : List Y) → map f xs ≡ all → map f (take (length xs - n) (drop n xs)) ≡ drop n all
 rest_of f n xs all is = ap (map f) (take_rest xs n) ∙ map-drop f n xs ∙ ap (drop n) is
 
-module _ (g : Grammar) (well : IsWellFormed g) (each : EachReachedHasTree g) (token : ℕ) (low : token < mark_of g) (x : LinkOf)
-    (step : IsStep g token x.prod x.dot x.further x.above x) (reached : IsReachedRule g (rule_of g x.prod)) (old new : List MoveOf) where
+module _ (g : Grammar) (well : IsWellFormed g) (each : EachReachableHasTree g) (token : ℕ) (low : token < dummy_lookahead g) (x : LinkOf)
+    (step : IsStep g token x.prod x.dot x.further x.above x) (reached : IsReachableRule g (rule_of g x.prod)) (old new : List MoveOf) where
   -- what stands behind the rule
   pub rest_is : drop (x.dot + 1) (symbols_of g x.prod) ≡ step.rest
   rest_is =
       let at = drop_at_get (symbols_of g x.prod) x.dot (Nonterminal x.rule) (head_after (symbols_of g x.prod) x.dot (Nonterminal x.rule) step.rest step.before) in
       let both : Nonterminal x.rule ∷ drop (x.dot + 1) (symbols_of g x.prod) ≡ Nonterminal x.rule ∷ step.rest = sym at ∙ step.before in cc
 
-  all_reached : All (IsReachedSymbol g) step.rest
+  all_reached : All (IsReachableSymbol g) step.rest
   all_reached = rest_reached g well x.prod x.dot (Nonterminal x.rule) step.rest step.before reached
 
-  rest_below : AreBelow (mark_of g) (Nonterminal x.rule ∷ step.rest)
+  rest_below : AreBelow (dummy_lookahead g) (Nonterminal x.rule ∷ step.rest)
   rest_below =
       let known = known_by_symbol g well x.prod x.dot (Nonterminal x.rule) (head_after (symbols_of g x.prod) x.dot (Nonterminal x.rule) step.rest step.before) in
-      subst (AreBelow (mark_of g)) step.before (AreBelow-drop (mark_of g) x.dot (symbols_of g x.prod) (prods_below g well x.prod known))
+      subst (AreBelow (dummy_lookahead g)) step.before (AreBelow-drop (dummy_lookahead g) x.dot (symbols_of g x.prod) (prods_below g well x.prod known))
 
   pub some_trees : (w : List GrammarSymbol) → w ≡ drop (x.dot + 1) (symbols_of g x.prod) → HaveTrees g w
   some_trees w is = subst (HaveTrees g) (sym (is ∙ rest_is)) (have_trees g each step.rest all_reached)
@@ -54,7 +54,7 @@ module _ (g : Grammar) (well : IsWellFormed g) (each : EachReachedHasTree g) (to
   pub some_begin : x.asked ≡ true → x.further ≡ false → (w : List GrammarSymbol) → w ≡ drop (x.dot + 1) (symbols_of g x.prod) → CanBeginWith g w token
   some_begin asks goes w is =
       subst (λ (v : List GrammarSymbol). CanBeginWith g v token) (sym (is ∙ rest_is))
-      (begins_with g each well (mark_of g) (prods_below g well) step.rest token (passes_for true false asks goes) low all_reached)
+      (begins_with g each well (dummy_lookahead g) (prods_below g well) step.rest token (passes_for true false asks goes) low all_reached)
 
   -- they begin with the token
   pub rest_begin : x.asked ≡ true → (w : List GrammarSymbol) → w ≡ drop (x.dot + 1) (symbols_of g x.prod) → (trees : Forest ℕ) → BeginWith g w token trees
@@ -79,7 +79,7 @@ module _ (g : Grammar) (well : IsWellFormed g) (each : EachReachedHasTree g) (to
         | inr denied ↦ absurd (false≢true denied)
       ]
   ahead_by true true passes either trees least text next =
-      let none = derives_nothing g each well (mark_of g) (prods_below g well) step.rest (mark_of g) passes refl rest_below in
+      let none = derives_nothing g each well (dummy_lookahead g) (prods_below g well) step.rest (dummy_lookahead g) passes refl rest_below in
       let short : length (forest_leaves trees) ≡ 0 =
       let less = least.least none.0 none.1 in let zero_is = ap (λ (xs : List ℕ). length xs) none.2 in omega (arith, less, zero_is) in
       through_ahead g token trees (nil_from_length (forest_leaves trees) short) text next

@@ -7,10 +7,10 @@ use Rattle.lrpar_table_items.specs.Canonical.{AreSame}
 use Rattle.lrpar_table_items.specs.ItemSets.{IsReachedBy}
 use Rattle.lrpar_table_build.proofs.ReachedLemmas.{head_after, known_by_symbol}
 use Rattle.lrpar_table_sentences.specs.Moves.{MoveOf, Makes, forest_moves}
-use Rattle.lrpar_table_sentences.specs.Reached.{IsReachedRule}
+use Rattle.lrpar_table_sentences.specs.Reachable.{IsReachableRule}
 use Rattle.lrpar_conflict_derivations.specs.Climbing.{AreUpLinks, EndsLink, HasClimbed, HasRest, LeadsUp, UpOf, place_at}
 use Rattle.lrpar_conflict_derivations.specs.Links.{AreLinks, IsBegunItem, IsStep, LinkOf, link_at}
-use Rattle.lrpar_table_sentences.proofs.BehindLemmas.{drop_at_get}
+use Rattle.lrpar_table_sentences.proofs.AfterLemmas.{drop_at_get}
 use Rattle.lrpar_conflict_derivations.proofs.ClimbLemmas.{up_added, up_none, up_then}
 use Rattle.lrpar_conflict_derivations.proofs.ReachLemmas.{links_reached}
 
@@ -77,10 +77,10 @@ module _ (g : Grammar) (token p : ℕ) (asked : Bool) (old : List MoveOf) where
   way_further well middle pushed new q further x way known rule asks step push rest =
       let at = drop_at_get (symbols_of g x.prod) x.dot (Nonterminal x.rule)
       (head_after (symbols_of g x.prod) x.dot (Nonterminal x.rule) step.rest step.before) in
-      let behind : drop x.dot (symbols_of g x.prod) ≡ Nonterminal (rule_of g q) ∷ drop (x.dot + 1) (symbols_of g x.prod) =
+      let after : drop x.dot (symbols_of g x.prod) ≡ Nonterminal (rule_of g q) ∷ drop (x.dot + 1) (symbols_of g x.prod) =
       at ∙ ap (λ (n : ℕ). Nonterminal n ∷ drop (x.dot + 1) (symbols_of g x.prod)) rule in
       let added = λ (front : List GrammarSymbol).
-      up_added g token well front x.prod x.dot q (drop (x.dot + 1) (symbols_of g x.prod)) rest.trees x.asked x.further behind known rest.fit rest.ahead in
+      up_added g token well front x.prod x.dot q (drop (x.dot + 1) (symbols_of g x.prod)) rest.trees x.asked x.further after known rest.fit rest.ahead in
       let own : (front : List GrammarSymbol) → LeadsUp g token (place_at front q 0 further) (Makes q ∷ forest_moves rest.trees) (place_at front x.prod x.dot x.further) =
       λ front.
       subst (λ (b : Bool). LeadsUp g token (place_at front q 0 b) (Makes q ∷ forest_moves rest.trees) (place_at front x.prod x.dot x.further)) asks (added front) in
@@ -130,8 +130,8 @@ module _ (g : Grammar) (token : ℕ) (links : List LinkOf) (ups : AreUpLinks g t
   pub step_here : IsStep g token x.prod x.dot x.further x.above x
   step_here = subst (λ (y : LinkOf). IsStep g token y.prod y.dot y.further y.above y) (sym is) (ups i low).step
 
-  pub reached_here : IsReachedRule g (rule_of g x.prod)
-  reached_here = subst (λ (y : LinkOf). IsReachedRule g (rule_of g y.prod)) (sym is) (ups i low).reached
+  pub reached_here : IsReachableRule g (rule_of g x.prod)
+  reached_here = subst (λ (y : LinkOf). IsReachableRule g (rule_of g y.prod)) (sym is) (ups i low).reached
 
   pub known_here : x.prod < prods_len g
   known_here = subst (λ (y : LinkOf). y.prod < prods_len g) (sym is) (ups i low).known

@@ -4,11 +4,11 @@ use Rattle.lrpar_grammar.specs.Grammar.{Grammar, GrammarSymbol, Nonterminal, pro
 use Rattle.lrpar_grammar.specs.Tree.{Forest, Tree, forest_leaves, leaves}
 use Rattle.lrpar_table_rows.specs.Graph.{Graph, HasItem}
 use Rattle.lrpar_table_sentences.specs.Moves.{MoveOf, Makes, forest_moves, moves_of}
-use Rattle.lrpar_table_sentences.specs.Reached.{IsReachedRule}
+use Rattle.lrpar_table_sentences.specs.Reachable.{IsReachableRule}
 use Rattle.lrpar_table_sentences.specs.Texts.{AreTreesOf, IsTreeOf}
-use Rattle.lrpar_table_sentences.specs.Ways.{IsPathTo, StepOf, symbols_in}
+use Rattle.lrpar_table_sentences.specs.AccessStrings.{IsPathTo, StepOf, symbols_in}
 use Rattle.lrpar_conflict_derivations.specs.Links.{IsStep, LinkOf, link_at}
-use Rattle.lrpar_conflict_derivations.specs.Reading.{IsNext}
+use Rattle.lrpar_conflict_derivations.specs.Derivation.{IsNext}
 use Rattle.lrpar_conflict_derivations.specs.declared.climb.Up.{Up}
 
 -- a tree of the start rule has these trees at its front, then those of the rest, and is finished by these moves, with this text
@@ -64,7 +64,7 @@ pub record HasRest (g : Grammar) (token : ℕ) (x : LinkOf) (old new : List Move
 pub record IsUpLink (g : Grammar) (token : ℕ) (links : List LinkOf) (i : ℕ) : Type 0 where
   pub step : let x = link_at links i in IsStep g token x.prod x.dot x.further x.above x
   pub known : (link_at links i).prod < prods_len g
-  pub reached : IsReachedRule g (rule_of g (link_at links i).prod)
+  pub reached : IsReachableRule g (rule_of g (link_at links i).prod)
   pub above : let x = link_at links i in x.dot ≡ 0 → x.prod ≢ start_prod g
       → (x.above < i) × ((link_at links x.above).rule ≡ rule_of g x.prod) × ((link_at links x.above).asked ≡ x.further)
 

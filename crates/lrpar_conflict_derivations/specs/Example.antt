@@ -7,14 +7,14 @@ use Rattle.lrpar_table_rows.specs.Table.{Table}
 use Rattle.lrpar_table_first.specs.FirstRows.{AreFirsts}
 use Rattle.lrpar_table_sentences.specs.Choices.{AreShortest, ChoiceOf}
 use Rattle.lrpar_table_sentences.specs.Moves.{MoveOf, forest_moves}
-use Rattle.lrpar_table_sentences.specs.Reached.{EachReachedHasTree, IsFirstBarren}
+use Rattle.lrpar_table_sentences.specs.Reachable.{EachReachableHasTree, IsFirstUnproductive}
 use Rattle.lrpar_table_sentences.specs.Texts.{AreTreesOf}
-use Rattle.lrpar_table_sentences.specs.Ways.{AreWays, IsPathTo, StepOf, WayOf, symbols_in}
+use Rattle.lrpar_table_sentences.specs.AccessStrings.{AreAccessStrings, IsPathTo, StepOf, AccessOf, symbols_in}
 use Rattle.lrpar_conflict_derivations.specs.Climbing.{IsWay}
-use Rattle.lrpar_conflict_derivations.specs.Reading.{IsReading}
+use Rattle.lrpar_conflict_derivations.specs.Derivation.{IsDerivation}
 use Rattle.lrpar_conflict_derivations.specs.Texts.{takes_in}
 use Rattle.lrpar_conflict_derivations.specs.declared.fault.ExampleFault.{ExampleFault}
-use Rattle.lrpar_conflict_derivations.specs.declared.fault.ExampleFault.TheVariants.{Barren, Memory}
+use Rattle.lrpar_conflict_derivations.specs.declared.fault.ExampleFault.TheVariants.{Unproductive, Memory}
 
 -- what an example tells
 pub record ExampleOf : Type 0 where
@@ -47,9 +47,9 @@ pub record IsExample (g : Grammar) (graph : Graph) (s token : ℕ) (one other : 
   pub shortest : IsTrue x.shortest ↔ IsLeastTo g graph s x.before
   pub unless : (IsTrue x.shortest) ⊎ (IsTrue x.ambiguous)
   pub tree : Tree ℕ
-  pub first : IsReading g x.before token trees one x.first tree
+  pub first : IsDerivation g x.before token trees one x.first tree
   pub other_tree : Tree ℕ
-  pub second : IsReading g x.before token trees other x.second other_tree
+  pub second : IsDerivation g x.before token trees other x.second other_tree
   pub different : tree ≢ other_tree
   pub ambiguous : IsTrue x.ambiguous ↔ (leaves tree ≡ leaves other_tree)
 
@@ -57,19 +57,19 @@ pub record IsExample (g : Grammar) (graph : Graph) (s token : ℕ) (one other : 
 pub record ExamplesOf : Type 0 where
   pub firsts : List (List Bool)
   pub shortest : List (Option ChoiceOf)
-  pub ways : List (Option WayOf)
+  pub access : List (Option AccessOf)
 
 -- they are those of a table that was built of a grammar, each of whose rules that are reached from the start derives some text; numbers
 -- of tokens are told up to `most`
 pub record AreExamplesFor (g : Grammar) (graph : Graph) (table : Table) (most : ℕ) (x : ExamplesOf) : Type 0 where
   pub firsts : AreFirsts g x.firsts
   pub shortest : AreShortest g most x.shortest
-  pub ways : AreWays g graph table most x.ways
-  pub each : EachReachedHasTree g
+  pub access : AreAccessStrings g graph table most x.access
+  pub each : EachReachableHasTree g
 
 -- what a refusal tells: the first rule that is reached from the start and derives no text
 abbrev pub IsExampleFault : {S : Type 0} → (S → ℕ) → Grammar → ExampleFault S → Type 0
-IsExampleFault index g (Barren r) = IsFirstBarren g (index r.0)
+IsExampleFault index g (Unproductive r) = IsFirstUnproductive g (index r.0)
 IsExampleFault index g Memory = Unit {0}
 
 -- the steps of a way to state s, by which each state on it is reached, and moves of trees of its symbols

@@ -1,4 +1,4 @@
-pub mod Reading
+pub mod Derivation
 pub mod Example
 pub mod Climbing
 pub mod Links

@@ -4,7 +4,7 @@ use Rattle.std.specs.Prelude.{◌≡◌, ◌≢◌, ◌<◌, ◌≤◌, ◌+◌,
 use Rattle.lrpar_grammar.specs.Grammar.{Grammar, GrammarSymbol, Nonterminal, prods_len, rule_of, start_prod, symbols_of}
 use Rattle.lrpar_table_rows.specs.Graph.{ItemOf, item_at}
 use Rattle.lrpar_table_first.specs.First.{IsFirst}
-use Rattle.lrpar_table_first.specs.FirstRows.{mark_of}
+use Rattle.lrpar_table_first.specs.FirstRows.{dummy_lookahead}
 use Rattle.lrpar_grammar.specs.Tokens.{has, missing}
 use Rattle.lrpar_conflict_derivations.specs.declared.links.Link.{Link}
 
@@ -37,8 +37,8 @@ HasLink links asked r = (i : ℕ) × (i < length links) × ((link_at links i).ru
 -- What symbols w behind a rule let be asked for. The token is a lookahead of the rule where w begins with it; and where w derives nothing, and
 -- the token is a lookahead further up
 abbrev pub PassesOn : Grammar → ℕ → List GrammarSymbol → Bool → Bool → Type 0
-PassesOn g token w true false = IsFirst g (mark_of g) w token
-PassesOn g token w true true = IsFirst g (mark_of g) w (mark_of g)
+PassesOn g token w true false = IsFirst g (dummy_lookahead g) w token
+PassesOn g token w true true = IsFirst g (dummy_lookahead g) w (dummy_lookahead g)
 PassesOn g token w false false = Unit {0}
 PassesOn g token w false true = ⊥
 

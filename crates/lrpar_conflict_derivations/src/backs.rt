@@ -3,7 +3,7 @@
 use crate::queue::NONE;
 use lrpar_grammar::span::{StIdx, StorageIndex, Symbol};
 use lrpar_table_rows::table::{Action, StateTable};
-use lrpar_table_sentences::ways::Step;
+use lrpar_table_sentences::access_strings::Step;
 use std::alloc::{AllocError, Global};
 
 /// A step to a state, and the number of a further one to the same state.

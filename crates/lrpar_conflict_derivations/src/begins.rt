@@ -12,24 +12,24 @@ pub(crate) fn can_begin<StorageT: StorageIndex>(
     firsts: &[TokenSet],
     symbols: &[Symbol<StorageT>],
     token: usize,
-    mark: usize,
+    dummy: usize,
 ) -> bool
-    requires { All (IsSymbolBelow (length firsts.now) mark) (map (symbol_of StorageT.index) symbols.now) }
-    ensures { result ≡ begins mark (rows_of firsts.now) (map (symbol_of StorageT.index) symbols.now) token }
+    requires { All (IsSymbolBelow (length firsts.now) dummy) (map (symbol_of StorageT.index) symbols.now) }
+    ensures { result ≡ begins dummy (rows_of firsts.now) (map (symbol_of StorageT.index) symbols.now) token }
 {
     for symbol in symbols {
         match *symbol {
             Symbol::Token(first) => return token == usize::from(first),
             Symbol::Rule(rule) => {
                 let set = &firsts[usize::from(rule)];
-                if token < mark && set.contains(token) {
+                if token < dummy && set.contains(token) {
                     return true;
                 }
-                if !set.contains(mark) {
+                if !set.contains(dummy) {
                     return false;
                 }
             }
         }
     }
-    token == mark
+    token == dummy
 }

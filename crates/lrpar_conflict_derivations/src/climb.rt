@@ -2,12 +2,12 @@
 ghost use Rattle.std.specs.Prelude.{◌≡◌, ◌≢◌, ◌<◌, IfOk, MatchOption, OnOk, length};
 ghost use Rattle.lrpar_grammar.specs.Grammar.{IsWellFormed, prods_len, rule_of, start_prod};
 ghost use Rattle.lrpar_table_rows.specs.Graph.{graph_len};
-ghost use Rattle.lrpar_table_first.specs.FirstRows.{AreFirsts, mark_of, rows_of};
+ghost use Rattle.lrpar_table_first.specs.FirstRows.{AreFirsts, dummy_lookahead, rows_of};
 ghost use Rattle.lrpar_table_items.specs.Canonical.{IsCanonical, sets_of};
 ghost use Rattle.lrpar_table_sentences.specs.Choices.{AreShortest};
 ghost use Rattle.lrpar_table_sentences.specs.Moves.{moves_in};
-ghost use Rattle.lrpar_table_sentences.specs.Reached.{EachReachedHasTree, IsReachedRule};
-ghost use Rattle.lrpar_table_sentences.specs.Ways.{steps_of, symbols_in};
+ghost use Rattle.lrpar_table_sentences.specs.Reachable.{EachReachableHasTree, IsReachableRule};
+ghost use Rattle.lrpar_table_sentences.specs.AccessStrings.{steps_of, symbols_in};
 ghost use Rattle.lrpar_conflict_derivations.specs.Climbing.{AreUpLinks, EndsLink, HasClimbed, HasFinished, HasItemFor, HasRest, IsWay, state_before, up_of};
 ghost use Rattle.lrpar_conflict_derivations.specs.Links.{HasLink, IsBegunItem, IsStep, link_at, link_of, links_of};
 
@@ -16,9 +16,9 @@ use lrpar_grammar::grammar::YaccGrammar;
 use lrpar_grammar::span::{PIdx, RIdx, StIdx, StorageIndex, TIdx};
 use lrpar_grammar::token_set::TokenSet;
 use lrpar_table_rows::table::StateGraph;
+use lrpar_table_sentences::access_strings::Step;
 use lrpar_table_sentences::moves::Move;
 use lrpar_table_sentences::shortest::Shortest;
-use lrpar_table_sentences::ways::Step;
 use std::alloc::{AllocError, Global};
 
 /// Where a way up ends that began at an item with its dot at the front: at an item that isn't there by closure, and whether it has the token
@@ -41,10 +41,10 @@ fn push_rest<StorageT: StorageIndex>(
 ) -> Result<(), AllocError>
     requires well_formed { IsWellFormed grm.now }
     requires shortest { AreShortest grm.now usize.MAX shortest.now }
-    requires each { EachReachedHasTree grm.now }
-    requires token { StorageT.index token.0 < mark_of grm.now }
+    requires each { EachReachableHasTree grm.now }
+    requires token { StorageT.index token.0 < dummy_lookahead grm.now }
     requires step { IsStep grm.now (StorageT.index token.0) (StorageT.index link.prod.0) link.dot link.further link.above (link_of StorageT.index link) }
-    requires reached { IsReachedRule grm.now (rule_of grm.now (StorageT.index link.prod.0)) }
+    requires reached { IsReachableRule grm.now (rule_of grm.now (StorageT.index link.prod.0)) }
     ensures { OnOk result (HasRest grm.now (StorageT.index token.0) (link_of StorageT.index link) (moves_in StorageT.index out.old.items)
         (moves_in StorageT.index out.new.items)) }
 {
@@ -85,8 +85,8 @@ fn climb_links<StorageT: StorageIndex>(
     out: &mut Vec<Move<StorageT>>,
 ) -> Result<Up<StorageT>, AllocError>
     requires shortest { AreShortest grm.now usize.MAX shortest.now }
-    requires each { EachReachedHasTree grm.now }
-    requires token { StorageT.index token.0 < mark_of grm.now }
+    requires each { EachReachableHasTree grm.now }
+    requires token { StorageT.index token.0 < dummy_lookahead grm.now }
     requires prod { StorageT.index prod.0 < prods_len grm.now }
     requires links { AreUpLinks grm.now (StorageT.index token.0) (links_of StorageT.index links.now) }
     requires linked { HasLink (links_of StorageT.index links.now) asked (rule_of grm.now (StorageT.index prod.0)) }
@@ -128,10 +128,10 @@ fn climb_within<StorageT: StorageIndex>(
 ) -> Result<Up<StorageT>, AllocError>
     requires firsts { AreFirsts grm.now (rows_of firsts.now) }
     requires shortest { AreShortest grm.now usize.MAX shortest.now }
-    requires each { EachReachedHasTree grm.now }
+    requires each { EachReachableHasTree grm.now }
     requires canonical { IsCanonical grm.now graph.now }
     requires state { StorageT.index state.0 < graph_len graph.now }
-    requires token { StorageT.index token.0 < mark_of grm.now }
+    requires token { StorageT.index token.0 < dummy_lookahead grm.now }
     requires listed { StorageT.index prod.0 ≢ start_prod grm.now }
     requires item { HasItemFor graph.now (StorageT.index state.0) (StorageT.index token.0) (StorageT.index prod.0) 0 asked }
     ensures climbed { IfOk result (λ up. HasClimbed grm.now (StorageT.index token.0) (StorageT.index prod.0) asked
@@ -177,9 +177,9 @@ pub(crate) fn climb<StorageT: StorageIndex>(
 ) -> Result<(), AllocError>
     requires firsts { AreFirsts grm.now (rows_of firsts.now) }
     requires shortest { AreShortest grm.now usize.MAX shortest.now }
-    requires each { EachReachedHasTree grm.now }
+    requires each { EachReachableHasTree grm.now }
     requires canonical { IsCanonical grm.now graph.now }
-    requires token { StorageT.index token.0 < mark_of grm.now }
+    requires token { StorageT.index token.0 < dummy_lookahead grm.now }
     requires way { IsWay grm.now graph.now (steps_of StorageT.index steps.now) (StorageT.index last.0) }
     requires item { HasItemFor graph.now (StorageT.index last.0) (StorageT.index token.0) (StorageT.index item.0.0) item.1 asked }
     ensures { OnOk result (HasFinished grm.now (StorageT.index token.0) (symbols_in (steps_of StorageT.index steps.now))

@@ -8,27 +8,27 @@ ghost use Rattle.lrpar_table_build.specs.Built.{IsBuilt};
 ghost use Rattle.lrpar_table_build.specs.BuilderLaws.{lists_in};
 ghost use Rattle.lrpar_table_sentences.specs.Choices.{AreShortest};
 ghost use Rattle.lrpar_table_sentences.specs.Moves.{Makes, Takes, move_of, moves_in};
-ghost use Rattle.lrpar_table_sentences.specs.Reached.{EachReachedHasTree};
-ghost use Rattle.lrpar_table_sentences.specs.Ways.{steps_of, symbols_in};
+ghost use Rattle.lrpar_table_sentences.specs.Reachable.{EachReachableHasTree};
+ghost use Rattle.lrpar_table_sentences.specs.AccessStrings.{steps_of, symbols_in};
 ghost use Rattle.lrpar_conflict_derivations.specs.Example.{AreExamplesFor, IsExample, IsExampleFault, IsShortestFront};
 
 use crate::backs::Backs;
+use crate::confirm::{confirmed, symbols_of};
+use crate::derivations::{making, taking};
 pub use crate::example::{Example, taken};
 pub use crate::fault::ExampleFault;
 use crate::given::Given;
-use crate::guess::{believed, symbols_of};
 use crate::lens::Lens;
 use crate::pairs::Clash;
-use crate::readings::{making, taking};
 use crate::unify::unify;
 use lrpar_grammar::grammar::YaccGrammar;
 use lrpar_grammar::span::{PIdx, StIdx, StorageIndex, Symbol, TIdx};
 use lrpar_grammar::token_set::TokenSet;
 use lrpar_table_first::first::first_sets;
 use lrpar_table_rows::table::{StateGraph, StateTable};
+use lrpar_table_sentences::access_strings::{AccessStrings, Step};
 use lrpar_table_sentences::moves::Move;
 use lrpar_table_sentences::shortest::Shortest;
-use lrpar_table_sentences::ways::{Step, Ways};
 use std::alloc::{AllocError, Global};
 use std::marker::Model;
 
@@ -36,7 +36,7 @@ use std::marker::Model;
 pub struct Examples<StorageT: StorageIndex> {
     firsts: Vec<TokenSet>,
     shortest: Shortest<StorageT>,
-    ways: Ways<StorageT>,
+    access: AccessStrings<StorageT>,
     lens: Lens,
     backs: Backs<StorageT>,
 }
@@ -47,13 +47,13 @@ impl<StorageT: StorageIndex> Drop for Examples<StorageT> {
         let Examples {
             firsts,
             shortest,
-            ways,
+            access,
             lens,
             backs,
         } = self;
         drop(firsts);
         drop(shortest);
-        drop(ways);
+        drop(access);
         drop(lens);
         drop(backs);
     }
@@ -65,7 +65,7 @@ impl<StorageT: StorageIndex> Model for Examples<StorageT> {
 
     ghost Value = { ExamplesOf };
 
-    ghost view = { λ x. record { firsts = rows_of x.firsts.items; shortest = x.shortest; ways = x.ways } };
+    ghost view = { λ x. record { firsts = rows_of x.firsts.items; shortest = x.shortest; access = x.access } };
 }
 
 // The steps of a shortest way to a state, and the moves of shortest trees of its symbols.
@@ -92,13 +92,13 @@ impl<StorageT: StorageIndex> Examples<StorageT> {
     {
         let firsts = first_sets(alloc, grm)?;
         let shortest = fertile(alloc, grm)?;
-        let ways = Ways::new(alloc, grm, sgraph, stable, &shortest)?;
+        let access = AccessStrings::new(alloc, grm, sgraph, stable, &shortest)?;
         let lens = Lens::new(alloc, grm, &shortest)?;
         let backs = Backs::new(alloc, stable)?;
         Ok(Examples {
             firsts,
             shortest,
-            ways,
+            access,
             lens,
             backs,
         })
@@ -289,7 +289,7 @@ impl<StorageT: StorageIndex> Examples<StorageT> {
         let _start = grm.start_prod();
         let _states = stable.states_len();
         let mut steps = Vec::new(alloc);
-        self.ways.push_path(&mut steps, state)?;
+        self.access.push_path(&mut steps, state)?;
         let symbols = symbols_of(alloc, &steps)?;
         let mut moves = Vec::new(alloc);
         self.shortest
@@ -363,7 +363,7 @@ impl<StorageT: StorageIndex> Examples<StorageT> {
             graph: sgraph,
             table: stable,
             shortest: &self.shortest,
-            ways: &self.ways,
+            access: &self.access,
             lens: &self.lens,
             backs: &self.backs,
         };
@@ -375,7 +375,7 @@ impl<StorageT: StorageIndex> Examples<StorageT> {
         };
         match unify(alloc, &given, &clash, bound)? {
             None => Ok(None),
-            Some(text) => believed(
+            Some(text) => confirmed(
                 alloc,
                 grm,
                 sgraph,
@@ -399,12 +399,12 @@ fn fertile<StorageT: StorageIndex>(
     grm: &YaccGrammar<StorageT>,
 ) -> Result<Shortest<StorageT>, ExampleFault<StorageT>>
     ensures shortest { IfOk result (AreShortest grm.now usize.MAX) }
-    ensures each { IfOk result (λ _. EachReachedHasTree grm.now) }
+    ensures each { IfOk result (λ _. EachReachableHasTree grm.now) }
     ensures refused { IfErr result (IsExampleFault StorageT.index grm.now) }
 {
     let shortest = Shortest::new(alloc, grm)?;
-    match shortest.barren(alloc, grm)? {
-        Some(rule) => Err(ExampleFault::Barren(rule)),
+    match shortest.unproductive(alloc, grm)? {
+        Some(rule) => Err(ExampleFault::Unproductive(rule)),
         None => Ok(shortest),
     }
 }

@@ -10,7 +10,7 @@ use thiserror::Error;
 pub enum ExampleFault<StorageT: StorageIndex> {
     /// The grammar reaches this rule from its start, and the rule derives no text. No such rule has a smaller number.
     #[error("rule {at} derives no text", at = .0.0.to_index())]
-    Barren(RIdx<StorageT>),
+    Unproductive(RIdx<StorageT>),
     /// Memory was wanting.
     #[error("out of memory")]
     Memory,

@@ -5,7 +5,7 @@ use crate::given::Given;
 use crate::levels::Levels;
 use crate::queue::{NONE, Queue};
 use lrpar_grammar::span::{StIdx, StorageIndex, Symbol};
-use lrpar_table_sentences::ways::Step;
+use lrpar_table_sentences::access_strings::Step;
 use std::alloc::{AllocError, Global};
 
 // The end of a way: a state, the symbol by which it goes on to the next end, that one's number, and how long the end's text is.

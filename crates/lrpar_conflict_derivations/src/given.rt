@@ -5,8 +5,8 @@ use crate::lens::Lens;
 use lrpar_grammar::grammar::YaccGrammar;
 use lrpar_grammar::span::{PIdx, RIdx, StIdx, StorageIndex, Symbol, TIdx};
 use lrpar_table_rows::table::{Action, Core, StateGraph, StateTable};
+use lrpar_table_sentences::access_strings::AccessStrings;
 use lrpar_table_sentences::shortest::Shortest;
-use lrpar_table_sentences::ways::Ways;
 
 /// What the search reads. Each question has an answer at each number, also out of range, so that nothing has to be known of what is asked.
 #[derive(Drop)]
@@ -15,7 +15,7 @@ pub(crate) struct Given<'a, StorageT: StorageIndex> {
     pub(crate) graph: &'a StateGraph<StorageT>,
     pub(crate) table: &'a StateTable<StorageT>,
     pub(crate) shortest: &'a Shortest<StorageT>,
-    pub(crate) ways: &'a Ways<StorageT>,
+    pub(crate) access: &'a AccessStrings<StorageT>,
     pub(crate) lens: &'a Lens,
     pub(crate) backs: &'a Backs<StorageT>,
 }
@@ -71,7 +71,7 @@ impl<'a, StorageT: StorageIndex> Given<'a, StorageT> {
 
     /// The least number of tokens of a text that leads to the state.
     pub(crate) fn len_to(&self, state: StIdx<StorageT>) -> usize {
-        self.ways.len_to(state).unwrap_or(usize::MAX)
+        self.access.len_to(state).unwrap_or(usize::MAX)
     }
 
     /// Where the state goes by the rule.

@@ -246,10 +246,10 @@ impl<StorageT: StorageIndex> Levels<StorageT> {
         let Some(rule) = given.rule_after(core) else {
             return false;
         };
-        let behind = given
+        let further = given
             .lens
             .rest(usize::from(core.0), core.1.saturating_add(1));
-        let rest = behind.saturating_add(self.after(given, level, core));
+        let rest = further.saturating_add(self.after(given, level, core));
         let Some(own) = self.get(level) else {
             return false;
         };

@@ -2,7 +2,7 @@
 ghost use Rattle.std.specs.Prelude.{◌≡◌, ◌<◌, ◌≤◌, ◌⊎◌, ℕ, [], IfOk, OnOk, false, true, length};
 ghost use Rattle.lrpar_grammar.specs.Grammar.{IsWellFormed, prod_len, prods_len, rules_len, start_prod};
 ghost use Rattle.lrpar_table_rows.specs.Graph.{HasCore, graph_len};
-ghost use Rattle.lrpar_table_first.specs.FirstRows.{AreFirsts, mark_of, rows_of};
+ghost use Rattle.lrpar_table_first.specs.FirstRows.{AreFirsts, dummy_lookahead, rows_of};
 ghost use Rattle.lrpar_grammar.specs.Tokens.{has};
 ghost use Rattle.lrpar_table_items.specs.Canonical.{IsCanonical, sets_of};
 ghost use Rattle.std.specs.Bool.{OnFalse, OnTrue};
@@ -12,7 +12,7 @@ use crate::begins::can_begin;
 use lrpar_grammar::grammar::YaccGrammar;
 use lrpar_grammar::span::{PIdx, RIdx, StIdx, StorageIndex, TIdx};
 use lrpar_grammar::token_set::TokenSet;
-use lrpar_table_first::behind::rule_behind;
+use lrpar_table_first::after_dot::rule_after;
 use lrpar_table_rows::table::StateGraph;
 use std::alloc::{AllocError, Global};
 
@@ -55,7 +55,7 @@ pub(crate) fn links_to<StorageT: StorageIndex>(
     requires firsts { AreFirsts grm.now (rows_of firsts.now) }
     requires canonical { IsCanonical grm.now graph.now }
     requires state { StorageT.index state.0 < graph_len graph.now }
-    requires token { StorageT.index token.0 < mark_of grm.now }
+    requires token { StorageT.index token.0 < dummy_lookahead grm.now }
     requires rule { StorageT.index rule.0 < rules_len grm.now }
     ensures links { IfOk result (λ links. AreLinks grm.now (sets_of graph.now (StorageT.index state.0)) (StorageT.index token.0)
         (links_of StorageT.index links.items)) }
@@ -150,7 +150,7 @@ fn begin<StorageT: StorageIndex>(
     requires firsts { AreFirsts grm.now (rows_of firsts.now) }
     requires canonical { IsCanonical grm.now graph.now }
     requires state { StorageT.index state.0 < graph_len graph.now }
-    requires token { StorageT.index token.0 < mark_of grm.now }
+    requires token { StorageT.index token.0 < dummy_lookahead grm.now }
     requires marks { AreMarks (rules_len grm.now) (links_of StorageT.index found.old.links.items) found.old.any.items found.old.asked.items }
     ensures marks { OnOk result (AreMarks (rules_len grm.now) (links_of StorageT.index found.new.links.items) found.new.any.items found.new.asked.items) }
     ensures put { OnOk result (ArePut (IsBegunLink grm.now (sets_of graph.now (StorageT.index state.0)) (StorageT.index token.0))
@@ -177,7 +177,7 @@ fn begin_at_start<StorageT: StorageIndex>(
     requires firsts { AreFirsts grm.now (rows_of firsts.now) }
     requires canonical { IsCanonical grm.now graph.now }
     requires state { StorageT.index state.0 < graph_len graph.now }
-    requires token { StorageT.index token.0 < mark_of grm.now }
+    requires token { StorageT.index token.0 < dummy_lookahead grm.now }
     requires marks { AreMarks (rules_len grm.now) (links_of StorageT.index found.old.links.items) found.old.any.items found.old.asked.items }
     ensures marks { OnOk result (AreMarks (rules_len grm.now) (links_of StorageT.index found.new.links.items) found.new.any.items found.new.asked.items) }
     ensures put { OnOk result (ArePut (IsBegunLink grm.now (sets_of graph.now (StorageT.index state.0)) (StorageT.index token.0))
@@ -206,7 +206,7 @@ fn begin_from<StorageT: StorageIndex>(
     requires firsts { AreFirsts grm.now (rows_of firsts.now) }
     requires canonical { IsCanonical grm.now graph.now }
     requires state { StorageT.index state.0 < graph_len graph.now }
-    requires token { StorageT.index token.0 < mark_of grm.now }
+    requires token { StorageT.index token.0 < dummy_lookahead grm.now }
     requires marks { AreMarks (rules_len grm.now) (links_of StorageT.index found.old.links.items) found.old.any.items found.old.asked.items }
     requires core { HasCore graph.now (StorageT.index state.0) (StorageT.index core.0.0) core.1 }
     requires begun { (0 < core.1) ⊎ (StorageT.index core.0.0 ≡ start_prod grm.now) }
@@ -234,7 +234,7 @@ fn note_rule<StorageT: StorageIndex>(
 ) -> Result<(), AllocError>
     requires well_formed { IsWellFormed grm.now }
     requires firsts { AreFirsts grm.now (rows_of firsts.now) }
-    requires token { StorageT.index token.0 < mark_of grm.now }
+    requires token { StorageT.index token.0 < dummy_lookahead grm.now }
     requires rule { StorageT.index link.rule.0 < rules_len grm.now }
     requires marks { AreMarks (rules_len grm.now) (links_of StorageT.index found.old.links.items) found.old.any.items found.old.asked.items }
     ensures marks { OnOk result (AreMarks (rules_len grm.now) (links_of StorageT.index found.new.links.items) found.new.any.items found.new.asked.items) }
@@ -261,7 +261,7 @@ fn note<StorageT: StorageIndex>(
 ) -> Result<(), AllocError>
     requires well_formed { IsWellFormed grm.now }
     requires firsts { AreFirsts grm.now (rows_of firsts.now) }
-    requires token { StorageT.index token.0 < mark_of grm.now }
+    requires token { StorageT.index token.0 < dummy_lookahead grm.now }
     requires prod { StorageT.index core.0.0 < prods_len grm.now }
     requires dot { core.1 ≤ prod_len grm.now (StorageT.index core.0.0) }
     requires marks { AreMarks (rules_len grm.now) (links_of StorageT.index found.old.links.items) found.old.any.items found.old.asked.items }
@@ -271,8 +271,8 @@ fn note<StorageT: StorageIndex>(
     ensures noted { OnOk result (AreNoted grm.now (StorageT.index token.0) (links_of StorageT.index found.new.links.items)
         (StorageT.index core.0.0) core.1 further) }
 {
-    let mark = grm.tokens_len();
-    let Some((rule, rest)) = rule_behind(grm, core.0, core.1) else {
+    let dummy = grm.tokens_len();
+    let Some((rule, rest)) = rule_after(grm, core.0, core.1) else {
         return Ok(());
     };
     let link = Link {
@@ -284,13 +284,13 @@ fn note<StorageT: StorageIndex>(
         above,
     };
     if further {
-        if can_begin(firsts, rest, mark, mark) {
+        if can_begin(firsts, rest, dummy, dummy) {
             add_asked(link, found)?;
         }
         return Ok(());
     }
     add_any(link, found)?;
-    if can_begin(firsts, rest, usize::from(token), mark) {
+    if can_begin(firsts, rest, usize::from(token), dummy) {
         add_asked(
             Link {
                 asked: true,

@@ -6,8 +6,8 @@ use crate::levels::Levels;
 use crate::pairs::{Clash, How, Search, Turn};
 use crate::texts::{push_text, push_texts};
 use lrpar_grammar::span::{PIdx, StorageIndex, Symbol};
+use lrpar_table_sentences::access_strings::Step;
 use lrpar_table_sentences::moves::Move;
-use lrpar_table_sentences::ways::Step;
 use std::alloc::{AllocError, Global};
 
 /// The steps of a way to the conflict's state, and the moves of two readings after it.

@@ -13,7 +13,7 @@ use Rattle.lrpar_table_rows.specs.Table.{ConflictLists, ReduceReduce, ShiftReduc
 use Rattle.lrpar_table_build.specs.BuilderLaws.{lists_in}
 use Rattle.lrpar_table_sentences.specs.Moves.{MoveOf}
 use Rattle.lrpar_conflict_derivations.specs.Example.{IsExample}
-use Rattle.lrpar_conflict_derivations.specs.Reading.{IsReading}
+use Rattle.lrpar_conflict_derivations.specs.Derivation.{IsDerivation}
 use Rattle.lrpar_conflict_examples.specs.Conflicts.{AddsExamples, AreExamplesOf, ConflictExampleOf, ConflictOf, IsExampleOf, conflicts_in, of_reductions, of_shift}
 use Rattle.lrpar_conflict_examples.specs.ExamplesFit.{ExamplesFit, ReadsFrom}
 use Rattle.lrpar_conflict_examples.specs.Fits.{IsMoveOf}
@@ -112,12 +112,12 @@ conflicts_named g lists fit =
 
 -- a reading is that of a tree
 reads_from : (g : Grammar) (before : List ℕ) (token : ℕ) (trees : Forest ℕ) (next : MoveOf) (moves : List MoveOf) (tree : Tree ℕ)
-    → IsReading g before token trees next moves tree → ReadsFrom g before moves
-reads_from g before token trees next moves tree reading = record {
+    → IsDerivation g before token trees next moves tree → ReadsFrom g before moves
+reads_from g before token trees next moves tree derivation = record {
   tree = tree;
-  of_tree = record { fits = reading.fits; are = reading.moves_are };
-  rest = reading.rest;
-  text = reading.text;
+  of_tree = record { fits = derivation.fits; are = derivation.moves_are };
+  rest = derivation.rest;
+  text = derivation.text;
 }
 
 -- so examples of such conflicts fit

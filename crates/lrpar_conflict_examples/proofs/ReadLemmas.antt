@@ -17,16 +17,16 @@ takes_text : (g : Grammar) (moves : List MoveOf) (tree : Tree ℕ) → AreMovesO
 takes_text g moves tree of_tree = ap takes_in of_tree.are ∙ takes_of_tree tree
 
 -- what stands behind a list is what is left behind so many
-behind : (xs ys : List ℕ) → drop (length xs) (xs ++ ys) ≡ ys
-behind [] [] = refl
-behind [] (y ∷ ys) = refl
-behind (x ∷ xs) ys = behind xs ys
+after : (xs ys : List ℕ) → drop (length xs) (xs ++ ys) ≡ ys
+after [] [] = refl
+after [] (y ∷ ys) = refl
+after (x ∷ xs) ys = after xs ys
 
-numbers_behind : {S : Type 0} (index : S → ℕ) (n : ℕ) (tokens : List (TIdx S)) → token_numbers index (drop n tokens) ≡ drop n (token_numbers index tokens)
-numbers_behind index zero [] = refl
-numbers_behind index zero (t ∷ tokens) = refl
-numbers_behind index (suc n) [] = refl
-numbers_behind index (suc n) (t ∷ tokens) = numbers_behind index n tokens
+numbers_after : {S : Type 0} (index : S → ℕ) (n : ℕ) (tokens : List (TIdx S)) → token_numbers index (drop n tokens) ≡ drop n (token_numbers index tokens)
+numbers_after index zero [] = refl
+numbers_after index zero (t ∷ tokens) = refl
+numbers_after index (suc n) [] = refl
+numbers_after index (suc n) (t ∷ tokens) = numbers_after index n tokens
 
 module _ (g : Grammar) (well : IsWellFormed g) (before : List ℕ) (moves : List MoveOf) (reads : ReadsFrom g before moves) where
   all_known : AreTokensOf g (before ++ reads.rest)
@@ -55,7 +55,7 @@ module _ {S : Type 0} (index : S → ℕ) (g : Grammar) where
   pub rest_is : (before text rest : List (TIdx S)) (moves : List MoveOf) (tree : Tree ℕ) → AreMovesOf g moves tree → token_numbers index text ≡ takes_in moves
       → rest ≡ drop (length before) text → token_numbers index rest ≡ drop (length (token_numbers index before)) (leaves tree)
   rest_is before text rest moves tree of_tree is cut =
-      ap (token_numbers index) cut ∙ numbers_behind index (length before) text
+      ap (token_numbers index) cut ∙ numbers_after index (length before) text
       ∙ ap (λ n. drop n (token_numbers index text)) (sym (length-map before (λ (t : TIdx S). index t.0)))
       ∙ ap (drop (length (token_numbers index before))) (is ∙ takes_text g moves tree of_tree)
 
@@ -64,7 +64,7 @@ module _ {S : Type 0} (index : S → ℕ) (g : Grammar) where
   read_rest well before text rest moves reads is cut =
       let own = token_numbers index before in
       let all : token_numbers index rest ≡ reads.rest =
-      rest_is before text rest moves reads.tree reads.of_tree is cut ∙ ap (drop (length own)) reads.text ∙ behind own reads.rest in
+      rest_is before text rest moves reads.tree reads.of_tree is cut ∙ ap (drop (length own)) reads.text ∙ after own reads.rest in
       subst (AreTokensOf g) (sym all) (rest_known g well own moves reads)
 
 -- the text of one more example

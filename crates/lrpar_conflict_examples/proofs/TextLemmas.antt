@@ -54,6 +54,6 @@ pub two_counted : {T E : Type 0} (r : Result T E) (x : ExampleOf) (old new : Lis
 two_counted (Ok done) x old new n flag is none bound wrote =
     let two : x.ambiguous ≡ false = sym is ∙ none in
     let text : bound_text n ≡ count_text x =
-    ap bound_text bound ∙ sym (ap (λ (b : Bool). if b then codes "one text, two readings" else bound_text x.bound) two) in
+    ap bound_text bound ∙ sym (ap (λ (b : Bool). if b then codes "one text, two derivations" else bound_text x.bound) two) in
     wrote ∙ ap (λ t. old ++ t) text
 two_counted (Err fault) x old new n flag is none bound wrote = tt

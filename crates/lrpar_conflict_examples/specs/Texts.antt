@@ -6,7 +6,7 @@ use Rattle.lrpar_grammar.specs.Tree.{Tree, leaves}
 use Rattle.lrpar_conflict_derivations.specs.Example.{ExampleOf}
 use Rattle.lrpar_conflict_examples.specs.Conflicts.{ConflictExampleOf}
 use Rattle.lrpar_conflict_examples.specs.Fits.{AreMovesOf}
-use Rattle.lrpar_conflict_examples.specs.Words.{reading_text, shown_name, text_line}
+use Rattle.lrpar_conflict_examples.specs.Words.{derivation_text, shown_name, text_line}
 
 -- that the readings have two texts, and how far one for both was looked for
 abbrev pub bound_text : ℕ → List ℕ
@@ -14,7 +14,7 @@ bound_text bound = codes "two texts; one for both not found within " ++ decimal 
 
 -- how many texts the readings have
 abbrev pub count_text : ExampleOf → List ℕ
-count_text x = if x.ambiguous then codes "one text, two readings" else bound_text x.bound
+count_text x = if x.ambiguous then codes "one text, two derivations" else bound_text x.bound
 
 -- the first line
 abbrev pub title_text : Grammar → ConflictExampleOf → List ℕ
@@ -27,8 +27,8 @@ other_line g x text = if x.ambiguous then [] else text_line g x.before text
 -- an example whose readings are those of these trees
 abbrev pub example_text : Grammar → ConflictExampleOf → Tree ℕ → Tree ℕ → List ℕ
 example_text g x first second =
-    title_text g x ++ text_line g x.example.before (leaves first) ++ reading_text g x.conflict.first first
-    ++ other_line g x.example (leaves second) ++ reading_text g x.conflict.second second ++ 10 ∷ []
+    title_text g x ++ text_line g x.example.before (leaves first) ++ derivation_text g x.conflict.first first
+    ++ other_line g x.example (leaves second) ++ derivation_text g x.conflict.second second ++ 10 ∷ []
 
 -- the text of an example: that of the trees whose moves its readings are
 pub record IsExampleText (g : Grammar) (x : ConflictExampleOf) (text : List ℕ) : Type 0 where

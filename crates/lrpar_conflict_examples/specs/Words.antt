@@ -52,5 +52,5 @@ abbrev pub text_line : Grammar → List ℕ → List ℕ → List ℕ
 text_line g before text = line_text g before (drop (length before) text)
 
 -- the two lines of a reading: the move by which it goes on, and its tree
-abbrev pub reading_text : Grammar → MoveOf → Tree ℕ → List ℕ
-reading_text g next tree = codes "  " ++ move_text g next ++ codes "\n   " ++ tree_text g tree ++ 10 ∷ []
+abbrev pub derivation_text : Grammar → MoveOf → Tree ℕ → List ℕ
+derivation_text g next tree = codes "  " ++ move_text g next ++ codes "\n   " ++ tree_text g tree ++ 10 ∷ []

@@ -7,7 +7,7 @@ ghost use Rattle.lrpar_conflict_derivations.specs.Texts.{token_numbers};
 ghost use Rattle.lrpar_conflict_examples.specs.ExamplesFit.{ExampleFits, ExamplesFit, ReadsFrom};
 ghost use Rattle.lrpar_conflict_examples.specs.Fits.{AreMovesOf, AreTokensOf, HasTree, IsMoveOf};
 ghost use Rattle.lrpar_conflict_examples.specs.Texts.{AreExampleTexts, IsExampleText, bound_text, count_text, other_line, title_text};
-ghost use Rattle.lrpar_conflict_examples.specs.Words.{line_text, reading_text, text_line};
+ghost use Rattle.lrpar_conflict_examples.specs.Words.{line_text, derivation_text, text_line};
 
 use crate::conflict::ConflictExample;
 use crate::pieces::push_tree;
@@ -67,9 +67,9 @@ fn push_example<StorageT: StorageIndex>(
     let example = shown.example();
     push_title(out, grm, shown)?;
     push_text(out, alloc, grm, example.before(), example.first())?;
-    push_reading(out, alloc, grm, shown.first(), example.first())?;
+    push_derivation(out, alloc, grm, shown.first(), example.first())?;
     push_other_text(out, alloc, grm, example)?;
-    push_reading(out, alloc, grm, shown.second(), example.second())?;
+    push_derivation(out, alloc, grm, shown.second(), example.second())?;
     out.push('\n')
 }
 
@@ -172,7 +172,7 @@ fn push_line<StorageT: StorageIndex>(
 }
 
 // Adds the lines of a reading: the move by which it goes on, and its tree.
-fn push_reading<StorageT: StorageIndex>(
+fn push_derivation<StorageT: StorageIndex>(
     out: &mut String,
     alloc: Global,
     grm: &YaccGrammar<StorageT>,
@@ -182,7 +182,7 @@ fn push_reading<StorageT: StorageIndex>(
     requires next { IsMoveOf grm.now (move_of StorageT.index next) }
     requires tree { HasTree grm.now (moves_in StorageT.index moves.now) }
     ensures { OnOk result ((tree : Tree ℕ) → AreMovesOf grm.now (moves_in StorageT.index moves.now) tree
-        → string_bytes out.new ≡ string_bytes out.old ++ reading_text grm.now (move_of StorageT.index next) tree) }
+        → string_bytes out.new ≡ string_bytes out.old ++ derivation_text grm.now (move_of StorageT.index next) tree) }
 {
     out.push_str("  ")?;
     push_move(out, grm, next)?;

@@ -96,8 +96,8 @@ pub symbols_follow : (src : List ℕ) (spans : List Extent) → All (IsPartOfLin
 symbols_follow src spans all order = follow src 0 spans all order (λ some d. omega arith)
 
 -- a place behind a text and a message
-pub place_behind : (f : Subject) (old message out : List ℕ) (byte : ℕ) → out ≡ old ++ message → place_text f out byte ≡ old ++ place_text f message byte
-place_behind f old message out byte e = rw e (search append_assoc)
+pub place_after : (f : Subject) (old message out : List ℕ) (byte : ℕ) → out ≡ old ++ message → place_text f out byte ≡ old ++ place_text f message byte
+place_after f old message out byte e = rw e (search append_assoc)
 
 -- a part on another line than the first one isn't the first
 pub not_first : (src : List ℕ) (line i : ℕ) (spans : List Extent) (first other : Extent) → 0 < length spans → line ≡ line_start src (get_or spans 0 first).start

@@ -9,7 +9,7 @@ use Rattle.std.proofs.lemmas.List.Sums.{prefix_len-drop_yes, prefix_len-drop_no,
 use Rattle.std.proofs.lemmas.Str.{IsCharBoundary-after_ascii}
 use Rattle.lrpar_grammar_places.specs.Lines.{is_line_feed, is_in_line, starts_line, line_end}
 use Rattle.lrpar_diagnostics.specs.Columns.{repeated}
-use Rattle.lrpar_diagnostics.specs.Underline.{starts_behind, is_printed, printed_behind}
+use Rattle.lrpar_diagnostics.specs.Underline.{starts_after, is_printed, printed_after}
 
 in_line : (b : ℕ) → ¬ (b ≡ 10) → is_in_line b ≡ true
 in_line b h = grind (arith, nat_tests)
@@ -53,9 +53,9 @@ next_boundary src b utf8 within inside =
     IsCharBoundary-after_ascii src (line_end src b) utf8 inside (omega (arith, feed))
 
 -- no line starts behind byte b up to the end of its line
-behind_last : (src : List ℕ) (b n : ℕ) → b + n ≤ length src → b + n ≤ line_end src b → filter (starts_line src) (range_with_len (b + 1) n) ≡ []
-behind_last src b zero within last = refl
-behind_last src b (suc n) within last =
+after_last : (src : List ℕ) (b n : ℕ) → b + n ≤ length src → b + n ≤ line_end src b → filter (starts_line src) (range_with_len (b + 1) n) ≡ []
+after_last src b zero within last = refl
+after_last src b (suc n) within last =
     elim (cases_eq (slice_index src b) 10) [
       | inl feed ↦ absurd (let ends = line_end_here src b (omega arith) feed in omega (arith, ends))
       | inr other ↦
@@ -63,15 +63,15 @@ behind_last src b (suc n) within last =
           let no : starts_line src (b + 1) ≡ false = rw back (no_feed (slice_index src b) other) in
           let on = line_end_on src b (omega arith) other in
           ap (λ v. cond v ((b + 1) ∷ filter (starts_line src) (range_with_len ((b + 1) + 1) n)) (filter (starts_line src) (range_with_len ((b + 1) + 1) n))) no
-          ∙ behind_last src (b + 1) n (omega arith) (omega (arith, on))
+          ∙ after_last src (b + 1) n (omega arith) (omega (arith, on))
     ]
 
 -- the first that starts there stands behind that end
-behind_next : (src : List ℕ) (b n : ℕ) → b + n ≤ length src → line_end src b < b + n
+after_next : (src : List ℕ) (b n : ℕ) → b + n ≤ length src → line_end src b < b + n
     → filter (starts_line src) (range_with_len (b + 1) n)
     ≡ (line_end src b + 1) ∷ filter (starts_line src) (range_with_len ((line_end src b + 1) + 1) (b + n - (line_end src b + 1)))
-behind_next src b zero within inside = absurd (omega (arith, inside))
-behind_next src b (suc n) within inside =
+after_next src b zero within inside = absurd (omega (arith, inside))
+after_next src b (suc n) within inside =
     elim (cases_eq (slice_index src b) 10) [
       | inl feed ↦
           let back : (b + 1) - 1 ≡ b = omega arith in
@@ -87,42 +87,42 @@ behind_next src b (suc n) within inside =
           let on = line_end_on src b (omega arith) other in
           let same : b + 1 + n ≡ b + suc n = omega arith in
           ap (λ v. cond v ((b + 1) ∷ filter (starts_line src) (range_with_len ((b + 1) + 1) n)) (filter (starts_line src) (range_with_len ((b + 1) + 1) n))) no
-          ∙ behind_next src (b + 1) n (omega arith) (omega (arith, on))
+          ∙ after_next src (b + 1) n (omega arith) (omega (arith, on))
           ∙ ap (λ e. (e + 1) ∷ filter (starts_line src) (range_with_len ((e + 1) + 1) (b + 1 + n - (e + 1)))) on
           ∙ ap (λ m. (line_end src b + 1) ∷ filter (starts_line src) (range_with_len ((line_end src b + 1) + 1) (m - (line_end src b + 1)))) same
     ]
 
 -- the lines behind byte b, of a part that ends in its line
-none_behind : (src : List ℕ) (b end : ℕ) → b ≤ length src → end ≤ length src → end ≤ line_end src b → starts_behind src b end ≡ []
-none_behind src b end within bound last = behind_last src b (end - b) (omega arith) (omega (arith, last))
+none_after : (src : List ℕ) (b end : ℕ) → b ≤ length src → end ≤ length src → end ≤ line_end src b → starts_after src b end ≡ []
+none_after src b end within bound last = after_last src b (end - b) (omega arith) (omega (arith, last))
 
 -- and of one that goes further
-some_behind : (src : List ℕ) (b end : ℕ) → b ≤ length src → end ≤ length src → line_end src b < end
-    → starts_behind src b end ≡ (line_end src b + 1) ∷ starts_behind src (line_end src b + 1) end
-some_behind src b end within bound inside =
+some_after : (src : List ℕ) (b end : ℕ) → b ≤ length src → end ≤ length src → line_end src b < end
+    → starts_after src b end ≡ (line_end src b + 1) ∷ starts_after src (line_end src b + 1) end
+some_after src b end within bound inside =
     let whole : b + (end - b) ≡ end = omega (arith, inside) in
-    behind_next src b (end - b) (omega arith) (omega (arith, inside))
+    after_next src b (end - b) (omega arith) (omega (arith, inside))
     ∙ ap (λ m. (line_end src b + 1) ∷ filter (starts_line src) (range_with_len ((line_end src b + 1) + 1) (m - (line_end src b + 1)))) whole
 
 -- those that are printed: none
-pub none_printed : (src : List ℕ) (b end : ℕ) → b ≤ length src → end ≤ length src → end ≤ line_end src b → printed_behind src b end ≡ []
-none_printed src b end within bound last = ap (filter (is_printed src end)) (none_behind src b end within bound last)
+pub none_printed : (src : List ℕ) (b end : ℕ) → b ≤ length src → end ≤ length src → end ≤ line_end src b → printed_after src b end ≡ []
+none_printed src b end within bound last = ap (filter (is_printed src end)) (none_after src b end within bound last)
 
 -- the next
 pub next_printed : (src : List ℕ) (b end : ℕ) → b ≤ length src → end ≤ length src → line_end src b < end → is_printed src end (line_end src b + 1) ≡ true
-    → printed_behind src b end ≡ (line_end src b + 1) ∷ printed_behind src (line_end src b + 1) end
+    → printed_after src b end ≡ (line_end src b + 1) ∷ printed_after src (line_end src b + 1) end
 next_printed src b end within bound inside shown =
     let next = line_end src b + 1 in
-    ap (filter (is_printed src end)) (some_behind src b end within bound inside)
-    ∙ ap (λ v. cond v (next ∷ printed_behind src next end) (printed_behind src next end)) shown
+    ap (filter (is_printed src end)) (some_after src b end within bound inside)
+    ∙ ap (λ v. cond v (next ∷ printed_after src next end) (printed_after src next end)) shown
 
 -- the last one, without text, isn't
 pub last_skipped : (src : List ℕ) (b end : ℕ) → b ≤ length src → end ≤ length src → line_end src b < end → is_printed src end (line_end src b + 1) ≡ false
-    → end ≤ line_end src (line_end src b + 1) → printed_behind src b end ≡ []
+    → end ≤ line_end src (line_end src b + 1) → printed_after src b end ≡ []
 last_skipped src b end within bound inside hidden last =
     let next = line_end src b + 1 in
-    ap (filter (is_printed src end)) (some_behind src b end within bound inside)
-    ∙ ap (λ v. cond v (next ∷ printed_behind src next end) (printed_behind src next end)) hidden
+    ap (filter (is_printed src end)) (some_after src b end within bound inside)
+    ∙ ap (λ v. cond v (next ∷ printed_after src next end) (printed_after src next end)) hidden
     ∙ none_printed src next end (omega arith) bound last
 
 -- the smaller and the larger of two places where a text may be cut

@@ -19,15 +19,15 @@ dots src span [] = []
 dots src span (next ∷ spans) = if nat_lt 1 (line_of src next.start - line_of src span.start) then codes "..." else []
 
 -- the blocks of the places from this number on, each on a new line
-abbrev pub blocks_behind : List ℕ → SpansKind → ℕ → List Extent → List ℕ
-blocks_behind src kind number [] = []
-blocks_behind src kind number (span ∷ spans) =
-    10 ∷ block_text src (dots src span spans) span (label kind number) 94 ++ blocks_behind src kind (number + 1) spans
+abbrev pub blocks_after : List ℕ → SpansKind → ℕ → List Extent → List ℕ
+blocks_after src kind number [] = []
+blocks_after src kind number (span ∷ spans) =
+    10 ∷ block_text src (dots src span spans) span (label kind number) 94 ++ blocks_after src kind (number + 1) spans
 
 -- the blocks of all places, the first with a message
 abbrev pub spanned_text : List ℕ → SpansKind → List Extent → List ℕ → List ℕ
 spanned_text src kind [] message = []
-spanned_text src kind (span ∷ spans) message = block_text src (dots src span spans) span message 94 ++ blocks_behind src kind 2 spans
+spanned_text src kind (span ∷ spans) message = block_text src (dots src span spans) span message 94 ++ blocks_after src kind 2 spans
 
 -- an error has more than one place
 abbrev pub HasSeveralSpans : SpansKind → List Extent → Type 0

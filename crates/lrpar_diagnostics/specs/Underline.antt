@@ -7,8 +7,8 @@ use Rattle.lrpar_grammar.specs.SpansFit.{IsPartOf}
 use Rattle.lrpar_diagnostics.specs.Columns.{columns, repeated, text_end, margin, printed_line}
 
 -- the starts of the lines that start behind byte b, up to byte end
-abbrev pub starts_behind : List ℕ → ℕ → ℕ → List ℕ
-starts_behind src b end = filter (starts_line src) (range_with_len (b + 1) (end - b))
+abbrev pub starts_after : List ℕ → ℕ → ℕ → List ℕ
+starts_after src b end = filter (starts_line src) (range_with_len (b + 1) (end - b))
 
 -- Whether a line is printed of those that a part up to byte end touches behind its first one: it ends in front of that byte, and
 -- isn't the last one so, or it has text.
@@ -16,12 +16,12 @@ abbrev pub is_printed : List ℕ → ℕ → ℕ → Bool
 is_printed src end b = nat_lt (line_end src b) end || nat_lt b (text_end src b)
 
 -- the starts of such lines behind the line that starts at byte b
-abbrev pub printed_behind : List ℕ → ℕ → ℕ → List ℕ
-printed_behind src b end = filter (is_printed src end) (starts_behind src b end)
+abbrev pub printed_after : List ℕ → ℕ → ℕ → List ℕ
+printed_after src b end = filter (is_printed src end) (starts_after src b end)
 
 -- the starts of the lines that are printed of a part: that of its start, and such lines behind it
 abbrev pub printed_lines : List ℕ → Extent → List ℕ
-printed_lines src span = line_start src span.start ∷ printed_behind src (line_start src span.start) span.end
+printed_lines src span = line_start src span.start ∷ printed_after src (line_start src span.start) span.end
 
 -- where the underline of a part starts in the line that starts at byte b: no earlier than the line, and no later than its text ends
 abbrev pub mark_start : List ℕ → Extent → ℕ → ℕ
@@ -46,9 +46,9 @@ abbrev pub block_text : List ℕ → List ℕ → Extent → List ℕ → ℕ �
 block_text src prefix span message c = join_by (marked_line src prefix span c) (10 ∷ []) (printed_lines src span) ++ 32 ∷ message
 
 -- the underlines of parts that follow on byte i, each behind as many spaces as there are columns in front of it
-abbrev pub marks_behind : List ℕ → ℕ → ℕ → List Extent → List ℕ
-marks_behind src c i [] = []
-marks_behind src c i (span ∷ spans) = repeated (columns src i span.start) 32 ++ underline src c span.start span.end ++ marks_behind src c span.end spans
+abbrev pub marks_after : List ℕ → ℕ → ℕ → List Extent → List ℕ
+marks_after src c i [] = []
+marks_after src c i (span ∷ spans) = repeated (columns src i span.start) 32 ++ underline src c span.start span.end ++ marks_after src c span.end spans
 
 -- the line of a part, and below it the part's underline
 abbrev pub first_mark : List ℕ → ℕ → Extent → List ℕ
@@ -60,7 +60,7 @@ first_mark src c span =
 -- the line of the first of some parts, and below it the underlines of all and a message
 abbrev pub on_line_text : List ℕ → List Extent → List ℕ → ℕ → List ℕ
 on_line_text src [] message c = []
-on_line_text src (span ∷ spans) message c = first_mark src c span ++ marks_behind src c span.end spans ++ 32 ∷ message
+on_line_text src (span ∷ spans) message c = first_mark src c span ++ marks_after src c span.end spans ++ 32 ∷ message
 
 -- parts of a text behind byte i, in order, none of which overlaps the next
 abbrev pub FollowInOrder : List ℕ → ℕ → List Extent → Type 0

@@ -4,7 +4,7 @@ ghost use Rattle.std.specs.String.{string_bytes};
 ghost use Rattle.std.specs.Str.{IsCharBoundary, IsUtf8};
 ghost use Rattle.lrpar_grammar_places.specs.Lines.{column_of, line_end, line_of, line_start, line_table};
 ghost use Rattle.lrpar_diagnostics.specs.Columns.{columns, margin, printed_line, repeated, text_end};
-ghost use Rattle.lrpar_diagnostics.specs.Underline.{EndOnFirstLine, EndOnLine, FollowInOrder, FollowOnLine, block_text, first_mark, is_printed, marked_line, marks_behind, on_line_text, printed_behind, underline};
+ghost use Rattle.lrpar_diagnostics.specs.Underline.{EndOnFirstLine, EndOnLine, FollowInOrder, FollowOnLine, block_text, first_mark, is_printed, marked_line, marks_after, on_line_text, printed_after, underline};
 ghost use Rattle.lrpar_grammar.specs.SpansFit.{IsPartOf};
 
 use lrpar_grammar_places::lines::NewlineCache;
@@ -78,7 +78,7 @@ impl<'a> Source<'a> {
     fn text_end(&self, start: usize) -> usize
         requires { start ≤ length self.now.src.now }
         ensures end { result ≡ text_end self.now.src.now start }
-        ensures behind { start ≤ result }
+        ensures after { start ≤ result }
         ensures boundary { IsCharBoundary self.now.src.now result }
     {
         let end = self.line_end(start);
@@ -158,8 +158,8 @@ impl<'a> Source<'a> {
     fn next_printed(&self, start: usize, end: usize) -> Option<usize>
         requires start { start ≤ length self.now.src.now }
         requires end { end ≤ length self.now.src.now }
-        ensures next { MatchOption result (printed_behind self.now.src.now start end ≡ [])
-            (λ next. printed_behind self.now.src.now start end ≡ next ∷ printed_behind self.now.src.now next end) }
+        ensures next { MatchOption result (printed_after self.now.src.now start end ≡ [])
+            (λ next. printed_after self.now.src.now start end ≡ next ∷ printed_after self.now.src.now next end) }
         ensures further { IfSome result (λ next. (start < next) × (next ≤ end)) }
         ensures boundary { IfSome result (λ next. IsCharBoundary self.now.src.now next) }
     {
@@ -243,15 +243,15 @@ impl<'a> Source<'a> {
     fn push_marks(
         &self,
         out: &mut String,
-        behind: usize,
+        after: usize,
         spans: &[Span],
         underline_c: char,
     ) -> Result<(), AllocError>
-        requires behind { IsCharBoundary self.now.src.now behind }
-        requires order { FollowInOrder self.now.src.now behind spans.now }
-        ensures { OnOk result (string_bytes out.new ≡ string_bytes out.old ++ marks_behind self.now.src.now underline_c behind spans.now) }
+        requires after { IsCharBoundary self.now.src.now after }
+        requires order { FollowInOrder self.now.src.now after spans.now }
+        ensures { OnOk result (string_bytes out.new ≡ string_bytes out.old ++ marks_after self.now.src.now underline_c after spans.now) }
     {
-        let mut end = behind;
+        let mut end = after;
         let mut rest = spans;
         while let Some((span, others)) = rest.split_first() {
             push_repeated(out, ' ', self.columns(end, span.start()))?;
@@ -285,13 +285,13 @@ impl<'a> Source<'a> {
         requires { FollowInOrder self.now.src.now 0 spans.now }
         ensures { IsTrue result ↔ EndOnLine self.now.src.now start spans.now }
     {
-        let mut behind = 0;
+        let mut after = 0;
         let mut rest = spans;
         while let Some((span, others)) = rest.split_first() {
             if self.line_start(span.end()) != start {
                 return false;
             }
-            behind = span.end();
+            after = span.end();
             rest = others;
         }
         true

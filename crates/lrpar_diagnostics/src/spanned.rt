@@ -6,7 +6,7 @@ ghost use Rattle.lrpar_grammar_places.specs.Lines.{line_of};
 ghost use Rattle.lrpar_grammar_places.specs.Span.{Extent};
 ghost use Rattle.lrpar_grammar_places.specs.declared.span.SpansKind.{SpansKind};
 ghost use Rattle.lrpar_grammar.specs.SpansFit.{IsPartOf};
-ghost use Rattle.lrpar_diagnostics.specs.Blocks.{HasSeveralSpans, IsDiagnostic, blocks_behind, dots, label, spanned_text};
+ghost use Rattle.lrpar_diagnostics.specs.Blocks.{HasSeveralSpans, IsDiagnostic, blocks_after, dots, label, spanned_text};
 ghost use Rattle.lrpar_diagnostics.specs.Underline.{block_text};
 
 use crate::fault::{DiagnosticError, DiagnosticFault};
@@ -118,7 +118,7 @@ impl<'a> Source<'a> {
         spans: &[Span],
     ) -> Result<(), AllocError>
         requires { AllByRecursion (IsPartOf self.now.src.now) spans.now }
-        ensures { OnOk result (string_bytes out.new ≡ string_bytes out.old ++ blocks_behind self.now.src.now kind 2 spans.now) }
+        ensures { OnOk result (string_bytes out.new ≡ string_bytes out.old ++ blocks_after self.now.src.now kind 2 spans.now) }
     {
         let mut rest = spans;
         while let Some((span, others)) = rest.split_first() {

@@ -47,7 +47,7 @@ order_fails spans i end span first last within is early order =
       | inl none ↦ let zero = first none in omega arith
       | inr some ↦
           let next : (i - 1) + 1 ≡ i = omega arith in
-          let behind = order (i - 1) span (omega arith) in
+          let after = order (i - 1) span (omega arith) in
           let at : (get_or spans (i - 1) span).end ≡ end = last span (omega arith) in
           let here : (get_or spans ((i - 1) + 1) span).start ≡ span.start = ap (λ n. (get_or spans n span).start) next ∙ sym (ap (λ x. x.start) is) in
           omega arith

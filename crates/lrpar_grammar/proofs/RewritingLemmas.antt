@@ -21,8 +21,8 @@ rewrites_in_front g form next rest h =
     }
 
 -- a step behind more symbols
-rewrites_behind : (g : Grammar) (front form next : List GrammarSymbol) → Rewrites g form next → Rewrites g (front ++ form) (front ++ next)
-rewrites_behind g front form next h =
+rewrites_after : (g : Grammar) (front form next : List GrammarSymbol) → Rewrites g form next → Rewrites g (front ++ form) (front ++ next)
+rewrites_after g front form next h =
     record {
       before = front ++ h.before;
       prod = h.prod;
@@ -39,9 +39,9 @@ in_front g zero form last rest h = ap (λ ss. ss ++ rest) h
 in_front g (suc n) form last rest h = (h.0 ++ rest, rewrites_in_front g form h.0 rest h.1, in_front g n h.0 last rest h.2)
 
 -- a derivation behind more symbols
-behind : (g : Grammar) (n : ℕ) (front form last : List GrammarSymbol) → DerivesIn g n form last → DerivesIn g n (front ++ form) (front ++ last)
-behind g zero front form last h = ap (λ ss. front ++ ss) h
-behind g (suc n) front form last h = (front ++ h.0, rewrites_behind g front form h.0 h.1, behind g n front h.0 last h.2)
+further : (g : Grammar) (n : ℕ) (front form last : List GrammarSymbol) → DerivesIn g n form last → DerivesIn g n (front ++ form) (front ++ last)
+further g zero front form last h = ap (λ ss. front ++ ss) h
+further g (suc n) front form last h = (front ++ h.0, rewrites_after g front form h.0 h.1, further g n front h.0 last h.2)
 
 -- one derivation after another
 one_after : (g : Grammar) (n : ℕ) (form middle last : List GrammarSymbol) → DerivesIn g n form middle → Derives g middle last → Derives g form last
@@ -55,7 +55,7 @@ side_by_side : (g : Grammar) (s : GrammarSymbol) (ss first others : List Grammar
     → Derives g (s ∷ []) first → Derives g ss others → Derives g (s ∷ ss) (first ++ others)
 side_by_side g s ss first others left right =
     let start = in_front g left.0 (s ∷ []) first ss left.1 in
-    let rest : Derives g (first ++ ss) (first ++ others) = (right.0, behind g right.0 first ss others right.1) in
+    let rest : Derives g (first ++ ss) (first ++ others) = (right.0, further g right.0 first ss others right.1) in
     one_after g left.0 (s ∷ ss) (first ++ ss) (first ++ others) start rest
 
 module _ {X : Type 0} (token : X → ℕ) (g : Grammar) where

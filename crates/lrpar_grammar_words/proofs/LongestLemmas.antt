@@ -180,7 +180,7 @@ blank_reads : (p rest : List ℕ) → IsBlank p → Reads (p ++ rest) None (leng
 blank_reads p rest (inl w) = subst (λ q. Reads (q ++ rest) None (length q)) (sym w.is) (white_reads w.byte rest w.white)
 blank_reads p rest (inr (inl l)) = subst (λ q. Reads (q ++ rest) None (length q)) (sym l.is) (line_reads l.line rest l.on_line)
 blank_reads p rest (inr (inr k)) =
-    let long : 2 + (length k.text + 2) ≡ length (codes "/*" ++ (k.text ++ codes "*/")) = let behind : length (k.text ++ codes "*/") ≡ length k.text + 2 = length-append k.text (codes "*/") in omega arith in
+    let long : 2 + (length k.text + 2) ≡ length (codes "/*" ++ (k.text ++ codes "*/")) = let after : length (k.text ++ codes "*/") ≡ length k.text + 2 = length-append k.text (codes "*/") in omega arith in
     subst (λ q. Reads (q ++ rest) None (length q)) (sym k.is)
     (subst (Reads ((codes "/*" ++ (k.text ++ codes "*/")) ++ rest) None) long (comment_reads k.text rest k.unclosed))
 
@@ -194,7 +194,7 @@ word_reads : (kind : WordKind) (p rest : List ℕ) → IsWord kind p → Reads (
 unfolding piece_from sign_after
 word_reads Name p rest w = subst (λ q. Reads (q ++ rest) (Some Name) (length q)) (sym w.is) (name_reads w.first w.others rest w.begins w.goes_on)
 word_reads Quoted p rest w =
-    let long : length w.text + 2 ≡ length (w.quote ∷ (w.text ++ w.quote ∷ [])) = let behind : length (w.text ++ w.quote ∷ []) ≡ length w.text + 1 = length-append w.text (w.quote ∷ []) in omega arith in
+    let long : length w.text + 2 ≡ length (w.quote ∷ (w.text ++ w.quote ∷ [])) = let after : length (w.text ++ w.quote ∷ []) ≡ length w.text + 1 = length-append w.text (w.quote ∷ []) in omega arith in
     subst (λ q. Reads (q ++ rest) (Some Quoted) (length q)) (sym w.is)
     (subst (Reads ((w.quote ∷ (w.text ++ w.quote ∷ [])) ++ rest) (Some Quoted)) long (quote_reads w.quote w.text rest w.quotes w.some w.unquoted))
 word_reads StartSign p rest is = sign_reads p rest (codes "%start") StartSign is refl

@@ -153,10 +153,10 @@ words_more s (y ∷ ys) n place x (at, few, rest) =
     let word = word_of_piece place s y in
     let words = words_of (place + y.len) (drop y.len s) ys in
     let len : y.len + (n - y.len) ≡ n = omega arith in
-    let behind : (place + y.len) + (n - y.len) ≡ place + n = omega arith in
+    let further : (place + y.len) + (n - y.len) ≡ place + n = omega arith in
     let from : drop (n - y.len) (drop y.len s) ≡ drop n s = drop-drop (n - y.len) y.len s ∙ ap (λ k. drop k s) len in
     ap (λ ws. word ++ ws) (words_more (drop y.len s) ys (n - y.len) (place + y.len) x rest
-    ∙ ap (λ k. words ++ word_of_piece k (drop (n - y.len) (drop y.len s)) x) behind ∙ ap (λ r. words ++ word_of_piece (place + n) r x) from)
+    ∙ ap (λ k. words ++ word_of_piece k (drop (n - y.len) (drop y.len s)) x) further ∙ ap (λ r. words ++ word_of_piece (place + n) r x) from)
     ∙ sym (append_assoc word words (word_of_piece (place + n) (drop n s) x))
 
 -- the same of the words that were seen of a text

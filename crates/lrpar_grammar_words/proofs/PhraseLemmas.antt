@@ -294,16 +294,16 @@ text_has_outline words o are =
     let p = fold with_declaration no_words t.declarations in
     let q = fold with_rule p t.rules in
     let none : p.symbols ≡ [] = kept (λ o. o.symbols) with_declaration keeps_symbols t.declarations no_words in
-    let behind = close_leads q t.close are.is.close in
+    let further = close_leads q t.close are.is.close in
     let rest = flat_map rule_words t.rules ++ option_to_list t.close in
-    let from_rules = leads_on NextRule p (flat_map rule_words t.rules) NextRule q (option_to_list t.close) behind.0 q (rules_lead t.rules p none are.is.rules) behind.2 in
-    let from_middle = leads_by before.0 p t.middle Sign NextRule rest behind.0 q
+    let from_rules = leads_on NextRule p (flat_map rule_words t.rules) NextRule q (option_to_list t.close) further.0 q (rules_lead t.rules p none are.is.rules) further.2 in
+    let from_middle = leads_by before.0 p t.middle Sign NextRule rest further.0 q
     (sign_stands before.0 t.middle RulesSign (Sign, NextRule) before.1 are.is.middle refl) from_rules in
-    let whole = leads_on Declaration no_words (flat_map declaration_words t.declarations) before.0 p (t.middle ∷ rest) behind.0 q before.2 from_middle in
+    let whole = leads_on Declaration no_words (flat_map declaration_words t.declarations) before.0 p (t.middle ∷ rest) further.0 q before.2 from_middle in
     let listed : q ≡ o = read_is_listed t ∙ sym are.outline in
     record {
-      last = behind.0;
-      shape = subst (λ ws. after_words Declaration no_words ws ≡ Some (behind.0, o)) (sym are.are)
-          (subst (λ (x : TextOutline). after_words Declaration no_words (grammar_words t) ≡ Some (behind.0, x)) listed whole);
-      ends = behind.1;
+      last = further.0;
+      shape = subst (λ ws. after_words Declaration no_words ws ≡ Some (further.0, o)) (sym are.are)
+          (subst (λ (x : TextOutline). after_words Declaration no_words (grammar_words t) ≡ Some (further.0, x)) listed whole);
+      ends = further.1;
     }

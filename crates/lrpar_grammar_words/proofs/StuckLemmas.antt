@@ -49,9 +49,9 @@ stuck_first e o place s n m y ys a b =
     stuck_piece e o place s y (words_of (place + y.len) (drop y.len s) ys) b.last b.cut.0 here b.leads
 
 -- behind one piece
-behind : (f : Expected) (p : TextOutline) (place : ℕ) (s : List ℕ) (n : ℕ) (x : Piece) (xs : List Piece) (last : Expected × TextOutline) → x.len ≤ n → IsCutUpTo (drop x.len s) (n - x.len) xs
+further : (f : Expected) (p : TextOutline) (place : ℕ) (s : List ℕ) (n : ℕ) (x : Piece) (xs : List Piece) (last : Expected × TextOutline) → x.len ≤ n → IsCutUpTo (drop x.len s) (n - x.len) xs
     → after_words f p (words_of (place + x.len) (drop x.len s) xs) ≡ Some last → IsStuck last.0 (drop n s) → LeadsTo f p (place + x.len) (drop x.len s) (n - x.len) xs
-behind f p place s n x xs last few cut leads stuck =
+further f p place s n x xs last few cut leads stuck =
     let len : x.len + (n - x.len) ≡ n = omega arith in
     let from : drop (n - x.len) (drop x.len s) ≡ drop n s = drop-drop (n - x.len) x.len s ∙ ap (λ k. drop k s) len in
     record { cut = cut; last = last; leads = leads; stuck = subst (IsStuck last.0) (sym from) stuck }
@@ -82,7 +82,7 @@ one_place (x ∷ xs) (y ∷ ys) e o place s n m a b =
     let rest : n - x.len ≡ m - x.len =
     both_on (after_words e o word) ws vs a.last b.last (n - x.len ≡ m - x.len) (sym (after_words_append e o word ws) ∙ a.leads) (sym (after_words_append e o word vs) ∙ other.2)
     (λ f p left right. one_place xs ys f p (place + x.len) (drop x.len s) (n - x.len) (m - x.len)
-    (behind f p place s n x xs a.last few a.cut.2 left a.stuck) (behind f p place s m x ys b.last few' other.1 right b.stuck)) in
+    (further f p place s n x xs a.last few a.cut.2 left a.stuck) (further f p place s m x ys b.last few' other.1 right b.stuck)) in
     omega arith
 
 -- a text is stuck at one place at most

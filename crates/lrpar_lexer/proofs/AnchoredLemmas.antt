@@ -20,7 +20,7 @@ use Rattle.regex_literal.specs.Find.{IsFirst}
 use Rattle.regex.proofs.Utf8Lemmas.{test_of_IsCharBoundary}
 use Rattle.regex_hir.specs.Meaning.{meaning}
 use Rattle.regex_meta.specs.declared.program.Program.{Program}
-use Rattle.lrpar_lexer.specs.Anchored.{FindsAtStart, HasNothingAtStart, IsBehindStart, behind_start, if_at_start, without_start}
+use Rattle.lrpar_lexer.specs.Anchored.{FindsAtStart, HasNothingAtStart, IsAfterStart, after_start, if_at_start, without_start}
 use Rattle.lrpar_lexer.specs.Matching.{HasNoMatch}
 
 -- only the first place of a text has nothing in front of it
@@ -33,13 +33,13 @@ begins_at text (suc i) within begins =
 
 module _ (re : Re) (text : List ℕ) where
   -- at 0 the two do the same
-  attempt_at_start : attempt text (behind_start re) accept 0 ≡ attempt text re accept 0
+  attempt_at_start : attempt text (after_start re) accept 0 ≡ attempt text re accept 0
   unfolding attempt holds holds_between
   attempt_at_start =
       cond-true (holds Start text 0) _ None (rw (byte_before-zero text) refl) ∙ attempt_cong text re _ accept 0 (λ j matches. refl)
 
   -- and elsewhere the one finds nothing
-  attempt_past_start : (i : ℕ) (t : Trace) → i ≤ length text → attempt text (behind_start re) accept i ≡ Some t → i ≡ 0
+  attempt_past_start : (i : ℕ) (t : Trace) → i ≤ length text → attempt text (after_start re) accept i ≡ Some t → i ≡ 0
   unfolding attempt
   attempt_past_start i t within found = ⊎_elim
       (λ (begins : holds Start text i ≡ true). begins_at text i within begins)
@@ -69,11 +69,11 @@ module _ (re : Re) (text : List ℕ) where
       ap (λ m. if_at_start (option_map span m)) found.1 ∙ later_is_none found.0 (begins_later found.0 none first.here))
       (option_cases (find_str re text 0))
 
-  anchored_finds_nothing : attempt text re accept 0 ≡ None → find (behind_start re) text 0 ≡ None
+  anchored_finds_nothing : attempt text re accept 0 ≡ None → find (after_start re) text 0 ≡ None
   anchored_finds_nothing none =
-      find_none (behind_start re) text 0 (λ i t low high found.
+      find_none (after_start re) text 0 (λ i t low high found.
       let begins : i ≡ 0 = attempt_past_start i t high found in
-      none-some t (sym none ∙ sym attempt_at_start ∙ subst (λ j. attempt text (behind_start re) accept j ≡ Some t) begins found))
+      none-some t (sym none ∙ sym attempt_at_start ∙ subst (λ j. attempt text (after_start re) accept j ≡ Some t) begins found))
 
   -- what matches at 0 is found
   something_at_start : (t : Trace) → is_boundary text 0 ≡ true → attempt text re accept 0 ≡ Some t
@@ -83,20 +83,20 @@ module _ (re : Re) (text : List ℕ) where
       first_between_here _ 0 (length text) t (omega arith) (cond-true (is_boundary text 0) _ None boundary ∙ some)
 
   pub found_at_start : is_boundary text 0 ≡ true
-      → option_map span (find (behind_start re) text 0) ≡ if_at_start (option_map span (find_str re text 0))
+      → option_map span (find (after_start re) text 0) ≡ if_at_start (option_map span (find_str re text 0))
   found_at_start boundary = ⊎_elim
       (λ (none : attempt text re accept 0 ≡ None). ap (option_map span) (anchored_finds_nothing none) ∙ sym (nothing_at_start none))
       (λ (some : (t : Trace) × (attempt text re accept 0 ≡ Some t)).
-      ap (option_map span) (find_here (behind_start re) text 0 some.0 (omega arith) (attempt_at_start ∙ some.1))
+      ap (option_map span) (find_here (after_start re) text 0 some.0 (omega arith) (attempt_at_start ∙ some.1))
       ∙ sym (ap (λ m. if_at_start (option_map span m)) (something_at_start some.0 boundary some.1)))
       (option_cases (attempt text re accept 0))
 
 -- so a program of a pattern, where the text begins, finds what the pattern finds there
-pub finds_behind : (source : List ℕ) (program : Program) → IsBehindStart source program → FindsAtStart program (without_start (pattern_of program))
-finds_behind source program it text utf8 =
+pub finds_after : (source : List ℕ) (program : Program) → IsAfterStart source program → FindsAtStart program (without_start (pattern_of program))
+finds_after source program it text utf8 =
     let boundary : is_boundary text 0 ≡ true = test_of_IsCharBoundary text 0 (IsCharBoundary-start text utf8) in
-    let pattern : without_start (pattern_of program) ≡ meaning it.tree = ap without_start it.behind in
-    ap (λ re. option_map span (find re text 0)) it.behind ∙ found_at_start (meaning it.tree) text boundary
+    let pattern : without_start (pattern_of program) ≡ meaning it.tree = ap without_start it.after in
+    ap (λ re. option_map span (find re text 0)) it.after ∙ found_at_start (meaning it.tree) text boundary
     ∙ ap (λ re. if_at_start (option_map span (find_str re text 0))) (sym pattern)
 
 -- where a text begins with no byte with which a match can begin, nothing matches there

@@ -19,8 +19,8 @@ FindsAtStart program pattern = (text : List ℕ) → IsUtf8 text
     → option_map span (leftmost program text 0) ≡ if_at_start (option_map span (find_str pattern text 0))
 
 -- the pattern, where the text begins
-abbrev pub behind_start : Re → Re
-behind_start pattern = cat (look Start) (cat pattern empty)
+abbrev pub after_start : Re → Re
+after_start pattern = cat (look Start) (cat pattern empty)
 
 -- what stands in a pattern behind its first part
 abbrev pub without_start : Re → Re
@@ -28,11 +28,11 @@ without_start (cat first (cat pattern rest)) = pattern
 without_start _ = empty
 
 -- the program searches for what the grammar of patterns reads in the source, where the text begins
-pub record IsBehindStart (source : List ℕ) (program : Program) : Type 0 where
+pub record IsAfterStart (source : List ℕ) (program : Program) : Type 0 where
   pub tree : Hir
   pub names : Names
   pub read : Reads default_config source tree names
-  pub behind : pattern_of program ≡ behind_start (meaning tree)
+  pub after : pattern_of program ≡ after_start (meaning tree)
 
 -- the pattern matches nothing where the text begins
 abbrev pub HasNothingAtStart : Re → List ℕ → Type 0

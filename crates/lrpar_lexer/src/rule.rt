@@ -6,7 +6,7 @@ ghost use Rattle.regex.specs.Sources.{IsRefusal};
 ghost use Rattle.regex.specs.declared.error.Error.TheVariants.{Internal};
 ghost use Rattle.regex_hir.specs.Meaning.{meaning};
 ghost use Rattle.regex_meta.specs.Programs.{pattern_of};
-ghost use Rattle.lrpar_lexer.specs.Anchored.{FindsAtStart, IsBehindStart, behind_start, without_start};
+ghost use Rattle.lrpar_lexer.specs.Anchored.{FindsAtStart, IsAfterStart, after_start, without_start};
 
 use lrpar_grammar_places::span::TIdx;
 use regex::Error;
@@ -69,7 +69,7 @@ impl fmt::Debug for LexRule {
 
 // The program that finds at the beginning of a text what the pattern finds there.
 fn anchored(alloc: Global, pattern: &str) -> Result<Program, Error>
-    ensures read { IfOk result (IsBehindStart pattern.now) }
+    ensures read { IfOk result (IsAfterStart pattern.now) }
     ensures refused { IfErr result (IsRefusal default_config pattern.now) }
     ensures kind { IfErr result (IsRightKind default_config pattern.now) }
     ensures no_internal { IfErr result (λ error. error ≢ Internal) }
@@ -78,13 +78,13 @@ fn anchored(alloc: Global, pattern: &str) -> Result<Program, Error>
     let Ok(groups) = u32::try_from(names.len()) else {
         return Err(Error::CompiledTooBig);
     };
-    let tree = behind_start(alloc, hir)?;
+    let tree = after_start(alloc, hir)?;
     Ok(Program::new(alloc, tree, groups, SIZE_LIMIT)?)
 }
 
 // The tree behind an assertion that the text begins.
-fn behind_start(alloc: Global, hir: Hir) -> Result<Hir, AllocError>
-    ensures { IfOk result (λ tree. meaning tree ≡ behind_start (meaning hir)) }
+fn after_start(alloc: Global, hir: Hir) -> Result<Hir, AllocError>
+    ensures { IfOk result (λ tree. meaning tree ≡ after_start (meaning hir)) }
 {
     let mut parts = Vec::with_capacity(alloc, 2)?;
     parts.push(Hir::Look(Look::Start))?;

@@ -5,7 +5,7 @@ use Rattle.std.proofs.lemmas.Option.{same_Some}
 use Rattle.lrpar_grammar.specs.Grammar.{Grammar}
 use Rattle.lrpar_grammar.specs.Sentence.{LexemeFacts}
 use Rattle.lrpar_table_rows.specs.Table.{Table}
-use Rattle.lrpar_parse_repair.specs.Mended.{Consumes}
+use Rattle.lrpar_parse_repair.specs.Repaired.{Consumes}
 use Rattle.lrpar_parse_repair.specs.Recovery.{Point}
 use Rattle.lrpar_parse.specs.RepairLaws.{HandsInOne, RepairRunsOneWay}
 use Rattle.lrpar_parse_run.specs.RepairRun.{IsListedAt, RepairRun, RepairStop, ends_there, fed_between, is_repaired, runs_through}

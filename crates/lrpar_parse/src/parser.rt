@@ -31,13 +31,13 @@ pub use lrpar_parse_errors::{LexParseError, ParseError, ParseRepair, PpFault};
 use lrpar_parse_lexemes::lex_api::{LexerTypes, NonStreamingLexer};
 use lrpar_parse_repair::repair::{NoRecovery, Recoverer};
 use lrpar_parse_run::building::Build;
-use lrpar_parse_run::course::Course;
 use lrpar_parse_run::nothing::Nothing;
 use lrpar_parse_run::placed::Placed;
 use lrpar_parse_run::run::Run;
 use lrpar_parse_run::trees::Trees;
 pub use lrpar_parse_run::values::AStackType;
 use lrpar_parse_run::values::Functions;
+use lrpar_parse_run::whole_run::WholeRun;
 pub use lrpar_parse_trees::Node;
 use lrpar_table::check::ParserData;
 use std::alloc::{AllocError, Global};
@@ -350,7 +350,7 @@ impl<
         ensures ran { IfOk result (IsTreeAnswer (subject StorageT.index LexerTypesT.LexemeT.parts R.allows self.now)
             (B.builds build.now) lexemes.now) }
     {
-        let course = Course {
+        let course = WholeRun {
             run: Run::new(self.checked, build),
             lexemes,
             recoverer: &self.recoverer,

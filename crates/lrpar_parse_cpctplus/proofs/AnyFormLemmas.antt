@@ -10,7 +10,7 @@ use Rattle.lrpar_parse_cpctplus.specs.Cheapest.{cost_of}
 use Rattle.lrpar_parse_cpctplus.specs.Costs.{step_cost, steps_cost}
 use Rattle.lrpar_parse_cpctplus.specs.Forms.{Has, IsFormed}
 use Rattle.lrpar_parse_cpctplus.specs.Walking.{IsStepOf}
-use Rattle.lrpar_parse_cpctplus.proofs.FormLemmas.{formed_before, formed_none, has_behind}
+use Rattle.lrpar_parse_cpctplus.proofs.FormLemmas.{formed_before, formed_none, has_after}
 use Rattle.lrpar_parse_cpctplus.proofs.PruneLemmas.{Stripped, strip}
 use Rattle.lrpar_parse_cpctplus.proofs.WayLemmas.{cost_begins, fewer_go_on, leads_works, replays_parted, shifts_go_on, works_leads}
 
@@ -47,10 +47,10 @@ module _ (end : ℕ) where
         ];
   }
 
-  formed_behind : (s : PlainStep) (p : List PlainStep) → IsFormed end (s ∷ p) → IsFormed end p
-  formed_behind s p h = record {
-    inserts = λ t at. h.inserts t (has_behind s p (PlainInsert t ∷ []) at);
-    apart = λ t at. h.apart t (has_behind s p (PlainDelete ∷ PlainInsert t ∷ []) at);
+  formed_after : (s : PlainStep) (p : List PlainStep) → IsFormed end (s ∷ p) → IsFormed end p
+  formed_after s p h = record {
+    inserts = λ t at. h.inserts t (has_after s p (PlainInsert t ∷ []) at);
+    apart = λ t at. h.apart t (has_after s p (PlainDelete ∷ PlainInsert t ∷ []) at);
   }
 
 -- a Delete behind the Inserts that a sequence begins with
@@ -63,7 +63,7 @@ sunk (PlainShift ∷ p) = PlainDelete ∷ (PlainShift ∷ p)
 sunk_formed : (end : ℕ) (p : List PlainStep) → IsFormed end p → IsFormed end (sunk p)
 sunk_formed end [] h = formed_front end PlainDelete [] tt (λ t e at. let none : [] ≡ PlainInsert t ∷ at.0 = at.1 in cc) h
 sunk_formed end (PlainInsert t ∷ p) h =
-    formed_front end (PlainInsert t) (sunk p) (h.inserts t ([], p, refl)) (λ u e at. cc) (sunk_formed end p (formed_behind end (PlainInsert t) p h))
+    formed_front end (PlainInsert t) (sunk p) (h.inserts t ([], p, refl)) (λ u e at. cc) (sunk_formed end p (formed_after end (PlainInsert t) p h))
 sunk_formed end (PlainDelete ∷ p) h =
     formed_front end PlainDelete (PlainDelete ∷ p) tt (λ t e at. let none : PlainDelete ∷ p ≡ PlainInsert t ∷ at.0 = at.1 in cc) h
 sunk_formed end (PlainShift ∷ p) h =
@@ -134,7 +134,7 @@ module _ {X : Type 0} (token : X → ℕ) (at : Asked X) where
       let row = replicate s.count PlainShift in
       let way = works_leads token g table at.lexemes k at.stack at.place (s.rest ++ row) (subst (λ (l : List PlainStep). WorksAt token at l) s.is h) in
       let parts = replays_parted token g table at.lexemes at.stack at.place s.rest row way.0 way.1 way.2 way.3 in
-      let on = shifts_go_on token g table at.lexemes s.count k parts.mid parts.place parts.second way.1 way.2 parts.behind way.4 in
+      let on = shifts_go_on token g table at.lexemes s.count k parts.mid parts.place parts.second way.1 way.2 parts.further way.4 in
       let turned : s.count + k ≡ k + s.count = omega arith in
       let fewer = fewer_go_on token g table at.lexemes k s.count parts.mid parts.place
       (subst (λ (n : ℕ). CanGoOn token g table at.lexemes n parts.mid parts.place) turned on) in

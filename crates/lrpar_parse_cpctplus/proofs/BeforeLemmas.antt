@@ -5,7 +5,7 @@ use Rattle.std.proofs.lemmas.List.{append-nil}
 use Rattle.lrpar_parse_repair.specs.Sequences.{PlainStep, PlainInsert, PlainDelete, PlainShift}
 use Rattle.lrpar_parse_cpctplus.specs.Forms.{Has, IsFormed}
 use Rattle.lrpar_parse_cpctplus.specs.Walking.{IsStepOf, rank_of}
-use Rattle.lrpar_parse_cpctplus.proofs.FormLemmas.{has_behind}
+use Rattle.lrpar_parse_cpctplus.proofs.FormLemmas.{has_after}
 
 -- a number is below another one, or the same, or above
 split_below : (m n : ℕ) → m < n + 1 → (m < n) ⊎ (m ≡ n)
@@ -28,7 +28,7 @@ module _ (end : ℕ) where
 
   all_of_form : (steps : List PlainStep) → ((t : ℕ) → Has steps (PlainInsert t ∷ []) → t < end) → AreStepsOf steps
   all_of_form [] h = tt
-  all_of_form (s ∷ steps) h = (first_of_form s steps h, all_of_form steps (λ t at. h t (has_behind s steps (PlainInsert t ∷ []) at)))
+  all_of_form (s ∷ steps) h = (first_of_form s steps h, all_of_form steps (λ t at. h t (has_after s steps (PlainInsert t ∷ []) at)))
 
   pub steps_of_form : (steps : List PlainStep) → IsFormed end steps → AreStepsOf steps
   steps_of_form steps h = all_of_form steps h.inserts

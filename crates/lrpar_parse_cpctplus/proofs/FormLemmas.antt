@@ -23,8 +23,8 @@ push_some (x ∷ p) s rest e = cc
 pub has_before : (p rest part : List PlainStep) → Has p part → Has (p ++ rest) part
 has_before p rest part h = (h.0, h.1 ++ rest, ap (λ (l : List PlainStep). l ++ rest) h.2 ∙ append_assoc (h.0 ++ part) h.1 rest)
 
-pub has_behind : (s : PlainStep) (p part : List PlainStep) → Has p part → Has (s ∷ p) part
-has_behind s p part h = (s ∷ h.0, h.1, ap (λ (l : List PlainStep). s ∷ l) h.2)
+pub has_after : (s : PlainStep) (p part : List PlainStep) → Has p part → Has (s ∷ p) part
+has_after s p part h = (s ∷ h.0, h.1, ap (λ (l : List PlainStep). s ∷ l) h.2)
 
 -- and so does what stands at the end
 pub has_end : (p part : List PlainStep) → EndsIn p part → Has p part

@@ -15,7 +15,7 @@ use Rattle.lrpar_parse_lexemes.specs.Lexemes.{LexemeParts}
 use Rattle.lrpar_parse_lexemes.specs.Known.{token_by}
 use Rattle.lrpar_parse_repair.specs.PlainSteps.{plain_sequences, plain_steps}
 use Rattle.lrpar_parse_repair.specs.Sequences.{PlainStep}
-use Rattle.lrpar_parse_repair.specs.declared.steps.RepairStep.{RepairStep}
+use Rattle.lrpar_parse_repair.specs.declared.repair_step.RepairStep.{RepairStep}
 use Rattle.lrpar_parse_cpctplus.specs.Order.{ComesFirst, IsEarlier}
 use Rattle.lrpar_parse_cpctplus.specs.Reaching.{GoesAsFar}
 use Rattle.lrpar_parse_cpctplus.specs.SearchView.{AreMeasured, AreSequencesOf, goes_further, sequences_found}

@@ -12,7 +12,7 @@ use Rattle.lrpar_parse_cpctplus.specs.Cheapest.{IsBeginning, IsRepair, cost_of}
 use Rattle.lrpar_parse_cpctplus.specs.Costs.{token_cost}
 use Rattle.lrpar_parse_cpctplus.specs.Forms.{EndsIn, Has, IsFormed}
 use Rattle.lrpar_parse_cpctplus.proofs.FormLemmas.{ends_in_one, formed_before, last_view, push_some}
-use Rattle.lrpar_parse_cpctplus.proofs.WayLemmas.{cost_append, cost_some, fewer_go_on, leads_works, place_behind, replays_parted, shifts_go_on, works_leads}
+use Rattle.lrpar_parse_cpctplus.proofs.WayLemmas.{cost_append, cost_some, fewer_go_on, leads_works, place_past, replays_parted, shifts_go_on, works_leads}
 
 -- a sequence without the Shifts at its end
 pub record Stripped (steps : List PlainStep) : Type 0 where
@@ -115,11 +115,11 @@ module _ {X : Type 0} (token : X → ℕ) (at : Asked X) (some : 0 < at.shifts) 
       let way = works_leads token g at.checked.table at.lexemes at.shifts at.stack at.place ((a ++ row) ++ b) r.works in
       let outer = replays_parted token g at.checked.table at.lexemes at.stack at.place (a ++ row) b way.0 way.1 way.2 way.3 in
       let inner = replays_parted token g at.checked.table at.lexemes at.stack at.place a row outer.first outer.mid outer.place outer.before in
-      let goes = shifts_go_on token g at.checked.table at.lexemes at.shifts 0 inner.mid inner.place inner.second outer.mid outer.place inner.behind tt in
+      let goes = shifts_go_on token g at.checked.table at.lexemes at.shifts 0 inner.mid inner.place inner.second outer.mid outer.place inner.after tt in
       let whole = subst (λ (l : List PlainStep). Replays token g at.checked.table at.lexemes at.stack at.place l inner.first inner.mid inner.place) s.is inner.before in
       let last = replays_parted token g at.checked.table at.lexemes at.stack at.place s.rest (replicate s.count PlainShift) inner.first inner.mid inner.place whole in
       let sum : at.shifts + 0 ≡ at.shifts = omega arith in
-      let more = shifts_go_on token g at.checked.table at.lexemes s.count at.shifts last.mid last.place last.second inner.mid inner.place last.behind
+      let more = shifts_go_on token g at.checked.table at.lexemes s.count at.shifts last.mid last.place last.second inner.mid inner.place last.after
       (subst (λ (n : ℕ). CanGoOn token g at.checked.table at.lexemes n inner.mid inner.place) sum goes) in
       let turned : s.count + at.shifts ≡ at.shifts + s.count = omega arith in
       let on = fewer_go_on token g at.checked.table at.lexemes at.shifts s.count last.mid last.place
@@ -161,7 +161,7 @@ module _ {X : Type 0} (token : X → ℕ) (at : Asked X) (some : 0 < at.shifts) 
               ∙ ap (λ (l : List PlainStep). s.rest ++ l) (sym (append_assoc shifts (row ++ v.0) (v.1 ∷ []))) in
               let other : ¬ (v.1 ≡ PlainShift) = λ e.
               r.printed.last (s.rest ++ mid, whole ∙ ap (λ (x : PlainStep). s.rest ++ (mid ++ x ∷ [])) e ∙ sym (append_assoc s.rest mid (PlainShift ∷ []))) in
-              let dear = cost_some token g at.lexemes costs each (place_behind at.place s.rest) mid v.1 other in
+              let dear = cost_some token g at.lexemes costs each (place_past at.place s.rest) mid v.1 other in
               let sum = cost_append token g at.lexemes costs at.place s.rest (mid ++ v.1 ∷ []) in
               subst (λ (l : List PlainStep). cost_of token costs at s.rest < cost_of token costs at l) (sym whole) (omega (arith, dear, sum))
         ]

@@ -17,7 +17,7 @@ use Rattle.lrpar_parse_cpctplus.proofs.FormLemmas.{fits_formed, fits_rows, forme
 use Rattle.lrpar_parse_cpctplus.proofs.FoundLemmas.{members_added}
 use Rattle.lrpar_parse_cpctplus.proofs.MemberLemmas.{contained}
 use Rattle.lrpar_parse_cpctplus.proofs.OrderLemmas.{earlier_or_begins, pairs_none}
-use Rattle.lrpar_parse_cpctplus.proofs.WayLemmas.{cost_append, cost_begins, cost_some, place_behind, replays_parted, works_leads}
+use Rattle.lrpar_parse_cpctplus.proofs.WayLemmas.{cost_append, cost_begins, cost_some, place_past, replays_parted, works_leads}
 
 module _ {X : Type 0} (token : X → ℕ) (at : Asked X) where
   -- a path of which each step can be taken, and a step that may follow, are a beginning
@@ -277,7 +277,7 @@ module _ {X : Type 0} (token : X → ℕ) (terms : Terms) (at : Asked X) (c : �
               let whole : p ++ s ∷ [] ≡ q ++ (rest.0 ++ s ∷ []) =
               ap (λ (l : List PlainStep). l ++ s ∷ []) rest.1 ∙ append_assoc q rest.0 (s ∷ []) in
               let other : ¬ (s ≡ PlainShift) = λ e. r.0.printed.last (p, ap (λ (x : PlainStep). p ++ x ∷ []) e) in
-              let dear = cost_some token g at.lexemes terms.costs each (place_behind at.place q) rest.0 s other in
+              let dear = cost_some token g at.lexemes terms.costs each (place_past at.place q) rest.0 s other in
               let sum = cost_append token g at.lexemes terms.costs at.place q (rest.0 ++ s ∷ []) in
               let same : cost_of token terms.costs at (p ++ s ∷ []) ≡ cost_of token terms.costs at (q ++ (rest.0 ++ s ∷ [])) =
               ap (λ (l : List PlainStep). cost_of token terms.costs at l) whole in

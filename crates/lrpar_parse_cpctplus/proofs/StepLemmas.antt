@@ -4,8 +4,8 @@ use Rattle.std.specs.Prelude.{slice_get}
 use Rattle.std.proofs.lemmas.List.{get_or-append-add, get_or-drop, get_or-map, get_or-replicate, length-append, length-map, length-replicate, map-append, replicate_more, same_from_push, take-append-drop}
 use Rattle.lrpar_parse_repair.specs.PlainSteps.{plain_step, plain_steps}
 use Rattle.lrpar_parse_repair.specs.Sequences.{PlainStep, PlainInsert, PlainDelete, PlainShift}
-use Rattle.lrpar_parse_repair.specs.declared.steps.RepairStep.{RepairStep}
-use Rattle.lrpar_parse_repair.specs.declared.steps.RepairStep.TheVariants.{Insert, Delete, Shift}
+use Rattle.lrpar_parse_repair.specs.declared.repair_step.RepairStep.{RepairStep}
+use Rattle.lrpar_parse_repair.specs.declared.repair_step.RepairStep.TheVariants.{Insert, Delete, Shift}
 use Rattle.lrpar_parse_repair.proofs.SequenceLemmas.{steps_so_far}
 use Rattle.lrpar_parse_cpctplus.specs.Forms.{EndsIn}
 use Rattle.lrpar_parse_cpctplus.proofs.FormLemmas.{push_some}

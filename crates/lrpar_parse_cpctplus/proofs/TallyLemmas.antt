@@ -7,7 +7,7 @@ use Rattle.lrpar_parse_repair.specs.Asked.{IsStop}
 use Rattle.lrpar_parse_lexemes.specs.Known.{token_by}
 use Rattle.lrpar_parse_repair.specs.PlainSteps.{plain_step, plain_steps}
 use Rattle.lrpar_parse_repair.specs.Sequences.{PlainStep}
-use Rattle.lrpar_parse_repair.specs.declared.steps.RepairStep.{RepairStep}
+use Rattle.lrpar_parse_repair.specs.declared.repair_step.RepairStep.{RepairStep}
 use Rattle.lrpar_parse_cpctplus.specs.Cheapest.{BeginsWithin, CanBeTaken, IsBeginning, RepairsAt}
 use Rattle.lrpar_parse_cpctplus.specs.Costs.{token_cost}
 use Rattle.lrpar_parse_cpctplus.specs.Tallied.{AreMoreThan}

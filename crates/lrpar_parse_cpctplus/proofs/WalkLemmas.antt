@@ -9,7 +9,7 @@ use Rattle.lrpar_table_stacks.specs.Run.{token_at}
 use Rattle.lrpar_table_stacks.specs.Stack.{IsStack}
 use Rattle.lrpar_parse_lexemes.specs.Known.{token_by}
 use Rattle.lrpar_parse_repair.specs.PlainSteps.{plain_step, plain_steps}
-use Rattle.lrpar_parse_repair.specs.declared.steps.RepairStep.{RepairStep}
+use Rattle.lrpar_parse_repair.specs.declared.repair_step.RepairStep.{RepairStep}
 use Rattle.lrpar_parse_repair.specs.Sequences.{PlainStep, PlainInsert, PlainDelete, PlainShift, CanGoOn, Replays, StepsTo}
 use Rattle.lrpar_parse_repair.proofs.SequenceLemmas.{steps_so_far, taken_within}
 use Rattle.lrpar_parse_cpctplus.specs.Cheapest.{CanBeTaken, IsBeginning, IsRepair, LeadsTo}
@@ -22,10 +22,10 @@ use Rattle.lrpar_parse_cpctplus.specs.Walking.{IsStepOf, MayFollow}
 use Rattle.lrpar_parse_cpctplus.specs.declared.search.Search.{Search}
 use Rattle.lrpar_parse_cpctplus.proofs.FormLemmas.{formed_before, has_before}
 use Rattle.lrpar_parse_cpctplus.proofs.SearchLemmas.{child_begins, nothing_begins}
-use Rattle.lrpar_parse_cpctplus.proofs.WayLemmas.{cost_push, leads_works, place_behind, replays_parted, replays_place, replays_push, works_on}
+use Rattle.lrpar_parse_cpctplus.proofs.WayLemmas.{cost_push, leads_works, place_past, replays_parted, replays_place, replays_push, works_on}
 
 -- the place behind one step more
-pub place_push : (i : ℕ) (p : List PlainStep) (s : PlainStep) → place_behind i (p ++ s ∷ []) ≡ place_after (place_behind i p) s
+pub place_push : (i : ℕ) (p : List PlainStep) (s : PlainStep) → place_past i (p ++ s ∷ []) ≡ place_after (place_past i p) s
 place_push i [] s = refl
 place_push i (x ∷ p) s = place_push (place_after i x) p s
 
@@ -59,7 +59,7 @@ module _ {X : Type 0} (token : X → ℕ) (at : Asked X) where
       let g = at.checked.grammar in
       let parts = replays_parted token g at.checked.table at.lexemes at.stack at.place p (s ∷ []) taken.2.0 taken.0 taken.1 taken.2.1 in
       let same = replay_one_way token g at.checked.table at.lexemes at.stack at.place p parts.first parts.mid parts.place leads.0 states place parts.before leads.1 in
-      let step = parts.behind in
+      let step = parts.further in
       fails step.0 step.1 step.2
       (subst (λ (l : List ℕ). StepsTo token g at.checked.table at.lexemes l place s step.0 step.1 step.2) same.1
       (subst (λ (m : ℕ). StepsTo token g at.checked.table at.lexemes parts.mid m s step.0 step.1 step.2) same.2 step.4))
@@ -69,7 +69,7 @@ module _ {X : Type 0} (token : X → ℕ) (at : Asked X) where
   delete_back p states place leads =
       let g = at.checked.grammar in
       let parts = replays_parted token g at.checked.table at.lexemes at.stack at.place p (PlainDelete ∷ []) leads.0 states place leads.1 in
-      let step = parts.behind in
+      let step = parts.further in
       let same : parts.mid ≡ states = sym (step.5.1 ∙ step.4.2) in
       let here : parts.place ≡ place - 1 = omega (arith, step.5.2, step.4.3) in (
         parts.first,
@@ -170,15 +170,15 @@ module _ {S X : Type 0} (index : S → ℕ) (parts : X → LexemeParts S) (searc
   -- the place in front of the last step, and what that costs
   pub walk_front : (p : List PlainStep) (x : PlainStep) (base states : List ℕ) (fresh : Bool) (place cost : ℕ)
       → IsWalked index parts search (p ++ x ∷ []) base states fresh place cost
-      → (place_in_front place x ≡ place_behind search.point.now.place p) × (place ≡ place_after (place_behind search.point.now.place p) x)
+      → (place_in_front place x ≡ place_past search.point.now.place p) × (place ≡ place_after (place_past search.point.now.place p) x)
       × (cost ≡ cost_by index parts search p + step_cost_by index parts search (place_in_front place x) x)
   walk_front p x base states fresh place cost w =
       let token = token_by index parts in
       let at = search.point.now in
-      let behind = replays_place token at.checked.grammar at.checked.table at.lexemes at.stack at.place (p ++ x ∷ []) w.taken.2.0 w.taken.0 w.taken.1 w.taken.2.1 in
-      let here : place ≡ place_after (place_behind at.place p) x = sym (w.placed w.taken.0 w.taken.1 w.taken.2) ∙ behind ∙ place_push at.place p x in
-      let front : place_in_front place x ≡ place_behind at.place p = ap (λ (m : ℕ). place_in_front m x) here ∙ back_of (place_behind at.place p) x in
-      let sum : cost ≡ cost_by index parts search p + step_cost_by index parts search (place_behind at.place p) x =
+      let further = replays_place token at.checked.grammar at.checked.table at.lexemes at.stack at.place (p ++ x ∷ []) w.taken.2.0 w.taken.0 w.taken.1 w.taken.2.1 in
+      let here : place ≡ place_after (place_past at.place p) x = sym (w.placed w.taken.0 w.taken.1 w.taken.2) ∙ further ∙ place_push at.place p x in
+      let front : place_in_front place x ≡ place_past at.place p = ap (λ (m : ℕ). place_in_front m x) here ∙ back_of (place_past at.place p) x in
+      let sum : cost ≡ cost_by index parts search p + step_cost_by index parts search (place_past at.place p) x =
       w.costs ∙ cost_push token at.checked.grammar at.lexemes search.terms.now.costs at.place p x in
       (front, here, sum ∙ ap (λ (m : ℕ). cost_by index parts search p + step_cost_by index parts search m x) (sym front))
 
@@ -261,9 +261,9 @@ pub tried_by : {S X : Type 0} (index : S → ℕ) (parts : X → LexemeParts S) 
 tried_by index parts search p s base states fresh place cost one wide w is may costs same most =
     let token = token_by index parts in
     let at = search.point.now in
-    let behind = replays_place token at.checked.grammar at.checked.table at.lexemes at.stack at.place p w.taken.2.0 w.taken.0 w.taken.1 w.taken.2.1 in
-    let here : place ≡ place_behind at.place p = sym (w.placed w.taken.0 w.taken.1 w.taken.2) ∙ behind in
-    let there : step_cost_by index parts search place s ≡ step_cost_by index parts search (place_behind at.place p) s =
+    let further = replays_place token at.checked.grammar at.checked.table at.lexemes at.stack at.place p w.taken.2.0 w.taken.0 w.taken.1 w.taken.2.1 in
+    let here : place ≡ place_past at.place p = sym (w.placed w.taken.0 w.taken.1 w.taken.2) ∙ further in
+    let there : step_cost_by index parts search place s ≡ step_cost_by index parts search (place_past at.place p) s =
     ap (λ (m : ℕ). step_cost_by index parts search m s) here in
     record {
       within = is;

@@ -9,9 +9,9 @@ use Rattle.lrpar_parse_repair.proofs.SequenceLemmas.{steps_one_way}
 use Rattle.lrpar_parse_cpctplus.specs.Costs.{place_after, step_cost, steps_cost, token_cost}
 
 -- the place after steps from place i on
-abbrev pub place_behind : ℕ → List PlainStep → ℕ
-place_behind i [] = i
-place_behind i (step ∷ steps) = place_behind (place_after i step) steps
+abbrev pub place_past : ℕ → List PlainStep → ℕ
+place_past i [] = i
+place_past i (step ∷ steps) = place_past (place_after i step) steps
 
 module _ {X : Type 0} (token : X → ℕ) (g : Grammar) (lexemes : List X) (costs : List ℕ) where
   cost : ℕ → List PlainStep → ℕ
@@ -19,13 +19,13 @@ module _ {X : Type 0} (token : X → ℕ) (g : Grammar) (lexemes : List X) (cost
 
   -- what two parts cost
   pub cost_append : (i : ℕ) (p q : List PlainStep)
-      → steps_cost token g lexemes costs i (p ++ q) ≡ steps_cost token g lexemes costs i p + steps_cost token g lexemes costs (place_behind i p) q
+      → steps_cost token g lexemes costs i (p ++ q) ≡ steps_cost token g lexemes costs i p + steps_cost token g lexemes costs (place_past i p) q
   cost_append i [] q = omega arith
   cost_append i (s ∷ p) q = omega (arith, cost_append (place_after i s) p q)
 
   -- one step more
   pub cost_push : (i : ℕ) (p : List PlainStep) (s : PlainStep)
-      → steps_cost token g lexemes costs i (p ++ s ∷ []) ≡ steps_cost token g lexemes costs i p + step_cost token g lexemes costs (place_behind i p) s
+      → steps_cost token g lexemes costs i (p ++ s ∷ []) ≡ steps_cost token g lexemes costs i p + step_cost token g lexemes costs (place_past i p) s
   cost_push i p s = omega (arith, cost_append i p (s ∷ []))
 
   -- a beginning costs no more
@@ -36,7 +36,7 @@ module _ {X : Type 0} (token : X → ℕ) (g : Grammar) (lexemes : List X) (cost
   pub cost_some : ((t : ℕ) → 0 < token_cost costs t) → (i : ℕ) (p : List PlainStep) (s : PlainStep) → ¬ (s ≡ PlainShift)
       → 0 < steps_cost token g lexemes costs i (p ++ s ∷ [])
   cost_some each i p (PlainInsert t) other = omega (arith, cost_push i p (PlainInsert t), each t)
-  cost_some each i p PlainDelete other = omega (arith, cost_push i p PlainDelete, each (token_at token g lexemes (place_behind i p)))
+  cost_some each i p PlainDelete other = omega (arith, cost_push i p PlainDelete, each (token_at token g lexemes (place_past i p)))
   cost_some each i p PlainShift other = absurd (other refl)
 
 module _ {X : Type 0} (token : X → ℕ) (g : Grammar) (table : Table) (lexemes : List X) where
@@ -47,10 +47,10 @@ module _ {X : Type 0} (token : X → ℕ) (g : Grammar) (table : Table) (lexemes
   step_place st i PlainShift ps next j x = x.2
 
   pub replays_place : (st : List ℕ) (i : ℕ) (p : List PlainStep) (ps after : List ℕ) (j : ℕ) → Replays token g table lexemes st i p ps after j
-      → j ≡ place_behind i p
+      → j ≡ place_past i p
   replays_place st i [] ps after j x = x.2
   replays_place st i (s ∷ p) ps after j x =
-      replays_place x.1 x.2 p x.3 after j x.5 ∙ ap (λ (m : ℕ). place_behind m p) (step_place st i s x.0 x.1 x.2 x.4)
+      replays_place x.1 x.2 p x.3 after j x.5 ∙ ap (λ (m : ℕ). place_past m p) (step_place st i s x.0 x.1 x.2 x.4)
 
   -- one step more
   pub replays_push : (st : List ℕ) (i : ℕ) (p : List PlainStep) (ps mid : List ℕ) (j : ℕ) (s : PlainStep) (qs next : List ℕ) (n : ℕ)
@@ -77,7 +77,7 @@ module _ {X : Type 0} (token : X → ℕ) (g : Grammar) (table : Table) (lexemes
     pub place : ℕ
     pub second : List ℕ
     pub before : Replays token g table lexemes st i p first mid place
-    pub behind : Replays token g table lexemes mid place q second after j
+    pub further : Replays token g table lexemes mid place q second after j
 
   pub replays_parted : (st : List ℕ) (i : ℕ) (p q : List PlainStep) (ps after : List ℕ) (j : ℕ) → Replays token g table lexemes st i (p ++ q) ps after j
       → Parted st i p q after j
@@ -87,7 +87,7 @@ module _ {X : Type 0} (token : X → ℕ) (g : Grammar) (table : Table) (lexemes
     place = i;
     second = ps;
     before = (refl, refl, refl);
-    behind = x;
+    further = x;
   }
   replays_parted st i (s ∷ p) q ps after j x =
       let more = replays_parted x.1 x.2 p q x.3 after j x.5 in
@@ -97,7 +97,7 @@ module _ {X : Type 0} (token : X → ℕ) (g : Grammar) (table : Table) (lexemes
         place = more.place;
         second = more.second;
         before = (x.0, x.1, x.2, more.first, x.4, more.before, refl);
-        behind = more.behind;
+        further = more.further;
       }
 
   pub replays_joined : (st : List ℕ) (i : ℕ) (p q : List PlainStep) (ps mid : List ℕ) (j : ℕ) (qs after : List ℕ) (n : ℕ)

@@ -239,7 +239,7 @@ impl<'a, 'p, StorageT: StorageIndex, LexemeT: Lexeme<StorageT>> Search<'a, 'p, S
         if walk.cost != bound || !self.is_repair(walk)? {
             return Ok(());
         }
-        let reach = self.reach_behind(walk)?;
+        let reach = self.reach_after(walk)?;
         let steps = walk.path.clone()?;
         tally.found.push(Found { steps, reach })?;
         Ok(())
@@ -264,7 +264,7 @@ impl<'a, 'p, StorageT: StorageIndex, LexemeT: Lexeme<StorageT>> Search<'a, 'p, S
     }
 
     // How far a parse goes on behind the path.
-    fn reach_behind(&self, walk: &mut Walk<'p, StorageT>) -> Result<u128, AllocError>
+    fn reach_after(&self, walk: &mut Walk<'p, StorageT>) -> Result<u128, AllocError>
         requires walking { IsWalking StorageT.index LexemeT.parts self.now walk.old }
         ensures reach { IfOk result (GoesAsFar (token_by StorageT.index LexemeT.parts) self.now.point.now (path_of StorageT.index walk.old)) }
         ensures walking { OnOk result (IsWalking StorageT.index LexemeT.parts self.now walk.new) }

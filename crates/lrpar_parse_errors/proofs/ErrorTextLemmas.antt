@@ -76,11 +76,11 @@ named_sequences names input (parts ∷ sequences) (text ∷ texts) each =
     (named_sequences names input sequences texts each.1)
 
 -- the first token without a name of a sequence is the first of all, where those in front are printed
-pub unnamed_sequence : (names : ℕ → Option (List ℕ) → Type 0) (input : List ℕ) (most : ℕ) (front behind : List (List Part)) (parts : List Part) (old out : List ℕ) (t : ℕ)
-    → AreListed names input most front old out → IsFirstUnnamed names (inserted parts) t → IsFirstUnnamed names (flat_map inserted (front ++ parts ∷ behind)) t
-unnamed_sequence names input most front behind parts old out t so_far first =
-    rw (flat_map-append inserted front (parts ∷ behind))
-    (unnamed_within names (flat_map inserted front) (inserted parts) (flat_map inserted behind) t (named_sequences names input front so_far.texts so_far.each) first)
+pub unnamed_sequence : (names : ℕ → Option (List ℕ) → Type 0) (input : List ℕ) (most : ℕ) (front after : List (List Part)) (parts : List Part) (old out : List ℕ) (t : ℕ)
+    → AreListed names input most front old out → IsFirstUnnamed names (inserted parts) t → IsFirstUnnamed names (flat_map inserted (front ++ parts ∷ after)) t
+unnamed_sequence names input most front after parts old out t so_far first =
+    rw (flat_map-append inserted front (parts ∷ after))
+    (unnamed_within names (flat_map inserted front) (inserted parts) (flat_map inserted after) t (named_sequences names input front so_far.texts so_far.each) first)
 
 -- a list around the element at a place
 around : {A : Type 0} (xs : List A) (i : ℕ) (x : A) → i < length xs → x ≡ get_or xs i x → xs ≡ take i xs ++ x ∷ drop (i + 1) xs
@@ -161,12 +161,12 @@ listed_all index span names input most sequences i old out long so_far =
     (so_far.texts, so_far.printed, rw (sym (taken_all sequences i long)) so_far.each)
 
 -- behind the words that sequences were found, they are the text of an error
-pub listed_behind : {X S A : Type 0} (index : S → ℕ) (span : X → Extent) (names : ℕ → Option (List ℕ) → Type 0) (input : List ℕ) (most : ℕ)
+pub listed_after : {X S A : Type 0} (index : S → ℕ) (span : X → Extent) (names : ℕ → Option (List ℕ) → Type 0) (input : List ℕ) (most : ℕ)
     (sequences : List (Vec (ParseRepair X S) A)) (before old out : List ℕ)
     → 0 < length sequences → most ≡ digits (length sequences) → old ≡ before ++ codes " Repair sequences found:"
     → (texts : List (List ℕ)) × (out ≡ old ++ numbered most 1 texts) × AllZip (IsPartsText names input) (all_parts index span sequences) texts
     → (texts : List (List ℕ)) × (out ≡ before ++ repairs_text texts) × AllZip (IsPartsText names input) (all_parts index span sequences) texts
-listed_behind index span names input most sequences before old out full count begins (texts, printed, each) =
+listed_after index span names input most sequences before old out full count begins (texts, printed, each) =
     let same : length texts ≡ length sequences = sym (zip_length (IsPartsText names input) (all_parts index span sequences) texts each) ∙ all_parts_length index span sequences in (
       texts,
       printed ∙ ap (λ o. o ++ numbered most 1 texts) begins ∙ append_assoc before (codes " Repair sequences found:") (numbered most 1 texts)

@@ -87,13 +87,13 @@ named_parts names input (Deletes a ∷ parts) (text ∷ texts) each = named_part
 named_parts names input (Shifts a ∷ parts) (text ∷ texts) each = named_parts names input parts texts each.1
 
 -- the first token without a name among some is the first among more, where those in front have names
-pub unnamed_within : (names : ℕ → Option (List ℕ) → Type 0) (front tokens behind : List ℕ) (t : ℕ)
-    → AllByRecursion (IsInRange names) front → IsFirstUnnamed names tokens t → IsFirstUnnamed names (front ++ (tokens ++ behind)) t
-unnamed_within names front tokens behind t named first = record {
+pub unnamed_within : (names : ℕ → Option (List ℕ) → Type 0) (front tokens further : List ℕ) (t : ℕ)
+    → AllByRecursion (IsInRange names) front → IsFirstUnnamed names tokens t → IsFirstUnnamed names (front ++ (tokens ++ further)) t
+unnamed_within names front tokens further t named first = record {
   before = front ++ first.before;
-  after = first.after ++ behind;
-  at = ap (λ tokens. front ++ (tokens ++ behind)) first.at ∙ ap (λ rest. front ++ rest) (append_assoc first.before (t ∷ first.after) behind)
-      ∙ sym (append_assoc front first.before (t ∷ (first.after ++ behind)));
+  after = first.after ++ further;
+  at = ap (λ tokens. front ++ (tokens ++ further)) first.at ∙ ap (λ rest. front ++ rest) (append_assoc first.before (t ∷ first.after) further)
+      ∙ sym (append_assoc front first.before (t ∷ (first.after ++ further)));
   named = named_append names front first.before named first.named;
   unnamed = first.unnamed;
 }

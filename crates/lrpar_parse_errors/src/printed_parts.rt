@@ -33,8 +33,8 @@ pub fn next_part<LexemeT: Lexeme<StorageT>, StorageT: StorageIndex>(
         ParseRepair::Insert(tidx) => (Part::Insert(*tidx), others),
         ParseRepair::Shift(lexeme) => (Part::Shift(lexeme.span()), others),
         ParseRepair::Delete(lexeme) => {
-            let (span, behind) = deletion(lexeme.span(), others);
-            (Part::Delete(span), behind)
+            let (span, after) = deletion(lexeme.span(), others);
+            (Part::Delete(span), after)
         }
     })
 }

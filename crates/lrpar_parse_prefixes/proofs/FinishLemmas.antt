@@ -11,9 +11,9 @@ use Rattle.lrpar_grammar.proofs.ForestLemmas.{joined, joined_fits, joined_leaves
 use Rattle.lrpar_table_rows.specs.Graph.{ItemOf, item_at}
 use Rattle.lrpar_table_items.specs.ItemSets.{Adds, IsAdvanced, IsReachedBy, IsStartItem}
 use Rattle.lrpar_table_build.proofs.ReachedLemmas.{closure_each}
-use Rattle.lrpar_table_sentences.specs.Reached.{Added, EachReachedHasTree, IsReachedRule}
+use Rattle.lrpar_table_sentences.specs.Reachable.{Added, EachReachableHasTree, IsReachableRule}
 use Rattle.lrpar_table_sentences.specs.Texts.{AreTreesOf, HaveTrees}
-use Rattle.lrpar_table_sentences.proofs.BehindLemmas.{behind_reached, drop_at_get, have_trees, rest_reached}
+use Rattle.lrpar_table_sentences.proofs.AfterLemmas.{after_reached, drop_at_get, have_trees, rest_reached}
 use Rattle.lrpar_parse_prefixes.specs.Viable.{BeginSentence}
 
 -- the front of what begins a sentence begins one
@@ -35,7 +35,7 @@ start_tree g Nil Nil fit rest_fit = absurd rest_fit
 start_tree g Nil (Cons t (Cons u us)) fit rest_fit = absurd rest_fit.1
 start_tree g Nil (Cons t Nil) fit rest_fit = ([], (t, rest_fit.0, sym (append-nil (leaves t ++ []) ∙ append-nil (leaves t))))
 
-module _ (g : Grammar) (well : IsWellFormed g) (each : EachReachedHasTree g) where
+module _ (g : Grammar) (well : IsWellFormed g) (each : EachReachableHasTree g) where
   start_finishes : Finishes g [] (item_at (start_prod g) 0 (end_token g))
   start_finishes front rest fit rest_fit =
       start_tree g front rest fit (subst (λ (w : List GrammarSymbol). AreTreesOf g w rest) well.last_symbols rest_fit)
@@ -46,42 +46,42 @@ module _ (g : Grammar) (well : IsWellFormed g) (each : EachReachedHasTree g) whe
   moved_finishes path s x at finishes front rest fit rest_fit =
       let parts = splits (λ (t : ℕ). t) g front (reverse path) (s ∷ [])
       (subst (λ (w : List GrammarSymbol). AreTreesOf g w front) (reverse-append (s ∷ []) path) fit) in
-      let behind = joined parts.others rest in
-      let behind_fit : AreTreesOf g (drop x.dot (symbols_of g x.prod)) behind =
-      subst (λ (w : List GrammarSymbol). AreTreesOf g w behind) (sym (drop_at_get (symbols_of g x.prod) x.dot s at))
+      let after = joined parts.others rest in
+      let after_fit : AreTreesOf g (drop x.dot (symbols_of g x.prod)) after =
+      subst (λ (w : List GrammarSymbol). AreTreesOf g w after) (sym (drop_at_get (symbols_of g x.prod) x.dot s at))
       (joined_fits (λ (t : ℕ). t) g parts.others rest (s ∷ []) (drop (x.dot + 1) (symbols_of g x.prod)) parts.others_fit rest_fit) in
-      let all : forest_leaves parts.first ++ forest_leaves behind ≡ forest_leaves front ++ forest_leaves rest =
+      let all : forest_leaves parts.first ++ forest_leaves after ≡ forest_leaves front ++ forest_leaves rest =
       ap (λ (ts : List ℕ). forest_leaves parts.first ++ ts) (joined_leaves parts.others rest)
       ∙ sym (append_assoc (forest_leaves parts.first) (forest_leaves parts.others) (forest_leaves rest))
       ∙ ap (λ (ts : List ℕ). ts ++ forest_leaves rest) (sym (split_leaves (λ (t : ℕ). t) g front (reverse path) (s ∷ []) parts)) in
-      subst (BeginSentence g) all (finishes parts.first behind parts.first_fits behind_fit)
+      subst (BeginSentence g) all (finishes parts.first after parts.first_fits after_fit)
 
   -- another item adds the item
   added_finishes : (path : List GrammarSymbol) (x y : ItemOf) (adds : Adds g x y) → HaveTrees g adds.rest → Finishes g path x → Finishes g path y
   added_finishes path x y adds later finishes front rest fit rest_fit =
       let own : AreTreesOf g (symbols_of g y.prod) rest =
       subst (λ (n : ℕ). AreTreesOf g (drop n (symbols_of g y.prod)) rest) adds.fresh rest_fit in
-      let behind : Forest ℕ = Cons (Branch y.prod rest) later.0 in
-      let behind_fit : AreTreesOf g (drop x.dot (symbols_of g x.prod)) behind =
-      subst (λ (w : List GrammarSymbol). AreTreesOf g w behind) (sym adds.before) ((adds.known, adds.of_rule, own), later.1) in
+      let after : Forest ℕ = Cons (Branch y.prod rest) later.0 in
+      let after_fit : AreTreesOf g (drop x.dot (symbols_of g x.prod)) after =
+      subst (λ (w : List GrammarSymbol). AreTreesOf g w after) (sym adds.before) ((adds.known, adds.of_rule, own), later.1) in
       let all = sym (append_assoc (forest_leaves front) (forest_leaves rest) (forest_leaves later.0)) in
       begin_less g (forest_leaves front ++ forest_leaves rest) (forest_leaves later.0)
-      (subst (BeginSentence g) all (finishes front behind fit behind_fit))
+      (subst (BeginSentence g) all (finishes front after fit after_fit))
 
   -- an item's rule is reached, and a sentence is finished from the item
   abbrev Holds : List GrammarSymbol → ItemOf → Type 0
-  Holds path x = IsReachedRule g (rule_of g x.prod) × Finishes g path x
+  Holds path x = IsReachableRule g (rule_of g x.prod) × Finishes g path x
 
   added_holds : (path : List GrammarSymbol) (x y : ItemOf) → Holds path x → Adds g x y → Holds path y
   added_holds path x y h adds =
-      let reached = behind_reached g well x.prod x.dot adds.rule adds.rest adds.before h.0 in
+      let reached = after_reached g well x.prod x.dot adds.rule adds.rest adds.before h.0 in
       let later = have_trees g each adds.rest (rest_reached g well x.prod x.dot (Nonterminal adds.rule) adds.rest adds.before h.0) in
-      (subst (IsReachedRule g) (sym adds.of_rule) reached, added_finishes path x y adds later h.1)
+      (subst (IsReachableRule g) (sym adds.of_rule) reached, added_finishes path x y adds later h.1)
 
   pub item_holds : (path : List GrammarSymbol) (x : ItemOf) → IsReachedBy g path x → Holds path x
   item_holds [] =
       closure_each g (Holds []) (added_holds []) (IsStartItem g)
-      (λ x is. subst (Holds []) (sym is) (subst (IsReachedRule g) (sym well.last_rule) Added, start_finishes))
+      (λ x is. subst (Holds []) (sym is) (subst (IsReachableRule g) (sym well.last_rule) Added, start_finishes))
   item_holds (s ∷ path) =
       closure_each g (Holds (s ∷ path)) (added_holds (s ∷ path)) (IsAdvanced g (IsReachedBy g path) s)
       (λ y from.

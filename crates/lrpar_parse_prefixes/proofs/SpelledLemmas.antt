@@ -20,10 +20,10 @@ use Rattle.lrpar_table_stacks.specs.Reduction.{Feeds, Reduces, Settles}
 use Rattle.lrpar_table_stacks.specs.Run.{Comes, comes_on, stays, token_at}
 use Rattle.lrpar_table_stacks.proofs.PathLemmas.{goes_within, last_of, never_sticks}
 use Rattle.lrpar_table_stacks.proofs.Reductions.{reduces_to_one}
-use Rattle.lrpar_table_sentences.specs.Reached.{EachReachedHasTree, IsReachedSymbol}
+use Rattle.lrpar_table_sentences.specs.Reachable.{EachReachableHasTree, IsReachableSymbol}
 use Rattle.lrpar_table_sentences.specs.Texts.{AreTreesOf}
-use Rattle.lrpar_table_sentences.specs.WayLens.{Goes, IsWalk, Starts}
-use Rattle.lrpar_table_sentences.proofs.BehindLemmas.{have_trees, prod_reached}
+use Rattle.lrpar_table_sentences.specs.AccessLens.{Goes, IsWalk, Starts}
+use Rattle.lrpar_table_sentences.proofs.AfterLemmas.{have_trees, prod_reached}
 use Rattle.lrpar_table_sentences.proofs.WalkLemmas.{walk_path}
 use Rattle.lrpar_parse_prefixes.specs.Viable.{BeginSentence}
 use Rattle.lrpar_parse_prefixes.proofs.FinishLemmas.{begin_less, item_holds}
@@ -97,7 +97,7 @@ module _ (g : Grammar) (table : Table) (never : NeverSticks g table) where
       (record { symbols = []; path = (refl, tt); trees = Nil; fit = tt; leaves_are = refl })
 
 module _ (g : Grammar) (graph : Graph) (table : Table) (well : IsWellFormed g) (closed : IsClosed table) (built : IsBuilt g graph table)
-    (each : EachReachedHasTree g) where
+    (each : EachReachableHasTree g) where
   -- a path goes on as a walk
   walks_on : (s : ℕ) (path symbols : List GrammarSymbol) (st : List ℕ) → IsWalk table s path → s < states_len table → Leads table s symbols st
       → IsWalk table (last_of s st) (reverse symbols ++ path) × (last_of s st < states_len table)
@@ -120,9 +120,9 @@ module _ (g : Grammar) (graph : Graph) (table : Table) (well : IsWellFormed g) (
       let reached : IsReachedBy g path x = (same x).0 some.1 in
       let holds = item_holds g well each path x reached in
       let item = reached_items g well path x reached in
-      let behind = have_trees g each (drop x.dot (symbols_of g x.prod))
-      (All-drop (IsReachedSymbol g) x.dot (symbols_of g x.prod) (prod_reached g well x.prod item.prod holds.0)) in
-      begin_less g (forest_leaves trees) (forest_leaves behind.0) (holds.1 trees behind.0 fit behind.1)
+      let further = have_trees g each (drop x.dot (symbols_of g x.prod))
+      (All-drop (IsReachableSymbol g) x.dot (symbols_of g x.prod) (prod_reached g well x.prod item.prod holds.0)) in
+      begin_less g (forest_leaves trees) (forest_leaves further.0) (holds.1 trees further.0 fit further.1)
 
   -- so do those along a stack
   path_begins : (symbols : List GrammarSymbol) (st : List ℕ) → IsPath table symbols st → (trees : Forest ℕ) → AreTreesOf g symbols trees

@@ -15,7 +15,7 @@ use Rattle.lrpar_table_stacks.specs.Run.{Accepted, Comes, Far, FarEnd, Stop, Sto
 use Rattle.lrpar_table_check.proofs.ExpectedRunLemmas.{checked_tables_end_at_sentences, complete_tables_expect_sentences}
 use Rattle.lrpar_table_stacks.proofs.RunLemmas.{runs_one_way}
 use Rattle.lrpar_table_check.proofs.SentenceLemmas.{complete_tables_take_sentences}
-use Rattle.lrpar_table_sentences.specs.Reached.{EachReachedHasTree}
+use Rattle.lrpar_table_sentences.specs.Reachable.{EachReachableHasTree}
 use Rattle.lrpar_parse_prefixes.specs.Viable.{AreSentence, BeginSentence, CanFollow, GoWrongAt}
 use Rattle.lrpar_parse_prefixes.specs.ViableLaws.{BuiltTablesKeepToSentences, CompleteBuiltTablesFollowSentences}
 use Rattle.lrpar_parse_prefixes.proofs.SpelledLemmas.{never, run_spells, spelled_begin, spells_fed}
@@ -51,7 +51,7 @@ stops_at g table tokens _ _ _ _ stop (stops st i ps settled fits settles stuck) 
     }
 
 module _ (g : Grammar) (graph : Graph) (table : Table) (well : IsWellFormed g) (closed : IsClosed table) (built : IsBuilt g graph table)
-    (each : EachReachedHasTree g) where
+    (each : EachReachableHasTree g) where
   -- what is fed begins a sentence
   fed_begins : (tokens st : List ℕ) (i : ℕ) → FeedsFront (λ (t : ℕ). t) g table tokens i st → BeginSentence g (take i tokens)
   fed_begins tokens st i fed =

@@ -10,7 +10,7 @@ use Rattle.lrpar_table_conditions.specs.Complete.{IsComplete}
 use Rattle.lrpar_parse_repair.specs.Recovery.{Point}
 use Rattle.lrpar_parse_run.specs.RepairRun.{RepairRun, RepairStop}
 use Rattle.lrpar_parse_repair.specs.Sequences.{PlainStep}
-use Rattle.lrpar_table_sentences.specs.Reached.{EachReachedHasTree}
+use Rattle.lrpar_table_sentences.specs.Reachable.{EachReachableHasTree}
 use Rattle.lrpar_parse_prefixes.specs.Viable.{BeginSentence, GoWrongAt}
 
 -- runs with repairs over lexemes of this kind, from the start state at the first lexeme, where k lexemes have to follow a repair
@@ -20,7 +20,7 @@ module _ {X : Type 0} (facts : X → LexemeFacts) (allows : Point X → List (Li
   FirstErrorsComeInTime =
       (k : ℕ) (g : Grammar) (graph : Graph) (table : Table) (lexemes : List X) (first : RepairStop) (later : List RepairStop)
       (consumed : Option (List X)) (prods : List ℕ)
-      → IsWellFormed g → IsClosed table → IsBuilt g graph table → EachReachedHasTree g
+      → IsWellFormed g → IsClosed table → IsBuilt g graph table → EachReachableHasTree g
       → RepairRun facts allows k g table lexemes (table.start ∷ []) 0 (first ∷ later) consumed prods
       → BeginSentence g (map (λ x. (facts x).token) (take first.stop.place lexemes))
 
@@ -29,6 +29,6 @@ module _ {X : Type 0} (facts : X → LexemeFacts) (allows : Point X → List (Li
   FirstErrorsAreExact =
       (k : ℕ) (g : Grammar) (graph : Graph) (table : Table) (lexemes : List X) (first : RepairStop) (later : List RepairStop)
       (consumed : Option (List X)) (prods : List ℕ)
-      → IsWellFormed g → IsClosed table → IsBuilt g graph table → EachReachedHasTree g → IsComplete g graph table
+      → IsWellFormed g → IsClosed table → IsBuilt g graph table → EachReachableHasTree g → IsComplete g graph table
       → RepairRun facts allows k g table lexemes (table.start ∷ []) 0 (first ∷ later) consumed prods
       → GoWrongAt g (map (λ x. (facts x).token) lexemes) first.stop.place

@@ -11,7 +11,7 @@ use Rattle.lrpar_table_check.specs.CompleteRuns.{RunsTo}
 use Rattle.lrpar_table_stacks.specs.Expected.{IsExpected}
 use Rattle.lrpar_table_check.specs.ExpectedRuns.{FeedsFront}
 use Rattle.lrpar_table_stacks.specs.Run.{Stop, Stopped}
-use Rattle.lrpar_table_sentences.specs.Reached.{EachReachedHasTree}
+use Rattle.lrpar_table_sentences.specs.Reachable.{EachReachableHasTree}
 use Rattle.lrpar_parse_prefixes.specs.Viable.{AreSentence, BeginSentence, CanFollow, GoWrongAt}
 
 -- lexemes are a sentence exactly where their tokens are
@@ -41,10 +41,10 @@ pub record FollowsSentences {X : Type 0} (token : X → ℕ) (g : Grammar) (tabl
 abbrev pub BuiltTablesKeepToSentences : Type 0 → Type 0
 BuiltTablesKeepToSentences X =
     (token : X → ℕ) (g : Grammar) (graph : Graph) (table : Table) → IsWellFormed g → IsClosed table → IsBuilt g graph table
-    → EachReachedHasTree g → KeepsToSentences token g table
+    → EachReachableHasTree g → KeepsToSentences token g table
 
 -- and where the table is complete, they follow them
 abbrev pub CompleteBuiltTablesFollowSentences : Type 0 → Type 0
 CompleteBuiltTablesFollowSentences X =
     (token : X → ℕ) (g : Grammar) (graph : Graph) (table : Table) → IsWellFormed g → IsClosed table → IsBuilt g graph table
-    → EachReachedHasTree g → IsComplete g graph table → FollowsSentences token g table
+    → EachReachableHasTree g → IsComplete g graph table → FollowsSentences token g table

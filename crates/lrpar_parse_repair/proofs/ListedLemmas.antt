@@ -5,10 +5,10 @@ use Rattle.std.proofs.lemmas.List.{append-nil, append_assoc, drop_all, drop_more
 use Rattle.lrpar_parse_lexemes.specs.Repair.{Repair}
 use Rattle.lrpar_parse_lexemes.specs.Repairs.{repair_of, repairs_of}
 use Rattle.lrpar_parse_lexemes.specs.declared.repairs.ParseRepair.{ParseRepair}
-use Rattle.lrpar_parse_repair.specs.Mended.{repairs_over}
+use Rattle.lrpar_parse_repair.specs.Repaired.{repairs_over}
 use Rattle.lrpar_parse_repair.specs.PlainSteps.{plain_sequences, plain_step, plain_steps}
 use Rattle.lrpar_parse_repair.specs.Sequences.{PlainStep}
-use Rattle.lrpar_parse_repair.specs.declared.steps.RepairStep.{RepairStep}
+use Rattle.lrpar_parse_repair.specs.declared.repair_step.RepairStep.{RepairStep}
 
 module _ {X S : Type 0} (index : S → ℕ) where
   -- the repairs so far and those of the steps that are left are all, also after one step more

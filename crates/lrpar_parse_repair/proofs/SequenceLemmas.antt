@@ -18,7 +18,7 @@ use Rattle.lrpar_parse_repair.specs.PlainSteps.{plain_sequences, plain_step, pla
 use Rattle.lrpar_table_stacks.specs.Run.{token_at}
 use Rattle.lrpar_table_stacks.specs.Expected.{AcceptsAtEnd}
 use Rattle.lrpar_parse_repair.specs.Sequences.{PlainStep, PlainInsert, PlainDelete, PlainShift, AreThoseWith, CanGoOn, IsStepTaken, IsTokenFed, StepsTo, Works}
-use Rattle.lrpar_parse_repair.specs.declared.steps.RepairStep.{RepairStep}
+use Rattle.lrpar_parse_repair.specs.declared.repair_step.RepairStep.{RepairStep}
 use Rattle.lrpar_table_stacks.proofs.RunLemmas.{feeds_one_way, token_at_lexeme}
 
 -- clones of sequences are the same sequences

@@ -5,8 +5,8 @@ use Rattle.std.proofs.lemmas.Bool.{eqb-true, eq-eqb}
 use Rattle.lrpar_grammar_places.specs.declared.span.TIdx.{TIdx}
 use Rattle.lrpar_parse_repair.specs.PlainSteps.{plain_step}
 use Rattle.lrpar_parse_repair.specs.Sequences.{PlainStep, PlainInsert, PlainDelete, PlainShift}
-use Rattle.lrpar_parse_repair.specs.declared.steps.RepairStep.{RepairStep}
-use Rattle.lrpar_parse_repair.specs.declared.steps.RepairStep.TheVariants.{Insert, Delete, Shift}
+use Rattle.lrpar_parse_repair.specs.declared.repair_step.RepairStep.{RepairStep}
+use Rattle.lrpar_parse_repair.specs.declared.repair_step.RepairStep.TheVariants.{Insert, Delete, Shift}
 
 -- values of one kind, each with a number, which are equal exactly where these are
 pub by_number : {A : Type 0} (kind : ℕ → A) (unkind : A → ℕ) → ((n : ℕ) → unkind (kind n) ≡ n) → (same : Bool) (m n : ℕ) → same ≡ (m == n)

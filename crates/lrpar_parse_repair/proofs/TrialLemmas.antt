@@ -22,7 +22,7 @@ use Rattle.lrpar_parse_repair.specs.PlainSteps.{plain_sequences, plain_step, pla
 use Rattle.lrpar_table_stacks.specs.Expected.{AcceptsAtEnd}
 use Rattle.lrpar_parse_repair.specs.Sequences.{PlainStep, IsTokenFed}
 use Rattle.lrpar_parse_repair.specs.TestWork.{most_tested}
-use Rattle.lrpar_parse_repair.specs.declared.steps.RepairStep.{RepairStep}
+use Rattle.lrpar_parse_repair.specs.declared.repair_step.RepairStep.{RepairStep}
 use Rattle.lrpar_parse_repair.proofs.SequenceLemmas.{accepts_by_top}
 
 -- the top of a stack is a state of the table

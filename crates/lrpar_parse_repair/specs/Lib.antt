@@ -1,7 +1,7 @@
 pub mod TrialView
 pub mod Sequences
 pub mod PlainSteps
-pub mod Mended
+pub mod Repaired
 pub mod Recovery
 pub mod StepComparisons
 pub mod TestWork

@@ -1,8 +1,8 @@
 -- Steps of the program as those of the definitions; `index` is the number that a storage number stands for.
 use Rattle.std.specs.Prelude.{ℕ, List, map, Vec}
 use Rattle.lrpar_parse_repair.specs.Sequences.{PlainStep, PlainInsert, PlainDelete, PlainShift}
-use Rattle.lrpar_parse_repair.specs.declared.steps.RepairStep.{RepairStep}
-use Rattle.lrpar_parse_repair.specs.declared.steps.RepairStep.TheVariants.{Insert, Delete, Shift}
+use Rattle.lrpar_parse_repair.specs.declared.repair_step.RepairStep.{RepairStep}
+use Rattle.lrpar_parse_repair.specs.declared.repair_step.RepairStep.TheVariants.{Insert, Delete, Shift}
 
 -- one step
 abbrev pub plain_step : {S : Type 0} → (S → ℕ) → RepairStep S → PlainStep

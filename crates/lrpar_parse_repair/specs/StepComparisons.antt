@@ -1,8 +1,8 @@
 -- What a hasher is fed of a step of a repair.
 use Rattle.std.specs.Prelude.{◌++◌, ℕ, pos, List}
 use Rattle.std.specs.Hash as fed
-use Rattle.lrpar_parse_repair.specs.declared.steps.RepairStep.{RepairStep}
-use Rattle.lrpar_parse_repair.specs.declared.steps.RepairStep.TheVariants.{Insert, Delete, Shift}
+use Rattle.lrpar_parse_repair.specs.declared.repair_step.RepairStep.{RepairStep}
+use Rattle.lrpar_parse_repair.specs.declared.repair_step.RepairStep.TheVariants.{Insert, Delete, Shift}
 
 -- 0 for an insertion, 1 for a deletion and 2 for a shift; and after an insertion's what it is fed of the token's number
 abbrev pub step_input : {S : Type 0} → (S → List (List ℕ)) → RepairStep S → List (List ℕ)

@@ -1,11 +1,11 @@
 //! Laws about the definitions that contracts cite: each function has one as its contract, and does nothing.
 ghost use Rattle.std.specs.Prelude.{◌≡◌, ◌↔◌, IsTrue};
 ghost use Rattle.lrpar_grammar_places.specs.Comparisons.{HashesAs};
-ghost use Rattle.lrpar_parse_repair.specs.declared.steps.RepairStep.{RepairStep};
+ghost use Rattle.lrpar_parse_repair.specs.declared.repair_step.RepairStep.{RepairStep};
 ghost use Rattle.lrpar_parse_repair.specs.PlainSteps.{plain_step};
 ghost use Rattle.lrpar_parse_repair.specs.StepComparisons.{step_input};
 
-use crate::steps::RepairStep;
+use crate::repair_step::RepairStep;
 use lrpar_grammar::span::StorageIndex;
 use std::hash::Hash;
 

@@ -5,5 +5,5 @@ pub mod counter;
 pub mod laws;
 pub mod listed_repairs;
 pub mod repair;
-pub mod steps;
+pub mod repair_step;
 pub mod trial;

@@ -1,11 +1,11 @@
 //! The repairs by which an error lists sequences.
 ghost use Rattle.std.specs.Prelude.{◌≡◌, ◌∷◌, [], List, map, IfOk, IfSome, None};
 ghost use Rattle.lrpar_parse_lexemes.specs.Repairs.{repair_of, repairs_of};
-ghost use Rattle.lrpar_parse_repair.specs.Mended.{repairs_over};
+ghost use Rattle.lrpar_parse_repair.specs.Repaired.{repairs_over};
 ghost use Rattle.lrpar_parse_repair.specs.PlainSteps.{plain_sequences, plain_step, plain_steps};
 ghost use Rattle.lrpar_parse_repair.specs.Sequences.{PlainStep};
 
-use crate::steps::RepairStep;
+use crate::repair_step::RepairStep;
 use lrpar_grammar::span::StorageIndex;
 use lrpar_parse_lexemes::ParseRepair;
 use lrpar_parse_lexemes::lex_api::Lexeme;

@@ -6,7 +6,7 @@ ghost use Rattle.lrpar_parse_repair.specs.PlainSteps.{plain_sequences};
 ghost use Rattle.lrpar_parse_repair.specs.Sequences.{PlainStep};
 ghost use Rattle.lrpar_parse_repair.specs.Asked.{Asked, IsStop};
 
-pub use crate::steps::RepairStep;
+pub use crate::repair_step::RepairStep;
 use lrpar_grammar::span::{StIdx, StorageIndex};
 use lrpar_parse_lexemes::lex_api::Lexeme;
 use lrpar_table_check::check::ParserData;

@@ -9,7 +9,7 @@ ghost use Rattle.lrpar_parse_repair.specs.PlainSteps.{plain_sequences, plain_ste
 ghost use Rattle.lrpar_parse_repair.specs.Sequences.{PlainInsert, PlainShift, AreThoseWith};
 
 use crate::counter::Counter;
-use crate::steps::RepairStep;
+use crate::repair_step::RepairStep;
 use lrpar_grammar::span::{StIdx, StorageIndex, TIdx};
 use lrpar_parse_lexemes::lex_api::Lexeme;
 use lrpar_table_check::check::ParserData;

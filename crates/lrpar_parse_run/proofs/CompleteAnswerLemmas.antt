@@ -52,7 +52,7 @@ module _ {X : Type 0} (facts : X → LexemeFacts) (allows : Point X → List (Li
   begins _ _ _ _ _ (runs_through st i ps far) = inl (far, refl, refl)
   begins _ _ _ _ _ (ends_there st i ps stop far is) =
       inr (record { first = record { stop = stop; listed = [] }; later = []; are = refl; prods = ps; far = far })
-  begins _ _ _ _ _ (is_repaired st i ps stop listing listed made after j mended more consumed rest far is replays consumes run) =
+  begins _ _ _ _ _ (is_repaired st i ps stop listing listed made after j recovered more consumed rest far is replays consumes run) =
       inr (record { first = record { stop = stop; listed = listing ∷ listed }; later = more; are = refl; prods = ps; far = far })
 
   module _ {F : Type 0} (takes : TakesSentences token d.grammar d.table) (runs : List RepairStop) (consumed : Option (List X)) (prods : List ℕ) (errors : List F)

@@ -8,7 +8,7 @@ pub mod PlacedLemmas
 pub mod StartLemmas
 pub mod AskedLemmas
 pub mod CompleteAnswerLemmas
-pub mod CourseLemmas
+pub mod WholeRunLemmas
 pub mod ReducingLemmas
 pub mod StackedLemmas
 pub mod ReversedLemmas

@@ -12,7 +12,7 @@ use Rattle.lrpar_table_stacks.specs.Path.{NeverSticks}
 use Rattle.lrpar_table_stacks.specs.Reduction.{Feeds, top_action}
 use Rattle.lrpar_table_stacks.proofs.Reductions.{settles_one_way}
 use Rattle.lrpar_parse_run.specs.Building.{Building}
-use Rattle.lrpar_parse_repair.specs.Mended.{Consumes}
+use Rattle.lrpar_parse_repair.specs.Repaired.{Consumes}
 use Rattle.lrpar_parse_lexemes.specs.Lexemes.{inserted_at, start_at}
 use Rattle.lrpar_parse_run.specs.Moves.{IsReplayed, Moves, RiseUpTo, StartsRise, and_settles, and_shifts, rests}
 use Rattle.lrpar_parse_run.specs.Rising.{KeepsRising}
@@ -182,17 +182,17 @@ module _ {X E : Type 0} (facts : X → LexemeFacts) (builds : Building X E) (d :
 
     -- no step is replayed
     pub replayed_none : (stack : Stacked E) (i : ℕ) → IsDone stack i [] stack i
-    replayed_none stack i = record { prods = []; mended = []; replays = (refl, refl, refl); consumes = refl; moves = rests }
+    replayed_none stack i = record { prods = []; recovered = []; replays = (refl, refl, refl); consumes = refl; moves = rests }
 
     -- steps are replayed, and then more
     pub replayed_then : (a b c : Stacked E) (i j k : ℕ) (steps more : List PlainStep) → IsDone a i steps b j → IsDone b j more c k → IsDone a i (steps ++ more) c k
     replayed_then a b c i j k steps more x y = record {
       prods = x.prods ++ y.prods;
-      mended = x.mended ++ y.mended;
+      recovered = x.recovered ++ y.recovered;
       replays = replays_then a.states i steps x.prods b.states j more y.prods c.states k x.replays y.replays;
-      consumes = consumes_then a.states i steps x.prods b.states j x.mended more y.mended x.replays x.consumes y.consumes;
-      moves = subst (λ (n : ℕ). Moved a (x.mended ++ y.mended) (x.prods ++ y.prods) n c) (sym (length-append x.mended y.mended))
-          (moves_then a b c x.mended x.prods (length x.mended) y.mended y.prods (length y.mended) x.moves y.moves);
+      consumes = consumes_then a.states i steps x.prods b.states j x.recovered more y.recovered x.replays x.consumes y.consumes;
+      moves = subst (λ (n : ℕ). Moved a (x.recovered ++ y.recovered) (x.prods ++ y.prods) n c) (sym (length-append x.recovered y.recovered))
+          (moves_then a b c x.recovered x.prods (length x.recovered) y.recovered y.prods (length y.recovered) x.moves y.moves);
     }
 
     -- where the first step was replayed, the others can be replayed from what that gave
@@ -210,7 +210,7 @@ module _ {X E : Type 0} (facts : X → LexemeFacts) (builds : Building X E) (d :
     pub replayed_delete : (stack : Stacked E) (i : ℕ) → i < length lexemes → IsDone stack i (PlainDelete ∷ []) stack (i + 1)
     replayed_delete stack i within = record {
       prods = [];
-      mended = [];
+      recovered = [];
       replays = ([], stack.states, i + 1, [], (within, refl, refl, refl), (refl, refl, refl), refl);
       consumes = refl;
       moves = rests;
@@ -225,7 +225,7 @@ module _ {X E : Type 0} (facts : X → LexemeFacts) (builds : Building X E) (d :
         subst (λ (t : ℕ). Feeds d.grammar d.table t old.states ps new.states) (sym (token_at_lexeme token d.grammar lexemes i x is)) (feeds_by_shift (token x) x old new s) in
         record {
           prods = ps;
-          mended = x ∷ [];
+          recovered = x ∷ [];
           replays = (ps, new.states, i + 1, [], (within, feeds, refl), (refl, refl, refl), sym (append-nil ps));
           consumes = (is, refl);
           moves = and_shifts [] [] 0 old x new rests s;
@@ -240,7 +240,7 @@ module _ {X E : Type 0} (facts : X → LexemeFacts) (builds : Building X E) (d :
         let feeds : Feeds d.grammar d.table t old.states ps new.states = subst (λ (u : ℕ). Feeds d.grammar d.table u old.states ps new.states) same (feeds_by_shift (token x) x old new s) in
         record {
           prods = ps;
-          mended = x ∷ [];
+          recovered = x ∷ [];
           replays = (ps, new.states, i, [], (listed, feeds, refl), (refl, refl, refl), sym (append-nil ps));
           consumes = (made, refl);
           moves = and_shifts [] [] 0 old x new rests s;

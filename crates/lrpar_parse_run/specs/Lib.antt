@@ -11,8 +11,8 @@ pub mod Subject
 pub mod CompleteAnswer
 pub mod RepairAnswer
 pub mod TreeAnswer
-pub mod Mending
-pub mod CourseView
+pub mod Recovering
+pub mod WholeRunView
 pub mod Building
 pub mod Rising
 pub mod Standing

@@ -6,7 +6,7 @@ use Rattle.lrpar_table_check.specs.Checked.{Checked}
 use Rattle.lrpar_table_stacks.specs.Reduction.{top_action}
 use Rattle.lrpar_table_rows.specs.Table.{Accepts}
 use Rattle.lrpar_parse_run.specs.Building.{Building}
-use Rattle.lrpar_parse_repair.specs.Mended.{Consumes}
+use Rattle.lrpar_parse_repair.specs.Repaired.{Consumes}
 use Rattle.lrpar_parse_lexemes.specs.Lexemes.{start_at}
 use Rattle.lrpar_parse_run.specs.RepairRun.{fed_between}
 use Rattle.lrpar_table_stacks.specs.Run.{Accepted, Far, FarEnd, Stopped}
@@ -58,10 +58,10 @@ module _ {X E : Type 0} (facts : X → LexemeFacts) (builds : Building X E) (d :
     -- from the old stacks at place i the steps are replayed, which gives the new stacks at place j
     pub record IsReplayed (old : Stacked E) (i : ℕ) (steps : List PlainStep) (new : Stacked E) (j : ℕ) : Type 0 where
       pub prods : List ℕ
-      pub mended : List X
+      pub recovered : List X
       pub replays : Replays (λ x. (facts x).token) d.grammar d.table lexemes old.states i steps prods new.states j
-      pub consumes : Consumes facts lexemes i steps mended
-      pub moves : Moves old mended prods (length mended) new
+      pub consumes : Consumes facts lexemes i steps recovered
+      pub moves : Moves old recovered prods (length recovered) new
 
     -- from the old stacks at place i the run goes as far as it can: it accepts, or it stops at a place
     pub record GoesFar (old : Stacked E) (i : ℕ) (stop : Option ℕ) (new : Stacked E) : Type 0 where

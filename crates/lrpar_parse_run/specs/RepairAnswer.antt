@@ -16,7 +16,7 @@ use Rattle.lrpar_parse_errors.specs.declared.errors.LexParseError.TheVariants.{L
 
 -- The course of a run by a checked table, from the start state at the first lexeme: where it stops, and what is listed there;
 -- the lexemes that it consumes, if it comes to accept; and its reductions.
-pub record RepairCourse {X : Type 0} (about : Subject X) (lexemes : List X) : Type 0 where
+pub record RepairWholeRun {X : Type 0} (about : Subject X) (lexemes : List X) : Type 0 where
   pub stops : List RepairStop
   pub consumed : Option (List X)
   pub prods : List ℕ
@@ -34,7 +34,7 @@ HandsInNone {X} allows = (point : Point X) (answer : List (List PlainStep)) → 
 -- What is answered is that of a run. `errors_of` gives the errors of an answer, and `IsValued` says how its value has to be
 -- for what the run consumed and for its reductions.
 pub record IsRepairAnswer {T S L B C : Type 0} (about : Subject B) (errors_of : T → List (LexParseError S L B C)) (IsValued : Option (List B) → List ℕ → T → Type 0) (lexemes : List B) (answer : T) : Type 0 where
-  pub course : RepairCourse about lexemes
+  pub course : RepairWholeRun about lexemes
   -- errors: one for each stop, in order; where no sequence is handed in there is at most one, and it ends the run
   pub errors : AllZip (IsRepairErrorOf about lexemes) course.stops (errors_of answer)
   pub one_way : HandsInNone about.allows → IsOneWay course.consumed (errors_of answer)

@@ -6,7 +6,7 @@ use Rattle.lrpar_grammar.specs.Sentence.{LexemeFacts}
 use Rattle.lrpar_table_rows.specs.Table.{Table}
 use Rattle.lrpar_table_stacks.specs.Stack.{top_of}
 use Rattle.lrpar_parse_errors.specs.Failure.{Failure}
-use Rattle.lrpar_parse_repair.specs.Mended.{Consumes, repairs_over}
+use Rattle.lrpar_parse_repair.specs.Repaired.{Consumes, repairs_over}
 use Rattle.lrpar_parse_repair.specs.Recovery.{Point}
 use Rattle.lrpar_table_stacks.specs.Run.{Far, Accepted, Stopped, Stop}
 use Rattle.lrpar_parse_run.specs.RunAnswer.{IsLexemeAt}
@@ -42,13 +42,13 @@ module _ {X : Type 0} (facts : X → LexemeFacts) (allows : Point X → List (Li
     -- it stops, the first listed sequence is replayed, and the run goes on from what that gives: it consumes the lexemes up
     -- to the stop, what the sequence consumes, and what is consumed from there on
     is_repaired : (st : List ℕ) (i : ℕ) (prods : List ℕ) (stop : Stop) (first : List PlainStep) (listed : List (List PlainStep))
-        (made after : List ℕ) (j : ℕ) (mended : List X) (stops : List RepairStop) (consumed : Option (List X)) (rest : List ℕ)
+        (made after : List ℕ) (j : ℕ) (recovered : List X) (stops : List RepairStop) (consumed : Option (List X)) (rest : List ℕ)
         → Far (λ x. (facts x).token) g table lexemes st i prods (Stopped stop) → IsListedAt stop (first ∷ listed)
         → Replays (λ x. (facts x).token) g table lexemes stop.stack stop.place first made after j
-        → Consumes facts lexemes stop.place first mended
+        → Consumes facts lexemes stop.place first recovered
         → RepairRun after j stops consumed rest
         → RepairRun st i (record { stop = stop; listed = first ∷ listed } ∷ stops)
-        (option_map (λ xs. fed_between lexemes i stop.place ++ mended ++ xs) consumed) (prods ++ made ++ rest)
+        (option_map (λ xs. fed_between lexemes i stop.place ++ recovered ++ xs) consumed) (prods ++ made ++ rest)
 
 -- the error of a stop: the top state of its settled stack, the lexeme at its place, and the listed sequences, each Delete and
 -- Shift with its own lexeme

@@ -3,7 +3,6 @@
 #![tactic(auto)]
 
 pub mod building;
-pub mod course;
 mod far;
 pub mod nothing;
 pub mod placed;
@@ -14,3 +13,4 @@ pub mod run_stack;
 pub mod top;
 pub mod trees;
 pub mod values;
+pub mod whole_run;

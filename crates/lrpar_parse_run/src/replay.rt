@@ -17,7 +17,7 @@ use crate::run_stack::Stack;
 use lrpar_grammar::span::StorageIndex;
 use lrpar_parse_lexemes::lex_api::Lexeme;
 use lrpar_parse_lexemes::places::start_of;
-use lrpar_parse_repair::steps::RepairStep;
+use lrpar_parse_repair::repair_step::RepairStep;
 use std::alloc::{AllocError, Global};
 
 impl<'a, StorageT: StorageIndex, LexemeT: Lexeme<StorageT>, B: Build<StorageT, LexemeT>> Run<

@@ -43,23 +43,23 @@ module _ {X S : Type 0} (form : Form) (facts : X → LexemeFacts) (index : S →
   trees first nodes = joined form first (map text nodes)
 
   -- what stands behind the front of a node
-  abbrev pub behind : Bool → List (Node X S) → List ℕ
-  behind false nodes = []
-  behind true nodes = trees true nodes ++ end_of form
+  abbrev pub further : Bool → List (Node X S) → List ℕ
+  further false nodes = []
+  further true nodes = trees true nodes ++ end_of form
 
   layer_text : (layer : Node-F X S (Node X S))
       → nested_step form facts index g input (map-Node X S (Node X S) (List ℕ) text layer)
-      ≡ layer_front form facts index g input layer ++ behind (layer_is_rule layer) (layer_nodes layer)
+      ≡ layer_front form facts index g input layer ++ further (layer_is_rule layer) (layer_nodes layer)
   layer_text (Node-F.Term x) = sym (append-nil _)
   layer_text (Node-F.Nonterm ridx nodes) = append_assoc (rule_front form (rule_name g (index ridx.0))) (trees true nodes.items) (end_of form)
 
   -- the text of a tree: its front, and what stands behind that
-  pub text_out : (node : Node X S) → text node ≡ front node ++ behind (is_rule node) (nodes_below node)
+  pub text_out : (node : Node X S) → text node ≡ front node ++ further (is_rule node) (nodes_below node)
   text_out node = fold_out-Node X S (List ℕ) (nested_step form facts index g input) node ∙ layer_text (out-Node X S node)
 
   -- that of a lexeme is its front
   pub leaf_text : (node : Node X S) → is_rule node ≡ false → text node ≡ front node
-  leaf_text node leaf = text_out node ∙ ap (λ b. front node ++ behind b (nodes_below node)) leaf ∙ append-nil (front node)
+  leaf_text node leaf = text_out node ∙ ap (λ b. front node ++ further b (nodes_below node)) leaf ∙ append-nil (front node)
 
   -- what is left of the levels above, the highest last
   abbrev pub later : List (Bor (List (Node X S))) → List ℕ
@@ -96,7 +96,7 @@ module _ {X S : Type 0} (form : Form) (facts : X → LexemeFacts) (index : S →
       let inside = trees true (nodes_below node) in
       let after = left_text false below rest.now in
       let whole : text node ≡ front node ++ (inside ++ end_of form) =
-      text_out node ∙ ap (λ b. front node ++ behind b (nodes_below node)) rule in
+      text_out node ∙ ap (λ b. front node ++ further b (nodes_below node)) rule in
       let pushed : end_of form ++ later (below ++ rest ∷ []) ≡ end_of form ++ after =
       ap (λ l. end_of form ++ l) (later_push below rest ∙ append_assoc (trees false rest.now) (end_of form) (later below)) in
       let opened : front node ++ left_text true (below ++ rest ∷ []) (nodes_below node) ≡ text node ++ after =
@@ -130,7 +130,7 @@ module _ {X S : Type 0} (form : Form) (facts : X → LexemeFacts) (index : S →
 
   -- a tree of a rule: its front, and its trees with their end
   pub tree_begins : (tree : Node X S) → is_rule tree ≡ true → front tree ++ trees_text form facts index g input (nodes_below tree) ≡ text tree
-  tree_begins tree rule = sym (text_out tree ∙ ap (λ b. front tree ++ behind b (nodes_below tree)) rule)
+  tree_begins tree rule = sym (text_out tree ∙ ap (λ b. front tree ++ further b (nodes_below tree)) rule)
 
 -- how much is left: two for each node, and one for each list that was put aside
 abbrev pub left_measure : {X S : Type 0} → List (Bor (List (Node X S))) → List (Node X S) → ℕ

@@ -16,8 +16,8 @@ pub fn push_choices<StorageT: StorageIndex>(
     let told = tokens.get(..MOST_CHOICES).unwrap_or(tokens);
     let more = tokens.len().saturating_sub(told.len());
     for (place, token) in told.iter().enumerate() {
-        let behind = told.len().saturating_sub(place).saturating_add(more);
-        out.push_str(joint(place, behind))?;
+        let after = told.len().saturating_sub(place).saturating_add(more);
+        out.push_str(joint(place, after))?;
         push_token(out, grm, *token)?;
     }
     match more {

@@ -189,8 +189,8 @@ fn push_unexpected(message: &mut String, word: &str) -> Result<(), AllocError> {
 // How many bytes the name in quotes has that the text begins with, with its quotes.
 fn quoted_len(text: &str) -> Option<usize> {
     let quote = text.chars().next()?;
-    let (_, behind) = text.split_once(quote)?;
-    let (name, _) = behind.split_once(quote)?;
+    let (_, after) = text.split_once(quote)?;
+    let (name, _) = after.split_once(quote)?;
     if name.is_empty() || name.contains('\n') {
         None
     } else {
@@ -220,9 +220,9 @@ fn sign_len(text: &str) -> usize {
     if text.starts_with("%%") {
         return 2;
     }
-    let behind = text.get(1..).unwrap_or("");
-    behind
+    let after = text.get(1..).unwrap_or("");
+    after
         .find(|c| !is_in_name(c))
-        .unwrap_or(behind.len())
+        .unwrap_or(after.len())
         .saturating_add(1)
 }

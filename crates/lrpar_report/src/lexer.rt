@@ -43,9 +43,9 @@ fn line_of(text: &str, number: usize) -> Span {
 
 // Where the core of a line stands that starts at a byte.
 fn core_of(line: &str, start: usize) -> Span {
-    let behind = line.trim_start_matches([' ', '\t', '\r']);
-    let from = start.saturating_add(line.len().saturating_sub(behind.len()));
-    let core = behind.trim_end_matches([' ', '\t', '\r']);
+    let after = line.trim_start_matches([' ', '\t', '\r']);
+    let from = start.saturating_add(line.len().saturating_sub(after.len()));
+    let core = after.trim_end_matches([' ', '\t', '\r']);
     Span::new(from, from.saturating_add(core.len()))
 }
 

@@ -8,8 +8,8 @@ use Rattle.lrpar_table_rows.specs.Graph.{Graph, HasItem, ItemOf, graph_len, item
 use Rattle.lrpar_table_rows.specs.Safe.{IsItem}
 use Rattle.lrpar_table_rows.specs.Table.{Accepts, Fails, ReduceBy, ShiftTo, Table, TableAction, action_of, states_len}
 use Rattle.lrpar_table_build.specs.Built.{IsBuilt}
-use Rattle.lrpar_table_build.specs.BuilderLaws.{IsWantedTable, WantOneAction, Wants}
-use Rattle.lrpar_table_items.specs.Canonical.{AreSame, IsCanonical, LeadsTo, StandsBefore, WantsReduce, sets_of}
+use Rattle.lrpar_table_build.specs.BuilderLaws.{IsCanonicalTable, HaveOneAction, HasAction}
+use Rattle.lrpar_table_items.specs.Canonical.{AreSame, IsCanonical, LeadsTo, StandsBefore, HasReduce, sets_of}
 use Rattle.lrpar_table_items.specs.ItemSets.{Added, Adds, IsReachedBy, Own}
 use Rattle.lrpar_table_build.proofs.ReachedLemmas.{reached_items, symbol_listed}
 use Rattle.lrpar_table_check.specs.Checked.{Checked, IsChecked}
@@ -26,7 +26,7 @@ added_to g [] x y has adds = Added x y has adds
 added_to g (s ∷ path) x y has adds = Added x y has adds
 
 module _ (g : Grammar) (graph : Graph) (table : Table) (well : IsWellFormed g) (canonical : IsCanonical g graph)
-    (wanted : IsWantedTable g graph table) where
+    (wanted : IsCanonicalTable g graph table) where
   -- an item of a state is one of the grammar
   item_known : (s p k t : ℕ) → HasItem graph s p k t → IsItem g p k t
   item_known s p k t has =
@@ -63,26 +63,26 @@ module _ (g : Grammar) (graph : Graph) (table : Table) (well : IsWellFormed g) (
       let to = (wanted.goes s r within listed.1).goes (item_at p k t, has, at) in
       (to.0, to.1, moved_on s to.0 p k t (Nonterminal r) has at to.2)
 
-  module _ (one : WantOneAction g (graph_len graph) (sets_of graph)) where
+  module _ (one : HaveOneAction g (graph_len graph) (sets_of graph)) where
     -- a state that wants something but a shift has no item before the token
-    no_shift_beside : (s t : ℕ) (action : TableAction) → s < graph_len graph → t < tokens_len g → Wants g (graph_len graph) (sets_of graph) s t action
+    no_shift_beside : (s t : ℕ) (action : TableAction) → s < graph_len graph → t < tokens_len g → HasAction g (graph_len graph) (sets_of graph) s t action
         → ((next : ℕ) → action ≢ ShiftTo next) → ¬ (StandsBefore g (sets_of graph) s (Terminal t))
-    no_shift_beside s t action within known wants other before =
+    no_shift_beside s t action within known candidate other before =
         let here : s < states_len table = let is = wanted.states in omega (arith, within, is) in
         let to = (wanted.acts s t here known).shifts before in
-        let shift : Wants g (graph_len graph) (sets_of graph) s t (ShiftTo to.0) =
+        let shift : HasAction g (graph_len graph) (sets_of graph) s t (ShiftTo to.0) =
         (before, next_within s to.0 (Terminal t) before to.2, to.2) in
-        other to.0 (one s t action (ShiftTo to.0) within wants shift)
+        other to.0 (one s t action (ShiftTo to.0) within candidate shift)
 
     -- a reduction that is wanted is done
-    reduces : (s t p : ℕ) → s < states_len table → WantsReduce g (sets_of graph) s t p → action_of table s t ≡ ReduceBy p
-    reduces s t p here wants =
-        let within = state_in_range graph s p (prod_len g p) t wants.1 in
-        let known = (item_known s p (prod_len g p) t wants.1).token in
-        (wanted.acts s t here known).reduces (no_shift_beside s t (ReduceBy p) within known wants (λ next is. absurd (cc))) p (
-          wants,
+    reduces : (s t p : ℕ) → s < states_len table → HasReduce g (sets_of graph) s t p → action_of table s t ≡ ReduceBy p
+    reduces s t p here candidate =
+        let within = state_in_range graph s p (prod_len g p) t candidate.1 in
+        let known = (item_known s p (prod_len g p) t candidate.1).token in
+        (wanted.acts s t here known).reduces (no_shift_beside s t (ReduceBy p) within known candidate (λ next is. absurd (cc))) p (
+          candidate,
           λ q also.
-              let same : ReduceBy p ≡ ReduceBy q = one s t (ReduceBy p) (ReduceBy q) within wants also in
+              let same : ReduceBy p ≡ ReduceBy q = one s t (ReduceBy p) (ReduceBy q) within candidate also in
               let equal : p ≡ q = cc in omega (arith, equal),
         )
 
@@ -98,19 +98,19 @@ module _ (g : Grammar) (graph : Graph) (table : Table) (well : IsWellFormed g) (
     complete_at C1 s here = λ first.
         let item = item_at (start_prod g) 0 (end_token g) in
         subst (λ (n : ℕ). HasItem graph n (start_prod g) 0 (end_token g)) (sym (first ∙ wanted.start)) ((canonical.start item).1 (Own item refl))
-    complete_at C2 s here = λ p k t has r w behind q b known by begins.
+    complete_at C2 s here = λ p k t has r w after q b known by begins.
         let x = item_at p k t in
         let y = item_at q 0 b in
         let reached = canonical.reached s (state_in_range graph s p k t has) in
         (reached.1 y).1 (added_to g reached.0 x y ((reached.1 x).0 has)
-        (record { rule = r; rest = w; before = behind; known = known; of_rule = by; fresh = refl; first = begins }))
+        (record { rule = r; rest = w; before = after; known = known; of_rule = by; fresh = refl; first = begins }))
     complete_at C3 s here = λ p k t has a at. shifts_on s p k t a here has at
     complete_at C4 s here = λ p k t has r at. carries_on s p k t r here has at
     complete_at C5 s here = λ p k t has. record {
-      reduces = λ behind listed. reduces s t p here (listed, subst (λ (n : ℕ). HasItem graph s p n t) behind has);
-      accepts = λ behind last.
+      reduces = λ after listed. reduces s t p here (listed, subst (λ (n : ℕ). HasItem graph s p n t) after has);
+      accepts = λ after last.
           let one_symbol : prod_len g (start_prod g) ≡ 1 = ap (λ (w : List GrammarSymbol). length w) well.last_symbols in
-          let dot : k ≡ 1 = behind ∙ ap (prod_len g) last ∙ one_symbol in
+          let dot : k ≡ 1 = after ∙ ap (prod_len g) last ∙ one_symbol in
           accepts s t here (subst (λ (n : ℕ). HasItem graph s (start_prod g) n t) dot (subst (λ (n : ℕ). HasItem graph s n k t) last has));
     }
 
@@ -119,28 +119,28 @@ module _ (g : Grammar) (graph : Graph) (table : Table) (well : IsWellFormed g) (
 
   module _ (complete : IsComplete g graph table) where
     -- what a state wants is done
-    done : (s t : ℕ) (action : TableAction) → s < graph_len graph → Wants g (graph_len graph) (sets_of graph) s t action → action_of table s t ≡ action
-    done s t (ShiftTo next) within wants =
+    done : (s t : ℕ) (action : TableAction) → s < graph_len graph → HasAction g (graph_len graph) (sets_of graph) s t action → action_of table s t ≡ action
+    done s t (ShiftTo next) within candidate =
         let here : s < states_len table = let is = wanted.states in omega (arith, within, is) in
-        let x = wants.0.0 in
-        let listed : t < end_token g = symbol_listed g well x.prod x.dot (Terminal t) wants.0.2 in
-        let to = (wanted.acts s t here (omega (arith, listed))).shifts wants.0 in
+        let x = candidate.0.0 in
+        let listed : t < end_token g = symbol_listed g well x.prod x.dot (Terminal t) candidate.0.2 in
+        let to = (wanted.acts s t here (omega (arith, listed))).shifts candidate.0 in
         let same : AreSame (sets_of graph to.0) (sets_of graph next) = λ y. (
-          λ h. (wants.2 y).1 ((to.2 y).0 h),
-          λ h. (to.2 y).1 ((wants.2 y).0 h),
+          λ h. (candidate.2 y).1 ((to.2 y).0 h),
+          λ h. (to.2 y).1 ((candidate.2 y).0 h),
         ) in
-        to.1 ∙ ap (λ (n : ℕ). ShiftTo n) (canonical.once to.0 next (next_within s to.0 (Terminal t) wants.0 to.2) wants.1 same)
-    done s t (ReduceBy p) within wants =
+        to.1 ∙ ap (λ (n : ℕ). ShiftTo n) (canonical.once to.0 next (next_within s to.0 (Terminal t) candidate.0 to.2) candidate.1 same)
+    done s t (ReduceBy p) within candidate =
         let here : s < states_len table = let is = wanted.states in omega (arith, within, is) in
-        (complete.each C5 s here p (prod_len g p) t wants.1).reduces refl wants.0
-    done s t Accepts within wants =
+        (complete.each C5 s here p (prod_len g p) t candidate.1).reduces refl candidate.0
+    done s t Accepts within candidate =
         let here : s < states_len table = let is = wanted.states in omega (arith, within, is) in
         let one_symbol : prod_len g (start_prod g) ≡ 1 = ap (λ (w : List GrammarSymbol). length w) well.last_symbols in
-        (complete.each C5 s here (start_prod g) 1 t wants).accepts (sym one_symbol) refl
-    done s t Fails within wants = absurd wants
+        (complete.each C5 s here (start_prod g) 1 t candidate).accepts (sym one_symbol) refl
+    done s t Fails within candidate = absurd candidate
 
-    one_action : WantOneAction g (graph_len graph) (sets_of graph)
-    one_action s t a b within wants also = sym (done s t a within wants) ∙ done s t b within also
+    one_action : HaveOneAction g (graph_len graph) (sets_of graph)
+    one_action s t a b within candidate also = sym (done s t a within candidate) ∙ done s t b within also
 
 pub built_tables_are_complete_without_conflicts : BuiltTablesAreCompleteWithoutConflicts
 built_tables_are_complete_without_conflicts g graph table well built = (

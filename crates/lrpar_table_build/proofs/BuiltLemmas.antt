@@ -7,19 +7,19 @@ use Rattle.lrpar_grammar.specs.Grammar.{Grammar, GrammarSymbol, IsWellFormed, No
 use Rattle.lrpar_table_rows.specs.Graph.{Graph, HasItem, ItemOf, graph_len, item_at}
 use Rattle.lrpar_table_rows.specs.Table.{IsTable}
 use Rattle.lrpar_table_rows.proofs.EntryLemmas.{no_action_after, no_action_past, no_goto_past}
-use Rattle.lrpar_table_build.specs.BuilderLaws.{AcceptAlone, IsWantedTable}
+use Rattle.lrpar_table_build.specs.BuilderLaws.{AcceptAlone, IsCanonicalTable}
 use Rattle.lrpar_table_build.specs.Built.{IsBuildRefusal, IsBuilt}
-use Rattle.lrpar_table_items.specs.Canonical.{AreCanonical, AreSame, IsAcceptConflict, IsCanonical, IsTransition, WantsAccept, sets_of}
+use Rattle.lrpar_table_items.specs.Canonical.{AreCanonical, AreSame, IsAcceptConflict, IsCanonical, IsTransition, HasAccept, sets_of}
 use Rattle.lrpar_table_items.specs.StateRows.{IsRefusalOf, IsRefusedState, item_rows, table_of_states}
 use Rattle.lrpar_table_items.specs.States.{AreStates, StateOf, sets_at, state_at}
-use Rattle.lrpar_table_items.specs.Wanted.{IsAcceptReduce, is_complete_at, reductions}
+use Rattle.lrpar_table_items.specs.Resolution.{IsAcceptReduce, is_complete_at, reductions}
 use Rattle.lrpar_table_items.specs.declared.fault.BuildFault.{BuildFault}
 use Rattle.lrpar_table_items.specs.declared.fault.BuildFault.TheVariants.{AcceptReduceConflict, Memory, StorageTooSmall, TooManyStates}
 use Rattle.lrpar_table_build.proofs.ConflictLemmas.{canonical_conflicts_fit, no_conflicts_are_one_action}
 use Rattle.lrpar_table_build.proofs.ListedLemmas.{conflicts_are, in_order}
 use Rattle.lrpar_table_build.proofs.MemberLemmas.{member_first, member_none}
 use Rattle.lrpar_table_build.proofs.ReachedLemmas.{no_end_token, reached_at_end}
-use Rattle.lrpar_table_build.proofs.ReductionLemmas.{accept_is, acts_as_wanted, goes_as_wanted, wants_is}
+use Rattle.lrpar_table_build.proofs.ReductionLemmas.{accept_is, acts_as_resolved, goes_as_items, candidate_is}
 use Rattle.lrpar_table_build.proofs.SafeLemmas.{canonical_tables_are_safe}
 use Rattle.lrpar_table_build.proofs.SetLemmas.{canonical_same, graph_same, rows_same, same_on, step_same}
 use Rattle.lrpar_table_build.proofs.TableRowLemmas.{action_is, goto_is}
@@ -36,11 +36,11 @@ one_of (k ∷ ks) some = (k, member_first k ks)
 module _ (g : Grammar) (well : IsWellFormed g) (states : List StateOf) (are : AreStates g states) (sets : ℕ → ItemOf → Type 0)
     (same : (s : ℕ) → AreSame (sets s) (sets_at states s)) where
   -- a state that wants to accept does so at the end token
-  accepts_only_at_end : (s t : ℕ) → s < length states → WantsAccept g sets s t → t ≡ end_token g
-  accepts_only_at_end s t below wants =
+  accepts_only_at_end : (s t : ℕ) → s < length states → HasAccept g sets s t → t ≡ end_token g
+  accepts_only_at_end s t below candidate =
       let item = item_at (start_prod g) 1 t in
       let reached = are.canonical.reached s below in
-      reached_at_end g well reached.0 item ((reached.1 item).0 ((same s item).0 wants)) refl
+      reached_at_end g well reached.0 item ((reached.1 item).0 ((same s item).0 candidate)) refl
 
   -- a state that is refused wants to accept and a reduction
   pub refused_conflict : (s : ℕ) → s < length states → IsRefusedState g states s → IsAcceptConflict g sets s
@@ -49,11 +49,11 @@ module _ (g : Grammar) (well : IsWellFormed g) (states : List StateOf) (are : Ar
       let beside = refused.2 in
       let cores = (state_at states s).cores in
       let known = are.cores s below in
-      let wants = (accept_is g sets s cores known (same s) t (start_len g well)).1 beside.accept in
-      let end = accepts_only_at_end s t below wants in
+      let candidate = (accept_is g sets s cores known (same s) t (start_len g well)).1 beside.accept in
+      let end = accepts_only_at_end s t below candidate in
       let one = one_of (reductions g cores t) beside.some in
       let there = subst (λ n. Contains (reductions g cores n) one.0) end one.1 in
-      (subst (WantsAccept g sets s) end wants, (one.0, (wants_is g sets s cores known (same s) (end_token g) one.0).1 there))
+      (subst (HasAccept g sets s) end candidate, (one.0, (candidate_is g sets s cores known (same s) (end_token g) one.0).1 there))
 
   -- no step is by the end token
   no_step_at_end : (s : ℕ) (step : Option ℕ) → IsTransition g (length states) (sets_at states) s (Terminal (end_token g)) step → step ≡ None
@@ -71,7 +71,7 @@ module _ (g : Grammar) (well : IsWellFormed g) (states : List StateOf) (are : Ar
       none s t below (omega arith) (record {
         no_shift = no_step_at_end s (lookup (nat_eq t) (state_at states s).shifts) (are.shifts s t below);
         some = λ empty.
-            let there = (wants_is g sets s cores known (same s) t conflict.1.0).0 conflict.1.1 in
+            let there = (candidate_is g sets s cores known (same s) t conflict.1.0).0 conflict.1.1 in
             member_none conflict.1.0 (subst (λ (ks : List ℕ). Contains ks conflict.1.0) empty there);
         accept = (accept_is g sets s cores known (same s) t (start_len g well)).0 conflict.0;
       })
@@ -112,8 +112,8 @@ module _ (g : Grammar) (well : IsWellFormed g) (states : List StateOf) (are : Ar
       (canonical_same g (sets_of graph) (sets_at states) graph_sets (length states) are.canonical)
 
   -- the table does in each state what the set wants
-  graph_wanted : (limit : ℕ) → IsTable limit (table_of_states g states) → IsWantedTable g graph (table_of_states g states)
-  graph_wanted limit is =
+  graph_table : (limit : ℕ) → IsTable limit (table_of_states g states) → IsCanonicalTable g graph (table_of_states g states)
+  graph_table limit is =
       let table = table_of_states g states in
       record {
         states = len;
@@ -123,13 +123,13 @@ module _ (g : Grammar) (well : IsWellFormed g) (states : List StateOf) (are : Ar
         acts = λ s t below within.
             let cores = (state_at states s).cores in
             let shifts = (state_at states s).shifts in
-            acts_as_wanted g (sets_of graph) s cores (are.cores s below) (graph_sets s) (length states) t table (lookup (nat_eq t) shifts) (reductions g cores t)
+            acts_as_resolved g (sets_of graph) s cores (are.cores s below) (graph_sets s) (length states) t table (lookup (nat_eq t) shifts) (reductions g cores t)
             (is_complete_at g cores t (start_prod g)) (start_len g well)
             (step_same g (sets_of graph) (sets_at states) graph_sets (length states) s (Terminal t) (lookup (nat_eq t) shifts) (are.shifts s t below)) refl refl
             (action_is g states are well s t below within);
         goes = λ s r below within.
             let gotos = (state_at states s).gotos in
-            goes_as_wanted g (sets_of graph) (length states) s r table (lookup (nat_eq r) gotos)
+            goes_as_items g (sets_of graph) (length states) s r table (lookup (nat_eq r) gotos)
             (step_same g (sets_of graph) (sets_at states) graph_sets (length states) s (Nonterminal r) (lookup (nat_eq r) gotos) (are.gotos s r below))
             (goto_is g states are well s r below);
         no_state = no_action_after limit table is;
@@ -148,8 +148,8 @@ module _ (g : Grammar) (well : IsWellFormed g) (states : List StateOf) (are : Ar
       subst (λ n. AcceptAlone g n (sets_of graph)) (sym len) (accept_alone g well states are (sets_of graph) graph_sets none) in
       record {
         canonical = graph_canonical;
-        wanted = graph_wanted limit is;
-        safe = canonical_tables_are_safe g graph table well graph_canonical (graph_wanted limit is);
+        resolved = graph_table limit is;
+        safe = canonical_tables_are_safe g graph table well graph_canonical (graph_table limit is);
         conflicts = conflicts;
         in_order = in_order g states (length states);
         fit = canonical_conflicts_fit g graph table.conflicts well graph_canonical conflicts;

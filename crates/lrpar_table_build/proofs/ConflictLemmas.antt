@@ -9,10 +9,10 @@ use Rattle.lrpar_table_rows.specs.ConflictsFit.{ReductionsFit, ShiftFits}
 use Rattle.lrpar_table_rows.specs.Graph.{Graph, ItemOf, graph_len, item_at}
 use Rattle.lrpar_table_rows.specs.Safe.{IsItem}
 use Rattle.lrpar_table_rows.specs.Table.{Accepts, ConflictLists, Fails, ReduceBy, ReduceReduce, ShiftReduce, ShiftTo}
-use Rattle.lrpar_table_build.specs.BuilderLaws.{AcceptAlone, AreConflictsOf, CanonicalConflictsFit, NoConflictsAreOneAction, WantOneAction, lists_in}
-use Rattle.lrpar_table_items.specs.Canonical.{IsCanonical, IsTransition, StandsBefore, WantsAccept, WantsFirst, WantsReduce, sets_of}
+use Rattle.lrpar_table_build.specs.BuilderLaws.{AcceptAlone, AreConflictsOf, CanonicalConflictsFit, NoConflictsAreOneAction, HaveOneAction, lists_in}
+use Rattle.lrpar_table_items.specs.Canonical.{IsCanonical, IsTransition, StandsBefore, HasAccept, HasFirstReduce, HasReduce, sets_of}
 use Rattle.lrpar_table_items.specs.ItemSets.{IsReachedBy, Own}
-use Rattle.lrpar_table_build.proofs.DecidedLemmas.{first_wanted}
+use Rattle.lrpar_table_build.proofs.DecidedLemmas.{first_reduction}
 use Rattle.lrpar_table_build.proofs.ReachedLemmas.{no_end_token, reached_at_end, reached_items, symbol_listed}
 use Rattle.lrpar_table_build.proofs.SetLemmas.{next_more}
 
@@ -29,10 +29,10 @@ module _ (g : Grammar) (graph : Graph) (well : IsWellFormed g) (canonical : IsCa
       let reached = canonical.reached s within in reached_items g well reached.0 item ((reached.1 item).0 has)
 
   -- a state that wants to accept does so at the end token
-  accept_at_end : (s t : ℕ) → s < graph_len graph → WantsAccept g (sets_of graph) s t → t ≡ end_token g
-  accept_at_end s t within wants =
+  accept_at_end : (s t : ℕ) → s < graph_len graph → HasAccept g (sets_of graph) s t → t ≡ end_token g
+  accept_at_end s t within candidate =
       let item = item_at (start_prod g) 1 t in
-      let reached = canonical.reached s within in reached_at_end g well reached.0 item ((reached.1 item).0 wants) refl
+      let reached = canonical.reached s within in reached_at_end g well reached.0 item ((reached.1 item).0 candidate) refl
 
   -- where an item stands before a token, the state goes on by it
   next_state : (s t : ℕ) → s < graph_len graph → StandsBefore g (sets_of graph) s (Terminal t)
@@ -64,28 +64,28 @@ module _ (g : Grammar) (graph : Graph) (well : IsWellFormed g) (canonical : IsCa
       (alone : AcceptAlone g (graph_len graph) (sets_of graph)) where
     -- with no lists there are no conflicts
     module _ (none : conflicts ≡ None) where
-      no_reduce_conflict : (s t first second : ℕ) → s < graph_len graph → WantsFirst g (sets_of graph) s t first
-          → WantsReduce g (sets_of graph) s t second → first < second → ⊥
-      no_reduce_conflict s t first second within wants also less =
+      no_reduce_conflict : (s t first second : ℕ) → s < graph_len graph → HasFirstReduce g (sets_of graph) s t first
+          → HasReduce g (sets_of graph) s t second → first < second → ⊥
+      no_reduce_conflict s t first second within candidate also less =
           let x : ReduceReduce = record { token = t; first = first; second = second; state = s } in
-          let listed = (are.reduce_reduce x).1 (within, (item_known s first _ t within wants.0.1).token, (wants, also, less)) in
+          let listed = (are.reduce_reduce x).1 (within, (item_known s first _ t within candidate.0.1).token, (candidate, also, less)) in
           let there : Contains [] x = subst (λ (c : Option ConflictLists). Contains (lists_in c).reduce_reduce x) none listed in
           omega (arith, there.1)
 
       no_shift_conflict : (s t p : ℕ) → s < graph_len graph → StandsBefore g (sets_of graph) s (Terminal t)
-          → WantsReduce g (sets_of graph) s t p → ⊥
-      no_shift_conflict s t p within before wants =
-          let first = first_wanted g graph s t p wants in
+          → HasReduce g (sets_of graph) s t p → ⊥
+      no_shift_conflict s t p within before candidate =
+          let first = first_reduction g graph s t p candidate in
           let x : ShiftReduce = record { token = t; prod = first.0; state = s } in
-          let listed = (are.shift_reduce x).1 (within, (item_known s p _ t within wants.1).token, (before, first.1)) in
+          let listed = (are.shift_reduce x).1 (within, (item_known s p _ t within candidate.1).token, (before, first.1)) in
           let there : Contains [] x = subst (λ (c : Option ConflictLists). Contains (lists_in c).shift_reduce x) none listed in
           omega (arith, there.1)
 
-      one_reduction : (s t p q : ℕ) → s < graph_len graph → WantsReduce g (sets_of graph) s t p
-          → WantsReduce g (sets_of graph) s t q → p ≡ q
-      one_reduction s t p q within wants also =
-          let first = first_wanted g graph s t p wants in
-          let low = first.1.1 p wants in
+      one_reduction : (s t p q : ℕ) → s < graph_len graph → HasReduce g (sets_of graph) s t p
+          → HasReduce g (sets_of graph) s t q → p ≡ q
+      one_reduction s t p q within candidate also =
+          let first = first_reduction g graph s t p candidate in
+          let low = first.1.1 p candidate in
           let lower = first.1.1 q also in
           elim (cases_eq p q) [
             | inl same ↦ same
@@ -95,41 +95,41 @@ module _ (g : Grammar) (graph : Graph) (well : IsWellFormed g) (canonical : IsCa
                   | inl is ↦ absurd (no_reduce_conflict s t first.0 q within first.1 also (omega (arith, lower, is, apart)))
                   | inr before ↦
                       let less : first.0 ≢ p = before in
-                      absurd (no_reduce_conflict s t first.0 p within first.1 wants (omega (arith, low, less)))
+                      absurd (no_reduce_conflict s t first.0 p within first.1 candidate (omega (arith, low, less)))
                 ]
           ]
 
       no_shift_of_end : (s t : ℕ) → s < graph_len graph → StandsBefore g (sets_of graph) s (Terminal t)
-          → WantsAccept g (sets_of graph) s t → ⊥
-      no_shift_of_end s t within before wants =
-          no_end_token g well before.0.prod before.0.dot t (accept_at_end s t within wants) before.2
+          → HasAccept g (sets_of graph) s t → ⊥
+      no_shift_of_end s t within before candidate =
+          no_end_token g well before.0.prod before.0.dot t (accept_at_end s t within candidate) before.2
 
-      no_reduction_at_end : (s t p : ℕ) → s < graph_len graph → WantsReduce g (sets_of graph) s t p
-          → WantsAccept g (sets_of graph) s t → ⊥
-      no_reduction_at_end s t p within wants accepts =
+      no_reduction_at_end : (s t p : ℕ) → s < graph_len graph → HasReduce g (sets_of graph) s t p
+          → HasAccept g (sets_of graph) s t → ⊥
+      no_reduction_at_end s t p within candidate accepts =
           let is = accept_at_end s t within accepts in
           alone s within (
-            subst (λ (n : ℕ). WantsAccept g (sets_of graph) s n) is accepts,
-            (p, subst (λ (n : ℕ). WantsReduce g (sets_of graph) s n p) is wants),
+            subst (λ (n : ℕ). HasAccept g (sets_of graph) s n) is accepts,
+            (p, subst (λ (n : ℕ). HasReduce g (sets_of graph) s n p) is candidate),
           )
 
-      one_action : WantOneAction g (graph_len graph) (sets_of graph)
-      one_action s t (ShiftTo n) (ShiftTo m) within wants also = ap (λ (k : ℕ). ShiftTo k) (one_next s t n m wants also)
-      one_action s t (ShiftTo n) (ReduceBy p) within wants also = absurd (no_shift_conflict s t p within wants.0 also)
-      one_action s t (ShiftTo n) Accepts within wants also = absurd (no_shift_of_end s t within wants.0 also)
-      one_action s t (ShiftTo n) Fails within wants also = absurd also
-      one_action s t (ReduceBy p) (ShiftTo n) within wants also = absurd (no_shift_conflict s t p within also.0 wants)
-      one_action s t (ReduceBy p) (ReduceBy q) within wants also = ap (λ (k : ℕ). ReduceBy k) (one_reduction s t p q within wants also)
-      one_action s t (ReduceBy p) Accepts within wants also = absurd (no_reduction_at_end s t p within wants also)
-      one_action s t (ReduceBy p) Fails within wants also = absurd also
-      one_action s t Accepts (ShiftTo n) within wants also = absurd (no_shift_of_end s t within also.0 wants)
-      one_action s t Accepts (ReduceBy p) within wants also = absurd (no_reduction_at_end s t p within also wants)
-      one_action s t Accepts Accepts within wants also = refl
-      one_action s t Accepts Fails within wants also = absurd also
-      one_action s t Fails b within wants also = absurd wants
+      one_action : HaveOneAction g (graph_len graph) (sets_of graph)
+      one_action s t (ShiftTo n) (ShiftTo m) within candidate also = ap (λ (k : ℕ). ShiftTo k) (one_next s t n m candidate also)
+      one_action s t (ShiftTo n) (ReduceBy p) within candidate also = absurd (no_shift_conflict s t p within candidate.0 also)
+      one_action s t (ShiftTo n) Accepts within candidate also = absurd (no_shift_of_end s t within candidate.0 also)
+      one_action s t (ShiftTo n) Fails within candidate also = absurd also
+      one_action s t (ReduceBy p) (ShiftTo n) within candidate also = absurd (no_shift_conflict s t p within also.0 candidate)
+      one_action s t (ReduceBy p) (ReduceBy q) within candidate also = ap (λ (k : ℕ). ReduceBy k) (one_reduction s t p q within candidate also)
+      one_action s t (ReduceBy p) Accepts within candidate also = absurd (no_reduction_at_end s t p within candidate also)
+      one_action s t (ReduceBy p) Fails within candidate also = absurd also
+      one_action s t Accepts (ShiftTo n) within candidate also = absurd (no_shift_of_end s t within also.0 candidate)
+      one_action s t Accepts (ReduceBy p) within candidate also = absurd (no_reduction_at_end s t p within also candidate)
+      one_action s t Accepts Accepts within candidate also = refl
+      one_action s t Accepts Fails within candidate also = absurd also
+      one_action s t Fails b within candidate also = absurd candidate
 
     -- and where each state wants one action, nothing can be listed
-    module _ (one : WantOneAction g (graph_len graph) (sets_of graph)) where
+    module _ (one : HaveOneAction g (graph_len graph) (sets_of graph)) where
       no_reduce_listed : (lists : ConflictLists) → conflicts ≡ Some lists → (x : ReduceReduce)
           → Contains lists.reduce_reduce x → ⊥
       no_reduce_listed lists is x there =
@@ -169,8 +169,8 @@ all_contained P xs each i d below = each (slice_index_or xs i d) (All-contains_i
 pub canonical_conflicts_fit : CanonicalConflictsFit
 canonical_conflicts_fit g graph conflicts well canonical are =
     let lists = lists_in conflicts in
-    let known : (s t p : ℕ) → s < graph_len graph → WantsReduce g (sets_of graph) s t p → p < prods_len g = λ s t p within wants.
-    (item_known g graph well canonical s p (prod_len g p) t within wants.1).prod in
+    let known : (s t p : ℕ) → s < graph_len graph → HasReduce g (sets_of graph) s t p → p < prods_len g = λ s t p within candidate.
+    (item_known g graph well canonical s p (prod_len g p) t within candidate.1).prod in
     record {
       reduce_reduce = all_contained (ReductionsFit g) lists.reduce_reduce (λ x there.
           let found = (are.reduce_reduce x).0 there in

@@ -6,7 +6,7 @@ use Rattle.lrpar_grammar.specs.Grammar.{Grammar, GrammarSymbol, Nonterminal, Ter
 use Rattle.lrpar_table_rows.specs.Graph.{Graph, ItemOf, item_at, items_of}
 use Rattle.lrpar_table_rows.specs.Table.{Accepts, Fails, ReduceBy, ShiftTo, Table, action_of}
 use Rattle.lrpar_table_rows.proofs.GraphLemmas.{is_item, item_by_test}
-use Rattle.lrpar_table_items.specs.Canonical.{ActsAsWanted, LeadsTo, StandsBefore, WantsAccept, WantsFirst, WantsReduce, sets_of}
+use Rattle.lrpar_table_items.specs.Canonical.{ActsAsResolved, LeadsTo, StandsBefore, HasAccept, HasFirstReduce, HasReduce, sets_of}
 use Rattle.lrpar_table_build.proofs.MemberLemmas.{member_cases}
 
 -- an element of a list has what is decided of each, or none has
@@ -115,7 +115,7 @@ module _ (g : Grammar) (graph : Graph) (s : ℕ) where
       ]
 
   -- it wants a reduction, or not
-  reduce_decided : (t p : ℕ) → WantsReduce g (sets_of graph) s t p ⊎ ¬ (WantsReduce g (sets_of graph) s t p)
+  reduce_decided : (t p : ℕ) → HasReduce g (sets_of graph) s t p ⊎ ¬ (HasReduce g (sets_of graph) s t p)
   reduce_decided t p =
       elim (cases_eq p (start_prod g)) [
         | inl last ↦ inr (λ h. h.0 last)
@@ -127,20 +127,20 @@ module _ (g : Grammar) (graph : Graph) (s : ℕ) where
       ]
 
   -- where it wants any, it wants a first one
-  pub first_wanted : (t p : ℕ) → WantsReduce g (sets_of graph) s t p → (first : ℕ) × WantsFirst g (sets_of graph) s t first
-  first_wanted t p wants =
-      let found = least (WantsReduce g (sets_of graph) s t) (reduce_decided t) p wants in (found.0, (found.1, found.2))
+  pub first_reduction : (t p : ℕ) → HasReduce g (sets_of graph) s t p → (first : ℕ) × HasFirstReduce g (sets_of graph) s t first
+  first_reduction t p candidate =
+      let found = least (HasReduce g (sets_of graph) s t) (reduce_decided t) p candidate in (found.0, (found.1, found.2))
 
   -- it wants some first reduction, or none
-  pub first_decided : (t : ℕ) → ((p : ℕ) × WantsFirst g (sets_of graph) s t p) ⊎ ((p : ℕ) → ¬ (WantsReduce g (sets_of graph) s t p))
+  pub first_decided : (t : ℕ) → ((p : ℕ) × HasFirstReduce g (sets_of graph) s t p) ⊎ ((p : ℕ) → ¬ (HasReduce g (sets_of graph) s t p))
   first_decided t =
       elim (some_or_none (IsReduction g t) (reduction_decided g t) (items_of graph s)) [
         | inl found ↦
             let x = found.0 in
             let is : x ≡ item_at x.prod (prod_len g x.prod) t =
             ap (λ n. item_at x.prod n x.token) found.2.1 ∙ ap (λ n. item_at x.prod (prod_len g x.prod) n) found.2.2 in
-            inl (first_wanted t x.prod (found.2.0, subst (sets_of graph s) is found.1))
-        | inr none ↦ inr (λ p wants. none (item_at p (prod_len g p) t) wants.1 (wants.0, refl, refl))
+            inl (first_reduction t x.prod (found.2.0, subst (sets_of graph s) is found.1))
+        | inr none ↦ inr (λ p candidate. none (item_at p (prod_len g p) t) candidate.1 (candidate.0, refl, refl))
       ]
 
   module _ (table : Table) (t : ℕ) where
@@ -148,11 +148,11 @@ module _ (g : Grammar) (graph : Graph) (s : ℕ) where
     pub data IsActing : Type 0 where
       Shifting : (next : ℕ) → action_of table s t ≡ ShiftTo next → StandsBefore g (sets_of graph) s (Terminal t)
           → LeadsTo g (sets_of graph) s (Terminal t) next → IsActing
-      Reducing : (p : ℕ) → action_of table s t ≡ ReduceBy p → WantsFirst g (sets_of graph) s t p → IsActing
-      Accepting : action_of table s t ≡ Accepts → WantsAccept g (sets_of graph) s t → IsActing
+      Reducing : (p : ℕ) → action_of table s t ≡ ReduceBy p → HasFirstReduce g (sets_of graph) s t p → IsActing
+      Accepting : action_of table s t ≡ Accepts → HasAccept g (sets_of graph) s t → IsActing
       Failing : action_of table s t ≡ Fails → IsActing
 
-    pub acting : ActsAsWanted g (sets_of graph) table s t → IsActing
+    pub acting : ActsAsResolved g (sets_of graph) table s t → IsActing
     acting acts =
         elim (before_decided (Terminal t)) [
           | inl before ↦ let shift = acts.shifts before in Shifting shift.0 shift.1 before shift.2

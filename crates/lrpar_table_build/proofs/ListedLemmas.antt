@@ -13,13 +13,13 @@ use Rattle.lrpar_table_rows.specs.Table.{ConflictLists, ReduceReduce, ShiftReduc
 use Rattle.lrpar_table_rows.proofs.ItemLemmas.{Contains-image, Contains-preimage}
 use Rattle.lrpar_table_build.specs.BuilderLaws.{AreConflictsOf, lists_in}
 use Rattle.lrpar_table_build.specs.Built.{StandInOrder, reduce_reduce_cmp, shift_reduce_cmp}
-use Rattle.lrpar_table_items.specs.Canonical.{AreSame, IsReduceConflict, IsShiftConflict, IsTransition, StandsBefore, WantsFirst, sets_of}
+use Rattle.lrpar_table_items.specs.Canonical.{AreSame, IsReduceConflict, IsShiftConflict, IsTransition, StandsBefore, HasFirstReduce, sets_of}
 use Rattle.lrpar_table_items.specs.Cores.{CoreSet, IsAmong, IsCoreOf}
 use Rattle.lrpar_table_items.specs.StateRows.{reduce_conflicts_below, shift_conflicts_below, unless_empty}
 use Rattle.lrpar_table_items.specs.States.{AreStates, StateOf, sets_at, state_at}
-use Rattle.lrpar_table_items.specs.Wanted.{AscendFrom, reduce_conflicts, reduce_conflicts_at, reductions, shift_conflicts, shift_conflicts_at}
+use Rattle.lrpar_table_items.specs.Resolution.{AscendFrom, reduce_conflicts, reduce_conflicts_at, reductions, shift_conflicts, shift_conflicts_at}
 use Rattle.lrpar_table_build.proofs.MemberLemmas.{joined_has, joined_member, member_cases, member_later, member_none, range_has, range_member, sorted_first, sorted_joined, sorted_none}
-use Rattle.lrpar_table_build.proofs.ReductionLemmas.{first_alone, first_is, first_least, none_is, reductions_ascend, wants_is}
+use Rattle.lrpar_table_build.proofs.ReductionLemmas.{first_alone, first_is, first_least, none_is, reductions_ascend, candidate_is}
 use Rattle.lrpar_table_build.proofs.SetLemmas.{before_other, before_same}
 
 -- numbers in order
@@ -292,7 +292,7 @@ in_order g states n =
 
 -- where a reduction is wanted first, it is the first of the list
 first_splits : (g : Grammar) (sets : ℕ → ItemOf → Type 0) (s : ℕ) (cores : List CoreSet) → All (IsCoreOf g) cores → AreSame (sets s) (IsAmong cores)
-    → (t p : ℕ) → WantsFirst g sets s t p → (later : List ℕ) × (reductions g cores t ≡ p ∷ later)
+    → (t p : ℕ) → HasFirstReduce g sets s t p → (later : List ℕ) × (reductions g cores t ≡ p ∷ later)
 first_splits g sets s cores known is t p first =
     let cases : (prods : List ℕ) → reductions g cores t ≡ prods → (later : List ℕ) × (reductions g cores t ≡ p ∷ later) = λ ps.
     elim ps as (λ ks. reductions g cores t ≡ ks → (later : List ℕ) × (reductions g cores t ≡ p ∷ later)) [
@@ -330,13 +330,13 @@ module _ (g : Grammar) (states : List StateOf) (are : AreStates g states) (sets 
             let up : AscendFrom 0 (x.first ∷ h.0) = subst (AscendFrom 0) h.1 (reductions_ascend g cores t) in
             let above = first_least (x.first + 1) x.second h.0 up.1 h.2 in (
               first_is g sets s cores known (same s) t x.first h.0 h.1,
-              (wants_is g sets s cores known (same s) t x.second).1
+              (candidate_is g sets s cores known (same s) t x.second).1
                   (subst (λ (ps : List ℕ). Contains ps x.second) (sym h.1) (member_later x.first h.0 x.second h.2)),
               omega (arith, above),
             ),
         λ h.
             let split = first_splits g sets s cores known (same s) t x.first h.0 in
-            let there = subst (λ (ps : List ℕ). Contains ps x.second) split.1 ((wants_is g sets s cores known (same s) t x.second).0 h.1) in (
+            let there = subst (λ (ps : List ℕ). Contains ps x.second) split.1 ((candidate_is g sets s cores known (same s) t x.second).0 h.1) in (
               split.0,
               split.1,
               elim (member_cases x.first split.0 x.second there) [

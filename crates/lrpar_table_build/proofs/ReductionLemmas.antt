@@ -7,12 +7,12 @@ use Rattle.std.proofs.lemmas.List.Folds.{Any-from_list_any, list_any-from_Any}
 use Rattle.lrpar_grammar.specs.Grammar.{Grammar, Nonterminal, Terminal, prod_len, start_prod}
 use Rattle.lrpar_table_rows.specs.Graph.{ItemOf, item_at}
 use Rattle.lrpar_table_rows.specs.Table.{ReduceBy, Table, action_of, goto_of}
-use Rattle.lrpar_table_items.specs.Canonical.{ActsAsWanted, AreSame, GoesAsWanted, IsTransition, WantsAccept, WantsFirst, WantsReduce}
+use Rattle.lrpar_table_items.specs.Canonical.{ActsAsResolved, AreSame, GoesAsItems, IsTransition, HasAccept, HasFirstReduce, HasReduce}
 use Rattle.lrpar_table_items.specs.Cores.{CoreSet, IsAmong, IsCoreOf}
 use Rattle.lrpar_grammar.specs.Tokens.{has}
-use Rattle.lrpar_table_items.specs.Wanted.{AscendFrom, is_complete, is_complete_at, reductions, wanted}
+use Rattle.lrpar_table_items.specs.Resolution.{AscendFrom, is_complete, is_complete_at, reductions, resolved}
 use Rattle.lrpar_table_build.proofs.MemberLemmas.{filter_has, filter_member, member_cases, member_first, member_none, range_has, range_member}
-use Rattle.lrpar_table_items.proofs.WantedLemmas.{ascend_lower}
+use Rattle.lrpar_table_items.proofs.ResolutionLemmas.{ascend_lower}
 
 -- the least of numbers that ascend is the first
 pub first_least : (a p : ℕ) (ks : List ℕ) → AscendFrom a ks → Contains ks p → a ≤ p
@@ -71,8 +71,8 @@ module _ (g : Grammar) (cores : List CoreSet) where
 
 module _ (g : Grammar) (sets : ℕ → ItemOf → Type 0) (s : ℕ) (cores : List CoreSet) (known : All (IsCoreOf g) cores) (is : AreSame (sets s) (IsAmong cores)) where
   -- the reductions are those that are wanted
-  pub wants_is : (t p : ℕ) → WantsReduce g sets s t p ↔ Contains (reductions g cores t) p
-  wants_is t p = (
+  pub candidate_is : (t p : ℕ) → HasReduce g sets s t p ↔ Contains (reductions g cores t) p
+  candidate_is t p = (
     λ h.
         let among = (is (item_at p (prod_len g p) t)).0 h.1 in
         let core = All-contains (IsCoreOf g) cores among.0 known among.1 in
@@ -86,22 +86,22 @@ module _ (g : Grammar) (sets : ℕ → ItemOf → Type 0) (s : ℕ) (cores : Lis
   )
 
   -- the first of them is the one that is wanted first
-  pub first_is : (t p : ℕ) (later : List ℕ) → reductions g cores t ≡ p ∷ later → WantsFirst g sets s t p
+  pub first_is : (t p : ℕ) (later : List ℕ) → reductions g cores t ≡ p ∷ later → HasFirstReduce g sets s t p
   first_is t p later at =
       let up : AscendFrom 0 (p ∷ later) = subst (AscendFrom 0) at (reductions_ascend g cores t) in (
-        (wants_is t p).1 (subst (λ (ks : List ℕ). Contains ks p) (sym at) (member_first p later)),
-        λ q wants. first_least p q (p ∷ later) (omega arith, up.1) (subst (λ (ks : List ℕ). Contains ks q) at ((wants_is t q).0 wants)),
+        (candidate_is t p).1 (subst (λ (ks : List ℕ). Contains ks p) (sym at) (member_first p later)),
+        λ q candidate. first_least p q (p ∷ later) (omega arith, up.1) (subst (λ (ks : List ℕ). Contains ks q) at ((candidate_is t q).0 candidate)),
       )
 
-  pub first_alone : (t p q : ℕ) → WantsFirst g sets s t p → WantsFirst g sets s t q → p ≡ q
+  pub first_alone : (t p q : ℕ) → HasFirstReduce g sets s t p → HasFirstReduce g sets s t q → p ≡ q
   first_alone t p q one other = omega (arith, one.1 q other.0, other.1 p one.0)
 
   -- where there are none, none is wanted
-  pub none_is : (t p : ℕ) → reductions g cores t ≡ [] → ¬ (WantsReduce g sets s t p)
-  none_is t p at wants = member_none p (subst (λ (ks : List ℕ). Contains ks p) at ((wants_is t p).0 wants))
+  pub none_is : (t p : ℕ) → reductions g cores t ≡ [] → ¬ (HasReduce g sets s t p)
+  none_is t p at candidate = member_none p (subst (λ (ks : List ℕ). Contains ks p) at ((candidate_is t p).0 candidate))
 
   -- to accept is wanted where the start production is complete
-  pub accept_is : (t : ℕ) → prod_len g (start_prod g) ≡ 1 → WantsAccept g sets s t ↔ (is_complete_at g cores t (start_prod g) ≡ true)
+  pub accept_is : (t : ℕ) → prod_len g (start_prod g) ≡ 1 → HasAccept g sets s t ↔ (is_complete_at g cores t (start_prod g) ≡ true)
   accept_is t one = (
     λ h. (complete_found g cores t (start_prod g)).1
         (subst (λ n. IsAmong cores (item_at (start_prod g) n t)) (sym one) ((is (item_at (start_prod g) 1 t)).0 h)),
@@ -110,16 +110,16 @@ module _ (g : Grammar) (sets : ℕ → ItemOf → Type 0) (s : ℕ) (cores : Lis
   )
 
   -- so a table that does what is told by the cores and the shifts does what is wanted
-  pub acts_as_wanted : (len t : ℕ) (table : Table) (shift : Option ℕ) (prods : List ℕ) (accepts : Bool) → prod_len g (start_prod g) ≡ 1
+  pub acts_as_resolved : (len t : ℕ) (table : Table) (shift : Option ℕ) (prods : List ℕ) (accepts : Bool) → prod_len g (start_prod g) ≡ 1
       → IsTransition g len sets s (Terminal t) shift → reductions g cores t ≡ prods → is_complete_at g cores t (start_prod g) ≡ accepts
-      → action_of table s t ≡ wanted shift prods accepts → ActsAsWanted g sets table s t
-  acts_as_wanted len t table (Some next) prods accepts one step reduces ends does = record {
+      → action_of table s t ≡ resolved shift prods accepts → ActsAsResolved g sets table s t
+  acts_as_resolved len t table (Some next) prods accepts one step reduces ends does = record {
     shifts = λ _. (next, does, step.2);
     reduces = λ none. absurd (none step.0);
     accepts = λ none. absurd (none step.0);
     fails = λ none. absurd (none step.0);
   }
-  acts_as_wanted len t table None (p ∷ later) accepts one step reduces ends does =
+  acts_as_resolved len t table None (p ∷ later) accepts one step reduces ends does =
       let first = first_is t p later reduces in
       record {
         shifts = λ before. absurd (step before);
@@ -127,13 +127,13 @@ module _ (g : Grammar) (sets : ℕ → ItemOf → Type 0) (s : ℕ) (cores : Lis
         accepts = λ none no_reduction. absurd (no_reduction p first.0);
         fails = λ none no_reduction. absurd (no_reduction p first.0);
       }
-  acts_as_wanted len t table None [] true one step reduces ends does = record {
+  acts_as_resolved len t table None [] true one step reduces ends does = record {
     shifts = λ before. absurd (step before);
     reduces = λ none q first. absurd (none_is t q reduces first.0);
     accepts = λ none no_reduction accept. does;
     fails = λ none no_reduction no_accept. absurd (no_accept ((accept_is t one).1 ends));
   }
-  acts_as_wanted len t table None [] false one step reduces ends does = record {
+  acts_as_resolved len t table None [] false one step reduces ends does = record {
     shifts = λ before. absurd (step before);
     reduces = λ none q first. absurd (none_is t q reduces first.0);
     accepts = λ none no_reduction accept. let yes = (accept_is t one).0 accept in let both : false ≡ true = sym ends ∙ yes in absurd (cc);
@@ -141,7 +141,7 @@ module _ (g : Grammar) (sets : ℕ → ItemOf → Type 0) (s : ℕ) (cores : Lis
   }
 
 -- and so does one that goes where the steps are
-pub goes_as_wanted : (g : Grammar) (sets : ℕ → ItemOf → Type 0) (len s r : ℕ) (table : Table) (goto : Option ℕ)
-    → IsTransition g len sets s (Nonterminal r) goto → goto_of table s r ≡ goto → GoesAsWanted g sets table s r
-goes_as_wanted g sets len s r table None step does = record { goes = λ before. absurd (step before); stays = λ none. does }
-goes_as_wanted g sets len s r table (Some next) step does = record { goes = λ before. (next, does, step.2); stays = λ none. absurd (none step.0) }
+pub goes_as_items : (g : Grammar) (sets : ℕ → ItemOf → Type 0) (len s r : ℕ) (table : Table) (goto : Option ℕ)
+    → IsTransition g len sets s (Nonterminal r) goto → goto_of table s r ≡ goto → GoesAsItems g sets table s r
+goes_as_items g sets len s r table None step does = record { goes = λ before. absurd (step before); stays = λ none. does }
+goes_as_items g sets len s r table (Some next) step does = record { goes = λ before. (next, does, step.2); stays = λ none. absurd (none step.0) }

@@ -10,8 +10,8 @@ use Rattle.lrpar_table_rows.specs.Table.{Accepts, ReduceBy, ShiftTo, Table, acti
 use Rattle.lrpar_table_rows.specs.declared.condition.SafetyCondition.{SafetyCondition}
 use Rattle.lrpar_table_rows.specs.declared.condition.SafetyCondition.TheVariants.{S2, S3, S4, S5, S6, S7, S8}
 use Rattle.lrpar_table_rows.proofs.GraphLemmas.{state_in_range}
-use Rattle.lrpar_table_build.specs.BuilderLaws.{CanonicalTablesAreSafe, IsWantedTable}
-use Rattle.lrpar_table_items.specs.Canonical.{AreSame, IsCanonical, LeadsTo, StandsBefore, WantsAccept, WantsReduce, sets_of}
+use Rattle.lrpar_table_build.specs.BuilderLaws.{CanonicalTablesAreSafe, IsCanonicalTable}
+use Rattle.lrpar_table_items.specs.Canonical.{AreSame, IsCanonical, LeadsTo, StandsBefore, HasAccept, HasReduce, sets_of}
 use Rattle.lrpar_table_items.specs.ItemSets.{IsAdvanced, IsInNext, IsReachedBy, Own}
 use Rattle.lrpar_table_build.proofs.DecidedLemmas.{Accepting, Failing, IsActing, Reducing, Shifting, acting, before_decided}
 use Rattle.lrpar_table_build.proofs.ReachedLemmas.{added_is_listed, closure_cases, comes_with_rule, no_end_token, reached_at_end, reached_items, start_is_fresh, start_item_at_start}
@@ -34,7 +34,7 @@ advanced_from g items x p k t h =
     ]
 
 module _ (g : Grammar) (graph : Graph) (table : Table) (well : IsWellFormed g) (canonical : IsCanonical g graph)
-    (wanted : IsWantedTable g graph table) where
+    (resolved : IsCanonicalTable g graph table) where
   -- each state is reached by a path
   reached_by : (s p k t : ℕ) → HasItem graph s p k t → (path : List GrammarSymbol) × IsReachedBy g path (item_at p k t)
   reached_by s p k t has =
@@ -49,52 +49,52 @@ module _ (g : Grammar) (graph : Graph) (table : Table) (well : IsWellFormed g) (
   acts_in : (s t : ℕ) → IsActing g graph s table t
   acts_in s t =
       elim (cases_lt s (states_len table)) [
-        | inr past ↦ Failing (wanted.no_state s t past)
+        | inr past ↦ Failing (resolved.no_state s t past)
         | inl within ↦
             elim (cases_lt t (tokens_len g)) [
-              | inr past ↦ let is = wanted.tokens in Failing (wanted.no_token s t (omega (arith, past, is)))
-              | inl below ↦ acting g graph s table t (wanted.acts s t within below)
+              | inr past ↦ let is = resolved.tokens in Failing (resolved.no_token s t (omega (arith, past, is)))
+              | inl below ↦ acting g graph s table t (resolved.acts s t within below)
             ]
       ]
 
-  shift_wanted : (s t next : ℕ) → action_of table s t ≡ ShiftTo next
+  shift_of_item : (s t next : ℕ) → action_of table s t ≡ ShiftTo next
       → StandsBefore g (sets_of graph) s (Terminal t) × LeadsTo g (sets_of graph) s (Terminal t) next
-  shift_wanted s t next at =
+  shift_of_item s t next at =
       elim (acts_in s t) [
         | Shifting to is before leads ↦
             let same : to ≡ next = cc in (before, subst (λ (n : ℕ). LeadsTo g (sets_of graph) s (Terminal t) n) same leads)
-        | Reducing p is wants ↦ absurd (cc)
-        | Accepting is wants ↦ absurd (cc)
+        | Reducing p is candidate ↦ absurd (cc)
+        | Accepting is candidate ↦ absurd (cc)
         | Failing is ↦ absurd (cc)
       ]
 
-  reduction_wanted : (s t p : ℕ) → action_of table s t ≡ ReduceBy p → WantsReduce g (sets_of graph) s t p
-  reduction_wanted s t p at =
+  reduction_of_item : (s t p : ℕ) → action_of table s t ≡ ReduceBy p → HasReduce g (sets_of graph) s t p
+  reduction_of_item s t p at =
       elim (acts_in s t) [
         | Shifting to is before leads ↦ absurd (cc)
-        | Reducing by is wants ↦ let same : by ≡ p = cc in subst (λ (n : ℕ). WantsReduce g (sets_of graph) s t n) same wants.0
-        | Accepting is wants ↦ absurd (cc)
+        | Reducing by is candidate ↦ let same : by ≡ p = cc in subst (λ (n : ℕ). HasReduce g (sets_of graph) s t n) same candidate.0
+        | Accepting is candidate ↦ absurd (cc)
         | Failing is ↦ absurd (cc)
       ]
 
-  accept_wanted : (s t : ℕ) → action_of table s t ≡ Accepts → WantsAccept g (sets_of graph) s t
-  accept_wanted s t at =
+  accept_of_item : (s t : ℕ) → action_of table s t ≡ Accepts → HasAccept g (sets_of graph) s t
+  accept_of_item s t at =
       elim (acts_in s t) [
         | Shifting to is before leads ↦ absurd (cc)
-        | Reducing by is wants ↦ absurd (cc)
-        | Accepting is wants ↦ wants
+        | Reducing by is candidate ↦ absurd (cc)
+        | Accepting is candidate ↦ candidate
         | Failing is ↦ absurd (cc)
       ]
 
   -- so is where it goes by a rule
-  goto_wanted : (s r next : ℕ) → s < states_len table → goto_of table s r ≡ Some next → LeadsTo g (sets_of graph) s (Nonterminal r) next
-  goto_wanted s r next within at =
+  goto_of_item : (s r next : ℕ) → s < states_len table → goto_of table s r ≡ Some next → LeadsTo g (sets_of graph) s (Nonterminal r) next
+  goto_of_item s r next within at =
       elim (cases_lt r (rules_len g)) [
         | inr past ↦
-            let is = wanted.rules in
-            let none : goto_of table s r ≡ None = wanted.no_rule s r (omega (arith, past, is)) in absurd (cc)
+            let is = resolved.rules in
+            let none : goto_of table s r ≡ None = resolved.no_rule s r (omega (arith, past, is)) in absurd (cc)
         | inl below ↦
-            let goes = wanted.goes s r within below in
+            let goes = resolved.goes s r within below in
             elim (before_decided g graph s (Nonterminal r)) [
               | inl before ↦
                   let to = goes.goes before in
@@ -105,8 +105,8 @@ module _ (g : Grammar) (graph : Graph) (table : Table) (well : IsWellFormed g) (
       ]
 
   leads_by : (s : ℕ) (x : GrammarSymbol) (next : ℕ) → s < states_len table → GoesBy table s x next → LeadsTo g (sets_of graph) s x next
-  leads_by s (Terminal t) next within goes = (shift_wanted s t next goes).1
-  leads_by s (Nonterminal r) next within goes = goto_wanted s r next within goes
+  leads_by s (Terminal t) next within goes = (shift_of_item s t next goes).1
+  leads_by s (Nonterminal r) next within goes = goto_of_item s r next within goes
 
   -- no set leads to that of the start
   never_to_start : (s : ℕ) (x : GrammarSymbol) → LeadsTo g (sets_of graph) s x 0 → ⊥
@@ -133,15 +133,15 @@ module _ (g : Grammar) (graph : Graph) (table : Table) (well : IsWellFormed g) (
 
   safe_at : (condition : SafetyCondition) (s : ℕ) → s < states_len table → IsSafeAt g graph table condition s
   safe_at S2 s within = λ here p k has.
-      let zero : s ≡ 0 = here ∙ wanted.start in
+      let zero : s ≡ 0 = here ∙ resolved.start in
       let item = item_at p k has.0 in
       start_is_fresh g well item ((canonical.start item).0 (subst (λ (n : ℕ). HasItem graph n p k has.0) zero has.1))
   safe_at S3 s within = λ next at.
-      let before = (shift_wanted s (end_token g) next at).0 in no_end_token g well before.0.prod before.0.dot (end_token g) refl before.2
+      let before = (shift_of_item s (end_token g) next at).0 in no_end_token g well before.0.prod before.0.dot (end_token g) refl before.2
   safe_at S4 s within = λ x next goes p k has.
       let item = (leads_by s x next within goes (item_at p (k + 1) has.0)).0 has.1 in
       let from = advanced_from g (sets_of graph s) x p k has.0 item in (from.0, (has.0, from.1))
-  safe_at S5 s within = λ t p at. let wants = reduction_wanted s t p at in (wants.0, (t, wants.1))
+  safe_at S5 s within = λ t p at. let candidate = reduction_of_item s t p at in (candidate.0, (t, candidate.1))
   safe_at S6 s within = λ p has listed.
       let item = item_at p 0 has.0 in
       let reached = canonical.reached s (state_in_range graph s p 0 has.0 has.1) in
@@ -149,29 +149,29 @@ module _ (g : Grammar) (graph : Graph) (table : Table) (well : IsWellFormed g) (
       let from = comes_with_rule g well reached.0 item here refl listed in
       let before : StandsBefore g (sets_of graph) s (Nonterminal (rule_of g p)) = (from.0, (reached.1 from.0).1 from.1, from.2) in
       let known = (reached_items g well reached.0 item here).prod in
-      let goes = (wanted.goes s (rule_of g p) within (rule_of_within g p well known)).goes before in (goes.0, goes.1)
+      let goes = (resolved.goes s (rule_of g p) within (rule_of_within g p well known)).goes before in (goes.0, goes.1)
   safe_at S7 s within = λ t at.
-      let wants = accept_wanted s t at in
-      let reached = reached_by s (start_prod g) 1 t wants in
-      (reached_at_end g well reached.0 (item_at (start_prod g) 1 t) reached.1 refl, (t, wants))
+      let candidate = accept_of_item s t at in
+      let reached = reached_by s (start_prod g) 1 t candidate in
+      (reached_at_end g well reached.0 (item_at (start_prod g) 1 t) reached.1 refl, (t, candidate))
   safe_at S8 s within = record {
     never_back = λ x goes.
-        never_to_start s x (subst (λ (n : ℕ). LeadsTo g (sets_of graph) s x n) wanted.start (leads_by s x table.start within goes));
-    first_core = λ has. start_alone s has ∙ sym wanted.start;
+        never_to_start s x (subst (λ (n : ℕ). LeadsTo g (sets_of graph) s x n) resolved.start (leads_by s x table.start within goes));
+    first_core = λ has. start_alone s has ∙ sym resolved.start;
   }
 
   safe : IsSafe g graph table
   safe = record {
     shape = record {
-      states = wanted.states;
+      states = resolved.states;
       some =
           let first = state_in_range graph 0 (start_prod g) 0 (end_token g) start_there in
-          let is = wanted.states in omega (arith, first, is);
-      tokens = wanted.tokens;
-      rules = wanted.rules;
+          let is = resolved.states in omega (arith, first, is);
+      tokens = resolved.tokens;
+      rules = resolved.rules;
       reduces = λ s t p at.
-          let wants = reduction_wanted s t p at in
-          let reached = reached_by s p (prod_len g p) t wants.1 in
+          let candidate = reduction_of_item s t p at in
+          let reached = reached_by s p (prod_len g p) t candidate.1 in
           (reached_items g well reached.0 (item_at p (prod_len g p) t) reached.1).prod;
       items = λ s p k t has. let reached = reached_by s p k t has in reached_items g well reached.0 (item_at p k t) reached.1;
     };
@@ -179,4 +179,4 @@ module _ (g : Grammar) (graph : Graph) (table : Table) (well : IsWellFormed g) (
   }
 
 pub canonical_tables_are_safe : CanonicalTablesAreSafe
-canonical_tables_are_safe g graph table well canonical wanted = safe g graph table well canonical wanted
+canonical_tables_are_safe g graph table well canonical resolved = safe g graph table well canonical resolved

@@ -13,7 +13,7 @@ use Rattle.lrpar_table_items.specs.ItemSets.{Added, IsAdvanced, IsInClosure, IsI
 use Rattle.lrpar_table_items.specs.StateRows.{item_rows}
 use Rattle.lrpar_table_items.specs.States.{StateOf, sets_at, state_at}
 use Rattle.lrpar_grammar.specs.Tokens.{has}
-use Rattle.lrpar_table_items.specs.Complete.{items_of_core, items_of_cores}
+use Rattle.lrpar_table_items.specs.CompleteItems.{items_of_core, items_of_cores}
 use Rattle.lrpar_table_build.proofs.MemberLemmas.{filter_has, filter_member, joined_has, joined_member, member_none, range_has, range_member}
 use Rattle.lrpar_table_build.proofs.ReachedLemmas.{reached_items}
 

@@ -16,11 +16,11 @@ use Rattle.lrpar_table_items.specs.Cores.{IsAmong}
 use Rattle.lrpar_table_items.specs.ItemSets.{Own}
 use Rattle.lrpar_table_items.specs.StateRows.{table_of_states}
 use Rattle.lrpar_table_items.specs.States.{AreStates, StateOf, sets_at, state_at}
-use Rattle.lrpar_table_items.specs.Wanted.{AscendFrom, entry_at, is_complete_at, reductions, wanted, wanted_at, wanted_row}
+use Rattle.lrpar_table_items.specs.Resolution.{AscendFrom, entry_at, is_complete_at, reductions, resolved, resolved_at, resolved_row}
 use Rattle.lrpar_table_items.proofs.EntryLemmas.{lookup_past}
 use Rattle.lrpar_table_build.proofs.MemberLemmas.{member_none}
 use Rattle.lrpar_table_build.proofs.ReachedLemmas.{symbol_listed}
-use Rattle.lrpar_table_items.proofs.WantedLemmas.{ascend_lower}
+use Rattle.lrpar_table_items.proofs.ResolutionLemmas.{ascend_lower}
 
 -- numbers that ascend, each above the one before
 pub increasing_from : (a : ℕ) (ks : List ℕ) → AscendFrom a ks → IsStrictlyIncreasing ks
@@ -97,12 +97,12 @@ module _ (f : ℕ → TableAction) where
       (row_each tokens states (a + 1) n (omega (arith, low)) within)
 
 -- what is wanted leads to a state where a shift does
-wanted_within : (states : ℕ) (shift : Option ℕ) (prods : List ℕ) (accepts : Bool) → ((next : ℕ) → shift ≡ Some next → next < states)
-    → IsActionWithin states (wanted shift prods accepts)
-wanted_within states (Some next) prods accepts within = within next refl
-wanted_within states None (p ∷ later) accepts within = tt
-wanted_within states None [] true within = tt
-wanted_within states None [] false within = tt
+resolved_within : (states : ℕ) (shift : Option ℕ) (prods : List ℕ) (accepts : Bool) → ((next : ℕ) → shift ≡ Some next → next < states)
+    → IsActionWithin states (resolved shift prods accepts)
+resolved_within states (Some next) prods accepts within = within next refl
+resolved_within states None (p ∷ later) accepts within = tt
+resolved_within states None [] true within = tt
+resolved_within states None [] false within = tt
 
 -- what holds of each member holds of all
 All-from_member : {X : Type 0} (P : X → Type 0) (xs : List X) → ((x : X) → Contains xs x → P x) → All P xs
@@ -134,16 +134,16 @@ module _ (g : Grammar) (states : List StateOf) (are : AreStates g states) (well 
   step_some s symbol None next h is = absurd (cc)
   step_some s symbol (Some other) next h is = let same : other ≡ next = cc in (h.0, subst (λ n. n < length states) same h.1)
 
-  action_row : (s : ℕ) → s < length states → actions_at (table_of_states g states) s ≡ wanted_row g (state_at states s).cores (state_at states s).shifts
-  action_row s below = get_or-map (λ (state : StateOf). wanted_row g state.cores state.shifts) states s _ [] below
+  action_row : (s : ℕ) → s < length states → actions_at (table_of_states g states) s ≡ resolved_row g (state_at states s).cores (state_at states s).shifts
+  action_row s below = get_or-map (λ (state : StateOf). resolved_row g state.cores state.shifts) states s _ [] below
 
   -- the action at a token is what is wanted
   pub action_is : (s t : ℕ) → s < length states → t < tokens_len g
-      → action_of (table_of_states g states) s t ≡ wanted_at g (state_at states s).cores (state_at states s).shifts t
+      → action_of (table_of_states g states) s t ≡ resolved_at g (state_at states s).cores (state_at states s).shifts t
   unfolding action_of
   action_is s t below within =
       ap (λ (row : List (ℕ × TableAction)). unwrap_or (lookup (nat_eq t) row) Fails) (action_row s below)
-      ∙ row_lookup (wanted_at g (state_at states s).cores (state_at states s).shifts) 0 (tokens_len g) t (omega arith) (omega (arith, within))
+      ∙ row_lookup (resolved_at g (state_at states s).cores (state_at states s).shifts) 0 (tokens_len g) t (omega arith) (omega (arith, within))
 
   -- the goto by a rule is that of the state
   pub goto_is : (s r : ℕ) → s < length states → goto_of (table_of_states g states) s r ≡ lookup (nat_eq r) (state_at states s).gotos
@@ -152,13 +152,13 @@ module _ (g : Grammar) (states : List StateOf) (are : AreStates g states) (well 
       ap (λ (row : List (ℕ × ℕ)). lookup (nat_eq r) row) (get_or-map (λ (state : StateOf). state.gotos) states s _ [] below)
 
   action_entries : (s : ℕ) → s < length states
-      → AreEntries (IsActionEntry (tokens_len g) (length states)) (wanted_row g (state_at states s).cores (state_at states s).shifts)
+      → AreEntries (IsActionEntry (tokens_len g) (length states)) (resolved_row g (state_at states s).cores (state_at states s).shifts)
   action_entries s below =
-      let f = wanted_at g (state_at states s).cores (state_at states s).shifts in
+      let f = resolved_at g (state_at states s).cores (state_at states s).shifts in
       record {
         ascending = increasing_from 0 _ (row_ascends f 0 (tokens_len g));
         each = row_each f (tokens_len g) (length states) 0 (tokens_len g) (omega arith) (λ t within.
-            wanted_within (length states) (lookup (nat_eq t) (state_at states s).shifts) (reductions g (state_at states s).cores t)
+            resolved_within (length states) (lookup (nat_eq t) (state_at states s).shifts) (reductions g (state_at states s).cores t)
             (is_complete_at g (state_at states s).cores t (start_prod g)) (λ next is. (step_some s (Terminal t) _ next (are.shifts s t below) is).1));
       }
 
@@ -180,13 +180,13 @@ module _ (g : Grammar) (states : List StateOf) (are : AreStates g states) (well 
   -- so the rows are those of a table
   pub is_table : (limit : ℕ) → length states ≤ limit → tokens_len g ≤ limit → rules_len g ≤ limit → IsTable limit (table_of_states g states)
   is_table limit states_fit tokens_fit rules_fit = record {
-    actions_len = length-map states (λ (state : StateOf). wanted_row g state.cores state.shifts);
+    actions_len = length-map states (λ (state : StateOf). resolved_row g state.cores state.shifts);
     gotos_len = length-map states (λ (state : StateOf). state.gotos);
     states_fit = states_fit;
     tokens_fit = tokens_fit;
     rules_fit = rules_fit;
     start_within = some_state;
-    actions = All-map_at (AreEntries (IsActionEntry (tokens_len g) (length states))) (λ (state : StateOf). wanted_row g state.cores state.shifts) states _
+    actions = All-map_at (AreEntries (IsActionEntry (tokens_len g) (length states))) (λ (state : StateOf). resolved_row g state.cores state.shifts) states _
         action_entries;
     gotos = All-map_at (AreEntries (IsGotoEntry (rules_len g) (length states))) (λ (state : StateOf). state.gotos) states _ goto_entries;
   }

@@ -8,7 +8,7 @@ use Rattle.lrpar_table_rows.specs.Table.{ConflictLists, ReduceReduce, ShiftReduc
 use Rattle.lrpar_table_items.specs.Cores.{CoreSet}
 use Rattle.lrpar_table_items.specs.StateRows.{IsRefusalOf, action_rows, conflicts_of_states, goto_rows, reduce_conflicts_below, shift_conflicts_below, table_of_states, unless_empty}
 use Rattle.lrpar_table_items.specs.States.{AreStates, StateOf, state_at}
-use Rattle.lrpar_table_items.specs.Wanted.{AreOnce, AscendFrom, IsRefusal}
+use Rattle.lrpar_table_items.specs.Resolution.{AreOnce, AscendFrom, IsRefusal}
 use Rattle.lrpar_table_items.specs.declared.fault.BuildFault.{BuildFault}
 use Rattle.lrpar_table_items.specs.declared.fault.BuildFault.TheVariants.{AcceptReduceConflict, Memory, StorageTooSmall, TooManyStates}
 

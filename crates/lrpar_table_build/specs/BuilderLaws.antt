@@ -5,17 +5,17 @@ use Rattle.lrpar_table_rows.specs.ConflictsFit.{ConflictsFit}
 use Rattle.lrpar_table_rows.specs.Graph.{Graph, ItemOf, graph_len}
 use Rattle.lrpar_table_rows.specs.Safe.{IsSafe}
 use Rattle.lrpar_table_rows.specs.Table.{ConflictLists, ReduceReduce, ShiftReduce, Table, TableAction, ShiftTo, ReduceBy, Accepts, Fails, action_of, goto_of, states_len}
-use Rattle.lrpar_table_items.specs.Canonical.{ActsAsWanted, GoesAsWanted, IsAcceptConflict, IsCanonical, IsReduceConflict, IsShiftConflict, IsTransition, WantsAccept, WantsReduce, sets_of}
+use Rattle.lrpar_table_items.specs.Canonical.{ActsAsResolved, GoesAsItems, IsAcceptConflict, IsCanonical, IsReduceConflict, IsShiftConflict, IsTransition, HasAccept, HasReduce, sets_of}
 
 -- the table has a state for each set of the graph, and starts in number 0; it has the grammar's tokens and rules; in each state it
 -- does and goes as the set wants; and past its states, its tokens and its rules it does nothing
-pub record IsWantedTable (g : Grammar) (graph : Graph) (table : Table) : Type 0 where
+pub record IsCanonicalTable (g : Grammar) (graph : Graph) (table : Table) : Type 0 where
   pub states : graph_len graph ≡ states_len table
   pub start : table.start ≡ 0
   pub tokens : table.tokens ≡ tokens_len g
   pub rules : table.rules ≡ rules_len g
-  pub acts : (s t : ℕ) → s < states_len table → t < tokens_len g → ActsAsWanted g (sets_of graph) table s t
-  pub goes : (s r : ℕ) → s < states_len table → r < rules_len g → GoesAsWanted g (sets_of graph) table s r
+  pub acts : (s t : ℕ) → s < states_len table → t < tokens_len g → ActsAsResolved g (sets_of graph) table s t
+  pub goes : (s r : ℕ) → s < states_len table → r < rules_len g → GoesAsItems g (sets_of graph) table s r
   pub no_state : (s t : ℕ) → states_len table ≤ s → action_of table s t ≡ Fails
   pub no_token : (s t : ℕ) → table.tokens ≤ t → action_of table s t ≡ Fails
   pub no_rule : (s r : ℕ) → table.rules ≤ r → goto_of table s r ≡ None
@@ -23,19 +23,19 @@ pub record IsWantedTable (g : Grammar) (graph : Graph) (table : Table) : Type 0 
 -- a table that does what the canonical sets of a grammar want is safe
 abbrev pub CanonicalTablesAreSafe : Type 0
 CanonicalTablesAreSafe =
-    (g : Grammar) (graph : Graph) (table : Table) → IsWellFormed g → IsCanonical g graph → IsWantedTable g graph table
+    (g : Grammar) (graph : Graph) (table : Table) → IsWellFormed g → IsCanonical g graph → IsCanonicalTable g graph table
     → IsSafe g graph table
 
 -- set s, one of len, wants the action at token t
-abbrev pub Wants : Grammar → ℕ → (ℕ → ItemOf → Type 0) → ℕ → ℕ → TableAction → Type 0
-Wants g len sets s t (ShiftTo next) = IsTransition g len sets s (Terminal t) (Some next)
-Wants g len sets s t (ReduceBy p) = WantsReduce g sets s t p
-Wants g len sets s t Accepts = WantsAccept g sets s t
-Wants g len sets s t Fails = ⊥
+abbrev pub HasAction : Grammar → ℕ → (ℕ → ItemOf → Type 0) → ℕ → ℕ → TableAction → Type 0
+HasAction g len sets s t (ShiftTo next) = IsTransition g len sets s (Terminal t) (Some next)
+HasAction g len sets s t (ReduceBy p) = HasReduce g sets s t p
+HasAction g len sets s t Accepts = HasAccept g sets s t
+HasAction g len sets s t Fails = ⊥
 
 -- none of the len sets wants two different actions at one token
-abbrev pub WantOneAction : Grammar → ℕ → (ℕ → ItemOf → Type 0) → Type 0
-WantOneAction g len sets = (s t : ℕ) (a b : TableAction) → s < len → Wants g len sets s t a → Wants g len sets s t b → a ≡ b
+abbrev pub HaveOneAction : Grammar → ℕ → (ℕ → ItemOf → Type 0) → Type 0
+HaveOneAction g len sets = (s t : ℕ) (a b : TableAction) → s < len → HasAction g len sets s t a → HasAction g len sets s t b → a ≡ b
 
 -- none of the len sets wants to accept and a reduction
 abbrev pub AcceptAlone : Grammar → ℕ → (ℕ → ItemOf → Type 0) → Type 0
@@ -59,7 +59,7 @@ abbrev pub NoConflictsAreOneAction : Type 0
 NoConflictsAreOneAction =
     (g : Grammar) (graph : Graph) (conflicts : Option ConflictLists) → IsWellFormed g → IsCanonical g graph
     → AreConflictsOf g graph conflicts → AcceptAlone g (graph_len graph) (sets_of graph)
-    → (conflicts ≡ None) ↔ WantOneAction g (graph_len graph) (sets_of graph)
+    → (conflicts ≡ None) ↔ HaveOneAction g (graph_len graph) (sets_of graph)
 
 -- what is listed of canonical sets fits the grammar
 abbrev pub CanonicalConflictsFit : Type 0

@@ -9,7 +9,7 @@ use Rattle.lrpar_table_rows.specs.ConflictsFit.{ConflictsFit}
 use Rattle.lrpar_table_rows.specs.Graph.{Graph, graph_len}
 use Rattle.lrpar_table_rows.specs.Safe.{IsSafe}
 use Rattle.lrpar_table_rows.specs.Table.{ConflictLists, ReduceReduce, ShiftReduce, Table}
-use Rattle.lrpar_table_build.specs.BuilderLaws.{AcceptAlone, AreConflictsOf, IsWantedTable, WantOneAction, lists_in}
+use Rattle.lrpar_table_build.specs.BuilderLaws.{AcceptAlone, AreConflictsOf, IsCanonicalTable, HaveOneAction, lists_in}
 use Rattle.lrpar_table_items.specs.Canonical.{IsAcceptConflict, IsCanonical, ReachesMore, sets_of}
 use Rattle.lrpar_table_items.specs.declared.fault.BuildFault.{BuildFault}
 use Rattle.lrpar_table_items.specs.declared.fault.BuildFault.TheVariants.{AcceptReduceConflict, Memory, StorageTooSmall, TooManyStates}
@@ -31,12 +31,12 @@ pub record StandInOrder (lists : ConflictLists) : Type 0 where
 -- grammar, and none exactly where no set wants two different actions at one token; and no set wants to accept and a reduction
 pub record IsBuilt (g : Grammar) (graph : Graph) (table : Table) : Type 0 where
   pub canonical : IsCanonical g graph
-  pub wanted : IsWantedTable g graph table
+  pub resolved : IsCanonicalTable g graph table
   pub safe : IsSafe g graph table
   pub conflicts : AreConflictsOf g graph table.conflicts
   pub in_order : StandInOrder (lists_in table.conflicts)
   pub fit : ConflictsFit g (lists_in table.conflicts)
-  pub no_conflicts : (table.conflicts ≡ None) ↔ WantOneAction g (graph_len graph) (sets_of graph)
+  pub no_conflicts : (table.conflicts ≡ None) ↔ HaveOneAction g (graph_len graph) (sets_of graph)
   pub accept_alone : AcceptAlone g (graph_len graph) (sets_of graph)
 
 -- number n of the canonical sets wants to accept, and a reduction

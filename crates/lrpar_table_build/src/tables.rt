@@ -8,7 +8,7 @@ ghost use Rattle.lrpar_table_rows.specs.Table.{IsTable};
 ghost use Rattle.lrpar_table_build.specs.Built.{IsBuilt};
 ghost use Rattle.lrpar_table_items.specs.StateRows.{IsRefusalOf, IsRefusedState, action_rows, conflicts_of_states, goto_rows, item_rows, reduce_conflicts_below, shift_conflicts_below, table_of_states, unless_empty};
 ghost use Rattle.lrpar_table_items.specs.States.{AreStates, state_at, state_of};
-ghost use Rattle.lrpar_table_items.specs.Wanted.{IsAcceptReduce};
+ghost use Rattle.lrpar_table_items.specs.Resolution.{IsAcceptReduce};
 ghost use Rattle.lrpar_table_items.specs.declared.fault.BuildFault.TheVariants.{Memory};
 ghost use Rattle.lrpar_table_rows.specs.declared.fault.TableFault.{TableFault};
 
@@ -17,8 +17,8 @@ use lrpar_grammar::span::{RIdx, StIdx, StorageIndex, TIdx};
 use lrpar_table_items::fault::BuildFault;
 use lrpar_table_items::item_rows::rows_of_items;
 use lrpar_table_items::item_set::State;
+use lrpar_table_items::resolution::{ReduceReduce, ShiftReduce};
 use lrpar_table_items::state_row::state_row;
-use lrpar_table_items::wants::{ReduceReduce, ShiftReduce};
 use lrpar_table_rows::table::{Action, Conflicts, SparseRows, StateGraph, StateTable, TableFault};
 use std::alloc::{AllocError, Global};
 

@@ -49,9 +49,9 @@ listed_symbols g formed p known =
 
 -- so a rule behind a dot isn't the added one
 rule_listed : (g : Grammar) → IsWellFormed g → (p k r : ℕ) (w : List GrammarSymbol) → p < prods_len g → drop k (symbols_of g p) ≡ Nonterminal r ∷ w → 0 < r
-rule_listed g formed p k r w known behind =
+rule_listed g formed p k r w known further =
     let P : GrammarSymbol → Type 0 = IsListedSymbol (rules_len g) (end_token g) in
-    let all = subst (All P) behind (All-drop P k (symbols_of g p) (listed_symbols g formed p known)) in
+    let all = subst (All P) further (All-drop P k (symbols_of g p) (listed_symbols g formed p known)) in
     (All-head P (Nonterminal r) w all).0
 
 -- and its productions aren't the start production
@@ -113,8 +113,8 @@ module _ {X : Type 0} (token : X → ℕ) (g : Grammar) (graph : Graph) (table :
 
   -- C3 and C4: a state steps on by the symbol behind the dot
   steps_on : (s p k t : ℕ) (x : GrammarSymbol) → HasItem graph s p k t → slice_get (symbols_of g p) k ≡ Some x → StepsOn graph table s x p k t
-  steps_on s p k t (Terminal a) has behind = complete.each C3 s (state_within s p k t has) p k t has a behind
-  steps_on s p k t (Nonterminal r) has behind = complete.each C4 s (state_within s p k t has) p k t has r behind
+  steps_on s p k t (Terminal a) has further = complete.each C3 s (state_within s p k t has) p k t has a further
+  steps_on s p k t (Nonterminal r) has further = complete.each C4 s (state_within s p k t has) p k t has r further
 
   -- a tree of x is followed from a stack at place i to place j, with its productions
   pub record TreeRuns (st : List ℕ) (s p k t : ℕ) (x : GrammarSymbol) (prods : List ℕ) (i j : ℕ) : Type 0 where
@@ -211,34 +211,34 @@ module _ {X : Type 0} (token : X → ℕ) (g : Grammar) (graph : Graph) (table :
     pub tree_runs : (tree : Tree X) (x : GrammarSymbol) (st : List ℕ) (s p k t : ℕ) (w : List GrammarSymbol) (i j : ℕ) → Fits token g tree x
         → top_of st ≡ Some s → HasItem graph s p k t → drop k (symbols_of g p) ≡ x ∷ w → Stand lexemes (leaves tree) i j
         → IsFirst g t w (token_at token g lexemes j) → TreeRuns st s p k t x (productions tree) i j
-    tree_runs (Leaf l) (Terminal a) st s p k t w i j fits top has behind stand first =
-        leaf_runs l a st s p k t i j fits top stand (steps_on s p k t (Terminal a) has (at_drop (symbols_of g p) k (Terminal a) w behind).0)
-    tree_runs (Leaf l) (Nonterminal r) st s p k t w i j fits top has behind stand first = absurd fits
-    tree_runs (Branch q children) (Terminal a) st s p k t w i j fits top has behind stand first = absurd fits
-    tree_runs (Branch q children) (Nonterminal r) st s p k t w i j fits top has behind stand first =
+    tree_runs (Leaf l) (Terminal a) st s p k t w i j fits top has further stand first =
+        leaf_runs l a st s p k t i j fits top stand (steps_on s p k t (Terminal a) has (at_drop (symbols_of g p) k (Terminal a) w further).0)
+    tree_runs (Leaf l) (Nonterminal r) st s p k t w i j fits top has further stand first = absurd fits
+    tree_runs (Branch q children) (Terminal a) st s p k t w i j fits top has further stand first = absurd fits
+    tree_runs (Branch q children) (Nonterminal r) st s p k t w i j fits top has further stand first =
         let b = token_at token g lexemes j in
-        let begun = complete.each C2 s (state_within s p k t has) p k t has r w behind q b fits.0 fits.1 first in
+        let begun = complete.each C2 s (state_within s p k t has) p k t has r w further q b fits.0 fits.1 first in
         let inner = forest_runs children (symbols_of g q) st s q 0 b i j fits.2 top begun refl stand refl in
         let known = (shape.items s p k t has).prod in
-        let other = not_start g formed q r fits.1 (rule_listed g formed p k r w known behind) in
+        let other = not_start g formed q r fits.1 (rule_listed g formed p k r w known further) in
         node_runs q r st s p k t (forest_productions children) i j fits.0 fits.1 other top
-        (steps_on s p k t (Nonterminal r) has (at_drop (symbols_of g p) k (Nonterminal r) w behind).0) inner
+        (steps_on s p k t (Nonterminal r) has (at_drop (symbols_of g p) k (Nonterminal r) w further).0) inner
 
     pub forest_runs : (ts : Forest X) (ss : List GrammarSymbol) (st : List ℕ) (s q k b i j : ℕ) → ForestFits token g ts ss
         → top_of st ≡ Some s → HasItem graph s q k b → drop k (symbols_of g q) ≡ ss → Stand lexemes (forest_leaves ts) i j
         → token_at token g lexemes j ≡ b → ForestRuns st q k b ss (forest_productions ts) i j
-    forest_runs Nil [] st s q k b i j fits top has behind stand last = none_runs st s q k b i j top has stand
-    forest_runs Nil (x ∷ ss) st s q k b i j fits top has behind stand last = absurd fits
-    forest_runs (Cons t ts) [] st s q k b i j fits top has behind stand last = absurd fits
-    forest_runs (Cons t ts) (x ∷ ss) st s q k b i j fits top has behind stand last =
+    forest_runs Nil [] st s q k b i j fits top has further stand last = none_runs st s q k b i j top has stand
+    forest_runs Nil (x ∷ ss) st s q k b i j fits top has further stand last = absurd fits
+    forest_runs (Cons t ts) [] st s q k b i j fits top has further stand last = absurd fits
+    forest_runs (Cons t ts) (x ∷ ss) st s q k b i j fits top has further stand last =
         let m = i + length (leaves t) in
         let parts = stand_split lexemes (leaves t) (forest_leaves ts) i j stand in
         let first : IsFirst g b ss (token_at token g lexemes m) =
         subst (λ (n : ℕ). IsFirst g b ss n)
         (sym (stand_token token g lexemes (forest_leaves ts) m j parts.1 ∙ ap (first_token token (forest_leaves ts)) last))
         (forest_begins token g b ts ss fits.1) in
-        let one = tree_runs t x st s q k b ss i m fits.0 top has behind parts.0 first in
-        let next : drop (k + 1) (symbols_of g q) ≡ ss = rw add-one (at_drop (symbols_of g q) k x ss behind).1 in
+        let one = tree_runs t x st s q k b ss i m fits.0 top has further parts.0 first in
+        let next : drop (k + 1) (symbols_of g q) ≡ ss = rw add-one (at_drop (symbols_of g q) k x ss further).1 in
         more_run st s q k b x ss (productions t) (forest_productions ts) i m j one
         (forest_runs ts ss (st ++ one.next ∷ []) one.next q (k + 1) b m j fits.1 (top_more st one.next) one.item next parts.1 last)
 

@@ -81,10 +81,10 @@ comes_alike token g table lexemes others n inside alike _ _ _ _ _ (comes_on st i
     (comes_alike token g table lexemes others n inside alike next (i + 1) qs after j rest low)
 
 -- what follows a list stands behind it
-get_behind : {X : Type 0} (front rest : List X) (x : X) (i : ℕ) → length front ≡ i → slice_get (front ++ x ∷ rest) i ≡ Some x
-get_behind [] rest x i many = subst (λ (n : ℕ). slice_get (x ∷ rest) n ≡ Some x) many refl
-get_behind (y ∷ front) rest x zero many = absurd (omega (arith, many))
-get_behind (y ∷ front) rest x (suc i) many = get_behind front rest x i (omega (arith, many))
+get_after : {X : Type 0} (front rest : List X) (x : X) (i : ℕ) → length front ≡ i → slice_get (front ++ x ∷ rest) i ≡ Some x
+get_after [] rest x i many = subst (λ (n : ℕ). slice_get (x ∷ rest) n ≡ Some x) many refl
+get_after (y ∷ front) rest x zero many = absurd (omega (arith, many))
+get_after (y ∷ front) rest x (suc i) many = get_after front rest x i (omega (arith, many))
 
 module _ {X : Type 0} (token : X → ℕ) (g : Grammar) (table : Table) (lexemes : List X) (i : ℕ) (st : List ℕ) (fed : FeedsFront token g table lexemes i st) where
   within : i ≤ length lexemes
@@ -124,7 +124,7 @@ module _ {X : Type 0} (token : X → ℕ) (g : Grammar) (table : Table) (lexemes
       let on = far_from token g table others (table.start ∷ []) 0 fed.0 st i prods Accepted (comes_before (x ∷ rest)) runs in
       let inside : i < length others = omega (arith, front_len, length-append (take i lexemes) (x ∷ rest)) in
       let next = accepted_next token g table others st i on.0 Accepted on.1 refl inside in
-      let is : token_at token g others i ≡ token x = token_at_lexeme token g others i x (get_behind (take i lexemes) rest x i front_len) in
+      let is : token_at token g others i ≡ token x = token_at_lexeme token g others i x (get_after (take i lexemes) rest x i front_len) in
       let feeds = subst (λ (t : ℕ). Feeds g table t st next.0 next.1) is next.2 in
       let path = comes_path token g table lexemes never (table.start ∷ []) 0 fed.0 st i fed.1 ([], (refl, tt)) in
       inl (fed_apart g table (token x) st next.0 next.1 never path feeds, (next.0, next.1, feeds))

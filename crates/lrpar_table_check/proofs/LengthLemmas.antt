@@ -2,9 +2,9 @@
 use Rattle.std.proofs.Common.{◌≡◌, ◌<◌, ◌≤◌, ◌+◌, ◌↔◌, ◌⊎◌, inl, inr, arith, refl, sym, subst, ℕ, suc, List, Option, Some, None}
 use Rattle.lrpar_grammar.specs.Grammar.{Grammar}
 use Rattle.lrpar_table_stacks.specs.Chain.{HasReductions}
-use Rattle.lrpar_table_stacks.specs.Step.{IsStepOf}
-use Rattle.lrpar_table_stacks.specs.declared.step.Step.{Step}
-use Rattle.lrpar_table_stacks.specs.declared.step.Step.TheVariants.{Reduced, LeavesNone, Stays}
+use Rattle.lrpar_table_stacks.specs.ReductionStep.{IsStepOf}
+use Rattle.lrpar_table_stacks.specs.declared.reduction.Step.{Step}
+use Rattle.lrpar_table_stacks.specs.declared.reduction.Step.TheVariants.{Reduced, LeavesNone, Stays}
 use Rattle.lrpar_table_stacks.proofs.StepLemmas.{goes_on_dropped, goes_on_reduced, goes_on_stays}
 use Rattle.lrpar_table_rows.specs.Table.{Table}
 use Rattle.lrpar_table_check.specs.Lengths.{IsCounted, IsLength}

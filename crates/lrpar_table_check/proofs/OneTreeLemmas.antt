@@ -20,8 +20,8 @@ last_same (a ∷ xs) (b ∷ ys) x y e =
     (ap (λ z. z ∷ xs) first ∙ ap (λ zs. b ∷ zs) more.0, more.1)
 
 -- nothing behind either
-none_behind : {A : Type 0} (xs ys : List A) → xs ++ [] ≡ ys ++ [] → xs ≡ ys
-none_behind xs ys e = sym (append-nil xs) ∙ e ∙ append-nil ys
+none_after : {A : Type 0} (xs ys : List A) → xs ++ [] ≡ ys ++ [] → xs ≡ ys
+none_after xs ys e = sym (append-nil xs) ∙ e ∙ append-nil ys
 
 -- the seam moved
 seam_same : {A : Type 0} (a b c x y z : List A) → a ++ (b ++ c) ≡ x ++ (y ++ z) → (a ++ b) ++ c ≡ (x ++ y) ++ z
@@ -33,7 +33,7 @@ module _ {X : Type 0} (token : X → ℕ) (g : Grammar) where
         → ps ++ productions t ≡ qs ++ productions u → xs ++ leaves t ≡ ys ++ leaves u → (t ≡ u) × (ps ≡ qs) × (xs ≡ ys)
     one_tree (Leaf x) (Leaf y) (Terminal a) ps qs xs ys fit fits prods lexemes =
         let last = last_same xs ys x y lexemes in
-        (ap (λ z. Leaf z) last.1, none_behind ps qs prods, last.0)
+        (ap (λ z. Leaf z) last.1, none_after ps qs prods, last.0)
     one_tree (Leaf x) (Leaf y) (Nonterminal r) ps qs xs ys fit fits prods lexemes = absurd fit
     one_tree (Leaf x) (Branch q ds) (Terminal a) ps qs xs ys fit fits prods lexemes = absurd fits
     one_tree (Leaf x) (Branch q ds) (Nonterminal r) ps qs xs ys fit fits prods lexemes = absurd fit
@@ -50,7 +50,7 @@ module _ {X : Type 0} (token : X → ℕ) (g : Grammar) where
     pub one_forest : (ts us : Forest X) (ss : List GrammarSymbol) (ps qs : List ℕ) (xs ys : List X) → ForestFits token g ts ss
         → ForestFits token g us ss → ps ++ forest_productions ts ≡ qs ++ forest_productions us
         → xs ++ forest_leaves ts ≡ ys ++ forest_leaves us → (ts ≡ us) × (ps ≡ qs) × (xs ≡ ys)
-    one_forest Nil Nil ss ps qs xs ys fit fits prods lexemes = (refl, none_behind ps qs prods, none_behind xs ys lexemes)
+    one_forest Nil Nil ss ps qs xs ys fit fits prods lexemes = (refl, none_after ps qs prods, none_after xs ys lexemes)
     one_forest Nil (Cons u us) [] ps qs xs ys fit fits prods lexemes = absurd fits
     one_forest Nil (Cons u us) (s ∷ ss) ps qs xs ys fit fits prods lexemes = absurd fit
     one_forest (Cons t ts) Nil [] ps qs xs ys fit fits prods lexemes = absurd fit

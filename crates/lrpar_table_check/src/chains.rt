@@ -7,14 +7,14 @@ ghost use Rattle.lrpar_table_check.specs.Lengths.{IsCounted, IsLongestWithin};
 ghost use Rattle.lrpar_table_stacks.specs.Chain.{AreChainsShort, HasReductions, IsLongChain, IsShortUntil};
 ghost use Rattle.lrpar_table_rows.specs.PlainRows.{plain_action, plain_goto};
 ghost use Rattle.lrpar_table_stacks.specs.Stack.{states_of};
-ghost use Rattle.lrpar_table_stacks.specs.Step.{FitsGrammar};
+ghost use Rattle.lrpar_table_stacks.specs.ReductionStep.{FitsGrammar};
 ghost use Rattle.lrpar_table_rows.specs.Table.{IsClosed, IsGotoWithin, ReduceBy, states_len};
 
 use crate::fault::CheckFault;
 use lrpar_grammar::grammar::YaccGrammar;
 use lrpar_grammar::span::{StIdx, StorageIndex, TIdx};
 use lrpar_table_rows::table::{Action, StateTable};
-use lrpar_table_stacks::step::{Step, take_step};
+use lrpar_table_stacks::reduction::{Step, take_step};
 use std::alloc::{AllocError, Global};
 
 /// The chains of a table, each of which is to make at most `cap` reductions.

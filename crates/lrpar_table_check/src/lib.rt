@@ -3,7 +3,7 @@
 
 mod chains;
 pub mod check;
-mod complete;
+mod complete_tables;
 mod expected;
 mod fault;
 pub mod laws;

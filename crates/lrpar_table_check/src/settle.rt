@@ -11,8 +11,8 @@ use crate::check::ParserData;
 use lrpar_grammar::span::{StIdx, StorageIndex, TIdx};
 use lrpar_table_rows::table::Action;
 use lrpar_table_stacks::overlay::Overlay;
+use lrpar_table_stacks::reduction::{Step, take_step};
 use lrpar_table_stacks::state_stack::{Settled, ShiftStack, StateStack};
-use lrpar_table_stacks::step::{Step, take_step};
 use std::alloc::AllocError;
 
 impl<StorageT: StorageIndex> ParserData<StorageT> {

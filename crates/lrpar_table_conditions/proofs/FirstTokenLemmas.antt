@@ -9,13 +9,13 @@ use Rattle.lrpar_table_stacks.specs.Run.{token_at}
 
 -- the token of the first lexeme, or what is behind them where there is none
 abbrev pub first_token : {X : Type 0} → (X → ℕ) → List X → ℕ → ℕ
-first_token token [] behind = behind
-first_token token (x ∷ xs) behind = token x
+first_token token [] after = after
+first_token token (x ∷ xs) after = token x
 
-first_token-append : {X : Type 0} (token : X → ℕ) (xs ys : List X) (behind : ℕ)
-    → first_token token (xs ++ ys) behind ≡ first_token token xs (first_token token ys behind)
-first_token-append token [] ys behind = refl
-first_token-append token (x ∷ xs) ys behind = refl
+first_token-append : {X : Type 0} (token : X → ℕ) (xs ys : List X) (after : ℕ)
+    → first_token token (xs ++ ys) after ≡ first_token token xs (first_token token ys after)
+first_token-append token [] ys after = refl
+first_token-append token (x ∷ xs) ys after = refl
 
 module _ {X : Type 0} (token : X → ℕ) (g : Grammar) (a : ℕ) where
   mutual

@@ -15,7 +15,7 @@ use Rattle.lrpar_grammar.specs.Grammar.{Grammar, GrammarSymbol, IsWellFormed, No
 use Rattle.lrpar_grammar.specs.Symbols.{symbol_of}
 use Rattle.lrpar_grammar_places.proofs.ListLemmas.{All-map-at, map-take_more}
 use Rattle.lrpar_table_first.specs.First.{IsFirst}
-use Rattle.lrpar_table_first.specs.FirstRows.{IsFirstBefore, IsSymbolBelow, mark_of, row_at, rows_of}
+use Rattle.lrpar_table_first.specs.FirstRows.{IsFirstBefore, IsSymbolBelow, dummy_lookahead, row_at, rows_of}
 use Rattle.lrpar_grammar.specs.Tokens.{has}
 use Rattle.lrpar_grammar.specs.declared.token_set.TokenSet.{TokenSet}
 use Rattle.lrpar_table_first.proofs.GrowthLemmas.{row_in, rows-set}
@@ -150,12 +150,12 @@ pub closed_core : (g : Grammar) (rows : List (List Bool)) (p k r : ℕ) (w : Lis
     → ((t : ℕ) → IsTrue (has begun t) ↔ (IsTrue (has cleared t) ⊎ IsFirstBefore g after w t))
     → IsTrue test ↔ ((q b : ℕ) → q < prods_len g → rule_of g q ≡ r → IsTrue (has begun b) → IsTrue (has (row_at rows q) b))
     → IsTrue test ↔ All (ClosesAmong g rows p k) tokens
-closed_core g rows p k r w tokens after begun cleared test behind are none put decides = (
+closed_core g rows p k r w tokens after begun cleared test further are none put decides = (
   λ h i d below.
       let t = get_or tokens i d in
       let has_t : IsTrue (has after t) = (are t).1 (All-contains_itself tokens i d below) in
       λ r' w' behind' q b known by first.
-      let same : Nonterminal r' ∷ w' ≡ Nonterminal r ∷ w = sym behind' ∙ behind in
+      let same : Nonterminal r' ∷ w' ≡ Nonterminal r ∷ w = sym behind' ∙ further in
       let same_rule : r' ≡ r = cc in
       let same_rest : w' ≡ w = cc in
       let first' = subst (λ (v : List GrammarSymbol). IsFirst g t v b) same_rest first in
@@ -163,21 +163,21 @@ closed_core g rows p k r w tokens after begun cleared test behind are none put d
   λ all. decides.1 (λ q b known by has_b.
       elim ((put b).0 has_b) as (λ _. IsTrue (has (row_at rows q) b)) [
         | inl before ↦ absurd (false≢true (sym (none b) ∙ before))
-        | inr first ↦ All-contains (ClosesAmong g rows p k) tokens first.0 all ((are first.0).0 first.1) r w behind q b known by first.2
+        | inr first ↦ All-contains (ClosesAmong g rows p k) tokens first.0 all ((are first.0).0 first.1) r w further q b known by first.2
       ]),
 )
 
 -- C2 where no rule is behind the dot
 pub nothing_to_close : (g : Grammar) (rows : List (List Bool)) (p k : ℕ) (tokens : List ℕ) → ((r : ℕ) (w : List GrammarSymbol) → drop k (symbols_of g p) ≢ Nonterminal r ∷ w)
     → IsTrue true ↔ All (ClosesAmong g rows p k) tokens
-nothing_to_close g rows p k tokens none = accepted (λ i d below r w behind. absurd (none r w behind))
+nothing_to_close g rows p k tokens none = accepted (λ i d below r w further. absurd (none r w further))
 
 -- by the lookaheads of a state's first items it is C2 of the state
 pub closes_by_starts : (g : Grammar) (graph : Graph) (s p k t : ℕ) (rows : List (List Bool)) → AreStartsOf (items_of graph s) rows
     → ClosesAmong g rows p k t ↔ ClosesItem g graph s p k t
 closes_by_starts g graph s p k t rows starts = (
-  λ among r w behind q b known by first. (starts q b).0 (among r w behind q b known by first),
-  λ closes r w behind q b known by first. (starts q b).1 (closes r w behind q b known by first),
+  λ among r w further q b known by first. (starts q b).0 (among r w further q b known by first),
+  λ closes r w further q b known by first. (starts q b).1 (closes r w further q b known by first),
 )
 
 -- C3 by the token behind the dot
@@ -186,8 +186,8 @@ pub shifts_each : (g : Grammar) (graph : Graph) (table : Table) (s p k a : ℕ) 
 shifts_each g graph table s p k a tokens test at decides =
     each_same (StepsOn graph table s (Terminal a) p k) (ShiftsItem g graph table s p k) tokens test
     (λ t. (
-      λ step b behind.
-          let both : Some (Terminal a) ≡ Some (Terminal b) = sym at ∙ behind in
+      λ step b further.
+          let both : Some (Terminal a) ≡ Some (Terminal b) = sym at ∙ further in
           let same : a ≡ b = cc in
           subst (λ (n : ℕ). StepsOn graph table s (Terminal n) p k t) same step,
       λ shifts. shifts a at,
@@ -195,7 +195,7 @@ shifts_each g graph table s p k a tokens test at decides =
 
 pub nothing_to_shift : (g : Grammar) (graph : Graph) (table : Table) (s p k : ℕ) (tokens : List ℕ) → ((a : ℕ) → slice_get (symbols_of g p) k ≢ Some (Terminal a))
     → IsTrue true ↔ All (ShiftsItem g graph table s p k) tokens
-nothing_to_shift g graph table s p k tokens none = accepted (λ i d below a behind. absurd (none a behind))
+nothing_to_shift g graph table s p k tokens none = accepted (λ i d below a further. absurd (none a further))
 
 -- C4 by the rule behind the dot
 pub carries_each : (g : Grammar) (graph : Graph) (table : Table) (s p k r : ℕ) (tokens : List ℕ) (test : Bool) → slice_get (symbols_of g p) k ≡ Some (Nonterminal r)
@@ -203,8 +203,8 @@ pub carries_each : (g : Grammar) (graph : Graph) (table : Table) (s p k r : ℕ)
 carries_each g graph table s p k r tokens test at decides =
     each_same (StepsOn graph table s (Nonterminal r) p k) (CarriesItem g graph table s p k) tokens test
     (λ t. (
-      λ step b behind.
-          let both : Some (Nonterminal r) ≡ Some (Nonterminal b) = sym at ∙ behind in
+      λ step b further.
+          let both : Some (Nonterminal r) ≡ Some (Nonterminal b) = sym at ∙ further in
           let same : r ≡ b = cc in
           subst (λ (n : ℕ). StepsOn graph table s (Nonterminal n) p k t) same step,
       λ carries. carries r at,
@@ -212,7 +212,7 @@ carries_each g graph table s p k r tokens test at decides =
 
 pub nothing_to_carry : (g : Grammar) (graph : Graph) (table : Table) (s p k : ℕ) (tokens : List ℕ) → ((r : ℕ) → slice_get (symbols_of g p) k ≢ Some (Nonterminal r))
     → IsTrue true ↔ All (CarriesItem g graph table s p k) tokens
-nothing_to_carry g graph table s p k tokens none = accepted (λ i d below r behind. absurd (none r behind))
+nothing_to_carry g graph table s p k tokens none = accepted (λ i d below r further. absurd (none r further))
 
 -- a step by where the state goes
 pub steps_each : (graph : Graph) (table : Table) (s : ℕ) (x : GrammarSymbol) (next p k : ℕ) (tokens : List ℕ) (test : Bool) → GoesBy table s x next
@@ -358,7 +358,7 @@ symbol_past {S} index xs ys k x are past at =
 
 -- a rule stands behind the dot in the one form and in the other
 pub rule_at : (g : Grammar) (p k r : ℕ) (w : List GrammarSymbol) → drop k (symbols_of g p) ≡ Nonterminal r ∷ w → slice_get (symbols_of g p) k ≡ Some (Nonterminal r)
-rule_at g p k r w behind = (at_drop (symbols_of g p) k (Nonterminal r) w behind).0
+rule_at g p k r w further = (at_drop (symbols_of g p) k (Nonterminal r) w further).0
 
 pub no_rule_at : (g : Grammar) (p k : ℕ) → ((r : ℕ) (w : List GrammarSymbol) → drop k (symbols_of g p) ≢ Nonterminal r ∷ w)
     → (r : ℕ) → slice_get (symbols_of g p) k ≢ Some (Nonterminal r)
@@ -457,16 +457,16 @@ start_within g sets p prod room known is = let count = room.prods in omega (arit
 
 -- and it is as wide as all
 pub start_wide : (g : Grammar) (sets : List TokenSet) (prod : ℕ) (d : TokenSet) → HaveStarts g (rows_of sets) → prod < length sets
-    → length (get_or sets prod d).bits.items ≡ mark_of g + 1
-start_wide g sets prod d room within = All-map-at (λ row. length row ≡ mark_of g + 1) (λ s. s.bits.items) sets room.wide prod d within
+    → length (get_or sets prod d).bits.items ≡ dummy_lookahead g + 1
+start_wide g sets prod d room within = All-map-at (λ row. length row ≡ dummy_lookahead g + 1) (λ s. s.bits.items) sets room.wide prod d within
 
 -- a set that is as wide in the place of one of them keeps their room
-pub starts_room : (g : Grammar) (sets : List TokenSet) (prod : ℕ) (new : TokenSet) → HaveStarts g (rows_of sets) → length new.bits.items ≡ mark_of g + 1
+pub starts_room : (g : Grammar) (sets : List TokenSet) (prod : ℕ) (new : TokenSet) → HaveStarts g (rows_of sets) → length new.bits.items ≡ dummy_lookahead g + 1
     → HaveStarts g (rows_of (set sets prod new))
 starts_room g sets prod new room wide =
     subst (HaveStarts g) (sym (rows-set sets prod new)) (record {
       prods = length-set (rows_of sets) prod new.bits.items ∙ room.prods;
-      wide = All-set (λ row. length row ≡ mark_of g + 1) (rows_of sets) prod new.bits.items wide room.wide;
+      wide = All-set (λ row. length row ≡ dummy_lookahead g + 1) (rows_of sets) prod new.bits.items wide room.wide;
     })
 
 -- and so do sets of the same widths

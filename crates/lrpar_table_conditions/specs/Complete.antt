@@ -8,8 +8,8 @@ use Rattle.lrpar_table_rows.specs.Graph.{Graph, HasItem}
 use Rattle.lrpar_table_rows.specs.Safe.{GoesBy}
 use Rattle.lrpar_table_rows.specs.Table.{Table, ReduceBy, Accepts, action_of, states_len}
 use Rattle.lrpar_table_conditions.specs.Completeness.{condition_number}
-use Rattle.lrpar_table_conditions.specs.declared.complete_fault.CompleteFault.{CompleteFault}
-use Rattle.lrpar_table_conditions.specs.declared.complete_fault.CompleteFault.TheVariants.{Condition, Memory}
+use Rattle.lrpar_table_conditions.specs.declared.completeness_fault.CompleteFault.{CompleteFault}
+use Rattle.lrpar_table_conditions.specs.declared.completeness_fault.CompleteFault.TheVariants.{Condition, Memory}
 use Rattle.lrpar_table_conditions.specs.declared.completeness.CompletenessCondition.{CompletenessCondition}
 use Rattle.lrpar_table_conditions.specs.declared.completeness.CompletenessCondition.TheVariants.{C1, C2, C3, C4, C5}
 

@@ -4,7 +4,7 @@ use Rattle.lrpar_grammar_places.specs.declared.span.PIdx.{PIdx}
 use Rattle.lrpar_grammar_places.specs.declared.span.TIdx.{TIdx}
 use Rattle.lrpar_grammar.specs.Grammar.{Grammar, GrammarSymbol, IsWellFormed, Nonterminal, prods_len, rule_of, start_prod, symbols_of}
 use Rattle.lrpar_table_first.specs.First.{IsFirst}
-use Rattle.lrpar_table_first.specs.FirstRows.{AreFirsts, HoldNothing, mark_of, row_at, rows_of}
+use Rattle.lrpar_table_first.specs.FirstRows.{AreFirsts, HoldNothing, dummy_lookahead, row_at, rows_of}
 use Rattle.lrpar_grammar.specs.Tokens.{has}
 use Rattle.lrpar_table_rows.specs.Graph.{Graph, ItemOf, item_at}
 use Rattle.lrpar_table_rows.specs.Safe.{HasShape}
@@ -12,7 +12,7 @@ use Rattle.lrpar_table_rows.specs.Table.{Table, TableAction, ReduceBy, Accepts}
 use Rattle.lrpar_table_conditions.specs.Complete.{CarriesItem, EndsItem, ShiftsItem}
 use Rattle.lrpar_table_conditions.specs.declared.completeness.CompletenessCondition.{CompletenessCondition}
 use Rattle.lrpar_table_conditions.specs.declared.completeness.CompletenessCondition.TheVariants.{C3, C4, C5}
-use Rattle.lrpar_table_conditions.specs.declared.complete.sets.WorkSets.{WorkSets}
+use Rattle.lrpar_table_conditions.specs.declared.completeness_test.sets.WorkSets.{WorkSets}
 
 -- the grammar is well formed, the table has its shape, and these are the sets of what its rules begin with
 pub record IsKnown (g : Grammar) (graph : Graph) (table : Table) (firsts : List (List Bool)) : Type 0 where
@@ -23,13 +23,13 @@ pub record IsKnown (g : Grammar) (graph : Graph) (table : Table) (firsts : List 
 -- there is a set for each production, with room for each token and for the mark
 pub record HaveStarts (g : Grammar) (rows : List (List Bool)) : Type 0 where
   pub prods : length rows ≡ prods_len g
-  pub wide : All (λ row. length row ≡ mark_of g + 1) rows
+  pub wide : All (λ row. length row ≡ dummy_lookahead g + 1) rows
 
 -- each of the sets has room for each token and for the mark
 pub record HaveRoomFor (g : Grammar) (sets : WorkSets) : Type 0 where
-  pub after : length sets.after.bits.items ≡ mark_of g + 1
-  pub front : length sets.front.bits.items ≡ mark_of g + 1
-  pub begun : length sets.begun.bits.items ≡ mark_of g + 1
+  pub after : length sets.after.bits.items ≡ dummy_lookahead g + 1
+  pub front : length sets.front.bits.items ≡ dummy_lookahead g + 1
+  pub begun : length sets.begun.bits.items ≡ dummy_lookahead g + 1
   pub starts : HaveStarts g (rows_of sets.starts.items)
 
 -- and those of the productions hold nothing

@@ -2,9 +2,9 @@
 #![tactic(auto)]
 
 pub mod checkable;
-pub mod complete;
-pub mod complete_fault;
 pub mod completeness;
+pub mod completeness_fault;
+pub mod completeness_test;
 mod cores;
 mod entrywise;
 mod shape;

@@ -5,17 +5,17 @@ use Rattle.std.proofs.lemmas.List.{append-nil}
 use Rattle.std.proofs.lemmas.List.Elements.{All-head, All-tail}
 use Rattle.lrpar_grammar.specs.Grammar.{Grammar, GrammarSymbol, IsWellFormed, Nonterminal, Terminal, prods_len, rule_of, symbols_of}
 use Rattle.lrpar_table_first.specs.First.{IsFirst, Behind, Rule}
-use Rattle.lrpar_table_first.specs.FirstRows.{AreFirsts, IsFirstBefore, IsSymbolBelow, begins, mark_of}
+use Rattle.lrpar_table_first.specs.FirstRows.{AreFirsts, IsFirstBefore, IsSymbolBelow, begins, dummy_lookahead}
 use Rattle.lrpar_grammar.specs.Tokens.{has}
-use Rattle.lrpar_table_first.proofs.FirstLemmas.{AreBelow, closed_begins, first_behind, first_by_mark, first_from_mark, sound_begins}
+use Rattle.lrpar_table_first.proofs.FirstLemmas.{AreBelow, closed_begins, first_after, first_by_dummy, first_from_dummy, sound_begins}
 use Rattle.lrpar_table_first.proofs.GrowthLemmas.{has_room, prods_below}
 
 -- symbols below the mark
-pub symbols_below : (rules mark : ℕ) (w : List GrammarSymbol) → All (IsSymbolBelow rules mark) w → AreBelow mark w
-symbols_below rules mark [] all = tt
-symbols_below rules mark (Nonterminal r ∷ w) all = symbols_below rules mark w (All-tail (IsSymbolBelow rules mark) (Nonterminal r) w all)
-symbols_below rules mark (Terminal t ∷ w) all =
-    (All-head (IsSymbolBelow rules mark) (Terminal t) w all, symbols_below rules mark w (All-tail (IsSymbolBelow rules mark) (Terminal t) w all))
+pub symbols_below : (rules dummy : ℕ) (w : List GrammarSymbol) → All (IsSymbolBelow rules dummy) w → AreBelow dummy w
+symbols_below rules dummy [] all = tt
+symbols_below rules dummy (Nonterminal r ∷ w) all = symbols_below rules dummy w (All-tail (IsSymbolBelow rules dummy) (Nonterminal r) w all)
+symbols_below rules dummy (Terminal t ∷ w) all =
+    (All-head (IsSymbolBelow rules dummy) (Terminal t) w all, symbols_below rules dummy w (All-tail (IsSymbolBelow rules dummy) (Terminal t) w all))
 
 -- what a set has once the tokens of another below a bound were put into it
 pub united : (old other new : List Bool) (n t : ℕ) → has new t ≡ (has old t || (nat_lt t n && has other t))
@@ -32,72 +32,72 @@ united old other new n t put = (
 )
 
 module _ (g : Grammar) (well : IsWellFormed g) (rows : List (List Bool)) (firsts : AreFirsts g rows) (w : List GrammarSymbol)
-    (free : AreBelow (mark_of g) w) where
+    (free : AreBelow (dummy_lookahead g) w) where
   -- by exact sets symbols begin with what they begin with
-  pub begins_is : (t : ℕ) → IsTrue (begins (mark_of g) rows w t) ↔ IsFirst g (mark_of g) w t
+  pub begins_is : (t : ℕ) → IsTrue (begins (dummy_lookahead g) rows w t) ↔ IsFirst g (dummy_lookahead g) w t
   begins_is t =
       let below = prods_below g well in
       let sound = λ (r s : ℕ). (firsts.exact r s).0 in
-      let closed = λ (p : ℕ) (known : p < prods_len g) (s : ℕ) (h : IsTrue (begins (mark_of g) rows (symbols_of g p) s)).
-      let first = sound_begins g (mark_of g) below rows sound (symbols_of g p) s h in
+      let closed = λ (p : ℕ) (known : p < prods_len g) (s : ℕ) (h : IsTrue (begins (dummy_lookahead g) rows (symbols_of g p) s)).
+      let first = sound_begins g (dummy_lookahead g) below rows sound (symbols_of g p) s h in
       (firsts.exact (rule_of g p) s).1
-      (Rule p (rule_of g p) [] s known refl (subst (λ v. IsFirst g (mark_of g) v s) (sym (append-nil (symbols_of g p))) first)) in
-      (λ h. sound_begins g (mark_of g) below rows sound w t h, λ first. closed_begins g (mark_of g) below rows closed w t first)
+      (Rule p (rule_of g p) [] s known refl (subst (λ v. IsFirst g (dummy_lookahead g) v s) (sym (append-nil (symbols_of g p))) first)) in
+      (λ h. sound_begins g (dummy_lookahead g) below rows sound w t h, λ first. closed_begins g (dummy_lookahead g) below rows closed w t first)
 
   -- before a token of a set
-  pub before_from_mark : (after : List Bool) (t : ℕ) → ((a : ℕ) × IsTrue (has after a)) → t < mark_of g → IsFirst g (mark_of g) w t
+  pub before_from_dummy : (after : List Bool) (t : ℕ) → ((a : ℕ) × IsTrue (has after a)) → t < dummy_lookahead g → IsFirst g (dummy_lookahead g) w t
       → IsFirstBefore g after w t
-  before_from_mark after t some low first = (some.0, some.1, first_from_mark g (mark_of g) (prods_below g well) some.0 w t low first)
+  before_from_dummy after t some low first = (some.0, some.1, first_from_dummy g (dummy_lookahead g) (prods_below g well) some.0 w t low first)
 
-  pub before_through : (after : List Bool) (t : ℕ) → IsTrue (has after t) → IsFirst g (mark_of g) w (mark_of g) → IsFirstBefore g after w t
+  pub before_through : (after : List Bool) (t : ℕ) → IsTrue (has after t) → IsFirst g (dummy_lookahead g) w (dummy_lookahead g) → IsFirstBefore g after w t
   before_through after t in_after through =
-      let all = first_behind g (mark_of g) (prods_below g well) t w [] t (mark_of g) refl free through Behind in
+      let all = first_after g (dummy_lookahead g) (prods_below g well) t w [] t (dummy_lookahead g) refl free through Behind in
       (t, in_after, subst (λ v. IsFirst g t v t) (append-nil w) all)
 
   -- and back
   pub before_cases : (after : List Bool) (t : ℕ) → IsFirstBefore g after w t
-      → ((t < mark_of g) × IsFirst g (mark_of g) w t) ⊎ (IsFirst g (mark_of g) w (mark_of g) × IsTrue (has after t))
+      → ((t < dummy_lookahead g) × IsFirst g (dummy_lookahead g) w t) ⊎ (IsFirst g (dummy_lookahead g) w (dummy_lookahead g) × IsTrue (has after t))
   before_cases after t h =
-      elim (first_by_mark g (mark_of g) (prods_below g well) h.0 w t free h.2) [
+      elim (first_by_dummy g (dummy_lookahead g) (prods_below g well) h.0 w t free h.2) [
         | inl own ↦ inl own
         | inr rest ↦ inr (rest.0, subst (λ x. IsTrue (has after x)) (sym rest.1) h.1)
       ]
 
   module _ (after front old middle : List Bool) (some : (a : ℕ) × IsTrue (has after a))
-      (begun : (t : ℕ) → has front t ≡ begins (mark_of g) rows w t)
-      (put : (t : ℕ) → has middle t ≡ (has old t || (nat_lt t (mark_of g) && has front t))) where
+      (begun : (t : ℕ) → has front t ≡ begins (dummy_lookahead g) rows w t)
+      (put : (t : ℕ) → has middle t ≡ (has old t || (nat_lt t (dummy_lookahead g) && has front t))) where
     -- where the symbols derive something, what they begin with is all
-    pub added_before : has front (mark_of g) ≡ false
+    pub added_before : has front (dummy_lookahead g) ≡ false
         → (t : ℕ) → IsTrue (has middle t) ↔ (IsTrue (has old t) ⊎ IsFirstBefore g after w t)
     added_before ends t =
-        let parts = united old front middle (mark_of g) t (put t) in (
+        let parts = united old front middle (dummy_lookahead g) t (put t) in (
           λ h. elim (parts.0 h) [
             | inl before ↦ inl before
-            | inr fresh ↦ inr (before_from_mark after t some fresh.0 ((begins_is t).0 (sym (begun t) ∙ fresh.1)))
+            | inr fresh ↦ inr (before_from_dummy after t some fresh.0 ((begins_is t).0 (sym (begun t) ∙ fresh.1)))
           ],
           λ h. elim h [
             | inl before ↦ parts.1 (inl before)
             | inr first ↦
                 elim (before_cases after t first) [
                   | inl own ↦ parts.1 (inr (own.0, begun t ∙ (begins_is t).1 own.1))
-                  | inr rest ↦ let through = begun (mark_of g) ∙ (begins_is (mark_of g)).1 rest.0 in absurd cc
+                  | inr rest ↦ let through = begun (dummy_lookahead g) ∙ (begins_is (dummy_lookahead g)).1 rest.0 in absurd cc
                 ]
           ],
         )
 
     -- where they derive nothing, the set's tokens come too
-    pub added_through : (new : List Bool) → length after ≡ mark_of g + 1 → has front (mark_of g) ≡ true
-        → ((t : ℕ) → has new t ≡ (has middle t || (nat_lt t (mark_of g + 1) && has after t)))
+    pub added_through : (new : List Bool) → length after ≡ dummy_lookahead g + 1 → has front (dummy_lookahead g) ≡ true
+        → ((t : ℕ) → has new t ≡ (has middle t || (nat_lt t (dummy_lookahead g + 1) && has after t)))
         → (t : ℕ) → IsTrue (has new t) ↔ (IsTrue (has old t) ⊎ IsFirstBefore g after w t)
     added_through new wide through more t =
-        let parts = united old front middle (mark_of g) t (put t) in
-        let all = united middle after new (mark_of g + 1) t (more t) in
-        let nothing = (begins_is (mark_of g)).0 (sym (begun (mark_of g)) ∙ through) in (
+        let parts = united old front middle (dummy_lookahead g) t (put t) in
+        let all = united middle after new (dummy_lookahead g + 1) t (more t) in
+        let nothing = (begins_is (dummy_lookahead g)).0 (sym (begun (dummy_lookahead g)) ∙ through) in (
           λ h. elim (all.0 h) [
             | inl early ↦
                 elim (parts.0 early) [
                   | inl before ↦ inl before
-                  | inr fresh ↦ inr (before_from_mark after t some fresh.0 ((begins_is t).0 (sym (begun t) ∙ fresh.1)))
+                  | inr fresh ↦ inr (before_from_dummy after t some fresh.0 ((begins_is t).0 (sym (begun t) ∙ fresh.1)))
                 ]
             | inr late ↦ inr (before_through after t late.1 nothing)
           ],

@@ -6,7 +6,7 @@ use Rattle.std.proofs.lemmas.List.Elements.{All-get_or, All-head, All-set, All-t
 use Rattle.std.proofs.lemmas.List.Sums.{sum_by-set}
 use Rattle.lrpar_grammar.specs.Grammar.{Grammar, GrammarSymbol, IsListedSymbol, IsWellFormed, Nonterminal, Terminal, end_token, prods_len, rule_of, rules_len, start_prod, symbols_of}
 use Rattle.lrpar_table_first.specs.First.{IsFirst, Rule}
-use Rattle.lrpar_table_first.specs.FirstRows.{AreFirsts, AreSound, HaveRoom, IsClosedAt, begins, mark_of, row_at, rows_of, total_missing}
+use Rattle.lrpar_table_first.specs.FirstRows.{AreFirsts, AreSound, HaveRoom, IsClosedAt, begins, dummy_lookahead, row_at, rows_of, total_missing}
 use Rattle.lrpar_grammar.specs.Tokens.{has, missing}
 use Rattle.lrpar_grammar.specs.declared.token_set.TokenSet.{TokenSet}
 use Rattle.lrpar_table_first.proofs.FirstLemmas.{AreBelow, begins_cases, closed_begins, sound_begins}
@@ -21,13 +21,13 @@ listed_below rules tokens (Terminal t ∷ w) all =
     (omega (arith, low), listed_below rules tokens w (All-tail (IsListedSymbol rules tokens) (Terminal t) w all))
 
 -- the mark stands in no production
-pub prods_below : (g : Grammar) → IsWellFormed g → (p : ℕ) → p < prods_len g → AreBelow (mark_of g) (symbols_of g p)
+pub prods_below : (g : Grammar) → IsWellFormed g → (p : ℕ) → p < prods_len g → AreBelow (dummy_lookahead g) (symbols_of g p)
 prods_below g well p known =
     elim (cases_lt p (start_prod g)) [
       | inl listed ↦ listed_below (rules_len g) (end_token g) (symbols_of g p) (well.symbols p listed)
       | inr last ↦
           let is : start_prod g ≡ p = omega (arith, known, last) in
-          subst (λ n. AreBelow (mark_of g) (symbols_of g n)) is (subst (AreBelow (mark_of g)) (sym well.last_symbols) tt)
+          subst (λ n. AreBelow (dummy_lookahead g) (symbols_of g n)) is (subst (AreBelow (dummy_lookahead g)) (sym well.last_symbols) tt)
     ]
 
 -- a set that has a token has room for it
@@ -43,9 +43,9 @@ pub rows-set : (sets : List TokenSet) (r : ℕ) (new : TokenSet) → rows_of (se
 rows-set sets r new = map-set (λ s. s.bits.items) sets r new
 
 -- it keeps its room
-pub room_set : (g : Grammar) (rows : List (List Bool)) (r : ℕ) (bits : List Bool) → HaveRoom g rows → length bits ≡ mark_of g + 1 → HaveRoom g (set rows r bits)
+pub room_set : (g : Grammar) (rows : List (List Bool)) (r : ℕ) (bits : List Bool) → HaveRoom g rows → length bits ≡ dummy_lookahead g + 1 → HaveRoom g (set rows r bits)
 room_set g rows r bits room wide =
-    record { rules = length-set rows r bits ∙ room.rules; wide = All-set (λ row. length row ≡ mark_of g + 1) rows r bits wide room.wide }
+    record { rules = length-set rows r bits ∙ room.rules; wide = All-set (λ row. length row ≡ dummy_lookahead g + 1) rows r bits wide room.wide }
 
 -- and lacks less, where the new set does
 pub missing_set : (rows : List (List Bool)) (r : ℕ) (bits : List Bool) → r < length rows → missing bits < missing (row_at rows r)
@@ -53,42 +53,42 @@ pub missing_set : (rows : List (List Bool)) (r : ℕ) (bits : List Bool) → r <
 missing_set rows r bits within less = let sums = sum_by-set missing rows r bits [] within in omega (arith, sums, less)
 
 module _ (g : Grammar) (well : IsWellFormed g) (rows : List (List Bool)) (p : ℕ) (known : p < prods_len g) (front bits : List Bool)
-    (begun : (t : ℕ) → has front t ≡ begins (mark_of g) rows (symbols_of g p) t)
-    (put : (t : ℕ) → has bits t ≡ (has (row_at rows (rule_of g p)) t || (nat_lt t (mark_of g + 1) && has front t))) where
+    (begun : (t : ℕ) → has front t ≡ begins (dummy_lookahead g) rows (symbols_of g p) t)
+    (put : (t : ℕ) → has bits t ≡ (has (row_at rows (rule_of g p)) t || (nat_lt t (dummy_lookahead g + 1) && has front t))) where
   -- what was put in is derived
   pub sound_more : rule_of g p < length rows → AreSound g rows → AreSound g (set rows (rule_of g p) bits)
   sound_more within sound r t h =
       let own = rule_of g p in
-      elim (cases_eq r own) as (λ _. IsFirst g (mark_of g) (Nonterminal r ∷ []) t) [
+      elim (cases_eq r own) as (λ _. IsFirst g (dummy_lookahead g) (Nonterminal r ∷ []) t) [
         | inl same ↦
             let here : row_at (set rows own bits) r ≡ bits = ap (row_at (set rows own bits)) same ∙ get_or-set_same rows own bits [] within in
-            let now : IsTrue (has (row_at rows own) t || (nat_lt t (mark_of g + 1) && has front t)) = sym (put t) ∙ subst (λ x. IsTrue (has x t)) here h in
-            elim (or_cases (has (row_at rows own) t) (nat_lt t (mark_of g + 1) && has front t) now) as (λ _. IsFirst g (mark_of g) (Nonterminal r ∷ []) t) [
+            let now : IsTrue (has (row_at rows own) t || (nat_lt t (dummy_lookahead g + 1) && has front t)) = sym (put t) ∙ subst (λ x. IsTrue (has x t)) here h in
+            elim (or_cases (has (row_at rows own) t) (nat_lt t (dummy_lookahead g + 1) && has front t) now) as (λ _. IsFirst g (dummy_lookahead g) (Nonterminal r ∷ []) t) [
               | inl before ↦ sound r t (subst (λ x. IsTrue (has (row_at rows x) t)) (sym same) before)
               | inr fresh ↦
-                  let in_front = sym (begun t) ∙ (and_parts (nat_lt t (mark_of g + 1)) (has front t) fresh).1 in
-                  let first = sound_begins g (mark_of g) (prods_below g well) rows sound (symbols_of g p) t in_front in
-                  Rule p r [] t known (sym same) (subst (λ w. IsFirst g (mark_of g) w t) (sym (append-nil (symbols_of g p))) first)
+                  let in_front = sym (begun t) ∙ (and_parts (nat_lt t (dummy_lookahead g + 1)) (has front t) fresh).1 in
+                  let first = sound_begins g (dummy_lookahead g) (prods_below g well) rows sound (symbols_of g p) t in_front in
+                  Rule p r [] t known (sym same) (subst (λ w. IsFirst g (dummy_lookahead g) w t) (sym (append-nil (symbols_of g p))) first)
             ]
         | inr other ↦ sound r t (subst (λ x. IsTrue (has x t)) (get_or-set_other rows own r bits [] other) h)
       ]
 
   -- where nothing was new, the set had all
-  pub closed_same : length front ≡ mark_of g + 1 → bits ≡ row_at rows (rule_of g p) → IsClosedAt g rows p
+  pub closed_same : length front ≡ dummy_lookahead g + 1 → bits ≡ row_at rows (rule_of g p) → IsClosedAt g rows p
   closed_same wide same t h =
       let own = rule_of g p in
       let in_front : IsTrue (has front t) = begun t ∙ h in
-      let low : t < mark_of g + 1 = let inside = has_room front t in_front in omega (arith, wide, inside) in
-      let now : IsTrue (has bits t) = put t ∙ or_right (has (row_at rows own) t) (nat_lt t (mark_of g + 1) && has front t)
-      (and_from (nat_lt t (mark_of g + 1)) (has front t) (lt-ltb t (mark_of g + 1) low) in_front) in
+      let low : t < dummy_lookahead g + 1 = let inside = has_room front t in_front in omega (arith, wide, inside) in
+      let now : IsTrue (has bits t) = put t ∙ or_right (has (row_at rows own) t) (nat_lt t (dummy_lookahead g + 1) && has front t)
+      (and_from (nat_lt t (dummy_lookahead g + 1)) (has front t) (lt-ltb t (dummy_lookahead g + 1) low) in_front) in
       subst (λ x. IsTrue (has x t)) same now
 
 -- what a rule alone begins with is in its set
-begins_alone : (mark : ℕ) (rows : List (List Bool)) (r t : ℕ) → IsTrue (begins mark rows (Nonterminal r ∷ []) t) → IsTrue (has (row_at rows r) t)
-begins_alone mark rows r t h =
-    elim (begins_cases mark rows r [] t h) [
+begins_alone : (dummy : ℕ) (rows : List (List Bool)) (r t : ℕ) → IsTrue (begins dummy rows (Nonterminal r ∷ []) t) → IsTrue (has (row_at rows r) t)
+begins_alone dummy rows r t h =
+    elim (begins_cases dummy rows r [] t h) [
       | inl own ↦ own.1
-      | inr rest ↦ subst (λ x. IsTrue (has (row_at rows r) x)) (sym (eqb-true t mark rest.1)) rest.0
+      | inr rest ↦ subst (λ x. IsTrue (has (row_at rows r) x)) (sym (eqb-true t dummy rest.1)) rest.0
     ]
 
 -- sets that are sound, and closed at each production, are exact
@@ -100,7 +100,7 @@ exact_sets g well rows room sound closed =
       room = room;
       exact = λ r t. (
         λ h. sound r t h,
-        λ first. begins_alone (mark_of g) rows r t (closed_begins g (mark_of g) below rows closed (Nonterminal r ∷ []) t first),
+        λ first. begins_alone (dummy_lookahead g) rows r t (closed_begins g (dummy_lookahead g) below rows closed (Nonterminal r ∷ []) t first),
       );
     }
 
@@ -114,19 +114,19 @@ row_in sets r d within = sym (get_or-map (λ s. s.bits.items) sets r d [] within
 
 -- it has room for all
 pub set_wide : (g : Grammar) (sets : List TokenSet) (r : ℕ) (d : TokenSet) → r < rules_len g → HaveRoom g (rows_of sets)
-    → length (get_or sets r d).bits.items ≡ mark_of g + 1
+    → length (get_or sets r d).bits.items ≡ dummy_lookahead g + 1
 set_wide g sets r d low room =
     let count = sets_len g sets room in
     let rows = room.rules in
     ap length (row_in sets r d (omega (arith, low, count)))
-    ∙ All-get_or (λ row. length row ≡ mark_of g + 1) (rows_of sets) r [] (omega (arith, low, rows)) room.wide
+    ∙ All-get_or (λ row. length row ≡ dummy_lookahead g + 1) (rows_of sets) r [] (omega (arith, low, rows)) room.wide
 
-module _ (g : Grammar) (well : IsWellFormed g) (sets : List TokenSet) (p r mark : ℕ) (known : p < prods_len g) (is : r ≡ rule_of g p)
-    (low : rule_of g p < rules_len g) (marked : mark ≡ mark_of g) (room : HaveRoom g (rows_of sets)) (d new : TokenSet) (front cleared : List Bool)
+module _ (g : Grammar) (well : IsWellFormed g) (sets : List TokenSet) (p r dummy : ℕ) (known : p < prods_len g) (is : r ≡ rule_of g p)
+    (low : rule_of g p < rules_len g) (marked : dummy ≡ dummy_lookahead g) (room : HaveRoom g (rows_of sets)) (d new : TokenSet) (front cleared : List Bool)
     (symbols : List GrammarSymbol) (are : symbols ≡ symbols_of g p) (none : (t : ℕ) → has cleared t ≡ false)
-    (begun : (t : ℕ) → has front t ≡ (has cleared t || begins mark (rows_of sets) symbols t)) (long : length front ≡ mark_of g + 1)
+    (begun : (t : ℕ) → has front t ≡ (has cleared t || begins dummy (rows_of sets) symbols t)) (long : length front ≡ dummy_lookahead g + 1)
     (wide : length new.bits.items ≡ length (get_or sets r d).bits.items)
-    (put : (t : ℕ) → has new.bits.items t ≡ (has (get_or sets r d).bits.items t || (nat_lt t (mark + 1) && has front t))) where
+    (put : (t : ℕ) → has new.bits.items t ≡ (has (get_or sets r d).bits.items t || (nat_lt t (dummy + 1) && has front t))) where
   inside : rule_of g p < length (rows_of sets)
   inside = let count = room.rules in omega (arith, count, low)
 
@@ -138,19 +138,19 @@ module _ (g : Grammar) (well : IsWellFormed g) (sets : List TokenSet) (p r mark 
   new_rows : rows_of (set sets r new) ≡ set (rows_of sets) (rule_of g p) new.bits.items
   new_rows = rows-set sets r new ∙ ap (λ n. set (rows_of sets) n new.bits.items) is
 
-  begun_by : (t : ℕ) → has front t ≡ begins (mark_of g) (rows_of sets) (symbols_of g p) t
+  begun_by : (t : ℕ) → has front t ≡ begins (dummy_lookahead g) (rows_of sets) (symbols_of g p) t
   begun_by t =
-      begun t ∙ ap (λ b. b || begins mark (rows_of sets) symbols t) (none t) ∙ ap (λ n. begins n (rows_of sets) symbols t) marked
-      ∙ ap (λ w. begins (mark_of g) (rows_of sets) w t) are
+      begun t ∙ ap (λ b. b || begins dummy (rows_of sets) symbols t) (none t) ∙ ap (λ n. begins n (rows_of sets) symbols t) marked
+      ∙ ap (λ w. begins (dummy_lookahead g) (rows_of sets) w t) are
 
-  put_by : (t : ℕ) → has new.bits.items t ≡ (has (row_at (rows_of sets) (rule_of g p)) t || (nat_lt t (mark_of g + 1) && has front t))
+  put_by : (t : ℕ) → has new.bits.items t ≡ (has (row_at (rows_of sets) (rule_of g p)) t || (nat_lt t (dummy_lookahead g + 1) && has front t))
   put_by t =
-      put t ∙ ap (λ b. has b t || (nat_lt t (mark + 1) && has front t)) old_row
+      put t ∙ ap (λ b. has b t || (nat_lt t (dummy + 1) && has front t)) old_row
       ∙ ap (λ n. has (row_at (rows_of sets) (rule_of g p)) t || (nat_lt t (n + 1) && has front t)) marked
 
   pub grown_room : HaveRoom g (rows_of (set sets r new))
   grown_room =
-      let old_wide = All-get_or (λ row. length row ≡ mark_of g + 1) (rows_of sets) (rule_of g p) [] inside room.wide in
+      let old_wide = All-get_or (λ row. length row ≡ dummy_lookahead g + 1) (rows_of sets) (rule_of g p) [] inside room.wide in
       subst (HaveRoom g) (sym new_rows) (room_set g (rows_of sets) (rule_of g p) new.bits.items room (wide ∙ ap length old_row ∙ old_wide))
 
   pub grown_sound : AreSound g (rows_of sets) → AreSound g (rows_of (set sets r new))

@@ -36,33 +36,33 @@ or_nothing : (x : Bool) → (x || false) ≡ x
 or_nothing true = refl
 or_nothing false = refl
 
-module _ (mark : ℕ) (rows : List (List Bool)) (symbols : List GrammarSymbol) (i : ℕ) (old front new : List Bool)
-    (so_far : (t : ℕ) → (has front t || begins mark rows (drop i symbols) t) ≡ (has old t || begins mark rows symbols t)) where
+module _ (dummy : ℕ) (rows : List (List Bool)) (symbols : List GrammarSymbol) (i : ℕ) (old front new : List Bool)
+    (so_far : (t : ℕ) → (has front t || begins dummy rows (drop i symbols) t) ≡ (has old t || begins dummy rows symbols t)) where
   -- a token ends the walk
   pub walk_token : (s : ℕ) (w : List GrammarSymbol) → drop i symbols ≡ Terminal s ∷ w → ((t : ℕ) → has new t ≡ (has front t || t == s))
-      → (t : ℕ) → has new t ≡ (has old t || begins mark rows symbols t)
-  walk_token s w at put t = put t ∙ subst (λ x. (has front t || begins mark rows x t) ≡ (has old t || begins mark rows symbols t)) at (so_far t)
+      → (t : ℕ) → has new t ≡ (has old t || begins dummy rows symbols t)
+  walk_token s w at put t = put t ∙ subst (λ x. (has front t || begins dummy rows x t) ≡ (has old t || begins dummy rows symbols t)) at (so_far t)
 
   -- a rule that derives something ends it too
-  pub walk_rule : (r : ℕ) (w : List GrammarSymbol) → drop i symbols ≡ Nonterminal r ∷ w → has (row_at rows r) mark ≡ false
-      → ((t : ℕ) → has new t ≡ (has front t || (nat_lt t mark && has (row_at rows r) t)))
-      → (t : ℕ) → has new t ≡ (has old t || begins mark rows symbols t)
+  pub walk_rule : (r : ℕ) (w : List GrammarSymbol) → drop i symbols ≡ Nonterminal r ∷ w → has (row_at rows r) dummy ≡ false
+      → ((t : ℕ) → has new t ≡ (has front t || (nat_lt t dummy && has (row_at rows r) t)))
+      → (t : ℕ) → has new t ≡ (has old t || begins dummy rows symbols t)
   walk_rule r w at none put t =
-      let own = nat_lt t mark && has (row_at rows r) t in
-      let ends : begins mark rows (Nonterminal r ∷ w) t ≡ own = ap (λ b. own || (b && begins mark rows w t)) none ∙ or_nothing own in
+      let own = nat_lt t dummy && has (row_at rows r) t in
+      let ends : begins dummy rows (Nonterminal r ∷ w) t ≡ own = ap (λ b. own || (b && begins dummy rows w t)) none ∙ or_nothing own in
       put t ∙ ap (λ b. has front t || b) (sym ends)
-      ∙ subst (λ x. (has front t || begins mark rows x t) ≡ (has old t || begins mark rows symbols t)) at (so_far t)
+      ∙ subst (λ x. (has front t || begins dummy rows x t) ≡ (has old t || begins dummy rows symbols t)) at (so_far t)
 
   -- one that derives nothing is walked over
-  pub walk_on : (r : ℕ) → drop i symbols ≡ Nonterminal r ∷ drop (i + 1) symbols → has (row_at rows r) mark ≡ true
-      → ((t : ℕ) → has new t ≡ (has front t || (nat_lt t mark && has (row_at rows r) t)))
-      → (t : ℕ) → (has new t || begins mark rows (drop (i + 1) symbols) t) ≡ (has old t || begins mark rows symbols t)
+  pub walk_on : (r : ℕ) → drop i symbols ≡ Nonterminal r ∷ drop (i + 1) symbols → has (row_at rows r) dummy ≡ true
+      → ((t : ℕ) → has new t ≡ (has front t || (nat_lt t dummy && has (row_at rows r) t)))
+      → (t : ℕ) → (has new t || begins dummy rows (drop (i + 1) symbols) t) ≡ (has old t || begins dummy rows symbols t)
   walk_on r at through put t =
-      let own = nat_lt t mark && has (row_at rows r) t in
-      let rest = begins mark rows (drop (i + 1) symbols) t in
-      let goes : begins mark rows (Nonterminal r ∷ drop (i + 1) symbols) t ≡ (own || rest) = ap (λ b. own || (b && rest)) through in
+      let own = nat_lt t dummy && has (row_at rows r) t in
+      let rest = begins dummy rows (drop (i + 1) symbols) t in
+      let goes : begins dummy rows (Nonterminal r ∷ drop (i + 1) symbols) t ≡ (own || rest) = ap (λ b. own || (b && rest)) through in
       ap (λ b. b || rest) (put t) ∙ or_assoc (has front t) own rest ∙ ap (λ b. has front t || b) (sym goes)
-      ∙ subst (λ x. (has front t || begins mark rows x t) ≡ (has old t || begins mark rows symbols t)) at (so_far t)
+      ∙ subst (λ x. (has front t || begins dummy rows x t) ≡ (has old t || begins dummy rows symbols t)) at (so_far t)
 
 -- a symbol of a list is as all of it are
 pub symbol_below : {S : Type 0} (index : S → ℕ) (P : GrammarSymbol → Type 0) (symbols : List (Symbol S)) (i : ℕ) (symbol shown : Symbol S)

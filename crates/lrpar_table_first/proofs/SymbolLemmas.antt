@@ -15,18 +15,18 @@ pub begins_by : {S : Type 0} (index : S → ℕ) (symbols rest : List (Symbol S)
 begins_by index symbols rest first shown split shows = ap (map (symbol_of index)) split.0 ∙ ap (λ s. symbol_of index s ∷ map (symbol_of index) rest) shows
 
 -- the symbols of a production from a place on, the first of which was split off
-pub behind_by : {S : Type 0} (index : S → ℕ) (symbols rest : List (Symbol S)) (first shown : Symbol S) (all : List GrammarSymbol) (k : ℕ)
+pub after_by : {S : Type 0} (index : S → ℕ) (symbols rest : List (Symbol S)) (first shown : Symbol S) (all : List GrammarSymbol) (k : ℕ)
     → map (symbol_of index) symbols ≡ all → IsFirstAndRest (take (length symbols - k) (drop k symbols)) first rest → first ≡ shown
     → drop k all ≡ symbol_of index shown ∷ map (symbol_of index) rest
-behind_by index symbols rest first shown all k is split shows =
+after_by index symbols rest first shown all k is split shows =
     let long : length (drop k symbols) ≤ length symbols - k = let exact = length-drop k symbols in omega (arith, exact) in
     let whole = take_all (length symbols - k) (drop k symbols) long in
     ap (drop k) (sym is) ∙ drop-map (symbol_of index) k symbols ∙ begins_by index (drop k symbols) rest first shown (subst (λ xs. IsFirstAndRest xs first rest) whole split) shows
 
 -- nothing is left of them, or a token comes first: then no rule does
-pub nothing_behind : {S : Type 0} (index : S → ℕ) (symbols : List (Symbol S)) (all : List GrammarSymbol) (k : ℕ) → map (symbol_of index) symbols ≡ all
+pub nothing_after : {S : Type 0} (index : S → ℕ) (symbols : List (Symbol S)) (all : List GrammarSymbol) (k : ℕ) → map (symbol_of index) symbols ≡ all
     → length (take (length symbols - k) (drop k symbols)) ≡ 0 → (r : ℕ) (w : List GrammarSymbol) → drop k all ≡ Nonterminal r ∷ w → ⊥
-nothing_behind index symbols all k is none r w begins =
+nothing_after index symbols all k is none r w begins =
     let long : length (drop k symbols) ≤ length symbols - k = let exact = length-drop k symbols in omega (arith, exact) in
     let whole = take_all (length symbols - k) (drop k symbols) long in
     let shown : length (drop k symbols) ≡ 0 = subst (λ xs. length xs ≡ 0) whole none in
@@ -34,8 +34,8 @@ nothing_behind index symbols all k is none r w begins =
     sym (length-map (drop k symbols) (symbol_of index)) ∙ ap length (sym (drop-map (symbol_of index) k symbols) ∙ ap (drop k) is ∙ begins) in
     omega (arith, shown, one)
 
-pub token_behind : (k t : ℕ) (all rest : List GrammarSymbol) → drop k all ≡ Terminal t ∷ rest → (r : ℕ) (w : List GrammarSymbol) → drop k all ≡ Nonterminal r ∷ w → ⊥
-token_behind k t all rest begins r w begins' = let both = sym begins ∙ begins' in absurd cc
+pub token_after : (k t : ℕ) (all rest : List GrammarSymbol) → drop k all ≡ Terminal t ∷ rest → (r : ℕ) (w : List GrammarSymbol) → drop k all ≡ Nonterminal r ∷ w → ⊥
+token_after k t all rest begins r w begins' = let both = sym begins ∙ begins' in absurd cc
 
 symbol_weaker : (rules tokens : ℕ) (s : GrammarSymbol) → IsListedSymbol rules tokens s → IsSymbolBelow rules (tokens + 1) s
 symbol_weaker rules tokens (Nonterminal r) h = h.1
@@ -55,9 +55,9 @@ prod_symbols g well p known =
     ]
 
 -- a rule that stands in a production is one of the grammar, and so are the symbols behind it
-pub behind_listed : (g : Grammar) → IsWellFormed g → (p k r : ℕ) (w : List GrammarSymbol) → p < prods_len g → drop k (symbols_of g p) ≡ Nonterminal r ∷ w
+pub after_listed : (g : Grammar) → IsWellFormed g → (p k r : ℕ) (w : List GrammarSymbol) → p < prods_len g → drop k (symbols_of g p) ≡ Nonterminal r ∷ w
     → (r < rules_len g) × All (IsSymbolBelow (rules_len g) (tokens_len g)) w
-behind_listed g well p k r w known begins =
+after_listed g well p k r w known begins =
     let below = IsSymbolBelow (rules_len g) (tokens_len g) in
     let all : All below (Nonterminal r ∷ w) = subst (All below) begins (All-drop below k (symbols_of g p) (prod_symbols g well p known)) in
     (All-head below (Nonterminal r) w all, All-tail below (Nonterminal r) w all)

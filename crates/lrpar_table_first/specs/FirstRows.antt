@@ -15,13 +15,13 @@ abbrev pub row_at : List (List Bool) → ℕ → List Bool
 row_at rows r = slice_index_or rows r []
 
 -- the number that no token has
-abbrev pub mark_of : Grammar → ℕ
-mark_of g = tokens_len g
+abbrev pub dummy_lookahead : Grammar → ℕ
+dummy_lookahead g = tokens_len g
 
 -- there is a set for each rule, with room for each token and for the mark
 pub record HaveRoom (g : Grammar) (rows : List (List Bool)) : Type 0 where
   pub rules : length rows ≡ rules_len g
-  pub wide : All (λ row. length row ≡ mark_of g + 1) rows
+  pub wide : All (λ row. length row ≡ dummy_lookahead g + 1) rows
 
 -- no set has anything in it
 abbrev pub HoldNothing : List (List Bool) → Type 0
@@ -29,22 +29,22 @@ HoldNothing rows = (r t : ℕ) → has (row_at rows r) t ≡ false
 
 -- what a list of symbols begins with where each rule begins with its set
 abbrev pub begins : ℕ → List (List Bool) → List GrammarSymbol → ℕ → Bool
-begins mark rows [] t = t == mark
-begins mark rows (Terminal s ∷ w) t = t == s
-begins mark rows (Nonterminal r ∷ w) t = (nat_lt t mark && has (row_at rows r) t) || (has (row_at rows r) mark && begins mark rows w t)
+begins dummy rows [] t = t == dummy
+begins dummy rows (Terminal s ∷ w) t = t == s
+begins dummy rows (Nonterminal r ∷ w) t = (nat_lt t dummy && has (row_at rows r) t) || (has (row_at rows r) dummy && begins dummy rows w t)
 
 -- what is in the sets is derived
 abbrev pub AreSound : Grammar → List (List Bool) → Type 0
-AreSound g rows = (r t : ℕ) → IsTrue (has (row_at rows r) t) → IsFirst g (mark_of g) (Nonterminal r ∷ []) t
+AreSound g rows = (r t : ℕ) → IsTrue (has (row_at rows r) t) → IsFirst g (dummy_lookahead g) (Nonterminal r ∷ []) t
 
 -- the set of production p's rule has what the production begins with
 abbrev pub IsClosedAt : Grammar → List (List Bool) → ℕ → Type 0
-IsClosedAt g rows p = (t : ℕ) → IsTrue (begins (mark_of g) rows (symbols_of g p) t) → IsTrue (has (row_at rows (rule_of g p)) t)
+IsClosedAt g rows p = (t : ℕ) → IsTrue (begins (dummy_lookahead g) rows (symbols_of g p) t) → IsTrue (has (row_at rows (rule_of g p)) t)
 
 -- each set has the tokens that its rule begins with, and the mark where the rule derives nothing
 pub record AreFirsts (g : Grammar) (rows : List (List Bool)) : Type 0 where
   pub room : HaveRoom g rows
-  pub exact : (r t : ℕ) → IsTrue (has (row_at rows r) t) ↔ IsFirst g (mark_of g) (Nonterminal r ∷ []) t
+  pub exact : (r t : ℕ) → IsTrue (has (row_at rows r) t) ↔ IsFirst g (dummy_lookahead g) (Nonterminal r ∷ []) t
 
 -- how many tokens the sets lack, of all that there is room for
 abbrev pub total_missing : List (List Bool) → ℕ

@@ -3,7 +3,7 @@ ghost use Rattle.std.specs.Prelude.{◌≡◌, ◌<◌, ◌+◌, ◌||◌, ◌�
 ghost use Rattle.std.specs.Bool.{OnFalse, OnTrue};
 ghost use Rattle.lrpar_grammar.specs.Grammar.{IsWellFormed, prods_len, rules_len, tokens_len};
 ghost use Rattle.lrpar_grammar.specs.Symbols.{symbol_of};
-ghost use Rattle.lrpar_table_first.specs.FirstRows.{AreFirsts, AreSound, HaveRoom, HoldNothing, IsClosedAt, IsFirstBefore, IsSymbolBelow, begins, mark_of, rows_of, total_missing};
+ghost use Rattle.lrpar_table_first.specs.FirstRows.{AreFirsts, AreSound, HaveRoom, HoldNothing, IsClosedAt, IsFirstBefore, IsSymbolBelow, begins, dummy_lookahead, rows_of, total_missing};
 ghost use Rattle.lrpar_grammar.specs.Tokens.{has};
 
 use lrpar_grammar::grammar::YaccGrammar;
@@ -60,9 +60,9 @@ fn grow_all<StorageT: StorageIndex>(
 ) -> bool
     requires well_formed { IsWellFormed grm.now }
     requires room { HaveRoom grm.now (rows_of sets.old) }
-    requires front { length front.old.bits.items ≡ mark_of grm.now + 1 }
+    requires front { length front.old.bits.items ≡ dummy_lookahead grm.now + 1 }
     ensures room { HaveRoom grm.now (rows_of sets.new) }
-    ensures front { length front.new.bits.items ≡ mark_of grm.now + 1 }
+    ensures front { length front.new.bits.items ≡ dummy_lookahead grm.now + 1 }
     ensures sound { AreSound grm.now (rows_of sets.old) → AreSound grm.now (rows_of sets.new) }
     ensures grown { OnTrue result (total_missing (rows_of sets.new) < total_missing (rows_of sets.old)) }
     ensures closed { OnFalse result ((p : ℕ) → p < prods_len grm.now → IsClosedAt grm.now (rows_of sets.new) p) }
@@ -87,19 +87,19 @@ fn grow<StorageT: StorageIndex>(
     requires prod { StorageT.index pidx.0 < prods_len grm.now }
     requires well_formed { IsWellFormed grm.now }
     requires room { HaveRoom grm.now (rows_of sets.old) }
-    requires front { length front.old.bits.items ≡ mark_of grm.now + 1 }
+    requires front { length front.old.bits.items ≡ dummy_lookahead grm.now + 1 }
     ensures room { HaveRoom grm.now (rows_of sets.new) }
-    ensures front { length front.new.bits.items ≡ mark_of grm.now + 1 }
+    ensures front { length front.new.bits.items ≡ dummy_lookahead grm.now + 1 }
     ensures sound { AreSound grm.now (rows_of sets.old) → AreSound grm.now (rows_of sets.new) }
     ensures grown { OnTrue result (total_missing (rows_of sets.new) < total_missing (rows_of sets.old)) }
     ensures same { OnFalse result (rows_of sets.new ≡ rows_of sets.old) }
     ensures closed { OnFalse result (IsClosedAt grm.now (rows_of sets.new) (StorageT.index pidx.0)) }
 {
-    let mark = grm.tokens_len();
+    let dummy = grm.tokens_len();
     front.clear();
-    add_first(sets, grm.prod(pidx), mark, front);
+    add_first(sets, grm.prod(pidx), dummy, front);
     let rule = usize::from(grm.prod_to_rule(pidx));
-    sets[rule].unite_below(front, mark + 1)
+    sets[rule].unite_below(front, dummy + 1)
 }
 
 /// Puts into `set` what the symbols begin with before any token of `after`: nothing, where `after` is empty. `front` is a set to
@@ -115,23 +115,23 @@ pub fn add_first_before<StorageT: StorageIndex>(
     requires well_formed { IsWellFormed grm.now }
     requires firsts { AreFirsts grm.now (rows_of sets.now) }
     requires symbols { All (IsSymbolBelow (rules_len grm.now) (tokens_len grm.now)) (map (symbol_of StorageT.index) symbols.now) }
-    requires after { length after.now.bits.items ≡ mark_of grm.now + 1 }
-    requires front { length front.old.bits.items ≡ mark_of grm.now + 1 }
-    requires set { length set.old.bits.items ≡ mark_of grm.now + 1 }
-    ensures front { length front.new.bits.items ≡ mark_of grm.now + 1 }
-    ensures set { length set.new.bits.items ≡ mark_of grm.now + 1 }
+    requires after { length after.now.bits.items ≡ dummy_lookahead grm.now + 1 }
+    requires front { length front.old.bits.items ≡ dummy_lookahead grm.now + 1 }
+    requires set { length set.old.bits.items ≡ dummy_lookahead grm.now + 1 }
+    ensures front { length front.new.bits.items ≡ dummy_lookahead grm.now + 1 }
+    ensures set { length set.new.bits.items ≡ dummy_lookahead grm.now + 1 }
     ensures tokens { (t : ℕ) → IsTrue (has set.new.bits.items t) ↔ (IsTrue (has set.old.bits.items t)
         ⊎ IsFirstBefore grm.now after.now.bits.items (map (symbol_of StorageT.index) symbols.now) t) }
 {
     if !after.has_any() {
         return;
     }
-    let mark = grm.tokens_len();
+    let dummy = grm.tokens_len();
     front.clear();
-    add_first(sets, symbols, mark, front);
-    let _new = set.unite_below(front, mark);
-    if front.contains(mark) {
-        let _more = set.unite_below(after, mark + 1);
+    add_first(sets, symbols, dummy, front);
+    let _new = set.unite_below(front, dummy);
+    if front.contains(dummy) {
+        let _more = set.unite_below(after, dummy + 1);
     }
 }
 
@@ -140,15 +140,15 @@ pub fn add_first_before<StorageT: StorageIndex>(
 pub fn add_first<StorageT: StorageIndex>(
     sets: &[TokenSet],
     symbols: &[Symbol<StorageT>],
-    mark: usize,
+    dummy: usize,
     front: &mut TokenSet,
 )
-    requires rules { All (IsSymbolBelow (length sets.now) mark) (map (symbol_of StorageT.index) symbols.now) }
-    requires wide { All (λ row. length row ≡ mark + 1) (rows_of sets.now) }
-    requires front { length front.old.bits.items ≡ mark + 1 }
-    ensures front { length front.new.bits.items ≡ mark + 1 }
+    requires rules { All (IsSymbolBelow (length sets.now) dummy) (map (symbol_of StorageT.index) symbols.now) }
+    requires wide { All (λ row. length row ≡ dummy + 1) (rows_of sets.now) }
+    requires front { length front.old.bits.items ≡ dummy + 1 }
+    ensures front { length front.new.bits.items ≡ dummy + 1 }
     ensures tokens { (t : ℕ) → has front.new.bits.items t
-        ≡ (has front.old.bits.items t || begins mark (rows_of sets.now) (map (symbol_of StorageT.index) symbols.now) t) }
+        ≡ (has front.old.bits.items t || begins dummy (rows_of sets.now) (map (symbol_of StorageT.index) symbols.now) t) }
 {
     for symbol in symbols {
         match *symbol {
@@ -158,12 +158,12 @@ pub fn add_first<StorageT: StorageIndex>(
             }
             Symbol::Rule(rule) => {
                 let set = &sets[usize::from(rule)];
-                let _grown = front.unite_below(set, mark);
-                if !set.contains(mark) {
+                let _grown = front.unite_below(set, dummy);
+                if !set.contains(dummy) {
                     return;
                 }
             }
         }
     }
-    front.insert(mark);
+    front.insert(dummy);
 }

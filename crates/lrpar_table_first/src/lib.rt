@@ -1,5 +1,5 @@
 //! Nullable rules, and FIRST sets.
 #![tactic(auto)]
 
-pub mod behind;
+pub mod after_dot;
 pub mod first;

@@ -34,6 +34,6 @@ module _ (g : Grammar) (well : IsWellFormed g) where
             ]
       ]
 
-  pub rule_behind_listed : (p k r : ℕ) (rest : List GrammarSymbol) → drop k (symbols_of g p) ≡ Nonterminal r ∷ rest → 0 < r
-  rule_behind_listed p k r rest is =
+  pub rule_after_listed : (p k r : ℕ) (rest : List GrammarSymbol) → drop k (symbols_of g p) ≡ Nonterminal r ∷ rest → 0 < r
+  rule_after_listed p k r rest is =
       All-head IsNotAdded (Nonterminal r) rest (subst (All IsNotAdded) is (All-drop IsNotAdded k (symbols_of g p) (listed_rules p)))

@@ -30,11 +30,11 @@ pub among_append : (cores more : List CoreSet) (x : ItemOf) → IsAmong (cores +
 among_append cores more x = (
   λ h. elim (Contains-append_cases cores more h.0 h.1) [
     | inl before ↦ inl (h.0, before, h.2)
-    | inr behind ↦ inr (h.0, behind, h.2)
+    | inr further ↦ inr (h.0, further, h.2)
   ],
   λ h. elim h [
     | inl before ↦ (before.0, Contains-append_left cores more before.0 before.1, before.2)
-    | inr behind ↦ (behind.0, Contains-append_right cores more behind.0 behind.1, behind.2)
+    | inr further ↦ (further.0, Contains-append_right cores more further.0 further.1, further.2)
   ],
 )
 

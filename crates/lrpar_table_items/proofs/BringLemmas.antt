@@ -4,7 +4,7 @@ use Rattle.std.proofs.lemmas.Bool.{cases_eq, false≢true}
 use Rattle.std.proofs.lemmas.List.{get_or-map, get_or-set_other, get_or-set_same, length-map}
 use Rattle.std.proofs.lemmas.List.Elements.{Contains-append_left, Contains-push, Contains-push_cases}
 use Rattle.lrpar_grammar.specs.Grammar.{Grammar, GrammarSymbol, Nonterminal, rules_len, symbols_of}
-use Rattle.lrpar_table_first.specs.FirstRows.{HaveRoom, HoldNothing, IsFirstBefore, mark_of, row_at, rows_of}
+use Rattle.lrpar_table_first.specs.FirstRows.{HaveRoom, HoldNothing, IsFirstBefore, dummy_lookahead, row_at, rows_of}
 use Rattle.lrpar_grammar.specs.Tokens.{has}
 use Rattle.lrpar_table_items.specs.Brought.{HasIn, IsBrought, Given}
 use Rattle.lrpar_table_items.specs.Cores.{AreBringing, Brings, CoreSet}
@@ -92,7 +92,7 @@ module _ (g : Grammar) (brought : List TokenSet) (target : ℕ) (low : target < 
   now_at : row_at (set (rows_of brought) target new.bits.items) target ≡ new.bits.items
   now_at = let count = room.rules in get_or-set_same (rows_of brought) target new.bits.items [] (omega (arith, count, low))
 
-  pub bring_room : length new.bits.items ≡ mark_of g + 1 → HaveRoom g (rows_of (set brought target new))
+  pub bring_room : length new.bits.items ≡ dummy_lookahead g + 1 → HaveRoom g (rows_of (set brought target new))
   bring_room wide = subst (HaveRoom g) (sym (rows-set brought target new)) (room_set g (rows_of brought) target new.bits.items room wide)
 
   pub bring_exact : (r t : ℕ) → HasIn (rows_of (set brought target new)) r t ↔ (HasIn (rows_of brought) r t ⊎ Brings g core r t)

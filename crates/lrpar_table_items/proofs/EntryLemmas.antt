@@ -7,7 +7,7 @@ use Rattle.std.proofs.lemmas.List.{append-nil, append_assoc, map-append}
 use Rattle.std.proofs.lemmas.List.Concat.{flat_map-append}
 use Rattle.lrpar_grammar_places.proofs.ListLemmas.{map-take_more, range_more}
 use Rattle.lrpar_table_rows.specs.Table.{ReduceReduce}
-use Rattle.lrpar_table_items.specs.Wanted.{AscendFrom, reduce_conflicts_at}
+use Rattle.lrpar_table_items.specs.Resolution.{AscendFrom, reduce_conflicts_at}
 
 -- the conflicts with the first production, of one production more
 pub conflicts_more : {X Y : Type 0} (view : Y → ReduceReduce) (f : X → ℕ) (s t p : ℕ) (later : List X) (i : ℕ) (x : X) (made pushed : List Y) (y : Y)

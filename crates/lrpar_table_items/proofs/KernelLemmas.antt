@@ -9,10 +9,10 @@ use Rattle.lrpar_grammar.specs.Grammar.{Grammar, rule_of}
 use Rattle.lrpar_table_rows.specs.Graph.{ItemOf}
 use Rattle.lrpar_table_items.specs.Canonical.{AreSame}
 use Rattle.lrpar_table_items.specs.Cores.{CoreSet, IsAmong}
-use Rattle.lrpar_table_first.specs.FirstRows.{mark_of}
+use Rattle.lrpar_table_first.specs.FirstRows.{dummy_lookahead}
 use Rattle.lrpar_table_items.specs.CoreOrder.{AreCores, AreCoresInOrder, ComesBefore, IsFilled, IsListedBefore, Precedes}
 use Rattle.lrpar_grammar.specs.Tokens.{has}
-use Rattle.lrpar_table_items.specs.Wanted.{AreOnce}
+use Rattle.lrpar_table_items.specs.Resolution.{AreOnce}
 use Rattle.lrpar_table_items.proofs.CoreLemmas.{among_cons, among_nil, core_is}
 
 -- sets with room for as many tokens that have the same ones are the same
@@ -38,8 +38,8 @@ module _ (g : Grammar) where
       let rule = ap (rule_of g) prod in
       elim h [
         | inl greater ↦ omega (arith, greater, dot)
-        | inr behind ↦
-            elim behind.1 [
+        | inr further ↦
+            elim further.1 [
               | inl less ↦ omega (arith, less, rule)
               | inr same ↦ let low = same.1 in omega (arith, low, prod)
             ]
@@ -68,13 +68,13 @@ module _ (g : Grammar) where
         | inl greater ↦
             elim back [
               | inl other ↦ omega (arith, greater, other)
-              | inr behind ↦ let same = behind.0 in omega (arith, greater, same)
+              | inr further ↦ let same = further.0 in omega (arith, greater, same)
             ]
         | inr first ↦
             let dots = first.0 in
             elim back [
               | inl other ↦ omega (arith, dots, other)
-              | inr behind ↦ listed_one_way p q first.1 behind.1
+              | inr further ↦ listed_one_way p q first.1 further.1
             ]
       ]
 
@@ -92,7 +92,7 @@ module _ (g : Grammar) where
       let x : ItemOf = record { prod = a.prod; dot = a.dot; token = filled.0 } in
       elim ((among_cons b ys x).0 (to x ((among_cons a xs x).1 (inl (refl, refl, filled.1))))) [
         | inl of ↦ inl (of.0, of.1)
-        | inr behind ↦ inr (later b ys x order.0 behind)
+        | inr further ↦ inr (later b ys x order.0 further)
       ]
 
   module _ (a b : CoreSet) (xs ys : List CoreSet) (prod : a.prod ≡ b.prod) (dot : a.dot ≡ b.dot) (order : AreCoresInOrder g (a ∷ xs)) (other : AreCoresInOrder g (b ∷ ys))
@@ -103,7 +103,7 @@ module _ (g : Grammar) where
         let x : ItemOf = record { prod = a.prod; dot = a.dot; token = t } in
         elim ((among_cons b ys x).0 (to x ((among_cons a xs x).1 (inl (refl, refl, h))))) [
           | inl of ↦ of.2
-          | inr behind ↦ absurd (itself b.prod b.dot a.prod a.dot (sym prod) (sym dot) (later b ys x other.0 behind))
+          | inr further ↦ absurd (itself b.prod b.dot a.prod a.dot (sym prod) (sym dot) (later b ys x other.0 further))
         ]
 
     -- and what is among the one's others is among the other's
@@ -111,7 +111,7 @@ module _ (g : Grammar) where
     others x h =
         elim ((among_cons b ys x).0 (to x ((among_cons a xs x).1 (inr h)))) [
           | inl of ↦ absurd (itself a.prod a.dot x.prod x.dot (prod ∙ of.0) (dot ∙ of.1) (later a xs x order.0 h))
-          | inr behind ↦ behind
+          | inr further ↦ further
         ]
 
   -- cores with the same items are the same
@@ -152,7 +152,7 @@ module _ (g : Grammar) where
   -- so are a grammar's
   pub one_kernel : (xs ys : List CoreSet) → AreCores g xs → AreCores g ys → AreSame (IsAmong xs) (IsAmong ys) → xs ≡ ys
   one_kernel xs ys cores others same =
-      cores_is (mark_of g + 1) xs ys cores.in_order others.in_order cores.filled others.filled (λ k d low. (cores.of_grammar k d low).wide)
+      cores_is (dummy_lookahead g + 1) xs ys cores.in_order others.in_order cores.filled others.filled (λ k d low. (cores.of_grammar k d low).wide)
       (λ k d low. (others.of_grammar k d low).wide) same
 
   -- each core stands once in its order

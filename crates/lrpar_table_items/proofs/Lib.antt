@@ -11,10 +11,10 @@ pub mod FindLemmas
 pub mod NextLemmas
 pub mod SymbolLemmas
 pub mod SuccessorLemmas
-pub mod CompleteLemmas
+pub mod CompleteItemLemmas
 pub mod EntryLemmas
 pub mod KernelMapLemmas
-pub mod WantedLemmas
+pub mod ResolutionLemmas
 pub mod StateRowLemmas
 pub mod KernelLemmas
 pub mod StatesLemmas

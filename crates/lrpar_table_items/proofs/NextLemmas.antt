@@ -11,11 +11,11 @@ use Rattle.lrpar_table_rows.specs.Graph.{ItemOf, item_at}
 use Rattle.lrpar_table_items.specs.Cores.{CoreSet, IsAmong, IsCoreOf, IsOfCore}
 use Rattle.lrpar_table_items.specs.ItemSets.{IsAdvanced}
 use Rattle.lrpar_table_items.specs.CoreOrder.{AreCores, AreCoresInOrder, ComesBefore, IsBegun, IsFilled, IsKernel}
-use Rattle.lrpar_table_items.specs.Next.{StandBefore, advanced, is_symbol, next_kernel, symbol_behind}
+use Rattle.lrpar_table_items.specs.Next.{StandBefore, advanced, is_symbol, next_kernel, symbol_after}
 use Rattle.lrpar_table_items.proofs.CoreLemmas.{among_cons, among_nil}
 
 -- the test of a symbol holds where it is that symbol
-pub symbol_from : (symbol : GrammarSymbol) (behind : Option GrammarSymbol) → is_symbol symbol behind ≡ true → behind ≡ Some symbol
+pub symbol_from : (symbol : GrammarSymbol) (further : Option GrammarSymbol) → is_symbol symbol further ≡ true → further ≡ Some symbol
 symbol_from symbol None h = absurd (false≢true h)
 symbol_from (Nonterminal r) (Some (Nonterminal q)) h = ap (λ n. Some (Nonterminal n)) (sym (eqb-true r q h))
 symbol_from (Nonterminal r) (Some (Terminal t)) h = absurd (false≢true h)
@@ -26,21 +26,21 @@ symbol_itself : (symbol : GrammarSymbol) → is_symbol symbol (Some symbol) ≡ 
 symbol_itself (Nonterminal r) = eq-eqb r r refl
 symbol_itself (Terminal t) = eq-eqb t t refl
 
-pub symbol_to : (symbol : GrammarSymbol) (behind : Option GrammarSymbol) → behind ≡ Some symbol → is_symbol symbol behind ≡ true
-symbol_to symbol behind is = ap (is_symbol symbol) is ∙ symbol_itself symbol
+pub symbol_to : (symbol : GrammarSymbol) (further : Option GrammarSymbol) → further ≡ Some symbol → is_symbol symbol further ≡ true
+symbol_to symbol further is = ap (is_symbol symbol) is ∙ symbol_itself symbol
 
 -- what was read in a place of a production, whose symbols are those of a list
-pub behind_read : {X : Type 0} (f : X → GrammarSymbol) (xs : List X) (all : List GrammarSymbol) (k : ℕ) (found : Option (Bor X)) → map f xs ≡ all
+pub after_read : {X : Type 0} (f : X → GrammarSymbol) (xs : List X) (all : List GrammarSymbol) (k : ℕ) (found : Option (Bor X)) → map f xs ≡ all
     → IfSome found (λ x. x.now ≡ get_or xs k x.now) → MatchOption found (length xs ≤ k) (λ x. (k < length xs) × HoldsAt (λ y. x.now ≡ y) xs k)
     → option_map f (option_copied found) ≡ slice_get all k
-behind_read f xs all k None is value place =
+after_read f xs all k None is value place =
     let count = length-map xs f in sym (slice_get_past (map f xs) k (omega (arith, count, place))) ∙ ap (λ w. slice_get w k) is
-behind_read f xs all k (Some x) is value place =
+after_read f xs all k (Some x) is value place =
     ap (option_map f) (sym (slice_get_read xs (length xs) k x.now refl place.0 value)) ∙ sym (slice_get-map f xs k) ∙ ap (λ w. slice_get w k) is
 
 module _ (g : Grammar) (symbol : GrammarSymbol) where
   abbrev before : CoreSet → Bool
-  before core = is_symbol symbol (symbol_behind g core)
+  before core = is_symbol symbol (symbol_after g core)
 
   -- a core more that stands before the symbol, and one that doesn't
   pub next_one : (core : CoreSet) (cores : List CoreSet) → before core ≡ true → next_kernel g symbol (core ∷ cores) ≡ advanced core ∷ next_kernel g symbol cores
@@ -55,7 +55,7 @@ module _ (g : Grammar) (symbol : GrammarSymbol) where
       let x : ItemOf = record { prod = core.prod; dot = core.dot; token = y.token } in (
         x,
         (refl, refl, of.2),
-        symbol_from symbol (symbol_behind g core) here,
+        symbol_from symbol (symbol_after g core) here,
         ap (λ n. item_at n y.dot y.token) (sym of.0) ∙ ap (λ n. item_at core.prod n y.token) (sym of.1),
       )
 
@@ -63,11 +63,11 @@ module _ (g : Grammar) (symbol : GrammarSymbol) where
   advanced_from core y h =
       let x = h.0 in
       let of = h.1 in
-      let behind : symbol_behind g core ≡ Some symbol =
+      let further : symbol_after g core ≡ Some symbol =
       ap (λ p. slice_get (symbols_of g p) core.dot) of.0 ∙ ap (λ k. slice_get (symbols_of g x.prod) k) of.1 ∙ h.2 in
       let is = h.3 in
       let back : IsOfCore (advanced core) (item_at x.prod (x.dot + 1) x.token) = (of.0, ap (λ k. k + 1) of.1, of.2) in
-      (symbol_to symbol (symbol_behind g core) behind, subst (IsOfCore (advanced core)) (sym is) back)
+      (symbol_to symbol (symbol_after g core) further, subst (IsOfCore (advanced core)) (sym is) back)
 
   -- what is advanced of a core and others is of that core, or of the others
   advanced_cases : (core : CoreSet) (cores : List CoreSet) (y : ItemOf) → IsAdvanced g (IsAmong (core ∷ cores)) symbol y
@@ -138,7 +138,7 @@ module _ (g : Grammar) (symbol : GrammarSymbol) where
 
   advanced_of_grammar : (core : CoreSet) → IsCoreOf g core → before core ≡ true → IsCoreOf g (advanced core)
   advanced_of_grammar core of here =
-      let low = slice_get_within (symbols_of g core.prod) core.dot symbol (symbol_from symbol (symbol_behind g core) here) in
+      let low = slice_get_within (symbols_of g core.prod) core.dot symbol (symbol_from symbol (symbol_after g core) here) in
       record { prod = of.prod; dot = omega (arith, low); wide = of.wide }
 
   pub next_cores : (cores : List CoreSet) → AreCores g cores → AreCores g (next_kernel g symbol cores)

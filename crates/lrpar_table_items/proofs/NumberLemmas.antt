@@ -7,7 +7,7 @@ use Rattle.lrpar_grammar.specs.Grammar.{Grammar, GrammarSymbol, IsWellFormed, en
 use Rattle.lrpar_table_rows.specs.Graph.{item_at}
 use Rattle.lrpar_table_items.specs.Canonical.{AreSame, ReachesMore}
 use Rattle.lrpar_table_items.specs.Cores.{CoreSet, IsAmong, IsCoreOf}
-use Rattle.lrpar_table_first.specs.FirstRows.{mark_of}
+use Rattle.lrpar_table_first.specs.FirstRows.{dummy_lookahead}
 use Rattle.lrpar_grammar.specs.Tokens.{has}
 use Rattle.lrpar_table_items.specs.ItemSets.{IsAdvanced, IsInClosure, IsReachedBy, IsStartItem}
 use Rattle.lrpar_table_items.specs.CoreOrder.{AreCores, ComesBefore, IsBegun, IsFilled, IsKernel}
@@ -184,8 +184,8 @@ module _ (g : Grammar) (well : IsWellFormed g) (max limit : ℕ) (kernels : List
   is_kernel : IsKernel g kernel
   is_kernel = subst (IsKernel g) (sym next) (next_kernel_is g symbol cores are some_next)
 
-  is_reached : IsReachedKernel g kernel (symbol ∷ path)
-  is_reached =
+  is_reachable : IsReachedKernel g kernel (symbol ∷ path)
+  is_reachable =
       let own = next_kernel g symbol cores in
       let here = IsAdvanced g (IsAmong cores) symbol in
       let there = IsAdvanced g (IsReachedBy g path) symbol in
@@ -194,11 +194,11 @@ module _ (g : Grammar) (well : IsWellFormed g) (max limit : ℕ) (kernels : List
       (same_via (IsAmong own) here there (next_is g symbol cores) (advanced_same g (IsAmong cores) (IsReachedBy g path) symbol reached)))
 
   step_fault : (fault : BuildFault) → IsNumberFault max limit kernels kernel fault → IsFaultOfStates g max limit fault
-  step_fault = number_fault g well max limit kernels numbered kernel is_kernel (symbol ∷ path) is_reached
+  step_fault = number_fault g well max limit kernels numbered kernel is_kernel (symbol ∷ path) is_reachable
 
   module _ (n : ℕ) (after : List (List CoreSet)) (number : IsNumberOf max limit kernels kernel n after) where
     step_numbered : AreNumbered g max limit after
-    step_numbered = number_numbered g well max limit kernels numbered kernel is_kernel (symbol ∷ path) is_reached n after number
+    step_numbered = number_numbered g well max limit kernels numbered kernel is_kernel (symbol ∷ path) is_reachable n after number
 
     step_goes : GoesTo g after cores symbol (Some n)
     step_goes = (
@@ -270,7 +270,7 @@ first_number max limit kernel n after number =
     ]
 
 -- the start production's core with the end token
-pub start_kernel_is : (g : Grammar) (core : CoreSet) → core.prod ≡ start_prod g → start_prod g < prods_len g → core.dot ≡ 0 → length core.tokens ≡ mark_of g + 1
+pub start_kernel_is : (g : Grammar) (core : CoreSet) → core.prod ≡ start_prod g → start_prod g < prods_len g → core.dot ≡ 0 → length core.tokens ≡ dummy_lookahead g + 1
     → ((t : ℕ) → has core.tokens t ≡ (t == end_token g)) → IsKernel g (core ∷ [])
 start_kernel_is g core prod known dot wide is = record {
   cores = record {

@@ -6,14 +6,14 @@ use Rattle.std.proofs.lemmas.List.Elements.{All-append, All-cons, All-contains_i
 use Rattle.lrpar_grammar.specs.Grammar.{Grammar, IsWellFormed, Production, prods_from, prods_len, prods_of, rule_of, rules_len}
 use Rattle.lrpar_table_rows.specs.Graph.{ItemOf}
 use Rattle.lrpar_table_rows.proofs.ItemLemmas.{Contains-image, Contains-preimage}
-use Rattle.lrpar_table_first.specs.FirstRows.{mark_of}
+use Rattle.lrpar_table_first.specs.FirstRows.{dummy_lookahead}
 use Rattle.lrpar_grammar.specs.Tokens.{has}
 use Rattle.lrpar_table_items.specs.Brought.{HasIn, IsBrought, Given, Brought}
 use Rattle.lrpar_table_items.specs.Cores.{AreBringing, CoreSet, IsAmong, IsCoreOf, IsOfRows, IsOfRule}
 use Rattle.lrpar_table_items.specs.CoreOrder.{AreCores, AreCoresInOrder, ComesBefore, IsAhead, IsBegun, IsFilled}
 use Rattle.lrpar_table_items.proofs.AmongLemmas.{among_append}
 use Rattle.lrpar_table_items.proofs.ProdLemmas.{in_prods, of_prods, rule_below}
-use Rattle.lrpar_table_items.proofs.AddedLemmas.{rule_behind_listed}
+use Rattle.lrpar_table_items.proofs.AddedLemmas.{rule_after_listed}
 
 -- each number comes before all behind it
 abbrev AreRising : List ℕ → Type 0
@@ -24,23 +24,23 @@ AreRising (p ∷ ps) = All (λ q. p < q) ps × AreRising ps
 from_there : (r n : ℕ) (xs : List Production) → All (λ q. n ≤ q) (prods_from r n xs)
 from_there r n [] = All-nil (λ q. n ≤ q)
 from_there r n (y ∷ ys) =
-    let behind = All-weaker (λ q. n + 1 ≤ q) (λ q. n ≤ q) (λ q low. omega (arith, low)) (prods_from r (n + 1) ys) (from_there r (n + 1) ys) in
+    let further = All-weaker (λ q. n + 1 ≤ q) (λ q. n ≤ q) (λ q low. omega (arith, low)) (prods_from r (n + 1) ys) (from_there r (n + 1) ys) in
     elim (cases_eq y.rule r) as (λ _. All (λ q. n ≤ q) (prods_from r n (y ∷ ys))) [
       | inl own ↦
           subst (λ (b : Bool). All (λ q. n ≤ q) (cond b (n ∷ prods_from r (n + 1) ys) (prods_from r (n + 1) ys))) (sym (eq-eqb y.rule r own))
-          (All-cons (λ q. n ≤ q) n (prods_from r (n + 1) ys) (omega arith) behind)
+          (All-cons (λ q. n ≤ q) n (prods_from r (n + 1) ys) (omega arith) further)
       | inr other ↦
-          subst (λ (b : Bool). All (λ q. n ≤ q) (cond b (n ∷ prods_from r (n + 1) ys) (prods_from r (n + 1) ys))) (sym (ne_eqb y.rule r other)) behind
+          subst (λ (b : Bool). All (λ q. n ≤ q) (cond b (n ∷ prods_from r (n + 1) ys) (prods_from r (n + 1) ys))) (sym (ne_eqb y.rule r other)) further
     ]
 
 rising : (r n : ℕ) (xs : List Production) → AreRising (prods_from r n xs)
 rising r n [] = tt
 rising r n (y ∷ ys) =
-    let behind = All-weaker (λ q. n + 1 ≤ q) (λ q. n < q) (λ q low. omega (arith, low)) (prods_from r (n + 1) ys) (from_there r (n + 1) ys) in
+    let further = All-weaker (λ q. n + 1 ≤ q) (λ q. n < q) (λ q low. omega (arith, low)) (prods_from r (n + 1) ys) (from_there r (n + 1) ys) in
     elim (cases_eq y.rule r) as (λ _. AreRising (prods_from r n (y ∷ ys))) [
       | inl own ↦
           subst (λ (b : Bool). AreRising (cond b (n ∷ prods_from r (n + 1) ys) (prods_from r (n + 1) ys))) (sym (eq-eqb y.rule r own))
-          (behind, rising r (n + 1) ys)
+          (further, rising r (n + 1) ys)
       | inr other ↦
           subst (λ (b : Bool). AreRising (cond b (n ∷ prods_from r (n + 1) ys) (prods_from r (n + 1) ys))) (sym (ne_eqb y.rule r other)) (rising r (n + 1) ys)
     ]
@@ -95,7 +95,7 @@ module _ (g : Grammar) where
         ]
 
     -- all productions of a rule, with lookaheads, behind cores that come before them
-    pub front_cores : (cores : List CoreSet) → AreCores g cores → All (IsAhead g r) cores → length tokens ≡ mark_of g + 1 → (t : ℕ) → IsTrue (has tokens t)
+    pub front_cores : (cores : List CoreSet) → AreCores g cores → All (IsAhead g r) cores → length tokens ≡ dummy_lookahead g + 1 → (t : ℕ) → IsTrue (has tokens t)
         → AreCores g (cores ++ map (front_core tokens) (prods_of g r)) × All (IsAhead g (r + 1)) (cores ++ map (front_core tokens) (prods_of g r))
     front_cores cores are ahead wide t some =
         let ps = prods_of g r in
@@ -200,5 +200,5 @@ module _ (g : Grammar) where
 
   -- the added rule comes with none
   pub added_not_brought : IsWellFormed g → (cores : List CoreSet) (r t : ℕ) → IsBrought g (AreBringing g cores) r t → 0 < r
-  added_not_brought well cores r t (Given r' t' h) = rule_behind_listed g well h.0.prod h.0.dot r' h.2.0 h.2.1
-  added_not_brought well cores r t (Brought p r' s t' w low symbols of first) = rule_behind_listed g well p 0 r' w symbols
+  added_not_brought well cores r t (Given r' t' h) = rule_after_listed g well h.0.prod h.0.dot r' h.2.0 h.2.1
+  added_not_brought well cores r t (Brought p r' s t' w low symbols of first) = rule_after_listed g well p 0 r' w symbols

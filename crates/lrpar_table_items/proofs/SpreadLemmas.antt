@@ -6,7 +6,7 @@ use Rattle.std.proofs.lemmas.List.Elements.{All-contains, All-get_or, All-push}
 use Rattle.std.specs.Bool.{OnFalse, OnTrue}
 use Rattle.lrpar_grammar.specs.Grammar.{Grammar, GrammarSymbol, Nonterminal, Terminal, prods_len, prods_of, rule_of, rules_len, symbols_of}
 use Rattle.lrpar_table_first.specs.First.{IsFirst}
-use Rattle.lrpar_table_first.specs.FirstRows.{HaveRoom, IsFirstBefore, mark_of, row_at, rows_of, total_missing}
+use Rattle.lrpar_table_first.specs.FirstRows.{HaveRoom, IsFirstBefore, dummy_lookahead, row_at, rows_of, total_missing}
 use Rattle.lrpar_grammar.specs.Tokens.{has, missing}
 use Rattle.lrpar_table_items.specs.Brought.{IsBrought, Given, Brought, AreBroughtFrom, HasIn, IsSpreadAt, IsSpreadOf, Keeps}
 use Rattle.lrpar_grammar.specs.declared.token_set.TokenSet.{TokenSet}
@@ -41,12 +41,12 @@ pub record IsSpreadTo (g : Grammar) (sets : List TokenSet) (p target : ℕ) (old
   pub same : new.bits.items ≡ (get_or sets target old).bits.items → rows_of (set sets target new) ≡ rows_of sets
   pub closed : new.bits.items ≡ (get_or sets target old).bits.items → IsSpreadAt g (rows_of (set sets target new)) p
 
-module _ (g : Grammar) (sets : List TokenSet) (p rule target mark : ℕ) (w : List GrammarSymbol) (known : p < prods_len g) (is : rule ≡ rule_of g p)
-    (rule_low : rule_of g p < rules_len g) (begins : symbols_of g p ≡ Nonterminal target ∷ w) (low : target < rules_len g) (marked : mark ≡ mark_of g)
+module _ (g : Grammar) (sets : List TokenSet) (p rule target dummy : ℕ) (w : List GrammarSymbol) (known : p < prods_len g) (is : rule ≡ rule_of g p)
+    (rule_low : rule_of g p < rules_len g) (begins : symbols_of g p ≡ Nonterminal target ∷ w) (low : target < rules_len g) (marked : dummy ≡ dummy_lookahead g)
     (room : HaveRoom g (rows_of sets)) (d d' new : TokenSet) (fresh cleared : List Bool) (none : (t : ℕ) → has cleared t ≡ false)
     (came : (t : ℕ) → IsTrue (has fresh t) ↔ (IsTrue (has cleared t) ⊎ IsFirstBefore g (get_or sets rule d).bits.items w t))
-    (long : length fresh ≡ mark_of g + 1) (wide : length new.bits.items ≡ length (get_or sets target d').bits.items)
-    (put : (t : ℕ) → has new.bits.items t ≡ (has (get_or sets target d').bits.items t || (nat_lt t (mark + 1) && has fresh t))) where
+    (long : length fresh ≡ dummy_lookahead g + 1) (wide : length new.bits.items ≡ length (get_or sets target d').bits.items)
+    (put : (t : ℕ) → has new.bits.items t ≡ (has (get_or sets target d').bits.items t || (nat_lt t (dummy + 1) && has fresh t))) where
   inside : target < length (rows_of sets)
   inside = let count = room.rules in omega (arith, count, low)
 
@@ -64,9 +64,9 @@ module _ (g : Grammar) (sets : List TokenSet) (p rule target mark : ℕ) (w : Li
   new_row : row_at (set (rows_of sets) target new.bits.items) target ≡ new.bits.items
   new_row = get_or-set_same (rows_of sets) target new.bits.items [] inside
 
-  new_has : (t : ℕ) → IsTrue (has new.bits.items t) ↔ (HasIn (rows_of sets) target t ⊎ ((t < mark + 1) × IsTrue (has fresh t)))
-  new_has t = united (row_at (rows_of sets) target) fresh new.bits.items (mark + 1) t
-      (put t ∙ ap (λ b. has b t || (nat_lt t (mark + 1) && has fresh t)) old_row)
+  new_has : (t : ℕ) → IsTrue (has new.bits.items t) ↔ (HasIn (rows_of sets) target t ⊎ ((t < dummy + 1) × IsTrue (has fresh t)))
+  new_has t = united (row_at (rows_of sets) target) fresh new.bits.items (dummy + 1) t
+      (put t ∙ ap (λ b. has b t || (nat_lt t (dummy + 1) && has fresh t)) old_row)
 
   fresh_is : (t : ℕ) → IsTrue (has fresh t) ↔ IsFirstBefore g (row_at (rows_of sets) (rule_of g p)) w t
   fresh_is t = (
@@ -79,7 +79,7 @@ module _ (g : Grammar) (sets : List TokenSet) (p rule target mark : ℕ) (w : Li
 
   spread_room : HaveRoom g (rows_of (set sets target new))
   spread_room =
-      let old_wide = All-get_or (λ row. length row ≡ mark_of g + 1) (rows_of sets) target [] inside room.wide in
+      let old_wide = All-get_or (λ row. length row ≡ dummy_lookahead g + 1) (rows_of sets) target [] inside room.wide in
       subst (HaveRoom g) (sym new_rows) (room_set g (rows_of sets) target new.bits.items room (wide ∙ ap length old_row ∙ old_wide))
 
   spread_keeps : Keeps (rows_of sets) (rows_of (set sets target new))
@@ -122,7 +122,7 @@ module _ (g : Grammar) (sets : List TokenSet) (p rule target mark : ℕ) (w : Li
       let first' = subst (λ u. IsFirst g s u t) (sym (same_rest target r w v alike)) first in
       let in_fresh = (fresh_is t).1 (s, has_s, first') in
       let room_t = has_room fresh t in_fresh in
-      let low_t : t < mark + 1 = omega (arith, room_t, long, marked) in
+      let low_t : t < dummy + 1 = omega (arith, room_t, long, marked) in
       let now = (new_has t).1 (inr (low_t, in_fresh)) in
       subst (λ n. HasIn (rows_of sets) n t) (same_rule target r w v alike) (subst (λ b. IsTrue (has b t)) (same ∙ old_row) now))
 

@@ -8,11 +8,11 @@ use Rattle.std.proofs.lemmas.List.Elements.{All-filter}
 use Rattle.std.proofs.lemmas.List.Sorted.{All-permutation}
 use Rattle.lrpar_grammar.specs.Grammar.{Grammar, prod_len, prods_len, start_prod, tokens_len}
 use Rattle.lrpar_table_items.specs.Cores.{CoreSet}
-use Rattle.lrpar_table_items.specs.Wanted.{AcceptsBeside, AreOnce, HasAcceptReduce, IsAcceptReduce, IsRefusal, entry_at, is_complete_at, reductions, shift_conflicts_at, wanted, wanted_at}
-use Rattle.lrpar_table_items.specs.Complete.{accepts_at, prods_at}
+use Rattle.lrpar_table_items.specs.Resolution.{AcceptsBeside, AreOnce, HasAcceptReduce, IsAcceptReduce, IsRefusal, entry_at, is_complete_at, reductions, shift_conflicts_at, resolved, resolved_at}
+use Rattle.lrpar_table_items.specs.CompleteItems.{accepts_at, prods_at}
 use Rattle.lrpar_table_items.specs.declared.fault.BuildFault.{BuildFault}
 use Rattle.lrpar_table_items.specs.declared.fault.BuildFault.TheVariants.{AcceptReduceConflict, Memory, StorageTooSmall, TooManyStates}
-use Rattle.lrpar_table_items.proofs.WantedLemmas.{complete_is, prods_are}
+use Rattle.lrpar_table_items.proofs.ResolutionLemmas.{complete_is, prods_are}
 
 -- the complete cores of a state, sorted, tell the reductions at a token
 pub reductions_are : (g : Grammar) (cores complete : List CoreSet) (start t : ℕ) (prods : List ℕ)
@@ -35,11 +35,11 @@ accepts_are g cores complete start t accepts moved is told =
 -- so what is pushed is what is wanted there
 pub entry_is : (g : Grammar) (cores : List CoreSet) (shifts : List (ℕ × ℕ)) (n t : ℕ) (goto : Option ℕ) (prods : List ℕ) (accepts : Bool)
     → n ≡ t → goto ≡ lookup (nat_eq t) shifts → prods ≡ reductions g cores t → accepts ≡ is_complete_at g cores t (start_prod g)
-    → entry_at n (wanted goto prods accepts) ≡ entry_at t (wanted_at g cores shifts t)
+    → entry_at n (resolved goto prods accepts) ≡ entry_at t (resolved_at g cores shifts t)
 entry_is g cores shifts n t goto prods accepts number shift reduces accept =
-    ap (λ m. entry_at m (wanted goto prods accepts)) number ∙ ap (λ x. entry_at t (wanted x prods accepts)) shift
-    ∙ ap (λ x. entry_at t (wanted (lookup (nat_eq t) shifts) x accepts)) reduces
-    ∙ ap (λ x. entry_at t (wanted (lookup (nat_eq t) shifts) (reductions g cores t) x)) accept
+    ap (λ m. entry_at m (resolved goto prods accepts)) number ∙ ap (λ x. entry_at t (resolved x prods accepts)) shift
+    ∙ ap (λ x. entry_at t (resolved (lookup (nat_eq t) shifts) x accepts)) reduces
+    ∙ ap (λ x. entry_at t (resolved (lookup (nat_eq t) shifts) (reductions g cores t) x)) accept
 
 -- and the conflict of the shift
 pub shift_conflict_is : (g : Grammar) (cores : List CoreSet) (shifts : List (ℕ × ℕ)) (s n t : ℕ) (goto : Option ℕ) (prods : List ℕ)

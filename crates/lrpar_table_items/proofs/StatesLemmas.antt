@@ -12,7 +12,7 @@ use Rattle.lrpar_table_items.specs.CoreOrder.{IsBegun, IsKernel}
 use Rattle.lrpar_table_items.specs.Kernels.{AreKernels, GoesTo, path_at}
 use Rattle.lrpar_table_items.specs.Next.{kernel_at}
 use Rattle.lrpar_table_items.specs.States.{AreStates, IsExpanded, StateOf, sets_at, state_at}
-use Rattle.lrpar_table_items.proofs.AddedLemmas.{rule_behind_listed}
+use Rattle.lrpar_table_items.proofs.AddedLemmas.{rule_after_listed}
 use Rattle.lrpar_table_items.proofs.KernelLemmas.{once_in_order, one_kernel}
 use Rattle.lrpar_table_items.proofs.NextLemmas.{some_item}
 
@@ -50,7 +50,7 @@ module _ (g : Grammar) where
           | inl front ↦ let zero_dot = adds.fresh in absurd (omega (arith, front, zero_dot))
           | inr start ↦
               let zero_rule : adds.rule ≡ 0 = sym adds.of_rule ∙ ap (rule_of g) start ∙ well.last_rule in
-              let listed = rule_behind_listed g well y.prod y.dot adds.rule adds.rest adds.before in absurd (omega (arith, zero_rule, listed))
+              let listed = rule_after_listed g well y.prod y.dot adds.rule adds.rest adds.before in absurd (omega (arith, zero_rule, listed))
         ]
 
     begun_item : (kernel : List CoreSet) → All (IsBegun g) kernel → (x : ItemOf) → IsAmong kernel x → (0 < x.dot) ⊎ (x.prod ≡ start_prod g)

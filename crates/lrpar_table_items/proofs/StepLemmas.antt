@@ -10,7 +10,7 @@ use Rattle.lrpar_table_first.specs.FirstRows.{IsSymbolBelow}
 use Rattle.lrpar_table_items.proofs.SymbolLemmas.{stands_below}
 use Rattle.lrpar_table_items.specs.Kernels.{AreKept, GoesTo}
 use Rattle.lrpar_table_items.specs.States.{AreSteps, AreStepsBelow}
-use Rattle.lrpar_table_items.specs.Wanted.{AscendFrom}
+use Rattle.lrpar_table_items.specs.Resolution.{AscendFrom}
 use Rattle.lrpar_table_items.proofs.NumberLemmas.{goes_kept}
 
 -- a number more, which is greater than all

@@ -5,18 +5,18 @@ use Rattle.std.proofs.lemmas.List.{append-nil, get_or-map, get_or-set_other, get
 use Rattle.std.proofs.Math.Seq.{take-append_seam}
 use Rattle.lrpar_grammar.specs.Grammar.{Grammar, GrammarSymbol, Nonterminal, Terminal}
 use Rattle.lrpar_table_items.specs.Cores.{CoreSet, core_set}
-use Rattle.lrpar_table_items.specs.Next.{kernel_rows, AreNext, ArePutTo, advanced, is_symbol, kernel_at, next_kernel, symbol_behind}
+use Rattle.lrpar_table_items.specs.Next.{kernel_rows, AreNext, ArePutTo, advanced, is_symbol, kernel_at, next_kernel, symbol_after}
 use Rattle.lrpar_table_items.specs.declared.cores.CoreItems.{CoreItems}
 use Rattle.lrpar_table_items.proofs.FindLemmas.{mapped_at}
 use Rattle.lrpar_table_items.proofs.NextLemmas.{next_more, next_none, next_one, symbol_to}
 
 module _ (g : Grammar) (core : CoreSet) (symbol : ℕ → GrammarSymbol) (rows : List (List CoreSet)) where
-  left : (n : ℕ) → is_symbol (symbol n) (symbol_behind g core) ≡ false → kernel_at rows n ≡ kernel_at rows n ++ next_kernel g (symbol n) (core ∷ [])
+  left : (n : ℕ) → is_symbol (symbol n) (symbol_after g core) ≡ false → kernel_at rows n ≡ kernel_at rows n ++ next_kernel g (symbol n) (core ∷ [])
   left n apart = sym (append-nil (kernel_at rows n)) ∙ ap (λ k. kernel_at rows n ++ k) (sym (next_none g (symbol n) core [] apart))
 
   -- the core stands before one of the symbols
   pub put_there : (target : ℕ) (new : List CoreSet) → target < length rows → new ≡ kernel_at rows target ++ advanced core ∷ []
-      → is_symbol (symbol target) (symbol_behind g core) ≡ true → ((n : ℕ) → n ≢ target → is_symbol (symbol n) (symbol_behind g core) ≡ false)
+      → is_symbol (symbol target) (symbol_after g core) ≡ true → ((n : ℕ) → n ≢ target → is_symbol (symbol n) (symbol_after g core) ≡ false)
       → ArePutTo g core symbol rows (set rows target new)
   put_there target new low is here apart = record {
     len = length-set rows target new;
@@ -45,7 +45,7 @@ module _ {S A : Type 0} (index : S → ℕ) (g : Grammar) (core : CoreSet) (rows
   cores kernel = map (core_set index) kernel.items
 
   put_row : (symbol : ℕ → GrammarSymbol) → target < length rows → cores new ≡ cores (get_or rows target row) ++ advanced core ∷ []
-      → is_symbol (symbol target) (symbol_behind g core) ≡ true → ((n : ℕ) → n ≢ target → is_symbol (symbol n) (symbol_behind g core) ≡ false)
+      → is_symbol (symbol target) (symbol_after g core) ≡ true → ((n : ℕ) → n ≢ target → is_symbol (symbol n) (symbol_after g core) ≡ false)
       → ArePutTo g core symbol (kernel_rows index rows) (kernel_rows index (set rows target new))
   put_row symbol low is here apart =
       let count = length-map rows cores in
@@ -53,17 +53,17 @@ module _ {S A : Type 0} (index : S → ℕ) (g : Grammar) (core : CoreSet) (rows
       (put_there g core symbol (kernel_rows index rows) target (cores new) (omega (arith, low, count))
       (is ∙ ap (λ k. k ++ advanced core ∷ []) (sym (get_or-map cores rows target row [] low))) here apart)
 
-  pub put_rule : symbol_behind g core ≡ Some (Nonterminal target) → target < length rows → cores new ≡ cores (get_or rows target row) ++ advanced core ∷ []
+  pub put_rule : symbol_after g core ≡ Some (Nonterminal target) → target < length rows → cores new ≡ cores (get_or rows target row) ++ advanced core ∷ []
       → ArePutTo g core Nonterminal (kernel_rows index rows) (kernel_rows index (set rows target new))
-  put_rule behind low is =
-      put_row Nonterminal low is (symbol_to (Nonterminal target) (symbol_behind g core) behind)
-      (λ n other. ap (is_symbol (Nonterminal n)) behind ∙ ne_eqb n target other)
+  put_rule after low is =
+      put_row Nonterminal low is (symbol_to (Nonterminal target) (symbol_after g core) after)
+      (λ n other. ap (is_symbol (Nonterminal n)) after ∙ ne_eqb n target other)
 
-  pub put_token : symbol_behind g core ≡ Some (Terminal target) → target < length rows → cores new ≡ cores (get_or rows target row) ++ advanced core ∷ []
+  pub put_token : symbol_after g core ≡ Some (Terminal target) → target < length rows → cores new ≡ cores (get_or rows target row) ++ advanced core ∷ []
       → ArePutTo g core Terminal (kernel_rows index rows) (kernel_rows index (set rows target new))
-  put_token behind low is =
-      put_row Terminal low is (symbol_to (Terminal target) (symbol_behind g core) behind)
-      (λ n other. ap (is_symbol (Terminal n)) behind ∙ ne_eqb n target other)
+  put_token after low is =
+      put_row Terminal low is (symbol_to (Terminal target) (symbol_after g core) after)
+      (λ n other. ap (is_symbol (Terminal n)) after ∙ ne_eqb n target other)
 
 -- rows that were lent and written back, with a core more put to them
 module _ {S A : Type 0} (index : S → ℕ) (rows lent new : List (Vec (CoreItems S) A)) (len : ℕ) (held : length rows ≡ len) (value : lent ≡ rows)

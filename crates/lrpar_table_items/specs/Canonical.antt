@@ -41,42 +41,42 @@ IsTransition g len sets s symbol None = ¬ (StandsBefore g sets s symbol)
 IsTransition g len sets s symbol (Some next) = StandsBefore g sets s symbol × (next < len) × LeadsTo g sets s symbol next
 
 -- at token t set s has a complete item `A: v .` of production p, which isn't the start production
-abbrev pub WantsReduce : Grammar → (ℕ → ItemOf → Type 0) → ℕ → ℕ → ℕ → Type 0
-WantsReduce g sets s t p = (p ≢ start_prod g) × sets s (item_at p (prod_len g p) t)
+abbrev pub HasReduce : Grammar → (ℕ → ItemOf → Type 0) → ℕ → ℕ → ℕ → Type 0
+HasReduce g sets s t p = (p ≢ start_prod g) × sets s (item_at p (prod_len g p) t)
 
 -- and the least such p
-abbrev pub WantsFirst : Grammar → (ℕ → ItemOf → Type 0) → ℕ → ℕ → ℕ → Type 0
-WantsFirst g sets s t p = WantsReduce g sets s t p × ((q : ℕ) → WantsReduce g sets s t q → p ≤ q)
+abbrev pub HasFirstReduce : Grammar → (ℕ → ItemOf → Type 0) → ℕ → ℕ → ℕ → Type 0
+HasFirstReduce g sets s t p = HasReduce g sets s t p × ((q : ℕ) → HasReduce g sets s t q → p ≤ q)
 
 -- at token t set s has the item `^: S .`
-abbrev pub WantsAccept : Grammar → (ℕ → ItemOf → Type 0) → ℕ → ℕ → Type 0
-WantsAccept g sets s t = sets s (item_at (start_prod g) 1 t)
+abbrev pub HasAccept : Grammar → (ℕ → ItemOf → Type 0) → ℕ → ℕ → Type 0
+HasAccept g sets s t = sets s (item_at (start_prod g) 1 t)
 
 -- what the table does in state s at token t is what its items want: first of all a shift, then the first reduction, then to accept
-pub record ActsAsWanted (g : Grammar) (sets : ℕ → ItemOf → Type 0) (table : Table) (s t : ℕ) : Type 0 where
+pub record ActsAsResolved (g : Grammar) (sets : ℕ → ItemOf → Type 0) (table : Table) (s t : ℕ) : Type 0 where
   pub shifts : StandsBefore g sets s (Terminal t) → (next : ℕ) × (action_of table s t ≡ ShiftTo next) × LeadsTo g sets s (Terminal t) next
-  pub reduces : ¬ (StandsBefore g sets s (Terminal t)) → (p : ℕ) → WantsFirst g sets s t p → action_of table s t ≡ ReduceBy p
-  pub accepts : ¬ (StandsBefore g sets s (Terminal t)) → ((p : ℕ) → ¬ (WantsReduce g sets s t p)) → WantsAccept g sets s t
+  pub reduces : ¬ (StandsBefore g sets s (Terminal t)) → (p : ℕ) → HasFirstReduce g sets s t p → action_of table s t ≡ ReduceBy p
+  pub accepts : ¬ (StandsBefore g sets s (Terminal t)) → ((p : ℕ) → ¬ (HasReduce g sets s t p)) → HasAccept g sets s t
       → action_of table s t ≡ Accepts
-  pub fails : ¬ (StandsBefore g sets s (Terminal t)) → ((p : ℕ) → ¬ (WantsReduce g sets s t p)) → ¬ (WantsAccept g sets s t)
+  pub fails : ¬ (StandsBefore g sets s (Terminal t)) → ((p : ℕ) → ¬ (HasReduce g sets s t p)) → ¬ (HasAccept g sets s t)
       → action_of table s t ≡ Fails
 
 -- the table goes from state s by rule r where its items do
-pub record GoesAsWanted (g : Grammar) (sets : ℕ → ItemOf → Type 0) (table : Table) (s r : ℕ) : Type 0 where
+pub record GoesAsItems (g : Grammar) (sets : ℕ → ItemOf → Type 0) (table : Table) (s r : ℕ) : Type 0 where
   pub goes : StandsBefore g sets s (Nonterminal r) → (next : ℕ) × (goto_of table s r ≡ Some next) × LeadsTo g sets s (Nonterminal r) next
   pub stays : ¬ (StandsBefore g sets s (Nonterminal r)) → goto_of table s r ≡ None
 
 -- at its token its state wants the first reduction, and the second one, which is another
 abbrev pub IsReduceConflict : Grammar → (ℕ → ItemOf → Type 0) → ReduceReduce → Type 0
-IsReduceConflict g sets x = WantsFirst g sets x.state x.token x.first × WantsReduce g sets x.state x.token x.second × (x.first < x.second)
+IsReduceConflict g sets x = HasFirstReduce g sets x.state x.token x.first × HasReduce g sets x.state x.token x.second × (x.first < x.second)
 
 -- at its token its state wants to shift, and the first reduction
 abbrev pub IsShiftConflict : Grammar → (ℕ → ItemOf → Type 0) → ShiftReduce → Type 0
-IsShiftConflict g sets x = StandsBefore g sets x.state (Terminal x.token) × WantsFirst g sets x.state x.token x.prod
+IsShiftConflict g sets x = StandsBefore g sets x.state (Terminal x.token) × HasFirstReduce g sets x.state x.token x.prod
 
 -- at the end token the set wants to accept, and a reduction
 abbrev pub IsAcceptConflict : Grammar → (ℕ → ItemOf → Type 0) → ℕ → Type 0
-IsAcceptConflict g sets s = WantsAccept g sets s (end_token g) × ((p : ℕ) × WantsReduce g sets s (end_token g) p)
+IsAcceptConflict g sets s = HasAccept g sets s (end_token g) × ((p : ℕ) × HasReduce g sets s (end_token g) p)
 
 -- the items of the graph's states
 abbrev pub sets_of : Graph → ℕ → ItemOf → Type 0

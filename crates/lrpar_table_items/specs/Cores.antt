@@ -2,7 +2,7 @@
 use Rattle.std.specs.Prelude.{◌≡◌, ◌<◌, ◌≤◌, ◌+◌, ℕ, Bool, IsTrue, List, ◌∷◌, Contains, drop, length}
 use Rattle.lrpar_grammar.specs.Grammar.{Grammar, GrammarSymbol, Nonterminal, prod_len, prods_len, rule_of, symbols_of}
 use Rattle.lrpar_table_rows.specs.Graph.{ItemOf}
-use Rattle.lrpar_table_first.specs.FirstRows.{IsFirstBefore, mark_of}
+use Rattle.lrpar_table_first.specs.FirstRows.{IsFirstBefore, dummy_lookahead}
 use Rattle.lrpar_table_items.specs.Brought.{HasIn}
 use Rattle.lrpar_grammar.specs.Tokens.{has}
 use Rattle.lrpar_table_items.specs.declared.cores.CoreItems.{CoreItems}
@@ -29,7 +29,7 @@ IsAmong cores x = (core : CoreSet) × Contains cores core × IsOfCore core x
 pub record IsCoreOf (g : Grammar) (core : CoreSet) : Type 0 where
   pub prod : core.prod < prods_len g
   pub dot : core.dot ≤ prod_len g core.prod
-  pub wide : length core.tokens ≡ mark_of g + 1
+  pub wide : length core.tokens ≡ dummy_lookahead g + 1
 
 -- a core `A: v . B w` brings rule B with what w begins with before its lookaheads
 abbrev pub Brings : Grammar → CoreSet → ℕ → ℕ → Type 0

@@ -4,8 +4,8 @@ pub mod Cores
 pub mod CoreOrder
 pub mod Next
 pub mod Working
-pub mod Complete
-pub mod Wanted
+pub mod CompleteItems
+pub mod Resolution
 pub mod KernelMap
 pub mod Canonical
 pub mod Kernels

@@ -12,8 +12,8 @@ abbrev pub kernel_rows : {S A : Type 0} → (S → ℕ) → List (Vec (CoreItems
 kernel_rows index kernels = map (λ kernel. map (core_set index) kernel.items) kernels
 
 -- the symbol behind the dot
-abbrev pub symbol_behind : Grammar → CoreSet → Option GrammarSymbol
-symbol_behind g core = slice_get (symbols_of g core.prod) core.dot
+abbrev pub symbol_after : Grammar → CoreSet → Option GrammarSymbol
+symbol_after g core = slice_get (symbols_of g core.prod) core.dot
 
 -- whether it is this symbol
 abbrev pub is_symbol : GrammarSymbol → Option GrammarSymbol → Bool
@@ -29,7 +29,7 @@ advanced core = record { prod = core.prod; dot = core.dot + 1; tokens = core.tok
 
 -- the cores that stand before the symbol, each advanced
 abbrev pub next_kernel : Grammar → GrammarSymbol → List CoreSet → List CoreSet
-next_kernel g symbol cores = map advanced (filter (λ core. is_symbol symbol (symbol_behind g core)) cores)
+next_kernel g symbol cores = map advanced (filter (λ core. is_symbol symbol (symbol_after g core)) cores)
 
 -- an item of the cores stands before the symbol
 abbrev pub StandBefore : Grammar → List CoreSet → GrammarSymbol → Type 0

@@ -5,14 +5,14 @@ use Rattle.lrpar_grammar.specs.Grammar.{Grammar, rules_len, tokens_len}
 use Rattle.lrpar_table_rows.specs.Graph.{Graph}
 use Rattle.lrpar_table_rows.specs.Table.{ConflictLists, ReduceReduce, ShiftReduce, Table, TableAction}
 use Rattle.lrpar_table_items.specs.States.{StateOf, state_at}
-use Rattle.lrpar_table_items.specs.Wanted.{HasAcceptReduce, reduce_conflicts, shift_conflicts, wanted_row}
-use Rattle.lrpar_table_items.specs.Complete.{items_of_cores}
+use Rattle.lrpar_table_items.specs.Resolution.{HasAcceptReduce, reduce_conflicts, shift_conflicts, resolved_row}
+use Rattle.lrpar_table_items.specs.CompleteItems.{items_of_cores}
 use Rattle.lrpar_table_items.specs.declared.fault.BuildFault.{BuildFault}
 use Rattle.lrpar_table_items.specs.declared.fault.BuildFault.TheVariants.{AcceptReduceConflict, Memory, StorageTooSmall, TooManyStates}
 
 -- what each state does at the tokens at which it does something
 abbrev pub action_rows : Grammar → List StateOf → List (List (ℕ × TableAction))
-action_rows g states = map (λ (state : StateOf). wanted_row g state.cores state.shifts) states
+action_rows g states = map (λ (state : StateOf). resolved_row g state.cores state.shifts) states
 
 -- where each state goes by rules
 abbrev pub goto_rows : List StateOf → List (List (ℕ × ℕ))

@@ -13,7 +13,7 @@ use Rattle.lrpar_table_items.specs.Next.{kernel_rows, AreNext, kernel_at}
 use Rattle.lrpar_table_items.specs.Working.{AreSuccessors}
 use Rattle.lrpar_table_items.specs.CoreOrder.{AreCores}
 use Rattle.lrpar_table_items.specs.Kernels.{GoesTo}
-use Rattle.lrpar_table_items.specs.Wanted.{AreOnce, AscendFrom, shift_entry}
+use Rattle.lrpar_table_items.specs.Resolution.{AreOnce, AscendFrom, shift_entry}
 use Rattle.lrpar_table_items.specs.declared.cores.CoreItems.{CoreItems}
 use Rattle.lrpar_table_items.specs.declared.item_set.State.{State}
 use Rattle.lrpar_table_items.specs.declared.successors.Successors.{Successors}

@@ -1,7 +1,7 @@
 -- What is worked with: sets for a closure, and the kernels of all symbols.
 use Rattle.std.specs.Prelude.{◌≡◌, ◌+◌, ℕ, length, map}
 use Rattle.lrpar_grammar.specs.Grammar.{Grammar, Nonterminal, Terminal, rules_len, tokens_len}
-use Rattle.lrpar_table_first.specs.FirstRows.{AreFirsts, HaveRoom, mark_of, rows_of}
+use Rattle.lrpar_table_first.specs.FirstRows.{AreFirsts, HaveRoom, dummy_lookahead, rows_of}
 use Rattle.lrpar_table_items.specs.Cores.{core_set}
 use Rattle.lrpar_table_items.specs.Next.{AreNext, kernel_rows}
 use Rattle.lrpar_table_items.specs.declared.sets.Sets.{Sets}
@@ -11,8 +11,8 @@ use Rattle.lrpar_table_items.specs.declared.successors.Successors.{Successors}
 pub record AreSets (g : Grammar) (sets : Sets) : Type 0 where
   pub firsts : AreFirsts g (rows_of sets.firsts.items)
   pub room : HaveRoom g (rows_of sets.brought.items)
-  pub front : length sets.front.bits.items ≡ mark_of g + 1
-  pub fresh : length sets.fresh.bits.items ≡ mark_of g + 1
+  pub front : length sets.front.bits.items ≡ dummy_lookahead g + 1
+  pub fresh : length sets.fresh.bits.items ≡ dummy_lookahead g + 1
 
 -- a kernel for each rule and one for each token: those to which the cores go by them
 pub record AreSuccessors {S : Type 0} (index : S → ℕ) (g : Grammar) (successors : Successors S) : Type 0 where

@@ -2,7 +2,7 @@
 ghost use Rattle.std.specs.Prelude.{◌≡◌, ◌<◌, ◌+◌, ◌↔◌, ◌⊎◌, ◌++◌, ◌∷◌, ℕ, [], All, IfOk, OnOk, length, map};
 ghost use Rattle.lrpar_grammar.specs.Grammar.{IsWellFormed, rules_len};
 ghost use Rattle.lrpar_table_rows.specs.Graph.{ItemOf};
-ghost use Rattle.lrpar_table_first.specs.FirstRows.{AreFirsts, HaveRoom, mark_of, rows_of};
+ghost use Rattle.lrpar_table_first.specs.FirstRows.{AreFirsts, HaveRoom, dummy_lookahead, rows_of};
 ghost use Rattle.lrpar_table_items.specs.Brought.{HasIn, IsBrought};
 ghost use Rattle.lrpar_table_items.specs.Cores.{AreBringing, Brings, IsAmong, IsCoreOf, IsOfRows, IsOfRule, core_set};
 ghost use Rattle.lrpar_table_items.specs.ItemSets.{IsInClosure};
@@ -13,7 +13,7 @@ use crate::reach::spread;
 use lrpar_grammar::grammar::YaccGrammar;
 use lrpar_grammar::span::{PIdx, RIdx, StorageIndex};
 use lrpar_grammar::token_set::TokenSet;
-use lrpar_table_first::behind::rule_behind;
+use lrpar_table_first::after_dot::rule_after;
 use lrpar_table_first::first::{add_first_before, clear_all};
 use std::alloc::{AllocError, Global};
 
@@ -32,11 +32,11 @@ pub(crate) fn closure<StorageT: StorageIndex>(
     requires firsts { AreFirsts grm.now (rows_of firsts.now) }
     requires kernel { IsKernel grm.now (map (core_set StorageT.index) cores.items) }
     requires room { HaveRoom grm.now (rows_of brought.old) }
-    requires front { length front.old.bits.items ≡ mark_of grm.now + 1 }
-    requires fresh { length fresh.old.bits.items ≡ mark_of grm.now + 1 }
+    requires front { length front.old.bits.items ≡ dummy_lookahead grm.now + 1 }
+    requires fresh { length fresh.old.bits.items ≡ dummy_lookahead grm.now + 1 }
     ensures room { HaveRoom grm.now (rows_of brought.new) }
-    ensures front { length front.new.bits.items ≡ mark_of grm.now + 1 }
-    ensures fresh { length fresh.new.bits.items ≡ mark_of grm.now + 1 }
+    ensures front { length front.new.bits.items ≡ dummy_lookahead grm.now + 1 }
+    ensures fresh { length fresh.new.bits.items ≡ dummy_lookahead grm.now + 1 }
     ensures items { IfOk result (λ closure. (x : ItemOf) → IsAmong (map (core_set StorageT.index) closure.items) x
         ↔ IsInClosure grm.now (IsAmong (map (core_set StorageT.index) cores.items)) x) }
     ensures cores { IfOk result (λ closure. AreCores grm.now (map (core_set StorageT.index) closure.items)) }
@@ -79,7 +79,7 @@ fn push_rule<StorageT: StorageIndex>(
 ) -> Result<(), AllocError>
     requires well_formed { IsWellFormed grm.now }
     requires rule { StorageT.index ridx.0 < rules_len grm.now }
-    requires wide { length tokens.now.bits.items ≡ mark_of grm.now + 1 }
+    requires wide { length tokens.now.bits.items ≡ dummy_lookahead grm.now + 1 }
     requires cores { AreCores grm.now (map (core_set StorageT.index) closure.old.items) }
     requires ahead { All (IsAhead grm.now (StorageT.index ridx.0)) (map (core_set StorageT.index) closure.old.items) }
     ensures items { OnOk result ((x : ItemOf) → IsAmong (map (core_set StorageT.index) closure.new.items) x
@@ -130,11 +130,11 @@ pub(crate) fn bring<StorageT: StorageIndex>(
     requires firsts { AreFirsts grm.now (rows_of firsts.now) }
     requires cores { All (IsCoreOf grm.now) (map (core_set StorageT.index) cores.now) }
     requires room { HaveRoom grm.now (rows_of brought.old) }
-    requires front { length front.old.bits.items ≡ mark_of grm.now + 1 }
-    requires fresh { length fresh.old.bits.items ≡ mark_of grm.now + 1 }
+    requires front { length front.old.bits.items ≡ dummy_lookahead grm.now + 1 }
+    requires fresh { length fresh.old.bits.items ≡ dummy_lookahead grm.now + 1 }
     ensures room { HaveRoom grm.now (rows_of brought.new) }
-    ensures front { length front.new.bits.items ≡ mark_of grm.now + 1 }
-    ensures fresh { length fresh.new.bits.items ≡ mark_of grm.now + 1 }
+    ensures front { length front.new.bits.items ≡ dummy_lookahead grm.now + 1 }
+    ensures fresh { length fresh.new.bits.items ≡ dummy_lookahead grm.now + 1 }
     ensures exact { (r t : ℕ) → HasIn (rows_of brought.new) r t
         ↔ IsBrought grm.now (AreBringing grm.now (map (core_set StorageT.index) cores.now)) r t }
 {
@@ -157,13 +157,13 @@ fn bring_one<StorageT: StorageIndex>(
     requires firsts { AreFirsts grm.now (rows_of firsts.now) }
     requires core { IsCoreOf grm.now (core_set StorageT.index core.now) }
     requires room { HaveRoom grm.now (rows_of brought.old) }
-    requires front { length front.old.bits.items ≡ mark_of grm.now + 1 }
+    requires front { length front.old.bits.items ≡ dummy_lookahead grm.now + 1 }
     ensures room { HaveRoom grm.now (rows_of brought.new) }
-    ensures front { length front.new.bits.items ≡ mark_of grm.now + 1 }
+    ensures front { length front.new.bits.items ≡ dummy_lookahead grm.now + 1 }
     ensures exact { (r t : ℕ) → HasIn (rows_of brought.new) r t
         ↔ (HasIn (rows_of brought.old) r t ⊎ Brings grm.now (core_set StorageT.index core.now) r t) }
 {
-    match rule_behind(grm, core.prod, core.dot) {
+    match rule_after(grm, core.prod, core.dot) {
         None => {}
         Some((rule, rest)) => {
             let target = usize::from(rule);

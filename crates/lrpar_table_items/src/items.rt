@@ -2,7 +2,7 @@
 ghost use Rattle.std.specs.Prelude.{◌≡◌, ◌++◌, IfOk, OnOk, map};
 ghost use Rattle.lrpar_grammar.specs.Grammar.{tokens_len};
 ghost use Rattle.lrpar_table_rows.specs.PlainItems.{item_of};
-ghost use Rattle.lrpar_table_items.specs.Complete.{items_of_core, items_of_cores};
+ghost use Rattle.lrpar_table_items.specs.CompleteItems.{items_of_core, items_of_cores};
 ghost use Rattle.lrpar_table_items.specs.Cores.{core_set};
 
 use crate::cores::CoreItems;

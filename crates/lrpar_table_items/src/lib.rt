@@ -2,7 +2,7 @@
 #![tactic(auto)]
 
 mod closure;
-pub mod complete;
+pub mod complete_items;
 pub mod cores;
 pub mod fault;
 pub mod item_rows;
@@ -11,8 +11,8 @@ pub mod items;
 pub mod kernels;
 mod numbers;
 mod reach;
+pub mod resolution;
 pub mod sets;
 pub mod state_row;
 pub mod states;
 pub mod successors;
-pub mod wants;

@@ -2,13 +2,13 @@
 ghost use Rattle.std.specs.Prelude.{◌≡◌, ◌<◌, ◌+◌, ◌↔◌, ℕ, length};
 ghost use Rattle.std.specs.Bool.{OnFalse, OnTrue};
 ghost use Rattle.lrpar_grammar.specs.Grammar.{IsWellFormed, prods_len, rules_len, tokens_len};
-ghost use Rattle.lrpar_table_first.specs.FirstRows.{AreFirsts, HaveRoom, mark_of, rows_of, total_missing};
+ghost use Rattle.lrpar_table_first.specs.FirstRows.{AreFirsts, HaveRoom, dummy_lookahead, rows_of, total_missing};
 ghost use Rattle.lrpar_table_items.specs.Brought.{AreBroughtFrom, HasIn, IsBrought, IsSpreadAt, IsSpreadOf, Keeps};
 
 use lrpar_grammar::grammar::YaccGrammar;
 use lrpar_grammar::span::{PIdx, RIdx, StorageIndex};
 use lrpar_grammar::token_set::TokenSet;
-use lrpar_table_first::behind::rule_behind;
+use lrpar_table_first::after_dot::rule_after;
 use lrpar_table_first::first::add_first_before;
 
 /// Puts into the sets all that comes with what they have, by closure. The last two are sets to work with.
@@ -22,11 +22,11 @@ pub(crate) fn spread<StorageT: StorageIndex>(
     requires well_formed { IsWellFormed grm.now }
     requires firsts { AreFirsts grm.now (rows_of firsts.now) }
     requires room { HaveRoom grm.now (rows_of sets.old) }
-    requires front { length front.old.bits.items ≡ mark_of grm.now + 1 }
-    requires fresh { length fresh.old.bits.items ≡ mark_of grm.now + 1 }
+    requires front { length front.old.bits.items ≡ dummy_lookahead grm.now + 1 }
+    requires fresh { length fresh.old.bits.items ≡ dummy_lookahead grm.now + 1 }
     ensures room { HaveRoom grm.now (rows_of sets.new) }
-    ensures front { length front.new.bits.items ≡ mark_of grm.now + 1 }
-    ensures fresh { length fresh.new.bits.items ≡ mark_of grm.now + 1 }
+    ensures front { length front.new.bits.items ≡ dummy_lookahead grm.now + 1 }
+    ensures fresh { length fresh.new.bits.items ≡ dummy_lookahead grm.now + 1 }
     ensures exact { (r t : ℕ) → HasIn (rows_of sets.new) r t ↔ IsBrought grm.now (HasIn (rows_of sets.old)) r t }
 {
     'passes: while spread_all(grm, firsts, sets, front, fresh) {}
@@ -43,11 +43,11 @@ fn spread_all<StorageT: StorageIndex>(
     requires well_formed { IsWellFormed grm.now }
     requires firsts { AreFirsts grm.now (rows_of firsts.now) }
     requires room { HaveRoom grm.now (rows_of sets.old) }
-    requires front { length front.old.bits.items ≡ mark_of grm.now + 1 }
-    requires fresh { length fresh.old.bits.items ≡ mark_of grm.now + 1 }
+    requires front { length front.old.bits.items ≡ dummy_lookahead grm.now + 1 }
+    requires fresh { length fresh.old.bits.items ≡ dummy_lookahead grm.now + 1 }
     ensures room { HaveRoom grm.now (rows_of sets.new) }
-    ensures front { length front.new.bits.items ≡ mark_of grm.now + 1 }
-    ensures fresh { length fresh.new.bits.items ≡ mark_of grm.now + 1 }
+    ensures front { length front.new.bits.items ≡ dummy_lookahead grm.now + 1 }
+    ensures fresh { length fresh.new.bits.items ≡ dummy_lookahead grm.now + 1 }
     ensures kept { Keeps (rows_of sets.old) (rows_of sets.new) }
     ensures sound { AreBroughtFrom grm.now (rows_of sets.old) (rows_of sets.new) }
     ensures grown { OnTrue result (total_missing (rows_of sets.new) < total_missing (rows_of sets.old)) }
@@ -76,11 +76,11 @@ fn spread_rule<StorageT: StorageIndex>(
     requires well_formed { IsWellFormed grm.now }
     requires firsts { AreFirsts grm.now (rows_of firsts.now) }
     requires room { HaveRoom grm.now (rows_of sets.old) }
-    requires front { length front.old.bits.items ≡ mark_of grm.now + 1 }
-    requires fresh { length fresh.old.bits.items ≡ mark_of grm.now + 1 }
+    requires front { length front.old.bits.items ≡ dummy_lookahead grm.now + 1 }
+    requires fresh { length fresh.old.bits.items ≡ dummy_lookahead grm.now + 1 }
     ensures room { HaveRoom grm.now (rows_of sets.new) }
-    ensures front { length front.new.bits.items ≡ mark_of grm.now + 1 }
-    ensures fresh { length fresh.new.bits.items ≡ mark_of grm.now + 1 }
+    ensures front { length front.new.bits.items ≡ dummy_lookahead grm.now + 1 }
+    ensures fresh { length fresh.new.bits.items ≡ dummy_lookahead grm.now + 1 }
     ensures kept { Keeps (rows_of sets.old) (rows_of sets.new) }
     ensures sound { AreBroughtFrom grm.now (rows_of sets.old) (rows_of sets.new) }
     ensures grown { OnTrue result (total_missing (rows_of sets.new) < total_missing (rows_of sets.old)) }
@@ -114,18 +114,18 @@ fn spread_from<StorageT: StorageIndex>(
     requires well_formed { IsWellFormed grm.now }
     requires firsts { AreFirsts grm.now (rows_of firsts.now) }
     requires room { HaveRoom grm.now (rows_of sets.old) }
-    requires front { length front.old.bits.items ≡ mark_of grm.now + 1 }
-    requires fresh { length fresh.old.bits.items ≡ mark_of grm.now + 1 }
+    requires front { length front.old.bits.items ≡ dummy_lookahead grm.now + 1 }
+    requires fresh { length fresh.old.bits.items ≡ dummy_lookahead grm.now + 1 }
     ensures room { HaveRoom grm.now (rows_of sets.new) }
-    ensures front { length front.new.bits.items ≡ mark_of grm.now + 1 }
-    ensures fresh { length fresh.new.bits.items ≡ mark_of grm.now + 1 }
+    ensures front { length front.new.bits.items ≡ dummy_lookahead grm.now + 1 }
+    ensures fresh { length fresh.new.bits.items ≡ dummy_lookahead grm.now + 1 }
     ensures kept { Keeps (rows_of sets.old) (rows_of sets.new) }
     ensures sound { AreBroughtFrom grm.now (rows_of sets.old) (rows_of sets.new) }
     ensures grown { OnTrue result (total_missing (rows_of sets.new) < total_missing (rows_of sets.old)) }
     ensures same { OnFalse result (rows_of sets.new ≡ rows_of sets.old) }
     ensures closed { OnFalse result (IsSpreadAt grm.now (rows_of sets.new) (StorageT.index pidx.0)) }
 {
-    match rule_behind(grm, pidx, 0) {
+    match rule_after(grm, pidx, 0) {
         None => false,
         Some((brought, rest)) => {
             let rule = usize::from(grm.prod_to_rule(pidx));

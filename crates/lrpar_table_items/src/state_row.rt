@@ -6,12 +6,12 @@ ghost use Rattle.lrpar_grammar.specs.Symbols.{prod_numbers};
 ghost use Rattle.lrpar_table_rows.specs.PlainConflicts.{reduce_reduce_of, shift_reduce_of};
 ghost use Rattle.lrpar_table_rows.specs.PlainRows.{action_entry, plain_goto};
 ghost use Rattle.lrpar_table_items.specs.Cores.{core_set};
-ghost use Rattle.lrpar_table_items.specs.Wanted.{AcceptsBeside, AreOnce, AscendFrom, HasAcceptReduce, IsAcceptReduce, IsRefusal, entry_at, reduce_conflicts, shift_conflicts, shift_conflicts_at, shift_entry, wanted, wanted_row};
+ghost use Rattle.lrpar_table_items.specs.Resolution.{AcceptsBeside, AreOnce, AscendFrom, HasAcceptReduce, IsAcceptReduce, IsRefusal, entry_at, reduce_conflicts, shift_conflicts, shift_conflicts_at, shift_entry, resolved, resolved_row};
 
-use crate::complete::{accepts, complete_cores, reductions_at};
+use crate::complete_items::{accepts, complete_cores, reductions_at};
 use crate::cores::CoreItems;
 use crate::fault::BuildFault;
-use crate::wants::{
+use crate::resolution::{
     ReduceReduce, ShiftReduce, push_conflicts, push_shift_conflict, push_unshifted, split_shift,
 };
 use lrpar_grammar::grammar::YaccGrammar;
@@ -37,7 +37,7 @@ pub fn state_row<StorageT: StorageIndex>(
     requires once { AreOnce (map (core_set StorageT.index) cores.now) }
     requires shifts { AscendFrom 0 (keys_of (map (shift_entry StorageT.index) shifts.now)) }
     ensures row { IfOk result (λ row. map (action_entry StorageT.index) row.items
-        ≡ wanted_row grm.now (map (core_set StorageT.index) cores.now) (map (shift_entry StorageT.index) shifts.now)) }
+        ≡ resolved_row grm.now (map (core_set StorageT.index) cores.now) (map (shift_entry StorageT.index) shifts.now)) }
     ensures rr { OnOk result (map (reduce_reduce_of StorageT.index) rr.new.items ≡ map (reduce_reduce_of StorageT.index) rr.old.items
         ++ reduce_conflicts grm.now (map (core_set StorageT.index) cores.now) (StorageT.index state.now.0)) }
     ensures sr { OnOk result (map (shift_reduce_of StorageT.index) sr.new.items ≡ map (shift_reduce_of StorageT.index) sr.old.items
@@ -74,7 +74,7 @@ fn push_token<StorageT: StorageIndex>(
     sr: &mut Vec<ShiftReduce<StorageT>>,
 ) -> Result<(), BuildFault>
     ensures row { OnOk result (map (action_entry StorageT.index) row.new.items ≡ map (action_entry StorageT.index) row.old.items
-        ++ entry_at (StorageT.index tidx.now.0) (wanted (plain_goto StorageT.index shift) (prod_numbers StorageT.index prods.now) accepting)) }
+        ++ entry_at (StorageT.index tidx.now.0) (resolved (plain_goto StorageT.index shift) (prod_numbers StorageT.index prods.now) accepting)) }
     ensures sr { OnOk result (map (shift_reduce_of StorageT.index) sr.new.items ≡ map (shift_reduce_of StorageT.index) sr.old.items
         ++ shift_conflicts_at (StorageT.index state.now.0) (StorageT.index tidx.now.0) (plain_goto StorageT.index shift) (prod_numbers StorageT.index prods.now)) }
     ensures none { IfOk result (λ _. ¬ (AcceptsBeside (plain_goto StorageT.index shift) (prod_numbers StorageT.index prods.now) accepting)) }

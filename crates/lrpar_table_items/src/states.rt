@@ -11,7 +11,7 @@ ghost use Rattle.lrpar_table_items.specs.Next.{kernel_at};
 ghost use Rattle.lrpar_table_items.specs.CoreOrder.{AreCores, IsKernel};
 ghost use Rattle.lrpar_table_items.specs.Kernels.{AreKept};
 ghost use Rattle.lrpar_table_items.specs.Numbers.{AreNumbered, IsFaultOfStates, IsStepFault, IsStepTo};
-ghost use Rattle.lrpar_table_items.specs.Wanted.{shift_entry};
+ghost use Rattle.lrpar_table_items.specs.Resolution.{shift_entry};
 ghost use Rattle.lrpar_table_items.specs.States.{AreKernelsBy, AreStates, AreSteps, IsExpanded, StartsRight, state_of, step_entry};
 ghost use Rattle.lrpar_table_items.specs.Working.{AreSets, AreSuccessors};
 

@@ -5,7 +5,7 @@ ghost use Rattle.lrpar_grammar.specs.Grammar.{IsWellFormed, Nonterminal, Termina
 ghost use Rattle.lrpar_grammar.specs.Symbols.{symbol_of};
 ghost use Rattle.lrpar_table_first.specs.FirstRows.{IsSymbolBelow};
 ghost use Rattle.lrpar_table_items.specs.Cores.{IsCoreOf, core_set};
-ghost use Rattle.lrpar_table_items.specs.Next.{ArePutTo, advanced, kernel_at, kernel_rows, symbol_behind};
+ghost use Rattle.lrpar_table_items.specs.Next.{ArePutTo, advanced, kernel_at, kernel_rows, symbol_after};
 ghost use Rattle.lrpar_table_items.specs.Working.{AreSuccessors};
 
 use crate::cores::CoreItems;
@@ -79,7 +79,7 @@ fn put_next<StorageT: StorageIndex>(
     ensures tokens { OnOk result (ArePutTo grm.now (core_set StorageT.index core.now) Terminal
         (kernel_rows StorageT.index tokens.old) (kernel_rows StorageT.index tokens.new)) }
 {
-    match symbol_behind(grm, core) {
+    match symbol_after(grm, core) {
         None => Ok(()),
         Some(Symbol::Rule(rule)) => {
             let target = usize::from(rule);
@@ -93,13 +93,13 @@ fn put_next<StorageT: StorageIndex>(
 }
 
 // The symbol that the core stands before, if it does: one of the grammar.
-fn symbol_behind<StorageT: StorageIndex>(
+fn symbol_after<StorageT: StorageIndex>(
     grm: &YaccGrammar<StorageT>,
     core: &CoreItems<StorageT>,
 ) -> Option<Symbol<StorageT>>
     requires well_formed { IsWellFormed grm.now }
     requires core { IsCoreOf grm.now (core_set StorageT.index core.now) }
-    ensures symbol { option_map (symbol_of StorageT.index) result ≡ symbol_behind grm.now (core_set StorageT.index core.now) }
+    ensures symbol { option_map (symbol_of StorageT.index) result ≡ symbol_after grm.now (core_set StorageT.index core.now) }
     ensures listed { IfSome result (λ symbol. IsSymbolBelow (rules_len grm.now) (tokens_len grm.now) (symbol_of StorageT.index symbol)) }
     ensures next { IfSome result (λ symbol. core.now.dot + 1 < 2 ^ 64) }
 {

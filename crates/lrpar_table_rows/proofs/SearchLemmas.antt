@@ -7,47 +7,47 @@ use Rattle.std.proofs.lemmas.List.{get_or-map, get_or_default, length-map}
 use Rattle.std.proofs.lemmas.List.Kept.{AllPairs-from_increasing}
 
 -- of the places, `size` from `base` on are left: what stands before them is less, and what comes after them greater
-pub record IsSearched (ns : List ℕ) (wanted base size : ℕ) : Type 0 where
+pub record IsSearched (ns : List ℕ) (sought base size : ℕ) : Type 0 where
   pub within : base + size ≤ length ns
-  pub below : (k : ℕ) → k < base → slice_index ns k < wanted
-  pub above : (k : ℕ) → base + size ≤ k → k < length ns → wanted < slice_index ns k
+  pub below : (k : ℕ) → k < base → slice_index ns k < sought
+  pub above : (k : ℕ) → base + size ≤ k → k < length ns → sought < slice_index ns k
 
 -- at first all are left
-pub searched_first : {X : Type 0} (f : X → ℕ) (xs : List X) (wanted : ℕ) → IsSearched (map f xs) wanted 0 (length xs)
-searched_first f xs wanted = record {
+pub searched_first : {X : Type 0} (f : X → ℕ) (xs : List X) (sought : ℕ) → IsSearched (map f xs) sought 0 (length xs)
+searched_first f xs sought = record {
   within = rw length-map (omega arith);
   below = λ k h. absurd (omega (arith, h));
   above = λ k low high. let inside : k < length xs = rw length-map at high in absurd (omega (arith, low, inside));
 }
 
 -- where the middle one isn't greater, the part from it on is left
-pub searched_up : (ns : List ℕ) (wanted base size half : ℕ) → IsStrictlyIncreasing ns → IsSearched ns wanted base size → half < size
-    → slice_index ns (base + half) ≤ wanted → IsSearched ns wanted (base + half) (size - half)
-searched_up ns wanted base size half up so_far less here = record {
+pub searched_up : (ns : List ℕ) (sought base size half : ℕ) → IsStrictlyIncreasing ns → IsSearched ns sought base size → half < size
+    → slice_index ns (base + half) ≤ sought → IsSearched ns sought (base + half) (size - half)
+searched_up ns sought base size half up so_far less here = record {
   within = omega (arith, so_far.within, less);
   below = λ k h. let before = AllPairs-from_increasing ns up k (base + half) 0 h (omega (arith, so_far.within, less)) in omega (arith, before, here);
   above = λ k low high. so_far.above k (omega (arith, low, less)) high;
 }
 
 -- where it is greater, the part before it is left, and here one more in some cases
-pub searched_down : (ns : List ℕ) (wanted base size half : ℕ) → IsStrictlyIncreasing ns → IsSearched ns wanted base size → half + half ≤ size
-    → wanted < slice_index ns (base + half) → IsSearched ns wanted base (size - half)
-searched_down ns wanted base size half up so_far less here = record {
+pub searched_down : (ns : List ℕ) (sought base size half : ℕ) → IsStrictlyIncreasing ns → IsSearched ns sought base size → half + half ≤ size
+    → sought < slice_index ns (base + half) → IsSearched ns sought base (size - half)
+searched_down ns sought base size half up so_far less here = record {
   within = omega (arith, so_far.within, less);
   below = so_far.below;
   above = λ k low high.
-      elim (cases_lt (base + half) k) as (λ _. wanted < slice_index ns k) [
+      elim (cases_lt (base + half) k) as (λ _. sought < slice_index ns k) [
         | inl after ↦ let more = AllPairs-from_increasing ns up (base + half) k 0 after high in omega (arith, more, here)
-        | inr not_after ↦ let same : k ≡ base + half = omega (arith, low, less, not_after) in subst (λ (i : ℕ). wanted < slice_index ns i) (sym same) here
+        | inr not_after ↦ let same : k ≡ base + half = omega (arith, low, less, not_after) in subst (λ (i : ℕ). sought < slice_index ns i) (sym same) here
       ];
 }
 
 -- where none is left, or one that is another, the number isn't there
-pub searched_out : (ns : List ℕ) (wanted base size : ℕ) → IsSearched ns wanted base size → size ≤ 1 → (size ≡ 1 → ¬ (slice_index ns base ≡ wanted))
-    → ¬ (Contains ns wanted)
-searched_out ns wanted base size so_far small other there =
+pub searched_out : (ns : List ℕ) (sought base size : ℕ) → IsSearched ns sought base size → size ≤ 1 → (size ≡ 1 → ¬ (slice_index ns base ≡ sought))
+    → ¬ (Contains ns sought)
+searched_out ns sought base size so_far small other there =
     let k = there.0 in
-    let is : slice_index ns k ≡ wanted = subst (λ (x : ℕ). x ≡ wanted) (get_or_default ns k wanted 0 there.1) there.2 in
+    let is : slice_index ns k ≡ sought = subst (λ (x : ℕ). x ≡ sought) (get_or_default ns k sought 0 there.1) there.2 in
     elim (cases_lt k base) as (λ _. ⊥) [
       | inl before ↦ let less = so_far.below k before in absurd (omega (arith, less, is))
       | inr from ↦
@@ -55,33 +55,33 @@ searched_out ns wanted base size so_far small other there =
             | inl inside ↦
                 let one : size ≡ 1 = omega (arith, from, inside, small) in
                 let here : k ≡ base = omega (arith, from, inside, small) in
-                other one (subst (λ (i : ℕ). slice_index ns i ≡ wanted) here is)
+                other one (subst (λ (i : ℕ). slice_index ns i ≡ sought) here is)
             | inr past ↦ let greater = so_far.above k past there.1 in absurd (omega (arith, greater, is))
           ]
     ]
 
 -- a number between two that stand side by side isn't there
-pub between_sides : (ns : List ℕ) (wanted place : ℕ) → IsStrictlyIncreasing ns → place + 1 < length ns → slice_index ns place < wanted
-    → wanted < slice_index ns (place + 1) → ¬ (Contains ns wanted)
-between_sides ns wanted place up next below above =
-    let none : IsSearched ns wanted (place + 1) 0 = record {
+pub between_sides : (ns : List ℕ) (sought place : ℕ) → IsStrictlyIncreasing ns → place + 1 < length ns → slice_index ns place < sought
+    → sought < slice_index ns (place + 1) → ¬ (Contains ns sought)
+between_sides ns sought place up next below above =
+    let none : IsSearched ns sought (place + 1) 0 = record {
       within = omega (arith, next);
       below = λ k h.
-          elim (cases_lt k place) as (λ _. slice_index ns k < wanted) [
+          elim (cases_lt k place) as (λ _. slice_index ns k < sought) [
             | inl before ↦ let less = AllPairs-from_increasing ns up k place 0 before (omega (arith, next)) in omega (arith, less, below)
             | inr not_before ↦
                 let same : k ≡ place = omega (arith, h, not_before) in
-                subst (λ (i : ℕ). slice_index ns i < wanted) (sym same) below
+                subst (λ (i : ℕ). slice_index ns i < sought) (sym same) below
           ];
       above = λ k low high.
-          elim (cases_lt (place + 1) k) as (λ _. wanted < slice_index ns k) [
+          elim (cases_lt (place + 1) k) as (λ _. sought < slice_index ns k) [
             | inl after ↦ let more = AllPairs-from_increasing ns up (place + 1) k 0 after high in omega (arith, more, above)
             | inr not_after ↦
                 let same : k ≡ place + 1 = omega (arith, low, not_after) in
-                subst (λ (i : ℕ). wanted < slice_index ns i) (sym same) above
+                subst (λ (i : ℕ). sought < slice_index ns i) (sym same) above
           ];
     } in
-    searched_out ns wanted (place + 1) 0 none (omega arith) (λ one. absurd (omega (arith, one)))
+    searched_out ns sought (place + 1) 0 none (omega arith) (λ one. absurd (omega (arith, one)))
 
 -- the number of an element that was read is the number at its place
 pub number_read : {X : Type 0} (f : X → ℕ) (xs : List X) (i : ℕ) (x : X) → i < length xs → x ≡ slice_index_or xs i x → slice_index (map f xs) i ≡ f x

@@ -2,7 +2,7 @@
 ghost use Rattle.std.specs.Prelude.{◌≡◌, ◌<◌, ◌≤◌, ◌+◌, ◌++◌, [], List, IfOk, IsTrue, OnOk, MatchOption, Contains, length, map, slice_index, slice_index_or, slice_range, sum_by, zip};
 ghost use Rattle.std.specs.List.Sorted.{IsStrictlyIncreasing};
 
-use crate::hints::Hints;
+use crate::displacements::Displacements;
 use crate::key::Key;
 use std::alloc::{AllocError, Global};
 use std::marker::Model;
@@ -14,7 +14,7 @@ pub(crate) struct Entries<K, V> {
     starts: Vec<usize>,
     keys: Vec<K>,
     values: Vec<V>,
-    hints: Hints,
+    displacements: Displacements,
 }
 
 impl<K, V> Model for Entries<K, V> {
@@ -37,17 +37,17 @@ impl<K: Key, V: Copy> Entries<K, V> {
         starts.push(0)?;
         let mut keys = Vec::new(alloc);
         let mut values = Vec::new(alloc);
-        let mut hints = Hints::new(alloc);
+        let mut displacements = Displacements::new(alloc);
         for row in rows {
             push_row(&mut keys, &mut values, row)?;
-            hints.add_row(row)?;
+            displacements.add_row(row)?;
             starts.push(keys.len())?;
         }
         Ok(Entries {
             starts,
             keys,
             values,
-            hints,
+            displacements,
         })
     }
 
@@ -79,8 +79,8 @@ impl<K: Key, V: Copy> Entries<K, V> {
 
     /// A guess of where the key of this number stands in its row: any place.
     #[inline]
-    pub(crate) fn guess(&self, number: usize, wanted: usize) -> Option<usize> {
-        self.hints.guess(number, wanted)
+    pub(crate) fn displaced(&self, number: usize, sought: usize) -> Option<usize> {
+        self.displacements.displaced(number, sought)
     }
 }
 
@@ -118,64 +118,64 @@ fn push_row<K: Copy, V: Copy>(
 /// The place of the key of this number, if it is one of the keys, which ascend. The key at the guessed place is looked at
 /// first.
 #[inline]
-pub(crate) fn place_by<K: Key>(keys: &[K], wanted: usize, guess: Option<usize>) -> Option<usize>
+pub(crate) fn place_by<K: Key>(keys: &[K], sought: usize, displaced: Option<usize>) -> Option<usize>
     requires { IsStrictlyIncreasing (map K.number keys.now) }
-    ensures { MatchOption result (¬ (Contains (map K.number keys.now) wanted))
-        (λ place. (place < length keys.now) × (slice_index (map K.number keys.now) place ≡ wanted)) }
+    ensures { MatchOption result (¬ (Contains (map K.number keys.now) sought))
+        (λ place. (place < length keys.now) × (slice_index (map K.number keys.now) place ≡ sought)) }
 {
-    match guess {
-        Some(place) if place < keys.len() && keys[place].to_number() == wanted => Some(place),
-        _ => place_beside(keys, wanted, guess),
+    match displaced {
+        Some(place) if place < keys.len() && keys[place].to_number() == sought => Some(place),
+        _ => place_beside(keys, sought, displaced),
     }
 }
 
 /// The same, where the key at the guessed place is another. If it is the last one that is less, the next key tells that
 /// there is none; otherwise the number is searched for. It is kept out of the callers, which mostly don't come to it.
 #[inline(never)]
-fn place_beside<K: Key>(keys: &[K], wanted: usize, guess: Option<usize>) -> Option<usize>
+fn place_beside<K: Key>(keys: &[K], sought: usize, displaced: Option<usize>) -> Option<usize>
     requires { IsStrictlyIncreasing (map K.number keys.now) }
-    ensures { MatchOption result (¬ (Contains (map K.number keys.now) wanted))
-        (λ place. (place < length keys.now) × (slice_index (map K.number keys.now) place ≡ wanted)) }
+    ensures { MatchOption result (¬ (Contains (map K.number keys.now) sought))
+        (λ place. (place < length keys.now) × (slice_index (map K.number keys.now) place ≡ sought)) }
 {
-    match guess {
-        Some(place) if is_between(keys, wanted, place) => None,
-        _ => place_of(keys, wanted),
+    match displaced {
+        Some(place) if is_between(keys, sought, place) => None,
+        _ => place_of(keys, sought),
     }
 }
 
 /// Whether the number lies between the key at `place` and the next one. The keys ascend, so that it is none of them.
-fn is_between<K: Key>(keys: &[K], wanted: usize, place: usize) -> bool
+fn is_between<K: Key>(keys: &[K], sought: usize, place: usize) -> bool
     requires { IsStrictlyIncreasing (map K.number keys.now) }
-    ensures { IsTrue result → ¬ (Contains (map K.number keys.now) wanted) }
+    ensures { IsTrue result → ¬ (Contains (map K.number keys.now) sought) }
 {
     if place >= keys.len() || place + 1 >= keys.len() {
         return false;
     }
     let below = keys[place].to_number();
     let above = keys[place + 1].to_number();
-    below < wanted && wanted < above
+    below < sought && sought < above
 }
 
 /// The place of the key of this number, if it is one of the keys, which ascend. The part that is
 /// left is halved until one is, and no branch hangs on a comparison until then.
-fn place_of<K: Key>(keys: &[K], wanted: usize) -> Option<usize>
+fn place_of<K: Key>(keys: &[K], sought: usize) -> Option<usize>
     requires { IsStrictlyIncreasing (map K.number keys.now) }
-    ensures { MatchOption result (¬ (Contains (map K.number keys.now) wanted))
-        (λ place. (place < length keys.now) × (slice_index (map K.number keys.now) place ≡ wanted)) }
+    ensures { MatchOption result (¬ (Contains (map K.number keys.now) sought))
+        (λ place. (place < length keys.now) × (slice_index (map K.number keys.now) place ≡ sought)) }
 {
     let mut base = 0;
     let mut size = keys.len();
     while size > 1 {
         let half = size / 2;
         let middle = base + half;
-        base = if keys[middle].to_number() <= wanted {
+        base = if keys[middle].to_number() <= sought {
             middle
         } else {
             base
         };
         size -= half;
     }
-    if size == 1 && keys[base].to_number() == wanted {
+    if size == 1 && keys[base].to_number() == sought {
         Some(base)
     } else {
         None

@@ -4,11 +4,11 @@
 mod ascending;
 pub mod condition;
 mod conflicts;
+mod displacements;
 mod entries;
 mod fault;
 mod full;
 mod graph;
-mod hints;
 mod items;
 mod key;
 pub mod laws;

@@ -166,7 +166,7 @@ impl<StorageT: StorageIndex> StateTable<StorageT> {
     {
         let (tokens, actions) = self.actions_of(s);
         let token = usize::from(t);
-        match place_by(tokens, token, self.actions.guess(usize::from(s), token)) {
+        match place_by(tokens, token, self.actions.displaced(usize::from(s), token)) {
             Some(place) => actions[place],
             None => Action::Error,
         }
@@ -184,7 +184,7 @@ impl<StorageT: StorageIndex> StateTable<StorageT> {
     {
         let (rules, states) = self.gotos_of(s);
         let rule = usize::from(r);
-        match place_by(rules, rule, self.gotos.guess(usize::from(s), rule)) {
+        match place_by(rules, rule, self.gotos.displaced(usize::from(s), rule)) {
             Some(place) => Some(states[place]),
             None => None,
         }

@@ -13,11 +13,11 @@ use Rattle.lrpar_table_items.specs.ItemSets.{IsReachedBy}
 use Rattle.lrpar_table_sentences.specs.Choices.{AreShortest, ChoiceOf}
 use Rattle.lrpar_table_sentences.specs.Lens.{added, len_at, total_len}
 use Rattle.lrpar_table_sentences.specs.Texts.{AreTreesOf, forest_width}
-use Rattle.lrpar_table_sentences.specs.WayLens.{AreEdges, AreRightWays, EdgeOf, Goes, IsWalk, LeadBack, NoStepIsOpen, Starts}
-use Rattle.lrpar_table_sentences.specs.Ways.{AreWays, IsPathTo, IsShortestWay, IsShortestWayIfAny, StepOf, StepsLead, WayOf, symbols_in, way_at}
+use Rattle.lrpar_table_sentences.specs.AccessLens.{AreEdges, AreRightAccesses, EdgeOf, Goes, IsWalk, LeadBack, NoStepIsOpen, Starts}
+use Rattle.lrpar_table_sentences.specs.AccessStrings.{AreAccessStrings, IsPathTo, IsShortestAccess, IsShortestAccessIfAny, StepOf, StepsLead, AccessOf, symbols_in, access_at}
 use Rattle.lrpar_table_sentences.proofs.LenLemmas.{added_assoc, forest_follows_fit, have_len, option_cases, total_from_zero, total_is_shortest, total_least, trees_kept}
 use Rattle.lrpar_table_sentences.proofs.WalkLemmas.{path_walk, walk_path}
-use Rattle.lrpar_table_sentences.proofs.WayLemmas.{no_walk}
+use Rattle.lrpar_table_sentences.proofs.AccessLemmas.{no_walk}
 
 added_swap : (most : ℕ) (a b : Option ℕ) → added most a b ≡ added most b a
 added_swap most (Some a) (Some b) = let same : min (a + b) most ≡ min (b + a) most = omega arith in ap (λ (n : ℕ). Some n) same
@@ -68,13 +68,13 @@ lead_onto table s last (step ∷ steps) rest back lead =
 
 module _ (g : Grammar) (graph : Graph) (table : Table) (well : IsWellFormed g) (built : IsBuilt g graph table) (closed : IsClosed table) (most : ℕ)
     (choices : List (Option ChoiceOf)) (shortest : AreShortest g most choices) (edges : List EdgeOf) (are : AreEdges table choices edges)
-    (ways : List (Option WayOf)) (right : AreRightWays table most choices ways) where
+    (accesses : List (Option AccessOf)) (right : AreRightAccesses table most choices accesses) where
   -- what is kept is kept of a state
-  state_low : (s : ℕ) (way : WayOf) → way_at ways s ≡ Some way → s < states_len table
-  state_low s way at =
-      elim (cases_lt s (length ways)) [
+  state_low : (s : ℕ) (access : AccessOf) → access_at accesses s ≡ Some access → s < states_len table
+  state_low s access at =
+      elim (cases_lt s (length accesses)) [
         | inl low ↦ let count = right.states in omega (arith, count, low)
-        | inr past ↦ let none = get_or_past ways s None past in absurd (cc)
+        | inr past ↦ let none = get_or_past accesses s None past in absurd (cc)
       ]
 
   -- symbols of a path that have trees are a walk with a length
@@ -99,44 +99,44 @@ module _ (g : Grammar) (graph : Graph) (table : Table) (well : IsWellFormed g) (
       subst (λ (w : List GrammarSymbol). AreSame (sets_of graph s) (IsReachedBy g w)) (sym same)
       (walk_path g graph table well built closed s (symbols_in steps) (lead_walk table s steps lead))
 
-  way_shortest : (s : ℕ) (way : WayOf) → way_at ways s ≡ Some way → IsShortestWay g graph most s way.len
-  way_shortest s way at =
-      let back = right.back s way at in
+  access_shortest : (s : ℕ) (access : AccessOf) → access_at accesses s ≡ Some access → IsShortestAccess g graph most s access.len
+  access_shortest s access at =
+      let back = right.back s access at in
       let symbols = symbols_in (reverse back.0) in
-      let kept = trees_kept g most choices shortest.right symbols way.len (back_total back.0 way.len back.3) in
+      let kept = trees_kept g most choices shortest.right symbols access.len (back_total back.0 access.len back.3) in
       record {
         some = (symbols, kept.0, back_path s back.0 back.2, forest_follows_fit g most choices shortest.right kept.0 symbols kept.1, kept.2);
         least = λ others trees path fit.
-            let told = path_total s others trees (state_low s way at) path fit in
-            let least = right.least s told.0 way (reverse others) at told.1 told.2 in
+            let told = path_total s others trees (state_low s access at) path fit in
+            let least = right.least s told.0 access (reverse others) at told.1 told.2 in
             let wide = told.3 in
             omega (arith, least, wide);
       }
 
-  pub are_ways : NoStepIsOpen most ways edges → AreWays g graph table most ways
-  are_ways done = record {
+  pub are_accesses : NoStepIsOpen most accesses edges → AreAccessStrings g graph table most accesses
+  are_accesses done = record {
     states = right.states ∙ sym built.wanted.states;
     lens = λ s low.
-        elim (option_cases (way_at ways s)) as (λ _. IsShortestWayIfAny g graph most s (option_map (λ (way : WayOf). way.len) (way_at ways s))) [
+        elim (option_cases (access_at accesses s)) as (λ _. IsShortestAccessIfAny g graph most s (option_map (λ (access : AccessOf). access.len) (access_at accesses s))) [
           | inl none ↦
-              subst (λ (o : Option WayOf). IsShortestWayIfAny g graph most s (option_map (λ (way : WayOf). way.len) o)) (sym none)
+              subst (λ (o : Option AccessOf). IsShortestAccessIfAny g graph most s (option_map (λ (access : AccessOf). access.len) o)) (sym none)
               (λ symbols trees path fit.
               let told = path_total s symbols trees (let count = built.wanted.states in omega (arith, count, low)) path fit in
-              no_walk table most choices edges are ways right done s told.0 (reverse symbols) none told.1 told.2)
+              no_walk table most choices edges are accesses right done s told.0 (reverse symbols) none told.1 told.2)
           | inr some ↦
-              subst (λ (o : Option WayOf). IsShortestWayIfAny g graph most s (option_map (λ (way : WayOf). way.len) o)) (sym some.1)
-              (way_shortest s some.0 some.1)
+              subst (λ (o : Option AccessOf). IsShortestAccessIfAny g graph most s (option_map (λ (access : AccessOf). access.len) o)) (sym some.1)
+              (access_shortest s some.0 some.1)
         ];
-    paths = λ s way at.
-        let back = right.back s way at in (
+    paths = λ s access at.
+        let back = right.back s access at in (
           back.0,
           back.1,
           record {
             lead = subst (λ xs. StepsLead table table.start xs s) (append-nil (reverse back.0)) (lead_onto table s s back.0 [] back.2 refl);
             path = back_path s back.0 back.2;
-            len = way.len;
-            own = total_is_shortest g most choices shortest.right (symbols_in (reverse back.0)) way.len (back_total back.0 way.len back.3);
-            least = way_shortest s way at;
+            len = access.len;
+            own = total_is_shortest g most choices shortest.right (symbols_in (reverse back.0)) access.len (back_total back.0 access.len back.3);
+            least = access_shortest s access at;
           },
         );
   }

@@ -1,38 +1,38 @@
 -- The steps that are kept, from the end of a way back to its start.
 use Rattle.std.proofs.Common.{◌≡◌, ◌∙◌, refl, sym, ap, subst, ℕ, List, [], ◌∷◌, ◌++◌, Option, Some, None, drop, length, map, reverse, take}
-use Rattle.lrpar_table_sentences.specs.declared.steps.Step.{Step}
+use Rattle.lrpar_table_sentences.specs.declared.transitions.Step.{Step}
 use Rattle.std.proofs.lemmas.List.{append-nil, append_assoc, drop-map, length-map, map-append, reverse-append, take-map}
-use Rattle.lrpar_table_sentences.specs.Ways.{GoBack, StepOf, WayOf, last_of, step_of, steps_of, way_at}
+use Rattle.lrpar_table_sentences.specs.AccessStrings.{GoBack, StepOf, AccessOf, last_of, step_of, steps_of, access_at}
 
 -- the steps so far, and those that are left, are all
-abbrev pub Backing : List (Option WayOf) → ℕ → List StepOf → ℕ → List StepOf → Type 0
-Backing ways s before now out =
-    (all : List StepOf) → GoBack ways s all → (rest : List StepOf) × GoBack ways now rest × (before ++ all ≡ out ++ rest)
+abbrev pub Backing : List (Option AccessOf) → ℕ → List StepOf → ℕ → List StepOf → Type 0
+Backing accesses s before now out =
+    (all : List StepOf) → GoBack accesses s all → (rest : List StepOf) × GoBack accesses now rest × (before ++ all ≡ out ++ rest)
 
-module _ (ways : List (Option WayOf)) (s : ℕ) (before : List StepOf) (now : ℕ) (out : List StepOf) (so_far : Backing ways s before now out) where
-  split : (step : StepOf) → last_of (way_at ways now) ≡ Some step → (rest : List StepOf) → GoBack ways now rest
-      → (others : List StepOf) × GoBack ways step.from others × (out ++ rest ≡ (out ++ step ∷ []) ++ others)
+module _ (accesses : List (Option AccessOf)) (s : ℕ) (before : List StepOf) (now : ℕ) (out : List StepOf) (so_far : Backing accesses s before now out) where
+  split : (step : StepOf) → last_of (access_at accesses now) ≡ Some step → (rest : List StepOf) → GoBack accesses now rest
+      → (others : List StepOf) × GoBack accesses step.from others × (out ++ rest ≡ (out ++ step ∷ []) ++ others)
   split step last [] back = let none = ap last_of back.1 in absurd (cc)
   split step last (x ∷ xs) back =
       let both : Some x ≡ Some step = sym (ap last_of back.1) ∙ last in
       let same : x ≡ step = cc in (
         xs,
-        subst (λ (y : StepOf). GoBack ways y.from xs) same back.2,
+        subst (λ (y : StepOf). GoBack accesses y.from xs) same back.2,
         ap (λ (y : StepOf). out ++ y ∷ xs) same ∙ sym (append_assoc out (step ∷ []) xs),
       )
 
-  pub backing_goes : (step : StepOf) (after : List StepOf) → last_of (way_at ways now) ≡ Some step → after ≡ out ++ step ∷ []
-      → Backing ways s before step.from after
+  pub backing_goes : (step : StepOf) (after : List StepOf) → last_of (access_at accesses now) ≡ Some step → after ≡ out ++ step ∷ []
+      → Backing accesses s before step.from after
   backing_goes step after last is all back =
       let left = so_far all back in
       let one = split step last left.0 left.1 in
       (one.0, one.1, left.2 ∙ one.2 ∙ ap (λ xs. xs ++ one.0) (sym is))
 
-  none_left : last_of (way_at ways now) ≡ None → (rest : List StepOf) → GoBack ways now rest → out ++ rest ≡ out
+  none_left : last_of (access_at accesses now) ≡ None → (rest : List StepOf) → GoBack accesses now rest → out ++ rest ≡ out
   none_left last [] back = append-nil out
   none_left last (x ∷ xs) back = let some = ap last_of back.1 in absurd (cc)
 
-  pub backing_ends : last_of (way_at ways now) ≡ None → (all : List StepOf) → GoBack ways s all → out ≡ before ++ all
+  pub backing_ends : last_of (access_at accesses now) ≡ None → (all : List StepOf) → GoBack accesses s all → out ≡ before ++ all
   backing_ends last all back =
       let left = so_far all back in sym (none_left last left.0 left.1) ∙ sym left.2
 

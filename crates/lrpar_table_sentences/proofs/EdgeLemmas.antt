@@ -11,7 +11,7 @@ use Rattle.lrpar_table_rows.specs.Table.{Table, TableAction, ShiftTo, ReduceBy, 
 use Rattle.lrpar_table_build.proofs.MemberLemmas.{joined_has, joined_member, member_cases, member_none, range_has, range_member}
 use Rattle.lrpar_table_sentences.specs.Choices.{ChoiceOf}
 use Rattle.lrpar_table_sentences.specs.Lens.{len_at}
-use Rattle.lrpar_table_sentences.specs.WayLens.{AreEdges, EdgeOf, IsStoredAt, edge_if, edges_at, edges_below, goto_edges, shift_edge, shift_edges}
+use Rattle.lrpar_table_sentences.specs.AccessLens.{AreEdges, EdgeOf, IsStoredAt, edge_if, edges_at, edges_below, goto_edges, shift_edge, shift_edges}
 
 -- what is made of one element more stands behind what is made of the first i
 module _ {X Y : Type 0} (f : X → List Y) (xs : List X) (i : ℕ) (x : X) where

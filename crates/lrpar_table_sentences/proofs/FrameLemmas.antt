@@ -130,16 +130,16 @@ pub frames_known : {S : Type 0} (index : S → ℕ) (g : Grammar) (frames : List
 frames_known index g frames frame known here = All-push (IsFrameOf index g) frames frame known here
 
 -- what stands behind a dot, as it was looked up
-pub some_behind : {S : Type 0} (index : S → ℕ) (symbols : List (Symbol S)) (all : List GrammarSymbol) (k : ℕ) (symbol : Symbol S)
+pub some_after : {S : Type 0} (index : S → ℕ) (symbols : List (Symbol S)) (all : List GrammarSymbol) (k : ℕ) (symbol : Symbol S)
     → map (symbol_of index) symbols ≡ all → ltb k (length symbols) ≡ true → symbol ≡ get_or symbols k symbol
     → drop k all ≡ symbol_of index symbol ∷ drop (k + 1) all
-some_behind index symbols all k symbol are within is =
+some_after index symbols all k symbol are within is =
     subst (λ (w : List GrammarSymbol). drop k w ≡ symbol_of index symbol ∷ drop (k + 1) w) are
     (symbols_from index symbols k symbol (ltb-true k (length symbols) within) is)
 
-pub none_behind : {S : Type 0} (index : S → ℕ) (symbols : List (Symbol S)) (all : List GrammarSymbol) (k : ℕ)
+pub none_after : {S : Type 0} (index : S → ℕ) (symbols : List (Symbol S)) (all : List GrammarSymbol) (k : ℕ)
     → map (symbol_of index) symbols ≡ all → ltb k (length symbols) ≡ false → drop k all ≡ []
-none_behind index symbols all k are past =
+none_after index symbols all k are past =
     elim (cases_lt k (length symbols)) as (λ _. drop k all ≡ []) [
       | inl within ↦ absurd (false≢true (sym past ∙ lt-ltb k (length symbols) within))
       | inr over ↦

@@ -3,12 +3,12 @@ pub mod SettleLemmas
 pub mod FrameLemmas
 pub mod PushLemmas
 pub mod WalkLemmas
-pub mod WayLemmas
+pub mod AccessLemmas
 pub mod EdgeLemmas
 pub mod ArrivalLemmas
 pub mod BackLemmas
 pub mod StartLemmas
 pub mod GrowthLemmas
-pub mod ReachedLemmas
-pub mod BehindLemmas
+pub mod ReachableLemmas
+pub mod AfterLemmas
 pub mod DescendLemmas

@@ -10,7 +10,7 @@ use Rattle.lrpar_table_items.specs.Canonical.{AreSame, LeadsTo, StandsBefore, se
 use Rattle.lrpar_table_items.specs.ItemSets.{Added, IsAdvanced, IsInClosure, IsInNext, IsReachedBy, Own}
 use Rattle.lrpar_table_build.proofs.ReachedLemmas.{symbol_listed}
 use Rattle.lrpar_table_build.proofs.SetLemmas.{next_more, same_back, same_on}
-use Rattle.lrpar_table_sentences.specs.WayLens.{IsWalk, Goes, Starts}
+use Rattle.lrpar_table_sentences.specs.AccessLens.{IsWalk, Goes, Starts}
 
 -- where a closure has an item, some item was given
 closure_given : (g : Grammar) (items : ItemOf → Type 0) (x : ItemOf) → IsInClosure g items x → (y : ItemOf) × items y

@@ -4,6 +4,6 @@ pub mod Choices
 pub mod Lens
 pub mod Frames
 pub mod Starts
-pub mod Ways
-pub mod Reached
-pub mod WayLens
+pub mod AccessStrings
+pub mod Reachable
+pub mod AccessLens

@@ -1,23 +1,23 @@
 //! The steps of a way, back from its end.
 ghost use Rattle.std.specs.Prelude.{◌≡◌, ◌≤◌, ◌++◌, List, OnOk, drop, length, option_map, reverse, take, vec_len};
-ghost use Rattle.lrpar_table_sentences.specs.Ways.{GoBack, StepOf, last_of, step_of, steps_of, way_at, way_of, ways_of};
+ghost use Rattle.lrpar_table_sentences.specs.AccessStrings.{GoBack, StepOf, last_of, step_of, steps_of, access_at, access_of, accesses_of};
 
-use crate::steps::{Step, Way};
+use crate::transitions::{Access, Step};
 use lrpar_grammar::span::{StIdx, StorageIndex};
 use std::alloc::AllocError;
 
 /// Appends the steps of the way to the state that is kept, the last one first.
 pub(crate) fn push_back<StorageT: StorageIndex>(
-    ways: &[Option<Way<StorageT>>],
+    accesses: &[Option<Access<StorageT>>],
     out: &mut Vec<Step<StorageT>>,
     s: StIdx<StorageT>,
 ) -> Result<(), AllocError>
-    ensures steps { OnOk result ((back : List StepOf) → GoBack (ways_of StorageT.index ways.now) (StorageT.index s.0) back
+    ensures steps { OnOk result ((back : List StepOf) → GoBack (accesses_of StorageT.index accesses.now) (StorageT.index s.0) back
         → steps_of StorageT.index out.new.items ≡ steps_of StorageT.index out.old.items ++ back) }
     ensures longer { vec_len out.old ≤ vec_len out.new }
 {
     let mut state = s;
-    'back: while let Some(step) = last_step(ways, state) {
+    'back: while let Some(step) = last_step(accesses, state) {
         out.push(step)?;
         state = step.from;
     }
@@ -34,26 +34,26 @@ pub(crate) fn reverse_from<StorageT: StorageIndex>(steps: &mut [Step<StorageT>],
 
 // The last step of the way to the state, if it has one.
 fn last_step<StorageT: StorageIndex>(
-    ways: &[Option<Way<StorageT>>],
+    accesses: &[Option<Access<StorageT>>],
     s: StIdx<StorageT>,
 ) -> Option<Step<StorageT>>
-    ensures { option_map (step_of StorageT.index) result ≡ last_of (way_at (ways_of StorageT.index ways.now) (StorageT.index s.0)) }
+    ensures { option_map (step_of StorageT.index) result ≡ last_of (access_at (accesses_of StorageT.index accesses.now) (StorageT.index s.0)) }
 {
-    match way_to(ways, s) {
-        Some(way) => way.last,
+    match access_to(accesses, s) {
+        Some(access) => access.last,
         None => None,
     }
 }
 
 /// What is kept of the state; out of range, nothing.
-pub(crate) fn way_to<StorageT: StorageIndex>(
-    ways: &[Option<Way<StorageT>>],
+pub(crate) fn access_to<StorageT: StorageIndex>(
+    accesses: &[Option<Access<StorageT>>],
     s: StIdx<StorageT>,
-) -> Option<Way<StorageT>>
-    ensures { option_map (way_of StorageT.index) result ≡ way_at (ways_of StorageT.index ways.now) (StorageT.index s.0) }
+) -> Option<Access<StorageT>>
+    ensures { option_map (access_of StorageT.index) result ≡ access_at (accesses_of StorageT.index accesses.now) (StorageT.index s.0) }
 {
-    match ways.get(usize::from(s)) {
-        Some(way) => *way,
+    match accesses.get(usize::from(s)) {
+        Some(access) => *access,
         None => None,
     }
 }

@@ -4,10 +4,10 @@ ghost use Rattle.lrpar_grammar.specs.Symbols.{symbol_of};
 ghost use Rattle.lrpar_table_rows.specs.PlainRows.{plain_action};
 ghost use Rattle.lrpar_table_rows.specs.Table.{TableAction, Fails, action_of, actions_at, goto_of, gotos_at, states_len};
 ghost use Rattle.lrpar_table_sentences.specs.Lens.{len_at};
-ghost use Rattle.lrpar_table_sentences.specs.WayLens.{AreEdges, IsStoredAt, edge_if, edges_at, edges_of, goto_edges, shift_edge, shift_edges};
+ghost use Rattle.lrpar_table_sentences.specs.AccessLens.{AreEdges, IsStoredAt, edge_if, edges_at, edges_of, goto_edges, shift_edge, shift_edges};
 
 use crate::shortest::Shortest;
-use crate::steps::{Edge, Step};
+use crate::transitions::{Edge, Step};
 use lrpar_grammar::span::{StIdx, StorageIndex, Symbol, TIdx};
 use lrpar_table_rows::table::{Action, StateTable};
 use std::alloc::{AllocError, Global};

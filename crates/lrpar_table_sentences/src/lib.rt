@@ -1,15 +1,15 @@
 //! Minimal sentences of symbols, access strings of states, and which rules are reachable and productive.
 #![tactic(auto)]
 
+pub mod access_strings;
 mod back;
 mod begins;
 mod descend;
 mod edges;
 pub mod moves;
-pub mod reached;
+pub mod reachable;
 mod settle;
-mod settle_ways;
+mod settle_access;
 pub mod shortest;
-mod steps;
+mod transitions;
 mod unfold;
-pub mod ways;

@@ -7,12 +7,12 @@ ghost use Rattle.lrpar_grammar.specs.Tree.{Tree, Forest};
 ghost use Rattle.lrpar_table_sentences.specs.Choices.{AreShortest, choice_at};
 ghost use Rattle.lrpar_table_sentences.specs.Lens.{len_at, total_len};
 ghost use Rattle.lrpar_table_sentences.specs.Moves.{forest_moves, moves_in, moves_of};
-ghost use Rattle.lrpar_table_sentences.specs.Reached.{EachReachedHasTree, HasTree, IsFirstBarren};
+ghost use Rattle.lrpar_table_sentences.specs.Reachable.{EachReachableHasTree, HasTree, IsFirstUnproductive};
 ghost use Rattle.lrpar_table_sentences.specs.Texts.{AreShortestTrees, BeginWith, CanBeginWith, HaveTrees, IsShortestIfAny, IsShortestTree};
 
 use crate::descend::push_beginning;
 use crate::moves::Move;
-use crate::reached::barren;
+use crate::reachable::unproductive;
 use crate::settle::{Choice, choice_of, len_of, settled, total_len};
 use crate::unfold::{push_symbol, push_symbols};
 use lrpar_grammar::grammar::YaccGrammar;
@@ -143,14 +143,14 @@ impl<StorageT: StorageIndex> Shortest<StorageT> {
     ///
     /// It goes over the productions until no rule more is reached: few times in practice, and at most one more than there are rules.
     /// Memory grows with the rules. An `Err` comes where memory doesn't suffice.
-    pub fn barren(
+    pub fn unproductive(
         &self,
         alloc: Global,
         grm: &YaccGrammar<StorageT>,
     ) -> Result<Option<RIdx<StorageT>>, AllocError>
         requires shortest { AreShortest grm.now usize.MAX self.now }
-        ensures { IfOk result (λ found. MatchOption found (EachReachedHasTree grm.now) (λ rule. IsFirstBarren grm.now (StorageT.index rule.0))) }
+        ensures { IfOk result (λ found. MatchOption found (EachReachableHasTree grm.now) (λ rule. IsFirstUnproductive grm.now (StorageT.index rule.0))) }
     {
-        barren(alloc, grm, &self.choices)
+        unproductive(alloc, grm, &self.choices)
     }
 }

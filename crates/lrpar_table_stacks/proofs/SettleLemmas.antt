@@ -10,10 +10,10 @@ use Rattle.lrpar_table_stacks.specs.Path.{NeverSticks}
 use Rattle.lrpar_table_stacks.specs.Reduction.{Reduces, ReducesBy, Settles, IsSettled, top_action, left_by, top_goto}
 use Rattle.lrpar_table_stacks.specs.Stack.{AreJoined, IsJoined, IsStack, top_of}
 use Rattle.lrpar_table_stacks.specs.StackReduction.{IsStackSettledBy, StackReducesBy}
-use Rattle.lrpar_table_stacks.specs.Step.{FitsGrammar, IsStackStep, IsStepOf}
+use Rattle.lrpar_table_stacks.specs.ReductionStep.{FitsGrammar, IsStackStep, IsStepOf}
 use Rattle.lrpar_table_rows.specs.Table.{Table, ShiftTo, IsClosed, goto_of, states_len}
-use Rattle.lrpar_table_stacks.specs.declared.step.Step.{Step}
-use Rattle.lrpar_table_stacks.specs.declared.step.Step.TheVariants.{Reduced, LeavesNone, Stays}
+use Rattle.lrpar_table_stacks.specs.declared.reduction.Step.{Step}
+use Rattle.lrpar_table_stacks.specs.declared.reduction.Step.TheVariants.{Reduced, LeavesNone, Stays}
 use Rattle.lrpar_table_stacks.proofs.PathLemmas.{last_of, top_is_last}
 use Rattle.lrpar_table_stacks.proofs.StackLemmas.{joined_within, stack_has_path}
 use Rattle.lrpar_table_stacks.proofs.StackReductionLemmas.{stack_reduces_more, states_reduce_by}

@@ -10,10 +10,10 @@ use Rattle.lrpar_table_stacks.specs.Chain.{DropsAll, HasReductions}
 use Rattle.lrpar_table_stacks.specs.Reduction.{Reduces, top_action, top_goto, left_by}
 use Rattle.lrpar_table_stacks.specs.Stack.{top_of}
 use Rattle.lrpar_table_stacks.specs.StackReduction.{IsStepShortOfMemory}
-use Rattle.lrpar_table_stacks.specs.Step.{CanReduce, IsReduction, IsRestOf, IsStackStep, IsStepOf}
+use Rattle.lrpar_table_stacks.specs.ReductionStep.{CanReduce, IsReduction, IsRestOf, IsStackStep, IsStepOf}
 use Rattle.lrpar_table_rows.specs.Table.{Table, Fails, ReduceBy, IsClosed, action_of, goto_of, states_len}
-use Rattle.lrpar_table_stacks.specs.declared.step.Step.{Step}
-use Rattle.lrpar_table_stacks.specs.declared.step.Step.TheVariants.{Reduced, LeavesNone, Stays}
+use Rattle.lrpar_table_stacks.specs.declared.reduction.Step.{Step}
+use Rattle.lrpar_table_stacks.specs.declared.reduction.Step.TheVariants.{Reduced, LeavesNone, Stays}
 use Rattle.lrpar_table_stacks.proofs.Reductions.{reduces_to_one}
 
 -- below more symbols than there are, or as many, no state is left; and below less, one is

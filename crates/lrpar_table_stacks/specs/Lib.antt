@@ -2,7 +2,7 @@ pub mod Stack
 pub mod Reduction
 pub mod Path
 pub mod Chain
-pub mod Step
+pub mod ReductionStep
 pub mod Settled
 pub mod StackReduction
 pub mod Overlay

@@ -4,6 +4,6 @@
 pub mod laws;
 pub mod overlay;
 pub mod probe;
+pub mod reduction;
 pub mod stack_check;
 pub mod state_stack;
-pub mod step;

@@ -8,7 +8,7 @@ ghost use Rattle.program_nimbleparse.specs.Loops.{Begins, DeriveNothing, IsLoop,
 
 use lrpar_grammar::grammar::YaccGrammar;
 use lrpar_grammar::span::{PIdx, RIdx, StorageIndex, Symbol};
-use lrpar_table_sentences::reached::Reached;
+use lrpar_table_sentences::reachable::Reachable;
 use lrpar_table_sentences::shortest::Shortest;
 use std::alloc::{AllocError, Global};
 
@@ -129,10 +129,10 @@ fn steps_of<StorageT: StorageIndex>(
     shortest: &Shortest<StorageT>,
     kind: LoopKind,
 ) -> Result<Vec<LoopStep<StorageT>>, AllocError> {
-    let reached = Reached::new(alloc, grm)?;
+    let reached = Reachable::new(alloc, grm)?;
     let mut steps = Vec::new(alloc);
     for prod in grm.iter_pidxs() {
-        if usize::from(prod) < grm.prods_len() && reached.is_reached(grm.prod_to_rule(prod)) {
+        if usize::from(prod) < grm.prods_len() && reached.is_reachable(grm.prod_to_rule(prod)) {
             push_steps(&mut steps, grm, shortest, kind, prod)?;
         }
     }

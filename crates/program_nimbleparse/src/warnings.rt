@@ -4,7 +4,7 @@ use lrpar_grammar::grammar::YaccGrammar;
 use lrpar_grammar::span::{RIdx, TIdx};
 use lrpar_lexer::LexRule;
 use lrpar_report::{Level, Reporter, push_quoted, push_token};
-use lrpar_table_sentences::reached::Reached;
+use lrpar_table_sentences::reachable::Reachable;
 use lrpar_table_sentences::shortest::Shortest;
 use std::alloc::{AllocError, Global};
 
@@ -15,10 +15,10 @@ pub(crate) fn push_rule_warnings(
     reporter: &Reporter<'_>,
     grm: &YaccGrammar<u32>,
 ) -> Result<(), AllocError> {
-    let reached = Reached::new(alloc, grm)?;
+    let reached = Reachable::new(alloc, grm)?;
     let shortest = Shortest::new(alloc, grm)?;
     for rule in grm.iter_rules() {
-        if !reached.is_reached(rule) {
+        if !reached.is_reachable(rule) {
             push_rule(
                 out,
                 alloc,

@@ -1,6 +1,6 @@
 //! Which rules of a grammar are reached from its start, and which derive some text.
 use lrpar_grammar::grammar::YaccGrammar;
-use lrpar_table_sentences::reached::Reached;
+use lrpar_table_sentences::reachable::Reachable;
 use lrpar_table_sentences::shortest::Shortest;
 use std::alloc::Global;
 use test_case_lines::fault::Fault;
@@ -14,16 +14,16 @@ pub(crate) fn push_uses(
     grm: &YaccGrammar<u8>,
 ) -> Result<(), Fault> {
     let shortest = Shortest::new(alloc, grm)?;
-    let reached = Reached::new(alloc, grm)?;
+    let reached = Reachable::new(alloc, grm)?;
     for rule in grm.iter_rules() {
         push_use(
             told,
             rule_name(grm, rule),
-            reached.is_reached(rule),
+            reached.is_reachable(rule),
             shortest.derives_text(rule),
         );
     }
-    match shortest.barren(alloc, grm)? {
+    match shortest.unproductive(alloc, grm)? {
         Some(rule) => told.line("barren ", &rule_name(grm, rule)),
         None => told.text("barren none\n"),
     }
@@ -31,9 +31,9 @@ pub(crate) fn push_uses(
 }
 
 // A rule's name, whether it is reached, and whether it derives some text.
-fn push_use(told: &mut Told, name: &str, is_reached: bool, derives: bool) {
+fn push_use(told: &mut Told, name: &str, is_reachable: bool, derives: bool) {
     told.texts("use ", name);
-    told.text(if is_reached {
+    told.text(if is_reachable {
         ": reached"
     } else {
         ": not reached"

@@ -40,7 +40,7 @@ pub fn case_at<'t, 'a>(lines: &'t [Line<'a>], at: usize) -> Option<Case<'t, 'a>>
 }
 
 /// The lines behind this place, up to the next case that is a subject.
-pub fn section_behind<'t, 'a>(lines: &'t [Line<'a>], at: usize) -> &'t [Line<'a>] {
+pub fn section_after<'t, 'a>(lines: &'t [Line<'a>], at: usize) -> &'t [Line<'a>] {
     until_subject(&lines[at.saturating_add(1).min(lines.len())..])
 }
 

@@ -4,7 +4,7 @@ use std::alloc::Global;
 use std::process::ExitCode;
 use std::rt::Files;
 use std::{env, fs, io};
-use test_case_lines::cases::{Case, case_at, section_behind};
+use test_case_lines::cases::{Case, case_at, section_after};
 use test_case_lines::fault::Fault;
 use test_case_lines::line::{Line, lines_of};
 use test_case_lines::told::Told;
@@ -77,7 +77,7 @@ fn run_lines<R: Files>(
         if let Some(case) = case_at(lines, at) {
             has_subject = has_subject || case.is_subject();
             if case.is_subject() {
-                let section = section_behind(lines, at.saturating_add(case.lines.len()));
+                let section = section_after(lines, at.saturating_add(case.lines.len()));
                 run_section(rt, alloc, name, case, section, &mut report)?;
             } else if !has_subject {
                 run_case(rt, alloc, name, None, case, &mut report)?;

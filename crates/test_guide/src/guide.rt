@@ -73,7 +73,7 @@ fn are_shown(
     rules: &[LexRule],
 ) -> Result<(), Fail> {
     names_are_listed(rt, alloc, data, rules)?;
-    values_may_come_behind_an_equals_sign(rt, alloc, data, rules)?;
+    values_may_come_after_an_equals_sign(rt, alloc, data, rules)?;
     settings_are_told(rt, alloc, data, rules)
 }
 
@@ -90,7 +90,7 @@ fn names_are_listed(
     Ok(())
 }
 
-fn values_may_come_behind_an_equals_sign(
+fn values_may_come_after_an_equals_sign(
     rt: &impl Abort,
     alloc: Global,
     data: &ParserData<u32>,

@@ -14,7 +14,7 @@ use Rattle.lrpar_grammar.specs.Tree.{Tree, leaves}
 use Rattle.lrpar_parse.specs.Lexed.{first_error, lexemes_of}
 use Rattle.lrpar_parse.specs.RepairLaws.{AcceptsWhereRepaired}
 use Rattle.lrpar_table_rows.specs.Table.{Table}
-use Rattle.lrpar_parse_repair.specs.Mended.{repairs_over}
+use Rattle.lrpar_parse_repair.specs.Repaired.{repairs_over}
 use Rattle.lrpar_parse_repair.specs.Recovery.{Point}
 use Rattle.lrpar_parse_repair.specs.Replays.{places_of}
 use Rattle.lrpar_parse_repair.specs.Sequences.{PlainStep, PlainInsert, PlainDelete, PlainShift, Replays}

@@ -6,7 +6,7 @@ use Rattle.lrpar_grammar.specs.Sentence.{LexemeFacts}
 use Rattle.lrpar_grammar.specs.Tree.{Tree, Fits, leaves}
 use Rattle.lrpar_parse_errors.specs.declared.errors.LexParseError.{LexParseError}
 use Rattle.lrpar_parse_errors.specs.declared.errors.LexParseError.TheVariants.{LexError, ParseError}
-use Rattle.lrpar_parse_repair.specs.Mended.{Consumes}
+use Rattle.lrpar_parse_repair.specs.Repaired.{Consumes}
 use Rattle.lrpar_parse_repair.specs.Replays.{places_of}
 use Rattle.lrpar_parse_repair.specs.Sequences.{PlainStep}
 use Rattle.lrpar_parse_run.specs.RepairAnswer.{IsRepairErrorOf}

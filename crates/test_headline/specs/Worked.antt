@@ -9,9 +9,9 @@ use Rattle.lrpar_grammar.specs.Sentence.{LexemeFacts}
 use Rattle.lrpar_parse_lexemes.specs.Repair.{Repair}
 use Rattle.lrpar_table_stacks.specs.Run.{Stop}
 use Rattle.lrpar_table_stacks.specs.Stack.{top_of}
-use Rattle.lrpar_parse_repair.specs.Mended.{repairs_over}
+use Rattle.lrpar_parse_repair.specs.Repaired.{repairs_over}
 use Rattle.lrpar_parse_repair.specs.Sequences.{PlainStep, AreThoseWith, Works}
-use Rattle.lrpar_parse_run.specs.RepairAnswer.{RepairCourse}
+use Rattle.lrpar_parse_run.specs.RepairAnswer.{RepairWholeRun}
 use Rattle.lrpar_parse_run.specs.RepairRun.{RepairStop}
 use Rattle.lrpar_parse_run.specs.RunAnswer.{IsLexemeAt}
 use Rattle.lrpar_parse_run.specs.Subject.{Subject}
@@ -46,5 +46,5 @@ module _ {X : Type 0} (about : Subject X) (handed : List (List PlainStep)) (lexe
 
   -- the errors are those of the stops of a run, in order, and each lists what works at its stop
   pub record EachListsWhatWorks {S L C : Type 0} (errors : List (LexParseError S L X C)) : Type 0 where
-    pub course : RepairCourse about lexemes
+    pub course : RepairWholeRun about lexemes
     pub each : AllZip ListsWhatWorks course.stops errors

@@ -7,4 +7,4 @@ use Rattle.lrpar_conflict_derivations.proofs.begins.can_begin.Given as goal
 abbrev pub invariant-loop-symbol : goal.invariant-loop-symbol
 invariant-loop-symbol g l =
     let symbols = map (symbol_of g.StorageT.StorageIndex.index) l.symbols in
-    begins l.mark (rows_of l.firsts) symbols l.token ≡ begins l.mark (rows_of l.firsts) (drop l.symbol-index symbols) l.token
+    begins l.dummy (rows_of l.firsts) symbols l.token ≡ begins l.dummy (rows_of l.firsts) (drop l.symbol-index symbols) l.token

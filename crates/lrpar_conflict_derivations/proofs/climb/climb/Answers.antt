@@ -3,9 +3,9 @@ use Rattle.std.proofs.lemmas.List.{length-map}
 use Rattle.lrpar_grammar.specs.Grammar.{start_prod}
 use Rattle.lrpar_table_rows.specs.Graph.{HasItem}
 use Rattle.lrpar_table_sentences.specs.Moves.{moves_in}
-use Rattle.lrpar_table_sentences.specs.Ways.{step_of, steps_of, symbols_in}
+use Rattle.lrpar_table_sentences.specs.AccessStrings.{step_of, steps_of, symbols_in}
 use Rattle.lrpar_conflict_derivations.specs.Climbing.{HasItemFor, state_before, up_of}
-use Rattle.lrpar_conflict_derivations.proofs.WayLemmas.{IsFinishing, back_from, finished, finishing_first, finishing_more, nearer, state_last}
+use Rattle.lrpar_conflict_derivations.proofs.AccessLemmas.{IsFinishing, back_from, finished, finishing_first, finishing_more, nearer, state_last}
 use Rattle.lrpar_conflict_derivations.proofs.climb.climb.Goals as goal
 
 pub overflow_sub-place : goal.overflow_sub-place

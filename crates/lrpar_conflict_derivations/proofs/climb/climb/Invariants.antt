@@ -1,9 +1,9 @@
 use Rattle.std.proofs.Common.{◌==◌, ◌≤◌, ◌+◌, ◌*◌, if◌then◌else◌, length, take}
 use Rattle.lrpar_grammar.specs.Grammar.{start_prod}
 use Rattle.lrpar_table_sentences.specs.Moves.{moves_in}
-use Rattle.lrpar_table_sentences.specs.Ways.{steps_of, symbols_in}
+use Rattle.lrpar_table_sentences.specs.AccessStrings.{steps_of, symbols_in}
 use Rattle.lrpar_conflict_derivations.specs.Climbing.{HasItemFor, state_before}
-use Rattle.lrpar_conflict_derivations.proofs.WayLemmas.{IsFinishing}
+use Rattle.lrpar_conflict_derivations.proofs.AccessLemmas.{IsFinishing}
 use Rattle.lrpar_conflict_derivations.proofs.climb.climb.Given as goal
 
 -- the way so far leads up to the production, at an item of the state of its place

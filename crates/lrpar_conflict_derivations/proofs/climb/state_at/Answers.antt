@@ -1,5 +1,5 @@
 use Rattle.std.proofs.Common.{◌∙◌, sym, ap}
-use Rattle.lrpar_table_sentences.specs.declared.steps.Step.{Step}
+use Rattle.lrpar_table_sentences.specs.declared.transitions.Step.{Step}
 use Rattle.lrpar_conflict_derivations.proofs.PathLemmas.{state_by, state_past}
 use Rattle.lrpar_conflict_derivations.proofs.climb.state_at.Goals as goal
 

@@ -1,7 +1,7 @@
 use Rattle.std.proofs.Common.{◌≡◌, ◌∙◌, Some, ap, refl, sym}
 use Rattle.std.specs.Option.{option_copied}
 use Rattle.std.specs.Prelude.{length, slice_get, ◌-◌}
-use Rattle.lrpar_parse_repair.specs.declared.steps.RepairStep.TheVariants.{Delete}
+use Rattle.lrpar_parse_repair.specs.declared.repair_step.RepairStep.TheVariants.{Delete}
 use Rattle.lrpar_parse_cpctplus.proofs.StepLemmas.{ends_by}
 use Rattle.lrpar_parse_cpctplus.proofs.search.ends_in_delete.Goals as goal
 

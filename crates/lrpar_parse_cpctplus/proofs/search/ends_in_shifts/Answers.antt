@@ -2,8 +2,8 @@ use Rattle.std.proofs.Common.{◌≡◌, ◌<◌, ◌≤◌, ◌-◌, ◌∙◌,
 use Rattle.std.proofs.lemmas.List.{length-drop, take_all, take_rest}
 use Rattle.lrpar_parse_repair.specs.PlainSteps.{plain_steps}
 use Rattle.lrpar_parse_repair.specs.Sequences.{PlainShift}
-use Rattle.lrpar_parse_repair.specs.declared.steps.RepairStep.{RepairStep}
-use Rattle.lrpar_parse_repair.specs.declared.steps.RepairStep.TheVariants.{Insert, Delete, Shift}
+use Rattle.lrpar_parse_repair.specs.declared.repair_step.RepairStep.{RepairStep}
+use Rattle.lrpar_parse_repair.specs.declared.repair_step.RepairStep.TheVariants.{Insert, Delete, Shift}
 use Rattle.lrpar_parse_cpctplus.proofs.StepLemmas.{ends_from, row_breaks}
 use Rattle.lrpar_parse_cpctplus.proofs.search.ends_in_shifts.Goals as goal
 

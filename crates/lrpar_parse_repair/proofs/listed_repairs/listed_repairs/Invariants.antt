@@ -1,5 +1,5 @@
 use Rattle.std.proofs.Common.{◌≡◌, map, take}
-use Rattle.lrpar_parse_repair.specs.Mended.{repairs_over}
+use Rattle.lrpar_parse_repair.specs.Repaired.{repairs_over}
 use Rattle.lrpar_parse_repair.specs.PlainSteps.{plain_sequences}
 use Rattle.lrpar_parse_lexemes.specs.Repairs.{repairs_of}
 use Rattle.lrpar_parse_repair.proofs.listed_repairs.listed_repairs.Given as goal

@@ -1,5 +1,5 @@
 use Rattle.std.proofs.Common.{◌≡◌, ◌++◌, drop, map}
-use Rattle.lrpar_parse_repair.specs.Mended.{repairs_over}
+use Rattle.lrpar_parse_repair.specs.Repaired.{repairs_over}
 use Rattle.lrpar_parse_repair.specs.PlainSteps.{plain_steps}
 use Rattle.lrpar_parse_lexemes.specs.Repairs.{repair_of}
 use Rattle.lrpar_parse_repair.proofs.listed_repairs.repairs_over.Given as goal

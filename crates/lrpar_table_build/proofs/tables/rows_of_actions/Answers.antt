@@ -5,7 +5,7 @@ use Rattle.lrpar_table_rows.specs.PlainConflicts.{reduce_reduce_of, shift_reduce
 use Rattle.lrpar_table_rows.specs.PlainRows.{action_entry}
 use Rattle.lrpar_table_items.specs.StateRows.{IsRefusedState}
 use Rattle.lrpar_table_items.specs.States.{StateOf, state_at, state_of}
-use Rattle.lrpar_table_items.specs.Wanted.{HasAcceptReduce, IsAcceptReduce, reduce_conflicts, shift_conflicts, wanted_row}
+use Rattle.lrpar_table_items.specs.Resolution.{HasAcceptReduce, IsAcceptReduce, reduce_conflicts, shift_conflicts, resolved_row}
 use Rattle.lrpar_table_items.proofs.EntryLemmas.{joined_more}
 use Rattle.lrpar_table_items.proofs.StateRowLemmas.{below_next, error_same}
 use Rattle.lrpar_table_build.proofs.TablesLemmas.{cores_known, cores_once, refusal_of, row_more, shifts_ascend, state_read}
@@ -66,7 +66,7 @@ loop-number-preserved g c =
     let rr = rw c.deref.ensures.value at c.in_ok-row.ensures.rr in
     let sr = rw (c.deref.ensures.value, c.deref-in-loop-number.ensures.value) at c.in_ok-row.ensures.sr in
     let none = rw (c.deref.ensures.value, c.deref-in-loop-number.ensures.value) at c.in_ok-row.ensures.none in (
-      row_more (λ row. map (action_entry index) row.items) (state_of index) (λ (st : StateOf). wanted_row grm st.cores st.shifts) c.args.states.now s
+      row_more (λ row. map (action_entry index) row.items) (state_of index) (λ (st : StateOf). resolved_row grm st.cores st.shifts) c.args.states.now s
           c.index-states-number.result c.loop-number.rows.items c.push.new.self.items c.in_ok-row.row c.loop-number-test.true c.index-states-number.is
           c.loop-number.invariant.0 c.in_ok-push.ensures.items row,
       joined_more (reduce_reduce_of index) (λ n. reduce_conflicts grm (state_at states n).cores n) s c.loop-number.rr.items c.state_row.new.rr.items

@@ -4,7 +4,7 @@ use Rattle.lrpar_table_rows.specs.PlainConflicts.{reduce_reduce_of, shift_reduce
 use Rattle.lrpar_table_rows.specs.PlainRows.{action_entry}
 use Rattle.lrpar_table_items.specs.StateRows.{action_rows, reduce_conflicts_below, shift_conflicts_below}
 use Rattle.lrpar_table_items.specs.States.{state_at, state_of}
-use Rattle.lrpar_table_items.specs.Wanted.{IsAcceptReduce}
+use Rattle.lrpar_table_items.specs.Resolution.{IsAcceptReduce}
 use Rattle.lrpar_table_build.proofs.tables.rows_of_actions.Given as goal
 
 -- the rows and the conflicts of the states so far, none of which is refused

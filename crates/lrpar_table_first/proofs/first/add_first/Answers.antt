@@ -10,7 +10,7 @@ pub insert-requires : goal.insert-requires
 insert-requires g c =
     let index = g.StorageT.StorageIndex.index in
     let low =
-    symbol_below index (IsSymbolBelow (length c.args.sets.now) c.args.mark) c.args.symbols.now c.loop-symbol.symbol-index c.symbol-item.result _ c.requires.rules
+    symbol_below index (IsSymbolBelow (length c.args.sets.now) c.args.dummy) c.args.symbols.now c.loop-symbol.symbol-index c.symbol-item.result _ c.requires.rules
     c.loop-symbol-test.true c.symbol-item.is c.in-Token.is in
     omega (arith, low, c.from.ensures, c.loop-symbol.invariant.0)
 
@@ -21,14 +21,14 @@ returns-in-Token-clause-tokens g c =
     let i = c.loop-symbol.symbol-index in
     let at = symbols_from index c.args.symbols.now i c.symbol-item.result c.loop-symbol-test.true c.symbol-item.is
     ∙ ap (λ s. symbol_of index s ∷ drop (i + 1) symbols) c.in-Token.is in
-    walk_token c.args.mark (rows_of c.args.sets.now) symbols i c.args.front.now.bits.items c.loop-symbol.front.bits.items c.insert.new.self.bits.items
+    walk_token c.args.dummy (rows_of c.args.sets.now) symbols i c.args.front.now.bits.items c.loop-symbol.front.bits.items c.insert.new.self.bits.items
     c.loop-symbol.invariant.1 _ _ at (rw c.from.ensures at c.insert.ensures.tokens)
 
 pub bounds-sets-from : goal.bounds-sets-from
 bounds-sets-from g c =
     let index = g.StorageT.StorageIndex.index in
     let low =
-    symbol_below index (IsSymbolBelow (length c.args.sets.now) c.args.mark) c.args.symbols.now c.loop-symbol.symbol-index c.symbol-item.result _ c.requires.rules
+    symbol_below index (IsSymbolBelow (length c.args.sets.now) c.args.dummy) c.args.symbols.now c.loop-symbol.symbol-index c.symbol-item.result _ c.requires.rules
     c.loop-symbol-test.true c.symbol-item.is c.in-Rule.is in
     omega (arith, low, c.from-in-Rule.ensures)
 
@@ -36,7 +36,7 @@ pub offset_bounds-sets-from : goal.offset_bounds-sets-from
 offset_bounds-sets-from g c =
     let index = g.StorageT.StorageIndex.index in
     let low =
-    symbol_below index (IsSymbolBelow (length c.args.sets.now) c.args.mark) c.args.symbols.now c.loop-symbol.symbol-index c.symbol-item.result _ c.requires.rules
+    symbol_below index (IsSymbolBelow (length c.args.sets.now) c.args.dummy) c.args.symbols.now c.loop-symbol.symbol-index c.symbol-item.result _ c.requires.rules
     c.loop-symbol-test.true c.symbol-item.is c.in-Rule.is in
     let within : c.from-in-Rule.result < length c.args.sets.now = omega (arith, low, c.from-in-Rule.ensures) in
     search rules
@@ -45,9 +45,9 @@ pub unite_below-grown-requires-clause-other : goal.unite_below-grown-requires-cl
 unite_below-grown-requires-clause-other g c =
     let index = g.StorageT.StorageIndex.index in
     let low =
-    symbol_below index (IsSymbolBelow (length c.args.sets.now) c.args.mark) c.args.symbols.now c.loop-symbol.symbol-index c.symbol-item.result _ c.requires.rules
+    symbol_below index (IsSymbolBelow (length c.args.sets.now) c.args.dummy) c.args.symbols.now c.loop-symbol.symbol-index c.symbol-item.result _ c.requires.rules
     c.loop-symbol-test.true c.symbol-item.is c.in-Rule.is in
-    let wide = wide_at c.args.sets.now c.from-in-Rule.result (c.args.mark + 1) c.index-sets-from.result c.requires.wide
+    let wide = wide_at c.args.sets.now c.from-in-Rule.result (c.args.dummy + 1) c.index-sets-from.result c.requires.wide
     (omega (arith, low, c.from-in-Rule.ensures)) c.index-sets-from.is in
     omega (arith, wide)
 
@@ -55,37 +55,37 @@ pub returns-then-not-contains-clause-tokens : goal.returns-then-not-contains-cla
 returns-then-not-contains-clause-tokens g c =
     let index = g.StorageT.StorageIndex.index in
     let sets = c.args.sets.now in
-    let mark = c.args.mark in
+    let dummy = c.args.dummy in
     let symbols = map (symbol_of index) c.args.symbols.now in
     let i = c.loop-symbol.symbol-index in
     let r = c.from-in-Rule.result in
     let front = c.loop-symbol.front.bits.items in
-    let low = symbol_below index (IsSymbolBelow (length sets) mark) c.args.symbols.now i c.symbol-item.result _ c.requires.rules
+    let low = symbol_below index (IsSymbolBelow (length sets) dummy) c.args.symbols.now i c.symbol-item.result _ c.requires.rules
     c.loop-symbol-test.true c.symbol-item.is c.in-Rule.is in
     let row = row_is sets r c.index-sets-from.result (omega (arith, low, c.from-in-Rule.ensures)) c.index-sets-from.is in
     let at = symbols_from index c.args.symbols.now i c.symbol-item.result c.loop-symbol-test.true c.symbol-item.is
     ∙ ap (λ s. symbol_of index s ∷ drop (i + 1) symbols) c.in-Rule.is ∙ ap (λ n. Nonterminal n ∷ drop (i + 1) symbols) (sym c.from-in-Rule.ensures) in
-    let put = λ (t : ℕ). c.unite_below-grown.ensures.tokens t ∙ ap (λ b. has front t || (nat_lt t mark && has b t)) (sym row) in
-    let none = ap (λ b. has b mark) row ∙ sym c.contains.ensures ∙ c.if-not-contains.true in
-    walk_rule mark (rows_of sets) symbols i c.args.front.now.bits.items front c.unite_below-grown.new.self.bits.items c.loop-symbol.invariant.1 r
+    let put = λ (t : ℕ). c.unite_below-grown.ensures.tokens t ∙ ap (λ b. has front t || (nat_lt t dummy && has b t)) (sym row) in
+    let none = ap (λ b. has b dummy) row ∙ sym c.contains.ensures ∙ c.if-not-contains.true in
+    walk_rule dummy (rows_of sets) symbols i c.args.front.now.bits.items front c.unite_below-grown.new.self.bits.items c.loop-symbol.invariant.1 r
     (drop (i + 1) symbols) at none put
 
 pub loop-symbol-preserved : goal.loop-symbol-preserved
 loop-symbol-preserved g c =
     let index = g.StorageT.StorageIndex.index in
     let sets = c.args.sets.now in
-    let mark = c.args.mark in
+    let dummy = c.args.dummy in
     let symbols = map (symbol_of index) c.args.symbols.now in
     let i = c.loop-symbol.symbol-index in
     let r = c.from-in-Rule.result in
     let front = c.loop-symbol.front.bits.items in
-    let low = symbol_below index (IsSymbolBelow (length sets) mark) c.args.symbols.now i c.symbol-item.result _ c.requires.rules
+    let low = symbol_below index (IsSymbolBelow (length sets) dummy) c.args.symbols.now i c.symbol-item.result _ c.requires.rules
     c.loop-symbol-test.true c.symbol-item.is c.in-Rule.is in
     let row = row_is sets r c.index-sets-from.result (omega (arith, low, c.from-in-Rule.ensures)) c.index-sets-from.is in
     let at = symbols_from index c.args.symbols.now i c.symbol-item.result c.loop-symbol-test.true c.symbol-item.is
     ∙ ap (λ s. symbol_of index s ∷ drop (i + 1) symbols) c.in-Rule.is ∙ ap (λ n. Nonterminal n ∷ drop (i + 1) symbols) (sym c.from-in-Rule.ensures) in
-    let put = λ (t : ℕ). c.unite_below-grown.ensures.tokens t ∙ ap (λ b. has front t || (nat_lt t mark && has b t)) (sym row) in
-    let through = ap (λ b. has b mark) row ∙ sym c.contains.ensures ∙ c.if-not-contains.false in (
+    let put = λ (t : ℕ). c.unite_below-grown.ensures.tokens t ∙ ap (λ b. has front t || (nat_lt t dummy && has b t)) (sym row) in
+    let through = ap (λ b. has b dummy) row ∙ sym c.contains.ensures ∙ c.if-not-contains.false in (
       c.unite_below-grown.ensures.room ∙ c.loop-symbol.invariant.0,
-      walk_on mark (rows_of sets) symbols i c.args.front.now.bits.items front c.unite_below-grown.new.self.bits.items c.loop-symbol.invariant.1 r at through put,
+      walk_on dummy (rows_of sets) symbols i c.args.front.now.bits.items front c.unite_below-grown.new.self.bits.items c.loop-symbol.invariant.1 r at through put,
     )

@@ -2,7 +2,7 @@ use Rattle.std.proofs.Common.{◌≡◌, ◌+◌, ◌||◌, ◌&&◌, ◌∙◌,
 use Rattle.std.proofs.lemmas.Bool.{false≢true}
 use Rattle.lrpar_grammar.specs.Grammar.{rules_len, tokens_len}
 use Rattle.lrpar_grammar.specs.Symbols.{symbol_of}
-use Rattle.lrpar_table_first.specs.FirstRows.{begins, mark_of, rows_of}
+use Rattle.lrpar_table_first.specs.FirstRows.{begins, dummy_lookahead, rows_of}
 use Rattle.lrpar_grammar.specs.Tokens.{has}
 use Rattle.lrpar_table_first.proofs.BeforeLemmas.{added_before, added_through, symbols_below}
 use Rattle.lrpar_table_first.proofs.first.add_first_before.Goals as goal
@@ -26,14 +26,14 @@ returns-else-contains-clause-tokens g c =
     let front = c.add_first.new.front.bits.items in
     let old = c.args.set.now.bits.items in
     let middle = c.unite_below-new.new.self.bits.items in
-    let marked : c.tokens_len-mark.result ≡ mark_of grm = c.tokens_len-mark.ensures.len in
+    let marked : c.tokens_len-dummy.result ≡ dummy_lookahead grm = c.tokens_len-dummy.ensures.len in
     let free = symbols_below (rules_len grm) (tokens_len grm) w c.requires.symbols in
-    let begun : (t : ℕ) → has front t ≡ begins (mark_of grm) rows w t =
-    λ t. c.add_first.ensures.tokens t ∙ ap (λ b. b || begins c.tokens_len-mark.result rows w t) (c.clear.ensures.none t) ∙ ap (λ n. begins n rows w t) marked in
-    let put : (t : ℕ) → has middle t ≡ (has old t || (nat_lt t (mark_of grm) && has front t)) =
+    let begun : (t : ℕ) → has front t ≡ begins (dummy_lookahead grm) rows w t =
+    λ t. c.add_first.ensures.tokens t ∙ ap (λ b. b || begins c.tokens_len-dummy.result rows w t) (c.clear.ensures.none t) ∙ ap (λ n. begins n rows w t) marked in
+    let put : (t : ℕ) → has middle t ≡ (has old t || (nat_lt t (dummy_lookahead grm) && has front t)) =
     λ t. c.unite_below-new.ensures.tokens t ∙ ap (λ n. has old t || (nat_lt t n && has front t)) marked in
     let some = c.has_any.ensures.0 c.if-not-has_any.false in
-    let ends : has front (mark_of grm) ≡ false = ap (has front) (sym marked) ∙ sym c.contains.ensures ∙ c.if-contains.false in
+    let ends : has front (dummy_lookahead grm) ≡ false = ap (has front) (sym marked) ∙ sym c.contains.ensures ∙ c.if-contains.false in
     added_before grm c.requires.well_formed rows c.requires.firsts w free after front old middle some begun put ends
 
 pub returns-then-contains-clause-tokens : goal.returns-then-contains-clause-tokens
@@ -45,15 +45,15 @@ returns-then-contains-clause-tokens g c =
     let front = c.add_first.new.front.bits.items in
     let old = c.args.set.now.bits.items in
     let middle = c.unite_below-new.new.self.bits.items in
-    let marked : c.tokens_len-mark.result ≡ mark_of grm = c.tokens_len-mark.ensures.len in
+    let marked : c.tokens_len-dummy.result ≡ dummy_lookahead grm = c.tokens_len-dummy.ensures.len in
     let free = symbols_below (rules_len grm) (tokens_len grm) w c.requires.symbols in
-    let begun : (t : ℕ) → has front t ≡ begins (mark_of grm) rows w t =
-    λ t. c.add_first.ensures.tokens t ∙ ap (λ b. b || begins c.tokens_len-mark.result rows w t) (c.clear.ensures.none t) ∙ ap (λ n. begins n rows w t) marked in
-    let put : (t : ℕ) → has middle t ≡ (has old t || (nat_lt t (mark_of grm) && has front t)) =
+    let begun : (t : ℕ) → has front t ≡ begins (dummy_lookahead grm) rows w t =
+    λ t. c.add_first.ensures.tokens t ∙ ap (λ b. b || begins c.tokens_len-dummy.result rows w t) (c.clear.ensures.none t) ∙ ap (λ n. begins n rows w t) marked in
+    let put : (t : ℕ) → has middle t ≡ (has old t || (nat_lt t (dummy_lookahead grm) && has front t)) =
     λ t. c.unite_below-new.ensures.tokens t ∙ ap (λ n. has old t || (nat_lt t n && has front t)) marked in
     let some = c.has_any.ensures.0 c.if-not-has_any.false in
-    let through : has front (mark_of grm) ≡ true = ap (has front) (sym marked) ∙ sym c.contains.ensures ∙ c.if-contains.true in
+    let through : has front (dummy_lookahead grm) ≡ true = ap (has front) (sym marked) ∙ sym c.contains.ensures ∙ c.if-contains.true in
     let new = c.unite_below-more.new.self.bits.items in
-    let more : (t : ℕ) → has new t ≡ (has middle t || (nat_lt t (mark_of grm + 1) && has after t)) =
+    let more : (t : ℕ) → has new t ≡ (has middle t || (nat_lt t (dummy_lookahead grm + 1) && has after t)) =
     λ t. c.unite_below-more.ensures.tokens t ∙ ap (λ n. has middle t || (nat_lt t (n + 1) && has after t)) marked in
     added_through grm c.requires.well_formed rows c.requires.firsts w free after front old middle some begun put new c.requires.after through more

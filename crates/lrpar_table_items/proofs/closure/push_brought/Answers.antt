@@ -1,7 +1,7 @@
 use Rattle.std.proofs.Common.{◌+◌, ◌≡◌, ◌<◌, sym, subst, arith, length, map, All}
 use Rattle.lrpar_table_items.specs.Cores.{IsAmong, core_set}
 use Rattle.lrpar_table_items.specs.CoreOrder.{IsAhead}
-use Rattle.lrpar_table_first.specs.FirstRows.{mark_of, row_at, rows_of}
+use Rattle.lrpar_table_first.specs.FirstRows.{dummy_lookahead, row_at, rows_of}
 use Rattle.lrpar_table_items.proofs.PutLemmas.{all_of_rows, begun_ahead, none_of_added}
 use Rattle.lrpar_table_items.proofs.AmongLemmas.{rows_more}
 use Rattle.lrpar_table_first.proofs.GrowthLemmas.{sets_len}
@@ -26,7 +26,7 @@ push_rule-requires-clause-wide g c =
     let brought = c.args.brought.now in
     let count = sets_len grm brought c.requires.room in
     let within : c.loop-rule.rule < length brought = omega (arith, count, c.loop-rule-test.true, c.rules_len-rule-end.ensures.len) in
-    wide_at brought c.loop-rule.rule (mark_of grm + 1) c.index-brought-rule.result c.requires.room.wide within c.index-brought-rule.is
+    wide_at brought c.loop-rule.rule (dummy_lookahead grm + 1) c.index-brought-rule.result c.requires.room.wide within c.index-brought-rule.is
 
 pub loop-rule-preserved : goal.loop-rule-preserved
 loop-rule-preserved g c =

@@ -2,7 +2,7 @@ use Rattle.std.proofs.Common.{◌≡◌, ◌++◌, ◌∙◌, sym, ap, map}
 use Rattle.lrpar_table_rows.specs.Graph.{item_at}
 use Rattle.lrpar_table_rows.specs.PlainItems.{item_of}
 use Rattle.lrpar_grammar.specs.Tokens.{has}
-use Rattle.lrpar_table_items.proofs.CompleteLemmas.{filter_no, pushed_yes}
+use Rattle.lrpar_table_items.proofs.CompleteItemLemmas.{filter_no, pushed_yes}
 use Rattle.lrpar_table_items.proofs.items.push_items.Goals as goal
 use Rattle.lrpar_table_items.proofs.items.push_items.Goals.{then-contains+in_ok-push, else-contains}
 

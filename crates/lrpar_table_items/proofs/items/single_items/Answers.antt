@@ -2,8 +2,8 @@ use Rattle.std.proofs.Common.{◌++◌, ◌∙◌, sym, ap, map}
 use Rattle.std.proofs.lemmas.List.{take_all}
 use Rattle.lrpar_grammar.specs.Grammar.{tokens_len}
 use Rattle.lrpar_table_items.specs.Cores.{core_set}
-use Rattle.lrpar_table_items.specs.Complete.{items_of_core, items_of_cores}
-use Rattle.lrpar_table_items.proofs.CompleteLemmas.{cores_more}
+use Rattle.lrpar_table_items.specs.CompleteItems.{items_of_core, items_of_cores}
+use Rattle.lrpar_table_items.proofs.CompleteItemLemmas.{cores_more}
 use Rattle.lrpar_table_items.proofs.items.single_items.Goals as goal
 
 pub loop-core-preserved : goal.loop-core-preserved

@@ -2,7 +2,7 @@ use Rattle.std.proofs.Common.{◌≡◌, map, take}
 use Rattle.lrpar_grammar.specs.Grammar.{tokens_len}
 use Rattle.lrpar_table_rows.specs.PlainItems.{item_of}
 use Rattle.lrpar_table_items.specs.Cores.{core_set}
-use Rattle.lrpar_table_items.specs.Complete.{items_of_cores}
+use Rattle.lrpar_table_items.specs.CompleteItems.{items_of_cores}
 use Rattle.lrpar_table_items.proofs.items.single_items.Given as goal
 
 -- the items of the cores so far

@@ -1,13 +1,13 @@
 use Rattle.std.proofs.Common.{◌≡◌, ◌+◌, length}
 use Rattle.lrpar_table_items.specs.Brought.{AreBroughtFrom, Keeps}
-use Rattle.lrpar_table_first.specs.FirstRows.{HaveRoom, mark_of, rows_of, total_missing}
+use Rattle.lrpar_table_first.specs.FirstRows.{HaveRoom, dummy_lookahead, rows_of, total_missing}
 use Rattle.lrpar_table_items.proofs.reach.spread.Given as goal
 
 abbrev pub invariant-passes : goal.invariant-passes
 invariant-passes g l =
     HaveRoom l.grm (rows_of l.sets)
-    × (length l.front.bits.items ≡ mark_of l.grm + 1)
-    × (length l.fresh.bits.items ≡ mark_of l.grm + 1)
+    × (length l.front.bits.items ≡ dummy_lookahead l.grm + 1)
+    × (length l.fresh.bits.items ≡ dummy_lookahead l.grm + 1)
     × Keeps (rows_of l.initial.sets) (rows_of l.sets)
     × AreBroughtFrom l.grm (rows_of l.initial.sets) (rows_of l.sets)
 

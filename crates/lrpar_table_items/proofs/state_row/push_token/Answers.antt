@@ -1,7 +1,7 @@
 use Rattle.std.proofs.Common.{◌++◌, ◌∙◌, sym, ap, map}
 use Rattle.lrpar_table_rows.specs.PlainConflicts.{shift_reduce_of}
 use Rattle.lrpar_table_rows.specs.PlainRows.{plain_goto}
-use Rattle.lrpar_table_items.specs.Wanted.{shift_conflicts_at}
+use Rattle.lrpar_table_items.specs.Resolution.{shift_conflicts_at}
 use Rattle.lrpar_table_items.proofs.state_row.push_token.Goals as goal
 
 pub returns-in_ok-push_shift_conflict-in-Some-clause-sr : goal.returns-in_ok-push_shift_conflict-in-Some-clause-sr

@@ -6,9 +6,9 @@ use Rattle.lrpar_grammar.specs.Grammar.{tokens_len}
 use Rattle.lrpar_table_rows.specs.PlainConflicts.{reduce_reduce_of, shift_reduce_of}
 use Rattle.lrpar_table_rows.specs.PlainRows.{action_entry, plain_goto}
 use Rattle.lrpar_table_items.specs.Cores.{core_set}
-use Rattle.lrpar_table_items.specs.Wanted.{AcceptsBeside, IsAcceptReduce, entry_at, reduce_conflicts_at, reductions, shift_conflicts_at, shift_entry, wanted_at}
+use Rattle.lrpar_table_items.specs.Resolution.{AcceptsBeside, IsAcceptReduce, entry_at, reduce_conflicts_at, reductions, shift_conflicts_at, shift_entry, resolved_at}
 use Rattle.lrpar_table_items.proofs.EntryLemmas.{joined_more}
-use Rattle.lrpar_table_items.proofs.WantedLemmas.{sorted_image}
+use Rattle.lrpar_table_items.proofs.ResolutionLemmas.{sorted_image}
 use Rattle.lrpar_table_items.proofs.StateRowLemmas.{accepts_are, below_next, beside_is, entry_is, error_same, reductions_are, refused_at, shift_conflict_is}
 use Rattle.lrpar_grammar_places.proofs.FaultLemmas.{no_value, nothing_done}
 use Rattle.lrpar_table_items.proofs.state_row.state_row.Goals as goal
@@ -74,7 +74,7 @@ loop-token-preserved g c =
     let conflict = rw c.deref-in-loop-token-3.ensures.value at c.in_ok-push_token.ensures.sr in
     let none = rw c.deref-in-loop-token-3.ensures.value at c.in_ok-push_token.ensures.none in
     let conflicts = rw c.deref-in-loop-token-2.ensures.value at c.in_ok-push_conflicts.ensures in (
-      joined_more (action_entry index) (λ t. entry_at t (wanted_at grm cores shifts t)) token c.loop-token.row.items c.push_token.new.row.items []
+      joined_more (action_entry index) (λ t. entry_at t (resolved_at grm cores shifts t)) token c.loop-token.row.items c.push_token.new.row.items []
           c.loop-token.invariant.0 (row ∙ ap (λ x. map (action_entry index) c.loop-token.row.items ++ x)
           (entry_is grm cores shifts (index c.unwrap.result) token goto prods c.accepts-accepting.result number shift reduces accepts)),
       joined_more (reduce_reduce_of index) (λ t. reduce_conflicts_at s t (reductions grm cores t)) token c.loop-token.rr.items c.push_conflicts.new.rr.items
@@ -98,7 +98,7 @@ returns-clause-row g c =
     let shifts = map (shift_entry index) c.args.shifts.now in
     let full : c.loop-token.token ≡ tokens_len c.args.grm.now =
     omega (arith, c.loop-token-test.false, c.loop-token.auto.token-end, c.tokens_len-token-end.ensures.len) in
-    c.loop-token.invariant.0 ∙ ap (λ n. flat_map (λ t. entry_at t (wanted_at grm cores shifts t)) (range_with_len 0 n)) full
+    c.loop-token.invariant.0 ∙ ap (λ n. flat_map (λ t. entry_at t (resolved_at grm cores shifts t)) (range_with_len 0 n)) full
 
 pub returns-clause-rr : goal.returns-clause-rr
 returns-clause-rr g c =

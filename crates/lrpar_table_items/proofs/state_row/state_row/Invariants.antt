@@ -4,7 +4,7 @@ use Rattle.std.specs.Map.{keys_of, lookup}
 use Rattle.lrpar_table_rows.specs.PlainConflicts.{reduce_reduce_of, shift_reduce_of}
 use Rattle.lrpar_table_rows.specs.PlainRows.{action_entry}
 use Rattle.lrpar_table_items.specs.Cores.{core_set}
-use Rattle.lrpar_table_items.specs.Wanted.{AscendFrom, IsAcceptReduce, entry_at, reduce_conflicts_at, reductions, shift_conflicts_at, shift_entry, wanted_at}
+use Rattle.lrpar_table_items.specs.Resolution.{AscendFrom, IsAcceptReduce, entry_at, reduce_conflicts_at, reductions, shift_conflicts_at, shift_entry, resolved_at}
 use Rattle.lrpar_table_items.proofs.state_row.state_row.Given as goal
 
 -- what the tokens so far give is appended, none of them is refused, and the shifts that are left are by later ones
@@ -14,7 +14,7 @@ invariant-loop-token g l =
     let cores = map (core_set index) l.cores in
     let shifts = map (shift_entry index) l.shifts in
     let rest = map (shift_entry index) l.rest in
-    (map (action_entry index) l.row.items ≡ flat_map (λ t. entry_at t (wanted_at l.grm cores shifts t)) (range_with_len 0 l.token))
+    (map (action_entry index) l.row.items ≡ flat_map (λ t. entry_at t (resolved_at l.grm cores shifts t)) (range_with_len 0 l.token))
     × (map (reduce_reduce_of index) l.rr.items
     ≡ map (reduce_reduce_of index) l.initial.rr.items
     ++ flat_map (λ t. reduce_conflicts_at (index l.state.0) t (reductions l.grm cores t)) (range_with_len 0 l.token))

@@ -2,7 +2,7 @@ use Rattle.std.proofs.Common.{◌≡◌, ◌<◌, ◌+◌, ◌==◌, ◌||◌, �
 use Rattle.lrpar_grammar.specs.Grammar.{end_token, prods_len, start_prod}
 use Rattle.lrpar_table_items.specs.Canonical.{AreSame}
 use Rattle.lrpar_table_items.specs.Cores.{CoreSet, IsAmong, core_set}
-use Rattle.lrpar_table_first.specs.FirstRows.{mark_of}
+use Rattle.lrpar_table_first.specs.FirstRows.{dummy_lookahead}
 use Rattle.lrpar_table_items.specs.ItemSets.{IsStartItem}
 use Rattle.lrpar_table_items.specs.CoreOrder.{IsKernel}
 use Rattle.lrpar_grammar.specs.Tokens.{has}
@@ -34,6 +34,6 @@ returns-clause-kernel g c =
     let items : map (core_set index) c.push.new.self.items ≡ core ∷ [] =
     ap (map (core_set index)) (c.in_ok-push.ensures.items ∙ ap (λ cs. cs ++ record { prod = c.start_prod-prod.result; dot = 0; tokens = c.insert.new.self } ∷ []) c.new-kernel.ensures.items) in
     let known : start_prod grm < prods_len grm = omega (arith, c.start_prod-prod.ensures.within, c.start_prod-prod.ensures.number) in
-    let wide : length bits ≡ mark_of grm + 1 =
+    let wide : length bits ≡ dummy_lookahead grm + 1 =
     omega (arith, c.insert.ensures.room, c.in_ok-tokens.ensures.room, c.tokens_len.ensures.len) in
     subst (IsKernel grm) (sym items) (start_kernel_is grm core c.start_prod-prod.ensures.number known refl wide is)

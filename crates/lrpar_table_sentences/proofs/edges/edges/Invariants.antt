@@ -1,5 +1,5 @@
 use Rattle.std.proofs.Common.{◌≡◌, ◌<◌, ℕ}
-use Rattle.lrpar_table_sentences.specs.WayLens.{IsStoredAt, edges_below, edges_of}
+use Rattle.lrpar_table_sentences.specs.AccessLens.{IsStoredAt, edges_below, edges_of}
 use Rattle.lrpar_table_sentences.proofs.edges.edges.Given as goal
 
 -- the steps of the states so far

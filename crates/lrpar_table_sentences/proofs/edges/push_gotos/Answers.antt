@@ -2,7 +2,7 @@ use Rattle.std.proofs.Common.{◌<◌, ◌≤◌, arith, length}
 use Rattle.lrpar_grammar.specs.Grammar.{Nonterminal}
 use Rattle.lrpar_table_sentences.specs.Lens.{len_at}
 use Rattle.lrpar_table_rows.specs.Table.{gotos_at}
-use Rattle.lrpar_table_sentences.specs.WayLens.{edge_if, edges_of}
+use Rattle.lrpar_table_sentences.specs.AccessLens.{edge_if, edges_of}
 use Rattle.lrpar_table_rows.proofs.StoredLemmas.{entries_len, entry_read}
 use Rattle.lrpar_table_sentences.proofs.EdgeLemmas.{made_all, made_more}
 use Rattle.lrpar_table_sentences.proofs.edges.push_gotos.Goals as goal

@@ -1,6 +1,6 @@
 use Rattle.std.proofs.Common.{◌≡◌, ◌++◌, take}
 use Rattle.lrpar_table_rows.specs.Table.{gotos_at}
-use Rattle.lrpar_table_sentences.specs.WayLens.{edges_of, goto_edges}
+use Rattle.lrpar_table_sentences.specs.AccessLens.{edges_of, goto_edges}
 use Rattle.lrpar_table_sentences.proofs.edges.push_gotos.Given as goal
 
 -- the gotos so far

@@ -1,7 +1,7 @@
 use Rattle.std.proofs.Common.{◌<◌, ◌≤◌, arith, length}
 use Rattle.lrpar_table_rows.specs.PlainRows.{plain_action}
 use Rattle.lrpar_table_rows.specs.Table.{actions_at}
-use Rattle.lrpar_table_sentences.specs.WayLens.{edges_of, shift_edge}
+use Rattle.lrpar_table_sentences.specs.AccessLens.{edges_of, shift_edge}
 use Rattle.lrpar_table_rows.proofs.StoredLemmas.{entries_len, entry_read}
 use Rattle.lrpar_table_sentences.proofs.EdgeLemmas.{made_all, made_more}
 use Rattle.lrpar_table_sentences.proofs.edges.push_shifts.Goals as goal

@@ -1,6 +1,6 @@
 use Rattle.std.proofs.Common.{◌≡◌, ◌++◌, take}
 use Rattle.lrpar_table_rows.specs.Table.{actions_at}
-use Rattle.lrpar_table_sentences.specs.WayLens.{edges_of, shift_edges}
+use Rattle.lrpar_table_sentences.specs.AccessLens.{edges_of, shift_edges}
 use Rattle.lrpar_table_sentences.proofs.edges.push_shifts.Given as goal
 
 -- the shifts so far

@@ -4,7 +4,7 @@ use Rattle.lrpar_grammar.specs.Grammar.{GrammarSymbol}
 use Rattle.lrpar_grammar.specs.Symbols.{symbol_of}
 use Rattle.lrpar_table_sentences.specs.Moves.{forest_moves, move_of, moves_in}
 use Rattle.lrpar_table_sentences.specs.Texts.{AreShortestTrees, HaveTrees}
-use Rattle.lrpar_table_sentences.specs.Ways.{AreWays, IsShortestPath, StepOf, WayOf, steps_of, symbols_in, way_at}
+use Rattle.lrpar_table_sentences.specs.AccessStrings.{AreAccessStrings, IsShortestPath, StepOf, AccessOf, steps_of, symbols_in, access_at}
 use Rattle.lrpar_conflict_derivations.specs.Example.{ExamplesOf}
 use Rattle.lrpar_conflict_derivations.proofs.FrontLemmas.{front_done, some_way, way_trees}
 use Rattle.lrpar_conflict_derivations.proofs.examples.Examples.front.Goals as goal
@@ -18,10 +18,10 @@ push_all_moves-requires-clause-some g c =
     let s = index c.args.state.0 in
     let x = c.args.self.now in
     let well = c.start_prod-start.ensures.well_formed in
-    let ways : c.self.inside.ways ≡ x.ways = ap (λ (y : ExamplesOf). y.ways) c.self.view_is in
+    let access : c.self.inside.access ≡ x.access = ap (λ (y : ExamplesOf). y.access) c.self.view_is in
     let some = some_way grm graph table 18446744073709551615 well c.requires.built x c.requires.made s c.requires.state in
-    let kept = ap (λ (w : List (Option WayOf)). way_at w s) ways ∙ some.1 in
-    let are = subst (λ (w : List (Option WayOf)). AreWays grm graph table 18446744073709551615 w) (sym ways) c.requires.made.ways in
+    let kept = ap (λ (w : List (Option AccessOf)). access_at w s) access ∙ some.1 in
+    let are = subst (λ (w : List (Option AccessOf)). AreAccessStrings grm graph table 18446744073709551615 w) (sym access) c.requires.made.access in
     let found = c.in_ok-push_path.ensures grm graph table are some.0 kept in
     let steps = steps_of index c.push_path.new.out.items in
     let is : steps ≡ found.0 = found.2 ∙ ap (λ xs. steps_of index xs ++ found.0) c.new-steps.ensures.items in
@@ -40,10 +40,10 @@ returns g c =
     let s = index c.args.state.0 in
     let x = c.args.self.now in
     let well = c.start_prod-start.ensures.well_formed in
-    let ways : c.self.inside.ways ≡ x.ways = ap (λ (y : ExamplesOf). y.ways) c.self.view_is in
+    let access : c.self.inside.access ≡ x.access = ap (λ (y : ExamplesOf). y.access) c.self.view_is in
     let some = some_way grm graph table 18446744073709551615 well c.requires.built x c.requires.made s c.requires.state in
-    let kept = ap (λ (w : List (Option WayOf)). way_at w s) ways ∙ some.1 in
-    let are = subst (λ (w : List (Option WayOf)). AreWays grm graph table 18446744073709551615 w) (sym ways) c.requires.made.ways in
+    let kept = ap (λ (w : List (Option AccessOf)). access_at w s) access ∙ some.1 in
+    let are = subst (λ (w : List (Option AccessOf)). AreAccessStrings grm graph table 18446744073709551615 w) (sym access) c.requires.made.access in
     let found = c.in_ok-push_path.ensures grm graph table are some.0 kept in
     let steps = steps_of index c.push_path.new.out.items in
     let is : steps ≡ found.0 = found.2 ∙ ap (λ xs. steps_of index xs ++ found.0) c.new-steps.ensures.items in

@@ -4,6 +4,6 @@ pub returns-clause-made : goal.returns-clause-made
 returns-clause-made g c = record {
   firsts = c.in_ok-firsts.ensures;
   shortest = c.in_ok-shortest.ensures.shortest;
-  ways = c.in_ok-ways.ensures;
+  access = c.in_ok-access.ensures;
   each = c.in_ok-shortest.ensures.each;
 }

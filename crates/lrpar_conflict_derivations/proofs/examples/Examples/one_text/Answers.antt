@@ -1,7 +1,7 @@
 use Rattle.std.proofs.Common.{List, Option, sym, ap, subst}
 use Rattle.lrpar_table_sentences.specs.Choices.{AreShortest, ChoiceOf}
 use Rattle.lrpar_table_sentences.specs.Moves.{moves_in}
-use Rattle.lrpar_table_sentences.specs.Ways.{steps_of}
+use Rattle.lrpar_table_sentences.specs.AccessStrings.{steps_of}
 use Rattle.lrpar_conflict_derivations.specs.Example.{ExamplesOf, IsShortestFront}
 use Rattle.lrpar_conflict_derivations.proofs.examples.Examples.one_text.Goals as goal
 
@@ -10,13 +10,13 @@ unify-requires g c =
     subst (λ (w : List (Option ChoiceOf)). AreShortest c.args.grm.now 18446744073709551615 w)
     (sym (ap (λ (x : ExamplesOf). x.shortest) c.self.view_is)) c.requires.made.shortest
 
-pub believed-requires-clause-shortest : goal.believed-requires-clause-shortest
-believed-requires-clause-shortest g c =
+pub confirmed-requires-clause-shortest : goal.confirmed-requires-clause-shortest
+confirmed-requires-clause-shortest g c =
     subst (λ (w : List (Option ChoiceOf)). AreShortest c.args.grm.now 18446744073709551615 w)
     (sym (ap (λ (x : ExamplesOf). x.shortest) c.self.view_is)) c.requires.made.shortest
 
-pub believed-requires-clause-front : goal.believed-requires-clause-front
-believed-requires-clause-front g c =
+pub confirmed-requires-clause-front : goal.confirmed-requires-clause-front
+confirmed-requires-clause-front g c =
     let index = g.StorageT.StorageIndex.index in
     let steps = steps_of index c.args.front.now.steps.items in (
       steps,

@@ -4,7 +4,7 @@ use Rattle.lrpar_table_first.specs.FirstRows.{AreFirsts, rows_of}
 use Rattle.lrpar_table_sentences.specs.Choices.{AreShortest, ChoiceOf}
 use Rattle.lrpar_table_sentences.specs.Moves.{Makes, Takes, moves_in}
 use Rattle.lrpar_table_sentences.specs.Texts.{AreTreesOf}
-use Rattle.lrpar_table_sentences.specs.Ways.{steps_of, symbols_in}
+use Rattle.lrpar_table_sentences.specs.AccessStrings.{steps_of, symbols_in}
 use Rattle.lrpar_conflict_derivations.specs.Climbing.{IsWay}
 use Rattle.lrpar_conflict_derivations.specs.Example.{ExamplesOf, IsExample}
 use Rattle.lrpar_conflict_derivations.specs.Texts.{takes_in}

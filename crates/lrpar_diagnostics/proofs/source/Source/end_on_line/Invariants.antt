@@ -6,7 +6,7 @@ use Rattle.lrpar_diagnostics.proofs.source.Source.end_on_line.Given as goal
 -- those that are left end on the line exactly if all do
 abbrev pub invariant-loop-span : goal.invariant-loop-span
 invariant-loop-span l = record {
-  order : FollowInOrder l.self.src.now l.behind l.rest;
+  order : FollowInOrder l.self.src.now l.after l.rest;
   line : EndOnLine l.self.src.now l.start l.rest ↔ EndOnLine l.self.src.now l.start l.fn.spans;
 }
 

@@ -1,7 +1,7 @@
 use Rattle.std.proofs.Common.{◌≡◌, ◌≤◌, ◌-◌, [], ◌∷◌, ◌++◌, length}
 use Rattle.std.specs.List.{flat_map, join_by}
 use Rattle.std.specs.String.{string_bytes}
-use Rattle.lrpar_diagnostics.specs.Underline.{marked_line, printed_behind, printed_lines}
+use Rattle.lrpar_diagnostics.specs.Underline.{marked_line, printed_after, printed_lines}
 use Rattle.lrpar_diagnostics.proofs.source.Source.push_block.Given as goal
 
 -- with the lines behind this one, the text so far is the whole
@@ -11,7 +11,7 @@ invariant-loop-next l =
     let marked = marked_line src l.prefix l.span l.underline_c in
     record {
       within : l.start ≤ length src;
-      whole : string_bytes l.out ++ flat_map (λ b. 10 ∷ marked b) (printed_behind src l.start l.span.end)
+      whole : string_bytes l.out ++ flat_map (λ b. 10 ∷ marked b) (printed_after src l.start l.span.end)
           ≡ string_bytes l.fn.out ++ join_by marked (10 ∷ []) (printed_lines src l.span);
     }
 

@@ -2,7 +2,7 @@ use Rattle.std.proofs.Common.{◌≡◌, ◌≤◌, ◌+◌, ◌-◌, ◌++◌, 
 use Rattle.std.specs.List.{AllByRecursion}
 use Rattle.std.specs.String.{string_bytes}
 use Rattle.lrpar_grammar.specs.SpansFit.{IsPartOf}
-use Rattle.lrpar_diagnostics.specs.Blocks.{blocks_behind}
+use Rattle.lrpar_diagnostics.specs.Blocks.{blocks_after}
 use Rattle.lrpar_diagnostics.proofs.source.Source.push_blocks.Given as goal
 
 -- with the blocks of the places that are left, the text so far is the whole
@@ -12,8 +12,8 @@ invariant-loop-span l =
     record {
       left : length l.rest ≤ length l.spans;
       fit : AllByRecursion (IsPartOf src) l.rest;
-      whole : string_bytes l.out ++ blocks_behind src l.kind (length l.spans - length l.rest + 2) l.rest
-          ≡ string_bytes l.fn.out ++ blocks_behind src l.kind 2 l.fn.spans;
+      whole : string_bytes l.out ++ blocks_after src l.kind (length l.spans - length l.rest + 2) l.rest
+          ≡ string_bytes l.fn.out ++ blocks_after src l.kind 2 l.fn.spans;
     }
 
 abbrev pub decreases-loop-span : goal.decreases-loop-span

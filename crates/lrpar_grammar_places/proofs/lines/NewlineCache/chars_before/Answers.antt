@@ -17,9 +17,9 @@ whole c =
     let counts : c.self.inside.counts.items ≡ char_counts text = ap (λ v. v.counts) (c.self.view_is ∙ c.requires.table) in
     let found : c.index.result.now ≡ chars_before text (byte / 128 * 128) =
     c.index.ensures ∙ ap (λ s. get_or s (byte / 128) c.index.result.now) counts ∙ count_found text byte c.index.result.now c.requires.within in
-    let behind : c.chars_begun.result ≡ count_by begins_char (slice_range text (byte / 128 * 128) byte) =
+    let after : c.chars_begun.result ≡ count_by begins_char (slice_range text (byte / 128 * 128) byte) =
     c.chars_begun.ensures ∙ ap (λ l. count_by begins_char (slice_range l (byte / 128 * 128) byte)) c.as_bytes.ensures.value in
-    omega (arith, found, behind, chars_parted text (byte / 128 * 128) byte (omega arith))
+    omega (arith, found, after, chars_parted text (byte / 128 * 128) byte (omega arith))
 
 pub overflow_add-result : goal.overflow_add-result
 overflow_add-result c = omega (arith, whole c, chars_bound c.args.src.now c.args.byte, c.ranges.byte.fits)

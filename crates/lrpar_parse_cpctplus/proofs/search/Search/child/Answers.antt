@@ -1,6 +1,6 @@
 use Rattle.std.proofs.Common.{List, arith, subst}
 use Rattle.lrpar_parse_repair.specs.PlainSteps.{plain_step, plain_steps}
-use Rattle.lrpar_parse_repair.specs.declared.steps.RepairStep.{RepairStep}
+use Rattle.lrpar_parse_repair.specs.declared.repair_step.RepairStep.{RepairStep}
 use Rattle.lrpar_parse_cpctplus.specs.Walking.{MayFollow}
 use Rattle.lrpar_parse_cpctplus.proofs.WalkLemmas.{tried_by}
 use Rattle.lrpar_parse_cpctplus.proofs.search.Search.child.Goals as goal

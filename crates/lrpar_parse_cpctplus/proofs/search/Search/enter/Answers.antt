@@ -4,7 +4,7 @@ use Rattle.lrpar_table_stacks.specs.Overlay.{overlaid}
 use Rattle.lrpar_parse_lexemes.specs.Known.{token_by}
 use Rattle.lrpar_parse_repair.specs.PlainSteps.{plain_step, plain_steps}
 use Rattle.lrpar_parse_repair.specs.Sequences.{PlainStep}
-use Rattle.lrpar_parse_repair.specs.declared.steps.RepairStep.{RepairStep}
+use Rattle.lrpar_parse_repair.specs.declared.repair_step.RepairStep.{RepairStep}
 use Rattle.lrpar_parse_cpctplus.specs.SearchView.{IsTakenBy, IsWalked}
 use Rattle.lrpar_parse_cpctplus.specs.WalkView.{IsTried}
 use Rattle.lrpar_parse_cpctplus.proofs.WalkLemmas.{fresh_leads, taken_not, walk_pushed}

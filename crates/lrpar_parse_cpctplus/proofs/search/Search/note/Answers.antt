@@ -4,7 +4,7 @@ use Rattle.std.proofs.lemmas.List.Elements.{All-push}
 use Rattle.lrpar_parse_lexemes.specs.Known.{token_by}
 use Rattle.lrpar_parse_repair.specs.PlainSteps.{plain_steps}
 use Rattle.lrpar_parse_repair.specs.Sequences.{PlainStep}
-use Rattle.lrpar_parse_repair.specs.declared.steps.RepairStep.{RepairStep}
+use Rattle.lrpar_parse_repair.specs.declared.repair_step.RepairStep.{RepairStep}
 use Rattle.lrpar_parse_cpctplus.specs.Cheapest.{RepairsAt}
 use Rattle.lrpar_parse_cpctplus.specs.Reaching.{GoesAsFar}
 use Rattle.lrpar_parse_cpctplus.specs.declared.tally.Found.{Found}
@@ -39,9 +39,9 @@ returns-clause-measured g c =
     let at = c.args.self.now.point.now in
     let path = plain_steps index c.args.walk.now.path.items in
     let repair_is : plain_steps index c.is_repair.new.walk.path.items ≡ path = rw c.in_ok-is_repair.ensures.path refl in
-    let reach_is : plain_steps index c.reach_behind.new.walk.path.items ≡ path = rw (c.in_ok-reach.ensures.path, c.in_ok-is_repair.ensures.path) refl in
-    let same : c.in_ok-steps.steps.items ≡ c.reach_behind.new.walk.path.items =
-    each_same c.reach_behind.new.walk.path.items c.in_ok-steps.steps.items c.in_ok-steps.ensures.cases.0 in
+    let reach_is : plain_steps index c.reach_after.new.walk.path.items ≡ path = rw (c.in_ok-reach.ensures.path, c.in_ok-is_repair.ensures.path) refl in
+    let same : c.in_ok-steps.steps.items ≡ c.reach_after.new.walk.path.items =
+    each_same c.reach_after.new.walk.path.items c.in_ok-steps.steps.items c.in_ok-steps.ensures.cases.0 in
     let copied : plain_steps index c.in_ok-steps.steps.items ≡ path = ap (λ (l : List (RepairStep g.row.StorageT.Denot)). plain_steps index l) same ∙ reach_is in
     let far = subst (λ (l : List PlainStep). GoesAsFar token at l c.in_ok-reach.reach) (repair_is ∙ sym copied) c.in_ok-reach.ensures.reach in
     let measured : Found g.row.StorageT.Denot → Type 0 = λ repair. GoesAsFar token at (plain_steps index repair.steps.items) repair.reach in
@@ -53,10 +53,10 @@ returns-clause-found g c =
     let parts = g.LexemeT.Lexeme.parts in
     let search = c.args.self.now in
     let path = plain_steps index c.args.walk.now.path.items in
-    let reach_is : plain_steps index c.reach_behind.new.walk.path.items ≡ path = rw (c.in_ok-reach.ensures.path, c.in_ok-is_repair.ensures.path) refl in
+    let reach_is : plain_steps index c.reach_after.new.walk.path.items ≡ path = rw (c.in_ok-reach.ensures.path, c.in_ok-is_repair.ensures.path) refl in
     let copied : plain_steps index c.in_ok-steps.steps.items ≡ path =
-    let same : c.in_ok-steps.steps.items ≡ c.reach_behind.new.walk.path.items =
-    each_same c.reach_behind.new.walk.path.items c.in_ok-steps.steps.items c.in_ok-steps.ensures.cases.0 in
+    let same : c.in_ok-steps.steps.items ≡ c.reach_after.new.walk.path.items =
+    each_same c.reach_after.new.walk.path.items c.in_ok-steps.steps.items c.in_ok-steps.ensures.cases.0 in
     ap (λ (l : List (RepairStep g.row.StorageT.Denot)). plain_steps index l) same ∙ reach_is in
     let costs = sym c.requires.walking.costs ∙ c.if-walk-bound.false in
     added index (RepairsAt (token_by index parts) search.terms.now.costs search.point.now c.args.bound) path c.args.tally.now.found.items c.push.new.self.items _

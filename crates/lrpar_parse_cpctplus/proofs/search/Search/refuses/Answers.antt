@@ -7,7 +7,7 @@ use Rattle.lrpar_table_stacks.specs.Run.{token_at}
 use Rattle.lrpar_parse_lexemes.specs.Known.{token_by}
 use Rattle.lrpar_parse_repair.specs.PlainSteps.{plain_step}
 use Rattle.lrpar_parse_repair.specs.Sequences.{StepsTo}
-use Rattle.lrpar_parse_repair.specs.declared.steps.RepairStep.{RepairStep}
+use Rattle.lrpar_parse_repair.specs.declared.repair_step.RepairStep.{RepairStep}
 use Rattle.lrpar_parse_cpctplus.proofs.PruneLemmas.{nothing_fed}
 use Rattle.lrpar_parse_cpctplus.proofs.search.Search.refuses.Goals as goal
 

@@ -3,7 +3,7 @@ use Rattle.std.proofs.lemmas.List.{take_all}
 use Rattle.lrpar_table_stacks.specs.Overlay.{overlaid}
 use Rattle.lrpar_parse_lexemes.specs.Known.{token_by}
 use Rattle.lrpar_parse_repair.specs.PlainSteps.{plain_steps}
-use Rattle.lrpar_parse_repair.specs.declared.steps.RepairStep.{RepairStep}
+use Rattle.lrpar_parse_repair.specs.declared.repair_step.RepairStep.{RepairStep}
 use Rattle.lrpar_parse_cpctplus.specs.Cheapest.{LeadsTo}
 use Rattle.lrpar_parse_cpctplus.proofs.WalkLemmas.{led_more}
 use Rattle.lrpar_parse_cpctplus.proofs.search.Search.replay.Goals as goal

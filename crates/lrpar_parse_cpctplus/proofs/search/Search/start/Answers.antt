@@ -1,7 +1,7 @@
 use Rattle.std.proofs.Common.{◌≡◌, ◌∙◌, List, [], ap, subst, sym, true}
 use Rattle.lrpar_table_stacks.specs.Overlay.{Overlaid, overlaid}
 use Rattle.lrpar_parse_repair.specs.PlainSteps.{plain_steps}
-use Rattle.lrpar_parse_repair.specs.declared.steps.RepairStep.{RepairStep}
+use Rattle.lrpar_parse_repair.specs.declared.repair_step.RepairStep.{RepairStep}
 use Rattle.lrpar_parse_cpctplus.specs.SearchView.{IsWalked}
 use Rattle.lrpar_parse_cpctplus.proofs.WalkLemmas.{walk_start}
 use Rattle.lrpar_parse_cpctplus.proofs.search.Search.start.Goals as goal

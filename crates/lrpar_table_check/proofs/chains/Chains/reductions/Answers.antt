@@ -1,7 +1,7 @@
 use Rattle.std.proofs.Common.{◌≡◌, arith, subst, ℕ}
 use Rattle.std.proofs.lemmas.List.{length-map}
-use Rattle.lrpar_table_stacks.specs.Step.{IsStepOf}
-use Rattle.lrpar_table_stacks.specs.declared.step.Step.{Step}
+use Rattle.lrpar_table_stacks.specs.ReductionStep.{IsStepOf}
+use Rattle.lrpar_table_stacks.specs.declared.reduction.Step.{Step}
 use Rattle.lrpar_table_stacks.specs.Stack.{states_of}
 use Rattle.lrpar_table_stacks.proofs.StepLemmas.{reduced_within}
 use Rattle.lrpar_table_check.specs.Lengths.{IsLength}

@@ -2,8 +2,8 @@ use Rattle.std.proofs.Common.{◌≡◌, ◌<◌, ◌≤◌, ◌+◌, ◌-◌, �
 use Rattle.std.proofs.Math.Nat.{mul-le-mul_right}
 use Rattle.lrpar_table_stacks.specs.Chain.{most_reductions}
 use Rattle.lrpar_table_stacks.specs.Reduction.{top_action}
-use Rattle.lrpar_table_stacks.specs.Step.{IsStackStep}
-use Rattle.lrpar_table_stacks.specs.declared.step.Step.{Step}
+use Rattle.lrpar_table_stacks.specs.ReductionStep.{IsStackStep}
+use Rattle.lrpar_table_stacks.specs.declared.reduction.Step.{Step}
 use Rattle.lrpar_table_check.proofs.CheckedLemmas.{run_of_checked}
 use Rattle.lrpar_table_stacks.proofs.SettleLemmas.{stack_reduced_once, stack_settled_by, stack_states, stays_by_step}
 use Rattle.lrpar_grammar_places.proofs.FaultLemmas.{no_value, nothing_done}

@@ -1,7 +1,7 @@
 use Rattle.std.proofs.Common.{◌≡◌, ◌^◌, ◌-◌, rules}
 use Rattle.std.specs.Option.{is_some}
 use Rattle.lrpar_table_sentences.specs.Choices.{choice_at}
-use Rattle.lrpar_table_sentences.proofs.ReachedLemmas.{kept_exact}
+use Rattle.lrpar_table_sentences.proofs.ReachableLemmas.{kept_exact}
 use Rattle.lrpar_table_sentences.proofs.shortest.Shortest.derives_text.Goals as goal
 
 pub returns-clause-exact : goal.returns-clause-exact

@@ -1,0 +1,202 @@
+//! The course of a run with repairs: where it stops, the recoverer is asked once, and the run goes on from what the first
+//! sequence gives that works.
+ghost use Rattle.std.specs.Prelude.{◌≡◌, ◌<◌, ◌≤◌, IfOk, IfSome, OnOk, length};
+ghost use Rattle.lrpar_grammar.specs.Sentence.{IsValidList};
+ghost use Rattle.lrpar_table_stacks.specs.Stack.{IsStack};
+ghost use Rattle.lrpar_table_stacks.specs.Reduction.{top_action};
+ghost use Rattle.lrpar_parse_lexemes.specs.Known.{token_by, known};
+ghost use Rattle.lrpar_parse_lexemes.specs.Lexemes.{start_at};
+ghost use Rattle.lrpar_parse_run.specs.Recovering.{IsListedBy, IsRecovered, IsNoted};
+ghost use Rattle.lrpar_parse_run.specs.Moves.{RiseUpTo, StartsRise};
+ghost use Rattle.lrpar_parse_repair.specs.PlainSteps.{plain_sequences};
+ghost use Rattle.lrpar_parse_run.specs.RepairAnswer.{IsRepairErrorOf};
+ghost use Rattle.lrpar_table_stacks.specs.Run.{stop_at, token_at};
+ghost use Rattle.lrpar_table_rows.specs.Table.{Fails};
+ghost use Rattle.lrpar_parse_run.specs.Standing.{IsRunStack};
+ghost use Rattle.lrpar_parse_run.specs.TreeAnswer.{IsTreeAnswer};
+
+use crate::building::Build;
+use crate::run::Run;
+use crate::run_stack::Stack;
+use lrpar_grammar::grammar::YaccGrammar;
+use lrpar_grammar::span::StorageIndex;
+use lrpar_parse_errors::errors::{LexParseError, ParseError};
+use lrpar_parse_lexemes::lex_api::{Lexeme, LexerTypes};
+use lrpar_parse_lexemes::places::end_lexeme;
+use lrpar_parse_repair::listed_repairs::listed_repairs;
+use lrpar_parse_repair::repair::{Recoverer, RecoveryPoint};
+use lrpar_parse_repair::repair_step::RepairStep;
+use lrpar_parse_repair::trial::Trial;
+use std::alloc::{AllocError, Global};
+
+/// What the course of a run is made by: what goes on and what is built, the lexemes, the recoverer, and how many lexemes
+/// have to follow a repair.
+#[derive(Drop)]
+pub struct WholeRun<
+    'a,
+    StorageT: StorageIndex,
+    LexerTypesT: LexerTypes<StorageT = StorageT>,
+    B,
+    R,
+> {
+    pub run: Run<'a, StorageT, LexerTypesT::LexemeT, B>,
+    pub lexemes: &'a [LexerTypesT::LexemeT],
+    pub recoverer: &'a R,
+    pub shifts: usize,
+}
+
+impl<
+    'a,
+    StorageT: StorageIndex,
+    LexerTypesT: LexerTypes<StorageT = StorageT>,
+    B: Build<StorageT, LexerTypesT::LexemeT>,
+    R: Recoverer<StorageT, LexerTypesT::LexemeT>,
+> WholeRun<'a, StorageT, LexerTypesT, B, R> {
+    ghost use Rattle.lrpar_parse_run.specs.WholeRunView.{subject};
+
+    /// Runs from the first lexeme, to where the run accepts, or to a stop for which no sequence works. Each later stop lies so
+    /// many lexemes further as have to follow a repair, so it ends.
+    pub fn over(
+        &self,
+        alloc: Global,
+    ) -> Result<(Option<B::Entry>, Vec<LexParseError<StorageT, LexerTypesT>>), AllocError>
+        requires can { (B.builds self.now.run.build.now).can_build self.now.run.checked.now.grammar }
+        requires valid { IsValidList self.now.run.checked.now.grammar (known StorageT.index LexerTypesT.LexemeT.parts self.now.lexemes.now) }
+        requires shifts { 0 < self.now.shifts }
+        ensures { IfOk result (IsTreeAnswer (subject StorageT.index LexerTypesT.LexemeT.parts R.allows self.now)
+            (B.builds self.now.run.build.now) self.now.lexemes.now) }
+    {
+        starts_rise::<StorageT, LexerTypesT::LexemeT>(self.run.checked.grm(), self.lexemes);
+        let stable = self.run.checked.stable();
+        let mut stack = Stack::new(alloc, stable.start_state())?;
+        let mut errors = Vec::new(alloc);
+        let mut place = 0;
+        'stops: loop {
+            let Some(stop) = self.run.far(alloc, self.lexemes, &mut stack, place)? else {
+                return Ok((Some(stack.into_entry()), errors));
+            };
+            let Some(next) = self.resume(alloc, &mut stack, stop, &mut errors)? else {
+                return Ok((None, errors));
+            };
+            place = next;
+        }
+    }
+
+    // Adds the error of the stop, and goes on by the first sequence that works there: answers the place after it. None, where
+    // no sequence works.
+    fn resume(
+        &self,
+        alloc: Global,
+        stack: &mut Stack<StorageT, B::Entry>,
+        stop: usize,
+        errors: &mut Vec<LexParseError<StorageT, LexerTypesT>>,
+    ) -> Result<Option<usize>, AllocError>
+        requires can { (B.builds self.now.run.build.now).can_build self.now.run.checked.now.grammar }
+        requires valid { IsValidList self.now.run.checked.now.grammar (known StorageT.index LexerTypesT.LexemeT.parts self.now.lexemes.now) }
+        requires starts { StartsRise (known StorageT.index LexerTypesT.LexemeT.parts self.now.lexemes.now) }
+        requires run_stack { IsRunStack (B.builds self.now.run.build.now).suits self.now.run.checked.now.table stack.old }
+        requires rises { RiseUpTo (B.builds self.now.run.build.now).rises stack.old.entries
+            (start_at (known StorageT.index LexerTypesT.LexemeT.parts self.now.lexemes.now) stop) }
+        requires shifts { 0 < self.now.shifts }
+        requires fails { top_action self.now.run.checked.now.table (token_at (token_by StorageT.index LexerTypesT.LexemeT.parts)
+            self.now.run.checked.now.grammar self.now.lexemes.now stop) stack.old.states ≡ Fails }
+        requires within { stop ≤ length self.now.lexemes.now }
+        ensures run_stack { OnOk result (IsRunStack (B.builds self.now.run.build.now).suits self.now.run.checked.now.table stack.new) }
+        ensures rises { IfOk result (λ next. IfSome next (λ place. RiseUpTo (B.builds self.now.run.build.now).rises stack.new.entries
+            (start_at (known StorageT.index LexerTypesT.LexemeT.parts self.now.lexemes.now) place))) }
+        ensures within { IfOk result (λ next. IfSome next (λ place. place ≤ length self.now.lexemes.now)) }
+        ensures recovered { IfOk result (IsRecovered (subject StorageT.index LexerTypesT.LexemeT.parts R.allows self.now) (B.builds self.now.run.build.now)
+            self.now.lexemes.now stack.old stop errors.old.items stack.new errors.new.items) }
+    {
+        // Past these the table has no entry, so that a path is a stack.
+        let stable = self.run.checked.stable();
+        let (_tokens, _rules) = (stable.tokens_len(), stable.rules_len());
+        let listed = self.recorded(alloc, stack, stop, errors)?;
+        let Some(first) = listed.first() else {
+            return Ok(None);
+        };
+        let next = self.run.replay(alloc, self.lexemes, stack, stop, first)?;
+        Ok(Some(next))
+    }
+
+    // Adds the error of the stop, and answers the sequences that it lists.
+    fn recorded(
+        &self,
+        alloc: Global,
+        stack: &Stack<StorageT, B::Entry>,
+        place: usize,
+        errors: &mut Vec<LexParseError<StorageT, LexerTypesT>>,
+    ) -> Result<Vec<Vec<RepairStep<StorageT>>>, AllocError>
+        requires valid { IsValidList self.now.run.checked.now.grammar (known StorageT.index LexerTypesT.LexemeT.parts self.now.lexemes.now) }
+        requires shifts { 0 < self.now.shifts }
+        requires stack { IsStack self.now.run.checked.now.table stack.now.states }
+        requires fails { top_action self.now.run.checked.now.table (token_at (token_by StorageT.index LexerTypesT.LexemeT.parts)
+            self.now.run.checked.now.grammar self.now.lexemes.now place) stack.now.states ≡ Fails }
+        requires some { 0 < length stack.now.states }
+        requires within { place ≤ length self.now.lexemes.now }
+        ensures recorded { IfOk result (λ listed. IsNoted (subject StorageT.index LexerTypesT.LexemeT.parts R.allows self.now) self.now.lexemes.now
+            (stop_at stack.now.states place) errors.old.items errors.new.items (plain_sequences StorageT.index listed.items)) }
+    {
+        let listed = self.listed(alloc, stack, place)?;
+        errors.push(self.error(alloc, stack, place, &listed)?)?;
+        Ok(listed)
+    }
+
+    // The sequences that work at the stop, of those that the recoverer hands in, which it is asked for once.
+    fn listed(
+        &self,
+        alloc: Global,
+        stack: &Stack<StorageT, B::Entry>,
+        place: usize,
+    ) -> Result<Vec<Vec<RepairStep<StorageT>>>, AllocError>
+        requires valid { IsValidList self.now.run.checked.now.grammar (known StorageT.index LexerTypesT.LexemeT.parts self.now.lexemes.now) }
+        requires shifts { 0 < self.now.shifts }
+        requires stack { IsStack self.now.run.checked.now.table stack.now.states }
+        requires fails { top_action self.now.run.checked.now.table (token_at (token_by StorageT.index LexerTypesT.LexemeT.parts)
+            self.now.run.checked.now.grammar self.now.lexemes.now place) stack.now.states ≡ Fails }
+        requires within { place ≤ length self.now.lexemes.now }
+        ensures listed { IfOk result (λ listed. IsListedBy (subject StorageT.index LexerTypesT.LexemeT.parts R.allows self.now) self.now.lexemes.now
+            (stop_at stack.now.states place) (plain_sequences StorageT.index listed.items)) }
+    {
+        // The table is a checked one.
+        let _table = self.run.checked.stable();
+        let states = stack.states();
+        let point = RecoveryPoint::new(self.run.checked, self.shifts, self.lexemes, place, states);
+        let answer = self.recoverer.recover(alloc, &point)?;
+        Trial::new(self.run.checked, self.lexemes, self.shifts).listed(alloc, states, place, answer)
+    }
+
+    // The error of the stop, at which these sequences are listed.
+    fn error(
+        &self,
+        alloc: Global,
+        stack: &Stack<StorageT, B::Entry>,
+        place: usize,
+        listed: &[Vec<RepairStep<StorageT>>],
+    ) -> Result<LexParseError<StorageT, LexerTypesT>, AllocError>
+        requires some { 0 < length stack.now.states }
+        requires within { place ≤ length self.now.lexemes.now }
+        ensures error { IfOk result (IsRepairErrorOf (subject StorageT.index LexerTypesT.LexemeT.parts R.allows self.now) self.now.lexemes.now
+            (record { stop = stop_at stack.now.states place; listed = plain_sequences StorageT.index listed.now })) }
+    {
+        let repairs = listed_repairs(alloc, &self.lexemes[place..], listed)?;
+        let lexeme = match self.lexemes.get(place) {
+            Some(lexeme) => *lexeme,
+            None => end_lexeme(self.run.checked.grm().eof_token_idx(), self.lexemes),
+        };
+        Ok(LexParseError::ParseError(ParseError::new(stack.top(), lexeme, repairs)))
+    }
+}
+
+// The starts of the lexemes of a valid list don't decrease, and the end of the last one doesn't lie before its start.
+fn starts_rise<StorageT: StorageIndex, LexemeT: Lexeme<StorageT>>(
+    grm: &YaccGrammar<StorageT>,
+    lexemes: &[LexemeT],
+)
+    requires { IsValidList grm.now (known StorageT.index LexemeT.parts lexemes.now) }
+    ensures { StartsRise (known StorageT.index LexemeT.parts lexemes.now) }
+{
+    if let Some(last) = lexemes.last() {
+        let _start = last.span().start();
+    }
+}

@@ -1,0 +1,247 @@
+//! Whether a table is complete: the conditions, each tested at one state.
+ghost use Rattle.std.specs.Prelude.{◌≡◌, ◌<◌, ◌≤◌, ◌+◌, ◌↔◌, ℕ, IfErr, IsTrue, MatchOption, OnOk, All, length};
+ghost use Rattle.lrpar_grammar.specs.Grammar.{IsWellFormed, prod_len, prods_len, tokens_len};
+ghost use Rattle.lrpar_table_first.specs.FirstRows.{rows_of};
+ghost use Rattle.lrpar_table_rows.specs.Safe.{HasShape, IsItem};
+ghost use Rattle.lrpar_table_rows.specs.Table.{states_len};
+ghost use Rattle.lrpar_table_conditions.specs.Complete.{ClosesItem, EachItem, FailsFirstAt, HasStartItem, IsComplete, IsCompleteAt, IsCompleteFault, IsFirstFault};
+ghost use Rattle.lrpar_table_conditions.specs.Itemwise.{AreOfCore, AreReady, ClosesAmong, HaveRoomFor, IsKnown, ItemHolds, lookaheads_of};
+ghost use Rattle.lrpar_table_conditions.specs.declared.completeness_fault.CompleteFault.TheVariants.{Memory};
+
+mod cores;
+mod sets;
+
+use crate::completeness::CompletenessCondition;
+use crate::completeness_fault::CompleteFault;
+use lrpar_grammar::grammar::YaccGrammar;
+use lrpar_grammar::span::{PIdx, StIdx, StorageIndex};
+use lrpar_grammar::token_set::TokenSet;
+use lrpar_table_first::first::first_sets;
+use lrpar_table_rows::table::{Item, StateGraph, StateTable};
+use sets::WorkSets;
+use std::alloc::Global;
+
+/// Checks that a table is complete: that each condition holds in each state.
+///
+/// The fault is the first of the conditions C1 to C5 that fails, at the lowest state at which it does. `Memory` comes where
+/// memory was wanting for sets of tokens: one for each rule and each production, and four more.
+pub fn check_complete<StorageT: StorageIndex>(
+    alloc: Global,
+    grm: &YaccGrammar<StorageT>,
+    sgraph: &StateGraph<StorageT>,
+    stable: &StateTable<StorageT>,
+) -> Result<(), CompleteFault>
+    requires formed { IsWellFormed grm.now }
+    requires shape { HasShape grm.now sgraph.now stable.now }
+    ensures complete { OnOk result (IsComplete grm.now sgraph.now stable.now) }
+    ensures fault { IfErr result (IsCompleteFault grm.now sgraph.now stable.now) }
+    ensures exact { IsComplete grm.now sgraph.now stable.now → IfErr result (λ fault. fault ≡ Memory) }
+{
+    let firsts = first_sets(alloc, grm)?;
+    let mut sets = WorkSets::new(alloc, grm.prods_len(), grm.tokens_len() + 1)?;
+    let checked = Completeness::new(grm, sgraph, stable, &firsts);
+    match checked.first_fault(&mut sets) {
+        None => Ok(()),
+        Some((condition, state)) => Err(CompleteFault::Condition(condition, state)),
+    }
+}
+
+/// What is checked, with the set of the tokens that each rule begins with.
+#[derive(Drop)]
+pub(crate) struct Completeness<'a, StorageT: StorageIndex> {
+    grm: &'a YaccGrammar<StorageT>,
+    sgraph: &'a StateGraph<StorageT>,
+    stable: &'a StateTable<StorageT>,
+    firsts: &'a [TokenSet],
+}
+
+impl<'a, StorageT: StorageIndex> Completeness<'a, StorageT> {
+    pub(crate) fn new(
+        grm: &'a YaccGrammar<StorageT>,
+        sgraph: &'a StateGraph<StorageT>,
+        stable: &'a StateTable<StorageT>,
+        firsts: &'a [TokenSet],
+    ) -> Self
+        ensures grammar { result.grm.now ≡ grm.now }
+        ensures graph { result.sgraph.now ≡ sgraph.now }
+        ensures table { result.stable.now ≡ stable.now }
+        ensures firsts { result.firsts.now ≡ firsts.now }
+    {
+        Completeness {
+            grm,
+            sgraph,
+            stable,
+            firsts,
+        }
+    }
+
+    /// The first condition that fails, and the lowest state at which it does. `sets` are to work with.
+    pub(crate) fn first_fault(&self, sets: &mut WorkSets) -> Option<(CompletenessCondition, usize)>
+        requires known { IsKnown self.now.grm.now self.now.sgraph.now self.now.stable.now (rows_of self.now.firsts.now) }
+        requires ready { AreReady self.now.grm.now sets.old }
+        ensures { let g = self.now.grm.now in let graph = self.now.sgraph.now in let table = self.now.stable.now in MatchOption result
+            (IsComplete g graph table)
+            (λ found. IsFirstFault g graph table found.0 found.1) }
+    {
+        for condition in CompletenessCondition::ALL {
+            if let Some(state) = self.first_incomplete(condition, sets) {
+                return Some((condition, state));
+            }
+        }
+        None
+    }
+
+    // The lowest state at which the condition fails.
+    fn first_incomplete(
+        &self,
+        condition: CompletenessCondition,
+        sets: &mut WorkSets,
+    ) -> Option<usize>
+        requires known { IsKnown self.now.grm.now self.now.sgraph.now self.now.stable.now (rows_of self.now.firsts.now) }
+        requires ready { AreReady self.now.grm.now sets.old }
+        ensures ready { AreReady self.now.grm.now sets.new }
+        ensures found { let g = self.now.grm.now in let graph = self.now.sgraph.now in let table = self.now.stable.now in MatchOption result
+            ((s : ℕ) → s < states_len table → IsCompleteAt g graph table condition s)
+            (λ s. FailsFirstAt g graph table condition s) }
+    {
+        for s in 0..self.stable.states_len() {
+            let state = StIdx(StorageT::from_index(s).unwrap());
+            if !self.is_complete_at(condition, state, sets) {
+                return Some(s);
+            }
+        }
+        None
+    }
+
+    // Whether the condition holds at the state.
+    fn is_complete_at(
+        &self,
+        condition: CompletenessCondition,
+        s: StIdx<StorageT>,
+        sets: &mut WorkSets,
+    ) -> bool
+        requires known { IsKnown self.now.grm.now self.now.sgraph.now self.now.stable.now (rows_of self.now.firsts.now) }
+        requires state { StorageT.index s.0 < states_len self.now.stable.now }
+        requires ready { AreReady self.now.grm.now sets.old }
+        ensures ready { AreReady self.now.grm.now sets.new }
+        ensures test { IsTrue result ↔ IsCompleteAt self.now.grm.now self.now.sgraph.now self.now.stable.now condition (StorageT.index s.0) }
+    {
+        match condition {
+            CompletenessCondition::C1 => self.has_start_item(s),
+            CompletenessCondition::C2 => self.closes_items(s, sets),
+            _ => self.items_hold(condition, s),
+        }
+    }
+
+    // C1: as the start state, the state has the start production's first item before the end token.
+    fn has_start_item(&self, s: StIdx<StorageT>) -> bool
+        ensures { IsTrue result ↔ HasStartItem self.now.grm.now self.now.sgraph.now self.now.stable.now (StorageT.index s.0) }
+    {
+        usize::from(s) != usize::from(self.stable.start_state())
+            || self
+                .sgraph
+                .has_item(s, self.grm.start_prod(), 0, self.grm.eof_token_idx())
+    }
+
+    // C2: for each item of the state. The sets of first items hold nothing before and behind it, so that a state costs what it has.
+    fn closes_items(&self, s: StIdx<StorageT>, sets: &mut WorkSets) -> bool
+        requires known { IsKnown self.now.grm.now self.now.sgraph.now self.now.stable.now (rows_of self.now.firsts.now) }
+        requires state { StorageT.index s.0 < states_len self.now.stable.now }
+        requires ready { AreReady self.now.grm.now sets.old }
+        ensures ready { AreReady self.now.grm.now sets.new }
+        ensures test { IsTrue result ↔ EachItem self.now.sgraph.now (StorageT.index s.0)
+            (ClosesItem self.now.grm.now self.now.sgraph.now (StorageT.index s.0)) }
+    {
+        let items = self.sgraph.items(s);
+        self.put_starts(items, &mut sets.starts);
+        let closed = self.closes_each(items, sets);
+        self.take_starts(items, &mut sets.starts);
+        closed
+    }
+
+    // C2: for each of the items, where the first items among all are told by their lookaheads. Items of one core stand side by side, and
+    // are tested together.
+    fn closes_each(&self, items: &[Item<StorageT>], sets: &mut WorkSets) -> bool
+        requires known { IsKnown self.now.grm.now self.now.sgraph.now self.now.stable.now (rows_of self.now.firsts.now) }
+        requires items { All (λ item. IsItem self.now.grm.now (StorageT.index item.0.0) item.1 (StorageT.index item.2.0)) items.now }
+        requires room { HaveRoomFor self.now.grm.now sets.old }
+        ensures room { HaveRoomFor self.now.grm.now sets.new }
+        ensures kept { sets.new.starts.items ≡ sets.old.starts.items }
+        ensures test { IsTrue result ↔ All (λ item. ClosesAmong self.now.grm.now (rows_of sets.old.starts.items)
+            (StorageT.index item.0.0) item.1 (StorageT.index item.2.0)) items.now }
+    {
+        let mut place = 0;
+        'cores: while place < items.len() {
+            let end = core_end(items, place);
+            let (pidx, dot, _) = items[place];
+            if !self.closes_core(pidx, dot, &items[place..end], sets) {
+                return false;
+            }
+            place = end;
+        }
+        true
+    }
+
+    // C3, C4 and C5: for each item of the state.
+    fn items_hold(&self, condition: CompletenessCondition, s: StIdx<StorageT>) -> bool
+        requires known { IsKnown self.now.grm.now self.now.sgraph.now self.now.stable.now (rows_of self.now.firsts.now) }
+        requires state { StorageT.index s.0 < states_len self.now.stable.now }
+        ensures { IsTrue result ↔ EachItem self.now.sgraph.now (StorageT.index s.0)
+            (ItemHolds self.now.grm.now self.now.sgraph.now self.now.stable.now condition (StorageT.index s.0)) }
+    {
+        let items = self.sgraph.items(s);
+        let mut place = 0;
+        'cores: while place < items.len() {
+            let end = core_end(items, place);
+            let (pidx, dot, _) = items[place];
+            if !self.core_holds(condition, s, pidx, dot, &items[place..end]) {
+                return false;
+            }
+            place = end;
+        }
+        true
+    }
+
+    // Whether what the condition asks holds for the items of the production and the dot with these items' lookaheads.
+    fn core_holds(
+        &self,
+        condition: CompletenessCondition,
+        s: StIdx<StorageT>,
+        pidx: PIdx<StorageT>,
+        dot: usize,
+        items: &[Item<StorageT>],
+    ) -> bool
+        requires known { IsKnown self.now.grm.now self.now.sgraph.now self.now.stable.now (rows_of self.now.firsts.now) }
+        requires state { StorageT.index s.0 < states_len self.now.stable.now }
+        requires prod { StorageT.index pidx.0 < prods_len self.now.grm.now }
+        requires dot { dot ≤ prod_len self.now.grm.now (StorageT.index pidx.0) }
+        requires tokens { All (λ t. t < tokens_len self.now.grm.now) (lookaheads_of StorageT.index items.now) }
+        requires some { 0 < length items.now }
+        ensures { let g = self.now.grm.now in let graph = self.now.sgraph.now in let table = self.now.stable.now in IsTrue result
+            ↔ All (ItemHolds g graph table condition (StorageT.index s.0) (StorageT.index pidx.0) dot) (lookaheads_of StorageT.index items.now) }
+    {
+        match condition {
+            CompletenessCondition::C1 | CompletenessCondition::C2 => true,
+            CompletenessCondition::C3 => self.shifts_core(s, pidx, dot, items),
+            CompletenessCondition::C4 => self.carries_core(s, pidx, dot, items),
+            CompletenessCondition::C5 => self.ends_core(s, pidx, dot, items),
+        }
+    }
+}
+
+// Where the items that have the core of the one at a place end.
+fn core_end<StorageT: StorageIndex>(items: &[Item<StorageT>], place: usize) -> usize
+    requires { place < length items.now }
+    ensures { AreOfCore StorageT.index items.now place result }
+{
+    let (pidx, dot, _) = items[place];
+    let mut end = place + 1;
+    'same: while end < items.len() {
+        let (other, at, _) = items[end];
+        if usize::from(other) != usize::from(pidx) || at != dot {
+            return end;
+        }
+        end += 1;
+    }
+    end
+}

@@ -1,0 +1,393 @@
+//! What the conditions of completeness ask for the items of one core.
+ghost use Rattle.std.specs.Prelude.{◌≡◌, ◌≢◌, ◌<◌, ◌≤◌, ◌+◌, ◌↔◌, ◌⊎◌, ◌&&◌, ◌==◌, ℕ, All, Contains, IfSome, IsTrue, MatchOption, Some, length, map, not, slice_get};
+ghost use Rattle.lrpar_grammar.specs.Grammar.{Nonterminal, Terminal, prod_len, prods_len, rule_of, rules_len, symbols_of, tokens_len};
+ghost use Rattle.lrpar_table_first.specs.FirstRows.{HoldNothing, dummy_lookahead, row_at, rows_of};
+ghost use Rattle.lrpar_grammar.specs.Tokens.{has};
+ghost use Rattle.lrpar_table_rows.specs.Graph.{HasItem, item_at};
+ghost use Rattle.lrpar_table_rows.specs.PlainItems.{item_of};
+ghost use Rattle.lrpar_table_rows.specs.Safe.{IsItem};
+ghost use Rattle.lrpar_table_rows.specs.Table.{action_of, states_len};
+ghost use Rattle.lrpar_table_conditions.specs.Complete.{CarriesItem, EndsItem, ShiftsItem, StepsOn};
+ghost use Rattle.lrpar_table_conditions.specs.Itemwise.{AreStartsOf, ClosesAmong, EndsBy, HaveRoomFor, HaveStarts, IsKnown, lookaheads_of};
+
+use crate::completeness_test::Completeness;
+use crate::completeness_test::sets::WorkSets;
+use lrpar_grammar::span::{PIdx, RIdx, StIdx, StorageIndex, Symbol, TIdx};
+use lrpar_grammar::token_set::TokenSet;
+use lrpar_table_first::after_dot::rule_after;
+use lrpar_table_first::first::add_first_before;
+use lrpar_table_rows::table::{Action, Item};
+
+impl<'a, StorageT: StorageIndex> Completeness<'a, StorageT> {
+    // Whether, before a rule, the state has each of its productions before each token with which what is behind the rule can go on;
+    // the state's first items are told by their lookaheads.
+    pub(super) fn closes_core(
+        &self,
+        pidx: PIdx<StorageT>,
+        dot: usize,
+        items: &[Item<StorageT>],
+        sets: &mut WorkSets,
+    ) -> bool
+        requires known { IsKnown self.now.grm.now self.now.sgraph.now self.now.stable.now (rows_of self.now.firsts.now) }
+        requires prod { StorageT.index pidx.0 < prods_len self.now.grm.now }
+        requires dot { dot ≤ prod_len self.now.grm.now (StorageT.index pidx.0) }
+        requires tokens { All (λ t. t < tokens_len self.now.grm.now) (lookaheads_of StorageT.index items.now) }
+        requires room { HaveRoomFor self.now.grm.now sets.old }
+        ensures room { HaveRoomFor self.now.grm.now sets.new }
+        ensures kept { sets.new.starts.items ≡ sets.old.starts.items }
+        ensures test { IsTrue result ↔ All (ClosesAmong self.now.grm.now (rows_of sets.old.starts.items) (StorageT.index pidx.0) dot)
+            (lookaheads_of StorageT.index items.now) }
+    {
+        match rule_after(self.grm, pidx, dot) {
+            None => true,
+            Some((rule, rest)) => {
+                put_lookaheads(items, &mut sets.after);
+                sets.begun.clear();
+                add_first_before(
+                    self.grm,
+                    self.firsts,
+                    rest,
+                    &sets.after,
+                    &mut sets.front,
+                    &mut sets.begun,
+                );
+                self.starts_cover(rule, &sets.begun, &sets.starts)
+            }
+        }
+    }
+
+    // Whether the first items of all productions of the rule stand before each of the tokens, where these are the lookaheads of the
+    // first items.
+    fn starts_cover(&self, rule: RIdx<StorageT>, tokens: &TokenSet, starts: &[TokenSet]) -> bool
+        requires rule { StorageT.index rule.0 < rules_len self.now.grm.now }
+        requires tokens { length tokens.now.bits.items ≡ dummy_lookahead self.now.grm.now + 1 }
+        requires starts { HaveStarts self.now.grm.now (rows_of starts.now) }
+        ensures { IsTrue result ↔ ((q b : ℕ) → q < prods_len self.now.grm.now → rule_of self.now.grm.now q ≡ StorageT.index rule.0
+            → IsTrue (has tokens.now.bits.items b) → IsTrue (has (row_at (rows_of starts.now) q) b)) }
+    {
+        for pidx in self.grm.rule_to_prods(rule) {
+            let prod = usize::from(*pidx);
+            let start = &starts[prod];
+            if !start.covers(tokens) {
+                return false;
+            }
+        }
+        true
+    }
+
+    // Puts into each production's set, which holds nothing, the lookaheads of its first item.
+    pub(super) fn put_starts(&self, items: &[Item<StorageT>], starts: &mut [TokenSet])
+        requires items { All (λ item. IsItem self.now.grm.now (StorageT.index item.0.0) item.1 (StorageT.index item.2.0)) items.now }
+        requires room { HaveStarts self.now.grm.now (rows_of starts.old) }
+        requires none { HoldNothing (rows_of starts.old) }
+        ensures room { HaveStarts self.now.grm.now (rows_of starts.new) }
+        ensures starts { AreStartsOf (map (item_of StorageT.index) items.now) (rows_of starts.new) }
+    {
+        for (pidx, dot, token) in items {
+            self.put_start(*pidx, *dot, *token, starts);
+        }
+    }
+
+    // Puts the lookahead of the item into its production's set, if it is a first item.
+    fn put_start(
+        &self,
+        pidx: PIdx<StorageT>,
+        dot: usize,
+        token: TIdx<StorageT>,
+        starts: &mut [TokenSet],
+    )
+        requires item { IsItem self.now.grm.now (StorageT.index pidx.0) dot (StorageT.index token.0) }
+        requires room { HaveStarts self.now.grm.now (rows_of starts.old) }
+        ensures room { HaveStarts self.now.grm.now (rows_of starts.new) }
+        ensures put { (q t : ℕ) → IsTrue (has (row_at (rows_of starts.new) q) t)
+            ↔ (IsTrue (has (row_at (rows_of starts.old) q) t) ⊎ (item_at (StorageT.index pidx.0) dot (StorageT.index token.0) ≡ item_at q 0 t)) }
+    {
+        if dot != 0 {
+            return;
+        }
+        let prod = usize::from(pidx);
+        starts[prod].insert(usize::from(token));
+    }
+
+    // Takes the lookaheads of the first items out of the sets, which then hold nothing.
+    pub(super) fn take_starts(&self, items: &[Item<StorageT>], starts: &mut [TokenSet])
+        requires items { All (λ item. IsItem self.now.grm.now (StorageT.index item.0.0) item.1 (StorageT.index item.2.0)) items.now }
+        requires room { HaveStarts self.now.grm.now (rows_of starts.old) }
+        requires starts { AreStartsOf (map (item_of StorageT.index) items.now) (rows_of starts.old) }
+        ensures room { HaveStarts self.now.grm.now (rows_of starts.new) }
+        ensures none { HoldNothing (rows_of starts.new) }
+    {
+        for (pidx, dot, token) in items {
+            self.take_start(*pidx, *dot, *token, starts);
+        }
+    }
+
+    // Takes the lookahead of the item out of its production's set, if it is a first item.
+    fn take_start(
+        &self,
+        pidx: PIdx<StorageT>,
+        dot: usize,
+        token: TIdx<StorageT>,
+        starts: &mut [TokenSet],
+    )
+        requires item { IsItem self.now.grm.now (StorageT.index pidx.0) dot (StorageT.index token.0) }
+        requires room { HaveStarts self.now.grm.now (rows_of starts.old) }
+        ensures room { HaveStarts self.now.grm.now (rows_of starts.new) }
+        ensures left { (q t : ℕ) → IsTrue (has (row_at (rows_of starts.new) q) t)
+            → IsTrue (has (row_at (rows_of starts.old) q) t) × (item_at (StorageT.index pidx.0) dot (StorageT.index token.0) ≢ item_at q 0 t) }
+    {
+        if dot != 0 {
+            return;
+        }
+        let prod = usize::from(pidx);
+        remove(&mut starts[prod], usize::from(token));
+    }
+
+    // C3: before a token, the state shifts it to a state with the items behind the token.
+    pub(super) fn shifts_core(
+        &self,
+        s: StIdx<StorageT>,
+        pidx: PIdx<StorageT>,
+        dot: usize,
+        items: &[Item<StorageT>],
+    ) -> bool
+        requires known { IsKnown self.now.grm.now self.now.sgraph.now self.now.stable.now (rows_of self.now.firsts.now) }
+        requires state { StorageT.index s.0 < states_len self.now.stable.now }
+        requires prod { StorageT.index pidx.0 < prods_len self.now.grm.now }
+        requires some { 0 < length items.now }
+        ensures { IsTrue result ↔ All (ShiftsItem self.now.grm.now self.now.sgraph.now self.now.stable.now (StorageT.index s.0) (StorageT.index pidx.0) dot)
+            (lookaheads_of StorageT.index items.now) }
+    {
+        match self.token_after(pidx, dot) {
+            Some(token) => self.shifts_to(s, token, pidx, dot, items),
+            None => true,
+        }
+    }
+
+    // The token behind the dot, if there is one.
+    fn token_after(&self, pidx: PIdx<StorageT>, dot: usize) -> Option<TIdx<StorageT>>
+        requires { StorageT.index pidx.0 < prods_len self.now.grm.now }
+        ensures { let symbol = slice_get (symbols_of self.now.grm.now (StorageT.index pidx.0)) dot in
+            MatchOption result ((a : ℕ) → symbol ≢ Some (Terminal a)) (λ token. symbol ≡ Some (Terminal (StorageT.index token.0))) }
+    {
+        match self.grm.prod(pidx).get(dot) {
+            None => None,
+            Some(symbol) => match *symbol {
+                Symbol::Token(token) => Some(token),
+                Symbol::Rule(_) => None,
+            },
+        }
+    }
+
+    // Whether the state shifts the token to a state with the items behind it.
+    fn shifts_to(
+        &self,
+        s: StIdx<StorageT>,
+        token: TIdx<StorageT>,
+        pidx: PIdx<StorageT>,
+        dot: usize,
+        items: &[Item<StorageT>],
+    ) -> bool
+        requires state { StorageT.index s.0 < states_len self.now.stable.now }
+        requires token { StorageT.index token.0 < self.now.stable.now.tokens }
+        requires some { 0 < length items.now }
+        requires prod { StorageT.index pidx.0 < prods_len self.now.grm.now }
+        requires dot { dot < prod_len self.now.grm.now (StorageT.index pidx.0) }
+        ensures { IsTrue result ↔ All (StepsOn self.now.sgraph.now self.now.stable.now (StorageT.index s.0) (Terminal (StorageT.index token.0)) (StorageT.index pidx.0) dot)
+            (lookaheads_of StorageT.index items.now) }
+    {
+        match self.stable.action(s, token) {
+            Action::Shift(next) => self.has_advanced(next, pidx, dot, items),
+            _ => false,
+        }
+    }
+
+    // C4: before a rule, the state goes by it to a state with the items behind the rule.
+    pub(super) fn carries_core(
+        &self,
+        s: StIdx<StorageT>,
+        pidx: PIdx<StorageT>,
+        dot: usize,
+        items: &[Item<StorageT>],
+    ) -> bool
+        requires known { IsKnown self.now.grm.now self.now.sgraph.now self.now.stable.now (rows_of self.now.firsts.now) }
+        requires state { StorageT.index s.0 < states_len self.now.stable.now }
+        requires prod { StorageT.index pidx.0 < prods_len self.now.grm.now }
+        requires dot { dot ≤ prod_len self.now.grm.now (StorageT.index pidx.0) }
+        requires some { 0 < length items.now }
+        ensures { IsTrue result ↔ All (CarriesItem self.now.grm.now self.now.sgraph.now self.now.stable.now (StorageT.index s.0) (StorageT.index pidx.0) dot)
+            (lookaheads_of StorageT.index items.now) }
+    {
+        match rule_after(self.grm, pidx, dot) {
+            Some((rule, _)) => self.goes_to(s, rule, pidx, dot, items),
+            None => true,
+        }
+    }
+
+    // Whether the state goes by the rule to a state with the items behind it.
+    fn goes_to(
+        &self,
+        s: StIdx<StorageT>,
+        rule: RIdx<StorageT>,
+        pidx: PIdx<StorageT>,
+        dot: usize,
+        items: &[Item<StorageT>],
+    ) -> bool
+        requires state { StorageT.index s.0 < states_len self.now.stable.now }
+        requires rule { StorageT.index rule.0 < self.now.stable.now.rules }
+        requires some { 0 < length items.now }
+        requires prod { StorageT.index pidx.0 < prods_len self.now.grm.now }
+        requires dot { dot < prod_len self.now.grm.now (StorageT.index pidx.0) }
+        ensures { IsTrue result ↔ All (StepsOn self.now.sgraph.now self.now.stable.now (StorageT.index s.0) (Nonterminal (StorageT.index rule.0)) (StorageT.index pidx.0) dot)
+            (lookaheads_of StorageT.index items.now) }
+    {
+        match self.stable.goto(s, rule) {
+            Some(next) => self.has_advanced(next, pidx, dot, items),
+            None => false,
+        }
+    }
+
+    // Whether the state has the items of the production with these items' lookaheads and the dot one further. Those stand side by side
+    // where it has the same lookaheads and no others, as most states of a built table do. So each is looked for at its place behind the
+    // first one, and by a binary search where another item stands there.
+    fn has_advanced(
+        &self,
+        next: StIdx<StorageT>,
+        pidx: PIdx<StorageT>,
+        dot: usize,
+        items: &[Item<StorageT>],
+    ) -> bool
+        requires prod { StorageT.index pidx.0 < prods_len self.now.grm.now }
+        requires dot { dot < prod_len self.now.grm.now (StorageT.index pidx.0) }
+        ensures { IsTrue result ↔ All (HasItem self.now.sgraph.now (StorageT.index next.0) (StorageT.index pidx.0) (dot + 1))
+            (lookaheads_of StorageT.index items.now) }
+    {
+        let _symbols = self.grm.prod(pidx);
+        let near = self.items_from(next, pidx, dot + 1);
+        for place in 0..items.len() {
+            let (_, _, token) = items[place];
+            if !self.has_near(near.get(place), next, pidx, dot + 1, token) {
+                return false;
+            }
+        }
+        true
+    }
+
+    // Items of the state: where it has some of this production and this dot, from the first of them on.
+    fn items_from(
+        &self,
+        s: StIdx<StorageT>,
+        pidx: PIdx<StorageT>,
+        dot: usize,
+    ) -> &'a [Item<StorageT>]
+        ensures { All (λ item. HasItem self.now.sgraph.now (StorageT.index s.0) (StorageT.index item.0.0) item.1 (StorageT.index item.2.0)) result.now }
+    {
+        if usize::from(s) >= self.sgraph.states_len() {
+            return &[];
+        }
+        let items = self.sgraph.items(s);
+        let core = (usize::from(pidx), dot);
+        let start = items.partition_point(|item| (usize::from(item.0), item.1) < core);
+        &items[start..]
+    }
+
+    // Whether the state has the item; `near` is one of its items, and may be the one.
+    fn has_near(
+        &self,
+        near: Option<&Item<StorageT>>,
+        s: StIdx<StorageT>,
+        pidx: PIdx<StorageT>,
+        dot: usize,
+        token: TIdx<StorageT>,
+    ) -> bool
+        requires { IfSome near (λ item. HasItem self.now.sgraph.now (StorageT.index s.0) (StorageT.index item.now.0.0) item.now.1 (StorageT.index item.now.2.0)) }
+        ensures found { IsTrue result ↔ HasItem self.now.sgraph.now (StorageT.index s.0) (StorageT.index pidx.0) dot (StorageT.index token.0) }
+    {
+        match near {
+            Some(item) if is_same(item, pidx, dot, token) => true,
+            _ => self.sgraph.has_item(s, pidx, dot, token),
+        }
+    }
+
+    // C5: where the items are complete, the state ends the production at their lookaheads.
+    pub(super) fn ends_core(
+        &self,
+        s: StIdx<StorageT>,
+        pidx: PIdx<StorageT>,
+        dot: usize,
+        items: &[Item<StorageT>],
+    ) -> bool
+        requires known { IsKnown self.now.grm.now self.now.sgraph.now self.now.stable.now (rows_of self.now.firsts.now) }
+        requires state { StorageT.index s.0 < states_len self.now.stable.now }
+        requires prod { StorageT.index pidx.0 < prods_len self.now.grm.now }
+        requires tokens { All (λ t. t < tokens_len self.now.grm.now) (lookaheads_of StorageT.index items.now) }
+        ensures { IsTrue result ↔ All (EndsItem self.now.grm.now self.now.stable.now (StorageT.index s.0) (StorageT.index pidx.0) dot)
+            (lookaheads_of StorageT.index items.now) }
+    {
+        dot != self.grm.prod(pidx).len() || self.ends_each(s, pidx, items)
+    }
+
+    // Whether the state ends the production at each of these items' lookaheads.
+    fn ends_each(&self, s: StIdx<StorageT>, pidx: PIdx<StorageT>, items: &[Item<StorageT>]) -> bool
+        requires state { StorageT.index s.0 < states_len self.now.stable.now }
+        requires tokens { All (λ t. t < self.now.stable.now.tokens) (lookaheads_of StorageT.index items.now) }
+        ensures { IsTrue result ↔ All (λ t. EndsBy self.now.grm.now (StorageT.index pidx.0) (action_of self.now.stable.now (StorageT.index s.0) t))
+            (lookaheads_of StorageT.index items.now) }
+    {
+        for (_, _, token) in items {
+            if !self.ends_at(s, pidx, *token) {
+                return false;
+            }
+        }
+        true
+    }
+
+    // Whether the state ends the production at the token: by a reduction, or Accept for the start production.
+    fn ends_at(&self, s: StIdx<StorageT>, pidx: PIdx<StorageT>, token: TIdx<StorageT>) -> bool
+        requires state { StorageT.index s.0 < states_len self.now.stable.now }
+        requires token { StorageT.index token.0 < self.now.stable.now.tokens }
+        ensures { IsTrue result ↔ EndsBy self.now.grm.now (StorageT.index pidx.0) (action_of self.now.stable.now (StorageT.index s.0) (StorageT.index token.0)) }
+    {
+        let is_start = usize::from(pidx) == usize::from(self.grm.start_prod());
+        match self.stable.action(s, token) {
+            Action::Reduce(by) => !is_start && usize::from(by) == usize::from(pidx),
+            Action::Accept => is_start,
+            Action::Shift(_) | Action::Error => false,
+        }
+    }
+}
+
+// Whether the item has this production, this dot and this lookahead.
+fn is_same<StorageT: StorageIndex>(
+    item: &Item<StorageT>,
+    pidx: PIdx<StorageT>,
+    dot: usize,
+    token: TIdx<StorageT>,
+) -> bool
+    ensures { IsTrue result ↔ (item_of StorageT.index item.now ≡ item_at (StorageT.index pidx.0) dot (StorageT.index token.0)) }
+{
+    usize::from(item.2) == usize::from(token)
+        && item.1 == dot
+        && usize::from(item.0) == usize::from(pidx)
+}
+
+// Puts the lookaheads of the items into the set, in place of what was there.
+fn put_lookaheads<StorageT: StorageIndex>(items: &[Item<StorageT>], set: &mut TokenSet)
+    requires { All (λ t. t < length set.old.bits.items) (lookaheads_of StorageT.index items.now) }
+    ensures room { length set.new.bits.items ≡ length set.old.bits.items }
+    ensures tokens { (t : ℕ) → IsTrue (has set.new.bits.items t) ↔ Contains (lookaheads_of StorageT.index items.now) t }
+{
+    set.clear();
+    for (_, _, token) in items {
+        set.insert(usize::from(*token));
+    }
+}
+
+// Takes the token out of the set.
+fn remove(set: &mut TokenSet, token: usize)
+    requires { token < length set.old.bits.items }
+    ensures room { length set.new.bits.items ≡ length set.old.bits.items }
+    ensures tokens { (t : ℕ) → has set.new.bits.items t ≡ (has set.old.bits.items t && not (t == token)) }
+{
+    set.bits[token] = false;
+}

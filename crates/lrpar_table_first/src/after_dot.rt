@@ -1,0 +1,34 @@
+//! Which rule a production has behind a dot.
+ghost use Rattle.std.specs.Prelude.{◌≡◌, ◌≢◌, ◌<◌, ◌≤◌, ◌∷◌, ℕ, List, All, IfSome, MatchOption, drop, map};
+ghost use Rattle.lrpar_grammar.specs.Grammar.{GrammarSymbol, IsWellFormed, Nonterminal, prod_len, prods_len, rules_len, symbols_of, tokens_len};
+ghost use Rattle.lrpar_grammar.specs.Symbols.{symbol_of};
+ghost use Rattle.lrpar_table_first.specs.FirstRows.{IsSymbolBelow};
+
+use lrpar_grammar::grammar::YaccGrammar;
+use lrpar_grammar::span::{PIdx, RIdx, StorageIndex, Symbol};
+
+/// The rule that the production has behind so many symbols, if it has one there, and the symbols behind it.
+pub fn rule_after<'a, StorageT: StorageIndex>(
+    grm: &'a YaccGrammar<StorageT>,
+    pidx: PIdx<StorageT>,
+    dot: usize,
+) -> Option<(RIdx<StorageT>, &'a [Symbol<StorageT>])>
+    requires well_formed { IsWellFormed grm.now }
+    requires prod { StorageT.index pidx.0 < prods_len grm.now }
+    requires dot { dot ≤ prod_len grm.now (StorageT.index pidx.0) }
+    ensures rule { let after = drop dot (symbols_of grm.now (StorageT.index pidx.0)) in
+        MatchOption result ((r : ℕ) (w : List GrammarSymbol) → after ≢ Nonterminal r ∷ w)
+        (λ found. after ≡ Nonterminal (StorageT.index found.0.0) ∷ map (symbol_of StorageT.index) found.1.now) }
+    ensures within { IfSome result (λ found. StorageT.index found.0.0 < rules_len grm.now) }
+    ensures rest { IfSome result (λ found. All (IsSymbolBelow (rules_len grm.now) (tokens_len grm.now))
+        (map (symbol_of StorageT.index) found.1.now)) }
+{
+    let symbols = &grm.prod(pidx)[dot..];
+    match symbols.split_first() {
+        None => None,
+        Some((first, rest)) => match *first {
+            Symbol::Rule(rule) => Some((rule, rest)),
+            Symbol::Token(_) => None,
+        },
+    }
+}

@@ -1,0 +1,112 @@
+-- Ways as they are worked out: the steps of a table with the lengths of their symbols, and what is kept of states.
+use Rattle.std.specs.Prelude.{◌≡◌, ◌≢◌, ◌<◌, ◌≤◌, ◌↔◌, ℕ, Contains, List, [], ◌∷◌, ◌++◌, Option, Some, None, count_by, length, map, option_map}
+use Rattle.std.specs.List.{flat_map, range_with_len}
+use Rattle.std.specs.Option.{is_none}
+use Rattle.lrpar_grammar.specs.Grammar.{GrammarSymbol, Nonterminal, Terminal}
+use Rattle.lrpar_table_rows.specs.Safe.{GoesBy}
+use Rattle.lrpar_table_rows.specs.Table.{Table, TableAction, ShiftTo, ReduceBy, Accepts, Fails, action_of, actions_at, goto_of, gotos_at, states_len}
+use Rattle.lrpar_table_sentences.specs.Choices.{ChoiceOf}
+use Rattle.lrpar_table_sentences.specs.Lens.{added, len_at, total_len}
+use Rattle.lrpar_table_sentences.specs.AccessStrings.{GoBack, StepOf, AccessOf, step_of, symbols_in, access_at}
+use Rattle.lrpar_table_sentences.specs.declared.transitions.Edge.{Edge}
+
+-- a step, the state that it leads to, and the length of its symbol
+pub record EdgeOf : Type 0 where
+  pub step : StepOf
+  pub next : ℕ
+  pub len : ℕ
+
+-- those of the code
+abbrev pub edge_of : {S : Type 0} → (S → ℕ) → Edge S → EdgeOf
+edge_of index x = record { step = step_of index x.step; next = index x.next.0; len = x.len }
+
+abbrev pub edges_of : {S : Type 0} → (S → ℕ) → List (Edge S) → List EdgeOf
+edges_of index edges = map (edge_of index) edges
+
+-- the step, if its symbol has a length
+abbrev pub edge_if : Option ℕ → ℕ → GrammarSymbol → ℕ → List EdgeOf
+edge_if None s x next = []
+edge_if (Some len) s x next = record { step = record { from = s; symbol = x }; next = next; len = len } ∷ []
+
+-- the step of an action at a token, if it is a shift
+abbrev pub shift_edge : List (Option ChoiceOf) → ℕ → ℕ → TableAction → List EdgeOf
+shift_edge choices s t (ShiftTo next) = edge_if (len_at choices (Terminal t)) s (Terminal t) next
+shift_edge choices s t (ReduceBy p) = []
+shift_edge choices s t Accepts = []
+shift_edge choices s t Fails = []
+
+-- the steps of a state's shifts, and of its gotos
+abbrev pub shift_edges : List (Option ChoiceOf) → ℕ → List (ℕ × TableAction) → List EdgeOf
+shift_edges choices s entries = flat_map (λ entry. shift_edge choices s entry.0 entry.1) entries
+
+abbrev pub goto_edges : List (Option ChoiceOf) → ℕ → List (ℕ × ℕ) → List EdgeOf
+goto_edges choices s entries = flat_map (λ entry. edge_if (len_at choices (Nonterminal entry.0)) s (Nonterminal entry.0) entry.1) entries
+
+-- the steps of a table whose symbols have a length, and no others
+pub record AreEdges (table : Table) (choices : List (Option ChoiceOf)) (edges : List EdgeOf) : Type 0 where
+  pub sound : (e : EdgeOf) → Contains edges e
+      → (e.step.from < states_len table) × GoesBy table e.step.from e.step.symbol e.next × (len_at choices e.step.symbol ≡ Some e.len)
+  pub all : (s next len : ℕ) (x : GrammarSymbol) → s < states_len table → GoesBy table s x next → len_at choices x ≡ Some len
+      → Contains edges (record { step = record { from = s; symbol = x }; next = next; len = len })
+
+-- what is stored for state s is what is done
+pub record IsStoredAt (table : Table) (s : ℕ) : Type 0 where
+  pub actions : (t : ℕ) (action : TableAction) → Contains (actions_at table s) (t, action) ↔ ((action_of table s t ≡ action) × (action ≢ Fails))
+  pub gotos : (r next : ℕ) → Contains (gotos_at table s) (r, next) ↔ (goto_of table s r ≡ Some next)
+
+-- all steps of the states below n, state by state
+abbrev pub edges_at : Table → List (Option ChoiceOf) → ℕ → List EdgeOf
+edges_at table choices s = shift_edges choices s (actions_at table s) ++ goto_edges choices s (gotos_at table s)
+
+abbrev pub edges_below : Table → List (Option ChoiceOf) → ℕ → List EdgeOf
+edges_below table choices n = flat_map (edges_at table choices) (range_with_len 0 n)
+
+-- by these symbols, the last one first, the table goes from its start to a state
+pub data IsWalk (table : Table) : ℕ → List GrammarSymbol → Type 0 where
+  Starts : IsWalk table table.start []
+  Goes : (s next : ℕ) (x : GrammarSymbol) (path : List GrammarSymbol) → IsWalk table s path → s < states_len table → GoesBy table s x next
+      → IsWalk table next (x ∷ path)
+
+-- by these steps, the last one first, the table goes from its start to state s
+abbrev pub LeadBack : Table → ℕ → List StepOf → Type 0
+LeadBack table s [] = s ≡ table.start
+LeadBack table s (step ∷ steps) = (step.from < states_len table) × GoesBy table step.from step.symbol s × LeadBack table step.from steps
+
+-- what is kept of states is right as far as it goes: the start has a way without tokens; no walk to a state has symbols with less tokens
+-- than its way; and the last steps that are kept lead back to the start by symbols with so many, told up to `most`
+pub record AreRightAccesses (table : Table) (most : ℕ) (choices : List (Option ChoiceOf)) (accesses : List (Option AccessOf)) : Type 0 where
+  pub states : length accesses ≡ states_len table
+  pub start : access_at accesses table.start ≡ Some (record { len = 0; last = None })
+  pub least : (s len : ℕ) (access : AccessOf) (path : List GrammarSymbol) → access_at accesses s ≡ Some access → IsWalk table s path
+      → total_len most choices path ≡ Some len → access.len ≤ len
+  pub back : (s : ℕ) (access : AccessOf) → access_at accesses s ≡ Some access
+      → (steps : List StepOf) × GoBack accesses s steps × LeadBack table s steps × (total_len most choices (symbols_in steps) ≡ Some access.len)
+
+-- the sum of a step's length and of the way to the state that it goes from, if there is one; and none where a way is kept already
+abbrev pub access_open : ℕ → Option AccessOf → Option AccessOf → ℕ → Option ℕ
+access_open most (Some kept) from len = None
+access_open most None from len = added most (Some len) (option_map (λ access. access.len) from)
+
+abbrev pub open_by : ℕ → List (Option AccessOf) → EdgeOf → Option ℕ
+open_by most accesses e = access_open most (access_at accesses e.next) (access_at accesses e.step.from) e.len
+
+-- no step is open
+abbrev pub NoStepIsOpen : ℕ → List (Option AccessOf) → List EdgeOf → Type 0
+NoStepIsOpen most accesses edges = (e : EdgeOf) → Contains edges e → open_by most accesses e ≡ None
+
+-- some open step has the length
+abbrev pub HasOpenStep : ℕ → List (Option AccessOf) → List EdgeOf → ℕ → Type 0
+HasOpenStep most accesses edges len = (e : EdgeOf) × Contains edges e × (open_by most accesses e ≡ Some len)
+
+-- and none has less
+abbrev pub NoStepIsLess : ℕ → List (Option AccessOf) → List EdgeOf → ℕ → Type 0
+NoStepIsLess most accesses edges len = (e : EdgeOf) (other : ℕ) → Contains edges e → open_by most accesses e ≡ Some other → len ≤ other
+
+-- no walk to a state of which nothing is kept has symbols with less tokens
+abbrev pub NoWalkIsBelow : Table → ℕ → List (Option ChoiceOf) → List (Option AccessOf) → ℕ → Type 0
+NoWalkIsBelow table most choices accesses len =
+    (s other : ℕ) (path : List GrammarSymbol) → access_at accesses s ≡ None → IsWalk table s path → total_len most choices path ≡ Some other → len ≤ other
+
+-- of how many states nothing is kept
+abbrev pub open_accesses : List (Option AccessOf) → ℕ
+open_accesses accesses = count_by is_none accesses

@@ -1,0 +1,61 @@
+-- The rules that a grammar reaches from its start.
+use Rattle.std.specs.Prelude.{◌≡◌, ◌<◌, ◌↔◌, ℕ, Bool, Contains, IsTrue, List, count_by, false, length, not, slice_index_or}
+use Rattle.lrpar_grammar.specs.Grammar.{Grammar, GrammarSymbol, Nonterminal, Terminal, prods_len, rule_of, rules_len, symbols_of}
+use Rattle.lrpar_grammar.specs.Tree.{Tree}
+use Rattle.lrpar_table_sentences.specs.Texts.{IsTreeOf}
+
+-- the least set of rules that has the added rule and, with a rule, each rule on the right side of one of its productions
+pub data IsReachableRule (g : Grammar) : ℕ → Type 0 where
+  Added : IsReachableRule g 0
+  OnRight : (p r : ℕ) → p < prods_len g → IsReachableRule g (rule_of g p) → Contains (symbols_of g p) (Nonterminal r) → IsReachableRule g r
+
+-- a token, or a rule that is reached
+abbrev pub IsReachableSymbol : Grammar → GrammarSymbol → Type 0
+IsReachableSymbol g (Nonterminal r) = IsReachableRule g r
+IsReachableSymbol g (Terminal t) = Unit {0}
+
+-- the rule has a tree
+abbrev pub HasTree : Grammar → ℕ → Type 0
+HasTree g r = (tree : Tree ℕ) × IsTreeOf g (Nonterminal r) tree
+
+-- each rule that is reached has a tree
+abbrev pub EachReachableHasTree : Grammar → Type 0
+EachReachableHasTree g = (r : ℕ) → IsReachableRule g r → HasTree g r
+
+-- rule r is reached, and has no tree
+pub record IsUnproductive (g : Grammar) (r : ℕ) : Type 0 where
+  pub reached : IsReachableRule g r
+  pub none : ¬ (HasTree g r)
+
+-- and each rule before it that is reached has one
+pub record IsFirstUnproductive (g : Grammar) (r : ℕ) : Type 0 where
+  pub unproductive : IsUnproductive g r
+  pub first : (other : ℕ) → other < r → IsReachableRule g other → HasTree g other
+
+-- whether rule r is marked; out of range, it isn't
+abbrev pub is_marked : List Bool → ℕ → Bool
+is_marked marks r = slice_index_or marks r false
+
+-- a token, or a rule that is marked
+abbrev pub IsMarkedSymbol : List Bool → GrammarSymbol → Type 0
+IsMarkedSymbol marks (Nonterminal r) = IsTrue (is_marked marks r)
+IsMarkedSymbol marks (Terminal t) = Unit {0}
+
+-- marks of a grammar's rules: the added rule is marked, and no rule that isn't reached
+pub record AreMarked (g : Grammar) (marks : List Bool) : Type 0 where
+  pub rules : length marks ≡ rules_len g
+  pub added : IsTrue (is_marked marks 0)
+  pub reached : (r : ℕ) → IsTrue (is_marked marks r) → IsReachableRule g r
+
+-- where the rule of production p is marked, so is each one on its right side
+abbrev pub MarksOn : Grammar → List Bool → ℕ → Type 0
+MarksOn g marks p = IsTrue (is_marked marks (rule_of g p)) → (s : GrammarSymbol) → Contains (symbols_of g p) s → IsMarkedSymbol marks s
+
+-- all rules that are reached are marked, and no others
+pub record AreAllMarked (g : Grammar) (marks : List Bool) : Type 0 where
+  pub rules : length marks ≡ rules_len g
+  pub exact : (r : ℕ) → IsTrue (is_marked marks r) ↔ IsReachableRule g r
+
+-- how many rules aren't marked
+abbrev pub unmarked : List Bool → ℕ
+unmarked marks = count_by not marks

@@ -1,0 +1,96 @@
+//! Shortest ways to the states of a built table.
+ghost use Rattle.std.specs.Prelude.{◌≡◌, ◌<◌, ◌++◌, List, IfOk, OnOk, option_map};
+ghost use Rattle.lrpar_grammar.specs.Grammar.{Grammar};
+ghost use Rattle.lrpar_table_rows.specs.Graph.{Graph, graph_len};
+ghost use Rattle.lrpar_table_rows.specs.Table.{Table};
+ghost use Rattle.lrpar_table_build.specs.Built.{IsBuilt};
+ghost use Rattle.lrpar_table_sentences.specs.Choices.{AreShortest};
+ghost use Rattle.lrpar_table_sentences.specs.AccessStrings.{AreAccessStrings, IsShortestPath, IsShortestAccessIfAny, StepOf, AccessOf, steps_of, access_at};
+
+use crate::back::{access_to, push_back, reverse_from};
+use crate::settle_access::settled_accesses;
+use crate::shortest::Shortest;
+use crate::transitions::Access;
+pub use crate::transitions::Step;
+use lrpar_grammar::grammar::YaccGrammar;
+use lrpar_grammar::span::{StIdx, StorageIndex};
+use lrpar_table_rows::table::{StateGraph, StateTable};
+use std::alloc::{AllocError, Global};
+use std::marker::Model;
+
+/// Of each state of a built table how many tokens the shortest text has that leads to it, and the path of one.
+#[derive(Debug)]
+pub struct AccessStrings<StorageT: StorageIndex> {
+    accesses: Vec<Option<Access<StorageT>>>,
+}
+
+// A drop of its own, so that what lets go of one elsewhere proves one call.
+impl<StorageT: StorageIndex> Drop for AccessStrings<StorageT> {
+    fn drop(self) {
+        let AccessStrings { accesses } = self;
+        drop(accesses);
+    }
+}
+
+impl<StorageT: StorageIndex> Model for AccessStrings<StorageT> {
+    ghost use Rattle.std.specs.Prelude.{List, Option};
+    ghost use Rattle.lrpar_table_sentences.specs.AccessStrings.{AccessOf, accesses_of};
+
+    ghost Value = { List (Option AccessOf) };
+
+    ghost view = { λ accesses. accesses_of StorageT.index accesses.accesses.items };
+}
+
+impl<StorageT: StorageIndex> AccessStrings<StorageT> {
+    /// The shortest ways to the states of a table that was built of the grammar.
+    ///
+    /// They are settled in the order of their lengths, by sweeps over the shifts and gotos of the table, of which there are few in
+    /// practice. Memory grows with these. An `Err` comes where memory doesn't suffice.
+    pub fn new(
+        alloc: Global,
+        grm: &YaccGrammar<StorageT>,
+        sgraph: &StateGraph<StorageT>,
+        stable: &StateTable<StorageT>,
+        shortest: &Shortest<StorageT>,
+    ) -> Result<Self, AllocError>
+        requires built { IsBuilt grm.now sgraph.now stable.now }
+        requires shortest { AreShortest grm.now usize.MAX shortest.now }
+        ensures { IfOk result (λ accesses. AreAccessStrings grm.now sgraph.now stable.now usize.MAX accesses) }
+    {
+        let accesses = settled_accesses(alloc, grm, sgraph, stable, shortest)?;
+        Ok(AccessStrings { accesses })
+    }
+
+    /// The least number of tokens of a text that leads to the state: `usize::MAX` where each has so many or more, and `None` where
+    /// none leads there, as a symbol of each path to it derives no text.
+    pub fn len_to(&self, s: StIdx<StorageT>) -> Option<usize>
+        ensures len { result ≡ option_map (λ access. access.len) (access_at self.now (StorageT.index s.0)) }
+        ensures shortest { (g : Grammar) (graph : Graph) (table : Table) → AreAccessStrings g graph table usize.MAX self.now
+            → StorageT.index s.0 < graph_len graph → IsShortestAccessIfAny g graph usize.MAX (StorageT.index s.0) result }
+    {
+        match access_to(&self.accesses, s) {
+            Some(access) => Some(access.len),
+            None => None,
+        }
+    }
+
+    /// Appends the steps of a shortest way to the state, in order, where there is one: each with the state that it goes from, and the
+    /// symbol that it goes by. Shortest trees of these symbols have together as few tokens as any text has that leads there.
+    ///
+    /// Time and memory grow with the steps. An `Err` comes where memory doesn't suffice, and leaves some steps behind what `out` had.
+    pub fn push_path(
+        &self,
+        out: &mut Vec<Step<StorageT>>,
+        s: StIdx<StorageT>,
+    ) -> Result<(), AllocError>
+        ensures { OnOk result ((g : Grammar) (graph : Graph) (table : Table) → AreAccessStrings g graph table usize.MAX self.now
+            → (access : AccessOf) → access_at self.now (StorageT.index s.0) ≡ Some access
+            → (steps : List StepOf) × IsShortestPath g graph table usize.MAX (StorageT.index s.0) steps
+            × (steps_of StorageT.index out.new.items ≡ steps_of StorageT.index out.old.items ++ steps)) }
+    {
+        let from = out.len();
+        push_back(&self.accesses, out, s)?;
+        reverse_from(out, from);
+        Ok(())
+    }
+}

@@ -1,0 +1,90 @@
+//! One step at a token, over any list of states, be it a stack or the states of a chain.
+ghost use Rattle.std.specs.Prelude.{◌≡◌, ◌<◌, All, IfOk, OnErr, length};
+ghost use Rattle.lrpar_grammar.specs.Grammar.{prods_len, prod_len, rule_of, rules_len};
+ghost use Rattle.lrpar_table_stacks.specs.Reduction.{top_action};
+ghost use Rattle.lrpar_table_stacks.specs.StackReduction.{IsStepShortOfMemory};
+ghost use Rattle.lrpar_table_stacks.specs.ReductionStep.{CanReduce, FitsGrammar, IsReduction, IsRestOf, IsStackStep, IsStepOf};
+ghost use Rattle.lrpar_table_rows.specs.PlainRows.{plain_action};
+ghost use Rattle.lrpar_table_rows.specs.Table.{states_len};
+
+use crate::state_stack::{Reduction, StateStack};
+use lrpar_grammar::grammar::YaccGrammar;
+use lrpar_grammar::span::{PIdx, StorageIndex, TIdx};
+use lrpar_table_rows::table::{Action, StateTable};
+use std::alloc::AllocError;
+
+/// What comes of a step.
+#[derive(Clone, Copy)]
+pub enum Step {
+    /// A reduction was made.
+    Reduced,
+    /// A reduction is due that would drop all states, and wasn't made.
+    LeavesNone,
+    /// No reduction is due, or there is no goto for it.
+    Stays,
+}
+
+/// Makes one reduction under the token, if it leaves a state that has the goto. Otherwise, and where memory was wanting,
+/// the states stay as they were. Answers what came of it, and the action by which it went.
+pub fn take_step<StorageT: StorageIndex, S: StateStack<StorageT>>(
+    grm: &YaccGrammar<StorageT>,
+    table: &StateTable<StorageT>,
+    states: &mut S,
+    t: TIdx<StorageT>,
+) -> Result<(Step, Action<StorageT>), AllocError>
+    requires fits { FitsGrammar grm.now table.now }
+    requires token { StorageT.index t.0 < table.now.tokens }
+    requires suits { S.suits grm.now table.now states.old }
+    requires some { 0 < length (S.states states.old) }
+    requires within { All (λ s. s < states_len table.now) (S.states states.old) }
+    ensures step { IfOk result (λ taken. IsStepOf grm.now table.now (StorageT.index t.0) (S.states states.old) taken.0 (S.states states.new)) }
+    ensures made { IfOk result (λ taken. IsStackStep S.states S.reduces grm.now table.now (StorageT.index t.0) states.old taken.0 states.new) }
+    ensures action { IfOk result (λ taken. plain_action StorageT.index taken.1 ≡ top_action table.now (StorageT.index t.0) (S.states states.old)) }
+    ensures short_of_memory { OnErr result (IsStepShortOfMemory S.states S.fails grm.now table.now (StorageT.index t.0) states.old states.new) }
+{
+    match table.action(states.top(), t) {
+        Action::Reduce(prod) => {
+            let step = reduce_by(grm, table, states, prod)?;
+            Ok((step, Action::Reduce(prod)))
+        }
+        other => Ok((Step::Stays, other)),
+    }
+}
+
+// Reduces the states by the production, if it leaves a state that has the goto.
+fn reduce_by<StorageT: StorageIndex, S: StateStack<StorageT>>(
+    grm: &YaccGrammar<StorageT>,
+    table: &StateTable<StorageT>,
+    states: &mut S,
+    prod: PIdx<StorageT>,
+) -> Result<Step, AllocError>
+    requires rules { table.now.rules ≡ rules_len grm.now }
+    requires prod { StorageT.index prod.0 < prods_len grm.now }
+    requires can { CanReduce grm.now table.now (StorageT.index prod.0) (S.states states.old)
+        → S.can_reduce states.old (StorageT.index prod.0) (rule_of grm.now (StorageT.index prod.0)) (prod_len grm.now (StorageT.index prod.0)) }
+    requires within { All (λ s. s < states_len table.now) (S.states states.old) }
+    ensures reduction { IfOk result (λ step. IsReduction grm.now table.now (StorageT.index prod.0) (S.states states.old) step (S.states states.new)) }
+    ensures rest { IfOk result (λ step. IsRestOf S.reduces grm.now (StorageT.index prod.0) states.old step states.new) }
+    ensures due { OnErr result (CanReduce grm.now table.now (StorageT.index prod.0) (S.states states.old)) }
+    ensures fails { OnErr result (S.fails states.old (prod_len grm.now (StorageT.index prod.0)) states.new) }
+    ensures unchanged { OnErr result (S.states states.new ≡ S.states states.old) }
+{
+    let symbols = grm.prod(prod).len();
+    let height = states.height();
+    if height <= symbols {
+        return Ok(Step::LeavesNone);
+    }
+    let rule = grm.prod_to_rule(prod);
+    match table.goto(states.state_at(height - symbols - 1), rule) {
+        None => Ok(Step::Stays),
+        Some(next) => {
+            states.reduce(Reduction {
+                prod,
+                rule,
+                symbols,
+                next,
+            })?;
+            Ok(Step::Reduced)
+        }
+    }
+}
