@@ -136,7 +136,7 @@ impl<'a> Outline<'a> {
     }
 
     // Takes one more word, by what it stands for.
-    #[tactic(auto, unfolding(lrpar_grammar_words::specs::Outline::with_word))]
+    #[tactic(auto, unfolding(crate::specs::Outline::with_word))]
     fn take(&mut self, alloc: Global, role: Role, word: Word<'a>) -> Result<(), AllocError>
         ensures { OnOk result (outline_of self.new ≡ with_word (outline_of self.old) role (placed word.entry)) }
     {
@@ -154,7 +154,7 @@ impl<'a> Outline<'a> {
     }
 
     // Ends the alternative of the symbols so far.
-    #[tactic(auto, unfolding(lrpar_grammar_words::specs::Outline::with_word))]
+    #[tactic(auto, unfolding(crate::specs::Outline::with_word))]
     fn end_alternative(&mut self, alloc: Global, end: Word<'a>) -> Result<(), AllocError>
         ensures { OnOk result (outline_of self.new ≡ with_word (outline_of self.old) Role.AlternativeEnd (placed end.entry)) }
     {

@@ -52,7 +52,7 @@ pub enum Role {
 
 impl Expected {
     // What a word of that kind stands for here, and what may stand after it: none where it can't stand.
-    #[tactic(auto, unfolding(lrpar_grammar_words::specs::Shape::after))]
+    #[tactic(auto, unfolding(crate::specs::Shape::after))]
     pub(crate) fn after(self, kind: WordKind) -> Option<(Role, Expected)>
         ensures { result ≡ after self kind }
     {

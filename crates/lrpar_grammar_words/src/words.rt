@@ -117,7 +117,7 @@ pub(crate) fn piece_at(rest: &[u8]) -> Option<Piece>
 }
 
 // The piece that begins with the byte `first` and goes on in `after`.
-#[tactic(auto, unfolding(lrpar_grammar_words::specs::Words::piece_from))]
+#[tactic(auto, unfolding(crate::specs::Words::piece_from))]
 fn piece_from(first: u8, after: &[u8]) -> Option<Piece>
     ensures piece { result ≡ piece_from first after.now }
     ensures within { IfSome result (λ piece. IsWithin piece (length after.now + 1)) }
@@ -136,7 +136,7 @@ fn piece_from(first: u8, after: &[u8]) -> Option<Piece>
 }
 
 // The comment whose `/` stands before `after`.
-#[tactic(auto, unfolding(lrpar_grammar_words::specs::Words::comment_after))]
+#[tactic(auto, unfolding(crate::specs::Words::comment_after))]
 fn comment_after(after: &[u8]) -> Option<Piece>
     ensures piece { result ≡ comment_after after.now }
     ensures within { IfSome result (λ piece. IsWithin piece (length after.now + 1)) }
@@ -176,7 +176,7 @@ fn closed_len(text: &[u8]) -> Option<usize>
 }
 
 // The quoted word whose first quote stands before `after`.
-#[tactic(auto, unfolding(lrpar_grammar_words::specs::Words::quoted_after))]
+#[tactic(auto, unfolding(crate::specs::Words::quoted_after))]
 fn quoted_after(quote: u8, after: &[u8]) -> Option<Piece>
     ensures piece { result ≡ quoted_after quote after.now }
     ensures within { IfSome result (λ piece. IsWithin piece (length after.now + 1)) }
@@ -204,7 +204,7 @@ fn unquoted_len(quote: u8, text: &[u8]) -> usize
 }
 
 // The sign whose `%` stands before `after`.
-#[tactic(auto, unfolding(lrpar_grammar_words::specs::Words::sign_after))]
+#[tactic(auto, unfolding(crate::specs::Words::sign_after))]
 fn sign_after(after: &[u8]) -> Option<Piece>
     ensures piece { result ≡ sign_after after.now }
     ensures within { IfSome result (λ piece. IsWithin piece (length after.now + 1)) }
@@ -224,7 +224,7 @@ fn sign_after(after: &[u8]) -> Option<Piece>
 }
 
 // The name that begins with the byte `first` and goes on in `after`.
-#[tactic(auto, unfolding(lrpar_grammar_words::specs::Words::name_after))]
+#[tactic(auto, unfolding(crate::specs::Words::name_after))]
 fn name_after(first: u8, after: &[u8]) -> Option<Piece>
     ensures piece { result ≡ name_after first after.now }
     ensures within { IfSome result (λ piece. IsWithin piece (length after.now + 1)) }
