@@ -5,7 +5,7 @@ ghost use Rattle.lrpar_grammar.specs.Symbols.{symbol_of};
 ghost use Rattle.lrpar_grammar.specs.Tree.{Forest, Tree, forest_leaves};
 ghost use Rattle.lrpar_table_rows.specs.Graph.{HasCore, HasItem, graph_len};
 ghost use Rattle.lrpar_table_first.specs.FirstRows.{AreFirsts, dummy_lookahead, rows_of};
-ghost use Rattle.lrpar_table_items.specs.Canonical.{IsCanonical, StandsBefore, sets_of};
+ghost use Rattle.lrpar_table_items.specs.Canonical.{IsCanonical, HasAfterDot, sets_of};
 ghost use Rattle.lrpar_table_sentences.specs.Choices.{AreShortest};
 ghost use Rattle.lrpar_table_sentences.specs.Moves.{Makes, Takes, forest_moves, moves_in};
 ghost use Rattle.lrpar_table_sentences.specs.Reachable.{EachReachableHasTree};
@@ -90,7 +90,7 @@ pub(crate) fn taking<StorageT: StorageIndex>(
     requires token { StorageT.index token.0 < dummy_lookahead grm.now }
     requires way { IsWay grm.now graph.now (steps_of StorageT.index steps.now) (StorageT.index last.0) }
     requires last { StorageT.index last.0 < graph_len graph.now }
-    requires before { StandsBefore grm.now (sets_of graph.now) (StorageT.index last.0) (Terminal (StorageT.index token.0)) }
+    requires before { HasAfterDot grm.now (sets_of graph.now) (StorageT.index last.0) (Terminal (StorageT.index token.0)) }
     ensures { IfOk result (λ moves. (trees : Forest ℕ) → AreTreesOf grm.now (symbols_in (steps_of StorageT.index steps.now)) trees
         → moves_in StorageT.index front.now ≡ forest_moves trees
         → (tree : Tree ℕ) × IsDerivation grm.now (forest_leaves trees) (StorageT.index token.0) trees (Takes (StorageT.index token.0))
@@ -117,12 +117,12 @@ fn core_before<StorageT: StorageIndex>(
     requires well_formed { IsWellFormed grm.now }
     requires canonical { IsCanonical grm.now graph.now }
     requires state { StorageT.index state.0 < graph_len graph.now }
-    ensures { MatchOption result (¬ (StandsBefore grm.now (sets_of graph.now) (StorageT.index state.0) (Terminal (StorageT.index token.0))))
+    ensures { MatchOption result (¬ (HasAfterDot grm.now (sets_of graph.now) (StorageT.index state.0) (Terminal (StorageT.index token.0))))
         (λ core. HasCore graph.now (StorageT.index state.0) (StorageT.index core.0.0) core.1
         × (slice_get (symbols_of grm.now (StorageT.index core.0.0)) core.1 ≡ Some (Terminal (StorageT.index token.0)))) }
 {
     for core in graph.cores(state) {
-        if stands_before(grm, *core, token) {
+        if has_after_dot(grm, *core, token) {
             return Some(*core);
         }
     }
@@ -130,7 +130,7 @@ fn core_before<StorageT: StorageIndex>(
 }
 
 // Whether the core stands before the token.
-fn stands_before<StorageT: StorageIndex>(
+fn has_after_dot<StorageT: StorageIndex>(
     grm: &YaccGrammar<StorageT>,
     core: Core<StorageT>,
     token: TIdx<StorageT>,

@@ -14,7 +14,7 @@ use Rattle.lrpar_grammar_words.specs.declared.words.Word.{Word}
 use Rattle.lrpar_grammar_words.specs.Words.{PlacedWord, placed}
 use Rattle.lrpar_grammar_words.specs.Outline.{TextAlternative, TextOutline}
 use Rattle.lrpar_grammar_reader.specs.Names.{AreNumbers, is_among, with_name}
-use Rattle.lrpar_grammar_reader.specs.Spells.{AreDistinct, IsRepeatedAt, Numbering, StandsAt, is_known, token_rule, unknown_rule}
+use Rattle.lrpar_grammar_reader.specs.Spells.{AreDistinct, IsRepeatedAt, Numbering, LiesAt, is_known, token_rule, unknown_rule}
 use Rattle.lrpar_grammar_reader.proofs.GrowthLemmas.{take_map_more}
 use Rattle.lrpar_grammar_reader.proofs.SpanLemmas.{placed_at}
 
@@ -35,7 +35,7 @@ found_at p (x ∷ xs) (suc i) d within none is =
 
 -- the first word that passes stands at its place
 pub stands : (p : PlacedWord → Bool) (words : List Word) (i : ℕ) (d : Word) (span : Extent) → i < length words → All (λ w. p w ≡ false) (take i (map placed words))
-    → p (placed (get_or words i d)) ≡ true → span ≡ (placed (get_or words i d)).span → StandsAt (find p (map placed words)) span
+    → p (placed (get_or words i d)) ≡ true → span ≡ (placed (get_or words i d)).span → LiesAt (find p (map placed words)) span
 stands p words i d span within none is at =
     let ws = map placed words in
     let word : get_or ws i (placed d) ≡ placed (get_or words i d) = get_or-map placed words i d (placed d) within in
@@ -44,11 +44,11 @@ stands p words i d span within none is at =
     ap (option_map (λ w. w.span)) (found ∙ ap Some word) ∙ ap Some (sym at)
 
 -- the first of two stands there, or the second, where there is no first
-pub stands_first : (a b : Option PlacedWord) (span : Extent) → StandsAt a span → StandsAt (option_or a b) span
+pub stands_first : (a b : Option PlacedWord) (span : Extent) → LiesAt a span → LiesAt (option_or a b) span
 stands_first None b span at = absurd (cc)
 stands_first (Some w) b span at = at
 
-pub stands_second : (a b : Option PlacedWord) (span : Extent) → IsNone a → StandsAt b span → StandsAt (option_or a b) span
+pub stands_second : (a b : Option PlacedWord) (span : Extent) → IsNone a → LiesAt b span → LiesAt (option_or a b) span
 stands_second None b span none at = at
 stands_second (Some w) b span none at = absurd (cc)
 
@@ -59,14 +59,14 @@ neither (Some w) b none other = absurd (cc)
 
 -- the first word that passes, among those that elements give
 pub stands_in : {X : Type 0} (p : PlacedWord → Bool) (f : X → List PlacedWord) (xs : List X) (i : ℕ) (d : X) (span : Extent) → i < length xs
-    → All (λ x. All (λ w. p w ≡ false) (f x)) (take i xs) → StandsAt (find p (f (get_or xs i d))) span → StandsAt (find p (flat_map f xs)) span
+    → All (λ x. All (λ w. p w ≡ false) (f x)) (take i xs) → LiesAt (find p (f (get_or xs i d))) span → LiesAt (find p (flat_map f xs)) span
 stands_in p f [] i d span within none at = absurd (omega arith)
 stands_in p f (x ∷ xs) zero d span within none at =
-    subst (λ r. StandsAt r span) (sym (find-append p (f x) (flat_map f xs))) (stands_first (find p (f x)) (find p (flat_map f xs)) span at)
+    subst (λ r. LiesAt r span) (sym (find-append p (f x) (flat_map f xs))) (stands_first (find p (f x)) (find p (flat_map f xs)) span at)
 stands_in p f (x ∷ xs) (suc i) d span within none at =
     let before = none_found p (f x) (All-head (λ y. All (λ w. p w ≡ false) (f y)) x (take i xs) none) in
     let rest = stands_in p f xs i d span (omega arith) (All-tail (λ y. All (λ w. p w ≡ false) (f y)) x (take i xs) none) at in
-    subst (λ r. StandsAt r span) (sym (find-append p (f x) (flat_map f xs))) (stands_second (find p (f x)) (find p (flat_map f xs)) span before rest)
+    subst (λ r. LiesAt r span) (sym (find-append p (f x) (flat_map f xs))) (stands_second (find p (f x)) (find p (flat_map f xs)) span before rest)
 
 -- none of the words that elements give is found
 pub none_in : {X : Type 0} (p : PlacedWord → Bool) (f : X → List PlacedWord) (xs : List X) → All (λ x. All (λ w. p w ≡ false) (f x)) xs → IsNone (find p (flat_map f xs))
@@ -91,10 +91,10 @@ no_token_rule n rules same none =
 
 -- the first name after `%start` that is no rule
 pub start_unknown : (n : Numbering) (o : TextOutline) (starts : List PlacedWord) (span : Extent) → starts ≡ o.starts
-    → StandsAt (find (λ w. not (is_among w.name n.rules)) starts) span → StandsAt (unknown_rule n o) span
+    → LiesAt (find (λ w. not (is_among w.name n.rules)) starts) span → LiesAt (unknown_rule n o) span
 start_unknown n o starts span same at =
     stands_first (find (λ w. not (is_among w.name n.rules)) o.starts) (find (λ w. not (is_known n w)) (flat_map (λ x. x.symbols) o.alternatives)) span
-    (subst (λ ws. StandsAt (find (λ w. not (is_among w.name n.rules)) ws) span) same at)
+    (subst (λ ws. LiesAt (find (λ w. not (is_among w.name n.rules)) ws) span) same at)
 
 -- each name after `%start` is one of a rule
 starts_known : (n : Numbering) (o : TextOutline) (starts : List PlacedWord) → starts ≡ o.starts → All (λ w. is_among w.name n.rules ≡ true) starts
@@ -105,11 +105,11 @@ starts_known n o starts same known =
 
 -- the first symbol that is neither a token nor a rule, where those names are known
 pub symbol_unknown : (n : Numbering) (o : TextOutline) (starts : List PlacedWord) (alternatives : List TextAlternative) (span : Extent) → starts ≡ o.starts → alternatives ≡ o.alternatives
-    → All (λ w. is_among w.name n.rules ≡ true) starts → StandsAt (find (λ w. not (is_known n w)) (flat_map (λ x. x.symbols) alternatives)) span → StandsAt (unknown_rule n o) span
+    → All (λ w. is_among w.name n.rules ≡ true) starts → LiesAt (find (λ w. not (is_known n w)) (flat_map (λ x. x.symbols) alternatives)) span → LiesAt (unknown_rule n o) span
 symbol_unknown n o starts alternatives span same alike known at =
     stands_second (find (λ w. not (is_among w.name n.rules)) o.starts) (find (λ w. not (is_known n w)) (flat_map (λ x. x.symbols) o.alternatives)) span
     (starts_known n o starts same known)
-    (subst (λ (xs : List TextAlternative). StandsAt (find (λ w. not (is_known n w)) (flat_map (λ x. x.symbols) xs)) span) alike at)
+    (subst (λ (xs : List TextAlternative). LiesAt (find (λ w. not (is_known n w)) (flat_map (λ x. x.symbols) xs)) span) alike at)
 
 -- no such name and no such symbol
 pub no_unknown_rule : (n : Numbering) (o : TextOutline) (starts : List PlacedWord) (alternatives : List TextAlternative) → starts ≡ o.starts → alternatives ≡ o.alternatives

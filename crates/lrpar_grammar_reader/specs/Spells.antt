@@ -146,8 +146,8 @@ abbrev pub unknown_token : Numbering → TextOutline → Option PlacedWord
 unknown_token n o = find (λ w. not (is_among w.name n.tokens)) o.epps
 
 -- there is such a word, and it stands at this place
-abbrev pub StandsAt : Option PlacedWord → Extent → Type 0
-StandsAt word span = option_map (λ w. w.span) word ≡ Some span
+abbrev pub LiesAt : Option PlacedWord → Extent → Type 0
+LiesAt word span = option_map (λ w. w.span) word ≡ Some span
 
 -- the first word that has the name of one before it stands at this place
 pub record IsRepeatedAt (words : List PlacedWord) (span : Extent) : Type 0 where
@@ -161,13 +161,13 @@ pub record IsRepeatedAt (words : List PlacedWord) (span : Extent) : Type 0 where
 -- This is the first fault of the declarations and rules: it holds at this place, the first one where it does, and those that
 -- come before it don't. They are looked for in the order in which they stand here. Want of memory isn't one of theirs.
 abbrev pub HasFaultBy : Numbering → TextOutline → GrammarFault → Type 0
-HasFaultBy n o (RepeatedStart span) = StandsAt (slice_get o.starts 1) span
+HasFaultBy n o (RepeatedStart span) = LiesAt (slice_get o.starts 1) span
 HasFaultBy n o (RepeatedEpp span) = (length o.starts ≤ 1) × IsRepeatedAt o.epps span
 HasFaultBy n o NoRules = AreDeclaredOnce o × (o.defined ≡ [])
-HasFaultBy n o (TokenIsRule span) = AreDeclaredOnce o × (o.defined ≢ []) × StandsAt (token_rule n) span
-HasFaultBy n o (UnknownRule span) = AreDeclaredOnce o × (o.defined ≢ []) × IsNone (token_rule n) × StandsAt (unknown_rule n o) span
+HasFaultBy n o (TokenIsRule span) = AreDeclaredOnce o × (o.defined ≢ []) × LiesAt (token_rule n) span
+HasFaultBy n o (UnknownRule span) = AreDeclaredOnce o × (o.defined ≢ []) × IsNone (token_rule n) × LiesAt (unknown_rule n o) span
 HasFaultBy n o (UnknownToken span) =
-    AreDeclaredOnce o × (o.defined ≢ []) × IsNone (token_rule n) × IsNone (unknown_rule n o) × StandsAt (unknown_token n o) span
+    AreDeclaredOnce o × (o.defined ≢ []) × IsNone (token_rule n) × IsNone (unknown_rule n o) × LiesAt (unknown_token n o) span
 HasFaultBy n o (Syntax place) = ⊥
 HasFaultBy n o BadSymbol = ⊥
 HasFaultBy n o BadStart = ⊥

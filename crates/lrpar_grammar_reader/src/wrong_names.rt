@@ -4,7 +4,7 @@ ghost use Rattle.std.specs.List.{find, flat_map};
 ghost use Rattle.lrpar_grammar_words.specs.Outline.{alternative_of, outline_of};
 ghost use Rattle.lrpar_grammar_words.specs.Words.{placed};
 ghost use Rattle.lrpar_grammar_reader.specs.Names.{is_among};
-ghost use Rattle.lrpar_grammar_reader.specs.Spells.{AreDeclaredOnce, AreNamesKnown, HasFaultBy, StandsAt, is_known};
+ghost use Rattle.lrpar_grammar_reader.specs.Spells.{AreDeclaredOnce, AreNamesKnown, HasFaultBy, LiesAt, is_known};
 ghost use Rattle.lrpar_grammar_reader.specs.TextNames.{numbering_by};
 
 use crate::names::Names;
@@ -41,7 +41,7 @@ pub fn has_known_names(outline: &Outline, tables: &Tables) -> Result<(), Grammar
 // Where the first of the words stands whose name is among the names.
 fn find_among(words: &[Word], names: &Names) -> Option<Span>
     ensures { MatchOption result (All (λ w. is_among w.name names.now ≡ false) (map placed words.now))
-        (StandsAt (find (λ w. is_among w.name names.now) (map placed words.now))) }
+        (LiesAt (find (λ w. is_among w.name names.now) (map placed words.now))) }
 {
     for word in words {
         if names.contains(word.name) {
@@ -54,7 +54,7 @@ fn find_among(words: &[Word], names: &Names) -> Option<Span>
 // Where the first of the words stands whose name isn't among the names.
 fn find_missing(words: &[Word], names: &Names) -> Option<Span>
     ensures { MatchOption result (All (λ w. is_among w.name names.now ≡ true) (map placed words.now))
-        (StandsAt (find (λ w. not (is_among w.name names.now)) (map placed words.now))) }
+        (LiesAt (find (λ w. not (is_among w.name names.now)) (map placed words.now))) }
 {
     for word in words {
         if !names.contains(word.name) {
@@ -68,7 +68,7 @@ fn find_missing(words: &[Word], names: &Names) -> Option<Span>
 fn unknown_symbol(alternatives: &[Alternative], tables: &Tables) -> Option<Span>
     ensures { MatchOption result
         (All (λ x. All (λ w. is_known (numbering_by tables.now) w ≡ true) x.symbols) (map alternative_of alternatives.now))
-        (StandsAt (find (λ w. not (is_known (numbering_by tables.now) w)) (flat_map (λ x. x.symbols) (map alternative_of alternatives.now)))) }
+        (LiesAt (find (λ w. not (is_known (numbering_by tables.now) w)) (flat_map (λ x. x.symbols) (map alternative_of alternatives.now)))) }
 {
     for alternative in alternatives {
         if let Some(span) = find_unknown(&alternative.symbols, tables) {
@@ -81,7 +81,7 @@ fn unknown_symbol(alternatives: &[Alternative], tables: &Tables) -> Option<Span>
 // Where the first symbol stands that is neither a token nor a rule.
 fn find_unknown(symbols: &[Word], tables: &Tables) -> Option<Span>
     ensures { MatchOption result (All (λ w. is_known (numbering_by tables.now) w ≡ true) (map placed symbols.now))
-        (StandsAt (find (λ w. not (is_known (numbering_by tables.now) w)) (map placed symbols.now))) }
+        (LiesAt (find (λ w. not (is_known (numbering_by tables.now) w)) (map placed symbols.now))) }
 {
     for word in symbols {
         if !is_known(word, tables) {

@@ -8,7 +8,7 @@ use Rattle.lrpar_parse_run.specs.Spans.{last_part, last_span, span_after, span_o
 use Rattle.lrpar_parse_run.specs.declared.placed.Placed.{Placed}
 use Rattle.lrpar_parse_run.proofs.PlacedLemmas.{same_ends}
 use Rattle.lrpar_parse.specs.Acted.{ActedTo, AllActedTo}
-use Rattle.lrpar_parse_run.specs.Standing.{AllStand, StandsFor}
+use Rattle.lrpar_parse_run.specs.RunStack.{AllRepresent, Represents}
 use Rattle.lrpar_parse_run.specs.declared.values.AStackType.{AStackType}
 
 -- An entry that stands for a tree after a span has the tree's span, and its argument is one to which the tree folds.
@@ -36,14 +36,14 @@ module _ {X V : Type 0} (span : X → Extent) (acts : ℕ → Extent → List (A
   node p before es e = IsPlacedValue (acts p) before es e
 
   mutual
-    pub stands_acted : (before : Option (Placed (AStackType X V))) (t : Tree X) (e : Placed (AStackType X V)) → StandsFor leaf node before t e → IsActedAt span acts (span_before before) t e
+    pub stands_acted : (before : Option (Placed (AStackType X V))) (t : Tree X) (e : Placed (AStackType X V)) → Represents leaf node before t e → IsActedAt span acts (span_before before) t e
     stands_acted before (Leaf x) e stands = record { lies = stands.lies; folds = stands.is }
     stands_acted before (Branch p children) e (es, stand, made) =
         let all = all_acted before children es stand in
         let lies : e.span ≡ span_after span (span_before before) (Branch p children) = made.lies ∙ all.over ∙ any_node span (span_before before) p children in
         record { lies = lies; folds = (arguments_of es, made.value, made.is, all.fold, subst (λ (s : Extent). acts p s (arguments_of es) made.value) lies made.acted) }
 
-    all_acted : (before : Option (Placed (AStackType X V))) (ts : Forest X) (es : List (Placed (AStackType X V))) → AllStand leaf node before ts es → AllActedAt span acts (span_before before) ts es
+    all_acted : (before : Option (Placed (AStackType X V))) (ts : Forest X) (es : List (Placed (AStackType X V))) → AllRepresent leaf node before ts es → AllActedAt span acts (span_before before) ts es
     all_acted before Nil [] stand = record { lie = refl; over = refl; fold = tt }
     all_acted before Nil (e ∷ es) stand = absurd stand
     all_acted before (Cons t ts) [] stand = absurd stand

@@ -7,7 +7,7 @@ use Rattle.lrpar_parse.specs.Acted.{ActedTo, IsActedValue, acts_by}
 use Rattle.lrpar_parse.specs.Arguments.{IsArgument}
 use Rattle.lrpar_parse_run.specs.Entries.{HasValueEntry}
 use Rattle.lrpar_parse.specs.Parse.{ParsesTo}
-use Rattle.lrpar_parse_run.specs.Standing.{StandsFor}
+use Rattle.lrpar_parse_run.specs.RunStack.{Represents}
 use Rattle.lrpar_parse_run.specs.Subject.{Subject}
 use Rattle.lrpar_parse_run.specs.Placed.{IsPlacedLexeme, IsPlacedValue}
 use Rattle.lrpar_parse_run.specs.declared.placed.Placed.{Placed}
@@ -27,7 +27,7 @@ module _ {X V R P : Type 0} (about : Subject X) (token : X → ℕ) (span : X �
   Told t arg = ActedTo span acts nowhere t arg × IsArgument token fact (Nonterminal about.checked.grammar.start) arg
 
   -- so it is where an entry stands for the tree and fits the start rule
-  pub told : (t : Tree X) (e : Placed (AStackType X V)) → StandsFor (λ x e. IsPlacedLexeme span x e) (λ p before es e. IsPlacedValue (acts p) before es e) None t e
+  pub told : (t : Tree X) (e : Placed (AStackType X V)) → Represents (λ x e. IsPlacedLexeme span x e) (λ p before es e. IsPlacedValue (acts p) before es e) None t e
       → IsArgument token fact (Nonterminal about.checked.grammar.start) e.argument → Told t e.argument
   told t e stands suit = ((stands_acted span acts None t e stands).folds, suit)
 

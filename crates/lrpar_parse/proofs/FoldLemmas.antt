@@ -20,7 +20,7 @@ use Rattle.lrpar_parse_trees.specs.declared.node.Node.{Node}
 use Rattle.lrpar_parse_run.proofs.ListLemmas.{zip_same}
 use Rattle.lrpar_parse.proofs.ParseLemmas.{parse_as, refusal_as}
 use Rattle.lrpar_parse_run.specs.RunAnswer.{HasValue}
-use Rattle.lrpar_parse_run.specs.Standing.{AllStand, StandsFor}
+use Rattle.lrpar_parse_run.specs.RunStack.{AllRepresent, Represents}
 
 -- `Values e v`: entry e gives value v. Each value of the entry of a lexeme is one of the lexeme; and each of the entry of a
 -- node is what its rule has over values of the children's entries.
@@ -28,13 +28,13 @@ module _ {X E V : Type 0} (leaf : X → E → Type 0) (node : ℕ → Option E �
     (at_leaf : (x : X) (e : E) (v : V) → leaf x e → Values e v → of_leaf x v)
     (at_node : (p : ℕ) (before : Option E) (es : List E) (e : E) (v : V) → node p before es e → Values e v → (vs : List V) × AllZip Values es vs × of_node (rule_of g p) vs v) where
   mutual
-    pub stands_fold : (before : Option E) (t : Tree X) (e : E) (v : V) → StandsFor leaf node before t e → Values e v → Folds of_leaf of_node g t v
+    pub stands_fold : (before : Option E) (t : Tree X) (e : E) (v : V) → Represents leaf node before t e → Values e v → Folds of_leaf of_node g t v
     stands_fold before (Leaf x) e v stands gives = at_leaf x e v stands gives
     stands_fold before (Branch p children) e v (es, stand, made) gives =
         let found = at_node p before es e v made gives in
         (found.0, all_fold before children es found.0 stand found.1, found.2)
 
-    all_fold : (before : Option E) (ts : Forest X) (es : List E) (vs : List V) → AllStand leaf node before ts es → AllZip Values es vs → ForestFolds of_leaf of_node g ts vs
+    all_fold : (before : Option E) (ts : Forest X) (es : List E) (vs : List V) → AllRepresent leaf node before ts es → AllZip Values es vs → ForestFolds of_leaf of_node g ts vs
     all_fold before Nil [] [] stand gives = tt
     all_fold before Nil [] (v ∷ vs) stand gives = absurd gives
     all_fold before Nil (e ∷ es) vs stand gives = absurd stand
@@ -44,7 +44,7 @@ module _ {X E V : Type 0} (leaf : X → E → Type 0) (node : ℕ → Option E �
 
 -- the entries of a caller's two functions: a tree folds to the value of its entry
 pub made_fold : {X V : Type 0} (of_leaf : X → V → Type 0) (of_node : ℕ → List V → V → Type 0) (g : Grammar) (before : Option (AStackType X V)) (t : Tree X) (v : V)
-    → StandsFor IsLexemeEntry (λ p before es e. IsMadeEntry of_leaf of_node (rule_of g p) es e) before t (ActionType v) → Folds of_leaf of_node g t v
+    → Represents IsLexemeEntry (λ p before es e. IsMadeEntry of_leaf of_node (rule_of g p) es e) before t (ActionType v) → Folds of_leaf of_node g t v
 made_fold {X} {V} of_leaf of_node g before t v stands =
     stands_fold IsLexemeEntry (λ p before es e. IsMadeEntry of_leaf of_node (rule_of g p) es e) g of_leaf of_node (Gives of_leaf)
     (λ x e v is gives. subst (λ (w : AStackType X V). Gives of_leaf w v) is gives)
@@ -141,7 +141,7 @@ parse_told about lexes Tells TellsOf (Err fault) tells parses =
 
 -- the entries of trees: a tree folds to its entry
 pub tree_fold : {X S : Type 0} (index : S → ℕ) (g : Grammar) (before : Option (Node X S)) (t : Tree X) (n : Node X S)
-    → StandsFor IsTerm (λ p before es e. IsNonterm index (rule_of g p) es e) before t n → Folds IsTerm (IsNonterm index) g t n
+    → Represents IsTerm (λ p before es e. IsNonterm index (rule_of g p) es e) before t n → Folds IsTerm (IsNonterm index) g t n
 tree_fold {X} {S} index g before t n stands =
     stands_fold IsTerm (λ p before es e. IsNonterm index (rule_of g p) es e) g IsTerm (IsNonterm index) (λ e v. e ≡ v)
     (λ x e v is same. sym same ∙ is)

@@ -12,7 +12,7 @@ use Rattle.lrpar_table_stacks.specs.Stack.{IsStack}
 use Rattle.lrpar_table_stacks.specs.Path.{NeverSticks}
 use Rattle.lrpar_table_stacks.proofs.RunLemmas.{far_ends_by_failing, token_at_lexeme}
 use Rattle.lrpar_parse_run.specs.Building.{Building}
-use Rattle.lrpar_parse_run.specs.Standing.{IsRunStack, Stacked}
+use Rattle.lrpar_parse_run.specs.RunStack.{IsRunStack, Stacked}
 use Rattle.lrpar_parse_repair.proofs.TokenLemmas.{good_token}
 use Rattle.lrpar_parse_run.specs.Moves.{GoesFar, far_end}
 use Rattle.lrpar_parse_repair.specs.Asked.{IsStop, asked_at}

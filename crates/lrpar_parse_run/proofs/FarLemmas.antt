@@ -13,7 +13,7 @@ use Rattle.lrpar_parse_run.specs.Moves.{GoesFar, Moves, and_settles, and_shifts,
 use Rattle.lrpar_parse_run.specs.RepairRun.{fed_between}
 use Rattle.lrpar_table_stacks.specs.Run.{Comes, stays}
 use Rattle.lrpar_parse_run.specs.Stacked.{SettlesTo, Shifts, Sticks}
-use Rattle.lrpar_parse_run.specs.Standing.{Stacked}
+use Rattle.lrpar_parse_run.specs.RunStack.{Stacked}
 use Rattle.lrpar_parse_run.proofs.StackedLemmas.{states_settle}
 use Rattle.lrpar_table_stacks.proofs.RunLemmas.{comes_by, comes_to_accept, comes_to_end, comes_to_stop}
 

@@ -1,6 +1,6 @@
 pub mod ListLemmas
 pub mod ReadLemmas
-pub mod StandingLemmas
+pub mod RunStackLemmas
 pub mod RisingLemmas
 pub mod MovesLemmas
 pub mod FarLemmas

@@ -19,13 +19,13 @@ use Rattle.lrpar_parse_run.specs.Rising.{KeepsRising}
 use Rattle.lrpar_table_stacks.specs.Run.{token_at}
 use Rattle.lrpar_parse_repair.specs.Sequences.{PlainStep, PlainInsert, PlainDelete, PlainShift, Replays}
 use Rattle.lrpar_parse_run.specs.Stacked.{SettlesTo, Shifts, Sticks}
-use Rattle.lrpar_parse_run.specs.Standing.{Stacked}
+use Rattle.lrpar_parse_run.specs.RunStack.{Stacked}
 use Rattle.lrpar_parse_lexemes.proofs.PlaceLemmas.{start_at_is}
 use Rattle.lrpar_parse_run.proofs.StackedLemmas.{states_settle}
 use Rattle.lrpar_parse_run.proofs.RisingLemmas.{rise_reduce_all}
 use Rattle.lrpar_table_stacks.proofs.RunLemmas.{token_at_lexeme}
 use Rattle.lrpar_parse_repair.proofs.SequenceLemmas.{steps_one_way}
-use Rattle.lrpar_parse_run.proofs.StandingLemmas.{IsStanding, standing_reduce_all, standing_shift}
+use Rattle.lrpar_parse_run.proofs.RunStackLemmas.{IsRepresented, represented_reduce_all, represented_shift}
 
 -- the bound of what was reduced, where it is settled once more, and where a lexeme is shifted then
 settle_more : (cap n m a b h x k : ℕ) → n + cap * a ≤ cap * (h + x) + cap * (cap + 2) * k → m + cap * b ≤ cap * (a + cap + 2)
@@ -45,7 +45,7 @@ module _ {X E : Type 0} (facts : X → LexemeFacts) (builds : Building X E) (d :
   Moved old xs ps n new = Moves facts builds d old xs ps n new
 
   abbrev Stands : Stacked E → List X → List ℕ → Type 0
-  Stands stack xs ps = IsStanding token builds.leaf (builds.node d.grammar) builds.suits d.grammar d.table stack xs ps
+  Stands stack xs ps = IsRepresented token builds.leaf (builds.node d.grammar) builds.suits d.grammar d.table stack xs ps
 
   -- one after the other
   pub moves_then : (a b c : Stacked E) (xs : List X) (ps : List ℕ) (n : ℕ) (ys : List X) (qs : List ℕ) (m : ℕ)
@@ -67,20 +67,20 @@ module _ {X E : Type 0} (facts : X → LexemeFacts) (builds : Building X E) (d :
       (and_shifts (xs ++ ys) (ps ++ qs) (n + m) mid x new (moves_then a b mid xs ps n ys qs m before first) last)))
 
   -- the trees that stand on the stacks have the lexemes as further leaves, and the reductions as further productions
-  pub moves_stand : NeverSticks d.grammar d.table → (old new : Stacked E) (xs : List X) (ps : List ℕ) (n : ℕ) (c : List X) (b : List ℕ)
+  pub moves_represent : NeverSticks d.grammar d.table → (old new : Stacked E) (xs : List X) (ps : List ℕ) (n : ℕ) (c : List X) (b : List ℕ)
       → Stands old c b → Moved old xs ps n new → Stands new (c ++ xs) (b ++ ps)
-  moves_stand never old _ _ _ _ c b stands rests =
+  moves_represent never old _ _ _ _ c b stands rests =
       subst (λ (w : List X). Stands old w (b ++ [])) (sym (append-nil c)) (subst (λ (w : List ℕ). Stands old c w) (sym (append-nil b)) stands)
-  moves_stand never old _ _ _ _ c b stands (and_settles xs ps n mid t new first last) =
-      let before = moves_stand never old mid xs ps n c b stands first in
+  moves_represent never old _ _ _ _ c b stands (and_settles xs ps n mid t new first last) =
+      let before = moves_represent never old mid xs ps n c b stands first in
       subst (λ (w : List ℕ). Stands new (c ++ xs) w) (append_assoc b ps last.prods)
-      (standing_reduce_all token builds.leaf (builds.node d.grammar) builds.suits d.grammar d.table never t mid last.prods new (c ++ xs) (b ++ ps) before last.steps)
-  moves_stand never old _ _ _ _ c b stands (and_shifts xs ps n mid x new first last) =
-      let before = moves_stand never old mid xs ps n c b stands first in
+      (represented_reduce_all token builds.leaf (builds.node d.grammar) builds.suits d.grammar d.table never t mid last.prods new (c ++ xs) (b ++ ps) before last.steps)
+  moves_represent never old _ _ _ _ c b stands (and_shifts xs ps n mid x new first last) =
+      let before = moves_represent never old mid xs ps n c b stands first in
       let qs = last.settles.prods in
-      let settled = standing_reduce_all token builds.leaf (builds.node d.grammar) builds.suits d.grammar d.table never (token x) mid qs last.mid (c ++ xs) (b ++ ps) before last.settles.steps in
+      let settled = represented_reduce_all token builds.leaf (builds.node d.grammar) builds.suits d.grammar d.table never (token x) mid qs last.mid (c ++ xs) (b ++ ps) before last.settles.steps in
       let path = (never.shifts settled.symbols last.mid.states (token x) last.next settled.path last.shifts).1 in
-      let shifted = standing_shift token builds.leaf (builds.node d.grammar) builds.suits d.grammar d.table last.mid new (c ++ xs) ((b ++ ps) ++ qs) x last.entry last.next settled path last.made last.suit last.of_states last.of_entries in
+      let shifted = represented_shift token builds.leaf (builds.node d.grammar) builds.suits d.grammar d.table last.mid new (c ++ xs) ((b ++ ps) ++ qs) x last.entry last.next settled path last.made last.suit last.of_states last.of_entries in
       subst (λ (w : List X). Stands new w (b ++ (ps ++ qs))) (append_assoc c xs (x ∷ []))
       (subst (λ (w : List ℕ). Stands new ((c ++ xs) ++ x ∷ []) w) (append_assoc b ps qs) shifted)
 

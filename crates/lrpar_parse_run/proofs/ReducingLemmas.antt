@@ -9,7 +9,7 @@ use Rattle.lrpar_table_stacks.specs.StackReduction.{IsStackSettledBy, StackReduc
 use Rattle.lrpar_parse_run.specs.Building.{Building}
 use Rattle.lrpar_parse_run.specs.Reducing.{Builds, Built, KeepsRest, SuitsRun}
 use Rattle.lrpar_parse_run.specs.Stacked.{SettlesTo}
-use Rattle.lrpar_parse_run.specs.Standing.{IsRunStack, ReducesAllTo, ReducesTo, Stacked}
+use Rattle.lrpar_parse_run.specs.RunStack.{IsRunStack, ReducesAllTo, ReducesTo, Stacked}
 
 -- where all reductions are made none is left
 settled_after : (g : Grammar) (table : Table) (t : ℕ) (st prods after : List ℕ) → Settles g table t st prods after → IsSettled table t after

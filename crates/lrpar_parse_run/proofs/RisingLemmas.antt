@@ -4,7 +4,7 @@ use Rattle.std.proofs.lemmas.List.{take-append-drop}
 use Rattle.lrpar_grammar.specs.Grammar.{Grammar, GrammarSymbol, prod_len}
 use Rattle.lrpar_table_rows.specs.Table.{Table}
 use Rattle.lrpar_parse_run.specs.Rising.{KeepsRising}
-use Rattle.lrpar_parse_run.specs.Standing.{ReducesAllTo, ReducesTo, Stacked, kept_by, popped_by}
+use Rattle.lrpar_parse_run.specs.RunStack.{ReducesAllTo, ReducesTo, Stacked, kept_by, popped_by}
 
 module _ {X E : Type 0} (start : X → ℕ) (leaf : X → E → Type 0) (node : ℕ → Option E → List E → E → Type 0) (suits : GrammarSymbol → E → Type 0) (rises : List E → ℕ → Type 0) (keeps : KeepsRising start leaf node rises) where
   -- a reduction keeps the order

@@ -12,7 +12,7 @@ use Rattle.lrpar_table_stacks.specs.Path.{IsPath, NeverSticks}
 use Rattle.lrpar_table_stacks.specs.Reduction.{ReducesBy, Settles, top_action}
 use Rattle.lrpar_table_rows.specs.Table.{Table, ShiftTo}
 use Rattle.lrpar_parse_run.specs.Building.{Building}
-use Rattle.lrpar_parse_run.specs.Standing.{Stacked, IsRunStack, ReducesAllTo}
+use Rattle.lrpar_parse_run.specs.RunStack.{Stacked, IsRunStack, ReducesAllTo}
 use Rattle.lrpar_parse_run.specs.Stacked.{SettlesTo}
 use Rattle.lrpar_parse_run.specs.ZipLaws.{zip_push}
 use Rattle.lrpar_table_stacks.proofs.RunLemmas.{settles_from}

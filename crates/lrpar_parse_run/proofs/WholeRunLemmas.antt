@@ -20,7 +20,7 @@ use Rattle.lrpar_parse_run.specs.RepairRun.{RepairRun, RepairStop, ends_there, f
 use Rattle.lrpar_table_stacks.specs.Run.{Stopped}
 use Rattle.lrpar_parse_run.specs.RunAnswer.{HasValue, IsOneWay, IsValueOf}
 use Rattle.lrpar_parse_repair.specs.Sequences.{PlainStep, AreThoseWith, CanGoOn, Replays, Works}
-use Rattle.lrpar_parse_run.specs.Standing.{Stacked}
+use Rattle.lrpar_parse_run.specs.RunStack.{Stacked}
 use Rattle.lrpar_parse_run.specs.Subject.{Subject}
 use Rattle.lrpar_parse_errors.specs.declared.errors.LexParseError.{LexParseError}
 use Rattle.lrpar_parse_errors.specs.declared.errors.LexParseError.TheVariants.{LexError, ParseError}
@@ -28,9 +28,9 @@ use Rattle.lrpar_parse_repair.specs.declared.repair_step.RepairStep.{RepairStep}
 use Rattle.lrpar_parse_run.specs.ZipLaws.{zip_push}
 use Rattle.lrpar_parse_run.proofs.CompleteAnswerLemmas.{takes_sentence}
 use Rattle.lrpar_parse_run.proofs.ListLemmas.{same_one}
-use Rattle.lrpar_parse_run.proofs.MovesLemmas.{moves_bound, moves_stand}
+use Rattle.lrpar_parse_run.proofs.MovesLemmas.{moves_bound, moves_represent}
 use Rattle.lrpar_parse_repair.proofs.ReplayLemmas.{far_stops, go_on_far, replay_one_way, replays_place, works_by_replay}
-use Rattle.lrpar_parse_run.proofs.StandingLemmas.{IsStanding, standing_accept, standing_start}
+use Rattle.lrpar_parse_run.proofs.RunStackLemmas.{IsRepresented, represented_accept, represented_start}
 
 -- the bound of what was reduced up to a place, and what is reduced up to the next stop and by a repair there
 bound_next : (cap p f r a b c u s x y : ℕ) → p + cap * a ≤ cap * (1 + u) + cap * (cap + 2) * (u + s) → f + cap * b ≤ cap * (a + x) + cap * (cap + 2) * (x + 1)
@@ -69,7 +69,7 @@ module _ {X E : Type 0} (about : Subject X) (builds : Building X E) (lexemes : L
   token x = (about.facts x).token
 
   abbrev Stands : Stacked E → List X → List ℕ → Type 0
-  Stands stack xs ps = IsStanding token builds.leaf (builds.node about.checked.grammar) builds.suits about.checked.grammar about.checked.table stack xs ps
+  Stands stack xs ps = IsRepresented token builds.leaf (builds.node about.checked.grammar) builds.suits about.checked.grammar about.checked.table stack xs ps
 
   abbrev Runs : List ℕ → ℕ → List RepairStop → Option (List X) → List ℕ → Type 0
   Runs st i stops consumed prods = RepairRun about.facts about.allows about.shifts about.checked.grammar about.checked.table lexemes st i stops consumed prods
@@ -95,7 +95,7 @@ module _ {X E : Type 0} (about : Subject X) (builds : Building X E) (lexemes : L
         leads = λ more rest qs run.
             subst (λ (o : Option (List X)). Runs (about.checked.table.start ∷ []) 0 more o qs) (sym (front_none rest))
             (subst (λ (st : List ℕ). Runs st 0 more rest qs) states run);
-        stands = standing_start token builds.leaf (builds.node about.checked.grammar) builds.suits about.checked.grammar about.checked.table stack states entries;
+        stands = represented_start token builds.leaf (builds.node about.checked.grammar) builds.suits about.checked.grammar about.checked.table stack states entries;
         bound = let one : length stack.states ≡ 1 = ap length states in rw one (omega arith);
       }
 
@@ -119,7 +119,7 @@ module _ {X E : Type 0} (about : Subject X) (builds : Building X E) (lexemes : L
           let here = Here (first ∷ listed) in
           let fs = far.prods in
           let rs = by.prods in
-          let mid = moves_stand about.facts builds about.checked never a b fed fs (length fed + 1) at.consumed at.prods at.stands far.moves in
+          let mid = moves_represent about.facts builds about.checked never a b fed fs (length fed + 1) at.consumed at.prods at.stands far.moves in
           let to_b = moves_bound about.facts builds about.checked a b fed fs (length fed + 1) far.moves in
           let to_c = moves_bound about.facts builds about.checked b c by.recovered rs (length by.recovered) by.moves in
           let count : length ((at.prods ++ fs) ++ rs) ≡ (length at.prods + length fs) + length rs =
@@ -137,7 +137,7 @@ module _ {X E : Type 0} (about : Subject X) (builds : Building X E) (lexemes : L
                 (subst (λ (o : Option (List X)). Runs (about.checked.table.start ∷ []) 0 (stops ++ here ∷ later) o (((at.prods ++ fs) ++ rs) ++ qs)) (front_both at.consumed fed by.recovered rest)
                 (subst (λ (w : List ℕ). Runs (about.checked.table.start ∷ []) 0 (stops ++ here ∷ later) (option_map (λ xs. at.consumed ++ xs) (option_map (λ xs. fed ++ by.recovered ++ xs) rest)) w)
                 (front_three at.prods fs rs qs) all));
-            stands = moves_stand about.facts builds about.checked never b c by.recovered rs (length by.recovered) (at.consumed ++ fed) (at.prods ++ fs) mid by.moves;
+            stands = moves_represent about.facts builds about.checked never b c by.recovered rs (length by.recovered) (at.consumed ++ fed) (at.prods ++ fs) mid by.moves;
             bound = rw (count, leaves, more)
                 (bound_next about.checked.cap (length at.prods) (length fs) (length rs) (length a.states) (length b.states) (length c.states) (length at.consumed) (length stops) (length fed) (length by.recovered) at.bound to_b to_c);
           }
@@ -149,9 +149,9 @@ module _ {X E : Type 0} (about : Subject X) (builds : Building X E) (lexemes : L
         × (length (at.prods ++ far.prods) ≤ most_productions about.checked.cap (length (at.consumed ++ drop i lexemes)) (length stops))
     there_accepts far =
         let left = drop i lexemes in
-        let stands = moves_stand about.facts builds about.checked never a b left far.prods (length left + 1) at.consumed at.prods at.stands far.moves in
+        let stands = moves_represent about.facts builds about.checked never a b left far.prods (length left + 1) at.consumed at.prods at.stands far.moves in
         let alone = (never.accepts stands.symbols b.states (end_token about.checked.grammar) stands.path (far.accepts refl)).1 in
-        let found = standing_accept token builds about.checked b (at.consumed ++ left) (at.prods ++ far.prods) stands alone in
+        let found = represented_accept token builds about.checked b (at.consumed ++ left) (at.prods ++ far.prods) stands alone in
         let run = at.leads [] (Some left) far.prods (runs_through a.states i far.prods far.far) in
         let to_b = moves_bound about.facts builds about.checked a b left far.prods (length left + 1) far.moves in
         let count = length-append at.prods far.prods in

@@ -15,7 +15,7 @@ pub mod Recovering
 pub mod WholeRunView
 pub mod Building
 pub mod Rising
-pub mod Standing
+pub mod RunStack
 pub mod ZipLaws
 pub mod Stacked
 pub mod Reducing

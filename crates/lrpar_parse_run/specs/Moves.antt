@@ -12,7 +12,7 @@ use Rattle.lrpar_parse_run.specs.RepairRun.{fed_between}
 use Rattle.lrpar_table_stacks.specs.Run.{Accepted, Far, FarEnd, Stopped}
 use Rattle.lrpar_parse_repair.specs.Sequences.{PlainStep, Replays, StepsTo}
 use Rattle.lrpar_parse_run.specs.Stacked.{SettlesTo, Shifts}
-use Rattle.lrpar_parse_run.specs.Standing.{Stacked}
+use Rattle.lrpar_parse_run.specs.RunStack.{Stacked}
 
 -- the starts of the lexemes don't decrease, nor does the end of the last one lie before its start
 abbrev pub StartsRise : List LexemeFacts → Type 0

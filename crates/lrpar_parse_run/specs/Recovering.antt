@@ -7,7 +7,7 @@ use Rattle.lrpar_parse_run.specs.RepairAnswer.{IsRepairErrorOf}
 use Rattle.lrpar_parse_run.specs.RepairRun.{IsListedAt}
 use Rattle.lrpar_table_stacks.specs.Run.{Stop}
 use Rattle.lrpar_parse_repair.specs.Sequences.{PlainStep}
-use Rattle.lrpar_parse_run.specs.Standing.{Stacked}
+use Rattle.lrpar_parse_run.specs.RunStack.{Stacked}
 use Rattle.lrpar_parse_run.specs.Subject.{Subject}
 
 -- at the stop these sequences are listed: those that work there, of an answer that the recoverer allows

@@ -5,7 +5,7 @@ use Rattle.lrpar_grammar.specs.Grammar.{Grammar, Nonterminal, prod_len, rule_of,
 use Rattle.lrpar_table_stacks.specs.Path.{NeverSticks}
 use Rattle.lrpar_table_rows.specs.Table.{Table}
 use Rattle.lrpar_parse_run.specs.Building.{Building}
-use Rattle.lrpar_parse_run.specs.Standing.{IsRunStack, Stacked}
+use Rattle.lrpar_parse_run.specs.RunStack.{IsRunStack, Stacked}
 
 -- a grammar, what builds, the stacks, and the name of the borrow by which they are reached
 pub record Built (B E : Type 0) : Type 0 where

@@ -11,7 +11,7 @@ use Rattle.lrpar_table_stacks.proofs.Reductions.{reduces_to_one}
 use Rattle.lrpar_parse_run.specs.Building.{Building}
 use Rattle.lrpar_parse_run.specs.Reducing.{Builds, Built, CanBuild, SuitsRun}
 use Rattle.lrpar_parse_run.specs.Rising.{KeepsRising}
-use Rattle.lrpar_parse_run.specs.Standing.{IsRunStack, Stacked, kept_by, popped_by}
+use Rattle.lrpar_parse_run.specs.RunStack.{IsRunStack, Stacked, kept_by, popped_by}
 use Rattle.lrpar_parse_run.specs.ZipLaws.{zip_drop, zip_push, zip_take}
 
 -- What a reduction by p at token t knows of the stacks before it.

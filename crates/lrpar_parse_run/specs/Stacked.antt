@@ -6,7 +6,7 @@ use Rattle.lrpar_table_stacks.specs.Chain.{most_reductions}
 use Rattle.lrpar_table_check.specs.Checked.{Checked}
 use Rattle.lrpar_table_stacks.specs.Reduction.{IsSettled, top_action}
 use Rattle.lrpar_parse_run.specs.Building.{Building}
-use Rattle.lrpar_parse_run.specs.Standing.{Stacked, ReducesAllTo}
+use Rattle.lrpar_parse_run.specs.RunStack.{Stacked, ReducesAllTo}
 
 -- at token t the stacks make all reductions that are due, within the bound of their states
 pub record SettlesTo {X E : Type 0} (builds : Building X E) (d : Checked) (t : ℕ) (old new : Stacked E) : Type 0 where

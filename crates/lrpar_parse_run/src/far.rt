@@ -4,7 +4,7 @@ ghost use Rattle.lrpar_grammar.specs.Sentence.{IsValidList};
 ghost use Rattle.lrpar_parse_lexemes.specs.Known.{facts_by, known};
 ghost use Rattle.lrpar_parse_lexemes.specs.Lexemes.{start_at};
 ghost use Rattle.lrpar_parse_run.specs.Moves.{GoesFar, RiseUpTo, StartsRise};
-ghost use Rattle.lrpar_parse_run.specs.Standing.{IsRunStack};
+ghost use Rattle.lrpar_parse_run.specs.RunStack.{IsRunStack};
 
 use crate::building::Build;
 use crate::run::Run;

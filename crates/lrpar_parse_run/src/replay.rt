@@ -9,7 +9,7 @@ ghost use Rattle.lrpar_parse_lexemes.specs.Lexemes.{start_at};
 ghost use Rattle.lrpar_parse_run.specs.Moves.{CanReplay, CanStep, IsReplayed, RiseUpTo, StartsRise};
 ghost use Rattle.lrpar_parse_repair.specs.PlainSteps.{plain_step, plain_steps};
 ghost use Rattle.lrpar_parse_run.specs.Stacked.{Shifts};
-ghost use Rattle.lrpar_parse_run.specs.Standing.{IsRunStack};
+ghost use Rattle.lrpar_parse_run.specs.RunStack.{IsRunStack};
 
 use crate::building::Build;
 use crate::run::Run;

@@ -4,7 +4,7 @@ ghost use Rattle.lrpar_grammar.specs.Grammar.{end_token};
 ghost use Rattle.lrpar_table_stacks.specs.Path.{NeverSticks};
 ghost use Rattle.lrpar_table_stacks.specs.Reduction.{top_action};
 ghost use Rattle.lrpar_table_rows.specs.PlainRows.{plain_action};
-ghost use Rattle.lrpar_parse_run.specs.Standing.{IsRunStack};
+ghost use Rattle.lrpar_parse_run.specs.RunStack.{IsRunStack};
 ghost use Rattle.lrpar_parse_run.specs.Stacked.{SettlesTo, Shifts, Sticks};
 
 use crate::building::Build;

@@ -22,7 +22,7 @@ pub struct Stack<StorageT: StorageIndex, E: Drop> {
 
 impl<StorageT: StorageIndex, E: Drop> Model for Stack<StorageT, E> {
     ghost use Rattle.lrpar_table_stacks.specs.Stack.{states_of};
-    ghost use Rattle.lrpar_parse_run.specs.Standing.{Stacked};
+    ghost use Rattle.lrpar_parse_run.specs.RunStack.{Stacked};
 
     ghost Value = { Stacked E };
 

@@ -12,7 +12,7 @@ ghost use Rattle.lrpar_parse_repair.specs.PlainSteps.{plain_sequences};
 ghost use Rattle.lrpar_parse_run.specs.RepairAnswer.{IsRepairErrorOf};
 ghost use Rattle.lrpar_table_stacks.specs.Run.{stop_at, token_at};
 ghost use Rattle.lrpar_table_rows.specs.Table.{Fails};
-ghost use Rattle.lrpar_parse_run.specs.Standing.{IsRunStack};
+ghost use Rattle.lrpar_parse_run.specs.RunStack.{IsRunStack};
 ghost use Rattle.lrpar_parse_run.specs.TreeAnswer.{IsTreeAnswer};
 
 use crate::building::Build;

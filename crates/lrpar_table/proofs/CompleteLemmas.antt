@@ -9,7 +9,7 @@ use Rattle.lrpar_table_rows.specs.Safe.{IsItem}
 use Rattle.lrpar_table_rows.specs.Table.{Accepts, Fails, ReduceBy, ShiftTo, Table, TableAction, action_of, states_len}
 use Rattle.lrpar_table_build.specs.Built.{IsBuilt}
 use Rattle.lrpar_table_build.specs.BuilderLaws.{IsCanonicalTable, HaveOneAction, HasAction}
-use Rattle.lrpar_table_items.specs.Canonical.{AreSame, IsCanonical, LeadsTo, StandsBefore, HasReduce, sets_of}
+use Rattle.lrpar_table_items.specs.Canonical.{AreSame, IsCanonical, LeadsTo, HasAfterDot, HasReduce, sets_of}
 use Rattle.lrpar_table_items.specs.ItemSets.{Added, Adds, IsReachedBy, Own}
 use Rattle.lrpar_table_build.proofs.ReachedLemmas.{reached_items, symbol_listed}
 use Rattle.lrpar_table_check.specs.Checked.{Checked, IsChecked}
@@ -40,7 +40,7 @@ module _ (g : Grammar) (graph : Graph) (table : Table) (well : IsWellFormed g) (
       let item = item_at p (k + 1) t in (leads item).1 (Own item (item_at p k t, has, at, refl))
 
   -- so that set is one of the graph
-  next_within : (s next : ℕ) (x : GrammarSymbol) → StandsBefore g (sets_of graph) s x → LeadsTo g (sets_of graph) s x next
+  next_within : (s next : ℕ) (x : GrammarSymbol) → HasAfterDot g (sets_of graph) s x → LeadsTo g (sets_of graph) s x next
       → next < graph_len graph
   next_within s next x before leads =
       let item = before.0 in
@@ -66,7 +66,7 @@ module _ (g : Grammar) (graph : Graph) (table : Table) (well : IsWellFormed g) (
   module _ (one : HaveOneAction g (graph_len graph) (sets_of graph)) where
     -- a state that wants something but a shift has no item before the token
     no_shift_beside : (s t : ℕ) (action : TableAction) → s < graph_len graph → t < tokens_len g → HasAction g (graph_len graph) (sets_of graph) s t action
-        → ((next : ℕ) → action ≢ ShiftTo next) → ¬ (StandsBefore g (sets_of graph) s (Terminal t))
+        → ((next : ℕ) → action ≢ ShiftTo next) → ¬ (HasAfterDot g (sets_of graph) s (Terminal t))
     no_shift_beside s t action within known candidate other before =
         let here : s < states_len table = let is = wanted.states in omega (arith, within, is) in
         let to = (wanted.acts s t here known).shifts before in

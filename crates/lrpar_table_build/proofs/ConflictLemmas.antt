@@ -10,7 +10,7 @@ use Rattle.lrpar_table_rows.specs.Graph.{Graph, ItemOf, graph_len, item_at}
 use Rattle.lrpar_table_rows.specs.Safe.{IsItem}
 use Rattle.lrpar_table_rows.specs.Table.{Accepts, ConflictLists, Fails, ReduceBy, ReduceReduce, ShiftReduce, ShiftTo}
 use Rattle.lrpar_table_build.specs.BuilderLaws.{AcceptAlone, AreConflictsOf, CanonicalConflictsFit, NoConflictsAreOneAction, HaveOneAction, lists_in}
-use Rattle.lrpar_table_items.specs.Canonical.{IsCanonical, IsTransition, StandsBefore, HasAccept, HasFirstReduce, HasReduce, sets_of}
+use Rattle.lrpar_table_items.specs.Canonical.{IsCanonical, IsTransition, HasAfterDot, HasAccept, HasFirstReduce, HasReduce, sets_of}
 use Rattle.lrpar_table_items.specs.ItemSets.{IsReachedBy, Own}
 use Rattle.lrpar_table_build.proofs.DecidedLemmas.{first_reduction}
 use Rattle.lrpar_table_build.proofs.ReachedLemmas.{no_end_token, reached_at_end, reached_items, symbol_listed}
@@ -35,7 +35,7 @@ module _ (g : Grammar) (graph : Graph) (well : IsWellFormed g) (canonical : IsCa
       let reached = canonical.reached s within in reached_at_end g well reached.0 item ((reached.1 item).0 candidate) refl
 
   -- where an item stands before a token, the state goes on by it
-  next_state : (s t : ℕ) → s < graph_len graph → StandsBefore g (sets_of graph) s (Terminal t)
+  next_state : (s t : ℕ) → s < graph_len graph → HasAfterDot g (sets_of graph) s (Terminal t)
       → (next : ℕ) × IsTransition g (graph_len graph) (sets_of graph) s (Terminal t) (Some next)
   next_state s t within before =
       let reached = canonical.reached s within in
@@ -72,7 +72,7 @@ module _ (g : Grammar) (graph : Graph) (well : IsWellFormed g) (canonical : IsCa
           let there : Contains [] x = subst (λ (c : Option ConflictLists). Contains (lists_in c).reduce_reduce x) none listed in
           omega (arith, there.1)
 
-      no_shift_conflict : (s t p : ℕ) → s < graph_len graph → StandsBefore g (sets_of graph) s (Terminal t)
+      no_shift_conflict : (s t p : ℕ) → s < graph_len graph → HasAfterDot g (sets_of graph) s (Terminal t)
           → HasReduce g (sets_of graph) s t p → ⊥
       no_shift_conflict s t p within before candidate =
           let first = first_reduction g graph s t p candidate in
@@ -99,7 +99,7 @@ module _ (g : Grammar) (graph : Graph) (well : IsWellFormed g) (canonical : IsCa
                 ]
           ]
 
-      no_shift_of_end : (s t : ℕ) → s < graph_len graph → StandsBefore g (sets_of graph) s (Terminal t)
+      no_shift_of_end : (s t : ℕ) → s < graph_len graph → HasAfterDot g (sets_of graph) s (Terminal t)
           → HasAccept g (sets_of graph) s t → ⊥
       no_shift_of_end s t within before candidate =
           no_end_token g well before.0.prod before.0.dot t (accept_at_end s t within candidate) before.2

@@ -6,7 +6,7 @@ use Rattle.lrpar_grammar.specs.Grammar.{Grammar, GrammarSymbol, Nonterminal, Ter
 use Rattle.lrpar_table_rows.specs.Graph.{Graph, ItemOf, item_at, items_of}
 use Rattle.lrpar_table_rows.specs.Table.{Accepts, Fails, ReduceBy, ShiftTo, Table, action_of}
 use Rattle.lrpar_table_rows.proofs.GraphLemmas.{is_item, item_by_test}
-use Rattle.lrpar_table_items.specs.Canonical.{ActsAsResolved, LeadsTo, StandsBefore, HasAccept, HasFirstReduce, HasReduce, sets_of}
+use Rattle.lrpar_table_items.specs.Canonical.{ActsAsResolved, LeadsTo, HasAfterDot, HasAccept, HasFirstReduce, HasReduce, sets_of}
 use Rattle.lrpar_table_build.proofs.MemberLemmas.{member_cases}
 
 -- an element of a list has what is decided of each, or none has
@@ -106,7 +106,7 @@ module _ (g : Grammar) (graph : Graph) (s : ℕ) where
       ]
 
   -- an item of it stands before the symbol, or none does
-  pub before_decided : (symbol : GrammarSymbol) → StandsBefore g (sets_of graph) s symbol ⊎ ¬ (StandsBefore g (sets_of graph) s symbol)
+  pub before_decided : (symbol : GrammarSymbol) → HasAfterDot g (sets_of graph) s symbol ⊎ ¬ (HasAfterDot g (sets_of graph) s symbol)
   before_decided symbol =
       let next : ItemOf → Option GrammarSymbol = λ x. slice_get (symbols_of g x.prod) x.dot in
       elim (some_or_none (λ x. next x ≡ Some symbol) (λ x. symbol_decided symbol (next x)) (items_of graph s)) [
@@ -146,7 +146,7 @@ module _ (g : Grammar) (graph : Graph) (s : ℕ) where
   module _ (table : Table) (t : ℕ) where
     -- what it does, and why
     pub data IsActing : Type 0 where
-      Shifting : (next : ℕ) → action_of table s t ≡ ShiftTo next → StandsBefore g (sets_of graph) s (Terminal t)
+      Shifting : (next : ℕ) → action_of table s t ≡ ShiftTo next → HasAfterDot g (sets_of graph) s (Terminal t)
           → LeadsTo g (sets_of graph) s (Terminal t) next → IsActing
       Reducing : (p : ℕ) → action_of table s t ≡ ReduceBy p → HasFirstReduce g (sets_of graph) s t p → IsActing
       Accepting : action_of table s t ≡ Accepts → HasAccept g (sets_of graph) s t → IsActing

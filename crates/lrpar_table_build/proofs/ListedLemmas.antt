@@ -12,8 +12,8 @@ use Rattle.lrpar_table_rows.specs.Graph.{Graph, ItemOf, graph_len}
 use Rattle.lrpar_table_rows.specs.Table.{ConflictLists, ReduceReduce, ShiftReduce}
 use Rattle.lrpar_table_rows.proofs.ItemLemmas.{Contains-image, Contains-preimage}
 use Rattle.lrpar_table_build.specs.BuilderLaws.{AreConflictsOf, lists_in}
-use Rattle.lrpar_table_build.specs.Built.{StandInOrder, reduce_reduce_cmp, shift_reduce_cmp}
-use Rattle.lrpar_table_items.specs.Canonical.{AreSame, IsReduceConflict, IsShiftConflict, IsTransition, StandsBefore, HasFirstReduce, sets_of}
+use Rattle.lrpar_table_build.specs.Built.{AreInOrder, reduce_reduce_cmp, shift_reduce_cmp}
+use Rattle.lrpar_table_items.specs.Canonical.{AreSame, IsReduceConflict, IsShiftConflict, IsTransition, HasAfterDot, HasFirstReduce, sets_of}
 use Rattle.lrpar_table_items.specs.Cores.{CoreSet, IsAmong, IsCoreOf}
 use Rattle.lrpar_table_items.specs.StateRows.{reduce_conflicts_below, shift_conflicts_below, unless_empty}
 use Rattle.lrpar_table_items.specs.States.{AreStates, StateOf, sets_at, state_at}
@@ -285,9 +285,9 @@ unless_empty_some (x ∷ xs) ys lists is none nothing =
 
 -- they stand in order
 pub in_order : (g : Grammar) (states : List StateOf) (n : ℕ)
-    → StandInOrder (lists_in (unless_empty (reduce_conflicts_below g states n) (shift_conflicts_below g states n)))
+    → AreInOrder (lists_in (unless_empty (reduce_conflicts_below g states n) (shift_conflicts_below g states n)))
 in_order g states n =
-    subst StandInOrder (sym (unless_empty_is (reduce_conflicts_below g states n) (shift_conflicts_below g states n)))
+    subst AreInOrder (sym (unless_empty_is (reduce_conflicts_below g states n) (shift_conflicts_below g states n)))
     (record { reduce_reduce = states_sorted g states n; shift_reduce = shifts_states_sorted g states n })
 
 -- where a reduction is wanted first, it is the first of the list
@@ -306,12 +306,12 @@ first_splits g sets s cores known is t p first =
 
 -- an item stands before a token just where there is a step by it
 step_before : (g : Grammar) (sets : ℕ → ItemOf → Type 0) (len s t : ℕ) (step : Option ℕ) (next : ℕ) → IsTransition g len sets s (Terminal t) step → step ≡ Some next
-    → StandsBefore g sets s (Terminal t)
+    → HasAfterDot g sets s (Terminal t)
 step_before g sets len s t None next h is = absurd (cc)
 step_before g sets len s t (Some other) next h is = h.0
 
 before_step : (g : Grammar) (sets : ℕ → ItemOf → Type 0) (len s t : ℕ) (step : Option ℕ) → IsTransition g len sets s (Terminal t) step
-    → StandsBefore g sets s (Terminal t) → (next : ℕ) × (step ≡ Some next)
+    → HasAfterDot g sets s (Terminal t) → (next : ℕ) × (step ≡ Some next)
 before_step g sets len s t None h before = absurd (h before)
 before_step g sets len s t (Some next) h before = (next, refl)
 

@@ -11,7 +11,7 @@ use Rattle.lrpar_table_rows.specs.declared.condition.SafetyCondition.{SafetyCond
 use Rattle.lrpar_table_rows.specs.declared.condition.SafetyCondition.TheVariants.{S2, S3, S4, S5, S6, S7, S8}
 use Rattle.lrpar_table_rows.proofs.GraphLemmas.{state_in_range}
 use Rattle.lrpar_table_build.specs.BuilderLaws.{CanonicalTablesAreSafe, IsCanonicalTable}
-use Rattle.lrpar_table_items.specs.Canonical.{AreSame, IsCanonical, LeadsTo, StandsBefore, HasAccept, HasReduce, sets_of}
+use Rattle.lrpar_table_items.specs.Canonical.{AreSame, IsCanonical, LeadsTo, HasAfterDot, HasAccept, HasReduce, sets_of}
 use Rattle.lrpar_table_items.specs.ItemSets.{IsAdvanced, IsInNext, IsReachedBy, Own}
 use Rattle.lrpar_table_build.proofs.DecidedLemmas.{Accepting, Failing, IsActing, Reducing, Shifting, acting, before_decided}
 use Rattle.lrpar_table_build.proofs.ReachedLemmas.{added_is_listed, closure_cases, comes_with_rule, no_end_token, reached_at_end, reached_items, start_is_fresh, start_item_at_start}
@@ -58,7 +58,7 @@ module _ (g : Grammar) (graph : Graph) (table : Table) (well : IsWellFormed g) (
       ]
 
   shift_of_item : (s t next : ℕ) → action_of table s t ≡ ShiftTo next
-      → StandsBefore g (sets_of graph) s (Terminal t) × LeadsTo g (sets_of graph) s (Terminal t) next
+      → HasAfterDot g (sets_of graph) s (Terminal t) × LeadsTo g (sets_of graph) s (Terminal t) next
   shift_of_item s t next at =
       elim (acts_in s t) [
         | Shifting to is before leads ↦
@@ -147,7 +147,7 @@ module _ (g : Grammar) (graph : Graph) (table : Table) (well : IsWellFormed g) (
       let reached = canonical.reached s (state_in_range graph s p 0 has.0 has.1) in
       let here = (reached.1 item).0 has.1 in
       let from = comes_with_rule g well reached.0 item here refl listed in
-      let before : StandsBefore g (sets_of graph) s (Nonterminal (rule_of g p)) = (from.0, (reached.1 from.0).1 from.1, from.2) in
+      let before : HasAfterDot g (sets_of graph) s (Nonterminal (rule_of g p)) = (from.0, (reached.1 from.0).1 from.1, from.2) in
       let known = (reached_items g well reached.0 item here).prod in
       let goes = (resolved.goes s (rule_of g p) within (rule_of_within g p well known)).goes before in (goes.0, goes.1)
   safe_at S7 s within = λ t at.

@@ -7,7 +7,7 @@ use Rattle.std.proofs.lemmas.List.{get_or-map, get_or_past, length-map}
 use Rattle.lrpar_grammar.specs.Grammar.{Grammar, GrammarSymbol, IsWellFormed, tokens_len}
 use Rattle.lrpar_table_rows.specs.Graph.{Graph, HasItem, ItemOf, item_at, items_of}
 use Rattle.lrpar_table_rows.proofs.ItemLemmas.{Contains-image, Contains-preimage}
-use Rattle.lrpar_table_items.specs.Canonical.{AreCanonical, AreSame, IsTransition, LeadsTo, StandsBefore, sets_of}
+use Rattle.lrpar_table_items.specs.Canonical.{AreCanonical, AreSame, IsTransition, LeadsTo, HasAfterDot, sets_of}
 use Rattle.lrpar_table_items.specs.Cores.{CoreSet, IsAmong}
 use Rattle.lrpar_table_items.specs.ItemSets.{Added, IsAdvanced, IsInClosure, IsInNext, IsReachedBy, Own}
 use Rattle.lrpar_table_items.specs.StateRows.{item_rows}
@@ -38,10 +38,10 @@ next_more g items others s more =
 
 module _ (g : Grammar) (sets others : ℕ → ItemOf → Type 0) (same : (s : ℕ) → AreSame (sets s) (others s)) where
   -- an item stands before the symbol in both
-  pub before_same : (s : ℕ) (symbol : GrammarSymbol) → StandsBefore g others s symbol → StandsBefore g sets s symbol
+  pub before_same : (s : ℕ) (symbol : GrammarSymbol) → HasAfterDot g others s symbol → HasAfterDot g sets s symbol
   before_same s symbol h = (h.0, (same s h.0).1 h.1, h.2)
 
-  pub before_other : (s : ℕ) (symbol : GrammarSymbol) → StandsBefore g sets s symbol → StandsBefore g others s symbol
+  pub before_other : (s : ℕ) (symbol : GrammarSymbol) → HasAfterDot g sets s symbol → HasAfterDot g others s symbol
   before_other s symbol h = (h.0, (same s h.0).0 h.1, h.2)
 
   -- both go to the same

@@ -11,7 +11,7 @@ use Rattle.lrpar_grammar.specs.Grammar.{Grammar, GrammarSymbol, IsWellFormed, No
 use Rattle.lrpar_table_rows.specs.Graph.{item_at}
 use Rattle.lrpar_table_rows.specs.Table.{AreEntries, IsActionEntry, IsActionWithin, IsGotoEntry, IsTable, TableAction, ShiftTo, ReduceBy, Accepts, Fails, action_of, actions_at, goto_of}
 use Rattle.lrpar_table_rows.proofs.EntryLemmas.{entry_found}
-use Rattle.lrpar_table_items.specs.Canonical.{IsTransition, StandsBefore}
+use Rattle.lrpar_table_items.specs.Canonical.{IsTransition, HasAfterDot}
 use Rattle.lrpar_table_items.specs.Cores.{IsAmong}
 use Rattle.lrpar_table_items.specs.ItemSets.{Own}
 use Rattle.lrpar_table_items.specs.StateRows.{table_of_states}
@@ -130,7 +130,7 @@ module _ (g : Grammar) (states : List StateOf) (are : AreStates g states) (well 
 
   -- what a step says
   step_some : (s : ℕ) (symbol : GrammarSymbol) (step : Option ℕ) (next : ℕ) → IsTransition g (length states) (sets_at states) s symbol step → step ≡ Some next
-      → StandsBefore g (sets_at states) s symbol × (next < length states)
+      → HasAfterDot g (sets_at states) s symbol × (next < length states)
   step_some s symbol None next h is = absurd (cc)
   step_some s symbol (Some other) next h is = let same : other ≡ next = cc in (h.0, subst (λ n. n < length states) same h.1)
 

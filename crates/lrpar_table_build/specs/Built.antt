@@ -23,7 +23,7 @@ abbrev pub shift_reduce_cmp : ShiftReduce → ShiftReduce → Ordering
 shift_reduce_cmp x y = ordering_then (nat_cmp x.state y.state) (nat_cmp x.token y.token)
 
 -- the conflicts stand in their order, each once
-pub record StandInOrder (lists : ConflictLists) : Type 0 where
+pub record AreInOrder (lists : ConflictLists) : Type 0 where
   pub reduce_reduce : IsStrictlySortedBy reduce_reduce_cmp lists.reduce_reduce
   pub shift_reduce : IsStrictlySortedBy shift_reduce_cmp lists.shift_reduce
 
@@ -34,7 +34,7 @@ pub record IsBuilt (g : Grammar) (graph : Graph) (table : Table) : Type 0 where
   pub resolved : IsCanonicalTable g graph table
   pub safe : IsSafe g graph table
   pub conflicts : AreConflictsOf g graph table.conflicts
-  pub in_order : StandInOrder (lists_in table.conflicts)
+  pub in_order : AreInOrder (lists_in table.conflicts)
   pub fit : ConflictsFit g (lists_in table.conflicts)
   pub no_conflicts : (table.conflicts ≡ None) ↔ HaveOneAction g (graph_len graph) (sets_of graph)
   pub accept_alone : AcceptAlone g (graph_len graph) (sets_of graph)

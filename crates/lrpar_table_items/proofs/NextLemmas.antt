@@ -11,7 +11,7 @@ use Rattle.lrpar_table_rows.specs.Graph.{ItemOf, item_at}
 use Rattle.lrpar_table_items.specs.Cores.{CoreSet, IsAmong, IsCoreOf, IsOfCore}
 use Rattle.lrpar_table_items.specs.ItemSets.{IsAdvanced}
 use Rattle.lrpar_table_items.specs.CoreOrder.{AreCores, AreCoresInOrder, ComesBefore, IsBegun, IsFilled, IsKernel}
-use Rattle.lrpar_table_items.specs.Next.{StandBefore, advanced, is_symbol, next_kernel, symbol_after}
+use Rattle.lrpar_table_items.specs.Next.{HaveAfterDot, advanced, is_symbol, next_kernel, symbol_after}
 use Rattle.lrpar_table_items.proofs.CoreLemmas.{among_cons, among_nil}
 
 -- the test of a symbol holds where it is that symbol
@@ -157,7 +157,7 @@ module _ (g : Grammar) (symbol : GrammarSymbol) where
   next_begun cores = All-map (IsBegun g) advanced (filter before cores) (λ k d low. inl (omega arith))
 
   -- it has cores exactly where an item stands before the symbol
-  pub next_some : (cores : List CoreSet) → StandBefore g cores symbol → 0 < length (next_kernel g symbol cores)
+  pub next_some : (cores : List CoreSet) → HaveAfterDot g cores symbol → 0 < length (next_kernel g symbol cores)
   next_some cores h =
       let x = h.0 in
       let there = (next_from cores (item_at x.prod (x.dot + 1) x.token) (x, h.1, h.2, refl)).1 in
@@ -183,7 +183,7 @@ some_item (core ∷ cores) filled some =
     (x, (among_cons core cores x).1 (inl (refl, refl, first.1)))
 
 pub next_stands : (g : Grammar) (symbol : GrammarSymbol) (cores : List CoreSet) → AreCores g cores → 0 < length (next_kernel g symbol cores)
-    → StandBefore g cores symbol
+    → HaveAfterDot g cores symbol
 next_stands g symbol cores are some =
     let item = some_item (next_kernel g symbol cores) (next_cores g symbol cores are).filled some in
     let from = next_to g symbol cores item.0 item.1 in

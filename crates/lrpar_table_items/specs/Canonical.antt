@@ -28,8 +28,8 @@ pub record ReachesMore (g : Grammar) (n : ℕ) : Type 0 where
       → AreSame (IsReachedBy g (slice_index_or paths s [])) (IsReachedBy g (slice_index_or paths other [])) → s ≡ other
 
 -- an item of set s stands before the symbol
-abbrev pub StandsBefore : Grammar → (ℕ → ItemOf → Type 0) → ℕ → GrammarSymbol → Type 0
-StandsBefore g sets s symbol = (x : ItemOf) × sets s x × (slice_get (symbols_of g x.prod) x.dot ≡ Some symbol)
+abbrev pub HasAfterDot : Grammar → (ℕ → ItemOf → Type 0) → ℕ → GrammarSymbol → Type 0
+HasAfterDot g sets s symbol = (x : ItemOf) × sets s x × (slice_get (symbols_of g x.prod) x.dot ≡ Some symbol)
 
 -- set s goes to set next by a symbol
 abbrev pub LeadsTo : Grammar → (ℕ → ItemOf → Type 0) → ℕ → GrammarSymbol → ℕ → Type 0
@@ -37,8 +37,8 @@ LeadsTo g sets s symbol next = AreSame (sets next) (IsInNext g (sets s) symbol)
 
 -- this is where set s goes by a symbol: to one of the len sets if an item stands before it, and else nowhere
 abbrev pub IsTransition : Grammar → ℕ → (ℕ → ItemOf → Type 0) → ℕ → GrammarSymbol → Option ℕ → Type 0
-IsTransition g len sets s symbol None = ¬ (StandsBefore g sets s symbol)
-IsTransition g len sets s symbol (Some next) = StandsBefore g sets s symbol × (next < len) × LeadsTo g sets s symbol next
+IsTransition g len sets s symbol None = ¬ (HasAfterDot g sets s symbol)
+IsTransition g len sets s symbol (Some next) = HasAfterDot g sets s symbol × (next < len) × LeadsTo g sets s symbol next
 
 -- at token t set s has a complete item `A: v .` of production p, which isn't the start production
 abbrev pub HasReduce : Grammar → (ℕ → ItemOf → Type 0) → ℕ → ℕ → ℕ → Type 0
@@ -54,17 +54,17 @@ HasAccept g sets s t = sets s (item_at (start_prod g) 1 t)
 
 -- what the table does in state s at token t is what its items want: first of all a shift, then the first reduction, then to accept
 pub record ActsAsResolved (g : Grammar) (sets : ℕ → ItemOf → Type 0) (table : Table) (s t : ℕ) : Type 0 where
-  pub shifts : StandsBefore g sets s (Terminal t) → (next : ℕ) × (action_of table s t ≡ ShiftTo next) × LeadsTo g sets s (Terminal t) next
-  pub reduces : ¬ (StandsBefore g sets s (Terminal t)) → (p : ℕ) → HasFirstReduce g sets s t p → action_of table s t ≡ ReduceBy p
-  pub accepts : ¬ (StandsBefore g sets s (Terminal t)) → ((p : ℕ) → ¬ (HasReduce g sets s t p)) → HasAccept g sets s t
+  pub shifts : HasAfterDot g sets s (Terminal t) → (next : ℕ) × (action_of table s t ≡ ShiftTo next) × LeadsTo g sets s (Terminal t) next
+  pub reduces : ¬ (HasAfterDot g sets s (Terminal t)) → (p : ℕ) → HasFirstReduce g sets s t p → action_of table s t ≡ ReduceBy p
+  pub accepts : ¬ (HasAfterDot g sets s (Terminal t)) → ((p : ℕ) → ¬ (HasReduce g sets s t p)) → HasAccept g sets s t
       → action_of table s t ≡ Accepts
-  pub fails : ¬ (StandsBefore g sets s (Terminal t)) → ((p : ℕ) → ¬ (HasReduce g sets s t p)) → ¬ (HasAccept g sets s t)
+  pub fails : ¬ (HasAfterDot g sets s (Terminal t)) → ((p : ℕ) → ¬ (HasReduce g sets s t p)) → ¬ (HasAccept g sets s t)
       → action_of table s t ≡ Fails
 
 -- the table goes from state s by rule r where its items do
 pub record GoesAsItems (g : Grammar) (sets : ℕ → ItemOf → Type 0) (table : Table) (s r : ℕ) : Type 0 where
-  pub goes : StandsBefore g sets s (Nonterminal r) → (next : ℕ) × (goto_of table s r ≡ Some next) × LeadsTo g sets s (Nonterminal r) next
-  pub stays : ¬ (StandsBefore g sets s (Nonterminal r)) → goto_of table s r ≡ None
+  pub goes : HasAfterDot g sets s (Nonterminal r) → (next : ℕ) × (goto_of table s r ≡ Some next) × LeadsTo g sets s (Nonterminal r) next
+  pub stays : ¬ (HasAfterDot g sets s (Nonterminal r)) → goto_of table s r ≡ None
 
 -- at its token its state wants the first reduction, and the second one, which is another
 abbrev pub IsReduceConflict : Grammar → (ℕ → ItemOf → Type 0) → ReduceReduce → Type 0
@@ -72,7 +72,7 @@ IsReduceConflict g sets x = HasFirstReduce g sets x.state x.token x.first × Has
 
 -- at its token its state wants to shift, and the first reduction
 abbrev pub IsShiftConflict : Grammar → (ℕ → ItemOf → Type 0) → ShiftReduce → Type 0
-IsShiftConflict g sets x = StandsBefore g sets x.state (Terminal x.token) × HasFirstReduce g sets x.state x.token x.prod
+IsShiftConflict g sets x = HasAfterDot g sets x.state (Terminal x.token) × HasFirstReduce g sets x.state x.token x.prod
 
 -- at the end token the set wants to accept, and a reduction
 abbrev pub IsAcceptConflict : Grammar → (ℕ → ItemOf → Type 0) → ℕ → Type 0

@@ -3,7 +3,7 @@ use Rattle.std.specs.Prelude.{◌≡◌, ◌<◌, ◌≤◌, ℕ, List, [], Opti
 use Rattle.lrpar_grammar.specs.Grammar.{Grammar, GrammarSymbol}
 use Rattle.lrpar_table_items.specs.CoreOrder.{IsKernel}
 use Rattle.lrpar_table_items.specs.Cores.{CoreSet, IsAmong}
-use Rattle.lrpar_table_items.specs.Next.{StandBefore, kernel_at}
+use Rattle.lrpar_table_items.specs.Next.{HaveAfterDot, kernel_at}
 use Rattle.lrpar_table_items.specs.ItemSets.{IsAdvanced, IsInClosure, IsReachedBy}
 use Rattle.lrpar_table_items.specs.Canonical.{AreSame}
 
@@ -30,6 +30,6 @@ pub record AreKept (before after : List (List CoreSet)) : Type 0 where
 
 -- this is where a state with these cores goes by a symbol: to one of the kernels if an item stands before it, and else nowhere
 abbrev pub GoesTo : Grammar → List (List CoreSet) → List CoreSet → GrammarSymbol → Option ℕ → Type 0
-GoesTo g kernels cores symbol None = ¬ (StandBefore g cores symbol)
+GoesTo g kernels cores symbol None = ¬ (HaveAfterDot g cores symbol)
 GoesTo g kernels cores symbol (Some next) =
-    StandBefore g cores symbol × (next < length kernels) × AreSame (IsAmong (kernel_at kernels next)) (IsAdvanced g (IsAmong cores) symbol)
+    HaveAfterDot g cores symbol × (next < length kernels) × AreSame (IsAmong (kernel_at kernels next)) (IsAdvanced g (IsAmong cores) symbol)

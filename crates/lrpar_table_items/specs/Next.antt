@@ -32,8 +32,8 @@ abbrev pub next_kernel : Grammar → GrammarSymbol → List CoreSet → List Cor
 next_kernel g symbol cores = map advanced (filter (λ core. is_symbol symbol (symbol_after g core)) cores)
 
 -- an item of the cores stands before the symbol
-abbrev pub StandBefore : Grammar → List CoreSet → GrammarSymbol → Type 0
-StandBefore g cores symbol = (x : ItemOf) × IsAmong cores x × (slice_get (symbols_of g x.prod) x.dot ≡ Some symbol)
+abbrev pub HaveAfterDot : Grammar → List CoreSet → GrammarSymbol → Type 0
+HaveAfterDot g cores symbol = (x : ItemOf) × IsAmong cores x × (slice_get (symbols_of g x.prod) x.dot ≡ Some symbol)
 
 -- kernel s; out of range, one without cores
 abbrev pub kernel_at : List (List CoreSet) → ℕ → List CoreSet

@@ -6,7 +6,7 @@ use Rattle.lrpar_table_rows.specs.Safe.{CoresFollow, GoesBy}
 use Rattle.lrpar_table_rows.specs.declared.condition.SafetyCondition.TheVariants.{S4, S8}
 use Rattle.lrpar_table_rows.specs.Table.{IsClosed, Table, states_len}
 use Rattle.lrpar_table_build.specs.Built.{IsBuilt}
-use Rattle.lrpar_table_items.specs.Canonical.{AreSame, LeadsTo, StandsBefore, sets_of}
+use Rattle.lrpar_table_items.specs.Canonical.{AreSame, LeadsTo, HasAfterDot, sets_of}
 use Rattle.lrpar_table_items.specs.ItemSets.{Added, IsAdvanced, IsInClosure, IsInNext, IsReachedBy, Own}
 use Rattle.lrpar_table_build.proofs.ReachedLemmas.{symbol_listed}
 use Rattle.lrpar_table_build.proofs.SetLemmas.{next_more, same_back, same_on}
@@ -23,7 +23,7 @@ next_same g items others s same x = (next_more g items others s (λ y. (same y).
 
 module _ (g : Grammar) (graph : Graph) (table : Table) (well : IsWellFormed g) (built : IsBuilt g graph table) (closed : IsClosed table) where
   -- where an item stands before a symbol the table goes, and the sets do
-  pub goes_before : (s : ℕ) (x : GrammarSymbol) → s < states_len table → StandsBefore g (sets_of graph) s x
+  pub goes_before : (s : ℕ) (x : GrammarSymbol) → s < states_len table → HasAfterDot g (sets_of graph) s x
       → (next : ℕ) × GoesBy table s x next × LeadsTo g (sets_of graph) s x next
   goes_before s (Terminal t) within before =
       let listed : t < end_token g = symbol_listed g well before.0.prod before.0.dot (Terminal t) before.2 in
@@ -46,7 +46,7 @@ module _ (g : Grammar) (graph : Graph) (table : Table) (well : IsWellFormed g) (
   in_graph s within = let count = built.wanted.states in omega (arith, within, count)
 
   -- where the table goes by a symbol an item stands before it
-  stands_there : (s next : ℕ) (x : GrammarSymbol) → s < states_len table → GoesBy table s x next → StandsBefore g (sets_of graph) s x
+  stands_there : (s next : ℕ) (x : GrammarSymbol) → s < states_len table → GoesBy table s x next → HasAfterDot g (sets_of graph) s x
   stands_there s next x within goes =
       let low = in_graph next (goes_within s next x goes) in
       let reached = built.canonical.reached next low in
@@ -54,7 +54,7 @@ module _ (g : Grammar) (graph : Graph) (table : Table) (well : IsWellFormed g) (
       by_path reached.0 reached.1 some.0 some.1
     where
       by_path : (path : List GrammarSymbol) → AreSame (sets_of graph next) (IsReachedBy g path) → (y : ItemOf) → sets_of graph next y
-          → StandsBefore g (sets_of graph) s x
+          → HasAfterDot g (sets_of graph) s x
       by_path [] same y there =
           let start = built.canonical.start in
           let zero : next ≡ 0 =
@@ -98,7 +98,7 @@ module _ (g : Grammar) (graph : Graph) (table : Table) (well : IsWellFormed g) (
       let from = given.1.0 in
       let one = built.canonical.all path from given.1.1 in
       let low : one.0 < states_len table = let count = built.wanted.states in let inside = one.1 in omega (arith, count, inside) in
-      let before : StandsBefore g (sets_of graph) one.0 x = (from, (one.2 from).1 given.1.1, given.1.2) in
+      let before : HasAfterDot g (sets_of graph) one.0 x = (from, (one.2 from).1 given.1.1, given.1.2) in
       let to = goes_before one.0 x low before in
       let there : AreSame (sets_of graph to.0) (IsReachedBy g (x ∷ path)) =
       same_on (sets_of graph to.0) (IsInNext g (sets_of graph one.0) x) (IsInNext g (IsReachedBy g path) x) to.2

@@ -3,7 +3,7 @@ use Rattle.std.specs.List.{find}
 use Rattle.lrpar_grammar_words.specs.Words.{PlacedWord, placed}
 use Rattle.lrpar_grammar_words.specs.Outline.{alternative_of, outline_of}
 use Rattle.lrpar_grammar_reader.specs.Names.{is_among}
-use Rattle.lrpar_grammar_reader.specs.Spells.{StandsAt}
+use Rattle.lrpar_grammar_reader.specs.Spells.{LiesAt}
 use Rattle.lrpar_grammar_reader.specs.TextNames.{numbering_by}
 use Rattle.lrpar_grammar_reader.proofs.FaultsLemmas.{no_token_rule, no_unknown_rule, start_unknown, symbol_unknown}
 use Rattle.lrpar_grammar_reader.proofs.wrong_names.has_known_names.Goals as goal
@@ -36,6 +36,6 @@ returns-in-Some-find_missing-2-clause-err c =
       no_token_rule n (map placed c.words.result.now) c.words.ensures c.in_default.ensures,
       no_unknown_rule n (outline_of c.args.outline.now) (map placed c.deref.result.now) (map alternative_of c.deref-2.result.now)
           (ap (map placed) c.deref.ensures.value) (ap (map alternative_of) c.deref-2.ensures.value) c.in_default-find_missing.ensures c.in_default-unknown_symbol.ensures,
-      subst (λ s. StandsAt (find (λ (w : PlacedWord). not (is_among w.name n.tokens)) (map placed s)) c.in-Some-find_missing-2.span) c.deref-3.ensures.value
+      subst (λ s. LiesAt (find (λ (w : PlacedWord). not (is_among w.name n.tokens)) (map placed s)) c.in-Some-find_missing-2.span) c.deref-3.ensures.value
           c.in-Some-find_missing-2.ensures,
     )

@@ -3,7 +3,7 @@ use Rattle.std.specs.List.{All, find}
 use Rattle.std.proofs.lemmas.List.{get_or-map, length-map}
 use Rattle.lrpar_grammar_words.specs.Words.{PlacedWord, placed}
 use Rattle.lrpar_grammar_words.specs.Outline.{TextAlternative, alternative_of}
-use Rattle.lrpar_grammar_reader.specs.Spells.{StandsAt, is_known}
+use Rattle.lrpar_grammar_reader.specs.Spells.{LiesAt, is_known}
 use Rattle.lrpar_grammar_reader.specs.TextNames.{numbering_by}
 use Rattle.lrpar_grammar_reader.proofs.FaultsLemmas.{all_of, none_fails_in, stands_in}
 use Rattle.lrpar_grammar_reader.proofs.GrowthLemmas.{all_more}
@@ -18,11 +18,11 @@ returns-in-Some c =
     let within : i < length xs = omega arith in
     let at : get_or (map alternative_of xs) i (alternative_of x) ≡ alternative_of x =
     get_or-map alternative_of xs i x (alternative_of x) within ∙ ap alternative_of (sym c.alternative-item.is) in
-    let here : StandsAt (find (λ w. not (is_known n w)) (map placed x.symbols.items)) c.in-Some.span =
-    subst (λ s. StandsAt (find (λ w. not (is_known n w)) (map placed s)) c.in-Some.span) c.deref.ensures.value c.in-Some.ensures in
+    let here : LiesAt (find (λ w. not (is_known n w)) (map placed x.symbols.items)) c.in-Some.span =
+    subst (λ s. LiesAt (find (λ w. not (is_known n w)) (map placed s)) c.in-Some.span) c.deref.ensures.value c.in-Some.ensures in
     stands_in (λ w. not (is_known n w)) (λ (y : TextAlternative). y.symbols) (map alternative_of xs) i (alternative_of x) c.in-Some.span (omega (arith, length-map xs alternative_of))
     (none_fails_in (is_known n) (λ (y : TextAlternative). y.symbols) (take i (map alternative_of xs)) c.loop-alternative.invariant)
-    (subst (λ (y : TextAlternative). StandsAt (find (λ w. not (is_known n w)) y.symbols) c.in-Some.span) (sym at) here)
+    (subst (λ (y : TextAlternative). LiesAt (find (λ w. not (is_known n w)) y.symbols) c.in-Some.span) (sym at) here)
 
 pub loop-alternative-preserved : goal.loop-alternative-preserved
 loop-alternative-preserved c =

@@ -3,7 +3,7 @@ use Rattle.std.specs.Prelude.{map}
 use Rattle.lrpar_parse_lexemes.specs.Known.{facts_by}
 use Rattle.lrpar_parse_lexemes.specs.Lexemes.{start_at}
 use Rattle.lrpar_parse_run.specs.Moves.{RiseUpTo}
-use Rattle.lrpar_parse_run.specs.Standing.{IsRunStack}
+use Rattle.lrpar_parse_run.specs.RunStack.{IsRunStack}
 use Rattle.lrpar_parse_run.proofs.FarLemmas.{HasCome}
 use Rattle.lrpar_parse_run.proofs.run.Run.far.Given as goal
 

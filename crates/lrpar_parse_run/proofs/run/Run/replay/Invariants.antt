@@ -4,7 +4,7 @@ use Rattle.lrpar_parse_lexemes.specs.Known.{facts_by}
 use Rattle.lrpar_parse_lexemes.specs.Lexemes.{start_at}
 use Rattle.lrpar_parse_run.specs.Moves.{CanReplay, IsReplayed, RiseUpTo}
 use Rattle.lrpar_parse_repair.specs.PlainSteps.{plain_steps}
-use Rattle.lrpar_parse_run.specs.Standing.{IsRunStack}
+use Rattle.lrpar_parse_run.specs.RunStack.{IsRunStack}
 use Rattle.lrpar_parse_run.proofs.run.Run.replay.Given as goal
 
 -- the steps so far are replayed, and those that are left can be

@@ -2,7 +2,7 @@ use Rattle.std.proofs.Common.{◌≡◌, ◌∙◌, [], None, Some, List, ap, ar
 use Rattle.std.specs.List.{AllZip}
 use Rattle.lrpar_parse_run.specs.WholeRunView.{subject}
 use Rattle.lrpar_parse_run.specs.RepairAnswer.{IsRepairErrorOf}
-use Rattle.lrpar_parse_run.specs.Standing.{Stacked}
+use Rattle.lrpar_parse_run.specs.RunStack.{Stacked}
 use Rattle.lrpar_parse_lexemes.specs.Known.{facts_by}
 use Rattle.lrpar_parse_run.proofs.AskedLemmas.{far_fails}
 use Rattle.lrpar_parse_run.proofs.WholeRunLemmas.{accepted_answer, stop_ends, stop_feeds, stop_goes_on, stop_smaller, there_accepts, there_first}

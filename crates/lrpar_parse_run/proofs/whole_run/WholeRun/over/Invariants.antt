@@ -7,7 +7,7 @@ use Rattle.lrpar_parse_run.specs.Moves.{RiseUpTo}
 use Rattle.lrpar_parse_run.specs.RepairAnswer.{IsRepairErrorOf}
 use Rattle.lrpar_parse_run.specs.RepairRun.{RepairStop}
 use Rattle.lrpar_parse_repair.specs.Sequences.{CanGoOn}
-use Rattle.lrpar_parse_run.specs.Standing.{IsRunStack}
+use Rattle.lrpar_parse_run.specs.RunStack.{IsRunStack}
 use Rattle.lrpar_parse_run.proofs.WholeRunLemmas.{IsThere}
 use Rattle.lrpar_parse_run.proofs.whole_run.WholeRun.over.Given as goal
 

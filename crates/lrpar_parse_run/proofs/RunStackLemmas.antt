@@ -12,7 +12,7 @@ use Rattle.std.proofs.lemmas.Slice.Zip.{AllZip-long}
 use Rattle.lrpar_parse_run.specs.Building.{Building}
 use Rattle.lrpar_parse_run.specs.End.{IsOfTree}
 use Rattle.lrpar_parse_run.specs.RunAnswer.{IsValueOf}
-use Rattle.lrpar_parse_run.specs.Standing.{AllStand, StandsFor, Stacked, ReducesTo, ReducesAllTo, kept_by, popped_by}
+use Rattle.lrpar_parse_run.specs.RunStack.{AllRepresent, Represents, Stacked, ReducesTo, ReducesAllTo, kept_by, popped_by}
 use Rattle.lrpar_parse_run.specs.ZipLaws.{zip_push, zip_take}
 use Rattle.lrpar_parse_run.proofs.ListLemmas.{zip_one}
 
@@ -43,7 +43,7 @@ module _ {X E : Type 0} (token : X → ℕ) (leaf : X → E → Type 0) (node : 
 
   -- one more entry stands for it
   with_last_stands : (before : Option E) (trees : Forest X) (entries : List E) (u : Tree X) (e : E)
-      → AllStand leaf node before trees entries → StandsFor leaf node (last_or before entries) u e → AllStand leaf node before (with_last trees u) (entries ++ e ∷ [])
+      → AllRepresent leaf node before trees entries → Represents leaf node (last_or before entries) u e → AllRepresent leaf node before (with_last trees u) (entries ++ e ∷ [])
   with_last_stands before Nil [] u e stands last = (last, tt)
   with_last_stands before Nil (x ∷ xs) u e stands last = absurd stands
   with_last_stands before (Cons t ts) [] u e stands last = absurd stands
@@ -55,14 +55,14 @@ module _ {X E : Type 0} (token : X → ℕ) (leaf : X → E → Type 0) (node : 
     pub back : Forest X
     pub front_fits : ForestFits token g front below
     pub back_fits : ForestFits token g back top
-    pub front_stands : AllStand leaf node before front (take (length below) entries)
-    pub back_stands : AllStand leaf node (last_or before (take (length below) entries)) back (drop (length below) entries)
+    pub front_stands : AllRepresent leaf node before front (take (length below) entries)
+    pub back_stands : AllRepresent leaf node (last_or before (take (length below) entries)) back (drop (length below) entries)
     pub leaves_are : forest_leaves front ++ forest_leaves back ≡ forest_leaves trees
     pub productions_are : forest_productions front ++ forest_productions back ≡ forest_productions trees
 
   -- such trees can be cut there
   cut : (before : Option E) (trees : Forest X) (below top : List GrammarSymbol) (entries : List E)
-      → ForestFits token g trees (below ++ top) → AllStand leaf node before trees entries → IsCut before trees below top entries
+      → ForestFits token g trees (below ++ top) → AllRepresent leaf node before trees entries → IsCut before trees below top entries
   cut before trees [] top entries fits stands = record {
     front = Nil;
     back = trees;
@@ -90,50 +90,50 @@ module _ {X E : Type 0} (token : X → ℕ) (leaf : X → E → Type 0) (node : 
 
   -- The states are joined by symbols, each of which a tree fits and an entry suits; the entries stand for these trees, whose
   -- leaves are the lexemes consumed so far, and whose productions are those of the reductions made so far.
-  pub record IsStanding (stack : Stacked E) (consumed : List X) (prods : List ℕ) : Type 0 where
+  pub record IsRepresented (stack : Stacked E) (consumed : List X) (prods : List ℕ) : Type 0 where
     pub symbols : List GrammarSymbol
     pub trees : Forest X
     pub path : IsPath table symbols stack.states
     pub suit : AllZip suits symbols stack.entries
     pub fits : ForestFits token g trees symbols
-    pub stands : AllStand leaf node None trees stack.entries
+    pub stands : AllRepresent leaf node None trees stack.entries
     pub leaves_are : forest_leaves trees ≡ consumed
     pub productions_are : forest_productions trees ≡ prods
 
   -- at the start the start state stands alone, with nothing consumed
-  pub standing_start : (stack : Stacked E) → stack.states ≡ table.start ∷ [] → stack.entries ≡ [] → IsStanding stack [] []
-  standing_start stack states entries = record {
+  pub represented_start : (stack : Stacked E) → stack.states ≡ table.start ∷ [] → stack.entries ≡ [] → IsRepresented stack [] []
+  represented_start stack states entries = record {
     symbols = [];
     trees = Nil;
     path = subst (IsPath table []) (sym states) (refl, tt);
     suit = subst (AllZip suits []) (sym entries) tt;
     fits = tt;
-    stands = subst (AllStand leaf node None Nil) (sym entries) tt;
+    stands = subst (AllRepresent leaf node None Nil) (sym entries) tt;
     leaves_are = refl;
     productions_are = refl;
   }
 
   -- a lexeme is shifted
-  pub standing_shift : (old new : Stacked E) (consumed : List X) (prods : List ℕ) (x : X) (e : E) (next : ℕ)
-      → (h : IsStanding old consumed prods) → IsPath table (h.symbols ++ Terminal (token x) ∷ []) (old.states ++ next ∷ [])
+  pub represented_shift : (old new : Stacked E) (consumed : List X) (prods : List ℕ) (x : X) (e : E) (next : ℕ)
+      → (h : IsRepresented old consumed prods) → IsPath table (h.symbols ++ Terminal (token x) ∷ []) (old.states ++ next ∷ [])
       → leaf x e → suits (Terminal (token x)) e → new.states ≡ old.states ++ next ∷ [] → new.entries ≡ old.entries ++ e ∷ []
-      → IsStanding new (consumed ++ x ∷ []) prods
-  standing_shift old new consumed prods x e next h path made suit states entries = record {
+      → IsRepresented new (consumed ++ x ∷ []) prods
+  represented_shift old new consumed prods x e next h path made suit states entries = record {
     symbols = h.symbols ++ Terminal (token x) ∷ [];
     trees = with_last h.trees (Leaf x);
     path = subst (IsPath table (h.symbols ++ Terminal (token x) ∷ [])) (sym states) path;
     suit = subst (AllZip suits (h.symbols ++ Terminal (token x) ∷ [])) (sym entries) (zip_push suits h.symbols old.entries (Terminal (token x)) e h.suit suit);
     fits = with_last_fits h.trees h.symbols (Leaf x) (Terminal (token x)) h.fits refl;
-    stands = subst (AllStand leaf node None (with_last h.trees (Leaf x))) (sym entries) (with_last_stands None h.trees old.entries (Leaf x) e h.stands made);
+    stands = subst (AllRepresent leaf node None (with_last h.trees (Leaf x))) (sym entries) (with_last_stands None h.trees old.entries (Leaf x) e h.stands made);
     leaves_are = with_last_leaves h.trees (Leaf x) ∙ ap (λ w. w ++ x ∷ []) h.leaves_are;
     productions_are = with_last_productions h.trees (Leaf x) ∙ append-nil (forest_productions h.trees) ∙ h.productions_are;
   }
 
   -- a reduction is made
-  pub standing_reduce : (old new : Stacked E) (consumed : List X) (prods : List ℕ) (t p : ℕ)
-      → (h : IsStanding old consumed prods) → (along : ReducesAlong g table h.symbols old.states t p)
-      → ReducesTo node suits g table t old p new → IsStanding new consumed (prods ++ p ∷ [])
-  standing_reduce old new consumed prods t p h along r =
+  pub represented_reduce : (old new : Stacked E) (consumed : List X) (prods : List ℕ) (t p : ℕ)
+      → (h : IsRepresented old consumed prods) → (along : ReducesAlong g table h.symbols old.states t p)
+      → ReducesTo node suits g table t old p new → IsRepresented new consumed (prods ++ p ∷ [])
+  represented_reduce old new consumed prods t p h along r =
       let split_suit : AllZip suits (along.below ++ symbols_of g p) old.entries = subst (λ (symbols : List GrammarSymbol). AllZip suits symbols old.entries) along.split h.suit in
       let len : length old.entries ≡ length along.below + prod_len g p =
       AllZip-long suits (along.below ++ symbols_of g p) old.entries split_suit ∙ length-append along.below (symbols_of g p) in
@@ -141,9 +141,9 @@ module _ {X E : Type 0} (token : X → ℕ) (leaf : X → E → Type 0) (node : 
       let parts = cut None h.trees along.below (symbols_of g p) old.entries (subst (ForestFits token g h.trees) along.split h.fits) h.stands in
       let u : Tree X = Branch p parts.back in
       let kept = kept_by g p old.entries in
-      let front : AllStand leaf node None parts.front kept = subst (λ n. AllStand leaf node None parts.front (take n old.entries)) at_cut parts.front_stands in
-      let back : AllStand leaf node (last_or None kept) parts.back (popped_by g p old.entries) =
-      subst (λ n. AllStand leaf node (last_or None (take n old.entries)) parts.back (drop n old.entries)) at_cut parts.back_stands in
+      let front : AllRepresent leaf node None parts.front kept = subst (λ n. AllRepresent leaf node None parts.front (take n old.entries)) at_cut parts.front_stands in
+      let back : AllRepresent leaf node (last_or None kept) parts.back (popped_by g p old.entries) =
+      subst (λ n. AllRepresent leaf node (last_or None (take n old.entries)) parts.back (drop n old.entries)) at_cut parts.back_stands in
       let below_suit : AllZip suits along.below kept = subst (λ n. AllZip suits along.below (take n old.entries)) at_cut (zip_take suits along.below (symbols_of g p) old.entries split_suit) in
       let same : along.after ≡ new.states = reduces_to_one g table t old.states p p along.after new.states along.reduces r.of_states in
       let symbols : List GrammarSymbol = along.below ++ Nonterminal (rule_of g p) ∷ [] in
@@ -153,7 +153,7 @@ module _ {X E : Type 0} (token : X → ℕ) (leaf : X → E → Type 0) (node : 
         path = subst (IsPath table symbols) same along.path;
         suit = subst (AllZip suits symbols) (sym r.of_entries) (zip_push suits along.below kept (Nonterminal (rule_of g p)) r.entry below_suit r.suit);
         fits = with_last_fits parts.front along.below u (Nonterminal (rule_of g p)) parts.front_fits (along.reduces.known, refl, parts.back_fits);
-        stands = subst (AllStand leaf node None (with_last parts.front u)) (sym r.of_entries)
+        stands = subst (AllRepresent leaf node None (with_last parts.front u)) (sym r.of_entries)
             (with_last_stands None parts.front kept u r.entry front (popped_by g p old.entries, back, r.made));
         leaves_are = with_last_leaves parts.front u ∙ parts.leaves_are ∙ h.leaves_are;
         productions_are = with_last_productions parts.front u
@@ -162,23 +162,23 @@ module _ {X E : Type 0} (token : X → ℕ) (leaf : X → E → Type 0) (node : 
       }
 
   -- and so are several
-  pub standing_reduce_all : NeverSticks g table → (t : ℕ) (old : Stacked E) (ps : List ℕ) (new : Stacked E) (consumed : List X) (prods : List ℕ)
-      → IsStanding old consumed prods → ReducesAllTo node suits g table t old ps new → IsStanding new consumed (prods ++ ps)
-  standing_reduce_all never t old [] new consumed prods h e =
-      subst (IsStanding new consumed) (sym (append-nil prods)) (subst (λ (stack : Stacked E). IsStanding stack consumed prods) e h)
-  standing_reduce_all never t old (p ∷ ps) new consumed prods h all =
+  pub represented_reduce_all : NeverSticks g table → (t : ℕ) (old : Stacked E) (ps : List ℕ) (new : Stacked E) (consumed : List X) (prods : List ℕ)
+      → IsRepresented old consumed prods → ReducesAllTo node suits g table t old ps new → IsRepresented new consumed (prods ++ ps)
+  represented_reduce_all never t old [] new consumed prods h e =
+      subst (IsRepresented new consumed) (sym (append-nil prods)) (subst (λ (stack : Stacked E). IsRepresented stack consumed prods) e h)
+  represented_reduce_all never t old (p ∷ ps) new consumed prods h all =
       let along = never.reduces h.symbols old.states t p h.path all.1.of_states.action in
-      subst (IsStanding new consumed) (append_assoc prods (p ∷ []) ps)
-      (standing_reduce_all never t all.0 ps new consumed (prods ++ p ∷ []) (standing_reduce old all.0 consumed prods t p h along all.1) all.2)
+      subst (IsRepresented new consumed) (append_assoc prods (p ∷ []) ps)
+      (represented_reduce_all never t all.0 ps new consumed (prods ++ p ∷ []) (represented_reduce old all.0 consumed prods t p h along all.1) all.2)
 
 -- one tree that fits one symbol
 abbrev pub IsOneTree : {X E : Type 0} → (X → ℕ) → (X → E → Type 0) → (ℕ → Option E → List E → E → Type 0) → Grammar → GrammarSymbol → Forest X → List E → Type 0
 IsOneTree {X} {E} token leaf node g s trees entries =
-    (u : Tree X) × (e : E) × (trees ≡ Cons u Nil) × (entries ≡ e ∷ []) × Fits token g u s × StandsFor leaf node None u e
+    (u : Tree X) × (e : E) × (trees ≡ Cons u Nil) × (entries ≡ e ∷ []) × Fits token g u s × Represents leaf node None u e
 
 -- trees that fit one symbol are one
 one_tree : {X E : Type 0} (token : X → ℕ) (leaf : X → E → Type 0) (node : ℕ → Option E → List E → E → Type 0) (g : Grammar) (s : GrammarSymbol) (trees : Forest X) (entries : List E)
-    → ForestFits token g trees (s ∷ []) → AllStand leaf node None trees entries → IsOneTree token leaf node g s trees entries
+    → ForestFits token g trees (s ∷ []) → AllRepresent leaf node None trees entries → IsOneTree token leaf node g s trees entries
 one_tree token leaf node g s Nil entries fits stands = absurd fits
 one_tree token leaf node g s (Cons u (Cons v us)) entries fits stands = absurd fits.1
 one_tree token leaf node g s (Cons u Nil) [] fits stands = absurd stands
@@ -186,10 +186,10 @@ one_tree token leaf node g s (Cons u Nil) (e ∷ []) fits stands = (u, e, refl, 
 one_tree token leaf node g s (Cons u Nil) (e ∷ x ∷ entries) fits stands = absurd stands.1
 
 -- the run accepts, with the start rule alone on the stack
-pub standing_accept : {X E : Type 0} (token : X → ℕ) (builds : Building X E) (d : Checked) (stack : Stacked E) (consumed : List X) (prods : List ℕ)
-    → (h : IsStanding token builds.leaf (builds.node d.grammar) builds.suits d.grammar d.table stack consumed prods) → h.symbols ≡ Nonterminal d.grammar.start ∷ []
+pub represented_accept : {X E : Type 0} (token : X → ℕ) (builds : Building X E) (d : Checked) (stack : Stacked E) (consumed : List X) (prods : List ℕ)
+    → (h : IsRepresented token builds.leaf (builds.node d.grammar) builds.suits d.grammar d.table stack consumed prods) → h.symbols ≡ Nonterminal d.grammar.start ∷ []
     → (e : E) × (stack.entries ≡ e ∷ []) × IsValueOf token d.grammar (IsOfTree builds d) consumed prods e
-standing_accept {X} {E} token builds d stack consumed prods h alone =
+represented_accept {X} {E} token builds d stack consumed prods h alone =
     let one = one_tree token builds.leaf (builds.node d.grammar) d.grammar (Nonterminal d.grammar.start) h.trees stack.entries (subst (ForestFits token d.grammar h.trees) alone h.fits) h.stands in
     let suit = zip_one builds.suits (Nonterminal d.grammar.start) stack.entries (subst (λ (symbols : List GrammarSymbol). AllZip builds.suits symbols stack.entries) alone h.suit) in
     let same : suit.0 ≡ one.1 = let e : suit.0 ∷ [] ≡ one.1 ∷ [] = sym suit.1 ∙ one.3 in cc in (

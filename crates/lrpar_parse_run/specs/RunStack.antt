@@ -26,15 +26,15 @@ popped_by g p entries = drop (length entries - prod_len g p) entries
 module _ {X E : Type 0} (leaf : X → E → Type 0) (node : ℕ → Option E → List E → E → Type 0) where
   -- which entries stand for a tree with `before` to its left, and for trees side by side
   abbrev mutual
-    pub StandsFor : Option E → Tree X → E → Type 0
-    StandsFor before (Leaf x) e = leaf x e
-    StandsFor before (Branch p children) e = (es : List E) × AllStand before children es × node p before es e
+    pub Represents : Option E → Tree X → E → Type 0
+    Represents before (Leaf x) e = leaf x e
+    Represents before (Branch p children) e = (es : List E) × AllRepresent before children es × node p before es e
 
-    pub AllStand : Option E → Forest X → List E → Type 0
-    AllStand before Nil [] = Unit {0}
-    AllStand before Nil (e ∷ es) = ⊥
-    AllStand before (Cons t ts) [] = ⊥
-    AllStand before (Cons t ts) (e ∷ es) = StandsFor before t e × AllStand (Some e) ts es
+    pub AllRepresent : Option E → Forest X → List E → Type 0
+    AllRepresent before Nil [] = Unit {0}
+    AllRepresent before Nil (e ∷ es) = ⊥
+    AllRepresent before (Cons t ts) [] = ⊥
+    AllRepresent before (Cons t ts) (e ∷ es) = Represents before t e × AllRepresent (Some e) ts es
 
 -- the states are joined by symbols, and for each of them there is an entry that suits it
 pub record IsRunStack {E : Type 0} (suits : GrammarSymbol → E → Type 0) (table : Table) (stack : Stacked E) : Type 0 where
