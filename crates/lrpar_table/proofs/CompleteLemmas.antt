@@ -1,6 +1,6 @@
--- A table that does what the canonical sets want is complete exactly where no set wants two different actions at one token. What
--- the sets of items are gives C1 to C4 whatever is wanted; and C5 says that of a complete item that which is wanted is done. So
--- where each set wants one action C5 holds; and where C5 holds, each action that is wanted is that of the table.
+-- A canonical table is complete if and only if no item set has two different actions before conflict resolution at one token. The
+-- item sets alone give C1 to C4. C5 says that at a complete item the table has the item's action. So if each set has one action
+-- at each token, C5 holds; and if C5 holds, each action of a set is that of the table.
 use Rattle.std.proofs.Common.{◌≡◌, ◌≢◌, ◌<◌, ◌≤◌, ◌+◌, ◌∙◌, refl, sym, ap, subst, arith, ℕ, List, [], ◌∷◌, Some, length, slice_get}
 use Rattle.lrpar_grammar.specs.Grammar.{Grammar, GrammarSymbol, IsWellFormed, Nonterminal, Terminal, end_token, prod_len, start_prod, symbols_of, tokens_len}
 use Rattle.lrpar_table_rows.proofs.GraphLemmas.{state_in_range}
@@ -20,7 +20,7 @@ use Rattle.lrpar_table_check.proofs.SentenceLemmas.{complete_tables_take_sentenc
 use Rattle.lrpar_table.specs.ParserData.{IsParserDataOf}
 use Rattle.lrpar_table.specs.TableLaws.{AmbiguousGrammarsHaveConflicts, BuiltTablesAreCompleteWithoutConflicts, GrammarsWithoutConflictsHaveOneTree}
 
--- a set that is reached has what its items add
+-- the item set that a path leads to has what its items add
 added_to : (g : Grammar) (path : List GrammarSymbol) (x y : ItemOf) → IsReachedBy g path x → Adds g x y → IsReachedBy g path y
 added_to g [] x y has adds = Added x y has adds
 added_to g (s ∷ path) x y has adds = Added x y has adds
@@ -33,7 +33,7 @@ module _ (g : Grammar) (graph : Graph) (table : Table) (well : IsWellFormed g) (
       let item = item_at p k t in
       let reached = canonical.reached s (state_in_range graph s p k t has) in reached_items g well reached.0 item ((reached.1 item).0 has)
 
-  -- the set to which a state goes by the symbol behind an item's dot has the item with the dot one further
+  -- the set to which a state goes by the symbol after an item's dot has the item with the dot one further
   moved_on : (s next p k t : ℕ) (x : GrammarSymbol) → HasItem graph s p k t → slice_get (symbols_of g p) k ≡ Some x
       → LeadsTo g (sets_of graph) s x next → HasItem graph next p (k + 1) t
   moved_on s next p k t x has at leads =
@@ -47,7 +47,7 @@ module _ (g : Grammar) (graph : Graph) (table : Table) (well : IsWellFormed g) (
       state_in_range graph next item.prod (item.dot + 1) item.token
       (moved_on s next item.prod item.dot item.token x before.1 before.2 leads)
 
-  -- the state shifts each token behind an item's dot
+  -- the state shifts each token after an item's dot
   shifts_on : (s p k t a : ℕ) → s < states_len table → HasItem graph s p k t → slice_get (symbols_of g p) k ≡ Some (Terminal a)
       → StepsOn graph table s (Terminal a) p k t
   shifts_on s p k t a within has at =
@@ -55,7 +55,7 @@ module _ (g : Grammar) (graph : Graph) (table : Table) (well : IsWellFormed g) (
       let to = (wanted.acts s a within (omega (arith, listed))).shifts (item_at p k t, has, at) in
       (to.0, to.1, moved_on s to.0 p k t (Terminal a) has at to.2)
 
-  -- and goes by each rule behind it
+  -- and goes by each rule after it
   carries_on : (s p k t r : ℕ) → s < states_len table → HasItem graph s p k t → slice_get (symbols_of g p) k ≡ Some (Nonterminal r)
       → StepsOn graph table s (Nonterminal r) p k t
   carries_on s p k t r within has at =
@@ -64,7 +64,7 @@ module _ (g : Grammar) (graph : Graph) (table : Table) (well : IsWellFormed g) (
       (to.0, to.1, moved_on s to.0 p k t (Nonterminal r) has at to.2)
 
   module _ (one : HaveOneAction g (graph_len graph) (sets_of graph)) where
-    -- a state that wants something but a shift has no item before the token
+    -- a state with an action other than a shift at the token has no item before the token
     no_shift_beside : (s t : ℕ) (action : TableAction) → s < graph_len graph → t < tokens_len g → HasAction g (graph_len graph) (sets_of graph) s t action
         → ((next : ℕ) → action ≢ ShiftTo next) → ¬ (HasAfterDot g (sets_of graph) s (Terminal t))
     no_shift_beside s t action within known candidate other before =
@@ -74,7 +74,7 @@ module _ (g : Grammar) (graph : Graph) (table : Table) (well : IsWellFormed g) (
         (before, next_within s to.0 (Terminal t) before to.2, to.2) in
         other to.0 (one s t action (ShiftTo to.0) within candidate shift)
 
-    -- a reduction that is wanted is done
+    -- the table makes the one reduction of a state's items
     reduces : (s t p : ℕ) → s < states_len table → HasReduce g (sets_of graph) s t p → action_of table s t ≡ ReduceBy p
     reduces s t p here candidate =
         let within = state_in_range graph s p (prod_len g p) t candidate.1 in
@@ -86,7 +86,7 @@ module _ (g : Grammar) (graph : Graph) (table : Table) (well : IsWellFormed g) (
               let equal : p ≡ q = cc in omega (arith, equal),
         )
 
-    -- and so is to accept
+    -- and accepts if they do
     accepts : (s t : ℕ) → s < states_len table → HasItem graph s (start_prod g) 1 t → action_of table s t ≡ Accepts
     accepts s t here has =
         let within = state_in_range graph s (start_prod g) 1 t has in
@@ -118,7 +118,7 @@ module _ (g : Grammar) (graph : Graph) (table : Table) (well : IsWellFormed g) (
     is_complete = record { each = complete_at }
 
   module _ (complete : IsComplete g graph table) where
-    -- what a state wants is done
+    -- the table has the action that a state's items have before conflict resolution
     done : (s t : ℕ) (action : TableAction) → s < graph_len graph → HasAction g (graph_len graph) (sets_of graph) s t action → action_of table s t ≡ action
     done s t (ShiftTo next) within candidate =
         let here : s < states_len table = let is = wanted.states in omega (arith, within, is) in
