@@ -1,4 +1,4 @@
--- Repairs and beginnings: a repair with a row of Shifts is dearer than another one, and each other repair is a beginning.
+-- Repairs and candidates: a repair with a row of Shifts is dearer than another one, and each other repair is a candidate.
 use Rattle.std.proofs.Common.{◌≡◌, ◌<◌, ◌+◌, ◌-◌, ◌∙◌, inl, inr, ℕ, zero, suc, List, [], ◌∷◌, ◌++◌, refl, sym, subst, ap, arith, replicate}
 use Rattle.std.proofs.lemmas.List.{append-nil, append_assoc, replicate_more, same_from_push}
 use Rattle.lrpar_grammar.specs.Grammar.{Grammar, end_token}
@@ -89,11 +89,11 @@ nothing_goes_on token g table lexemes (suc k) st i some fails h =
     ]
 
 module _ {X : Type 0} (token : X → ℕ) (at : Asked X) (some : 0 < at.shifts) where
-  -- no repair is empty, where the stop has no action
+  -- no repair is empty, if there is no action at the error point
   pub repair_some : top_action at.checked.table (token_at token at.checked.grammar at.lexemes at.place) at.stack ≡ Fails → ¬ (IsRepair token at [])
   repair_some fails r = nothing_goes_on token at.checked.grammar at.checked.table at.lexemes at.shifts at.stack at.place some fails r.works
 
-  -- a repair without a row of Shifts is a beginning
+  -- a repair without a row of Shifts is a candidate
   pub repair_begins : (q : List PlainStep) → IsRepair token at q → ¬ (Has q (replicate at.shifts PlainShift)) → IsBeginning token at q
   repair_begins q r rows =
       let g = at.checked.grammar in
@@ -107,7 +107,7 @@ module _ {X : Type 0} (token : X → ℕ) (at : Asked X) (some : 0 < at.shifts) 
             (parts.mid, parts.place, (parts.first, parts.before));
       }
 
-  -- one with such a row works without the row and what comes behind it
+  -- one with such a row works without the row and what comes after it
   pub works_before : (a b : List PlainStep) → IsRepair token at ((a ++ replicate at.shifts PlainShift) ++ b) → (s : Stripped a) → IsRepair token at s.rest
   works_before a b r s =
       let g = at.checked.grammar in

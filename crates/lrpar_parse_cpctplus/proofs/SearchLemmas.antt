@@ -1,4 +1,4 @@
--- The search at a bound: what is known of it where it stands, at a path and at the rank of the step that it tries next.
+-- The search at a bound: what is known of it at a path and at the rank of the step that it tries next.
 use Rattle.std.proofs.Common.{◌≡◌, ◌<◌, ◌≤◌, ◌+◌, ◌*◌, ◌∙◌, ◌⊎◌, ◌↔◌, inl, inr, ℕ, List, [], ◌∷◌, ◌++◌, Option, Some, None, get_or, length, min, refl, sym, subst, ap, arith}
 use Rattle.std.proofs.lemmas.List.{append_assoc, get_or_default, length-append, same_from_push}
 use Rattle.std.proofs.lemmas.List.Quantifiers.{all_pairs_push}
@@ -20,7 +20,7 @@ use Rattle.lrpar_parse_cpctplus.proofs.OrderLemmas.{earlier_or_begins, pairs_non
 use Rattle.lrpar_parse_cpctplus.proofs.WayLemmas.{cost_append, cost_begins, cost_some, place_past, replays_parted, works_leads}
 
 module _ {X : Type 0} (token : X → ℕ) (at : Asked X) where
-  -- a path of which each step can be taken, and a step that may follow, are a beginning
+  -- a path of which each step can be taken, and a step that may follow, are a candidate
   pub child_begins : (p : List PlainStep) (s : PlainStep) → 0 < at.shifts → IsBeginning token at p → CanBeTaken token at p
       → IsStepOf (end_token at.checked.grammar) s → MayFollow at.shifts p s → IsBeginning token at (p ++ s ∷ [])
   child_begins p s some begins taken is may = record {
@@ -56,7 +56,7 @@ module _ {X : Type 0} (token : X → ℕ) (at : Asked X) where
       let way = works_leads token at.checked.grammar at.checked.table at.lexemes at.shifts at.stack at.place q r.works in
       (way.1, way.2, (way.0, way.3))
 
-  -- the empty sequence is a beginning
+  -- the empty sequence is a candidate
   pub nothing_begins : 0 < at.shifts → IsBeginning token at []
   nothing_begins some = record {
     formed = formed_none (end_token at.checked.grammar);
@@ -86,8 +86,8 @@ first_is end [] h = refl
 first_is end (s ∷ q) h = absurd (omega (arith, h))
 
 module _ {X : Type 0} (token : X → ℕ) (terms : Terms) (at : Asked X) (c : ℕ) where
-  -- Where the search stands: each beginning in front was tried, and counted once; the repairs among them are found, the earlier ones first;
-  -- and of those that cost more the least is known.
+  -- The search has come to this path and rank: each candidate before them was tried, and counted once; the repairs among these
+  -- are found, the earlier ones first; and of those that cost more the least cost is known.
   pub record IsSearched (path : List PlainStep) (rank left : ℕ) (found : List (List PlainStep)) (next : Option ℕ) : Type 0 where
     pub seen : List (List PlainStep)
     pub apart : AreApart seen
@@ -136,7 +136,7 @@ module _ {X : Type 0} (token : X → ℕ) (terms : Terms) (at : Asked X) (c : �
         let same = rank_tells (end_token at.checked.grammar) on.step s one.0 is on.ranked in
         (on.rest, on.is ∙ ap (λ (x : PlainStep). p ++ x ∷ on.rest) same)
 
-    -- the step may not follow: no beginning goes on by it
+    -- the step may not follow: no candidate goes on by it
     pub searched_unfit : (p : List PlainStep) (s : PlainStep) (left : ℕ) (found : List (List PlainStep)) (next : Option ℕ)
         → IsStepOf (end_token at.checked.grammar) s → ¬ (MayFollow at.shifts p s)
         → IsSearched p (rank_of (end_token at.checked.grammar) s) left found next
@@ -212,7 +212,7 @@ module _ {X : Type 0} (token : X → ℕ) (terms : Terms) (at : Asked X) (c : �
           ];
         }
 
-    -- the path with one step more is a beginning that is new
+    -- the path with one step more is a candidate that is new
     child_new : (p : List PlainStep) (s : PlainStep) (left : ℕ) (found : List (List PlainStep)) (next : Option ℕ)
         → (h : IsSearched p (rank_of (end_token at.checked.grammar) s) left found next) → ¬ (IsIn (p ++ s ∷ []) h.seen)
     child_new p s left found next h m =
@@ -347,7 +347,7 @@ module _ {X : Type 0} (token : X → ℕ) (terms : Terms) (at : Asked X) (c : �
           ];
         }
 
-    -- all steps were tried after the path: the search goes on behind its last step
+    -- all steps were tried after the path: the search goes on after its last step
     pub searched_left : (p : List PlainStep) (x : PlainStep) (rank left : ℕ) (found : List (List PlainStep)) (next : Option ℕ)
         → IsStepOf (end_token at.checked.grammar) x → end_token at.checked.grammar + 2 ≤ rank
         → IsSearched (p ++ x ∷ []) rank left found next
@@ -370,7 +370,7 @@ module _ {X : Type 0} (token : X → ℕ) (terms : Terms) (at : Asked X) (c : �
           dear = λ q begins above before. h.dear q begins above (down q begins before);
         }
 
-    -- and behind the empty path there is nothing left
+    -- and after the empty path there is nothing left
     pub searched_all : (rank left : ℕ) (found : List (List PlainStep)) (next : Option ℕ) → end_token at.checked.grammar + 2 ≤ rank
         → IsSearched [] rank left found next → IsTallied token terms at c found next
     searched_all rank left found next past h =

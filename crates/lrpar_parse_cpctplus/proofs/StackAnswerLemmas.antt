@@ -1,4 +1,4 @@
--- What the top state's action tells of a stack.
+-- What follows for a stack from its top state's action.
 use Rattle.std.proofs.Common.{◌≡◌, ◌∙◌, ◌↔◌, ℕ, Bool, Some, IsTrue, sym, subst}
 use Rattle.lrpar_grammar.specs.Grammar.{Grammar, end_token}
 use Rattle.lrpar_table_rows.specs.PlainRows.{plain_action}
@@ -11,7 +11,7 @@ use Rattle.lrpar_table_stacks.specs.Stack.{top_of}
 use Rattle.lrpar_table_stacks.proofs.StepLemmas.{action_by_top}
 use Rattle.lrpar_parse_repair.proofs.SequenceLemmas.{accepts_by_top}
 
--- the settled stack accepts where its top does
+-- the settled stack accepts if and only if its top does
 pub accepts_told : {S : Type 0} (g : Grammar) (table : Table) (cap : ℕ) (old new : Overlaid) (count t s : ℕ) (index : S → ℕ) (action : Action S) (accepts : Bool)
     → IsSettledOver g table cap t old count new → t ≡ end_token g → top_of (overlaid new) ≡ Some s
     → plain_action index action ≡ action_of table s t → IsTrue accepts ↔ (plain_action index action ≡ Accepts)

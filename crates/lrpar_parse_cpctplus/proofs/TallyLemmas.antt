@@ -18,8 +18,8 @@ use Rattle.lrpar_parse_cpctplus.specs.declared.search.Search.{Search}
 use Rattle.lrpar_parse_cpctplus.proofs.BeforeLemmas.{rank_below}
 use Rattle.lrpar_parse_cpctplus.proofs.SearchLemmas.{IsSearched, child_begins, searched_dear, searched_exceeded, searched_left, searched_stays, searched_taken, searched_unfit}
 
--- What is left to do: beginnings to be tried, steps of the path to be taken back, and steps to be tried after it. w is one more than there
--- are steps.
+-- What is left to do: candidates to be tried, steps of the path to be taken back, and steps to be tried after it. w is one more
+-- than there are steps.
 abbrev pub work_left : ℕ → ℕ → ℕ → ℕ → ℕ
 work_left left len rank w = left * (2 * w) + len * w + (w - 1 - rank)
 
@@ -38,11 +38,11 @@ pub less_by_leave : (left len rank last w : ℕ) → last + 2 < w → w ≤ rank
 less_by_leave left len rank last w below past = omega (arith, below, past)
 
 module _ {S X : Type 0} (index : S → ℕ) (parts : X → LexemeParts S) (search : Search S X) (stop : IsStop (token_by index parts) search.point.now) (bound : ℕ) where
-  -- where the search stands
+  -- the path and the rank that the search has come to
   abbrev pub Stands : List PlainStep → ℕ → ℕ → List (List PlainStep) → Option ℕ → Type 0
   Stands path rank left found next = IsSearched (token_by index parts) search.terms.now search.point.now bound path rank left found next
 
-  -- a step that is tried makes a beginning
+  -- a step that is tried makes a candidate
   pub tried_begins : (p : List PlainStep) (s : PlainStep) (cost : ℕ) → IsBeginning (token_by index parts) search.point.now p
       → CanBeTaken (token_by index parts) search.point.now p → IsTried index parts search p s cost → cost ≤ bound
       → BeginsWithin (token_by index parts) search.terms.now.costs search.point.now bound (p ++ s ∷ [])

@@ -24,7 +24,7 @@ use Rattle.lrpar_parse_cpctplus.proofs.FormLemmas.{formed_before, has_before}
 use Rattle.lrpar_parse_cpctplus.proofs.SearchLemmas.{child_begins, nothing_begins}
 use Rattle.lrpar_parse_cpctplus.proofs.WayLemmas.{cost_push, leads_works, place_past, replays_parted, replays_place, replays_push, works_on}
 
--- the place behind one step more
+-- the place after one step more
 pub place_push : (i : ℕ) (p : List PlainStep) (s : PlainStep) → place_past i (p ++ s ∷ []) ≡ place_after (place_past i p) s
 place_push i [] s = refl
 place_push i (x ∷ p) s = place_push (place_after i x) p s
@@ -40,7 +40,7 @@ front_below j PlainDelete = omega arith
 front_below j PlainShift = omega arith
 
 module _ {X : Type 0} (token : X → ℕ) (at : Asked X) where
-  -- the beginning of a beginning is one
+  -- if a candidate begins with a path that can be taken, the path is a candidate
   pub begins_before : (p rest : List PlainStep) → CanBeTaken token at p → IsBeginning token at (p ++ rest) → IsBeginning token at p
   begins_before p rest taken begins = record {
     formed = formed_before (end_token at.checked.grammar) p rest begins.formed;
@@ -51,7 +51,7 @@ module _ {X : Type 0} (token : X → ℕ) (at : Asked X) where
         (parts.mid, parts.place, (parts.first, parts.before));
   }
 
-  -- a step can't be taken behind a path, where it can't be from the stack there
+  -- a step can't be taken after a path, if it can't be from the stack there
   pub taken_not : (p : List PlainStep) (states : List ℕ) (place : ℕ) (s : PlainStep) → LeadsTo token at p states place
       → ((prods after : List ℕ) (j : ℕ) → ¬ (StepsTo token at.checked.grammar at.checked.table at.lexemes states place s prods after j))
       → ¬ (CanBeTaken token at (p ++ s ∷ []))
@@ -102,7 +102,7 @@ module _ {S X : Type 0} (index : S → ℕ) (parts : X → LexemeParts S) (searc
     stands = λ f. ([], (refl, same, refl));
   }
 
-  -- where the stack is fresh, the path leads to it
+  -- if the stack is fresh, the path leads to it
   pub fresh_leads : {path : List PlainStep} {base states : List ℕ} {fresh : Bool} {place cost : ℕ} (p : List PlainStep)
       → IsWalked index parts search path base states fresh place cost → fresh ≡ true → path ≡ p
       → LeadsTo (token_by index parts) search.point.now p states place
@@ -134,7 +134,7 @@ module _ {S X : Type 0} (index : S → ℕ) (parts : X → LexemeParts S) (searc
         stands = λ f. (leads.0 ++ step.0, way);
       }
 
-  -- the stack is another one now, that needn't be the one behind the path
+  -- the stack is another one now, not necessarily the one after the path
   pub walk_spoilt : (p : List PlainStep) (base states more after : List ℕ) (fresh : Bool) (place cost : ℕ)
       → IsWalked index parts search p base states fresh place cost → IsStack search.point.now.checked.table after → more ≡ base
       → IsWalked index parts search p more after false place cost
@@ -167,7 +167,7 @@ module _ {S X : Type 0} (index : S → ℕ) (parts : X → LexemeParts S) (searc
     stands = λ f. subst (λ (m : ℕ). LeadsTo (token_by index parts) search.point.now p after m) (w.placed after j leads) leads;
   }
 
-  -- the place in front of the last step, and what that costs
+  -- the place before the last step, and what the last step costs
   pub walk_front : (p : List PlainStep) (x : PlainStep) (base states : List ℕ) (fresh : Bool) (place cost : ℕ)
       → IsWalked index parts search (p ++ x ∷ []) base states fresh place cost
       → (place_in_front place x ≡ place_past search.point.now.place p) × (place ≡ place_after (place_past search.point.now.place p) x)
@@ -232,7 +232,7 @@ led_by index parts search p s states after place (Some j) taken leads step = rec
   );
 }
 
--- so it is of the steps of the program, of which the first n were taken
+-- the same for the steps of the program, of which the first n were taken
 pub led_more : {S X : Type 0} (index : S → ℕ) (parts : X → LexemeParts S) (search : Search S X) (steps : List (RepairStep S)) (n : ℕ) (step : RepairStep S)
     (states after : List ℕ) (place : ℕ) (next : Option ℕ)
     → n < length steps → step ≡ get_or steps n step → CanBeTaken (token_by index parts) search.point.now (plain_steps index steps)
@@ -272,14 +272,14 @@ tried_by index parts search p s base states fresh place cost one wide w is may c
       cheap = omega (arith, w.cheap, same, most);
     }
 
--- steps that are told not to end in a Shift don't
+-- steps that don't end in a Shift, as it was tested
 pub last_not : {S : Type 0} (index : S → ℕ) {lent : List (RepairStep S)} {told : Bool} (steps : List (RepairStep S)) → lent ≡ steps → told ≡ false
     → IsTrue told ↔ EndsIn (plain_steps index lent) (PlainShift ∷ []) → ¬ (EndsIn (plain_steps index steps) (PlainShift ∷ []))
 last_not {S} index steps same unsaid tells ends =
     let there = subst (λ (l : List (RepairStep S)). EndsIn (plain_steps index l) (PlainShift ∷ [])) (sym same) ends in
     let e : false ≡ true = sym unsaid ∙ tells.1 there in cc
 
--- whether a path is a repair, from whether a parse can go on behind it
+-- whether a path is a repair, from whether a parse can go on after it
 pub repair_told : {X : Type 0} (token : X → ℕ) (at : Asked X) (p : List PlainStep) (states : List ℕ) (place : ℕ) (Told : Type 0)
     → IsFormed (end_token at.checked.grammar) p → ¬ (EndsIn p (PlainShift ∷ [])) → LeadsTo token at p states place
     → Told ↔ CanGoOn token at.checked.grammar at.checked.table at.lexemes at.shifts states place → Told ↔ IsRepair token at p

@@ -1,4 +1,4 @@
--- What the search at a bound comes to.
+-- The result of the search at a bound.
 use Rattle.std.specs.Prelude.{◌≡◌, ◌<◌, ◌≤◌, ◌*◌, ◌↔◌, ◌⊎◌, ℕ, List, [], ◌∷◌, Option, Some, length}
 use Rattle.std.specs.List.{AllPairs, Contains}
 use Rattle.lrpar_parse_repair.specs.Asked.{Asked}
@@ -25,12 +25,12 @@ pub record AreMoreThan {A : Type 0} (n : ℕ) (P : A → Type 0) : Type 0 where
   pub more : n < length things
 
 module _ {X : Type 0} (token : X → ℕ) (terms : Terms) (at : Asked X) where
-  -- what was left out costs so much, or more
+  -- what was left out costs at least `next`
   abbrev pub IsLeftOut : Option ℕ → List PlainStep → Type 0
   IsLeftOut next q = (m : ℕ) × (next ≡ Some m) × (m ≤ cost_of token terms.costs at q)
 
-  -- all beginnings that cost at most c were tried, within the limit: these are the repairs that cost c among them, the earlier ones first;
-  -- and no beginning that costs more costs less than `next`
+  -- all candidates that cost at most c were tried, within the limit: these are the repairs that cost c among them, the earlier
+  -- ones first; and no candidate that costs more costs less than `next`
   pub record IsTallied (c : ℕ) (found : List (List PlainStep)) (next : Option ℕ) : Type 0 where
     pub within : AreAtMost terms.limit (BeginsWithin token terms.costs at c)
     pub exact : (q : List PlainStep) → Contains found q ↔ (RepairsAt token terms.costs at c q × IsBeginning token at q)

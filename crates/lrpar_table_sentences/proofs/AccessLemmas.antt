@@ -1,4 +1,4 @@
--- Ways are settled in the order of their lengths, as rules are.
+-- Access strings are settled in the order of their lengths, as minimal sentences of rules are.
 use Rattle.std.proofs.Common.{◌≡◌, ◌<◌, ◌≤◌, ◌+◌, ◌⊎◌, ◌∙◌, refl, sym, ap, subst, inl, inr, arith, ℕ, suc, List, [], ◌∷◌, Option, Some, None, MatchOption, get_or, length, min, set, cond, nat_eq, true, false}
 use Rattle.std.specs.List.{All, Contains}
 use Rattle.std.specs.Option.{is_none, option_eq, option_map, option_map_or}
@@ -17,7 +17,7 @@ use Rattle.lrpar_table_sentences.specs.declared.transitions.Access.{Access}
 use Rattle.lrpar_table_sentences.proofs.LenLemmas.{added_parts, mapped_parts, option_cases, total_fits}
 use Rattle.lrpar_table_sentences.proofs.SettleLemmas.{IsLeastBelow, eq_some, not_some, stays_more}
 
--- what an open step tells
+-- what follows for an open step
 open_parts : (most : ℕ) (accesses : List (Option AccessOf)) (e : EdgeOf) (len : ℕ) → open_by most accesses e ≡ Some len
     → (access_at accesses e.next ≡ None) × ((from : AccessOf) × (access_at accesses e.step.from ≡ Some from) × (min (e.len + from.len) most ≡ len))
 open_parts most accesses e len is =
@@ -45,7 +45,7 @@ open_from most accesses e from none kept =
 abbrev access_len : Option AccessOf → ℕ
 access_len o = option_map_or (λ (access : AccessOf). access.len) o 0
 
--- steps that go back still do where more is kept
+-- steps that go back still do if more is kept
 go_back_more : (old new : List (Option AccessOf)) → ((s : ℕ) (access : AccessOf) → access_at old s ≡ Some access → access_at new s ≡ Some access) → (s : ℕ) (steps : List StepOf)
     → GoBack old s steps → GoBack new s steps
 go_back_more old new keep s [] back = (back.0, keep s _ back.1)
@@ -53,7 +53,7 @@ go_back_more old new keep s (step ∷ steps) back = (back.0, keep s _ back.1, go
 
 module _ (table : Table) (most : ℕ) (choices : List (Option ChoiceOf)) (edges : List EdgeOf) (are : AreEdges table choices edges)
     (accesses : List (Option AccessOf)) (right : AreRightAccesses table most choices accesses) where
-  -- no walk to a state of which nothing is kept has less tokens than the least open step
+  -- no walk to a state of which nothing is kept has fewer tokens than the least open step
   pub no_walk_below : (len : ℕ) → NoStepIsLess most accesses edges len → NoWalkIsBelow table most choices accesses len
   no_walk_below len less s other path none Starts total = let start = right.start in absurd (cc)
   no_walk_below len less s other path none (Goes from next x before walk within goes) total =
@@ -72,7 +72,7 @@ module _ (table : Table) (most : ℕ) (choices : List (Option ChoiceOf)) (edges 
             omega (arith, sum, least, access)
       ]
 
-  -- where no step is open, no walk leads to a state of which nothing is kept
+  -- if no step is open, no walk leads to a state of which nothing is kept
   pub no_walk : NoStepIsOpen most accesses edges → (s len : ℕ) (path : List GrammarSymbol) → access_at accesses s ≡ None → IsWalk table s path
       → total_len most choices path ≡ Some len → ⊥
   no_walk closed s len path none walk total =
@@ -80,7 +80,7 @@ module _ (table : Table) (most : ℕ) (choices : List (Option ChoiceOf)) (edges 
       no_walk_below (suc len) (λ e other there is. let never = closed e there in absurd (cc)) s len path none walk total in
       omega (arith, more)
 
-  -- one more way is kept
+  -- one more access string is kept
   module _ (len : ℕ) (e : EdgeOf) (there : Contains edges e) (low : e.next < length accesses) (is : open_by most accesses e ≡ Some len)
       (below : NoWalkIsBelow table most choices accesses len) where
     abbrev kept : List (Option AccessOf)
@@ -175,7 +175,7 @@ steps_told most accesses edges n (Some len) all before =
       λ e other there at. let low = there.1 in before.1 there.0 other (omega (arith, all, low)) (place_open most accesses edges e there ∙ at),
     )
 
--- less states are open where one more way is kept
+-- fewer states are open if one more access string is kept
 open_less : (accesses : List (Option AccessOf)) (s : ℕ) (access : AccessOf) → s < length accesses → access_at accesses s ≡ None → open_accesses (set accesses s (Some access)) < open_accesses accesses
 open_less accesses s access low none =
     let f : Option AccessOf → ℕ = λ o. cond (is_none o) 1 0 in
@@ -183,8 +183,8 @@ open_less accesses s access low none =
     let one : f (access_at accesses s) ≡ 1 = ap f none in
     omega (arith, sums, one)
 
--- what holds once the first n steps were looked at: what is kept is still right; and either nothing was kept, and none of the steps has the
--- length, or less states are open
+-- what holds once the first n steps were looked at: what is kept is still right; and either nothing was kept, and none of the
+-- steps has the length, or fewer states are open
 abbrev pub SettlingAccesses : {S : Type 0} → (S → ℕ) → ℕ → ℕ → List (Edge S) → List (Option (Access S)) → List (Option (Access S)) → ℕ → Type 0
 SettlingAccesses index most len edges old now n =
     ((table : Table) (choices : List (Option ChoiceOf)) → AreEdges table choices (edges_of index edges) → AreRightAccesses table most choices (accesses_of index old)
@@ -263,7 +263,7 @@ ways_end index most len edges old now n all after some =
       | inr fewer ↦ fewer
     ]
 
--- a way that is put into a list is there, and elsewhere all is as it was
+-- an access string that is put into a list is there, and elsewhere all is as it was
 pub access_here : {S : Type 0} (index : S → ℕ) (accesses : List (Option (Access S))) (k : ℕ) (access : Access S) (s : ℕ) → s ≡ k → k < length accesses
     → access_at (accesses_of index (set accesses k (Some access))) s ≡ Some (access_of index access)
 access_here index accesses k access s is low =
@@ -278,7 +278,7 @@ access_elsewhere index accesses k access s other =
     ap (λ (xs : List (Option AccessOf)). access_at xs s) (map-set (option_map (access_of index)) accesses k (Some access))
     ∙ get_or-set_other (accesses_of index accesses) k s (Some (access_of index access)) None other
 
--- a way without a step to the start, and nothing elsewhere, is right
+-- an access string without a step to the start, and nothing elsewhere, is right
 pub start_right : (table : Table) (most : ℕ) (choices : List (Option ChoiceOf)) (accesses : List (Option AccessOf)) → length accesses ≡ states_len table
     → access_at accesses table.start ≡ Some (record { len = 0; last = None }) → ((s : ℕ) → (s ≡ table.start → ⊥) → access_at accesses s ≡ None)
     → AreRightAccesses table most choices accesses

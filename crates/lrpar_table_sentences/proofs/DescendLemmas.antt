@@ -1,4 +1,5 @@
--- Trees that begin with a token, made from the top down to the token: what stands before it is made, and what is left goes on a stack.
+-- Trees that begin with a token, made from the top down to the token: what comes before it is made, and what is left goes on a
+-- stack.
 use Rattle.std.proofs.Common.{◌≡◌, ◌<◌, ◌≤◌, ◌+◌, ◌∙◌, refl, sym, ap, subst, ℕ, zero, suc, List, [], ◌∷◌, ◌++◌, Option, Some, None, add-one, drop, length, map, take}
 use Rattle.std.specs.Option.{option_map_or}
 use Rattle.lrpar_grammar_places.specs.declared.span.Symbol.{Symbol}
@@ -166,7 +167,7 @@ descended g choices starts first s none frames before middle after is descends a
     let one = descends tree [] begun (subst (λ (fs : List FrameOf). Unfold g choices fs []) (sym is) refl) in
     all one.0 one.1 ∙ one.2 ∙ ap (λ ms. before ++ ms) (append-nil (moves_of tree))
 
--- symbols one of which begins: what stands before it, its tree, and what stands behind it
+-- symbols one of which begins: what comes before it, its tree, and what comes after it
 pub placed : (g : Grammar) (choices : List (Option ChoiceOf)) (starts : List (Option StartOf)) (first k j : ℕ) (all more : List GrammarSymbol) (x : GrammarSymbol)
     (one two three four : List MoveOf) → j ≡ k → drop j all ≡ x ∷ more
     → ((nulls : Forest ℕ) → ForestFollows g choices nulls (take j all) → two ≡ one ++ forest_moves nulls)
@@ -221,7 +222,7 @@ module _ (g : Grammar) (most : ℕ) (choices : List (Option ChoiceOf)) (right : 
   pub begin_with : (k : ℕ) (ts : Forest ℕ) (ss : List GrammarSymbol) → ForestStarts g choices starts first k ts ss → BeginWith g ss first ts
   begin_with k ts ss h = record { fit = forest_starts_fit k ts ss h; first = forest_starts_first k ts ss h }
 
--- so where symbols can begin with the token, what is appended does
+-- so if symbols can begin with the token, what is appended does
 pub beginning : (g : Grammar) (most : ℕ) (choices : List (Option ChoiceOf)) (shortest : AreShortest g most choices) (first : ℕ) (starts : List (Option StartOf))
     → AreStarts g choices first starts → ((p : ℕ) → p < prods_len g → CanStart g most choices first starts p) → 1 ≤ most
     → (ss : List GrammarSymbol) (old new : List MoveOf) → CanBeginWith g ss first

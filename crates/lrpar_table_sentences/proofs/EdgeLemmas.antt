@@ -13,7 +13,7 @@ use Rattle.lrpar_table_sentences.specs.Choices.{ChoiceOf}
 use Rattle.lrpar_table_sentences.specs.Lens.{len_at}
 use Rattle.lrpar_table_sentences.specs.AccessLens.{AreEdges, EdgeOf, IsStoredAt, edge_if, edges_at, edges_below, goto_edges, shift_edge, shift_edges}
 
--- what is made of one element more stands behind what is made of the first i
+-- what is made of one element more comes after what is made of the first i
 module _ {X Y : Type 0} (f : X → List Y) (xs : List X) (i : ℕ) (x : X) where
   pub made_more : (first before after : List Y) → i < length xs → x ≡ get_or xs i x → before ≡ first ++ flat_map f (take i xs) → after ≡ before ++ f x
       → after ≡ first ++ flat_map f (take (i + 1) xs)

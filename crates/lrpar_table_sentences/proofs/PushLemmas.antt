@@ -1,4 +1,5 @@
--- The moves that are appended are those of shortest trees: a list can't have more of them than the number up to which lengths are told.
+-- The moves that are appended are those of trees of minimal sentences: a list can't have more of them than the number at which
+-- lengths are capped.
 use Rattle.std.proofs.Common.{◌≡◌, ◌≤◌, ◌+◌, ◌∙◌, ap, arith, ℕ, List, [], ◌∷◌, ◌++◌, Option, length, length-append}
 use Rattle.lrpar_grammar.specs.Grammar.{Grammar, GrammarSymbol}
 use Rattle.lrpar_grammar.specs.Tree.{Tree, Forest, Nil, Cons, leaves}

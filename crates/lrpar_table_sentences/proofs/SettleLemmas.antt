@@ -1,5 +1,5 @@
--- Rules are settled in the order of their lengths. What is kept of some stays right as more comes; and no tree of a rule that is still
--- open has less tokens than the least open production.
+-- Rules are settled in the order of their lengths. What is kept of some stays right as more comes; and no tree of a rule that is
+-- still open has fewer tokens than the least open production.
 use Rattle.std.proofs.Common.{◌≡◌, ◌<◌, ◌≤◌, ◌+◌, ◌⊎◌, ◌∙◌, refl, sym, ap, subst, inl, inr, arith, ℕ, zero, suc, get_or, map, List, [], ◌∷◌, ◌++◌, Option, Some, None, length, min, length-append, set, cond, nat_eq, true, false, IfSome, MatchOption}
 use Rattle.std.specs.Option.{is_none, option_eq, option_map, option_map_or}
 use Rattle.std.proofs.lemmas.List.Sums.{sum_by-set}
@@ -58,7 +58,7 @@ module _ (g : Grammar) (most : ℕ) (choices : List (Option ChoiceOf)) where
       → open_len g most choices p ≡ Some len
   open_is p len none total = ap (λ (o : Option ChoiceOf). unless_some o (total_len most choices (symbols_of g p))) none ∙ total
 
-  -- and what it tells
+  -- and what it says
   pub open_tells : (p len : ℕ) → open_len g most choices p ≡ Some len
       → (choice_at choices (rule_of g p) ≡ None) × (total_len most choices (symbols_of g p) ≡ Some len)
   open_tells p len is =
@@ -68,7 +68,7 @@ module _ (g : Grammar) (most : ℕ) (choices : List (Option ChoiceOf)) where
       ]
 
 module _ (g : Grammar) (most : ℕ) (choices : List (Option ChoiceOf)) (right : AreRight g most choices) where
-  -- no tree of an open rule has less tokens than the least open production
+  -- no tree of an open rule has fewer tokens than the least open production
   module _ (len : ℕ) (less : NoneIsLess g most choices len) where
     mutual
       tree_below : (t : Tree ℕ) (r : ℕ) → choice_at choices r ≡ None → IsTreeOf g (Nonterminal r) t → len ≤ width t
@@ -103,7 +103,7 @@ module _ (g : Grammar) (most : ℕ) (choices : List (Option ChoiceOf)) (right : 
     pub none_is_below : NoneIsBelow g choices len
     none_is_below r t none fit = tree_below t r none fit
 
-  -- where nothing is open, all rules that have trees are settled
+  -- if nothing is open, all rules that have trees are settled
   pub all_settled : NoneIsOpen g most choices → AreShortest g most choices
   all_settled closed = record {
     right = right;
@@ -234,7 +234,7 @@ pub not_some : (o : Option ℕ) (n : ℕ) → option_eq nat_eq o (Some n) ≡ fa
 not_some None n is at = absurd (cc)
 not_some (Some m) n is at = let same : m ≡ n = cc in false≢true (sym is ∙ eq-eqb m n same)
 
--- less rules are open where one more is kept
+-- fewer rules are open if one more is kept
 open_less : (choices : List (Option ChoiceOf)) (r : ℕ) (x : ChoiceOf) → r < length choices → choice_at choices r ≡ None
     → open_in (set choices r (Some x)) < open_in choices
 open_less choices r x low none =
@@ -282,7 +282,8 @@ pub stays_more : (f : ℕ → Option ℕ) (n len : ℕ) → (f n ≡ Some len �
 stays_more f n len here before p low at =
     elim (cases_eq p n) [ inl same ↦ here (ap f (sym same) ∙ at) | inr other ↦ before p (omega (arith, low, other)) at ]
 
--- what holds once the first n productions were looked at: either nothing was kept, and none of them has the length, or less rules are open
+-- what holds once the first n productions were looked at: either nothing was kept, and none of them has the length, or fewer
+-- rules are open
 abbrev pub Settling : {S : Type 0} → (S → ℕ) → Grammar → ℕ → ℕ → List (Option (Choice S)) → List (Option (Choice S)) → ℕ → Type 0
 Settling index g most len old now n =
     AreRight g most (choices_of index now)
@@ -338,7 +339,7 @@ settling_ends index g most len old now n all after some =
     let known = some.1 in
     elim after.2 [ inl same ↦ absurd (same.1 some.0 (omega (arith, all, known)) some.2) | inr fewer ↦ fewer ]
 
--- where nothing is kept, it is right
+-- if nothing is kept, it is right
 pub right_none : (g : Grammar) (most : ℕ) (choices : List (Option ChoiceOf)) → length choices ≡ rules_len g → ((r : ℕ) → choice_at choices r ≡ None)
     → AreRight g most choices
 right_none g most choices count none = record {

@@ -21,7 +21,7 @@ bool_cases true = inl refl
 bool_cases false = inr refl
 
 module _ (choices : List (Option ChoiceOf)) (starts : List (Option StartOf)) (first : ℕ) (s : GrammarSymbol) (ss : List GrammarSymbol) where
-  -- the place in a list with one symbol more in front
+  -- the place in a list with one symbol more at its head
   rest_place : Bool → Bool → Option ℕ
   rest_place here none = if here then Some 0 else (if none then further (place_of choices starts first ss) else None)
 
@@ -80,7 +80,7 @@ further_parts : (o : Option ℕ) (k : ℕ) → further o ≡ Some k → (n : ℕ
 further_parts None k is = absurd (cc)
 further_parts (Some n) k is = let same : n + 1 ≡ k = cc in (n, refl, same)
 
--- the ways to have a place
+-- the cases in which there is a place
 place_cases : (choices : List (Option ChoiceOf)) (starts : List (Option StartOf)) (first : ℕ) (s : GrammarSymbol) (ss : List GrammarSymbol) (k : ℕ)
     → place_of choices starts first (s ∷ ss) ≡ Some k
     → ((begins starts first s ≡ true) × (k ≡ 0)) ⊎ ((is_zero (len_at choices s) ≡ true) × ((n : ℕ) × (place_of choices starts first ss ≡ Some n) × (n + 1 ≡ k)))
@@ -202,7 +202,7 @@ module _ (g : Grammar) (most : ℕ) (choices : List (Option ChoiceOf)) (right : 
               ];
         }
 
--- less rules can't begin where one more can
+-- fewer rules can't begin if one more can
 pub starts_less : (starts : List (Option StartOf)) (r : ℕ) (x : StartOf) → r < length starts → start_at starts r ≡ None
     → starts_open (set starts r (Some x)) < starts_open starts
 starts_less starts r x low none =
@@ -219,7 +219,7 @@ joined_first (z ∷ zs) ys x rest is = let same : z ≡ x = cc in inr (zs, ap (�
 module _ (g : Grammar) (most : ℕ) (choices : List (Option ChoiceOf)) (shortest : AreShortest g most choices) (first : ℕ) (starts : List (Option StartOf))
     (closed : (p : ℕ) → p < prods_len g → CanStart g most choices first starts p) where
   mutual
-    -- where a tree's first token is the token, its symbol begins with it
+    -- if a tree's first token is the token, its symbol begins with it
     tree_begins : (t : Tree ℕ) (s : GrammarSymbol) (rest : List ℕ) → IsTreeOf g s t → leaves t ≡ first ∷ rest → begins starts first s ≡ true
     tree_begins (Leaf x) (Terminal t) rest fit is = let same : x ≡ first = cc in eq-eqb t first (sym fit ∙ same)
     tree_begins (Leaf x) (Nonterminal r) rest fit is = absurd fit
@@ -262,7 +262,7 @@ zero_by o len b c is told at =
     twice true = refl
     twice false = refl
 
--- where a rule can begin, or the production has no length or no place, nothing is missing
+-- if a rule can begin, or the production has no length or no place, nothing is missing
 pub starts_already : (g : Grammar) (most : ℕ) (choices : List (Option ChoiceOf)) (first : ℕ) (starts : List (Option StartOf)) (p r : ℕ) → r ≡ rule_of g p
     → is_some (start_at starts r) ≡ true → CanStart g most choices first starts p
 starts_already g most choices first starts p r is some len k total place =
@@ -277,7 +277,7 @@ starts_nowhere g most choices first starts p none len k total place =
     let both = ap (λ (o : Option ℕ). place_if o (place_of choices starts first (symbols_of g p))) (sym total) ∙ none in
     let never = sym place ∙ both in absurd (cc)
 
--- where there is a place there is a length
+-- if there is a place there is a length
 pub place_if_parts : (len place : Option ℕ) (k : ℕ) → place_if len place ≡ Some k → (n : ℕ) × (len ≡ Some n) × (place ≡ Some k)
 place_if_parts None place k is = absurd (cc)
 place_if_parts (Some n) place k is = (n, refl, is)
@@ -311,7 +311,7 @@ pub is_none_by : {A : Type 0} (o : Option A) → is_some o ≡ false → o ≡ N
 is_none_by None is = refl
 is_none_by (Some x) is = absurd (false≢true (sym is))
 
--- where no rule can begin, all is right
+-- if no rule can begin, all is right
 pub starts_none : (g : Grammar) (choices : List (Option ChoiceOf)) (first : ℕ) (starts : List (Option StartOf)) → length starts ≡ rules_len g
     → ((r : ℕ) → start_at starts r ≡ None) → AreStarts g choices first starts
 starts_none g choices first starts count none = record {
