@@ -4,7 +4,7 @@ use Rattle.std.specs.List.{AllPairs, Contains}
 use Rattle.lrpar_parse_repair.specs.Asked.{Asked}
 use Rattle.lrpar_parse_repair.specs.Sequences.{PlainStep, PlainShift}
 use Rattle.lrpar_parse_cpctplus.specs.Answer.{AreCheapest, AreRepairsAt}
-use Rattle.lrpar_parse_cpctplus.specs.Cheapest.{AreAtMost, BeginsWithin, IsBeginning, IsLeastCost, IsRepair, RepairsAt, cost_of}
+use Rattle.lrpar_parse_cpctplus.specs.Cheapest.{AreAtMost, IsCandidateWithin, IsCandidate, IsLeastCost, IsRepair, RepairsAt, cost_of}
 use Rattle.lrpar_parse_cpctplus.specs.Costs.{Terms, token_cost}
 use Rattle.lrpar_parse_cpctplus.specs.Forms.{Has}
 use Rattle.lrpar_parse_cpctplus.specs.Order.{ComesFirst}
@@ -36,12 +36,12 @@ module _ {X : Type 0} (token : X → ℕ) (terms : Terms) (at : Asked X) where
   CostsNoLess c = (q : List PlainStep) → IsRepair token at q → c ≤ cost_of token terms.costs at q
 
   -- there are too many candidates at c: no answer is due
-  pub answer_exceeded : (c : ℕ) → CostsNoLess c → AreMoreThan terms.limit (BeginsWithin token terms.costs at c) → AreCheapest token terms at []
+  pub answer_exceeded : (c : ℕ) → CostsNoLess c → AreMoreThan terms.limit (IsCandidateWithin token terms.costs at c) → AreCheapest token terms at []
   answer_exceeded c none more = record {
     all = λ d found.
         let repair = found.least.some in
         let above : c ≤ d = omega (arith, none repair.0 repair.1.0, repair.1.1) in
-        absurd (more_not_most terms.limit (BeginsWithin token terms.costs at c) (BeginsWithin token terms.costs at d)
+        absurd (more_not_most terms.limit (IsCandidateWithin token terms.costs at c) (IsCandidateWithin token terms.costs at d)
         (λ q begins. (begins.0, omega (arith, begins.1, above))) more found.within);
     else = inl refl;
   }
@@ -55,7 +55,7 @@ module _ {X : Type 0} (token : X → ℕ) (terms : Terms) (at : Asked X) where
 
   module _ (some : 0 < at.shifts) (each : (t : ℕ) → 0 < token_cost terms.costs t) where
     -- a repair that costs c is a candidate, if none costs less
-    least_begins : (c : ℕ) → CostsNoLess c → (q : List PlainStep) → RepairsAt token terms.costs at c q → IsBeginning token at q
+    least_begins : (c : ℕ) → CostsNoLess c → (q : List PlainStep) → RepairsAt token terms.costs at c q → IsCandidate token at q
     least_begins c none q r = repair_begins token at some q r.0 (λ row.
         let less = cheaper token at some terms.costs each q r.0 row in
         omega (arith, less.2, none less.0 less.1, r.1))

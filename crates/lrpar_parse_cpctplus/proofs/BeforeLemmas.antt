@@ -39,16 +39,16 @@ module _ (end : ℕ) where
   rank_below PlainDelete is = omega arith
   rank_below PlainShift is = omega arith
 
-  pub rank_tells : (x y : PlainStep) → IsStepOf end x → IsStepOf end y → rank_of end x ≡ rank_of end y → x ≡ y
-  rank_tells (PlainInsert t) (PlainInsert u) a b e = ap PlainInsert e
-  rank_tells (PlainInsert t) PlainDelete a b e = absurd (omega (arith, a, e))
-  rank_tells (PlainInsert t) PlainShift a b e = absurd (omega (arith, a, e))
-  rank_tells PlainDelete (PlainInsert u) a b e = absurd (omega (arith, b, e))
-  rank_tells PlainDelete PlainDelete a b e = refl
-  rank_tells PlainDelete PlainShift a b e = absurd (omega (arith, e))
-  rank_tells PlainShift (PlainInsert u) a b e = absurd (omega (arith, b, e))
-  rank_tells PlainShift PlainDelete a b e = absurd (omega (arith, e))
-  rank_tells PlainShift PlainShift a b e = refl
+  pub same_rank : (x y : PlainStep) → IsStepOf end x → IsStepOf end y → rank_of end x ≡ rank_of end y → x ≡ y
+  same_rank (PlainInsert t) (PlainInsert u) a b e = ap PlainInsert e
+  same_rank (PlainInsert t) PlainDelete a b e = absurd (omega (arith, a, e))
+  same_rank (PlainInsert t) PlainShift a b e = absurd (omega (arith, a, e))
+  same_rank PlainDelete (PlainInsert u) a b e = absurd (omega (arith, b, e))
+  same_rank PlainDelete PlainDelete a b e = refl
+  same_rank PlainDelete PlainShift a b e = absurd (omega (arith, e))
+  same_rank PlainShift (PlainInsert u) a b e = absurd (omega (arith, b, e))
+  same_rank PlainShift PlainDelete a b e = absurd (omega (arith, e))
+  same_rank PlainShift PlainShift a b e = refl
 
   -- the sequence comes before what goes on from the path by a step of this rank
   abbrev pub IsBefore : List PlainStep → List PlainStep → ℕ → Type 0
@@ -145,7 +145,7 @@ module _ (end : ℕ) where
   up_before (s ∷ q) [] x r is one past h =
       elim (split_below (rank_of end s) (rank_of end x) h) as (λ _. (rank_of end s < rank_of end x) ⊎ ((s ≡ x) × IsBefore q [] r)) [
         | inl l ↦ inl l
-        | inr e ↦ inr (rank_tells s x is.0 one e, all_before q r is.1 past)
+        | inr e ↦ inr (same_rank s x is.0 one e, all_before q r is.1 past)
       ]
   up_before (s ∷ q) (y ∷ p) x r is one past h =
       elim h as (λ _. IsBefore (s ∷ q) (y ∷ (p ++ x ∷ [])) r) [

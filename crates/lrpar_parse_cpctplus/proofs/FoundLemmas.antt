@@ -131,12 +131,12 @@ come_first {S} {X} index parts search found sequences measured rising h =
     subst (λ (l : List (List PlainStep)). AllPairs first l) (sym h.are) (pairs_map first steps h.sorted pairs)
 
 -- the test of the sort
-pub less_told : (m n : ℕ) (r : Ordering) → r ≡ nat_cmp m n → is_lt r ≡ nat_lt m n
-less_told m n r e =
-    let told : is_lt (nat_cmp m n) ≡ nat_lt m n =
+pub less_by_order : (m n : ℕ) (r : Ordering) → r ≡ nat_cmp m n → is_lt r ≡ nat_lt m n
+less_by_order m n r e =
+    let fact : is_lt (nat_cmp m n) ≡ nat_lt m n =
     cond_both (nat_lt m n) Less (cond (m == n) Equal Greater) (λ (o : Ordering). is_lt o ≡ nat_lt m n) (λ less. sym less)
     (λ more. cond_both (m == n) Equal Greater (λ (o : Ordering). is_lt o ≡ nat_lt m n) (λ same. sym more) (λ above. sym more)) in
-    ap is_lt e ∙ told
+    ap is_lt e ∙ fact
 
 pub sorted_by_reach : {S : Type 0} (index : S → ℕ) (old new : List (Found S)) (sequences : List (List PlainStep)) → IsPermutation old new
     → (IsStrictWeakOrder (goes_further {S = S}) → IsSortedBy goes_further new) → (IsStrictWeakOrder (goes_further {S = S}) → IsStableBy goes_further old new)

@@ -8,11 +8,11 @@ use Rattle.lrpar_table_stacks.specs.Run.{token_at}
 use Rattle.lrpar_table_stacks.proofs.RunLemmas.{token_at_end}
 use Rattle.lrpar_parse_repair.specs.Asked.{Asked}
 use Rattle.lrpar_parse_repair.specs.Sequences.{PlainStep, PlainInsert, PlainDelete, PlainShift, CanGoOn, Replays}
-use Rattle.lrpar_parse_cpctplus.specs.Cheapest.{IsBeginning, IsRepair, cost_of}
+use Rattle.lrpar_parse_cpctplus.specs.Cheapest.{IsCandidate, IsRepair, cost_of}
 use Rattle.lrpar_parse_cpctplus.specs.Costs.{token_cost}
 use Rattle.lrpar_parse_cpctplus.specs.Forms.{EndsIn, Has, IsFormed}
 use Rattle.lrpar_parse_cpctplus.proofs.FormLemmas.{ends_in_one, formed_before, last_view, push_some}
-use Rattle.lrpar_parse_cpctplus.proofs.WayLemmas.{cost_append, cost_some, fewer_go_on, leads_works, place_past, replays_parted, shifts_go_on, works_leads}
+use Rattle.lrpar_parse_cpctplus.proofs.LeadLemmas.{cost_append, cost_some, fewer_go_on, leads_works, place_past, replays_parted, shifts_go_on, works_leads}
 
 -- a sequence without the Shifts at its end
 pub record Stripped (steps : List PlainStep) : Type 0 where
@@ -94,7 +94,7 @@ module _ {X : Type 0} (token : X → ℕ) (at : Asked X) (some : 0 < at.shifts) 
   repair_some fails r = nothing_goes_on token at.checked.grammar at.checked.table at.lexemes at.shifts at.stack at.place some fails r.works
 
   -- a repair without a row of Shifts is a candidate
-  pub repair_begins : (q : List PlainStep) → IsRepair token at q → ¬ (Has q (replicate at.shifts PlainShift)) → IsBeginning token at q
+  pub repair_begins : (q : List PlainStep) → IsRepair token at q → ¬ (Has q (replicate at.shifts PlainShift)) → IsCandidate token at q
   repair_begins q r rows =
       let g = at.checked.grammar in
       let way = works_leads token g at.checked.table at.lexemes at.shifts at.stack at.place q r.works in

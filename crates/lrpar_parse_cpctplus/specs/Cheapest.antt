@@ -23,7 +23,7 @@ module _ {X : Type 0} (token : X → ℕ) (at : Asked X) where
 
   -- A candidate, which the search may try: a well-formed sequence, perhaps with Shifts at its end, but fewer in a row than have
   -- to follow a repair, of which each step but perhaps the last can be taken.
-  pub record IsBeginning (steps : List PlainStep) : Type 0 where
+  pub record IsCandidate (steps : List PlainStep) : Type 0 where
     pub formed : IsFormed (end_token at.checked.grammar) steps
     pub rows : ¬ (Has steps (replicate at.shifts PlainShift))
     pub taken : (before : List PlainStep) (last : PlainStep) → steps ≡ before ++ last ∷ [] → CanBeTaken before
@@ -39,8 +39,8 @@ module _ {X : Type 0} (token : X → ℕ) (costs : List ℕ) (at : Asked X) wher
   cost_of steps = steps_cost token at.checked.grammar at.lexemes costs at.place steps
 
   -- a candidate that costs at most c
-  abbrev pub BeginsWithin : ℕ → List PlainStep → Type 0
-  BeginsWithin c steps = IsBeginning token at steps × (cost_of steps ≤ c)
+  abbrev pub IsCandidateWithin : ℕ → List PlainStep → Type 0
+  IsCandidateWithin c steps = IsCandidate token at steps × (cost_of steps ≤ c)
 
   -- a repair that costs c
   abbrev pub RepairsAt : ℕ → List PlainStep → Type 0

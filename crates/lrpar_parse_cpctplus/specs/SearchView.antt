@@ -8,7 +8,7 @@ use Rattle.lrpar_table_stacks.specs.Stack.{IsStack}
 use Rattle.lrpar_parse_lexemes.specs.Known.{token_by}
 use Rattle.lrpar_parse_repair.specs.PlainSteps.{plain_steps}
 use Rattle.lrpar_parse_repair.specs.Sequences.{PlainStep, CanGoOn, IsStepTaken}
-use Rattle.lrpar_parse_cpctplus.specs.Cheapest.{CanBeTaken, IsBeginning, LeadsTo, cost_of}
+use Rattle.lrpar_parse_cpctplus.specs.Cheapest.{CanBeTaken, IsCandidate, LeadsTo, cost_of}
 use Rattle.lrpar_parse_cpctplus.specs.Costs.{step_cost}
 use Rattle.lrpar_parse_cpctplus.specs.Reaching.{GoesAsFar, Reaches}
 use Rattle.lrpar_parse_cpctplus.specs.declared.search.Search.{Search}
@@ -45,7 +45,7 @@ module _ {S X : Type 0} (index : S → ℕ) (parts : X → LexemeParts S) (searc
 
   -- A path of the search, the place after it and what it costs. If the stack is fresh, the path leads to it.
   pub record IsWalked (path : List PlainStep) (base states : List ℕ) (fresh : Bool) (place cost : ℕ) : Type 0 where
-    pub begins : IsBeginning (token_by index parts) search.point.now path
+    pub begins : IsCandidate (token_by index parts) search.point.now path
     pub taken : CanBeTaken (token_by index parts) search.point.now path
     pub placed : (after : List ℕ) (j : ℕ) → LeadsTo (token_by index parts) search.point.now path after j → j ≡ place
     pub within : place ≤ length search.point.now.lexemes
@@ -53,7 +53,7 @@ module _ {S X : Type 0} (index : S → ℕ) (parts : X → LexemeParts S) (searc
     pub cheap : cost ≤ 255 * length path
     pub lies_over : base ≡ search.point.now.stack
     pub stack : IsStack search.point.now.checked.table states
-    pub stands : fresh ≡ true → LeadsTo (token_by index parts) search.point.now path states place
+    pub leads_there : fresh ≡ true → LeadsTo (token_by index parts) search.point.now path states place
 
 -- the sequences of the repairs that are found
 abbrev pub sequences_found : {S : Type 0} → (S → ℕ) → List (Found S) → List (List PlainStep)

@@ -3,7 +3,7 @@ use Rattle.std.specs.Prelude.{◌≡◌, ◌<◌, ◌≤◌, ◌*◌, ◌↔◌,
 use Rattle.std.specs.List.{AllPairs, Contains}
 use Rattle.lrpar_parse_repair.specs.Asked.{Asked}
 use Rattle.lrpar_parse_repair.specs.Sequences.{PlainStep}
-use Rattle.lrpar_parse_cpctplus.specs.Cheapest.{AreAtMost, BeginsWithin, IsBeginning, RepairsAt, cost_of}
+use Rattle.lrpar_parse_cpctplus.specs.Cheapest.{AreAtMost, IsCandidateWithin, IsCandidate, RepairsAt, cost_of}
 use Rattle.lrpar_parse_cpctplus.specs.Costs.{Terms}
 use Rattle.lrpar_parse_cpctplus.specs.Order.{IsEarlier}
 
@@ -32,8 +32,8 @@ module _ {X : Type 0} (token : X → ℕ) (terms : Terms) (at : Asked X) where
   -- all candidates that cost at most c were tried, within the limit: these are the repairs that cost c among them, the earlier
   -- ones first; and no candidate that costs more costs less than `next`
   pub record IsTallied (c : ℕ) (found : List (List PlainStep)) (next : Option ℕ) : Type 0 where
-    pub within : AreAtMost terms.limit (BeginsWithin token terms.costs at c)
-    pub exact : (q : List PlainStep) → Contains found q ↔ (RepairsAt token terms.costs at c q × IsBeginning token at q)
+    pub within : AreAtMost terms.limit (IsCandidateWithin token terms.costs at c)
+    pub exact : (q : List PlainStep) → Contains found q ↔ (RepairsAt token terms.costs at c q × IsCandidate token at q)
     pub rising : AllPairs IsEarlier found
-    pub dear : (q : List PlainStep) → IsBeginning token at q → c < cost_of token terms.costs at q → IsLeftOut next q
+    pub dear : (q : List PlainStep) → IsCandidate token at q → c < cost_of token terms.costs at q → IsLeftOut next q
     pub higher : (m : ℕ) → next ≡ Some m → (c < m) × (m ≤ 255 * terms.limit)

@@ -15,7 +15,7 @@ abbrev pub AreAddedTo : (List PlainStep → Type 0) → List PlainStep → List 
 AreAddedTo P path old new = (P path × (new ≡ old ++ path ∷ [])) ⊎ (¬ (P path) × (new ≡ old))
 
 -- the place before a step, from the one after it
-abbrev pub place_in_front : ℕ → PlainStep → ℕ
-place_in_front j (PlainInsert t) = j
-place_in_front j PlainDelete = j - 1
-place_in_front j PlainShift = j - 1
+abbrev pub place_before : ℕ → PlainStep → ℕ
+place_before j (PlainInsert t) = j
+place_before j PlainDelete = j - 1
+place_before j PlainShift = j - 1

@@ -6,11 +6,11 @@ ghost use Rattle.lrpar_table_stacks.specs.Stack.{IsStack};
 ghost use Rattle.lrpar_parse_lexemes.specs.Known.{token_by};
 ghost use Rattle.lrpar_parse_repair.specs.PlainSteps.{plain_step, plain_steps};
 ghost use Rattle.lrpar_parse_repair.specs.Sequences.{PlainDelete};
-ghost use Rattle.lrpar_parse_cpctplus.specs.Cheapest.{BeginsWithin, CanBeTaken, IsRepair, LeadsTo, RepairsAt};
+ghost use Rattle.lrpar_parse_cpctplus.specs.Cheapest.{IsCandidateWithin, CanBeTaken, IsRepair, LeadsTo, RepairsAt};
 ghost use Rattle.lrpar_parse_cpctplus.specs.Reaching.{GoesAsFar};
 ghost use Rattle.lrpar_parse_cpctplus.specs.SearchView.{sequences_found};
 ghost use Rattle.lrpar_parse_cpctplus.specs.Tallied.{AreMoreThan, IsTallied};
-ghost use Rattle.lrpar_parse_cpctplus.specs.WalkAnswers.{AreAddedTo, IsLeftBy, place_in_front};
+ghost use Rattle.lrpar_parse_cpctplus.specs.WalkAnswers.{AreAddedTo, IsLeftBy, place_before};
 
 use crate::search::{Search, ends_in_shifts};
 use crate::tally::{Found, Tally};
@@ -55,7 +55,7 @@ impl<'a, 'p, StorageT: StorageIndex, LexemeT: Lexeme<StorageT>> Search<'a, 'p, S
         bound: u128,
     ) -> Result<Option<Tally<StorageT>>, AllocError>
         ensures tally { IfOk result (λ tally. MatchOption tally
-            (AreMoreThan self.now.terms.now.limit (BeginsWithin (token_by StorageT.index LexemeT.parts) self.now.terms.now.costs self.now.point.now bound))
+            (AreMoreThan self.now.terms.now.limit (IsCandidateWithin (token_by StorageT.index LexemeT.parts) self.now.terms.now.costs self.now.point.now bound))
             (λ t. IsTallied (token_by StorageT.index LexemeT.parts) self.now.terms.now self.now.point.now bound (sequences_found StorageT.index t.found.items) t.next)) }
         ensures measured { IfOk result (λ tally. IfSome tally (λ t. AreMeasured StorageT.index LexemeT.parts self.now t.found.items)) }
     {
@@ -175,7 +175,7 @@ impl<'a, 'p, StorageT: StorageIndex, LexemeT: Lexeme<StorageT>> Search<'a, 'p, S
             return None;
         };
         walk.fresh = stays_fresh(walk.fresh, last);
-        walk.place = place_in_front(walk.place, last);
+        walk.place = place_before(walk.place, last);
         walk.cost -= u128::from(self.cost_at(walk.place, last));
         Some(self.rank_of(last))
     }
@@ -288,8 +288,8 @@ fn stays_fresh<StorageT: StorageIndex>(fresh: bool, last: RepairStep<StorageT>) 
 }
 
 // The place before a step, from the one after it.
-fn place_in_front<StorageT: StorageIndex>(place: usize, step: RepairStep<StorageT>) -> usize
-    ensures { result ≡ place_in_front place (plain_step StorageT.index step) }
+fn place_before<StorageT: StorageIndex>(place: usize, step: RepairStep<StorageT>) -> usize
+    ensures { result ≡ place_before place (plain_step StorageT.index step) }
 {
     match step {
         RepairStep::Insert(_) => place,

@@ -26,7 +26,7 @@ added_to g [] x y has adds = Added x y has adds
 added_to g (s ∷ path) x y has adds = Added x y has adds
 
 module _ (g : Grammar) (graph : Graph) (table : Table) (well : IsWellFormed g) (canonical : IsCanonical g graph)
-    (wanted : IsCanonicalTable g graph table) where
+    (by_sets : IsCanonicalTable g graph table) where
   -- an item of a state is one of the grammar
   item_known : (s p k t : ℕ) → HasItem graph s p k t → IsItem g p k t
   item_known s p k t has =
@@ -52,7 +52,7 @@ module _ (g : Grammar) (graph : Graph) (table : Table) (well : IsWellFormed g) (
       → StepsOn graph table s (Terminal a) p k t
   shifts_on s p k t a within has at =
       let listed : a < end_token g = symbol_listed g well p k (Terminal a) at in
-      let to = (wanted.acts s a within (omega (arith, listed))).shifts (item_at p k t, has, at) in
+      let to = (by_sets.acts s a within (omega (arith, listed))).shifts (item_at p k t, has, at) in
       (to.0, to.1, moved_on s to.0 p k t (Terminal a) has at to.2)
 
   -- and goes by each rule after it
@@ -60,7 +60,7 @@ module _ (g : Grammar) (graph : Graph) (table : Table) (well : IsWellFormed g) (
       → StepsOn graph table s (Nonterminal r) p k t
   carries_on s p k t r within has at =
       let listed = symbol_listed g well p k (Nonterminal r) at in
-      let to = (wanted.goes s r within listed.1).goes (item_at p k t, has, at) in
+      let to = (by_sets.goes s r within listed.1).goes (item_at p k t, has, at) in
       (to.0, to.1, moved_on s to.0 p k t (Nonterminal r) has at to.2)
 
   module _ (one : HaveOneAction g (graph_len graph) (sets_of graph)) where
@@ -68,8 +68,8 @@ module _ (g : Grammar) (graph : Graph) (table : Table) (well : IsWellFormed g) (
     no_shift_beside : (s t : ℕ) (action : TableAction) → s < graph_len graph → t < tokens_len g → HasAction g (graph_len graph) (sets_of graph) s t action
         → ((next : ℕ) → action ≢ ShiftTo next) → ¬ (HasAfterDot g (sets_of graph) s (Terminal t))
     no_shift_beside s t action within known candidate other before =
-        let here : s < states_len table = let is = wanted.states in omega (arith, within, is) in
-        let to = (wanted.acts s t here known).shifts before in
+        let here : s < states_len table = let is = by_sets.states in omega (arith, within, is) in
+        let to = (by_sets.acts s t here known).shifts before in
         let shift : HasAction g (graph_len graph) (sets_of graph) s t (ShiftTo to.0) =
         (before, next_within s to.0 (Terminal t) before to.2, to.2) in
         other to.0 (one s t action (ShiftTo to.0) within candidate shift)
@@ -79,7 +79,7 @@ module _ (g : Grammar) (graph : Graph) (table : Table) (well : IsWellFormed g) (
     reduces s t p here candidate =
         let within = state_in_range graph s p (prod_len g p) t candidate.1 in
         let known = (item_known s p (prod_len g p) t candidate.1).token in
-        (wanted.acts s t here known).reduces (no_shift_beside s t (ReduceBy p) within known candidate (λ next is. absurd (cc))) p (
+        (by_sets.acts s t here known).reduces (no_shift_beside s t (ReduceBy p) within known candidate (λ next is. absurd (cc))) p (
           candidate,
           λ q also.
               let same : ReduceBy p ≡ ReduceBy q = one s t (ReduceBy p) (ReduceBy q) within candidate also in
@@ -91,13 +91,13 @@ module _ (g : Grammar) (graph : Graph) (table : Table) (well : IsWellFormed g) (
     accepts s t here has =
         let within = state_in_range graph s (start_prod g) 1 t has in
         let known = (item_known s (start_prod g) 1 t has).token in
-        (wanted.acts s t here known).accepts (no_shift_beside s t Accepts within known has (λ next is. absurd (cc))) (λ p also.
+        (by_sets.acts s t here known).accepts (no_shift_beside s t Accepts within known has (λ next is. absurd (cc))) (λ p also.
         let same : Accepts ≡ ReduceBy p = one s t Accepts (ReduceBy p) within has also in absurd (cc)) has
 
     complete_at : (condition : CompletenessCondition) (s : ℕ) → s < states_len table → IsCompleteAt g graph table condition s
     complete_at C1 s here = λ first.
         let item = item_at (start_prod g) 0 (end_token g) in
-        subst (λ (n : ℕ). HasItem graph n (start_prod g) 0 (end_token g)) (sym (first ∙ wanted.start)) ((canonical.start item).1 (Own item refl))
+        subst (λ (n : ℕ). HasItem graph n (start_prod g) 0 (end_token g)) (sym (first ∙ by_sets.start)) ((canonical.start item).1 (Own item refl))
     complete_at C2 s here = λ p k t has r w after q b known by begins.
         let x = item_at p k t in
         let y = item_at q 0 b in
@@ -121,20 +121,20 @@ module _ (g : Grammar) (graph : Graph) (table : Table) (well : IsWellFormed g) (
     -- the table has the action that a state's items have before conflict resolution
     done : (s t : ℕ) (action : TableAction) → s < graph_len graph → HasAction g (graph_len graph) (sets_of graph) s t action → action_of table s t ≡ action
     done s t (ShiftTo next) within candidate =
-        let here : s < states_len table = let is = wanted.states in omega (arith, within, is) in
+        let here : s < states_len table = let is = by_sets.states in omega (arith, within, is) in
         let x = candidate.0.0 in
         let listed : t < end_token g = symbol_listed g well x.prod x.dot (Terminal t) candidate.0.2 in
-        let to = (wanted.acts s t here (omega (arith, listed))).shifts candidate.0 in
+        let to = (by_sets.acts s t here (omega (arith, listed))).shifts candidate.0 in
         let same : AreSame (sets_of graph to.0) (sets_of graph next) = λ y. (
           λ h. (candidate.2 y).1 ((to.2 y).0 h),
           λ h. (to.2 y).1 ((candidate.2 y).0 h),
         ) in
         to.1 ∙ ap (λ (n : ℕ). ShiftTo n) (canonical.once to.0 next (next_within s to.0 (Terminal t) candidate.0 to.2) candidate.1 same)
     done s t (ReduceBy p) within candidate =
-        let here : s < states_len table = let is = wanted.states in omega (arith, within, is) in
+        let here : s < states_len table = let is = by_sets.states in omega (arith, within, is) in
         (complete.each C5 s here p (prod_len g p) t candidate.1).reduces refl candidate.0
     done s t Accepts within candidate =
-        let here : s < states_len table = let is = wanted.states in omega (arith, within, is) in
+        let here : s < states_len table = let is = by_sets.states in omega (arith, within, is) in
         let one_symbol : prod_len g (start_prod g) ≡ 1 = ap (λ (w : List GrammarSymbol). length w) well.last_symbols in
         (complete.each C5 s here (start_prod g) 1 t candidate).accepts (sym one_symbol) refl
     done s t Fails within candidate = absurd candidate

@@ -149,7 +149,7 @@ module _ (P : ℕ → Type 0) (ns : List ℕ) (up : IsStrictlyIncreasing ns) whe
           omega (arith, less, at.2, is));
       only = λ x there.
           elim (Contains-push_cases xs y x there) as (λ _. P x × ((k : ℕ) × (k < i + 1) × (slice_index ns k ≡ x))) [
-            | inl old ↦ let told = listed.only x old in (told.0, (told.1.0, omega (arith, told.1.1), told.1.2))
+            | inl old ↦ let fact = listed.only x old in (fact.0, (fact.1.0, omega (arith, fact.1.1), fact.1.2))
             | inr new ↦ (subst P new has, (i, omega arith, is ∙ new))
           ];
       all = λ k first holds.
@@ -166,7 +166,7 @@ module _ (P : ℕ → Type 0) (ns : List ℕ) (up : IsStrictlyIncreasing ns) whe
     pub listed_no_more : ¬ (P y) → AreListed P ns (i + 1) xs
     listed_no_more lacks = record {
       ascending = listed.ascending;
-      only = λ x there. let told = listed.only x there in (told.0, (told.1.0, omega (arith, told.1.1), told.1.2));
+      only = λ x there. let fact = listed.only x there in (fact.0, (fact.1.0, omega (arith, fact.1.1), fact.1.2));
       all = λ k first holds.
           elim (cases_lt k i) as (λ _. Contains xs (slice_index ns k)) [
             | inl old ↦ listed.all k old holds

@@ -53,7 +53,7 @@ go_back_more old new keep s (step ∷ steps) back = (back.0, keep s _ back.1, go
 
 module _ (table : Table) (most : ℕ) (choices : List (Option ChoiceOf)) (edges : List EdgeOf) (are : AreEdges table choices edges)
     (accesses : List (Option AccessOf)) (right : AreRightAccesses table most choices accesses) where
-  -- no walk to a state of which nothing is kept has fewer tokens than the least open step
+  -- no walk to a state with nothing kept has fewer tokens than the least open step
   pub no_walk_below : (len : ℕ) → NoStepIsLess most accesses edges len → NoWalkIsBelow table most choices accesses len
   no_walk_below len less s other path none Starts total = let start = right.start in absurd (cc)
   no_walk_below len less s other path none (Goes from next x before walk within goes) total =
@@ -72,7 +72,7 @@ module _ (table : Table) (most : ℕ) (choices : List (Option ChoiceOf)) (edges 
             omega (arith, sum, least, access)
       ]
 
-  -- if no step is open, no walk leads to a state of which nothing is kept
+  -- if no step is open, no walk leads to a state with nothing kept
   pub no_walk : NoStepIsOpen most accesses edges → (s len : ℕ) (path : List GrammarSymbol) → access_at accesses s ≡ None → IsWalk table s path
       → total_len most choices path ≡ Some len → ⊥
   no_walk closed s len path none walk total =
@@ -99,13 +99,13 @@ module _ (table : Table) (most : ℕ) (choices : List (Option ChoiceOf)) (edges 
           | inr other ↦ elsewhere s other ∙ at
         ]
 
-    pub ways_more : AreRightAccesses table most choices kept
-    ways_more =
-        let told = open_parts most accesses e len is in
-        let from = told.1.0 in
-        let sum = told.1.2 in
+    pub accesses_more : AreRightAccesses table most choices kept
+    accesses_more =
+        let fact = open_parts most accesses e len is in
+        let from = fact.1.0 in
+        let sum = fact.1.2 in
         let sound = are.sound e there in
-        let before = right.back e.step.from from told.1.1 in
+        let before = right.back e.step.from from fact.1.1 in
         record {
           states = length-set accesses e.next _ ∙ right.states;
           start = keeps table.start _ right.start;
@@ -113,7 +113,7 @@ module _ (table : Table) (most : ℕ) (choices : List (Option ChoiceOf)) (edges 
               elim (cases_eq s e.next) as (λ _. access.len ≤ other) [
                 | inl same ↦
                     let own : len ≡ access.len = ap access_len (sym here ∙ ap (access_at kept) (sym same) ∙ at) in
-                    let least = below s other path (ap (access_at accesses) same ∙ told.0) walk total in
+                    let least = below s other path (ap (access_at accesses) same ∙ fact.0) walk total in
                     omega (arith, own, least)
                 | inr not ↦ right.least s other access path (sym (elsewhere s not) ∙ at) walk total
               ];
@@ -163,12 +163,12 @@ place_has : (edges : List EdgeOf) (k : ℕ) → k < length edges → Contains ed
 place_has edges k low = (k, low, get_or_default edges k (get_or edges k no_edge) no_edge low)
 
 -- the least of all open steps
-pub steps_told : (most : ℕ) (accesses : List (Option AccessOf)) (edges : List EdgeOf) (n : ℕ) (least : Option ℕ) → n ≡ length edges
+pub steps_least : (most : ℕ) (accesses : List (Option AccessOf)) (edges : List EdgeOf) (n : ℕ) (least : Option ℕ) → n ≡ length edges
     → IsLeastBelow (open_at most accesses edges) n least
     → MatchOption least (NoStepIsOpen most accesses edges) (λ len. HasOpenStep most accesses edges len × NoStepIsLess most accesses edges len)
-steps_told most accesses edges n None all before = λ e there.
+steps_least most accesses edges n None all before = λ e there.
     let low = there.1 in sym (place_open most accesses edges e there) ∙ before there.0 (omega (arith, all, low))
-steps_told most accesses edges n (Some len) all before =
+steps_least most accesses edges n (Some len) all before =
     let one = before.0 in
     let inside = one.1 in (
       (get_or edges one.0 no_edge, place_has edges one.0 (omega (arith, all, inside)), one.2),
@@ -195,7 +195,7 @@ SettlingAccesses index most len edges old now n =
 
 module _ {S : Type 0} (index : S → ℕ) (most len : ℕ) (edges : List (Edge S)) (old now new : List (Option (Access S))) (n : ℕ)
     (before : SettlingAccesses index most len edges old now n) (edge : Edge S) (o : Option ℕ) (low : n < length edges) (at : edge ≡ get_or edges n edge)
-    (told : o ≡ open_by most (accesses_of index now) (edge_of index edge)) where
+    (fact : o ≡ open_by most (accesses_of index now) (edge_of index edge)) where
   abbrev the_edge : EdgeOf
   the_edge = edge_of index edge
 
@@ -204,10 +204,10 @@ module _ {S : Type 0} (index : S → ℕ) (most len : ℕ) (edges : List (Edge S
       let long = length-map edges (edge_of index) in
       (n, omega (arith, long, low), get_or-map (edge_of index) edges n edge the_edge low ∙ ap (edge_of index) (sym at))
 
-  pub ways_settle : (k : ℕ) → option_eq nat_eq o (Some len) ≡ true → k ≡ index edge.next.0 → k < length now
+  pub accesses_settle : (k : ℕ) → option_eq nat_eq o (Some len) ≡ true → k ≡ index edge.next.0 → k < length now
       → new ≡ set now k (Some (record { len = len; last = Some edge.step })) → SettlingAccesses index most len edges old new (n + 1)
-  ways_settle k equal target inside is =
-      let open_now : open_by most (accesses_of index now) the_edge ≡ Some len = sym told ∙ eq_some o len equal in
+  accesses_settle k equal target inside is =
+      let open_now : open_by most (accesses_of index now) the_edge ≡ Some len = sym fact ∙ eq_some o len equal in
       let access : Access S = record { len = len; last = Some edge.step } in
       let list : accesses_of index new ≡ set (accesses_of index now) the_edge.next (Some (access_of index access)) =
       ap (accesses_of index) is ∙ map-set (option_map (access_of index)) now k (Some access) ∙ ap (λ (m : ℕ). set (accesses_of index now) m (Some (access_of index access))) target in
@@ -219,7 +219,7 @@ module _ {S : Type 0} (index : S → ℕ) (most len : ℕ) (edges : List (Edge S
         λ table choices are right below.
             let so_far = before.0 table choices are right below in (
               subst (AreRightAccesses table most choices) (sym list)
-                  (ways_more table most choices (edges_of index edges) are (accesses_of index now) so_far.0 len the_edge there within open_now so_far.1),
+                  (accesses_more table most choices (edges_of index edges) are (accesses_of index now) so_far.0 len the_edge there within open_now so_far.1),
               subst (λ (xs : List (Option AccessOf)). NoWalkIsBelow table most choices xs len) (sym list)
                   (below_kept table most choices (edges_of index edges) are (accesses_of index now) so_far.0 len the_edge there within open_now so_far.1),
             ),
@@ -229,10 +229,10 @@ module _ {S : Type 0} (index : S → ℕ) (most len : ℕ) (edges : List (Edge S
         ],
       )
 
-  pub ways_stay : option_eq nat_eq o (Some len) ≡ false → new ≡ now → SettlingAccesses index most len edges old new (n + 1)
-  ways_stay unequal is =
+  pub accesses_stay : option_eq nat_eq o (Some len) ≡ false → new ≡ now → SettlingAccesses index most len edges old new (n + 1)
+  accesses_stay unequal is =
       let not_here : open_at most (accesses_of index now) (edges_of index edges) n ≡ Some len → ⊥ =
-      λ here. not_some o len unequal (told ∙ sym (open_here index most (accesses_of index now) edges n edge low at) ∙ here) in
+      λ here. not_some o len unequal (fact ∙ sym (open_here index most (accesses_of index now) edges n edge low at) ∙ here) in
       subst (λ (xs : List (Option (Access S))). SettlingAccesses index most len edges old xs (n + 1)) (sym is) (
         before.0,
         elim before.1 [
@@ -247,14 +247,14 @@ module _ {S : Type 0} (index : S → ℕ) (most len : ℕ) (edges : List (Edge S
       )
 
 -- nothing was looked at yet
-pub ways_start : {S : Type 0} (index : S → ℕ) (most len : ℕ) (edges : List (Edge S)) (old : List (Option (Access S))) → SettlingAccesses index most len edges old old 0
-ways_start index most len edges old = (λ table choices are right below. (right, below), inl (refl, λ k low is. omega (arith, low)))
+pub accesses_start : {S : Type 0} (index : S → ℕ) (most len : ℕ) (edges : List (Edge S)) (old : List (Option (Access S))) → SettlingAccesses index most len edges old old 0
+accesses_start index most len edges old = (λ table choices are right below. (right, below), inl (refl, λ k low is. omega (arith, low)))
 
 -- all were
-pub ways_end : {S : Type 0} (index : S → ℕ) (most len : ℕ) (edges : List (Edge S)) (old now : List (Option (Access S))) (n : ℕ) → length edges ≤ n
+pub accesses_end : {S : Type 0} (index : S → ℕ) (most len : ℕ) (edges : List (Edge S)) (old now : List (Option (Access S))) (n : ℕ) → length edges ≤ n
     → SettlingAccesses index most len edges old now n → HasOpenStep most (accesses_of index old) (edges_of index edges) len
     → open_accesses (accesses_of index now) < open_accesses (accesses_of index old)
-ways_end index most len edges old now n all after some =
+accesses_end index most len edges old now n all after some =
     let inside = some.1.1 in
     let long = length-map edges (edge_of index) in
     elim after.1 [

@@ -107,9 +107,9 @@ module _ (g : Grammar) (graph : Graph) (table : Table) (well : IsWellFormed g) (
       record {
         some = (symbols, kept.0, back_path s back.0 back.2, forest_follows_fit g most choices shortest.right kept.0 symbols kept.1, kept.2);
         least = λ others trees path fit.
-            let told = path_total s others trees (state_low s access at) path fit in
-            let least = right.least s told.0 access (reverse others) at told.1 told.2 in
-            let wide = told.3 in
+            let fact = path_total s others trees (state_low s access at) path fit in
+            let least = right.least s fact.0 access (reverse others) at fact.1 fact.2 in
+            let wide = fact.3 in
             omega (arith, least, wide);
       }
 
@@ -121,8 +121,8 @@ module _ (g : Grammar) (graph : Graph) (table : Table) (well : IsWellFormed g) (
           | inl none ↦
               subst (λ (o : Option AccessOf). IsShortestAccessIfAny g graph most s (option_map (λ (access : AccessOf). access.len) o)) (sym none)
               (λ symbols trees path fit.
-              let told = path_total s symbols trees (let count = built.wanted.states in omega (arith, count, low)) path fit in
-              no_walk table most choices edges are accesses right done s told.0 (reverse symbols) none told.1 told.2)
+              let fact = path_total s symbols trees (let count = built.wanted.states in omega (arith, count, low)) path fit in
+              no_walk table most choices edges are accesses right done s fact.0 (reverse symbols) none fact.1 fact.2)
           | inr some ↦
               subst (λ (o : Option AccessOf). IsShortestAccessIfAny g graph most s (option_map (λ (access : AccessOf). access.len) o)) (sym some.1)
               (access_shortest s some.0 some.1)

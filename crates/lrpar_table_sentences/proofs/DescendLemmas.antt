@@ -87,13 +87,13 @@ module _ (g : Grammar) (choices : List (Option ChoiceOf)) (starts : List (Option
             subst (λ (n : ℕ). ForestStarts g choices starts first k children (symbols_of g n)) same
             (subst (λ (n : ℕ). ForestStarts g choices starts first n children (symbols_of g q)) place h) in
             let split = parts k children (symbols_of g p) own in
-            let told = split.at x (drop (k + 1) (symbols_of g p)) at in
+            let fact = split.at x (drop (k + 1) (symbols_of g p)) at in
             let more = forest_moves split.after ++ Makes p ∷ todo in
             let front = made split.before split.front in (
               split.inner,
               more,
-              told.0,
-              (split.after, todo, told.1, refl, unfolds),
+              fact.0,
+              (split.after, todo, fact.1, refl, unfolds),
               ap (λ (n : ℕ). out ++ ((forest_moves children ++ Makes n ∷ []) ++ todo)) same
                   ∙ ap (λ ms. out ++ ((ms ++ Makes p ∷ []) ++ todo)) split.moves
                   ∙ regroup out (forest_moves split.before) (moves_of split.inner) (forest_moves split.after) (Makes p ∷ []) todo
@@ -176,9 +176,9 @@ pub placed : (g : Grammar) (choices : List (Option ChoiceOf)) (starts : List (Op
     → (trees : Forest ℕ) → ForestStarts g choices starts first k trees all → four ≡ one ++ forest_moves trees
 placed g choices starts first k j all more x one two three four same at front begin last trees begun =
     let split = parts g choices starts first j trees all (subst (λ (n : ℕ). ForestStarts g choices starts first n trees all) (sym same) begun) in
-    let told = split.at x more at in
-    last split.after told.1
-    ∙ ap (λ ms. ms ++ forest_moves split.after) (begin split.inner told.0 ∙ ap (λ ms. ms ++ moves_of split.inner) (front split.before split.front))
+    let fact = split.at x more at in
+    last split.after fact.1
+    ∙ ap (λ ms. ms ++ forest_moves split.after) (begin split.inner fact.0 ∙ ap (λ ms. ms ++ moves_of split.inner) (front split.before split.front))
     ∙ regrouped one (forest_moves split.before) (moves_of split.inner) (forest_moves split.after)
     ∙ ap (λ ms. one ++ ms) (sym split.moves)
   where

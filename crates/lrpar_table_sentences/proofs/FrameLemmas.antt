@@ -50,7 +50,7 @@ module _ (g : Grammar) (choices : List (Option ChoiceOf)) (old : List FrameOf) (
         ),
       )
 
-  -- a rule of which nothing is kept has no tree that follows the choices
+  -- a rule with nothing kept has no tree that follows the choices
   pub begins_none : (r : ℕ) → choice_at choices r ≡ None → Begins g choices (Nonterminal r) old old before before false
   begins_none r none (Leaf x) rest follows unfolds = absurd follows
   begins_none r none (Branch p children) rest follows unfolds =
@@ -194,8 +194,8 @@ nothing_in (x ∷ xs) none = absurd (omega (arith, none))
 
 -- what follows from an `Ok`
 pub ok_more : {T E : Type 0} (r : Result T E) (P Q : Type 0) → (P → Q) → OnOk r P → OnOk r Q
-ok_more (Ok x) P Q more told = more told
-ok_more (Err e) P Q more told = tt
+ok_more (Ok x) P Q more fact = more fact
+ok_more (Err e) P Q more fact = tt
 
 -- a symbol that is begun on an empty stack, and unfolded, is a tree's moves
 pub begun_alone : (g : Grammar) (choices : List (Option ChoiceOf)) (s : GrammarSymbol) (none frames : List FrameOf) (before middle after : List MoveOf) (derives : Bool)

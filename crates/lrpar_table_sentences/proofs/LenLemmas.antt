@@ -200,13 +200,13 @@ module _ (g : Grammar) (most : ℕ) (choices : List (Option ChoiceOf)) (shortest
       ]
 
   -- what a length says
-  pub total_tells : (ss : List GrammarSymbol) (len : Option ℕ) → len ≡ total_len most choices ss → IsShortestIfAny g most ss len
-  total_tells ss None is = λ ts fit. total_none ss ts (sym is) fit
-  total_tells ss (Some len) is = total_is_shortest g most choices shortest.right ss len (sym is)
+  pub total_is_exact : (ss : List GrammarSymbol) (len : Option ℕ) → len ≡ total_len most choices ss → IsShortestIfAny g most ss len
+  total_is_exact ss None is = λ ts fit. total_none ss ts (sym is) fit
+  total_is_exact ss (Some len) is = total_is_shortest g most choices shortest.right ss len (sym is)
 
-  pub len_tells : 1 ≤ most → (s : GrammarSymbol) (len : Option ℕ) → len ≡ len_at choices s → IsShortestIfAny g most (s ∷ []) len
-  len_tells some s None is = λ ts fit. no_trees s ts (sym is) fit
-  len_tells some s (Some len) is = total_is_shortest g most choices shortest.right (s ∷ []) len (len_alone g most choices shortest.right some s len (sym is))
+  pub len_is_exact : 1 ≤ most → (s : GrammarSymbol) (len : Option ℕ) → len ≡ len_at choices s → IsShortestIfAny g most (s ∷ []) len
+  len_is_exact some s None is = λ ts fit. no_trees s ts (sym is) fit
+  len_is_exact some s (Some len) is = total_is_shortest g most choices shortest.right (s ∷ []) len (len_alone g most choices shortest.right some s len (sym is))
 
   -- symbols that have trees have a length
   pub have_len : (ss : List GrammarSymbol) → HaveTrees g ss → (len : ℕ) × (total_len most choices ss ≡ Some len)

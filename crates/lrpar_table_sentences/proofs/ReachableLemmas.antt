@@ -130,12 +130,12 @@ all_marked g marks are closed = record { rules = are.rules; exact = λ r. (are.r
     marked_if r (OnRight p s known reached has) = closed p known (marked_if (rule_of g p) reached) (Nonterminal s) has
 
 module _ (g : Grammar) (most : ℕ) (choices : List (Option ChoiceOf)) (shortest : AreShortest g most choices) where
-  -- a rule of which something is kept has a tree
+  -- a rule with something kept has a tree
   pub kept_tree : (r : ℕ) (x : ChoiceOf) → choice_at choices r ≡ Some x → HasTree g r
   kept_tree r x at =
       let tree = shortest.right.trees r x at in (tree.0, follows_fits g most choices shortest.right tree.0 (Nonterminal r) tree.1)
 
-  -- so the rules of which something is kept are the productive ones
+  -- so the rules with something kept are the productive ones
   pub kept_exact : (r : ℕ) (kept : Bool) → kept ≡ is_some (choice_at choices r) → IsTrue kept ↔ HasTree g r
   kept_exact r kept is =
       elim (option_cases (choice_at choices r)) [
@@ -150,7 +150,7 @@ module _ (g : Grammar) (most : ℕ) (choices : List (Option ChoiceOf)) (shortest
   kept_by index None r n is same some = absurd (false≢true some)
   kept_by index (Some x) r n is same some = subst (HasTree g) same (kept_tree r (choice_of index x) (sym is))
 
-  -- one of which nothing is kept is unproductive
+  -- one with nothing kept is unproductive
   pub first_unproductive : (marks : List Bool) → AreAllMarked g marks → (r : ℕ) → ((other : ℕ) → other < r → IsReachableRule g other → HasTree g other)
       → is_marked marks r ≡ true → choice_at choices r ≡ None → IsFirstUnproductive g r
   first_unproductive marks are r before marked none =

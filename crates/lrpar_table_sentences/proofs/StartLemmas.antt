@@ -53,16 +53,16 @@ module _ (choices : List (Option ChoiceOf)) (starts : List (Option StartOf)) (fi
   pub place_ends : rest ≡ [] → None ≡ all
   place_ends is = ap (λ (w : List GrammarSymbol). option_map (λ n. i + n) (place_of choices starts first w)) (sym is) ∙ so_far
 
-  module _ (s : GrammarSymbol) (more : List GrammarSymbol) (is : rest ≡ s ∷ more) (b : Bool) (told : b ≡ begins starts first s) where
+  module _ (s : GrammarSymbol) (more : List GrammarSymbol) (is : rest ≡ s ∷ more) (b : Bool) (fact : b ≡ begins starts first s) where
     pub place_found : b ≡ true → Some i ≡ all
     place_found here =
         let same : i ≡ i + 0 = omega arith in
-        ap (λ (n : ℕ). Some n) same ∙ ap (option_map (λ n. i + n)) (sym (place_begins choices starts first s more (sym told ∙ here)))
+        ap (λ (n : ℕ). Some n) same ∙ ap (option_map (λ n. i + n)) (sym (place_begins choices starts first s more (sym fact ∙ here)))
         ∙ ap (λ (w : List GrammarSymbol). option_map (λ n. i + n) (place_of choices starts first w)) (sym is) ∙ so_far
 
     pub place_none : b ≡ false → option_eq nat_eq (len_at choices s) (Some 0) ≡ false → None ≡ all
     place_none not_here some =
-        ap (option_map (λ n. i + n)) (sym (place_stops choices starts first s more (sym told ∙ not_here) (zero_is (len_at choices s) ∙ some)))
+        ap (option_map (λ n. i + n)) (sym (place_stops choices starts first s more (sym fact ∙ not_here) (zero_is (len_at choices s) ∙ some)))
         ∙ ap (λ (w : List GrammarSymbol). option_map (λ n. i + n) (place_of choices starts first w)) (sym is) ∙ so_far
 
     shift : (o : Option ℕ) → option_map (λ n. (i + 1) + n) o ≡ option_map (λ n. i + n) (further o)
@@ -72,7 +72,7 @@ module _ (choices : List (Option ChoiceOf)) (starts : List (Option StartOf)) (fi
     pub place_more : b ≡ false → option_eq nat_eq (len_at choices s) (Some 0) ≡ true → option_map (λ n. (i + 1) + n) (place_of choices starts first more) ≡ all
     place_more not_here none =
         shift (place_of choices starts first more)
-        ∙ ap (option_map (λ n. i + n)) (sym (place_on choices starts first s more (sym told ∙ not_here) (zero_is (len_at choices s) ∙ none)))
+        ∙ ap (option_map (λ n. i + n)) (sym (place_on choices starts first s more (sym fact ∙ not_here) (zero_is (len_at choices s) ∙ none)))
         ∙ ap (λ (w : List GrammarSymbol). option_map (λ n. i + n) (place_of choices starts first w)) (sym is) ∙ so_far
 
 -- a place is one of the symbols
@@ -255,8 +255,8 @@ module _ (g : Grammar) (most : ℕ) (choices : List (Option ChoiceOf)) (shortest
 
 -- whether a length isn't zero, as it was tested
 pub zero_by : (o len : Option ℕ) (b c : Bool) → o ≡ len → b ≡ not (option_eq nat_eq o (Some 0)) → b ≡ c → option_eq nat_eq len (Some 0) ≡ not c
-zero_by o len b c is told at =
-    ap (λ (x : Option ℕ). option_eq nat_eq x (Some 0)) (sym is) ∙ twice (option_eq nat_eq o (Some 0)) ∙ ap not (sym told ∙ at)
+zero_by o len b c is fact at =
+    ap (λ (x : Option ℕ). option_eq nat_eq x (Some 0)) (sym is) ∙ twice (option_eq nat_eq o (Some 0)) ∙ ap not (sym fact ∙ at)
   where
     twice : (x : Bool) → x ≡ not (not x)
     twice true = refl

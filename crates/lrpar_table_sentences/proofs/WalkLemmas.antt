@@ -46,8 +46,8 @@ module _ (g : Grammar) (graph : Graph) (table : Table) (well : IsWellFormed g) (
   in_graph s within = let count = built.wanted.states in omega (arith, within, count)
 
   -- if the table goes by a symbol, an item is before it
-  stands_there : (s next : ℕ) (x : GrammarSymbol) → s < states_len table → GoesBy table s x next → HasAfterDot g (sets_of graph) s x
-  stands_there s next x within goes =
+  item_before : (s next : ℕ) (x : GrammarSymbol) → s < states_len table → GoesBy table s x next → HasAfterDot g (sets_of graph) s x
+  item_before s next x within goes =
       let low = in_graph next (goes_within s next x goes) in
       let reached = built.canonical.reached next low in
       let some = built.canonical.some next low in
@@ -68,13 +68,13 @@ module _ (g : Grammar) (graph : Graph) (table : Table) (well : IsWellFormed g) (
           let here = (same given.0).1 (Own given.0 given.1) in
           let core = subst (λ (item : ItemOf). sets_of graph next item) given.1.3 here in
           let follow : CoresFollow g graph s x next = built.safe.each S4 s within x next goes in
-          let told = follow from.prod from.dot (from.token, core) in
-          (item_at from.prod from.dot told.1.0, told.1.1, told.0)
+          let fact = follow from.prod from.dot (from.token, core) in
+          (item_at from.prod from.dot fact.1.0, fact.1.1, fact.0)
 
   -- the sets go as the table does
   pub goes_leads : (s next : ℕ) (x : GrammarSymbol) → s < states_len table → GoesBy table s x next → LeadsTo g (sets_of graph) s x next
   goes_leads s next x within goes =
-      let to = goes_before s x within (stands_there s next x within goes) in
+      let to = goes_before s x within (item_before s next x within goes) in
       subst (LeadsTo g (sets_of graph) s x) (goes_once s to.0 next x to.1 goes) to.2
 
   -- a walk is a path

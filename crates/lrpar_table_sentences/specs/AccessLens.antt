@@ -104,11 +104,11 @@ HasOpenStep most accesses edges len = (e : EdgeOf) × Contains edges e × (open_
 abbrev pub NoStepIsLess : ℕ → List (Option AccessOf) → List EdgeOf → ℕ → Type 0
 NoStepIsLess most accesses edges len = (e : EdgeOf) (other : ℕ) → Contains edges e → open_by most accesses e ≡ Some other → len ≤ other
 
--- no walk to a state of which nothing is kept has symbols with fewer tokens
+-- no walk to a state with nothing kept has symbols with fewer tokens
 abbrev pub NoWalkIsBelow : Table → ℕ → List (Option ChoiceOf) → List (Option AccessOf) → ℕ → Type 0
 NoWalkIsBelow table most choices accesses len =
     (s other : ℕ) (path : List GrammarSymbol) → access_at accesses s ≡ None → IsWalk table s path → total_len most choices path ≡ Some other → len ≤ other
 
--- of how many states nothing is kept
+-- how many states have nothing kept
 abbrev pub open_accesses : List (Option AccessOf) → ℕ
 open_accesses accesses = count_by is_none accesses

@@ -49,10 +49,10 @@ HasOpen g most choices len = (p : ℕ) × (p < prods_len g) × (open_len g most 
 abbrev pub NoneIsLess : Grammar → ℕ → List (Option ChoiceOf) → ℕ → Type 0
 NoneIsLess g most choices len = (p other : ℕ) → p < prods_len g → open_len g most choices p ≡ Some other → len ≤ other
 
--- no tree of a rule of which nothing is kept has fewer tokens
+-- no tree of a rule with nothing kept has fewer tokens
 abbrev pub NoneIsBelow : Grammar → List (Option ChoiceOf) → ℕ → Type 0
 NoneIsBelow g choices len = (r : ℕ) (tree : Tree ℕ) → choice_at choices r ≡ None → IsTreeOf g (Nonterminal r) tree → len ≤ width tree
 
--- of how many rules nothing is kept
+-- how many rules have nothing kept
 abbrev pub open_in : List (Option ChoiceOf) → ℕ
 open_in choices = count_by is_none choices

@@ -54,7 +54,7 @@ impl Reachable {
     }
 }
 
-/// The first reachable rule, by its number, of which nothing is kept, if there is one.
+/// The first reachable rule, by its number, with nothing kept, if there is one.
 pub(crate) fn unproductive<StorageT: StorageIndex>(
     alloc: Global,
     grm: &YaccGrammar<StorageT>,
@@ -67,7 +67,7 @@ pub(crate) fn unproductive<StorageT: StorageIndex>(
     Ok(first_unproductive(grm, choices, &marks))
 }
 
-// The first marked rule of which nothing is kept.
+// The first marked rule with nothing kept.
 fn first_unproductive<StorageT: StorageIndex>(
     grm: &YaccGrammar<StorageT>,
     choices: &[Option<Choice<StorageT>>],

@@ -83,7 +83,7 @@ fn nothing_kept<StorageT: StorageIndex>(
     Ok(accesses)
 }
 
-// The least length of an access string by a step to a state of which nothing is kept yet.
+// The least length of an access string by a step to a state with nothing kept yet.
 fn least_open<StorageT: StorageIndex>(
     edges: &[Edge<StorageT>],
     accesses: &[Option<Access<StorageT>>],
@@ -115,7 +115,7 @@ fn open_len<StorageT: StorageIndex>(
     }
 }
 
-// Keeps each access string that has the length, which is the least one, by a step to a state of which nothing is kept yet.
+// Keeps each access string that has the length, which is the least one, by a step to a state with nothing kept yet.
 fn settle_all<StorageT: StorageIndex>(
     edges: &[Edge<StorageT>],
     accesses: &mut [Option<Access<StorageT>>],
