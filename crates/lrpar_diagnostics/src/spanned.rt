@@ -27,8 +27,8 @@ pub trait DiagnosticFormatter {
 
     /// The error as one that prints with its places.
     ///
-    /// It is `SeveralSpans` if and only if the places are those of an error and more than one, before anything else is done. It
-    /// is `Memory` if memory runs out, or if the error's own `Display` fails.
+    /// `SeveralSpans` comes if and only if the places are those of an error and more than one, before anything else is done.
+    /// `Memory` comes if memory runs out, or if the error's own `Display` fails.
     fn format_error<E: Spanned + Error>(
         &self,
         alloc: Global,

@@ -9,8 +9,8 @@ use Rattle.lrpar_parse_repair.specs.Asked.{Asked}
 use Rattle.lrpar_parse_repair.specs.Sequences.{PlainStep}
 use Rattle.lrpar_parse_cpctplus.specs.Cheapest.{LeadsTo}
 
--- From the stack at place i lexemes are fed until one can't be, or up to place `most`: a parse reaches that place, and at most
--- `most`. It is one more if no lexeme is left and the stack accepts.
+-- From the stack at place i lexemes are fed until one can't be, or up to place `most`: a parse reaches that place. It reaches one
+-- more if no lexeme is left and the stack accepts.
 pub data Reaches {X : Type 0} (token : X → ℕ) (g : Grammar) (table : Table) (lexemes : List X) (most : ℕ) : List ℕ → ℕ → ℕ → Type 0 where
   -- lexeme i is fed, and those from the next one on
   feeds_on : (st : List ℕ) (i : ℕ) (prods next : List ℕ) (far : ℕ) → i < most → i < length lexemes

@@ -22,7 +22,7 @@ use std::marker::Model;
 /// Parsers*.
 ///
 /// It looks for repairs of one cost after the other. For each cost it tries again the candidates, sequences that may begin a
-/// repair, that cost no more. At the first cost that has more of them than the limit it returns nothing.
+/// repair, that cost no more. At the first cost that has more of them than the limit it returns no repairs.
 #[derive(Debug, Drop)]
 pub struct CpctPlus {
     limit: usize,
