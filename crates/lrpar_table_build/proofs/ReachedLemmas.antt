@@ -20,11 +20,11 @@ head_after (y ∷ ys) zero x rest h = let same : y ≡ x = cc in ap (λ z. Some 
 head_after (y ∷ ys) (suc n) x rest h = head_after ys n x rest h
 
 -- what is left of symbols below a mark
-AreBelow-drop : (mark n : ℕ) (w : List GrammarSymbol) → AreBelow mark w → AreBelow mark (drop n w)
-AreBelow-drop mark zero w below = below
-AreBelow-drop mark (suc n) [] below = tt
-AreBelow-drop mark (suc n) (Terminal t ∷ w) below = AreBelow-drop mark n w below.1
-AreBelow-drop mark (suc n) (Nonterminal r ∷ w) below = AreBelow-drop mark n w below
+AreBelow-drop : (dummy n : ℕ) (w : List GrammarSymbol) → AreBelow dummy w → AreBelow dummy (drop n w)
+AreBelow-drop dummy zero w below = below
+AreBelow-drop dummy (suc n) [] below = tt
+AreBelow-drop dummy (suc n) (Terminal t ∷ w) below = AreBelow-drop dummy n w below.1
+AreBelow-drop dummy (suc n) (Nonterminal r ∷ w) below = AreBelow-drop dummy n w below
 
 -- an item of a closure is one of the items, or one of the closure adds it
 pub closure_cases : (g : Grammar) (items : ItemOf → Type 0) (x : ItemOf) → IsInClosure g items x

@@ -116,7 +116,7 @@ fn graph_of<StorageT: StorageIndex>(
     let rows = rows_of_items(alloc, grm, states)?;
     match StateGraph::from_rows(alloc, rows) {
         Ok(graph) => Ok(graph),
-        Err(fault) => Err(want_of_memory(fault)),
+        Err(fault) => Err(out_of_memory(fault)),
     }
 }
 
@@ -192,12 +192,12 @@ fn table_of<StorageT: StorageIndex>(
 {
     match StateTable::from_sparse(alloc, rows) {
         Ok(table) => Ok(table),
-        Err(fault) => Err(want_of_memory(fault)),
+        Err(fault) => Err(out_of_memory(fault)),
     }
 }
 
 // The fault of the rows where their numbers are right: memory was wanting.
-fn want_of_memory(fault: TableFault) -> BuildFault
+fn out_of_memory(fault: TableFault) -> BuildFault
     requires { fault ≢ TableFault.BadIndex }
     ensures { result ≡ Memory }
 {

@@ -154,8 +154,8 @@ closed_core g rows p k r w tokens after begun cleared test further are none put 
   λ h i d below.
       let t = get_or tokens i d in
       let has_t : IsTrue (has after t) = (are t).1 (All-contains_itself tokens i d below) in
-      λ r' w' behind' q b known by first.
-      let same : Nonterminal r' ∷ w' ≡ Nonterminal r ∷ w = sym behind' ∙ further in
+      λ r' w' after' q b known by first.
+      let same : Nonterminal r' ∷ w' ≡ Nonterminal r ∷ w = sym after' ∙ further in
       let same_rule : r' ≡ r = cc in
       let same_rest : w' ≡ w = cc in
       let first' = subst (λ (v : List GrammarSymbol). IsFirst g t v b) same_rest first in

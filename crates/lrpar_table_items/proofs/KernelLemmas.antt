@@ -45,8 +45,8 @@ module _ (g : Grammar) where
             ]
       ]
 
-  listed_one_way : (p q : ℕ) → IsListedBefore g p q → IsListedBefore g q p → ⊥
-  listed_one_way p q h back =
+  listed_asymmetric : (p q : ℕ) → IsListedBefore g p q → IsListedBefore g q p → ⊥
+  listed_asymmetric p q h back =
       elim h [
         | inl less ↦
             elim back [
@@ -74,7 +74,7 @@ module _ (g : Grammar) where
             let dots = first.0 in
             elim back [
               | inl other ↦ omega (arith, dots, other)
-              | inr further ↦ listed_one_way p q first.1 further.1
+              | inr further ↦ listed_asymmetric p q first.1 further.1
             ]
       ]
 

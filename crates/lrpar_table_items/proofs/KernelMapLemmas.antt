@@ -13,7 +13,7 @@ use Rattle.std.proofs.lemmas.Bool.{cases_Bool, cases_lt}
 use Rattle.std.proofs.lemmas.List.{get_or-map, get_or_append_left, get_or_push, length-map, length_push, map-append}
 use Rattle.std.proofs.lemmas.Map.Lookups.{exact_unsigned}
 use Rattle.lrpar_grammar_places.specs.declared.span.StIdx.{StIdx}
-use Rattle.lrpar_table_rows.specs.Ascending.{TellsApart}
+use Rattle.lrpar_table_rows.specs.Ascending.{ComparesExactly}
 use Rattle.lrpar_table_items.specs.Cores.{CoreSet, core_set}
 use Rattle.lrpar_table_items.specs.KernelMap.{NumbersKernels, core_cmp, key_cmp}
 use Rattle.lrpar_table_items.specs.Next.{kernel_rows, kernel_at}
@@ -28,32 +28,32 @@ both_tie Equal b h = (refl, h)
 both_tie Greater b h = absurd (cc)
 
 -- lists are told apart where their elements are
-lists_apart : {X : Type 0} (R : X → X → Ordering) → TellsApart R → TellsApart (slice_cmp R)
-lists_apart R apart [] [] h = refl
-lists_apart R apart [] (y ∷ ys) h = absurd (cc)
-lists_apart R apart (x ∷ xs) [] h = absurd (cc)
-lists_apart R apart (x ∷ xs) (y ∷ ys) h =
+lists_compare_exactly : {X : Type 0} (R : X → X → Ordering) → ComparesExactly R → ComparesExactly (slice_cmp R)
+lists_compare_exactly R apart [] [] h = refl
+lists_compare_exactly R apart [] (y ∷ ys) h = absurd (cc)
+lists_compare_exactly R apart (x ∷ xs) [] h = absurd (cc)
+lists_compare_exactly R apart (x ∷ xs) (y ∷ ys) h =
     let ties = both_tie (R x y) (slice_cmp R xs ys) h in
     let first = apart x y ties.0 in
-    let rest = lists_apart R apart xs ys ties.1 in
+    let rest = lists_compare_exactly R apart xs ys ties.1 in
     cc
 
-bools_apart : TellsApart bool_cmp
-bools_apart true true h = refl
-bools_apart false false h = refl
-bools_apart true false h = absurd (cc)
-bools_apart false true h = absurd (cc)
+bools_compare_exactly : ComparesExactly bool_cmp
+bools_compare_exactly true true h = refl
+bools_compare_exactly false false h = refl
+bools_compare_exactly true false h = absurd (cc)
+bools_compare_exactly false true h = absurd (cc)
 
-cores_apart : TellsApart core_cmp
-cores_apart a b h =
+cores_compare_exactly : ComparesExactly core_cmp
+cores_compare_exactly a b h =
     let prod = both_tie (nat_cmp a.prod b.prod) (ordering_then (nat_cmp a.dot b.dot) (slice_cmp bool_cmp a.tokens b.tokens)) h in
     let rest = both_tie (nat_cmp a.dot b.dot) (slice_cmp bool_cmp a.tokens b.tokens) prod.1 in
     core_is a b (exact_unsigned a.prod b.prod prod.0) (exact_unsigned a.dot b.dot rest.0)
-    (lists_apart bool_cmp bools_apart a.tokens b.tokens rest.1)
+    (lists_compare_exactly bool_cmp bools_compare_exactly a.tokens b.tokens rest.1)
 
 -- so kernels are told apart
-pub kernels_apart : TellsApart (slice_cmp core_cmp)
-kernels_apart = lists_apart core_cmp cores_apart
+pub kernels_compare_exactly : ComparesExactly (slice_cmp core_cmp)
+kernels_compare_exactly = lists_compare_exactly core_cmp cores_compare_exactly
 
 -- lists compare as their images, where their elements do
 pub lists_compare : {X Y : Type 0} (R : X → X → Ordering) (Q : Y → Y → Ordering) (f : X → Y) → ((x y : X) → R x y ≡ Q (f x) (f y))
@@ -145,7 +145,7 @@ module _ {S A : Type 0} (index : S → ℕ) (cmp : S → S → Ordering) (law : 
       elim (cases_Bool (is_eq (slice_cmp (order_of cmp) key.items other.items))) [
         | inl ties ↦
             let equal = sym (key_order index cmp law key.items other) ∙ tie_is _ ties in
-            absurd (new_key s below (at ∙ sym (kernels_apart (map (core_set index) key.items) (map (core_set index) other.items) equal)))
+            absurd (new_key s below (at ∙ sym (kernels_compare_exactly (map (core_set index) key.items) (map (core_set index) other.items) equal)))
         | inr not ↦ not
       ] in
       let stays = updates.2 other apart in
@@ -154,8 +154,8 @@ module _ {S A : Type 0} (index : S → ℕ) (cmp : S → S → Ordering) (law : 
       ∙ subst (λ k. option_map (λ state. index state.0) (get_by (key_cmp index k) before) ≡ Some s) at (has s below))
 
   -- and the new one's, where it stands behind them
-  pub new_stands : index state.0 ≡ length rows → NumbersKernels index (kernel_rows index (kernels ++ kernel ∷ [])) after
-  new_stands next s below =
+  pub new_is_numbered : index state.0 ≡ length rows → NumbersKernels index (kernel_rows index (kernels ++ kernel ∷ [])) after
+  new_is_numbered next s below =
       let before = kernel_rows index kernels in
       let last = map (core_set index) kernel.items in
       let pushed : kernel_rows index (kernels ++ kernel ∷ []) ≡ before ++ last ∷ [] =

@@ -182,9 +182,9 @@ some_item (core ∷ cores) filled some =
     let x : ItemOf = record { prod = core.prod; dot = core.dot; token = first.0 } in
     (x, (among_cons core cores x).1 (inl (refl, refl, first.1)))
 
-pub next_stands : (g : Grammar) (symbol : GrammarSymbol) (cores : List CoreSet) → AreCores g cores → 0 < length (next_kernel g symbol cores)
+pub next_has_after_dot : (g : Grammar) (symbol : GrammarSymbol) (cores : List CoreSet) → AreCores g cores → 0 < length (next_kernel g symbol cores)
     → HaveAfterDot g cores symbol
-next_stands g symbol cores are some =
+next_has_after_dot g symbol cores are some =
     let item = some_item (next_kernel g symbol cores) (next_cores g symbol cores are).filled some in
     let from = next_to g symbol cores item.0 item.1 in
     (from.0, from.1, from.2)

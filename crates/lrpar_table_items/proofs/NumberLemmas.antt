@@ -19,7 +19,7 @@ use Rattle.lrpar_table_items.specs.States.{AreExpanded, AreSteps, IsExpanded, St
 use Rattle.lrpar_table_items.specs.declared.fault.BuildFault.{BuildFault}
 use Rattle.lrpar_table_items.specs.declared.fault.BuildFault.TheVariants.{AcceptReduceConflict, Memory, StorageTooSmall, TooManyStates}
 use Rattle.lrpar_table_items.proofs.CoreLemmas.{among_cons, among_nil}
-use Rattle.lrpar_table_items.proofs.NextLemmas.{next_is, next_kernel_is, next_some, next_stands}
+use Rattle.lrpar_table_items.proofs.NextLemmas.{next_is, next_kernel_is, next_some, next_has_after_dot}
 use Rattle.lrpar_table_items.proofs.StatesLemmas.{advanced_same, closure_same, reaches_more, same_via}
 
 -- a list that is tested for being empty
@@ -135,7 +135,7 @@ module _ (g : Grammar) where
 -- no core's next kernel is reached where none stands before the symbol
 pub goes_nowhere : (g : Grammar) (kernels : List (List CoreSet)) (cores : List CoreSet) (symbol : GrammarSymbol) → length (next_kernel g symbol cores) ≡ 0
     → GoesTo g kernels cores symbol None
-goes_nowhere g kernels cores symbol none stands = let some = next_some g symbol cores stands in omega (arith, some, none)
+goes_nowhere g kernels cores symbol none after_dot = let some = next_some g symbol cores after_dot in omega (arith, some, none)
 
 -- a kernel that is reached gets a number
 module _ (g : Grammar) (well : IsWellFormed g) (max limit : ℕ) (kernels : List (List CoreSet)) (numbered : AreNumbered g max limit kernels)
@@ -202,7 +202,7 @@ module _ (g : Grammar) (well : IsWellFormed g) (max limit : ℕ) (kernels : List
 
     step_goes : GoesTo g after cores symbol (Some n)
     step_goes = (
-      next_stands g symbol cores are some_next,
+      next_has_after_dot g symbol cores are some_next,
       number.found.within,
       subst (λ k. AreSame (IsAmong k) (IsAdvanced g (IsAmong cores) symbol)) (sym (number.found.is ∙ next)) (next_is g symbol cores),
     )

@@ -18,19 +18,19 @@ use Rattle.lrpar_table_items.proofs.ResolutionLemmas.{complete_is, prods_are}
 pub reductions_are : (g : Grammar) (cores complete : List CoreSet) (start t : ℕ) (prods : List ℕ)
     → IsPermutation (filter (λ core. core.dot == prod_len g core.prod) cores) complete → IsNonDecreasingBy (λ (core : CoreSet). core.prod) complete
     → AreOnce cores → All (λ core. core.prod < prods_len g) cores → start ≡ start_prod g → prods ≡ prods_at start complete t → prods ≡ reductions g cores t
-reductions_are g cores complete start t prods moved sorted once known is told =
+reductions_are g cores complete start t prods moved sorted once known is reported =
     let low : All (λ (core : CoreSet). core.prod < start_prod g + 1) cores =
     λ k d within. let one = known k d within in omega (arith, one) in
     let kept = All-permutation (λ (core : CoreSet). core.prod < start_prod g + 1) _ complete moved
     (All-filter (λ core. core.dot == prod_len g core.prod) (λ (core : CoreSet). core.prod < start_prod g + 1) cores low) in
-    told ∙ ap (λ n. prods_at n complete t) is ∙ prods_are g cores complete moved sorted once kept t
+    reported ∙ ap (λ n. prods_at n complete t) is ∙ prods_are g cores complete moved sorted once kept t
 
 -- and whether to accept
 pub accepts_are : (g : Grammar) (cores complete : List CoreSet) (start t : ℕ) (accepts : Bool)
     → IsPermutation (filter (λ core. core.dot == prod_len g core.prod) cores) complete → start ≡ start_prod g → accepts ≡ accepts_at start complete t
     → accepts ≡ is_complete_at g cores t (start_prod g)
-accepts_are g cores complete start t accepts moved is told =
-    told ∙ ap (λ n. accepts_at n complete t) is ∙ complete_is g cores complete moved t (start_prod g)
+accepts_are g cores complete start t accepts moved is reported =
+    reported ∙ ap (λ n. accepts_at n complete t) is ∙ complete_is g cores complete moved t (start_prod g)
 
 -- so what is pushed is what is wanted there
 pub entry_is : (g : Grammar) (cores : List CoreSet) (shifts : List (ℕ × ℕ)) (n t : ℕ) (goto : Option ℕ) (prods : List ℕ) (accepts : Bool)

@@ -7,7 +7,7 @@ use Rattle.std.proofs.lemmas.List.Elements.{All-head, All-nil, All-push, All-tai
 use Rattle.lrpar_grammar.specs.Grammar.{Grammar, GrammarSymbol, IsWellFormed, rules_len, tokens_len}
 use Rattle.lrpar_table_items.specs.Cores.{CoreSet}
 use Rattle.lrpar_table_first.specs.FirstRows.{IsSymbolBelow}
-use Rattle.lrpar_table_items.proofs.SymbolLemmas.{stands_below}
+use Rattle.lrpar_table_items.proofs.SymbolLemmas.{symbol_at_below}
 use Rattle.lrpar_table_items.specs.Kernels.{AreKept, GoesTo}
 use Rattle.lrpar_table_items.specs.States.{AreSteps, AreStepsBelow}
 use Rattle.lrpar_table_items.specs.Resolution.{AscendFrom}
@@ -97,7 +97,7 @@ module _ (g : Grammar) (well : IsWellFormed g) where
           | inl low ↦ steps.goes k low
           | inr past ↦
               let nowhere : GoesTo g kernels cores (symbol k) None =
-              λ stands. let low = known k (stands_below g well stands.0.prod stands.0.dot (symbol k) stands.2) in omega (arith, low, past) in
+              λ after_dot. let low = known k (symbol_at_below g well after_dot.0.prod after_dot.0.dot (symbol k) after_dot.2) in omega (arith, low, past) in
               subst (GoesTo g kernels cores (symbol k)) (sym (lookup_past rows n k steps.below past)) nowhere
         ];
   }

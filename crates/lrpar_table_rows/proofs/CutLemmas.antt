@@ -20,7 +20,7 @@ cut_row starts xs s below = get_or-map-range_with_len (part starts xs) 0 (length
 pub length-cut : {X : Type 0} (starts : List ℕ) (xs : List X) → length (cut starts xs) ≡ length starts - 1
 length-cut starts xs = length-map-range_with_len (part starts xs) 0 (length starts - 1)
 
--- no place comes after a later one
+-- no place is greater than a later one
 starts_up : (starts : List ℕ) (end : ℕ) → AreStarts starts end → (d s : ℕ) → s + d < length starts → slice_index starts s ≤ slice_index starts (s + d)
 starts_up starts end are zero s below = rw add-zero (omega arith)
 starts_up starts end are (suc d) s below =
@@ -205,7 +205,7 @@ row_is starts keys part_keys values part_values rows row a b parts is below from
     let here = cut_row starts (zip keys values) row at.next in
     rw (keys_are, values_are, ← is, here, from, to) (sym (zip-range (slice_index starts row) (slice_index starts (row + 1)) keys values parts.paired))
 
--- the first rows have as many elements as stand before the next
+-- the first rows have as many elements as there are before the next row
 first_rows_len : {X : Type 0} (starts : List ℕ) (xs : List X) → AreStarts starts (length xs) → (n : ℕ) → n < length starts
     → sum_by (λ row. length row) (map (part starts xs) (range_with_len 0 n)) ≡ slice_index starts n
 first_rows_len starts xs are zero below = sym are.first
@@ -224,7 +224,7 @@ first_rows_len {X} starts xs are (suc n) below =
 pub rows_len_is : {X : Type 0} (starts : List ℕ) (xs : List X) → AreStarts starts (length xs) → sum_by (λ row. length row) (cut starts xs) ≡ length xs
 rows_len_is starts xs are = first_rows_len starts xs are (length starts - 1) (omega (arith, are.some)) ∙ are.last
 
--- and so have rows of pairs as many as there are keys
+-- rows of pairs have as many elements as there are keys
 pub pairs_len_is : {K V : Type 0} (starts : List ℕ) (keys : List K) (values : List V) → AreParts starts keys values
     → sum_by (λ row. length row) (cut starts (zip keys values)) ≡ length keys
 pairs_len_is starts keys values parts =

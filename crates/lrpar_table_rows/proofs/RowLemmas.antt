@@ -111,7 +111,7 @@ pub map-map : {X Y Z : Type 0} (f : X → Y) (h : Y → Z) (xs : List X) → map
 map-map f h [] = refl
 map-map f h (x ∷ xs) = ap (λ ys. h (f x) ∷ ys) (map-map f h xs)
 
--- an image of rows has the image of a row, and of no row where there is none
+-- an image of rows has the image of each row, and the empty row if there is none
 row_of_image : {X Y : Type 0} (f : List X → List Y) → f [] ≡ [] → (rows : List (List X)) (s : ℕ)
     → slice_index_or (map f rows) s [] ≡ f (slice_index_or rows s [])
 row_of_image f none [] s = sym none
@@ -165,7 +165,7 @@ goto_of_rows rows s r =
     let at : slice_index_or (map row_gotos rows.gotos) s [] ≡ row_gotos row = row_of_image row_gotos refl rows.gotos s in
     rw at (lookup_kept (λ goto. goto) 0 r r row (omega arith) ∙ goto_in_row row r)
 
--- what a row of actions stores is as it should be
+-- the entries that are stored of a row of actions are right entries
 row_actions_good : (tokens states : ℕ) (row : List TableAction) → IsActionRow tokens states row → AreEntries (IsActionEntry tokens states) (row_actions row)
 row_actions_good tokens states row is = record {
   ascending = kept_ascends unless_error 0 row;
@@ -178,7 +178,7 @@ row_actions_good tokens states row is = record {
       0 row (omega (arith, is.0)) is.1);
 }
 
--- what a row of gotos stores is as it should be
+-- the entries that are stored of a row of gotos are right entries
 row_gotos_good : (rules states : ℕ) (row : List (Option ℕ)) → IsGotoRow rules states row → AreEntries (IsGotoEntry rules states) (row_gotos row)
 row_gotos_good rules states row is = record {
   ascending = kept_ascends (λ goto. goto) 0 row;

@@ -1,4 +1,4 @@
--- Safe tables told by tests, which compute.
+-- Tests that compute whether a table is safe.
 use Rattle.std.proofs.Common.{◌≡◌, ◌<◌, ◌∙◌, inl, inr, refl, sym, ap, subst, arith, add-one, ℕ, zero, suc, Bool, true, false, cond, not, ◌&&◌, nat_eq, nat_lt, nat_le, List, Option, Some, None, slice_get}
 use Rattle.std.proofs.lemmas.Bool.{and_parts, both_ways, cases_eq, cases_lt, cond-false, cond-true, eq-eqb, eqb-true, leb-true, ltb-true, ne_eqb, not-true}
 use Rattle.std.proofs.lemmas.List.Sums.{AllPass-from_list_all}
@@ -64,7 +64,7 @@ core_follows g graph s x p (suc k) = is_symbol x (slice_get (symbols_of g p) k) 
 abbrev cores_follow : Grammar → Graph → ℕ → GrammarSymbol → ℕ → Bool
 cores_follow g graph s x next = list_all (λ i. core_follows g graph s x i.prod i.dot) (items_of graph next)
 
--- what the conditions ask of an action
+-- whether an action meets the conditions
 abbrev action_passes : Grammar → Graph → Table → ℕ → ℕ → TableAction → Bool
 action_passes g graph table s t (ShiftTo next) =
     not (nat_eq t (end_token g)) && (cores_follow g graph s (Terminal t) next && not (nat_eq next table.start))
@@ -73,11 +73,11 @@ action_passes g graph table s t (ReduceBy p) =
 action_passes g graph table s t Accepts = nat_eq t (end_token g) && has_core graph s (start_prod g) 1
 action_passes g graph table s t Fails = true
 
--- and of a goto
+-- whether a goto meets the conditions
 abbrev goto_passes : Grammar → Graph → Table → ℕ → ℕ → ℕ → Bool
 goto_passes g graph table s r next = cores_follow g graph s (Nonterminal r) next && not (nat_eq next table.start)
 
--- and of a core
+-- whether a core meets the conditions
 abbrev core_passes : Grammar → Table → ℕ → ℕ → ℕ → Bool
 core_passes g table s p zero = cond (nat_eq p (start_prod g)) (nat_eq s table.start) (is_some (goto_of table s (rule_of g p)))
 core_passes g table s p (suc k) = not (nat_eq s table.start)
@@ -86,7 +86,7 @@ core_passes g table s p (suc k) = not (nat_eq s table.start)
 abbrev item_passes : Grammar → ItemOf → Bool
 item_passes g i = nat_lt i.prod (prods_len g) && (nat_le i.dot (prod_len g i.prod) && nat_lt i.token (tokens_len g))
 
--- all that a state has passes
+-- all actions, gotos, cores and items of a state pass
 abbrev pub state_passes : Grammar → Graph → Table → ℕ → Bool
 state_passes g graph table s =
     (list_all (λ e. action_passes g graph table s e.0 e.1) (actions_at table s) && list_all (λ e. goto_passes g graph table s e.0 e.1) (gotos_at table s))

@@ -1,4 +1,4 @@
--- What the conflicts of code stand for, by the numbers of their indexes.
+-- The conflicts that values of code represent, by the numbers of their indexes.
 use Rattle.std.specs.Prelude.{ℕ}
 use Rattle.lrpar_grammar_places.specs.declared.span.TIdx.{TIdx}
 use Rattle.lrpar_grammar_places.specs.declared.span.PIdx.{PIdx}

@@ -1,4 +1,4 @@
--- What the rows of code stand for, by the numbers of their indexes.
+-- The rows that values of code represent, by the numbers of their indexes.
 use Rattle.std.specs.Prelude.{ℕ, map, Option, Some, None}
 use Rattle.lrpar_grammar_places.specs.declared.span.RIdx.{RIdx}
 use Rattle.lrpar_grammar_places.specs.declared.span.StIdx.{StIdx}
