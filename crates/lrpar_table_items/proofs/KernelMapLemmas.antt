@@ -1,5 +1,5 @@
--- The order in which kernels are found tells them apart, and is that in which the code compares them. So a kernel is found in the map
--- of numbers where it has one, and a new one leaves what is there.
+-- In the order of the map, kernels that compare equal are the same, and the code compares kernels in this order. So the map finds a
+-- kernel exactly if it has a number, and a new kernel leaves the other numbers as they are.
 use Rattle.std.proofs.Common.{◌≡◌, ◌≢◌, ◌<◌, ◌∷◌, ◌++◌, ◌∙◌, refl, sym, ap, subst, inl, inr, arith, ℕ, true, false, List, [], Some, None, get_or, length, map}
 use Rattle.std.specs.BTreeMap.{BTreeMap, Updates, get_by, is_at}
 use Rattle.std.specs.Cmp.Lexicographic.{slice_cmp}
@@ -21,13 +21,13 @@ use Rattle.lrpar_table_items.specs.KernelMap.{IsFresh}
 use Rattle.lrpar_table_items.specs.declared.cores.CoreItems.{CoreItems}
 use Rattle.lrpar_table_items.proofs.CoreLemmas.{core_is}
 
--- two comparisons, the second asked where the first ties, tie where both do
+-- if two comparisons one after the other tie, each of them ties
 both_tie : (a b : Ordering) → ordering_then a b ≡ Equal → (a ≡ Equal) × (b ≡ Equal)
 both_tie Less b h = absurd (cc)
 both_tie Equal b h = (refl, h)
 both_tie Greater b h = absurd (cc)
 
--- lists are told apart where their elements are
+-- if elements that compare equal are the same, so are lists
 lists_compare_exactly : {X : Type 0} (R : X → X → Ordering) → ComparesExactly R → ComparesExactly (slice_cmp R)
 lists_compare_exactly R apart [] [] h = refl
 lists_compare_exactly R apart [] (y ∷ ys) h = absurd (cc)
@@ -51,11 +51,11 @@ cores_compare_exactly a b h =
     core_is a b (exact_unsigned a.prod b.prod prod.0) (exact_unsigned a.dot b.dot rest.0)
     (lists_compare_exactly bool_cmp bools_compare_exactly a.tokens b.tokens rest.1)
 
--- so kernels are told apart
+-- so kernels that compare equal are the same
 pub kernels_compare_exactly : ComparesExactly (slice_cmp core_cmp)
 kernels_compare_exactly = lists_compare_exactly core_cmp cores_compare_exactly
 
--- lists compare as their images, where their elements do
+-- if elements compare as their images do, so do lists
 pub lists_compare : {X Y : Type 0} (R : X → X → Ordering) (Q : Y → Y → Ordering) (f : X → Y) → ((x y : X) → R x y ≡ Q (f x) (f y))
     → (xs ys : List X) → slice_cmp R xs ys ≡ slice_cmp Q (map f xs) (map f ys)
 lists_compare R Q f same [] [] = refl
@@ -63,12 +63,12 @@ lists_compare R Q f same [] (y ∷ ys) = refl
 lists_compare R Q f same (x ∷ xs) [] = refl
 lists_compare R Q f same (x ∷ xs) (y ∷ ys) = λ i. ordering_then (same x y i) (lists_compare R Q f same xs ys i)
 
--- the order of the code's cores, where this is that of its numbers
+-- the order of the code's cores, by the order of its numbers
 abbrev pub order_of : {S : Type 0} → (S → S → Ordering) → CoreItems S → CoreItems S → Ordering
 order_of cmp x y =
     ordering_then (cmp x.prod.0 y.prod.0) (ordering_then (nat_cmp x.dot y.dot) (slice_cmp bool_cmp x.tokens.bits.items y.tokens.bits.items))
 
--- it is that of their sets
+-- it is the order of the cores that they represent
 cores_compare : {S : Type 0} (index : S → ℕ) (cmp : S → S → Ordering) → ((a b : S) → cmp a b ≡ nat_cmp (index a) (index b)) → (x y : CoreItems S)
     → order_of cmp x y ≡ core_cmp (core_set index x) (core_set index y)
 cores_compare index cmp law x y =
@@ -87,7 +87,7 @@ module _ {S A : Type 0} (index : S → ℕ) (cmp : S → S → Ordering) (law : 
     at_kernel = λ i. get_by (λ key. key_order key i) numbers
 
     module _ (rows kernels : List (List CoreSet)) (are : rows ≡ kernels) (has : NumbersKernels index rows numbers) where
-      -- where a kernel has a number, the map has that one
+      -- if a kernel has a number, the map has that number
       number_of : (s : ℕ) → s < length kernels → kernel_at kernels s ≡ map (core_set index) cores
           → option_map (λ state. index state.0) (get_by (λ key. slice_cmp (order_of cmp) cores key.items) numbers) ≡ Some s
       number_of s below same =
@@ -95,12 +95,12 @@ module _ {S A : Type 0} (index : S → ℕ) (cmp : S → S → Ordering) (law : 
           ∙ subst (λ k. option_map (λ state. index state.0) (get_by (key_cmp index k) numbers) ≡ Some s) same
           (subst (λ found. NumbersKernels index found numbers) are has s below)
 
-      -- so where the map has none, the kernel is new
+      -- so if the map has none, the kernel is new
       pub new_without : None ≡ get_by (λ key. slice_cmp (order_of cmp) cores key.items) numbers → IsFresh kernels (map (core_set index) cores)
       new_without none s below same =
           let some : None ≡ Some s = ap (option_map (λ state. index state.0)) none ∙ number_of s below same in absurd (cc)
 
-      -- and where it has the number of another one, too
+      -- the kernel is new, too, if the map has the number of another kernel
       pub new_beside : (state : StIdx S) → Some state ≡ get_by (λ key. slice_cmp (order_of cmp) cores key.items) numbers
           → (index state.0 < length kernels → kernel_at kernels (index state.0) ≢ map (core_set index) cores) → IsFresh kernels (map (core_set index) cores)
       new_beside state found other s below same =
@@ -134,7 +134,7 @@ module _ {S A : Type 0} (index : S → ℕ) (cmp : S → S → Ordering) (law : 
   new_key : IsFresh (kernel_rows index kernels) (map (core_set index) key.items)
   new_key = subst (λ k. IsFresh (kernel_rows index kernels) k) (sym copy) (subst (λ found. IsFresh found (map (core_set index) kernel.items)) (sym are) fresh)
 
-  -- so the map has the others' numbers still
+  -- so the map still has the numbers of the others
   pub others_stay : NumbersKernels index (kernel_rows index kernels) after
   others_stay s below =
       let other = get_or kernels s key in
@@ -153,7 +153,7 @@ module _ {S A : Type 0} (index : S → ℕ) (cmp : S → S → Ordering) (law : 
       (ap (option_map (λ state. index state.0)) (sym (at_kernel index cmp law other.items after) ∙ stays ∙ at_kernel index cmp law other.items before)
       ∙ subst (λ k. option_map (λ state. index state.0) (get_by (key_cmp index k) before) ≡ Some s) at (has s below))
 
-  -- and the new one's, where it stands behind them
+  -- and the number of the new one, which is last
   pub new_is_numbered : index state.0 ≡ length rows → NumbersKernels index (kernel_rows index (kernels ++ kernel ∷ [])) after
   new_is_numbered next s below =
       let before = kernel_rows index kernels in

@@ -1,4 +1,4 @@
--- Kernels and their numbers, and a map that has them. Its keys are kernels in an order of their own, by which they are found.
+-- Kernels and their numbers, and a map from kernels to numbers. The map has its own order of kernels.
 use Rattle.std.specs.Prelude.{◌≡◌, ◌≢◌, ◌<◌, ℕ, List, Some, length, map}
 use Rattle.std.specs.BTreeMap.{BTreeMap, get_by}
 use Rattle.std.specs.Cmp.Lexicographic.{slice_cmp}
@@ -24,7 +24,7 @@ IsFresh kernels kernel = (s : ℕ) → s < length kernels → kernel_at kernels 
 abbrev pub core_cmp : CoreSet → CoreSet → Ordering
 core_cmp a b = ordering_then (nat_cmp a.prod b.prod) (ordering_then (nat_cmp a.dot b.dot) (slice_cmp bool_cmp a.tokens b.tokens))
 
--- where a key of the map is in the order, from this kernel
+-- this kernel compared with a key of the map
 abbrev pub key_cmp : {S A : Type 0} → (S → ℕ) → List CoreSet → Vec (CoreItems S) A → Ordering
 key_cmp index kernel key = slice_cmp core_cmp kernel (map (core_set index) key.items)
 
