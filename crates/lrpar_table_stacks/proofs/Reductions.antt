@@ -1,4 +1,4 @@
--- Reductions are made in one way.
+-- Reductions are deterministic.
 use Rattle.std.proofs.Common.{◌≡◌, ◌∙◌, sym, ap, ℕ, List, [], ◌∷◌, ◌++◌, Some}
 use Rattle.lrpar_grammar.specs.Grammar.{Grammar, rule_of}
 use Rattle.lrpar_table_rows.specs.Table.{Table, ReduceBy}
