@@ -162,7 +162,7 @@ no_conflicts_are_one_action g graph conflicts well canonical are alone = (
   λ one. none_listed g graph well canonical conflicts are alone one conflicts refl,
 )
 
--- what holds of all that a list contains holds of its elements
+-- what holds of all that a list contains holds of each element
 all_contained : {X : Type 0} (P : X → Type 0) (xs : List X) → ((x : X) → Contains xs x → P x) → All P xs
 all_contained P xs each i d below = each (slice_index_or xs i d) (All-contains_itself xs i d below)
 

@@ -67,7 +67,7 @@ second_later p later x of =
     let same : later ≡ of.0 = ap (λ (ks : List ℕ). drop 1 ks) of.1 in subst (λ (ks : List ℕ). Contains ks x.second) (sym same) of.2
 
 module _ (s t : ℕ) where
-  -- those at one token
+  -- the reduce/reduce conflicts at one token
   at_token : (prods : List ℕ) (x : ReduceReduce) → Contains (reduce_conflicts_at s t prods) x → (x.state ≡ s) × (x.token ≡ t) × IsOfReductions prods x
   at_token [] x h = absurd (member_none x h)
   at_token (p ∷ later) x h =
@@ -102,7 +102,7 @@ module _ (s t : ℕ) where
   token_sorted [] up = sorted_none reduce_reduce_cmp
   token_sorted (p ∷ later) up = later_sorted (p + 1) p later up.1
 
-  -- those of a shift at one token
+  -- the shift/reduce conflicts at one token
   shift_at_token : (shift : Option ℕ) (prods : List ℕ) (x : ShiftReduce) → Contains (shift_conflicts_at s t shift prods) x
       → (x.state ≡ s) × (x.token ≡ t) × IsOfShift shift prods x
   shift_at_token None prods x h = absurd (member_none x h)
@@ -136,7 +136,7 @@ module _ (s t : ℕ) where
       sorted_first shift_reduce_cmp made [] (λ y h. absurd (member_none y h)) (sorted_none shift_reduce_cmp)
 
 module _ (g : Grammar) (cores : List CoreSet) (s : ℕ) where
-  -- those of a state
+  -- the conflicts of a state
   at_state : (x : ReduceReduce) → Contains (reduce_conflicts g cores s) x
       → (x.state ≡ s) × (x.token < tokens_len g) × IsOfReductions (reductions g cores x.token) x
   at_state x h =
@@ -195,7 +195,7 @@ module _ (g : Grammar) (cores : List CoreSet) (s : ℕ) where
         0 (tokens_len g)
 
 module _ (g : Grammar) (states : List StateOf) (n : ℕ) where
-  -- those of all states
+  -- the conflicts of all states
   at_states : (x : ReduceReduce) → Contains (reduce_conflicts_below g states n) x
       → (x.state < n) × (x.token < tokens_len g) × IsOfReductions (reductions g (state_at states x.state).cores x.token) x
   at_states x h =
@@ -317,7 +317,7 @@ before_step g sets len s t (Some next) h before = (next, refl)
 
 module _ (g : Grammar) (states : List StateOf) (are : AreStates g states) (sets : ℕ → ItemOf → Type 0)
     (same : (s : ℕ) → AreSame (sets s) (sets_at states s)) where
-  -- those that are listed are those of the sets
+  -- the listed conflicts are those of the sets
   reduce_is : (x : ReduceReduce) → x.state < length states
       → IsOfReductions (reductions g (state_at states x.state).cores x.token) x ↔ IsReduceConflict g sets x
   reduce_is x below =

@@ -103,7 +103,7 @@ module _ {Y : Type 0} (R : Y → Y → Ordering) where
         | inr later ↦ all_before x ys y less.1 later
       ]
 
-  -- a first one that comes before all others
+  -- a sorted list with one more first element, which comes before all others
   pub sorted_first : (x : Y) (ys : List Y) → ((y : Y) → Contains ys y → R x y ≡ Less) → IsStrictlySortedBy R ys → IsStrictlySortedBy R (x ∷ ys)
   unfolding IsStrictlySortedBy
   sorted_first x ys less sorted = (before_all x ys less, sorted)
@@ -125,7 +125,7 @@ module _ {Y : Type 0} (R : Y → Y → Ordering) where
     sorted_append xs ys left.1 right (λ z y h there. less z y (member_later x xs z h) there),
   )
 
-  -- lists that are joined by ascending numbers
+  -- sorted lists joined by ascending numbers are sorted
   pub sorted_joined : (f : ℕ → List Y) → ((k : ℕ) → IsStrictlySortedBy R (f k))
       → ((i j : ℕ) (x y : Y) → i < j → Contains (f i) x → Contains (f j) y → R x y ≡ Less) → (a n : ℕ) → IsStrictlySortedBy R (flat_map f (range_with_len a n))
   sorted_joined f each less a zero = sorted_none

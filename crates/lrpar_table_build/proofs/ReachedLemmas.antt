@@ -60,7 +60,7 @@ module _ (g : Grammar) (well : IsWellFormed g) where
             absurd (omega (arith, within, empty))
       ]
 
-  -- the start production is one
+  -- the start production is one of the grammar
   pub start_known : start_prod g < prods_len g
   start_known = known_by_symbol (start_prod g) 0 (Nonterminal g.start) (ap (λ (w : List GrammarSymbol). slice_get w 0) well.last_symbols)
 
@@ -103,7 +103,7 @@ module _ (g : Grammar) (well : IsWellFormed g) where
   added_is_listed x y adds is =
       no_added_rule x.prod x.dot (rule_of g y.prod) (ap (rule_of g) is ∙ well.last_rule) (before_added x y adds)
 
-  -- what symbols begin with before a token is a token
+  -- First(w, a) has only tokens, if a is a token
   first_below : (a : ℕ) (w : List GrammarSymbol) (t : ℕ) → a < tokens_len g → AreBelow (tokens_len g) w → IsFirst g a w t
       → t < tokens_len g
   first_below a w t low free Behind = low

@@ -35,7 +35,7 @@ advanced_from g items x p k t h =
 
 module _ (g : Grammar) (graph : Graph) (table : Table) (well : IsWellFormed g) (canonical : IsCanonical g graph)
     (resolved : IsCanonicalTable g graph table) where
-  -- each state is reached by a path
+  -- a path reaches each state
   reached_by : (s p k t : ℕ) → HasItem graph s p k t → (path : List GrammarSymbol) × IsReachedBy g path (item_at p k t)
   reached_by s p k t has =
       let reached = canonical.reached s (state_in_range graph s p k t has) in
@@ -117,7 +117,7 @@ module _ (g : Grammar) (graph : Graph) (table : Table) (well : IsWellFormed g) (
         | inr more ↦ added_is_listed g well more.0 start more.2 refl
       ]
 
-  -- the start production's first core is in state 0 alone
+  -- the core `^: . S` is in state 0 alone
   start_alone : (s : ℕ) → HasCore graph s (start_prod g) 0 → s ≡ 0
   start_alone s has =
       let item = item_at (start_prod g) 0 has.0 in

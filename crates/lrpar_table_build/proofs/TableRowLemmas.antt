@@ -66,7 +66,7 @@ entry_each tokens states k Accepts below within =
 entry_each tokens states k Fails below within = All-nil (IsActionEntry tokens states)
 
 module _ (f : ℕ → TableAction) where
-  -- the row of an action for each of some numbers
+  -- a row with an action for each of n numbers from a on
   abbrev row_from : ℕ → ℕ → List (ℕ × TableAction)
   row_from a n = flat_map (λ t. entry_at t (f t)) (range_with_len a n)
 

@@ -37,7 +37,7 @@ module _ (g : Grammar) (states : List StateOf) (are : AreStates g states) (s : �
   pub shifts_ascend : AscendFrom 0 (keys_of state.shifts)
   shifts_ascend = subst (λ (st : StateOf). AscendFrom 0 (keys_of st.shifts)) is (are.shifts_ascend s below)
 
--- the refusal of a state is one of the states
+-- a refusal of a state is a refusal of the states
 pub refusal_of : (len s n : ℕ) (reason : Type 0) (reasons : ℕ → Type 0) (fault : BuildFault) → s < len → n ≡ s → (reason → reasons s)
     → IsRefusal n reason fault → IsRefusalOf len reasons fault
 refusal_of len s n reason reasons (AcceptReduceConflict m) below same is h =

@@ -41,7 +41,7 @@ HaveOneAction g len sets = (s t : ℕ) (a b : TableAction) → s < len → HasAc
 abbrev pub AcceptAlone : Grammar → ℕ → (ℕ → ItemOf → Type 0) → Type 0
 AcceptAlone g len sets = (s : ℕ) → s < len → ¬ (IsAcceptConflict g sets s)
 
--- the lists, or empty ones
+-- the lists of conflicts, or empty lists
 abbrev pub lists_in : Option ConflictLists → ConflictLists
 lists_in (Some lists) = lists
 lists_in None = record { reduce_reduce = []; shift_reduce = [] }

@@ -41,7 +41,7 @@ pub item_read : {S : Type 0} (index : S → ℕ) (graph : Graph) (s : ℕ) (item
 item_read index graph s items i item all below read =
     subst (λ (is : List ItemOf). Contains is (item_of index item)) all (Contains-image (item_of index) items item (i, below, sym read))
 
--- a symbol that was read is the one of the right side
+-- a symbol that was read is the symbol of the right side
 pub symbol_read : {S : Type 0} (index : S → ℕ) (xs : List (Symbol S)) (ys : List GrammarSymbol) (k : ℕ) (x : Symbol S)
     → map (symbol_of index) xs ≡ ys → k < length xs → x ≡ slice_index_or xs k x → slice_get ys k ≡ Some (symbol_of index x)
 symbol_read index xs ys k x is below read =

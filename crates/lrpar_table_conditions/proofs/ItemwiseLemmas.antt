@@ -42,7 +42,7 @@ pub each_lookahead : {S : Type 0} (index : S → ℕ) (P : ℕ → Type 0) (item
 each_lookahead {S} index P items i past holds =
     All-map P (λ (item : PIdx S × ℕ × TIdx S). index item.2.0) items (λ k d below. holds k d (omega (arith, past, below)))
 
--- and back
+-- conversely
 pub lookahead_at : {S : Type 0} (index : S → ℕ) (P : ℕ → Type 0) (items : List (PIdx S × ℕ × TIdx S)) (i : ℕ) (item : PIdx S × ℕ × TIdx S)
     → i < length items → item ≡ get_or items i item → All P (lookaheads_of index items) → P (index item.2.0)
 lookahead_at {S} index P items i item within is all =
@@ -71,7 +71,7 @@ first_of_some P (x ∷ xs) some all = (x, all 0 x some)
 one_more : (xs : List ℕ) (y x : ℕ) → Contains xs x → Contains (y ∷ xs) x
 one_more xs y x h = (suc h.0, omega (arith, h.1), h.2)
 
--- there is an element at a place within
+-- there is an element at each place within a list
 some_at : {X : Type 0} (xs : List X) (i : ℕ) → i < length xs → (x : X) × (slice_get xs i ≡ Some x)
 some_at [] i within = absurd (omega arith)
 some_at (x ∷ xs) zero within = (x, refl)
@@ -95,7 +95,7 @@ prods_from_has r p (y ∷ ys) (suc i) x at is =
     let later : Contains rest (p + suc i) = subst (Contains rest) place (prods_from_has r (p + 1) ys i x at is) in
     elim (eqb y.rule r) as (λ b. Contains (cond b (p ∷ rest) rest) (p + suc i)) [ true ↦ one_more rest p (p + suc i) later | false ↦ later ]
 
--- where a number among them comes from
+-- the place of a number among the productions of a rule
 record IsOfRule (r p : ℕ) (xs : List Production) (q : ℕ) : Type 0 where
   pub place : ℕ
   pub is : q ≡ p + place
@@ -277,7 +277,7 @@ module _ {S : Type 0} (index : S → ℕ) (items : List (PIdx S × ℕ × TIdx S
       subst (λ (m : ℕ). P (index (get_or items n d).0.0) m (index (get_or items n d).2.0)) dot
       (subst (λ (m : ℕ). P m k (index (get_or items n d).2.0)) prod now)
 
-  -- and back
+  -- conversely
   pub core_all : ((n : ℕ) (d : PIdx S × ℕ × TIdx S) → n < length items → Holds (get_or items n d)) → All (P p k) (lookaheads_of index part)
   core_all each =
       All-map (P p k) (λ (x : PIdx S × ℕ × TIdx S). index x.2.0) part (λ j d inside.
@@ -367,7 +367,7 @@ no_rule_at g p k none r at =
     let here = get_or_from_slice_get (symbols_of g p) k (Nonterminal r) (Nonterminal r) at in
     none r (drop (k + 1) (symbols_of g p)) (drop_more (symbols_of g p) k (Nonterminal r) within ∙ ap (λ (x : GrammarSymbol). x ∷ drop (k + 1) (symbols_of g p)) here)
 
--- some items have some lookaheads
+-- if there are items, there are lookaheads
 pub some_lookaheads : {S : Type 0} (index : S → ℕ) (items : List (PIdx S × ℕ × TIdx S)) → 0 < length items → 0 < length (lookaheads_of index items)
 some_lookaheads {S} index items some = omega (arith, some, length-map items (λ (x : PIdx S × ℕ × TIdx S). index x.2.0))
 
@@ -379,7 +379,7 @@ no_shift index (Reduce p) is e none n shifts = let no : ReduceBy (index p.0) ≡
 no_shift index Accept is e none n shifts = let no : Accepts ≡ ShiftTo n = e ∙ shifts in cc
 no_shift index Error is e none n shifts = let no : Fails ≡ ShiftTo n = e ∙ shifts in cc
 
--- what a test decides, in other words
+-- a test that decides a fact decides an equivalent fact
 pub decided_as : {A B : Type 0} (b : Bool) → IsTrue b ↔ A → A ↔ B → IsTrue b ↔ B
 decided_as b test same = (λ h. same.0 (test.0 h), λ holds. test.1 (same.1 holds))
 
@@ -455,7 +455,7 @@ starts_len g sets room = sym (length-map sets (λ s. s.bits.items)) ∙ room.pro
 pub start_within : (g : Grammar) (sets : List TokenSet) (p prod : ℕ) → HaveStarts g (rows_of sets) → p < prods_len g → prod ≡ p → prod < length sets
 start_within g sets p prod room known is = let count = room.prods in omega (arith, count, known, is, length-map sets (λ s. s.bits.items))
 
--- and it is as wide as all
+-- it is as wide as all sets
 pub start_wide : (g : Grammar) (sets : List TokenSet) (prod : ℕ) (d : TokenSet) → HaveStarts g (rows_of sets) → prod < length sets
     → length (get_or sets prod d).bits.items ≡ dummy_lookahead g + 1
 start_wide g sets prod d room within = All-map-at (λ row. length row ≡ dummy_lookahead g + 1) (λ s. s.bits.items) sets room.wide prod d within
@@ -579,7 +579,7 @@ starts_fewer {S} index items i item old new within is so_far left q t h =
     subst (λ (xs : List ItemOf). Contains xs (item_at q 0 t)) more (so_far q t (left q t h).0) in
     later_among (item_of index item) (item_at q 0 t) rest (left q t h).1 among
 
--- none is left
+-- if no item is left, the sets are empty
 pub starts_gone : (rows : List (List Bool)) → HaveFirstsAmong [] rows → (q t : ℕ) → has (row_at rows q) t ≡ false
 starts_gone rows among q t = false_from_ne_true (has (row_at rows q) t) (λ h. absurd (omega (arith, (among q t h).1)))
 

@@ -83,7 +83,7 @@ module _ (g : Grammar) (well : IsWellFormed g) (rows : List (List Bool)) (p : �
       (and_from (nat_lt t (dummy_lookahead g + 1)) (has front t) (lt-ltb t (dummy_lookahead g + 1) low) in_first) in
       subst (λ x. IsTrue (has x t)) same now
 
--- what a rule alone begins with is in its set
+-- `begins` of a rule alone is in the rule's set
 begins_alone : (dummy : ℕ) (rows : List (List Bool)) (r t : ℕ) → IsTrue (begins dummy rows (Nonterminal r ∷ []) t) → IsTrue (has (row_at rows r) t)
 begins_alone dummy rows r t h =
     elim (begins_cases dummy rows r [] t h) [
@@ -104,7 +104,7 @@ exact_sets g well rows room sound closed =
       );
     }
 
--- a list of sets is as long as that of their tokens
+-- there are as many sets as rules
 pub sets_len : (g : Grammar) (sets : List TokenSet) → HaveRoom g (rows_of sets) → length sets ≡ rules_len g
 sets_len g sets room = sym (length-map sets (λ s. s.bits.items)) ∙ room.rules
 

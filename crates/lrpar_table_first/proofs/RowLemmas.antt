@@ -15,7 +15,7 @@ use Rattle.lrpar_grammar.specs.declared.token_set.TokenSet.{TokenSet}
 pub row_is : (sets : List TokenSet) (r : ℕ) (set : TokenSet) → r < length sets → set ≡ get_or sets r set → row_at (rows_of sets) r ≡ set.bits.items
 row_is sets r set within is = get_or-map (λ s. s.bits.items) sets r set [] within ∙ sym (ap (λ s. s.bits.items) is)
 
--- a set of a list whose sets have this room has it
+-- if all sets of a list have this room, each of them has it
 pub wide_at : (sets : List TokenSet) (r n : ℕ) (set : TokenSet) → All (λ row. length row ≡ n) (rows_of sets) → r < length sets → set ≡ get_or sets r set
     → length set.bits.items ≡ n
 wide_at sets r n set wide within is =

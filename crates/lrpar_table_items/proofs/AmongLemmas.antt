@@ -67,7 +67,7 @@ rows_more g rows first before after n tokens x row so_far one = (
   ],
 )
 
--- with all of them, the closure is there
+-- a list with the items of the cores, and of all rules that the closure adds, has the closure
 pub closure_among : (g : Grammar) (cores after : List CoreSet) (rows : List (List Bool))
     → ((r t : ℕ) → HasIn rows r t ↔ IsBrought g (AreBringing g cores) r t)
     → ((x : ItemOf) → IsAmong after x ↔ (IsAmong cores x ⊎ IsOfRows g rows x))

@@ -27,7 +27,7 @@ filter_yes : {Y : Type 0} (h : ℕ → Y) (p : ℕ → Bool) (n : ℕ) → p n �
     → map h (filter p (range_with_len 0 (n + 1))) ≡ map h (filter p (range_with_len 0 n)) ++ h n ∷ []
 filter_yes h p n passes = filter_one h p n ∙ ap (λ b. map h (filter p (range_with_len 0 n)) ++ map h (cond b (n ∷ []) [])) passes
 
--- what a loop over numbers pushes for one that passes
+-- a loop over numbers pushes an element for a number that passes the test
 pub pushed_yes : {X Y : Type 0} (f : X → Y) (h : ℕ → Y) (p : ℕ → Bool) (made pushed : List X) (base : List Y) (x : X) (n : ℕ)
     → map f made ≡ base ++ map h (filter p (range_with_len 0 n)) → pushed ≡ made ++ x ∷ [] → f x ≡ h n → p n ≡ true
     → map f pushed ≡ base ++ map h (filter p (range_with_len 0 (n + 1)))

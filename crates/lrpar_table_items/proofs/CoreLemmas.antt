@@ -28,7 +28,7 @@ among_cons core cores x = (
 abbrev core_of : ℕ → ℕ → List Bool → CoreSet
 core_of prod dot tokens = record { prod = prod; dot = dot; tokens = tokens }
 
--- the parts of a core make it
+-- a core with these parts is this core
 pub core_is : (a b : CoreSet) → a.prod ≡ b.prod → a.dot ≡ b.dot → a.tokens ≡ b.tokens → a ≡ b
 core_is a b prod dot tokens =
     ap (λ n. core_of n a.dot a.tokens) prod ∙ ap (λ n. core_of b.prod n a.tokens) dot ∙ ap (core_of b.prod b.dot) tokens

@@ -82,7 +82,7 @@ module _ {S A : Type 0} (index : S → ℕ) (cmp : S → S → Ordering) (law : 
   key_order key = lists_compare (order_of cmp) core_cmp (core_set index) (cores_compare index cmp law) cores key.items
 
   module _ (numbers : BTreeMap (Vec (CoreItems S) A) (StIdx S)) where
-    -- what the map has at some cores it has at their kernel
+    -- a look-up by cores of the code is a look-up by the kernel that they represent
     pub at_kernel : get_by (λ key. slice_cmp (order_of cmp) cores key.items) numbers ≡ get_by (key_cmp index (map (core_set index) cores)) numbers
     at_kernel = λ i. get_by (λ key. key_order key i) numbers
 
@@ -126,7 +126,7 @@ module _ {S A : Type 0} (index : S → ℕ) (cmp : S → S → Ordering) (law : 
     (kernel key : Vec (CoreItems S) A) (copy : map (core_set index) key.items ≡ map (core_set index) kernel.items) (state : StIdx S)
     (fresh : IsFresh rows (map (core_set index) kernel.items))
     (updates : Updates (λ a b. slice_cmp (order_of cmp) a.items b.items) before after key (Some state)) where
-  -- what the map has at a number
+  -- the map has number s for kernel k
   abbrev HasOne : ℕ → List CoreSet → Type 0
   HasOne s k = option_map (λ state. index state.0) (get_by (key_cmp index k) after) ≡ Some s
 

@@ -69,7 +69,7 @@ module _ (g : Grammar) (symbol : GrammarSymbol) where
       let back : IsOfCore (advanced core) (item_at x.prod (x.dot + 1) x.token) = (of.0, ap (λ k. k + 1) of.1, of.2) in
       (symbol_to symbol (symbol_after g core) further, subst (IsOfCore (advanced core)) (sym is) back)
 
-  -- what is advanced of a core and others is of that core, or of the others
+  -- the advanced items of a core and others are those of the core and those of the others
   advanced_cases : (core : CoreSet) (cores : List CoreSet) (y : ItemOf) → IsAdvanced g (IsAmong (core ∷ cores)) symbol y
       → IsAdvanced g (IsOfCore core) symbol y ⊎ IsAdvanced g (IsAmong cores) symbol y
   advanced_cases core cores y h =

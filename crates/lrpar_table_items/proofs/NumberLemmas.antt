@@ -22,7 +22,7 @@ use Rattle.lrpar_table_items.proofs.CoreLemmas.{among_cons, among_nil}
 use Rattle.lrpar_table_items.proofs.NextLemmas.{next_is, next_kernel_is, next_some, next_has_after_dot}
 use Rattle.lrpar_table_items.proofs.StatesLemmas.{advanced_same, closure_same, reaches_more, same_via}
 
--- a list that is tested for being empty
+-- a test whether a list is empty
 pub none_tested : {X Y : Type 0} (f : X → Y) (xs : List X) (len : ℕ) → length xs ≡ len → (len == 0) ≡ true → length (map f xs) ≡ 0
 none_tested f xs len is tested =
     let count = length-map xs f in
@@ -137,7 +137,7 @@ pub goes_nowhere : (g : Grammar) (kernels : List (List CoreSet)) (cores : List C
     → GoesTo g kernels cores symbol None
 goes_nowhere g kernels cores symbol none after_dot = let some = next_some g symbol cores after_dot in omega (arith, some, none)
 
--- a kernel that is reached gets a number
+-- a kernel of a set that gotos reach gets a number
 module _ (g : Grammar) (well : IsWellFormed g) (max limit : ℕ) (kernels : List (List CoreSet)) (numbered : AreNumbered g max limit kernels)
     (kernel : List CoreSet) (is : IsKernel g kernel) (path : List GrammarSymbol) (reached : IsReachedKernel g kernel path) where
   pushed : IsFresh kernels kernel → AreKernels g (kernels ++ kernel ∷ [])
@@ -302,7 +302,7 @@ start_items g core prod dot is x = (
 pub start_reached : (g : Grammar) (kernel : List CoreSet) → AreSame (IsAmong kernel) (IsStartItem g) → IsReachedKernel g kernel []
 start_reached g kernel same = closure_same g (IsAmong kernel) (IsStartItem g) same
 
--- cores with the closure of a kernel that is reached are reached
+-- if gotos reach the closure of a kernel, they reach cores with that closure
 pub cores_reached : (g : Grammar) (kernel cores others : List CoreSet) (path : List GrammarSymbol) → others ≡ cores
     → AreSame (IsAmong cores) (IsInClosure g (IsAmong kernel)) → IsReachedKernel g kernel path → AreSame (IsAmong others) (IsReachedBy g path)
 cores_reached g kernel cores others path is same reached =

@@ -184,7 +184,7 @@ module _ (g : Grammar) where
     ],
   )
 
-  -- those of the first n rules are all
+  -- if the grammar has at most n rules, the items of the first n rules are all
   pub all_of_rows : IsWellFormed g → (rows : List (List Bool)) (first after : ItemOf → Type 0) (n : ℕ) (x : ItemOf) → rules_len g ≤ n
       → (after x ↔ (first x ⊎ (IsOfRows g rows x × (rule_of g x.prod < n)))) → after x ↔ (first x ⊎ IsOfRows g rows x)
   all_of_rows well rows first after n x all so_far = (

@@ -47,13 +47,13 @@ count_filter q r q' implies (x ∷ xs) =
           ]
     ]
 
--- numbers that ascend from one on ascend from a lower one on
+-- numbers that ascend from a number on ascend from a lower number on
 pub ascend_lower : (a b : ℕ) (ks : List ℕ) → a ≤ b → AscendFrom b ks → AscendFrom a ks
 ascend_lower a b [] low up = tt
 ascend_lower a b (k ∷ ks) low up = (omega (arith, low, up.0), up.1)
 
 module _ {X : Type 0} (n : X → ℕ) where
-  -- what is at least a number, and isn't it, is greater
+  -- numbers that are at least m, and none of them m, are greater
   above : (m : ℕ) (xs : List X) → All (λ y. m ≤ n y) xs → count_by (λ y. n y == m) xs ≡ 0 → All (λ y. m + 1 ≤ n y) xs
   above m [] low none = All-nil (λ y. m + 1 ≤ n y)
   above m (y ∷ ys) low none =
@@ -110,7 +110,7 @@ among_past b p (k ∷ ks) past up =
     let other : k ≢ p = omega (arith, past, up.0) in
     ap (λ x. x || list_any (λ k. k == p) ks) (ne_eqb k p other) ∙ among_past (k + 1) p ks (omega (arith, past, up.0)) up.1
 
--- numbers that ascend are those of a range that are among them
+-- a range, filtered by whether a number is among ascending ones, gives these numbers
 pub filter_among : (test : ℕ → Bool) (n a : ℕ) (ks : List ℕ) → AscendFrom a ks → All (λ k. k < a + n) ks
     → ((p : ℕ) → a ≤ p → p < a + n → test p ≡ list_any (λ k. k == p) ks) → filter test (range_with_len a n) ≡ ks
 filter_among test zero a [] up low is = refl
@@ -173,7 +173,7 @@ among_prods start t p (c ∷ ys) other =
           ]
     ]
 
--- a test of what is filtered
+-- a test of a filtered list
 any_filter : {X : Type 0} (q r q' : X → Bool) → ((x : X) → (r x && q x) ≡ q' x) → (xs : List X) → list_any q (filter r xs) ≡ list_any q' xs
 any_filter q r q' same [] = refl
 any_filter q r q' same (x ∷ xs) =
@@ -201,7 +201,7 @@ complete_test g t p core =
           ∙ sym (ap (λ b. (b && (core.dot == prod_len g p)) && has core.tokens t) (ne_eqb core.prod p other))
     ]
 
--- a core that ends, of the production
+-- a complete core of the production
 complete_both : (g : Grammar) (p : ℕ) (core : CoreSet) → (core.dot == prod_len g core.prod) ≡ true → (core.prod == p) ≡ true
     → ((core.prod == p) && (core.dot == prod_len g p)) ≡ true
 complete_both g p core ends here =

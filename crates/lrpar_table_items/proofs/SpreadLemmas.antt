@@ -137,7 +137,7 @@ spread_nothing g sets p rule d is low room none r s t w begins has_s first =
     let row = row_in sets rule d (omega (arith, count, is, low)) ∙ ap (row_at (rows_of sets)) is in
     absurd (none s (subst (λ b. IsTrue (has b s)) (sym row) has_s))
 
--- one spread after another
+-- one step of the closure after another
 pub brought_on : (g : Grammar) (one two three : List (List Bool)) → AreBroughtFrom g one two → AreBroughtFrom g two three → AreBroughtFrom g one three
 brought_on g one two three before after r t h = brought_twice g (HasIn one) (HasIn two) before r t (after r t h)
 

@@ -65,7 +65,7 @@ below_next P n so_far here k below =
       | inr late ↦ let at : n ≡ k = omega (arith, late, below) in subst P at here
     ]
 
--- a refusal at a token is one of the state
+-- a refusal at a token is a refusal of the state
 pub refused_at : (g : Grammar) (cores : List CoreSet) (shifts : List (ℕ × ℕ)) (s t : ℕ) (reason : Type 0) (fault : BuildFault)
     → t < tokens_len g → (reason → IsAcceptReduce g cores shifts t) → IsRefusal s reason fault → IsRefusal s (HasAcceptReduce g cores shifts) fault
 refused_at g cores shifts s t reason (AcceptReduceConflict n) within is refused = (refused.0, (t, within, is refused.1))

@@ -80,7 +80,7 @@ IsShiftConflict g sets x = HasAfterDot g sets x.state (Terminal x.token) × HasF
 abbrev pub IsAcceptConflict : Grammar → (ℕ → ItemOf → Type 0) → ℕ → Type 0
 IsAcceptConflict g sets s = HasAccept g sets s (end_token g) × ((p : ℕ) × HasReduce g sets s (end_token g) p)
 
--- the items of the graph's states
+-- the item sets of a graph's states
 abbrev pub sets_of : Graph → ℕ → ItemOf → Type 0
 sets_of graph s x = Contains (items_of graph s) x
 

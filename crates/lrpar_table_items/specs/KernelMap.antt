@@ -28,7 +28,7 @@ core_cmp a b = ordering_then (nat_cmp a.prod b.prod) (ordering_then (nat_cmp a.d
 abbrev pub key_cmp : {S A : Type 0} → (S → ℕ) → List CoreSet → Vec (CoreItems S) A → Ordering
 key_cmp index kernel key = slice_cmp core_cmp kernel (map (core_set index) key.items)
 
--- the map has each kernel, with its number
+-- the map has the number of each kernel
 abbrev pub NumbersKernels : {S A : Type 0} → (S → ℕ) → List (List CoreSet) → BTreeMap (Vec (CoreItems S) A) (StIdx S) → Type 0
 NumbersKernels index kernels numbers =
     (s : ℕ) → s < length kernels → option_map (λ state. index state.0) (get_by (key_cmp index (kernel_at kernels s)) numbers) ≡ Some s

@@ -15,7 +15,7 @@ kernel_rows index kernels = map (λ kernel. map (core_set index) kernel.items) k
 abbrev pub symbol_after : Grammar → CoreSet → Option GrammarSymbol
 symbol_after g core = slice_get (symbols_of g core.prod) core.dot
 
--- whether it is this symbol
+-- whether the symbol after the dot is this one
 abbrev pub is_symbol : GrammarSymbol → Option GrammarSymbol → Bool
 is_symbol symbol None = false
 is_symbol (Nonterminal r) (Some (Nonterminal q)) = r == q

@@ -32,7 +32,7 @@ abbrev pub IsStepTo : ℕ → ℕ → List (List CoreSet) → List CoreSet → O
 IsStepTo max limit before kernel None after = (length kernel ≡ 0) × (after ≡ before)
 IsStepTo max limit before kernel (Some number) after = (0 < length kernel) × IsNumberOf max limit before kernel number after
 
--- the kernel has cores, but gets no number
+-- why a transition can't be made: its kernel has cores, but gets no number
 abbrev pub IsStepFault : ℕ → ℕ → List (List CoreSet) → List CoreSet → BuildFault → Type 0
 IsStepFault max limit kernels kernel fault = (0 < length kernel) × IsNumberFault max limit kernels kernel fault
 

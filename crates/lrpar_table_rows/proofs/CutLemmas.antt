@@ -93,7 +93,7 @@ cut_push starts xs ys more are is =
     let last : part longer (xs ++ ys) n ≡ ys = range_at_end xs ys _ _ from to in
     rw (rows, map-range_with_len_more (part longer (xs ++ ys)) 0 n n (omega arith), ← before, last) refl
 
--- the pairs of the front of two lists
+-- the pairs of the first elements of two lists
 zip-take : {K V : Type 0} (n : ℕ) (ks : List K) (vs : List V) → take n (zip ks vs) ≡ zip (take n ks) (take n vs)
 zip-take zero ks vs = refl
 zip-take (suc n) [] vs = refl
@@ -177,13 +177,13 @@ cut_more items starts keys keys_after values values_after rows i more row so_far
           (rw (← is) at (sym (map_more items rows i row below)));
     }
 
--- where a row begins and ends
+-- the places at which a row begins and ends
 pub record IsRowAt (starts : List ℕ) (end row : ℕ) : Type 0 where
   pub next : row + 1 < length starts
   pub up : slice_index starts row ≤ slice_index starts (row + 1)
   pub within : slice_index starts (row + 1) ≤ end
 
--- each row has a place where it begins, and one where it ends
+-- each row has a place at which it begins, and one at which it ends
 pub row_at : {K V : Type 0} (starts : List ℕ) (keys : List K) (values : List V) (rows : List (List (K × V))) (row : ℕ)
     → AreParts starts keys values → cut starts (zip keys values) ≡ rows → row < length rows → IsRowAt starts (length keys) row
 row_at starts keys values rows row parts is below =

@@ -45,7 +45,7 @@ pub keys_of-map : {K V X : Type 0} (number : K → ℕ) (value : V → X) (es : 
 keys_of-map number value [] = refl
 keys_of-map number value (e ∷ es) = ap (λ ks. number e.0 ∷ ks) (keys_of-map number value es)
 
--- the numbers of the firsts
+-- the numbers of the keys
 map-keys : {K V : Type 0} (number : K → ℕ) (es : List (K × V)) → map (λ e. number e.0) es ≡ map number (keys_of es)
 map-keys number [] = refl
 map-keys number (e ∷ es) = ap (λ ks. number e.0 ∷ ks) (map-keys number es)
@@ -135,7 +135,7 @@ pub goto_within_row : (table : Table) (s r next : ℕ) → All (IsGotoEntry tabl
 goto_within_row table s r next each there =
     let entry = All-contains (IsGotoEntry table.rules table.states) (gotos_at table s) (r, next) each there in entry.within
 
--- an entry whose token is out of range is none, as the test of it says
+-- an entry whose token is out of range isn't a right entry, as its test says
 pub action_out_of_range : (tokens states t : ℕ) (entry : ℕ × TableAction) → t ≡ entry.0 → tokens ≤ t → IsTrue (nat_lt t tokens) ↔ IsActionEntry tokens states entry
 action_out_of_range tokens states t entry same past = (
   λ h. let less = ltb-true t tokens h in absurd (omega (arith, less, past)),
@@ -166,7 +166,7 @@ entries_test {K} {V} {X} number value P row b up test =
       λ are. test.1 (All-unmap P entry row are.each),
     )
 
--- a row whose keys don't ascend is refused, as it should be
+-- the test fails for a row whose keys don't ascend, as it should
 pub entries_refused : {K V X : Type 0} (number : K → ℕ) (value : V → X) (P : ℕ × X → Type 0) (row : List (K × V)) (b : Bool) → b ≡ false
     → IsTrue b ↔ IsStrictlyIncreasing (map (λ e. number e.0) row) → IsTrue b ↔ AreEntries P (map (λ e. (number e.0, value e.1)) row)
 entries_refused number value P row b failed test = (
@@ -186,7 +186,7 @@ module _ (limit : ℕ) (table : Table) (is : IsTable limit table) where
             rw none (record { ascending = λ k h. absurd (omega (arith, h)); each = λ k d h. absurd (omega (arith, h)) })
       ]
 
-  -- and its gotos
+  -- the same of its gotos
   pub gotos_good : (s : ℕ) → AreEntries (IsGotoEntry table.rules table.states) (gotos_at table s)
   gotos_good s =
       elim (cases_lt s (length table.gotos)) as (λ _. AreEntries (IsGotoEntry table.rules table.states) (gotos_at table s)) [

@@ -3,7 +3,7 @@ use Rattle.std.proofs.Common.{◌≡◌, ◌<◌, ◌≤◌, ◌↔◌, ℕ, Res
 use Rattle.lrpar_table_rows.specs.declared.fault.TableFault.{TableFault}
 use Rattle.lrpar_table_rows.specs.declared.fault.TableFault.TheVariants.{BadIndex, Memory}
 
--- if the value is right and something is made of it, the result isn't `BadIndex`
+-- if the input is right, a result that is a value isn't `BadIndex`
 pub made_of_good : {T : Type 0} (A : Type 0) (x : T) → A → IsErrOf (Ok x) BadIndex ↔ ¬ A
 made_of_good A x good = (λ h. absurd cc, λ bad. absurd (bad good))
 
@@ -12,7 +12,7 @@ pub memory_of_good : {T : Type 0} (A : Type 0) (r : Result T TableFault) → A �
 memory_of_good A (Ok x) good memory = absurd memory
 memory_of_good A (Err fault) good memory = (λ h. absurd cc, λ bad. absurd (bad good))
 
--- and what isn't as it should be is refused
+-- if the input isn't right, `BadIndex` is the right result
 pub refused_as_bad : {T : Type 0} (A : Type 0) → ¬ A → IsErrOf {T = T} (Err BadIndex) BadIndex ↔ ¬ A
 refused_as_bad A bad = (λ h. bad, λ bad. refl)
 

@@ -71,7 +71,7 @@ core_by_test items p k = (
       list_any-from_Any (is_with_core p k) items (h.1.0, item_at p k h.0, h.1.1, h.1.2, passes),
 )
 
--- what holds of each item that `items` answers holds of each item of the state, and of no other list
+-- something holds of each item that `items` returns exactly if it holds of each item of the state
 pub all_items : {S : Type 0} (index : S → ℕ) (P : ℕ → ℕ → ℕ → Type 0) (graph : Graph) (s : ℕ) (items : List (PIdx S × ℕ × TIdx S))
     → map (item_of index) items ≡ items_of graph s
     → All (λ x. P (index x.0.0) x.1 (index x.2.0)) items ↔ ((p k t : ℕ) → HasItem graph s p k t → P p k t)
@@ -86,7 +86,7 @@ all_items {S} index P graph s items is = (
       each (index x.0.0) x.1 (index x.2.0) has,
 )
 
--- what holds of each core that `cores` answers holds of each core of the state, and of no other list
+-- something holds of each core that `cores` returns exactly if it holds of each core of the state
 pub all_cores : {S : Type 0} (index : S → ℕ) (P : ℕ → ℕ → Type 0) (graph : Graph) (s : ℕ) (cores : List (PIdx S × ℕ))
     → ((p k : ℕ) → HasCore graph s p k ↔ Contains (map (core_of index) cores) (p, k))
     → All (λ c. P (index c.0.0) c.1) cores ↔ ((p k : ℕ) → HasCore graph s p k → P p k)

@@ -69,7 +69,7 @@ module _ {S : Type 0} (index : S → ℕ) (exact : (x y : S) → index x ≡ ind
       let dot : x.1 ≡ y.1 = ranked x.1 y.1 Equal (sym ties.1) in
       let is : (x.0, x.1) ≡ (y.0, y.1) = cc in is
 
-  -- and so are items
+  -- so are items that compare equal
   pub items_compare_exactly : (cmp : S → S → Ordering) → ((a b : S) → cmp a b ≡ nat_cmp (index a) (index b)) → (x y : PIdx S × ℕ × TIdx S)
       → ordering_then (ordering_then (cmp x.0.0 y.0.0) (nat_cmp x.1 y.1)) (cmp x.2.0 y.2.0) ≡ Equal → x ≡ y
   items_compare_exactly cmp law x y h =
@@ -80,7 +80,7 @@ module _ {S : Type 0} (index : S → ℕ) (exact : (x y : S) → index x ≡ ind
       let token : x.2 ≡ y.2 = same_token x.2 y.2 (ranked (index x.2.0) (index y.2.0) Equal (sym ties.1 ∙ law x.2.0 y.2.0)) in
       let is : (x.0, x.1, x.2) ≡ (y.0, y.1, y.2) = cc in is
 
-  -- and so are cores that a test counts as the same
+  -- so are cores that a test says are equal
   pub cores_same_by_test : (eq : S → S → Bool) → ((a b : S) → eq a b ≡ nat_eq (index a) (index b)) → (x y : PIdx S × ℕ)
       → (eq x.0.0 y.0.0 && nat_eq x.1 y.1) ≡ true → x ≡ y
   cores_same_by_test eq law x y h =
@@ -237,7 +237,7 @@ same_item_order index cmp law x y =
     ap (λ (o : Ordering). ordering_then (ordering_then o (nat_cmp x.1 y.1)) (cmp x.2.0 y.2.0)) prod
     ∙ ap (λ (o : Ordering). ordering_then (ordering_then (nat_cmp (index x.0.0) (index y.0.0)) (nat_cmp x.1 y.1)) o) token
 
--- and cores
+-- if numbers compare as their indexes do, so do cores
 pub same_core_order : {S : Type 0} (index : S → ℕ) (cmp : S → S → Ordering) → ((a b : S) → cmp a b ≡ nat_cmp (index a) (index b))
     → (x y : PIdx S × ℕ) → ordering_then (cmp x.0.0 y.0.0) (nat_cmp x.1 y.1) ≡ core_cmp (core_of index x) (core_of index y)
 same_core_order index cmp law x y = ap (λ (o : Ordering). ordering_then o (nat_cmp x.1 y.1)) (law x.0.0 y.0.0)

@@ -39,7 +39,7 @@ second_test a b passed first second = (λ h. (first.0 passed, second.0 h), λ h.
 pub first_test : {A B : Type 0} (a : Bool) → a ≡ false → IsTrue a ↔ A → IsTrue a ↔ (A × B)
 first_test a failed first = (λ h. absurd cc, λ h. first.1 h.0)
 
--- what was tested of each element so far, and of the next, was tested of one more
+-- what holds of each element so far, and of the next one, holds of one more element
 pub all_more : {X : Type 0} (P : X → Type 0) (xs : List X) (i : ℕ) (x : X) → All P (take i xs) → i < length xs → x ≡ slice_index_or xs i x → P x
     → All P (take (i + 1) xs)
 all_more P xs i x so_far below is here = All-more P xs i x below so_far (subst P is here)

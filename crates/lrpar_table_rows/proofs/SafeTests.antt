@@ -32,7 +32,7 @@ all_below_at p (suc n) h k below =
 passes : {X : Type 0} (p : X → Bool) (xs : List X) (x : X) → list_all p xs ≡ true → Contains xs x → p x ≡ true
 passes p xs x h there = subst (λ y. p y ≡ true) there.2 (AllPass-from_list_all p xs h there.0 x there.1)
 
--- this symbol is there
+-- the option has this symbol
 abbrev is_symbol : GrammarSymbol → Option GrammarSymbol → Bool
 is_symbol (Terminal t) (Some (Terminal u)) = nat_eq u t
 is_symbol (Nonterminal r) (Some (Nonterminal q)) = nat_eq q r
@@ -46,7 +46,7 @@ symbol_found (Nonterminal r) (Some (Terminal u)) h = absurd (both_ways _ refl h)
 symbol_found (Nonterminal r) (Some (Nonterminal q)) h = ap (λ (n : ℕ). Some (Nonterminal n)) (eqb-true q r h)
 symbol_found (Nonterminal r) None h = absurd (both_ways _ refl h)
 
--- what is there
+-- the value of an option that isn't empty
 some_found : (found : Option ℕ) → is_some found ≡ true → (next : ℕ) × (found ≡ Some next)
 some_found (Some next) h = (next, refl)
 some_found None h = absurd (both_ways _ refl h)

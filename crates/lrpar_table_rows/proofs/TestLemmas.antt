@@ -27,7 +27,7 @@ pub item_read : {X : Type 0} (xs ys : List X) (i : ℕ) (item : Option X) (d : X
     → unwrap_or item d ≡ slice_index_or xs i d
 item_read {X} xs ys i item d same read = subst (λ (zs : List X). unwrap_or item d ≡ slice_index_or zs i d) same (read (omega arith) d)
 
--- and in an empty list nothing is found
+-- nothing is in an empty list
 pub none_there : {X : Type 0} (x : X) → IsTrue false ↔ Contains [] x
 none_there x = (λ h. absurd (false≢true h), λ there. absurd (omega (arith, there.1)))
 
@@ -35,7 +35,7 @@ none_there x = (λ h. absurd (false≢true h), λ there. absurd (omega (arith, t
 pub all_read : {X : Type 0} (P : X → Type 0) (xs : List X) (i : ℕ) (x : X) → All P xs → i < length xs → x ≡ slice_index_or xs i x → P x
 all_read P xs i x all below is = subst P (sym is) (all i x below)
 
--- lists whose elements are paired have as many
+-- lists whose elements are paired have the same length
 pub same_len : {X Y : Type 0} (R : X → Y → Type 0) (xs : List X) (ys : List Y) → AllZip R xs ys → length xs ≡ length ys
 same_len R [] [] all = refl
 same_len R [] (y ∷ ys) all = absurd all

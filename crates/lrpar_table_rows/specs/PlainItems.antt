@@ -18,7 +18,7 @@ core_of index x = (index x.0.0, x.1)
 abbrev pub row_of : {S Z : Type 0} → (S → ℕ) → Vec (PIdx S × ℕ × TIdx S) Z → List ItemOf
 row_of index row = map (item_of index) row.items
 
--- the items of each row
+-- the state graph with the items of each row
 abbrev pub graph_of_rows : {S Z Y : Type 0} → (S → ℕ) → Vec (Vec (PIdx S × ℕ × TIdx S) Z) Y → Graph
 graph_of_rows index rows = map (row_of index) rows.items
 

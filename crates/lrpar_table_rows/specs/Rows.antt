@@ -21,8 +21,8 @@ IsActionRow tokens states row = (length row ≡ tokens) × All (IsActionWithin s
 abbrev pub IsGotoRow : ℕ → ℕ → List (Option ℕ) → Type 0
 IsGotoRow rules states row = (length row ≡ rules) × All (IsGotoWithin states) row
 
--- each state has its two rows, every state that they name is one of the table, and so is the start state; the
--- numbers of states, tokens and rules are at most `limit`
+-- each state has its two rows; every state that they name is one of the table, and so is the start state; the numbers of
+-- states, tokens and rules are at most `limit`
 pub record AreRows (limit : ℕ) (rows : Rows) : Type 0 where
   pub gotos_len : length rows.gotos ≡ length rows.actions
   pub states_fit : length rows.actions ≤ limit
@@ -55,7 +55,7 @@ row_actions row = row_entries unless_error row
 abbrev pub row_gotos : List (Option ℕ) → List (ℕ × ℕ)
 row_gotos row = row_entries (λ goto. goto) row
 
--- the table that stores what the rows have
+-- the table of the rows: it stores their entries
 abbrev pub table_of : Rows → Table
 table_of rows = record {
   start = rows.start;

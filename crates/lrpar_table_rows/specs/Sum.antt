@@ -28,7 +28,7 @@ three_actions plus id end = plus ∷ id ∷ end ∷ []
 abbrev pub three_gotos : Option ℕ → Option ℕ → Option ℕ → List (Option ℕ)
 three_gotos added e t = added ∷ e ∷ t ∷ []
 
--- the full rows of that table
+-- the full rows of the small table
 abbrev pub sum_rows : Rows
 sum_rows = record {
   start = 0;
@@ -55,11 +55,11 @@ sum_graph =
     ∷ (item_at 0 2 2 ∷ item_at 0 0 2 ∷ item_at 1 0 2 ∷ item_at 2 0 0 ∷ item_at 2 0 2 ∷ [])
     ∷ (item_at 0 3 2 ∷ []) ∷ []
 
--- that table with other actions in state s
+-- the small table with other actions in state s
 abbrev pub with_actions : ℕ → List (ℕ × TableAction) → Table
 with_actions s actions = record sum_table { actions = slice_set sum_table.actions s actions }
 
--- that table with other gotos in state s
+-- the small table with other gotos in state s
 abbrev pub with_gotos : ℕ → List (ℕ × ℕ) → Table
 with_gotos s gotos = record sum_table { gotos = slice_set sum_table.gotos s gotos }
 

@@ -8,7 +8,7 @@ use thiserror::Error;
 /// Why a table or a state graph can't be made.
 #[derive(Clone, Copy, Debug, PartialEq, Eq, Error)]
 pub enum TableFault {
-    /// The rows aren't those of a table: their numbers or lengths are wrong, or a state is out of range.
+    /// The rows aren't those of a table: a number or a length is wrong, or a state is out of range.
     #[error("bad index")]
     BadIndex,
     /// An allocation failed.

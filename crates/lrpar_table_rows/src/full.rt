@@ -71,7 +71,7 @@ fn is_action_row<StorageT: StorageIndex>(
     row.len() == tokens && are_actions_within(row, states)
 }
 
-/// Whether the state of each action that has one is below `states`.
+/// Whether the state of each shift is below `states`.
 fn are_actions_within<StorageT: StorageIndex>(row: &[Action<StorageT>], states: usize) -> bool
     ensures { IsTrue result ↔ All (λ action. IsActionWithin states (plain_action StorageT.index action)) row.now }
 {
@@ -83,7 +83,7 @@ fn are_actions_within<StorageT: StorageIndex>(row: &[Action<StorageT>], states: 
     true
 }
 
-/// Whether the action's state, if it has one, is below `states`.
+/// Whether the action's state, if it is a shift, is below `states`.
 fn is_action_within<StorageT: StorageIndex>(action: Action<StorageT>, states: usize) -> bool
     ensures { IsTrue result ↔ IsActionWithin states (plain_action StorageT.index action) }
 {

@@ -74,7 +74,7 @@ module _ (g : Grammar) (table : Table) (t : ℕ) where
   from_goes_on zero st h = tt
   from_goes_on (suc n) st h = from_action n st (from_goes_on n) (top_action table t st) refl h
 
-  -- the test decides it
+  -- the test decides whether a chain makes n reductions
   pub reductions_by_test : (n : ℕ) (st : List ℕ) → (goes_on_by g table t n st ≡ true) ↔ HasReductions g table t st n
   reductions_by_test n st = (from_goes_on n st, goes_on_from n st)
 

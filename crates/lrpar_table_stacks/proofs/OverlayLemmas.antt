@@ -81,7 +81,7 @@ module _ {A : Type 0} (number : A → ℕ) where
       let len : length lower ≡ kept = length-take-le kept (map number base) (omega (arith, length-map base number)) in
       omega (arith, len, length-append lower (map number tail), length-map tail number)
 
-  -- and from there on those of the tail
+  -- from there on, the states are those of the tail
   pub over_tail_at : (base tail : List A) (kept at : ℕ) (x : A) → kept ≤ length base → kept ≤ at → at - kept < length tail
       → x ≡ get_or tail (at - kept) x → slice_get (take kept (map number base) ++ map number tail) at ≡ Some (number x)
   over_tail_at base tail kept at x within above inside read =

@@ -128,7 +128,7 @@ one_below g graph table s p x next symbols st goes h =
     }
 
 module _ (g : Grammar) (graph : Graph) (table : Table) (closed : IsClosed table) (safe : IsSafe g graph table) where
-  -- the claim
+  -- the claim on paths
   ends : (s p : ℕ) (symbols : List GrammarSymbol) (st : List ℕ) → s < states_len table → Leads table s symbols st
       → HasCore graph (last_of s st) p (prod_len g p) → EndsWith g graph table s p symbols st ⊎ IsEndOf g graph s p symbols
   ends s p [] [] within leads core = by_dot g graph table s p (prod_len g p) [] [] leads core (sym (drop-length (symbols_of g p)))

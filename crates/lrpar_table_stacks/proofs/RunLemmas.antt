@@ -12,19 +12,19 @@ use Rattle.lrpar_table_stacks.proofs.Reductions.{settles_one_way, reduces_to_one
 use Rattle.lrpar_table_stacks.specs.RunLaws.{Takes, RunsEndOneWay, RunsGoOnOrEnd, KeepOffEnd, EndsByFailing, RunsStopByFailing}
 use Rattle.lrpar_table_stacks.specs.Run.{Comes, Far, FarEnd, Accepted, Stopped, Stop, IsStuck, RunsOneWay, stays, comes_on, comes_through, gives_up, goes_on, accepts, stops, token_at}
 
--- reductions after which there is none are all
+-- reductions after which none is due are all reductions
 pub settles_from : (g : Grammar) (table : Table) (t : ℕ) (st ps after : List ℕ)
     → ReducesBy g table t st ps after → IsSettled table t after → Settles g table t st ps after
 settles_from g table t st [] after e settled = (e, subst (IsSettled table t) (sym e) settled)
 settles_from g table t st (p ∷ ps) after by settled = (by.0, by.1, settles_from g table t by.0 ps after by.2 settled)
 
--- all reductions are reductions
+-- `Settles` makes reductions
 pub settles_reduces : (g : Grammar) (table : Table) (t : ℕ) (st ps after : List ℕ)
     → Settles g table t st ps after → ReducesBy g table t st ps after
 settles_reduces g table t st [] after settles = settles.0
 settles_reduces g table t st (p ∷ ps) after settles = (settles.0, settles.1, settles_reduces g table t settles.0 ps after settles.2)
 
--- and after them there is none
+-- after all reductions none is due
 pub settles_settled : (g : Grammar) (table : Table) (t : ℕ) (st ps after : List ℕ)
     → Settles g table t st ps after → IsSettled table t after
 settles_settled g table t st [] after settles = subst (IsSettled table t) settles.0 settles.1
@@ -48,21 +48,21 @@ feeds_one_way g table t st ps a qs b x y =
     let pushed : x.settled ++ x.next ∷ [] ≡ y.settled ++ y.next ∷ [] = cc in
     (same.0, x.pushed ∙ pushed ∙ sym y.pushed)
 
--- an action shifts or it doesn't
+-- an action is a shift, or it isn't
 cases_shift : (a : TableAction) → ((next : ℕ) × (a ≡ ShiftTo next)) ⊎ ((next : ℕ) → a ≢ ShiftTo next)
 cases_shift (ShiftTo next) = inl (next, refl)
 cases_shift (ReduceBy p) = inr (λ next e. cc)
 cases_shift Accepts = inr (λ next e. cc)
 cases_shift Fails = inr (λ next e. cc)
 
--- it accepts or it doesn't
+-- an action is accept, or it isn't
 cases_accept : (a : TableAction) → (a ≡ Accepts) ⊎ (a ≢ Accepts)
 cases_accept (ShiftTo next) = inr (λ e. cc)
 cases_accept (ReduceBy p) = inr (λ e. cc)
 cases_accept Accepts = inl refl
 cases_accept Fails = inr (λ e. cc)
 
--- the symbols along a stack
+-- a path: the symbols along a stack
 abbrev pub HasPath : Table → List ℕ → Type 0
 HasPath table st = (symbols : List GrammarSymbol) × IsPath table symbols st
 

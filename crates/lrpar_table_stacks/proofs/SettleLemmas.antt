@@ -32,7 +32,7 @@ stack_states table closed [] stack = absurd stack
 stack_states table closed (s ∷ st) stack =
     joined_states table closed s st (subst (λ (s : ℕ). s < states_len table) (sym stack.0) closed.start_within) stack.1
 
--- a state joined to the top makes it a stack again
+-- a stack with one more state, joined to the top, is a stack
 joined_top : (table : Table) (s : ℕ) (st : List ℕ) (next : ℕ) → AreJoined table s st → IsJoined table (last_of s st) next
     → AreJoined table s (st ++ next ∷ [])
 joined_top table s [] next joined top = (top, tt)
@@ -83,7 +83,7 @@ module _ (g : Grammar) (table : Table) (cap : ℕ) (run : IsRun g table cap) (t 
           → goto_of table s (rule_of g p) ≡ Some reduces.state
       goto_found left s top goto = sym (goto_by_top table (rule_of g p) left s top) ∙ goto
 
-  -- and so does a shift
+  -- so does a shift
   pub stack_shifted : (st : List ℕ) (next : ℕ) → IsStack table st → top_action table t st ≡ ShiftTo next → IsStack table (st ++ next ∷ [])
   stack_shifted st next stack shift =
       stack_more table st next stack (λ s top. inl (t, token, sym (action_by_top table t st s top) ∙ shift))

@@ -7,14 +7,14 @@ use Rattle.lrpar_table_stacks.specs.Settled.{IsShortOfMemory, IsShiftShortOfMemo
 use Rattle.lrpar_table_stacks.specs.StackReduction.{IsStackShortOfMemory, IsStackShiftShortOfMemory, StackReduces, StackReducesBy}
 
 module _ {X : Type 0} (states : X → List ℕ) (reduces : X → ℕ → ℕ → ℕ → X → Type 0) (g : Grammar) (table : Table) (t : ℕ) where
-  -- reductions, and one more
+  -- reductions and one more are reductions
   pub stack_reduces_more : (old : X) (prods : List ℕ) (mid : X) (p : ℕ) (new : X) → StackReducesBy states reduces g table t old prods mid
       → StackReduces states reduces g table t mid p new → StackReducesBy states reduces g table t old (prods ++ p ∷ []) new
   stack_reduces_more old [] mid p new same last =
       (new, subst (λ (x : X). StackReduces states reduces g table t x p new) (sym same) last, refl)
   stack_reduces_more old (q ∷ prods) mid p new all last = (all.0, all.1, stack_reduces_more all.0 prods mid p new all.2 last)
 
-  -- the states make them
+  -- the states make the stack's reductions
   pub states_reduce_by : (old : X) (prods : List ℕ) (new : X) → StackReducesBy states reduces g table t old prods new
       → ReducesBy g table t (states old) prods (states new)
   states_reduce_by old [] new same = ap states same

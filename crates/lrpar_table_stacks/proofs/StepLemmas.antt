@@ -26,7 +26,7 @@ one_left height symbols deep = omega arith
 pub place_left : (height symbols states : ℕ) → height ≡ states → symbols < height → height - symbols - 1 < states
 place_left height symbols states at deep = omega arith
 
--- a state that was read is one of those
+-- a state that was read is in range, if all states are
 pub within_at : (bound : ℕ) (st : List ℕ) (at s : ℕ) → All (λ s. s < bound) st → slice_get st at ≡ Some s → s < bound
 within_at bound st at s all read =
     subst (λ (s : ℕ). s < bound) (get_or_from_slice_get st at s s read) (all at s (slice_get_within st at s read))
@@ -63,7 +63,7 @@ action_by_top table t st s top = ap (λ (o : Option ℕ). option_map_or (λ s. a
 pub goto_by_top : (table : Table) (r : ℕ) (st : List ℕ) (s : ℕ) → top_of st ≡ Some s → top_goto table r st ≡ goto_of table s r
 goto_by_top table r st s top = ap (λ (o : Option ℕ). option_and_then (λ s. goto_of table s r) o) top
 
--- so the goto that was read at the top of what is left is the goto of what is left
+-- so the goto that was read at the top of the states that are left is the goto of these states
 pub goto_of_left : (g : Grammar) (table : Table) (p : ℕ) (st : List ℕ) (symbols height s r : ℕ) (goto : Option ℕ) → symbols ≡ prod_len g p
     → height ≡ length st → symbols < height → slice_get st (height - symbols - 1) ≡ Some s → r ≡ rule_of g p → goto ≡ goto_of table s r
     → (prod_len g p < length st) × (top_goto table (rule_of g p) (left_by g p st) ≡ goto)
