@@ -62,8 +62,8 @@ module _ (g : Grammar) where
             ]
       ]
 
-  one_way : (p k q l : ℕ) → Precedes g p k q l → Precedes g q l p k → ⊥
-  one_way p k q l h back =
+  precedes_asymmetric : (p k q l : ℕ) → Precedes g p k q l → Precedes g q l p k → ⊥
+  precedes_asymmetric p k q l h back =
       elim h [
         | inl greater ↦
             elim back [
@@ -135,7 +135,7 @@ module _ (g : Grammar) where
         | inr before ↦
             elim (leads b a ys xs (All-head IsFilled b ys full) order back) [
               | inl is ↦ is
-              | inr after ↦ absurd (one_way b.prod b.dot a.prod a.dot before after)
+              | inr after ↦ absurd (precedes_asymmetric b.prod b.dot a.prod a.dot before after)
             ]
       ] in
       let Wide = λ (c : CoreSet). length c.tokens ≡ n in

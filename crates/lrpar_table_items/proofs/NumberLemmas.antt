@@ -19,7 +19,7 @@ use Rattle.lrpar_table_items.specs.States.{AreExpanded, AreSteps, IsExpanded, St
 use Rattle.lrpar_table_items.specs.declared.fault.BuildFault.{BuildFault}
 use Rattle.lrpar_table_items.specs.declared.fault.BuildFault.TheVariants.{AcceptReduceConflict, Memory, StorageTooSmall, TooManyStates}
 use Rattle.lrpar_table_items.proofs.CoreLemmas.{among_cons, among_nil}
-use Rattle.lrpar_table_items.proofs.NextLemmas.{next_is, next_kernel_is, next_some, next_has_after_dot}
+use Rattle.lrpar_table_items.proofs.NextLemmas.{next_has_after_dot, next_is, next_kernel_is, next_some}
 use Rattle.lrpar_table_items.proofs.StatesLemmas.{advanced_same, closure_same, reaches_more, same_via}
 
 -- a test whether a list is empty

@@ -17,7 +17,7 @@ use Rattle.std.proofs.lemmas.List.Sorted.{searchable_from_sorted, Contains-permu
 use Rattle.std.proofs.lemmas.List.Filters.{dedup_is}
 use Rattle.std.proofs.lemmas.List.Kept.{Contains-dedup, Contains-from_dedup, IsStrictlySortedBy-dedup}
 use Rattle.std.proofs.lemmas.Map.Keys.{Less-from_sorted}
-use Rattle.lrpar_table_rows.specs.Ascending.{IsAscending, ComparesExactly, HaveSame}
+use Rattle.lrpar_table_rows.specs.Ascending.{ComparesExactly, HaveSame, IsAscending}
 
 -- what comes after isn't less
 after_not_less : {X : Type 0} {R : X → X → Ordering} → IsTotalOrder R → (x y : X) → R x y ≡ Less → is_lt (R y x) ≡ false

@@ -2,7 +2,7 @@
 ghost use Rattle.std.specs.Prelude.{◌≡◌, ◌↔◌, ◌∷◌, ◌++◌, [], true, IsTrue, OnOk};
 ghost use Rattle.std.specs.List.{Contains};
 ghost use Rattle.std.specs.List.Sorted.{IsStrictlySortedBy};
-ghost use Rattle.lrpar_table_rows.specs.Ascending.{HaveSame, ComparesExactly};
+ghost use Rattle.lrpar_table_rows.specs.Ascending.{ComparesExactly, HaveSame};
 
 use std::alloc::AllocError;
 use std::marker::Model;
