@@ -30,7 +30,7 @@ pub fn from_yacc<StorageT: StorageIndex>(
     // conflicts are theirs and fit.
     ensures built { IfOk result (λ built. IsBuilt grm.now built.0 built.1) }
     ensures room { IfOk result (λ built. graph_len built.0 ≤ max_states) }
-    // An error: there are too many item sets, or one of them calls for accept and for a reduction.
+    // `TooManyStates` and `StorageTooSmall`: there are too many item sets; `AcceptReduceConflict`: one calls for accept and a reduction.
     ensures refused { IfErr result (IsBuildRefusal grm.now max_states StorageT.limit) }
 {
     let _start = grm.start_prod();

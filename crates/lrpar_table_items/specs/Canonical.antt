@@ -1,5 +1,5 @@
 -- The canonical collection of LR(1) item sets of a grammar, the actions before conflict resolution that its sets call for, their
--- conflicts, and the table that resolves them. An item set is a number, with the items that are in the set of this number.
+-- conflicts, and the table that resolves them. Item sets are numbered: `sets s x` says that set s has item x.
 use Rattle.std.specs.Prelude.{◌≡◌, ◌≢◌, ◌<◌, ◌≤◌, ◌↔◌, ℕ, List, [], All, Contains, Option, Some, None, length, slice_get, slice_index_or}
 use Rattle.lrpar_grammar.specs.Grammar.{Grammar, GrammarSymbol, Nonterminal, Terminal, end_token, prod_len, start_prod, symbols_of}
 use Rattle.lrpar_table_rows.specs.Graph.{Graph, ItemOf, graph_len, item_at, items_of}

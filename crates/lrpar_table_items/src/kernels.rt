@@ -1,4 +1,4 @@
-//! Kernels, each with the number of its state.
+//! Kernels, the kernel items of states by their cores, each with the number of its state.
 ghost use Rattle.std.specs.Prelude.{◌≡◌, ◌<◌, ◌∷◌, ◌++◌, [], IfErr, IfOk, MatchOption, OnOk, length, map};
 ghost use Rattle.lrpar_table_items.specs.Cores.{core_set};
 ghost use Rattle.lrpar_table_items.specs.KernelMap.{IsFound, IsFresh};

@@ -11,8 +11,8 @@ use lrpar_grammar::token_set::TokenSet;
 use lrpar_table_first::after_dot::rule_after;
 use lrpar_table_first::first::add_first_before;
 
-/// Closes the sets, one for each rule: adds all lookaheads of rules that the closure adds for the lookaheads in the sets. `front`
-/// and `fresh` are scratch space.
+/// Closes the sets, which have the lookaheads of each rule: adds the lookaheads of all rules that the closure adds. `front` and
+/// `fresh` are scratch space.
 pub(crate) fn spread<StorageT: StorageIndex>(
     grm: &YaccGrammar<StorageT>,
     firsts: &[TokenSet],

@@ -32,7 +32,7 @@ impl Displacements {
         }
     }
 
-    /// The place in the row at which the displacement table expects the key of this number, if it has one.
+    /// The place in the row at which the displacement table expects the key of this number, if the table has a place for it.
     #[inline]
     pub(crate) fn displaced(&self, row: usize, sought: usize) -> Option<usize> {
         let base = self.bases.get(row)?;

@@ -28,7 +28,7 @@ pub data FarEnd : Type 0 where
   Accepted : FarEnd
   Stopped : (stop : Stop) → FarEnd
 
--- from the stack at place i the run feeds the lexemes before place j, with the reductions `prods`, and comes to another stack
+-- from the stack at place i the run feeds the lexemes up to place j, with the reductions `prods`, and comes to another stack
 pub data Comes {X : Type 0} (token : X → ℕ) (g : Grammar) (table : Table) (lexemes : List X) : List ℕ → ℕ → List ℕ → List ℕ → ℕ → Type 0 where
   -- no lexeme is fed
   stays : (st : List ℕ) (i : ℕ) → Comes token g table lexemes st i [] st i
