@@ -59,10 +59,10 @@ module _ {X : Type 0} (token : X → ℕ) (g : Grammar) (table : Table) (lexemes
   -- none is left
   pub reach_ends : (st : List ℕ) (i : ℕ) (accepts : Bool) → length lexemes ≤ i → IsTrue accepts ↔ AcceptsAtEnd g table st
       → Reaches token g table lexemes most st i (min i most + from_bool accepts)
-  reach_ends st i true past tells = accepts_at st i past (tells.0 refl)
-  reach_ends st i false past tells =
+  reach_ends st i true past evaluates = accepts_at st i past (evaluates.0 refl)
+  reach_ends st i false past evaluates =
       let sum : min i most ≡ min i most + 0 = omega arith in
-      subst (λ (n : ℕ). Reaches token g table lexemes most st i n) sum (ends_at st i past (λ accepts. let f : false ≡ true = tells.1 accepts in cc))
+      subst (λ (n : ℕ). Reaches token g table lexemes most st i n) sum (ends_at st i past (λ accepts. let f : false ≡ true = evaluates.1 accepts in cc))
 
 -- after steps at a stop a parse goes so far and no other way
 pub goes_one_far : {X : Type 0} (token : X → ℕ) (at : Asked X) (steps : List PlainStep) (m n : ℕ) → GoesAsFar token at steps m → GoesAsFar token at steps n → m ≡ n

@@ -16,9 +16,9 @@ pub accepts_told : {S : Type 0} (g : Grammar) (table : Table) (cap : ℕ) (old n
     → IsSettledOver g table cap t old count new → t ≡ end_token g → top_of (overlaid new) ≡ Some s
     → plain_action index action ≡ action_of table s t → IsTrue accepts ↔ (plain_action index action ≡ Accepts)
     → IsTrue accepts ↔ AcceptsAtEnd g table (overlaid old)
-accepts_told g table cap old new count t s index action accepts settled is top read tells =
+accepts_told g table cap old new count t s index action accepts settled is top read evaluates =
     let at_end = subst (λ (u : ℕ). IsSettledOver g table cap u old count new) is settled in
     let both = accepts_by_top g table cap old count new at_end in
     let same : top_action table (end_token g) (overlaid new) ≡ plain_action index action =
     subst (λ (u : ℕ). top_action table u (overlaid new) ≡ plain_action index action) is (action_by_top table t (overlaid new) s top ∙ sym read) in
-    ((λ yes_it. both.0 (same ∙ tells.0 yes_it)), (λ ends. tells.1 (sym same ∙ both.1 ends)))
+    ((λ yes_it. both.0 (same ∙ evaluates.0 yes_it)), (λ ends. evaluates.1 (sym same ∙ both.1 ends)))

@@ -4,7 +4,7 @@ use Rattle.std.proofs.lemmas.List.{length-append, length-map}
 use Rattle.lrpar_grammar.specs.Grammar.{end_token}
 use Rattle.lrpar_parse_lexemes.specs.Lexemes.{LexemeParts}
 use Rattle.lrpar_parse_repair.specs.Asked.{IsStop}
-use Rattle.lrpar_parse_lexemes.specs.Known.{token_by}
+use Rattle.lrpar_parse_lexemes.specs.Views.{token_by}
 use Rattle.lrpar_parse_repair.specs.PlainSteps.{plain_step, plain_steps}
 use Rattle.lrpar_parse_repair.specs.Sequences.{PlainStep}
 use Rattle.lrpar_parse_repair.specs.declared.repair_step.RepairStep.{RepairStep}
@@ -127,5 +127,5 @@ longer index xs ys s e =
 
 -- none may be tried
 pub none_left : (b : Bool) (n : ℕ) → IsTrue b ↔ (0 < n) → b ≡ false → n ≡ 0
-none_left b zero tells e = refl
-none_left b (suc n) tells e = let yes_it : b ≡ true = tells.1 (omega arith) in let f : false ≡ true = sym e ∙ yes_it in cc
+none_left b zero evaluates e = refl
+none_left b (suc n) evaluates e = let yes_it : b ≡ true = evaluates.1 (omega arith) in let f : false ≡ true = sym e ∙ yes_it in cc

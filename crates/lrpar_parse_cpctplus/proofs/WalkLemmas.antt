@@ -7,7 +7,7 @@ use Rattle.lrpar_parse_repair.specs.Asked.{Asked, IsStop}
 use Rattle.lrpar_parse_repair.proofs.ReplayLemmas.{replay_one_way}
 use Rattle.lrpar_table_stacks.specs.Run.{token_at}
 use Rattle.lrpar_table_stacks.specs.Stack.{IsStack}
-use Rattle.lrpar_parse_lexemes.specs.Known.{token_by}
+use Rattle.lrpar_parse_lexemes.specs.Views.{token_by}
 use Rattle.lrpar_parse_repair.specs.PlainSteps.{plain_step, plain_steps}
 use Rattle.lrpar_parse_repair.specs.declared.repair_step.RepairStep.{RepairStep}
 use Rattle.lrpar_parse_repair.specs.Sequences.{PlainStep, PlainInsert, PlainDelete, PlainShift, CanGoOn, Replays, StepsTo}
@@ -99,7 +99,7 @@ module _ {S X : Type 0} (index : S → ℕ) (parts : X → LexemeParts S) (searc
     cheap = omega arith;
     lies_over = lies;
     stack = subst (λ (l : List ℕ). IsStack search.point.now.checked.table l) (sym same) stop.stack;
-    stands = λ f. ([], (refl, same, refl));
+    represents = λ f. ([], (refl, same, refl));
   }
 
   -- where the stack is fresh, the path leads to it
@@ -107,7 +107,7 @@ module _ {S X : Type 0} (index : S → ℕ) (parts : X → LexemeParts S) (searc
       → IsWalked index parts search path base states fresh place cost → fresh ≡ true → path ≡ p
       → LeadsTo (token_by index parts) search.point.now p states place
   fresh_leads {path} {base} {states} {fresh} {place} p w is same =
-      subst (λ (l : List PlainStep). LeadsTo (token_by index parts) search.point.now l states place) same (w.stands is)
+      subst (λ (l : List PlainStep). LeadsTo (token_by index parts) search.point.now l states place) same (w.represents is)
 
   -- a step was taken
   pub walk_pushed : IsStop (token_by index parts) search.point.now → (p : List PlainStep) (s : PlainStep) (base states more after : List ℕ) (place j cost sum : ℕ) (next : Option ℕ)
@@ -118,7 +118,7 @@ module _ {S X : Type 0} (index : S → ℕ) (parts : X → LexemeParts S) (searc
       let token = token_by index parts in
       let at = search.point.now in
       let step = subst (λ (o : Option ℕ). IsTakenBy index parts search states place s after o) is taken in
-      let leads = w.stands refl in
+      let leads = w.represents refl in
       let way = replays_push token at.checked.grammar at.checked.table at.lexemes at.stack at.place p leads.0 states place s step.0 after j leads.1 step.1 in
       record {
         begins = child_begins token at p s stop.shifts w.begins w.taken tried.within tried.follows;
@@ -131,7 +131,7 @@ module _ {S X : Type 0} (index : S → ℕ) (parts : X → LexemeParts S) (searc
         cheap = omega (arith, tried.cheap, length-append p (s ∷ []));
         lies_over = same ∙ w.lies_over;
         stack = stack;
-        stands = λ f. (leads.0 ++ step.0, way);
+        represents = λ f. (leads.0 ++ step.0, way);
       }
 
   -- the stack is another one now, that needn't be the one behind the path
@@ -147,7 +147,7 @@ module _ {S X : Type 0} (index : S → ℕ) (parts : X → LexemeParts S) (searc
     cheap = w.cheap;
     lies_over = same ∙ w.lies_over;
     stack = stack;
-    stands = λ f. absurd (let e : false ≡ true = f in cc);
+    represents = λ f. absurd (let e : false ≡ true = f in cc);
   }
 
   -- the path was taken again
@@ -164,7 +164,7 @@ module _ {S X : Type 0} (index : S → ℕ) (parts : X → LexemeParts S) (searc
     cheap = w.cheap;
     lies_over = same ∙ w.lies_over;
     stack = stack;
-    stands = λ f. subst (λ (m : ℕ). LeadsTo (token_by index parts) search.point.now p after m) (w.placed after j leads) leads;
+    represents = λ f. subst (λ (m : ℕ). LeadsTo (token_by index parts) search.point.now p after m) (w.placed after j leads) leads;
   }
 
   -- the place in front of the last step, and what that costs
@@ -204,9 +204,9 @@ module _ {S X : Type 0} (index : S → ℕ) (parts : X → LexemeParts S) (searc
         cheap = omega (arith, rest, cost_most token at search.terms.now.costs each at.place p);
         lies_over = w.lies_over;
         stack = w.stack;
-        stands = λ f.
+        represents = λ f.
             let deleted = stays f in
-            let leads = subst (λ (y : PlainStep). LeadsTo token at (p ++ y ∷ []) states place) deleted.1 (w.stands deleted.0) in
+            let leads = subst (λ (y : PlainStep). LeadsTo token at (p ++ y ∷ []) states place) deleted.1 (w.represents deleted.0) in
             let back : place - 1 ≡ front = sym (is ∙ ap (λ (y : PlainStep). place_in_front place y) deleted.1) in
             subst (λ (m : ℕ). LeadsTo token at p states m) back (delete_back token at p states place leads);
       }
@@ -275,18 +275,18 @@ tried_by index parts search p s base states fresh place cost one wide w is may c
 -- steps that are told not to end in a Shift don't
 pub last_not : {S : Type 0} (index : S → ℕ) {lent : List (RepairStep S)} {told : Bool} (steps : List (RepairStep S)) → lent ≡ steps → told ≡ false
     → IsTrue told ↔ EndsIn (plain_steps index lent) (PlainShift ∷ []) → ¬ (EndsIn (plain_steps index steps) (PlainShift ∷ []))
-last_not {S} index steps same unsaid tells ends =
+last_not {S} index steps same unsaid evaluates ends =
     let there = subst (λ (l : List (RepairStep S)). EndsIn (plain_steps index l) (PlainShift ∷ [])) (sym same) ends in
-    let e : false ≡ true = sym unsaid ∙ tells.1 there in cc
+    let e : false ≡ true = sym unsaid ∙ evaluates.1 there in cc
 
 -- whether a path is a repair, from whether a parse can go on behind it
 pub repair_told : {X : Type 0} (token : X → ℕ) (at : Asked X) (p : List PlainStep) (states : List ℕ) (place : ℕ) (Told : Type 0)
     → IsFormed (end_token at.checked.grammar) p → ¬ (EndsIn p (PlainShift ∷ [])) → LeadsTo token at p states place
     → Told ↔ CanGoOn token at.checked.grammar at.checked.table at.lexemes at.shifts states place → Told ↔ IsRepair token at p
-repair_told token at p states place Told formed last leads tells = (
+repair_told token at p states place Told formed last leads evaluates = (
   (λ told. record {
     printed = record { formed = formed; last = last };
-    works = leads_works token at.checked.grammar at.checked.table at.lexemes at.shifts at.stack at.place p leads.0 states place leads.1 (tells.0 told);
+    works = leads_works token at.checked.grammar at.checked.table at.lexemes at.shifts at.stack at.place p leads.0 states place leads.1 (evaluates.0 told);
   }),
-  (λ r. tells.1 (works_on token at.checked.grammar at.checked.table at.lexemes at.shifts at.stack at.place p leads.0 states place leads.1 r.works)),
+  (λ r. evaluates.1 (works_on token at.checked.grammar at.checked.table at.lexemes at.shifts at.stack at.place p leads.0 states place leads.1 r.works)),
 )

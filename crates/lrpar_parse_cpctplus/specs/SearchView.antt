@@ -5,7 +5,7 @@ use Rattle.std.specs.List.{All}
 use Rattle.std.specs.List.Sorted.{IsPermutation, IsSortedBy, IsStableBy}
 use Rattle.lrpar_parse_lexemes.specs.Lexemes.{LexemeParts}
 use Rattle.lrpar_table_stacks.specs.Stack.{IsStack}
-use Rattle.lrpar_parse_lexemes.specs.Known.{token_by}
+use Rattle.lrpar_parse_lexemes.specs.Views.{token_by}
 use Rattle.lrpar_parse_repair.specs.PlainSteps.{plain_steps}
 use Rattle.lrpar_parse_repair.specs.Sequences.{PlainStep, CanGoOn, IsStepTaken}
 use Rattle.lrpar_parse_cpctplus.specs.Cheapest.{CanBeTaken, IsBeginning, LeadsTo, cost_of}
@@ -53,7 +53,7 @@ module _ {S X : Type 0} (index : S → ℕ) (parts : X → LexemeParts S) (searc
     pub cheap : cost ≤ 255 * length path
     pub lies_over : base ≡ search.point.now.stack
     pub stack : IsStack search.point.now.checked.table states
-    pub stands : fresh ≡ true → LeadsTo (token_by index parts) search.point.now path states place
+    pub represents : fresh ≡ true → LeadsTo (token_by index parts) search.point.now path states place
 
 -- the sequences of the repairs that are found
 abbrev pub sequences_found : {S : Type 0} → (S → ℕ) → List (Found S) → List (List PlainStep)
