@@ -256,8 +256,8 @@ impl<
         self.checked.grm()
     }
 
-    /// Parses the lexemes that the lexer returns, and makes their parse tree. The lexer is called once. The errors and each `Err` are as for
-    /// `parse_map`. Each rule with symbols takes memory once, for the list of its trees.
+    /// Parses the lexemes that the lexer returns, and makes their parse tree. The lexer is called once. The errors and each `Err` are as
+    /// for `parse_map`. Each rule with symbols takes memory once, for the list of its trees.
     pub fn parse_generictree<'input, L: NonStreamingLexer<'input, LexerTypesT>>(
         &self,
         alloc: Global,

@@ -19,7 +19,8 @@ use std::io::{self, ErrorKind, Write};
 
 /// Writes the tree as a graph in the language of Graphviz (<https://graphviz.org/doc/info/lang.html>). Each node has a line, before
 /// the nodes below it; and each node but the root then has a line for the edge from the node above. A rule is labelled with its name; a
-/// lexeme is a box, labelled with its part of the input, after its token's name if that is another text. Nodes are numbered from 0 in the order of the lines.
+/// lexeme is a box, labelled with its part of the input, after its token's name if that is another text. Nodes are numbered from 0 in
+/// the order of the lines.
 ///
 /// Fails as `write_nested` does, and as out of memory if `usize` has no number for a node. Takes the time and the memory that
 /// `write_nested` takes.
