@@ -126,12 +126,12 @@ module _ (g : Grammar) (table : Table) (cap t : ℕ) (old mid : Counted) (by : I
   pub settled_accepts : {S : Type 0} (index : S → ℕ) (s : ℕ) (action : Action S) (accepts : Bool) → t ≡ end_token g → top_of (overlaid mid.stack) ≡ Some s
       → plain_action index action ≡ action_of table s t → IsTrue accepts ↔ (plain_action index action ≡ Accepts)
       → IsTrue accepts ↔ AcceptsAtEnd g table (overlaid old.stack)
-  settled_accepts index s action accepts is top read evaluates =
+  settled_accepts index s action accepts is top read exact =
       let at_end = subst (λ (u : ℕ). IsSettledOver g table cap u old.stack by.count mid.stack) is by.settled in
       let both = accepts_by_top g table cap old.stack by.count mid.stack at_end in
       let same : top_action table (end_token g) (overlaid mid.stack) ≡ plain_action index action =
       subst (λ (u : ℕ). top_action table u (overlaid mid.stack) ≡ plain_action index action) is (action_by_top table t (overlaid mid.stack) s top ∙ sym read) in
-      ((λ yes_it. both.0 (same ∙ evaluates.0 yes_it)), (λ ends. evaluates.1 (sym same ∙ both.1 ends)))
+      ((λ yes_it. both.0 (same ∙ exact.0 yes_it)), (λ ends. exact.1 (sym same ∙ both.1 ends)))
 
 -- what holds if all went well
 pub on_ok : {T E P : Type 0} {Q : T → Type 0} (r : Result T E) → ((x : T) → Q x → P) → IfOk r Q → OnOk r P
