@@ -87,7 +87,7 @@ impl NewlineCache {
         Some((line, column))
     }
 
-    /// The byte at which the line of a span's start starts, and the byte at which the line of its end ends. The span must end
+    /// The start of the line that has the span's start, and the end of the line that has its end, in bytes. The span must end
     /// within the text. Takes time logarithmic in the number of lines.
     pub fn span_line_bytes(&self, span: Span) -> (usize, usize)
         requires { span.end ≤ (self.now).len }

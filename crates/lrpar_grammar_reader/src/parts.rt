@@ -81,7 +81,7 @@ pub enum GrammarFault {
     /// There are more rules, productions or tokens, with the added ones, than the storage type can number.
     #[error("storage type too small")]
     StorageTooSmall,
-    /// The text isn't a grammar text. At this byte is the first word that can't be read or may not come there, a
+    /// The text isn't a grammar text. At this byte is the first word that can't be read or isn't allowed there, a
     /// quote or comment that isn't closed, or the end of the text, if it comes too early.
     #[error("syntax at byte {0}")]
     Syntax(usize),

@@ -56,7 +56,7 @@ record AheadWord (P : PlacedWord → Type 0) (Q : List PlacedWord → Type 0) (w
   pub then : Q rest
   pub words : ws ≡ word ∷ rest
 
--- what the words must be if this may come next
+-- what the words must be if this is allowed next
 abbrev Ahead : Expected → List PlacedWord → Type 0
 Ahead Declaration ws = AheadText ws
 Ahead StartName ws = AheadWord (λ w. w.kind ≡ Name) AheadText ws
@@ -120,7 +120,7 @@ middle_front w ws is a = record {
   words = ap (λ s. w ∷ s) a.words;
 }
 
--- a sign is read, if a declaration may come next
+-- a sign is read, if a declaration is allowed next
 declaration_front : (w : PlacedWord) (ws : List PlacedWord) (kind : WordKind) (step : Role × Expected) → w.kind ≡ kind → declaration kind ≡ Some step → Ahead step.1 ws → AheadText (w ∷ ws)
 declaration_front w ws StartSign step is follows ahead = start_front w ws is (ahead_next (Sign, StartName) step ws follows ahead)
 declaration_front w ws TokenSign step is follows ahead = token_front w ws is (ahead_next (Sign, FirstToken) step ws follows ahead)
@@ -165,7 +165,7 @@ more_front w ws is a = record {
 no_more : (ws : List PlacedWord) → AheadText ws → AheadTokens ws
 no_more ws a = record { more = []; are = All-nil IsTokenWord; text = a.text; is = a.is; words = a.words }
 
--- a word is read, if one more token may come next
+-- a word is read, if one more token is allowed next
 tokens_front : (w : PlacedWord) (ws : List PlacedWord) (kind : WordKind) (step : Role × Expected) → w.kind ≡ kind → more_tokens kind ≡ Some step → Ahead step.1 ws → AheadTokens (w ∷ ws)
 tokens_front w ws Name step is follows ahead = more_front w ws (inl is) (ahead_next (Declared, MoreTokens) step ws follows ahead)
 tokens_front w ws Quoted step is follows ahead = more_front w ws (inr is) (ahead_next (Declared, MoreTokens) step ws follows ahead)
@@ -191,7 +191,7 @@ rule_front w ws is a =
 close_front : (w : PlacedWord) (ws : List PlacedWord) → w.kind ≡ RulesSign → ws ≡ [] → AheadRules (w ∷ ws)
 close_front w ws is end = record { rules = []; close = Some w; are = All-nil IsRule; closes = is; words = ap (λ s. w ∷ s) end }
 
--- a word is read, if a rule may come next
+-- a word is read, if a rule is allowed next
 rules_front : (w : PlacedWord) (ws : List PlacedWord) (kind : WordKind) (step : Role × Expected) → w.kind ≡ kind → next_rule kind ≡ Some step → Ahead step.1 ws → AheadRules (w ∷ ws)
 rules_front w ws RulesSign step is follows ahead = close_front w ws is (ahead_next (Sign, TextEnd) step ws follows ahead)
 rules_front w ws Name step is follows ahead = rule_front w ws is (ahead_next (Defined, RuleColon) step ws follows ahead)

@@ -308,7 +308,7 @@ stuck_piece e [] some none = absurd (omega arith)
 stuck_piece e (c ∷ s) some none =
     subst (λ (r : Option Piece). MatchOption r (Unit {0}) (λ x. MatchOption x.word ⊥ (λ kind. IsNone (after e kind)))) (sym none) tt
 
--- a word may not come there
+-- a word isn't allowed there
 stuck_word : (e : Expected) (s : List ℕ) (x : Piece) (kind : WordKind) → piece_at s ≡ Some x → x.word ≡ Some kind → after e kind ≡ None → IsStuck e s
 stuck_word e [] x kind is word none = absurd (cc)
 stuck_word e (c ∷ s) x kind is word none =
@@ -328,7 +328,7 @@ refused_piece text place expected o within none to = record {
   stuck = stuck_at text place expected o to (stuck_piece expected (drop place text) (omega (arith, length-drop place text)) none);
 }
 
--- if a word may not come at its place, the text has no outline
+-- if a word isn't allowed at its place, the text has no outline
 unread_word : (text : List ℕ) (place : ℕ) (expected : Expected) (o : TextOutline) (x : Piece) (kind : WordKind)
     → piece_at (drop place text) ≡ Some x → x.word ≡ Some kind → after expected kind ≡ None
     → OutlinesTo text place expected o → (p : TextOutline) → IsOutlineOf text p → ⊥

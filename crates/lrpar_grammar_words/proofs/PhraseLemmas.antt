@@ -18,7 +18,7 @@ use Rattle.lrpar_grammar_words.specs.Outline.{HaveOutline, TextAlternative, Text
 use Rattle.lrpar_grammar_words.specs.Phrases.{AreOfGrammarText, EppIs, GrammarText, IsAlternative, IsDeclaration, IsRule, IsTokenWord, StartIs, TextDeclaration, TextRule, TokensAre, alternative_words, declaration_words, declared_of, epp_of, grammar_outline, grammar_words, printed_of, rule_words, start_of}
 use Rattle.lrpar_grammar_words.proofs.OutlineLemmas.{after_words_append, ended_is}
 
--- from what may come next and an outline, the words lead to what may follow them and their outline
+-- from what is allowed next and an outline, the words lead to what is allowed after them and their outline
 abbrev Leads : Expected → TextOutline → List PlacedWord → Expected → TextOutline → Type 0
 Leads e o ws f p = after_words e o ws ≡ Some (f, p)
 
@@ -69,17 +69,17 @@ symbols_lead (w ∷ ws) o are =
     (symbols_lead ws (with_word o Symbol w) (All-tail IsTokenWord w ws are)
     ∙ ap (λ (s : List PlacedWord). Some (NextSymbol, record o { symbols = s })) (append_assoc o.symbols (w ∷ []) ws))
 
--- a declaration may come next: at the beginning, after a declaration, and after tokens
+-- a declaration is allowed next: at the beginning, after a declaration, and after tokens
 abbrev IsOpen : Expected → Type 0
 IsOpen e = (e ≡ Declaration) ⊎ (e ≡ MoreTokens)
 
--- what may come next if one more token may, other than a token
+-- what is allowed next if one more token is, other than a token
 more_is : (kind : WordKind) (step : Role × Expected) → declaration kind ≡ Some step → more_tokens kind ≡ Some step
 more_is Name step is = absurd (cc)
 more_is Quoted step is = absurd (cc)
 more_is _ step is = is
 
--- a sign may come wherever a declaration may
+-- a sign is allowed wherever a declaration is
 sign_follows : (e : Expected) (w : PlacedWord) (kind : WordKind) (step : Role × Expected) → IsOpen e → w.kind ≡ kind → declaration kind ≡ Some step
     → after e w.kind ≡ Some step
 unfolding after
@@ -278,7 +278,7 @@ read_is_listed t =
     ∙ ap (λ (s : List TextAlternative). s ++ flat_map (λ (r : TextRule). r.firsts ++ r.last ∷ []) rs) (kept (λ o. o.alternatives) with_declaration keeps_alternatives ds no_words))
     (no_symbols_left rs p (kept (λ o. o.symbols) with_declaration keeps_symbols ds no_words))
 
--- what may follow the rules is read
+-- what is allowed after the rules is read
 close_leads : (o : TextOutline) (close : Option PlacedWord) → IfSome close (λ w. w.kind ≡ RulesSign)
     → (f : Expected) × (may_end f ≡ true) × Leads NextRule o (option_to_list close) f o
 unfolding after with_word

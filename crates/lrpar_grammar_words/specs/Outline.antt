@@ -66,7 +66,7 @@ with_word o Defined w = record o { defined = o.defined ++ w ∷ [] }
 with_word o Symbol w = record o { symbols = o.symbols ++ w ∷ [] }
 with_word o AlternativeEnd w = record o { alternatives = o.alternatives ++ ended o w; symbols = [] }
 
--- what may follow the words, and the outline with them; `None` if one of them may not come at its place
+-- what is allowed after the words, and the outline with them; `None` if one of them isn't allowed at its place
 abbrev pub after_words : Expected → TextOutline → List PlacedWord → Option (Expected × TextOutline)
 after_words expected o [] = Some (expected, o)
 after_words expected o (w ∷ ws) = option_and_then (λ step. after_words step.1 (with_word o step.0 w) ws) (after expected w.kind)
@@ -100,7 +100,7 @@ abbrev pub HasOrderedSymbols : TextOutline → Type 0
 HasOrderedSymbols o = All (λ x. AreWordsInOrder x.symbols) o.alternatives
 
 -- Reading is stuck at the start of s: s is empty and the text may not end, or s begins with no word or blanks, or it
--- begins with a word that may not come here.
+-- begins with a word that isn't allowed here.
 abbrev pub IsStuck : Expected → List ℕ → Type 0
 IsStuck expected [] = may_end expected ≡ false
 IsStuck expected (c ∷ s) = MatchOption (piece_at (c ∷ s)) (Unit {0}) (λ x. MatchOption x.word ⊥ (λ kind. IsNone (after expected kind)))

@@ -53,7 +53,7 @@ abbrev pub colon : WordKind → Option (Role × Expected)
 colon Colon = Some (Sign, NextSymbol)
 colon _ = None
 
--- the role of a word of that kind, and what may follow it; `None` if no such word may come here
+-- the role of a word of that kind, and what is allowed after it; `None` if no such word is allowed here
 unfoldable pub after : Expected → WordKind → Option (Role × Expected)
 after Declaration kind = declaration kind
 after StartName kind = named kind Start Declaration

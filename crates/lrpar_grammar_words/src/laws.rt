@@ -21,7 +21,7 @@ pub fn text_has_one_outline()
     ensures { OutlineIsOne }
 {}
 
-/// A grammar text is stuck at one place at most. There it can't be read on: what comes next may not follow the words so far.
+/// Reading a grammar text is stuck at one place at most: where what comes next isn't allowed after the words so far.
 pub fn text_is_stuck_at_one_place()
     ensures { StuckIsOne }
 {}

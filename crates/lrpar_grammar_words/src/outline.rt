@@ -62,7 +62,7 @@ impl<'a> Drop for Outline<'a> {
 /// Why a text has no outline.
 #[derive(Drop)]
 pub enum OutlineFault {
-    /// The text isn't a grammar text. At this byte is the first word that can't be read or may not come there, a
+    /// The text isn't a grammar text. At this byte is the first word that can't be read or isn't allowed there, a
     /// quote or comment that isn't closed, or the end of the text, if it comes too early.
     Syntax(usize),
     /// An allocation failed.

@@ -4,7 +4,7 @@ ghost use Rattle.lrpar_grammar_words.specs.Shape.{after, colon, declaration, may
 
 use crate::words::WordKind;
 
-/// What may come next in a grammar text.
+/// What is allowed next in a grammar text.
 #[derive(Clone, Copy)]
 pub enum Expected {
     /// A declaration, or the first `%%`.
@@ -51,7 +51,7 @@ pub enum Role {
 }
 
 impl Expected {
-    // The role of a word of that kind here, and what may follow it: `None` if no such word may come here.
+    // The role of a word of that kind here, and what is allowed after it: `None` if no such word is allowed here.
     #[tactic(auto, unfolding(crate::specs::Shape::after))]
     pub(crate) fn after(self, kind: WordKind) -> Option<(Role, Expected)>
         ensures { result ≡ after self kind }

@@ -58,11 +58,11 @@ pub record IsFirstFault (grammar : Grammar) (lines : List (List ℕ)) (number : 
   pub rules : List LexRule
   pub before : AreRulesOf grammar (take (number - 1) lines) rules
 
--- the line and the reason of the fault are such, if it is the fault of a line
+-- `IsSuch` holds for the line and the reason of the fault, unless the fault is `Memory`
 abbrev pub NamesLine : (ℕ → LineFault → Type 0) → RulesFault → Type 0
 NamesLine IsSuch (Line number why) = IsSuch number why
 NamesLine IsSuch Memory = ⊤
 
--- the fault has the first line that gives no rule, blank lines aside, and the reason why it gives none
+-- the fault is that of the first line, blank ones aside, that gives no rule, with the reason; or it is `Memory`
 abbrev pub IsFaultOf : Grammar → List ℕ → RulesFault → Type 0
 IsFaultOf grammar text fault = NamesLine (IsFirstFault grammar (text_lines text)) fault
