@@ -1,6 +1,6 @@
 //! The shape of a grammar text: declarations, `%%`, rules, an optional second `%%`, the end.
 ghost use Rattle.std.specs.Prelude.{◌≡◌};
-ghost use Rattle.lrpar_grammar_words.specs.Shape.{after, colon, declaration, may_end, more_tokens, named, next_rule, quoted, symbol, token};
+ghost use Rattle.lrpar_grammar_words.specs.WordOrder.{after, colon, declaration, may_end, more_tokens, named, next_rule, quoted, symbol, token};
 
 use crate::words::WordKind;
 
