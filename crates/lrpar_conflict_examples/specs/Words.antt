@@ -35,13 +35,13 @@ abbrev pub symbol_text : Grammar → GrammarSymbol → List ℕ
 symbol_text g (Nonterminal r) = 32 ∷ rule_name g r
 symbol_text g (Terminal t) = codes " '" ++ shown_name g t ++ codes "'"
 
--- the node of a production is made: `make S: 'i' S`
+-- the node of a production is made: `reduce S: 'i' S`
 abbrev pub make_text : Grammar → ℕ → List ℕ
-make_text g p = codes "make " ++ rule_name g (rule_of g p) ++ codes ":" ++ flat_map (symbol_text g) (symbols_of g p)
+make_text g p = codes "reduce " ++ rule_name g (rule_of g p) ++ codes ":" ++ flat_map (symbol_text g) (symbols_of g p)
 
--- what a move does: that, or `take 'e'`
+-- what a move does: that, or `shift 'e'`
 abbrev pub move_text : Grammar → MoveOf → List ℕ
-move_text g (Takes t) = codes "take '" ++ shown_name g t ++ codes "'"
+move_text g (Takes t) = codes "shift '" ++ shown_name g t ++ codes "'"
 move_text g (Makes p) = make_text g p
 
 -- the line of a text, with a dot between what stands in front of the conflict and the rest

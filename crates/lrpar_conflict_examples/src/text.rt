@@ -22,11 +22,11 @@ use std::alloc::{AllocError, Global};
 /// end token by `$`.
 ///
 /// ```text
-/// 'e' in state 8: one text, two readings
+/// 'e' in state 8: one text, two derivations
 ///   i i x . e x
-///   make S: 'i' S
+///   reduce S: 'i' S
 ///     S[ i S[ i S[ x ] ] e S[ x ] ]
-///   take 'e'
+///   shift 'e'
 ///     S[ i S[ i S[ x ] e S[ x ] ] ]
 /// ```
 ///
@@ -100,7 +100,7 @@ fn push_count<StorageT: StorageIndex>(
         let bound = example.bound();
         return push_bound(out, bound);
     }
-    out.push_str("one text, two readings")
+    out.push_str("one text, two derivations")
 }
 
 // Adds that the readings have two texts, and how far one for both was looked for.

@@ -66,7 +66,7 @@ pub(crate) fn push_move<StorageT: StorageIndex>(
     match step {
         Move::Take(token) => {
             let name = shown_name(grm, token);
-            write!(out, "take '{name}'")
+            write!(out, "shift '{name}'")
         }
         Move::Make(prod) => push_make(out, grm, prod),
     }
@@ -83,7 +83,7 @@ fn push_make<StorageT: StorageIndex>(
 {
     let _start = grm.start_prod();
     let name = grm.rule_name_str(grm.prod_to_rule(prod));
-    write!(out, "make {name}:")?;
+    write!(out, "reduce {name}:")?;
     push_symbols(out, grm, grm.prod(prod))
 }
 

@@ -97,7 +97,7 @@ fn push_shown(
     }
 }
 
-// How many conflicts, examples and texts of them there are, and how many of these have one text with two readings.
+// How many conflicts, counterexamples and texts of them there are, and how many of these have one text with two derivations.
 fn push_count(
     told: &mut Told,
     table: &StateTable<u16>,
@@ -111,6 +111,9 @@ fn push_count(
     told.number("count ", conflicts);
     told.number(" conflicts, ", examples.len());
     told.number(" examples, ", text.matches("\n\n").count());
-    told.number(" texts, ", text.matches("one text, two readings\n").count());
+    told.number(
+        " texts, ",
+        text.matches("one text, two derivations\n").count(),
+    );
     told.text(" ambiguous\n");
 }

@@ -24,8 +24,8 @@ pub(crate) fn push_uses(
         );
     }
     match shortest.unproductive(alloc, grm)? {
-        Some(rule) => told.line("barren ", &rule_name(grm, rule)),
-        None => told.text("barren none\n"),
+        Some(rule) => told.line("unproductive ", &rule_name(grm, rule)),
+        None => told.text("unproductive none\n"),
     }
     Ok(())
 }
