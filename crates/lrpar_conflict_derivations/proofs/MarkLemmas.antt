@@ -7,7 +7,7 @@ use Rattle.std.proofs.lemmas.List.Sums.{count_by-le-length, sum_by-set}
 use Rattle.std.proofs.lemmas.List.Elements.{All-append, All-cons, All-nil, All-weaker}
 use Rattle.lrpar_grammar.specs.Grammar.{Grammar}
 use Rattle.lrpar_grammar.specs.Tokens.{has, missing}
-use Rattle.lrpar_conflict_derivations.specs.Links.{AreMarks, AreNoted, ArePut, HasLink, LinkOf, link_at}
+use Rattle.lrpar_conflict_derivations.specs.ClosureLinks.{AreMarks, AreNoted, ArePut, HasLink, LinkOf, link_at}
 
 -- one mark more is set
 pub missing-set : (bits : List Bool) (i : ℕ) → i < length bits → has bits i ≡ false → missing (set bits i true) + 1 ≡ missing bits

@@ -5,7 +5,7 @@ use Rattle.lrpar_grammar.specs.Grammar.{Grammar, GrammarSymbol, IsWellFormed, No
 use Rattle.lrpar_table_first.specs.FirstRows.{AreFirsts, IsSymbolBelow, begins, dummy_lookahead}
 use Rattle.lrpar_table_first.proofs.BeforeLemmas.{begins_is, symbols_below}
 use Rattle.lrpar_table_items.proofs.SpreadLemmas.{same_rest, same_rule}
-use Rattle.lrpar_conflict_derivations.specs.Links.{AreNoted, HasLink, IsStep, LinkOf, PassesOn}
+use Rattle.lrpar_conflict_derivations.specs.ClosureLinks.{AreNoted, HasLink, IsStep, LinkOf, PassesOn}
 
 -- a link that was made so is a step
 pub step_by : (g : Grammar) (token q j r : ℕ) (w : List GrammarSymbol) (asked further : Bool) (above : ℕ) (x : LinkOf)

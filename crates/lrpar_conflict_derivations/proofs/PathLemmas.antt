@@ -13,7 +13,7 @@ use Rattle.lrpar_table_build.proofs.DecidedLemmas.{Accepting, Failing, IsActing,
 use Rattle.lrpar_table_build.proofs.SetLemmas.{next_more}
 use Rattle.lrpar_table_sentences.specs.AccessStrings.{IsPathTo, StepOf, StepsLead, step_of, steps_of, symbols_in}
 use Rattle.lrpar_table_sentences.specs.declared.transitions.Step.{Step}
-use Rattle.lrpar_conflict_derivations.specs.Climbing.{state_before}
+use Rattle.lrpar_conflict_derivations.specs.Completion.{state_before}
 
 module _ (g : Grammar) (graph : Graph) (table : Table) (wanted : IsCanonicalTable g graph table) where
   -- what the table does is what the set wants, in range, and nothing out of range

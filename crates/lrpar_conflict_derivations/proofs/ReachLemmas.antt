@@ -13,7 +13,7 @@ use Rattle.lrpar_table_items.specs.ItemSets.{IsReachedBy}
 use Rattle.lrpar_table_sentences.specs.Reachable.{EachReachableHasTree, IsReachableRule, IsReachableSymbol}
 use Rattle.lrpar_table_sentences.specs.Texts.{AreTreesOf, BeginWith, HaveTrees}
 use Rattle.lrpar_table_sentences.proofs.AfterLemmas.{after_reached, drop_at_get, have_trees, item_reached, prod_reached, rest_reached}
-use Rattle.lrpar_conflict_derivations.specs.Links.{AreLinks, LinkOf, link_at}
+use Rattle.lrpar_conflict_derivations.specs.ClosureLinks.{AreLinks, LinkOf, link_at}
 
 module _ (g : Grammar) (well : IsWellFormed g) where
   -- the production of each link is one of a rule that is reached

@@ -9,7 +9,7 @@ use Rattle.lrpar_grammar.proofs.ForestLemmas.{joined, joined_fits, splits}
 use Rattle.lrpar_table_sentences.specs.Moves.{Makes, MoveOf, Takes, forest_moves, moves_of}
 use Rattle.lrpar_table_sentences.specs.Texts.{AreTreesOf}
 use Rattle.lrpar_conflict_derivations.specs.Replay.{AreOfTree, Replays}
-use Rattle.lrpar_conflict_derivations.proofs.ClimbLemmas.{joined_moves, one_tree}
+use Rattle.lrpar_conflict_derivations.proofs.CompletionLemmas.{joined_moves, one_tree}
 
 -- the moves so far made trees of the symbols
 pub record HasMade (g : Grammar) (symbols : List GrammarSymbol) (moves : List MoveOf) : Type 0 where

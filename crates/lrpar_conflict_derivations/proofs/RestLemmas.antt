@@ -11,10 +11,10 @@ use Rattle.lrpar_table_build.proofs.ReachedLemmas.{head_after, known_by_symbol}
 use Rattle.lrpar_table_sentences.specs.Moves.{MoveOf, forest_moves}
 use Rattle.lrpar_table_sentences.specs.Reachable.{EachReachableHasTree, IsReachableRule, IsReachableSymbol}
 use Rattle.lrpar_table_sentences.specs.Texts.{AreShortestTrees, AreTreesOf, BeginWith, CanBeginWith, HaveTrees}
-use Rattle.lrpar_conflict_derivations.specs.Climbing.{HasRest, IsNextIf}
-use Rattle.lrpar_conflict_derivations.specs.Links.{IsStep, LinkOf, PassesOn}
+use Rattle.lrpar_conflict_derivations.specs.Completion.{HasRest, IsNextIf}
+use Rattle.lrpar_conflict_derivations.specs.ClosureLinks.{IsStep, LinkOf, PassesOn}
 use Rattle.lrpar_table_sentences.proofs.AfterLemmas.{drop_at_get, have_trees, rest_reached}
-use Rattle.lrpar_conflict_derivations.proofs.ClimbLemmas.{any_ahead, begin_ahead, through_ahead}
+use Rattle.lrpar_conflict_derivations.proofs.CompletionLemmas.{any_ahead, begin_ahead, through_ahead}
 use Rattle.lrpar_conflict_derivations.proofs.LinkLemmas.{AreBelow-drop}
 use Rattle.lrpar_conflict_derivations.proofs.ReachLemmas.{begins_with, derives_nothing}
 

@@ -10,9 +10,9 @@ use Rattle.lrpar_table_sentences.specs.Moves.{MoveOf, forest_moves}
 use Rattle.lrpar_table_sentences.specs.Reachable.{EachReachableHasTree, IsFirstUnproductive}
 use Rattle.lrpar_table_sentences.specs.Texts.{AreTreesOf}
 use Rattle.lrpar_table_sentences.specs.AccessStrings.{AreAccessStrings, IsPathTo, StepOf, AccessOf, symbols_in}
-use Rattle.lrpar_conflict_derivations.specs.Climbing.{IsWay}
+use Rattle.lrpar_conflict_derivations.specs.Completion.{IsAccessPath}
 use Rattle.lrpar_conflict_derivations.specs.Derivation.{IsDerivation}
-use Rattle.lrpar_conflict_derivations.specs.Texts.{takes_in}
+use Rattle.lrpar_conflict_derivations.specs.Texts.{tokens_in}
 use Rattle.lrpar_conflict_derivations.specs.declared.fault.ExampleFault.{ExampleFault}
 use Rattle.lrpar_conflict_derivations.specs.declared.fault.ExampleFault.TheVariants.{Unproductive, Memory}
 
@@ -74,7 +74,7 @@ IsExampleFault index g Memory = Unit {0}
 
 -- the steps of a way to state s, by which each state on it is reached, and moves of trees of its symbols
 pub record IsFront (g : Grammar) (graph : Graph) (s : ℕ) (steps : List StepOf) (moves : List MoveOf) : Type 0 where
-  pub way : IsWay g graph steps s
+  pub access_path : IsAccessPath g graph steps s
   pub trees : Forest ℕ
   pub text : IsTextTo g graph s (forest_leaves trees) (symbols_in steps) trees
   pub moves_are : moves ≡ forest_moves trees
@@ -82,4 +82,4 @@ pub record IsFront (g : Grammar) (graph : Graph) (s : ℕ) (steps : List StepOf)
 -- the same, with a text that is a shortest one
 pub record IsShortestFront (g : Grammar) (graph : Graph) (s : ℕ) (steps : List StepOf) (moves : List MoveOf) : Type 0 where
   pub front : IsFront g graph s steps moves
-  pub least : IsLeastTo g graph s (takes_in moves)
+  pub least : IsLeastTo g graph s (tokens_in moves)

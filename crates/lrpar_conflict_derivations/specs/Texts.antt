@@ -4,10 +4,10 @@ use Rattle.lrpar_grammar_places.specs.declared.span.TIdx.{TIdx}
 use Rattle.lrpar_table_sentences.specs.Moves.{Makes, MoveOf, Takes}
 
 -- the tokens that moves take, in order
-abbrev pub takes_in : List MoveOf → List ℕ
-takes_in [] = []
-takes_in (Takes t ∷ moves) = t ∷ takes_in moves
-takes_in (Makes p ∷ moves) = takes_in moves
+abbrev pub tokens_in : List MoveOf → List ℕ
+tokens_in [] = []
+tokens_in (Takes t ∷ moves) = t ∷ tokens_in moves
+tokens_in (Makes p ∷ moves) = tokens_in moves
 
 -- the numbers of tokens of the code
 abbrev pub token_numbers : {S : Type 0} → (S → ℕ) → List (TIdx S) → List ℕ
@@ -18,5 +18,5 @@ abbrev pub BeginsBy : MoveOf → List MoveOf → Type 0
 BeginsBy next moves = (later : List MoveOf) × (moves ≡ next ∷ later)
 
 -- the first token that they take is this one
-abbrev pub TakesFirst : ℕ → List MoveOf → Type 0
-TakesFirst token moves = (rest : List ℕ) × (takes_in moves ≡ token ∷ rest)
+abbrev pub ShiftsFirst : ℕ → List MoveOf → Type 0
+ShiftsFirst token moves = (rest : List ℕ) × (tokens_in moves ≡ token ∷ rest)

@@ -1,7 +1,7 @@
 //! An example of a conflict.
 ghost use Rattle.std.specs.Prelude.{◌≡◌, ◌↔◌, IfOk, IsTrue, length};
 ghost use Rattle.lrpar_table_sentences.specs.Moves.{moves_in};
-ghost use Rattle.lrpar_conflict_derivations.specs.Texts.{takes_in, token_numbers};
+ghost use Rattle.lrpar_conflict_derivations.specs.Texts.{tokens_in, token_numbers};
 
 use lrpar_grammar::span::{StorageIndex, TIdx};
 use lrpar_table_sentences::moves::Move;
@@ -56,15 +56,15 @@ impl<StorageT: StorageIndex> Example<StorageT> {
         shortest: bool,
         bound: usize,
     ) -> Result<Self, AllocError>
-        ensures before { IfOk result (λ x. x.before ≡ takes_in (moves_in StorageT.index front.now)) }
+        ensures before { IfOk result (λ x. x.before ≡ tokens_in (moves_in StorageT.index front.now)) }
         ensures first { IfOk result (λ x. x.first ≡ moves_in StorageT.index first.items) }
         ensures second { IfOk result (λ x. x.second ≡ moves_in StorageT.index second.items) }
         ensures ambiguous { IfOk result (λ x. IsTrue x.ambiguous
-            ↔ (takes_in (moves_in StorageT.index first.items) ≡ takes_in (moves_in StorageT.index second.items))) }
+            ↔ (tokens_in (moves_in StorageT.index first.items) ≡ tokens_in (moves_in StorageT.index second.items))) }
         ensures shortest { IfOk result (λ x. x.shortest ≡ shortest) }
         ensures bound { IfOk result (λ x. x.bound ≡ bound) }
     {
-        let before = taken(alloc, front)?;
+        let before = tokens_of(alloc, front)?;
         let ambiguous = have_same_text(alloc, &first, &second)?;
         Ok(Example {
             before,
@@ -127,10 +127,10 @@ pub(crate) fn have_as_many<StorageT: StorageIndex>(
     other: &[Move<StorageT>],
 ) -> Result<bool, AllocError>
     ensures { IfOk result (λ same. IsTrue same
-        ↔ (length (takes_in (moves_in StorageT.index one.now)) ≡ length (takes_in (moves_in StorageT.index other.now)))) }
+        ↔ (length (tokens_in (moves_in StorageT.index one.now)) ≡ length (tokens_in (moves_in StorageT.index other.now)))) }
 {
-    let one = taken(alloc, one)?;
-    let other = taken(alloc, other)?;
+    let one = tokens_of(alloc, one)?;
+    let other = tokens_of(alloc, other)?;
     Ok(one.len() == other.len())
 }
 
@@ -141,10 +141,10 @@ fn have_same_text<StorageT: StorageIndex>(
     second: &[Move<StorageT>],
 ) -> Result<bool, AllocError>
     ensures { IfOk result (λ same. IsTrue same
-        ↔ (takes_in (moves_in StorageT.index first.now) ≡ takes_in (moves_in StorageT.index second.now))) }
+        ↔ (tokens_in (moves_in StorageT.index first.now) ≡ tokens_in (moves_in StorageT.index second.now))) }
 {
-    let one = taken(alloc, first)?;
-    let other = taken(alloc, second)?;
+    let one = tokens_of(alloc, first)?;
+    let other = tokens_of(alloc, second)?;
     Ok(are_same(&one, &other))
 }
 
@@ -164,11 +164,11 @@ fn are_same<StorageT: StorageIndex>(one: &[TIdx<StorageT>], other: &[TIdx<Storag
 }
 
 /// The tokens that the moves take, in order. An `Err` comes where memory doesn't suffice.
-pub fn taken<StorageT: StorageIndex>(
+pub fn tokens_of<StorageT: StorageIndex>(
     alloc: Global,
     moves: &[Move<StorageT>],
 ) -> Result<Vec<TIdx<StorageT>>, AllocError>
-    ensures { IfOk result (λ tokens. token_numbers StorageT.index tokens.items ≡ takes_in (moves_in StorageT.index moves.now)) }
+    ensures { IfOk result (λ tokens. token_numbers StorageT.index tokens.items ≡ tokens_in (moves_in StorageT.index moves.now)) }
 {
     let mut tokens = Vec::new(alloc);
     for step in moves {

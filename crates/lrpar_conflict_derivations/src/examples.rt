@@ -12,15 +12,15 @@ ghost use Rattle.lrpar_table_sentences.specs.Reachable.{EachReachableHasTree};
 ghost use Rattle.lrpar_table_sentences.specs.AccessStrings.{steps_of, symbols_in};
 ghost use Rattle.lrpar_conflict_derivations.specs.Example.{AreExamplesFor, IsExample, IsExampleFault, IsShortestFront};
 
-use crate::backs::Backs;
-use crate::confirm::{confirmed, symbols_of};
-use crate::derivations::{making, taking};
-pub use crate::example::{Example, taken};
+use crate::context::Context;
+use crate::derivations::{derive_by_reduce, derive_by_shift};
+pub use crate::example::{Example, tokens_of};
 pub use crate::fault::ExampleFault;
-use crate::given::Given;
-use crate::lens::Lens;
-use crate::pairs::Clash;
-use crate::unify::unify;
+use crate::min_lengths::MinLengths;
+use crate::predecessors::Predecessors;
+use crate::search::Conflict;
+use crate::unifying::find_unifying;
+use crate::validation::{symbols_of, validated};
 use lrpar_grammar::grammar::YaccGrammar;
 use lrpar_grammar::span::{PIdx, StIdx, StorageIndex, Symbol, TIdx};
 use lrpar_grammar::token_set::TokenSet;
@@ -37,8 +37,8 @@ pub struct Examples<StorageT: StorageIndex> {
     firsts: Vec<TokenSet>,
     shortest: Shortest<StorageT>,
     access: AccessStrings<StorageT>,
-    lens: Lens,
-    backs: Backs<StorageT>,
+    lengths: MinLengths,
+    predecessors: Predecessors<StorageT>,
 }
 
 // A drop of its own, so that what lets go of one elsewhere proves one call.
@@ -48,14 +48,14 @@ impl<StorageT: StorageIndex> Drop for Examples<StorageT> {
             firsts,
             shortest,
             access,
-            lens,
-            backs,
+            lengths,
+            predecessors,
         } = self;
         drop(firsts);
         drop(shortest);
         drop(access);
-        drop(lens);
-        drop(backs);
+        drop(lengths);
+        drop(predecessors);
     }
 }
 
@@ -91,16 +91,16 @@ impl<StorageT: StorageIndex> Examples<StorageT> {
         ensures refused { IfErr result (IsExampleFault StorageT.index grm.now) }
     {
         let firsts = first_sets(alloc, grm)?;
-        let shortest = fertile(alloc, grm)?;
+        let shortest = productive(alloc, grm)?;
         let access = AccessStrings::new(alloc, grm, sgraph, stable, &shortest)?;
-        let lens = Lens::new(alloc, grm, &shortest)?;
-        let backs = Backs::new(alloc, stable)?;
+        let lengths = MinLengths::new(alloc, grm, &shortest)?;
+        let predecessors = Predecessors::new(alloc, stable)?;
         Ok(Examples {
             firsts,
             shortest,
             access,
-            lens,
-            backs,
+            lengths,
+            predecessors,
         })
     }
 
@@ -195,7 +195,7 @@ impl<StorageT: StorageIndex> Examples<StorageT> {
         let _start = grm.start_prod();
         let (token, one, other, state) = *conflict;
         let (firsts, shortest) = (&self.firsts, &self.shortest);
-        let first = making(
+        let first = derive_by_reduce(
             alloc,
             grm,
             firsts,
@@ -207,7 +207,7 @@ impl<StorageT: StorageIndex> Examples<StorageT> {
             one,
             token,
         )?;
-        let second = making(
+        let second = derive_by_reduce(
             alloc,
             grm,
             firsts,
@@ -245,7 +245,7 @@ impl<StorageT: StorageIndex> Examples<StorageT> {
         let _start = grm.start_prod();
         let (token, prod, state) = *conflict;
         let (firsts, shortest) = (&self.firsts, &self.shortest);
-        let first = making(
+        let first = derive_by_reduce(
             alloc,
             grm,
             firsts,
@@ -257,7 +257,7 @@ impl<StorageT: StorageIndex> Examples<StorageT> {
             prod,
             token,
         )?;
-        let second = taking(
+        let second = derive_by_shift(
             alloc,
             grm,
             firsts,
@@ -358,24 +358,24 @@ impl<StorageT: StorageIndex> Examples<StorageT> {
             (move_of StorageT.index one) (move_of StorageT.index other))) }
         ensures bound { IfOk result (λ found. IfSome found (λ x. x.bound ≡ bound)) }
     {
-        let given = Given {
+        let context = Context {
             grm,
             graph: sgraph,
             table: stable,
             shortest: &self.shortest,
             access: &self.access,
-            lens: &self.lens,
-            backs: &self.backs,
+            lengths: &self.lengths,
+            predecessors: &self.predecessors,
         };
-        let clash = Clash {
+        let conflict = Conflict {
             state,
             token,
             one,
             other,
         };
-        match unify(alloc, &given, &clash, bound)? {
+        match find_unifying(alloc, &context, &conflict, bound)? {
             None => Ok(None),
-            Some(text) => confirmed(
+            Some(text) => validated(
                 alloc,
                 grm,
                 sgraph,
@@ -394,7 +394,7 @@ impl<StorageT: StorageIndex> Examples<StorageT> {
 }
 
 // The shortest texts of the grammar's rules, if each rule that is reached derives some text.
-fn fertile<StorageT: StorageIndex>(
+fn productive<StorageT: StorageIndex>(
     alloc: Global,
     grm: &YaccGrammar<StorageT>,
 ) -> Result<Shortest<StorageT>, ExampleFault<StorageT>>

@@ -54,7 +54,7 @@ fn replay<StorageT: StorageIndex>(
         }
         Move::Make(prod) => {
             if usize::from(prod) < grm.prods_len() {
-                make(grm, prod, stack)
+                reduce(grm, prod, stack)
             } else {
                 Ok(false)
             }
@@ -63,7 +63,7 @@ fn replay<StorageT: StorageIndex>(
 }
 
 // Puts the production's rule in place of its symbols, if these are on top.
-fn make<StorageT: StorageIndex>(
+fn reduce<StorageT: StorageIndex>(
     grm: &YaccGrammar<StorageT>,
     prod: PIdx<StorageT>,
     stack: &mut Vec<Symbol<StorageT>>,

@@ -15,7 +15,7 @@ use Rattle.lrpar_table_sentences.specs.Moves.{MoveOf}
 use Rattle.lrpar_conflict_derivations.specs.Example.{IsExample}
 use Rattle.lrpar_conflict_derivations.specs.Derivation.{IsDerivation}
 use Rattle.lrpar_conflict_examples.specs.Conflicts.{AddsExamples, AreExamplesOf, ConflictExampleOf, ConflictOf, IsExampleOf, conflicts_in, of_reductions, of_shift}
-use Rattle.lrpar_conflict_examples.specs.ExamplesFit.{ExamplesFit, ReadsFrom}
+use Rattle.lrpar_conflict_examples.specs.ExamplesFit.{ExamplesFit, DerivesFrom}
 use Rattle.lrpar_conflict_examples.specs.Fits.{IsMoveOf}
 use Rattle.lrpar_conflict_examples.proofs.KnownLemmas.{all_both}
 
@@ -111,9 +111,9 @@ conflicts_named g lists fit =
     (reductions_named g lists.reduce_reduce fit.reduce_reduce) (shifts_named g lists.shift_reduce fit.shift_reduce)
 
 -- a reading is that of a tree
-reads_from : (g : Grammar) (before : List ℕ) (token : ℕ) (trees : Forest ℕ) (next : MoveOf) (moves : List MoveOf) (tree : Tree ℕ)
-    → IsDerivation g before token trees next moves tree → ReadsFrom g before moves
-reads_from g before token trees next moves tree derivation = record {
+derives_from : (g : Grammar) (before : List ℕ) (token : ℕ) (trees : Forest ℕ) (next : MoveOf) (moves : List MoveOf) (tree : Tree ℕ)
+    → IsDerivation g before token trees next moves tree → DerivesFrom g before moves
+derives_from g before token trees next moves tree derivation = record {
   tree = tree;
   of_tree = record { fits = derivation.fits; are = derivation.moves_are };
   rest = derivation.rest;
@@ -130,8 +130,8 @@ each_fits g graph bound (x ∷ xs) named each =
         token = named.0.token;
         first_move = named.0.first;
         second_move = named.0.second;
-        first = reads_from g x.example.before x.conflict.token own.trees x.conflict.first x.example.first own.tree own.first;
-        second = reads_from g x.example.before x.conflict.token own.trees x.conflict.second x.example.second own.other_tree own.second;
+        first = derives_from g x.example.before x.conflict.token own.trees x.conflict.first x.example.first own.tree own.first;
+        second = derives_from g x.example.before x.conflict.token own.trees x.conflict.second x.example.second own.other_tree own.second;
       },
       each_fits g graph bound xs named.1 each.1,
     )

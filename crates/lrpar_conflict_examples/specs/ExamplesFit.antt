@@ -8,7 +8,7 @@ use Rattle.lrpar_conflict_examples.specs.Conflicts.{ConflictExampleOf}
 use Rattle.lrpar_conflict_examples.specs.Fits.{AreMovesOf, IsMoveOf}
 
 -- the moves are those of a tree, whose text begins so
-pub record ReadsFrom (g : Grammar) (before : List ℕ) (moves : List MoveOf) : Type 0 where
+pub record DerivesFrom (g : Grammar) (before : List ℕ) (moves : List MoveOf) : Type 0 where
   pub tree : Tree ℕ
   pub of_tree : AreMovesOf g moves tree
   pub rest : List ℕ
@@ -19,8 +19,8 @@ pub record ExampleFits (g : Grammar) (x : ConflictExampleOf) : Type 0 where
   pub token : x.conflict.token < tokens_len g
   pub first_move : IsMoveOf g x.conflict.first
   pub second_move : IsMoveOf g x.conflict.second
-  pub first : ReadsFrom g x.example.before x.example.first
-  pub second : ReadsFrom g x.example.before x.example.second
+  pub first : DerivesFrom g x.example.before x.example.first
+  pub second : DerivesFrom g x.example.before x.example.second
 
 -- each does
 abbrev pub ExamplesFit : Grammar → List ConflictExampleOf → Type 0

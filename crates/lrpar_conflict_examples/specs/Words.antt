@@ -36,13 +36,13 @@ symbol_text g (Nonterminal r) = 32 ∷ rule_name g r
 symbol_text g (Terminal t) = codes " '" ++ shown_name g t ++ codes "'"
 
 -- the node of a production is made: `reduce S: 'i' S`
-abbrev pub make_text : Grammar → ℕ → List ℕ
-make_text g p = codes "reduce " ++ rule_name g (rule_of g p) ++ codes ":" ++ flat_map (symbol_text g) (symbols_of g p)
+abbrev pub reduce_text : Grammar → ℕ → List ℕ
+reduce_text g p = codes "reduce " ++ rule_name g (rule_of g p) ++ codes ":" ++ flat_map (symbol_text g) (symbols_of g p)
 
 -- what a move does: that, or `shift 'e'`
 abbrev pub move_text : Grammar → MoveOf → List ℕ
 move_text g (Takes t) = codes "shift '" ++ shown_name g t ++ codes "'"
-move_text g (Makes p) = make_text g p
+move_text g (Makes p) = reduce_text g p
 
 -- the line of a text, with a dot between what stands in front of the conflict and the rest
 abbrev pub line_text : Grammar → List ℕ → List ℕ → List ℕ

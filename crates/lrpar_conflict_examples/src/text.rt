@@ -4,7 +4,7 @@ ghost use Rattle.std.specs.String.{string_bytes};
 ghost use Rattle.lrpar_grammar.specs.Tree.{Tree, leaves};
 ghost use Rattle.lrpar_table_sentences.specs.Moves.{move_of, moves_in};
 ghost use Rattle.lrpar_conflict_derivations.specs.Texts.{token_numbers};
-ghost use Rattle.lrpar_conflict_examples.specs.ExamplesFit.{ExampleFits, ExamplesFit, ReadsFrom};
+ghost use Rattle.lrpar_conflict_examples.specs.ExamplesFit.{ExampleFits, ExamplesFit, DerivesFrom};
 ghost use Rattle.lrpar_conflict_examples.specs.Fits.{AreMovesOf, AreTokensOf, HasTree, IsMoveOf};
 ghost use Rattle.lrpar_conflict_examples.specs.Texts.{AreExampleTexts, IsExampleText, bound_text, count_text, other_line, title_text};
 ghost use Rattle.lrpar_conflict_examples.specs.Words.{line_text, derivation_text, text_line};
@@ -12,7 +12,7 @@ ghost use Rattle.lrpar_conflict_examples.specs.Words.{line_text, derivation_text
 use crate::conflict::ConflictExample;
 use crate::pieces::push_tree;
 use crate::words::{push_move, push_words, shown_name};
-use lrpar_conflict_derivations::examples::{Example, taken};
+use lrpar_conflict_derivations::examples::{Example, tokens_of};
 use lrpar_grammar::grammar::YaccGrammar;
 use lrpar_grammar::span::{StorageIndex, TIdx};
 use lrpar_table_sentences::moves::Move;
@@ -117,7 +117,7 @@ fn push_other_text<StorageT: StorageIndex>(
     grm: &YaccGrammar<StorageT>,
     example: &Example<StorageT>,
 ) -> Result<(), AllocError>
-    requires { ReadsFrom grm.now example.now.before example.now.second }
+    requires { DerivesFrom grm.now example.now.before example.now.second }
     ensures { OnOk result ((tree : Tree ℕ) → AreMovesOf grm.now example.now.second tree
         → string_bytes out.new ≡ string_bytes out.old ++ other_line grm.now example.now (leaves tree)) }
 {
@@ -135,12 +135,12 @@ fn push_text<StorageT: StorageIndex>(
     before: &[TIdx<StorageT>],
     moves: &[Move<StorageT>],
 ) -> Result<(), AllocError>
-    requires { ReadsFrom grm.now (token_numbers StorageT.index before.now) (moves_in StorageT.index moves.now) }
+    requires { DerivesFrom grm.now (token_numbers StorageT.index before.now) (moves_in StorageT.index moves.now) }
     ensures { OnOk result ((tree : Tree ℕ) → AreMovesOf grm.now (moves_in StorageT.index moves.now) tree
         → string_bytes out.new ≡ string_bytes out.old ++ text_line grm.now (token_numbers StorageT.index before.now) (leaves tree)) }
 {
     let _start = grm.start_prod();
-    let text = taken(alloc, moves)?;
+    let text = tokens_of(alloc, moves)?;
     push_line(out, grm, before, rest_of(&text, before.len()))
 }
 

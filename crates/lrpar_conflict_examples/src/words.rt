@@ -6,7 +6,7 @@ ghost use Rattle.lrpar_grammar.specs.Grammar.{prods_len, tokens_len};
 ghost use Rattle.lrpar_grammar.specs.Symbols.{symbol_of};
 ghost use Rattle.lrpar_table_sentences.specs.Moves.{move_of};
 ghost use Rattle.lrpar_conflict_examples.specs.Fits.{AreTokensOf, IsMoveOf, IsSymbolOf};
-ghost use Rattle.lrpar_conflict_examples.specs.Words.{make_text, move_text, shown_name, symbol_text, word_text, words_text};
+ghost use Rattle.lrpar_conflict_examples.specs.Words.{reduce_text, move_text, shown_name, symbol_text, word_text, words_text};
 
 use lrpar_grammar::grammar::YaccGrammar;
 use lrpar_grammar::span::{PIdx, StorageIndex, Symbol, TIdx};
@@ -68,18 +68,18 @@ pub(crate) fn push_move<StorageT: StorageIndex>(
             let name = shown_name(grm, token);
             write!(out, "shift '{name}'")
         }
-        Move::Make(prod) => push_make(out, grm, prod),
+        Move::Make(prod) => push_reduce(out, grm, prod),
     }
 }
 
 // Adds which node is made: that of a production.
-fn push_make<StorageT: StorageIndex>(
+fn push_reduce<StorageT: StorageIndex>(
     out: &mut String,
     grm: &YaccGrammar<StorageT>,
     prod: PIdx<StorageT>,
 ) -> Result<(), AllocError>
     requires { StorageT.index prod.0 < prods_len grm.now }
-    ensures { OnOk result (string_bytes out.new ≡ string_bytes out.old ++ make_text grm.now (StorageT.index prod.0)) }
+    ensures { OnOk result (string_bytes out.new ≡ string_bytes out.old ++ reduce_text grm.now (StorageT.index prod.0)) }
 {
     let _start = grm.start_prod();
     let name = grm.rule_name_str(grm.prod_to_rule(prod));

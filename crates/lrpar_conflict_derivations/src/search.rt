@@ -1,0 +1,488 @@
+//! Two readings of one text on their way, and the search among them.
+ghost use Rattle.std.specs.Prelude.{◌<◌, IfSome};
+ghost use Rattle.lrpar_table_rows.specs.Graph.{graph_len};
+
+use crate::access_paths::AccessPaths;
+use crate::context::Context;
+use crate::priority_queue::{NONE, PriorityQueue};
+use crate::stacks::Stacks;
+use lrpar_grammar::span::{PIdx, StIdx, StorageIndex, Symbol, TIdx};
+use lrpar_table_rows::table::Action;
+use lrpar_table_sentences::moves::Move;
+use std::alloc::{AllocError, Global};
+
+/// A conflict: the state, the token, and the moves by which the two readings go on.
+#[derive(Clone, Copy)]
+pub(crate) struct Conflict<StorageT> {
+    pub(crate) state: StIdx<StorageT>,
+    pub(crate) token: TIdx<StorageT>,
+    pub(crate) one: Move<StorageT>,
+    pub(crate) other: Move<StorageT>,
+}
+
+/// By what a pair came about: it begins on the way to this level; one reading made a node, or the other; or both took a symbol.
+#[derive(Clone, Copy)]
+pub(crate) enum Origin<StorageT> {
+    Start(usize),
+    ReduceFirst(PIdx<StorageT>),
+    ReduceSecond(PIdx<StorageT>),
+    Both(Symbol<StorageT>),
+}
+
+/// Two readings that have taken the same text: the levels at the tops of their stacks; whether the other one has made a node since both
+/// took a symbol, so that the first makes none; whether they have taken the conflict's token; how many tokens they have taken, and how many
+/// nodes without symbols they have made; and by which pair and how they came about.
+#[derive(Clone, Copy)]
+pub(crate) struct Configuration<StorageT> {
+    one: usize,
+    other: usize,
+    second_reduced: bool,
+    past_conflict: bool,
+    len: usize,
+    empty: usize,
+    parent: usize,
+    origin: Origin<StorageT>,
+    same: usize,
+}
+
+/// What a turn of the search comes to.
+pub(crate) enum Turn {
+    Found(usize),
+    Further,
+    Over,
+}
+
+/// The search.
+#[derive(Drop)]
+pub(crate) struct Search<StorageT: StorageIndex> {
+    pub(crate) stacks: Stacks<StorageT>,
+    paths: AccessPaths<StorageT>,
+    configurations: Vec<Configuration<StorageT>>,
+    queue: PriorityQueue,
+    seen: Vec<usize>,
+    begun: usize,
+    ahead: usize,
+}
+
+impl<StorageT: StorageIndex> Search<StorageT> {
+    /// Nothing is tried yet.
+    pub(crate) fn new(
+        alloc: Global,
+        context: &Context<'_, StorageT>,
+        conflict: &Conflict<StorageT>,
+    ) -> Result<Self, AllocError> {
+        Ok(Search {
+            stacks: Stacks::new(alloc, context)?,
+            paths: AccessPaths::new(alloc, context, conflict.state)?,
+            configurations: Vec::new(alloc),
+            queue: PriorityQueue::new(alloc)?,
+            seen: Vec::new(alloc),
+            begun: 0,
+            ahead: 0,
+        })
+    }
+
+    /// Tries what has the shortest text, as far as can be told: a pair, or a way on which a pair can begin.
+    pub(crate) fn turn(
+        &mut self,
+        context: &Context<'_, StorageT>,
+        conflict: &Conflict<StorageT>,
+    ) -> Result<Turn, AllocError> {
+        if self.is_path_first() {
+            if let Some((level, len)) = self.paths.turn(context, &mut self.stacks)? {
+                self.begin(context, conflict, level, len)?;
+            }
+            return Ok(Turn::Further);
+        }
+        match self.queue.pop() {
+            Some(number) => self.try_configuration(context, conflict, number),
+            None => Ok(Turn::Over),
+        }
+    }
+
+    /// How the pair came about, and by which one, if there is one.
+    pub(crate) fn origin(&self, number: usize) -> Option<(Origin<StorageT>, usize)> {
+        let configuration = self.get(number)?;
+        Some((configuration.origin, configuration.parent))
+    }
+
+    /// How many pairs there are.
+    pub(crate) fn len(&self) -> usize {
+        self.configurations.len()
+    }
+
+    /// The level at the top of the pair's first reading.
+    pub(crate) fn top(&self, number: usize) -> usize {
+        match self.get(number) {
+            Some(configuration) => configuration.one,
+            None => NONE,
+        }
+    }
+
+    // The pair of the number, if there is one.
+    fn get(&self, number: usize) -> Option<Configuration<StorageT>> {
+        if number < self.configurations.len() {
+            Some(self.configurations[number])
+        } else {
+            None
+        }
+    }
+
+    // Whether a way comes before each pair.
+    fn is_path_first(&self) -> bool {
+        match self.paths.least() {
+            None => false,
+            Some(path) => match self.queue.least() {
+                None => true,
+                Some(configuration) => path.saturating_add(self.ahead) < configuration,
+            },
+        }
+    }
+
+    // Begins a pair on the way to the level.
+    fn begin(
+        &mut self,
+        context: &Context<'_, StorageT>,
+        conflict: &Conflict<StorageT>,
+        level: usize,
+        len: usize,
+    ) -> Result<(), AllocError> {
+        self.begun = self.begun.saturating_add(1);
+        let one = self.moved(context, level, conflict.one)?;
+        let other = self.moved(context, level, conflict.other)?;
+        self.add(Configuration {
+            one,
+            other,
+            second_reduced: false,
+            past_conflict: false,
+            len,
+            empty: 0,
+            parent: NONE,
+            origin: Origin::Start(level),
+            same: NONE,
+        })
+    }
+
+    // The level after the move, which takes no token yet.
+    fn moved(
+        &mut self,
+        context: &Context<'_, StorageT>,
+        level: usize,
+        next: Move<StorageT>,
+    ) -> Result<usize, AllocError> {
+        match next {
+            Move::Make(prod) => self.stacks.reduced(context, level, prod),
+            Move::Take(_) => Ok(level),
+        }
+    }
+
+    // Puts in a pair, if both readings can be finished and it wasn't there yet.
+    fn add(&mut self, configuration: Configuration<StorageT>) -> Result<(), AllocError> {
+        let (Some(one), Some(other)) = (
+            self.stacks.get(configuration.one),
+            self.stacks.get(configuration.other),
+        ) else {
+            return Ok(());
+        };
+        let rest = one.rest.max(other.rest);
+        if rest == NONE || self.is_there(&configuration) {
+            return Ok(());
+        }
+        if self.begun <= 1 && !configuration.past_conflict {
+            self.ahead = rest;
+        }
+        self.note_token(&configuration, rest);
+        let key = configuration
+            .len
+            .saturating_add(configuration.empty)
+            .saturating_add(rest);
+        self.keep(configuration)?;
+        self.queue.add(key)
+    }
+
+    // Keeps how many tokens follow the first way at least, once the conflict's token is taken on it.
+    fn note_token(&mut self, configuration: &Configuration<StorageT>, rest: usize) {
+        if self.begun <= 1 && configuration.past_conflict {
+            if let Some(parent) = self.get(configuration.parent) {
+                if !parent.past_conflict {
+                    self.ahead = rest.saturating_add(1);
+                }
+            }
+        }
+    }
+
+    // Whether such a pair is there.
+    fn is_there(&self, configuration: &Configuration<StorageT>) -> bool {
+        let mut number = if configuration.one < self.seen.len() {
+            self.seen[configuration.one]
+        } else {
+            NONE
+        };
+        for _ in 0..self.configurations.len() {
+            match self.get(number) {
+                Some(own) if is_same(&own, configuration) => return true,
+                Some(own) => number = own.same,
+                None => return false,
+            }
+        }
+        false
+    }
+
+    // Keeps the pair.
+    fn keep(&mut self, configuration: Configuration<StorageT>) -> Result<(), AllocError> {
+        for _ in self.seen.len()..self.stacks.len() {
+            self.seen.push(NONE)?;
+        }
+        let mut configuration = configuration;
+        if configuration.one < self.seen.len() {
+            configuration.same = self.seen[configuration.one];
+            self.seen[configuration.one] = self.configurations.len();
+        }
+        self.configurations.push(configuration)?;
+        Ok(())
+    }
+
+    // Whether the pair is one text with two readings; else what comes of it by one move is put in.
+    fn try_configuration(
+        &mut self,
+        context: &Context<'_, StorageT>,
+        conflict: &Conflict<StorageT>,
+        number: usize,
+    ) -> Result<Turn, AllocError> {
+        let Some(configuration) = self.get(number) else {
+            return Ok(Turn::Further);
+        };
+        if configuration.one == configuration.other
+            && (configuration.past_conflict || self.is_end(context, conflict, &configuration))
+        {
+            return Ok(Turn::Found(number));
+        }
+        if !configuration.second_reduced {
+            self.reduce_one(context, conflict, number, &configuration)?;
+        }
+        if configuration.past_conflict || matches!(conflict.other, Move::Make(_)) {
+            self.reduce_other(context, conflict, number, &configuration)?;
+        }
+        self.shift_tokens(context, conflict, number, &configuration)?;
+        if configuration.past_conflict {
+            self.shift_rules(context, number, &configuration)?;
+        }
+        Ok(Turn::Further)
+    }
+
+    // Whether the conflict's token is the end token, and the first reading accepts.
+    fn is_end(
+        &self,
+        context: &Context<'_, StorageT>,
+        conflict: &Conflict<StorageT>,
+        configuration: &Configuration<StorageT>,
+    ) -> bool {
+        match self.stacks.get(configuration.one) {
+            Some(top) => matches!(context.action(top.state, conflict.token), Action::Accept),
+            None => false,
+        }
+    }
+
+    // Puts in the pairs whose first reading makes one node more.
+    fn reduce_one(
+        &mut self,
+        context: &Context<'_, StorageT>,
+        conflict: &Conflict<StorageT>,
+        parent: usize,
+        configuration: &Configuration<StorageT>,
+    ) -> Result<(), AllocError> {
+        let Some(state) = self.state_at(context, configuration.one) else {
+            return Ok(());
+        };
+        for core in context.graph.cores(state) {
+            if context.is_complete(*core)
+                && can_reduce(context, conflict, configuration, state, core.0)
+            {
+                let one = self.stacks.reduced(context, configuration.one, core.0)?;
+                let empty = configuration.empty.saturating_add(empty_of(core.1));
+                let origin = Origin::ReduceFirst(core.0);
+                self.add(Configuration {
+                    one,
+                    empty,
+                    parent,
+                    origin,
+                    ..*configuration
+                })?;
+            }
+        }
+        Ok(())
+    }
+
+    // Puts in the pairs whose other reading makes one node more.
+    fn reduce_other(
+        &mut self,
+        context: &Context<'_, StorageT>,
+        conflict: &Conflict<StorageT>,
+        parent: usize,
+        configuration: &Configuration<StorageT>,
+    ) -> Result<(), AllocError> {
+        let Some(state) = self.state_at(context, configuration.other) else {
+            return Ok(());
+        };
+        for core in context.graph.cores(state) {
+            if context.is_complete(*core)
+                && can_reduce(context, conflict, configuration, state, core.0)
+            {
+                let other = self.stacks.reduced(context, configuration.other, core.0)?;
+                let empty = configuration.empty.saturating_add(empty_of(core.1));
+                let origin = Origin::ReduceSecond(core.0);
+                let second_reduced = true;
+                self.add(Configuration {
+                    other,
+                    second_reduced,
+                    empty,
+                    parent,
+                    origin,
+                    ..*configuration
+                })?;
+            }
+        }
+        Ok(())
+    }
+
+    // The state of the level, if it is one of the graph.
+    fn state_at(&self, context: &Context<'_, StorageT>, level: usize) -> Option<StIdx<StorageT>>
+        ensures { IfSome result (λ state. StorageT.index state.0 < graph_len context.now.graph.now) }
+    {
+        let state = self.stacks.get(level)?.state;
+        if usize::from(state) < context.graph.states_len() {
+            Some(state)
+        } else {
+            None
+        }
+    }
+
+    // Puts in the pairs that come by a token: the conflict's one, if it isn't taken yet.
+    fn shift_tokens(
+        &mut self,
+        context: &Context<'_, StorageT>,
+        conflict: &Conflict<StorageT>,
+        parent: usize,
+        configuration: &Configuration<StorageT>,
+    ) -> Result<(), AllocError> {
+        let (Some(state), Some(other)) = (
+            self.state_at(context, configuration.one),
+            self.state_at(context, configuration.other),
+        ) else {
+            return Ok(());
+        };
+        if usize::from(state) >= context.table.states_len() {
+            return Ok(());
+        }
+        let (tokens, actions) = context.table.actions_of(state);
+        for (place, token) in tokens.iter().enumerate() {
+            let is_next = configuration.past_conflict
+                || usize::from(*token) == usize::from(conflict.token);
+            if is_next && place < actions.len() {
+                if let (Action::Shift(one), Some(other)) = (
+                    actions[place],
+                    context.shift(other, *token),
+                ) {
+                    self.shift_symbol(
+                        context,
+                        parent,
+                        configuration,
+                        Symbol::Token(*token),
+                        one,
+                        other,
+                    )?;
+                }
+            }
+        }
+        Ok(())
+    }
+
+    // Puts in the pairs that come by a rule, by a shortest text of it that has tokens.
+    fn shift_rules(
+        &mut self,
+        context: &Context<'_, StorageT>,
+        parent: usize,
+        configuration: &Configuration<StorageT>,
+    ) -> Result<(), AllocError> {
+        let (Some(state), Some(other)) = (
+            self.state_at(context, configuration.one),
+            self.state_at(context, configuration.other),
+        ) else {
+            return Ok(());
+        };
+        if usize::from(state) >= context.table.states_len() {
+            return Ok(());
+        }
+        let (rules, states) = context.table.gotos_of(state);
+        for (place, rule) in rules.iter().enumerate() {
+            if place < states.len() && context.len_of(Symbol::Rule(*rule)) > 0 {
+                if let Some(other) = context.goto(other, *rule) {
+                    self.shift_symbol(
+                        context,
+                        parent,
+                        configuration,
+                        Symbol::Rule(*rule),
+                        states[place],
+                        other,
+                    )?;
+                }
+            }
+        }
+        Ok(())
+    }
+
+    // Puts in the pair that comes by this symbol, to these states.
+    fn shift_symbol(
+        &mut self,
+        context: &Context<'_, StorageT>,
+        parent: usize,
+        configuration: &Configuration<StorageT>,
+        symbol: Symbol<StorageT>,
+        one: StIdx<StorageT>,
+        other: StIdx<StorageT>,
+    ) -> Result<(), AllocError> {
+        let one = self.stacks.push(context, configuration.one, symbol, one)?;
+        let other = self
+            .stacks
+            .push(context, configuration.other, symbol, other)?;
+        self.add(Configuration {
+            one,
+            other,
+            second_reduced: false,
+            past_conflict: true,
+            len: configuration.len.saturating_add(context.len_of(symbol)),
+            empty: configuration.empty,
+            parent,
+            origin: Origin::Both(symbol),
+            same: NONE,
+        })
+    }
+}
+
+// Whether both are at the same levels, and may go on in the same ways.
+fn is_same<StorageT>(one: &Configuration<StorageT>, other: &Configuration<StorageT>) -> bool {
+    one.one == other.one
+        && one.other == other.other
+        && one.past_conflict == other.past_conflict
+        && one.second_reduced == other.second_reduced
+}
+
+// How many nodes without symbols one with so many is.
+fn empty_of(len: usize) -> usize {
+    if len == 0 { 1 } else { 0 }
+}
+
+// Whether the state's production can be made: as long as the conflict's token isn't taken, with it as lookahead.
+fn can_reduce<StorageT: StorageIndex>(
+    context: &Context<'_, StorageT>,
+    conflict: &Conflict<StorageT>,
+    configuration: &Configuration<StorageT>,
+    state: StIdx<StorageT>,
+    prod: PIdx<StorageT>,
+) -> bool {
+    match context.prod_len(prod) {
+        Some(len) => configuration.past_conflict
+            || context.graph.has_item(state, prod, len, conflict.token),
+        None => false,
+    }
+}
