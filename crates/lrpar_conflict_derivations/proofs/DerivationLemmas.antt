@@ -72,11 +72,11 @@ module _ (g : Grammar) (token : ℕ) (symbols : List GrammarSymbol) (p k : ℕ) 
         subst (λ (ms : List MoveOf). IsDerivation g (forest_leaves trees) token trees (Makes p) ms derivation.0) (sym moves) derivation.1,
       )
 
-  pub shift_done : (tokens_of middle : List MoveOf) (after : Forest ℕ) → tokens_of ≡ old ++ Takes token ∷ [] → middle ≡ tokens_of ++ forest_moves after
+  pub shift_done : (shifted middle : List MoveOf) (after : Forest ℕ) → shifted ≡ old ++ Takes token ∷ [] → middle ≡ shifted ++ forest_moves after
       → AreTreesOf g (drop (k + 1) (symbols_of g p)) after → slice_get (symbols_of g p) k ≡ Some (Terminal token)
       → HasFinished g token symbols p k false middle new
       → (tree : Tree ℕ) × IsDerivation g (forest_leaves trees) token trees (Takes token) new tree
-  shift_done tokens_of middle after take more fit_after at done =
+  shift_done shifted middle after take more fit_after at done =
       let derivation = shift_derivation g symbols p k token done.later done.finishes.0 trees fit done.finishes.1 (drop (k + 1) (symbols_of g p)) after
       (drop_at_get (symbols_of g p) k (Terminal token) at) fit_after in
       let moves : new ≡ forest_moves trees ++ Takes token ∷ (forest_moves after ++ done.later) =
