@@ -1,4 +1,4 @@
--- The way up from an item of a state, by places on the way that led to the state, to the start.
+-- The path up from an item of a state, by places on the access path of the state, to the start.
 use Rattle.std.proofs.Common.{◌≡◌, ◌≢◌, ◌<◌, ◌≤◌, ◌+◌, ◌-◌, ◌*◌, ◌==◌, ◌⊎◌, ◌∙◌, if◌then◌else◌, refl, sym, ap, subst, inl, inr, arith, ℕ, Bool, true, false, List, [], ◌∷◌, ◌++◌, drop, length, map, reverse, take}
 use Rattle.std.proofs.lemmas.List.{append_assoc, append-nil, length-reverse, length-take-le, reverse-append, reverse-reverse, length-drop, length-map, take-append-drop, take-take, take_all, drop_at, get_or_past}
 use Rattle.std.proofs.lemmas.Bool.{eq-eqb, ne_eqb}
@@ -11,8 +11,8 @@ use Rattle.lrpar_table_sentences.specs.AccessStrings.{StepOf, symbols_in}
 use Rattle.lrpar_conflict_derivations.specs.Completion.{LeadsToKernel, HasFinished, HasItemFor, IsAccessPath, LeadsUp, UpOf, place_at, state_before}
 use Rattle.lrpar_conflict_derivations.proofs.CompletionLemmas.{comes_from, up_back, up_end, up_then}
 
--- moves were put behind the others that lead from production p with its dot at k up to production q with its dot at the front; the
--- first one makes the node of p, where it isn't q still
+-- moves were appended that lead from production p with its dot at k up to production q with its dot at the front; the first one reduces p,
+-- unless it is still q
 pub record IsFinishing (g : Grammar) (token : ℕ) (symbols : List GrammarSymbol) (p k : ℕ) (asked : Bool) (old new : List MoveOf)
     (front : List GrammarSymbol) (q : ℕ) (further : Bool) : Type 0 where
   pub done : List MoveOf
@@ -20,7 +20,7 @@ pub record IsFinishing (g : Grammar) (token : ℕ) (symbols : List GrammarSymbol
   pub leads : LeadsUp g token (place_at symbols p k asked) done (place_at front q 0 further)
   pub begins : ((done ≡ []) × (q ≡ p)) ⊎ ((rest : List MoveOf) × (done ≡ Makes p ∷ rest))
 
--- the symbols on the way before a place, from its end
+-- the symbols of the path before a place, from its end
 reversed_front : (symbols : List GrammarSymbol) (i k : ℕ) → k ≤ i → i ≤ length symbols
     → drop k (reverse (take i symbols)) ≡ reverse (take (i - k) symbols)
 reversed_front symbols i k low within =
@@ -102,7 +102,7 @@ module _ (g : Grammar) (well : IsWellFormed g) (graph : Graph) (steps : List Ste
             ];
       }
 
-  -- at the start production the tree is finished
+  -- at the start production the tree is complete
   pub finished : (p k : ℕ) (asked : Bool) (old new : List MoveOf) (i q : ℕ) (further : Bool) → i ≤ length steps → q ≡ start_prod g
       → HasItemFor graph (state_before steps last i) token q 0 further
       → IsFinishing g token (symbols_in steps) p k asked old new (take i (symbols_in steps)) q further
@@ -134,7 +134,7 @@ pub state_last : (steps : List StepOf) (last : ℕ) → state_before steps last 
 state_last steps last =
     let long = length-map steps (λ (x : StepOf). x.from) in get_or_past (map (λ (x : StepOf). x.from) steps) (length steps) last (omega (arith, long))
 
--- a number is one where another one isn't the start production's, and at most one anyhow
+-- a number is one if another one isn't the start production's, and at most one in any case
 other_one : (q s : ℕ) → q ≢ s → ◌≡◌ {A = ℕ} (if q == s then 0 else 1) 1
 other_one q s apart = ap {B = ℕ} (λ (b : Bool). if b then 0 else 1) (ne_eqb q s apart)
 

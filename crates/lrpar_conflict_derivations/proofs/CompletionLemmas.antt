@@ -1,6 +1,6 @@
--- How a derivation is finished from an item: from the start item by nothing; from an item with its dot moved on by what finishes it
--- from the item; and from an item that another one adds by its own node, trees of what the other has behind its rule, and then what
--- finishes it from the other.
+-- How a derivation is completed from an item: from the start item by nothing; from an item with its dot moved on by what completes it from
+-- the item; and from an item that another one adds by its own reduction, trees of the symbols after the other's rule, and then what
+-- completes it from the other.
 use Rattle.std.proofs.Common.{◌≡◌, ◌<◌, ◌+◌, ◌≤◌, ◌∙◌, refl, sym, ap, subst, inl, inr, arith, ℕ, zero, suc, Bool, true, false, IsTrue, List, [], ◌∷◌, ◌++◌, Some, drop, length, reverse, slice_get}
 use Rattle.std.proofs.lemmas.List.{append_assoc, append-nil, reverse-append}
 use Rattle.std.proofs.lemmas.Bool.{false≢true}
@@ -34,7 +34,7 @@ no_trees g Nil fit = refl
 no_trees g (Cons t ts) fit = absurd fit
 
 module _ (g : Grammar) (well : IsWellFormed g) where
-  -- from the start item: there what is behind the dot is a tree of the start rule
+  -- from the start item: there the symbol after the dot is the start rule
   pub start_finishes : Finishes g [] (start_prod g) 0 [] []
   start_finishes trees rest fit rest_fit =
       let none = no_trees g trees fit in
@@ -69,7 +69,7 @@ module _ (g : Grammar) (well : IsWellFormed g) where
         },
       )
 
-  -- from an item of a production of the rule that another item has behind its dot
+  -- from an item of a production of the rule after another item's dot
   pub added_finishes : (front : List GrammarSymbol) (q j p : ℕ) (w : List GrammarSymbol) (trees_after : Forest ℕ) (later : List MoveOf) (text : List ℕ)
       → drop j (symbols_of g q) ≡ Nonterminal (rule_of g p) ∷ w → p < prods_len g → AreTreesOf g w trees_after
       → Finishes g front q j later text
@@ -83,8 +83,8 @@ module _ (g : Grammar) (well : IsWellFormed g) where
         record { fits = done.1.fits; moves = done.1.moves ∙ (simp append_assoc); tokens = done.1.tokens ∙ (simp append_assoc) },
       )
 
-  -- an item with its dot moved on by k symbols comes from one with the dot at the front, k symbols back; and what finishes a derivation
-  -- from there finishes it from here
+  -- an item with its dot moved on by k symbols comes from one with the dot at the front, k symbols back; and what completes a derivation
+  -- from there completes it from here
   pub record ComesFrom (path : List GrammarSymbol) (p k t : ℕ) : Type 0 where
     pub within : k ≤ length path
     pub item : IsReachedBy g (drop k path) (item_at p 0 t)
@@ -120,7 +120,7 @@ module _ (g : Grammar) (token : ℕ) where
   pub up_none : (from : Place) → LeadsUp g token from [] from
   up_none from later h = h
 
-  -- one way up, and then another one
+  -- one path up, and then another one
   pub up_then : (from by to : Place) (moves more : List MoveOf) → LeadsUp g token from moves by → LeadsUp g token by more to
       → LeadsUp g token from (moves ++ more) to
   up_then from by to moves more first second later h =
@@ -132,8 +132,8 @@ module _ (g : Grammar) (token : ℕ) where
       (record { front = reverse (drop k path); prod = p; dot = 0; asked = asked })
   up_back well path p k t asked from later h = (h.0, from.finishes later h.0 h.1, h.2)
 
-  -- by a node and trees behind it, up to an item that waits for the node's rule: where the token is asked for, these trees begin with it;
-  -- or they have none, and it is asked for further up
+  -- by a node and trees after it, up to an item that waits for the node's rule: if the token is asked for, these trees begin with it; or
+  -- they have no tokens, and it is asked for further up
   pub up_added : (well : IsWellFormed g) (front : List GrammarSymbol) (q j p : ℕ) (w : List GrammarSymbol) (trees : Forest ℕ) (asked further : Bool)
       → drop j (symbols_of g q) ≡ Nonterminal (rule_of g p) ∷ w → p < prods_len g → AreTreesOf g w trees
       → ((text : List ℕ) → IsNextIf g token further text → IsNextIf g token asked (forest_leaves trees ++ text))
@@ -159,6 +159,6 @@ module _ (g : Grammar) (token : ℕ) where
       → (text : List ℕ) → IsNextIf g token true text → IsNextIf g token true (forest_leaves trees ++ text)
   through_ahead trees none text h asked = subst (λ (xs : List ℕ). IsNext g token (xs ++ text)) (sym none) (h asked)
 
-  -- where it isn't asked for
+  -- if it isn't asked for
   pub any_ahead : (trees : Forest ℕ) (further : Bool) (text : List ℕ) → IsNextIf g token further text → IsNextIf g token false (forest_leaves trees ++ text)
   any_ahead trees further text h asked = absurd (false≢true asked)

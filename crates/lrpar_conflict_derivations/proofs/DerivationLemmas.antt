@@ -1,4 +1,4 @@
--- Readings of the trees that are finished from an item.
+-- Derivations of the trees that are completed from an item.
 use Rattle.std.proofs.Common.{◌≡◌, ◌≢◌, ◌∙◌, refl, ◌+◌, Some, true, false, arith, sym, ap, subst, inl, ℕ, List, [], ◌∷◌, ◌++◌, drop, slice_get}
 use Rattle.std.proofs.lemmas.List.{append_assoc, append_cancel_left, drop_all}
 use Rattle.lrpar_grammar.specs.Grammar.{Grammar, GrammarSymbol, Terminal, prod_len, start_prod, symbols_of}
@@ -9,7 +9,7 @@ use Rattle.lrpar_conflict_derivations.specs.Completion.{Finishes, HasFinished}
 use Rattle.lrpar_conflict_derivations.specs.Derivation.{IsNext, IsDerivation}
 use Rattle.lrpar_table_sentences.proofs.AfterLemmas.{drop_at_get}
 
--- two readings that go on with two moves are readings of two trees
+-- two derivations that go on with two moves are derivations of two trees
 pub derivations_differ : (g : Grammar) (before : List ℕ) (token : ℕ) (trees : Forest ℕ) (one other : MoveOf) (moves more : List MoveOf)
     (tree other_tree : Tree ℕ) → one ≢ other → IsDerivation g before token trees one moves tree → IsDerivation g before token trees other more other_tree
     → tree ≢ other_tree
@@ -21,7 +21,7 @@ derivations_differ g before token trees one other moves more tree other_tree apa
 
 module _ (g : Grammar) (front : List GrammarSymbol) (p k token : ℕ) (later : List MoveOf) (text : List ℕ) (trees : Forest ℕ)
     (fit : AreTreesOf g front trees) (finishes : Finishes g front p k later text) where
-  -- of a complete item: its node is made next
+  -- of a complete item: its production is reduced next
   pub reduce_derivation : (rest : List MoveOf) → drop k (symbols_of g p) ≡ [] → later ≡ Makes p ∷ rest → IsNext g token text
       → (tree : Tree ℕ) × IsDerivation g (forest_leaves trees) token trees (Makes p) (forest_moves trees ++ later) tree
   reduce_derivation rest complete reduces next =
@@ -38,7 +38,7 @@ module _ (g : Grammar) (front : List GrammarSymbol) (p k token : ℕ) (later : L
         },
       )
 
-  -- of an item before a token: the token is taken next, and then come trees of what stands behind it
+  -- of an item with the token after its dot: the token is shifted next, and then come trees of the symbols after it
   pub shift_derivation : (w : List GrammarSymbol) (after : Forest ℕ) → drop k (symbols_of g p) ≡ Terminal token ∷ w → AreTreesOf g w after
       → (tree : Tree ℕ) × IsDerivation g (forest_leaves trees) token trees (Takes token)
       (forest_moves trees ++ Takes token ∷ (forest_moves after ++ later)) tree
@@ -58,7 +58,7 @@ module _ (g : Grammar) (front : List GrammarSymbol) (p k token : ℕ) (later : L
         },
       )
 
--- once the moves are there that finish a tree
+-- once the moves are there that complete a tree
 module _ (g : Grammar) (token : ℕ) (symbols : List GrammarSymbol) (p k : ℕ) (trees : Forest ℕ) (fit : AreTreesOf g symbols trees) (old new : List MoveOf)
     (front : old ≡ forest_moves trees) where
   pub reduce_done : HasFinished g token symbols p k true old new → p ≢ start_prod g → k ≡ prod_len g p

@@ -1,4 +1,4 @@
--- Two readings that go on with two moves are an example.
+-- Two derivations that go on with two moves are a counterexample.
 use Rattle.std.proofs.Common.{◌≡◌, ◌≢◌, ◌<◌, ◌↔◌, ◌⊎◌, ◌∙◌, sym, ap, subst, inl, arith, ℕ, Bool, true, IsTrue, List, length}
 use Rattle.lrpar_grammar.specs.Grammar.{Grammar, IsWellFormed, prod_len, prods_len}
 use Rattle.lrpar_grammar.specs.Tree.{Forest, Tree, forest_leaves, leaves}
@@ -14,7 +14,7 @@ use Rattle.lrpar_conflict_derivations.proofs.LinkLemmas.{core_known}
 use Rattle.lrpar_conflict_derivations.proofs.DerivationLemmas.{derivations_differ}
 use Rattle.lrpar_conflict_derivations.proofs.TextLemmas.{tokens_of_tree, tokens_of_trees}
 
--- the readings that begin with trees of the way's symbols
+-- the derivations that begin with trees of the path's symbols
 abbrev pub Derives : Grammar → List StepOf → ℕ → List MoveOf → MoveOf → List MoveOf → Type 0
 Derives g steps token front next moves =
     (trees : Forest ℕ) → AreTreesOf g (symbols_in steps) trees → front ≡ forest_moves trees
@@ -49,7 +49,7 @@ example_done g graph s token steps front first second one other x apart lead der
       ambiguous = (λ is. sym text_a ∙ same.0 is ∙ text_b, λ equal. same.1 (text_a ∙ equal ∙ sym text_b));
     }
 
--- the same by a shortest way
+-- the same by a shortest access path
 pub plain_done : (g : Grammar) (graph : Graph) (s token : ℕ) (steps : List StepOf) (front first second : List MoveOf) (one other : MoveOf) (x : ExampleOf)
     → one ≢ other → IsShortestFront g graph s steps front → Derives g steps token front one first → Derives g steps token front other second
     → x.before ≡ tokens_in front → x.first ≡ first → x.second ≡ second → IsTrue x.ambiguous ↔ (tokens_in first ≡ tokens_in second) → x.shortest ≡ true
@@ -59,7 +59,7 @@ plain_done g graph s token steps front first second one other x apart lead deriv
     example_done g graph s token steps front first second one other x apart lead.front derives_one derives_other before_is first_is second_is same
     (λ _. lead.least, λ _. is) (inl is)
 
--- a way's text is a shortest one exactly where it has as many tokens as that of a shortest way
+-- a path's text is a shortest access string if and only if it has as many tokens as that of a shortest access path
 pub least_by : (g : Grammar) (graph : Graph) (s : ℕ) (steps short_steps : List StepOf) (front short : List MoveOf) (flag : Bool) → IsFront g graph s steps front
     → IsShortestFront g graph s short_steps short → IsTrue flag ↔ (length (tokens_in front) ≡ length (tokens_in short))
     → IsTrue flag ↔ IsLeastTo g graph s (tokens_in front)
@@ -76,7 +76,7 @@ least_by g graph s steps short_steps front short flag lead least as_many =
           let more = least.least (symbols_in steps) lead.trees lead.text.leads lead.text.fit in as_many.1 (omega (arith, own, few, less, more)),
     )
 
--- two productions that differ, and a node and a token
+-- two productions that differ, and a production and a token
 pub nodes_differ : (p q : ℕ) → p < q → Makes p ≢ Makes q
 nodes_differ p q less same = let equal : p ≡ q = cc in omega (arith, less, equal)
 

@@ -1,4 +1,4 @@
--- A shortest way to a state and shortest trees of its symbols are a shortest text that leads there.
+-- A shortest access path of a state and minimal sentences of its symbols are a shortest access string.
 use Rattle.std.proofs.Common.{◌≡◌, ◌<◌, ◌≤◌, ◌∙◌, refl, sym, ap, subst, inl, inr, arith, ℕ, List, [], ◌∷◌, All, None, Option, Some, length, map, min, option_map, reverse, slice_get, take}
 use Rattle.std.proofs.lemmas.Bool.{cases_lt}
 use Rattle.std.proofs.lemmas.List.{get_or_past, length-map, reverse-append, reverse-reverse, take_all}
@@ -22,7 +22,7 @@ use Rattle.lrpar_table_sentences.proofs.AfterLemmas.{contains_at, have_trees, it
 use Rattle.lrpar_conflict_derivations.proofs.TextLemmas.{tokens_of_trees, tokens_short}
 use Rattle.lrpar_conflict_derivations.specs.Texts.{tokens_in}
 
--- what holds of each of a list holds of each of the list turned round
+-- what holds of each of a list holds of each of the list reversed
 All-reverse : {X : Type 0} (P : X → Type 0) (xs : List X) → All P xs → All P (reverse xs)
 All-reverse P [] all = All-nil P
 All-reverse {X} P (x ∷ xs) all =
@@ -30,7 +30,7 @@ All-reverse {X} P (x ∷ xs) all =
     subst (λ (ys : List X). All P ys) (sym (reverse-append (x ∷ []) xs)) turned
 
 module _ (g : Grammar) (well : IsWellFormed g) where
-  -- a symbol behind a dot of a rule that is reached is reached
+  -- a symbol after a dot of a reachable rule is reachable
   symbol_reached : (q j : ℕ) (s : GrammarSymbol) → slice_get (symbols_of g q) j ≡ Some s → IsReachableRule g (rule_of g q) → IsReachableSymbol g s
   symbol_reached q j (Terminal t) at reached = tt
   symbol_reached q j (Nonterminal r) at reached =
@@ -52,14 +52,14 @@ some_by g graph most s None none symbols path trees = absurd (none symbols trees
 some_by g graph most s (Some found) least symbols path trees = (found, refl)
 
 module _ (g : Grammar) (graph : Graph) (table : Table) (built : IsBuilt g graph table) (s : ℕ) where
-  -- steps that lead from the start are a way
+  -- steps that lead from the start are an access path
   pub access_path_by : IsClosed table → (steps : List StepOf) → StepsLead table table.start steps s → IsAccessPath g graph steps s
   access_path_by closed steps lead =
       let start : IsPathTo g graph table.start [] =
       subst (λ (n : ℕ). AreSame (sets_of graph n) (IsReachedBy g [])) (sym built.wanted.start) built.canonical.start in
       state_reached g graph table built.wanted closed steps table.start s [] closed.start_within lead start
 
--- the symbols of a way lead to its last state
+-- the symbols of an access path lead to its last state
 pub path_leads : (g : Grammar) (graph : Graph) (s : ℕ) (steps : List StepOf) → IsAccessPath g graph steps s → IsPathTo g graph s (symbols_in steps)
 path_leads g graph s steps access_path =
     let froms = map (λ (x : StepOf). x.from) steps in
@@ -85,7 +85,7 @@ front_by g graph table built closed s steps lead trees fit moves are =
 
 module _ (g : Grammar) (graph : Graph) (table : Table) (most : ℕ) (well : IsWellFormed g) (built : IsBuilt g graph table) (x : ExamplesOf)
     (made : AreExamplesFor g graph table most x) (s : ℕ) (low : s < graph_len graph) where
-  -- a way to the state is kept
+  -- an access path of the state is kept
   pub some_access : (access : AccessOf) × (access_at x.access s ≡ Some access)
   some_access =
       let reached = built.canonical.reached s low in
@@ -102,7 +102,7 @@ module _ (g : Grammar) (graph : Graph) (table : Table) (most : ℕ) (well : IsWe
     pub path_trees : HaveTrees g (symbols_in steps)
     path_trees = let some = path.own.some in (some.0, some.1)
 
-    -- shortest ones have as few tokens as those of any other way
+    -- minimal ones have at most as many tokens as those of any other path
     no_shorter : (trees : Forest ℕ) → AreShortestTrees g (symbols_in steps) trees → forest_width trees ≤ most
         → (other : List GrammarSymbol) (others : Forest ℕ) → IsPathTo g graph s other → AreTreesOf g other others → forest_width trees ≤ forest_width others
     no_shorter trees least fits other others to fit =

@@ -1,5 +1,5 @@
--- Links of a state: those from items that aren't there by closure are put first, and then those from items of rules that are linked. Once
--- all is linked that comes with each of these, each item of the state that is there by closure has a link of its rule.
+-- Links of a state: those from kernel items come first, and then those from items of rules that have links. Once each of these has its
+-- links, each item that the state has by closure has a link of its rule.
 use Rattle.std.proofs.Common.{◌≡◌, ◌≢◌, ◌<◌, ◌≤◌, ◌+◌, ◌-◌, ◌⊎◌, ◌↔◌, ◌∙◌, refl, sym, ap, subst, inl, inr, arith, ℕ, zero, suc, Bool, true, false, IsTrue, List, [], ◌∷◌, ◌++◌, drop, length, map, Some, cond, slice_get, get_or}
 use mathlib.Core.Bool.{beq}
 use Rattle.std.specs.List.{Contains}
@@ -33,7 +33,7 @@ core_known g well graph canonical s p k low has_core =
     let reached = canonical.reached s low in
     let known = reached_items g well reached.0 item ((reached.1 item).0 has_core.1) in (known.prod, known.dot)
 
--- a step, told by its own numbers
+-- a step, given by its own numbers
 pub own_step : (g : Grammar) (token q j : ℕ) (further : Bool) (above : ℕ) (x : LinkOf) → IsStep g token q j further above x
     → IsStep g token x.prod x.dot x.further x.above x
 own_step g token q j further above x step = record {
@@ -48,7 +48,7 @@ own_step g token q j further above x step = record {
   passes = subst (λ (b : Bool). PassesOn g token step.rest x.asked b) (sym step.further_is) step.passes;
 }
 
--- from an item that isn't there by closure it is such a link
+-- from a kernel item it is such a link
 pub begun_link : (g : Grammar) (set : ItemOf → Type 0) (token q j : ℕ) (further : Bool) (above : ℕ) (x : LinkOf) → IsKernelItem g set token q j further
     → IsStep g token q j further above x → IsKernelLink g set token x
 begun_link g set token q j further above x begun step = (
@@ -101,7 +101,7 @@ listed_of_rule r n (y ∷ ys) p has_one =
           later (subst (λ (b : Bool). Contains (cond b (n ∷ prods_from r (n + 1) ys) (prods_from r (n + 1) ys)) p) (ne_eqb y.rule r other) has_one)
     ]
 
--- what is left of symbols below a mark
+-- the symbols that are left, each below the dummy lookahead
 pub AreBelow-drop : (dummy n : ℕ) (w : List GrammarSymbol) → AreBelow dummy w → AreBelow dummy (drop n w)
 AreBelow-drop dummy zero w below = below
 AreBelow-drop dummy (suc n) [] below = tt
@@ -127,9 +127,9 @@ module _ (g : Grammar) where
       let at : slice_get g.prods p ≡ Some found.1 = subst (λ (n : ℕ). slice_get g.prods n ≡ Some found.1) (sym same) found.3 in
       (slice_get_within g.prods p found.1 at, ap (λ o. option_map_or (λ (x : Production). x.rule) o 0) at ∙ found.4)
 
--- links that are put behind others
+-- links that are appended
 module _ (g : Grammar) (set : ItemOf → Type 0) (token : ℕ) where
-  -- a link of a longer list is one of the shorter one, or of what was put behind it
+  -- a link of a longer list is one of the shorter one, or of those appended to it
   put_cases : (Good : LinkOf → Type 0) (old new : List LinkOf) (put : ArePut Good old new) (i : ℕ) → i < length new
       → ((i < length old) × (link_at new i ≡ link_at old i)) ⊎ ((length old ≤ i) × Good (link_at new i))
   put_cases Good old new put i low =
@@ -170,7 +170,7 @@ module _ (g : Grammar) (set : ItemOf → Type 0) (token : ℕ) where
         | inr beyond ↦ record { step = beyond.1.0; from = inl beyond.1.1 }
       ]
 
-  -- a symbol behind a dot is no added rule
+  -- a symbol after a dot is no added rule
   pub rule_within : IsWellFormed g → (x : LinkOf) → IsStep g token x.prod x.dot x.further x.above x → (0 < x.rule) × (x.rule < rules_len g)
   rule_within well x step =
       symbol_listed g well x.prod x.dot (Nonterminal x.rule) (head_after (symbols_of g x.prod) x.dot (Nonterminal x.rule) step.rest step.before)
@@ -204,8 +204,7 @@ module _ (g : Grammar) (set : ItemOf → Type 0) (token : ℕ) where
             }
       ]
 
--- once all is linked that comes with items which aren't there by closure, and with the productions of rules that are linked, each item has
--- a link
+-- once the kernel items have their links, and so have the productions of rules with links, each item has a link
 module _ (g : Grammar) (well : IsWellFormed g) (token : ℕ) (links : List LinkOf)
     (each : (i : ℕ) → i < length links → AreNotedOf g token links (link_at links i).rule (link_at links i).asked) where
   -- what is known of an item of the closure
@@ -243,7 +242,7 @@ module _ (g : Grammar) (well : IsWellFormed g) (token : ℕ) (links : List LinkO
             (subst (λ (b : Bool). AreNoted g token links y.prod 0 b) has_one.3 noted),
       )
 
-  -- of items that aren't there by closure it is known
+  -- it is known of kernel items
   begun_linked : (set : ItemOf → Type 0) → AreKernelItemsNoted g set token links → (y : ItemOf) → set y → (0 < y.dot) ⊎ (y.prod ≡ start_prod g) → IsLinked y
   begun_linked set begun y has_item at asked own = (
     λ front listed.
@@ -270,10 +269,10 @@ module _ (g : Grammar) (well : IsWellFormed g) (token : ℕ) (links : List LinkO
   all_linked set path same begun y asked has_item front listed own =
       (reached_linked set path same begun y ((same y).0 has_item) asked own).0 front listed
 
--- what comes with one core of a state is linked: with any lookahead, and with the token, where it is one of the core's
+-- what comes by closure with one core of a state is linked: for any lookahead, and for the token, if it is one of the core's
 module _ (g : Grammar) (graph : Graph) (s token q j : ℕ) (old middle new : List LinkOf) (has_core : HasCore graph s q j)
     (at : (0 < j) ⊎ (q ≡ start_prod g)) (first : ArePut (IsStep g token q j false 0) old middle) where
-  -- links with any lookahead are from an item
+  -- links for any lookahead are from an item
   any_link : (x : LinkOf) → IsStep g token q j false 0 x → IsKernelLink g (sets_of graph s) token x
   any_link x step =
       begun_link g (sets_of graph s) token q j false 0 x
@@ -339,7 +338,7 @@ module _ (g : Grammar) (set : ItemOf → Type 0) (token : ℕ) (Good : LinkOf �
   pub notedOf_kept : (r : ℕ) (asked : Bool) → AreNotedOf g token old r asked → AreNotedOf g token new r asked
   notedOf_kept r asked noted p low is = AreNoted-kept g token Good old new put p 0 asked (noted p low is)
 
--- once the cores that aren't there by closure are noted, and the start item, all such items are
+-- once the kernel cores and the start item have their links, all such items have
 pub begun_noted : (g : Grammar) (graph : Graph) (s token : ℕ) (links : List LinkOf) (cores : List (ℕ × ℕ))
     → ((p k : ℕ) → (HasCore graph s p k × (0 < k)) ↔ Contains cores (p, k)) → IsNotedCore g (sets_of graph s) token links (start_prod g) 0
     → ((q j : ℕ) → Contains cores (q, j) → IsNotedCore g (sets_of graph s) token links q j) → AreKernelItemsNoted g (sets_of graph s) token links
@@ -369,7 +368,7 @@ below_link g token at r p asked x low is step = (
   ap (rule_of g) step.prod ∙ is,
 )
 
--- a list that something is put behind gets no shorter
+-- a list that something is appended to gets no shorter
 pub length_put : (Good : LinkOf → Type 0) (old new : List LinkOf) → ArePut Good old new → length old ≤ length new
 length_put Good old new put =
     let long : length new ≡ length old + length put.more = ap (λ (xs : List LinkOf). length xs) put.put ∙ length-append old put.more in omega arith
@@ -402,7 +401,7 @@ module _ (g : Grammar) (set : ItemOf → Type 0) (token : ℕ) (Good : LinkOf �
             (subst (λ (y : LinkOf). AreNotedOf g token new y.rule y.asked) (is ∙ sym (same at inside)) fresh)
       ]
 
--- two truth values that are told apart aren't equal
+-- two truth values of which only one is true aren't equal
 pub differ : (a b : Bool) → beq a b ≡ false → a ≡ b → ⊥
 differ true true apart same = false≢true (sym apart)
 differ false false apart same = false≢true (sym apart)

@@ -19,7 +19,7 @@ tokens_short [] = omega arith
 tokens_short (Takes t ∷ moves) = let ih = tokens_short moves in omega arith
 tokens_short (Makes p ∷ moves) = let ih = tokens_short moves in omega arith
 
--- the moves of a tree take its leaves
+-- the moves of a tree shift its leaves
 mutual
   pub tokens_of_tree : (tree : Tree ℕ) → tokens_in (moves_of tree) ≡ leaves tree
   tokens_of_tree (Leaf t) = refl

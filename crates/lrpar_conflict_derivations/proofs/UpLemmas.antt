@@ -35,7 +35,7 @@ up_links g well set path same token links are i low =
           ];
     }
 
--- and end at an item that isn't there by closure
+-- and end at a kernel item
 pub ends_begun : (g : Grammar) (set : ItemOf → Type 0) (token : ℕ) (links : List LinkOf) (up : UpOf) → AreLinks g set token links → EndsLink g links up
     → IsKernelItem g set token up.prod up.dot up.asked
 ends_begun g set token links up are ends =
@@ -53,7 +53,7 @@ ends_begun g set token links up are ends =
           ]
     ]
 
--- moves were put behind the others that lead from production p up to production q, with its dot at the front
+-- moves were appended that lead from production p up to production q, with its dot at the front
 pub record IsPathUp (g : Grammar) (token p : ℕ) (asked : Bool) (old new : List MoveOf) (q : ℕ) (further : Bool) : Type 0 where
   pub done : List MoveOf
   pub moves : new ≡ old ++ done
@@ -69,7 +69,7 @@ module _ (g : Grammar) (token p : ℕ) (asked : Bool) (old : List MoveOf) where
     begins = inl (refl, refl);
   }
 
-  -- a node and trees behind it lead up to the item of the link
+  -- a node and trees after it lead up to the item of the link
   pub path_further : IsWellFormed g → (middle pushed new : List MoveOf) (q : ℕ) (further : Bool) (x : LinkOf) → IsPathUp g token p asked old middle q further
       → q < prods_len g → x.rule ≡ rule_of g q → x.asked ≡ further → IsStep g token x.prod x.dot x.further x.above x
       → pushed ≡ middle ++ Makes q ∷ [] → HasRest g token x pushed new

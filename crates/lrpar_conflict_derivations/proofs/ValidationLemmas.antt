@@ -1,4 +1,4 @@
--- What follows where readings that were guessed pass the tests.
+-- What follows if the derivations that the search found pass the tests.
 use Rattle.std.proofs.Common.{◌≡◌, ◌<◌, ◌+◌, ◌∙◌, sym, ap, subst, inl, arith, ℕ, List, [], ◌∷◌, ◌++◌, drop, get_or, length, take}
 use Rattle.std.proofs.lemmas.List.{drop_more, map-append, take-append-drop}
 use Rattle.lrpar_grammar.specs.Grammar.{Grammar}
@@ -36,14 +36,14 @@ first_token index moves i step t low is none shifts =
     ∙ ap (λ xs. xs ++ tokens_in (move_of index step ∷ moves_in index (drop (i + 1) moves))) none in
     (rest, all ∙ ap (λ m. tokens_in (m ∷ moves_in index (drop (i + 1) moves))) shifts)
 
--- a node takes no token
+-- a reduction shifts no token
 pub no_token : {S : Type 0} (index : S → ℕ) (moves : List (Move S)) (i : ℕ) (step : Move S) (p : ℕ) → i < length moves → step ≡ get_or moves i step
     → tokens_in (moves_in index (take i moves)) ≡ [] → move_of index step ≡ Makes p → tokens_in (moves_in index (take (i + 1) moves)) ≡ []
 no_token index moves i step p low is none reduces =
     ap tokens_in (map-take_more (move_of index) moves i step low is) ∙ shifts-append (moves_in index (take i moves)) (move_of index step ∷ [])
     ∙ ap (λ xs. xs ++ tokens_in (move_of index step ∷ [])) none ∙ ap (λ m. tokens_in (m ∷ [])) reduces
 
--- a reading that goes on so from the moves in front
+-- a derivation that continues the first moves
 pub validated_derives : (g : Grammar) (steps : List StepOf) (token : ℕ) (front rest all : List MoveOf) (next : MoveOf) → all ≡ front ++ rest → BeginsBy next rest
     → ShiftsFirst token rest → AreOfTree g all → Derives g steps token front next all
 validated_derives g steps token front rest all next joined begins shifts tree trees fit are =

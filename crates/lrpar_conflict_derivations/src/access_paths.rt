@@ -1,4 +1,4 @@
-//! The ways to a state, in the order of the lengths of their texts.
+//! The access paths of a state, those with the shortest access strings first.
 
 use crate::context::Context;
 use crate::predecessors::Predecessor;
@@ -8,7 +8,8 @@ use lrpar_grammar::span::{StIdx, StorageIndex, Symbol};
 use lrpar_table_sentences::access_strings::Step;
 use std::alloc::{AllocError, Global};
 
-// The end of a way: a state, the symbol by which it goes on to the next end, that one's number, and how long the end's text is.
+// The end of an access path: a state, the symbol by which the path goes on from it, the number of the end that this symbol leads to, and
+// the length of the end's text.
 #[derive(Clone, Copy)]
 struct End<StorageT> {
     state: StIdx<StorageT>,
@@ -17,7 +18,7 @@ struct End<StorageT> {
     len: usize,
 }
 
-/// The ends of ways to a state that were looked at. Those whose ways can be shortest come first.
+/// The ends of access paths to a state that were looked at. Those whose access strings may be shortest come first.
 #[derive(Drop)]
 pub(crate) struct AccessPaths<StorageT: StorageIndex> {
     ends: Vec<End<StorageT>>,
@@ -47,12 +48,12 @@ impl<StorageT: StorageIndex> AccessPaths<StorageT> {
         Ok(paths)
     }
 
-    /// The least length of a way that wasn't found yet, if there are more.
+    /// The least length of an access string that may still be found, if there is one.
     pub(crate) fn least(&self) -> Option<usize> {
         self.queue.least()
     }
 
-    /// Looks at one end more. If it is a whole way, this is the level at its top, with the length of its text.
+    /// Looks at one more end. If it is a whole access path, this is the level at its top, with the length of its text.
     pub(crate) fn turn(
         &mut self,
         context: &Context<'_, StorageT>,
@@ -72,7 +73,7 @@ impl<StorageT: StorageIndex> AccessPaths<StorageT> {
         Ok(None)
     }
 
-    // The end of the number, if there is one.
+    // The end with this number, if there is one.
     fn get(&self, number: usize) -> Option<End<StorageT>> {
         if number < self.ends.len() {
             Some(self.ends[number])
@@ -81,7 +82,7 @@ impl<StorageT: StorageIndex> AccessPaths<StorageT> {
         }
     }
 
-    // Puts in an end, if a text leads to its state. A symbol without tokens counts as one, so that no way goes round for nothing.
+    // Adds an end, if its state has an access string. A symbol without tokens counts as one, so that no path goes round a cycle for free.
     fn add(
         &mut self,
         context: &Context<'_, StorageT>,
@@ -95,7 +96,7 @@ impl<StorageT: StorageIndex> AccessPaths<StorageT> {
         Ok(())
     }
 
-    // Puts in the ends that are longer by one step.
+    // Adds the ends that are longer by one step.
     fn extend(
         &mut self,
         context: &Context<'_, StorageT>,
@@ -114,7 +115,7 @@ impl<StorageT: StorageIndex> AccessPaths<StorageT> {
         Ok(())
     }
 
-    // Puts in the end that is longer by this step.
+    // Adds the end that is longer by this step.
     fn add_before(
         &mut self,
         context: &Context<'_, StorageT>,
@@ -136,7 +137,7 @@ impl<StorageT: StorageIndex> AccessPaths<StorageT> {
         )
     }
 
-    // The level at the top of the way.
+    // The level at the top of the access path.
     fn walk(
         &self,
         context: &Context<'_, StorageT>,

@@ -1,4 +1,4 @@
-//! Why the rules that a state's items begin with stand there.
+//! Why a state has the items that come by closure: for each of their rules, an item with the rule after its dot.
 ghost use Rattle.std.specs.Prelude.{◌≡◌, ◌<◌, ◌≤◌, ◌⊎◌, ℕ, [], IfOk, OnOk, false, true, length};
 ghost use Rattle.lrpar_grammar.specs.Grammar.{IsWellFormed, prod_len, prods_len, rules_len, start_prod};
 ghost use Rattle.lrpar_table_rows.specs.Graph.{HasCore, graph_len};
@@ -16,23 +16,23 @@ use lrpar_table_first::after_dot::rule_after;
 use lrpar_table_rows::table::StateGraph;
 use std::alloc::{AllocError, Global};
 
-/// Why a rule stands at the front of items of a state: it stands before the dot of another one.
+/// Why a state has items of a rule with the dot at the front: the rule comes after the dot of another item.
 #[derive(Clone, Copy, Debug)]
 pub(crate) struct Link<StorageT> {
     /// The rule.
     pub(crate) rule: RIdx<StorageT>,
     /// Whether the items have the token that is asked for as lookahead.
     pub(crate) asked: bool,
-    /// The production before whose dot it stands.
+    /// The production and the dot that the rule comes after.
     pub(crate) prod: PIdx<StorageT>,
     pub(crate) dot: usize,
     /// Whether the token is asked for there, too.
     pub(crate) further: bool,
-    /// Where the dot is at the front, the number of the link of that production's rule.
+    /// If the dot is at the front, the number of the link of that production's rule.
     pub(crate) above: usize,
 }
 
-/// The links that were found, and of which rules there are some: such as ask for any lookahead, and such as ask for the token.
+/// The links that were found, and which rules have one: one for any lookahead, and one for the token.
 #[derive(Drop)]
 struct Found<StorageT> {
     links: Vec<Link<StorageT>>,
@@ -40,8 +40,8 @@ struct Found<StorageT> {
     asked: Vec<bool>,
 }
 
-/// Links of rules that the state's items begin with, each from an item before it, or from one that is there without closure, as many as it
-/// takes to have one of this rule. They are found from the items that are there without closure on.
+/// Links of rules of items that the state has by closure, found from the kernel items on, until one of this rule is among them. Each comes
+/// from a kernel item or from an item of an earlier link's rule.
 pub(crate) fn links_to<StorageT: StorageIndex>(
     alloc: Global,
     grm: &YaccGrammar<StorageT>,
@@ -129,7 +129,7 @@ fn nothing_found<StorageT: StorageIndex>(
     })
 }
 
-// So many marks, none of which is set.
+// Marks for this number of rules, none of which is set.
 fn unmarked(alloc: Global, rules: usize) -> Result<Vec<bool>, AllocError>
     ensures room { IfOk result (λ marks. length marks.items ≡ rules) }
     ensures none { IfOk result (λ marks. (r : ℕ) → has marks.items r ≡ false) }
@@ -137,7 +137,7 @@ fn unmarked(alloc: Global, rules: usize) -> Result<Vec<bool>, AllocError>
     vec![in alloc; false; rules]
 }
 
-// Links what comes with the items that aren't there by closure: those with a dot behind a symbol, and the start item.
+// Links what comes by closure with the kernel items: those with a dot after a symbol, and the start item.
 fn begin<StorageT: StorageIndex>(
     grm: &YaccGrammar<StorageT>,
     firsts: &[TokenSet],
@@ -164,7 +164,7 @@ fn begin<StorageT: StorageIndex>(
     Ok(())
 }
 
-// Links what comes with the start item, if the state has it.
+// Links what comes by closure with the start item, if the state has it.
 fn begin_at_start<StorageT: StorageIndex>(
     grm: &YaccGrammar<StorageT>,
     firsts: &[TokenSet],
@@ -192,7 +192,7 @@ fn begin_at_start<StorageT: StorageIndex>(
     Ok(())
 }
 
-// Links what comes with one core: with any lookahead, and with the token, if it is one of the core's.
+// Links what comes by closure with one core: for any lookahead, and for the token, if it is one of the core's.
 fn begin_from<StorageT: StorageIndex>(
     grm: &YaccGrammar<StorageT>,
     firsts: &[TokenSet],
@@ -223,7 +223,7 @@ fn begin_from<StorageT: StorageIndex>(
     Ok(())
 }
 
-// Links what comes with each production of the link's rule.
+// Links what comes by closure with each production of the link's rule.
 fn note_rule<StorageT: StorageIndex>(
     grm: &YaccGrammar<StorageT>,
     firsts: &[TokenSet],
@@ -249,7 +249,7 @@ fn note_rule<StorageT: StorageIndex>(
     Ok(())
 }
 
-// Links what comes with a core: the rule behind its dot, if there is one.
+// Links what comes by closure with a core: the rule after its dot, if there is one.
 fn note<StorageT: StorageIndex>(
     grm: &YaccGrammar<StorageT>,
     firsts: &[TokenSet],
@@ -302,7 +302,7 @@ fn note<StorageT: StorageIndex>(
     Ok(())
 }
 
-// Puts a link that asks for any lookahead behind the others, unless there is one of its rule.
+// Appends a link for any lookahead, unless there is one of its rule.
 fn add_any<StorageT: StorageIndex>(
     link: Link<StorageT>,
     found: &mut Found<StorageT>,
@@ -323,7 +323,7 @@ fn add_any<StorageT: StorageIndex>(
     Ok(())
 }
 
-// Puts a link that asks for the token behind the others, unless there is one of its rule.
+// Appends a link for the token, unless there is one of its rule.
 fn add_asked<StorageT: StorageIndex>(
     link: Link<StorageT>,
     found: &mut Found<StorageT>,

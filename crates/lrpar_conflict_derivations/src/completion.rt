@@ -1,4 +1,4 @@
-//! How derivations are finished from an item: up to one that waits for its rule, and so on to the start.
+//! How a derivation is completed from an item: up to the item that waits for its rule, and so on up to the start.
 ghost use Rattle.std.specs.Prelude.{◌≡◌, ◌≢◌, ◌<◌, IfOk, MatchOption, OnOk, length};
 ghost use Rattle.lrpar_grammar.specs.Grammar.{IsWellFormed, prods_len, rule_of, start_prod};
 ghost use Rattle.lrpar_table_rows.specs.Graph.{graph_len};
@@ -21,8 +21,7 @@ use lrpar_table_sentences::moves::Move;
 use lrpar_table_sentences::shortest::Shortest;
 use std::alloc::{AllocError, Global};
 
-/// Where a way up ends that began at an item with its dot at the front: at an item that isn't there by closure, and whether it has the token
-/// that is asked for as lookahead.
+/// The kernel item that is reached from an item with its dot at the front, and whether it has the token that is asked for as lookahead.
 #[derive(Clone, Copy, Debug)]
 pub(crate) struct Up<StorageT> {
     pub(crate) prod: PIdx<StorageT>,
@@ -30,7 +29,7 @@ pub(crate) struct Up<StorageT> {
     pub(crate) asked: bool,
 }
 
-// Appends the moves of trees of what stands behind the link's rule.
+// Appends the moves of trees of the symbols after the link's rule.
 fn push_rest<StorageT: StorageIndex>(
     alloc: Global,
     grm: &YaccGrammar<StorageT>,
@@ -73,7 +72,7 @@ fn number_of<StorageT: StorageIndex>(
     None
 }
 
-// Appends moves that lead by the links from the production, with its dot at the front, up to an item that isn't there by closure.
+// Appends moves that lead by the links from the production, with its dot at the front, up to a kernel item.
 fn complete_by_links<StorageT: StorageIndex>(
     alloc: Global,
     grm: &YaccGrammar<StorageT>,
@@ -113,7 +112,7 @@ fn complete_by_links<StorageT: StorageIndex>(
     }
 }
 
-// Appends moves that lead from an item of the state, with its dot at the front, up to one that isn't there by closure.
+// Appends moves that lead from an item of the state, with its dot at the front, up to a kernel item.
 fn complete_in_state<StorageT: StorageIndex>(
     alloc: Global,
     grm: &YaccGrammar<StorageT>,
@@ -160,8 +159,8 @@ fn state_at<StorageT: StorageIndex>(
     }
 }
 
-/// Appends moves that finish a tree of the start rule from an item of the last state on the way, behind trees of the way's symbols and then
-/// trees of what the item has behind its dot. Where `asked`, the token is the item's lookahead, and comes next.
+/// Appends moves that complete a tree of the start rule from an item of the last state of the access path, after trees of the path's
+/// symbols and trees of the symbols after the item's dot. If `asked`, the token is the item's lookahead, and comes next.
 pub(crate) fn complete_derivation<StorageT: StorageIndex>(
     alloc: Global,
     grm: &YaccGrammar<StorageT>,

@@ -1,4 +1,4 @@
-//! What the search for one text goes by: a grammar, its table, and what is known of both.
+//! What the search uses: a grammar, its table, and what was computed of both.
 
 use crate::min_lengths::MinLengths;
 use crate::predecessors::Predecessors;
@@ -8,7 +8,7 @@ use lrpar_table_rows::table::{Action, Core, StateGraph, StateTable};
 use lrpar_table_sentences::access_strings::AccessStrings;
 use lrpar_table_sentences::shortest::Shortest;
 
-/// What the search reads. Each question has an answer at each number, also out of range, so that nothing has to be known of what is asked.
+/// What the search uses. Each method has a result for each number, out of range too, so that no caller has to prove a range.
 #[derive(Drop)]
 pub(crate) struct Context<'a, StorageT: StorageIndex> {
     pub(crate) grm: &'a YaccGrammar<StorageT>,
@@ -64,17 +64,17 @@ impl<'a, StorageT: StorageIndex> Context<'a, StorageT> {
         usize::from(prod) == usize::from(self.grm.start_prod())
     }
 
-    /// The least number of tokens of a text that the symbol derives.
+    /// The least number of tokens that the symbol derives.
     pub(crate) fn len_of(&self, symbol: Symbol<StorageT>) -> usize {
         self.shortest.len_of(symbol).unwrap_or(usize::MAX)
     }
 
-    /// The least number of tokens of a text that leads to the state.
+    /// The least number of tokens of an access string of the state.
     pub(crate) fn len_to(&self, state: StIdx<StorageT>) -> usize {
         self.access.len_to(state).unwrap_or(usize::MAX)
     }
 
-    /// Where the state goes by the rule.
+    /// The state that the rule's goto leads to.
     pub(crate) fn goto(
         &self,
         state: StIdx<StorageT>,
@@ -89,7 +89,7 @@ impl<'a, StorageT: StorageIndex> Context<'a, StorageT> {
         }
     }
 
-    /// Where the state goes by the token.
+    /// The state that a shift of the token leads to.
     pub(crate) fn shift(
         &self,
         state: StIdx<StorageT>,
@@ -101,7 +101,7 @@ impl<'a, StorageT: StorageIndex> Context<'a, StorageT> {
         }
     }
 
-    /// What the state does at the token.
+    /// The state's action at the token.
     pub(crate) fn action(&self, state: StIdx<StorageT>, token: TIdx<StorageT>) -> Action<StorageT> {
         if usize::from(state) < self.table.states_len()
             && usize::from(token) < self.table.tokens_len()

@@ -1,4 +1,4 @@
-//! Readings that go on from the text of a way: by a node, or by a token.
+//! Derivations that go on from an access path: by a reduction, or by a shift.
 ghost use Rattle.std.specs.Prelude.{◌≡◌, ◌≢◌, ◌<◌, ◌↔◌, ℕ, IfOk, IsTrue, MatchOption, Some, slice_get};
 ghost use Rattle.lrpar_grammar.specs.Grammar.{IsWellFormed, Terminal, prod_len, prods_len, start_prod, symbols_of};
 ghost use Rattle.lrpar_grammar.specs.Symbols.{symbol_of};
@@ -24,8 +24,8 @@ use lrpar_table_sentences::moves::Move;
 use lrpar_table_sentences::shortest::Shortest;
 use std::alloc::{AllocError, Global};
 
-/// The moves of a reading that begins with the moves of trees of the way's symbols, and then makes the node of the production, of which
-/// the last state has a complete item with the token.
+/// The moves of a derivation that begins with the moves of trees of the path's symbols, and then reduces the production, of which the last
+/// state has a complete item with the token.
 pub(crate) fn derive_by_reduce<StorageT: StorageIndex>(
     alloc: Global,
     grm: &YaccGrammar<StorageT>,
@@ -70,8 +70,8 @@ pub(crate) fn derive_by_reduce<StorageT: StorageIndex>(
     Ok(moves)
 }
 
-/// The moves of a reading that begins with the moves of trees of the way's symbols, and then takes the token, before which an item of
-/// the last state stands.
+/// The moves of a derivation that begins with the moves of trees of the path's symbols, and then shifts the token, which comes after the
+/// dot of an item of the last state.
 pub(crate) fn derive_by_shift<StorageT: StorageIndex>(
     alloc: Global,
     grm: &YaccGrammar<StorageT>,
@@ -107,7 +107,7 @@ pub(crate) fn derive_by_shift<StorageT: StorageIndex>(
     Ok(moves)
 }
 
-// A core of the state that stands before the token.
+// A core of the state with the token after its dot.
 fn core_before<StorageT: StorageIndex>(
     grm: &YaccGrammar<StorageT>,
     graph: &StateGraph<StorageT>,
@@ -129,7 +129,7 @@ fn core_before<StorageT: StorageIndex>(
     None
 }
 
-// Whether the core stands before the token.
+// Whether the token comes after the core's dot.
 fn has_after_dot<StorageT: StorageIndex>(
     grm: &YaccGrammar<StorageT>,
     core: Core<StorageT>,

@@ -1,4 +1,4 @@
-//! An example of a conflict.
+//! A counterexample of a conflict.
 ghost use Rattle.std.specs.Prelude.{◌≡◌, ◌↔◌, IfOk, IsTrue, length};
 ghost use Rattle.lrpar_table_sentences.specs.Moves.{moves_in};
 ghost use Rattle.lrpar_conflict_derivations.specs.Texts.{tokens_in, token_numbers};
@@ -8,7 +8,7 @@ use lrpar_table_sentences::moves::Move;
 use std::alloc::{AllocError, Global};
 use std::marker::Model;
 
-/// An example of a conflict: a text that leads to the conflict's state, and two readings of trees that go on from there, as moves.
+/// A counterexample of a conflict: an access string of the conflict's state, and two derivations that go on from there, as moves.
 #[derive(Debug)]
 pub struct Example<StorageT: StorageIndex> {
     before: Vec<TIdx<StorageT>>,
@@ -19,7 +19,7 @@ pub struct Example<StorageT: StorageIndex> {
     bound: usize,
 }
 
-// A drop of its own, so that what lets go of one elsewhere proves one call.
+// A drop of its own, so that code that drops one elsewhere proves one call.
 impl<StorageT: StorageIndex> Drop for Example<StorageT> {
     fn drop(self) {
         let Example {
@@ -47,7 +47,8 @@ impl<StorageT: StorageIndex> Model for Example<StorageT> {
 }
 
 impl<StorageT: StorageIndex> Example<StorageT> {
-    // The example of two readings that begin with these first moves, whose text is a shortest one or not, with the bound of the search.
+    // The counterexample of two derivations that begin with these moves, whose text is a shortest access string or not, with the search's
+    // bound.
     pub(crate) fn new(
         alloc: Global,
         front: &[Move<StorageT>],
@@ -76,43 +77,43 @@ impl<StorageT: StorageIndex> Example<StorageT> {
         })
     }
 
-    /// The tokens of a text that leads to the conflict's state: a shortest one, unless both readings have one text that was found on
-    /// another way.
+    /// The tokens of an access string of the conflict's state: a shortest one, unless the counterexample is unifying and was found on
+    /// another access path.
     pub fn before(&self) -> &[TIdx<StorageT>]
         ensures { token_numbers StorageT.index result.now ≡ self.now.before }
     {
         &self.before
     }
 
-    /// The moves of the first reading.
+    /// The moves of the first derivation.
     pub fn first(&self) -> &[Move<StorageT>]
         ensures { moves_in StorageT.index result.now ≡ self.now.first }
     {
         &self.first
     }
 
-    /// The moves of the second reading.
+    /// The moves of the second derivation.
     pub fn second(&self) -> &[Move<StorageT>]
         ensures { moves_in StorageT.index result.now ≡ self.now.second }
     {
         &self.second
     }
 
-    /// Whether both readings have the same text, so that the grammar is ambiguous.
+    /// Whether the counterexample is unifying: both derivations have the same text, so that the grammar is ambiguous.
     pub fn is_ambiguous(&self) -> bool
         ensures { result ≡ self.now.ambiguous }
     {
         self.ambiguous
     }
 
-    /// Whether no text that leads to the conflict's state has fewer tokens than `before`.
+    /// Whether no access string of the conflict's state has fewer tokens than `before`.
     pub fn is_shortest(&self) -> bool
         ensures { result ≡ self.now.shortest }
     {
         self.shortest
     }
 
-    /// How far one text of both readings was looked for, if they weren't of one text from the start.
+    /// The bound of the search for a unifying counterexample. Nothing is searched for if both derivations had one text from the start.
     pub fn bound(&self) -> usize
         ensures { result ≡ self.now.bound }
     {
@@ -120,7 +121,7 @@ impl<StorageT: StorageIndex> Example<StorageT> {
     }
 }
 
-// Whether both take as many tokens.
+// Whether both shift the same number of tokens.
 pub(crate) fn have_as_many<StorageT: StorageIndex>(
     alloc: Global,
     one: &[Move<StorageT>],
@@ -134,7 +135,7 @@ pub(crate) fn have_as_many<StorageT: StorageIndex>(
     Ok(one.len() == other.len())
 }
 
-// Whether the tokens that both take are the same.
+// Whether both shift the same tokens.
 fn have_same_text<StorageT: StorageIndex>(
     alloc: Global,
     first: &[Move<StorageT>],
@@ -163,7 +164,7 @@ fn are_same<StorageT: StorageIndex>(one: &[TIdx<StorageT>], other: &[TIdx<Storag
     true
 }
 
-/// The tokens that the moves take, in order. An `Err` comes where memory doesn't suffice.
+/// The tokens that the moves shift, in order. Fails only if an allocation does.
 pub fn tokens_of<StorageT: StorageIndex>(
     alloc: Global,
     moves: &[Move<StorageT>],

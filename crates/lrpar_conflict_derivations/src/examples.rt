@@ -1,4 +1,4 @@
-//! Examples of the conflicts of a table that was built of a grammar.
+//! Counterexamples of the conflicts of a table that was built of a grammar.
 ghost use Rattle.std.specs.Prelude.{◌≡◌, ◌≢◌, ◌<◌, IfErr, IfOk, IfSome, map};
 ghost use Rattle.std.specs.List.{Contains};
 ghost use Rattle.lrpar_grammar.specs.Symbols.{symbol_of};
@@ -32,7 +32,7 @@ use lrpar_table_sentences::shortest::Shortest;
 use std::alloc::{AllocError, Global};
 use std::marker::Model;
 
-/// What the examples of all conflicts of a table share.
+/// What the counterexamples of all conflicts of a table share.
 pub struct Examples<StorageT: StorageIndex> {
     firsts: Vec<TokenSet>,
     shortest: Shortest<StorageT>,
@@ -41,7 +41,7 @@ pub struct Examples<StorageT: StorageIndex> {
     predecessors: Predecessors<StorageT>,
 }
 
-// A drop of its own, so that what lets go of one elsewhere proves one call.
+// A drop of its own, so that code that drops one elsewhere proves one call.
 impl<StorageT: StorageIndex> Drop for Examples<StorageT> {
     fn drop(self) {
         let Examples {
@@ -68,7 +68,7 @@ impl<StorageT: StorageIndex> Model for Examples<StorageT> {
     ghost view = { λ x. record { firsts = rows_of x.firsts.items; shortest = x.shortest; access = x.access } };
 }
 
-// The steps of a shortest way to a state, and the moves of shortest trees of its symbols.
+// The steps of a shortest access path of a state, and the moves of minimal sentences' trees of its symbols.
 #[derive(Drop)]
 struct Front<StorageT> {
     steps: Vec<Step<StorageT>>,
@@ -76,10 +76,10 @@ struct Front<StorageT> {
 }
 
 impl<StorageT: StorageIndex> Examples<StorageT> {
-    /// What examples of the conflicts of a table need that was built of the grammar.
+    /// What counterexamples of the conflicts of a table need that was built of the grammar.
     ///
-    /// `Barren` names the first rule, by its number, that the grammar reaches from its start and that derives no text: with one there are
-    /// no examples. `Memory` comes where it doesn't suffice.
+    /// `Unproductive` names the first rule, by its number, that the grammar reaches from its start and that derives no text: with one there
+    /// are no counterexamples. `Memory` says that an allocation failed.
     pub fn new(
         alloc: Global,
         grm: &YaccGrammar<StorageT>,
@@ -104,12 +104,12 @@ impl<StorageT: StorageIndex> Examples<StorageT> {
         })
     }
 
-    /// The example of a conflict between two reductions, as token, productions and state: one reading makes the node of the first
-    /// production, the other that of the second.
+    /// The counterexample of a conflict between two reductions, as token, productions and state: one derivation reduces the first
+    /// production, the other the second.
     ///
-    /// If the trees' texts differ, it looks for one text that has both readings, on any way to the state, shortest texts first, and gives
-    /// these in place of the others if it finds some. It tries at most `bound` pairs of readings and beginnings of ways; with a bound of 0 it
-    /// doesn't look. An `Err` comes where memory doesn't suffice.
+    /// If the derivations have different texts, it looks for a unifying counterexample on all access paths of the state, shortest texts
+    /// first, and returns that if it finds one. It tries at most `bound` configurations and ends of access paths; with a bound of 0 it
+    /// doesn't look. Fails only if an allocation does.
     pub fn of_reduce_reduce(
         &self,
         alloc: Global,
@@ -140,8 +140,8 @@ impl<StorageT: StorageIndex> Examples<StorageT> {
         )
     }
 
-    /// The example of a conflict between a shift and a reduction, as token, production and state: one reading makes the node of the
-    /// production, the other takes the token. `bound` is that of `of_reduce_reduce`, and so is an `Err`.
+    /// The counterexample of a conflict between a shift and a reduction, as token, production and state: one derivation reduces the
+    /// production, the other shifts the token. `bound` is that of `of_reduce_reduce`, and so is an `Err`.
     pub fn of_shift_reduce(
         &self,
         alloc: Global,
@@ -167,7 +167,7 @@ impl<StorageT: StorageIndex> Examples<StorageT> {
         )
     }
 
-    // The same by a way to the state.
+    // The counterexample that begins with this access path.
     fn reductions(
         &self,
         alloc: Global,
@@ -222,7 +222,7 @@ impl<StorageT: StorageIndex> Examples<StorageT> {
         Example::new(alloc, &front.moves, first, second, true, bound)
     }
 
-    // The same by a way to the state.
+    // The counterexample that begins with this access path.
     fn shift(
         &self,
         alloc: Global,
@@ -271,7 +271,7 @@ impl<StorageT: StorageIndex> Examples<StorageT> {
         Example::new(alloc, &front.moves, first, second, true, bound)
     }
 
-    // A shortest way to the state, and shortest trees of its symbols.
+    // A shortest access path of the state, and minimal sentences' trees of its symbols.
     fn front(
         &self,
         alloc: Global,
@@ -299,7 +299,7 @@ impl<StorageT: StorageIndex> Examples<StorageT> {
         Ok(Front { steps, moves })
     }
 
-    // The example of readings of one text that begin so, if one is found within the bound; else the plain one.
+    // A unifying counterexample, if one is found within the bound; else the plain one.
     fn with_one_text(
         &self,
         alloc: Global,
@@ -335,7 +335,7 @@ impl<StorageT: StorageIndex> Examples<StorageT> {
         }
     }
 
-    // The example of readings of one text that begin so, if one is found within the bound.
+    // A unifying counterexample whose derivations go on by these moves, if one is found within the bound.
     fn one_text(
         &self,
         alloc: Global,
@@ -393,7 +393,7 @@ impl<StorageT: StorageIndex> Examples<StorageT> {
     }
 }
 
-// The shortest texts of the grammar's rules, if each rule that is reached derives some text.
+// Minimal sentences of the grammar's rules, if each reachable rule is productive.
 fn productive<StorageT: StorageIndex>(
     alloc: Global,
     grm: &YaccGrammar<StorageT>,

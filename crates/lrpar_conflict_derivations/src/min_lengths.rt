@@ -1,4 +1,4 @@
-//! How many tokens the symbols of productions derive at least.
+//! The least number of tokens that the symbols of productions derive from each dot on.
 
 use lrpar_grammar::grammar::YaccGrammar;
 use lrpar_grammar::span::{PIdx, StorageIndex, Symbol};

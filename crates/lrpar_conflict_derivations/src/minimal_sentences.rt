@@ -1,4 +1,4 @@
-//! Shortest texts of symbols that may have none.
+//! Minimal sentences of symbols that may derive none.
 ghost use Rattle.std.specs.Prelude.{◌≡◌, ◌++◌, ℕ, IfOk, IsTrue, map};
 ghost use Rattle.lrpar_grammar.specs.Symbols.{symbol_of};
 ghost use Rattle.lrpar_grammar.specs.Tree.{Forest};
@@ -12,7 +12,7 @@ use lrpar_table_sentences::moves::Move;
 use lrpar_table_sentences::shortest::Shortest;
 use std::alloc::{AllocError, Global};
 
-/// Appends the moves of shortest trees of the symbols, if each has one; whether that is so.
+/// Appends the moves of minimal sentences' trees of the symbols, if each derives some text; whether that is so.
 pub(crate) fn push_sentences<StorageT: StorageIndex>(
     alloc: Global,
     grm: &YaccGrammar<StorageT>,
@@ -33,7 +33,7 @@ pub(crate) fn push_sentences<StorageT: StorageIndex>(
     }
 }
 
-/// Appends the moves of a shortest tree of the symbol, if it has one.
+/// Appends the moves of a minimal sentence's tree of the symbol, if it derives some text.
 pub(crate) fn push_sentence<StorageT: StorageIndex>(
     alloc: Global,
     grm: &YaccGrammar<StorageT>,

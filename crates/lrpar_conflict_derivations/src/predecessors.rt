@@ -1,4 +1,4 @@
-//! From which states the table goes to each state.
+//! The transitions into each state of a table.
 
 use crate::priority_queue::NONE;
 use lrpar_grammar::span::{StIdx, StorageIndex, Symbol};

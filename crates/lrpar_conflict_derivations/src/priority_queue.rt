@@ -1,14 +1,14 @@
-//! What waits for its turn, in the order of numbers.
+//! A priority queue of numbered items.
 
 use std::alloc::{AllocError, Global};
 
 /// No number.
 pub(crate) const NONE: usize = usize::MAX;
 
-// How many numbers from the first one on are distinguished.
+// How many keys, from the first one on, are distinguished.
 const SLOTS: usize = 256;
 
-/// Numbered items that wait, each with a key: one with the least key comes first, and of equals the one that came last.
+/// Numbered items that wait, each with a key: one with the least key comes first, and of equals the one that was added last.
 #[derive(Drop)]
 pub(crate) struct PriorityQueue {
     heads: Vec<usize>,
@@ -32,7 +32,7 @@ impl PriorityQueue {
         })
     }
 
-    /// Puts in the next item by its number.
+    /// Adds the next item, with this key.
     pub(crate) fn add(&mut self, key: usize) -> Result<(), AllocError> {
         let number = self.nexts.len();
         if number == 0 {
@@ -56,7 +56,7 @@ impl PriorityQueue {
         }
     }
 
-    /// Takes out the item that comes first.
+    /// Removes the item that comes first.
     pub(crate) fn pop(&mut self) -> Option<usize> {
         if self.least >= self.heads.len() {
             return None;
@@ -71,7 +71,7 @@ impl PriorityQueue {
     }
 }
 
-// The first slot from this one on in which something waits, or the number of slots.
+// The first slot, from this one on, that has an item, or the number of slots.
 fn next_slot(heads: &[usize], from: usize) -> usize {
     for slot in from..heads.len() {
         if heads[slot] != NONE {

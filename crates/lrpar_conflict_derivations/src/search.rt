@@ -1,4 +1,4 @@
-//! Two readings of one text on their way, and the search among them.
+//! Configurations of two derivations with a common text, and the search over them.
 ghost use Rattle.std.specs.Prelude.{◌<◌, IfSome};
 ghost use Rattle.lrpar_table_rows.specs.Graph.{graph_len};
 
@@ -11,7 +11,7 @@ use lrpar_table_rows::table::Action;
 use lrpar_table_sentences::moves::Move;
 use std::alloc::{AllocError, Global};
 
-/// A conflict: the state, the token, and the moves by which the two readings go on.
+/// A conflict: the state, the token, and the moves by which the two derivations go on.
 #[derive(Clone, Copy)]
 pub(crate) struct Conflict<StorageT> {
     pub(crate) state: StIdx<StorageT>,
@@ -20,7 +20,8 @@ pub(crate) struct Conflict<StorageT> {
     pub(crate) other: Move<StorageT>,
 }
 
-/// By what a pair came about: it begins on the way to this level; one reading made a node, or the other; or both took a symbol.
+/// How a configuration came about: it starts at the end of the access path to this level; one derivation reduced, or the other; or both got
+/// the same symbol.
 #[derive(Clone, Copy)]
 pub(crate) enum Origin<StorageT> {
     Start(usize),
@@ -29,9 +30,9 @@ pub(crate) enum Origin<StorageT> {
     Both(Symbol<StorageT>),
 }
 
-/// Two readings that have taken the same text: the levels at the tops of their stacks; whether the other one has made a node since both
-/// took a symbol, so that the first makes none; whether they have taken the conflict's token; how many tokens they have taken, and how many
-/// nodes without symbols they have made; and by which pair and how they came about.
+/// Two derivations with the same text so far: the levels at the tops of their stacks; whether the second has reduced since both got a
+/// symbol, after which the first may not; whether the conflict's token was shifted; how many tokens there are, and how many reductions of
+/// empty productions; the configuration that this one came from, and how; and the next one with the same level of the first stack.
 #[derive(Clone, Copy)]
 pub(crate) struct Configuration<StorageT> {
     one: usize,
@@ -45,7 +46,7 @@ pub(crate) struct Configuration<StorageT> {
     same: usize,
 }
 
-/// What a turn of the search comes to.
+/// The result of one turn of the search.
 pub(crate) enum Turn {
     Found(usize),
     Further,
@@ -65,7 +66,7 @@ pub(crate) struct Search<StorageT: StorageIndex> {
 }
 
 impl<StorageT: StorageIndex> Search<StorageT> {
-    /// Nothing is tried yet.
+    /// Nothing was tried yet.
     pub(crate) fn new(
         alloc: Global,
         context: &Context<'_, StorageT>,
@@ -82,7 +83,7 @@ impl<StorageT: StorageIndex> Search<StorageT> {
         })
     }
 
-    /// Tries what has the shortest text, as far as can be told: a pair, or a way on which a pair can begin.
+    /// Tries what may have the shortest text: a configuration, or an access path on which one can start.
     pub(crate) fn turn(
         &mut self,
         context: &Context<'_, StorageT>,
@@ -100,18 +101,18 @@ impl<StorageT: StorageIndex> Search<StorageT> {
         }
     }
 
-    /// How the pair came about, and by which one, if there is one.
+    /// How the configuration came about, and its parent's number, if there is such a configuration.
     pub(crate) fn origin(&self, number: usize) -> Option<(Origin<StorageT>, usize)> {
         let configuration = self.get(number)?;
         Some((configuration.origin, configuration.parent))
     }
 
-    /// How many pairs there are.
+    /// How many configurations there are.
     pub(crate) fn len(&self) -> usize {
         self.configurations.len()
     }
 
-    /// The level at the top of the pair's first reading.
+    /// The level at the top of the first derivation's stack.
     pub(crate) fn top(&self, number: usize) -> usize {
         match self.get(number) {
             Some(configuration) => configuration.one,
@@ -119,7 +120,7 @@ impl<StorageT: StorageIndex> Search<StorageT> {
         }
     }
 
-    // The pair of the number, if there is one.
+    // The configuration with this number, if there is one.
     fn get(&self, number: usize) -> Option<Configuration<StorageT>> {
         if number < self.configurations.len() {
             Some(self.configurations[number])
@@ -128,7 +129,7 @@ impl<StorageT: StorageIndex> Search<StorageT> {
         }
     }
 
-    // Whether a way comes before each pair.
+    // Whether an access path comes before each configuration.
     fn is_path_first(&self) -> bool {
         match self.paths.least() {
             None => false,
@@ -139,7 +140,7 @@ impl<StorageT: StorageIndex> Search<StorageT> {
         }
     }
 
-    // Begins a pair on the way to the level.
+    // Starts a configuration on the access path to the level.
     fn begin(
         &mut self,
         context: &Context<'_, StorageT>,
@@ -163,7 +164,7 @@ impl<StorageT: StorageIndex> Search<StorageT> {
         })
     }
 
-    // The level after the move, which takes no token yet.
+    // The level after a reduction; a shift comes later, and leaves the level.
     fn moved(
         &mut self,
         context: &Context<'_, StorageT>,
@@ -176,7 +177,7 @@ impl<StorageT: StorageIndex> Search<StorageT> {
         }
     }
 
-    // Puts in a pair, if both readings can be finished and it wasn't there yet.
+    // Adds a configuration, if both derivations can be completed and it is new.
     fn add(&mut self, configuration: Configuration<StorageT>) -> Result<(), AllocError> {
         let (Some(one), Some(other)) = (
             self.stacks.get(configuration.one),
@@ -200,7 +201,7 @@ impl<StorageT: StorageIndex> Search<StorageT> {
         self.queue.add(key)
     }
 
-    // Keeps how many tokens follow the first way at least, once the conflict's token is taken on it.
+    // Keeps how many tokens follow the first access path at least, once the conflict's token was shifted on it.
     fn note_token(&mut self, configuration: &Configuration<StorageT>, rest: usize) {
         if self.begun <= 1 && configuration.past_conflict {
             if let Some(parent) = self.get(configuration.parent) {
@@ -211,7 +212,7 @@ impl<StorageT: StorageIndex> Search<StorageT> {
         }
     }
 
-    // Whether such a pair is there.
+    // Whether there is such a configuration.
     fn is_there(&self, configuration: &Configuration<StorageT>) -> bool {
         let mut number = if configuration.one < self.seen.len() {
             self.seen[configuration.one]
@@ -228,7 +229,7 @@ impl<StorageT: StorageIndex> Search<StorageT> {
         false
     }
 
-    // Keeps the pair.
+    // Keeps the configuration.
     fn keep(&mut self, configuration: Configuration<StorageT>) -> Result<(), AllocError> {
         for _ in self.seen.len()..self.stacks.len() {
             self.seen.push(NONE)?;
@@ -242,7 +243,7 @@ impl<StorageT: StorageIndex> Search<StorageT> {
         Ok(())
     }
 
-    // Whether the pair is one text with two readings; else what comes of it by one move is put in.
+    // Whether the configuration is a unifying counterexample; if not, adds what comes of it by one move.
     fn try_configuration(
         &mut self,
         context: &Context<'_, StorageT>,
@@ -270,7 +271,7 @@ impl<StorageT: StorageIndex> Search<StorageT> {
         Ok(Turn::Further)
     }
 
-    // Whether the conflict's token is the end token, and the first reading accepts.
+    // Whether the conflict's token is the end token, and the first derivation accepts.
     fn is_end(
         &self,
         context: &Context<'_, StorageT>,
@@ -283,7 +284,7 @@ impl<StorageT: StorageIndex> Search<StorageT> {
         }
     }
 
-    // Puts in the pairs whose first reading makes one node more.
+    // Adds the configurations in which the first derivation makes one more reduction.
     fn reduce_one(
         &mut self,
         context: &Context<'_, StorageT>,
@@ -313,7 +314,7 @@ impl<StorageT: StorageIndex> Search<StorageT> {
         Ok(())
     }
 
-    // Puts in the pairs whose other reading makes one node more.
+    // Adds the configurations in which the second derivation makes one more reduction.
     fn reduce_other(
         &mut self,
         context: &Context<'_, StorageT>,
@@ -357,7 +358,7 @@ impl<StorageT: StorageIndex> Search<StorageT> {
         }
     }
 
-    // Puts in the pairs that come by a token: the conflict's one, if it isn't taken yet.
+    // Adds the configurations that come by shifting a token: the conflict's one, if it wasn't shifted yet.
     fn shift_tokens(
         &mut self,
         context: &Context<'_, StorageT>,
@@ -397,7 +398,7 @@ impl<StorageT: StorageIndex> Search<StorageT> {
         Ok(())
     }
 
-    // Puts in the pairs that come by a rule, by a shortest text of it that has tokens.
+    // Adds the configurations that come by a rule that has tokens, by its minimal sentence.
     fn shift_rules(
         &mut self,
         context: &Context<'_, StorageT>,
@@ -431,7 +432,7 @@ impl<StorageT: StorageIndex> Search<StorageT> {
         Ok(())
     }
 
-    // Puts in the pair that comes by this symbol, to these states.
+    // Adds the configuration that comes by this symbol, with these states.
     fn shift_symbol(
         &mut self,
         context: &Context<'_, StorageT>,
@@ -459,7 +460,7 @@ impl<StorageT: StorageIndex> Search<StorageT> {
     }
 }
 
-// Whether both are at the same levels, and may go on in the same ways.
+// Whether both have the same levels, and the same moves are open to them.
 fn is_same<StorageT>(one: &Configuration<StorageT>, other: &Configuration<StorageT>) -> bool {
     one.one == other.one
         && one.other == other.other
@@ -467,12 +468,12 @@ fn is_same<StorageT>(one: &Configuration<StorageT>, other: &Configuration<Storag
         && one.second_reduced == other.second_reduced
 }
 
-// How many nodes without symbols one with so many is.
+// How many reductions of empty productions a reduction of this number of symbols is.
 fn empty_of(len: usize) -> usize {
     if len == 0 { 1 } else { 0 }
 }
 
-// Whether the state's production can be made: as long as the conflict's token isn't taken, with it as lookahead.
+// Whether the state's production can be reduced: until the conflict's token is shifted, with it as lookahead.
 fn can_reduce<StorageT: StorageIndex>(
     context: &Context<'_, StorageT>,
     conflict: &Conflict<StorageT>,

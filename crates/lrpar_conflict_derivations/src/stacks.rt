@@ -1,4 +1,4 @@
-//! Stacks of states, which share what they have in common, and how a text goes on at least from each.
+//! Stacks of states that share their lower parts, and the least number of tokens that complete a text from each.
 
 use crate::context::Context;
 use crate::priority_queue::NONE;
@@ -6,8 +6,8 @@ use lrpar_grammar::span::{PIdx, RIdx, StIdx, StorageIndex, Symbol};
 use lrpar_table_rows::table::Core;
 use std::alloc::{AllocError, Global};
 
-/// The top of a stack: the level below it, the state, the symbol by which it was reached, the least number of tokens with which a text
-/// ends from here, and the numbers of its row, of a level on top of it, and of a further one on the same level below.
+/// A level of a stack: the level below it, the state, the symbol by which it was reached, the least number of tokens that complete a text
+/// from here, and the numbers of its row, of a level on top of it, and of another one on the same level below.
 #[derive(Clone, Copy)]
 pub(crate) struct Level<StorageT> {
     pub(crate) below: usize,
@@ -19,7 +19,8 @@ pub(crate) struct Level<StorageT> {
     sibling: usize,
 }
 
-/// What waits for a rule on top of a level: a production and its dot, and the least number of tokens with which a text ends after the rule.
+/// The item that waits for a rule on top of a level: a production and its dot, and the least number of tokens that complete a text after
+/// the rule.
 #[derive(Clone, Copy)]
 pub(crate) struct Waiting<StorageT> {
     pub(crate) prod: PIdx<StorageT>,
@@ -27,7 +28,7 @@ pub(crate) struct Waiting<StorageT> {
     pub(crate) rest: usize,
 }
 
-/// The levels, the first of which is the bottom of each stack, and rows with what waits for each rule.
+/// The levels, the first of which is the bottom of each stack, and rows with the item that waits for each rule.
 #[derive(Drop)]
 pub(crate) struct Stacks<StorageT: StorageIndex> {
     stacks: Vec<Level<StorageT>>,
@@ -54,7 +55,7 @@ impl<StorageT: StorageIndex> Stacks<StorageT> {
         })
     }
 
-    /// The level of the number, if there is one.
+    /// The level with this number, if there is one.
     pub(crate) fn get(&self, level: usize) -> Option<Level<StorageT>> {
         if level < self.stacks.len() {
             Some(self.stacks[level])
@@ -68,7 +69,7 @@ impl<StorageT: StorageIndex> Stacks<StorageT> {
         self.stacks.len()
     }
 
-    /// The level so many levels below.
+    /// The level that is this number of levels below.
     pub(crate) fn below(&self, level: usize, count: usize) -> usize {
         let mut level = level;
         for _ in 0..count {
@@ -80,7 +81,7 @@ impl<StorageT: StorageIndex> Stacks<StorageT> {
         level
     }
 
-    /// What waits for the rule on top of the level, if something does.
+    /// The item that waits for the rule on top of the level, if there is one.
     pub(crate) fn waiting(&self, level: usize, rule: RIdx<StorageT>) -> Option<Waiting<StorageT>> {
         let place = self.get(level)?.row.saturating_add(usize::from(rule));
         if place < self.rows.len() && self.rows[place].rest != NONE {
@@ -90,7 +91,7 @@ impl<StorageT: StorageIndex> Stacks<StorageT> {
         }
     }
 
-    /// The least number of tokens with which a text ends after the production, of which so many symbols as the core's dot tells are on top.
+    /// The least number of tokens that complete a text after the production, whose symbols before the core's dot are on top.
     fn after(&self, context: &Context<'_, StorageT>, level: usize, core: Core<StorageT>) -> usize {
         if context.is_start(core.0) {
             return 0;
@@ -104,7 +105,7 @@ impl<StorageT: StorageIndex> Stacks<StorageT> {
         }
     }
 
-    /// The least number of tokens with which a text ends from the core on the level.
+    /// The least number of tokens that complete a text from the core on the level.
     pub(crate) fn rest_of(
         &self,
         context: &Context<'_, StorageT>,
@@ -149,7 +150,7 @@ impl<StorageT: StorageIndex> Stacks<StorageT> {
         Ok(level)
     }
 
-    /// The level once the production's node is made, or none if it can't be.
+    /// The level after a reduction of the production, or `NONE` if it isn't possible.
     pub(crate) fn reduced(
         &mut self,
         context: &Context<'_, StorageT>,
@@ -185,7 +186,7 @@ impl<StorageT: StorageIndex> Stacks<StorageT> {
         NONE
     }
 
-    // Keeps the least number of tokens with which a text ends from the level.
+    // Keeps the least number of tokens that complete a text from the level.
     fn keep_rest(&mut self, context: &Context<'_, StorageT>, level: usize, state: StIdx<StorageT>) {
         if usize::from(state) >= context.graph.states_len() {
             return;
@@ -227,7 +228,7 @@ impl<StorageT: StorageIndex> Stacks<StorageT> {
         Ok(())
     }
 
-    // Lowers what waits on the level by each of the state's cores; whether something was.
+    // Lowers the least numbers of the level's row by each of the state's cores; whether one got lower.
     fn sweep(
         &mut self,
         context: &Context<'_, StorageT>,
@@ -246,7 +247,7 @@ impl<StorageT: StorageIndex> Stacks<StorageT> {
         lower
     }
 
-    // Lowers what waits on the level for the rule after the core's dot; whether it was.
+    // Lowers the least number for the rule after the core's dot; whether it got lower.
     fn lower(
         &mut self,
         context: &Context<'_, StorageT>,

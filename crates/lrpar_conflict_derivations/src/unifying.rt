@@ -1,4 +1,4 @@
-//! The search for one text of both readings, shortest texts first. What it finds is a guess, which is replayed before it is believed.
+//! The search for a unifying counterexample, shortest texts first. Its result is validated by a replay.
 ghost use Rattle.lrpar_table_sentences.specs.Choices.{AreShortest};
 
 use crate::context::Context;
@@ -10,7 +10,7 @@ use lrpar_table_sentences::access_strings::Step;
 use lrpar_table_sentences::moves::Move;
 use std::alloc::{AllocError, Global};
 
-/// The steps of a way to the conflict's state, and the moves of two readings after it.
+/// The steps of an access path of the conflict's state, and the moves of two derivations after it.
 #[derive(Drop)]
 pub(crate) struct Unifying<StorageT> {
     pub(crate) steps: Vec<Step<StorageT>>,
@@ -18,8 +18,8 @@ pub(crate) struct Unifying<StorageT> {
     pub(crate) second: Vec<Move<StorageT>>,
 }
 
-/// A way to the conflict's state, and two readings after it that begin with its moves and take one text, if some are found in so many turns.
-/// Nothing is promised of them.
+/// An access path of the conflict's state, and two derivations after it that begin with the conflict's moves and have one text, if some are
+/// found within this number of turns. Nothing is promised of them.
 pub(crate) fn find_unifying<StorageT: StorageIndex>(
     alloc: Global,
     context: &Context<'_, StorageT>,
@@ -41,7 +41,7 @@ pub(crate) fn find_unifying<StorageT: StorageIndex>(
     Ok(None)
 }
 
-// The way and the readings of the pair.
+// The access path and the derivations of the configuration.
 fn unifying_of<StorageT: StorageIndex>(
     alloc: Global,
     context: &Context<'_, StorageT>,
@@ -72,7 +72,7 @@ fn unifying_of<StorageT: StorageIndex>(
     Ok(text)
 }
 
-// How the pair came about, from the way on.
+// How the configuration came about, from the access path on.
 fn origins_of<StorageT: StorageIndex>(
     alloc: Global,
     search: &Search<StorageT>,
@@ -90,7 +90,7 @@ fn origins_of<StorageT: StorageIndex>(
     Ok(origins)
 }
 
-// Appends the move, if it makes a node.
+// Appends the move, if it is a reduction.
 fn push_reduce<StorageT: StorageIndex>(
     out: &mut Vec<Move<StorageT>>,
     next: Move<StorageT>,
@@ -101,7 +101,7 @@ fn push_reduce<StorageT: StorageIndex>(
     Ok(())
 }
 
-// Appends what came about.
+// Appends the moves by which a configuration came about.
 fn push_origin<StorageT: StorageIndex>(
     alloc: Global,
     context: &Context<'_, StorageT>,
@@ -150,7 +150,7 @@ fn step_to<StorageT: StorageIndex>(
     Some((step, own.below))
 }
 
-// Appends a shortest text of the symbol to both readings.
+// Appends a minimal sentence of the symbol to both derivations.
 fn push_symbol<StorageT: StorageIndex>(
     alloc: Global,
     context: &Context<'_, StorageT>,
@@ -175,7 +175,7 @@ fn push_symbol<StorageT: StorageIndex>(
     )
 }
 
-// Appends shortest texts of the symbols to both readings.
+// Appends minimal sentences of the symbols to both derivations.
 fn push_both<StorageT: StorageIndex>(
     alloc: Global,
     context: &Context<'_, StorageT>,
@@ -201,7 +201,7 @@ fn push_both<StorageT: StorageIndex>(
     Ok(())
 }
 
-// Appends moves that finish both readings from the level on which they meet, by the shortest text.
+// Appends moves that complete both derivations from their common level, by the shortest text.
 fn finish<StorageT: StorageIndex>(
     alloc: Global,
     context: &Context<'_, StorageT>,
@@ -236,7 +236,7 @@ fn finish<StorageT: StorageIndex>(
     Ok(())
 }
 
-// The core of the level's state from which a text ends soonest, if there is one.
+// The core of the level's state from which the fewest tokens complete a text, if there is one.
 fn least_core<StorageT: StorageIndex>(
     context: &Context<'_, StorageT>,
     stacks: &Stacks<StorageT>,
@@ -254,7 +254,7 @@ fn least_core<StorageT: StorageIndex>(
     None
 }
 
-// Appends shortest texts of what the production has after the dot to both readings.
+// Appends minimal sentences of the production's symbols after the dot to both derivations.
 fn push_rest<StorageT: StorageIndex>(
     alloc: Global,
     context: &Context<'_, StorageT>,

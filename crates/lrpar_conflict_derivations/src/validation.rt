@@ -1,4 +1,4 @@
-//! Whether a way and two readings that were guessed are an example.
+//! Whether the result of the search is a unifying counterexample.
 ghost use Rattle.std.specs.Prelude.{◌≡◌, ◌≢◌, ◌<◌, ◌++◌, ℕ, IfOk, IfSome, IsTrue, List, map};
 ghost use Rattle.lrpar_grammar.specs.Grammar.{Terminal};
 ghost use Rattle.lrpar_grammar.specs.Symbols.{symbol_of};
@@ -24,8 +24,8 @@ use lrpar_table_sentences::moves::Move;
 use lrpar_table_sentences::shortest::Shortest;
 use std::alloc::{AllocError, Global};
 
-/// The example of a way to the state and two readings that were found, if it leads there, and they begin with these moves, take the token
-/// next, are those of trees, and have one text. `front` is that of a shortest way.
+/// The counterexample of an access path and two derivations that were found, if the path leads to the state, and the derivations begin with
+/// these moves, shift the token next, are those of trees, and have one text. `front` is that of a shortest access path.
 pub(crate) fn validated<StorageT: StorageIndex>(
     alloc: Global,
     grm: &YaccGrammar<StorageT>,
@@ -65,7 +65,7 @@ pub(crate) fn validated<StorageT: StorageIndex>(
     }
 }
 
-// The moves of shortest trees of the steps' symbols, if the steps lead to the state.
+// The moves of minimal sentences' trees of the steps' symbols, if the steps lead to the state.
 fn path_moves<StorageT: StorageIndex>(
     alloc: Global,
     grm: &YaccGrammar<StorageT>,
@@ -116,7 +116,7 @@ fn lead<StorageT: StorageIndex>(
     usize::from(state) == usize::from(last)
 }
 
-// Where the table goes from the state by the symbol.
+// The state that the symbol leads to.
 fn next_by<StorageT: StorageIndex>(
     table: &StateTable<StorageT>,
     state: StIdx<StorageT>,
@@ -139,7 +139,7 @@ fn next_by<StorageT: StorageIndex>(
     }
 }
 
-// Where the table goes from the state by a shift of the token.
+// The state that a shift of the token leads to.
 fn shift_by<StorageT: StorageIndex>(
     table: &StateTable<StorageT>,
     state: StIdx<StorageT>,
@@ -157,8 +157,8 @@ fn shift_by<StorageT: StorageIndex>(
     }
 }
 
-// The example of two readings that go on so from these first moves, if they begin with these moves, take the token next, are those of
-// trees, and have one text.
+// The counterexample of two derivations that continue these first moves, if they begin with `one` and `other`, shift the token next, are
+// those of trees, and have one text.
 fn example_of<StorageT: StorageIndex>(
     alloc: Global,
     grm: &YaccGrammar<StorageT>,
@@ -194,7 +194,7 @@ fn example_of<StorageT: StorageIndex>(
     Ok(Some(example))
 }
 
-// Whether the moves begin with this one, and take the token before all others.
+// Whether the moves begin with this one, and the token is the first that they shift.
 fn begin_with<StorageT: StorageIndex>(
     moves: &[Move<StorageT>],
     next: Move<StorageT>,
@@ -216,7 +216,7 @@ fn begins_by<StorageT: StorageIndex>(moves: &[Move<StorageT>], next: Move<Storag
     is_same(moves[0], next)
 }
 
-// Whether the first token that is taken is this one.
+// Whether the token is the first that the moves shift.
 fn shifts_first<StorageT: StorageIndex>(moves: &[Move<StorageT>], token: TIdx<StorageT>) -> bool
     ensures { IsTrue result → ShiftsFirst (StorageT.index token.0) (moves_in StorageT.index moves.now) }
 {
@@ -245,7 +245,7 @@ fn is_same<StorageT: StorageIndex>(one: Move<StorageT>, other: Move<StorageT>) -
     }
 }
 
-// One list of moves behind the other.
+// One list of moves after the other.
 fn joined<StorageT: StorageIndex>(
     alloc: Global,
     front: &[Move<StorageT>],

@@ -6,7 +6,7 @@ use Rattle.lrpar_table_items.specs.Canonical.{sets_of}
 use Rattle.lrpar_conflict_derivations.specs.ClosureLinks.{AreMarks, ArePut, IsKernelLink, IsNotedCore, links_of}
 use Rattle.lrpar_conflict_derivations.proofs.closure_links.begin.Given as goal
 
--- what comes with the start item is linked, and with the cores so far
+-- the start item has its links, and so have the cores so far
 abbrev pub invariant-loop-core : goal.invariant-loop-core
 invariant-loop-core g l =
     let index = g.StorageT.StorageIndex.index in

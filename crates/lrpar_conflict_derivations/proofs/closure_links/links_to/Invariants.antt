@@ -4,7 +4,7 @@ use Rattle.lrpar_table_items.specs.Canonical.{sets_of}
 use Rattle.lrpar_conflict_derivations.specs.ClosureLinks.{AreKernelItemsNoted, AreLinks, AreMarks, AreNotedOf, link_at, links_of}
 use Rattle.lrpar_conflict_derivations.proofs.closure_links.links_to.Given as goal
 
--- the links are good; all is linked that comes with items which aren't there by closure, and with the rules of the links so far
+-- the links are good; the kernel items have theirs, and so have the rules of the links so far
 abbrev pub invariant-links : goal.invariant-links
 invariant-links g l =
     let index = g.StorageT.StorageIndex.index in

@@ -5,7 +5,7 @@ use Rattle.lrpar_grammar.specs.Symbols.{prod_numbers}
 use Rattle.lrpar_conflict_derivations.specs.ClosureLinks.{AreMarks, AreNoted, ArePut, IsLinkBelow, links_of}
 use Rattle.lrpar_conflict_derivations.proofs.closure_links.note_rule.Given as goal
 
--- what comes with the productions so far is linked
+-- the productions so far have their links
 abbrev pub invariant-loop-pidx : goal.invariant-loop-pidx
 invariant-loop-pidx g l =
     let index = g.StorageT.StorageIndex.index in

@@ -5,7 +5,7 @@ use Rattle.lrpar_conflict_derivations.specs.ClosureLinks.{link_at, links_of}
 use Rattle.lrpar_conflict_derivations.proofs.UpLemmas.{IsPathUp}
 use Rattle.lrpar_conflict_derivations.proofs.completion.complete_by_links.Given as goal
 
--- the way so far leads up to the production, by whose link it goes on
+-- the moves so far lead up to the production, by whose link the path goes on
 abbrev pub invariant-up : goal.invariant-up
 invariant-up g l =
     let index = g.StorageT.StorageIndex.index in

@@ -6,7 +6,7 @@ use Rattle.lrpar_conflict_derivations.specs.Completion.{HasItemFor, state_before
 use Rattle.lrpar_conflict_derivations.proofs.AccessLemmas.{IsFinishing}
 use Rattle.lrpar_conflict_derivations.proofs.completion.complete_derivation.Given as goal
 
--- the way so far leads up to the production, at an item of the state of its place
+-- the moves so far lead up to the production, at an item of the state of its place
 abbrev pub invariant-up : goal.invariant-up
 invariant-up g l =
     let index = g.StorageT.StorageIndex.index in
