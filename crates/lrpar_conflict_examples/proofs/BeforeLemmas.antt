@@ -1,4 +1,4 @@
--- The text of a reading, cut where the conflict is.
+-- The text of a derivation, cut at the conflict.
 use Rattle.std.proofs.Common.{◌≡◌, ◌<◌, ◌≤◌, ◌∙◌, refl, sym, ap, subst, arith, ℕ, zero, suc, List, [], ◌∷◌, ◌++◌, append_assoc, drop, length, length-append}
 use Rattle.std.proofs.lemmas.List.{append-nil, length-map, nil_from_length}
 use Rattle.lrpar_grammar_places.specs.declared.span.TIdx.{TIdx}
@@ -12,11 +12,11 @@ use Rattle.lrpar_conflict_examples.specs.Fits.{AreMovesOf, AreTokensOf}
 use Rattle.lrpar_conflict_examples.specs.Texts.{AreExampleTexts, IsExampleText}
 use Rattle.lrpar_conflict_examples.proofs.KnownLemmas.{all_back, all_front, leaves_known, tokens_of_tree}
 
--- the moves of a tree take its text
+-- the moves of a tree shift its text
 tokens_text : (g : Grammar) (moves : List MoveOf) (tree : Tree ℕ) → AreMovesOf g moves tree → tokens_in moves ≡ leaves tree
 tokens_text g moves tree of_tree = ap tokens_in of_tree.are ∙ tokens_of_tree tree
 
--- what stands behind a list is what is left behind so many
+-- what comes after a list is what is left without its number of elements
 after : (xs ys : List ℕ) → drop (length xs) (xs ++ ys) ≡ ys
 after [] [] = refl
 after [] (y ∷ ys) = refl
@@ -32,7 +32,7 @@ module _ (g : Grammar) (well : IsWellFormed g) (before : List ℕ) (moves : List
   all_known : AreTokensOf g (before ++ derives.rest)
   all_known = subst (AreTokensOf g) derives.text (leaves_known g well derives.tree (Nonterminal g.start) derives.of_tree.fits well.start_within)
 
-  -- what stands in front is of the grammar, and so is the rest
+  -- the access string is of the grammar, and so is the rest
   pub before_known : AreTokensOf g before
   before_known = all_front (λ t. t < tokens_len g) before derives.rest all_known
 
@@ -40,7 +40,7 @@ module _ (g : Grammar) (well : IsWellFormed g) (before : List ℕ) (moves : List
   rest_known = all_back (λ t. t < tokens_len g) before derives.rest all_known
 
 module _ {S : Type 0} (index : S → ℕ) (g : Grammar) where
-  -- the text is no shorter than what stands in front
+  -- the text is no shorter than the access string
   pub before_len : (before text : List (TIdx S)) (moves : List MoveOf) → DerivesFrom g (token_numbers index before) moves
       → token_numbers index text ≡ tokens_in moves → length before ≤ length text
   before_len before text moves derives is =
@@ -51,7 +51,7 @@ module _ {S : Type 0} (index : S → ℕ) (g : Grammar) where
       let other = length-map text (λ (t : TIdx S). index t.0) in
       omega (arith, long, both, one, other)
 
-  -- what is left is what the tree has behind so many
+  -- what is left is what the tree has after this number of tokens
   pub rest_is : (before text rest : List (TIdx S)) (moves : List MoveOf) (tree : Tree ℕ) → AreMovesOf g moves tree → token_numbers index text ≡ tokens_in moves
       → rest ≡ drop (length before) text → token_numbers index rest ≡ drop (length (token_numbers index before)) (leaves tree)
   rest_is before text rest moves tree of_tree is cut =
@@ -67,7 +67,7 @@ module _ {S : Type 0} (index : S → ℕ) (g : Grammar) where
       rest_is before text rest moves derives.tree derives.of_tree is cut ∙ ap (drop (length own)) derives.text ∙ after own derives.rest in
       subst (AreTokensOf g) (sym all) (rest_known g well own moves derives)
 
--- the text of one more example
+-- the text of one more counterexample
 pub next_example : (g : Grammar) (all rest others : List ConflictExampleOf) (x : ConflictExampleOf) (out new own : List ℕ) → rest ≡ x ∷ others
     → IsExampleText g x own → new ≡ out ++ own → ((text : List ℕ) → AreExampleTexts g rest text → AreExampleTexts g all (out ++ text))
     → (text : List ℕ) → AreExampleTexts g others text → AreExampleTexts g all (new ++ text)
@@ -75,7 +75,7 @@ next_example g all rest others x out new own parted is written whole text are =
     let here : AreExampleTexts g rest (own ++ text) = subst (λ l. AreExampleTexts g l (own ++ text)) (sym parted) (own, text, is, are, refl) in
     subst (AreExampleTexts g all) (sym (ap (λ o. o ++ text) written ∙ append_assoc out own text)) (whole (own ++ text) here)
 
--- that of none is left
+-- that of no more
 pub no_example : (g : Grammar) (all rest : List ConflictExampleOf) (out : List ℕ) → length rest ≡ 0
     → ((text : List ℕ) → AreExampleTexts g rest text → AreExampleTexts g all (out ++ text)) → AreExampleTexts g all out
 no_example g all rest out none whole =

@@ -1,4 +1,4 @@
--- What trees of a grammar's symbols name is of the grammar.
+-- The tokens and productions of trees of a grammar's symbols are the grammar's.
 use Rattle.std.proofs.Common.{◌≡◌, ◌<◌, ◌∙◌, refl, sym, ap, subst, arith, inl, inr, ℕ, suc, List, [], ◌∷◌, ◌++◌}
 use Rattle.std.specs.List.{All, AllByRecursion}
 use Rattle.std.proofs.lemmas.Bool.{cases_lt}
@@ -10,7 +10,7 @@ use Rattle.lrpar_table_sentences.specs.Texts.{AreTreesOf, IsTreeOf}
 use Rattle.lrpar_conflict_derivations.specs.Texts.{tokens_in}
 use Rattle.lrpar_conflict_examples.specs.Fits.{AreTokensOf, IsSymbolOf}
 
--- what holds of two lists holds of both together, and the other way round
+-- what holds of two lists holds of both together, and conversely
 pub all_both : {A : Type 0} (P : A → Type 0) (xs ys : List A) → AllByRecursion P xs → AllByRecursion P ys → AllByRecursion P (xs ++ ys)
 all_both P [] ys one other = other
 all_both P (x ∷ xs) ys one other = (one.0, all_both P xs ys one.1 other)
@@ -59,7 +59,7 @@ module _ (g : Grammar) (well : IsWellFormed g) where
     all_leaves_known (Cons t ts) (s ∷ ss) fit known =
         all_both (λ x. x < tokens_len g) (leaves t) (forest_leaves ts) (leaves_known t s fit.0 known.0) (all_leaves_known ts ss fit.1 known.1)
 
--- the moves of a tree take its leaves
+-- the moves of a tree shift its leaves
 takes-append : (moves more : List MoveOf) → tokens_in (moves ++ more) ≡ tokens_in moves ++ tokens_in more
 takes-append [] more = refl
 takes-append (Takes t ∷ moves) more = ap (λ ts. t ∷ ts) (takes-append moves more)

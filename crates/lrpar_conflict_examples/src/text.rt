@@ -1,4 +1,4 @@
-//! The texts of examples.
+//! The texts of counterexamples.
 ghost use Rattle.std.specs.Prelude.{◌≡◌, ◌≤◌, ◌++◌, ℕ, List, IfOk, OnOk, drop, length};
 ghost use Rattle.std.specs.String.{string_bytes};
 ghost use Rattle.lrpar_grammar.specs.Tree.{Tree, leaves};
@@ -18,8 +18,8 @@ use lrpar_grammar::span::{StorageIndex, TIdx};
 use lrpar_table_sentences::moves::Move;
 use std::alloc::{AllocError, Global};
 
-/// The texts of the examples, one behind the other, each with an empty line behind it. Rules and tokens are told by their names, and the
-/// end token by `$`.
+/// The texts of the counterexamples, one after the other, each with an empty line after it. Rules and tokens are shown by their names, and
+/// the end token by `$`.
 ///
 /// ```text
 /// 'e' in state 8: one text, two derivations
@@ -30,13 +30,12 @@ use std::alloc::{AllocError, Global};
 ///     S[ i S[ i S[ x ] e S[ x ] ] ]
 /// ```
 ///
-/// The first line has the conflict's token and state. Then comes the text of both readings, with a dot where the conflict is. If they
-/// have two texts, the first line has the bound within which one for both wasn't found, and each text comes before its own reading.
-/// A reading is shown by the move that it makes after the dot, a production whose node is made or a token that is taken, and by
-/// its tree.
+/// The first line has the conflict's token and state. Then comes the text of both derivations, with a dot at the conflict. If they have two
+/// texts, the first line has the bound within which no common one was found, and each text comes before its own derivation. A derivation is
+/// shown by its move after the dot, a production that is reduced or a token that is shifted, and by its tree.
 ///
-/// The examples have to fit the grammar, as those of `conflict_examples` do. Takes time and memory linear in the examples and in the text
-/// that is made, and no stack for a tree's levels. It fails if memory runs out.
+/// The counterexamples have to fit the grammar, as those of `conflict_examples` do. Takes time and memory linear in the counterexamples and
+/// in the resulting text, and no stack for a tree's levels. Fails only if an allocation does.
 pub fn format_examples<StorageT: StorageIndex>(
     alloc: Global,
     grm: &YaccGrammar<StorageT>,
@@ -54,7 +53,7 @@ pub fn format_examples<StorageT: StorageIndex>(
     Ok(out)
 }
 
-// Adds the text of an example.
+// Adds the text of a counterexample.
 fn push_example<StorageT: StorageIndex>(
     out: &mut String,
     alloc: Global,
@@ -73,7 +72,7 @@ fn push_example<StorageT: StorageIndex>(
     out.push('\n')
 }
 
-// Adds the first line of an example.
+// Adds the first line of a counterexample.
 fn push_title<StorageT: StorageIndex>(
     out: &mut String,
     grm: &YaccGrammar<StorageT>,
@@ -89,7 +88,7 @@ fn push_title<StorageT: StorageIndex>(
     out.push('\n')
 }
 
-// Adds how many texts the readings have.
+// Adds how many texts the derivations have.
 fn push_count<StorageT: StorageIndex>(
     out: &mut String,
     example: &Example<StorageT>,
@@ -103,14 +102,14 @@ fn push_count<StorageT: StorageIndex>(
     out.push_str("one text, two derivations")
 }
 
-// Adds that the readings have two texts, and how far one for both was looked for.
+// Adds that the derivations have two texts, and the bound of the search for one.
 fn push_bound(out: &mut String, bound: usize) -> Result<(), AllocError>
     ensures { OnOk result (string_bytes out.new ≡ string_bytes out.old ++ bound_text bound) }
 {
     write!(out, "two texts; one for both not found within {bound}")
 }
 
-// Adds the line of the second reading's text, where it isn't that of the first one.
+// Adds the line of the second derivation's text, if it isn't that of the first one.
 fn push_other_text<StorageT: StorageIndex>(
     out: &mut String,
     alloc: Global,
@@ -127,7 +126,7 @@ fn push_other_text<StorageT: StorageIndex>(
     push_text(out, alloc, grm, example.before(), example.second())
 }
 
-// Adds the line of a reading's text.
+// Adds the line of a derivation's text.
 fn push_text<StorageT: StorageIndex>(
     out: &mut String,
     alloc: Global,
@@ -144,7 +143,7 @@ fn push_text<StorageT: StorageIndex>(
     push_line(out, grm, before, rest_of(&text, before.len()))
 }
 
-// What stands behind so many tokens.
+// The tokens after the first `count`.
 fn rest_of<StorageT>(tokens: &[TIdx<StorageT>], count: usize) -> &[TIdx<StorageT>]
     requires { count ≤ length tokens.now }
     ensures { result.now ≡ drop count tokens.now }
@@ -152,7 +151,7 @@ fn rest_of<StorageT>(tokens: &[TIdx<StorageT>], count: usize) -> &[TIdx<StorageT
     &tokens[count..]
 }
 
-// Adds the line of a text of which so much stands in front of the dot, and the rest behind it.
+// Adds the line of a text, with a dot between its two parts.
 fn push_line<StorageT: StorageIndex>(
     out: &mut String,
     grm: &YaccGrammar<StorageT>,
@@ -171,7 +170,7 @@ fn push_line<StorageT: StorageIndex>(
     out.push('\n')
 }
 
-// Adds the lines of a reading: the move by which it goes on, and its tree.
+// Adds the lines of a derivation: the move by which it goes on, and its tree.
 fn push_derivation<StorageT: StorageIndex>(
     out: &mut String,
     alloc: Global,

@@ -1,4 +1,4 @@
-//! The words of examples' texts.
+//! The words of counterexamples' texts.
 ghost use Rattle.std.specs.Prelude.{◌≡◌, ◌<◌, ◌++◌, OnOk, map};
 ghost use Rattle.std.specs.List.{AllByRecursion, flat_map};
 ghost use Rattle.std.specs.String.{string_bytes};
@@ -24,7 +24,7 @@ pub(crate) fn shown_name<StorageT: StorageIndex>(
     grm.token_name(token).unwrap_or("$")
 }
 
-/// Adds a token, behind a space.
+/// Adds a token, after a space.
 pub(crate) fn push_word<StorageT: StorageIndex>(
     out: &mut String,
     grm: &YaccGrammar<StorageT>,
@@ -37,7 +37,7 @@ pub(crate) fn push_word<StorageT: StorageIndex>(
     out.push_str(shown_name(grm, token))
 }
 
-/// Adds tokens, each behind a space.
+/// Adds tokens, each after a space.
 pub(crate) fn push_words<StorageT: StorageIndex>(
     out: &mut String,
     grm: &YaccGrammar<StorageT>,
@@ -72,7 +72,7 @@ pub(crate) fn push_move<StorageT: StorageIndex>(
     }
 }
 
-// Adds which node is made: that of a production.
+// Adds a reduction of the production.
 fn push_reduce<StorageT: StorageIndex>(
     out: &mut String,
     grm: &YaccGrammar<StorageT>,
@@ -87,7 +87,7 @@ fn push_reduce<StorageT: StorageIndex>(
     push_symbols(out, grm, grm.prod(prod))
 }
 
-// Adds symbols, each behind a space.
+// Adds symbols, each after a space.
 fn push_symbols<StorageT: StorageIndex>(
     out: &mut String,
     grm: &YaccGrammar<StorageT>,
@@ -105,7 +105,7 @@ fn push_symbols<StorageT: StorageIndex>(
     Ok(())
 }
 
-// Adds a symbol behind a space: a rule by its name, and a token by its name in quotes.
+// Adds a symbol after a space: a rule by its name, and a token by its name in quotes.
 fn push_symbol<StorageT: StorageIndex>(
     out: &mut String,
     grm: &YaccGrammar<StorageT>,
