@@ -1,4 +1,4 @@
-//! Cases of the examples of conflicts.
+//! Cases of the counterexamples of conflicts.
 ghost use Rattle.lrpar_table_build.specs.Built.{IsBuilt};
 ghost use Rattle.lrpar_conflict_examples.specs.ExamplesFit.{ExamplesFit};
 
@@ -19,7 +19,7 @@ use test_case_lines::values::number_at;
 /// The keys of the lines that say what is done.
 pub const INPUTS: &[&str] = &["text", "grammar", "bound", "show"];
 
-/// The examples of the conflicts of the grammar's table.
+/// The counterexamples of the conflicts of the grammar's table.
 pub fn outcome<R: Files>(
     told: &mut Told,
     rt: &R,
@@ -42,7 +42,7 @@ fn source<R: Files>(rt: &R, alloc: Global, case: Case<'_, '_>) -> Result<String,
     }
 }
 
-// The examples of the table that is built of the grammar.
+// The counterexamples of the table that is built of the grammar.
 fn push_of_grammar(
     told: &mut Told,
     alloc: Global,
@@ -56,7 +56,7 @@ fn push_of_grammar(
     }
 }
 
-// The examples of a table.
+// The counterexamples of a table.
 fn push_of_table(
     told: &mut Told,
     alloc: Global,
@@ -76,7 +76,7 @@ fn push_of_table(
     Ok(())
 }
 
-// What is asked for of the examples: their text, or how many there are.
+// What the case asks for: the text of the counterexamples, or how many there are.
 fn push_shown(
     told: &mut Told,
     alloc: Global,
