@@ -20,13 +20,19 @@ pub(crate) struct Conflict<StorageT> {
     pub(crate) other: Move<StorageT>,
 }
 
+/// One of the two derivations.
+#[derive(Clone, Copy)]
+pub(crate) enum Side {
+    First,
+    Second,
+}
+
 /// How a configuration came about: it starts at the end of the access path to this level; one derivation reduced, or the other; or both got
 /// the same symbol.
 #[derive(Clone, Copy)]
 pub(crate) enum Origin<StorageT> {
     Start(usize),
-    ReduceFirst(PIdx<StorageT>),
-    ReduceSecond(PIdx<StorageT>),
+    Reduced(Side, PIdx<StorageT>),
     Both(Symbol<StorageT>),
 }
 
@@ -44,6 +50,34 @@ pub(crate) struct Configuration<StorageT> {
     parent: usize,
     origin: Origin<StorageT>,
     same: usize,
+}
+
+impl<StorageT: StorageIndex> Configuration<StorageT> {
+    // The level at the top of the side's stack.
+    fn level_of(&self, side: Side) -> usize {
+        match side {
+            Side::First => self.one,
+            Side::Second => self.other,
+        }
+    }
+
+    // The same with this level at the top of the side's stack, after a reduction of the production.
+    fn reduced(&self, side: Side, level: usize, prod: PIdx<StorageT>) -> Self {
+        let origin = Origin::Reduced(side, prod);
+        match side {
+            Side::First => Configuration {
+                one: level,
+                origin,
+                ..*self
+            },
+            Side::Second => Configuration {
+                other: level,
+                second_reduced: true,
+                origin,
+                ..*self
+            },
+        }
+    }
 }
 
 /// The result of one turn of the search.
@@ -259,10 +293,10 @@ impl<StorageT: StorageIndex> Search<StorageT> {
             return Ok(Turn::Found(number));
         }
         if !configuration.second_reduced {
-            self.reduce_one(context, conflict, number, &configuration)?;
+            self.reduce(context, conflict, number, &configuration, Side::First)?;
         }
         if configuration.past_conflict || matches!(conflict.other, Move::Make(_)) {
-            self.reduce_other(context, conflict, number, &configuration)?;
+            self.reduce(context, conflict, number, &configuration, Side::Second)?;
         }
         self.shift_tokens(context, conflict, number, &configuration)?;
         if configuration.past_conflict {
@@ -284,62 +318,29 @@ impl<StorageT: StorageIndex> Search<StorageT> {
         }
     }
 
-    // Adds the configurations in which the first derivation makes one more reduction.
-    fn reduce_one(
+    // Adds the configurations in which the derivation of this side makes one more reduction.
+    fn reduce(
         &mut self,
         context: &Context<'_, StorageT>,
         conflict: &Conflict<StorageT>,
         parent: usize,
         configuration: &Configuration<StorageT>,
+        side: Side,
     ) -> Result<(), AllocError> {
-        let Some(state) = self.state_at(context, configuration.one) else {
+        let level = configuration.level_of(side);
+        let Some(state) = self.state_at(context, level) else {
             return Ok(());
         };
         for core in context.graph.cores(state) {
             if context.is_complete(*core)
                 && can_reduce(context, conflict, configuration, state, core.0)
             {
-                let one = self.stacks.reduced(context, configuration.one, core.0)?;
+                let reduced = self.stacks.reduced(context, level, core.0)?;
                 let empty = configuration.empty.saturating_add(empty_of(core.1));
-                let origin = Origin::ReduceFirst(core.0);
                 self.add(Configuration {
-                    one,
                     empty,
                     parent,
-                    origin,
-                    ..*configuration
-                })?;
-            }
-        }
-        Ok(())
-    }
-
-    // Adds the configurations in which the second derivation makes one more reduction.
-    fn reduce_other(
-        &mut self,
-        context: &Context<'_, StorageT>,
-        conflict: &Conflict<StorageT>,
-        parent: usize,
-        configuration: &Configuration<StorageT>,
-    ) -> Result<(), AllocError> {
-        let Some(state) = self.state_at(context, configuration.other) else {
-            return Ok(());
-        };
-        for core in context.graph.cores(state) {
-            if context.is_complete(*core)
-                && can_reduce(context, conflict, configuration, state, core.0)
-            {
-                let other = self.stacks.reduced(context, configuration.other, core.0)?;
-                let empty = configuration.empty.saturating_add(empty_of(core.1));
-                let origin = Origin::ReduceSecond(core.0);
-                let second_reduced = true;
-                self.add(Configuration {
-                    other,
-                    second_reduced,
-                    empty,
-                    parent,
-                    origin,
-                    ..*configuration
+                    ..configuration.reduced(side, reduced, core.0)
                 })?;
             }
         }

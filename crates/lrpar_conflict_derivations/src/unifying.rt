@@ -3,7 +3,7 @@ ghost use Rattle.lrpar_table_sentences.specs.Choices.{AreShortest};
 
 use crate::context::Context;
 use crate::minimal_sentences::{push_sentence, push_sentences};
-use crate::search::{Conflict, Origin, Search, Turn};
+use crate::search::{Conflict, Origin, Search, Side, Turn};
 use crate::stacks::Stacks;
 use lrpar_grammar::span::{PIdx, StorageIndex, Symbol};
 use lrpar_table_sentences::access_strings::Step;
@@ -113,8 +113,8 @@ fn push_origin<StorageT: StorageIndex>(
 {
     match origin {
         Origin::Start(level) => push_steps(&search.stacks, level, &mut text.steps),
-        Origin::ReduceFirst(prod) => Ok(text.first.push(Move::Make(prod))?),
-        Origin::ReduceSecond(prod) => Ok(text.second.push(Move::Make(prod))?),
+        Origin::Reduced(Side::First, prod) => Ok(text.first.push(Move::Make(prod))?),
+        Origin::Reduced(Side::Second, prod) => Ok(text.second.push(Move::Make(prod))?),
         Origin::Both(symbol) => push_symbol(alloc, context, symbol, text),
     }
 }
