@@ -81,7 +81,7 @@ module _ (g : Grammar) (well : IsWellFormed g) (graph : Graph) (steps : List Ste
       → IsFinishing g token (symbols_in steps) p k asked old middle (take i (symbols_in steps)) q further
       → LeadsToKernel g token q further middle new up → IsBack i up.prod up.dot up.asked
       → IsFinishing g token (symbols_in steps) p k asked old new (take (i - up.dot) (symbols_in steps)) up.prod up.asked
-  finishing_more p k asked old middle new i q further up way_up to_kernel back =
+  finishing_more p k asked old middle new i q further up path_up to_kernel back =
       let symbols = symbols_in steps in
       let start = place_at symbols p k asked in
       let here = place_at (take i symbols) q 0 further in
@@ -90,13 +90,13 @@ module _ (g : Grammar) (well : IsWellFormed g) (graph : Graph) (steps : List Ste
       let node = Makes q ∷ to_kernel.more in
       let two = up_then g token here there end node [] (to_kernel.leads (take i symbols)) back.leads in
       let own : LeadsUp g token here node end = subst (λ (ms : List MoveOf). LeadsUp g token here ms end) (append-nil node) two in
-      let all = up_then g token start here end way_up.done node way_up.leads own in
-      let moves : new ≡ old ++ (way_up.done ++ node) = to_kernel.moves ∙ ap (λ ms. ms ++ node) way_up.moves ∙ append_assoc old way_up.done node in record {
-        done = way_up.done ++ node;
+      let all = up_then g token start here end path_up.done node path_up.leads own in
+      let moves : new ≡ old ++ (path_up.done ++ node) = to_kernel.moves ∙ ap (λ ms. ms ++ node) path_up.moves ∙ append_assoc old path_up.done node in record {
+        done = path_up.done ++ node;
         moves = moves;
         leads = all;
         begins =
-            elim way_up.begins [
+            elim path_up.begins [
               | inl first ↦ inr (to_kernel.more, ap (λ ms. ms ++ node) first.0 ∙ ap (λ (n : ℕ). Makes n ∷ to_kernel.more) first.1)
               | inr later ↦ inr (later.0 ++ node, ap (λ ms. ms ++ node) later.1)
             ];
@@ -107,7 +107,7 @@ module _ (g : Grammar) (well : IsWellFormed g) (graph : Graph) (steps : List Ste
       → HasItemFor graph (state_before steps last i) token q 0 further
       → IsFinishing g token (symbols_in steps) p k asked old new (take i (symbols_in steps)) q further
       → HasFinished g token (symbols_in steps) p k asked old new
-  finished p k asked old new i q further inside is item way_up =
+  finished p k asked old new i q further inside is item path_up =
       let symbols = symbols_in steps in
       let path = reverse (take i symbols) in
       let at_start : HasItem graph (state_before steps last i) q 0 item.0 = item.1 in
@@ -115,15 +115,15 @@ module _ (g : Grammar) (well : IsWellFormed g) (graph : Graph) (steps : List Ste
       let none : path ≡ [] = start_item_at_start g well path (item_at q 0 item.0) reached is refl in
       let front : take i symbols ≡ [] = sym (reverse-reverse (take i symbols)) ∙ ap reverse none in
       let end : item.0 ≡ end_token g = reached_at_end g well path (item_at q 0 item.0) reached is in
-      let leads : LeadsUp g token (place_at symbols p k asked) way_up.done (place_at [] (start_prod g) 0 further) =
-      subst (λ (n : ℕ). LeadsUp g token (place_at symbols p k asked) way_up.done (place_at [] n 0 further)) is
-      (subst (λ (w : List GrammarSymbol). LeadsUp g token (place_at symbols p k asked) way_up.done (place_at w q 0 further)) front way_up.leads) in record {
-        later = way_up.done;
-        moves = way_up.moves;
-        finishes = up_end g token well (place_at symbols p k asked) way_up.done further (λ asks. sym (item.2 asks) ∙ end) leads;
+      let leads : LeadsUp g token (place_at symbols p k asked) path_up.done (place_at [] (start_prod g) 0 further) =
+      subst (λ (n : ℕ). LeadsUp g token (place_at symbols p k asked) path_up.done (place_at [] n 0 further)) is
+      (subst (λ (w : List GrammarSymbol). LeadsUp g token (place_at symbols p k asked) path_up.done (place_at w q 0 further)) front path_up.leads) in record {
+        later = path_up.done;
+        moves = path_up.moves;
+        finishes = up_end g token well (place_at symbols p k asked) path_up.done further (λ asks. sym (item.2 asks) ∙ end) leads;
         reduces =
             λ listed.
-            elim way_up.begins [
+            elim path_up.begins [
               | inl first ↦ absurd (listed (sym first.1 ∙ is))
               | inr later ↦ later
             ];

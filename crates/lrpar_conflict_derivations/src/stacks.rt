@@ -31,7 +31,7 @@ pub(crate) struct Waiting<StorageT> {
 /// The levels, the first of which is the bottom of each stack, and rows with the item that waits for each rule.
 #[derive(Drop)]
 pub(crate) struct Stacks<StorageT: StorageIndex> {
-    stacks: Vec<Level<StorageT>>,
+    levels: Vec<Level<StorageT>>,
     rows: Vec<Waiting<StorageT>>,
 }
 
@@ -47,18 +47,18 @@ impl<StorageT: StorageIndex> Stacks<StorageT> {
             child: NONE,
             sibling: NONE,
         };
-        let mut stacks = Vec::new(alloc);
-        stacks.push(bottom)?;
+        let mut levels = Vec::new(alloc);
+        levels.push(bottom)?;
         Ok(Stacks {
-            stacks,
+            levels,
             rows: Vec::new(alloc),
         })
     }
 
     /// The level with this number, if there is one.
     pub(crate) fn get(&self, level: usize) -> Option<Level<StorageT>> {
-        if level < self.stacks.len() {
-            Some(self.stacks[level])
+        if level < self.levels.len() {
+            Some(self.levels[level])
         } else {
             None
         }
@@ -66,7 +66,7 @@ impl<StorageT: StorageIndex> Stacks<StorageT> {
 
     /// How many levels there are.
     pub(crate) fn len(&self) -> usize {
-        self.stacks.len()
+        self.levels.len()
     }
 
     /// The level that is this number of levels below.
@@ -129,12 +129,12 @@ impl<StorageT: StorageIndex> Stacks<StorageT> {
             return Ok(child);
         }
         self.fill(context, below)?;
-        let level = self.stacks.len();
+        let level = self.levels.len();
         let sibling = match self.get(below) {
             Some(own) => own.child,
             None => NONE,
         };
-        self.stacks.push(Level {
+        self.levels.push(Level {
             below,
             state,
             symbol,
@@ -143,8 +143,8 @@ impl<StorageT: StorageIndex> Stacks<StorageT> {
             child: NONE,
             sibling,
         })?;
-        if below < self.stacks.len() {
-            self.stacks[below].child = level;
+        if below < self.levels.len() {
+            self.levels[below].child = level;
         }
         self.keep_rest(context, level, state);
         Ok(level)
@@ -176,7 +176,7 @@ impl<StorageT: StorageIndex> Stacks<StorageT> {
             Some(own) => own.child,
             None => NONE,
         };
-        for _ in 0..self.stacks.len() {
+        for _ in 0..self.levels.len() {
             match self.get(number) {
                 Some(child) if usize::from(child.state) == usize::from(state) => return number,
                 Some(child) => number = child.sibling,
@@ -195,8 +195,8 @@ impl<StorageT: StorageIndex> Stacks<StorageT> {
         for core in context.graph.begun_cores(state) {
             rest = rest.min(self.rest_of(context, level, *core));
         }
-        if level < self.stacks.len() {
-            self.stacks[level].rest = rest;
+        if level < self.levels.len() {
+            self.levels[level].rest = rest;
         }
     }
 
@@ -217,8 +217,8 @@ impl<StorageT: StorageIndex> Stacks<StorageT> {
                 rest: NONE,
             })?;
         }
-        if level < self.stacks.len() {
-            self.stacks[level].row = row;
+        if level < self.levels.len() {
+            self.levels[level].row = row;
         }
         for _ in 0..rules {
             if !self.sweep(context, level, own.state) {

@@ -60,19 +60,19 @@ module _ (g : Grammar) (well : IsWellFormed g) where
         all_both (λ x. x < tokens_len g) (leaves t) (forest_leaves ts) (leaves_known t s fit.0 known.0) (all_leaves_known ts ss fit.1 known.1)
 
 -- the moves of a tree shift its leaves
-takes-append : (moves more : List MoveOf) → tokens_in (moves ++ more) ≡ tokens_in moves ++ tokens_in more
-takes-append [] more = refl
-takes-append (Takes t ∷ moves) more = ap (λ ts. t ∷ ts) (takes-append moves more)
-takes-append (Makes p ∷ moves) more = takes-append moves more
+shifts-append : (moves more : List MoveOf) → tokens_in (moves ++ more) ≡ tokens_in moves ++ tokens_in more
+shifts-append [] more = refl
+shifts-append (Takes t ∷ moves) more = ap (λ ts. t ∷ ts) (shifts-append moves more)
+shifts-append (Makes p ∷ moves) more = shifts-append moves more
 
 mutual
   pub tokens_of_tree : (tree : Tree ℕ) → tokens_in (moves_of tree) ≡ leaves tree
   tokens_of_tree (Leaf t) = refl
   tokens_of_tree (Branch p children) =
-      takes-append (forest_moves children) (Makes p ∷ []) ∙ append-nil (tokens_in (forest_moves children)) ∙ tokens_of_trees children
+      shifts-append (forest_moves children) (Makes p ∷ []) ∙ append-nil (tokens_in (forest_moves children)) ∙ tokens_of_trees children
 
   pub tokens_of_trees : (trees : Forest ℕ) → tokens_in (forest_moves trees) ≡ forest_leaves trees
   tokens_of_trees Nil = refl
   tokens_of_trees (Cons t ts) =
-      takes-append (moves_of t) (forest_moves ts) ∙ ap (λ xs. xs ++ tokens_in (forest_moves ts)) (tokens_of_tree t)
+      shifts-append (moves_of t) (forest_moves ts) ∙ ap (λ xs. xs ++ tokens_in (forest_moves ts)) (tokens_of_tree t)
       ∙ ap (λ xs. leaves t ++ xs) (tokens_of_trees ts)

@@ -35,10 +35,10 @@ returns g c =
     let pushed = c.in_ok-push_all_moves.ensures in
     let old = moves_in index c.in_ok-moves.moves.items in
     let shifted = moves_in index c.push.new.self.items in
-    let take_is : shifted ≡ old ++ Takes token ∷ [] =
+    let shift_is : shifted ≡ old ++ Takes token ∷ [] =
     ap (moves_in index) c.in_ok-push.ensures.items ∙ map-append (move_of index) c.in_ok-moves.moves.items (Take c.args.token ∷ []) in
     let fit = subst (λ w. AreTreesOf grm w pushed.0) rest pushed.1.fit in
     λ trees fits front.
     shift_done grm token (symbols_in (steps_of index c.args.steps.now)) p core.1 trees fits old (moves_in index c.complete_derivation.new.out.items)
-    (ap (moves_in index) c.in_ok-moves.ensures.items ∙ front) shifted (moves_in index c.push_all_moves.new.out.items) pushed.0 take_is pushed.2 fit found.1
+    (ap (moves_in index) c.in_ok-moves.ensures.items ∙ front) shifted (moves_in index c.push_all_moves.new.out.items) pushed.0 shift_is pushed.2 fit found.1
     c.in_ok-complete_derivation.ensures
