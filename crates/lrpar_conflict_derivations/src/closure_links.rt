@@ -64,7 +64,7 @@ pub(crate) fn links_to<StorageT: StorageIndex>(
 {
     let _start = grm.start_prod();
     let mut found = nothing_found(alloc, grm.rules_len())?;
-    begin(grm, firsts, graph, state, token, &mut found)?;
+    note_kernel(grm, firsts, graph, state, token, &mut found)?;
     let mut at = 0;
     'links: while goes_on(&found, at, rule, asked) {
         let link = found.links[at];
@@ -138,7 +138,7 @@ fn unmarked(alloc: Global, rules: usize) -> Result<Vec<bool>, AllocError>
 }
 
 // Links what comes by closure with the kernel items: those with a dot after a symbol, and the start item.
-fn begin<StorageT: StorageIndex>(
+fn note_kernel<StorageT: StorageIndex>(
     grm: &YaccGrammar<StorageT>,
     firsts: &[TokenSet],
     graph: &StateGraph<StorageT>,
@@ -157,15 +157,15 @@ fn begin<StorageT: StorageIndex>(
         (links_of StorageT.index found.old.links.items) (links_of StorageT.index found.new.links.items)) }
     ensures noted { OnOk result (AreKernelItemsNoted grm.now (sets_of graph.now (StorageT.index state.0)) (StorageT.index token.0) (links_of StorageT.index found.new.links.items)) }
 {
-    begin_at_start(grm, firsts, graph, state, token, found)?;
+    note_start(grm, firsts, graph, state, token, found)?;
     for core in graph.begun_cores(state) {
-        begin_from(grm, firsts, graph, state, token, *core, found)?;
+        note_core(grm, firsts, graph, state, token, *core, found)?;
     }
     Ok(())
 }
 
 // Links what comes by closure with the start item, if the state has it.
-fn begin_at_start<StorageT: StorageIndex>(
+fn note_start<StorageT: StorageIndex>(
     grm: &YaccGrammar<StorageT>,
     firsts: &[TokenSet],
     graph: &StateGraph<StorageT>,
@@ -187,13 +187,13 @@ fn begin_at_start<StorageT: StorageIndex>(
 {
     let start = grm.start_prod();
     if graph.has_core(state, start, 0) {
-        begin_from(grm, firsts, graph, state, token, (start, 0), found)?;
+        note_core(grm, firsts, graph, state, token, (start, 0), found)?;
     }
     Ok(())
 }
 
 // Links what comes by closure with one core: for any lookahead, and for the token, if it is one of the core's.
-fn begin_from<StorageT: StorageIndex>(
+fn note_core<StorageT: StorageIndex>(
     grm: &YaccGrammar<StorageT>,
     firsts: &[TokenSet],
     graph: &StateGraph<StorageT>,

@@ -125,7 +125,7 @@ impl<StorageT: StorageIndex> Search<StorageT> {
     ) -> Result<Turn, AllocError> {
         if self.is_path_first() {
             if let Some((level, len)) = self.paths.turn(context, &mut self.stacks)? {
-                self.begin(context, conflict, level, len)?;
+                self.start(context, conflict, level, len)?;
             }
             return Ok(Turn::Further);
         }
@@ -175,7 +175,7 @@ impl<StorageT: StorageIndex> Search<StorageT> {
     }
 
     // Starts a configuration on the access path to the level.
-    fn begin(
+    fn start(
         &mut self,
         context: &Context<'_, StorageT>,
         conflict: &Conflict<StorageT>,

@@ -13,12 +13,12 @@ links-init g c =
     let grm = c.args.grm.now in
     let set = sets_of c.args.graph.now (index c.args.state.0) in
     let token = index c.args.token.0 in
-    let new = links_of index c.begin.new.found.links.items in
+    let new = links_of index c.note_kernel.new.found.links.items in
     let put : ArePut (IsKernelLink grm set token) [] new =
-    subst (λ (old : List LinkOf). ArePut (IsKernelLink grm set token) old new) c.in_ok-found.ensures.none c.in_ok-begin.ensures.put in (
-      c.in_ok-begin.ensures.marks,
+    subst (λ (old : List LinkOf). ArePut (IsKernelLink grm set token) old new) c.in_ok-found.ensures.none c.in_ok-note_kernel.ensures.put in (
+      c.in_ok-note_kernel.ensures.marks,
       links_begun grm set token [] new (λ i low. absurd (omega arith)) put,
-      c.in_ok-begin.ensures.noted,
+      c.in_ok-note_kernel.ensures.noted,
       λ i low. absurd (omega arith),
       omega arith,
     )

@@ -2,7 +2,7 @@ use Rattle.std.proofs.Common.{◌∙◌, sym}
 use Rattle.std.proofs.lemmas.Bool.{false≢true}
 use Rattle.lrpar_conflict_derivations.specs.ClosureLinks.{links_of}
 use Rattle.lrpar_conflict_derivations.proofs.LinkLemmas.{core_known, noted_all, noted_alone, put_both}
-use Rattle.lrpar_conflict_derivations.proofs.closure_links.begin_from.Goals as goal
+use Rattle.lrpar_conflict_derivations.proofs.closure_links.note_core.Goals as goal
 
 pub note-requires-clause-prod : goal.note-requires-clause-prod
 note-requires-clause-prod g c =

@@ -4,7 +4,7 @@ use Rattle.lrpar_grammar.specs.Grammar.{rules_len, start_prod}
 use Rattle.lrpar_table_rows.specs.PlainItems.{core_of}
 use Rattle.lrpar_table_items.specs.Canonical.{sets_of}
 use Rattle.lrpar_conflict_derivations.specs.ClosureLinks.{AreMarks, ArePut, IsKernelLink, IsNotedCore, links_of}
-use Rattle.lrpar_conflict_derivations.proofs.closure_links.begin.Given as goal
+use Rattle.lrpar_conflict_derivations.proofs.closure_links.note_kernel.Given as goal
 
 -- the start item has its links, and so have the cores so far
 abbrev pub invariant-loop-core : goal.invariant-loop-core
