@@ -9,7 +9,7 @@ use lrpar_lexer::{LexRule, Token, TokenTypes, rules_of};
 use lrpar_parse::RTParserBuilder;
 use lrpar_parse_errors::errors::LexParseError;
 use lrpar_parse_lexemes::lex_api::NonStreamingLexer;
-use lrpar_parse_repair::repair::FixedRecoverer;
+use lrpar_parse_repair::repair::{FixedRecoverer, Recoverer};
 use lrpar_parse_trees::node::Node;
 use lrpar_table::check::ParserData;
 use std::alloc::{AllocError, Global};
@@ -25,7 +25,7 @@ pub type Tree = Node<Token<u32>, u32>;
 pub type TextError = LexParseError<u32, TokenTypes>;
 
 /// The tree of a text, if there is one, and the errors.
-type Parsed = (Option<Tree>, Vec<TextError>);
+pub type Parsed = (Option<Tree>, Vec<TextError>);
 
 /// A parser of texts, with the rules of its lexer and what its messages print.
 #[derive(Drop)]
@@ -67,13 +67,20 @@ fn repairing_parser<'a>(
     parser_by(data, repairs, shifts)
 }
 
-/// The parser by this table, with these repairs; `shifts` lexemes have to follow a repair, where that is told.
+/// The parser by this table, with these repairs; `shifts` lexemes have to follow a repair, if that is given.
 pub fn parser_by(
     data: &ParserData<u32>,
     repairs: FixedRecoverer<u32>,
     shifts: Option<usize>,
 ) -> Result<Parser<'_>, Fault> {
-    let parser = RTParserBuilder::new(data).recoverer(repairs);
+    with_shifts(RTParserBuilder::new(data).recoverer(repairs), shifts)
+}
+
+/// The parser, for which `shifts` lexemes have to follow a repair, if that is given.
+pub fn with_shifts<'a, R: Recoverer<u32, Token<u32>> + Drop>(
+    parser: RTParserBuilder<'a, u32, TokenTypes, R>,
+    shifts: Option<usize>,
+) -> Result<RTParserBuilder<'a, u32, TokenTypes, R>, Fault> {
     match shifts {
         Some(count) => match parser.shifts(count) {
             Ok(parser) => Ok(parser),

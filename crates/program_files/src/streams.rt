@@ -2,6 +2,7 @@
 ghost use Rattle.std.specs.Prelude.{◌≡◌, ◌≤◌, IfOk, Ok, OnErr};
 ghost use Rattle.program_files.specs.Status.{status_code, status_of};
 
+use crate::fault::Fault;
 use std::env;
 use std::fmt::Display;
 use std::io::{self, BufWriter, Write};
@@ -48,10 +49,10 @@ pub fn words(rt: &HostRuntime) -> io::Result<Vec<String>> {
 }
 
 /// The answer, once all that was printed is written, or else a fault. What `out` doesn't take isn't tried again.
-pub fn finished<FaultT: From<io::Error> + Drop, O: Write + Drop>(
-    answer: Result<Status, FaultT>,
+pub fn finished<O: Write + Drop>(
+    answer: Result<Status, Fault>,
     mut out: BufWriter<O>,
-) -> Result<Status, FaultT>
+) -> Result<Status, Fault>
     ensures { IfOk result (λ status. answer ≡ Ok status) }
 {
     let answer = flushed(answer, &mut out);
@@ -62,10 +63,7 @@ pub fn finished<FaultT: From<io::Error> + Drop, O: Write + Drop>(
 }
 
 // The answer, once all that was printed is written.
-fn flushed<FaultT: From<io::Error> + Drop, O: Write>(
-    answer: Result<Status, FaultT>,
-    out: &mut O,
-) -> Result<Status, FaultT>
+fn flushed<O: Write>(answer: Result<Status, Fault>, out: &mut O) -> Result<Status, Fault>
     ensures { IfOk result (λ status. answer ≡ Ok status) }
 {
     let written = out.flush();
@@ -76,7 +74,7 @@ fn flushed<FaultT: From<io::Error> + Drop, O: Write>(
     }
 }
 
-/// The number that a program ends with, whose fault is told on `err` first, with a line feed behind it, as far as that can be done.
+/// The number that a program ends with. A fault is written to `err` first, with a line feed after it, as far as that can be done.
 pub fn ended<FaultT: Display + Drop, E: Write>(ending: Result<Status, FaultT>, err: &mut E) -> u8
     ensures status { IfOk ending (λ status. result ≡ status_code status) }
     ensures fault { OnErr ending (result ≡ 2) }

@@ -1,6 +1,9 @@
 //! The words after the program's name as a command.
 use program_files::fault::Fault;
 
+/// Why words that are no command are refused.
+const NO_COMMAND: &str = "no command has these words";
+
 /// A command, with its words.
 #[derive(Clone, Copy)]
 pub(crate) enum Command<'a> {
@@ -50,7 +53,7 @@ pub(crate) fn command_of(args: &[String]) -> Result<Command<'_>, Fault> {
             grammar: grammar.as_str(),
         }),
         [name, words @ ..] if name.as_str() == "calc" => calc(words),
-        _ => Err(Fault::Usage),
+        _ => Err(Fault::Usage(NO_COMMAND)),
     }
 }
 
@@ -73,7 +76,7 @@ fn tree_paths(words: &[String]) -> Result<TreePaths<'_>, Fault> {
             input: input.as_str(),
             repairs: path_if_any(repairs)?,
         }),
-        _ => Err(Fault::Usage),
+        _ => Err(Fault::Usage(NO_COMMAND)),
     }
 }
 
@@ -82,21 +85,21 @@ fn path_if_any(words: &[String]) -> Result<Option<&str>, Fault> {
     match words {
         [] => Ok(None),
         [path] => Ok(Some(path.as_str())),
-        _ => Err(Fault::Usage),
+        _ => Err(Fault::Usage(NO_COMMAND)),
     }
 }
 
 // The command `check` of the words after it.
 fn check(words: &[String]) -> Result<Command<'_>, Fault> {
     let [grammar, cap] = words else {
-        return Err(Fault::Usage);
+        return Err(Fault::Usage(NO_COMMAND));
     };
     match digits(cap.as_str(), 5).parse::<u16>() {
         Ok(cap) => Ok(Command::Check {
             grammar: grammar.as_str(),
             cap,
         }),
-        Err(_) => Err(Fault::Usage),
+        Err(_) => Err(Fault::Usage(NO_COMMAND)),
     }
 }
 
@@ -115,11 +118,11 @@ fn option(words: &[String]) -> Result<(Option<usize>, &[String]), Fault> {
     match words {
         [name, rest @ ..] if name.as_str() == "--shifts" => {
             let [count, paths @ ..] = rest else {
-                return Err(Fault::Usage);
+                return Err(Fault::Usage(NO_COMMAND));
             };
             match digits(count.as_str(), 9).parse::<usize>() {
                 Ok(count) => Ok((Some(count), paths)),
-                Err(_) => Err(Fault::Usage),
+                Err(_) => Err(Fault::Usage(NO_COMMAND)),
             }
         }
         _ => Ok((None, words)),

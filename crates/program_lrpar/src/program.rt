@@ -6,6 +6,7 @@ use crate::calc::calc;
 use crate::check::check;
 use crate::conflicts::conflicts;
 use crate::demo::demo;
+use crate::fault_line::FaultLine;
 use crate::tree::{TreeTexts, tree};
 use program_files::fault::Fault;
 use program_files::files::{file_text, text_if_any};
@@ -21,7 +22,10 @@ pub fn run_of_process(rt: &HostRuntime) -> u8
 {
     match words(rt) {
         Ok(args) => run(rt, rt.alloc(), &args, rt.stdin(), rt.stdout(), rt.stderr()),
-        Err(error) => ended(Err(Fault::of_arguments(&error)), &mut rt.stderr()),
+        Err(error) => ended(
+            Err(FaultLine(Fault::of_arguments(&error))),
+            &mut rt.stderr(),
+        ),
     }
 }
 
@@ -43,7 +47,7 @@ pub fn run<R: Files, I: Read + Drop, O: Write + Drop, E: Write + Drop>(
     ensures status { result ≤ 2 }
 {
     let ending = written(rt, alloc, args, input, out, &mut err);
-    ended(ending, &mut err)
+    ended(ending.map_err(FaultLine), &mut err)
 }
 
 // The status of the command, once all that it prints is written.

@@ -9,6 +9,7 @@ use lrpar_lexer::{NoToken, Token, TokenTypes};
 use lrpar_parse_errors::errors::ParseError;
 use lrpar_parse_lexemes::lex_api::{LexError, Lexeme, NonStreamingLexer};
 use lrpar_report::{Level, Reporter, push_choices, push_quoted};
+use program_files::fault::Fault;
 use program_files::parsing::{TextError, error_text};
 use std::alloc::{AllocError, Global};
 
@@ -129,13 +130,10 @@ pub(crate) fn push_repairs<'a, L: NonStreamingLexer<'a, TokenTypes>>(
     lexer: &L,
     input: &str,
     error: &TextError,
-) -> Result<(), AllocError>
+) -> Result<(), Fault>
     requires { L.text lexer.now ≡ input.now }
 {
-    let text = match error_text(alloc, names, lexer, input, error) {
-        Ok(text) => text,
-        Err(_) => return Err(AllocError),
-    };
+    let text = error_text(alloc, names, lexer, input, error)?;
     match text.as_str().split_once('\n') {
         Some((_, repairs)) => {
             out.push_str("repairs that were found, of which the first is taken:\n")?;

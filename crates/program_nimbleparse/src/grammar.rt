@@ -3,7 +3,6 @@ ghost use Rattle.lrpar_table_build.specs.Built.{IsBuilt};
 ghost use Rattle.lrpar_table_rows.specs.Safe.{IsSafe};
 
 use crate::conflicts::push_conflicts;
-use crate::fault::Fault;
 use crate::loops::{LoopKind, LoopStep, loop_of};
 use crate::show::{push_message, tell, told};
 use crate::warnings::push_rule_warnings;
@@ -13,6 +12,7 @@ use lrpar_report::{Level, Reporter, grammar_message, push_quoted, push_token};
 use lrpar_table::build::{BuildFault, from_yacc};
 use lrpar_table::check::{CheckFault, ParserData, Refused};
 use lrpar_table::table::{StateGraph, StateTable};
+use program_files::fault::Fault;
 use program_files::tables::MAX_STATES;
 use std::alloc::{AllocError, Global};
 use std::io::Write;

@@ -1,6 +1,6 @@
 //! The texts of files and of standard input.
-use crate::fault::Fault;
 use lrpar_report::{file_message, text_of};
+use program_files::fault::Fault;
 use std::alloc::Global;
 use std::io::Read;
 use std::rt::Files;

@@ -1,6 +1,6 @@
 //! The words after the program's name as options and paths.
-use crate::fault::Fault;
 use crate::plan::{Format, Recovery};
+use program_files::fault::Fault;
 use std::alloc::Global;
 
 /// What the words ask for.
@@ -184,7 +184,7 @@ fn format_of(name: &str) -> Result<Format, Fault> {
 // How many lexemes have to follow a repair.
 fn shifts_of(digits: &str) -> Result<usize, Fault> {
     match number_of(Valued::Shifts, digits)? {
-        0 => Err(Fault::zero_shifts()),
+        0 => Err(Fault::Usage("--shifts must be at least 1")),
         count => Ok(count),
     }
 }

@@ -2,7 +2,6 @@
 ghost use Rattle.std.specs.Prelude.{◌≡◌};
 
 use crate::errors::{Subject, push_lexing_error, push_parse_error, push_repairs};
-use crate::fault::Fault;
 use crate::plan::{Format, Plan, Recovery};
 use crate::show::tell;
 use lrpar_grammar::span::{StIdx, TIdx};
@@ -15,8 +14,9 @@ use lrpar_parse_repair::repair::Recoverer;
 use lrpar_parse_trees::{Form, write_graph, write_nested};
 use lrpar_report::Reporter;
 use lrpar_table::check::ParserData;
-use program_files::parsing::{TextError, Tree};
-use std::alloc::{AllocError, Global};
+use program_files::fault::Fault;
+use program_files::parsing::{Parsed, TextError, Tree, with_shifts};
+use std::alloc::Global;
 use std::io::Write;
 
 /// Parses the input of this path and text: tells its errors, and prints its tree, if there is one. Answers whether there is one, and no
@@ -92,11 +92,7 @@ fn tell_errors<'a, O: Write, E: Write>(
 }
 
 // The tree of the lexer's text, if there is one, and the errors.
-fn parsed(
-    alloc: Global,
-    plan: &Plan<'_>,
-    lexer: &RuleLexer<'_, '_>,
-) -> Result<(Option<Tree>, Vec<TextError>), Fault> {
+fn parsed(alloc: Global, plan: &Plan<'_>, lexer: &RuleLexer<'_, '_>) -> Result<Parsed, Fault> {
     let parser = RTParserBuilder::new(plan.data);
     match plan.recovery {
         Recovery::Nothing => parsed_by(alloc, parser, plan.shifts, lexer),
@@ -113,15 +109,8 @@ fn parsed_by<R: Recoverer<u32, Token<u32>> + Drop>(
     parser: RTParserBuilder<'_, u32, TokenTypes, R>,
     shifts: Option<usize>,
     lexer: &RuleLexer<'_, '_>,
-) -> Result<(Option<Tree>, Vec<TextError>), Fault> {
-    let parser = match shifts {
-        None => parser,
-        Some(count) => match parser.shifts(count) {
-            Ok(parser) => parser,
-            Err(_) => return Err(Fault::zero_shifts()),
-        },
-    };
-    Ok(parser.parse_generictree(alloc, lexer)?)
+) -> Result<Parsed, Fault> {
+    Ok(with_shifts(parser, shifts)?.parse_generictree(alloc, lexer)?)
 }
 
 // The messages of the errors of an input.
@@ -133,7 +122,7 @@ fn errors_text<'a, L: NonStreamingLexer<'a, TokenTypes>>(
     input: &str,
     expected: &[TIdx<u32>],
     errors: &[TextError],
-) -> Result<String, AllocError>
+) -> Result<String, Fault>
     requires { L.text lexer.now ≡ input.now }
 {
     let reporter = Reporter::new(alloc, input, path, plan.look)?;
@@ -196,11 +185,13 @@ fn push_error<'a, L: NonStreamingLexer<'a, TokenTypes>>(
     input: &str,
     expected: &[TIdx<u32>],
     error: &TextError,
-) -> Result<(), AllocError>
+) -> Result<(), Fault>
     requires { L.text lexer.now ≡ input.now }
 {
     match error {
-        LexParseError::LexError(error) => push_lexing_error(text, alloc, reporter, input, error),
+        LexParseError::LexError(error) => {
+            Ok(push_lexing_error(text, alloc, reporter, input, error)?)
+        }
         LexParseError::ParseError(failure) => {
             let subject = Subject {
                 grm: plan.data.grm(),

@@ -1,7 +1,7 @@
 //! The whole program: its words to a grammar, a lexer and inputs, their trees to standard output, and messages to standard error.
 ghost use Rattle.std.specs.Prelude.{◌≤◌};
 
-use crate::fault::{Fault, USAGE};
+use crate::fault_line::{FaultLine, USAGE};
 use crate::grammar::data_of;
 use crate::inputs::{STANDARD_INPUT, file_text, input_text};
 use crate::options::{HELP, Options, asks_for_help, options_of};
@@ -13,12 +13,13 @@ use crate::warnings::push_token_warnings;
 use lrpar_lexer::LexRule;
 use lrpar_report::{Level, Look, Reporter};
 use lrpar_table::check::ParserData;
+use program_files::fault::Fault;
 use program_files::parsing::printed_names;
 use program_files::streams::{Status, ended, finished, words};
 use std::alloc::{AllocError, Global};
+use std::env;
 use std::io::{BufWriter, IsTerminal, Read, Write};
 use std::rt::Files;
-use std::{env, io};
 
 /// What messages may rely on: that they come to a terminal, or not.
 #[derive(Clone, Copy, Debug, PartialEq, Eq)]
@@ -44,7 +45,10 @@ pub fn run_of_process(rt: &HostRuntime) -> u8
             rt.stdout(),
             rt.stderr(),
         ),
-        Err(error) => ended(Err(fault_of_arguments(&error)), &mut rt.stderr()),
+        Err(error) => ended(
+            Err(FaultLine(Fault::of_arguments(&error))),
+            &mut rt.stderr(),
+        ),
     }
 }
 
@@ -66,15 +70,7 @@ pub fn run<R: Files, I: Read + Drop, O: Write + Drop, E: Write + Drop>(
     ensures status { result ≤ 2 }
 {
     let ending = written(rt, alloc, args, terminal, input, out, &mut err);
-    ended(ending, &mut err)
-}
-
-// The fault of a failed look at the program's arguments.
-fn fault_of_arguments(error: &io::Error) -> Fault {
-    match error.kind() {
-        io::ErrorKind::OutOfMemory => Fault::Memory,
-        _ => Fault::Usage("a word isn't UTF-8"),
-    }
+    ended(ending.map_err(FaultLine), &mut err)
 }
 
 // What is known of the terminal.

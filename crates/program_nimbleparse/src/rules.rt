@@ -1,9 +1,9 @@
 //! The rules of the lexer, and why there are none.
-use crate::fault::Fault;
 use crate::show::told;
 use lrpar_grammar::grammar::YaccGrammar;
 use lrpar_lexer::{LexRule, RulesFault, rules_of};
 use lrpar_report::{Reporter, lexer_message};
+use program_files::fault::Fault;
 use std::alloc::Global;
 
 /// The rules of a text.

@@ -1,7 +1,7 @@
 //! What standard error gets while the program works.
-use crate::fault::Fault;
 use lrpar_grammar::span::Span;
 use lrpar_report::{Level, Message, Reporter};
+use program_files::fault::Fault;
 use std::alloc::{AllocError, Global};
 use std::io::Write;
 
