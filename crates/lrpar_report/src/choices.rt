@@ -13,10 +13,10 @@ pub fn push_choices<StorageT: StorageIndex>(
     grm: &YaccGrammar<StorageT>,
     tokens: &[TIdx<StorageT>],
 ) -> Result<(), AllocError> {
-    let told = tokens.get(..MOST_CHOICES).unwrap_or(tokens);
-    let more = tokens.len().saturating_sub(told.len());
-    for (place, token) in told.iter().enumerate() {
-        let after = told.len().saturating_sub(place).saturating_add(more);
+    let named = tokens.get(..MOST_CHOICES).unwrap_or(tokens);
+    let more = tokens.len().saturating_sub(named.len());
+    for (place, token) in named.iter().enumerate() {
+        let after = named.len().saturating_sub(place).saturating_add(more);
         out.push_str(joint(place, after))?;
         push_token(out, grm, *token)?;
     }

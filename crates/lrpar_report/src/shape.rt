@@ -38,18 +38,18 @@ pub(crate) fn push_expected(
 fn expected(alloc: Global, front: &str) -> Result<Vec<&'static str>, AllocError> {
     let mut names = Vec::new(alloc);
     for (word, name) in WORDS {
-        if can_stand(alloc, front, word)? {
+        if can_follow(alloc, front, word)? {
             names.push(name)?;
         }
     }
-    if can_stand(alloc, front, "")? {
+    if can_follow(alloc, front, "")? {
         names.push("the end")?;
     }
     Ok(names)
 }
 
 // Whether the word may stand behind the beginning: the text is then read to its end.
-fn can_stand(alloc: Global, front: &str, word: &str) -> Result<bool, AllocError> {
+fn can_follow(alloc: Global, front: &str, word: &str) -> Result<bool, AllocError> {
     let text = format!(in alloc; "{front}{word}")?;
     match Outline::read(alloc, text.as_str()) {
         Ok(_) => Ok(true),

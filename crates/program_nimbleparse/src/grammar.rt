@@ -4,7 +4,7 @@ ghost use Rattle.lrpar_table_rows.specs.Safe.{IsSafe};
 
 use crate::conflicts::push_conflicts;
 use crate::loops::{LoopKind, LoopStep, loop_of};
-use crate::show::{push_message, tell, told};
+use crate::show::{fault_of_message, push_message, write_messages};
 use crate::warnings::push_rule_warnings;
 use lrpar_grammar::grammar::YaccGrammar;
 use lrpar_grammar::span::{RIdx, Span, TIdx};
@@ -33,7 +33,7 @@ pub fn data_of<O: Write, E: Write>(
     match from_yacc(alloc, &grm, MAX_STATES) {
         Ok((sgraph, stable)) => {
             if !is_quiet {
-                tell_notes(alloc, reporter, &grm, &sgraph, &stable, out, err)?;
+                write_notes(alloc, reporter, &grm, &sgraph, &stable, out, err)?;
             }
             checked(alloc, reporter, grm, sgraph, stable)
         }
@@ -42,7 +42,7 @@ pub fn data_of<O: Write, E: Write>(
 }
 
 // Tells of rules that are of no use, and of conflicts.
-fn tell_notes<O: Write, E: Write>(
+fn write_notes<O: Write, E: Write>(
     alloc: Global,
     reporter: &Reporter<'_>,
     grm: &YaccGrammar<u32>,
@@ -56,7 +56,7 @@ fn tell_notes<O: Write, E: Write>(
     let mut notes = String::new(alloc);
     push_rule_warnings(&mut notes, alloc, reporter, grm)?;
     push_conflicts(&mut notes, alloc, reporter, grm, sgraph, stable)?;
-    tell(out, err, notes.as_str())
+    write_messages(out, err, notes.as_str())
 }
 
 // The grammar of a text.
@@ -69,7 +69,7 @@ fn grammar_of(
         Ok(grm) => Ok(grm),
         Err(fault) => {
             let message = grammar_message(alloc, text, &fault)?;
-            Err(told(alloc, reporter, &message))
+            Err(fault_of_message(alloc, reporter, &message))
         }
     }
 }
@@ -200,12 +200,12 @@ fn push_loop(
     match kind {
         LoopKind::DerivesItself => {
             out.push_str("rule ")?;
-            push_way(out, grm, " derives itself", steps)?;
+            push_loop_rules(out, grm, " derives itself", steps)?;
             out.push_str(", so that each of its texts has trees without end")
         }
         LoopKind::IsHiddenLeft => {
             out.push_str("hidden left recursion: rule ")?;
-            push_way(out, grm, " begins with itself", steps)?;
+            push_loop_rules(out, grm, " begins with itself", steps)?;
             out.push_str(", after what may derive nothing")
         }
     }
@@ -237,7 +237,7 @@ fn push_loop_label(
 }
 
 // Adds the first rule of a loop, what it does, and the other rules on the way.
-fn push_way(
+fn push_loop_rules(
     out: &mut String,
     grm: &YaccGrammar<u32>,
     does: &str,

@@ -30,7 +30,7 @@ pub(crate) struct LoopStep<StorageT> {
 
 /// How a rule leads to the target: by a step, and by so many steps after it.
 #[derive(Clone, Copy, Debug, PartialEq, Eq)]
-struct Way<StorageT> {
+struct Path<StorageT> {
     step: LoopStep<StorageT>,
     steps: usize,
 }
@@ -171,7 +171,7 @@ fn loop_from<StorageT: StorageIndex>(
     let Some(target) = rule_of(grm, first) else {
         return Ok(None);
     };
-    let ways = ways_to(alloc, grm, steps, target)?;
+    let paths = paths_to(alloc, grm, steps, target)?;
     let mut found = Vec::new(alloc);
     let mut step = first;
     for _ in 0..grm.rules_len() {
@@ -182,8 +182,8 @@ fn loop_from<StorageT: StorageIndex>(
         if rule == target {
             return Ok(Some(found));
         }
-        match ways.get(usize::from(rule)) {
-            Some(Some(way)) => step = way.step,
+        match paths.get(usize::from(rule)) {
+            Some(Some(path)) => step = path.step,
             _ => return Ok(None),
         }
     }
@@ -191,27 +191,27 @@ fn loop_from<StorageT: StorageIndex>(
 }
 
 // For each rule the first step of a shortest way to the target, if there is one.
-fn ways_to<StorageT: StorageIndex>(
+fn paths_to<StorageT: StorageIndex>(
     alloc: Global,
     grm: &YaccGrammar<StorageT>,
     steps: &[LoopStep<StorageT>],
     target: RIdx<StorageT>,
-) -> Result<Vec<Option<Way<StorageT>>>, AllocError> {
-    let mut ways = Vec::with_capacity(alloc, grm.rules_len())?;
+) -> Result<Vec<Option<Path<StorageT>>>, AllocError> {
+    let mut paths = Vec::with_capacity(alloc, grm.rules_len())?;
     for _ in 0..grm.rules_len() {
-        ways.push(None)?;
+        paths.push(None)?;
     }
     for sweep in 0..grm.rules_len() {
-        if !add_ways(&mut ways, grm, steps, target, sweep) {
-            return Ok(ways);
+        if !add_paths(&mut paths, grm, steps, target, sweep) {
+            return Ok(paths);
         }
     }
-    Ok(ways)
+    Ok(paths)
 }
 
 // Adds the ways of so many steps after the first one, and tells whether there is one.
-fn add_ways<StorageT: StorageIndex>(
-    ways: &mut [Option<Way<StorageT>>],
+fn add_paths<StorageT: StorageIndex>(
+    paths: &mut [Option<Path<StorageT>>],
     grm: &YaccGrammar<StorageT>,
     steps: &[LoopStep<StorageT>],
     target: RIdx<StorageT>,
@@ -219,7 +219,7 @@ fn add_ways<StorageT: StorageIndex>(
 ) -> bool {
     let mut has_more = false;
     for step in steps {
-        if leads_on(ways, grm, *step, target, sweep) && add_way(ways, grm, *step, sweep) {
+        if leads_on(paths, grm, *step, target, sweep) && add_path(paths, grm, *step, sweep) {
             has_more = true;
         }
     }
@@ -228,7 +228,7 @@ fn add_ways<StorageT: StorageIndex>(
 
 // Whether the step leads to the target, or to a rule that was given a way by an earlier sweep.
 fn leads_on<StorageT: StorageIndex>(
-    ways: &[Option<Way<StorageT>>],
+    paths: &[Option<Path<StorageT>>],
     grm: &YaccGrammar<StorageT>,
     step: LoopStep<StorageT>,
     target: RIdx<StorageT>,
@@ -236,8 +236,8 @@ fn leads_on<StorageT: StorageIndex>(
 ) -> bool {
     match rule_after(grm, step) {
         Some(rule) if rule == target => true,
-        Some(rule) => match ways.get(usize::from(rule)) {
-            Some(Some(way)) => way.steps < sweep,
+        Some(rule) => match paths.get(usize::from(rule)) {
+            Some(Some(path)) => path.steps < sweep,
             _ => false,
         },
         None => false,
@@ -245,8 +245,8 @@ fn leads_on<StorageT: StorageIndex>(
 }
 
 // Keeps the step for its rule, and tells whether that had none.
-fn add_way<StorageT: StorageIndex>(
-    ways: &mut [Option<Way<StorageT>>],
+fn add_path<StorageT: StorageIndex>(
+    paths: &mut [Option<Path<StorageT>>],
     grm: &YaccGrammar<StorageT>,
     step: LoopStep<StorageT>,
     sweep: usize,
@@ -255,8 +255,8 @@ fn add_way<StorageT: StorageIndex>(
         return false;
     };
     let rule = usize::from(rule);
-    if rule < ways.len() && ways[rule].is_none() {
-        ways[rule] = Some(Way { step, steps: sweep });
+    if rule < paths.len() && paths[rule].is_none() {
+        paths[rule] = Some(Path { step, steps: sweep });
         true
     } else {
         false

@@ -3,7 +3,7 @@ ghost use Rattle.std.specs.Prelude.{◌≡◌};
 
 use crate::errors::{Subject, push_lexing_error, push_parse_error, push_repairs};
 use crate::plan::{Format, Plan, Recovery};
-use crate::show::tell;
+use crate::show::write_messages;
 use lrpar_grammar::span::{StIdx, TIdx};
 use lrpar_lexer::{RuleLexer, Token, TokenTypes};
 use lrpar_parse::RTParserBuilder;
@@ -62,7 +62,7 @@ fn printed<'a, O: Write, E: Write>(
     requires { lexer.now.input.now ≡ input.now }
 {
     if !errors.is_empty() {
-        tell_errors(alloc, plan, lexer, path, input, errors, out, err)?;
+        write_errors(alloc, plan, lexer, path, input, errors, out, err)?;
     }
     match tree {
         Some(tree) => {
@@ -74,7 +74,7 @@ fn printed<'a, O: Write, E: Write>(
 }
 
 // Tells the errors.
-fn tell_errors<'a, O: Write, E: Write>(
+fn write_errors<'a, O: Write, E: Write>(
     alloc: Global,
     plan: &'a Plan<'_>,
     lexer: &RuleLexer<'_, 'a>,
@@ -88,7 +88,7 @@ fn tell_errors<'a, O: Write, E: Write>(
 {
     let expected = expected_tokens(alloc, plan, lexer, errors)?;
     let text = errors_text(alloc, plan, lexer, path, input, &expected, errors)?;
-    tell(out, err, text.as_str())
+    write_messages(out, err, text.as_str())
 }
 
 // The tree of the lexer's text, if there is one, and the errors.

@@ -8,7 +8,7 @@ use crate::options::{HELP, Options, asks_for_help, options_of};
 use crate::parse::parse;
 use crate::plan::Plan;
 use crate::rules::lexer_rules;
-use crate::show::{push_message, tell};
+use crate::show::{push_message, write_messages};
 use crate::warnings::push_token_warnings;
 use lrpar_lexer::LexRule;
 use lrpar_report::{Level, Look, Reporter};
@@ -236,7 +236,7 @@ fn grammar_data<O: Write, E: Write>(
 ) -> Result<ParserData<u32>, Fault> {
     let is_quiet = work.options.is_quiet;
     if work.terminal.shows_progress && !is_quiet {
-        tell(out, err, "nimbleparse: building the table ..\n")?;
+        write_messages(out, err, "nimbleparse: building the table ..\n")?;
     }
     let reporter = work.grammar_reporter(alloc)?;
     data_of(alloc, &reporter, work.grammar, is_quiet, out, err)
@@ -266,7 +266,7 @@ fn warn<O: Write, E: Write>(
         return Ok(());
     }
     let text = warnings(alloc, work, data, rules)?;
-    tell(out, err, text.as_str())
+    write_messages(out, err, text.as_str())
 }
 
 // The text of the warnings and of the note.

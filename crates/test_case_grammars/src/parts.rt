@@ -6,7 +6,7 @@ use std::alloc::Global;
 use test_case_lines::cases::Case;
 use test_case_lines::fault::Fault;
 use test_case_lines::line::{Content, in_two};
-use test_case_lines::told::Told;
+use test_case_lines::printed::Printed;
 use test_case_lines::values::{index_of, number_of, span_of};
 
 /// The keys that say what is done.
@@ -25,9 +25,9 @@ pub const INPUTS: &[&str] = &[
 const NO_SPAN: &str = "a span is wanted, as 3..4";
 
 /// The grammar of the parts, in the smallest storage type.
-pub fn outcome(told: &mut Told, alloc: Global, case: Case<'_, '_>) -> Result<(), Fault> {
+pub fn outcome(out: &mut Printed, alloc: Global, case: Case<'_, '_>) -> Result<(), Fault> {
     let parts = parts_of(alloc, case)?;
-    push_made(told, alloc, case, YaccGrammar::from_parts(alloc, parts))
+    push_made(out, alloc, case, YaccGrammar::from_parts(alloc, parts))
 }
 
 // The parts that the lines have.

@@ -119,9 +119,9 @@ pub fn from_key<'t, 'a>(lines: &'t [Line<'a>], key: &str) -> &'t [Line<'a>] {
 }
 
 // Whether the line has this key.
-fn has_key(line: Line<'_>, wanted: &str) -> bool {
+fn has_key(line: Line<'_>, name: &str) -> bool {
     match line.content {
-        Content::Field { key, value: _ } => key == wanted,
+        Content::Field { key, value: _ } => key == name,
         Content::Header { .. } | Content::Text(_) => false,
     }
 }

@@ -73,22 +73,22 @@ pub(crate) fn token_number(grm: &YaccGrammar<u32>, name: &str) -> Option<u32> {
 
 /// A lexer that answers what it is handed, over a text.
 #[derive(Drop)]
-pub(crate) struct HandedLexer<'a> {
+pub(crate) struct ListLexer<'a> {
     given: &'a [Given],
     text: RuleLexer<'a, 'a>,
 }
 
-impl<'a> HandedLexer<'a> {
+impl<'a> ListLexer<'a> {
     /// The lexer that answers this over this text.
     pub(crate) fn new(alloc: Global, given: &'a [Given], input: &'a str) -> Result<Self, AllocError>
         ensures { IfOk result (λ lexer. lexer.text.input.now ≡ input.now) }
     {
         let text = RuleLexer::new(alloc, &[], input)?;
-        Ok(HandedLexer { given, text })
+        Ok(ListLexer { given, text })
     }
 }
 
-impl<'a> Lexer<TokenTypes> for HandedLexer<'a> {
+impl<'a> Lexer<TokenTypes> for ListLexer<'a> {
     ghost allows = { λ _ _. Unit {0} };
 
     fn iter(&self, alloc: Global) -> Result<Vec<Result<Token<u32>, NoToken>>, AllocError> {
@@ -103,7 +103,7 @@ impl<'a> Lexer<TokenTypes> for HandedLexer<'a> {
     }
 }
 
-impl<'a> NonStreamingLexer<'a, TokenTypes> for HandedLexer<'a> {
+impl<'a> NonStreamingLexer<'a, TokenTypes> for ListLexer<'a> {
     ghost text = { λ lexer. lexer.text.input.now };
 
     fn span_str(&self, span: Span) -> &'a str {

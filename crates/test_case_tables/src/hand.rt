@@ -305,13 +305,13 @@ fn beside<'a>(list: &'a str, name: &str) -> Option<&'a str> {
 }
 
 // The list of the line, if it has this key and this state: `STATE: LIST`.
-fn list_of<'a>(line: Line<'a>, wanted: &str, state: usize) -> Option<&'a str> {
+fn list_of<'a>(line: Line<'a>, name: &str, state: usize) -> Option<&'a str> {
     let Content::Field { key, value } = line.content else {
         return None;
     };
     let (number, list) = value.split_once(':')?;
     match number.parse::<usize>() {
-        Ok(number) if key == wanted && number == state => Some(list),
+        Ok(number) if key == name && number == state => Some(list),
         _ => None,
     }
 }

@@ -120,9 +120,9 @@ fn settings_are_told(
     data: &ParserData<u32>,
     rules: &[LexRule],
 ) -> Result<(), Fail> {
-    for (input, wanted) in &TOLD {
+    for (input, expected) in &TOLD {
         let text = told(alloc, data, rules, *input)?;
-        assert_eq!(rt; text.as_str(), *wanted);
+        assert_eq!(rt; text.as_str(), *expected);
     }
     Ok(())
 }

@@ -11,7 +11,7 @@ use std::alloc::Global;
 use std::process::Abort;
 use std::test::Fail;
 use test_parts::built::{CALC, built, lists};
-use test_parts::lexer::{HandedLexer, lexer_of};
+use test_parts::lexer::{ListLexer, lexer_of};
 use thiserror::Error;
 
 /// Why there is no answer.
@@ -39,7 +39,7 @@ fn tree_of(
     text: &str,
     items: Vec<Vec<Item<u32>>>,
     rows: TableRows<u32>,
-    lexer: &HandedLexer<'_>,
+    lexer: &ListLexer<'_>,
 ) -> Result<Answer, Failed> {
     let grm = YaccGrammar::new_with_storaget(alloc, text)?;
     let sgraph = StateGraph::from_rows(alloc, items)?;

@@ -52,8 +52,8 @@ impl<'a> Recoverer<u32, Token<u32>> for Deleting<'a> {
         }
         let mut steps = Vec::new(alloc);
         steps.push(RepairStep::Delete)?;
-        let mut handed = Vec::new(alloc);
-        handed.push(steps)?;
-        Ok(handed)
+        let mut sequences = Vec::new(alloc);
+        sequences.push(steps)?;
+        Ok(sequences)
     }
 }

@@ -1,5 +1,5 @@
 //! Rules of lexers, made one by one.
-use crate::wants::{holds, same};
+use crate::expectations::{holds, same};
 use lrpar_grammar::span::TIdx;
 use lrpar_lexer::{LexRule, RuleLexer};
 use lrpar_parse_lexemes::lex_api::Lexer;
@@ -46,9 +46,9 @@ fn rules(rt: &impl Abort, alloc: Global) -> Vec<LexRule> {
 #[test]
 fn rules_give_their_lexemes(rt: HostRuntime) -> Result<(), Fail> {
     let rules = rules(&rt, rt.alloc());
-    for (input, wanted) in ANSWERS {
+    for (input, expected) in ANSWERS {
         let found = answers(&rt, rt.alloc(), &rules, input);
-        same(&rt, input, &found.as_str(), wanted);
+        same(&rt, input, &found.as_str(), expected);
     }
     Ok(())
 }

@@ -1,6 +1,6 @@
 //! Trees as `Debug` shows them.
+use crate::expectations::{holds, same};
 use crate::trees::{Tree, chain_of};
-use crate::wants::{holds, same};
 use lrpar_grammar::span::RIdx;
 use lrpar_lexer::Token;
 use lrpar_parse_lexemes::lex_api::Lexeme;
@@ -174,14 +174,14 @@ fn lines_of_chain(alloc: Global, levels: usize) -> Result<String, AllocError> {
 
 #[test]
 fn lines_of_a_thousand_levels(rt: HostRuntime) -> Result<(), Fail> {
-    let wanted = lines_of_chain(rt.alloc(), 1_000)?;
-    are_shown_in_lines(&rt, rt.alloc(), &wanted);
+    let expected = lines_of_chain(rt.alloc(), 1_000)?;
+    are_shown_in_lines(&rt, rt.alloc(), &expected);
     Ok(())
 }
 
 // A chain of a thousand levels is shown in these lines.
-fn are_shown_in_lines(rt: &impl Abort, alloc: Global, wanted: &str) {
+fn are_shown_in_lines(rt: &impl Abort, alloc: Global, expected: &str) {
     let tree = chain_of(rt, alloc, 1_000);
     let text = format!(in alloc; "{tree:#?}").expect(rt, "memory");
-    holds(rt, &"the lines of a derive", text.as_str() == wanted);
+    holds(rt, &"the lines of a derive", text.as_str() == expected);
 }

@@ -1,5 +1,5 @@
 //! The largest table, and a long grammar text.
-use crate::wants::{holds, same};
+use crate::expectations::{holds, same};
 use lrpar_grammar::grammar::{GrammarFault, YaccGrammar};
 use lrpar_grammar::span::{StIdx, TIdx};
 use lrpar_table::table::{Action, SparseRows, StateTable};

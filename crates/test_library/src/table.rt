@@ -1,5 +1,5 @@
 //! Item sets, conflicts and stacks, and texts of faults, where no case can say it.
-use crate::wants::{holds, same};
+use crate::expectations::{holds, same};
 use lrpar_grammar::grammar::{GrammarFault, YaccGrammar};
 use lrpar_grammar::span::{PIdx, StIdx, TIdx};
 use lrpar_table::build::{BuildFault, Unbuilt, from_yacc, parser_data};
@@ -78,7 +78,7 @@ fn have_items(rt: &impl Abort, graph: &StateGraph<u8>) {
 type Parts = (YaccGrammar<u8>, StateGraph<u8>, StateTable<u8>);
 
 // What is handed back of the table of sums, which the cap 1 is too low for: the end token, 2, makes two reductions in state 4.
-fn handed_back(rt: &impl Abort, alloc: Global) -> Parts {
+fn returned_parts(rt: &impl Abort, alloc: Global) -> Parts {
     let grm = YaccGrammar::new_with_storaget(alloc, SUM).expect(rt, "a grammar");
     match parser_data(alloc, grm, 100, 1) {
         Err(Unbuilt::Chains(refused)) => {
@@ -96,7 +96,7 @@ fn handed_back(rt: &impl Abort, alloc: Global) -> Parts {
 
 // The same, checked with the cap 2.
 fn checked_again(rt: &impl Abort, alloc: Global) -> ParserData<u8> {
-    let (grm, graph, table) = handed_back(rt, alloc);
+    let (grm, graph, table) = returned_parts(rt, alloc);
     match ParserData::new(alloc, grm, graph, table, 2) {
         Ok(data) => data,
         Err(_) => panic!(rt; "refused again"),
@@ -215,21 +215,37 @@ fn a_new_overlay_is_its_base(rt: HostRuntime) -> Result<(), Fail> {
 }
 
 #[test]
-fn want_of_memory_as_text(rt: HostRuntime) -> Result<(), Fail> {
+fn out_of_memory_as_text(rt: HostRuntime) -> Result<(), Fail> {
     let alloc = rt.alloc();
-    holds(&rt, &"a grammar", is_told(alloc, &GrammarFault::Memory)?);
-    holds(&rt, &"a build", is_told(alloc, &BuildFault::Memory)?);
-    holds(&rt, &"a table", is_told(alloc, &TableFault::Memory)?);
-    holds(&rt, &"a check", is_told(alloc, &CheckFault::Memory)?);
+    holds(
+        &rt,
+        &"a grammar",
+        is_out_of_memory(alloc, &GrammarFault::Memory)?,
+    );
+    holds(
+        &rt,
+        &"a build",
+        is_out_of_memory(alloc, &BuildFault::Memory)?,
+    );
+    holds(
+        &rt,
+        &"a table",
+        is_out_of_memory(alloc, &TableFault::Memory)?,
+    );
+    holds(
+        &rt,
+        &"a check",
+        is_out_of_memory(alloc, &CheckFault::Memory)?,
+    );
     holds(
         &rt,
         &"completeness",
-        is_told(alloc, &CompleteFault::Memory)?,
+        is_out_of_memory(alloc, &CompleteFault::Memory)?,
     );
     Ok(())
 }
 
 // Whether the fault has the text of want of memory.
-fn is_told<E: fmt::Display>(alloc: Global, fault: &E) -> Result<bool, Fail> {
+fn is_out_of_memory<E: fmt::Display>(alloc: Global, fault: &E) -> Result<bool, Fail> {
     Ok(format!(in alloc; "{fault}")?.as_str() == "out of memory")
 }

@@ -1,5 +1,5 @@
 //! Trees: of many levels, of no grammar, those that an action makes, and how they are written.
-use crate::wants::{holds, same};
+use crate::expectations::{holds, same};
 use lrpar_grammar::grammar::YaccGrammar;
 use lrpar_grammar::span::{RIdx, Span};
 use lrpar_lexer::{Token, TokenTypes};
@@ -168,10 +168,10 @@ fn trees_that_differ(rt: HostRuntime) -> Result<(), Fail> {
 
 // In each row the trees of both sums are equal, where the row says so.
 fn differ(rt: &impl Abort, alloc: Global, data: &ParserData<u32>) {
-    for (first, terms, len, want) in SUMS {
+    for (first, terms, len, expected) in SUMS {
         let tree = tree_of_sum(rt, alloc, data, first, 1);
         let other = tree_of_sum(rt, alloc, data, terms, len);
-        same(rt, &terms, &(tree == other), &want);
+        same(rt, &terms, &(tree == other), &expected);
     }
 }
 

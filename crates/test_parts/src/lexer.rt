@@ -24,7 +24,7 @@ pub enum Last {
 
 /// The lexer. At one of its calls it finds no memory.
 #[derive(Drop)]
-pub struct HandedLexer<'a> {
+pub struct ListLexer<'a> {
     pub given: &'a [Given],
     pub last: Last,
     pub calls: Cell<usize>,
@@ -32,8 +32,8 @@ pub struct HandedLexer<'a> {
 }
 
 /// The lexer of these lexemes, which never wants memory of its own.
-pub fn lexer_of(given: &[Given]) -> HandedLexer<'_> {
-    HandedLexer {
+pub fn lexer_of(given: &[Given]) -> ListLexer<'_> {
+    ListLexer {
         given,
         last: Last::Nothing,
         calls: Cell::new(0),
@@ -50,7 +50,7 @@ fn answer_after(last: Last, end: usize) -> Option<Result<Token<u32>, NoToken>> {
     }
 }
 
-impl<'a> Lexer<TokenTypes> for HandedLexer<'a> {
+impl<'a> Lexer<TokenTypes> for ListLexer<'a> {
     ghost allows = { λ _ _. Unit {0} };
 
     fn iter(&self, alloc: Global) -> Result<Vec<Result<Token<u32>, NoToken>>, AllocError> {
@@ -71,7 +71,7 @@ impl<'a> Lexer<TokenTypes> for HandedLexer<'a> {
     }
 }
 
-impl<'a, 'input> NonStreamingLexer<'input, TokenTypes> for HandedLexer<'a> {
+impl<'a, 'input> NonStreamingLexer<'input, TokenTypes> for ListLexer<'a> {
     ghost text = { λ _. [] };
 
     fn span_str(&self, _: Span) -> &'input str {

@@ -7,15 +7,15 @@ use std::fmt;
 /// What comes of a case, as far as it is written. That memory was wanting is kept until the end, so that what writes needn't fail
 /// ("Errors are values", The Go Blog, 2015).
 #[derive(Drop)]
-pub struct Told {
+pub struct Printed {
     text: String,
     is_whole: bool,
 }
 
-impl Told {
+impl Printed {
     /// Nothing so far.
-    pub fn new(alloc: Global) -> Told {
-        Told {
+    pub fn new(alloc: Global) -> Printed {
+        Printed {
             text: String::new(alloc),
             is_whole: true,
         }
@@ -85,13 +85,13 @@ impl Told {
     }
 
     /// Writes what another one has.
-    pub fn append(&mut self, other: &Told) {
+    pub fn append(&mut self, other: &Printed) {
         self.text(other.so_far());
         self.is_whole &= other.is_whole;
     }
 
     /// Whether two have the same. Where memory was wanting to one of them, that is noted.
-    pub fn agree(&mut self, first: &Told, second: &Told) -> bool {
+    pub fn agree(&mut self, first: &Printed, second: &Printed) -> bool {
         self.is_whole &= first.is_whole && second.is_whole;
         first.so_far() == second.so_far()
     }

@@ -1,6 +1,6 @@
 use Rattle.std.proofs.Common.{sym}
 use Rattle.test_parts.proofs.ColumnLemmas.{column_of_nothing}
-use Rattle.test_parts.proofs.lexer.HandedLexerNonStreamingLexerTokenTypes.line_col.Goals as goal
+use Rattle.test_parts.proofs.lexer.ListLexerNonStreamingLexerTokenTypes.line_col.Goals as goal
 
 pub returns-clause-start_column : goal.returns-clause-start_column
 returns-clause-start_column c = sym (column_of_nothing c.args.arg2.start c.requires.start.0)

@@ -3,8 +3,8 @@ use std::fmt::{Debug, Display};
 use std::process::Abort;
 
 /// Ends the test where what was found isn't what is wanted. What it says of that begins with `what`.
-pub fn same<T: PartialEq + Debug, D: Display>(rt: &impl Abort, what: &D, found: &T, wanted: &T) {
-    assert_eq!(rt; *found, *wanted, "{what}");
+pub fn same<T: PartialEq + Debug, D: Display>(rt: &impl Abort, what: &D, found: &T, expected: &T) {
+    assert_eq!(rt; *found, *expected, "{what}");
 }
 
 /// Ends the test where it isn't so, and says `what` isn't.
