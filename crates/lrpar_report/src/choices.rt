@@ -1,13 +1,13 @@
-//! Lists of what may stand somewhere.
+//! Lists of what may come somewhere.
 use lrpar_grammar::grammar::YaccGrammar;
 use lrpar_grammar::span::{StorageIndex, TIdx};
 use std::alloc::AllocError;
 
-/// How many tokens are told at most.
+/// How many tokens are named at most.
 const MOST_CHOICES: usize = 12;
 
 /// Adds what may come: `expected A`, `expected A or B`, `expected A, B or C`; of more than twelve tokens the first twelve, and how many
-/// more there are. Adds nothing, where there are none.
+/// more there are. Adds nothing, if there are none.
 pub fn push_choices<StorageT: StorageIndex>(
     out: &mut String,
     grm: &YaccGrammar<StorageT>,
@@ -26,7 +26,7 @@ pub fn push_choices<StorageT: StorageIndex>(
     }
 }
 
-/// What stands in front of a choice, behind so many others, when so many are left with it.
+/// What comes before the choice at place `place` of a list, if `left` choices are left with it.
 pub(crate) fn joint(place: usize, left: usize) -> &'static str {
     match (place, left) {
         (0, _) => "expected ",

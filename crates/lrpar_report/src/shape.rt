@@ -1,4 +1,4 @@
-//! What may stand at a place of a grammar text, which is found by trying it.
+//! What may come at a place of a grammar text, which is found by trying it.
 use crate::choices::joint;
 use lrpar_grammar_words::outline::{Outline, OutlineFault};
 use std::alloc::{AllocError, Global};
@@ -16,8 +16,8 @@ const WORDS: [(&str, &str); 9] = [
     (" ;", "';'"),
 ];
 
-/// Adds the kinds of words that may stand behind this beginning of a grammar text, which has whole words that can stand as they do:
-/// `, expected A, B or C`.
+/// Adds the kinds of words that may follow this beginning of a grammar text, which has to be a list of whole words that begins some
+/// grammar text: `, expected A, B or C`.
 pub(crate) fn push_expected(
     out: &mut String,
     alloc: Global,
@@ -34,7 +34,7 @@ pub(crate) fn push_expected(
     Ok(())
 }
 
-// The kinds of words that may stand behind the beginning.
+// The kinds of words that may follow the beginning.
 fn expected(alloc: Global, front: &str) -> Result<Vec<&'static str>, AllocError> {
     let mut names = Vec::new(alloc);
     for (word, name) in WORDS {
@@ -48,7 +48,7 @@ fn expected(alloc: Global, front: &str) -> Result<Vec<&'static str>, AllocError>
     Ok(names)
 }
 
-// Whether the word may stand behind the beginning: the text is then read to its end.
+// Whether the word may follow the beginning: the text is then read to its end.
 fn can_follow(alloc: Global, front: &str, word: &str) -> Result<bool, AllocError> {
     let text = format!(in alloc; "{front}{word}")?;
     match Outline::read(alloc, text.as_str()) {

@@ -11,7 +11,7 @@ use std::alloc::{AllocError, AllocFailed, Global};
 use std::io;
 use thiserror::Error;
 
-/// Why a program ends without an answer. The text names no program: each program adds its name where it writes the text.
+/// Why a program ends without an answer. The text names no program: each program adds its name when it writes the text.
 #[derive(Debug, Drop, Error)]
 pub enum Fault {
     /// The words are no command of the program, as this says.
@@ -140,7 +140,7 @@ impl From<RulesFault> for Fault {
     }
 }
 
-// Of a failed write to standard output. A failed read gets its fault where it fails.
+// For a failed write to standard output. A failed read has its own faults: see `of_file` and `of_input`.
 impl From<io::Error> for Fault {
     fn from(error: io::Error) -> Fault {
         match error.kind() {

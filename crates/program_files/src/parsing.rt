@@ -67,7 +67,7 @@ fn repairing_parser<'a>(
     parser_by(data, repairs, shifts)
 }
 
-/// The parser by this table, with these repairs; `shifts` lexemes have to follow a repair, if that is given.
+/// The parser by this table, with these repairs; `shifts` lexemes have to follow a repair, if it is given.
 pub fn parser_by(
     data: &ParserData<u32>,
     repairs: FixedRecoverer<u32>,
@@ -76,7 +76,7 @@ pub fn parser_by(
     with_shifts(RTParserBuilder::new(data).recoverer(repairs), shifts)
 }
 
-/// The parser, for which `shifts` lexemes have to follow a repair, if that is given.
+/// The parser with this number of lexemes that have to follow a repair, if it is given. Returns [`Fault::ZeroShifts`] for 0.
 pub fn with_shifts<'a, R: Recoverer<u32, Token<u32>> + Drop>(
     parser: RTParserBuilder<'a, u32, TokenTypes, R>,
     shifts: Option<usize>,
@@ -99,8 +99,8 @@ pub fn printed_names(alloc: Global, grm: &YaccGrammar<u32>) -> Result<Vec<&str>,
     Ok(names)
 }
 
-/// Parses the lexer's text to its tree, and prints each error's text and a line feed, and then the tree's text, if there is a
-/// tree. Answers whether there is one, and no error.
+/// Parses the lexer's text. Prints each error's text and a line feed, and then the tree's text, if there is a tree. Returns whether
+/// there is a tree, and no error.
 pub fn print_tree<'a, L: NonStreamingLexer<'a, TokenTypes>, O: Write>(
     alloc: Global,
     parser: &Parser<'_>,
@@ -168,7 +168,7 @@ pub fn print_line<O: Write>(out: &mut O, text: &str) -> Result<(), Fault> {
     Ok(())
 }
 
-/// The text of an error. Each token prints as some text, so only memory can be wanting.
+/// The text of an error. Each token has a printed text, so the only failures are [`Fault::Misplaced`] and [`Fault::Memory`].
 pub fn error_text<'a, L: NonStreamingLexer<'a, TokenTypes>>(
     alloc: Global,
     names: &'a [&'a str],
@@ -187,7 +187,7 @@ pub fn error_text<'a, L: NonStreamingLexer<'a, TokenTypes>>(
     }
 }
 
-// What messages print for a token: nothing, where it isn't the grammar's.
+// What messages print for a token: nothing, if it isn't one of the grammar.
 fn name_at<'a>(names: &'a [&'a str], token: TIdx<u32>) -> &'a str {
     match names.get(usize::from(token)) {
         Some(name) => *name,

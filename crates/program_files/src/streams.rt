@@ -1,4 +1,4 @@
-//! What programs share: their words, and how they end.
+//! The words of a program, and how it ends.
 ghost use Rattle.std.specs.Prelude.{◌≡◌, ◌≤◌, IfOk, Ok, OnErr};
 ghost use Rattle.program_files.specs.Status.{status_code, status_of};
 
@@ -19,7 +19,7 @@ pub enum Status {
 }
 
 impl Status {
-    /// How a program ends whose input has no error, or has one.
+    /// How a program ends if its input has no error, or has one.
     pub fn of(is_clean: bool) -> Status
         ensures { result ≡ status_of is_clean }
     {
@@ -48,7 +48,7 @@ pub fn words(rt: &HostRuntime) -> io::Result<Vec<String>> {
     Ok(env::args(rt)?.skip(1).collect(rt.alloc())?)
 }
 
-/// The answer, once all that was printed is written, or else a fault. What `out` doesn't take isn't tried again.
+/// The answer, after `out` is flushed; or a fault, and then what is left in its buffer is dropped.
 pub fn finished<O: Write + Drop>(
     answer: Result<Status, Fault>,
     mut out: BufWriter<O>,
@@ -62,7 +62,7 @@ pub fn finished<O: Write + Drop>(
     answer
 }
 
-// The answer, once all that was printed is written.
+// The answer, after `out` is flushed.
 fn flushed<O: Write>(answer: Result<Status, Fault>, out: &mut O) -> Result<Status, Fault>
     ensures { IfOk result (λ status. answer ≡ Ok status) }
 {

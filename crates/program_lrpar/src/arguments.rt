@@ -21,11 +21,11 @@ pub(crate) enum Command<'a> {
         grammar: &'a str,
         cap: u16,
     },
-    /// Tells the conflicts of the table of the grammar of a file.
+    /// Prints the conflicts of the table of the grammar of a file.
     Conflicts {
         grammar: &'a str,
     },
-    /// Computes what stands on standard input, by the repairs of a file.
+    /// Computes the lines of standard input, by the repairs of a file.
     Calc {
         shifts: Option<usize>,
         repairs: Option<&'a str>,
@@ -137,7 +137,7 @@ fn nonzero(shifts: Option<usize>) -> Result<Option<usize>, Fault> {
     }
 }
 
-// The word, if it has ASCII digits alone and at most so many; else nothing.
+// The word, if it has ASCII digits alone and at most `most` of them; else nothing.
 fn digits(word: &str, most: usize) -> &str {
     if word.len() <= most && word.bytes().all(|byte| byte.is_ascii_digit()) {
         word

@@ -13,7 +13,7 @@ use program_files::fault::Fault;
 use program_files::parsing::{TextError, error_text};
 use std::alloc::{AllocError, Global};
 
-/// How many characters of an unexpected lexeme are told at most.
+/// How many characters of an unexpected lexeme are shown at most.
 const MOST_CHARACTERS: usize = 40;
 
 /// What messages about the errors of an input need.
@@ -21,7 +21,7 @@ const MOST_CHARACTERS: usize = 40;
 pub(crate) struct Subject<'a> {
     pub(crate) grm: &'a YaccGrammar<u32>,
     pub(crate) input: &'a str,
-    /// What may come at the error.
+    /// The tokens that may come at the error.
     pub(crate) expected: &'a [TIdx<u32>],
 }
 
@@ -49,7 +49,7 @@ pub(crate) fn push_lexing_error(
     )
 }
 
-// Adds the character with which the text begins, and its number, where it isn't one of ASCII. Answers how many bytes it has.
+// Adds the character with which the text begins, and its number, if it isn't a visible one of ASCII. Returns how many bytes it has.
 fn push_character(out: &mut String, text: &str) -> Result<usize, AllocError> {
     let Some(c) = text.chars().next() else {
         return Ok(0);
@@ -89,7 +89,7 @@ pub(crate) fn push_parse_error(
     )
 }
 
-// Adds a lexeme: the end, where it has the end token, its part of the input otherwise.
+// Adds a lexeme: that it is the end, if it has the end token, and else its part of the input.
 fn push_lexeme(
     text: &mut String,
     subject: &Subject<'_>,
@@ -121,7 +121,7 @@ fn push_shortened(out: &mut String, text: &str) -> Result<(), AllocError> {
     }
 }
 
-/// Adds the repairs that were found for an error, a line each; or that none were, or none were looked for.
+/// Adds the repairs that were found for an error, a line each; or that none was found, or that none was looked for.
 pub(crate) fn push_repairs<'a, L: NonStreamingLexer<'a, TokenTypes>>(
     out: &mut String,
     alloc: Global,

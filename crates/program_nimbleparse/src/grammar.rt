@@ -1,4 +1,4 @@
-//! The grammar of a text and its table, and why there is none.
+//! The grammar of a text and its table, or why there is none.
 ghost use Rattle.lrpar_table_build.specs.Built.{IsBuilt};
 ghost use Rattle.lrpar_table_rows.specs.Safe.{IsSafe};
 
@@ -17,10 +17,10 @@ use program_files::tables::MAX_STATES;
 use std::alloc::{AllocError, Global};
 use std::io::Write;
 
-/// The cap with which tables are checked: a table that is refused with it passes with no cap.
+/// The cap with which tables are checked. It's the largest one, so a table that is refused with it passes with no cap.
 const MOST: u16 = u16::MAX;
 
-/// The checked table of a grammar's text. Tells of rules that are of no use, and of conflicts, unless it is to be quiet.
+/// The checked table of a grammar's text. Warns of rules that are of no use, and of conflicts, unless the program is to be quiet.
 pub fn data_of<O: Write, E: Write>(
     alloc: Global,
     reporter: &Reporter<'_>,
@@ -41,7 +41,7 @@ pub fn data_of<O: Write, E: Write>(
     }
 }
 
-// Tells of rules that are of no use, and of conflicts.
+// Warns of rules that are of no use, and of conflicts.
 fn write_notes<O: Write, E: Write>(
     alloc: Global,
     reporter: &Reporter<'_>,
@@ -74,7 +74,7 @@ fn grammar_of(
     }
 }
 
-// The table, once its chains of reductions are checked.
+// The table, after its chains of reductions are checked.
 fn checked(
     alloc: Global,
     reporter: &Reporter<'_>,
@@ -119,8 +119,8 @@ fn too_large(alloc: Global, reporter: &Reporter<'_>) -> Fault {
     }
 }
 
-// The fault of a table with a chain of reductions that is too long, whatever the cap: that a rule derives itself, hidden left recursion,
-// or else how long the chain is.
+// The fault of a table with a chain of reductions that is too long for any cap: that a rule derives itself, that there is hidden left
+// recursion, or else how long the chain is.
 fn endless(alloc: Global, reporter: &Reporter<'_>, refused: Refused<u32>) -> Fault {
     let CheckFault::ChainTooLong(state, token) = refused.fault() else {
         return Fault::Memory;
@@ -161,7 +161,7 @@ fn push_token_of(out: &mut String, grm: &YaccGrammar<u32>, token: usize) -> Resu
     }
 }
 
-// The message of a loop of this kind, if there is one; if a rule is named, of one that begins with it.
+// The message of a loop of this kind, if there is one. If a rule is named, the loop begins with it.
 fn loop_text(
     alloc: Global,
     reporter: &Reporter<'_>,
@@ -190,7 +190,7 @@ fn place_of(grm: &YaccGrammar<u32>, steps: &[LoopStep<u32>]) -> Option<Span> {
     }
 }
 
-// Adds what is wrong about a loop, with the rules on the way.
+// Adds what is wrong about a loop, with its rules.
 fn push_loop(
     out: &mut String,
     grm: &YaccGrammar<u32>,
@@ -211,7 +211,7 @@ fn push_loop(
     }
 }
 
-// Adds what would be right in the place of the first production of a loop.
+// Adds what would be right in place of the first production of a loop.
 fn push_loop_label(
     out: &mut String,
     grm: &YaccGrammar<u32>,
@@ -236,7 +236,7 @@ fn push_loop_label(
     }
 }
 
-// Adds the first rule of a loop, what it does, and the other rules on the way.
+// Adds the first rule of a loop, what it does, and the other rules of the loop.
 fn push_loop_rules(
     out: &mut String,
     grm: &YaccGrammar<u32>,
@@ -271,7 +271,7 @@ fn push_rule_of(
     }
 }
 
-// The fault that shows this, about no place.
+// The fault with this text, about no place.
 fn fault_of(alloc: Global, reporter: &Reporter<'_>, text: &str) -> Fault {
     match plain_text(alloc, reporter, text) {
         Ok(text) => Fault::of_message(text),

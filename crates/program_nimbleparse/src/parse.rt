@@ -19,8 +19,8 @@ use program_files::parsing::{Parsed, TextError, Tree, with_shifts};
 use std::alloc::Global;
 use std::io::Write;
 
-/// Parses the input of this path and text: tells its errors, and prints its tree, if there is one. Answers whether there is one, and no
-/// error.
+/// Parses the input of this path and text. Writes messages of its errors, and prints its tree, if there is one. Returns whether there is
+/// a tree, and no error.
 pub fn parse<O: Write, E: Write>(
     alloc: Global,
     plan: &Plan<'_>,
@@ -47,7 +47,7 @@ fn parse_text<'a, O: Write, E: Write>(
     printed(alloc, plan, &lexer, path, input, tree, &errors, out, err)
 }
 
-// Tells the errors, and prints the tree. Answers whether there is a tree, and no error.
+// Writes messages of the errors, and prints the tree. Returns whether there is a tree, and no error.
 fn printed<'a, O: Write, E: Write>(
     alloc: Global,
     plan: &'a Plan<'_>,
@@ -73,7 +73,7 @@ fn printed<'a, O: Write, E: Write>(
     }
 }
 
-// Tells the errors.
+// Writes messages of the errors.
 fn write_errors<'a, O: Write, E: Write>(
     alloc: Global,
     plan: &'a Plan<'_>,
@@ -103,7 +103,7 @@ fn parsed(alloc: Global, plan: &Plan<'_>, lexer: &RuleLexer<'_, '_>) -> Result<P
     }
 }
 
-// The same by a parser, and by how many lexemes have to follow a repair, where that is told.
+// The same by a parser, with this number of lexemes that have to follow a repair, if it is given.
 fn parsed_by<R: Recoverer<u32, Token<u32>> + Drop>(
     alloc: Global,
     parser: RTParserBuilder<'_, u32, TokenTypes, R>,
@@ -236,7 +236,7 @@ fn print_tree<O: Write>(
     Ok(())
 }
 
-// Prints the path in front of the tree of an input, where there are several.
+// Prints the path of an input before its tree, if there are several inputs.
 fn print_path<O: Write>(plan: &Plan<'_>, path: &str, out: &mut O) -> Result<(), Fault> {
     if plan.shows_paths {
         writeln!(out, "{path}:")?;

@@ -1,4 +1,4 @@
-//! The rules of the lexer, and why there are none.
+//! The rules of the lexer, or why there are none.
 use crate::show::fault_of_message;
 use lrpar_grammar::grammar::YaccGrammar;
 use lrpar_lexer::{LexRule, RulesFault, rules_of};
@@ -6,7 +6,7 @@ use lrpar_report::{Reporter, lexer_message};
 use program_files::fault::Fault;
 use std::alloc::Global;
 
-/// The rules of a text.
+/// The rules of a lexer's text.
 pub fn lexer_rules(
     alloc: Global,
     reporter: &Reporter<'_>,

@@ -1,11 +1,11 @@
-//! What standard error gets while the program works.
+//! Messages on standard error.
 use lrpar_grammar::span::Span;
 use lrpar_report::{Level, Message, Reporter};
 use program_files::fault::Fault;
 use std::alloc::{AllocError, Global};
 use std::io::Write;
 
-/// Writes the text to standard error, once what stands before it on standard output is written. That `err` fails changes nothing.
+/// Writes the text to standard error, after `out` is flushed. A failure of `err` is ignored.
 pub fn write_messages<O: Write, E: Write>(
     out: &mut O,
     err: &mut E,
