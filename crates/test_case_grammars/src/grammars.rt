@@ -1,4 +1,4 @@
-//! Grammars of texts: why there is none, or what is asked for of it.
+//! Grammars of texts: why there is none, or what the case asks of it.
 use crate::uses::push_uses;
 use lrpar_grammar::grammar::{GrammarFault, YaccGrammar};
 use lrpar_grammar::span::{Span, Symbol};
@@ -18,7 +18,7 @@ pub fn outcome(out: &mut Printed, alloc: Global, case: Case<'_, '_>) -> Result<(
     push_made(out, alloc, case, made)
 }
 
-/// Adds what is asked for of the grammar, or why there is none.
+/// Adds what the case asks of the grammar, or why there is none.
 pub fn push_made(
     out: &mut Printed,
     alloc: Global,
@@ -54,7 +54,7 @@ fn push_cut(out: &mut Printed, alloc: Global, cut: &str) {
     }
 }
 
-// The fault, with where its span ends, if it has one.
+// The fault, and the end of its span, if it has one.
 fn push_fault(out: &mut Printed, fault: &GrammarFault) {
     out.text("fault ");
     out.show(fault);
@@ -73,7 +73,7 @@ fn push_fault(out: &mut Printed, fault: &GrammarFault) {
     }
 }
 
-// What is asked for of the grammar.
+// What the case asks of the grammar.
 fn push_shown(
     out: &mut Printed,
     alloc: Global,
@@ -106,7 +106,7 @@ fn push_counts(out: &mut Printed, grm: &YaccGrammar<u8>) {
     out.line(", end ", &usize::from(grm.eof_token_idx()));
 }
 
-// A line for each rule: its number, its name, where that stands, and its productions.
+// A line for each rule: its number, its name, the span of the name, and its productions.
 fn push_rules(out: &mut Printed, grm: &YaccGrammar<u8>) {
     for rule in grm.iter_rules() {
         out.number("rule ", usize::from(rule));
@@ -122,13 +122,13 @@ fn push_rules(out: &mut Printed, grm: &YaccGrammar<u8>) {
     }
 }
 
-// Where something stands.
+// A span.
 fn push_span(out: &mut Printed, span: Span) {
     out.number(" ", span.start());
     out.number("..", span.end());
 }
 
-// A line for each production: its number, its rule, where it stands, and its symbols.
+// A line for each production: its number, its rule, its span, and its symbols.
 fn push_prods(out: &mut Printed, grm: &YaccGrammar<u8>) {
     for prod in grm.iter_pidxs() {
         out.number("production ", usize::from(prod));
@@ -141,7 +141,7 @@ fn push_prods(out: &mut Printed, grm: &YaccGrammar<u8>) {
     }
 }
 
-// Symbols, each with where it stands; the names of tokens in quotes.
+// Symbols, each with its span; the names of tokens in quotes.
 fn push_symbols(out: &mut Printed, grm: &YaccGrammar<u8>, symbols: &[Symbol<u8>], spans: &[Span]) {
     let mut mark = ':';
     for (symbol, span) in symbols.iter().zip(spans) {
@@ -156,7 +156,7 @@ fn push_symbols(out: &mut Printed, grm: &YaccGrammar<u8>, symbols: &[Symbol<u8>]
     }
 }
 
-// A line for each token: its number, its name, its printed text, and where it stands; `$` for the end token, which has none of these.
+// A line for each token: its number, its name, its printed text, and its span; `$` for the end token, which has none of these.
 fn push_tokens(out: &mut Printed, grm: &YaccGrammar<u8>) {
     for token in grm.iter_tidxs() {
         out.number("token ", usize::from(token));
@@ -198,7 +198,7 @@ fn push_found(out: &mut Printed, case: Case<'_, '_>, grm: &YaccGrammar<u8>) {
     }
 }
 
-// Whether the places fit the text, or the other one that is named.
+// Whether the places fit the text, or the other text of the case.
 fn push_fits(
     out: &mut Printed,
     alloc: Global,

@@ -21,7 +21,7 @@ pub const INPUTS: &[&str] = &[
     "find",
 ];
 
-/// What is said where a span can't be read.
+/// The reason if a span can't be read.
 const NO_SPAN: &str = "a span is wanted, as 3..4";
 
 /// The grammar of the parts, in the smallest storage type.
@@ -97,7 +97,7 @@ fn add_token(
     }
 }
 
-// Adds so many tokens, all of one name.
+// Adds this number of tokens, all of one name.
 fn add_tokens(tokens: &mut Vec<TokenPart>, alloc: Global, count: usize) -> Result<(), Fault> {
     for _ in 0..count {
         push_token(tokens, alloc, "t", Span::new(0, 1), "")?;
@@ -105,7 +105,7 @@ fn add_tokens(tokens: &mut Vec<TokenPart>, alloc: Global, count: usize) -> Resul
     Ok(())
 }
 
-// Adds the token. It has no printed text of its own where this one is empty.
+// Adds the token. It has no printed text of its own if this one is empty.
 fn push_token(
     tokens: &mut Vec<TokenPart>,
     alloc: Global,

@@ -55,7 +55,7 @@ impl<'a> fmt::Display for Notice<'a> {
 
 impl<'a> Error for Notice<'a> {}
 
-/// What is asked for of the places of the text.
+/// What the case asks of the places of the text.
 pub fn outcome(out: &mut Printed, alloc: Global, case: Case<'_, '_>) -> Result<(), Fault> {
     let text = case.text(alloc, "text")?;
     let spans = spans_of(alloc, case)?;
@@ -76,7 +76,7 @@ fn spans_of(alloc: Global, case: Case<'_, '_>) -> Result<Vec<Span>, Fault> {
     Ok(spans)
 }
 
-// What is asked for.
+// The same, by what it asks.
 fn push_shown(
     out: &mut Printed,
     alloc: Global,
@@ -111,7 +111,7 @@ fn push_shown(
     }
 }
 
-// The number of order.
+// The ordinal.
 fn push_ordinal(out: &mut Printed, alloc: Global, case: Case<'_, '_>) -> Result<(), Fault> {
     let ordinal = SpannedDiagnosticFormatter::ordinal(alloc, number_at(case, "number", 0)?)?;
     out.field("ordinal", ordinal.as_str());
@@ -125,7 +125,7 @@ fn push_lines(out: &mut Printed, text: &str, formatter: &SpannedDiagnosticFormat
     }
 }
 
-// Where the first place lies.
+// The line and the column of the first place.
 fn push_location(
     out: &mut Printed,
     alloc: Global,
@@ -250,7 +250,7 @@ fn push_fault(out: &mut Printed, fault: DiagnosticFault) {
     }
 }
 
-// The message about the places, of the kind that the case tells.
+// The message about the places, of the kind that the case names.
 fn notice_of<'a>(alloc: Global, case: Case<'_, 'a>, spans: &[Span]) -> Result<Notice<'a>, Fault>
     ensures { IfOk result (λ notice. notice.spans.items ≡ spans.now) }
 {

@@ -4,7 +4,7 @@ use crate::fault::Fault;
 use crate::line::{Content, Line};
 use std::alloc::Global;
 
-/// The key of the message that a case has to give that is wrong on purpose.
+/// The key of the message that is expected of a case that is wrong on purpose.
 const SAYS: &str = "says";
 
 /// What is wrong with a case, as a text; `None` if nothing is. `inputs` are the keys of the lines that say what is done; all others
@@ -36,7 +36,7 @@ fn verdict_of(
     }
 }
 
-// What is wrong with a case that has to be told as this.
+// What is wrong with a case that has to give this message.
 fn wrong_message(
     alloc: Global,
     expected: &str,

@@ -1,4 +1,4 @@
-//! The four parse calls, of which each that makes a value makes a tree.
+//! The four parse calls. Each one that makes a value makes a tree.
 ghost use Rattle.std.specs.Prelude.{◌↔◌, IfOk, IsTrue, map};
 ghost use Rattle.lrpar_parse_run.specs.Nodes.{IsNonterm, node_of};
 
@@ -17,7 +17,7 @@ use std::cell::RefCell;
 /// A parser of a case.
 pub(crate) type Parser<'a> = RTParserBuilder<'a, u32, TokenTypes, CaseRecoverer>;
 
-/// What a parse answers.
+/// The result of a parse.
 pub(crate) type Answer = Result<(Option<Tree>, Vec<CaseError>), ParseFault>;
 
 /// Where rules lie, in the order of the reductions.
@@ -81,7 +81,7 @@ impl<'a> Actions<u32, Token<u32>, ListLexer<'a>> for Noting {
     }
 }
 
-/// What the call answers. Where it has actions, they note where the rules lie.
+/// The result of the call. If it has actions, they note where the rules lie.
 pub(crate) fn answer_by(
     alloc: Global,
     call: Call,

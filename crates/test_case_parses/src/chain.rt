@@ -1,4 +1,4 @@
-//! Cases of deep trees: what the calls of a tree answer.
+//! Cases of deep trees: what the calls of a tree return.
 use crate::shown::Tree;
 use lrpar_grammar::span::RIdx;
 use lrpar_lexer::Token;
@@ -16,8 +16,8 @@ use test_case_tables::subject::Subject;
 /// The keys that say what is done.
 pub const INPUTS: &[&str] = &["levels", "input"];
 
-/// What the calls of a tree answer in which a lexeme lies below so many rules. The calls that work without memory come
-/// before anything is written: if one of these is wrong, saying so needs no memory either.
+/// What the calls of a tree return, which has a lexeme below `levels` rules. The calls that need no memory come before anything is
+/// written: if one of them is wrong, saying so needs no memory either.
 pub fn outcome(
     out: &mut Printed,
     alloc: Global,
@@ -51,7 +51,7 @@ pub fn outcome(
     Ok(())
 }
 
-// A lexeme of so many bytes below so many rules.
+// A lexeme of `len` bytes below `levels` rules.
 fn chain_of(alloc: Global, levels: usize, len: usize) -> Result<Tree, Fault> {
     let mut tree: Tree = Node::Term {
         lexeme: Token::new(1, 0, len),

@@ -30,7 +30,7 @@ pub(crate) fn push_clone_of_tree(out: &mut Printed, alloc: Global, tree: &Tree) 
     }
 }
 
-// Adds of what a clone is, and whether it equals it.
+// Adds what was cloned, and whether the clone equals it.
 fn push_clone(out: &mut Printed, original: &str, is_equal: bool) {
     out.texts("clone ", original);
     out.text(if is_equal { ": equal\n" } else { ": differs\n" });

@@ -1,4 +1,4 @@
-//! What may come next: at a list of states, over which tokens are fed first, or after lexemes.
+//! What may come next: at a list of states, after tokens are fed over it, or after lexemes.
 use crate::calls::Parser;
 use crate::lexemes::{Given, ListLexer, given_of};
 use crate::recoverer::no_recoverer;
@@ -21,7 +21,7 @@ use test_case_tables::subject::Subject;
 /// The keys that say what is done.
 pub const INPUTS: &[&str] = &["states", "feed", "lexemes"];
 
-/// What may come next at the states, once the tokens are fed; or after the lexemes.
+/// What may come next at the states, after the tokens are fed; or after the lexemes.
 pub fn outcome(
     out: &mut Printed,
     alloc: Global,
@@ -54,7 +54,7 @@ fn expected_by(
     Ok(())
 }
 
-// What may come next at these states, bottom first, over which the tokens of the case are fed.
+// What may come next at these states, bottom first, after the tokens of the case are fed over them.
 fn over_states(
     out: &mut Printed,
     alloc: Global,
@@ -84,7 +84,7 @@ fn feed_tokens(
     Ok(())
 }
 
-// Feeds the token, if there is such a one; answers whether it was fed.
+// Feeds the token, if there is such a one. Returns whether it was fed.
 fn is_fed(
     data: &ParserData<u32>,
     over: &mut Overlay<'_, u32>,
@@ -97,7 +97,7 @@ fn is_fed(
     Ok(data.feed_over(over, token)?)
 }
 
-// What may come next at the overlay, and at a list of its states, where that is something else.
+// What may come next at a list of the overlay's states, and at the overlay if that is something else.
 fn at_overlay(
     out: &mut Printed,
     alloc: Global,

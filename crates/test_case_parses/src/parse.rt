@@ -1,4 +1,4 @@
-//! Cases `parse`: what the four calls answer by both tables, which has to be the same.
+//! Cases `parse`: the results of the four calls by both tables, which have to be the same.
 ghost use Rattle.std.specs.Prelude.{◌≡◌};
 
 use crate::calls::{Answer, CALLS, Call, Parser, Places, answer_by};
@@ -89,7 +89,7 @@ fn parser_of<'a>(
     }
 }
 
-// What comes of the parses by both parsers: of the first one by actions, and what differs from that in any.
+// What comes of the parses by both parsers: that of the first parser by actions, and which other ones differ from it.
 fn by_parsers(
     out: &mut Printed,
     alloc: Global,
@@ -129,7 +129,7 @@ fn answered(alloc: Global, case: Case<'_, '_>, grm: &YaccGrammar<u32>, answer: &
     Parsed { errors, tree }
 }
 
-// Adds where the rules lie, where the case asks.
+// Adds where the rules lie, if the case asks.
 fn push_noted(out: &mut Printed, case: Case<'_, '_>, grm: &YaccGrammar<u32>, places: &Places) {
     if case.value_or_nothing("show") == "places" {
         if let Ok(noted) = places.try_borrow() {
@@ -148,7 +148,7 @@ fn push_cloned(out: &mut Printed, alloc: Global, case: Case<'_, '_>, answer: &An
     }
 }
 
-// Adds the texts of the errors and of the tree, where the case asks.
+// Adds the texts of the errors and of the tree, if the case asks.
 fn push_printed<'a>(
     out: &mut Printed,
     alloc: Global,
@@ -166,7 +166,7 @@ fn push_printed<'a>(
     }
 }
 
-// Adds the texts of errors, where all tokens but this one have a printed name.
+// Adds the texts of errors, if all tokens but this one have a printed name.
 fn push_texts<'a>(
     out: &mut Printed,
     alloc: Global,
@@ -227,7 +227,7 @@ fn push_tree_text(
     }
 }
 
-// Adds a line where the parse by the call doesn't come to what is wanted. Errors alone have no tree.
+// Adds a line if the parse by the call doesn't come to what is expected. A parse to errors alone has no tree.
 fn push_difference(
     out: &mut Printed,
     alloc: Global,

@@ -16,7 +16,7 @@ pub(crate) type CaseError = LexParseError<u32, TokenTypes>;
 /// A step of a sequence that is listed.
 type Repair = ParseRepair<Token<u32>, u32>;
 
-/// Adds the errors, a line each; parse errors without their states where those aren't told.
+/// Adds the errors, a line each, with the states of parse errors if `shows_states`.
 pub(crate) fn push_errors(
     out: &mut Printed,
     grm: &YaccGrammar<u32>,
@@ -53,7 +53,7 @@ fn push_error(
     out.text("\n");
 }
 
-// Adds the steps of a sequence, each behind a blank.
+// Adds the steps of a sequence, each after a blank.
 fn push_sequence(out: &mut Printed, grm: &YaccGrammar<u32>, sequence: &[Repair]) {
     for repair in sequence {
         match repair {
@@ -82,7 +82,7 @@ fn token_name(grm: &YaccGrammar<u32>, token: TIdx<u32>) -> Option<&str> {
     }
 }
 
-// Adds a lexeme: the name of its token, `@` and its start, its length unless that is 1, and `!` where it is faulty.
+// Adds a lexeme: the name of its token, `@` and its start, its length unless that is 1, and `!` if it is faulty.
 fn push_lexeme(out: &mut Printed, grm: &YaccGrammar<u32>, lexeme: Token<u32>) {
     match token_name(grm, TIdx(lexeme.tok_id())) {
         None => out.text("$"),

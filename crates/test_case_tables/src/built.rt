@@ -1,4 +1,4 @@
-//! Tables that are built of grammar texts, and texts of which none is.
+//! Tables that are built of grammar texts, and texts without a table.
 use crate::checks::{checked, push_fault};
 use crate::faults::of_grammar;
 use crate::rows::{push_conflicts, push_data};
@@ -23,11 +23,11 @@ struct Limits {
     most: usize,
     // The cap of the check, if there is one.
     cap: Option<u16>,
-    // The cap of the check of what a refusal hands back, if there is one.
+    // The cap of the check of what a refusal returns, if there is one.
     then: Option<u16>,
 }
 
-/// What is built of the text: in the smallest storage type, or in that which is named.
+/// What is built of the text: in the smallest storage type, or in the one that the case names.
 pub fn outcome(out: &mut Printed, alloc: Global, case: Case<'_, '_>) -> Result<(), Fault> {
     let limits = limits_of(case)?;
     let text = source(alloc, case)?;
@@ -54,7 +54,7 @@ fn cap_beside(case: Case<'_, '_>, key: &str) -> Result<Option<u16>, Fault> {
     }
 }
 
-// The text, or that of one rule of so many symbols.
+// The text, or that of one rule of this number of symbols.
 fn source(alloc: Global, case: Case<'_, '_>) -> Result<String, Fault> {
     match case.value("symbols") {
         None => case.text(alloc, "text"),
@@ -62,7 +62,7 @@ fn source(alloc: Global, case: Case<'_, '_>) -> Result<String, Fault> {
     }
 }
 
-// The text of one rule of so many symbols.
+// The text of one rule of this number of symbols.
 fn long_rule(alloc: Global, symbols: usize) -> Result<String, AllocError> {
     let mut text = String::from_str(alloc, "%% S:")?;
     for _ in 0..symbols {
@@ -84,7 +84,7 @@ fn grammar<S: StorageIndex>(
     }
 }
 
-// What is built of the text, and where a cap is named, what comes of the check with it.
+// What is built of the text, and if a cap is named, what comes of the check with it.
 fn push_built<S: StorageIndex>(
     out: &mut Printed,
     alloc: Global,
@@ -123,7 +123,7 @@ fn push_table_of<S: StorageIndex>(
     }
 }
 
-// Adds the fault behind these words. Want of memory isn't told of a table.
+// Adds the fault after these words. A failed allocation says nothing of a table, and is noted apart.
 fn push_build_fault(out: &mut Printed, words: &str, fault: BuildFault) {
     match fault {
         BuildFault::Memory => out.lack_memory(),
@@ -159,7 +159,7 @@ fn push_checked<S: StorageIndex>(
     }
 }
 
-// That the table is checked; and its states and conflicts, where they aren't those that were built.
+// That the table is checked; and its states and conflicts, if they aren't those that were built.
 fn push_as_built<S: StorageIndex>(out: &mut Printed, alloc: Global, data: &ParserData<S>) {
     let mut text = Printed::new(alloc);
     push_table(&mut text, data.grm(), data.sgraph(), data.stable());
@@ -170,7 +170,7 @@ fn push_as_built<S: StorageIndex>(out: &mut Printed, alloc: Global, data: &Parse
     }
 }
 
-// Which chain is too long, and where another cap is named, what comes of the check of what is handed back.
+// Which chain is too long, and if another cap is named, what comes of the check of the parts that the refusal returns.
 fn push_refusal<S: StorageIndex>(
     out: &mut Printed,
     alloc: Global,
@@ -183,7 +183,7 @@ fn push_refusal<S: StorageIndex>(
     }
 }
 
-// What comes of the check of what is handed back, with this cap.
+// What comes of the check of the parts that the refusal returns, with this cap.
 fn push_second<S: StorageIndex>(out: &mut Printed, alloc: Global, refused: Refused<S>, cap: u16) {
     let (grm, graph, table) = refused.into_parts();
     match checked(alloc, grm, graph, table, cap) {

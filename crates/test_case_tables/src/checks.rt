@@ -1,4 +1,4 @@
-//! Checks of tables by hand: whether each is taken, for what it is refused, and what is handed back.
+//! Checks of tables by hand: whether each passes, why it is refused, and what a refusal returns.
 use crate::hand::{By, Hand};
 use crate::rows::{push_agreed, push_table};
 use crate::subject::Subject;
@@ -19,7 +19,7 @@ pub const INPUTS: &[&str] = &[
 ];
 
 /// What comes of the check of the table that the case is about, with the lines of the case in place of its own; or of the table
-/// that the case has itself, where it is about none.
+/// that the case has itself, if it is about none.
 pub fn outcome(
     out: &mut Printed,
     alloc: Global,
@@ -60,7 +60,7 @@ pub fn outcome(
     Ok(())
 }
 
-// What is tried: a table by hand, made by this call; and the caps of its check, and of that of what is handed back.
+// What is tried: a table by hand, made by this call; the cap of its check, and the cap of the check of what a refusal returns.
 #[derive(Clone, Copy)]
 struct Trial<'t, 'a> {
     hand: Hand<'t, 'a>,
@@ -97,7 +97,7 @@ fn push_checked(
     }
 }
 
-// That the table is taken, whether it is complete, and whether it keeps its parts.
+// That the table passes, whether it is complete, and whether it keeps its parts.
 fn push_taken(out: &mut Printed, alloc: Global, data: &ParserData<u32>, was: &Printed) {
     out.text("checked\n");
     match data.check_complete(alloc) {
@@ -108,7 +108,7 @@ fn push_taken(out: &mut Printed, alloc: Global, data: &ParserData<u32>, was: &Pr
     push_kept(out, alloc, data.grm(), data.sgraph(), data.stable(), was);
 }
 
-// Says where the parts aren't as they were.
+// Adds a line if the parts aren't as they were.
 fn push_kept(
     out: &mut Printed,
     alloc: Global,
@@ -124,7 +124,7 @@ fn push_kept(
     }
 }
 
-// Why the table is refused, and what comes of what is handed back, once what was changed is mended.
+// Why the table is refused, and what comes of the parts that the refusal returns, after what was changed is mended.
 fn push_refusal(
     out: &mut Printed,
     alloc: Global,
@@ -158,7 +158,7 @@ pub(crate) fn checked<S: StorageIndex>(
     }
 }
 
-/// Adds the fault behind these words. Want of memory isn't told of a table.
+/// Adds the fault after these words. A failed allocation says nothing of a table, and is noted apart.
 pub(crate) fn push_fault(out: &mut Printed, words: &str, fault: CheckFault) {
     match fault {
         CheckFault::Memory => out.lack_memory(),

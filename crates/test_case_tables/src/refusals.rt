@@ -1,4 +1,4 @@
-//! Full rows, stored entries and item sets, of which there is a table or a graph or none.
+//! Full rows, stored entries and item sets, with which a table or a graph is made or refused.
 use crate::actions::action_of;
 use lrpar_grammar::span::{RIdx, StIdx, TIdx};
 use lrpar_table::table::{Action, SparseRows, StateGraph, StateTable, TableFault, TableRows};
@@ -30,7 +30,7 @@ pub fn outcome_of_entries(
     Ok(())
 }
 
-/// Whether there are so many item sets, all empty.
+/// Whether there is a graph of this number of item sets, all empty.
 pub fn outcome_of_sets(out: &mut Printed, alloc: Global, case: Case<'_, '_>) -> Result<(), Fault> {
     let mut rows = Vec::new(alloc);
     for _ in 0..number_at(case, "states", 0)? {
@@ -63,7 +63,7 @@ fn push_fault(out: &mut Printed, fault: TableFault) {
     }
 }
 
-// The full rows of the case: one of each kind for each of its lines, and then so many that are bare.
+// The full rows of the case: one of each kind for each of its lines, and then the bare ones that it asks for.
 fn full_rows(alloc: Global, case: Case<'_, '_>) -> Result<TableRows<u8>, Fault> {
     let mut rows = TableRows {
         start: StIdx(start_of(case)?),
@@ -125,7 +125,7 @@ fn goto_row(alloc: Global, value: &str, line: usize) -> Result<Vec<Option<StIdx<
     Ok(row)
 }
 
-// Adds so many rows that have no action and no goto.
+// Adds this number of rows that have no action and no goto.
 fn add_bare(rows: &mut TableRows<u8>, alloc: Global, states: usize) -> Result<(), Fault> {
     let (tokens, rules) = (rows.tokens, rows.rules);
     for _ in 0..states {
@@ -170,7 +170,7 @@ fn add_entries(rows: &mut SparseRows<u8>, alloc: Global, lines: &[Line<'_>]) -> 
     Ok(())
 }
 
-// The actions of a state, each behind the number of its token.
+// The actions of a state, each after the number of its token.
 fn stored_actions(
     alloc: Global,
     value: &str,
@@ -186,7 +186,7 @@ fn stored_actions(
     Ok(row)
 }
 
-// The gotos of a state, each behind the number of its rule.
+// The gotos of a state, each after the number of its rule.
 fn stored_gotos(
     alloc: Global,
     value: &str,

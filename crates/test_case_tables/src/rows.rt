@@ -27,7 +27,7 @@ pub fn outcome(
     Ok(())
 }
 
-/// Adds what comes by full rows; and below it what comes by stored entries, where that is something else.
+/// Adds what comes by full rows; and below it what comes by stored entries, if that is something else.
 pub fn push_agreed(out: &mut Printed, by_rows: &Printed, by_entries: &Printed) {
     out.append(by_rows);
     if !out.agree(by_rows, by_entries) {
@@ -42,7 +42,7 @@ pub fn push_data<S: StorageIndex>(out: &mut Printed, data: &ParserData<S>) {
 }
 
 /// Adds the item sets and the rows of a table: how many there are of each, and a line for the items, the actions and the gotos of each
-/// state, where it has any.
+/// state, if it has any.
 pub fn push_table<S: StorageIndex>(
     out: &mut Printed,
     grm: &YaccGrammar<S>,
@@ -148,7 +148,7 @@ impl Entries {
         }
     }
 
-    // What stands in front of an entry.
+    // What comes before an entry.
     fn begin(&mut self, out: &mut Printed) {
         if self.is_begun {
             out.text(",");
@@ -188,7 +188,7 @@ fn push_action<S: StorageIndex>(out: &mut Printed, action: Action<S>) {
     }
 }
 
-/// Adds the conflicts of a table, a line each; `conflicts none` where it has none.
+/// Adds the conflicts of a table, a line each; `conflicts none` if it has none.
 pub fn push_conflicts<S: StorageIndex>(
     out: &mut Printed,
     grm: &YaccGrammar<S>,

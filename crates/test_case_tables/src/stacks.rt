@@ -53,7 +53,7 @@ fn push_by(
     Ok(())
 }
 
-// What each of the tokens does at a stack: by a list of its own, and over the stack, where the one before is set back.
+// What each of the tokens does at a stack: by a list of its own, and over the stack, after what the call before did is undone.
 fn push_tokens(
     out: &mut Printed,
     alloc: Global,
@@ -83,7 +83,7 @@ enum Call {
     Feed(TIdx<u32>),
 }
 
-// What a call answers: how many reductions it made, or whether it shifted.
+// What a call returns: how many reductions it made, or whether it shifted.
 #[derive(Clone, Copy)]
 enum Answer {
     Settled(u128),
@@ -92,8 +92,8 @@ enum Answer {
     Nothing,
 }
 
-// What the call answers and gives at a list, and how many states of the base it leaves; and what it answers and gives over the
-// base, where that is something else.
+// What the call returns and leaves at a list, and how many states of the base it keeps; and what it returns and leaves over the
+// base, if that is something else.
 fn push_call(
     out: &mut Printed,
     alloc: Global,
@@ -116,7 +116,7 @@ fn push_call(
     Ok(())
 }
 
-// What the call answers and gives at a list of these states.
+// What the call returns and leaves at a list of these states.
 fn push_by_list(
     out: &mut Printed,
     alloc: Global,
@@ -130,7 +130,7 @@ fn push_by_list(
     Ok(())
 }
 
-// What the call answers at the list.
+// What the call returns at the list.
 fn called(
     data: &ParserData<u32>,
     stack: &mut Vec<StIdx<u32>>,
@@ -151,7 +151,7 @@ fn called(
     }
 }
 
-// What the call answers and gives at the overlay.
+// What the call returns and leaves at the overlay.
 fn push_by_overlay(
     out: &mut Printed,
     data: &ParserData<u32>,
@@ -163,7 +163,7 @@ fn push_by_overlay(
     Ok(())
 }
 
-// What the call answers at the overlay.
+// What the call returns at the overlay.
 fn called_over(
     data: &ParserData<u32>,
     over: &mut Overlay<'_, u32>,

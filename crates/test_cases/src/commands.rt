@@ -20,10 +20,10 @@ const NO_TERMINAL: Terminal = Terminal {
     shows_progress: false,
 };
 
-/// What a case wants of a stream that may have any text.
+/// What a case says of a stream that may have any text.
 const ANYTHING: &str = "..";
 
-/// What the program of the case's kind writes to its two streams, and its status; or the same where its streams fail. The files of the
+/// What the program of the case's kind writes to its two streams, and its status; or the same if its streams fail. The files of the
 /// case are there while it runs.
 pub fn outcome<R: Files>(
     out: &mut Printed,
@@ -82,7 +82,7 @@ fn push_ending<R: Files>(
     out.line("status ", &status);
 }
 
-// Adds what a stream took, under its key.
+// Adds what was written to a stream, under its key.
 fn push_stream(out: &mut Printed, case: Case<'_, '_>, key: &str, bytes: &[u8]) {
     match str::from_utf8(bytes) {
         Ok(_) if case.value_or_nothing(key) == ANYTHING => out.field(key, ANYTHING),
@@ -114,7 +114,7 @@ fn push_words(alloc: Global, line: Line<'_>, words: &mut Vec<String>) -> Result<
     }
 }
 
-// Adds the words of a text, between which single spaces stand.
+// Adds the words of a text, which have single spaces between them.
 fn push_parts(alloc: Global, text: &str, words: &mut Vec<String>) -> Result<(), Fault> {
     for word in text.split(' ') {
         words.push(String::from_str(alloc, word)?)?;
@@ -164,7 +164,7 @@ fn remove_files<R: Files>(rt: &R, lines: &[Line<'_>]) -> Result<(), Fault> {
     Ok(())
 }
 
-// The path of the file that a line names, and what stands behind it.
+// The path of the file that a line names, and what follows it in the line.
 fn file_of<'a>(line: Line<'a>) -> Option<(&'a str, &'a str)> {
     match line.content {
         Content::Field { key: "file", value } => Some(in_two(value)),

@@ -30,7 +30,7 @@ pub(crate) fn inputs_of(kind: &str) -> &'static [&'static str] {
     }
 }
 
-/// Writes what comes of the case, a line `KEY VALUE` for each thing, in the order in which the case has to want them.
+/// Writes what comes of the case, a line `KEY VALUE` for each thing, in the order in which the case has to expect them.
 pub(crate) fn outcome<R: Files>(
     out: &mut Printed,
     rt: &R,

@@ -87,7 +87,7 @@ fn run_lines<R: Files>(
     Ok(report)
 }
 
-// Runs the cases that are about the subject that a case is.
+// Runs the cases whose subject is this case.
 fn run_section<R: Files>(
     rt: &R,
     alloc: Global,

@@ -25,7 +25,7 @@ struct Round<'a> {
     takes: usize,
 }
 
-// A stream that fails once it was called so many times, at each call from then on.
+// A stream that fails after some calls, at each call from then on.
 #[derive(Drop)]
 struct Stream<'a> {
     // What is left to be read.
@@ -38,8 +38,8 @@ struct Stream<'a> {
     has_failed: bool,
 }
 
-/// What comes of the program where the streams of the case fail at their first call, after one call, after two, and so on, until none
-/// fails any more. Rounds that are alike and follow each other are one line.
+/// What comes of the program if the streams of the case fail at their first call, after one call, after two, and so on, until none
+/// fails any more. Equal rounds in a row are one line.
 pub fn push_rounds<R: Files>(
     out: &mut Printed,
     rt: &R,
@@ -77,7 +77,7 @@ fn push_lines<R: Files>(
     lines.text("\n");
 }
 
-// Adds what comes of a round: the status, and what the outputs have that don't fail in it. Answers whether a call failed.
+// Adds what comes of a round: the status, and what was written to the outputs that don't fail in it. Returns whether a call failed.
 fn push_line<R: Files>(
     lines: &mut Printed,
     rt: &R,
@@ -98,7 +98,7 @@ fn push_line<R: Files>(
     input.has_failed | stdout.has_failed | stderr.has_failed
 }
 
-// Adds what a stream took, if it is none of those that fail.
+// Adds what was written to a stream, if it is none of those that fail.
 fn push_taken(lines: &mut Printed, round: Round<'_>, name: &str, stream: &Stream<'_>) {
     if !round.fails.contains(name) {
         lines.texts(", ", name);
@@ -110,7 +110,7 @@ fn push_taken(lines: &mut Printed, round: Round<'_>, name: &str, stream: &Stream
     }
 }
 
-// Adds the lines of the rounds, behind which an empty one stands: those that are alike and follow each other as one.
+// Adds the lines of the rounds, which end with an empty one: equal lines in a row as one.
 fn push_joined(out: &mut Printed, lines: &str) {
     let mut first = 0usize;
     for (last, (line, next)) in lines.lines().zip(lines.lines().skip(1)).enumerate() {
