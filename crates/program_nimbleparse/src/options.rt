@@ -34,7 +34,7 @@ Reads the rules of a lexer and a grammar, and parses each input: standard input 
   --shifts K   so many lexemes have to follow a repair (3)
   --format F   print trees in brackets on one line, as an indented tree, as json, or as a graph (dot)
   -h           print this
-  --           the words after it are paths
+  --           the words behind it are paths
 
 Status 0: each input has a tree and no error; 1: an input has errors; 2: there is no answer.
 ";
