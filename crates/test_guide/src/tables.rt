@@ -1,4 +1,4 @@
-//! A parse by a table of one's own, and a calculation, as a user writes them.
+//! A parse by a table that the user made, and a calculation, as a user writes them.
 use crate::calculation::calculated;
 use lrpar::check::CheckFault;
 use lrpar::grammar::{GrammarFault, YaccGrammar};
@@ -14,7 +14,7 @@ use test_parts::built::{CALC, built, lists};
 use test_parts::lexer::{ListLexer, lexer_of};
 use thiserror::Error;
 
-/// Why there is no answer.
+/// Why there is no tree.
 #[derive(Debug, Drop, Error)]
 enum Failed {
     #[error("grammar: {0}")]
@@ -33,7 +33,7 @@ type Answer = (
     Vec<LexParseError<u32, TokenTypes>>,
 );
 
-// The tree of what the lexer answers, by a grammar text, item sets and rows.
+// The tree of the lexemes, by a grammar text, item sets and rows.
 fn tree_of(
     alloc: Global,
     text: &str,

@@ -16,14 +16,14 @@ use test_parts::calculator::{Calculator, Value};
 use test_parts::drops::drop_errors;
 use test_parts::lexer::{Given, ListLexer, lexer_of};
 
-/// Counts its calls, and finds no memory at one of them. Of its answers it states nothing.
+/// Counts its calls, and finds no memory at one of them. Its contracts claim nothing of its values.
 #[derive(Drop)]
 pub(crate) struct Counting {
     calls: Cell<usize>,
     fails_at: usize,
 }
 
-/// Those that find no memory at this call.
+/// Actions that find no memory at this call.
 pub(crate) fn failing_at(fails_at: usize) -> Counting {
     Counting {
         calls: Cell::new(0),
@@ -70,7 +70,7 @@ impl<LexerT> Actions<u32, Token<u32>, LexerT> for Counting {
     }
 }
 
-/// A parser that is handed nothing.
+/// A parser without a recoverer.
 type Parser<'a> = RTParserBuilder<'a, u32, TokenTypes>;
 
 // Two parses by one parser and by actions that find no memory at this call, as text: each fault, or whether there is a value, and how

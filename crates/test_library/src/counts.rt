@@ -1,4 +1,4 @@
-//! How often a parse asks its lexer and its recoverer, in which order it calls the functions of its caller, and what comes where one
+//! How often a parse calls its lexer and its recoverer, in which order it calls the functions of its caller, and what comes of it if one
 //! of them finds no memory; and how often the text of an error asks for a token's.
 use crate::actions::failing_at;
 use crate::expectations::{holds, same};
@@ -90,7 +90,7 @@ fn push_places(rt: &impl Abort, text: &mut String, errors: &[LexParseError<u32, 
 }
 
 /// Lexemes of the grammar *brackets* and what comes after them, the calls at which the lexer and the recoverer find no memory, what comes
-/// of two parses, and how often the lexer and the recoverer are asked in both.
+/// of two parses, and how often both parses call the lexer and the recoverer.
 type Row = (
     &'static [Given],
     Last,
@@ -215,7 +215,7 @@ fn asked(
     (calls.get(), asked.get())
 }
 
-// At the second name behind a bracket a recoverer is asked once, and is handed what belongs to that place.
+// At the second name after a bracket the recoverer is called once, and gets what belongs to that place.
 #[test]
 fn what_a_recoverer_gets(rt: HostRuntime) -> Result<(), Fail> {
     let data = built(rt.alloc(), BRACKETS)?;
@@ -272,7 +272,7 @@ enum Called {
 /// How many calls there were, and which were the first eight.
 type Calls = (usize, [Called; 8]);
 
-// Notes the call, where it is one of the first eight.
+// Notes the call, if it is one of the first eight.
 fn note(calls: &Cell<Calls>, call: Called) {
     let (count, mut noted) = calls.get();
     if let Some(place) = noted.get_mut(count) {
@@ -301,8 +301,8 @@ fn calls_of(rt: &impl Abort, alloc: Global, data: &ParserData<u32>, given: &[Giv
 /// Lexemes, and the calls of the functions in their order.
 type Order = (&'static [Given], &'static [Called]);
 
-// The sums `a+b`, `a+` and the empty one. A token's value is asked for where its production is reduced, so not for those that stand on
-// the stack at an error; and there is no call for the rule that is added.
+// The sums `a+b`, `a+` and the empty one. A token's value is asked for when its production is reduced, so not for tokens that are on the
+// stack at an error; and there is no call for the start rule of the augmented grammar.
 const SUMS: [Order; 3] = [
     (
         &[(1, 1), (0, 1), (1, 1)],

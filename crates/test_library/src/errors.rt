@@ -20,7 +20,7 @@ fn lexeme(start: usize) -> Token<u32> {
     Token::new(1, start.min(1_000), 1)
 }
 
-// The error in this state at the lexeme of this byte, with so many sequences of one deletion.
+// The error in this state at the lexeme of this byte, with this number of sequences of one deletion.
 fn error(
     rt: &impl Abort,
     alloc: Global,

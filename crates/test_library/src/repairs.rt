@@ -13,7 +13,7 @@ use test_parts::built::{BRACKETS, built};
 use test_parts::drops::drop_errors;
 use test_parts::lexer::lexer_of;
 
-/// A parser that is handed the same sequences at each error.
+/// A parser that gets the same sequences at each error.
 type FixedParser<'a> = RTParserBuilder<'a, u32, TokenTypes, FixedRecoverer<u32>>;
 
 const D: RepairStep<u32> = RepairStep::Delete;
@@ -22,8 +22,8 @@ const I0: RepairStep<u32> = RepairStep::Insert(TIdx(0));
 
 const I1: RepairStep<u32> = RepairStep::Insert(TIdx(1));
 
-// Two lexemes `N` of the grammar *brackets*, parsed with this handed in: how many sequences are listed, the length of the first one,
-// and how many leaves the value has.
+// The parse of two lexemes `N` of the grammar *brackets* with these sequences: how many are listed, the length of the first one, and
+// how many leaves the value has.
 fn counted(
     rt: &impl Abort,
     alloc: Global,
@@ -69,7 +69,7 @@ fn sum(numbers: &[usize]) -> usize {
     sum
 }
 
-// These steps so often, one after the other, and then the last one.
+// These steps `times` times, and then the last one.
 fn repeated(
     rt: &impl Abort,
     alloc: Global,
@@ -85,7 +85,7 @@ fn repeated(
     made
 }
 
-// 5,000 deletions, and then a sequence that ends in front of a name.
+// 5,000 deletions, and a sequence that ends before a name.
 fn long(rt: &impl Abort, alloc: Global) -> Vec<Vec<RepairStep<u32>>> {
     let deletions = repeated(rt, alloc, &[D], 4_999, D);
     let insertions = repeated(rt, alloc, &[I1, I0], 2_500, I1);

@@ -110,7 +110,7 @@ fn are_shown(rt: &impl Abort, alloc: Global) {
     same(rt, &"bytes", &counter.bytes, &36_000_087);
 }
 
-// Adds a line after so many spaces.
+// Adds a line after this number of spaces.
 fn push_line(text: &mut String, spaces: usize, line: &str) -> Result<(), AllocError> {
     for _ in 0..spaces / 8 {
         text.push_str("        ")?;
@@ -121,7 +121,7 @@ fn push_line(text: &mut String, spaces: usize, line: &str) -> Result<(), AllocEr
     text.push_str(line)
 }
 
-// The lines of a lexeme, each after as many spaces, and its own.
+// The lines of a lexeme, and how many spaces each has beside those of its level.
 const LEXEME_LINES: [(usize, &str); 9] = [
     (4, "lexeme: Token {\n"),
     (8, "number: 1,\n"),
@@ -142,7 +142,7 @@ const RULE_LINES: [(usize, &str); 4] = [
     (4, "nodes: [\n"),
 ];
 
-// The lines of a chain of so many levels.
+// The lines of a chain of this number of levels.
 fn lines_of_chain(alloc: Global, levels: usize) -> Result<String, AllocError> {
     let mut text = String::new(alloc);
     for level in 0..levels {

@@ -11,7 +11,7 @@ fn has_numbers<S: StorageIndex>(numbers: &[usize], last: usize) -> bool {
         && read_again::<S>(last.saturating_add(1)).is_none()
 }
 
-// The number that the type makes of `n`, read again, where it has it.
+// The number that the type makes of `n`, read again, if it has it.
 fn read_again<S: StorageIndex>(n: usize) -> Option<usize> {
     match S::from_index(n) {
         Some(found) => Some(found.to_index()),

@@ -1,4 +1,4 @@
-//! Item sets, conflicts and stacks, and texts of faults, where no case can say it.
+//! Item sets, conflicts and stacks, and texts of faults: what no case can say.
 use crate::expectations::{holds, same};
 use lrpar_grammar::grammar::{GrammarFault, YaccGrammar};
 use lrpar_grammar::span::{PIdx, StIdx, TIdx};
@@ -22,12 +22,12 @@ fn built(rt: &impl Abort, alloc: Global, text: &str) -> (StateGraph<u8>, StateTa
     from_yacc(alloc, &grm, 100).expect(rt, "a table")
 }
 
-// Whether the graph lists the item in the state; none out of range.
+// Whether the graph lists the item in the state. A state out of range has none.
 fn lists(graph: &StateGraph<u8>, state: u8, item: Item<u8>) -> bool {
     usize::from(state) < graph.states_len() && graph.items(StIdx(state)).contains(&item)
 }
 
-// Whether the graph has, at this production and dot of the state, the items that it lists and no others, and the core where it has one.
+// Whether the graph has, at this production and dot of the state, the items that it lists and no others, and the core if it has one.
 fn has_at(graph: &StateGraph<u8>, state: u8, prod: u8, dot: usize) -> bool {
     let mut is_core = false;
     for token in 0..4u8 {
@@ -77,7 +77,7 @@ fn have_items(rt: &impl Abort, graph: &StateGraph<u8>) {
 /// A grammar, and its item sets and rows.
 type Parts = (YaccGrammar<u8>, StateGraph<u8>, StateTable<u8>);
 
-// What is handed back of the table of sums, which the cap 1 is too low for: the end token, 2, makes two reductions in state 4.
+// The parts that the refusal of the table of sums returns. The cap 1 is too low: the end token, 2, makes two reductions in state 4.
 fn returned_parts(rt: &impl Abort, alloc: Global) -> Parts {
     let grm = YaccGrammar::new_with_storaget(alloc, SUM).expect(rt, "a grammar");
     match parser_data(alloc, grm, 100, 1) {
@@ -109,7 +109,7 @@ fn items_and_cores_that_come_back(rt: HostRuntime) -> Result<(), Fail> {
     Ok(())
 }
 
-// The cores of the state whose dot isn't at the front: their productions and dots.
+// The cores of the state whose dot is after a symbol: their productions and dots.
 fn begun(rt: &impl Abort, alloc: Global, graph: &StateGraph<u8>, state: u8) -> Vec<(u8, usize)> {
     let mut begun = Vec::new(alloc);
     if usize::from(state) < graph.states_len() {
@@ -120,7 +120,7 @@ fn begun(rt: &impl Abort, alloc: Global, graph: &StateGraph<u8>, state: u8) -> V
     begun
 }
 
-// States of the table of sums, and their cores whose dot isn't at the front.
+// States of the table of sums, and their cores whose dot is after a symbol.
 const BEGUN: [(u8, &[(u8, usize)]); 6] = [
     (0, &[]),
     (1, &[(3, 1)]),
@@ -245,7 +245,7 @@ fn out_of_memory_as_text(rt: HostRuntime) -> Result<(), Fail> {
     Ok(())
 }
 
-// Whether the fault has the text of want of memory.
+// Whether the fault has the text of a failed allocation.
 fn is_out_of_memory<E: fmt::Display>(alloc: Global, fault: &E) -> Result<bool, Fail> {
     Ok(format!(in alloc; "{fault}")?.as_str() == "out of memory")
 }
