@@ -3,3 +3,4 @@ pub mod Shape
 pub mod Outline
 pub mod Phrases
 pub mod Forms
+pub mod Kinds

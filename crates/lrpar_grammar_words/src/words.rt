@@ -75,6 +75,19 @@ impl Piece {
 }
 
 impl WordKind {
+    /// All kinds: first the signs, then names, then what separates these.
+    pub const ALL: [WordKind; 9] = [
+        WordKind::StartSign,
+        WordKind::TokenSign,
+        WordKind::EppSign,
+        WordKind::RulesSign,
+        WordKind::Name,
+        WordKind::Quoted,
+        WordKind::Colon,
+        WordKind::Bar,
+        WordKind::Semicolon,
+    ];
+
     // How many bytes of a quote stand at each end.
     fn quote_len(self) -> usize
         ensures len { result ≡ quote_len self }

@@ -16,9 +16,7 @@ ghost use Rattle.lrpar_parse_repair.specs.TestWork.{BoundsTests};
 
 use crate::fault::ParseFault;
 use lrpar_grammar::span::StorageIndex;
-pub use lrpar_parse_lexemes::laws::repairs_are_compared_by_contents;
 use lrpar_parse_lexemes::lex_api::Lexeme;
-pub use lrpar_parse_repair::laws::steps_are_compared_by_contents;
 use lrpar_parse_repair::repair::Recoverer;
 
 /// From a stack at a place there is at most one way to run, over lexemes of any type and over those that contracts speak

@@ -1,17 +1,18 @@
 -- Runs over a complete table follow trees. Let a stack's top state have an item `A: v . X w  {t}`, let the leaves of a tree of X
--- stand next among the lexemes, and let the token behind them be one of First(w, t). Then the run feeds these leaves and makes
--- the tree's productions, and comes to the stack with one state more, which has `A: v X . w  {t}`. It is shown by recursion on
--- the tree, and for the trees of a list of symbols at once. That the run goes on so is said backwards, since a reduction is made
--- only under the next token: whatever far run there is from the stack with one state more and the place behind the leaves, there
--- is one from the stack and the place in front of them, with the tree's productions in front.
+-- be next among the lexemes, and let the token after them be one of FIRST(w, t). Then the run feeds these leaves and makes the
+-- tree's productions, and comes to the stack with one state more, which has `A: v X . w  {t}`. The proof is by recursion on the
+-- tree, and for the trees of a list of symbols at once. The statement goes backwards, since a reduction is made only under the
+-- next token: for each far run from the stack with one state more and the place after the leaves, there is one from the stack and
+-- the place before them, with the tree's productions first.
 --
--- A leaf is shifted by C3. For a node of production q, C2 gives the top state the item `B: . u  {b}`, where b is the token behind
--- the node's leaves. The trees of u are followed from there; the token behind one of them begins what the later ones derive, or
--- is b. At the end the top state has the complete item, C5 makes it reduce at b, and C4 gives the goto. A reduction in front of
--- a far run is a far run.
+-- A leaf is shifted by C3. For a node of production q, C2 gives the top state the item `B: . u  {b}`, where b is the token after
+-- the node's leaves. The trees of u are followed from there; the token after one of them begins what the later ones derive, or is
+-- b. At the end the top state has the complete item, C5 makes it reduce at b, and C4 gives the goto. A reduction before a far run
+-- is a far run.
 --
--- So the run from the start over a sentence makes its tree's productions: the start state has `^: . S  {end}` by C1, and the state
--- behind S accepts by C5. A run has one answer, and a tree is told by its leaves and productions: a sentence has one tree.
+-- So the run from the start over a sentence makes its tree's productions: the start state has `^: . S  {end}` by C1, and the
+-- state after S accepts by C5. A run has one result, and a tree is determined by its leaves and productions: a sentence has one
+-- tree.
 use Rattle.std.proofs.Common.{◌≡◌, ◌≢◌, ◌<◌, ◌+◌, ◌-◌, ◌∙◌, inl, inr, refl, sym, ap, subst, arith, add-one, ℕ, suc, List, [], ◌∷◌, ◌++◌, length, drop, slice_get, Some, All, length-append}
 use Rattle.std.proofs.Math.Seq.{take-append_seam}
 use Rattle.std.proofs.lemmas.Bool.{cases_lt}
@@ -47,7 +48,7 @@ listed_symbols g formed p known =
           (subst (All P) (sym formed.last_symbols) (All-cons P (Nonterminal g.start) [] (formed.start_added, formed.start_within) (All-nil P)))
     ]
 
--- so a rule behind a dot isn't the added one
+-- so a rule after a dot isn't the added one
 rule_listed : (g : Grammar) → IsWellFormed g → (p k r : ℕ) (w : List GrammarSymbol) → p < prods_len g → drop k (symbols_of g p) ≡ Nonterminal r ∷ w → 0 < r
 rule_listed g formed p k r w known further =
     let P : GrammarSymbol → Type 0 = IsListedSymbol (rules_len g) (end_token g) in
@@ -86,7 +87,7 @@ reduces_upper g table t q s top next st ups known many is_top is_upper action go
     }
 
 module _ {X : Type 0} (token : X → ℕ) (g : Grammar) (table : Table) (lexemes : List X) where
-  -- a reduction in front of a far run is a far run
+  -- a reduction before a far run is a far run
   pub reduction_first : (st : List ℕ) (i q : ℕ) (after qs : List ℕ) (end : FarEnd) → Reduces g table (token_at token g lexemes i) st q after
       → Far token g table lexemes after i qs end → Far token g table lexemes st i (q ∷ qs) end
   reduction_first st i q _ _ _ reduces (goes_on after _ ps qs next end within feeds rest) =
@@ -111,7 +112,7 @@ module _ {X : Type 0} (token : X → ℕ) (g : Grammar) (graph : Graph) (table :
   state_within : (s p k t : ℕ) → HasItem graph s p k t → s < states_len table
   state_within s p k t has = let low = state_in_range graph s p k t has in omega (arith, low, shape.states)
 
-  -- C3 and C4: a state steps on by the symbol behind the dot
+  -- C3 and C4: a state steps on by the symbol after the dot
   steps_on : (s p k t : ℕ) (x : GrammarSymbol) → HasItem graph s p k t → slice_get (symbols_of g p) k ≡ Some x → StepsOn graph table s x p k t
   steps_on s p k t (Terminal a) has further = complete.each C3 s (state_within s p k t has) p k t has a further
   steps_on s p k t (Nonterminal r) has further = complete.each C4 s (state_within s p k t has) p k t has r further
