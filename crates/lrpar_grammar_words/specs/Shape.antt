@@ -1,4 +1,4 @@
--- The shape of a grammar text, as a finite automaton over the kinds of its words: `Declaration` is where it begins.
+-- The shape of a grammar text, as a finite automaton over the kinds of its words. Its start state is `Declaration`.
 use Rattle.std.specs.Prelude.{Bool, true, false, Option, Some, None}
 use Rattle.lrpar_grammar_words.specs.declared.words.WordKind.{WordKind}
 use Rattle.lrpar_grammar_words.specs.declared.words.WordKind.TheVariants.{Name, Quoted, StartSign, TokenSign, EppSign, RulesSign, Colon, Bar, Semicolon}
@@ -53,7 +53,7 @@ abbrev pub colon : WordKind → Option (Role × Expected)
 colon Colon = Some (Sign, NextSymbol)
 colon _ = None
 
--- what a word of a kind stands for, and what may stand after it: none where it can't stand
+-- the role of a word of that kind, and what is allowed after it; `None` if no such word is allowed here
 unfoldable pub after : Expected → WordKind → Option (Role × Expected)
 after Declaration kind = declaration kind
 after StartName kind = named kind Start Declaration
@@ -66,7 +66,7 @@ after RuleColon kind = colon kind
 after NextSymbol kind = symbol kind
 after TextEnd kind = None
 
--- the text may end before a rule, or after the second `%%`
+-- whether the text may end here: before a rule, or after the second `%%`
 abbrev pub may_end : Expected → Bool
 may_end NextRule = true
 may_end TextEnd = true
