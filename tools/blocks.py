@@ -1,8 +1,8 @@
 #!/usr/bin/env python3
 """Looks whether each Rust block of README.md and docs/GUIDE.md is part of a source: blocks.py
 
-A block is looked for in the sources of two crates of tests and of the examples, which the gate proves and runs, but for their `pub(crate)`. Each block that
-is part of none is printed, and the status is then 1."""
+A block is looked for in the sources of a crate of tests and of two crates of examples, which the gate proves and runs, but for
+their `pub(crate)`. Each block that is part of none is printed, and the status is then 1."""
 
 import pathlib
 import re
