@@ -6,12 +6,12 @@ use Rattle.std.proofs.lemmas.List.Elements.{All-cons, All-head, All-nil, All-tai
 use Rattle.std.proofs.lemmas.Option.{same_Some}
 use Rattle.lrpar_grammar_words.specs.declared.words.WordKind.{WordKind}
 use Rattle.lrpar_grammar_words.specs.declared.words.WordKind.TheVariants.{Name, Quoted, StartSign, TokenSign, EppSign, RulesSign, Colon, Bar, Semicolon}
-use Rattle.lrpar_grammar_words.specs.declared.shape.Expected.{Expected}
-use Rattle.lrpar_grammar_words.specs.declared.shape.Expected.TheVariants.{Declaration, StartName, FirstToken, MoreTokens, EppName, EppText, NextRule, RuleColon, NextSymbol, TextEnd}
-use Rattle.lrpar_grammar_words.specs.declared.shape.Role.{Role}
-use Rattle.lrpar_grammar_words.specs.declared.shape.Role.TheVariants.{Sign, Start, Declared, EppOf, Epp, Defined, Symbol, AlternativeEnd}
+use Rattle.lrpar_grammar_words.specs.declared.word_order.Expected.{Expected}
+use Rattle.lrpar_grammar_words.specs.declared.word_order.Expected.TheVariants.{Declaration, StartName, FirstToken, MoreTokens, EppName, EppText, NextRule, RuleColon, NextSymbol, TextEnd}
+use Rattle.lrpar_grammar_words.specs.declared.word_order.Role.{Role}
+use Rattle.lrpar_grammar_words.specs.declared.word_order.Role.TheVariants.{Sign, Start, Declared, EppOf, Epp, Defined, Symbol, AlternativeEnd}
 use Rattle.lrpar_grammar_words.specs.Words.{PlacedWord}
-use Rattle.lrpar_grammar_words.specs.Shape.{after, colon, declaration, may_end, more_tokens, named, next_rule, quoted, symbol, token}
+use Rattle.lrpar_grammar_words.specs.WordOrder.{after, colon, declaration, may_end, more_tokens, named, next_rule, quoted, symbol, token}
 use Rattle.lrpar_grammar_words.specs.Outline.{HaveOutline, TextAlternative, TextOutline, after_words, no_words, with_word}
 use Rattle.lrpar_grammar_words.specs.Phrases.{AreOfGrammarText, EppIs, GrammarText, IsAlternative, IsDeclaration, IsGrammarText, IsRule, IsTokenWord, OutlinesAreOfTexts, StartIs, TextDeclaration, TextRule, TokensAre, alternative_words, declaration_words, grammar_outline, grammar_words, rule_words}
 use Rattle.lrpar_grammar_words.proofs.PhraseLemmas.{text_has_outline}

@@ -9,12 +9,12 @@ use Rattle.std.proofs.lemmas.List.Quantifiers.{all_pairs_push}
 use Rattle.std.proofs.lemmas.Option.{get_or_from_slice_get, same_Some, slice_get_within}
 use Rattle.lrpar_grammar_words.specs.declared.words.Piece.{Piece}
 use Rattle.lrpar_grammar_words.specs.declared.words.WordKind.{WordKind}
-use Rattle.lrpar_grammar_words.specs.declared.shape.Expected.{Expected}
-use Rattle.lrpar_grammar_words.specs.declared.shape.Expected.TheVariants.{Declaration}
-use Rattle.lrpar_grammar_words.specs.declared.shape.Role.{Role}
-use Rattle.lrpar_grammar_words.specs.declared.shape.Role.TheVariants.{Sign, Start, Declared, EppOf, Epp, Defined, Symbol, AlternativeEnd}
+use Rattle.lrpar_grammar_words.specs.declared.word_order.Expected.{Expected}
+use Rattle.lrpar_grammar_words.specs.declared.word_order.Expected.TheVariants.{Declaration}
+use Rattle.lrpar_grammar_words.specs.declared.word_order.Role.{Role}
+use Rattle.lrpar_grammar_words.specs.declared.word_order.Role.TheVariants.{Sign, Start, Declared, EppOf, Epp, Defined, Symbol, AlternativeEnd}
 use Rattle.lrpar_grammar_words.specs.Words.{IsCutInto, IsCutUpTo, PlacedWord, ReadsAs, piece_at, word_at, words_of}
-use Rattle.lrpar_grammar_words.specs.Shape.{after, may_end}
+use Rattle.lrpar_grammar_words.specs.WordOrder.{after, may_end}
 use Rattle.lrpar_grammar_words.specs.Outline.{AreWordsInOrder, HasOrderedSymbols, AreOfDefinedRules, IsOutlineOf, IsStuck, IsStuckAt, IsUnreadableAt, OutlineIsOne, TextOutline, after_words, TextAlternative, ended, no_words, with_word}
 use Rattle.lrpar_grammar_words.proofs.WordsLemmas.{no_piece, reads_as_one}
 

@@ -8,12 +8,12 @@ use Rattle.std.proofs.lemmas.List.Elements.{All-head, All-tail}
 use Rattle.std.proofs.lemmas.Option.{slice_get-get_or}
 use Rattle.lrpar_grammar_words.specs.declared.words.WordKind.{WordKind}
 use Rattle.lrpar_grammar_words.specs.declared.words.WordKind.TheVariants.{Name, Quoted, StartSign, TokenSign, EppSign, RulesSign, Bar, Semicolon}
-use Rattle.lrpar_grammar_words.specs.declared.shape.Expected.{Expected}
-use Rattle.lrpar_grammar_words.specs.declared.shape.Expected.TheVariants.{Declaration, StartName, FirstToken, MoreTokens, EppName, EppText, NextRule, RuleColon, NextSymbol, TextEnd}
-use Rattle.lrpar_grammar_words.specs.declared.shape.Role.{Role}
-use Rattle.lrpar_grammar_words.specs.declared.shape.Role.TheVariants.{Sign, Start, Declared, EppOf, Epp, Defined, Symbol, AlternativeEnd}
+use Rattle.lrpar_grammar_words.specs.declared.word_order.Expected.{Expected}
+use Rattle.lrpar_grammar_words.specs.declared.word_order.Expected.TheVariants.{Declaration, StartName, FirstToken, MoreTokens, EppName, EppText, NextRule, RuleColon, NextSymbol, TextEnd}
+use Rattle.lrpar_grammar_words.specs.declared.word_order.Role.{Role}
+use Rattle.lrpar_grammar_words.specs.declared.word_order.Role.TheVariants.{Sign, Start, Declared, EppOf, Epp, Defined, Symbol, AlternativeEnd}
 use Rattle.lrpar_grammar_words.specs.Words.{PlacedWord}
-use Rattle.lrpar_grammar_words.specs.Shape.{after, declaration, may_end, more_tokens, token}
+use Rattle.lrpar_grammar_words.specs.WordOrder.{after, declaration, may_end, more_tokens, token}
 use Rattle.lrpar_grammar_words.specs.Outline.{HaveOutline, TextAlternative, TextOutline, after_words, ended, no_words, with_word}
 use Rattle.lrpar_grammar_words.specs.Phrases.{AreOfGrammarText, EppIs, GrammarText, IsAlternative, IsDeclaration, IsRule, IsTokenWord, StartIs, TextDeclaration, TextRule, TokensAre, alternative_words, declaration_words, declared_of, epp_of, grammar_outline, grammar_words, printed_of, rule_words, start_of}
 use Rattle.lrpar_grammar_words.proofs.OutlineLemmas.{after_words_append, ended_is}

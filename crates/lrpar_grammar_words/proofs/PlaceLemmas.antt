@@ -15,11 +15,11 @@ use Rattle.lrpar_grammar_words.specs.declared.words.WordKind.{WordKind}
 use Rattle.lrpar_grammar_words.specs.declared.words.WordKind.TheVariants.{Name, Quoted, StartSign, TokenSign, EppSign, RulesSign, Colon, Bar, Semicolon}
 use Rattle.lrpar_grammar_places.specs.Span.{Extent}
 use Rattle.lrpar_grammar_words.specs.Words.{IsCutInto, IsWordPiece, PlacedWord, ReadsAs, begins_name, blank_piece, closed_len, comment_after, is_byte_at, is_in_name, is_white, name_after, piece_at, piece_from, quote_len, quoted_after, sign_after, word_at, word_piece, words_of}
-use Rattle.lrpar_grammar_words.specs.declared.shape.Expected.{Expected}
-use Rattle.lrpar_grammar_words.specs.declared.shape.Expected.TheVariants.{Declaration}
-use Rattle.lrpar_grammar_words.specs.declared.shape.Role.{Role}
-use Rattle.lrpar_grammar_words.specs.declared.shape.Role.TheVariants.{Sign, Start, Declared, EppOf, Epp, Defined, Symbol, AlternativeEnd}
-use Rattle.lrpar_grammar_words.specs.Shape.{after}
+use Rattle.lrpar_grammar_words.specs.declared.word_order.Expected.{Expected}
+use Rattle.lrpar_grammar_words.specs.declared.word_order.Expected.TheVariants.{Declaration}
+use Rattle.lrpar_grammar_words.specs.declared.word_order.Role.{Role}
+use Rattle.lrpar_grammar_words.specs.declared.word_order.Role.TheVariants.{Sign, Start, Declared, EppOf, Epp, Defined, Symbol, AlternativeEnd}
+use Rattle.lrpar_grammar_words.specs.WordOrder.{after}
 use Rattle.lrpar_grammar_words.specs.Outline.{IsOutlineOf, TextAlternative, TextOutline, after_words, ended, no_words, with_word}
 use Rattle.lrpar_grammar_words.proofs.WordsLemmas.{ends_char, starts_char}
 

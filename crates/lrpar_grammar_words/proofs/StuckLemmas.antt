@@ -5,11 +5,11 @@ use Rattle.std.proofs.lemmas.List.{drop-drop}
 use Rattle.std.proofs.lemmas.Option.{same_Some}
 use Rattle.lrpar_grammar_words.specs.declared.words.Piece.{Piece}
 use Rattle.lrpar_grammar_words.specs.declared.words.WordKind.{WordKind}
-use Rattle.lrpar_grammar_words.specs.declared.shape.Expected.{Expected}
-use Rattle.lrpar_grammar_words.specs.declared.shape.Expected.TheVariants.{Declaration}
-use Rattle.lrpar_grammar_words.specs.declared.shape.Role.{Role}
+use Rattle.lrpar_grammar_words.specs.declared.word_order.Expected.{Expected}
+use Rattle.lrpar_grammar_words.specs.declared.word_order.Expected.TheVariants.{Declaration}
+use Rattle.lrpar_grammar_words.specs.declared.word_order.Role.{Role}
 use Rattle.lrpar_grammar_words.specs.Words.{IsCutUpTo, PlacedWord, piece_at, word_at, words_of}
-use Rattle.lrpar_grammar_words.specs.Shape.{after}
+use Rattle.lrpar_grammar_words.specs.WordOrder.{after}
 use Rattle.lrpar_grammar_words.specs.Outline.{IsStuck, StuckIsOne, TextOutline, after_words, no_words, with_word}
 use Rattle.lrpar_grammar_words.proofs.OutlineLemmas.{after_words_append, word_of_piece}
 

@@ -2,17 +2,17 @@
 use Rattle.std.specs.Prelude.{◌≡◌, ◌≤◌, ◌-◌, true, false, ℕ, List, [], ◌∷◌, ◌++◌, All, Contains, drop, length, map, slice_get, IsNone, MatchOption, Option, Some, option_map, option_and_then}
 use Rattle.std.specs.List.{AllPairs}
 use Rattle.std.specs.Option.{option_to_list}
-use Rattle.lrpar_grammar_words.specs.declared.shape.Expected.{Expected}
-use Rattle.lrpar_grammar_words.specs.declared.shape.Expected.TheVariants.{Declaration}
-use Rattle.lrpar_grammar_words.specs.declared.shape.Role.{Role}
-use Rattle.lrpar_grammar_words.specs.declared.shape.Role.TheVariants.{Sign, Start, Declared, EppOf, Epp, Defined, Symbol, AlternativeEnd}
+use Rattle.lrpar_grammar_words.specs.declared.word_order.Expected.{Expected}
+use Rattle.lrpar_grammar_words.specs.declared.word_order.Expected.TheVariants.{Declaration}
+use Rattle.lrpar_grammar_words.specs.declared.word_order.Role.{Role}
+use Rattle.lrpar_grammar_words.specs.declared.word_order.Role.TheVariants.{Sign, Start, Declared, EppOf, Epp, Defined, Symbol, AlternativeEnd}
 use Rattle.lrpar_grammar_words.specs.declared.outline.Alternative.{Alternative}
 use Rattle.lrpar_grammar_words.specs.declared.outline.Outline.{Outline}
 use Rattle.lrpar_grammar_words.specs.declared.outline.OutlineFault.{OutlineFault}
 use Rattle.lrpar_grammar_words.specs.declared.outline.OutlineFault.TheVariants.{Syntax, Memory}
 use Rattle.lrpar_grammar_words.specs.declared.words.Piece.{Piece}
 use Rattle.lrpar_grammar_words.specs.Words.{IsCutUpTo, PlacedWord, ReadsAs, piece_at, placed, words_of}
-use Rattle.lrpar_grammar_words.specs.Shape.{after, may_end}
+use Rattle.lrpar_grammar_words.specs.WordOrder.{after, may_end}
 
 -- an alternative of the last rule defined so far: its symbols, and the sign that ends it
 pub record TextAlternative : Type 0 where

@@ -3,7 +3,7 @@ ghost use Rattle.std.specs.Prelude.{◌≡◌, IfOk, IfErr, OnOk};
 ghost use Rattle.lrpar_grammar_words.specs.Words.{placed};
 ghost use Rattle.lrpar_grammar_words.specs.declared.outline.OutlineFault.TheVariants.{Memory};
 
-use crate::shape::{Expected, Role};
+use crate::word_order::{Expected, Role};
 use crate::words::{Word, piece_at, word_at};
 use std::alloc::{AllocError, AllocFailed, Global};
 use std::mem;

@@ -7,7 +7,7 @@ use Rattle.std.proofs.lemmas.Option.{get_or_from_slice_get, slice_get_cases, sli
 use Rattle.lrpar_grammar.specs.Grammar.{Grammar, GrammarSymbol, IsListedSymbol, IsWellFormed, Nonterminal, Terminal, end_token, prods_len, rule_of, rules_len, start_prod, symbols_of, tokens_len}
 use Rattle.lrpar_table_rows.specs.Graph.{ItemOf, item_at}
 use Rattle.lrpar_table_rows.specs.Safe.{IsItem}
-use Rattle.lrpar_table_first.specs.First.{IsFirst, Behind, Rule, Token}
+use Rattle.lrpar_table_first.specs.First.{IsFirst, Empty, Rule, Token}
 use Rattle.lrpar_table_items.specs.ItemSets.{Adds, Added, IsAdvanced, IsInClosure, IsReachedBy, IsStartItem, Own}
 use Rattle.lrpar_table_first.proofs.FirstLemmas.{AreBelow, AreBelow-append}
 use Rattle.lrpar_table_first.proofs.GrowthLemmas.{prods_below}
@@ -106,7 +106,7 @@ module _ (g : Grammar) (well : IsWellFormed g) where
   -- First(w, a) has only tokens, if a is a token
   first_below : (a : ℕ) (w : List GrammarSymbol) (t : ℕ) → a < tokens_len g → AreBelow (tokens_len g) w → IsFirst g a w t
       → t < tokens_len g
-  first_below a w t low free Behind = low
+  first_below a w t low free Empty = low
   first_below a w t low free (Token s v) = free.0
   first_below a w t low free (Rule p r v s known by h) =
       first_below a _ s low (AreBelow-append (tokens_len g) (symbols_of g p) v (prods_below g well p known) free) h

@@ -4,7 +4,7 @@ use Rattle.std.proofs.lemmas.Bool.{and_from, and_parts, lt-ltb, ltb-true, or_cas
 use Rattle.std.proofs.lemmas.List.{append-nil}
 use Rattle.std.proofs.lemmas.List.Elements.{All-head, All-tail}
 use Rattle.lrpar_grammar.specs.Grammar.{Grammar, GrammarSymbol, IsWellFormed, Nonterminal, Terminal, prods_len, rule_of, symbols_of}
-use Rattle.lrpar_table_first.specs.First.{IsFirst, Behind, Rule}
+use Rattle.lrpar_table_first.specs.First.{IsFirst, Empty, Rule}
 use Rattle.lrpar_table_first.specs.FirstRows.{AreFirsts, IsFirstBefore, IsSymbolBelow, begins, dummy_lookahead}
 use Rattle.lrpar_grammar.specs.Tokens.{has}
 use Rattle.lrpar_table_first.proofs.FirstLemmas.{AreBelow, closed_begins, first_after, first_by_dummy, first_from_dummy, sound_begins}
@@ -51,7 +51,7 @@ module _ (g : Grammar) (well : IsWellFormed g) (rows : List (List Bool)) (firsts
 
   pub before_through : (after : List Bool) (t : ℕ) → IsTrue (has after t) → IsFirst g (dummy_lookahead g) w (dummy_lookahead g) → IsFirstBefore g after w t
   before_through after t in_after through =
-      let all = first_after g (dummy_lookahead g) (prods_below g well) t w [] t (dummy_lookahead g) refl free through Behind in
+      let all = first_after g (dummy_lookahead g) (prods_below g well) t w [] t (dummy_lookahead g) refl free through Empty in
       (t, in_after, subst (λ v. IsFirst g t v t) (append-nil w) all)
 
   -- conversely: t is in First(w, d), or w is nullable and t is in the set

@@ -5,7 +5,7 @@ use Rattle.std.proofs.Common.{◌≡◌, ◌<◌, ◌&&◌, ◌⊎◌, refl, sym
 use Rattle.std.proofs.lemmas.Bool.{and_from, and_parts, eqb-true, eq-eqb, lt-ltb, ltb-true, or_cases, or_left, or_right}
 use Rattle.std.proofs.lemmas.List.{append_assoc}
 use Rattle.lrpar_grammar.specs.Grammar.{Grammar, GrammarSymbol, Nonterminal, Terminal, prods_len, rule_of, symbols_of}
-use Rattle.lrpar_table_first.specs.First.{IsFirst, Behind, Token, Rule}
+use Rattle.lrpar_table_first.specs.First.{IsFirst, Empty, Token, Rule}
 use Rattle.lrpar_table_first.specs.FirstRows.{begins, row_at}
 use Rattle.lrpar_grammar.specs.Tokens.{has}
 
@@ -48,14 +48,14 @@ begins_rest dummy rows r w t through h =
 module _ (g : Grammar) (dummy : ℕ) (below : (p : ℕ) → p < prods_len g → AreBelow dummy (symbols_of g p)) where
   -- First(u, d) without d is in First(u w, d)
   pub first_of_prefix : (u w : List GrammarSymbol) (t : ℕ) → t < dummy → IsFirst g dummy u t → IsFirst g dummy (u ++ w) t
-  first_of_prefix u w t low Behind = absurd (omega (arith, low))
+  first_of_prefix u w t low Empty = absurd (omega (arith, low))
   first_of_prefix u w t low (Token s v) = Token s (v ++ w)
   first_of_prefix u w t low (Rule p r v s known by h) =
       Rule p r (v ++ w) s known by (subst (λ x. IsFirst g dummy x s) (append_assoc (symbols_of g p) v w) (first_of_prefix (symbols_of g p ++ v) w s low h))
 
   -- if u is nullable, First(w, a) is in First(u w, a)
   pub first_after : (a : ℕ) (u w : List GrammarSymbol) (t m : ℕ) → m ≡ dummy → AreBelow dummy u → IsFirst g dummy u m → IsFirst g a w t → IsFirst g a (u ++ w) t
-  first_after a u w t m is free Behind rest = rest
+  first_after a u w t m is free Empty rest = rest
   first_after a u w t m is free (Token s v) rest = absurd (omega (arith, free.0, is))
   first_after a u w t m is free (Rule p r v s known by h) rest =
       Rule p r (v ++ w) t known by (subst (λ x. IsFirst g a x t) (append_assoc (symbols_of g p) v w)
@@ -64,7 +64,7 @@ module _ (g : Grammar) (dummy : ℕ) (below : (p : ℕ) → p < prods_len g → 
   -- soundness: if the sets have nothing but the FIRST sets, so has what `begins` computes from them
   pub sound_begins : (rows : List (List Bool)) → ((r t : ℕ) → IsTrue (has (row_at rows r) t) → IsFirst g dummy (Nonterminal r ∷ []) t)
       → (w : List GrammarSymbol) (t : ℕ) → IsTrue (begins dummy rows w t) → IsFirst g dummy w t
-  sound_begins rows sound [] t h = subst (λ x. IsFirst g dummy [] x) (sym (eqb-true t dummy h)) Behind
+  sound_begins rows sound [] t h = subst (λ x. IsFirst g dummy [] x) (sym (eqb-true t dummy h)) Empty
   sound_begins rows sound (Terminal s ∷ w) t h = subst (λ x. IsFirst g dummy (Terminal s ∷ w) x) (sym (eqb-true t s h)) (Token s w)
   sound_begins rows sound (Nonterminal r ∷ w) t h =
       elim (begins_cases dummy rows r w t h) [
@@ -91,7 +91,7 @@ module _ (g : Grammar) (dummy : ℕ) (below : (p : ℕ) → p < prods_len g → 
   pub closed_begins : (rows : List (List Bool))
       → ((p : ℕ) → p < prods_len g → (t : ℕ) → IsTrue (begins dummy rows (symbols_of g p) t) → IsTrue (has (row_at rows (rule_of g p)) t))
       → (w : List GrammarSymbol) (t : ℕ) → IsFirst g dummy w t → IsTrue (begins dummy rows w t)
-  closed_begins rows closed w t Behind = eq-eqb dummy dummy refl
+  closed_begins rows closed w t Empty = eq-eqb dummy dummy refl
   closed_begins rows closed w t (Token s v) = eq-eqb s s refl
   closed_begins rows closed w t (Rule p r v s known by h) =
       let inside = closed_begins rows closed (symbols_of g p ++ v) s h in
@@ -103,14 +103,14 @@ module _ (g : Grammar) (dummy : ℕ) (below : (p : ℕ) → p < prods_len g → 
 
   -- a token of First(w, d) is in First(w, a)
   pub first_from_dummy : (a : ℕ) (w : List GrammarSymbol) (t : ℕ) → t < dummy → IsFirst g dummy w t → IsFirst g a w t
-  first_from_dummy a w t low Behind = absurd (omega (arith, low))
+  first_from_dummy a w t low Empty = absurd (omega (arith, low))
   first_from_dummy a w t low (Token s v) = Token s v
   first_from_dummy a w t low (Rule p r v s known by h) = Rule p r v s known by (first_from_dummy a (symbols_of g p ++ v) s low h)
 
   -- conversely: t is a token of First(w, d), or w is nullable and t is a
   pub first_by_dummy : (a : ℕ) (w : List GrammarSymbol) (t : ℕ) → AreBelow dummy w → IsFirst g a w t
       → ((t < dummy) × IsFirst g dummy w t) ⊎ (IsFirst g dummy w dummy × (t ≡ a))
-  first_by_dummy a w t free Behind = inr (Behind, refl)
+  first_by_dummy a w t free Empty = inr (Empty, refl)
   first_by_dummy a w t free (Token s v) = inl (free.0, Token s v)
   first_by_dummy a w t free (Rule p r v s known by h) =
       elim (first_by_dummy a (symbols_of g p ++ v) s (AreBelow-append dummy (symbols_of g p) v (below p known) free) h) [

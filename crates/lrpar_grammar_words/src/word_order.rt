@@ -1,6 +1,6 @@
 //! The shape of a grammar text: declarations, `%%`, rules, an optional second `%%`, the end.
 ghost use Rattle.std.specs.Prelude.{◌≡◌};
-ghost use Rattle.lrpar_grammar_words.specs.Shape.{after, colon, declaration, may_end, more_tokens, named, next_rule, quoted, symbol, token};
+ghost use Rattle.lrpar_grammar_words.specs.WordOrder.{after, colon, declaration, may_end, more_tokens, named, next_rule, quoted, symbol, token};
 
 use crate::words::WordKind;
 
@@ -52,7 +52,7 @@ pub enum Role {
 
 impl Expected {
     // The role of a word of that kind here, and what is allowed after it: `None` if no such word is allowed here.
-    #[tactic(auto, unfolding(crate::specs::Shape::after))]
+    #[tactic(auto, unfolding(crate::specs::WordOrder::after))]
     pub(crate) fn after(self, kind: WordKind) -> Option<(Role, Expected)>
         ensures { result ≡ after self kind }
     {

@@ -2,10 +2,10 @@
 use Rattle.std.specs.Prelude.{Bool, true, false, Option, Some, None}
 use Rattle.lrpar_grammar_words.specs.declared.words.WordKind.{WordKind}
 use Rattle.lrpar_grammar_words.specs.declared.words.WordKind.TheVariants.{Name, Quoted, StartSign, TokenSign, EppSign, RulesSign, Colon, Bar, Semicolon}
-use Rattle.lrpar_grammar_words.specs.declared.shape.Expected.{Expected}
-use Rattle.lrpar_grammar_words.specs.declared.shape.Expected.TheVariants.{Declaration, StartName, FirstToken, MoreTokens, EppName, EppText, NextRule, RuleColon, NextSymbol, TextEnd}
-use Rattle.lrpar_grammar_words.specs.declared.shape.Role.{Role}
-use Rattle.lrpar_grammar_words.specs.declared.shape.Role.TheVariants.{Sign, Start, Declared, EppOf, Epp, Defined, Symbol, AlternativeEnd}
+use Rattle.lrpar_grammar_words.specs.declared.word_order.Expected.{Expected}
+use Rattle.lrpar_grammar_words.specs.declared.word_order.Expected.TheVariants.{Declaration, StartName, FirstToken, MoreTokens, EppName, EppText, NextRule, RuleColon, NextSymbol, TextEnd}
+use Rattle.lrpar_grammar_words.specs.declared.word_order.Role.{Role}
+use Rattle.lrpar_grammar_words.specs.declared.word_order.Role.TheVariants.{Sign, Start, Declared, EppOf, Epp, Defined, Symbol, AlternativeEnd}
 
 -- a sign with which a declaration begins, or `%%`
 abbrev pub declaration : WordKind → Option (Role × Expected)
