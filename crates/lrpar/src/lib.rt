@@ -1,5 +1,5 @@
-//! Parses over a grammar and its state table: lexers and lexemes in, values and errors out. All that a user of the library names is
-//! here.
+//! The library for users: parses over a grammar and its state table, from lexers and lexemes to values and errors. All that a user of
+//! the library names is here.
 #![tactic(auto)]
 
 mod storage_num;
@@ -8,14 +8,14 @@ pub use lrpar_diagnostics as diagnostics;
 pub use lrpar_grammar::span::RIdx;
 pub use lrpar_grammar::{grammar, lines};
 pub use lrpar_parse::generictree::action_generictree;
-pub use lrpar_parse::{RTParserBuilder, laws, parser};
+pub use lrpar_parse::{RTParserBuilder, parser};
 pub use lrpar_parse_errors::{LexParseError, ParseError, ParseRepair, errors};
 pub use lrpar_parse_lexemes::{LexError, Lexeme, Lexer, LexerTypes, NonStreamingLexer, lex_api};
 pub use lrpar_parse_trees::Node;
 pub use lrpar_table::check::ParserData;
 pub use lrpar_table::{build, check, table};
 
-/// The parts of a text, and the numbers of rules, productions, tokens and states.
+/// Spans of a text, and the numbers of rules, productions, tokens and states.
 pub mod span {
     pub use crate::storage_num::StorageNum;
     pub use lrpar_grammar::span::{
@@ -23,10 +23,55 @@ pub mod span {
     };
 }
 
-/// What a parse hands to its caller at an error, the sequences that the caller hands back, and who may hand them in.
+/// Recoverers: what a parse passes to one at an error point, the steps of the sequences that it returns, and the recoverers of the library.
 pub mod repair {
     pub use lrpar_parse_cpctplus::{CostFault, CpctPlus};
     pub use lrpar_parse_repair::repair::{
         FixedRecoverer, NoRecovery, Recoverer, RecoveryPoint, RepairStep,
+    };
+}
+
+/// What follows from the definitions: public functions that do nothing, each with a law as its contract.
+pub mod laws {
+    pub use lrpar_grammar::laws::{
+        sum_is_worked_out, sum_tree_fits, text_spells_one_grammar, trees_are_derivations,
+    };
+    pub use lrpar_grammar_places::laws::{
+        numbers_compare_by_value, spans_compare_by_ends, symbols_compare_by_contents,
+    };
+    pub use lrpar_grammar_words::laws::{
+        outlines_are_of_grammar_texts, pieces_are_longest, text_has_one_outline,
+        text_is_stuck_at_one_place, text_reads_as_one,
+    };
+    pub use lrpar_parse::laws::{
+        faults_are_compared_by_contents, runs_go_on_or_end, runs_have_one_answer,
+        runs_stop_by_failing, runs_with_repairs_are_sound, runs_with_repairs_have_one_answer,
+        runs_without_a_recoverer, sequences_that_work_are_replayed, spans_are_worked_out,
+        sum_run_is_worked_out, tests_of_sequences_are_bounded,
+    };
+    pub use lrpar_parse_cpctplus::laws::{
+        cheapest_repairs_have_one_answer, no_sequence_is_cheaper_than_repairs,
+    };
+    pub use lrpar_parse_lexemes::laws::{
+        pp_faults_are_compared_by_contents, repairs_are_compared_by_contents,
+    };
+    pub use lrpar_parse_repair::laws::steps_are_compared_by_contents;
+    pub use lrpar_table::laws::{
+        ambiguous_grammars_have_conflicts, built_tables_are_complete_without_conflicts,
+    };
+    pub use lrpar_table_build::laws::{
+        canonical_conflicts_fit, canonical_tables_are_safe, no_conflicts_are_one_action,
+    };
+    pub use lrpar_table_check::laws::{
+        complete_tables_expect_sentences, complete_tables_take_sentences,
+    };
+    pub use lrpar_table_rows::laws::{
+        changed_sum_tables_are_unsafe, sum_graph_has_items, sum_rows_are_rows, sum_table_acts,
+        sum_table_is_safe, sum_table_is_table,
+    };
+    pub use lrpar_table_stacks::laws::{
+        checked_runs_never_stick, paths_are_stacks, reductions_are_bounded,
+        reductions_have_one_answer, sum_table_has_chains, sum_table_has_path, sum_table_has_stack,
+        sum_table_settles,
     };
 }

@@ -56,8 +56,8 @@ module _ (g : Grammar) (graph : Graph) (table : Table) (built : IsBuilt g graph 
   pub access_path_by : IsClosed table → (steps : List StepOf) → StepsLead table table.start steps s → IsAccessPath g graph steps s
   access_path_by closed steps lead =
       let start : IsPathTo g graph table.start [] =
-      subst (λ (n : ℕ). AreSame (sets_of graph n) (IsReachedBy g [])) (sym built.wanted.start) built.canonical.start in
-      state_reached g graph table built.wanted closed steps table.start s [] closed.start_within lead start
+      subst (λ (n : ℕ). AreSame (sets_of graph n) (IsReachedBy g [])) (sym built.resolved.start) built.canonical.start in
+      state_reached g graph table built.resolved closed steps table.start s [] closed.start_within lead start
 
 -- the symbols of an access path lead to its last state
 pub path_leads : (g : Grammar) (graph : Graph) (s : ℕ) (steps : List StepOf) → IsAccessPath g graph steps s → IsPathTo g graph s (symbols_in steps)

@@ -6,7 +6,7 @@ use Rattle.lrpar_grammar.specs.Grammar.{Grammar, GrammarSymbol, IsWellFormed, No
 use Rattle.lrpar_grammar.specs.Tree.{Forest, Branch, Cons, Leaf, Nil, forest_leaves}
 use Rattle.lrpar_grammar.proofs.ForestLemmas.{split_leaves, splits}
 use Rattle.lrpar_table_rows.specs.Graph.{Graph, HasCore, ItemOf, graph_len, item_at}
-use Rattle.lrpar_table_first.specs.First.{IsFirst, Behind, Rule, Token}
+use Rattle.lrpar_table_first.specs.First.{IsFirst, Empty, Rule, Token}
 use Rattle.lrpar_table_first.proofs.FirstLemmas.{AreBelow, AreBelow-append}
 use Rattle.lrpar_table_items.specs.Canonical.{AreSame, IsCanonical}
 use Rattle.lrpar_table_items.specs.ItemSets.{IsReachedBy}
@@ -47,7 +47,7 @@ module _ (g : Grammar) (each : EachReachableHasTree g) where
   module _ (well : IsWellFormed g) (dummy : ℕ) (below : (p : ℕ) → p < prods_len g → AreBelow dummy (symbols_of g p)) where
     -- symbols that can begin with a token have trees that begin with it
     pub begins_with : (w : List GrammarSymbol) (t : ℕ) → IsFirst g dummy w t → t < dummy → All (IsReachableSymbol g) w → (trees : Forest ℕ) × BeginWith g w t trees
-    begins_with w t Behind low all = absurd (omega arith)
+    begins_with w t Empty low all = absurd (omega arith)
     begins_with w t (Token s v) low all =
         let rest = have_trees g each v (All-tail (IsReachableSymbol g) (Terminal s) v all) in
         (Cons (Leaf s) rest.0, record { fit = (refl, rest.1); first = (forest_leaves rest.0, refl) })
@@ -67,7 +67,7 @@ module _ (g : Grammar) (each : EachReachableHasTree g) where
     -- symbols that can derive nothing have trees without tokens
     pub derives_nothing : (w : List GrammarSymbol) (m : ℕ) → IsFirst g dummy w m → m ≡ dummy → AreBelow dummy w
         → (trees : Forest ℕ) × AreTreesOf g w trees × (forest_leaves trees ≡ [])
-    derives_nothing w m Behind is free = (Nil, tt, refl)
+    derives_nothing w m Empty is free = (Nil, tt, refl)
     derives_nothing w m (Token s v) is free = absurd (let low = free.0 in omega arith)
     derives_nothing w m (Rule p r v s known by first) is free =
         let more = derives_nothing (symbols_of g p ++ v) s first is (AreBelow-append dummy (symbols_of g p) v (below p known) free) in

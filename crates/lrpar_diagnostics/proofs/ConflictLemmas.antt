@@ -20,7 +20,7 @@ same_line a b h = grind (arith, nat_tests)
 other_line : (a b : ℕ) → ¬ (a ≡ b) → (a == b) ≡ false
 other_line a b h = grind (arith, nat_tests)
 
--- the first group begins with the part that was put in front
+-- the first group begins with the part that was added before the others
 head_of : (src : List ℕ) (a : Extent) (groups : List (List Extent)) → (group : List Extent) × (rest : List (List Extent)) × (ahead_of src a groups ≡ (a ∷ group) ∷ rest)
 head_of src a [] = ([], [], refl)
 head_of src a ([] ∷ groups) = ([], groups, refl)
@@ -31,7 +31,7 @@ head_of src a ((b ∷ group) ∷ groups) =
       | false ↦ ([], (b ∷ group) ∷ groups, refl)
     ]
 
--- where parts follow, nothing is said of a group
+-- if parts follow, a group has no label
 pub some_label : (src : List ℕ) (spans : List Extent) → 0 < length spans → [] ≡ group_label (by_line src spans)
 some_label src [] some = absurd (omega (arith, some))
 some_label src (a ∷ spans) some = sym (ap group_label (head_of src a (by_line src spans)).2)
@@ -95,7 +95,7 @@ follow src i (a ∷ spans) all order low = (
 pub symbols_follow : (src : List ℕ) (spans : List Extent) → All (IsPartOfLine src) spans → AreSpansInOrder spans → FollowInOrder src 0 spans
 symbols_follow src spans all order = follow src 0 spans all order (λ some d. omega arith)
 
--- a place behind a text and a message
+-- a place after a text and a message
 pub place_after : (f : Subject) (old message out : List ℕ) (byte : ℕ) → out ≡ old ++ message → place_text f out byte ≡ old ++ place_text f message byte
 place_after f old message out byte e = rw e (search append_assoc)
 
@@ -106,7 +106,7 @@ not_first src line i [] first other some is apart = absurd (omega (arith, some))
 not_first src line zero (a ∷ spans) first other some is apart = absurd (apart (sym is))
 not_first src line (suc i) (a ∷ spans) first other some is apart = omega arith
 
--- what stands at a place of a list, whatever stands in for places outside of it
+-- the element at a place of a list, whatever is used for places outside of it
 pub same_item : {A : Type 0} (xs : List A) (i : ℕ) (x y : A) → i < length xs → get_or xs i x ≡ get_or xs i y
 same_item [] i x y within = absurd (omega (arith, within))
 same_item (z ∷ xs) zero x y within = refl

@@ -1,4 +1,4 @@
--- The lines that a part of a text touches, from one to the next, and where a text may be cut.
+-- The lines that a part of a text touches, from one to the next, and the places at which a text may be cut.
 use Rattle.std.proofs.Common.{◌≡◌, ◌<◌, ◌≤◌, ◌+◌, ◌-◌, ℕ, zero, suc, true, false, cond, refl, sym, ap, subst, ◌∙◌, arith, List, [], ◌∷◌, ◌++◌, length, slice_index, inl, inr, min, max, append_assoc, append-nil}
 use Rattle.std.specs.Prelude.{encode_utf8}
 use Rattle.std.specs.List.{filter, range_with_len}
@@ -27,7 +27,7 @@ no_feed b h = grind (arith, nat_tests)
 line_end_on : (src : List ℕ) (b : ℕ) → b < length src → ¬ (slice_index src b ≡ 10) → line_end src (b + 1) ≡ line_end src b
 line_end_on src b within other = let e = prefix_len-drop_yes is_in_line src b 0 within (in_line (slice_index src b) other) in omega (arith, e)
 
--- a line ends in front of a line feed
+-- a line ends before a line feed
 line_end_here : (src : List ℕ) (b : ℕ) → b < length src → slice_index src b ≡ 10 → line_end src b ≡ b
 line_end_here src b within feed = let e = prefix_len-drop_no is_in_line src b 0 within (at_end (slice_index src b) feed) in omega (arith, e)
 
@@ -35,7 +35,7 @@ line_end_here src b within feed = let e = prefix_len-drop_no is_in_line src b 0 
 line_end_last : (src : List ℕ) (b : ℕ) → length src ≤ b → line_end src b ≡ b
 line_end_last src b past = let e = prefix_len-drop_all is_in_line src b past in omega (arith, e)
 
--- a line that ends in the text ends in front of a line feed
+-- a line that ends in the text ends before a line feed
 feed_at_end : (src : List ℕ) (b n : ℕ) → b + n ≡ length src → line_end src b < length src → slice_index src (line_end src b) ≡ 10
 feed_at_end src b zero whole inside = absurd (let last = line_end_last src b (omega arith) in omega (arith, last))
 feed_at_end src b (suc n) whole inside =
@@ -52,7 +52,7 @@ next_boundary src b utf8 within inside =
     let feed = feed_at_end src b (length src - b) (omega arith) inside in
     IsCharBoundary-after_ascii src (line_end src b) utf8 inside (omega (arith, feed))
 
--- no line starts behind byte b up to the end of its line
+-- no line starts after byte b up to the end of its line
 after_last : (src : List ℕ) (b n : ℕ) → b + n ≤ length src → b + n ≤ line_end src b → filter (starts_line src) (range_with_len (b + 1) n) ≡ []
 after_last src b zero within last = refl
 after_last src b (suc n) within last =
@@ -66,7 +66,7 @@ after_last src b (suc n) within last =
           ∙ after_last src (b + 1) n (omega arith) (omega (arith, on))
     ]
 
--- the first that starts there stands behind that end
+-- the first that starts there is after that end
 after_next : (src : List ℕ) (b n : ℕ) → b + n ≤ length src → line_end src b < b + n
     → filter (starts_line src) (range_with_len (b + 1) n)
     ≡ (line_end src b + 1) ∷ filter (starts_line src) (range_with_len ((line_end src b + 1) + 1) (b + n - (line_end src b + 1)))
@@ -92,7 +92,7 @@ after_next src b (suc n) within inside =
           ∙ ap (λ m. (line_end src b + 1) ∷ filter (starts_line src) (range_with_len ((line_end src b + 1) + 1) (m - (line_end src b + 1)))) same
     ]
 
--- the lines behind byte b, of a part that ends in its line
+-- the lines after byte b, of a part that ends in its line
 none_after : (src : List ℕ) (b end : ℕ) → b ≤ length src → end ≤ length src → end ≤ line_end src b → starts_after src b end ≡ []
 none_after src b end within bound last = after_last src b (end - b) (omega arith) (omega (arith, last))
 
@@ -125,7 +125,7 @@ last_skipped src b end within bound inside hidden last =
     ∙ ap (λ v. cond v (next ∷ printed_after src next end) (printed_after src next end)) hidden
     ∙ none_printed src next end (omega arith) bound last
 
--- the smaller and the larger of two places where a text may be cut
+-- the smaller and the larger of two places at which a text may be cut
 pub min_boundary : (src : List ℕ) (a b : ℕ) → IsCharBoundary src a → IsCharBoundary src b → IsCharBoundary src (min a b)
 min_boundary src a b ha hb =
     elim (cases_lt a b) [

@@ -4,7 +4,7 @@ use Rattle.std.specs.Prelude.{encode_utf8}
 use Rattle.std.specs.List.{flat_map}
 use Rattle.std.proofs.lemmas.Str.{encode_ascii}
 
--- a text is added, unless memory was wanting
+-- a text is added, unless an allocation failed
 pub added : {T E : Type 0} (r : Result T E) (new out text whole : List ℕ) → new ≡ (if is_ok r then out ++ text else out) → out ++ text ≡ whole → OnOk r (new ≡ whole)
 added (Ok x) new out text whole e same = e ∙ same
 added (Err x) new out text whole e same = tt
@@ -14,7 +14,7 @@ pub two_pieces : (out first second x y rest whole : List ℕ) → first ≡ out 
 two_pieces out first second x y rest whole e₁ e₂ all =
     ap (λ o. o ++ rest) (e₂ ∙ ap (λ o. o ++ y) e₁ ∙ append_assoc out x y) ∙ append_assoc out (x ++ y) rest ∙ all
 
--- a piece behind another
+-- a piece after another
 pub grown : (old first second x y : List ℕ) → first ≡ old ++ x → second ≡ first ++ y → second ≡ old ++ (x ++ y)
 grown old first second x y e₁ e₂ = e₂ ∙ ap (λ o. o ++ y) e₁ ∙ append_assoc old x y
 

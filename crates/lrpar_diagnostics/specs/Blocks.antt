@@ -7,13 +7,13 @@ use Rattle.lrpar_grammar_places.specs.declared.span.SpansKind.TheVariants.{Error
 use Rattle.lrpar_diagnostics.specs.Location.{ordinal_text}
 use Rattle.lrpar_diagnostics.specs.Underline.{block_text}
 
--- what is said of the place of this number, which isn't the first
+-- the label of the place of this number, which isn't the first
 abbrev pub label : SpansKind → ℕ → List ℕ
 label Error number = codes "Unrecognized spanskind"
 label DuplicationError number = ordinal_text number ++ codes " occurrence"
 label Other number = codes "Unrecognized spanskind"
 
--- dots, where the next place starts more than one line further on
+-- dots, if the next place starts more than one line further on
 abbrev pub dots : List ℕ → Extent → List Extent → List ℕ
 dots src span [] = []
 dots src span (next ∷ spans) = if nat_lt 1 (line_of src next.start - line_of src span.start) then codes "..." else []

@@ -19,7 +19,7 @@ labelled src span label = block_text src [] span label 94 ++ 10 ∷ []
 abbrev pub shown_name : Grammar → ℕ → List ℕ
 shown_name g t = unwrap_or (token_name g t) (codes "$")
 
--- where the first token of the name `$` is first declared or used, if there is one
+-- the place at which the first token of the name `$` is first declared or used, if there is one
 abbrev pub dollar_span : Grammar → Option Extent
 dollar_span g = option_and_then (token_span g) (position (λ token. bytes_eq token.name (codes "$")) g.tokens)
 
@@ -35,7 +35,7 @@ shown_span g t = own_or (token_span g t) (dollar_span g)
 abbrev pub lookahead_text : List ℕ → Option Extent → List ℕ
 lookahead_text src span = option_map_or (λ at. labelled src at (codes "Lookahead")) span []
 
--- what a conflict between reductions by two rules at a token is
+-- the message of a conflict between reductions by two rules at a token
 abbrev pub two_reductions : List ℕ → List ℕ → List ℕ → List ℕ
 two_reductions first second token =
     codes "Reduce/Reduce conflict, can reduce '" ++ first ++ codes "' or '" ++ second ++ codes "' with lookahead '" ++ token ++ codes "'"
@@ -54,7 +54,7 @@ rules_text f g a b t =
 abbrev pub reduce_reduce_text : Subject → Grammar → ReduceReduce → List ℕ
 reduce_reduce_text f g x = rules_text f g (rule_of g x.first) (rule_of g x.second) x.token
 
--- one more part of a text in front of groups: it joins the first group where it stands on the same line
+-- one more part of a text before groups: it joins the first group if both are on the same line
 abbrev pub ahead_of : List ℕ → Extent → List (List Extent) → List (List Extent)
 ahead_of src span [] = (span ∷ []) ∷ []
 ahead_of src span ([] ∷ groups) = (span ∷ []) ∷ groups
@@ -66,7 +66,7 @@ abbrev pub by_line : List ℕ → List Extent → List (List Extent)
 by_line src [] = []
 by_line src (span ∷ spans) = ahead_of src span (by_line src spans)
 
--- what is said of the symbols of a production on one line, with these groups behind it: nothing, but on the last one
+-- the label of the symbols of a production on one line, with these groups after it: none, but on the last line
 abbrev pub group_label : List (List Extent) → List ℕ
 group_label [] = codes "Reduced productions"
 group_label (group ∷ groups) = []
@@ -76,7 +76,7 @@ abbrev pub groups_text : List ℕ → List (List Extent) → List ℕ
 groups_text src [] = []
 groups_text src (group ∷ groups) = on_line_text src group (group_label groups) 45 ++ 10 ∷ [] ++ groups_text src groups
 
--- where a production is shown: at its symbols, or, without any, at its own place
+-- the places that are shown for a production: its symbols, or, without any, its own place
 abbrev pub shown_spans : Extent → List Extent → List Extent
 shown_spans own [] = own ∷ []
 shown_spans own (span ∷ spans) = span ∷ spans
@@ -84,7 +84,7 @@ shown_spans own (span ∷ spans) = span ∷ spans
 abbrev pub reduced_spans : Grammar → ℕ → List Extent
 reduced_spans g p = shown_spans (prod_span_of g p) (symbol_spans_of g p)
 
--- what a conflict between the shift of a token and a reduction by a rule is
+-- the message of a conflict between the shift of a token and a reduction by a rule
 abbrev pub shift_or_reduction : List ℕ → List ℕ → List ℕ
 shift_or_reduction token rule = codes "Shift/Reduce conflict, can shift '" ++ token ++ codes "' or reduce '" ++ rule ++ codes "'"
 

@@ -6,28 +6,29 @@ use Rattle.lrpar_grammar_places.specs.Span.{Extent}
 use Rattle.lrpar_grammar.specs.SpansFit.{IsPartOf}
 use Rattle.lrpar_diagnostics.specs.Columns.{columns, repeated, text_end, margin, printed_line}
 
--- the starts of the lines that start behind byte b, up to byte end
+-- the starts of the lines that start after byte b, up to byte end
 abbrev pub starts_after : List ℕ → ℕ → ℕ → List ℕ
 starts_after src b end = filter (starts_line src) (range_with_len (b + 1) (end - b))
 
--- Whether a line is printed of those that a part up to byte end touches behind its first one: it ends in front of that byte, and
--- isn't the last one so, or it has text.
+-- Whether a line is printed, of those after the first one that a part up to byte end touches: if its line feed is before byte
+-- end, or if it has text.
 abbrev pub is_printed : List ℕ → ℕ → ℕ → Bool
 is_printed src end b = nat_lt (line_end src b) end || nat_lt b (text_end src b)
 
--- the starts of such lines behind the line that starts at byte b
+-- the starts of such lines after the line that starts at byte b
 abbrev pub printed_after : List ℕ → ℕ → ℕ → List ℕ
 printed_after src b end = filter (is_printed src end) (starts_after src b end)
 
--- the starts of the lines that are printed of a part: that of its start, and such lines behind it
+-- the starts of the lines that are printed for a part: that of its start, and such lines after it
 abbrev pub printed_lines : List ℕ → Extent → List ℕ
 printed_lines src span = line_start src span.start ∷ printed_after src (line_start src span.start) span.end
 
--- where the underline of a part starts in the line that starts at byte b: no earlier than the line, and no later than its text ends
+-- the byte at which the underline of a part starts in the line that starts at byte b: no earlier than the line, and no later than
+-- its text ends
 abbrev pub mark_start : List ℕ → Extent → ℕ → ℕ
 mark_start src span b = min (max b span.start) (text_end src b)
 
--- where it ends: no later than the line's text, and no earlier than it starts
+-- the byte at which it ends: no later than the line's text, and no earlier than it starts
 abbrev pub mark_end : List ℕ → Extent → ℕ → ℕ
 mark_end src span b = max (min (text_end src b) span.end) (mark_start src span b)
 
@@ -35,17 +36,17 @@ mark_end src span b = max (min (text_end src b) span.end) (mark_start src span b
 abbrev pub underline : List ℕ → ℕ → ℕ → ℕ → List ℕ
 underline src c i j = repeated (max (columns src i j) 1) c
 
--- the line that starts at byte b, and below it the prefix and the underline, each of which stands below its place
+-- the line that starts at byte b, and below it the prefix and the underline, which is under the part
 abbrev pub marked_line : List ℕ → List ℕ → Extent → ℕ → ℕ → List ℕ
 marked_line src prefix span c b =
     printed_line src b ++ prefix ++ repeated (length (margin src b) - length prefix) 32 ++ repeated (columns src b (mark_start src span b)) 32
     ++ underline src c (mark_start src span b) (mark_end src span b)
 
--- the printed lines of a part, each underlined, and behind the last one a message
+-- the printed lines of a part, each underlined, and a message after the last one
 abbrev pub block_text : List ℕ → List ℕ → Extent → List ℕ → ℕ → List ℕ
 block_text src prefix span message c = join_by (marked_line src prefix span c) (10 ∷ []) (printed_lines src span) ++ 32 ∷ message
 
--- the underlines of parts that follow on byte i, each behind as many spaces as there are columns in front of it
+-- the underlines of parts that follow on byte i, each after as many spaces as there are columns before it
 abbrev pub marks_after : List ℕ → ℕ → ℕ → List Extent → List ℕ
 marks_after src c i [] = []
 marks_after src c i (span ∷ spans) = repeated (columns src i span.start) 32 ++ underline src c span.start span.end ++ marks_after src c span.end spans
@@ -62,7 +63,7 @@ abbrev pub on_line_text : List ℕ → List Extent → List ℕ → ℕ → List
 on_line_text src [] message c = []
 on_line_text src (span ∷ spans) message c = first_mark src c span ++ marks_after src c span.end spans ++ 32 ∷ message
 
--- parts of a text behind byte i, in order, none of which overlaps the next
+-- parts of a text after byte i, in order, none of which overlaps the next
 abbrev pub FollowInOrder : List ℕ → ℕ → List Extent → Type 0
 FollowInOrder src i [] = Unit {0}
 FollowInOrder src i (span ∷ spans) = (i ≤ span.start) × IsPartOf src span × FollowInOrder src span.end spans

@@ -30,14 +30,15 @@ type ReduceReduce<StorageT> = (
 type ShiftReduce<StorageT> = (TIdx<StorageT>, PIdx<StorageT>, StIdx<StorageT>);
 
 impl<'a> SpannedDiagnosticFormatter<'a> {
-    /// The texts of the conflicts, those between two reductions first, in the order in which they are listed. Each names the rules and
-    /// the token, and where the first rule is, as `file_location_msg` does, and then shows where the rules and the token are, and,
-    /// for a shift and a reduction, the symbols of the production that is reduced, or its own place where it has none. An empty line
-    /// ends each. A token is told by its name; the end token by `$`, and it is shown where a token of that name is, if there is one.
+    /// The texts of the conflicts, those between two reductions first, in the order in which they are listed. Each names the
+    /// rules and the token, and the place of the first rule, as `file_location_msg` does, and then shows the places of the rules
+    /// and the token, and, for a shift and a reduction, the symbols of the production that is reduced, or its own place if it has
+    /// none. An empty line ends each. A token is shown by its name; the end token by `$`, at the place of a token of that name,
+    /// if there is one.
     ///
-    /// The grammar's places have to fit the text (`YaccGrammar::spans_fit`), and the conflicts the grammar (`Conflicts::fit`). The
-    /// item sets and the table aren't looked at. Takes time linear in the tokens and in the text that is made, and logarithmic in the
-    /// number of lines for each line of that, and memory for that text. It fails if memory runs out.
+    /// The grammar's places have to fit the text (`YaccGrammar::spans_fit`), and the conflicts the grammar (`Conflicts::fit`).
+    /// The item sets and the table aren't looked at. Takes time linear in the tokens and in the text that is made, and
+    /// logarithmic in the number of lines for each line of that, and memory for that text. An `Err` comes if an allocation fails.
     pub fn format_conflicts<StorageT: StorageIndex>(
         &self,
         alloc: Global,
@@ -77,7 +78,7 @@ impl<'a> SpannedDiagnosticFormatter<'a> {
         Ok(())
     }
 
-    // Adds the text of a conflict between two reductions. `dollar` is where a token of the name `$` is.
+    // Adds the text of a conflict between two reductions. `dollar` is the place of a token of the name `$`.
     fn push_reductions<StorageT: StorageIndex>(
         &self,
         out: &mut String,
@@ -122,7 +123,7 @@ impl<'a> SpannedDiagnosticFormatter<'a> {
         out.push('\n')
     }
 
-    // Adds where a lookahead is, if it is anywhere, underlined.
+    // Adds the place of a lookahead, underlined, if it has one.
     fn push_lookahead<StorageT: StorageIndex>(
         &self,
         out: &mut String,
@@ -167,7 +168,7 @@ impl<'a> SpannedDiagnosticFormatter<'a> {
         self.push_rule_place(out, grm, first)
     }
 
-    // Adds where a rule is, and a line feed.
+    // Adds the place of a rule, and a line feed.
     fn push_rule_place<StorageT: StorageIndex>(
         &self,
         out: &mut String,
@@ -183,7 +184,7 @@ impl<'a> SpannedDiagnosticFormatter<'a> {
         out.push('\n')
     }
 
-    // Adds the name of a rule where it is, underlined with a label.
+    // Adds the name of a rule at its place, underlined with a label.
     fn push_rule<StorageT: StorageIndex>(
         &self,
         out: &mut String,
@@ -259,7 +260,7 @@ impl<'a> SpannedDiagnosticFormatter<'a> {
         out.push('\n')
     }
 
-    // Adds where a token is, underlined with a label. It isn't the end token.
+    // Adds the place of a token, underlined with a label. It isn't the end token.
     fn push_token<StorageT: StorageIndex>(
         &self,
         out: &mut String,
@@ -372,7 +373,7 @@ impl<'a> Source<'a> {
     }
 }
 
-// What is said of the symbols of a production on one line: nothing, but on the last one.
+// The label of the symbols of a production on one line: none, but on the last line.
 fn group_label(others: &[Span]) -> &'static str
     ensures { (src : List ℕ) → result.now ≡ group_label (by_line src others.now) }
 {
@@ -383,7 +384,7 @@ fn group_label(others: &[Span]) -> &'static str
     }
 }
 
-// Adds what a conflict between reductions by two rules at a token is.
+// Adds the message of a conflict between reductions by two rules at a token.
 fn push_two_reductions(
     out: &mut String,
     first: &str,
@@ -398,7 +399,7 @@ fn push_two_reductions(
     )
 }
 
-// Adds what a conflict between the shift of a token and a reduction by a rule is.
+// Adds the message of a conflict between the shift of a token and a reduction by a rule.
 fn push_shift_or_reduction(out: &mut String, token: &str, rule: &str) -> Result<(), AllocError>
     ensures { OnOk result (string_bytes out.new ≡ string_bytes out.old ++ shift_or_reduction token.now rule.now) }
 {
@@ -416,7 +417,7 @@ fn shown_name<StorageT: StorageIndex>(grm: &YaccGrammar<StorageT>, token: TIdx<S
     grm.token_name(token).unwrap_or("$")
 }
 
-// Where a token is: the end token is where `$` is.
+// The place of a token: that of the end token is that of `$`.
 fn shown_span<StorageT: StorageIndex>(
     grm: &YaccGrammar<StorageT>,
     token: TIdx<StorageT>,
@@ -433,7 +434,7 @@ fn shown_span<StorageT: StorageIndex>(
     }
 }
 
-// Where the first token of the name `$` is.
+// The place of the first token of the name `$`.
 fn dollar_span<StorageT: StorageIndex>(grm: &YaccGrammar<StorageT>) -> Option<Span>
     ensures { result ≡ dollar_span grm.now }
 {

@@ -10,10 +10,10 @@ use std::marker::Model;
 /// Why the text of an error or a warning isn't made.
 #[derive(Clone, Copy, Debug, PartialEq, Eq, thiserror::Error)]
 pub enum DiagnosticFault {
-    /// An error has more than one place, of which one alone can be the error's.
+    /// An error has more than one place, but only one can be its own.
     #[error("several spans")]
     SeveralSpans,
-    /// Memory was wanting.
+    /// Out of memory: an allocation failed.
     #[error("out of memory")]
     Memory,
 }

@@ -13,12 +13,12 @@ use std::alloc::{AllocError, Global};
 use std::marker::Model;
 
 /// Makes texts that name places of a text and show them, with the lines that they touch. It borrows the text, and the path under
-/// which it names it. Lines count from 1. A line ends in front of its line feed, and a carriage return directly in front of that isn't
+/// which it names it. Lines count from 1. A line ends before its line feed, and a carriage return directly before that isn't
 /// printed.
 ///
-/// A place has to start and end between two characters of the text, but for that of a location. Each call fails if
-/// memory runs out, and as `DiagnosticFormatter` says. It takes time linear in the text that it makes and in the lines that it shows,
-/// and logarithmic in the number of lines for each of these, and memory for the text that it makes.
+/// A place has to start and end between two characters of the text, except that of a location. Each call fails if memory runs
+/// out, and as `DiagnosticFormatter` says. It takes time linear in the text that it makes and in the lines that it shows, and
+/// logarithmic in the number of lines for each of these, and memory for the text that it makes.
 #[derive(Drop)]
 pub struct SpannedDiagnosticFormatter<'a> {
     pub(crate) source: Source<'a>,
@@ -50,8 +50,7 @@ impl<'a> SpannedDiagnosticFormatter<'a> {
         self.source.nlc()
     }
 
-    /// The number with what makes a number of order of it: `1st`, `2nd`, `3rd`, `4th`, and so on by the last digit, but `th` where
-    /// it ends in 11, 12 or 13.
+    /// The number as an ordinal: `1st`, `2nd`, `3rd`, `4th`, and so on by the last digit, but `th` if it ends in 11, 12 or 13.
     pub fn ordinal(alloc: Global, v: usize) -> Result<String, AllocError>
         ensures { IfOk result (λ text. string_bytes text ≡ ordinal_text v) }
     {
@@ -59,8 +58,8 @@ impl<'a> SpannedDiagnosticFormatter<'a> {
         format!(in alloc; "{v}{suffix}")
     }
 
-    /// The message, and where the span starts: `MESSAGE at PATH:LINE:COLUMN`, or `MESSAGE in PATH` where there is no span. Columns
-    /// count characters, from 1. Line and column are 0 where the start lies behind the text's end or inside a character.
+    /// The message, and the place at which the span starts: `MESSAGE at PATH:LINE:COLUMN`, or `MESSAGE in PATH` if there is no
+    /// span. Columns count characters, from 1. Line and column are 0 if the start is after the text's end or inside a character.
     pub fn file_location_msg(
         &self,
         alloc: Global,
@@ -78,9 +77,9 @@ impl<'a> SpannedDiagnosticFormatter<'a> {
         Ok(out)
     }
 
-    /// The lines that the span touches, each as `LINE| TEXT`, and below each one what the span has of it underlined by `underline_c`,
-    /// once for each column, and at least once. The message stands behind the last underline. The last of several lines is left out
-    /// where it has no text. Columns are those of `unicode_width`.
+    /// The lines that the span touches, each as `LINE| TEXT`, and below each one the part of the span in it, underlined by
+    /// `underline_c`, once for each column, and at least once. The message comes after the last underline. The last of several
+    /// lines is left out if it has no text. Columns are those of `unicode_width`.
     pub fn underline_span_with_text(
         &self,
         alloc: Global,
@@ -94,7 +93,7 @@ impl<'a> SpannedDiagnosticFormatter<'a> {
         self.prefixed_underline_span_with_text(alloc, "", span, s, underline_c)
     }
 
-    /// The same with a prefix, of at most 3 bytes, in front of each underline, in place of spaces.
+    /// The same with a prefix, of at most 3 bytes, before each underline, in place of spaces.
     pub fn prefixed_underline_span_with_text(
         &self,
         alloc: Global,
@@ -114,17 +113,17 @@ impl<'a> SpannedDiagnosticFormatter<'a> {
     }
 
     /// Whether each span starts and ends between two characters of the text, the spans are in order and don't overlap, and all
-    /// lie on one line. Spans of which this is true can be underlined by `underline_spans_on_line_with_text`. It takes time linear
-    /// in the spans and logarithmic in the number of lines for each, and no memory.
+    /// lie on one line. Spans for which this is true can be underlined by `underline_spans_on_line_with_text`. It takes time
+    /// linear in the spans and logarithmic in the number of lines for each, and allocates nothing.
     pub fn spans_follow(&self, spans: &[Span]) -> bool
         ensures { IsTrue result ↔ FollowOnLine (self.now).text spans.now }
     {
         self.source.follow_on_line(spans)
     }
 
-    /// The line of the first span, as `LINE| TEXT`, and below it the underline of each span, with as many spaces between two as the
-    /// text between them has columns, and then the message. The spans have to be in order, and not to overlap; all should lie on
-    /// that line. `spans_follow` tells whether they do. The text is empty if there are none.
+    /// The line of the first span, as `LINE| TEXT`, and below it the underline of each span, with as many spaces between two as
+    /// the text between them has columns, and then the message. The spans have to be in order, and not to overlap; all should lie
+    /// on that line. `spans_follow` says whether they do. The text is empty if there are none.
     pub fn underline_spans_on_line_with_text(
         &self,
         alloc: Global,
@@ -159,7 +158,7 @@ impl<'a> SpannedDiagnosticFormatter<'a> {
     }
 }
 
-// What stands behind a number of order.
+// The suffix of an ordinal.
 fn ordinal_suffix(v: usize) -> &'static str
     ensures { result.now ≡ (if is_teen v then codes "th" else suffix_of_digit (v % 10)) }
 {

@@ -45,7 +45,7 @@ impl<'a> Source<'a> {
         self.nlc.byte_to_line_num(byte).unwrap()
     }
 
-    /// The line and the column of a byte, each counted from 1: 0 and 0 behind the text's end and inside a character.
+    /// The line and the column of a byte, each counted from 1: 0 and 0 after the text's end and inside a character.
     pub(crate) fn place(&self, byte: usize) -> (usize, usize)
         ensures inside { IsCharBoundary self.now.src.now byte → (result.0 ≡ line_of self.now.src.now byte) × (result.1 ≡ column_of self.now.src.now byte) }
         ensures outside { ¬ IsCharBoundary self.now.src.now byte → (result.0 ≡ 0) × (result.1 ≡ 0) }
@@ -56,7 +56,7 @@ impl<'a> Source<'a> {
         }
     }
 
-    /// Where the line of a byte starts.
+    /// The byte at which the line of a byte starts.
     pub(crate) fn line_start(&self, byte: usize) -> usize
         requires { byte ≤ length self.now.src.now }
         ensures start { result ≡ line_start self.now.src.now byte }
@@ -65,7 +65,7 @@ impl<'a> Source<'a> {
         self.nlc.span_line_bytes(Span::new(byte, byte)).0
     }
 
-    // Where the line of a byte ends.
+    // The byte at which the line of a byte ends.
     fn line_end(&self, byte: usize) -> usize
         requires { byte ≤ length self.now.src.now }
         ensures end { result ≡ line_end self.now.src.now byte }
@@ -74,7 +74,7 @@ impl<'a> Source<'a> {
         self.nlc.span_line_bytes(Span::new(byte, byte)).1
     }
 
-    // Where the text of the line that starts at a byte ends.
+    // The byte at which the text of the line that starts at a byte ends.
     fn text_end(&self, start: usize) -> usize
         requires { start ≤ length self.now.src.now }
         ensures end { result ≡ text_end self.now.src.now start }
@@ -100,7 +100,7 @@ impl<'a> Source<'a> {
         self.src[start..end].width()
     }
 
-    // Adds the line that starts at a byte, with a line feed. Answers how many bytes stand in front of the line's text.
+    // Adds the line that starts at a byte, with a line feed. Returns how many bytes come before the line's text.
     fn push_line(&self, out: &mut String, start: usize) -> Result<usize, AllocError>
         requires { IsCharBoundary self.now.src.now start }
         ensures text { OnOk result (string_bytes out.new ≡ string_bytes out.old ++ printed_line self.now.src.now start) }
@@ -131,7 +131,7 @@ impl<'a> Source<'a> {
         push_repeated(out, underline_c, self.columns(start, end).max(1))
     }
 
-    // Adds the line that starts at a byte, with what the span has of it underlined.
+    // Adds the line that starts at a byte, with the part of the span in it underlined.
     fn push_marked(
         &self,
         out: &mut String,
@@ -154,7 +154,7 @@ impl<'a> Source<'a> {
         self.push_underline(out, from, to, underline_c)
     }
 
-    // The start of the next line that is printed behind the one that starts at a byte, of a part up to byte `end`.
+    // The start of the next line that is printed after the one that starts at a byte, of a part up to byte `end`.
     fn next_printed(&self, start: usize, end: usize) -> Option<usize>
         requires start { start ≤ length self.now.src.now }
         requires end { end ≤ length self.now.src.now }
@@ -183,7 +183,7 @@ impl<'a> Source<'a> {
         self.line_end(start) < end || start < self.text_end(start)
     }
 
-    /// Adds the lines that a part of the text touches, each underlined, and behind the last one the message.
+    /// Adds the lines that a part of the text touches, each underlined, and the message after the last one.
     pub(crate) fn push_block(
         &self,
         out: &mut String,
@@ -239,7 +239,7 @@ impl<'a> Source<'a> {
         self.push_underline(out, span.start(), span.end(), underline_c)
     }
 
-    // Adds the underlines of parts that follow on a byte, each behind as many spaces as there are columns in front of it.
+    // Adds the underlines of parts that follow on a byte, each after as many spaces as there are columns before it.
     fn push_marks(
         &self,
         out: &mut String,
@@ -321,7 +321,7 @@ fn follows(src: &str, byte: usize, span: Span) -> bool
     byte <= span.start() && src.is_char_boundary(span.start()) && src.is_char_boundary(span.end())
 }
 
-// Adds a character so many times.
+// Adds a character `count` times.
 fn push_repeated(out: &mut String, c: char, count: usize) -> Result<(), AllocError>
     ensures { OnOk result (string_bytes out.new ≡ string_bytes out.old ++ repeated count c) }
 {

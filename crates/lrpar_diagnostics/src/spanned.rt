@@ -22,13 +22,13 @@ pub trait DiagnosticFormatter {
     /// Whether it can show these places.
     ghost shows: { Self → List Extent → Type 0 };
 
-    /// The text of places that stand for this, the first one with a message.
+    /// The text that shows places of this kind, the first one with a message.
     ghost shown: { Self → SpansKind → List Extent → List ℕ → List ℕ };
 
     /// The error as one that prints with its places.
     ///
-    /// `SeveralSpans` is answered exactly where the places are those of an error and more than one, before anything else is done.
-    /// The answer is `Memory` if memory runs out, or if the error's own `Display` fails.
+    /// `SeveralSpans` comes if and only if the places are those of an error and more than one, before anything else is done.
+    /// `Memory` comes if memory runs out, or if the error's own `Display` fails.
     fn format_error<E: Spanned + Error>(
         &self,
         alloc: Global,
@@ -149,7 +149,7 @@ impl<'a> Source<'a> {
         self.push_block(out, self.dots(span, others), span, label.as_str(), '^')
     }
 
-    // Dots, where the first of the other places starts more than one line further on.
+    // Dots, if the first of the other places starts more than one line further on.
     fn dots(&self, span: Span, others: &[Span]) -> &'static str
         requires span { IsPartOf self.now.src.now span }
         requires others { AllByRecursion (IsPartOf self.now.src.now) others.now }
@@ -172,7 +172,7 @@ impl<'a> Source<'a> {
     }
 }
 
-// What is said of the place of this number, which isn't the first.
+// The label of the place of this number, which isn't the first.
 fn label(alloc: Global, kind: SpansKind, number: usize) -> Result<String, AllocError>
     ensures { IfOk result (λ text. string_bytes text ≡ label kind number) }
 {

@@ -1,5 +1,6 @@
 pub mod Words
-pub mod Shape
+pub mod WordOrder
 pub mod Outline
 pub mod Phrases
 pub mod Forms
+pub mod Kinds

@@ -1,10 +1,10 @@
--- From what the search at a bound comes to, to the answer.
+-- From the result of the search at a bound to the answer.
 use Rattle.std.proofs.Common.{◌≡◌, ◌≢◌, ◌<◌, ◌≤◌, ◌+◌, ◌⊎◌, ◌↔◌, inl, inr, ℕ, zero, suc, List, [], Option, Some, None, refl, sym, subst, ap, arith, replicate}
 use Rattle.std.specs.List.{AllPairs, Contains}
 use Rattle.lrpar_parse_repair.specs.Asked.{Asked}
 use Rattle.lrpar_parse_repair.specs.Sequences.{PlainStep, PlainShift}
 use Rattle.lrpar_parse_cpctplus.specs.Answer.{AreCheapest, AreRepairsAt}
-use Rattle.lrpar_parse_cpctplus.specs.Cheapest.{AreAtMost, BeginsWithin, IsBeginning, IsLeastCost, IsRepair, RepairsAt, cost_of}
+use Rattle.lrpar_parse_cpctplus.specs.Cheapest.{AreAtMost, IsCandidateWithin, IsCandidate, IsLeastCost, IsRepair, RepairsAt, cost_of}
 use Rattle.lrpar_parse_cpctplus.specs.Costs.{Terms, token_cost}
 use Rattle.lrpar_parse_cpctplus.specs.Forms.{Has}
 use Rattle.lrpar_parse_cpctplus.specs.Order.{ComesFirst}
@@ -35,13 +35,13 @@ module _ {X : Type 0} (token : X → ℕ) (terms : Terms) (at : Asked X) where
   abbrev pub CostsNoLess : ℕ → Type 0
   CostsNoLess c = (q : List PlainStep) → IsRepair token at q → c ≤ cost_of token terms.costs at q
 
-  -- there are too many beginnings at c: nothing has to be answered
-  pub answer_exceeded : (c : ℕ) → CostsNoLess c → AreMoreThan terms.limit (BeginsWithin token terms.costs at c) → AreCheapest token terms at []
+  -- there are too many candidates at c: no answer is due
+  pub answer_exceeded : (c : ℕ) → CostsNoLess c → AreMoreThan terms.limit (IsCandidateWithin token terms.costs at c) → AreCheapest token terms at []
   answer_exceeded c none more = record {
     all = λ d found.
         let repair = found.least.some in
         let above : c ≤ d = omega (arith, none repair.0 repair.1.0, repair.1.1) in
-        absurd (more_not_most terms.limit (BeginsWithin token terms.costs at c) (BeginsWithin token terms.costs at d)
+        absurd (more_not_most terms.limit (IsCandidateWithin token terms.costs at c) (IsCandidateWithin token terms.costs at d)
         (λ q begins. (begins.0, omega (arith, begins.1, above))) more found.within);
     else = inl refl;
   }
@@ -54,8 +54,8 @@ module _ {X : Type 0} (token : X → ℕ) (terms : Terms) (at : Asked X) where
   }
 
   module _ (some : 0 < at.shifts) (each : (t : ℕ) → 0 < token_cost terms.costs t) where
-    -- a repair that costs c, where none costs less, is a beginning
-    least_begins : (c : ℕ) → CostsNoLess c → (q : List PlainStep) → RepairsAt token terms.costs at c q → IsBeginning token at q
+    -- a repair that costs c is a candidate, if none costs less
+    least_begins : (c : ℕ) → CostsNoLess c → (q : List PlainStep) → RepairsAt token terms.costs at c q → IsCandidate token at q
     least_begins c none q r = repair_begins token at some q r.0 (λ row.
         let less = cheaper token at some terms.costs each q r.0 row in
         omega (arith, less.2, none less.0 less.1, r.1))
@@ -82,7 +82,7 @@ module _ {X : Type 0} (token : X → ℕ) (terms : Terms) (at : Asked X) where
           else = inr (c, record { least = is_least; within = tally.within });
         }
 
-    -- Where none is found at c, each repair was left out: it costs as much as the next bound. So it is of those that cost less than n.
+    -- If none is found at c, each repair without a row of Shifts was left out: it costs at least the next bound.
     left_out : (c : ℕ) (next : Option ℕ) → CostsNoLess c → IsTallied token terms at c [] next
         → (q : List PlainStep) → IsRepair token at q → ¬ (Has q (replicate at.shifts PlainShift)) → IsLeftOut token terms at next q
     left_out c next none tally q r rows =
@@ -116,7 +116,7 @@ module _ {X : Type 0} (token : X → ℕ) (terms : Terms) (at : Asked X) where
           | inr other ↦ elim other as (λ _. m ≤ cost_of token terms.costs at q) [ inl same ↦ omega (arith, same) | inr above ↦ omega (arith, above) ]
         ]
 
-    -- and where nothing was left out, there is none at all
+    -- and if nothing was left out, there is none at all
     none_by : (c : ℕ) → CostsNoLess c → IsTallied token terms at c [] None → (n : ℕ) (q : List PlainStep) → IsRepair token at q
         → ¬ (cost_of token terms.costs at q < n)
     none_by c none tally zero q r below = omega (arith, below)

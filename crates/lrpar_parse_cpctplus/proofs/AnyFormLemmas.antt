@@ -1,5 +1,6 @@
--- Each sequence that works at a stop has a repair that costs no more. Its Deletes move behind the Inserts that follow them, since a Delete
--- leaves the stack and an Insert the place; then the Shifts at its end drop, since they feed lexemes that can be fed all the same.
+-- For each sequence that works at an error point there is a repair that costs no more. Its Deletes move after the Inserts that
+-- follow them, since a Delete leaves the stack and an Insert the place; then the Shifts at its end drop, since they feed lexemes
+-- that can be fed all the same.
 use Rattle.std.proofs.Common.{◌≡◌, ◌<◌, ◌+◌, ◌⊎◌, inl, inr, ℕ, List, [], ◌∷◌, ◌++◌, length, refl, subst, ap, arith, replicate}
 use Rattle.lrpar_grammar.specs.Grammar.{Grammar, end_token}
 use Rattle.lrpar_table_rows.specs.Table.{Table}
@@ -12,9 +13,9 @@ use Rattle.lrpar_parse_cpctplus.specs.Forms.{Has, IsFormed}
 use Rattle.lrpar_parse_cpctplus.specs.Walking.{IsStepOf}
 use Rattle.lrpar_parse_cpctplus.proofs.FormLemmas.{formed_before, formed_none, has_after}
 use Rattle.lrpar_parse_cpctplus.proofs.PruneLemmas.{Stripped, strip}
-use Rattle.lrpar_parse_cpctplus.proofs.WayLemmas.{cost_begins, fewer_go_on, leads_works, replays_parted, shifts_go_on, works_leads}
+use Rattle.lrpar_parse_cpctplus.proofs.LeadLemmas.{cost_begins, fewer_go_on, leads_works, replays_parted, shifts_go_on, works_leads}
 
--- steps stand at the beginning of a sequence, or behind its first step
+-- steps are at the beginning of a sequence, or after its first step
 abbrev BeginsBy : List PlainStep → List PlainStep → Type 0
 BeginsBy p part = (rest : List PlainStep) × (p ≡ part ++ rest)
 
@@ -31,10 +32,10 @@ first_or_later s p x part (y ∷ before) after e =
     inr (before, after, rest)
 
 module _ (end : ℕ) where
-  -- a step in front of a sequence of the form: a Delete only where no Insert follows
-  formed_front : (s : PlainStep) (p : List PlainStep) → IsStepOf end s
+  -- a step before a well-formed sequence: a Delete only if no Insert follows
+  formed_prepend : (s : PlainStep) (p : List PlainStep) → IsStepOf end s
       → ((t : ℕ) → s ≡ PlainDelete → ¬ (BeginsBy p (PlainInsert t ∷ []))) → IsFormed end p → IsFormed end (s ∷ p)
-  formed_front s p is apart h = record {
+  formed_prepend s p is apart h = record {
     inserts = λ t at.
         elim (first_or_later s p (PlainInsert t) [] at.0 at.1 at.2) as (λ _. t < end) [
           | inl first ↦ subst (λ (x : PlainStep). IsStepOf end x) first.0 is
@@ -53,7 +54,7 @@ module _ (end : ℕ) where
     apart = λ t at. h.apart t (has_after s p (PlainDelete ∷ PlainInsert t ∷ []) at);
   }
 
--- a Delete behind the Inserts that a sequence begins with
+-- a Delete after the Inserts that a sequence begins with
 abbrev sunk : List PlainStep → List PlainStep
 sunk [] = PlainDelete ∷ []
 sunk (PlainInsert t ∷ p) = PlainInsert t ∷ sunk p
@@ -61,16 +62,16 @@ sunk (PlainDelete ∷ p) = PlainDelete ∷ (PlainDelete ∷ p)
 sunk (PlainShift ∷ p) = PlainDelete ∷ (PlainShift ∷ p)
 
 sunk_formed : (end : ℕ) (p : List PlainStep) → IsFormed end p → IsFormed end (sunk p)
-sunk_formed end [] h = formed_front end PlainDelete [] tt (λ t e at. let none : [] ≡ PlainInsert t ∷ at.0 = at.1 in cc) h
+sunk_formed end [] h = formed_prepend end PlainDelete [] tt (λ t e at. let none : [] ≡ PlainInsert t ∷ at.0 = at.1 in cc) h
 sunk_formed end (PlainInsert t ∷ p) h =
-    formed_front end (PlainInsert t) (sunk p) (h.inserts t ([], p, refl)) (λ u e at. cc) (sunk_formed end p (formed_after end (PlainInsert t) p h))
+    formed_prepend end (PlainInsert t) (sunk p) (h.inserts t ([], p, refl)) (λ u e at. cc) (sunk_formed end p (formed_after end (PlainInsert t) p h))
 sunk_formed end (PlainDelete ∷ p) h =
-    formed_front end PlainDelete (PlainDelete ∷ p) tt (λ t e at. let none : PlainDelete ∷ p ≡ PlainInsert t ∷ at.0 = at.1 in cc) h
+    formed_prepend end PlainDelete (PlainDelete ∷ p) tt (λ t e at. let none : PlainDelete ∷ p ≡ PlainInsert t ∷ at.0 = at.1 in cc) h
 sunk_formed end (PlainShift ∷ p) h =
-    formed_front end PlainDelete (PlainShift ∷ p) tt (λ t e at. let none : PlainShift ∷ p ≡ PlainInsert t ∷ at.0 = at.1 in cc) h
+    formed_prepend end PlainDelete (PlainShift ∷ p) tt (λ t e at. let none : PlainShift ∷ p ≡ PlainInsert t ∷ at.0 = at.1 in cc) h
 
 module _ {X : Type 0} (token : X → ℕ) (g : Grammar) (lexemes : List X) (costs : List ℕ) where
-  -- it costs there what it does in front
+  -- it costs there what it does at the beginning
   sunk_costs : (i : ℕ) (p : List PlainStep)
       → steps_cost token g lexemes costs i (sunk p) ≡ step_cost token g lexemes costs i PlainDelete + steps_cost token g lexemes costs (i + 1) p
   sunk_costs i [] = refl
@@ -89,7 +90,7 @@ module _ {X : Type 0} (token : X → ℕ) (g : Grammar) (lexemes : List X) (cost
     sunk_works st i (PlainDelete ∷ p) below h = ([], st, i + 1, (below, refl, refl, refl), h)
     sunk_works st i (PlainShift ∷ p) below h = ([], st, i + 1, (below, refl, refl, refl), h)
 
-    -- a sequence of the form that works as well, and costs the same
+    -- a well-formed sequence that works as well, and costs the same
     record Formed (st : List ℕ) (i : ℕ) (steps : List PlainStep) : Type 0 where
       to : List PlainStep
       formed : IsFormed (end_token g) to
@@ -102,7 +103,7 @@ module _ {X : Type 0} (token : X → ℕ) (g : Grammar) (lexemes : List X) (cost
         let rest = formed_of h.1 i steps (subst (λ (m : ℕ). Works token g table lexemes k h.1 m steps) h.3.2 h.4) in
         record {
           to = PlainInsert t ∷ rest.to;
-          formed = formed_front (end_token g) (PlainInsert t) rest.to h.3.0 (λ u e at. cc) rest.formed;
+          formed = formed_prepend (end_token g) (PlainInsert t) rest.to h.3.0 (λ u e at. cc) rest.formed;
           works = (h.0, h.1, i, (h.3.0, h.3.1, refl), rest.works);
           same = omega (arith, rest.same);
         }
@@ -119,7 +120,7 @@ module _ {X : Type 0} (token : X → ℕ) (g : Grammar) (lexemes : List X) (cost
         let rest = formed_of h.1 (i + 1) steps (subst (λ (m : ℕ). Works token g table lexemes k h.1 m steps) h.3.2 h.4) in
         record {
           to = PlainShift ∷ rest.to;
-          formed = formed_front (end_token g) PlainShift rest.to tt (λ u e at. cc) rest.formed;
+          formed = formed_prepend (end_token g) PlainShift rest.to tt (λ u e at. cc) rest.formed;
           works = (h.0, h.1, i + 1, (h.3.0, h.3.1, refl), rest.works);
           same = omega (arith, rest.same);
         }

@@ -1,5 +1,5 @@
--- The order in which the search comes to sequences: each before those that go on from it, and of two that differ first in a step the one
--- whose step has the smaller rank. The search stands at a path, and at a rank: what comes before that was tried.
+-- The order in which the search comes to sequences: each before those that go on from it, and of two sequences that differ first
+-- in a step, the one whose step has the smaller rank. The search has a path and a rank: what comes before them was tried.
 use Rattle.std.proofs.Common.{◌≡◌, ◌<◌, ◌≤◌, ◌+◌, ◌∙◌, ◌⊎◌, inl, inr, ℕ, zero, suc, List, [], ◌∷◌, ◌++◌, refl, sym, ap, arith}
 use Rattle.std.proofs.lemmas.List.{append-nil}
 use Rattle.lrpar_parse_repair.specs.Sequences.{PlainStep, PlainInsert, PlainDelete, PlainShift}
@@ -16,7 +16,7 @@ split_below (suc m) (suc n) h =
     elim (split_below m n (omega (arith, h))) as (λ _. (suc m < suc n) ⊎ (suc m ≡ suc n)) [ inl l ↦ inl (omega (arith, l)) | inr e ↦ inr (ap suc e) ]
 
 module _ (end : ℕ) where
-  -- all steps are those of a grammar with so many tokens before its end token
+  -- all steps are those of a grammar with `end` tokens before its end token
   abbrev pub AreStepsOf : List PlainStep → Type 0
   AreStepsOf [] = Unit {0}
   AreStepsOf (s ∷ steps) = IsStepOf end s × AreStepsOf steps
@@ -33,22 +33,22 @@ module _ (end : ℕ) where
   pub steps_of_form : (steps : List PlainStep) → IsFormed end steps → AreStepsOf steps
   steps_of_form steps h = all_of_form steps h.inserts
 
-  -- ranks tell steps apart, and are below end + 2
+  -- different steps have different ranks, and these are below end + 2
   pub rank_below : (s : PlainStep) → IsStepOf end s → rank_of end s < end + 2
   rank_below (PlainInsert t) is = omega (arith, is)
   rank_below PlainDelete is = omega arith
   rank_below PlainShift is = omega arith
 
-  pub rank_tells : (x y : PlainStep) → IsStepOf end x → IsStepOf end y → rank_of end x ≡ rank_of end y → x ≡ y
-  rank_tells (PlainInsert t) (PlainInsert u) a b e = ap PlainInsert e
-  rank_tells (PlainInsert t) PlainDelete a b e = absurd (omega (arith, a, e))
-  rank_tells (PlainInsert t) PlainShift a b e = absurd (omega (arith, a, e))
-  rank_tells PlainDelete (PlainInsert u) a b e = absurd (omega (arith, b, e))
-  rank_tells PlainDelete PlainDelete a b e = refl
-  rank_tells PlainDelete PlainShift a b e = absurd (omega (arith, e))
-  rank_tells PlainShift (PlainInsert u) a b e = absurd (omega (arith, b, e))
-  rank_tells PlainShift PlainDelete a b e = absurd (omega (arith, e))
-  rank_tells PlainShift PlainShift a b e = refl
+  pub same_rank : (x y : PlainStep) → IsStepOf end x → IsStepOf end y → rank_of end x ≡ rank_of end y → x ≡ y
+  same_rank (PlainInsert t) (PlainInsert u) a b e = ap PlainInsert e
+  same_rank (PlainInsert t) PlainDelete a b e = absurd (omega (arith, a, e))
+  same_rank (PlainInsert t) PlainShift a b e = absurd (omega (arith, a, e))
+  same_rank PlainDelete (PlainInsert u) a b e = absurd (omega (arith, b, e))
+  same_rank PlainDelete PlainDelete a b e = refl
+  same_rank PlainDelete PlainShift a b e = absurd (omega (arith, e))
+  same_rank PlainShift (PlainInsert u) a b e = absurd (omega (arith, b, e))
+  same_rank PlainShift PlainDelete a b e = absurd (omega (arith, e))
+  same_rank PlainShift PlainShift a b e = refl
 
   -- the sequence comes before what goes on from the path by a step of this rank
   abbrev pub IsBefore : List PlainStep → List PlainStep → ℕ → Type 0
@@ -145,7 +145,7 @@ module _ (end : ℕ) where
   up_before (s ∷ q) [] x r is one past h =
       elim (split_below (rank_of end s) (rank_of end x) h) as (λ _. (rank_of end s < rank_of end x) ⊎ ((s ≡ x) × IsBefore q [] r)) [
         | inl l ↦ inl l
-        | inr e ↦ inr (rank_tells s x is.0 one e, all_before q r is.1 past)
+        | inr e ↦ inr (same_rank s x is.0 one e, all_before q r is.1 past)
       ]
   up_before (s ∷ q) (y ∷ p) x r is one past h =
       elim h as (λ _. IsBefore (s ∷ q) (y ∷ (p ++ x ∷ [])) r) [
@@ -153,7 +153,7 @@ module _ (end : ℕ) where
         | inr both ↦ inr (both.0, up_before q p x r is.1 one past both.1)
       ]
 
--- the last step of a sequence of the form
+-- the last step of a well-formed sequence
 pub last_step_of : (end : ℕ) (steps before : List PlainStep) (s : PlainStep) → steps ≡ before ++ s ∷ [] → IsFormed end steps → IsStepOf end s
 last_step_of end steps before (PlainInsert t) e h =
     h.inserts t (before, [], e ∙ sym (append-nil (before ++ PlainInsert t ∷ [])))

@@ -1,4 +1,4 @@
--- The form of sequences, step by step: what one more step asks of those in front of it.
+-- The form of sequences, step by step: what one more step asks of those before it.
 use Rattle.std.proofs.Common.{◌≡◌, ◌<◌, ◌+◌, ◌-◌, ◌∙◌, ◌⊎◌, inl, inr, ℕ, zero, suc, List, [], ◌∷◌, ◌++◌, refl, sym, subst, ap, arith, replicate}
 use Rattle.std.proofs.lemmas.List.{append-nil, append_assoc, replicate_more, same_from_push}
 use Rattle.lrpar_parse_repair.specs.Sequences.{PlainStep, PlainInsert, PlainDelete, PlainShift}
@@ -19,18 +19,18 @@ pub push_some : (p : List PlainStep) (s : PlainStep) (rest : List PlainStep) →
 push_some [] s rest e = cc
 push_some (x ∷ p) s rest e = cc
 
--- what stands in a sequence stands in a longer one
+-- what a sequence has, a longer one has
 pub has_before : (p rest part : List PlainStep) → Has p part → Has (p ++ rest) part
 has_before p rest part h = (h.0, h.1 ++ rest, ap (λ (l : List PlainStep). l ++ rest) h.2 ∙ append_assoc (h.0 ++ part) h.1 rest)
 
 pub has_after : (s : PlainStep) (p part : List PlainStep) → Has p part → Has (s ∷ p) part
 has_after s p part h = (s ∷ h.0, h.1, ap (λ (l : List PlainStep). s ∷ l) h.2)
 
--- and so does what stands at the end
+-- and so it is with what is at the end
 pub has_end : (p part : List PlainStep) → EndsIn p part → Has p part
 has_end p part h = (h.0, [], h.1 ∙ sym (append-nil (h.0 ++ part)))
 
--- what stands in a sequence with one step more stands in it without that one, or at the end
+-- what a sequence with one step more has, it has without that step, or at the end
 pub has_more : (p : List PlainStep) (s : PlainStep) (part : List PlainStep) → Has (p ++ s ∷ []) part → Has p part ⊎ EndsIn (p ++ s ∷ []) part
 has_more p s part h =
     let front = h.0 ++ part in
@@ -66,7 +66,7 @@ pub row_more : (p : List PlainStep) (x : PlainStep) (n : ℕ) → EndsIn p (repl
 row_more p x n h =
     (h.0, ap (λ (l : List PlainStep). l ++ x ∷ []) h.1 ∙ append_assoc h.0 (replicate n x) (x ∷ []) ∙ ap (λ (l : List PlainStep). h.0 ++ l) (replicate_more n x))
 
--- a sequence that ends in two steps has the first of them in front of the second
+-- a sequence that ends in two steps has the first of them before the second
 pub two_at_end : (p : List PlainStep) (x y : PlainStep) → EndsIn p (x ∷ []) → EndsIn (p ++ y ∷ []) (x ∷ y ∷ [])
 two_at_end p x y h = (h.0, ap (λ (l : List PlainStep). l ++ y ∷ []) h.1 ∙ append_assoc h.0 (x ∷ []) (y ∷ []))
 
@@ -79,7 +79,7 @@ no_row p x = (p, sym (append-nil p))
 
 -- a step that a sequence may have
 module _ (end : ℕ) where
-  -- a sequence that begins one of the form is of the form
+  -- a sequence that begins a well-formed one is well formed
   pub formed_before : (p rest : List PlainStep) → IsFormed end (p ++ rest) → IsFormed end p
   formed_before p rest h = record {
     inserts = λ t at. h.inserts t (has_before p rest (PlainInsert t ∷ []) at);
@@ -132,7 +132,7 @@ module _ (end : ℕ) where
         (has_before (p ++ PlainShift ∷ []) rest (replicate k PlainShift) (has_end (p ++ PlainShift ∷ []) (replicate k PlainShift) row))),
   )
 
-  -- and with one that may follow the sequence is of the form, and has no row of k Shifts
+  -- and with one that may follow the sequence is well formed, and has no row of k Shifts
   pub fits_formed : (k : ℕ) (p : List PlainStep) (s : PlainStep) → IsFormed end p → IsStepOf end s → MayFollow k p s → IsFormed end (p ++ s ∷ [])
   fits_formed k p (PlainInsert t) h is may =
       formed_more p (PlainInsert t) h (λ u e. let same : t ≡ u = cc in (subst (λ (v : ℕ). v < end) same is, may))

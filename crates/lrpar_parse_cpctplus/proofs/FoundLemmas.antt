@@ -12,7 +12,7 @@ use Rattle.std.proofs.lemmas.List.Elements.{Contains-append_cases, Contains-appe
 use Rattle.std.proofs.lemmas.List.MinMax.{IsStrictWeakOrder-by_number, IsStrictWeakOrder-flip}
 use Rattle.std.proofs.lemmas.List.Sorted.{All-permutation, Contains-permutation, IsPermutation-map, IsPermutation-sym, sorted_far}
 use Rattle.lrpar_parse_lexemes.specs.Lexemes.{LexemeParts}
-use Rattle.lrpar_parse_lexemes.specs.Known.{token_by}
+use Rattle.lrpar_parse_lexemes.specs.Views.{token_by}
 use Rattle.lrpar_parse_repair.specs.PlainSteps.{plain_sequences, plain_steps}
 use Rattle.lrpar_parse_repair.specs.Sequences.{PlainStep}
 use Rattle.lrpar_parse_repair.specs.declared.repair_step.RepairStep.{RepairStep}
@@ -73,7 +73,7 @@ none_found index (x ∷ xs) n e h = let none : n ≡ 0 = eqb-true n 0 h in absur
 one_of : (path q : List PlainStep) → Contains (path ∷ []) q → q ≡ path
 one_of path q c = elim (is_in q (path ∷ []) c) as (λ _. q ≡ path) [ inl e ↦ e | inr h ↦ absurd h ]
 
--- what is in a list to which a path was added, where it has P
+-- what is in a list to which a path was added if it has P
 pub members_added : (P : List PlainStep → Type 0) (path : List PlainStep) (old new : List (List PlainStep)) → AreAddedTo P path old new → (q : List PlainStep)
     → Contains new q ↔ (Contains old q ⊎ ((q ≡ path) × P q))
 members_added P path old new h q =
@@ -107,7 +107,7 @@ ties_equal x y e =
     let other : nat_lt x.reach y.reach ≡ false = le-ltb x.reach y.reach (omega (arith, e)) in
     ap₂ (λ (a b : Bool). not a && not b) one other
 
--- sorted so, those that are earlier stand first among equals, and each comes first before all later ones
+-- sorted so, of equals the earlier ones are first, and each repair comes first before all later ones
 pub come_first : {S X : Type 0} (index : S → ℕ) (parts : X → LexemeParts S) (search : Search S X) (found : List (Found S)) (sequences : List (List PlainStep))
     → AreMeasured index parts search found → AllPairs IsEarlier (sequences_found index found) → AreSequencesOf index found sequences
     → AllPairs (ComesFirst (token_by index parts) search.point.now) sequences
@@ -131,12 +131,12 @@ come_first {S} {X} index parts search found sequences measured rising h =
     subst (λ (l : List (List PlainStep)). AllPairs first l) (sym h.are) (pairs_map first steps h.sorted pairs)
 
 -- the test of the sort
-pub less_told : (m n : ℕ) (r : Ordering) → r ≡ nat_cmp m n → is_lt r ≡ nat_lt m n
-less_told m n r e =
-    let told : is_lt (nat_cmp m n) ≡ nat_lt m n =
+pub less_by_order : (m n : ℕ) (r : Ordering) → r ≡ nat_cmp m n → is_lt r ≡ nat_lt m n
+less_by_order m n r e =
+    let fact : is_lt (nat_cmp m n) ≡ nat_lt m n =
     cond_both (nat_lt m n) Less (cond (m == n) Equal Greater) (λ (o : Ordering). is_lt o ≡ nat_lt m n) (λ less. sym less)
     (λ more. cond_both (m == n) Equal Greater (λ (o : Ordering). is_lt o ≡ nat_lt m n) (λ same. sym more) (λ above. sym more)) in
-    ap is_lt e ∙ told
+    ap is_lt e ∙ fact
 
 pub sorted_by_reach : {S : Type 0} (index : S → ℕ) (old new : List (Found S)) (sequences : List (List PlainStep)) → IsPermutation old new
     → (IsStrictWeakOrder (goes_further {S = S}) → IsSortedBy goes_further new) → (IsStrictWeakOrder (goes_further {S = S}) → IsStableBy goes_further old new)

@@ -1,6 +1,6 @@
 pub mod MemberLemmas
 pub mod FormLemmas
-pub mod WayLemmas
+pub mod LeadLemmas
 pub mod PruneLemmas
 pub mod AnyFormLemmas
 pub mod BeforeLemmas

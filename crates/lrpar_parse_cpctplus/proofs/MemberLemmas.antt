@@ -47,7 +47,7 @@ module _ {A : Type 0} where
             }
       ]
 
-  -- so many that are apart are at most as many as are in a list that has all of them
+  -- a list of things that are apart is no longer than a list that has all of them
   pub apart_few : (xs ys : List A) → AreApart xs → ((x : A) → IsIn x xs → IsIn x ys) → length xs ≤ length ys
   apart_few [] ys apart all = omega arith
   apart_few (x ∷ xs) ys apart all =

@@ -1,4 +1,4 @@
--- At a stop there is one answer: lists of the same repairs that stand in the order are the same list.
+-- At an error point there is one answer: lists of the same repairs that are both in order are the same list.
 use Rattle.std.proofs.Common.{◌≡◌, ◌∙◌, inl, inr, ℕ, List, [], ◌∷◌, ◌++◌, refl, sym, subst, ap₂, arith, All, AllPairs}
 use Rattle.lrpar_parse_repair.specs.Asked.{Asked}
 use Rattle.lrpar_parse_repair.specs.Sequences.{PlainStep, PlainInsert, PlainDelete, PlainShift}
@@ -22,7 +22,7 @@ steps_one_way PlainShift (PlainInsert u) h k = h
 steps_one_way PlainShift PlainDelete h k = h
 steps_one_way PlainShift PlainShift h k = h
 
--- two sequences differ first in one way
+-- two sequences have one first difference
 differ_one_way : (s : List PlainStep) (x y : PlainStep) (a b : List PlainStep) (t : List PlainStep) (u v : PlainStep) (c d : List PlainStep)
     → s ++ x ∷ a ≡ t ++ v ∷ d → s ++ y ∷ b ≡ t ++ u ∷ c → IsStepBefore x y → ¬ (IsStepBefore u v)
 differ_one_way [] x y a b [] u v c d left right h k =
@@ -54,7 +54,7 @@ first_one_way token at xs ys h k =
       | inr same ↦ elim k.4 as (λ _. ⊥) [ inl back ↦ omega (arith, one, other, same.0, back) | inr both ↦ earlier_one_way xs ys same.1 both.1 ]
     ]
 
--- lists that stand in an order
+-- lists that are in an order
 module _ {A : Type 0} (R : A → A → Type 0) (one_way : (x y : A) → R x y → ¬ (R y x)) where
   at_any : (P : A → Type 0) (x : A) (xs : List A) → All P xs → IsIn x xs → P x
   at_any P x xs all m = let h = contained x xs m in subst P h.2 (all h.0 x h.1)

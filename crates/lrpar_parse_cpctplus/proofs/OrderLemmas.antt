@@ -1,5 +1,5 @@
--- The order of the repairs that are answered: what is tried before a repair is earlier than it, no repair comes first before itself, and a
--- stable sort leaves those that tie in their order.
+-- The order of the repairs in an answer: what is tried before a repair is earlier than it, no repair comes first before itself,
+-- and a stable sort leaves those that tie in their order.
 use Rattle.std.proofs.Common.{◌≡◌, ◌≢◌, ◌<◌, ◌∙◌, ◌⊎◌, inl, inr, ℕ, zero, suc, List, [], ◌∷◌, ◌++◌, Bool, true, false, cond, filter, length, get_or, map, refl, sym, subst, ap, arith, All, AllPairs}
 use Rattle.std.specs.List.Sorted.{IsStableBy, ties}
 use Rattle.std.proofs.lemmas.List.{append_cancel_left, get_or-map, length-map}

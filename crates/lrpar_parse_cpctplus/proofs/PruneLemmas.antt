@@ -1,4 +1,4 @@
--- Repairs and beginnings: a repair with a row of Shifts is dearer than another one, and each other repair is a beginning.
+-- Repairs and candidates: a repair with a row of Shifts is dearer than another one, and each other repair is a candidate.
 use Rattle.std.proofs.Common.{◌≡◌, ◌<◌, ◌+◌, ◌-◌, ◌∙◌, inl, inr, ℕ, zero, suc, List, [], ◌∷◌, ◌++◌, refl, sym, subst, ap, arith, replicate}
 use Rattle.std.proofs.lemmas.List.{append-nil, append_assoc, replicate_more, same_from_push}
 use Rattle.lrpar_grammar.specs.Grammar.{Grammar, end_token}
@@ -8,11 +8,11 @@ use Rattle.lrpar_table_stacks.specs.Run.{token_at}
 use Rattle.lrpar_table_stacks.proofs.RunLemmas.{token_at_end}
 use Rattle.lrpar_parse_repair.specs.Asked.{Asked}
 use Rattle.lrpar_parse_repair.specs.Sequences.{PlainStep, PlainInsert, PlainDelete, PlainShift, CanGoOn, Replays}
-use Rattle.lrpar_parse_cpctplus.specs.Cheapest.{IsBeginning, IsRepair, cost_of}
+use Rattle.lrpar_parse_cpctplus.specs.Cheapest.{IsCandidate, IsRepair, cost_of}
 use Rattle.lrpar_parse_cpctplus.specs.Costs.{token_cost}
 use Rattle.lrpar_parse_cpctplus.specs.Forms.{EndsIn, Has, IsFormed}
 use Rattle.lrpar_parse_cpctplus.proofs.FormLemmas.{ends_in_one, formed_before, last_view, push_some}
-use Rattle.lrpar_parse_cpctplus.proofs.WayLemmas.{cost_append, cost_some, fewer_go_on, leads_works, place_past, replays_parted, shifts_go_on, works_leads}
+use Rattle.lrpar_parse_cpctplus.proofs.LeadLemmas.{cost_append, cost_some, fewer_go_on, leads_works, place_past, replays_parted, shifts_go_on, works_leads}
 
 -- a sequence without the Shifts at its end
 pub record Stripped (steps : List PlainStep) : Type 0 where
@@ -89,12 +89,12 @@ nothing_goes_on token g table lexemes (suc k) st i some fails h =
     ]
 
 module _ {X : Type 0} (token : X → ℕ) (at : Asked X) (some : 0 < at.shifts) where
-  -- no repair is empty, where the stop has no action
+  -- no repair is empty, if there is no action at the error point
   pub repair_some : top_action at.checked.table (token_at token at.checked.grammar at.lexemes at.place) at.stack ≡ Fails → ¬ (IsRepair token at [])
   repair_some fails r = nothing_goes_on token at.checked.grammar at.checked.table at.lexemes at.shifts at.stack at.place some fails r.works
 
-  -- a repair without a row of Shifts is a beginning
-  pub repair_begins : (q : List PlainStep) → IsRepair token at q → ¬ (Has q (replicate at.shifts PlainShift)) → IsBeginning token at q
+  -- a repair without a row of Shifts is a candidate
+  pub repair_begins : (q : List PlainStep) → IsRepair token at q → ¬ (Has q (replicate at.shifts PlainShift)) → IsCandidate token at q
   repair_begins q r rows =
       let g = at.checked.grammar in
       let way = works_leads token g at.checked.table at.lexemes at.shifts at.stack at.place q r.works in
@@ -107,7 +107,7 @@ module _ {X : Type 0} (token : X → ℕ) (at : Asked X) (some : 0 < at.shifts) 
             (parts.mid, parts.place, (parts.first, parts.before));
       }
 
-  -- one with such a row works without the row and what comes behind it
+  -- one with such a row works without the row and what comes after it
   pub works_before : (a b : List PlainStep) → IsRepair token at ((a ++ replicate at.shifts PlainShift) ++ b) → (s : Stripped a) → IsRepair token at s.rest
   works_before a b r s =
       let g = at.checked.grammar in

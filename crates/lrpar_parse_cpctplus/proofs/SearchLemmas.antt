@@ -1,4 +1,4 @@
--- The search at a bound: what is known of it where it stands, at a path and at the rank of the step that it tries next.
+-- The search at a bound: what is known of it at a path and at the rank of the step that it tries next.
 use Rattle.std.proofs.Common.{◌≡◌, ◌<◌, ◌≤◌, ◌+◌, ◌*◌, ◌∙◌, ◌⊎◌, ◌↔◌, inl, inr, ℕ, List, [], ◌∷◌, ◌++◌, Option, Some, None, get_or, length, min, refl, sym, subst, ap, arith}
 use Rattle.std.proofs.lemmas.List.{append_assoc, get_or_default, length-append, same_from_push}
 use Rattle.std.proofs.lemmas.List.Quantifiers.{all_pairs_push}
@@ -6,23 +6,23 @@ use Rattle.std.specs.List.{AllPairs, Contains}
 use Rattle.lrpar_grammar.specs.Grammar.{end_token}
 use Rattle.lrpar_parse_repair.specs.Asked.{Asked}
 use Rattle.lrpar_parse_repair.specs.Sequences.{PlainStep, PlainShift, Replays}
-use Rattle.lrpar_parse_cpctplus.specs.Cheapest.{BeginsWithin, CanBeTaken, IsBeginning, IsRepair, RepairsAt, cost_of}
+use Rattle.lrpar_parse_cpctplus.specs.Cheapest.{IsCandidateWithin, CanBeTaken, IsCandidate, IsRepair, RepairsAt, cost_of}
 use Rattle.lrpar_parse_cpctplus.specs.Costs.{Terms, token_cost}
 use Rattle.lrpar_parse_cpctplus.specs.Order.{IsEarlier}
 use Rattle.lrpar_parse_cpctplus.specs.Tallied.{AreApart, AreMoreThan, IsIn, IsLeftOut, IsTallied}
 use Rattle.lrpar_parse_cpctplus.specs.WalkAnswers.{AreAddedTo}
 use Rattle.lrpar_parse_cpctplus.specs.Walking.{IsStepOf, MayFollow, least_of, rank_of}
-use Rattle.lrpar_parse_cpctplus.proofs.BeforeLemmas.{GoesOn, IsBefore, all_before, before_down, before_into, before_more, before_next, before_up, child_before, child_not_before, path_before, rank_tells, steps_of_form, up_before}
+use Rattle.lrpar_parse_cpctplus.proofs.BeforeLemmas.{GoesOn, IsBefore, all_before, before_down, before_into, before_more, before_next, before_up, child_before, child_not_before, path_before, same_rank, steps_of_form, up_before}
 use Rattle.lrpar_parse_cpctplus.proofs.FormLemmas.{fits_formed, fits_rows, formed_none, last_view, push_some, rows_none, step_fits}
 use Rattle.lrpar_parse_cpctplus.proofs.FoundLemmas.{members_added}
 use Rattle.lrpar_parse_cpctplus.proofs.MemberLemmas.{contained}
 use Rattle.lrpar_parse_cpctplus.proofs.OrderLemmas.{earlier_or_begins, pairs_none}
-use Rattle.lrpar_parse_cpctplus.proofs.WayLemmas.{cost_append, cost_begins, cost_some, place_past, replays_parted, works_leads}
+use Rattle.lrpar_parse_cpctplus.proofs.LeadLemmas.{cost_append, cost_begins, cost_some, place_past, replays_parted, works_leads}
 
 module _ {X : Type 0} (token : X → ℕ) (at : Asked X) where
-  -- a path of which each step can be taken, and a step that may follow, are a beginning
-  pub child_begins : (p : List PlainStep) (s : PlainStep) → 0 < at.shifts → IsBeginning token at p → CanBeTaken token at p
-      → IsStepOf (end_token at.checked.grammar) s → MayFollow at.shifts p s → IsBeginning token at (p ++ s ∷ [])
+  -- a path of which each step can be taken, and a step that may follow, are a candidate
+  pub child_begins : (p : List PlainStep) (s : PlainStep) → 0 < at.shifts → IsCandidate token at p → CanBeTaken token at p
+      → IsStepOf (end_token at.checked.grammar) s → MayFollow at.shifts p s → IsCandidate token at (p ++ s ∷ [])
   child_begins p s some begins taken is may = record {
     formed = fits_formed (end_token at.checked.grammar) at.shifts p s begins.formed is may;
     rows = fits_rows (end_token at.checked.grammar) at.shifts p s some begins.rows may;
@@ -30,12 +30,12 @@ module _ {X : Type 0} (token : X → ℕ) (at : Asked X) where
   }
 
   -- what goes on from a path by a step: the step is one that may follow
-  pub step_of : (p : List PlainStep) (s : PlainStep) (rest : List PlainStep) → 0 < at.shifts → IsBeginning token at (p ++ s ∷ rest)
+  pub step_of : (p : List PlainStep) (s : PlainStep) (rest : List PlainStep) → 0 < at.shifts → IsCandidate token at (p ++ s ∷ rest)
       → IsStepOf (end_token at.checked.grammar) s × MayFollow at.shifts p s
   step_of p s rest some begins = step_fits (end_token at.checked.grammar) at.shifts p s rest some begins.formed begins.rows
 
   -- nothing goes on from a step that can't be taken
-  pub ends_there : (p : List PlainStep) (s : PlainStep) (rest : List PlainStep) → IsBeginning token at (p ++ s ∷ rest) → ¬ (CanBeTaken token at (p ++ s ∷ []))
+  pub ends_there : (p : List PlainStep) (s : PlainStep) (rest : List PlainStep) → IsCandidate token at (p ++ s ∷ rest) → ¬ (CanBeTaken token at (p ++ s ∷ []))
       → rest ≡ []
   ends_there p s rest begins fails =
       elim (last_view rest) as (λ _. rest ≡ []) [
@@ -56,8 +56,8 @@ module _ {X : Type 0} (token : X → ℕ) (at : Asked X) where
       let way = works_leads token at.checked.grammar at.checked.table at.lexemes at.shifts at.stack at.place q r.works in
       (way.1, way.2, (way.0, way.3))
 
-  -- the empty sequence is a beginning
-  pub nothing_begins : 0 < at.shifts → IsBeginning token at []
+  -- the empty sequence is a candidate
+  pub nothing_begins : 0 < at.shifts → IsCandidate token at []
   nothing_begins some = record {
     formed = formed_none (end_token at.checked.grammar);
     rows = rows_none (end_token at.checked.grammar) at.shifts some;
@@ -86,17 +86,17 @@ first_is end [] h = refl
 first_is end (s ∷ q) h = absurd (omega (arith, h))
 
 module _ {X : Type 0} (token : X → ℕ) (terms : Terms) (at : Asked X) (c : ℕ) where
-  -- Where the search stands: each beginning in front was tried, and counted once; the repairs among them are found, the earlier ones first;
-  -- and of those that cost more the least is known.
+  -- The search has come to this path and rank: each candidate before them was tried, and counted once; the repairs among these
+  -- are found, the earlier ones first; and of those that cost more the least cost is known.
   pub record IsSearched (path : List PlainStep) (rank left : ℕ) (found : List (List PlainStep)) (next : Option ℕ) : Type 0 where
     pub seen : List (List PlainStep)
     pub apart : AreApart seen
-    pub tried : (q : List PlainStep) → IsIn q seen ↔ (BeginsWithin token terms.costs at c q × IsBefore (end_token at.checked.grammar) q path rank)
+    pub tried : (q : List PlainStep) → IsIn q seen ↔ (IsCandidateWithin token terms.costs at c q × IsBefore (end_token at.checked.grammar) q path rank)
     pub counted : length seen + left ≡ terms.limit
     pub depth : length path + 1 ≤ length seen
     pub exact : (q : List PlainStep) → Contains found q
-        ↔ (RepairsAt token terms.costs at c q × IsBeginning token at q × IsBefore (end_token at.checked.grammar) q path rank)
-    pub dear : (q : List PlainStep) → IsBeginning token at q → c < cost_of token terms.costs at q
+        ↔ (RepairsAt token terms.costs at c q × IsCandidate token at q × IsBefore (end_token at.checked.grammar) q path rank)
+    pub dear : (q : List PlainStep) → IsCandidate token at q → c < cost_of token terms.costs at q
         → IsBefore (end_token at.checked.grammar) q path rank → IsLeftOut token terms at next q
     pub higher : (m : ℕ) → next ≡ Some m → (c < m) × (m ≤ 255 * terms.limit)
     pub rising : AllPairs IsEarlier found
@@ -108,8 +108,8 @@ module _ {X : Type 0} (token : X → ℕ) (terms : Terms) (at : Asked X) (c : �
       seen = [] ∷ [];
       apart = (λ h. h, tt);
       tried = λ q. (
-        (λ h. elim h as (λ _. BeginsWithin token terms.costs at c q × IsBefore (end_token at.checked.grammar) q [] 0) [
-          | inl e ↦ subst (λ (l : List PlainStep). BeginsWithin token terms.costs at c l × IsBefore (end_token at.checked.grammar) l [] 0) (sym e)
+        (λ h. elim h as (λ _. IsCandidateWithin token terms.costs at c q × IsBefore (end_token at.checked.grammar) q [] 0) [
+          | inl e ↦ subst (λ (l : List PlainStep). IsCandidateWithin token terms.costs at c l × IsBefore (end_token at.checked.grammar) l [] 0) (sym e)
               ((nothing_begins token at some, omega arith), tt)
           | inr r ↦ absurd r
         ]),
@@ -129,26 +129,26 @@ module _ {X : Type 0} (token : X → ℕ) (terms : Terms) (at : Asked X) (c : �
     }
 
     -- what is new at the next rank goes on from the path by the step of this one
-    goes_by : (q p : List PlainStep) (s : PlainStep) → IsBeginning token at q → IsStepOf (end_token at.checked.grammar) s
+    goes_by : (q p : List PlainStep) (s : PlainStep) → IsCandidate token at q → IsStepOf (end_token at.checked.grammar) s
         → GoesOn (end_token at.checked.grammar) q p (rank_of (end_token at.checked.grammar) s) → (rest : List PlainStep) × (q ≡ p ++ s ∷ rest)
     goes_by q p s begins is on =
-        let one = step_of token at p on.step on.rest some (subst (λ (l : List PlainStep). IsBeginning token at l) on.is begins) in
-        let same = rank_tells (end_token at.checked.grammar) on.step s one.0 is on.ranked in
+        let one = step_of token at p on.step on.rest some (subst (λ (l : List PlainStep). IsCandidate token at l) on.is begins) in
+        let same = same_rank (end_token at.checked.grammar) on.step s one.0 is on.ranked in
         (on.rest, on.is ∙ ap (λ (x : PlainStep). p ++ x ∷ on.rest) same)
 
-    -- the step may not follow: no beginning goes on by it
+    -- the step may not follow: no candidate goes on by it
     pub searched_unfit : (p : List PlainStep) (s : PlainStep) (left : ℕ) (found : List (List PlainStep)) (next : Option ℕ)
         → IsStepOf (end_token at.checked.grammar) s → ¬ (MayFollow at.shifts p s)
         → IsSearched p (rank_of (end_token at.checked.grammar) s) left found next
         → IsSearched p (rank_of (end_token at.checked.grammar) s + 1) left found next
     searched_unfit p s left found next is unfit h =
         let r = rank_of (end_token at.checked.grammar) s in
-        let back : (q : List PlainStep) → IsBeginning token at q → IsBefore (end_token at.checked.grammar) q p (r + 1) → IsBefore (end_token at.checked.grammar) q p r =
+        let back : (q : List PlainStep) → IsCandidate token at q → IsBefore (end_token at.checked.grammar) q p (r + 1) → IsBefore (end_token at.checked.grammar) q p r =
         λ q begins before. elim (before_next (end_token at.checked.grammar) q p r before) as (λ _. IsBefore (end_token at.checked.grammar) q p r) [
           | inl b ↦ b
           | inr on ↦
               let by = goes_by q p s begins is on in
-              absurd (unfit (step_of token at p s by.0 some (subst (λ (l : List PlainStep). IsBeginning token at l) by.1 begins)).1)
+              absurd (unfit (step_of token at p s by.0 some (subst (λ (l : List PlainStep). IsCandidate token at l) by.1 begins)).1)
         ] in
         record {
           seen = h.seen;
@@ -182,7 +182,7 @@ module _ {X : Type 0} (token : X → ℕ) (terms : Terms) (at : Asked X) (c : �
         let some_more = cost_begins token at.checked.grammar at.lexemes terms.costs at.place (p ++ s ∷ []) by.0 in
         let same : cost_of token terms.costs at q ≡ cost_of token terms.costs at ((p ++ s ∷ []) ++ by.0) = ap (λ (l : List PlainStep). cost_of token terms.costs at l) whole in
         omega (arith, some_more, same, costs) in
-        let back : (q : List PlainStep) → BeginsWithin token terms.costs at c q → IsBefore (end_token at.checked.grammar) q p (r + 1) → IsBefore (end_token at.checked.grammar) q p r =
+        let back : (q : List PlainStep) → IsCandidateWithin token terms.costs at c q → IsBefore (end_token at.checked.grammar) q p (r + 1) → IsBefore (end_token at.checked.grammar) q p r =
         λ q begins before. elim (before_next (end_token at.checked.grammar) q p r before) as (λ _. IsBefore (end_token at.checked.grammar) q p r) [
           | inl b ↦ b
           | inr on ↦ let more = dearer q (goes_by q p s begins.0 is on) in absurd (omega (arith, more, begins.1, high))
@@ -212,7 +212,7 @@ module _ {X : Type 0} (token : X → ℕ) (terms : Terms) (at : Asked X) (c : �
           ];
         }
 
-    -- the path with one step more is a beginning that is new
+    -- the path with one step more is a candidate that is new
     child_new : (p : List PlainStep) (s : PlainStep) (left : ℕ) (found : List (List PlainStep)) (next : Option ℕ)
         → (h : IsSearched p (rank_of (end_token at.checked.grammar) s) left found next) → ¬ (IsIn (p ++ s ∷ []) h.seen)
     child_new p s left found next h m =
@@ -220,18 +220,18 @@ module _ {X : Type 0} (token : X → ℕ) (terms : Terms) (at : Asked X) (c : �
 
     -- it is tried, and its last step can't be taken
     pub searched_stays : (p : List PlainStep) (s : PlainStep) (left after : ℕ) (found : List (List PlainStep)) (next : Option ℕ)
-        → IsStepOf (end_token at.checked.grammar) s → BeginsWithin token terms.costs at c (p ++ s ∷ []) → ¬ (CanBeTaken token at (p ++ s ∷ [])) → after + 1 ≡ left
+        → IsStepOf (end_token at.checked.grammar) s → IsCandidateWithin token terms.costs at c (p ++ s ∷ []) → ¬ (CanBeTaken token at (p ++ s ∷ [])) → after + 1 ≡ left
         → IsSearched p (rank_of (end_token at.checked.grammar) s) left found next
         → IsSearched p (rank_of (end_token at.checked.grammar) s + 1) after found next
     searched_stays p s left after found next is child fails one h =
         let r = rank_of (end_token at.checked.grammar) s in
-        let new : (q : List PlainStep) → IsBeginning token at q → IsBefore (end_token at.checked.grammar) q p (r + 1)
+        let new : (q : List PlainStep) → IsCandidate token at q → IsBefore (end_token at.checked.grammar) q p (r + 1)
         → IsBefore (end_token at.checked.grammar) q p r ⊎ (q ≡ p ++ s ∷ []) =
         λ q begins before. elim (before_next (end_token at.checked.grammar) q p r before) as (λ _. IsBefore (end_token at.checked.grammar) q p r ⊎ (q ≡ p ++ s ∷ [])) [
           | inl b ↦ inl b
           | inr on ↦
               let by = goes_by q p s begins is on in
-              let none = ends_there token at p s by.0 (subst (λ (l : List PlainStep). IsBeginning token at l) by.1 begins) fails in
+              let none = ends_there token at p s by.0 (subst (λ (l : List PlainStep). IsCandidate token at l) by.1 begins) fails in
               inr (by.1 ∙ ap (λ (l : List PlainStep). p ++ s ∷ l) none)
         ] in
         record {
@@ -242,8 +242,8 @@ module _ {X : Type 0} (token : X → ℕ) (terms : Terms) (at : Asked X) (c : �
           higher = h.higher;
           rising = h.rising;
           tried = λ q. (
-            (λ m. elim m as (λ _. BeginsWithin token terms.costs at c q × IsBefore (end_token at.checked.grammar) q p (r + 1)) [
-              | inl e ↦ subst (λ (l : List PlainStep). BeginsWithin token terms.costs at c l × IsBefore (end_token at.checked.grammar) l p (r + 1)) (sym e)
+            (λ m. elim m as (λ _. IsCandidateWithin token terms.costs at c q × IsBefore (end_token at.checked.grammar) q p (r + 1)) [
+              | inl e ↦ subst (λ (l : List PlainStep). IsCandidateWithin token terms.costs at c l × IsBefore (end_token at.checked.grammar) l p (r + 1)) (sym e)
                   (child, child_before (end_token at.checked.grammar) p s)
               | inr o ↦ let t = (h.tried q).0 o in (t.0, before_more (end_token at.checked.grammar) q p r t.1)
             ]),
@@ -265,7 +265,7 @@ module _ {X : Type 0} (token : X → ℕ) (terms : Terms) (at : Asked X) (c : �
     -- A repair that was found is earlier than one that costs as much and goes on from the path by the step. For if that one began with it,
     -- what it has besides would cost nothing: so it would end in a Shift.
     earlier_found : ((t : ℕ) → 0 < token_cost terms.costs t) → (p : List PlainStep) (s : PlainStep) → RepairsAt token terms.costs at c (p ++ s ∷ [])
-        → IsBeginning token at (p ++ s ∷ []) → (q : List PlainStep) → RepairsAt token terms.costs at c q → IsBeginning token at q
+        → IsCandidate token at (p ++ s ∷ []) → (q : List PlainStep) → RepairsAt token terms.costs at c q → IsCandidate token at q
         → IsBefore (end_token at.checked.grammar) q p (rank_of (end_token at.checked.grammar) s) → IsEarlier q (p ++ s ∷ [])
     earlier_found each p s r begins q found starts before =
         let g = at.checked.grammar in
@@ -285,7 +285,7 @@ module _ {X : Type 0} (token : X → ℕ) (terms : Terms) (at : Asked X) (c : �
         ]
 
     rising_more : ((t : ℕ) → 0 < token_cost terms.costs t) → (p : List PlainStep) (s : PlainStep) (left : ℕ) (found more : List (List PlainStep)) (next : Option ℕ)
-        → IsBeginning token at (p ++ s ∷ []) → AreAddedTo (RepairsAt token terms.costs at c) (p ++ s ∷ []) found more
+        → IsCandidate token at (p ++ s ∷ []) → AreAddedTo (RepairsAt token terms.costs at c) (p ++ s ∷ []) found more
         → IsSearched p (rank_of (end_token at.checked.grammar) s) left found next → AllPairs IsEarlier more
     rising_more each p s left found more next begins added h =
         elim added as (λ _. AllPairs IsEarlier more) [
@@ -299,7 +299,7 @@ module _ {X : Type 0} (token : X → ℕ) (terms : Terms) (at : Asked X) (c : �
 
     -- it is tried, and the search goes on from it
     pub searched_taken : ((t : ℕ) → 0 < token_cost terms.costs t) → (p : List PlainStep) (s : PlainStep) (left after : ℕ) (found more : List (List PlainStep)) (next : Option ℕ)
-        → BeginsWithin token terms.costs at c (p ++ s ∷ []) → after + 1 ≡ left
+        → IsCandidateWithin token terms.costs at c (p ++ s ∷ []) → after + 1 ≡ left
         → AreAddedTo (RepairsAt token terms.costs at c) (p ++ s ∷ []) found more
         → IsSearched p (rank_of (end_token at.checked.grammar) s) left found next
         → IsSearched (p ++ s ∷ []) 0 after more next
@@ -317,8 +317,8 @@ module _ {X : Type 0} (token : X → ℕ) (terms : Terms) (at : Asked X) (c : �
           higher = h.higher;
           rising = rising_more each p s left found more next child.0 more_is h;
           tried = λ q. (
-            (λ m. elim m as (λ _. BeginsWithin token terms.costs at c q × IsBefore (end_token at.checked.grammar) q (p ++ s ∷ []) 0) [
-              | inl e ↦ subst (λ (l : List PlainStep). BeginsWithin token terms.costs at c l × IsBefore (end_token at.checked.grammar) l (p ++ s ∷ []) 0) (sym e) (child, here)
+            (λ m. elim m as (λ _. IsCandidateWithin token terms.costs at c q × IsBefore (end_token at.checked.grammar) q (p ++ s ∷ []) 0) [
+              | inl e ↦ subst (λ (l : List PlainStep). IsCandidateWithin token terms.costs at c l × IsBefore (end_token at.checked.grammar) l (p ++ s ∷ []) 0) (sym e) (child, here)
               | inr o ↦ let t = (h.tried q).0 o in (t.0, into q t.1)
             ]),
             (λ t. elim (before_down (end_token at.checked.grammar) q p s t.1) as (λ _. IsIn q ((p ++ s ∷ []) ∷ h.seen)) [
@@ -327,11 +327,11 @@ module _ {X : Type 0} (token : X → ℕ) (terms : Terms) (at : Asked X) (c : �
             ]),
           );
           exact = λ q. (
-            (λ m. elim ((added q).0 m) as (λ _. RepairsAt token terms.costs at c q × IsBeginning token at q × IsBefore (end_token at.checked.grammar) q (p ++ s ∷ []) 0) [
+            (λ m. elim ((added q).0 m) as (λ _. RepairsAt token terms.costs at c q × IsCandidate token at q × IsBefore (end_token at.checked.grammar) q (p ++ s ∷ []) 0) [
               | inl o ↦ let t = (h.exact q).0 o in (t.0, t.1, into q t.2)
               | inr n ↦ (
                 n.1,
-                subst (λ (l : List PlainStep). IsBeginning token at l) (sym n.0) child.0,
+                subst (λ (l : List PlainStep). IsCandidate token at l) (sym n.0) child.0,
                 subst (λ (l : List PlainStep). IsBefore (end_token at.checked.grammar) l (p ++ s ∷ []) 0) (sym n.0) here,
               )
             ]),
@@ -347,7 +347,7 @@ module _ {X : Type 0} (token : X → ℕ) (terms : Terms) (at : Asked X) (c : �
           ];
         }
 
-    -- all steps were tried after the path: the search goes on behind its last step
+    -- all steps were tried after the path: the search goes on after its last step
     pub searched_left : (p : List PlainStep) (x : PlainStep) (rank left : ℕ) (found : List (List PlainStep)) (next : Option ℕ)
         → IsStepOf (end_token at.checked.grammar) x → end_token at.checked.grammar + 2 ≤ rank
         → IsSearched (p ++ x ∷ []) rank left found next
@@ -355,7 +355,7 @@ module _ {X : Type 0} (token : X → ℕ) (terms : Terms) (at : Asked X) (c : �
     searched_left p x rank left found next is past h =
         let up : (q : List PlainStep) → IsBefore (end_token at.checked.grammar) q (p ++ x ∷ []) rank → IsBefore (end_token at.checked.grammar) q p (rank_of (end_token at.checked.grammar) x + 1) =
         λ q b. before_up (end_token at.checked.grammar) q p x rank b in
-        let down : (q : List PlainStep) → IsBeginning token at q → IsBefore (end_token at.checked.grammar) q p (rank_of (end_token at.checked.grammar) x + 1)
+        let down : (q : List PlainStep) → IsCandidate token at q → IsBefore (end_token at.checked.grammar) q p (rank_of (end_token at.checked.grammar) x + 1)
         → IsBefore (end_token at.checked.grammar) q (p ++ x ∷ []) rank =
         λ q begins b. up_before (end_token at.checked.grammar) q p x rank (steps_of_form (end_token at.checked.grammar) q begins.formed) is past b in
         record {
@@ -370,11 +370,11 @@ module _ {X : Type 0} (token : X → ℕ) (terms : Terms) (at : Asked X) (c : �
           dear = λ q begins above before. h.dear q begins above (down q begins before);
         }
 
-    -- and behind the empty path there is nothing left
+    -- and after the empty path there is nothing left
     pub searched_all : (rank left : ℕ) (found : List (List PlainStep)) (next : Option ℕ) → end_token at.checked.grammar + 2 ≤ rank
         → IsSearched [] rank left found next → IsTallied token terms at c found next
     searched_all rank left found next past h =
-        let all : (q : List PlainStep) → IsBeginning token at q → IsBefore (end_token at.checked.grammar) q [] rank =
+        let all : (q : List PlainStep) → IsCandidate token at q → IsBefore (end_token at.checked.grammar) q [] rank =
         λ q begins. all_before (end_token at.checked.grammar) q rank (steps_of_form (end_token at.checked.grammar) q begins.formed) past in
         record {
           within = (h.seen, (λ q begins. contained q h.seen ((h.tried q).1 (begins, all q begins.0))), omega (arith, h.counted));
@@ -386,26 +386,26 @@ module _ {X : Type 0} (token : X → ℕ) (terms : Terms) (at : Asked X) (c : �
 
     -- no more may be tried, and there is one more
     pub searched_exceeded : (p : List PlainStep) (s : PlainStep) (found : List (List PlainStep)) (next : Option ℕ)
-        → BeginsWithin token terms.costs at c (p ++ s ∷ [])
+        → IsCandidateWithin token terms.costs at c (p ++ s ∷ [])
         → IsSearched p (rank_of (end_token at.checked.grammar) s) 0 found next
-        → AreMoreThan terms.limit (BeginsWithin token terms.costs at c)
+        → AreMoreThan terms.limit (IsCandidateWithin token terms.costs at c)
     searched_exceeded p s found next child h = record {
       things = (p ++ s ∷ []) ∷ h.seen;
       apart = (child_new p s 0 found next h, h.apart);
-      all = λ q m. elim m as (λ _. BeginsWithin token terms.costs at c q) [
-        | inl e ↦ subst (λ (l : List PlainStep). BeginsWithin token terms.costs at c l) (sym e) child
+      all = λ q m. elim m as (λ _. IsCandidateWithin token terms.costs at c q) [
+        | inl e ↦ subst (λ (l : List PlainStep). IsCandidateWithin token terms.costs at c l) (sym e) child
         | inr o ↦ ((h.tried q).0 o).0
       ];
       more = omega (arith, h.counted);
     }
 
     -- none may be tried at all
-    pub searched_nothing : terms.limit ≡ 0 → AreMoreThan terms.limit (BeginsWithin token terms.costs at c)
+    pub searched_nothing : terms.limit ≡ 0 → AreMoreThan terms.limit (IsCandidateWithin token terms.costs at c)
     searched_nothing none = record {
       things = [] ∷ [];
       apart = (λ h. h, tt);
-      all = λ q m. elim m as (λ _. BeginsWithin token terms.costs at c q) [
-        | inl e ↦ subst (λ (l : List PlainStep). BeginsWithin token terms.costs at c l) (sym e) (nothing_begins token at some, omega arith)
+      all = λ q m. elim m as (λ _. IsCandidateWithin token terms.costs at c q) [
+        | inl e ↦ subst (λ (l : List PlainStep). IsCandidateWithin token terms.costs at c l) (sym e) (nothing_begins token at some, omega arith)
         | inr o ↦ absurd o
       ];
       more = omega (arith, none);

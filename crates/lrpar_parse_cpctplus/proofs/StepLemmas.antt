@@ -32,7 +32,7 @@ no_last {A} (y ∷ (z ∷ ys)) e =
     let f : z ∷ ys ≡ [] = no_last (z ∷ ys) (subst (λ (n : ℕ). slice_get (y ∷ (z ∷ ys)) n ≡ None) i e) in cc
 
 module _ {S : Type 0} (index : S → ℕ) where
-  -- plain steps tell of which kind a step is
+  -- plain steps say of which kind a step is
   pub plain_shift : (x : RepairStep S) → plain_step index x ≡ PlainShift → x ≡ Shift
   plain_shift (Insert t) e = let f : PlainInsert (index t.0) ≡ PlainShift = e in cc
   plain_shift Delete e = let f : PlainDelete ≡ PlainShift = e in cc
@@ -49,7 +49,7 @@ module _ {S : Type 0} (index : S → ℕ) where
       let last = last_of xs x e in
       (plain_steps index last.0, ap (λ (l : List (RepairStep S)). plain_steps index l) last.1 ∙ map-append (plain_step index) last.0 (x ∷ []))
 
-  -- where the last one isn't a Delete, they don't end in one
+  -- if the last one isn't a Delete, they don't end in one
   pub ends_not : (xs : List (RepairStep S)) (o : Option (RepairStep S)) → slice_get xs (length xs - 1) ≡ o → ¬ (o ≡ Some Delete)
       → ¬ (EndsIn (plain_steps index xs) (PlainDelete ∷ []))
   ends_not xs None e other ends =
@@ -77,7 +77,7 @@ module _ {S : Type 0} (index : S → ℕ) where
         ∙ ap (λ (l : List PlainStep). plain_steps index (take m path) ++ l) row,
   )
 
-  -- and where one of them is no Shift, there is no such row
+  -- and if one of them is no Shift, there is no such row
   pub row_breaks : (path : List (RepairStep S)) (n i : ℕ) (x : RepairStep S) → n ≤ length path → i < n → x ≡ get_or (drop (length path - n) path) i x
       → ¬ (x ≡ Shift) → ¬ (EndsIn (plain_steps index path) (replicate n PlainShift))
   row_breaks path n i x fits below is other ends =

@@ -7,41 +7,41 @@ use Rattle.lrpar_parse_repair.specs.Asked.{Asked, IsStop}
 use Rattle.lrpar_parse_repair.proofs.ReplayLemmas.{replay_one_way}
 use Rattle.lrpar_table_stacks.specs.Run.{token_at}
 use Rattle.lrpar_table_stacks.specs.Stack.{IsStack}
-use Rattle.lrpar_parse_lexemes.specs.Known.{token_by}
+use Rattle.lrpar_parse_lexemes.specs.Views.{token_by}
 use Rattle.lrpar_parse_repair.specs.PlainSteps.{plain_step, plain_steps}
 use Rattle.lrpar_parse_repair.specs.declared.repair_step.RepairStep.{RepairStep}
 use Rattle.lrpar_parse_repair.specs.Sequences.{PlainStep, PlainInsert, PlainDelete, PlainShift, CanGoOn, Replays, StepsTo}
 use Rattle.lrpar_parse_repair.proofs.SequenceLemmas.{steps_so_far, taken_within}
-use Rattle.lrpar_parse_cpctplus.specs.Cheapest.{CanBeTaken, IsBeginning, IsRepair, LeadsTo}
+use Rattle.lrpar_parse_cpctplus.specs.Cheapest.{CanBeTaken, IsCandidate, IsRepair, LeadsTo}
 use Rattle.lrpar_parse_cpctplus.specs.Costs.{AreCosts, place_after, steps_cost}
 use Rattle.lrpar_parse_cpctplus.specs.Forms.{EndsIn, IsFormed}
 use Rattle.lrpar_parse_cpctplus.specs.SearchView.{IsTakenBy, IsWalked, cost_by, step_cost_by}
-use Rattle.lrpar_parse_cpctplus.specs.WalkAnswers.{place_in_front}
+use Rattle.lrpar_parse_cpctplus.specs.WalkAnswers.{place_before}
 use Rattle.lrpar_parse_cpctplus.specs.WalkView.{IsTried}
 use Rattle.lrpar_parse_cpctplus.specs.Walking.{IsStepOf, MayFollow}
 use Rattle.lrpar_parse_cpctplus.specs.declared.search.Search.{Search}
 use Rattle.lrpar_parse_cpctplus.proofs.FormLemmas.{formed_before, has_before}
 use Rattle.lrpar_parse_cpctplus.proofs.SearchLemmas.{child_begins, nothing_begins}
-use Rattle.lrpar_parse_cpctplus.proofs.WayLemmas.{cost_push, leads_works, place_past, replays_parted, replays_place, replays_push, works_on}
+use Rattle.lrpar_parse_cpctplus.proofs.LeadLemmas.{cost_push, leads_works, place_past, replays_parted, replays_place, replays_push, works_on}
 
--- the place behind one step more
+-- the place after one step more
 pub place_push : (i : ℕ) (p : List PlainStep) (s : PlainStep) → place_past i (p ++ s ∷ []) ≡ place_after (place_past i p) s
 place_push i [] s = refl
 place_push i (x ∷ p) s = place_push (place_after i x) p s
 
-back_of : (i : ℕ) (s : PlainStep) → place_in_front (place_after i s) s ≡ i
+back_of : (i : ℕ) (s : PlainStep) → place_before (place_after i s) s ≡ i
 back_of i (PlainInsert t) = refl
 back_of i PlainDelete = omega arith
 back_of i PlainShift = omega arith
 
-front_below : (j : ℕ) (s : PlainStep) → place_in_front j s ≤ j
-front_below j (PlainInsert t) = omega arith
-front_below j PlainDelete = omega arith
-front_below j PlainShift = omega arith
+place_before_below : (j : ℕ) (s : PlainStep) → place_before j s ≤ j
+place_before_below j (PlainInsert t) = omega arith
+place_before_below j PlainDelete = omega arith
+place_before_below j PlainShift = omega arith
 
 module _ {X : Type 0} (token : X → ℕ) (at : Asked X) where
-  -- the beginning of a beginning is one
-  pub begins_before : (p rest : List PlainStep) → CanBeTaken token at p → IsBeginning token at (p ++ rest) → IsBeginning token at p
+  -- if a candidate begins with a path that can be taken, the path is a candidate
+  pub begins_before : (p rest : List PlainStep) → CanBeTaken token at p → IsCandidate token at (p ++ rest) → IsCandidate token at p
   begins_before p rest taken begins = record {
     formed = formed_before (end_token at.checked.grammar) p rest begins.formed;
     rows = λ row. begins.rows (has_before p rest (replicate at.shifts PlainShift) row);
@@ -51,7 +51,7 @@ module _ {X : Type 0} (token : X → ℕ) (at : Asked X) where
         (parts.mid, parts.place, (parts.first, parts.before));
   }
 
-  -- a step can't be taken behind a path, where it can't be from the stack there
+  -- a step can't be taken after a path, if it can't be from the stack there
   pub taken_not : (p : List PlainStep) (states : List ℕ) (place : ℕ) (s : PlainStep) → LeadsTo token at p states place
       → ((prods after : List ℕ) (j : ℕ) → ¬ (StepsTo token at.checked.grammar at.checked.table at.lexemes states place s prods after j))
       → ¬ (CanBeTaken token at (p ++ s ∷ []))
@@ -99,15 +99,15 @@ module _ {S X : Type 0} (index : S → ℕ) (parts : X → LexemeParts S) (searc
     cheap = omega arith;
     lies_over = lies;
     stack = subst (λ (l : List ℕ). IsStack search.point.now.checked.table l) (sym same) stop.stack;
-    stands = λ f. ([], (refl, same, refl));
+    leads_there = λ f. ([], (refl, same, refl));
   }
 
-  -- where the stack is fresh, the path leads to it
+  -- if the stack is fresh, the path leads to it
   pub fresh_leads : {path : List PlainStep} {base states : List ℕ} {fresh : Bool} {place cost : ℕ} (p : List PlainStep)
       → IsWalked index parts search path base states fresh place cost → fresh ≡ true → path ≡ p
       → LeadsTo (token_by index parts) search.point.now p states place
   fresh_leads {path} {base} {states} {fresh} {place} p w is same =
-      subst (λ (l : List PlainStep). LeadsTo (token_by index parts) search.point.now l states place) same (w.stands is)
+      subst (λ (l : List PlainStep). LeadsTo (token_by index parts) search.point.now l states place) same (w.leads_there is)
 
   -- a step was taken
   pub walk_pushed : IsStop (token_by index parts) search.point.now → (p : List PlainStep) (s : PlainStep) (base states more after : List ℕ) (place j cost sum : ℕ) (next : Option ℕ)
@@ -118,7 +118,7 @@ module _ {S X : Type 0} (index : S → ℕ) (parts : X → LexemeParts S) (searc
       let token = token_by index parts in
       let at = search.point.now in
       let step = subst (λ (o : Option ℕ). IsTakenBy index parts search states place s after o) is taken in
-      let leads = w.stands refl in
+      let leads = w.leads_there refl in
       let way = replays_push token at.checked.grammar at.checked.table at.lexemes at.stack at.place p leads.0 states place s step.0 after j leads.1 step.1 in
       record {
         begins = child_begins token at p s stop.shifts w.begins w.taken tried.within tried.follows;
@@ -131,10 +131,10 @@ module _ {S X : Type 0} (index : S → ℕ) (parts : X → LexemeParts S) (searc
         cheap = omega (arith, tried.cheap, length-append p (s ∷ []));
         lies_over = same ∙ w.lies_over;
         stack = stack;
-        stands = λ f. (leads.0 ++ step.0, way);
+        leads_there = λ f. (leads.0 ++ step.0, way);
       }
 
-  -- the stack is another one now, that needn't be the one behind the path
+  -- the stack is another one now, not necessarily the one after the path
   pub walk_spoilt : (p : List PlainStep) (base states more after : List ℕ) (fresh : Bool) (place cost : ℕ)
       → IsWalked index parts search p base states fresh place cost → IsStack search.point.now.checked.table after → more ≡ base
       → IsWalked index parts search p more after false place cost
@@ -147,7 +147,7 @@ module _ {S X : Type 0} (index : S → ℕ) (parts : X → LexemeParts S) (searc
     cheap = w.cheap;
     lies_over = same ∙ w.lies_over;
     stack = stack;
-    stands = λ f. absurd (let e : false ≡ true = f in cc);
+    leads_there = λ f. absurd (let e : false ≡ true = f in cc);
   }
 
   -- the path was taken again
@@ -164,20 +164,20 @@ module _ {S X : Type 0} (index : S → ℕ) (parts : X → LexemeParts S) (searc
     cheap = w.cheap;
     lies_over = same ∙ w.lies_over;
     stack = stack;
-    stands = λ f. subst (λ (m : ℕ). LeadsTo (token_by index parts) search.point.now p after m) (w.placed after j leads) leads;
+    leads_there = λ f. subst (λ (m : ℕ). LeadsTo (token_by index parts) search.point.now p after m) (w.placed after j leads) leads;
   }
 
-  -- the place in front of the last step, and what that costs
-  pub walk_front : (p : List PlainStep) (x : PlainStep) (base states : List ℕ) (fresh : Bool) (place cost : ℕ)
+  -- the place before the last step, and what the last step costs
+  pub walk_before : (p : List PlainStep) (x : PlainStep) (base states : List ℕ) (fresh : Bool) (place cost : ℕ)
       → IsWalked index parts search (p ++ x ∷ []) base states fresh place cost
-      → (place_in_front place x ≡ place_past search.point.now.place p) × (place ≡ place_after (place_past search.point.now.place p) x)
-      × (cost ≡ cost_by index parts search p + step_cost_by index parts search (place_in_front place x) x)
-  walk_front p x base states fresh place cost w =
+      → (place_before place x ≡ place_past search.point.now.place p) × (place ≡ place_after (place_past search.point.now.place p) x)
+      × (cost ≡ cost_by index parts search p + step_cost_by index parts search (place_before place x) x)
+  walk_before p x base states fresh place cost w =
       let token = token_by index parts in
       let at = search.point.now in
       let further = replays_place token at.checked.grammar at.checked.table at.lexemes at.stack at.place (p ++ x ∷ []) w.taken.2.0 w.taken.0 w.taken.1 w.taken.2.1 in
       let here : place ≡ place_after (place_past at.place p) x = sym (w.placed w.taken.0 w.taken.1 w.taken.2) ∙ further ∙ place_push at.place p x in
-      let front : place_in_front place x ≡ place_past at.place p = ap (λ (m : ℕ). place_in_front m x) here ∙ back_of (place_past at.place p) x in
+      let front : place_before place x ≡ place_past at.place p = ap (λ (m : ℕ). place_before m x) here ∙ back_of (place_past at.place p) x in
       let sum : cost ≡ cost_by index parts search p + step_cost_by index parts search (place_past at.place p) x =
       w.costs ∙ cost_push token at.checked.grammar at.lexemes search.terms.now.costs at.place p x in
       (front, here, sum ∙ ap (λ (m : ℕ). cost_by index parts search p + step_cost_by index parts search m x) (sym front))
@@ -185,29 +185,29 @@ module _ {S X : Type 0} (index : S → ℕ) (parts : X → LexemeParts S) (searc
   -- the last step was taken back
   pub walk_left : (p : List PlainStep) (x : PlainStep) (base states : List ℕ) (fresh kept : Bool) (place front cost less : ℕ) → AreCosts search.terms.now.costs
       → IsWalked index parts search (p ++ x ∷ []) base states fresh place cost → (kept ≡ true → (fresh ≡ true) × (x ≡ PlainDelete))
-      → front ≡ place_in_front place x → less ≡ cost - step_cost_by index parts search front x
+      → front ≡ place_before place x → less ≡ cost - step_cost_by index parts search front x
       → IsWalked index parts search p base states kept front less
   walk_left p x base states fresh kept place front cost less each w stays is sum =
       let token = token_by index parts in
       let at = search.point.now in
-      let known = walk_front p x base states fresh place cost w in
+      let known = walk_before p x base states fresh place cost w in
       let taken = w.begins.taken p x refl in
       let rest : less ≡ cost_by index parts search p =
-      let same : step_cost_by index parts search front x ≡ step_cost_by index parts search (place_in_front place x) x = ap (λ (m : ℕ). step_cost_by index parts search m x) is in
+      let same : step_cost_by index parts search front x ≡ step_cost_by index parts search (place_before place x) x = ap (λ (m : ℕ). step_cost_by index parts search m x) is in
       omega (arith, sum, known.2, same) in
       record {
         begins = begins_before token at p (x ∷ []) taken w.begins;
         taken = taken;
         placed = λ after j l. replays_place token at.checked.grammar at.checked.table at.lexemes at.stack at.place p l.0 after j l.1 ∙ sym known.0 ∙ sym is;
-        within = omega (arith, front_below place x, w.within, is);
+        within = omega (arith, place_before_below place x, w.within, is);
         costs = rest;
         cheap = omega (arith, rest, cost_most token at search.terms.now.costs each at.place p);
         lies_over = w.lies_over;
         stack = w.stack;
-        stands = λ f.
+        leads_there = λ f.
             let deleted = stays f in
-            let leads = subst (λ (y : PlainStep). LeadsTo token at (p ++ y ∷ []) states place) deleted.1 (w.stands deleted.0) in
-            let back : place - 1 ≡ front = sym (is ∙ ap (λ (y : PlainStep). place_in_front place y) deleted.1) in
+            let leads = subst (λ (y : PlainStep). LeadsTo token at (p ++ y ∷ []) states place) deleted.1 (w.leads_there deleted.0) in
+            let back : place - 1 ≡ front = sym (is ∙ ap (λ (y : PlainStep). place_before place y) deleted.1) in
             subst (λ (m : ℕ). LeadsTo token at p states m) back (delete_back token at p states place leads);
       }
 
@@ -232,7 +232,7 @@ led_by index parts search p s states after place (Some j) taken leads step = rec
   );
 }
 
--- so it is of the steps of the program, of which the first n were taken
+-- the same for the steps of the program, of which the first n were taken
 pub led_more : {S X : Type 0} (index : S → ℕ) (parts : X → LexemeParts S) (search : Search S X) (steps : List (RepairStep S)) (n : ℕ) (step : RepairStep S)
     (states after : List ℕ) (place : ℕ) (next : Option ℕ)
     → n < length steps → step ≡ get_or steps n step → CanBeTaken (token_by index parts) search.point.now (plain_steps index steps)
@@ -272,21 +272,21 @@ tried_by index parts search p s base states fresh place cost one wide w is may c
       cheap = omega (arith, w.cheap, same, most);
     }
 
--- steps that are told not to end in a Shift don't
-pub last_not : {S : Type 0} (index : S → ℕ) {lent : List (RepairStep S)} {told : Bool} (steps : List (RepairStep S)) → lent ≡ steps → told ≡ false
-    → IsTrue told ↔ EndsIn (plain_steps index lent) (PlainShift ∷ []) → ¬ (EndsIn (plain_steps index steps) (PlainShift ∷ []))
-last_not {S} index steps same unsaid tells ends =
+-- steps that don't end in a Shift, as it was tested
+pub last_not : {S : Type 0} (index : S → ℕ) {lent : List (RepairStep S)} {fact : Bool} (steps : List (RepairStep S)) → lent ≡ steps → fact ≡ false
+    → IsTrue fact ↔ EndsIn (plain_steps index lent) (PlainShift ∷ []) → ¬ (EndsIn (plain_steps index steps) (PlainShift ∷ []))
+last_not {S} index steps same unsaid agrees ends =
     let there = subst (λ (l : List (RepairStep S)). EndsIn (plain_steps index l) (PlainShift ∷ [])) (sym same) ends in
-    let e : false ≡ true = sym unsaid ∙ tells.1 there in cc
+    let e : false ≡ true = sym unsaid ∙ agrees.1 there in cc
 
--- whether a path is a repair, from whether a parse can go on behind it
-pub repair_told : {X : Type 0} (token : X → ℕ) (at : Asked X) (p : List PlainStep) (states : List ℕ) (place : ℕ) (Told : Type 0)
+-- whether a path is a repair, from whether a parse can go on after it
+pub repair_by_test : {X : Type 0} (token : X → ℕ) (at : Asked X) (p : List PlainStep) (states : List ℕ) (place : ℕ) (Test : Type 0)
     → IsFormed (end_token at.checked.grammar) p → ¬ (EndsIn p (PlainShift ∷ [])) → LeadsTo token at p states place
-    → Told ↔ CanGoOn token at.checked.grammar at.checked.table at.lexemes at.shifts states place → Told ↔ IsRepair token at p
-repair_told token at p states place Told formed last leads tells = (
-  (λ told. record {
+    → Test ↔ CanGoOn token at.checked.grammar at.checked.table at.lexemes at.shifts states place → Test ↔ IsRepair token at p
+repair_by_test token at p states place Test formed last leads agrees = (
+  (λ fact. record {
     printed = record { formed = formed; last = last };
-    works = leads_works token at.checked.grammar at.checked.table at.lexemes at.shifts at.stack at.place p leads.0 states place leads.1 (tells.0 told);
+    works = leads_works token at.checked.grammar at.checked.table at.lexemes at.shifts at.stack at.place p leads.0 states place leads.1 (agrees.0 fact);
   }),
-  (λ r. tells.1 (works_on token at.checked.grammar at.checked.table at.lexemes at.shifts at.stack at.place p leads.0 states place leads.1 r.works)),
+  (λ r. agrees.1 (works_on token at.checked.grammar at.checked.table at.lexemes at.shifts at.stack at.place p leads.0 states place leads.1 r.works)),
 )

@@ -1,15 +1,15 @@
--- What sequences of repairs cost.
+-- What repair sequences cost.
 use Rattle.std.specs.Prelude.{◌<◌, ◌≤◌, ◌+◌, ℕ, List, [], ◌∷◌, Option, Some, None, Vec, slice_index_or}
 use Rattle.lrpar_grammar.specs.Grammar.{Grammar}
 use Rattle.lrpar_table_stacks.specs.Run.{token_at}
 use Rattle.lrpar_parse_repair.specs.Sequences.{PlainStep, PlainInsert, PlainDelete, PlainShift}
 
--- how many beginnings may be tried, and what each token costs, by its number; a token past these costs 1
+-- how many candidates may be tried, and what each token costs, by its number; a token past these costs 1
 pub record Terms : Type 0 where
   pub limit : ℕ
   pub costs : List ℕ
 
--- the costs that are kept; where none are, each token costs 1
+-- the costs that are kept; if none are, each token costs 1
 abbrev pub costs_of : {A : Type 0} → Option (Vec ℕ A) → List ℕ
 costs_of None = []
 costs_of (Some costs) = costs.items

@@ -9,8 +9,8 @@ use Rattle.lrpar_parse_repair.specs.Asked.{Asked}
 use Rattle.lrpar_parse_repair.specs.Sequences.{PlainStep}
 use Rattle.lrpar_parse_cpctplus.specs.Cheapest.{LeadsTo}
 
--- From the stack at place i lexemes are fed until one can't be, or up to place `most`: so far it reaches, to place `most` at most. It is
--- one more where no lexeme is left and the stack accepts.
+-- From the stack at place i lexemes are fed until one can't be, or up to place `most`: a parse reaches that place. It reaches one
+-- more if no lexeme is left and the stack accepts.
 pub data Reaches {X : Type 0} (token : X → ℕ) (g : Grammar) (table : Table) (lexemes : List X) (most : ℕ) : List ℕ → ℕ → ℕ → Type 0 where
   -- lexeme i is fed, and those from the next one on
   feeds_on : (st : List ℕ) (i : ℕ) (prods next : List ℕ) (far : ℕ) → i < most → i < length lexemes
@@ -26,7 +26,7 @@ pub data Reaches {X : Type 0} (token : X → ℕ) (g : Grammar) (table : Table) 
   -- no lexeme is left, and it accepts
   accepts_at : (st : List ℕ) (i : ℕ) → length lexemes ≤ i → AcceptsAtEnd g table st → Reaches token g table lexemes most st i (min i most + 1)
 
--- after these steps at the stop a parse reaches so far, 250 places past the stop at most
+-- after these steps at the error point a parse reaches this place, at most 250 places past the error point
 abbrev pub GoesAsFar : {X : Type 0} → (X → ℕ) → Asked X → List PlainStep → ℕ → Type 0
 GoesAsFar token at steps far =
     (after : List ℕ) × (j : ℕ) × LeadsTo token at steps after j

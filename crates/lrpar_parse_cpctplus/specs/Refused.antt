@@ -16,8 +16,8 @@ abbrev pub IsFreeToken : List ℕ → CostFault → Type 0
 IsFreeToken costs (CostsNothing token) = IsFirstFree costs token
 IsFreeToken costs Memory = ⊥
 
--- the fault names the first one of so many tokens that costs nothing, as a function says what they cost; of a want of memory nothing is
--- said
+-- the fault names the first of the first `count` tokens that costs nothing, as a function says what they cost; out of memory says
+-- nothing of them
 abbrev pub IsFreeBy : (ℕ → ℕ → Type 0) → ℕ → CostFault → Type 0
 IsFreeBy says count (CostsNothing token) = (costs : List ℕ) × AreSaid says count costs × IsFirstFree costs token
 IsFreeBy says count Memory = Unit {0}

@@ -1,14 +1,14 @@
--- The search of the program, as contracts see it; `index` is the number that a storage number stands for, and `parts` are those of a
--- lexeme.
+-- The search of the program, as contracts see it; `index` is the number that a storage number represents, and `parts` are those
+-- of a lexeme.
 use Rattle.std.specs.Prelude.{◌≡◌, ◌≤◌, ◌+◌, ◌*◌, ℕ, List, Bool, true, Option, length, map, nat_lt}
 use Rattle.std.specs.List.{All}
 use Rattle.std.specs.List.Sorted.{IsPermutation, IsSortedBy, IsStableBy}
 use Rattle.lrpar_parse_lexemes.specs.Lexemes.{LexemeParts}
 use Rattle.lrpar_table_stacks.specs.Stack.{IsStack}
-use Rattle.lrpar_parse_lexemes.specs.Known.{token_by}
+use Rattle.lrpar_parse_lexemes.specs.Views.{token_by}
 use Rattle.lrpar_parse_repair.specs.PlainSteps.{plain_steps}
 use Rattle.lrpar_parse_repair.specs.Sequences.{PlainStep, CanGoOn, IsStepTaken}
-use Rattle.lrpar_parse_cpctplus.specs.Cheapest.{CanBeTaken, IsBeginning, LeadsTo, cost_of}
+use Rattle.lrpar_parse_cpctplus.specs.Cheapest.{CanBeTaken, IsCandidate, LeadsTo, cost_of}
 use Rattle.lrpar_parse_cpctplus.specs.Costs.{step_cost}
 use Rattle.lrpar_parse_cpctplus.specs.Reaching.{GoesAsFar, Reaches}
 use Rattle.lrpar_parse_cpctplus.specs.declared.search.Search.{Search}
@@ -25,7 +25,7 @@ module _ {S X : Type 0} (index : S → ℕ) (parts : X → LexemeParts S) (searc
   GoesOnFrom st i =
       CanGoOn (token_by index parts) search.point.now.checked.grammar search.point.now.checked.table search.point.now.lexemes search.point.now.shifts st i
 
-  -- so far a parse goes on from the stack at the place
+  -- a parse goes on to place `far` from the stack at the place
   abbrev pub ReachesFrom : List ℕ → ℕ → ℕ → Type 0
   ReachesFrom st i far =
       Reaches (token_by index parts) search.point.now.checked.grammar search.point.now.checked.table search.point.now.lexemes (search.point.now.place + 250) st i far
@@ -39,13 +39,13 @@ module _ {S X : Type 0} (index : S → ℕ) (parts : X → LexemeParts S) (searc
   step_cost_by i step =
       step_cost (token_by index parts) search.point.now.checked.grammar search.point.now.lexemes search.terms.now.costs i step
 
-  -- what steps cost from the stop on
+  -- what steps cost from the error point on
   abbrev pub cost_by : List PlainStep → ℕ
   cost_by steps = cost_of (token_by index parts) search.terms.now.costs search.point.now steps
 
-  -- A path of the search, the place behind it and what it costs. Where the stack is fresh, the path leads to it.
+  -- A path of the search, the place after it and what it costs. If the stack is fresh, the path leads to it.
   pub record IsWalked (path : List PlainStep) (base states : List ℕ) (fresh : Bool) (place cost : ℕ) : Type 0 where
-    pub begins : IsBeginning (token_by index parts) search.point.now path
+    pub begins : IsCandidate (token_by index parts) search.point.now path
     pub taken : CanBeTaken (token_by index parts) search.point.now path
     pub placed : (after : List ℕ) (j : ℕ) → LeadsTo (token_by index parts) search.point.now path after j → j ≡ place
     pub within : place ≤ length search.point.now.lexemes
@@ -53,7 +53,7 @@ module _ {S X : Type 0} (index : S → ℕ) (parts : X → LexemeParts S) (searc
     pub cheap : cost ≤ 255 * length path
     pub lies_over : base ≡ search.point.now.stack
     pub stack : IsStack search.point.now.checked.table states
-    pub stands : fresh ≡ true → LeadsTo (token_by index parts) search.point.now path states place
+    pub leads_there : fresh ≡ true → LeadsTo (token_by index parts) search.point.now path states place
 
 -- the sequences of the repairs that are found
 abbrev pub sequences_found : {S : Type 0} → (S → ℕ) → List (Found S) → List (List PlainStep)

@@ -21,14 +21,14 @@ module _ {S X : Type 0} (index : S → ℕ) (parts : X → LexemeParts S) (searc
   abbrev pub IsWalking : Walk S → Type 0
   IsWalking walk = IsWalked index parts search (path_of index walk) walk.states.base (overlaid walk.states) walk.fresh walk.place walk.cost
 
-  -- the step may follow the path, which then costs so much
+  -- the step may follow the path, which then costs this much
   pub record IsTried (path : List PlainStep) (step : PlainStep) (cost : ℕ) : Type 0 where
     pub within : IsStepOf (end_token search.point.now.checked.grammar) step
     pub follows : MayFollow search.point.now.shifts path step
     pub costs : cost ≡ cost_by index parts search (path ++ step ∷ [])
     pub cheap : cost ≤ 255 * (length path + 1)
 
-  -- what is told of the step of this rank
+  -- what is known of the step of this rank
   abbrev pub IsChild : ℕ → List PlainStep → ℕ → Child S → Type 0
   IsChild bound path rank Past = end_token search.point.now.checked.grammar + 2 ≤ rank
   IsChild bound path rank Unfit =

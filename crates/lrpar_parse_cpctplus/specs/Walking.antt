@@ -15,7 +15,7 @@ rank_of end (PlainInsert t) = t
 rank_of end PlainDelete = end
 rank_of end PlainShift = end + 1
 
--- after these steps the form allows this one, where k lexemes have to follow a repair: no Insert after a Delete, and no Shift after
+-- after these steps the form allows this one, if k lexemes have to follow a repair: no Insert after a Delete, and no Shift after
 -- k - 1 of them
 abbrev pub MayFollow : ℕ → List PlainStep → PlainStep → Type 0
 MayFollow k path (PlainInsert t) = ¬ (EndsIn path (PlainDelete ∷ []))

@@ -1,7 +1,7 @@
-//! The recoverer that answers the repairs of least cost.
+//! The recoverer CPCT+, which returns the repairs of least cost.
 ghost use Rattle.std.specs.Prelude.{◌≡◌, [], IfErr, IfOk, IfSome, IsNone};
 ghost use Rattle.lrpar_grammar.specs.Grammar.{tokens_len};
-ghost use Rattle.lrpar_parse_lexemes.specs.Known.{token_by};
+ghost use Rattle.lrpar_parse_lexemes.specs.Views.{token_by};
 ghost use Rattle.lrpar_parse_repair.specs.PlainSteps.{plain_sequences};
 ghost use Rattle.lrpar_parse_cpctplus.specs.Answer.{AreCheapest};
 ghost use Rattle.lrpar_parse_cpctplus.specs.Costs.{AreCosts, token_cost};
@@ -18,10 +18,11 @@ use lrpar_parse_repair::repair::{Recoverer, RecoveryPoint, RepairStep};
 use std::alloc::{AllocError, Global};
 use std::marker::Model;
 
-/// Answers the repairs of least cost, after Diekmann and Tratt, *Don't Panic! Better, Fewer, Syntax Errors for LR Parsers*.
+/// Returns the repair sequences of least cost, after Diekmann and Tratt, *Don't Panic! Better, Fewer, Syntax Errors for LR
+/// Parsers*.
 ///
-/// It looks for repairs of one cost after the other. For each cost it tries anew the beginnings of sequences that cost no more, and at
-/// the first cost that has more of them than the limit it answers nothing.
+/// It looks for repairs of one cost after the other. For each cost it tries again the candidates, sequences that may begin a
+/// repair, that cost no more. At the first cost that has more of them than the limit it returns no repairs.
 #[derive(Debug, Drop)]
 pub struct CpctPlus {
     limit: usize,
@@ -39,15 +40,15 @@ impl Model for CpctPlus {
 }
 
 impl CpctPlus {
-    /// Each token costs 1. Takes no memory.
+    /// Each token costs 1. Allocates nothing.
     pub fn new(limit: usize) -> Self
         ensures { result ≡ record { limit = limit; costs = [] } }
     {
         CpctPlus { limit, costs: None }
     }
 
-    /// Each token costs what the list says at its number; one past the list costs 1. Refused by the first token that would cost nothing.
-    /// Takes no memory.
+    /// Each token costs what the list says at its number; one past the list costs 1. Refused by the first token that would cost
+    /// nothing. Allocates nothing.
     pub fn with_costs(limit: usize, costs: Vec<u8>) -> Result<Self, CostFault>
         ensures made { IfOk result (λ c. c ≡ record { limit = limit; costs = costs.items }) }
         ensures priced { IfOk result (λ c. AreCosts c.costs) }
@@ -62,8 +63,8 @@ impl CpctPlus {
         }
     }
 
-    /// Each token costs what the function says of it; it is asked for each one of the grammar, the end token among them. Refused by the
-    /// first token that would cost nothing.
+    /// Each token costs what the function returns for it; it is called for each token of the grammar, the end token among them.
+    /// Refused by the first token that would cost nothing.
     pub fn from_costs<StorageT: StorageIndex, F: Fn(TIdx<StorageT>) -> u8 + Drop>(
         alloc: Global,
         limit: usize,
@@ -93,7 +94,7 @@ impl CpctPlus {
         }
     }
 
-    /// How many beginnings may be tried for one cost.
+    /// How many candidates may be tried for one cost.
     pub(crate) fn limit(&self) -> usize
         ensures limit { result ≡ self.now.limit }
         ensures costs { AreCosts self.now.costs }

@@ -11,7 +11,7 @@ pub enum CostFault {
     /// This token, by its number, would cost nothing.
     #[error("token {0} costs nothing")]
     CostsNothing(usize),
-    /// Memory was wanting.
+    /// Out of memory: an allocation failed.
     #[error("out of memory")]
     Memory,
 }

@@ -1,4 +1,4 @@
-//! What is searched at a stop, and for what: which steps there are and what they cost, and what a stack comes to by them.
+//! What the search needs at an error point: which steps there are and what they cost, and the configurations to which they lead.
 ghost use Rattle.std.specs.Prelude.{◌≡◌, ◌<◌, ◌≤◌, ◌+◌, ◌^◌, ◌↔◌, ℕ, List, [], ◌∷◌, length, replicate, IfOk, IfSome, IsTrue, IsNone, OnOk};
 ghost use Rattle.lrpar_grammar.specs.Grammar.{end_token, tokens_len};
 ghost use Rattle.lrpar_table_rows.specs.PlainRows.{plain_action};
@@ -8,7 +8,7 @@ ghost use Rattle.lrpar_table_stacks.specs.Overlay.{overlaid};
 ghost use Rattle.lrpar_table_stacks.specs.Reduction.{top_action};
 ghost use Rattle.lrpar_table_stacks.specs.Run.{token_at};
 ghost use Rattle.lrpar_table_stacks.specs.Stack.{IsStack};
-ghost use Rattle.lrpar_parse_lexemes.specs.Known.{token_by};
+ghost use Rattle.lrpar_parse_lexemes.specs.Views.{token_by};
 ghost use Rattle.lrpar_parse_repair.specs.PlainSteps.{plain_step, plain_steps};
 ghost use Rattle.lrpar_parse_repair.specs.Sequences.{PlainDelete, PlainInsert, PlainShift, IsTokenFed, StepsTo};
 ghost use Rattle.lrpar_parse_cpctplus.specs.Forms.{EndsIn};
@@ -22,10 +22,10 @@ use lrpar_table_check::check::{Overlay, ParserData};
 use lrpar_table_rows::table::Action;
 use std::alloc::AllocError;
 
-/// How many places past a stop a parse is followed to see how far it goes on after a repair.
+/// How many places past the error point a parse is followed to see how far it goes on after a repair.
 const FURTHEST: usize = 250;
 
-/// A stop, and what steps cost there.
+/// An error point, and what steps cost there.
 #[derive(Drop)]
 pub(crate) struct Search<'a, 'p, StorageT: StorageIndex, LexemeT: Lexeme<StorageT>> {
     pub(crate) point: &'a RecoveryPoint<'p, StorageT, LexemeT>,
@@ -116,7 +116,8 @@ impl<'a, 'p, StorageT: StorageIndex, LexemeT: Lexeme<StorageT>> Search<'a, 'p, S
         }
     }
 
-    /// Whether it shows at once that the step can't be taken: the top state finds an error at its token, or nothing is left to delete.
+    /// Whether it is clear at once that the step can't be taken: the top state has no action at its token, or nothing is left to
+    /// delete.
     pub(crate) fn refuses(
         &self,
         states: &Overlay<'_, StorageT>,
@@ -136,7 +137,7 @@ impl<'a, 'p, StorageT: StorageIndex, LexemeT: Lexeme<StorageT>> Search<'a, 'p, S
         }
     }
 
-    /// Takes the step from the states at the place, and answers the place after it; none, where it can't be taken.
+    /// Takes the step from the states at the place, and returns the place after it; `None` if it can't be taken.
     pub(crate) fn take(
         &self,
         states: &mut Overlay<'_, StorageT>,
@@ -162,7 +163,7 @@ impl<'a, 'p, StorageT: StorageIndex, LexemeT: Lexeme<StorageT>> Search<'a, 'p, S
         }
     }
 
-    // Feeds the token, where it is one of the grammar other than the end token; the place stays.
+    // Feeds the token, if it is one of the grammar other than the end token; the place stays.
     fn insert(
         &self,
         states: &mut Overlay<'_, StorageT>,
@@ -183,7 +184,7 @@ impl<'a, 'p, StorageT: StorageIndex, LexemeT: Lexeme<StorageT>> Search<'a, 'p, S
         }
     }
 
-    // Feeds the token of the lexeme at the place, where there is one; the next place comes after it.
+    // Feeds the token of the lexeme at the place, if there is one; the next place comes after it.
     fn shift(
         &self,
         states: &mut Overlay<'_, StorageT>,
@@ -205,8 +206,8 @@ impl<'a, 'p, StorageT: StorageIndex, LexemeT: Lexeme<StorageT>> Search<'a, 'p, S
         }
     }
 
-    /// Whether as many lexemes as have to follow a repair can be fed in turn; or all that are left, where they are fewer, and
-    /// the states then accept.
+    /// Whether as many lexemes as have to follow a repair can be fed in turn; or all that are left, if they are fewer, and the
+    /// states then accept.
     pub(crate) fn can_go_on(
         &self,
         states: &mut Overlay<'_, StorageT>,
@@ -231,7 +232,7 @@ impl<'a, 'p, StorageT: StorageIndex, LexemeT: Lexeme<StorageT>> Search<'a, 'p, S
         Ok(true)
     }
 
-    /// Whether it shows at once that no parse can go on: the top state finds an error at the token of the place.
+    /// Whether it is clear at once that no parse can go on: the top state has no action at the token of the place.
     pub(crate) fn stops(&self, states: &Overlay<'_, StorageT>, place: usize) -> bool
         requires stack { IsStack self.now.point.now.checked.table (overlaid states.now) }
         ensures { IsTrue result → ¬ (GoesOnFrom StorageT.index LexemeT.parts self.now (overlaid states.now) place) }
@@ -241,8 +242,8 @@ impl<'a, 'p, StorageT: StorageIndex, LexemeT: Lexeme<StorageT>> Search<'a, 'p, S
         finds_error(self.point.data(), states, self.token_at(place))
     }
 
-    /// How far a parse goes on from the states at the place: to the first lexeme that can't be fed, and not much further than the stop;
-    /// one more, where all are fed and the states then accept.
+    /// How far a parse goes on from the states at the place: to the first lexeme that can't be fed, and at most `FURTHEST` places
+    /// past the error point; one more if all are fed and the states then accept.
     pub(crate) fn reach(
         &self,
         states: &mut Overlay<'_, StorageT>,
@@ -279,7 +280,7 @@ fn ends_in_delete<StorageT: StorageIndex>(path: &[RepairStep<StorageT>]) -> bool
     }
 }
 
-// Whether the last n steps are Shifts, and so many there are.
+// Whether there are at least n steps and the last n are Shifts.
 pub(crate) fn ends_in_shifts<StorageT: StorageIndex>(
     path: &[RepairStep<StorageT>],
     n: usize,
@@ -298,7 +299,7 @@ pub(crate) fn ends_in_shifts<StorageT: StorageIndex>(
     true
 }
 
-// Whether the top state finds an error at the token.
+// Whether the top state has no action at the token.
 fn finds_error<StorageT: StorageIndex>(
     checked: &ParserData<StorageT>,
     states: &Overlay<'_, StorageT>,
@@ -312,7 +313,7 @@ fn finds_error<StorageT: StorageIndex>(
     is_error(table.action(states.top(), token))
 }
 
-// Feeds the token, which is one of the grammar; answers whether it was fed.
+// Feeds the token, which is one of the grammar; returns whether it was fed.
 fn feed<StorageT: StorageIndex>(
     checked: &ParserData<StorageT>,
     states: &mut Overlay<'_, StorageT>,

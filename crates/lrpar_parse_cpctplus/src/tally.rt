@@ -1,4 +1,4 @@
-//! What a search comes to.
+//! The result of a search.
 ghost use Rattle.std.specs.Prelude.{◌≡◌, ◌<◌, ◌+◌, ◌↔◌, Some, IfOk, IsTrue};
 ghost use Rattle.lrpar_parse_repair.specs.PlainSteps.{plain_sequences};
 ghost use Rattle.lrpar_parse_cpctplus.specs.SearchView.{AreSequencesOf, sequences_found};
@@ -16,10 +16,10 @@ pub(crate) struct Found<StorageT> {
     pub(crate) reach: u128,
 }
 
-/// What has come of a search so far.
+/// What a search has found so far.
 #[derive(Debug, Drop)]
 pub(crate) struct Tally<StorageT> {
-    /// How many more beginnings may be tried.
+    /// How many more candidates may be tried.
     pub(crate) left: usize,
     /// The repairs that are found.
     pub(crate) found: Vec<Found<StorageT>>,
@@ -40,7 +40,7 @@ impl<StorageT: StorageIndex> Tally<StorageT> {
         });
     }
 
-    /// Counts one beginning more; answers whether it may be tried.
+    /// Counts one candidate more; returns whether it may be tried.
     pub(crate) fn count(&mut self) -> bool
         ensures counted { IsTrue result → self.new.left + 1 ≡ self.old.left }
         ensures none { IsTrue result ↔ (0 < self.old.left) }

@@ -1,16 +1,16 @@
-//! The search at a bound: depth first over one path, with a stack that stands behind its steps.
+//! The search at a bound: depth first over one path, with the stack after its steps.
 ghost use Rattle.std.specs.Prelude.{◌≡◌, ◌<◌, ◌^◌, ◌↔◌, ◌++◌, [], ◌∷◌, ℕ, MatchOption, IfOk, IfSome, IsTrue, OnOk, true};
 ghost use Rattle.lrpar_grammar.specs.Grammar.{end_token};
 ghost use Rattle.lrpar_table_stacks.specs.Overlay.{overlaid};
 ghost use Rattle.lrpar_table_stacks.specs.Stack.{IsStack};
-ghost use Rattle.lrpar_parse_lexemes.specs.Known.{token_by};
+ghost use Rattle.lrpar_parse_lexemes.specs.Views.{token_by};
 ghost use Rattle.lrpar_parse_repair.specs.PlainSteps.{plain_step, plain_steps};
 ghost use Rattle.lrpar_parse_repair.specs.Sequences.{PlainDelete};
-ghost use Rattle.lrpar_parse_cpctplus.specs.Cheapest.{BeginsWithin, CanBeTaken, IsRepair, LeadsTo, RepairsAt};
+ghost use Rattle.lrpar_parse_cpctplus.specs.Cheapest.{IsCandidateWithin, CanBeTaken, IsRepair, LeadsTo, RepairsAt};
 ghost use Rattle.lrpar_parse_cpctplus.specs.Reaching.{GoesAsFar};
 ghost use Rattle.lrpar_parse_cpctplus.specs.SearchView.{sequences_found};
 ghost use Rattle.lrpar_parse_cpctplus.specs.Tallied.{AreMoreThan, IsTallied};
-ghost use Rattle.lrpar_parse_cpctplus.specs.WalkAnswers.{AreAddedTo, IsLeftBy, place_in_front};
+ghost use Rattle.lrpar_parse_cpctplus.specs.WalkAnswers.{AreAddedTo, IsLeftBy, place_before};
 
 use crate::search::{Search, ends_in_shifts};
 use crate::tally::{Found, Tally};
@@ -20,12 +20,12 @@ use lrpar_parse_repair::repair::RepairStep;
 use lrpar_table_check::check::Overlay;
 use std::alloc::{AllocError, Global};
 
-/// Steps that were taken from a stop, where they lead, and what they cost.
+/// Steps that were taken from an error point, the configuration to which they lead, and what they cost.
 #[derive(Drop)]
 pub(crate) struct Walk<'p, StorageT: StorageIndex> {
     path: Vec<RepairStep<StorageT>>,
     states: Overlay<'p, StorageT>,
-    /// Whether the states are those behind the path.
+    /// Whether the states are those after the path.
     fresh: bool,
     place: usize,
     cost: u128,
@@ -38,9 +38,9 @@ pub(crate) enum Child<StorageT> {
     Past,
     /// It may not follow.
     Unfit,
-    /// It would make the path cost so much, which is more than the bound.
+    /// It would make the path cost this much, which is more than the bound.
     Dear(u128),
-    /// It is tried: it would make the path cost so much.
+    /// It is tried: it would make the path cost this much.
     Tried(RepairStep<StorageT>, u128),
 }
 
@@ -48,18 +48,18 @@ impl<'a, 'p, StorageT: StorageIndex, LexemeT: Lexeme<StorageT>> Search<'a, 'p, S
     ghost use Rattle.lrpar_parse_cpctplus.specs.SearchView.{AreMeasured};
     ghost use Rattle.lrpar_parse_cpctplus.specs.WalkView.{IsChild, IsTried, IsWalking, path_of};
 
-    /// All repairs that cost as much as the bound, where no more beginnings have to be tried for that than may be.
+    /// All repairs that cost as much as the bound, unless more candidates have to be tried for that than may be.
     pub(crate) fn tally(
         &self,
         alloc: Global,
         bound: u128,
     ) -> Result<Option<Tally<StorageT>>, AllocError>
         ensures tally { IfOk result (λ tally. MatchOption tally
-            (AreMoreThan self.now.terms.now.limit (BeginsWithin (token_by StorageT.index LexemeT.parts) self.now.terms.now.costs self.now.point.now bound))
+            (AreMoreThan self.now.terms.now.limit (IsCandidateWithin (token_by StorageT.index LexemeT.parts) self.now.terms.now.costs self.now.point.now bound))
             (λ t. IsTallied (token_by StorageT.index LexemeT.parts) self.now.terms.now self.now.point.now bound (sequences_found StorageT.index t.found.items) t.next)) }
         ensures measured { IfOk result (λ tally. IfSome tally (λ t. AreMeasured StorageT.index LexemeT.parts self.now t.found.items)) }
     {
-        // The point is that of a stop.
+        // The point is an error point.
         let (limit, _shifts) = (self.terms.limit(), self.point.shifts());
         if limit == 0 {
             return Ok(None);
@@ -131,7 +131,7 @@ impl<'a, 'p, StorageT: StorageIndex, LexemeT: Lexeme<StorageT>> Search<'a, 'p, S
         }
     }
 
-    // Takes the step after the path, which then costs so much; answers whether it can be taken. Otherwise the path stays.
+    // Takes the step after the path, which then costs `cost`; returns whether it can be taken. Otherwise the path stays.
     fn enter(
         &self,
         walk: &mut Walk<'p, StorageT>,
@@ -145,7 +145,7 @@ impl<'a, 'p, StorageT: StorageIndex, LexemeT: Lexeme<StorageT>> Search<'a, 'p, S
         ensures stays { IfOk result (λ taken. (IsTrue taken → ⊥) → (path_of StorageT.index walk.new ≡ path_of StorageT.index walk.old)
             × ¬ (CanBeTaken (token_by StorageT.index LexemeT.parts) self.now.point.now (path_of StorageT.index walk.old ++ plain_step StorageT.index step ∷ []))) }
     {
-        // The point is that of a stop.
+        // The point is an error point.
         let _shifts = self.point.shifts();
         self.refresh(walk)?;
         if self.refuses(&walk.states, walk.place, step) {
@@ -162,7 +162,7 @@ impl<'a, 'p, StorageT: StorageIndex, LexemeT: Lexeme<StorageT>> Search<'a, 'p, S
         Ok(true)
     }
 
-    // Takes the last step back, and answers its rank; none, if there is no step.
+    // Takes the last step back, and returns its rank; `None` if there is no step.
     fn leave(&self, walk: &mut Walk<'p, StorageT>) -> Option<usize>
         requires walking { IsWalking StorageT.index LexemeT.parts self.now walk.old }
         ensures walking { IsWalking StorageT.index LexemeT.parts self.now walk.new }
@@ -175,12 +175,12 @@ impl<'a, 'p, StorageT: StorageIndex, LexemeT: Lexeme<StorageT>> Search<'a, 'p, S
             return None;
         };
         walk.fresh = stays_fresh(walk.fresh, last);
-        walk.place = place_in_front(walk.place, last);
+        walk.place = place_before(walk.place, last);
         walk.cost -= u128::from(self.cost_at(walk.place, last));
         Some(self.rank_of(last))
     }
 
-    // Makes the states those behind the path, by its steps, where they aren't.
+    // Makes the states those after the path, by its steps, if they aren't.
     fn refresh(&self, walk: &mut Walk<'p, StorageT>) -> Result<(), AllocError>
         requires walking { IsWalking StorageT.index LexemeT.parts self.now walk.old }
         ensures walking { OnOk result (IsWalking StorageT.index LexemeT.parts self.now walk.new) }
@@ -197,7 +197,7 @@ impl<'a, 'p, StorageT: StorageIndex, LexemeT: Lexeme<StorageT>> Search<'a, 'p, S
         Ok(())
     }
 
-    // Takes the steps from the states of the stop.
+    // Takes the steps from the states of the error point.
     fn replay(
         &self,
         states: &mut Overlay<'_, StorageT>,
@@ -245,7 +245,7 @@ impl<'a, 'p, StorageT: StorageIndex, LexemeT: Lexeme<StorageT>> Search<'a, 'p, S
         Ok(())
     }
 
-    // Whether the path is a repair: no Shift stands at its end, and a parse can go on behind it.
+    // Whether the path is a repair: its last step is no Shift, and a parse can go on after it.
     fn is_repair(&self, walk: &mut Walk<'p, StorageT>) -> Result<bool, AllocError>
         requires walking { IsWalking StorageT.index LexemeT.parts self.now walk.old }
         ensures repair { IfOk result (λ yes. IsTrue yes ↔ IsRepair (token_by StorageT.index LexemeT.parts) self.now.point.now (path_of StorageT.index walk.old)) }
@@ -263,7 +263,7 @@ impl<'a, 'p, StorageT: StorageIndex, LexemeT: Lexeme<StorageT>> Search<'a, 'p, S
         self.can_go_on(&mut walk.states, walk.place)
     }
 
-    // How far a parse goes on behind the path.
+    // How far a parse goes on after the path.
     fn reach_after(&self, walk: &mut Walk<'p, StorageT>) -> Result<u128, AllocError>
         requires walking { IsWalking StorageT.index LexemeT.parts self.now walk.old }
         ensures reach { IfOk result (GoesAsFar (token_by StorageT.index LexemeT.parts) self.now.point.now (path_of StorageT.index walk.old)) }
@@ -276,7 +276,8 @@ impl<'a, 'p, StorageT: StorageIndex, LexemeT: Lexeme<StorageT>> Search<'a, 'p, S
     }
 }
 
-// Whether states that are those behind a path, or aren't, are those in front of its last step: a Delete changes none.
+// Whether the states are also those before the last step: if they are those after the path, and the step is a Delete, which
+// changes none.
 fn stays_fresh<StorageT: StorageIndex>(fresh: bool, last: RepairStep<StorageT>) -> bool
     ensures { IsTrue result → (fresh ≡ true) × (plain_step StorageT.index last ≡ PlainDelete) }
 {
@@ -286,9 +287,9 @@ fn stays_fresh<StorageT: StorageIndex>(fresh: bool, last: RepairStep<StorageT>) 
     }
 }
 
-// The place in front of a step, from the one behind it.
-fn place_in_front<StorageT: StorageIndex>(place: usize, step: RepairStep<StorageT>) -> usize
-    ensures { result ≡ place_in_front place (plain_step StorageT.index step) }
+// The place before a step, from the one after it.
+fn place_before<StorageT: StorageIndex>(place: usize, step: RepairStep<StorageT>) -> usize
+    ensures { result ≡ place_before place (plain_step StorageT.index step) }
 {
     match step {
         RepairStep::Insert(_) => place,

@@ -1,8 +1,8 @@
--- Each item of a set that is reached is there for a reason, by which a sentence is finished from it. Let a path of symbols lead to the
--- set, and let trees fit these, and others what stands behind the item's dot. The leaves of all these begin a sentence. At the start
--- item they are a tree of the start rule. An item with its dot moved on by a symbol comes from one with that symbol behind its dot: its
--- tree is the last of the path's. An item that another one adds gives a node for the rule behind the dot of that one, and what stands
--- behind the rule there has trees, since each rule that is reached has one.
+-- Each item of a set on a path from the start has a reason, by which a sentence is finished from it. Let a path of symbols lead
+-- to the set, let trees fit these symbols, and let other trees fit the symbols after the item's dot. The leaves of all these
+-- begin a sentence. At the start item they are a tree of the start rule. An item with its dot moved on by a symbol comes from one
+-- with that symbol after its dot: its tree is the last of the path's. An item that another one adds gives a node for the rule
+-- after the dot of that one, and the symbols after the rule there have trees, since each reachable rule is productive.
 use Rattle.std.proofs.Common.{◌≡◌, ◌+◌, ◌∙◌, sym, ap, subst, ℕ, List, [], ◌∷◌, ◌++◌, Some, drop, reverse, slice_get}
 use Rattle.std.proofs.lemmas.List.{append_assoc, append-nil, reverse-append}
 use Rattle.lrpar_grammar.specs.Grammar.{Grammar, GrammarSymbol, IsWellFormed, Nonterminal, end_token, rule_of, start_prod, symbols_of}
@@ -16,12 +16,12 @@ use Rattle.lrpar_table_sentences.specs.Texts.{AreTreesOf, HaveTrees}
 use Rattle.lrpar_table_sentences.proofs.AfterLemmas.{after_reached, drop_at_get, have_trees, rest_reached}
 use Rattle.lrpar_parse_prefixes.specs.Viable.{BeginSentence}
 
--- the front of what begins a sentence begins one
+-- if the whole list begins a sentence, its first tokens do
 pub begin_less : (g : Grammar) (front more : List ℕ) → BeginSentence g (front ++ more) → BeginSentence g front
 begin_less g front more begins =
     let sentence = begins.1 in (more ++ begins.0, (sentence.0, sentence.1, sentence.2 ∙ append_assoc front more begins.0))
 
--- trees of the path's symbols, and then trees of what stands behind the item's dot, begin a sentence
+-- trees of the path's symbols, and then trees of the symbols after the item's dot, begin a sentence
 abbrev pub Finishes : Grammar → List GrammarSymbol → ItemOf → Type 0
 Finishes g path x =
     (front rest : Forest ℕ) → AreTreesOf g (reverse path) front → AreTreesOf g (drop x.dot (symbols_of g x.prod)) rest
@@ -68,7 +68,7 @@ module _ (g : Grammar) (well : IsWellFormed g) (each : EachReachableHasTree g) w
       begin_less g (forest_leaves front ++ forest_leaves rest) (forest_leaves later.0)
       (subst (BeginSentence g) all (finishes front after fit after_fit))
 
-  -- an item's rule is reached, and a sentence is finished from the item
+  -- an item's rule is reachable, and a sentence is finished from the item
   abbrev Holds : List GrammarSymbol → ItemOf → Type 0
   Holds path x = IsReachableRule g (rule_of g x.prod) × Finishes g path x
 

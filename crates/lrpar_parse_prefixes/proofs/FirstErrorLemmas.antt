@@ -1,4 +1,5 @@
--- A run with repairs is one without them up to where it stops first. So what is known of the stop of a run without repairs holds there.
+-- Up to its first error point a run with repairs is one without them. So what is known of the error point of a run without
+-- repairs holds there.
 use Rattle.std.proofs.Common.{◌≡◌, refl, subst, ℕ, List, [], ◌∷◌, Option}
 use Rattle.lrpar_grammar.specs.Grammar.{Grammar}
 use Rattle.lrpar_grammar.specs.Sentence.{LexemeFacts}
@@ -17,7 +18,7 @@ no_first : (first : RepairStop) (later : List RepairStop) → [] ≡ first ∷ l
 no_first first later e = cc
 
 module _ {X : Type 0} (facts : X → LexemeFacts) (allows : Point X → List (List PlainStep) → Type 0) where
-  -- up to the first stop there are no repairs
+  -- up to the first error point there are no repairs
   first_without : (k : ℕ) (g : Grammar) (table : Table) (lexemes : List X) (st : List ℕ) (i : ℕ) (stops : List RepairStop) (consumed : Option (List X))
       (prods : List ℕ) → RepairRun facts allows k g table lexemes st i stops consumed prods
       → (first : RepairStop) (later : List RepairStop) → stops ≡ first ∷ later
@@ -28,7 +29,7 @@ module _ {X : Type 0} (facts : X → LexemeFacts) (allows : Point X → List (Li
         prods,
         subst (λ (s : RepairStop). Far (λ x. (facts x).token) g table lexemes st i prods (Stopped s.stop)) (same_first own first [] later is) far,
       )
-  first_without k g table lexemes _ _ _ _ _ (is_repaired st i prods stop head listed made after j mended stops consumed rest far is_listed replays consumes run) first later is =
+  first_without k g table lexemes _ _ _ _ _ (is_repaired st i prods stop head listed made after j recovered stops consumed rest far is_listed replays consumes run) first later is =
       let own : RepairStop = record { stop = stop; listed = head ∷ listed } in (
         prods,
         subst (λ (s : RepairStop). Far (λ x. (facts x).token) g table lexemes st i prods (Stopped s.stop)) (same_first own first stops later is) far,

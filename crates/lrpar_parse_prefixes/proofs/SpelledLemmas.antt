@@ -1,7 +1,7 @@
--- What the stacks of a run spell. Along the symbols of each stack there are trees that fit them, whose leaves are the tokens that were
--- fed: a shift puts a leaf behind the others, and a reduction takes the last trees into a node. Over a table that was built the top of
--- such a stack is the set that its symbols lead to, which has an item, and from each item a sentence is finished. So the tokens that
--- were fed begin one.
+-- What the stacks of a run spell. Along the symbols of each stack there are trees that fit them, whose leaves are the tokens that
+-- were fed: a shift puts a leaf after the others, and a reduction takes the last trees into a node. In a table that was built,
+-- the top of such a stack is the item set that its symbols lead to. This set has an item, and from each item a sentence is
+-- finished. So a sentence begins with the tokens that were fed: the viable prefix property.
 use Rattle.std.proofs.Common.{◌≡◌, ◌<◌, ◌+◌, ◌∙◌, refl, sym, ap, subst, arith, ℕ, List, [], ◌∷◌, ◌++◌, Option, drop, length, reverse, take}
 use Rattle.std.proofs.lemmas.List.{append_assoc, append-nil, reverse-append, reverse-reverse, take_more}
 use Rattle.std.proofs.lemmas.List.Elements.{All-drop}
@@ -75,14 +75,14 @@ module _ (g : Grammar) (table : Table) (never : NeverSticks g table) where
         leaves_are = joined_leaves settled.trees leaf ∙ ap (λ (ys : List ℕ). ys ++ t ∷ []) settled.leaves_are;
       }
 
-  -- the token at a place is one more of those in front
+  -- the tokens before the next place are one more
   one_more : (tokens : List ℕ) (i : ℕ) → i < length tokens
       → take (i + 1) tokens ≡ take i tokens ++ token_at (λ (t : ℕ). t) g tokens i ∷ []
   one_more tokens i below =
       let here = ap (λ (o : Option ℕ). option_map_or (λ (t : ℕ). t) o (end_token g)) (slice_get-get_or tokens i 0 below) in
       take_more tokens i 0 below ∙ ap (λ (t : ℕ). take i tokens ++ t ∷ []) (sym here)
 
-  -- so it is wherever a run comes
+  -- the same holds after each part of a run
   spells_on : (tokens st : List ℕ) (i : ℕ) (ps after : List ℕ) (j : ℕ) → Comes (λ (t : ℕ). t) g table tokens st i ps after j
       → Spells st (take i tokens) → Spells after (take j tokens)
   spells_on tokens _ _ _ _ _ (stays st i) spells = spells
@@ -115,7 +115,7 @@ module _ (g : Grammar) (graph : Graph) (table : Table) (well : IsWellFormed g) (
       → AreTreesOf g (reverse path) trees → BeginSentence g (forest_leaves trees)
   walk_begins s path walk within trees fit =
       let same = walk_path g graph table well built closed s path walk in
-      let some = built.canonical.some s (let is = built.wanted.states in omega (arith, within, is)) in
+      let some = built.canonical.some s (let is = built.resolved.states in omega (arith, within, is)) in
       let x = some.0 in
       let reached : IsReachedBy g path x = (same x).0 some.1 in
       let holds = item_holds g well each path x reached in

@@ -1,5 +1,5 @@
--- A run looks at the tokens of its lexemes alone: so what it does over lexemes it does over their tokens, each as its own lexeme. And
--- lexemes are a sentence where their tokens are, since both are what is derived from the start rule.
+-- A run looks only at the tokens of its lexemes: so what it does over lexemes it does over their tokens, each as its own lexeme.
+-- And lexemes are a sentence if and only if their tokens are, since both are what is derived from the start rule.
 use Rattle.std.proofs.Common.{◌≡◌, ◌+◌, ◌∙◌, refl, sym, ap, subst, arith, ℕ, List, [], ◌∷◌, length, map, Option, Some, None, slice_get}
 use Rattle.std.proofs.lemmas.List.{length-map}
 use Rattle.std.proofs.lemmas.Option.{slice_get-map}

@@ -1,6 +1,7 @@
--- What runs feed, expect and refuse, by sentences. What was fed before a place is what its stack spells, and so it is with a token more
--- where that is fed: both begin sentences. Over a complete table the run over a sentence goes on to its end, so the tokens with which
--- one goes on may come next; and none begins with the tokens up to the one where a run stops.
+-- What runs feed, expect and refuse, by sentences. The stack spells the tokens that were fed before a place, and also one token
+-- more if that is fed: sentences begin with both. Over a complete table the run over a sentence goes on to its end. So the tokens
+-- with which a sentence goes on may come next; and no sentence begins with the tokens up to and including the one at the error
+-- point.
 use Rattle.std.proofs.Common.{◌≡◌, ◌≤◌, ◌+◌, inl, inr, refl, sym, ap, subst, arith, ℕ, List, [], ◌∷◌, ◌++◌, length, map, take}
 use Rattle.std.proofs.lemmas.List.{append_assoc, take-map}
 use Rattle.lrpar_grammar.specs.Grammar.{Grammar, IsWellFormed, end_token}
@@ -21,7 +22,7 @@ use Rattle.lrpar_parse_prefixes.specs.ViableLaws.{BuiltTablesKeepToSentences, Co
 use Rattle.lrpar_parse_prefixes.proofs.SpelledLemmas.{never, run_spells, spelled_begin, spells_fed}
 use Rattle.lrpar_parse_prefixes.proofs.TokenLemmas.{comes_by_tokens, far_by_tokens}
 
--- a run that stops comes to the place where it does, which is one of its lexemes or the end
+-- a run that stops comes to its error point, which is the place of a lexeme or the end
 record StopsAt (g : Grammar) (table : Table) (tokens st : List ℕ) (i place : ℕ) : Type 0 where
   pub within : place ≤ length tokens
   pub prods : List ℕ
@@ -52,13 +53,13 @@ stops_at g table tokens _ _ _ _ stop (stops st i ps settled fits settles stuck) 
 
 module _ (g : Grammar) (graph : Graph) (table : Table) (well : IsWellFormed g) (closed : IsClosed table) (built : IsBuilt g graph table)
     (each : EachReachableHasTree g) where
-  -- what is fed begins a sentence
+  -- a sentence begins with what is fed
   fed_begins : (tokens st : List ℕ) (i : ℕ) → FeedsFront (λ (t : ℕ). t) g table tokens i st → BeginSentence g (take i tokens)
   fed_begins tokens st i fed =
       spelled_begin g graph table well closed built each st (take i tokens)
       (run_spells g table (never g graph table well closed built each) tokens fed.0 st i fed.1)
 
-  -- with a token that may come next, too
+  -- and with a token more that may come next
   next_follows : (tokens st : List ℕ) (i t : ℕ) → FeedsFront (λ (t : ℕ). t) g table tokens i st → IsExpected g table st t
       → CanFollow g (take i tokens) t
   next_follows tokens st i t fed expected =
@@ -73,7 +74,7 @@ module _ (g : Grammar) (graph : Graph) (table : Table) (well : IsWellFormed g) (
             inr (ends.0, checked_tables_end_at_sentences (λ (t : ℕ). t) g graph table well closed built.safe tokens i st fed here)
       ]
 
-  -- and what is in front of a stop
+  -- and with the lexemes before an error point
   stop_begins : (tokens prods : List ℕ) (stop : Stop) → RunsTo (λ (t : ℕ). t) g table tokens prods (Stopped stop)
       → BeginSentence g (take stop.place tokens)
   stop_begins tokens prods stop runs =
@@ -93,7 +94,7 @@ module _ (g : Grammar) (graph : Graph) (table : Table) (well : IsWellFormed g) (
           | inr ends ↦ subst (IsExpected g table st) (sym ends.0) ((expects.end tokens i st fed).1 ends.1)
         ]
 
-    -- a run stops where its tokens go wrong
+    -- the error point of a run is the place at which its tokens go wrong
     stops_wrong : (tokens prods : List ℕ) (stop : Stop) → RunsTo (λ (t : ℕ). t) g table tokens prods (Stopped stop) → GoWrongAt g tokens stop.place
     stops_wrong tokens prods stop runs =
         let takes = complete_tables_take_sentences (λ (t : ℕ). t) g graph table well closed built.safe complete in
@@ -112,7 +113,7 @@ module _ {X : Type 0} (token : X → ℕ) (g : Grammar) (table : Table) (lexemes
   fed_by_tokens : (i : ℕ) (st : List ℕ) → FeedsFront token g table lexemes i st → FeedsFront (λ (t : ℕ). t) g table (map token lexemes) i st
   fed_by_tokens i st fed = (fed.0, comes_by_tokens token g table lexemes (table.start ∷ []) 0 fed.0 st i fed.1)
 
-  -- the tokens of those in front are in front
+  -- the tokens of the first lexemes are the first tokens
   front_tokens : (i : ℕ) → take i (map token lexemes) ≡ map token (take i lexemes)
   front_tokens i = take-map token i lexemes
 

@@ -1,5 +1,6 @@
--- Where a run with repairs stops first, by the sentences of a grammar, over a table that was built of it. Up to there it is a run
--- without repairs. `facts` is what is known of a lexeme, and `allows` tells which answers the recoverer may give at a point.
+-- The viable prefix property of runs with repairs: their first error point, by the sentences of a grammar, over a table that was
+-- built of it. Up to there a run with repairs is one without them. `facts` is what is known of a lexeme, and `allows` says which
+-- answers the recoverer may give at a point.
 use Rattle.std.specs.Prelude.{ℕ, List, [], ◌∷◌, Option, map, take}
 use Rattle.lrpar_grammar.specs.Grammar.{Grammar, IsWellFormed}
 use Rattle.lrpar_grammar.specs.Sentence.{LexemeFacts}
@@ -13,9 +14,9 @@ use Rattle.lrpar_parse_repair.specs.Sequences.{PlainStep}
 use Rattle.lrpar_table_sentences.specs.Reachable.{EachReachableHasTree}
 use Rattle.lrpar_parse_prefixes.specs.Viable.{BeginSentence, GoWrongAt}
 
--- runs with repairs over lexemes of this kind, from the start state at the first lexeme, where k lexemes have to follow a repair
+-- runs with repairs over lexemes of this kind, from the start state at the first lexeme; k lexemes have to follow a repair
 module _ {X : Type 0} (facts : X → LexemeFacts) (allows : Point X → List (List PlainStep) → Type 0) where
-  -- the lexemes in front of the first stop begin a sentence
+  -- no first error comes too late: a sentence begins with the lexemes before the first error point
   abbrev pub FirstErrorsComeInTime : Type 0
   FirstErrorsComeInTime =
       (k : ℕ) (g : Grammar) (graph : Graph) (table : Table) (lexemes : List X) (first : RepairStop) (later : List RepairStop)
@@ -24,7 +25,7 @@ module _ {X : Type 0} (facts : X → LexemeFacts) (allows : Point X → List (Li
       → RepairRun facts allows k g table lexemes (table.start ∷ []) 0 (first ∷ later) consumed prods
       → BeginSentence g (map (λ x. (facts x).token) (take first.stop.place lexemes))
 
-  -- where the table is complete, it is where the lexemes go wrong
+  -- nor too early, if the table is complete: the first error point is the place at which the lexemes go wrong
   abbrev pub FirstErrorsAreExact : Type 0
   FirstErrorsAreExact =
       (k : ℕ) (g : Grammar) (graph : Graph) (table : Table) (lexemes : List X) (first : RepairStop) (later : List RepairStop)

@@ -1,5 +1,5 @@
--- Which texts begin sentences, what can come next, and where a text goes wrong, told by a grammar alone. A text is a list of tokens,
--- each of which is its own lexeme.
+-- Which texts begin sentences, what can come next, and at which place a text goes wrong: by a grammar alone. A text is a list of
+-- tokens, each of which is its own lexeme.
 use Rattle.std.specs.Prelude.{◌≡◌, ◌<◌, ◌≤◌, ◌+◌, ◌⊎◌, ℕ, List, [], ◌∷◌, ◌++◌, length, take}
 use Rattle.lrpar_grammar.specs.Grammar.{Grammar, end_token}
 use Rattle.lrpar_grammar.specs.Sentence.{IsSentence}
@@ -16,8 +16,8 @@ BeginSentence g front = (rest : List ℕ) × AreSentence g (front ++ rest)
 abbrev pub CanFollow : Grammar → List ℕ → ℕ → Type 0
 CanFollow g front t = BeginSentence g (front ++ t ∷ []) ⊎ ((t ≡ end_token g) × AreSentence g front)
 
--- The tokens go wrong at place i: some sentence begins with those in front of it, and none with the one there as well; or at their
--- end, where they aren't a sentence
+-- The tokens go wrong at place i: some sentence begins with those before it, and none with the one there as well; or i is their
+-- end, and they aren't a sentence
 pub record GoWrongAt (g : Grammar) (tokens : List ℕ) (i : ℕ) : Type 0 where
   pub within : i ≤ length tokens
   pub front : BeginSentence g (take i tokens)

@@ -1,5 +1,6 @@
--- What runs without repairs feed, expect and refuse, by the sentences of a grammar, over a table that was built of it. A run begins
--- with the start state alone, at the first lexeme. Lexemes may be of any type: their tokens are what counts.
+-- What runs without repairs feed, expect and refuse, by the sentences of a grammar, over a table that was built of it. This is
+-- the viable prefix property, also called the correct-prefix property. A run begins with the start state alone, at the first
+-- lexeme. Lexemes may be of any type: only their tokens count.
 use Rattle.std.specs.Prelude.{◌↔◌, ℕ, List, map, take}
 use Rattle.lrpar_grammar.specs.Grammar.{Grammar, IsWellFormed}
 use Rattle.lrpar_grammar.specs.Sentence.{IsSentence}
@@ -14,13 +15,14 @@ use Rattle.lrpar_table_stacks.specs.Run.{Stop, Stopped}
 use Rattle.lrpar_table_sentences.specs.Reachable.{EachReachableHasTree}
 use Rattle.lrpar_parse_prefixes.specs.Viable.{AreSentence, BeginSentence, CanFollow, GoWrongAt}
 
--- lexemes are a sentence exactly where their tokens are
+-- lexemes are a sentence if and only if their tokens are
 abbrev pub SentencesAreOfTokens : Type 0 → Type 0
 SentencesAreOfTokens X =
     (token : X → ℕ) (g : Grammar) (lexemes : List X) → IsSentence token g lexemes ↔ AreSentence g (map token lexemes)
 
--- Runs keep to sentences: the lexemes that are fed begin one; each token that may come next goes on to one, or is the end token where
--- they are one; and where a run stops, the lexemes in front of that place begin one: no error comes too late
+-- The viable prefix property: a sentence begins with the lexemes that are fed; so does one with each token more that may come
+-- next, or the token is the end token and the lexemes are a sentence; and a sentence begins with the lexemes before an error
+-- point: no error comes too late
 pub record KeepsToSentences {X : Type 0} (token : X → ℕ) (g : Grammar) (table : Table) : Type 0 where
   pub fed : (lexemes : List X) (i : ℕ) (st : List ℕ) → FeedsFront token g table lexemes i st → BeginSentence g (map token (take i lexemes))
   pub next : (lexemes : List X) (i : ℕ) (st : List ℕ) → FeedsFront token g table lexemes i st → (t : ℕ) → IsExpected g table st t
@@ -28,22 +30,22 @@ pub record KeepsToSentences {X : Type 0} (token : X → ℕ) (g : Grammar) (tabl
   pub stop : (lexemes : List X) (prods : List ℕ) (stop : Stop) → RunsTo token g table lexemes prods (Stopped stop)
       → BeginSentence g (map token (take stop.place lexemes))
 
--- Runs follow the sentences: the tokens that may come next are exactly those that can; and a run stops exactly where its lexemes go
--- wrong: at the first one with which no sentence begins, or at the end
+-- The property in full, in which no error comes too early either: the tokens that may come next are exactly those that can; and a
+-- run's error point is the place at which its lexemes go wrong: the first one with which no sentence begins, or the end
 pub record FollowsSentences {X : Type 0} (token : X → ℕ) (g : Grammar) (table : Table) : Type 0 where
   pub next : (lexemes : List X) (i : ℕ) (st : List ℕ) → FeedsFront token g table lexemes i st
       → (t : ℕ) → IsExpected g table st t ↔ CanFollow g (map token (take i lexemes)) t
   pub stop : (lexemes : List X) (prods : List ℕ) (stop : Stop) → RunsTo token g table lexemes prods (Stopped stop)
       → GoWrongAt g (map token lexemes) stop.place
 
--- over lexemes of type X, runs of a table that was built of a grammar keep to its sentences, where each rule that is reached derives
--- some text; the table may have conflicts
+-- over lexemes of type X, runs of a table that was built of a grammar have the viable prefix property, if each reachable rule is
+-- productive; the table may have conflicts
 abbrev pub BuiltTablesKeepToSentences : Type 0 → Type 0
 BuiltTablesKeepToSentences X =
     (token : X → ℕ) (g : Grammar) (graph : Graph) (table : Table) → IsWellFormed g → IsClosed table → IsBuilt g graph table
     → EachReachableHasTree g → KeepsToSentences token g table
 
--- and where the table is complete, they follow them
+-- and if the table is complete, they have it in full
 abbrev pub CompleteBuiltTablesFollowSentences : Type 0 → Type 0
 CompleteBuiltTablesFollowSentences X =
     (token : X → ℕ) (g : Grammar) (graph : Graph) (table : Table) → IsWellFormed g → IsClosed table → IsBuilt g graph table

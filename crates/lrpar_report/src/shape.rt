@@ -1,23 +1,26 @@
-//! What may stand at a place of a grammar text, which is found by trying it.
+//! What may come at a place of a grammar text, which is found by trying it.
 use crate::choices::joint;
 use lrpar_grammar_words::outline::{Outline, OutlineFault};
+use lrpar_grammar_words::words::WordKind;
 use std::alloc::{AllocError, Global};
 
-/// Words of each kind, and how messages name them.
-const WORDS: [(&str, &str); 9] = [
-    (" %start", "%start"),
-    (" %token", "%token"),
-    (" %epp", "%epp"),
-    (" %%", "%%"),
-    (" a", "a name"),
-    (" 'a'", "a quoted word"),
-    (" :", "':'"),
-    (" |", "'|'"),
-    (" ;", "';'"),
-];
+// A word of this kind, after a blank, and how messages name such words.
+fn sample(kind: WordKind) -> (&'static str, &'static str) {
+    match kind {
+        WordKind::StartSign => (" %start", "%start"),
+        WordKind::TokenSign => (" %token", "%token"),
+        WordKind::EppSign => (" %epp", "%epp"),
+        WordKind::RulesSign => (" %%", "%%"),
+        WordKind::Name => (" a", "a name"),
+        WordKind::Quoted => (" 'a'", "a quoted word"),
+        WordKind::Colon => (" :", "':'"),
+        WordKind::Bar => (" |", "'|'"),
+        WordKind::Semicolon => (" ;", "';'"),
+    }
+}
 
-/// Adds the kinds of words that may stand behind this beginning of a grammar text, which has whole words that can stand as they do:
-/// `, expected A, B or C`.
+/// Adds the kinds of words that may follow this beginning of a grammar text, which has to be a list of whole words that begins some
+/// grammar text: `, expected A, B or C`.
 pub(crate) fn push_expected(
     out: &mut String,
     alloc: Global,
@@ -34,22 +37,23 @@ pub(crate) fn push_expected(
     Ok(())
 }
 
-// The kinds of words that may stand behind the beginning.
+// The kinds of words that may follow the beginning.
 fn expected(alloc: Global, front: &str) -> Result<Vec<&'static str>, AllocError> {
     let mut names = Vec::new(alloc);
-    for (word, name) in WORDS {
-        if can_stand(alloc, front, word)? {
+    for kind in WordKind::ALL {
+        let (word, name) = sample(kind);
+        if can_follow(alloc, front, word)? {
             names.push(name)?;
         }
     }
-    if can_stand(alloc, front, "")? {
+    if can_follow(alloc, front, "")? {
         names.push("the end")?;
     }
     Ok(names)
 }
 
-// Whether the word may stand behind the beginning: the text is then read to its end.
-fn can_stand(alloc: Global, front: &str, word: &str) -> Result<bool, AllocError> {
+// Whether the word may follow the beginning: the text is then read to its end.
+fn can_follow(alloc: Global, front: &str, word: &str) -> Result<bool, AllocError> {
     let text = format!(in alloc; "{front}{word}")?;
     match Outline::read(alloc, text.as_str()) {
         Ok(_) => Ok(true),

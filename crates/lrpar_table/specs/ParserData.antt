@@ -8,8 +8,8 @@ use Rattle.lrpar_table.specs.TableLaws.{IsCompleteWithoutConflicts}
 use Rattle.lrpar_table.specs.declared.build.Unbuilt.{Unbuilt}
 use Rattle.lrpar_table.specs.declared.build.Unbuilt.TheVariants.{Chains, Table}
 
--- the checked table is that which is built of the grammar, with at most so many states, and has this cap; it is complete exactly
--- where it has no conflicts
+-- the checked table is the one that is built of the grammar, with at most `most` states, and has this cap; it is complete if and
+-- only if it has no conflicts
 pub record IsParserDataOf (g : Grammar) (most cap : ℕ) (d : Checked) : Type 0 where
   pub grammar : d.grammar ≡ g
   pub cap_is : d.cap ≡ cap
@@ -25,7 +25,7 @@ pub record IsRefusedBuilt (g : Grammar) (most cap : ℕ) (refused : Unchecked) :
   pub room : graph_len refused.graph ≤ most
   pub fault : IsChainFault g refused.table cap refused.fault
 
--- why there is no checked table: none is built; or its chains are too long, or memory was wanting
+-- why there is no checked table: none is built; or its chains are too long, or an allocation failed
 abbrev pub IsUnbuilt : {S : Type 0} → ℕ → Grammar → ℕ → ℕ → Unbuilt S → Type 0
 IsUnbuilt limit g most bound (Table fault grm) = (grm ≡ g) × IsBuildRefusal g most limit fault
 IsUnbuilt limit g most bound (Chains refused) = IsRefusedBuilt g most bound refused

@@ -1,5 +1,5 @@
--- What follows of a table that is built of a grammar alone: it is complete exactly where it has no conflicts, so a grammar with two
--- trees for one text has conflicts.
+-- What follows for a table that is built of a grammar alone: it is complete if and only if it has no conflicts, so a grammar with
+-- two trees for one text has conflicts.
 use Rattle.std.specs.Prelude.{◌≡◌, ◌≢◌, ◌↔◌, ℕ, None}
 use Rattle.lrpar_grammar.specs.Grammar.{Grammar, IsWellFormed, Nonterminal}
 use Rattle.lrpar_grammar.specs.Tree.{Tree, Fits, leaves}
@@ -8,29 +8,29 @@ use Rattle.lrpar_table_rows.specs.Table.{Table, IsClosed}
 use Rattle.lrpar_table_build.specs.Built.{IsBuilt}
 use Rattle.lrpar_table_conditions.specs.Complete.{IsComplete}
 
--- the table is complete exactly where it has no conflicts
+-- the table is complete if and only if it has no conflicts
 abbrev pub IsCompleteWithoutConflicts : Grammar → Graph → Table → Type 0
 IsCompleteWithoutConflicts g graph table = IsComplete g graph table ↔ (table.conflicts ≡ None)
 
--- so is each that is built of a grammar
+-- each table that is built of a grammar is so
 abbrev pub BuiltTablesAreCompleteWithoutConflicts : Type 0
 BuiltTablesAreCompleteWithoutConflicts =
     (g : Grammar) (graph : Graph) (table : Table) → IsWellFormed g → IsBuilt g graph table → IsCompleteWithoutConflicts g graph table
 
--- two trees of the start rule with the same leaves, which aren't the same
+-- two different trees of the start rule with the same leaves
 pub record HaveSameLeaves {X : Type 0} (token : X → ℕ) (g : Grammar) (tree other : Tree X) : Type 0 where
   pub fits : Fits token g tree (Nonterminal g.start)
   pub other_fits : Fits token g other (Nonterminal g.start)
   pub leaves_same : leaves tree ≡ leaves other
   pub different : tree ≢ other
 
--- where a grammar has two trees for one list of lexemes, the table that is built of it has conflicts
+-- if a grammar has two trees for one list of lexemes, the table that is built of it has conflicts
 abbrev pub AmbiguousGrammarsHaveConflicts : Type 0 → Type 0
 AmbiguousGrammarsHaveConflicts X =
     (token : X → ℕ) (g : Grammar) (graph : Graph) (table : Table) → IsWellFormed g → IsClosed table → IsBuilt g graph table
     → (tree other : Tree X) → HaveSameLeaves token g tree other → table.conflicts ≢ None
 
--- where it has none, each list of lexemes has at most one tree
+-- if it has none, each list of lexemes has at most one tree
 abbrev pub GrammarsWithoutConflictsHaveOneTree : Type 0 → Type 0
 GrammarsWithoutConflictsHaveOneTree X =
     (token : X → ℕ) (g : Grammar) (graph : Graph) (table : Table) → IsWellFormed g → IsClosed table → IsBuilt g graph table

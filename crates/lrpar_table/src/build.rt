@@ -15,7 +15,7 @@ use std::fmt;
 pub enum Unbuilt<StorageT: StorageIndex> {
     /// No table was built of the grammar, for this reason.
     Table(BuildFault, YaccGrammar<StorageT>),
-    /// The table that was built has a chain of reductions that is too long; or memory was wanting for the check of chains.
+    /// The table that was built has a chain of reductions that is too long; or an allocation failed in the check of chains.
     Chains(Refused<StorageT>),
 }
 
@@ -33,11 +33,11 @@ impl<StorageT: StorageIndex> fmt::Display for Unbuilt<StorageT> {
 
 impl<StorageT: StorageIndex> Error for Unbuilt<StorageT> {}
 
-/// The checked table of the grammar: its canonical item sets, at most so many, the table that does what they want, and the cap.
-/// What is built is safe, so the chains of reductions alone are checked.
+/// The checked table of the grammar: its canonical item sets, at most `max_states` of them, their table, and the cap. A table
+/// that is built is safe, so only the chains of reductions are checked.
 ///
-/// The faults are those of `from_yacc`; then `ChainTooLong`, with states and then tokens ascending; and want of memory. A refusal
-/// hands back the grammar, and the item sets and the table if they were built. It takes the time of `from_yacc` and of
+/// The faults are those of `from_yacc`; then `ChainTooLong`, with states and then tokens ascending, or `Memory`. An `Err` gives
+/// back the grammar, and the item sets and the table if they were built. It takes the time of `from_yacc` and of
 /// `ParserData::of_safe`.
 pub fn parser_data<StorageT: StorageIndex>(
     alloc: Global,

@@ -2,13 +2,13 @@
 ghost use Rattle.lrpar_grammar.specs.Sentence.{LexemeFacts};
 ghost use Rattle.lrpar_table.specs.TableLaws.{AmbiguousGrammarsHaveConflicts, BuiltTablesAreCompleteWithoutConflicts, GrammarsWithoutConflictsHaveOneTree};
 
-/// The table that `from_yacc` builds of a grammar is complete exactly where it has no conflicts: no test of C1 to C5 is needed.
+/// The table that `from_yacc` builds of a grammar is complete if and only if it has no conflicts: no test of C1 to C5 is needed.
 pub fn built_tables_are_complete_without_conflicts()
     ensures { BuiltTablesAreCompleteWithoutConflicts }
 {}
 
-/// Where a grammar has two trees for one list of lexemes, the table that `from_yacc` builds of it has conflicts; so where that has
-/// none, each text has at most one reading. This holds over lexemes of any type, and over those that contracts speak of.
+/// If a grammar has two trees for one list of lexemes, the table that `from_yacc` builds of it has conflicts; so if the table has
+/// none, each text has at most one tree. This holds over lexemes of any type, and over those that contracts speak of.
 pub fn ambiguous_grammars_have_conflicts<LexemeT>()
     ensures conflicts { AmbiguousGrammarsHaveConflicts LexemeT }
     ensures one_tree { GrammarsWithoutConflictsHaveOneTree LexemeT }

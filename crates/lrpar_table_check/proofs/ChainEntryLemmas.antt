@@ -1,4 +1,5 @@
--- Where a chain of a state is first too long, told by the stored entries: it makes a reduction, which its top stores.
+-- The first token at which a chain of a state is too long, by the stored entries: the chain makes a reduction, which its top
+-- stores.
 use Rattle.std.proofs.Common.{◌≡◌, ◌≢◌, ◌<◌, ◌≤◌, ◌+◌, ◌↔◌, ◌∙◌, inl, inr, refl, sym, ap, subst, arith, add-one, ℕ, suc, List, [], ◌∷◌, length, Option, Some, None, slice_index_or, All, map}
 use Rattle.std.specs.List.{Contains, zip}
 use Rattle.std.specs.List.Sorted.{IsStrictlyIncreasing}
@@ -40,22 +41,22 @@ start_top index s top (Some next) is = ap (λ x. Some (index x.0)) (sym is)
 key_at : {X : Type 0} (es : List (ℕ × X)) (i : ℕ) (e : ℕ × X) → i < length es → e ≡ slice_index_or es i e → slice_index_or (keys_of es) i 0 ≡ e.0
 key_at {X} es i e below read = get_or-map (λ (x : ℕ × X). x.0) es i e 0 below ∙ ap (λ (x : ℕ × X). x.0) (sym read)
 
--- what holds only where a state reduces
+-- what holds at a token only if a state reduces there
 module _ (table : Table) (s : ℕ) (es : List (ℕ × TableAction))
     (exact : (t : ℕ) (action : TableAction) → Contains es (t, action) ↔ ((action_of table s t ≡ action) × (action ≢ Fails))) (P : ℕ → Type 0)
     (reduces : (t : ℕ) → P t → (p : ℕ) × (action_of table s t ≡ ReduceBy p)) where
-  -- holds only at the token of an entry
+  -- it holds only at the token of an entry
   stored : (t : ℕ) → P t → (p : ℕ) × Contains es (t, ReduceBy p)
   stored t holds = let r = reduces t holds in (r.0, (exact t (ReduceBy r.0)).1 (r.1, λ h. absurd cc))
 
-  -- where it holds at the token of no entry, it never does
+  -- if it holds at the token of no entry, it never does
   never_stored : (i : ℕ) → length es ≤ i → ((k : ℕ) (d : ℕ × TableAction) → k < i → ¬ (P (slice_index_or es k d).0)) → (t : ℕ) → ¬ (P t)
   never_stored i end fails t holds =
       let there = stored t holds in
       let at : P (slice_index_or es there.1.0 (t, ReduceBy there.0)).0 = subst (λ (e : ℕ × TableAction). P e.0) (sym there.1.2) holds in
       fails there.1.0 (t, ReduceBy there.0) (omega (arith, there.1.1, end)) at
 
-  -- where it holds at the token of no entry before one, it doesn't below the token of that
+  -- if it holds at the token of no entry before one, it doesn't hold below the token of that one
   not_before : IsStrictlyIncreasing (keys_of es) → (i : ℕ) (e : ℕ × TableAction) → i < length es → e ≡ slice_index_or es i e
       → ((k : ℕ) (d : ℕ × TableAction) → k < i → ¬ (P (slice_index_or es k d).0)) → (t : ℕ) → t < e.0 → ¬ (P t)
   not_before up i e below read fails t before holds =
@@ -79,7 +80,7 @@ module _ (table : Table) (s : ℕ) (es : List (ℕ × TableAction))
             ]
       ]
 
--- what is known at an entry of the row of a chain's top, where the chain is too long at the token of none before it
+-- what is known at an entry of the row of a chain's top, if the chain is too long at the token of none before it
 pub record IsAtEntry (Long : ℕ → Type 0) (tokens token : ℕ) (action : TableAction) (es more : List (ℕ × TableAction)) (place : ℕ) : Type 0 where
   pub within : token < tokens
   pub before : (t : ℕ) → t < token → ¬ (Long t)
@@ -146,7 +147,7 @@ pub record IsFirstOf (g : Grammar) (table : Table) (cap s : ℕ) (es : List (ℕ
 
 module _ (g : Grammar) (table : Table) (cap s : ℕ) (es : List (ℕ × ℕ)) (tokens : ℕ)
     (exact : (r next : ℕ) → Contains es (r, next) ↔ (goto_of table s r ≡ Some next)) where
-  -- at first it is told of none of the gotos
+  -- at first none of the gotos is covered
   pub first_alone : (end : ℕ) → IsShortUntil g table cap (s ∷ []) tokens end → IsFirstOf g table cap s es tokens 0 end
   first_alone end found = record {
     within = found.within;

@@ -1,5 +1,5 @@
--- What may come next at a stack is told by what it does once it is settled, and is listed token by token, by the entries of
--- its top.
+-- What may come next at a stack depends on what it does once it is settled. It is listed token by token, by the entries of the
+-- top state.
 use Rattle.std.proofs.Common.{◌≡◌, ◌≢◌, ◌<◌, ◌≤◌, ◌+◌, ◌-◌, ◌↔◌, ◌⊎◌, ◌∙◌, inl, inr, refl, sym, ap, subst, arith, ℕ, List, [], ◌∷◌, ◌++◌, length, map, get_or, slice_index, slice_index_or, take, All, Contains, Some}
 use Rattle.std.proofs.lemmas.Bool.{cases_lt}
 use Rattle.std.proofs.lemmas.List.{append-nil, take_all, get_or-map, get_or_append_left, get_or_default, get_or_push, length-map, length_push}
@@ -66,7 +66,7 @@ module _ (g : Grammar) (table : Table) (cap t : ℕ) (never : NeverSticks g tabl
         },
       )
 
-  -- no other one takes it
+  -- a token that may come next is shifted or accepted there
   pub expected_does : IsExpected g table st t → ((next : ℕ) × (top_action table t after ≡ ShiftTo next)) ⊎ (top_action table t after ≡ Accepts)
   expected_does (inl fed) =
       let feeds = fed.1.2 in
@@ -105,7 +105,7 @@ pub some_state : (table : Table) (st : List ℕ) → IsStack table st → 0 < le
 some_state table [] stack = absurd stack
 some_state table (s ∷ st) stack = omega arith
 
--- what is laid over a stack stands for it
+-- what is laid over a stack represents it
 pub laid_over_states : (st : List ℕ) (room : ℕ) → overlaid (laid_over st room) ≡ st
 laid_over_states st room = append-nil (take (length st) st) ∙ take_all (length st) st (omega arith)
 
@@ -149,7 +149,7 @@ module _ (P : ℕ → Type 0) (ns : List ℕ) (up : IsStrictlyIncreasing ns) whe
           omega (arith, less, at.2, is));
       only = λ x there.
           elim (Contains-push_cases xs y x there) as (λ _. P x × ((k : ℕ) × (k < i + 1) × (slice_index ns k ≡ x))) [
-            | inl old ↦ let told = listed.only x old in (told.0, (told.1.0, omega (arith, told.1.1), told.1.2))
+            | inl old ↦ let fact = listed.only x old in (fact.0, (fact.1.0, omega (arith, fact.1.1), fact.1.2))
             | inr new ↦ (subst P new has, (i, omega arith, is ∙ new))
           ];
       all = λ k first holds.
@@ -166,7 +166,7 @@ module _ (P : ℕ → Type 0) (ns : List ℕ) (up : IsStrictlyIncreasing ns) whe
     pub listed_no_more : ¬ (P y) → AreListed P ns (i + 1) xs
     listed_no_more lacks = record {
       ascending = listed.ascending;
-      only = λ x there. let told = listed.only x there in (told.0, (told.1.0, omega (arith, told.1.1), told.1.2));
+      only = λ x there. let fact = listed.only x there in (fact.0, (fact.1.0, omega (arith, fact.1.1), fact.1.2));
       all = λ k first holds.
           elim (cases_lt k i) as (λ _. Contains xs (slice_index ns k)) [
             | inl old ↦ listed.all k old holds
@@ -176,7 +176,7 @@ module _ (P : ℕ → Type 0) (ns : List ℕ) (up : IsStrictlyIncreasing ns) whe
           ];
     }
 
-  -- in the end they are those that have it, where it holds of no other number
+  -- in the end they are those that have it, if it holds of no other number
   pub listed_all : (i : ℕ) (xs : List ℕ) → length ns ≤ i → AreListed P ns i xs → ((x : ℕ) → P x → Contains ns x) → (x : ℕ) → Contains xs x ↔ P x
   listed_all i xs past listed within x = (
     λ there. (listed.only x there).0,

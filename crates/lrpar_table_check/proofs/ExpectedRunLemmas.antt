@@ -1,5 +1,5 @@
--- What may come next after lexemes that were fed. Whatever follows them, a run comes to the same stack; so where they are the
--- front of a sentence the run goes on from there to accept, by the next token, or at the end.
+-- What may come next after lexemes that were fed. Whatever follows them, a run comes to the same stack; so if a sentence begins
+-- with them, the run goes on from there to accept, by the next token, or at the end.
 use Rattle.std.proofs.Common.{◌≡◌, ◌≢◌, ◌<◌, ◌≤◌, ◌+◌, inl, inr, refl, sym, ap, subst, arith, ℕ, zero, suc, List, [], ◌∷◌, ◌++◌, length, take, slice_get, Option, Some, length-append}
 use Rattle.std.proofs.lemmas.List.{append-nil, length-take-le}
 use Rattle.std.specs.Option.{option_map_or}
@@ -27,7 +27,7 @@ module _ {X : Type 0} (token : X → ℕ) (g : Grammar) (table : Table) (lexemes
   comes_within _ _ _ _ _ (stays st i) fits = fits
   comes_within _ _ _ _ _ (comes_on st i ps qs next after j below first rest) fits = comes_within next (i + 1) qs after j rest (omega (arith, below))
 
-  -- and comes no earlier than where it begins
+  -- and comes to no earlier place than its first
   comes_later : (st : List ℕ) (i : ℕ) (ps after : List ℕ) (j : ℕ) → Comes token g table lexemes st i ps after j → i ≤ j
   comes_later _ _ _ _ _ (stays st i) = omega arith
   comes_later _ _ _ _ _ (comes_on st i ps qs next after j below first rest) =
@@ -69,7 +69,7 @@ module _ {X : Type 0} (token : X → ℕ) (g : Grammar) (table : Table) (lexemes
   accepted_end _ _ _ _ (stops st i ps settled fits settles stuck) is last =
       let no : Stopped (record { stack = settled; place = i }) ≡ Accepted = is in absurd (let none : ⊥ = cc in none)
 
--- over lexemes with the same tokens up to where it comes a run comes there, too
+-- over lexemes with the same tokens before the place to which it comes, a run comes there, too
 comes_alike : {X : Type 0} (token : X → ℕ) (g : Grammar) (table : Table) (lexemes others : List X) (n : ℕ) → n ≤ length others
     → ((k : ℕ) → k < n → token_at token g lexemes k ≡ token_at token g others k)
     → (st : List ℕ) (i : ℕ) (ps after : List ℕ) (j : ℕ) → Comes token g table lexemes st i ps after j → j ≤ n → Comes token g table others st i ps after j
@@ -80,7 +80,7 @@ comes_alike token g table lexemes others n inside alike _ _ _ _ _ (comes_on st i
     (subst (λ (t : ℕ). Feeds g table t st ps next) (alike i (omega (arith, later, low))) first)
     (comes_alike token g table lexemes others n inside alike next (i + 1) qs after j rest low)
 
--- what follows a list stands behind it
+-- what follows a list is after it
 get_after : {X : Type 0} (front rest : List X) (x : X) (i : ℕ) → length front ≡ i → slice_get (front ++ x ∷ rest) i ≡ Some x
 get_after [] rest x i many = subst (λ (n : ℕ). slice_get (x ∷ rest) n ≡ Some x) many refl
 get_after (y ∷ front) rest x zero many = absurd (omega (arith, many))
@@ -110,13 +110,13 @@ module _ {X : Type 0} (token : X → ℕ) (g : Grammar) (table : Table) (lexemes
   ends_run at =
       comes_to_accept token g table (take i lexemes) (table.start ∷ []) 0 fed.0 st i at.prods at.settled comes_alone (sym front_len) at.settles at.action
 
-  -- where a run over them comes to accept, the stack accepts at the end
+  -- if a run over them comes to accept, the stack accepts at the end
   run_ends : (prods : List ℕ) → Far token g table (take i lexemes) (table.start ∷ []) 0 prods Accepted → AcceptsAtEnd g table st
   run_ends prods runs =
       let on = far_from token g table (take i lexemes) (table.start ∷ []) 0 fed.0 st i prods Accepted comes_alone runs in
       accepted_end token g table (take i lexemes) st i on.0 Accepted on.1 refl (sym front_len)
 
-  -- where one over them and more does, the next one is fed
+  -- if one over them and more does, the next one is fed
   run_feeds : NeverSticks g table → (x : X) (rest : List X) (prods : List ℕ)
       → Far token g table (take i lexemes ++ x ∷ rest) (table.start ∷ []) 0 prods Accepted → IsExpected g table st (token x)
   run_feeds never x rest prods runs =

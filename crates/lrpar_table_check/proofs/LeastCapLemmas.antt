@@ -7,7 +7,7 @@ use Rattle.lrpar_table_stacks.proofs.ChainLemmas.{less}
 use Rattle.lrpar_table_rows.specs.Table.{Table, states_len}
 use Rattle.lrpar_table_check.specs.LeastCap.{AreShortAt, IsLeastAt, IsLeastCap}
 
--- a chain that makes so many reductions makes fewer, and one that doesn't make so many makes no more
+-- a chain that makes `many` reductions makes fewer, and one that doesn't make `few` makes no more
 pub fewer : (g : Grammar) (table : Table) (t few many : ℕ) (st : List ℕ) → few ≤ many → HasReductions g table t st many → HasReductions g table t st few
 fewer g table t few many st below h =
     let e : many ≡ (many - few) + few = omega (arith, below) in less g table t (many - few) few st (rw e at h)
@@ -21,7 +21,7 @@ pub short_above : (g : Grammar) (table : Table) (s low high : ℕ) → low ≤ h
 short_above g table s low high above short t token long =
     short t token (long.0, long.1, fewer g table t (low + 1) (high + 1) long.0 (omega (arith, above)) long.2)
 
--- the least cap of so many states, the first ones
+-- the least cap of this number of states, the first ones
 pub record IsLeastOf (g : Grammar) (table : Table) (cap states found : ℕ) : Type 0 where
   pub within : found ≤ cap
   pub passes : (s : ℕ) → s < states → AreShortAt g table found s

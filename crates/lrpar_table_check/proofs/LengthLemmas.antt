@@ -10,7 +10,7 @@ use Rattle.lrpar_table_rows.specs.Table.{Table}
 use Rattle.lrpar_table_check.specs.Lengths.{IsCounted, IsLength}
 use Rattle.lrpar_table_check.proofs.LeastCapLemmas.{fewer}
 
--- The chain from `start` has made so many steps and come to the states of `st`: what it makes beside them, it makes from there.
+-- The chain from `start` has made `made` steps and come to the states of `st`: what it makes beside them, it makes from there.
 abbrev pub Comes : Grammar → Table → ℕ → List ℕ → List ℕ → ℕ → Type 0
 Comes g table t start st made = (left : ℕ) → HasReductions g table t start (made + left) ↔ HasReductions g table t st left
 
@@ -49,7 +49,7 @@ module _ (g : Grammar) (table : Table) (t : ℕ) (start : List ℕ) where
               omega (arith, goes_on_dropped g table t st 1 drops.0 rest);
         }
 
-    -- where none is made, the chain has ended
+    -- if none is made, the chain has ended
     pub length_stays : (st after : List ℕ) (made : ℕ) (step : Step) → Comes g table t start st made → made ≤ cap → step ≡ Stays
         → IsStepOf g table t st step after → IsLength g table cap t start made
     length_stays st after made step comes below is h =
@@ -69,7 +69,7 @@ module _ (g : Grammar) (table : Table) (t : ℕ) (start : List ℕ) where
           | inr leaves ↦ let drops = subst (λ (s : Step). IsStepOf g table t st s after) leaves h in inr (drops.0, refl)
         ]))
 
-    -- what was counted tells whether the chain is too long
+    -- what was counted says whether the chain is too long
     pub counted_long : (o : Option ℕ) → IsCounted g table cap t start o → o ≡ None → Makes (cap + 1)
     counted_long o counted is = subst (λ (p : Option ℕ). IsCounted g table cap t start p) is counted
 

@@ -11,7 +11,7 @@ use Rattle.lrpar_table_check.specs.LeastCap.{AreShortAt, IsLeastAt}
 use Rattle.lrpar_table_check.specs.Lengths.{IsLength, IsLongest, IsLongestWithin}
 use Rattle.lrpar_table_check.proofs.LeastCapLemmas.{fewer, fewer_not}
 
--- the greatest number so far, of the chain at the tokens of the entries in front of a place
+-- the greatest number so far, of the chain at the tokens of the entries before a place
 pub record IsLongestUntil (g : Grammar) (table : Table) (cap : ℕ) (st : List ℕ) (es : List (ℕ × TableAction)) (from place longest : ℕ) : Type 0 where
   pub within : longest ≤ cap
   pub above : from ≤ longest

@@ -1,12 +1,12 @@
--- A tree is told by its leaves and its productions together. Both lists are read from the end. The last production of a node is
--- its own, and so tells of which symbols its children are; these are told from the last one back. A leaf is the last lexeme. So
--- what stands in front of the two lists is carried along.
+-- A tree is determined by its leaves and its productions together. Both lists are read from the end. The last production of a
+-- node is its own, so it gives the symbols of the node's children; these are determined from the last one back. A leaf is the
+-- last lexeme. So what comes before the two lists is carried along.
 use Rattle.std.proofs.Common.{◌≡◌, ◌∙◌, refl, sym, ap, subst, arith, ℕ, List, [], ◌∷◌, ◌++◌, length, length-append}
 use Rattle.std.proofs.lemmas.List.{append-nil, append_assoc}
 use Rattle.lrpar_grammar.specs.Grammar.{Grammar, GrammarSymbol, Nonterminal, Terminal, symbols_of}
 use Rattle.lrpar_grammar.specs.Tree.{Tree, Forest, Leaf, Branch, Nil, Cons, leaves, forest_leaves, productions, forest_productions, Fits, ForestFits}
 
--- two lists with one element more behind each are equal in both parts
+-- two lists with one element more after each are equal in both parts
 pub last_same : {A : Type 0} (xs ys : List A) (x y : A) → xs ++ x ∷ [] ≡ ys ++ y ∷ [] → (xs ≡ ys) × (x ≡ y)
 last_same [] [] x y e = let same : x ≡ y = cc in (refl, same)
 last_same {A} [] (b ∷ ys) x y e =
@@ -19,7 +19,7 @@ last_same (a ∷ xs) (b ∷ ys) x y e =
     let more = last_same xs ys x y rest in
     (ap (λ z. z ∷ xs) first ∙ ap (λ zs. b ∷ zs) more.0, more.1)
 
--- nothing behind either
+-- nothing after either
 none_after : {A : Type 0} (xs ys : List A) → xs ++ [] ≡ ys ++ [] → xs ≡ ys
 none_after xs ys e = sym (append-nil xs) ∙ e ∙ append-nil ys
 

@@ -9,7 +9,7 @@ use Rattle.lrpar_table_rows.specs.Table.{Table}
 use Rattle.lrpar_table_check.specs.declared.fault.CheckFault.{CheckFault}
 use Rattle.lrpar_table_check.specs.declared.fault.CheckFault.TheVariants.{Shape, Safety, ChainTooLong, Memory}
 
--- where the table is safe and its chains are short, the check has no fault but want of memory
+-- if the table is safe and its chains are short, the check has no fault but out of memory
 pub only_memory : (g : Grammar) (graph : Graph) (table : Table) (cap : ℕ) (fault : CheckFault) → IsCheckFault g graph table cap fault
     → IsSafe g graph table → AreChainsShort g table cap → fault ≡ Memory
 only_memory g graph table cap Shape h safe short = absurd (h safe.shape)
@@ -25,7 +25,7 @@ fault_of_chains g graph table cap (Safety condition s) safe is = absurd is
 fault_of_chains g graph table cap (ChainTooLong s t) safe is = (safe, is.0, is.1, is.2)
 fault_of_chains g graph table cap Memory safe is = safe
 
--- where the chains are short, they have no fault but want of memory
+-- if the chains are short, they have no fault but out of memory
 pub chains_or_memory : (g : Grammar) (table : Table) (cap : ℕ) (fault : CheckFault) → IsChainFault g table cap fault → AreChainsShort g table cap
     → fault ≡ Memory
 chains_or_memory g table cap Shape is short = absurd is

@@ -1,7 +1,7 @@
--- Runs of complete tables take the sentences. That a list of lexemes over which the run comes to accept is a sentence holds for each
--- safe table: along the symbols of each stack there are trees that fit them, whose leaves are the lexemes fed so far; a shift
--- appends a leaf, a reduction takes the last trees into a node. That a complete table takes each sentence is in CompleteLemmas.
--- A run that stops at a lexeme has looked at those up to it alone; so over lexemes that begin with these it stops there, too.
+-- Runs of complete tables accept the sentences. That the lexemes are a sentence if the run accepts holds for each safe table:
+-- along the symbols of each stack there are trees that fit them, whose leaves are the lexemes fed so far; a shift appends a leaf,
+-- a reduction takes the last trees into a node. That a complete table accepts each sentence is in CompleteLemmas. A run that
+-- stops at a lexeme has looked only at the lexemes up to that one; so over lexemes that begin with these it stops there, too.
 use Rattle.std.proofs.Common.{◌≡◌, ◌<◌, ◌≤◌, ◌+◌, ◌∙◌, refl, sym, ap, subst, arith, add-one, ℕ, zero, suc, List, [], ◌∷◌, ◌++◌, length, take, slice_get, Some, Option, length-append}
 use Rattle.std.proofs.lemmas.List.{append-nil, length-take-le, take_all}
 use Rattle.std.specs.Option.{option_map_or}
@@ -118,7 +118,7 @@ module _ {X : Type 0} (token : X → ℕ) (g : Grammar) (table : Table) (never :
   accepted_is_sentence lexemes _ _ _ _ (stops st i ps settled fits settles stuck) is has =
       let no : Stopped (record { stack = settled; place = i }) ≡ Accepted = is in absurd (let none : ⊥ = cc in none)
 
--- a run stops no earlier than where it begins
+-- a run stops at no earlier place than its first
 stops_later : {X : Type 0} (token : X → ℕ) (g : Grammar) (table : Table) (lexemes : List X) (st : List ℕ) (i : ℕ) (ps : List ℕ) (end : FarEnd) (stop : Stop)
     → Far token g table lexemes st i ps end → end ≡ Stopped stop → i ≤ stop.place
 stops_later token g table lexemes _ _ _ _ stop (goes_on st i ps qs next end within feeds rest) is =
@@ -133,7 +133,7 @@ stops_later token g table lexemes _ _ _ _ stop (stops st i ps settled fits settl
 module _ {X : Type 0} (token : X → ℕ) (g : Grammar) (table : Table) (lexemes others : List X) (stop : Stop) (within : stop.place < length lexemes)
     (inside : stop.place < length others)
     (alike : (k : ℕ) → k ≤ stop.place → token_at token g lexemes k ≡ token_at token g others k) where
-  -- over lexemes with the same tokens up to the stop it stops there, too
+  -- over lexemes with the same tokens up to the error point it stops there, too
   stops_alike : (st : List ℕ) (i : ℕ) (ps : List ℕ) (end : FarEnd) → Far token g table lexemes st i ps end → end ≡ Stopped stop
       → Far token g table others st i ps end
   stops_alike _ _ _ _ (goes_on st i ps qs next end below feeds rest) is =
@@ -154,7 +154,7 @@ module _ {X : Type 0} (token : X → ℕ) (g : Grammar) (table : Table) (lexemes
       } in
       stops st i ps settled (omega (arith, place, inside)) (subst (λ (t : ℕ). Settles g table t st ps settled) same settles) goes_not
 
--- the lexemes at the front stay where they are, whatever follows them
+-- the first lexemes stay in their places, whatever follows them
 pub front_get : {X : Type 0} (n k : ℕ) (xs rest : List X) → k < n → k < length xs → slice_get (take n xs ++ rest) k ≡ slice_get xs k
 front_get zero k xs rest low within = absurd (omega arith)
 front_get (suc n) k [] rest low within = absurd (omega arith)
@@ -182,7 +182,7 @@ module _ {X : Type 0} (token : X → ℕ) (g : Grammar) (graph : Graph) (table :
       (takes tree (leaves tree) fits refl) (takes other (leaves tree) fit (sym are)) in
       same_tree token g tree other (Nonterminal g.start) fits fit same.0 are
 
-  -- the front of a list at which the run stops
+  -- no sentence begins with the lexemes up to the one at which the run stops
   no_front : (lexemes : List X) (prods : List ℕ) (stop : Stop) → RunsTo token g table lexemes prods (Stopped stop) → stop.place < length lexemes
       → BeginsNoSentence token g (take (stop.place + 1) lexemes)
   no_front lexemes prods stop runs within rest sentence =

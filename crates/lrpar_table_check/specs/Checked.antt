@@ -29,14 +29,14 @@ pub record Unchecked : Type 0 where
   pub graph : Graph
   pub table : Table
 
--- the fault names what fails; memory is wanted only where the table is safe
+-- the fault names what fails; out of memory is a fault only if the table is safe
 abbrev pub IsCheckFault : Grammar → Graph → Table → ℕ → CheckFault → Type 0
 IsCheckFault g graph table cap Shape = ¬ (HasShape g graph table)
 IsCheckFault g graph table cap (Safety condition s) = HasShape g graph table × (s < states_len table) × ¬ (IsSafeAt g graph table condition s)
 IsCheckFault g graph table cap (ChainTooLong s t) = IsSafe g graph table × (s < states_len table) × (t < table.tokens) × IsLongChain g table cap s t
 IsCheckFault g graph table cap Memory = IsSafe g graph table
 
--- the fault names a chain that is too long; memory aside, a safe table is refused for nothing else
+-- the fault names a chain that is too long; a safe table is refused for nothing else, unless an allocation failed
 abbrev pub IsChainFault : Grammar → Table → ℕ → CheckFault → Type 0
 IsChainFault g table cap Shape = ⊥
 IsChainFault g table cap (Safety condition s) = ⊥

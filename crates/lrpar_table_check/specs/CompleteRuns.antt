@@ -1,5 +1,5 @@
--- What a run of a complete table is to sentences and their trees, over lexemes of any type. A run begins with the start state
--- alone, at the first lexeme.
+-- What a run of a complete table says about sentences and their trees, over lexemes of any type. A run begins with the start
+-- state alone, at the first lexeme.
 use Rattle.std.specs.Prelude.{◌≡◌, ◌<◌, ◌+◌, ◌↔◌, ℕ, List, [], ◌∷◌, ◌++◌, length, take}
 use Rattle.lrpar_grammar.specs.Grammar.{Grammar, IsWellFormed, Nonterminal}
 use Rattle.lrpar_grammar.specs.Sentence.{IsSentence}
@@ -18,9 +18,9 @@ RunsTo token g table lexemes prods end = Far token g table lexemes (table.start 
 abbrev pub BeginsNoSentence : {X : Type 0} → (X → ℕ) → Grammar → List X → Type 0
 BeginsNoSentence {X} token g front = (rest : List X) → ¬ (IsSentence token g (front ++ rest))
 
--- Runs take the sentences, and each by its only tree: the run over a tree's leaves reduces its productions and comes to accept;
--- where the run comes to accept, its lexemes are a sentence; two trees with the same leaves are equal; and no sentence begins
--- with the lexemes up to and including the one where a run stops.
+-- Runs accept exactly the sentences, and each by its only tree: the run over a tree's leaves reduces its productions and accepts;
+-- if the run accepts, its lexemes are a sentence; two trees with the same leaves are equal; and no sentence begins with the
+-- lexemes up to and including a run's error point.
 pub record TakesSentences {X : Type 0} (token : X → ℕ) (g : Grammar) (table : Table) : Type 0 where
   pub only : (tree : Tree X) → Fits token g tree (Nonterminal g.start) → RunsTo token g table (leaves tree) (productions tree) Accepted
   pub exact : (lexemes : List X) → IsSentence token g lexemes ↔ ((prods : List ℕ) × RunsTo token g table lexemes prods Accepted)

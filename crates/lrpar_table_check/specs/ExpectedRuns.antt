@@ -10,17 +10,17 @@ use Rattle.lrpar_table_conditions.specs.Complete.{IsComplete}
 use Rattle.lrpar_table_stacks.specs.Expected.{IsExpected}
 use Rattle.lrpar_table_stacks.specs.Run.{Comes}
 
--- the run from the start feeds the lexemes in front of place i, which gives this stack
+-- the run from the start feeds the lexemes before place i, which gives this stack
 abbrev pub FeedsFront : {X : Type 0} → (X → ℕ) → Grammar → Table → List X → ℕ → List ℕ → Type 0
 FeedsFront token g table lexemes i st = (prods : List ℕ) × Comes token g table lexemes (table.start ∷ []) 0 prods st i
 
--- the end token may come next only where the lexemes that were fed are a sentence
+-- the end token may come next only if the lexemes that were fed are a sentence
 abbrev pub EndsAtSentences : {X : Type 0} → (X → ℕ) → Grammar → Table → Type 0
 EndsAtSentences {X} token g table =
     (lexemes : List X) (i : ℕ) (st : List ℕ) → FeedsFront token g table lexemes i st → IsExpected g table st (end_token g)
     → IsSentence token g (take i lexemes)
 
--- After lexemes that were fed, each token with which some sentence goes on may come next; and the end token exactly where they
+-- After lexemes that were fed, each token with which some sentence goes on may come next; and the end token if and only if they
 -- are a sentence.
 pub record ExpectsSentences {X : Type 0} (token : X → ℕ) (g : Grammar) (table : Table) : Type 0 where
   pub next : (lexemes : List X) (i : ℕ) (st : List ℕ) → FeedsFront token g table lexemes i st
@@ -28,13 +28,13 @@ pub record ExpectsSentences {X : Type 0} (token : X → ℕ) (g : Grammar) (tabl
   pub end : (lexemes : List X) (i : ℕ) (st : List ℕ) → FeedsFront token g table lexemes i st
       → IsExpected g table st (end_token g) ↔ IsSentence token g (take i lexemes)
 
--- over lexemes of type X it is so for each checked table
+-- over lexemes of type X each checked table has such runs
 abbrev pub CheckedTablesEndAtSentences : Type 0 → Type 0
 CheckedTablesEndAtSentences X =
     (token : X → ℕ) (g : Grammar) (graph : Graph) (table : Table) → IsWellFormed g → IsClosed table → IsSafe g graph table
     → EndsAtSentences token g table
 
--- and for each that is complete
+-- over lexemes of type X each checked table that is complete has such runs
 abbrev pub CompleteTablesExpectSentences : Type 0 → Type 0
 CompleteTablesExpectSentences X =
     (token : X → ℕ) (g : Grammar) (graph : Graph) (table : Table) → IsWellFormed g → IsClosed table → IsSafe g graph table

@@ -5,13 +5,13 @@ use Rattle.lrpar_table_stacks.specs.Chain.{HasReductions}
 use Rattle.lrpar_table_rows.specs.Table.{Table}
 
 module _ (g : Grammar) (table : Table) (cap : ℕ) where
-  -- at the token the chain from these states makes so many reductions, and no more
+  -- at the token the chain from these states makes `made` reductions, and no more
   pub record IsLength (t : ℕ) (st : List ℕ) (made : ℕ) : Type 0 where
     pub within : made ≤ cap
     pub makes : HasReductions g table t st made
     pub no_more : ¬ (HasReductions g table t st (made + 1))
 
-  -- it makes so many, or more than the cap
+  -- it makes this number of reductions, or more than the cap
   abbrev pub IsCounted : ℕ → List ℕ → Option ℕ → Type 0
   IsCounted t st None = HasReductions g table t st (cap + 1)
   IsCounted t st (Some made) = IsLength t st made
@@ -23,7 +23,7 @@ module _ (g : Grammar) (table : Table) (cap : ℕ) where
     pub passes : (t : ℕ) → ¬ (HasReductions g table t st (longest + 1))
     pub reached : from < longest → (t : ℕ) × (t < table.tokens) × HasReductions g table t st longest
 
-  -- that is the greatest, or at some token it makes more than the cap
+  -- this is the greatest, or at some token the chain makes more than the cap
   abbrev pub IsLongestWithin : List ℕ → ℕ → Option ℕ → Type 0
   IsLongestWithin st from None = (t : ℕ) × (t < table.tokens) × HasReductions g table t st (cap + 1)
   IsLongestWithin st from (Some longest) = IsLongest st from longest

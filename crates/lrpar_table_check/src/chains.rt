@@ -17,7 +17,7 @@ use lrpar_table_rows::table::{Action, StateTable};
 use lrpar_table_stacks::reduction::{Step, take_step};
 use std::alloc::{AllocError, Global};
 
-/// The chains of a table, each of which is to make at most `cap` reductions.
+/// The chains of a table, and the cap that none of them may exceed.
 #[derive(Drop)]
 struct Chains<'a, StorageT: StorageIndex> {
     grm: &'a YaccGrammar<StorageT>,
@@ -34,15 +34,15 @@ impl<'a, StorageT: StorageIndex> Chains<'a, StorageT> {
         Chains { grm, stable, cap }
     }
 
-    /// The least cap with which the table passes, which is at most that of the check; otherwise the first state, and the first token
-    /// there, at which a chain is too long.
+    /// The least cap with which the table passes, which is at most that of the check; otherwise the first state, and the first
+    /// token there, at which a chain is too long.
     ///
-    /// The chains of a state begin with it alone, and with each of its gotos above it, which are read once. Such a chain
-    /// is made at those tokens alone at which the state that it begins with on top stores a reduction. It takes at most
-    /// `cap + 1` steps, each with one action and one goto. All chains share one small list of states.
+    /// A chain of a state begins with the state alone, or with the state and one of its gotos above it; each goto is read once. A
+    /// chain is made only at those tokens at which the topmost of these states stores a reduction. It takes at most `cap + 1`
+    /// steps, each with one action and one goto. All chains share one small list of states.
     ///
-    /// Each chain is made once, and what it makes is counted. Where one is too long, those of its state are made again, to find the first
-    /// token: at none behind a token at which an earlier one was too long.
+    /// Each chain is made once, and its reductions are counted. If one is too long, the chains of its state are made again, to
+    /// find the first token: at none after a token at which an earlier one was too long.
     fn least(&self, alloc: Global) -> Result<u16, CheckFault>
         requires { FitsGrammar self.now.grm.now self.now.stable.now }
         ensures least { IfOk result (IsLeastCap self.now.grm.now self.now.stable.now) }
@@ -82,7 +82,7 @@ impl<'a, StorageT: StorageIndex> Chains<'a, StorageT> {
         }
     }
 
-    // The same; none, where a chain of the state makes more reductions than the cap.
+    // The same; `None` if a chain of the state makes more reductions than the cap.
     fn longest_at(
         &self,
         states: &mut Vec<StIdx<StorageT>>,
@@ -110,8 +110,8 @@ impl<'a, StorageT: StorageIndex> Chains<'a, StorageT> {
         Ok(Some(longest))
     }
 
-    // The greatest of this number and of what the chain makes that begins with the state, and with the other one above it, whatever its
-    // token; none, where it makes more reductions than the cap.
+    // The greatest of `from` and the reductions of the chain that begins with the state, and with `above` on it, whatever its
+    // token; `None` if it makes more reductions than the cap.
     fn longest_from(
         &self,
         states: &mut Vec<StIdx<StorageT>>,
@@ -169,8 +169,7 @@ impl<'a, StorageT: StorageIndex> Chains<'a, StorageT> {
         }
     }
 
-    // The first token below `end` at which the chain that begins with the state, and with the other one above it, is too
-    // long; or `end`.
+    // The first token below `end` at which the chain that begins with the state, and with `above` on it, is too long; or `end`.
     fn short_until(
         &self,
         states: &mut Vec<StIdx<StorageT>>,
@@ -200,7 +199,7 @@ impl<'a, StorageT: StorageIndex> Chains<'a, StorageT> {
         Ok(end)
     }
 
-    // Whether the chain that begins with the state, and with the other one above it, is too long at the token.
+    // Whether the chain that begins with the state, and with `above` on it, is too long at the token.
     fn is_long_from(
         &self,
         states: &mut Vec<StIdx<StorageT>>,
@@ -222,7 +221,7 @@ impl<'a, StorageT: StorageIndex> Chains<'a, StorageT> {
         }
     }
 
-    // How many reductions the chain that begins with the state, and with the other one above it, makes at the token; none, where they are
+    // How many reductions the chain that begins with the state, and with `above` on it, makes at the token; `None` if they are
     // more than the cap.
     fn reductions_from(
         &self,
@@ -247,7 +246,8 @@ impl<'a, StorageT: StorageIndex> Chains<'a, StorageT> {
         self.reductions(states, t)
     }
 
-    // How many reductions the chain from these states makes at the token; none, where they are more than the cap. It is made on them.
+    // How many reductions the chain from these states makes at the token; `None` if they are more than the cap. It is made on the
+    // list itself.
     fn reductions(
         &self,
         states: &mut Vec<StIdx<StorageT>>,
@@ -287,8 +287,8 @@ fn is_reduction<StorageT: StorageIndex>(action: Action<StorageT>) -> bool
     }
 }
 
-/// The least cap with which a safe table passes, where that is no more than this one; otherwise the first chain that makes more reductions
-/// than this one, or `Memory`, where it was wanting for a list of at most `cap + 3` states.
+/// The least cap with which a safe table passes, if it is at most this one; otherwise the first chain that makes more reductions
+/// than this one, or `Memory` if an allocation failed, for a list of at most `cap + 3` states.
 pub(crate) fn least_cap<StorageT: StorageIndex>(
     alloc: Global,
     grm: &YaccGrammar<StorageT>,

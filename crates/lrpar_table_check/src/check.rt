@@ -33,7 +33,7 @@ pub struct ParserData<StorageT: StorageIndex> {
     least_cap: u16,
 }
 
-// A drop of its own, so that what lets go of one elsewhere proves one call.
+// A drop of its own: code that drops one then has one call to prove.
 impl<StorageT: StorageIndex> Drop for ParserData<StorageT> {
     fn drop(self) {
         let ParserData {
@@ -61,19 +61,19 @@ impl<StorageT: StorageIndex> Model for ParserData<StorageT> {
 }
 
 impl<StorageT: StorageIndex> ParserData<StorageT> {
-    /// Checks that the table is safe: that it has its shape, and that each condition holds in each state; and that no chain
-    /// of reductions under one token is longer than the cap.
+    /// Checks that the table is safe (it has its shape, and each condition holds in each state), and that no chain of reductions
+    /// under one token is longer than the cap.
     ///
-    /// The fault of a refusal is the first of these: the shape, then the conditions S2 to S8 in turn, each with states
-    /// ascending, then the chains, with states and then tokens ascending; it does fail there. `Memory` comes where the
-    /// table is safe and memory was wanting for a list of at most `cap + 3` states, which the chains are made on. A refusal
-    /// keeps the three parts as they were.
+    /// The fault of an `Err` is the first that fails of these: the shape, then the conditions S2 to S8 in turn, each with states
+    /// ascending, then the chains, with states and then tokens ascending. `Memory` comes if the table is safe and an allocation
+    /// failed, for the list of at most `cap + 3` states on which the chains are made. An `Err` gives back the three parts as they
+    /// were.
     ///
-    /// The conditions take time near the size of the input: with I items and A entries of the table, about (I + A) times
-    /// the logarithm of I, where each entry that leads to a state counts the state's cores with a dot past 0. The chains
-    /// take longer: a state has one for each reduction that it stores, and one for each reduction that the state of one of
-    /// its gotos stores. Each is made once, and makes at most `cap + 1` reductions, which are counted; where one is too long, those of
-    /// its state are made again, to find the first token.
+    /// The conditions take time near the size of the input: with I items and A entries of the table, about (I + A) times the
+    /// logarithm of I, where each entry that leads to a state counts the state's cores with a dot past 0. The chains take longer:
+    /// a state has one for each reduction that it stores, and one for each reduction that the state of one of its gotos stores.
+    /// Each is made once, and makes at most `cap + 1` reductions, which are counted; if one is too long, the chains of its state
+    /// are made again, to find the first token.
     pub fn new(
         alloc: Global,
         grm: YaccGrammar<StorageT>,
@@ -102,12 +102,11 @@ impl<StorageT: StorageIndex> ParserData<StorageT> {
         }
     }
 
-    /// Of a table that is safe, as its caller knows: it checks only that no chain of reductions under one token is longer
-    /// than the cap.
+    /// The checked table of a table that is safe, as its caller knows: this checks only that no chain of reductions under one
+    /// token is longer than the cap.
     ///
-    /// A refusal names the first chain that is too long, with states and then tokens ascending; or it is for want of
-    /// memory, for the list on which the chains are made. It keeps the three parts as they were. The chains take the time
-    /// that they take in `new`.
+    /// The fault is the first chain that is too long, with states and then tokens ascending; or `Memory`, for the list on which
+    /// the chains are made. An `Err` gives back the three parts as they were. The chains take the time that they take in `new`.
     pub fn of_safe(
         alloc: Global,
         grm: YaccGrammar<StorageT>,
@@ -181,7 +180,7 @@ impl<StorageT: StorageIndex> ParserData<StorageT> {
     }
 }
 
-// Whatever they were made of, a grammar is well formed, and a table's states are its own.
+// A grammar is well formed, and the actions and gotos of a table lead to its own states, whatever they were made of.
 fn are_sound<StorageT: StorageIndex>(grm: &YaccGrammar<StorageT>, stable: &StateTable<StorageT>)
     ensures well_formed { IsWellFormed grm.now }
     ensures closed { IsClosed stable.now }
@@ -199,7 +198,7 @@ pub struct Refused<StorageT: StorageIndex> {
     stable: StateTable<StorageT>,
 }
 
-// A drop of its own, so that what lets go of one elsewhere proves one call.
+// A drop of its own: code that drops one then has one call to prove.
 impl<StorageT: StorageIndex> Drop for Refused<StorageT> {
     fn drop(self) {
         let Refused {
@@ -230,7 +229,7 @@ impl<StorageT: StorageIndex> Refused<StorageT> {
         self.fault
     }
 
-    /// The grammar, the item sets and the table, as they were handed in.
+    /// The grammar, the item sets and the table, as the caller passed them.
     pub fn into_parts(
         self,
     ) -> (

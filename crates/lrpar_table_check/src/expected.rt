@@ -1,4 +1,4 @@
-//! What may come next at a stack: the tokens that can be fed there, and the end token, where it accepts.
+//! What may come next at a stack: the tokens that can be fed there, and the end token, if it accepts.
 ghost use Rattle.std.specs.Prelude.{◌≡◌, ◌<◌, ◌↔◌, IfOk, IsTrue, OnOk, OnErr};
 ghost use Rattle.lrpar_table_stacks.specs.Expected.{AreExpected, IsExpected, IsListShortOfMemory, IsTriedShortOfMemory, tokens_of};
 ghost use Rattle.lrpar_table_stacks.specs.Overlay.{IsShortOfMemoryOver, overlaid};
@@ -12,11 +12,11 @@ use lrpar_table_stacks::probe::Probe;
 use std::alloc::{AllocError, Global};
 
 impl<StorageT: StorageIndex> ParserData<StorageT> {
-    /// The tokens that may come next at the stack, bottom first, ascending: those other than the end token that `feed`
-    /// shifts there, and the end token where the stack, settled under it, accepts. The list stays as it is.
+    /// The tokens that may come next at the stack, bottom first, ascending: those other than the end token that `feed` shifts
+    /// there, and the end token if the stack, settled under it, accepts. The list stays as it is.
     ///
-    /// It makes one settle for each token at which the top state doesn't find an error. Memory is wanted only for the
-    /// answer, and for the states that reductions put over the stack.
+    /// It makes one settle for each token at which the top state's action isn't an error. It allocates only for the result, and
+    /// for the states that reductions put over the stack.
     pub fn expected(
         &self,
         alloc: Global,
@@ -35,7 +35,7 @@ impl<StorageT: StorageIndex> ParserData<StorageT> {
         self.expected_over(alloc, &overlay)
     }
 
-    /// As `expected`, at what the overlay stands for, which stays as it is: nothing of it is copied.
+    /// As `expected`, at the stack that the overlay represents, which stays as it is: nothing of it is copied.
     pub fn expected_over(
         &self,
         alloc: Global,
@@ -62,8 +62,8 @@ impl<StorageT: StorageIndex> ParserData<StorageT> {
         Ok(expected)
     }
 
-    /// Whether the token may come next at the stack, which stays as it is. Internal: a run that must not lose its stack asks
-    /// this before it feeds.
+    /// Whether the token may come next at the stack, which stays as it is. Internal: a run that must not lose its stack asks this
+    /// before it feeds.
     pub fn is_expected(
         &self,
         alloc: Global,
@@ -81,7 +81,7 @@ impl<StorageT: StorageIndex> ParserData<StorageT> {
         self.takes(&mut Probe::new(alloc, &overlay), t)
     }
 
-    // Makes all reductions of the states under the token, and answers whether it may come next.
+    // Makes all reductions of the states under the token, and returns whether it may come next.
     fn takes(
         &self,
         states: &mut Probe<'_, '_, StorageT>,
@@ -93,7 +93,7 @@ impl<StorageT: StorageIndex> ParserData<StorageT> {
         ensures base { OnOk result (states.new.base ≡ states.old.base) }
         ensures short_of_memory { OnErr result (IsShortOfMemoryOver self.now.grammar self.now.table (StorageT.index t.0) states.old states.new) }
     {
-        // Checked: it shifts no end token, and accepts at that alone.
+        // Checked: the table shifts no end token, and accepts only at that one.
         let _table = self.stable();
         match self.settle_on(states, t)?.action {
             Action::Shift(_) | Action::Accept => Ok(true),

@@ -19,7 +19,7 @@ pub enum CheckFault {
     /// At this state and this token a chain makes more reductions than the cap.
     #[error("chain too long at state {0}, token {1}")]
     ChainTooLong(usize, usize),
-    /// Memory was wanting.
+    /// Out of memory: an allocation failed.
     #[error("out of memory")]
     Memory,
 }

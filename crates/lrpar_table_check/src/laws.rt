@@ -3,18 +3,18 @@ ghost use Rattle.lrpar_grammar.specs.Sentence.{LexemeFacts};
 ghost use Rattle.lrpar_table_check.specs.CompleteRuns.{CompleteTablesTakeSentences};
 ghost use Rattle.lrpar_table_check.specs.ExpectedRuns.{CheckedTablesEndAtSentences, CompleteTablesExpectSentences};
 
-/// Over lexemes of any type, and over those that contracts speak of, the runs of a checked table that is complete take the
-/// sentences, and each by its only tree: the run over a tree's leaves reduces its productions and comes to accept; where a run
-/// comes to accept, its lexemes are a sentence; two trees with the same leaves are equal; and no sentence begins with the lexemes
-/// up to and including the one where a run stops.
+/// Over lexemes of any type, and over those that contracts speak of, the runs of a checked table that is complete accept exactly
+/// the sentences, and each by its only tree: the run over a tree's leaves reduces its productions and accepts; if a run accepts,
+/// its lexemes are a sentence; two trees with the same leaves are equal; and no sentence begins with the lexemes up to and
+/// including a run's error point.
 pub fn complete_tables_take_sentences<LexemeT>()
     ensures takes { CompleteTablesTakeSentences LexemeT }
     ensures facts_taken { CompleteTablesTakeSentences LexemeFacts }
 {}
 
-/// Over lexemes of any type, and over those that contracts speak of: after lexemes that the run of a checked table feeds, the
-/// end token may come next only where they are a sentence; and where the table is complete, exactly where they are, and so may
-/// each token with which some sentence goes on.
+/// Over lexemes of any type, and over those that contracts speak of: after lexemes that the run of a checked table feeds, the end
+/// token may come next only if they are a sentence. If the table is complete, it may come next if and only if they are a
+/// sentence, and so may each token with which some sentence goes on.
 pub fn complete_tables_expect_sentences<LexemeT>()
     ensures ends { CheckedTablesEndAtSentences LexemeT }
     ensures expects { CompleteTablesExpectSentences LexemeT }

@@ -16,8 +16,8 @@ use lrpar_table_stacks::state_stack::{Settled, ShiftStack, StateStack};
 use std::alloc::AllocError;
 
 impl<StorageT: StorageIndex> ParserData<StorageT> {
-    /// Makes all reductions of a stack of any kind under the token, and answers how many these were, and what the state then
-    /// on top does. Internal: `settle` and `settle_over` are this.
+    /// Makes all reductions of a stack of any kind under the token, and returns how many these were, and the action of the state
+    /// then on top. Internal: `settle` and `settle_over` are this.
     ///
     /// At most the cap for each state of the stack, each with one action and one goto.
     pub fn settle_on<S: StateStack<StorageT>>(
@@ -29,20 +29,20 @@ impl<StorageT: StorageIndex> ParserData<StorageT> {
         requires stack { IsStack self.now.table (S.states stack.old) }
         requires token { StorageT.index t.0 < self.now.table.tokens }
 
-        // All reductions were made, of the states and of the rest; their number is told and bounded.
+        // All reductions were made, on the states and on the rest; their number is given and bounded.
         ensures settled { IfOk result (λ done. IsStackSettledBy S.states S.reduces self.now.grammar self.now.table self.now.cap (StorageT.index t.0)
             stack.old done.reductions stack.new) }
         ensures action { IfOk result (λ done. plain_action StorageT.index done.action ≡ top_action self.now.table (StorageT.index t.0) (S.states stack.new)) }
         ensures suits { OnOk result (S.suits self.now.grammar self.now.table stack.new) }
 
-        // Some first reductions were made, and for the next one memory was wanting.
+        // Some first reductions were made, and an allocation failed in the next one.
         ensures short_of_memory { OnErr result (IsStackShortOfMemory S.states S.reduces S.fails self.now.grammar self.now.table (StorageT.index t.0) stack.old stack.new) }
 
         // It is a stack in either case.
         ensures stack { IsStack self.now.table (S.states stack.new) }
     {
         let (grm, table) = (self.grm(), self.stable());
-        // At most the one for each of the other: the number of reductions fits.
+        // At most the cap for each state of the stack: the number of reductions fits.
         let (_cap, _height) = (self.cap(), stack.height());
         let mut count = 0;
         'reductions: loop {
@@ -57,10 +57,10 @@ impl<StorageT: StorageIndex> ParserData<StorageT> {
         }
     }
 
-    /// Makes all reductions of the stack, bottom first, under the token, and answers how many these were.
+    /// Makes all reductions of the stack, bottom first, under the token, and returns how many these were.
     ///
-    /// At most the cap for each state of the stack. Memory is wanted only by a reduction of no symbols, on a list that is
-    /// full; where it was wanting, the stack is what the reductions before that one give.
+    /// At most the cap for each state of the stack. Only a reduction of no symbols allocates, on a list that is full; after an
+    /// `Err`, the stack is what the reductions before that one give.
     pub fn settle(
         &self,
         stack: &mut Vec<StIdx<StorageT>>,
@@ -69,11 +69,11 @@ impl<StorageT: StorageIndex> ParserData<StorageT> {
         requires stack { IsStack self.now.table (states_of StorageT.index stack.old.items) }
         requires token { StorageT.index t.0 < self.now.table.tokens }
 
-        // All reductions were made; their number is told and bounded.
+        // All reductions were made; their number is given and bounded.
         ensures settled { IfOk result (λ count. IsSettledBy self.now.grammar self.now.table self.now.cap (StorageT.index t.0)
             (states_of StorageT.index stack.old.items) count (states_of StorageT.index stack.new.items)) }
 
-        // Some first reductions were made, and the list, as it stands, is full for the next one.
+        // Some first reductions were made, and the list is full for the next one.
         ensures short_of_memory { OnErr result (IsShortOfMemory self.now.grammar self.now.table (StorageT.index t.0)
             (states_of StorageT.index stack.old.items) (vec_capacity stack.old) (states_of StorageT.index stack.new.items) (vec_capacity stack.new)) }
 
@@ -85,8 +85,8 @@ impl<StorageT: StorageIndex> ParserData<StorageT> {
 
     /// As `settle`, over an overlay, whose base stays as it is.
     ///
-    /// Memory is wanted only by a reduction that makes the tail longer, where that is full or the stack has 2^64 - 1
-    /// states. `kept` is then that of the reductions that were made.
+    /// Only a reduction that makes the tail longer allocates, if the tail is full or the stack has 2^64 - 1 states. After an
+    /// `Err`, `kept` is that of the reductions that were made.
     pub fn settle_over(
         &self,
         stack: &mut Overlay<'_, StorageT>,
@@ -95,10 +95,10 @@ impl<StorageT: StorageIndex> ParserData<StorageT> {
         requires stack { IsStack self.now.table (overlaid stack.old) }
         requires token { StorageT.index t.0 < self.now.table.tokens }
 
-        // All reductions were made; their number is told and bounded.
+        // All reductions were made; their number is given and bounded.
         ensures settled { IfOk result (λ count. IsSettledOver self.now.grammar self.now.table self.now.cap (StorageT.index t.0) stack.old count stack.new) }
 
-        // Some first reductions were made, and the tail, as it stands, is full for the next one.
+        // Some first reductions were made, and the tail is full for the next one.
         ensures short_of_memory { OnErr result (IsShortOfMemoryOver self.now.grammar self.now.table (StorageT.index t.0) stack.old stack.new) }
 
         // It is a stack in either case.
@@ -107,8 +107,8 @@ impl<StorageT: StorageIndex> ParserData<StorageT> {
         Ok(self.settle_on(stack, t)?.reductions)
     }
 
-    /// Makes all reductions of a stack of any kind under the token, and then shifts the token, if the top state does;
-    /// answers whether it did. Internal: `feed` and `feed_over` are this.
+    /// Makes all reductions of a stack of any kind under the token, and then shifts the token, if the top state does; returns
+    /// whether it did. Internal: `feed` and `feed_over` are this.
     pub fn feed_on<S: ShiftStack<StorageT>>(
         &self,
         stack: &mut S,
@@ -122,7 +122,7 @@ impl<StorageT: StorageIndex> ParserData<StorageT> {
         ensures fed { IfOk result (λ shifted. IsStackFedBy S.states S.reduces S.shifts self.now.grammar self.now.table self.now.cap (StorageT.index t.0)
             stack.old shifted stack.new) }
 
-        // Memory was wanting for a reduction, or for the shift after all of them.
+        // An allocation failed in a reduction, or in the shift after all of them.
         ensures short_of_memory { OnErr result (
             IsStackShortOfMemory S.states S.reduces S.fails self.now.grammar self.now.table (StorageT.index t.0) stack.old stack.new
             ⊎ IsStackShiftShortOfMemory S.states S.reduces S.shift_fails self.now.grammar self.now.table self.now.cap (StorageT.index t.0) stack.old stack.new) }
@@ -130,7 +130,7 @@ impl<StorageT: StorageIndex> ParserData<StorageT> {
         // It is a stack in each case.
         ensures stack { IsStack self.now.table (S.states stack.new) }
     {
-        // Checked: what it shifts to makes a stack.
+        // Checked: a shift of the table leads to a stack.
         let _table = self.stable();
         let action = self.settle_on(stack, t)?.action;
         match action {
@@ -142,11 +142,11 @@ impl<StorageT: StorageIndex> ParserData<StorageT> {
         }
     }
 
-    /// Makes all reductions of the stack, bottom first, under the token, and then shifts the token, if the top state
-    /// does; answers whether it did.
+    /// Makes all reductions of the stack, bottom first, under the token, and then shifts the token, if the top state does;
+    /// returns whether it did.
     ///
-    /// Where it didn't, the reductions stay made. Memory is wanted by a reduction of no symbols and by the shift, on a list
-    /// that is full; where it was wanting, the stack is what the reductions before that give.
+    /// If it didn't, the reductions stay made. A reduction of no symbols and the shift allocate, on a list that is full; after an
+    /// `Err`, the stack is what the reductions before that give.
     pub fn feed(
         &self,
         stack: &mut Vec<StIdx<StorageT>>,
@@ -159,7 +159,7 @@ impl<StorageT: StorageIndex> ParserData<StorageT> {
         ensures fed { IfOk result (λ shifted. IsFedBy self.now.grammar self.now.table self.now.cap (StorageT.index t.0)
             (states_of StorageT.index stack.old.items) shifted (states_of StorageT.index stack.new.items)) }
 
-        // The list, as it stands, is full for the next reduction, or for the shift after all of them.
+        // The list is full for the next reduction, or for the shift after all of them.
         ensures short_of_memory { OnErr result (
             IsShortOfMemory self.now.grammar self.now.table (StorageT.index t.0)
             (states_of StorageT.index stack.old.items) (vec_capacity stack.old) (states_of StorageT.index stack.new.items) (vec_capacity stack.new)
@@ -174,8 +174,8 @@ impl<StorageT: StorageIndex> ParserData<StorageT> {
 
     /// As `feed`, over an overlay, whose base stays as it is.
     ///
-    /// Memory is wanted only by a reduction that makes the tail longer and by the shift, where the tail is full or the stack
-    /// has 2^64 - 1 states. `kept` is then that of the reductions that were made.
+    /// Only a reduction that makes the tail longer and the shift allocate, if the tail is full or the stack has 2^64 - 1 states.
+    /// After an `Err`, `kept` is that of the reductions that were made.
     pub fn feed_over(
         &self,
         stack: &mut Overlay<'_, StorageT>,
@@ -187,7 +187,7 @@ impl<StorageT: StorageIndex> ParserData<StorageT> {
         // The token was shifted after all reductions, or the top doesn't shift it.
         ensures fed { IfOk result (λ shifted. IsFedOver self.now.grammar self.now.table self.now.cap (StorageT.index t.0) stack.old shifted stack.new) }
 
-        // The tail, as it stands, is full for the next reduction, or for the shift after all of them.
+        // The tail is full for the next reduction, or for the shift after all of them.
         ensures short_of_memory { OnErr result (IsShortOfMemoryOver self.now.grammar self.now.table (StorageT.index t.0) stack.old stack.new
             ⊎ IsShiftShortOfMemoryOver self.now.grammar self.now.table self.now.cap (StorageT.index t.0) stack.old stack.new) }
 

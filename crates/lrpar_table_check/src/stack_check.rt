@@ -7,10 +7,10 @@ use lrpar_grammar::span::{StIdx, StorageIndex};
 use lrpar_table_stacks::stack_check::is_stack_of;
 
 impl<StorageT: StorageIndex> ParserData<StorageT> {
-    /// Whether these states, bottom first, are a stack of the table: the start state stands at the bottom, and a shift or
-    /// a goto leads from each state to the one above it. A list with a state out of range is none, nor is the empty one.
+    /// Whether these states, bottom first, are a stack of the table: the start state is at the bottom, and a shift or a goto
+    /// leads from each state to the one above it. A list with a state out of range is none, nor is the empty one.
     ///
-    /// Takes no memory. Reads at most the entries of each state but the top.
+    /// Allocates nothing. Reads at most the entries of each state but the top.
     pub fn is_stack(&self, stack: &[StIdx<StorageT>]) -> bool
         ensures { IsTrue result ↔ IsStack self.now.table (states_of StorageT.index stack.now) }
     {

@@ -1,4 +1,4 @@
--- Ways are settled in the order of their lengths, as rules are.
+-- Access strings are settled in the order of their lengths, as minimal sentences of rules are.
 use Rattle.std.proofs.Common.{◌≡◌, ◌<◌, ◌≤◌, ◌+◌, ◌⊎◌, ◌∙◌, refl, sym, ap, subst, inl, inr, arith, ℕ, suc, List, [], ◌∷◌, Option, Some, None, MatchOption, get_or, length, min, set, cond, nat_eq, true, false}
 use Rattle.std.specs.List.{All, Contains}
 use Rattle.std.specs.Option.{is_none, option_eq, option_map, option_map_or}
@@ -17,7 +17,7 @@ use Rattle.lrpar_table_sentences.specs.declared.transitions.Access.{Access}
 use Rattle.lrpar_table_sentences.proofs.LenLemmas.{added_parts, mapped_parts, option_cases, total_fits}
 use Rattle.lrpar_table_sentences.proofs.SettleLemmas.{IsLeastBelow, eq_some, not_some, stays_more}
 
--- what an open step tells
+-- what follows for an open step
 open_parts : (most : ℕ) (accesses : List (Option AccessOf)) (e : EdgeOf) (len : ℕ) → open_by most accesses e ≡ Some len
     → (access_at accesses e.next ≡ None) × ((from : AccessOf) × (access_at accesses e.step.from ≡ Some from) × (min (e.len + from.len) most ≡ len))
 open_parts most accesses e len is =
@@ -45,7 +45,7 @@ open_from most accesses e from none kept =
 abbrev access_len : Option AccessOf → ℕ
 access_len o = option_map_or (λ (access : AccessOf). access.len) o 0
 
--- steps that go back still do where more is kept
+-- steps that go back still do if more is kept
 go_back_more : (old new : List (Option AccessOf)) → ((s : ℕ) (access : AccessOf) → access_at old s ≡ Some access → access_at new s ≡ Some access) → (s : ℕ) (steps : List StepOf)
     → GoBack old s steps → GoBack new s steps
 go_back_more old new keep s [] back = (back.0, keep s _ back.1)
@@ -53,7 +53,7 @@ go_back_more old new keep s (step ∷ steps) back = (back.0, keep s _ back.1, go
 
 module _ (table : Table) (most : ℕ) (choices : List (Option ChoiceOf)) (edges : List EdgeOf) (are : AreEdges table choices edges)
     (accesses : List (Option AccessOf)) (right : AreRightAccesses table most choices accesses) where
-  -- no walk to a state of which nothing is kept has less tokens than the least open step
+  -- no walk to a state with nothing kept has fewer tokens than the least open step
   pub no_walk_below : (len : ℕ) → NoStepIsLess most accesses edges len → NoWalkIsBelow table most choices accesses len
   no_walk_below len less s other path none Starts total = let start = right.start in absurd (cc)
   no_walk_below len less s other path none (Goes from next x before walk within goes) total =
@@ -72,7 +72,7 @@ module _ (table : Table) (most : ℕ) (choices : List (Option ChoiceOf)) (edges 
             omega (arith, sum, least, access)
       ]
 
-  -- where no step is open, no walk leads to a state of which nothing is kept
+  -- if no step is open, no walk leads to a state with nothing kept
   pub no_walk : NoStepIsOpen most accesses edges → (s len : ℕ) (path : List GrammarSymbol) → access_at accesses s ≡ None → IsWalk table s path
       → total_len most choices path ≡ Some len → ⊥
   no_walk closed s len path none walk total =
@@ -80,7 +80,7 @@ module _ (table : Table) (most : ℕ) (choices : List (Option ChoiceOf)) (edges 
       no_walk_below (suc len) (λ e other there is. let never = closed e there in absurd (cc)) s len path none walk total in
       omega (arith, more)
 
-  -- one more way is kept
+  -- one more access string is kept
   module _ (len : ℕ) (e : EdgeOf) (there : Contains edges e) (low : e.next < length accesses) (is : open_by most accesses e ≡ Some len)
       (below : NoWalkIsBelow table most choices accesses len) where
     abbrev kept : List (Option AccessOf)
@@ -99,13 +99,13 @@ module _ (table : Table) (most : ℕ) (choices : List (Option ChoiceOf)) (edges 
           | inr other ↦ elsewhere s other ∙ at
         ]
 
-    pub ways_more : AreRightAccesses table most choices kept
-    ways_more =
-        let told = open_parts most accesses e len is in
-        let from = told.1.0 in
-        let sum = told.1.2 in
+    pub accesses_more : AreRightAccesses table most choices kept
+    accesses_more =
+        let fact = open_parts most accesses e len is in
+        let from = fact.1.0 in
+        let sum = fact.1.2 in
         let sound = are.sound e there in
-        let before = right.back e.step.from from told.1.1 in
+        let before = right.back e.step.from from fact.1.1 in
         record {
           states = length-set accesses e.next _ ∙ right.states;
           start = keeps table.start _ right.start;
@@ -113,7 +113,7 @@ module _ (table : Table) (most : ℕ) (choices : List (Option ChoiceOf)) (edges 
               elim (cases_eq s e.next) as (λ _. access.len ≤ other) [
                 | inl same ↦
                     let own : len ≡ access.len = ap access_len (sym here ∙ ap (access_at kept) (sym same) ∙ at) in
-                    let least = below s other path (ap (access_at accesses) same ∙ told.0) walk total in
+                    let least = below s other path (ap (access_at accesses) same ∙ fact.0) walk total in
                     omega (arith, own, least)
                 | inr not ↦ right.least s other access path (sym (elsewhere s not) ∙ at) walk total
               ];
@@ -163,19 +163,19 @@ place_has : (edges : List EdgeOf) (k : ℕ) → k < length edges → Contains ed
 place_has edges k low = (k, low, get_or_default edges k (get_or edges k no_edge) no_edge low)
 
 -- the least of all open steps
-pub steps_told : (most : ℕ) (accesses : List (Option AccessOf)) (edges : List EdgeOf) (n : ℕ) (least : Option ℕ) → n ≡ length edges
+pub steps_least : (most : ℕ) (accesses : List (Option AccessOf)) (edges : List EdgeOf) (n : ℕ) (least : Option ℕ) → n ≡ length edges
     → IsLeastBelow (open_at most accesses edges) n least
     → MatchOption least (NoStepIsOpen most accesses edges) (λ len. HasOpenStep most accesses edges len × NoStepIsLess most accesses edges len)
-steps_told most accesses edges n None all before = λ e there.
+steps_least most accesses edges n None all before = λ e there.
     let low = there.1 in sym (place_open most accesses edges e there) ∙ before there.0 (omega (arith, all, low))
-steps_told most accesses edges n (Some len) all before =
+steps_least most accesses edges n (Some len) all before =
     let one = before.0 in
     let inside = one.1 in (
       (get_or edges one.0 no_edge, place_has edges one.0 (omega (arith, all, inside)), one.2),
       λ e other there at. let low = there.1 in before.1 there.0 other (omega (arith, all, low)) (place_open most accesses edges e there ∙ at),
     )
 
--- less states are open where one more way is kept
+-- fewer states are open if one more access string is kept
 open_less : (accesses : List (Option AccessOf)) (s : ℕ) (access : AccessOf) → s < length accesses → access_at accesses s ≡ None → open_accesses (set accesses s (Some access)) < open_accesses accesses
 open_less accesses s access low none =
     let f : Option AccessOf → ℕ = λ o. cond (is_none o) 1 0 in
@@ -183,8 +183,8 @@ open_less accesses s access low none =
     let one : f (access_at accesses s) ≡ 1 = ap f none in
     omega (arith, sums, one)
 
--- what holds once the first n steps were looked at: what is kept is still right; and either nothing was kept, and none of the steps has the
--- length, or less states are open
+-- what holds once the first n steps were looked at: what is kept is still right; and either nothing was kept, and none of the
+-- steps has the length, or fewer states are open
 abbrev pub SettlingAccesses : {S : Type 0} → (S → ℕ) → ℕ → ℕ → List (Edge S) → List (Option (Access S)) → List (Option (Access S)) → ℕ → Type 0
 SettlingAccesses index most len edges old now n =
     ((table : Table) (choices : List (Option ChoiceOf)) → AreEdges table choices (edges_of index edges) → AreRightAccesses table most choices (accesses_of index old)
@@ -195,7 +195,7 @@ SettlingAccesses index most len edges old now n =
 
 module _ {S : Type 0} (index : S → ℕ) (most len : ℕ) (edges : List (Edge S)) (old now new : List (Option (Access S))) (n : ℕ)
     (before : SettlingAccesses index most len edges old now n) (edge : Edge S) (o : Option ℕ) (low : n < length edges) (at : edge ≡ get_or edges n edge)
-    (told : o ≡ open_by most (accesses_of index now) (edge_of index edge)) where
+    (fact : o ≡ open_by most (accesses_of index now) (edge_of index edge)) where
   abbrev the_edge : EdgeOf
   the_edge = edge_of index edge
 
@@ -204,10 +204,10 @@ module _ {S : Type 0} (index : S → ℕ) (most len : ℕ) (edges : List (Edge S
       let long = length-map edges (edge_of index) in
       (n, omega (arith, long, low), get_or-map (edge_of index) edges n edge the_edge low ∙ ap (edge_of index) (sym at))
 
-  pub ways_settle : (k : ℕ) → option_eq nat_eq o (Some len) ≡ true → k ≡ index edge.next.0 → k < length now
+  pub accesses_settle : (k : ℕ) → option_eq nat_eq o (Some len) ≡ true → k ≡ index edge.next.0 → k < length now
       → new ≡ set now k (Some (record { len = len; last = Some edge.step })) → SettlingAccesses index most len edges old new (n + 1)
-  ways_settle k equal target inside is =
-      let open_now : open_by most (accesses_of index now) the_edge ≡ Some len = sym told ∙ eq_some o len equal in
+  accesses_settle k equal target inside is =
+      let open_now : open_by most (accesses_of index now) the_edge ≡ Some len = sym fact ∙ eq_some o len equal in
       let access : Access S = record { len = len; last = Some edge.step } in
       let list : accesses_of index new ≡ set (accesses_of index now) the_edge.next (Some (access_of index access)) =
       ap (accesses_of index) is ∙ map-set (option_map (access_of index)) now k (Some access) ∙ ap (λ (m : ℕ). set (accesses_of index now) m (Some (access_of index access))) target in
@@ -219,7 +219,7 @@ module _ {S : Type 0} (index : S → ℕ) (most len : ℕ) (edges : List (Edge S
         λ table choices are right below.
             let so_far = before.0 table choices are right below in (
               subst (AreRightAccesses table most choices) (sym list)
-                  (ways_more table most choices (edges_of index edges) are (accesses_of index now) so_far.0 len the_edge there within open_now so_far.1),
+                  (accesses_more table most choices (edges_of index edges) are (accesses_of index now) so_far.0 len the_edge there within open_now so_far.1),
               subst (λ (xs : List (Option AccessOf)). NoWalkIsBelow table most choices xs len) (sym list)
                   (below_kept table most choices (edges_of index edges) are (accesses_of index now) so_far.0 len the_edge there within open_now so_far.1),
             ),
@@ -229,10 +229,10 @@ module _ {S : Type 0} (index : S → ℕ) (most len : ℕ) (edges : List (Edge S
         ],
       )
 
-  pub ways_stay : option_eq nat_eq o (Some len) ≡ false → new ≡ now → SettlingAccesses index most len edges old new (n + 1)
-  ways_stay unequal is =
+  pub accesses_stay : option_eq nat_eq o (Some len) ≡ false → new ≡ now → SettlingAccesses index most len edges old new (n + 1)
+  accesses_stay unequal is =
       let not_here : open_at most (accesses_of index now) (edges_of index edges) n ≡ Some len → ⊥ =
-      λ here. not_some o len unequal (told ∙ sym (open_here index most (accesses_of index now) edges n edge low at) ∙ here) in
+      λ here. not_some o len unequal (fact ∙ sym (open_here index most (accesses_of index now) edges n edge low at) ∙ here) in
       subst (λ (xs : List (Option (Access S))). SettlingAccesses index most len edges old xs (n + 1)) (sym is) (
         before.0,
         elim before.1 [
@@ -247,14 +247,14 @@ module _ {S : Type 0} (index : S → ℕ) (most len : ℕ) (edges : List (Edge S
       )
 
 -- nothing was looked at yet
-pub ways_start : {S : Type 0} (index : S → ℕ) (most len : ℕ) (edges : List (Edge S)) (old : List (Option (Access S))) → SettlingAccesses index most len edges old old 0
-ways_start index most len edges old = (λ table choices are right below. (right, below), inl (refl, λ k low is. omega (arith, low)))
+pub accesses_start : {S : Type 0} (index : S → ℕ) (most len : ℕ) (edges : List (Edge S)) (old : List (Option (Access S))) → SettlingAccesses index most len edges old old 0
+accesses_start index most len edges old = (λ table choices are right below. (right, below), inl (refl, λ k low is. omega (arith, low)))
 
 -- all were
-pub ways_end : {S : Type 0} (index : S → ℕ) (most len : ℕ) (edges : List (Edge S)) (old now : List (Option (Access S))) (n : ℕ) → length edges ≤ n
+pub accesses_end : {S : Type 0} (index : S → ℕ) (most len : ℕ) (edges : List (Edge S)) (old now : List (Option (Access S))) (n : ℕ) → length edges ≤ n
     → SettlingAccesses index most len edges old now n → HasOpenStep most (accesses_of index old) (edges_of index edges) len
     → open_accesses (accesses_of index now) < open_accesses (accesses_of index old)
-ways_end index most len edges old now n all after some =
+accesses_end index most len edges old now n all after some =
     let inside = some.1.1 in
     let long = length-map edges (edge_of index) in
     elim after.1 [
@@ -263,7 +263,7 @@ ways_end index most len edges old now n all after some =
       | inr fewer ↦ fewer
     ]
 
--- a way that is put into a list is there, and elsewhere all is as it was
+-- an access string that is put into a list is there, and elsewhere all is as it was
 pub access_here : {S : Type 0} (index : S → ℕ) (accesses : List (Option (Access S))) (k : ℕ) (access : Access S) (s : ℕ) → s ≡ k → k < length accesses
     → access_at (accesses_of index (set accesses k (Some access))) s ≡ Some (access_of index access)
 access_here index accesses k access s is low =
@@ -278,7 +278,7 @@ access_elsewhere index accesses k access s other =
     ap (λ (xs : List (Option AccessOf)). access_at xs s) (map-set (option_map (access_of index)) accesses k (Some access))
     ∙ get_or-set_other (accesses_of index accesses) k s (Some (access_of index access)) None other
 
--- a way without a step to the start, and nothing elsewhere, is right
+-- an access string without a step to the start, and nothing elsewhere, is right
 pub start_right : (table : Table) (most : ℕ) (choices : List (Option ChoiceOf)) (accesses : List (Option AccessOf)) → length accesses ≡ states_len table
     → access_at accesses table.start ≡ Some (record { len = 0; last = None }) → ((s : ℕ) → (s ≡ table.start → ⊥) → access_at accesses s ≡ None)
     → AreRightAccesses table most choices accesses

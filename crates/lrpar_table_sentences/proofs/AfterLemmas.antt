@@ -1,5 +1,5 @@
--- What stands behind a dot. The rules that items are of are reached from the start, and so is each rule behind their dots; so what
--- stands there has trees, where each rule that is reached has one.
+-- The symbols after a dot. The rules of items are reachable, and so is each rule after their dots; so the symbols after a dot
+-- have trees, if each reachable rule has one.
 use Rattle.std.proofs.Common.{◌≡◌, ◌<◌, ◌+◌, refl, sym, ap, subst, arith, ℕ, zero, suc, List, [], ◌∷◌, All, drop, Some, slice_get}
 use Rattle.std.specs.List.{Contains}
 use Rattle.std.proofs.lemmas.List.Elements.{All-cons, All-drop, All-head, All-nil, All-tail, Contains-append_right}
@@ -25,13 +25,13 @@ pub contains_at : {X : Type 0} (xs : List X) (k : ℕ) (x : X) → slice_get xs 
 contains_at xs k x at = (k, slice_get_within xs k x at, get_or_from_slice_get xs k x x at)
 
 module _ (g : Grammar) (well : IsWellFormed g) where
-  -- a rule behind a dot of a rule that is reached is reached
+  -- a rule after a dot of a reachable rule is reachable
   pub after_reached : (q j r : ℕ) (w : List GrammarSymbol) → drop j (symbols_of g q) ≡ Nonterminal r ∷ w → IsReachableRule g (rule_of g q) → IsReachableRule g r
   after_reached q j r w before reached =
       let at = head_after (symbols_of g q) j (Nonterminal r) w before in
       OnRight q r (known_by_symbol g well q j (Nonterminal r) at) reached (contains_at (symbols_of g q) j (Nonterminal r) at)
 
-  -- an item's rule is reached
+  -- an item's rule is reachable
   pub item_reached : (path : List GrammarSymbol) (x : ItemOf) → IsReachedBy g path x → IsReachableRule g (rule_of g x.prod)
   item_reached =
       reached_each g (λ x. IsReachableRule g (rule_of g x.prod))
@@ -39,7 +39,7 @@ module _ (g : Grammar) (well : IsWellFormed g) where
       (subst (IsReachableRule g) (sym well.last_rule) Added)
       (λ x s reached at. reached)
 
-  -- symbols of a rule that is reached are reached
+  -- symbols of a reachable rule are reachable
   symbols_reached : (q : ℕ) → q < prods_len g → IsReachableRule g (rule_of g q) → (w : List GrammarSymbol) → ((s : GrammarSymbol) → Contains w s → Contains (symbols_of g q) s)
       → All (IsReachableSymbol g) w
   symbols_reached q known reached [] in_all = All-nil (IsReachableSymbol g)
@@ -52,7 +52,7 @@ module _ (g : Grammar) (well : IsWellFormed g) where
   pub prod_reached : (q : ℕ) → q < prods_len g → IsReachableRule g (rule_of g q) → All (IsReachableSymbol g) (symbols_of g q)
   prod_reached q known reached = symbols_reached q known reached (symbols_of g q) (λ s h. h)
 
-  -- and so is what stands behind one of them
+  -- and so are those after one of them
   pub rest_reached : (q j : ℕ) (s : GrammarSymbol) (w : List GrammarSymbol) → drop j (symbols_of g q) ≡ s ∷ w → IsReachableRule g (rule_of g q)
       → All (IsReachableSymbol g) w
   rest_reached q j s w before reached =
@@ -62,7 +62,7 @@ module _ (g : Grammar) (well : IsWellFormed g) where
       (subst (All (IsReachableSymbol g)) before (All-drop (IsReachableSymbol g) j (symbols_of g q) (prod_reached q known reached)))
 
 module _ (g : Grammar) (each : EachReachableHasTree g) where
-  -- symbols that are reached have trees
+  -- reachable symbols have trees
   symbol_tree : (s : GrammarSymbol) → IsReachableSymbol g s → (tree : Tree ℕ) × IsTreeOf g s tree
   symbol_tree (Terminal t) reached = (Leaf t, refl)
   symbol_tree (Nonterminal r) reached = each r reached

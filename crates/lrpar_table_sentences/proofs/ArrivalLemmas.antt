@@ -1,4 +1,4 @@
--- What is kept of states, once no step is open, are shortest ways.
+-- What is kept of states, once no step is open, are minimal access strings.
 use Rattle.std.proofs.Common.{◌≡◌, ◌<◌, ◌≤◌, ◌+◌, ◌∙◌, refl, sym, ap, subst, inl, inr, arith, ℕ, List, [], ◌∷◌, ◌++◌, Option, Some, None, length, min, reverse}
 use Rattle.std.specs.Option.{option_map}
 use Rattle.std.proofs.lemmas.Bool.{cases_lt}
@@ -25,7 +25,7 @@ added_swap most (Some a) None = refl
 added_swap most None (Some b) = refl
 added_swap most None None = refl
 
--- the length of symbols is that of both parts, and that of them the other way round
+-- the length of symbols is the sum of both parts, and symbols in reverse have the same length
 total_both : (most : ℕ) (choices : List (Option ChoiceOf)) (xs ys : List GrammarSymbol)
     → total_len most choices (xs ++ ys) ≡ added most (total_len most choices xs) (total_len most choices ys)
 total_both most choices [] ys = sym (total_from_zero most choices ys)
@@ -43,7 +43,7 @@ total_reverse most choices (s ∷ ss) =
     ∙ added_assoc most x (Some 0) (total_len most choices ss)
     ∙ ap (added most x) (total_from_zero most choices ss)
 
--- the symbols of steps the other way round
+-- the symbols of steps in reverse
 symbols_reverse : (steps : List StepOf) → symbols_in (reverse steps) ≡ reverse (symbols_in steps)
 symbols_reverse [] = refl
 symbols_reverse (step ∷ steps) =
@@ -52,7 +52,7 @@ symbols_reverse (step ∷ steps) =
     ∙ ap (λ xs. xs ++ step.symbol ∷ []) (symbols_reverse steps)
     ∙ sym (reverse-append (step.symbol ∷ []) (symbols_in steps))
 
--- steps that lead back are a walk, and lead there the other way round
+-- steps that lead back are a walk, and in reverse they lead there
 lead_walk : (table : Table) (s : ℕ) (steps : List StepOf) → LeadBack table s steps → IsWalk table s (symbols_in steps)
 lead_walk table s [] is = subst (λ n. IsWalk table n []) (sym is) Starts
 lead_walk table s (step ∷ steps) lead = Goes step.from s step.symbol (symbols_in steps) (lead_walk table step.from steps lead.2) lead.0 lead.1
@@ -88,7 +88,7 @@ module _ (g : Grammar) (graph : Graph) (table : Table) (well : IsWellFormed g) (
         total_least g most choices shortest.right symbols len.0 trees len.1 fit,
       )
 
-  -- the steps that lead back, the other way round
+  -- the steps that lead back, in reverse
   back_total : (steps : List StepOf) (len : ℕ) → total_len most choices (symbols_in steps) ≡ Some len → total_len most choices (symbols_in (reverse steps)) ≡ Some len
   back_total steps len total =
       ap (total_len most choices) (symbols_reverse steps) ∙ total_reverse most choices (symbols_in steps) ∙ total
@@ -107,22 +107,22 @@ module _ (g : Grammar) (graph : Graph) (table : Table) (well : IsWellFormed g) (
       record {
         some = (symbols, kept.0, back_path s back.0 back.2, forest_follows_fit g most choices shortest.right kept.0 symbols kept.1, kept.2);
         least = λ others trees path fit.
-            let told = path_total s others trees (state_low s access at) path fit in
-            let least = right.least s told.0 access (reverse others) at told.1 told.2 in
-            let wide = told.3 in
+            let fact = path_total s others trees (state_low s access at) path fit in
+            let least = right.least s fact.0 access (reverse others) at fact.1 fact.2 in
+            let wide = fact.3 in
             omega (arith, least, wide);
       }
 
   pub are_accesses : NoStepIsOpen most accesses edges → AreAccessStrings g graph table most accesses
   are_accesses done = record {
-    states = right.states ∙ sym built.wanted.states;
+    states = right.states ∙ sym built.resolved.states;
     lens = λ s low.
         elim (option_cases (access_at accesses s)) as (λ _. IsShortestAccessIfAny g graph most s (option_map (λ (access : AccessOf). access.len) (access_at accesses s))) [
           | inl none ↦
               subst (λ (o : Option AccessOf). IsShortestAccessIfAny g graph most s (option_map (λ (access : AccessOf). access.len) o)) (sym none)
               (λ symbols trees path fit.
-              let told = path_total s symbols trees (let count = built.wanted.states in omega (arith, count, low)) path fit in
-              no_walk table most choices edges are accesses right done s told.0 (reverse symbols) none told.1 told.2)
+              let fact = path_total s symbols trees (let count = built.resolved.states in omega (arith, count, low)) path fit in
+              no_walk table most choices edges are accesses right done s fact.0 (reverse symbols) none fact.1 fact.2)
           | inr some ↦
               subst (λ (o : Option AccessOf). IsShortestAccessIfAny g graph most s (option_map (λ (access : AccessOf). access.len) o)) (sym some.1)
               (access_shortest s some.0 some.1)

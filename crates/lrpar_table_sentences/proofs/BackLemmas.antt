@@ -1,4 +1,4 @@
--- The steps that are kept, from the end of a way back to its start.
+-- The steps that are kept, from the end of an access string back to its start.
 use Rattle.std.proofs.Common.{◌≡◌, ◌∙◌, refl, sym, ap, subst, ℕ, List, [], ◌∷◌, ◌++◌, Option, Some, None, drop, length, map, reverse, take}
 use Rattle.lrpar_table_sentences.specs.declared.transitions.Step.{Step}
 use Rattle.std.proofs.lemmas.List.{append-nil, append_assoc, drop-map, length-map, map-append, reverse-append, take-map}
@@ -36,7 +36,7 @@ module _ (accesses : List (Option AccessOf)) (s : ℕ) (before : List StepOf) (n
   backing_ends last all back =
       let left = so_far all back in sym (none_left last left.0 left.1) ∙ sym left.2
 
--- where the steps that were appended are turned round
+-- the order of the steps that were appended is reversed
 pub turned : {S : Type 0} (index : S → ℕ) (old out new : List (Step S)) (back : List StepOf) (n : ℕ) → n ≡ length old
     → steps_of index out ≡ steps_of index old ++ back → new ≡ take n out ++ reverse (drop n out) → steps_of index new ≡ steps_of index old ++ reverse back
 turned index old out new back n all is made =

@@ -1,4 +1,5 @@
--- Trees that begin with a token, made from the top down to the token: what stands before it is made, and what is left goes on a stack.
+-- Trees that begin with a token, made from the top down to the token: what comes before it is made, and what is left goes on a
+-- stack.
 use Rattle.std.proofs.Common.{◌≡◌, ◌<◌, ◌≤◌, ◌+◌, ◌∙◌, refl, sym, ap, subst, ℕ, zero, suc, List, [], ◌∷◌, ◌++◌, Option, Some, None, add-one, drop, length, map, take}
 use Rattle.std.specs.Option.{option_map_or}
 use Rattle.lrpar_grammar_places.specs.declared.span.Symbol.{Symbol}
@@ -86,13 +87,13 @@ module _ (g : Grammar) (choices : List (Option ChoiceOf)) (starts : List (Option
             subst (λ (n : ℕ). ForestStarts g choices starts first k children (symbols_of g n)) same
             (subst (λ (n : ℕ). ForestStarts g choices starts first n children (symbols_of g q)) place h) in
             let split = parts k children (symbols_of g p) own in
-            let told = split.at x (drop (k + 1) (symbols_of g p)) at in
+            let fact = split.at x (drop (k + 1) (symbols_of g p)) at in
             let more = forest_moves split.after ++ Makes p ∷ todo in
             let front = made split.before split.front in (
               split.inner,
               more,
-              told.0,
-              (split.after, todo, told.1, refl, unfolds),
+              fact.0,
+              (split.after, todo, fact.1, refl, unfolds),
               ap (λ (n : ℕ). out ++ ((forest_moves children ++ Makes n ∷ []) ++ todo)) same
                   ∙ ap (λ ms. out ++ ((ms ++ Makes p ∷ []) ++ todo)) split.moves
                   ∙ regroup out (forest_moves split.before) (moves_of split.inner) (forest_moves split.after) (Makes p ∷ []) todo
@@ -166,7 +167,7 @@ descended g choices starts first s none frames before middle after is descends a
     let one = descends tree [] begun (subst (λ (fs : List FrameOf). Unfold g choices fs []) (sym is) refl) in
     all one.0 one.1 ∙ one.2 ∙ ap (λ ms. before ++ ms) (append-nil (moves_of tree))
 
--- symbols one of which begins: what stands before it, its tree, and what stands behind it
+-- symbols one of which begins: what comes before it, its tree, and what comes after it
 pub placed : (g : Grammar) (choices : List (Option ChoiceOf)) (starts : List (Option StartOf)) (first k j : ℕ) (all more : List GrammarSymbol) (x : GrammarSymbol)
     (one two three four : List MoveOf) → j ≡ k → drop j all ≡ x ∷ more
     → ((nulls : Forest ℕ) → ForestFollows g choices nulls (take j all) → two ≡ one ++ forest_moves nulls)
@@ -175,9 +176,9 @@ pub placed : (g : Grammar) (choices : List (Option ChoiceOf)) (starts : List (Op
     → (trees : Forest ℕ) → ForestStarts g choices starts first k trees all → four ≡ one ++ forest_moves trees
 placed g choices starts first k j all more x one two three four same at front begin last trees begun =
     let split = parts g choices starts first j trees all (subst (λ (n : ℕ). ForestStarts g choices starts first n trees all) (sym same) begun) in
-    let told = split.at x more at in
-    last split.after told.1
-    ∙ ap (λ ms. ms ++ forest_moves split.after) (begin split.inner told.0 ∙ ap (λ ms. ms ++ moves_of split.inner) (front split.before split.front))
+    let fact = split.at x more at in
+    last split.after fact.1
+    ∙ ap (λ ms. ms ++ forest_moves split.after) (begin split.inner fact.0 ∙ ap (λ ms. ms ++ moves_of split.inner) (front split.before split.front))
     ∙ regrouped one (forest_moves split.before) (moves_of split.inner) (forest_moves split.after)
     ∙ ap (λ ms. one ++ ms) (sym split.moves)
   where
@@ -221,7 +222,7 @@ module _ (g : Grammar) (most : ℕ) (choices : List (Option ChoiceOf)) (right : 
   pub begin_with : (k : ℕ) (ts : Forest ℕ) (ss : List GrammarSymbol) → ForestStarts g choices starts first k ts ss → BeginWith g ss first ts
   begin_with k ts ss h = record { fit = forest_starts_fit k ts ss h; first = forest_starts_first k ts ss h }
 
--- so where symbols can begin with the token, what is appended does
+-- so if symbols can begin with the token, what is appended does
 pub beginning : (g : Grammar) (most : ℕ) (choices : List (Option ChoiceOf)) (shortest : AreShortest g most choices) (first : ℕ) (starts : List (Option StartOf))
     → AreStarts g choices first starts → ((p : ℕ) → p < prods_len g → CanStart g most choices first starts p) → 1 ≤ most
     → (ss : List GrammarSymbol) (old new : List MoveOf) → CanBeginWith g ss first

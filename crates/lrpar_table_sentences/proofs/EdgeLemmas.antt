@@ -13,7 +13,7 @@ use Rattle.lrpar_table_sentences.specs.Choices.{ChoiceOf}
 use Rattle.lrpar_table_sentences.specs.Lens.{len_at}
 use Rattle.lrpar_table_sentences.specs.AccessLens.{AreEdges, EdgeOf, IsStoredAt, edge_if, edges_at, edges_below, goto_edges, shift_edge, shift_edges}
 
--- what is made of one element more stands behind what is made of the first i
+-- what is made of one element more comes after what is made of the first i
 module _ {X Y : Type 0} (f : X → List Y) (xs : List X) (i : ℕ) (x : X) where
   pub made_more : (first before after : List Y) → i < length xs → x ≡ get_or xs i x → before ≡ first ++ flat_map f (take i xs) → after ≡ before ++ f x
       → after ≡ first ++ flat_map f (take (i + 1) xs)
@@ -29,10 +29,10 @@ pub made_all : {X Y : Type 0} (f : X → List Y) (xs : List X) (i : ℕ) (first 
 made_all f xs i first all past is = is ∙ ap (λ ys. first ++ flat_map f ys) (take_all i xs past)
 
 -- a step that is made, if it is
-edge_if_told : (o : Option ℕ) (s : ℕ) (x : GrammarSymbol) (next : ℕ) (e : EdgeOf) → Contains (edge_if o s x next) e
+edge_if_parts : (o : Option ℕ) (s : ℕ) (x : GrammarSymbol) (next : ℕ) (e : EdgeOf) → Contains (edge_if o s x next) e
     → (len : ℕ) × (o ≡ Some len) × (record { step = record { from = s; symbol = x }; next = next; len = len } ≡ e)
-edge_if_told None s x next e there = absurd (member_none e there)
-edge_if_told (Some len) s x next e there =
+edge_if_parts None s x next e there = absurd (member_none e there)
+edge_if_parts (Some len) s x next e there =
     elim (member_cases _ [] e there) [
       | inl same ↦ (len, refl, same)
       | inr none ↦ absurd (member_none e none)
@@ -49,9 +49,9 @@ module _ (table : Table) (choices : List (Option ChoiceOf)) (stored : (s : ℕ) 
       → Contains (edge_if (len_at choices x) s x next) e
       → (e.step.from < states_len table) × GoesBy table e.step.from e.step.symbol e.next × (len_at choices e.step.symbol ≡ Some e.len)
   step_made s x next e low goes there =
-      let told = edge_if_told (len_at choices x) s x next e there in
+      let fact = edge_if_parts (len_at choices x) s x next e there in
       subst (λ (f : EdgeOf). (f.step.from < states_len table) × GoesBy table f.step.from f.step.symbol f.next × (len_at choices f.step.symbol ≡ Some f.len))
-      told.2 (low, goes, told.1)
+      fact.2 (low, goes, fact.1)
 
   shift_made : (s t : ℕ) (action : TableAction) (e : EdgeOf) → s < states_len table → action_of table s t ≡ action → Contains (shift_edge choices s t action) e
       → (e.step.from < states_len table) × GoesBy table e.step.from e.step.symbol e.next × (len_at choices e.step.symbol ≡ Some e.len)

@@ -50,7 +50,7 @@ module _ (g : Grammar) (choices : List (Option ChoiceOf)) (old : List FrameOf) (
         ),
       )
 
-  -- a rule of which nothing is kept has no tree that follows
+  -- a rule with nothing kept has no tree that follows the choices
   pub begins_none : (r : ℕ) → choice_at choices r ≡ None → Begins g choices (Nonterminal r) old old before before false
   begins_none r none (Leaf x) rest follows unfolds = absurd follows
   begins_none r none (Branch p children) rest follows unfolds =
@@ -129,7 +129,7 @@ pub frames_known : {S : Type 0} (index : S → ℕ) (g : Grammar) (frames : List
     → IsFrameOf index g frame → All (IsFrameOf index g) (frames ++ frame ∷ [])
 frames_known index g frames frame known here = All-push (IsFrameOf index g) frames frame known here
 
--- what stands behind a dot, as it was looked up
+-- the symbols after a dot, as they were looked up
 pub some_after : {S : Type 0} (index : S → ℕ) (symbols : List (Symbol S)) (all : List GrammarSymbol) (k : ℕ) (symbol : Symbol S)
     → map (symbol_of index) symbols ≡ all → ltb k (length symbols) ≡ true → symbol ≡ get_or symbols k symbol
     → drop k all ≡ symbol_of index symbol ∷ drop (k + 1) all
@@ -192,10 +192,10 @@ pub nothing_in : {X : Type 0} (xs : List X) → length xs ≡ 0 → xs ≡ []
 nothing_in [] none = refl
 nothing_in (x ∷ xs) none = absurd (omega (arith, none))
 
--- what follows where all is well
+-- what follows from an `Ok`
 pub ok_more : {T E : Type 0} (r : Result T E) (P Q : Type 0) → (P → Q) → OnOk r P → OnOk r Q
-ok_more (Ok x) P Q more told = more told
-ok_more (Err e) P Q more told = tt
+ok_more (Ok x) P Q more fact = more fact
+ok_more (Err e) P Q more fact = tt
 
 -- a symbol that is begun on an empty stack, and unfolded, is a tree's moves
 pub begun_alone : (g : Grammar) (choices : List (Option ChoiceOf)) (s : GrammarSymbol) (none frames : List FrameOf) (before middle after : List MoveOf) (derives : Bool)

@@ -67,7 +67,7 @@ total_more most choices s ss rest len more all is here before =
     ∙ ap (λ (x : Option ℕ). added most (Some len) (added most x (total_len most choices ss))) (sym here)
     ∙ ap (λ (w : List GrammarSymbol). added most (Some len) (total_len most choices w)) (sym is) ∙ before
 
--- and is none where the next symbol has none
+-- and is none if the next symbol has none
 pub total_stops : (most : ℕ) (choices : List (Option ChoiceOf)) (s : GrammarSymbol) (ss rest : List GrammarSymbol) (len : ℕ) (all : Option ℕ)
     → rest ≡ s ∷ ss → len_at choices s ≡ None → added most (Some len) (total_len most choices rest) ≡ all → None ≡ all
 total_stops most choices s ss rest len all is none before =
@@ -81,7 +81,7 @@ total_ends most choices rest len all is low before =
     let same : len ≡ min (len + 0) most = omega arith in
     ap (λ (n : ℕ). Some n) same ∙ ap (λ (w : List GrammarSymbol). added most (Some len) (total_len most choices w)) (sym is) ∙ before
 
--- trees have no less moves than tokens
+-- trees have no fewer moves than tokens
 mutual
   pub moves_wide : (t : Tree ℕ) → width t ≤ length (moves_of t)
   moves_wide (Leaf x) = omega arith
@@ -137,7 +137,7 @@ module _ (g : Grammar) (most : ℕ) (choices : List (Option ChoiceOf)) (right : 
       let rest = others.2 in
       (Cons one.0 others.0, (one.1, others.1), omega (arith, sum, first, rest, length-append (leaves one.0) (forest_leaves others.0)))
 
-  -- no tree has less tokens
+  -- no tree has fewer tokens
   pub symbol_least : (s : GrammarSymbol) (len : ℕ) (t : Tree ℕ) → len_at choices s ≡ Some len → IsTreeOf g s t → len ≤ width t
   symbol_least (Terminal a) len (Leaf x) is fit = let same : 1 ≡ len = cc in omega (arith, same)
   symbol_least (Terminal a) len (Branch p children) is fit = absurd fit
@@ -158,7 +158,7 @@ module _ (g : Grammar) (most : ℕ) (choices : List (Option ChoiceOf)) (right : 
       let sum = parts.4 in
       omega (arith, one, others, sum, length-append (leaves t) (forest_leaves ts))
 
-  -- so lengths are those of shortest trees
+  -- so lengths are those of minimal sentences
   pub total_is_shortest : (ss : List GrammarSymbol) (len : ℕ) → total_len most choices ss ≡ Some len → IsShortestLen g most ss len
   total_is_shortest ss len is =
       let kept = trees_kept ss len is in
@@ -181,7 +181,7 @@ module _ (g : Grammar) (most : ℕ) (choices : List (Option ChoiceOf)) (right : 
       ap (λ (x : Option ℕ). added most x (Some 0)) is ∙ ap (λ (n : ℕ). Some n) same
 
 module _ (g : Grammar) (most : ℕ) (choices : List (Option ChoiceOf)) (shortest : AreShortest g most choices) where
-  -- where there is no length there are no trees
+  -- if there is no length there are no trees
   pub symbol_none : (s : GrammarSymbol) (t : Tree ℕ) → len_at choices s ≡ None → IsTreeOf g s t → ⊥
   symbol_none (Terminal a) t is fit = absurd (cc)
   symbol_none (Nonterminal r) t is fit = shortest.all r (mapped_none (λ (x : ChoiceOf). x.len) (choice_at choices r) is) t fit
@@ -199,14 +199,14 @@ module _ (g : Grammar) (most : ℕ) (choices : List (Option ChoiceOf)) (shortest
         | inr others ↦ total_none ss ts others fit.1
       ]
 
-  -- what a length tells
-  pub total_tells : (ss : List GrammarSymbol) (len : Option ℕ) → len ≡ total_len most choices ss → IsShortestIfAny g most ss len
-  total_tells ss None is = λ ts fit. total_none ss ts (sym is) fit
-  total_tells ss (Some len) is = total_is_shortest g most choices shortest.right ss len (sym is)
+  -- what a length says
+  pub total_is_exact : (ss : List GrammarSymbol) (len : Option ℕ) → len ≡ total_len most choices ss → IsShortestIfAny g most ss len
+  total_is_exact ss None is = λ ts fit. total_none ss ts (sym is) fit
+  total_is_exact ss (Some len) is = total_is_shortest g most choices shortest.right ss len (sym is)
 
-  pub len_tells : 1 ≤ most → (s : GrammarSymbol) (len : Option ℕ) → len ≡ len_at choices s → IsShortestIfAny g most (s ∷ []) len
-  len_tells some s None is = λ ts fit. no_trees s ts (sym is) fit
-  len_tells some s (Some len) is = total_is_shortest g most choices shortest.right (s ∷ []) len (len_alone g most choices shortest.right some s len (sym is))
+  pub len_is_exact : 1 ≤ most → (s : GrammarSymbol) (len : Option ℕ) → len ≡ len_at choices s → IsShortestIfAny g most (s ∷ []) len
+  len_is_exact some s None is = λ ts fit. no_trees s ts (sym is) fit
+  len_is_exact some s (Some len) is = total_is_shortest g most choices shortest.right (s ∷ []) len (len_alone g most choices shortest.right some s len (sym is))
 
   -- symbols that have trees have a length
   pub have_len : (ss : List GrammarSymbol) → HaveTrees g ss → (len : ℕ) × (total_len most choices ss ≡ Some len)
@@ -216,7 +216,7 @@ module _ (g : Grammar) (most : ℕ) (choices : List (Option ChoiceOf)) (shortest
         | inr some ↦ some
       ]
 
-  -- trees that follow what is kept, and are no wider than the number, are shortest ones
+  -- trees that follow what is kept, and are no wider than the number, have minimal sentences
   pub shortest_trees : (ss : List GrammarSymbol) → HaveTrees g ss
       → (trees : Forest ℕ) × ForestFollows g choices trees ss × (forest_width trees ≤ most → AreShortestTrees g ss trees)
   shortest_trees ss have =

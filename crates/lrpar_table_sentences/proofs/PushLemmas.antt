@@ -1,4 +1,5 @@
--- The moves that are appended are those of shortest trees: a list can't have more of them than the number up to which lengths are told.
+-- The moves that are appended are those of trees of minimal sentences: a list can't have more of them than the number at which
+-- lengths are capped.
 use Rattle.std.proofs.Common.{◌≡◌, ◌≤◌, ◌+◌, ◌∙◌, ap, arith, ℕ, List, [], ◌∷◌, ◌++◌, Option, length, length-append}
 use Rattle.lrpar_grammar.specs.Grammar.{Grammar, GrammarSymbol}
 use Rattle.lrpar_grammar.specs.Tree.{Tree, Forest, Nil, Cons, leaves}
@@ -22,16 +23,16 @@ module _ (g : Grammar) (most : ℕ) (choices : List (Option ChoiceOf)) (shortest
   -- the tree of one
   first_kept : (s : GrammarSymbol) (trees : Forest ℕ) → ForestFollows g choices trees (s ∷ []) → (forest_width trees ≤ most → AreShortestTrees g (s ∷ []) trees)
       → (tree : Tree ℕ) × Follows g choices tree s × (width tree ≤ most → IsShortestTree g s tree)
-  first_kept s Nil follow tells = absurd follow
-  first_kept s (Cons t (Cons u us)) follow tells = absurd follow.1
-  first_kept s (Cons t Nil) follow tells =
+  first_kept s Nil follow agrees = absurd follow
+  first_kept s (Cons t (Cons u us)) follow agrees = absurd follow.1
+  first_kept s (Cons t Nil) follow agrees =
       let alone = length-append (leaves t) [] in (
         t,
         follow.0,
         λ low. record {
           fits = follows_fits g most choices shortest.right t s follow.0;
           least = λ other fit.
-              let least = (tells (omega (arith, low, alone))).least (Cons other Nil) (fit, tt) in
+              let least = (agrees (omega (arith, low, alone))).least (Cons other Nil) (fit, tt) in
               omega (arith, least, alone, length-append (leaves other) []);
         },
       )

@@ -1,5 +1,4 @@
--- Marks of the rules that are reached from the start. Once the right side of each production whose rule is marked is marked, all rules
--- that are reached are.
+-- Marks of the reachable rules. Once the right side of each production whose rule is marked is marked, all reachable rules are.
 use Rattle.std.proofs.Common.{◌≡◌, ◌≢◌, ◌<◌, ◌≤◌, ◌+◌, ◌↔◌, ◌∙◌, sym, ap, subst, inl, inr, arith, ℕ, Bool, true, false, cond, not, IsTrue, List, Option, Some, None, get_or, length, map, replicate, set, slice_get}
 use Rattle.std.specs.List.{Contains}
 use Rattle.std.specs.Option.{is_some, option_map}
@@ -92,7 +91,7 @@ symbol_at index symbols all k symbol are low is =
     (slice_get-get_or (map (symbol_of index) symbols) k (symbol_of index symbol) long
     ∙ ap (λ (x : GrammarSymbol). Some x) (get_or-map (symbol_of index) symbols k symbol (symbol_of index symbol) low ∙ ap (symbol_of index) (sym is)))
 
--- all symbols are, where those in each place are
+-- all symbols are, if those in each place are
 pub all_symbols : (symbols : List GrammarSymbol) (marks : List Bool) → ((k : ℕ) → k < length symbols → MarkedAt symbols marks k)
     → (s : GrammarSymbol) → Contains symbols s → IsMarkedSymbol marks s
 all_symbols symbols marks each s has =
@@ -109,7 +108,7 @@ module _ (g : Grammar) (well : IsWellFormed g) (p : ℕ) (known : p < prods_len 
       let count = are.rules in
       omega (arith, low, count)
 
-  -- and is reached, where the production's rule is
+  -- and is reachable, if the production's rule is
   pub symbol_reached : IsReachableRule g (rule_of g p) → IsReachableSymbol g s
   symbol_reached reached = reached_as s at
     where
@@ -122,7 +121,7 @@ module _ (g : Grammar) (well : IsWellFormed g) (p : ℕ) (known : p < prods_len 
 pub not_marked_on : (g : Grammar) (marks : List Bool) (p : ℕ) → is_marked marks (rule_of g p) ≡ false → MarksOn g marks p
 not_marked_on g marks p none marked s has = absurd (false≢true (sym none ∙ marked))
 
--- where nothing is missing, all rules that are reached are marked
+-- if nothing is missing, all reachable rules are marked
 pub all_marked : (g : Grammar) (marks : List Bool) → AreMarked g marks → ((p : ℕ) → p < prods_len g → MarksOn g marks p) → AreAllMarked g marks
 all_marked g marks are closed = record { rules = are.rules; exact = λ r. (are.reached r, marked_if r) }
   where
@@ -131,12 +130,12 @@ all_marked g marks are closed = record { rules = are.rules; exact = λ r. (are.r
     marked_if r (OnRight p s known reached has) = closed p known (marked_if (rule_of g p) reached) (Nonterminal s) has
 
 module _ (g : Grammar) (most : ℕ) (choices : List (Option ChoiceOf)) (shortest : AreShortest g most choices) where
-  -- a rule of which something is kept has a tree
+  -- a rule with something kept has a tree
   pub kept_tree : (r : ℕ) (x : ChoiceOf) → choice_at choices r ≡ Some x → HasTree g r
   kept_tree r x at =
       let tree = shortest.right.trees r x at in (tree.0, follows_fits g most choices shortest.right tree.0 (Nonterminal r) tree.1)
 
-  -- so the rules of which something is kept are those that have one
+  -- so the rules with something kept are the productive ones
   pub kept_exact : (r : ℕ) (kept : Bool) → kept ≡ is_some (choice_at choices r) → IsTrue kept ↔ HasTree g r
   kept_exact r kept is =
       elim (option_cases (choice_at choices r)) [
@@ -151,13 +150,13 @@ module _ (g : Grammar) (most : ℕ) (choices : List (Option ChoiceOf)) (shortest
   kept_by index None r n is same some = absurd (false≢true some)
   kept_by index (Some x) r n is same some = subst (HasTree g) same (kept_tree r (choice_of index x) (sym is))
 
-  -- one of which nothing is kept has none
+  -- one with nothing kept is unproductive
   pub first_unproductive : (marks : List Bool) → AreAllMarked g marks → (r : ℕ) → ((other : ℕ) → other < r → IsReachableRule g other → HasTree g other)
       → is_marked marks r ≡ true → choice_at choices r ≡ None → IsFirstUnproductive g r
   first_unproductive marks are r before marked none =
       record { unproductive = record { reached = (are.exact r).0 marked; none = λ has. shortest.all r none has.0 has.1 }; first = before }
 
--- a rule that isn't marked isn't reached
+-- a rule that isn't marked isn't reachable
 pub not_reached : (g : Grammar) (marks : List Bool) → AreAllMarked g marks → (r : ℕ) → is_marked marks r ≡ false → IsReachableRule g r → HasTree g r
 not_reached g marks are r none reached = absurd (false≢true (sym none ∙ (are.exact r).1 reached))
 

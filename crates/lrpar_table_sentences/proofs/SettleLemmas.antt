@@ -1,5 +1,5 @@
--- Rules are settled in the order of their lengths. What is kept of some stays right as more comes; and no tree of a rule that is still
--- open has less tokens than the least open production.
+-- Rules are settled in the order of their lengths. What is kept of some stays right as more comes; and no tree of a rule that is
+-- still open has fewer tokens than the least open production.
 use Rattle.std.proofs.Common.{◌≡◌, ◌<◌, ◌≤◌, ◌+◌, ◌⊎◌, ◌∙◌, refl, sym, ap, subst, inl, inr, arith, ℕ, zero, suc, get_or, map, List, [], ◌∷◌, ◌++◌, Option, Some, None, length, min, length-append, set, cond, nat_eq, true, false, IfSome, MatchOption}
 use Rattle.std.specs.Option.{is_none, option_eq, option_map, option_map_or}
 use Rattle.std.proofs.lemmas.List.Sums.{sum_by-set}
@@ -18,7 +18,7 @@ use Rattle.lrpar_table_sentences.proofs.LenLemmas.{added_none, mapped_none, mapp
 abbrev pub Keeps : List (Option ChoiceOf) → List (Option ChoiceOf) → Type 0
 Keeps old new = (r : ℕ) (x : ChoiceOf) → choice_at old r ≡ Some x → choice_at new r ≡ Some x
 
--- one more of which nothing is kept
+-- one more with nothing kept
 pub none_more : {A B : Type 0} (f : A → B) (xs : List (Option A)) → ((r : ℕ) → get_or (map (option_map f) xs) r None ≡ None)
     → (r : ℕ) → get_or (map (option_map f) (xs ++ None ∷ [])) r None ≡ None
 none_more f [] none zero = refl
@@ -58,17 +58,17 @@ module _ (g : Grammar) (most : ℕ) (choices : List (Option ChoiceOf)) where
       → open_len g most choices p ≡ Some len
   open_is p len none total = ap (λ (o : Option ChoiceOf). unless_some o (total_len most choices (symbols_of g p))) none ∙ total
 
-  -- and what it tells
-  pub open_tells : (p len : ℕ) → open_len g most choices p ≡ Some len
+  -- and what it says
+  pub open_has : (p len : ℕ) → open_len g most choices p ≡ Some len
       → (choice_at choices (rule_of g p) ≡ None) × (total_len most choices (symbols_of g p) ≡ Some len)
-  open_tells p len is =
+  open_has p len is =
       elim (option_cases (choice_at choices (rule_of g p))) [
         | inl none ↦ (none, ap (λ (o : Option ChoiceOf). unless_some o (total_len most choices (symbols_of g p))) (sym none) ∙ is)
         | inr some ↦ let other = ap (λ (o : Option ChoiceOf). unless_some o (total_len most choices (symbols_of g p))) some.1 in absurd (cc)
       ]
 
 module _ (g : Grammar) (most : ℕ) (choices : List (Option ChoiceOf)) (right : AreRight g most choices) where
-  -- no tree of an open rule has less tokens than the least open production
+  -- no tree of an open rule has fewer tokens than the least open production
   module _ (len : ℕ) (less : NoneIsLess g most choices len) where
     mutual
       tree_below : (t : Tree ℕ) (r : ℕ) → choice_at choices r ≡ None → IsTreeOf g (Nonterminal r) t → len ≤ width t
@@ -103,7 +103,7 @@ module _ (g : Grammar) (most : ℕ) (choices : List (Option ChoiceOf)) (right : 
     pub none_is_below : NoneIsBelow g choices len
     none_is_below r t none fit = tree_below t r none fit
 
-  -- where nothing is open, all rules that have trees are settled
+  -- if nothing is open, all rules that have trees are settled
   pub all_settled : NoneIsOpen g most choices → AreShortest g most choices
   all_settled closed = record {
     right = right;
@@ -128,14 +128,14 @@ module _ (g : Grammar) (most : ℕ) (choices : List (Option ChoiceOf)) (right : 
     pub settled_keeps : Keeps choices settled
     settled_keeps r x kept =
         elim (cases_eq r (rule_of g p)) [
-          | inl same ↦ let none = (open_tells g most choices p len is).0 in let own = ap (choice_at choices) same in absurd (cc)
+          | inl same ↦ let none = (open_has g most choices p len is).0 in let own = ap (choice_at choices) same in absurd (cc)
           | inr other ↦ there r other ∙ kept
         ]
 
     pub right_more : AreRight g most settled
     right_more =
-        let told = open_tells g most choices p len is in
-        let kept = trees_kept g most choices right (symbols_of g p) len told.1 in
+        let fact = open_has g most choices p len is in
+        let kept = trees_kept g most choices right (symbols_of g p) len fact.1 in
         record {
           rules = length-set choices (rule_of g p) _ ∙ right.rules;
           own = λ r x at.
@@ -151,7 +151,7 @@ module _ (g : Grammar) (most : ℕ) (choices : List (Option ChoiceOf)) (right : 
                 | inl same ↦
                     let own = sym here ∙ ap (choice_at settled) (sym same) ∙ at in
                     let length : len ≡ x.len = ap len_in own in
-                    let least = below r t (ap (choice_at choices) same ∙ told.0) fit in
+                    let least = below r t (ap (choice_at choices) same ∙ fact.0) fit in
                     omega (arith, length, least)
                 | inr other ↦ right.least r x (sym (there r other) ∙ at) t fit
               ];
@@ -234,7 +234,7 @@ pub not_some : (o : Option ℕ) (n : ℕ) → option_eq nat_eq o (Some n) ≡ fa
 not_some None n is at = absurd (cc)
 not_some (Some m) n is at = let same : m ≡ n = cc in false≢true (sym is ∙ eq-eqb m n same)
 
--- less rules are open where one more is kept
+-- fewer rules are open if one more is kept
 open_less : (choices : List (Option ChoiceOf)) (r : ℕ) (x : ChoiceOf) → r < length choices → choice_at choices r ≡ None
     → open_in (set choices r (Some x)) < open_in choices
 open_less choices r x low none =
@@ -264,14 +264,14 @@ module _ {S : Type 0} (index : S → ℕ) (g : Grammar) (most : ℕ) (choices : 
     kept_less =
         let count = right.rules in
         subst (λ (xs : List (Option ChoiceOf)). open_in xs < open_in (choices_of index choices)) (sym kept_list)
-        (open_less (choices_of index choices) (rule_of g p) _ (omega (arith, low, count)) (open_tells g most (choices_of index choices) p len is).0)
+        (open_less (choices_of index choices) (rule_of g p) _ (omega (arith, low, count)) (open_has g most (choices_of index choices) p len is).0)
 
 -- the least of all open productions
-pub least_told : (g : Grammar) (most : ℕ) (choices : List (Option ChoiceOf)) (n : ℕ) (least : Option ℕ) → n ≡ prods_len g
+pub least_found : (g : Grammar) (most : ℕ) (choices : List (Option ChoiceOf)) (n : ℕ) (least : Option ℕ) → n ≡ prods_len g
     → IsLeastBelow (open_len g most choices) n least
     → MatchOption least (NoneIsOpen g most choices) (λ len. HasOpen g most choices len × NoneIsLess g most choices len)
-least_told g most choices n None all before = λ p known. before p (omega (arith, all, known))
-least_told g most choices n (Some len) all before =
+least_found g most choices n None all before = λ p known. before p (omega (arith, all, known))
+least_found g most choices n (Some len) all before =
     let one = before.0 in
     let inside = one.1 in
     ((one.0, omega (arith, all, inside), one.2), λ p other known at. before.1 p other (omega (arith, all, known)) at)
@@ -282,7 +282,8 @@ pub stays_more : (f : ℕ → Option ℕ) (n len : ℕ) → (f n ≡ Some len �
 stays_more f n len here before p low at =
     elim (cases_eq p n) [ inl same ↦ here (ap f (sym same) ∙ at) | inr other ↦ before p (omega (arith, low, other)) at ]
 
--- what holds once the first n productions were looked at: either nothing was kept, and none of them has the length, or less rules are open
+-- what holds once the first n productions were looked at: either nothing was kept, and none of them has the length, or fewer
+-- rules are open
 abbrev pub Settling : {S : Type 0} → (S → ℕ) → Grammar → ℕ → ℕ → List (Option (Choice S)) → List (Option (Choice S)) → ℕ → Type 0
 Settling index g most len old now n =
     AreRight g most (choices_of index now)
@@ -295,9 +296,9 @@ module _ {S : Type 0} (index : S → ℕ) (g : Grammar) (most len : ℕ) (old no
   pub settling_kept : (r : ℕ) (prod : PIdx S) (o : Option ℕ) → n < prods_len g → index prod.0 ≡ n → o ≡ open_len g most (choices_of index now) (index prod.0)
       → option_eq nat_eq o (Some len) ≡ true → r ≡ rule_of g (index prod.0) → r < rules_len g
       → new ≡ set now r (Some (record { len = len; prod = prod })) → Settling index g most len old new (n + 1)
-  settling_kept r prod o known at told equal rule low is =
+  settling_kept r prod o known at fact equal rule low is =
       let open_here : open_len g most (choices_of index now) n ≡ Some len =
-      ap (open_len g most (choices_of index now)) (sym at) ∙ sym told ∙ eq_some o len equal in
+      ap (open_len g most (choices_of index now)) (sym at) ∙ sym fact ∙ eq_some o len equal in
       let owner : r ≡ rule_of g n = rule ∙ ap (rule_of g) at in
       let inside : rule_of g n < rules_len g = subst (λ (k : ℕ). k < rules_len g) owner low in
       let choice : Choice S = record { len = len; prod = prod } in
@@ -314,9 +315,9 @@ module _ {S : Type 0} (index : S → ℕ) (g : Grammar) (most len : ℕ) (old no
 
   pub settling_stays : (prod : PIdx S) (o : Option ℕ) → index prod.0 ≡ n → o ≡ open_len g most (choices_of index now) (index prod.0)
       → option_eq nat_eq o (Some len) ≡ false → new ≡ now → Settling index g most len old new (n + 1)
-  settling_stays prod o at told unequal is =
+  settling_stays prod o at fact unequal is =
       let not_here : open_len g most (choices_of index now) n ≡ Some len → ⊥ =
-      λ here. not_some o len unequal (told ∙ ap (open_len g most (choices_of index now)) at ∙ here) in
+      λ here. not_some o len unequal (fact ∙ ap (open_len g most (choices_of index now)) at ∙ here) in
       subst (λ (xs : List (Option (Choice S))). Settling index g most len old xs (n + 1)) (sym is) (
         before.0,
         before.1,
@@ -338,7 +339,7 @@ settling_ends index g most len old now n all after some =
     let known = some.1 in
     elim after.2 [ inl same ↦ absurd (same.1 some.0 (omega (arith, all, known)) some.2) | inr fewer ↦ fewer ]
 
--- where nothing is kept, it is right
+-- if nothing is kept, it is right
 pub right_none : (g : Grammar) (most : ℕ) (choices : List (Option ChoiceOf)) → length choices ≡ rules_len g → ((r : ℕ) → choice_at choices r ≡ None)
     → AreRight g most choices
 right_none g most choices count none = record {

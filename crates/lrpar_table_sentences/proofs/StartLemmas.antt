@@ -21,7 +21,7 @@ bool_cases true = inl refl
 bool_cases false = inr refl
 
 module _ (choices : List (Option ChoiceOf)) (starts : List (Option StartOf)) (first : ℕ) (s : GrammarSymbol) (ss : List GrammarSymbol) where
-  -- the place in a list with one symbol more in front
+  -- the place in a list with one symbol more at its head
   rest_place : Bool → Bool → Option ℕ
   rest_place here none = if here then Some 0 else (if none then further (place_of choices starts first ss) else None)
 
@@ -53,16 +53,16 @@ module _ (choices : List (Option ChoiceOf)) (starts : List (Option StartOf)) (fi
   pub place_ends : rest ≡ [] → None ≡ all
   place_ends is = ap (λ (w : List GrammarSymbol). option_map (λ n. i + n) (place_of choices starts first w)) (sym is) ∙ so_far
 
-  module _ (s : GrammarSymbol) (more : List GrammarSymbol) (is : rest ≡ s ∷ more) (b : Bool) (told : b ≡ begins starts first s) where
+  module _ (s : GrammarSymbol) (more : List GrammarSymbol) (is : rest ≡ s ∷ more) (b : Bool) (fact : b ≡ begins starts first s) where
     pub place_found : b ≡ true → Some i ≡ all
     place_found here =
         let same : i ≡ i + 0 = omega arith in
-        ap (λ (n : ℕ). Some n) same ∙ ap (option_map (λ n. i + n)) (sym (place_begins choices starts first s more (sym told ∙ here)))
+        ap (λ (n : ℕ). Some n) same ∙ ap (option_map (λ n. i + n)) (sym (place_begins choices starts first s more (sym fact ∙ here)))
         ∙ ap (λ (w : List GrammarSymbol). option_map (λ n. i + n) (place_of choices starts first w)) (sym is) ∙ so_far
 
     pub place_none : b ≡ false → option_eq nat_eq (len_at choices s) (Some 0) ≡ false → None ≡ all
     place_none not_here some =
-        ap (option_map (λ n. i + n)) (sym (place_stops choices starts first s more (sym told ∙ not_here) (zero_is (len_at choices s) ∙ some)))
+        ap (option_map (λ n. i + n)) (sym (place_stops choices starts first s more (sym fact ∙ not_here) (zero_is (len_at choices s) ∙ some)))
         ∙ ap (λ (w : List GrammarSymbol). option_map (λ n. i + n) (place_of choices starts first w)) (sym is) ∙ so_far
 
     shift : (o : Option ℕ) → option_map (λ n. (i + 1) + n) o ≡ option_map (λ n. i + n) (further o)
@@ -72,7 +72,7 @@ module _ (choices : List (Option ChoiceOf)) (starts : List (Option StartOf)) (fi
     pub place_more : b ≡ false → option_eq nat_eq (len_at choices s) (Some 0) ≡ true → option_map (λ n. (i + 1) + n) (place_of choices starts first more) ≡ all
     place_more not_here none =
         shift (place_of choices starts first more)
-        ∙ ap (option_map (λ n. i + n)) (sym (place_on choices starts first s more (sym told ∙ not_here) (zero_is (len_at choices s) ∙ none)))
+        ∙ ap (option_map (λ n. i + n)) (sym (place_on choices starts first s more (sym fact ∙ not_here) (zero_is (len_at choices s) ∙ none)))
         ∙ ap (λ (w : List GrammarSymbol). option_map (λ n. i + n) (place_of choices starts first w)) (sym is) ∙ so_far
 
 -- a place is one of the symbols
@@ -80,7 +80,7 @@ further_parts : (o : Option ℕ) (k : ℕ) → further o ≡ Some k → (n : ℕ
 further_parts None k is = absurd (cc)
 further_parts (Some n) k is = let same : n + 1 ≡ k = cc in (n, refl, same)
 
--- the ways to have a place
+-- the cases in which there is a place
 place_cases : (choices : List (Option ChoiceOf)) (starts : List (Option StartOf)) (first : ℕ) (s : GrammarSymbol) (ss : List GrammarSymbol) (k : ℕ)
     → place_of choices starts first (s ∷ ss) ≡ Some k
     → ((begins starts first s ≡ true) × (k ≡ 0)) ⊎ ((is_zero (len_at choices s) ≡ true) × ((n : ℕ) × (place_of choices starts first ss ≡ Some n) × (n + 1 ≡ k)))
@@ -202,7 +202,7 @@ module _ (g : Grammar) (most : ℕ) (choices : List (Option ChoiceOf)) (right : 
               ];
         }
 
--- less rules can't begin where one more can
+-- fewer rules can't begin if one more can
 pub starts_less : (starts : List (Option StartOf)) (r : ℕ) (x : StartOf) → r < length starts → start_at starts r ≡ None
     → starts_open (set starts r (Some x)) < starts_open starts
 starts_less starts r x low none =
@@ -219,7 +219,7 @@ joined_first (z ∷ zs) ys x rest is = let same : z ≡ x = cc in inr (zs, ap (�
 module _ (g : Grammar) (most : ℕ) (choices : List (Option ChoiceOf)) (shortest : AreShortest g most choices) (first : ℕ) (starts : List (Option StartOf))
     (closed : (p : ℕ) → p < prods_len g → CanStart g most choices first starts p) where
   mutual
-    -- where a tree's first token is the token, its symbol begins with it
+    -- if a tree's first token is the token, its symbol begins with it
     tree_begins : (t : Tree ℕ) (s : GrammarSymbol) (rest : List ℕ) → IsTreeOf g s t → leaves t ≡ first ∷ rest → begins starts first s ≡ true
     tree_begins (Leaf x) (Terminal t) rest fit is = let same : x ≡ first = cc in eq-eqb t first (sym fit ∙ same)
     tree_begins (Leaf x) (Nonterminal r) rest fit is = absurd fit
@@ -255,14 +255,14 @@ module _ (g : Grammar) (most : ℕ) (choices : List (Option ChoiceOf)) (shortest
 
 -- whether a length isn't zero, as it was tested
 pub zero_by : (o len : Option ℕ) (b c : Bool) → o ≡ len → b ≡ not (option_eq nat_eq o (Some 0)) → b ≡ c → option_eq nat_eq len (Some 0) ≡ not c
-zero_by o len b c is told at =
-    ap (λ (x : Option ℕ). option_eq nat_eq x (Some 0)) (sym is) ∙ twice (option_eq nat_eq o (Some 0)) ∙ ap not (sym told ∙ at)
+zero_by o len b c is fact at =
+    ap (λ (x : Option ℕ). option_eq nat_eq x (Some 0)) (sym is) ∙ twice (option_eq nat_eq o (Some 0)) ∙ ap not (sym fact ∙ at)
   where
     twice : (x : Bool) → x ≡ not (not x)
     twice true = refl
     twice false = refl
 
--- where a rule can begin, or the production has no length or no place, nothing is missing
+-- if a rule can begin, or the production has no length or no place, nothing is missing
 pub starts_already : (g : Grammar) (most : ℕ) (choices : List (Option ChoiceOf)) (first : ℕ) (starts : List (Option StartOf)) (p r : ℕ) → r ≡ rule_of g p
     → is_some (start_at starts r) ≡ true → CanStart g most choices first starts p
 starts_already g most choices first starts p r is some len k total place =
@@ -277,7 +277,7 @@ starts_nowhere g most choices first starts p none len k total place =
     let both = ap (λ (o : Option ℕ). place_if o (place_of choices starts first (symbols_of g p))) (sym total) ∙ none in
     let never = sym place ∙ both in absurd (cc)
 
--- where there is a place there is a length
+-- if there is a place there is a length
 pub place_if_parts : (len place : Option ℕ) (k : ℕ) → place_if len place ≡ Some k → (n : ℕ) × (len ≡ Some n) × (place ≡ Some k)
 place_if_parts None place k is = absurd (cc)
 place_if_parts (Some n) place k is = (n, refl, is)
@@ -311,7 +311,7 @@ pub is_none_by : {A : Type 0} (o : Option A) → is_some o ≡ false → o ≡ N
 is_none_by None is = refl
 is_none_by (Some x) is = absurd (false≢true (sym is))
 
--- where no rule can begin, all is right
+-- if no rule can begin, all is right
 pub starts_none : (g : Grammar) (choices : List (Option ChoiceOf)) (first : ℕ) (starts : List (Option StartOf)) → length starts ≡ rules_len g
     → ((r : ℕ) → start_at starts r ≡ None) → AreStarts g choices first starts
 starts_none g choices first starts count none = record {

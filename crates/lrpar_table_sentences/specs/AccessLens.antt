@@ -1,4 +1,4 @@
--- Ways as they are worked out: the steps of a table with the lengths of their symbols, and what is kept of states.
+-- Access strings as they are worked out: the steps of a table with the lengths of their symbols, and what is kept of states.
 use Rattle.std.specs.Prelude.{◌≡◌, ◌≢◌, ◌<◌, ◌≤◌, ◌↔◌, ℕ, Contains, List, [], ◌∷◌, ◌++◌, Option, Some, None, count_by, length, map, option_map}
 use Rattle.std.specs.List.{flat_map, range_with_len}
 use Rattle.std.specs.Option.{is_none}
@@ -49,7 +49,7 @@ pub record AreEdges (table : Table) (choices : List (Option ChoiceOf)) (edges : 
   pub all : (s next len : ℕ) (x : GrammarSymbol) → s < states_len table → GoesBy table s x next → len_at choices x ≡ Some len
       → Contains edges (record { step = record { from = s; symbol = x }; next = next; len = len })
 
--- what is stored for state s is what is done
+-- the entries that are stored for state s are its actions and gotos
 pub record IsStoredAt (table : Table) (s : ℕ) : Type 0 where
   pub actions : (t : ℕ) (action : TableAction) → Contains (actions_at table s) (t, action) ↔ ((action_of table s t ≡ action) × (action ≢ Fails))
   pub gotos : (r next : ℕ) → Contains (gotos_at table s) (r, next) ↔ (goto_of table s r ≡ Some next)
@@ -72,8 +72,9 @@ abbrev pub LeadBack : Table → ℕ → List StepOf → Type 0
 LeadBack table s [] = s ≡ table.start
 LeadBack table s (step ∷ steps) = (step.from < states_len table) × GoesBy table step.from step.symbol s × LeadBack table step.from steps
 
--- what is kept of states is right as far as it goes: the start has a way without tokens; no walk to a state has symbols with less tokens
--- than its way; and the last steps that are kept lead back to the start by symbols with so many, told up to `most`
+-- what is kept of states is right as far as it goes: the start has an access string without tokens; no walk to a state has
+-- symbols with fewer tokens than its access string; and the last steps that are kept lead back to the start by symbols with this
+-- number of tokens, capped at `most`
 pub record AreRightAccesses (table : Table) (most : ℕ) (choices : List (Option ChoiceOf)) (accesses : List (Option AccessOf)) : Type 0 where
   pub states : length accesses ≡ states_len table
   pub start : access_at accesses table.start ≡ Some (record { len = 0; last = None })
@@ -82,7 +83,8 @@ pub record AreRightAccesses (table : Table) (most : ℕ) (choices : List (Option
   pub back : (s : ℕ) (access : AccessOf) → access_at accesses s ≡ Some access
       → (steps : List StepOf) × GoBack accesses s steps × LeadBack table s steps × (total_len most choices (symbols_in steps) ≡ Some access.len)
 
--- the sum of a step's length and of the way to the state that it goes from, if there is one; and none where a way is kept already
+-- the length of a step plus that of the access string of the state that it goes from, if there is one; none if an access string
+-- is kept already
 abbrev pub access_open : ℕ → Option AccessOf → Option AccessOf → ℕ → Option ℕ
 access_open most (Some kept) from len = None
 access_open most None from len = added most (Some len) (option_map (λ access. access.len) from)
@@ -102,11 +104,11 @@ HasOpenStep most accesses edges len = (e : EdgeOf) × Contains edges e × (open_
 abbrev pub NoStepIsLess : ℕ → List (Option AccessOf) → List EdgeOf → ℕ → Type 0
 NoStepIsLess most accesses edges len = (e : EdgeOf) (other : ℕ) → Contains edges e → open_by most accesses e ≡ Some other → len ≤ other
 
--- no walk to a state of which nothing is kept has symbols with less tokens
+-- no walk to a state with nothing kept has symbols with fewer tokens
 abbrev pub NoWalkIsBelow : Table → ℕ → List (Option ChoiceOf) → List (Option AccessOf) → ℕ → Type 0
 NoWalkIsBelow table most choices accesses len =
     (s other : ℕ) (path : List GrammarSymbol) → access_at accesses s ≡ None → IsWalk table s path → total_len most choices path ≡ Some other → len ≤ other
 
--- of how many states nothing is kept
+-- how many states have nothing kept
 abbrev pub open_accesses : List (Option AccessOf) → ℕ
 open_accesses accesses = count_by is_none accesses

@@ -1,4 +1,4 @@
--- Ways to the states of a built table: paths of symbols from the start, with trees that fit the symbols.
+-- Access strings of the states of a built table: paths of symbols from the start, with trees that fit the symbols.
 use Rattle.std.specs.Prelude.{◌≡◌, ◌<◌, ◌≤◌, ℕ, List, [], ◌∷◌, Option, Some, None, length, map, min, option_map, reverse, slice_index_or}
 use Rattle.lrpar_grammar.specs.Grammar.{Grammar, GrammarSymbol}
 use Rattle.lrpar_grammar.specs.Symbols.{symbol_of}
@@ -39,7 +39,7 @@ accesses_of index accesses = map (option_map (access_of index)) accesses
 abbrev pub symbols_in : List StepOf → List GrammarSymbol
 symbols_in steps = map (λ step. step.symbol) steps
 
--- by these symbols, in order, the item set of state s is reached from the start
+-- by these symbols, in order, the item sets go from the start to the set of state s
 abbrev pub IsPathTo : Grammar → Graph → ℕ → List GrammarSymbol → Type 0
 IsPathTo g graph s symbols = AreSame (sets_of graph s) (IsReachedBy g (reverse symbols))
 
@@ -48,19 +48,19 @@ abbrev pub StepsLead : Table → ℕ → List StepOf → ℕ → Type 0
 StepsLead table s [] last = s ≡ last
 StepsLead table s (step ∷ steps) last = (step.from ≡ s) × ((next : ℕ) × GoesBy table s step.symbol next × StepsLead table next steps last)
 
--- the least number of tokens that trees of the symbols of any path to state s have, told up to `most`
+-- the least number of tokens that trees of the symbols of any path to state s have, capped at `most`
 pub record IsShortestAccess (g : Grammar) (graph : Graph) (most s len : ℕ) : Type 0 where
   pub some : (symbols : List GrammarSymbol) × (trees : Forest ℕ) × IsPathTo g graph s symbols × AreTreesOf g symbols trees
       × (min (forest_width trees) most ≡ len)
   pub least : (symbols : List GrammarSymbol) (trees : Forest ℕ) → IsPathTo g graph s symbols → AreTreesOf g symbols trees
       → len ≤ forest_width trees
 
--- the same where there is such a path; and none where the symbols of no path all have trees
+-- the same if there is such a path; none if the symbols of no path all have trees
 abbrev pub IsShortestAccessIfAny : Grammar → Graph → ℕ → ℕ → Option ℕ → Type 0
 IsShortestAccessIfAny g graph most s None = (symbols : List GrammarSymbol) (trees : Forest ℕ) → IsPathTo g graph s symbols → ¬ (AreTreesOf g symbols trees)
 IsShortestAccessIfAny g graph most s (Some len) = IsShortestAccess g graph most s len
 
--- steps of the table from the start to state s, by a path whose symbols have trees with so few tokens as any path's have
+-- steps of the table from the start to state s, by a path whose symbols have trees with as few tokens as any path's have
 pub record IsShortestPath (g : Grammar) (graph : Graph) (table : Table) (most s : ℕ) (steps : List StepOf) : Type 0 where
   pub lead : StepsLead table table.start steps s
   pub path : IsPathTo g graph s (symbols_in steps)
@@ -82,7 +82,7 @@ abbrev pub GoBack : List (Option AccessOf) → ℕ → List StepOf → Type 0
 GoBack accesses s [] = (len : ℕ) × (access_at accesses s ≡ Some (record { len = len; last = None }))
 GoBack accesses s (step ∷ steps) = (len : ℕ) × (access_at accesses s ≡ Some (record { len = len; last = Some step })) × GoBack accesses step.from steps
 
--- of each state the length of a shortest way to it is kept, and the last step of one
+-- for each state the length of a minimal access string is kept, and the last step of one
 pub record AreAccessStrings (g : Grammar) (graph : Graph) (table : Table) (most : ℕ) (accesses : List (Option AccessOf)) : Type 0 where
   pub states : length accesses ≡ graph_len graph
   pub lens : (s : ℕ) → s < graph_len graph → IsShortestAccessIfAny g graph most s (option_map (λ access. access.len) (access_at accesses s))

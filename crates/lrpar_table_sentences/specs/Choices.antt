@@ -1,4 +1,4 @@
--- What is kept of each rule that derives a text: the length of a shortest one, and the production that it begins with.
+-- What is kept of each productive rule: the length of its minimal sentences, and the production that the tree of one begins with.
 use Rattle.std.specs.Prelude.{◌≡◌, ◌<◌, ◌≤◌, ℕ, List, [], ◌∷◌, Option, Some, None, length, map, min, option_map, slice_index_or}
 use Rattle.lrpar_grammar.specs.Grammar.{Grammar, GrammarSymbol, Nonterminal, Terminal, prods_len, rule_of, rules_len, symbols_of}
 use Rattle.lrpar_grammar.specs.Tree.{Tree, Forest, Leaf, Branch, Nil, Cons}
@@ -39,8 +39,8 @@ abbrev mutual
   ForestFollows g choices (Cons t ts) [] = ⊥
   ForestFollows g choices (Cons t ts) (s ∷ ss) = Follows g choices t s × ForestFollows g choices ts ss
 
--- what is kept of rules is right as far as it goes: of each the production is one of its own; no tree of the rule has less tokens than
--- the length; and one of the productions that are kept has so many, told up to `most`
+-- what is kept of rules is right as far as it goes: each production is one of its rule's own; no tree of the rule has fewer
+-- tokens than the length; and one of the productions that are kept has this number of tokens, capped at `most`
 pub record AreRight (g : Grammar) (most : ℕ) (choices : List (Option ChoiceOf)) : Type 0 where
   pub rules : length choices ≡ rules_len g
   pub own : (r : ℕ) (x : ChoiceOf) → choice_at choices r ≡ Some x → (x.prod < prods_len g) × (rule_of g x.prod ≡ r)

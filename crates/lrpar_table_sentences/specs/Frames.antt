@@ -23,7 +23,8 @@ frames_of index frames = reverse (map (frame_of index) frames)
 abbrev pub IsFrameOf : {S : Type 0} → (S → ℕ) → Grammar → Frame S → Type 0
 IsFrameOf index g x = index x.prod.0 < prods_len g
 
--- the moves of the frames: for each those of trees that follow the choices and stand for the rest of its symbols, and its node
+-- the moves of the frames: for each frame those of trees that follow the choices and fit the rest of its symbols, and then its
+-- node
 abbrev pub Unfold : Grammar → List (Option ChoiceOf) → List FrameOf → List MoveOf → Type 0
 Unfold g choices [] moves = moves ≡ []
 Unfold g choices (frame ∷ frames) moves =

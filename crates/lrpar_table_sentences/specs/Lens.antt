@@ -6,7 +6,7 @@ use Rattle.lrpar_grammar.specs.Tree.{Tree}
 use Rattle.lrpar_table_sentences.specs.Choices.{ChoiceOf, choice_at}
 use Rattle.lrpar_table_sentences.specs.Texts.{IsTreeOf, width}
 
--- the sum of two numbers, told up to `most`, where there are both
+-- the sum of two numbers, capped at `most`, if there are both
 abbrev pub added : ℕ → Option ℕ → Option ℕ → Option ℕ
 added most (Some a) (Some b) = Some (min (a + b) most)
 added most (Some a) None = None
@@ -28,7 +28,7 @@ abbrev pub total_len : ℕ → List (Option ChoiceOf) → List GrammarSymbol →
 total_len most choices [] = Some 0
 total_len most choices (s ∷ ss) = added most (len_at choices s) (total_len most choices ss)
 
--- the number, if there isn't the other
+-- the number, if nothing is kept
 abbrev pub unless_some : Option ChoiceOf → Option ℕ → Option ℕ
 unless_some (Some x) len = None
 unless_some None len = len
@@ -49,10 +49,10 @@ HasOpen g most choices len = (p : ℕ) × (p < prods_len g) × (open_len g most 
 abbrev pub NoneIsLess : Grammar → ℕ → List (Option ChoiceOf) → ℕ → Type 0
 NoneIsLess g most choices len = (p other : ℕ) → p < prods_len g → open_len g most choices p ≡ Some other → len ≤ other
 
--- no tree of a rule of which nothing is kept has less tokens
+-- no tree of a rule with nothing kept has fewer tokens
 abbrev pub NoneIsBelow : Grammar → List (Option ChoiceOf) → ℕ → Type 0
 NoneIsBelow g choices len = (r : ℕ) (tree : Tree ℕ) → choice_at choices r ≡ None → IsTreeOf g (Nonterminal r) tree → len ≤ width tree
 
--- of how many rules nothing is kept
+-- how many rules have nothing kept
 abbrev pub open_in : List (Option ChoiceOf) → ℕ
 open_in choices = count_by is_none choices

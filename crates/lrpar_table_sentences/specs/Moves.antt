@@ -9,7 +9,7 @@ pub data MoveOf : Type 0 where
   Takes : (token : ℕ) → MoveOf
   Makes : (prod : ℕ) → MoveOf
 
--- the moves of a tree, and of a list of trees: a leaf is taken; a node is made behind its children, from left to right
+-- the moves of a tree, and of a list of trees: a leaf is taken; a node is made after its children, from left to right
 abbrev mutual
   pub moves_of : Tree ℕ → List MoveOf
   moves_of (Leaf t) = Takes t ∷ []

@@ -1,4 +1,4 @@
--- The rules that a grammar reaches from its start.
+-- The reachable rules of a grammar, and the unproductive ones among them.
 use Rattle.std.specs.Prelude.{◌≡◌, ◌<◌, ◌↔◌, ℕ, Bool, Contains, IsTrue, List, count_by, false, length, not, slice_index_or}
 use Rattle.lrpar_grammar.specs.Grammar.{Grammar, GrammarSymbol, Nonterminal, Terminal, prods_len, rule_of, rules_len, symbols_of}
 use Rattle.lrpar_grammar.specs.Tree.{Tree}
@@ -9,25 +9,25 @@ pub data IsReachableRule (g : Grammar) : ℕ → Type 0 where
   Added : IsReachableRule g 0
   OnRight : (p r : ℕ) → p < prods_len g → IsReachableRule g (rule_of g p) → Contains (symbols_of g p) (Nonterminal r) → IsReachableRule g r
 
--- a token, or a rule that is reached
+-- a token, or a reachable rule
 abbrev pub IsReachableSymbol : Grammar → GrammarSymbol → Type 0
 IsReachableSymbol g (Nonterminal r) = IsReachableRule g r
 IsReachableSymbol g (Terminal t) = Unit {0}
 
--- the rule has a tree
+-- the rule has a tree: it is productive
 abbrev pub HasTree : Grammar → ℕ → Type 0
 HasTree g r = (tree : Tree ℕ) × IsTreeOf g (Nonterminal r) tree
 
--- each rule that is reached has a tree
+-- each reachable rule is productive
 abbrev pub EachReachableHasTree : Grammar → Type 0
 EachReachableHasTree g = (r : ℕ) → IsReachableRule g r → HasTree g r
 
--- rule r is reached, and has no tree
+-- rule r is reachable, and unproductive
 pub record IsUnproductive (g : Grammar) (r : ℕ) : Type 0 where
   pub reached : IsReachableRule g r
   pub none : ¬ (HasTree g r)
 
--- and each rule before it that is reached has one
+-- and each reachable rule before it is productive
 pub record IsFirstUnproductive (g : Grammar) (r : ℕ) : Type 0 where
   pub unproductive : IsUnproductive g r
   pub first : (other : ℕ) → other < r → IsReachableRule g other → HasTree g other
@@ -41,17 +41,17 @@ abbrev pub IsMarkedSymbol : List Bool → GrammarSymbol → Type 0
 IsMarkedSymbol marks (Nonterminal r) = IsTrue (is_marked marks r)
 IsMarkedSymbol marks (Terminal t) = Unit {0}
 
--- marks of a grammar's rules: the added rule is marked, and no rule that isn't reached
+-- marks of a grammar's rules: the added rule is marked, and only reachable rules are
 pub record AreMarked (g : Grammar) (marks : List Bool) : Type 0 where
   pub rules : length marks ≡ rules_len g
   pub added : IsTrue (is_marked marks 0)
   pub reached : (r : ℕ) → IsTrue (is_marked marks r) → IsReachableRule g r
 
--- where the rule of production p is marked, so is each one on its right side
+-- if the rule of production p is marked, so is each one on its right side
 abbrev pub MarksOn : Grammar → List Bool → ℕ → Type 0
 MarksOn g marks p = IsTrue (is_marked marks (rule_of g p)) → (s : GrammarSymbol) → Contains (symbols_of g p) s → IsMarkedSymbol marks s
 
--- all rules that are reached are marked, and no others
+-- the reachable rules are marked, and no others
 pub record AreAllMarked (g : Grammar) (marks : List Bool) : Type 0 where
   pub rules : length marks ≡ rules_len g
   pub exact : (r : ℕ) → IsTrue (is_marked marks r) ↔ IsReachableRule g r

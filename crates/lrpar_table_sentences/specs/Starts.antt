@@ -50,14 +50,14 @@ abbrev pub begins : List (Option StartOf) → ℕ → GrammarSymbol → Bool
 begins starts first (Terminal t) = t == first
 begins starts first (Nonterminal r) = is_some (start_at starts r)
 
--- the first place in symbols that can begin with the token, where what stands before it can derive nothing
+-- the first place in symbols that can begin with the token, if the symbols before it are nullable
 abbrev pub place_of : List (Option ChoiceOf) → List (Option StartOf) → ℕ → List GrammarSymbol → Option ℕ
 place_of choices starts first [] = None
 place_of choices starts first (s ∷ ss) =
     if begins starts first s then Some 0 else (if is_zero (len_at choices s) then further (place_of choices starts first ss) else None)
 
--- a tree of the symbol that begins with the token by the starts; what stands before and behind it follows the choices, and what stands
--- before has no tokens
+-- a tree of the symbol that begins with the token by the starts; the trees before and after it follow the choices, and those
+-- before it have no tokens
 abbrev mutual
   pub Starts : Grammar → List (Option ChoiceOf) → List (Option StartOf) → ℕ → Tree ℕ → GrammarSymbol → Type 0
   Starts g choices starts first (Leaf x) (Terminal t) = (x ≡ t) × (t ≡ first)
@@ -80,7 +80,7 @@ pub record AreStarts (g : Grammar) (choices : List (Option ChoiceOf)) (first : �
       → (x.prod < prods_len g) × (x.place < length (symbols_of g x.prod)) × (rule_of g x.prod ≡ r)
   pub trees : (r : ℕ) (x : StartOf) → start_at starts r ≡ Some x → (tree : Tree ℕ) × Starts g choices starts first tree (Nonterminal r)
 
--- where production p has a length and a place, its rule can begin
+-- if production p has a length and a place, its rule can begin
 abbrev pub CanStart : Grammar → ℕ → List (Option ChoiceOf) → ℕ → List (Option StartOf) → ℕ → Type 0
 CanStart g most choices first starts p =
     (len place : ℕ) → total_len most choices (symbols_of g p) ≡ Some len → place_of choices starts first (symbols_of g p) ≡ Some place

@@ -1,4 +1,4 @@
--- The trees of tokens that fit symbols, and how many tokens they have at least. A tree's tokens are a text that the symbols derive.
+-- The trees of tokens that fit symbols. A tree's tokens are a sentence of the symbols, and a minimal one if no tree has fewer.
 use Rattle.std.specs.Prelude.{◌≡◌, ◌≤◌, ℕ, List, ◌∷◌, Option, Some, None, length, min}
 use Rattle.lrpar_grammar.specs.Grammar.{Grammar, GrammarSymbol}
 use Rattle.lrpar_grammar.specs.Tree.{Tree, Forest, Fits, ForestFits, leaves, forest_leaves}
@@ -18,22 +18,22 @@ width tree = length (leaves tree)
 abbrev pub forest_width : Forest ℕ → ℕ
 forest_width trees = length (forest_leaves trees)
 
--- the least number of tokens that trees of the symbols have, told up to `most`, which stands for all numbers from there on
+-- the length of the symbols' minimal sentences, capped at `most`
 pub record IsShortestLen (g : Grammar) (most : ℕ) (symbols : List GrammarSymbol) (len : ℕ) : Type 0 where
   pub some : (trees : Forest ℕ) × AreTreesOf g symbols trees × (min (forest_width trees) most ≡ len)
   pub least : (trees : Forest ℕ) → AreTreesOf g symbols trees → len ≤ forest_width trees
 
--- the same where there are such trees; and none where there are none
+-- the same if there are such trees; none if there are none
 abbrev pub IsShortestIfAny : Grammar → ℕ → List GrammarSymbol → Option ℕ → Type 0
 IsShortestIfAny g most symbols None = (trees : Forest ℕ) → ¬ (AreTreesOf g symbols trees)
 IsShortestIfAny g most symbols (Some len) = IsShortestLen g most symbols len
 
--- a tree of the symbol, and none has less tokens
+-- a tree of a minimal sentence of the symbol
 pub record IsShortestTree (g : Grammar) (symbol : GrammarSymbol) (tree : Tree ℕ) : Type 0 where
   pub fits : IsTreeOf g symbol tree
   pub least : (other : Tree ℕ) → IsTreeOf g symbol other → width tree ≤ width other
 
--- trees of the symbols, and none have less tokens
+-- trees of a minimal sentence of the symbols
 pub record AreShortestTrees (g : Grammar) (symbols : List GrammarSymbol) (trees : Forest ℕ) : Type 0 where
   pub fit : AreTreesOf g symbols trees
   pub least : (others : Forest ℕ) → AreTreesOf g symbols others → forest_width trees ≤ forest_width others

@@ -1,4 +1,4 @@
-//! Shortest ways to the states of a built table.
+//! Minimal access strings of the states of a built table.
 ghost use Rattle.std.specs.Prelude.{◌≡◌, ◌<◌, ◌++◌, List, IfOk, OnOk, option_map};
 ghost use Rattle.lrpar_grammar.specs.Grammar.{Grammar};
 ghost use Rattle.lrpar_table_rows.specs.Graph.{Graph, graph_len};
@@ -18,13 +18,13 @@ use lrpar_table_rows::table::{StateGraph, StateTable};
 use std::alloc::{AllocError, Global};
 use std::marker::Model;
 
-/// Of each state of a built table how many tokens the shortest text has that leads to it, and the path of one.
+/// For each state of a built table the length of its minimal access strings, in tokens, and the path of one.
 #[derive(Debug)]
 pub struct AccessStrings<StorageT: StorageIndex> {
     accesses: Vec<Option<Access<StorageT>>>,
 }
 
-// A drop of its own, so that what lets go of one elsewhere proves one call.
+// A drop of its own: code that drops one then has one call to prove.
 impl<StorageT: StorageIndex> Drop for AccessStrings<StorageT> {
     fn drop(self) {
         let AccessStrings { accesses } = self;
@@ -42,10 +42,10 @@ impl<StorageT: StorageIndex> Model for AccessStrings<StorageT> {
 }
 
 impl<StorageT: StorageIndex> AccessStrings<StorageT> {
-    /// The shortest ways to the states of a table that was built of the grammar.
+    /// The minimal access strings of the states of a table that was built of the grammar.
     ///
-    /// They are settled in the order of their lengths, by sweeps over the shifts and gotos of the table, of which there are few in
-    /// practice. Memory grows with these. An `Err` comes where memory doesn't suffice.
+    /// They are settled in the order of their lengths, by sweeps over the shifts and gotos of the table: few in practice. Memory
+    /// grows with the shifts and gotos. An `Err` comes if an allocation fails.
     pub fn new(
         alloc: Global,
         grm: &YaccGrammar<StorageT>,
@@ -61,8 +61,8 @@ impl<StorageT: StorageIndex> AccessStrings<StorageT> {
         Ok(AccessStrings { accesses })
     }
 
-    /// The least number of tokens of a text that leads to the state: `usize::MAX` where each has so many or more, and `None` where
-    /// none leads there, as a symbol of each path to it derives no text.
+    /// The least number of tokens that lead to the state, capped at `usize::MAX`; `None` if none lead there, as each path to it
+    /// has an unproductive symbol.
     pub fn len_to(&self, s: StIdx<StorageT>) -> Option<usize>
         ensures len { result ≡ option_map (λ access. access.len) (access_at self.now (StorageT.index s.0)) }
         ensures shortest { (g : Grammar) (graph : Graph) (table : Table) → AreAccessStrings g graph table usize.MAX self.now
@@ -74,10 +74,11 @@ impl<StorageT: StorageIndex> AccessStrings<StorageT> {
         }
     }
 
-    /// Appends the steps of a shortest way to the state, in order, where there is one: each with the state that it goes from, and the
-    /// symbol that it goes by. Shortest trees of these symbols have together as few tokens as any text has that leads there.
+    /// Appends the steps of a path to the state, in order, if there is one: each with the state that it goes from, and the symbol
+    /// that it goes by. Minimal sentences of these symbols have together as few tokens as any that lead there.
     ///
-    /// Time and memory grow with the steps. An `Err` comes where memory doesn't suffice, and leaves some steps behind what `out` had.
+    /// Time and memory grow with the steps. An `Err` comes if an allocation fails; `out` may then have some of the steps after
+    /// what it had.
     pub fn push_path(
         &self,
         out: &mut Vec<Step<StorageT>>,

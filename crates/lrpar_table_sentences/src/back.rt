@@ -1,4 +1,4 @@
-//! The steps of a way, back from its end.
+//! The steps of an access string, back from its end.
 ghost use Rattle.std.specs.Prelude.{◌≡◌, ◌≤◌, ◌++◌, List, OnOk, drop, length, option_map, reverse, take, vec_len};
 ghost use Rattle.lrpar_table_sentences.specs.AccessStrings.{GoBack, StepOf, last_of, step_of, steps_of, access_at, access_of, accesses_of};
 
@@ -6,7 +6,7 @@ use crate::transitions::{Access, Step};
 use lrpar_grammar::span::{StIdx, StorageIndex};
 use std::alloc::AllocError;
 
-/// Appends the steps of the way to the state that is kept, the last one first.
+/// Appends the steps of the access string that is kept of the state, the last one first.
 pub(crate) fn push_back<StorageT: StorageIndex>(
     accesses: &[Option<Access<StorageT>>],
     out: &mut Vec<Step<StorageT>>,
@@ -24,7 +24,7 @@ pub(crate) fn push_back<StorageT: StorageIndex>(
     Ok(())
 }
 
-/// Turns round the order of the steps from a place on.
+/// Reverses the order of the steps from a place on.
 pub(crate) fn reverse_from<StorageT: StorageIndex>(steps: &mut [Step<StorageT>], from: usize)
     requires { from ≤ length steps.old }
     ensures { steps.new ≡ take from steps.old ++ reverse (drop from steps.old) }
@@ -32,7 +32,7 @@ pub(crate) fn reverse_from<StorageT: StorageIndex>(steps: &mut [Step<StorageT>],
     steps[from..].reverse();
 }
 
-// The last step of the way to the state, if it has one.
+// The last step that is kept of the state, if it has one.
 fn last_step<StorageT: StorageIndex>(
     accesses: &[Option<Access<StorageT>>],
     s: StIdx<StorageT>,

@@ -12,7 +12,7 @@ use lrpar_grammar::grammar::YaccGrammar;
 use lrpar_grammar::span::{PIdx, StorageIndex, Symbol, TIdx};
 use std::alloc::{AllocError, Global};
 
-/// How a rule can begin with a token: by a production, at a place in it, what stands before that place deriving nothing.
+/// How a rule can begin with a token: by a production, at a place in it; the symbols before that place derive nothing.
 #[derive(Clone, Copy, Debug, PartialEq, Eq)]
 pub(crate) struct Start<StorageT> {
     pub(crate) prod: PIdx<StorageT>,
@@ -36,7 +36,7 @@ pub(crate) fn starts<StorageT: StorageIndex>(
     Ok(starts)
 }
 
-// None, for so many rules.
+// A list that has nothing for each of the rules.
 fn no_starts<StorageT: StorageIndex>(
     alloc: Global,
     rules: usize,
@@ -51,7 +51,7 @@ fn no_starts<StorageT: StorageIndex>(
     Ok(starts)
 }
 
-// Keeps how each production can begin with the token, where its rule couldn't yet, and tells whether any was new.
+// Keeps how each production can begin with the token, if its rule couldn't yet, and returns whether any was new.
 fn grow_all<StorageT: StorageIndex>(
     grm: &YaccGrammar<StorageT>,
     choices: &[Option<Choice<StorageT>>],
@@ -75,7 +75,7 @@ fn grow_all<StorageT: StorageIndex>(
     grown
 }
 
-// Keeps how the production can begin with the token, where its rule couldn't yet, and tells whether it was new.
+// Keeps how the production can begin with the token, if its rule couldn't yet, and returns whether it was new.
 fn grow<StorageT: StorageIndex>(
     grm: &YaccGrammar<StorageT>,
     choices: &[Option<Choice<StorageT>>],
@@ -117,7 +117,7 @@ fn keep<StorageT: StorageIndex>(
     starts[rule] = Some(start);
 }
 
-// The place at which the production can begin with the token, if its symbols derive texts and there is one.
+// The place at which the production can begin with the token, if its symbols are productive and there is one.
 fn start_place<StorageT: StorageIndex>(
     grm: &YaccGrammar<StorageT>,
     choices: &[Option<Choice<StorageT>>],
@@ -135,7 +135,7 @@ fn start_place<StorageT: StorageIndex>(
     }
 }
 
-/// The first place in the symbols that can begin with the token by the starts, where what stands before it can derive nothing.
+/// The first place in the symbols that can begin with the token by the starts, if the symbols before it are nullable.
 pub(crate) fn place_of<StorageT: StorageIndex>(
     choices: &[Option<Choice<StorageT>>],
     starts: &[Option<Start<StorageT>>],

@@ -16,7 +16,7 @@ use lrpar_grammar::grammar::YaccGrammar;
 use lrpar_grammar::span::{StorageIndex, Symbol, TIdx};
 use std::alloc::{AllocError, Global};
 
-/// Appends the moves of trees of the symbols, one each, whose first token is `first`, where there are such trees.
+/// Appends the moves of trees of the symbols, one each, whose first token is `first`. There have to be such trees.
 pub(crate) fn push_beginning<StorageT: StorageIndex>(
     alloc: Global,
     grm: &YaccGrammar<StorageT>,
@@ -84,7 +84,8 @@ fn push_start<StorageT: StorageIndex>(
     unfold(grm, choices, &mut frames, out)
 }
 
-// Appends the moves of a tree of the symbol that begins with the token, up to that, and puts into the frames what is left of the tree.
+// Appends the moves of a tree of the symbol that begins with the token, up to the token, and puts what is left of the tree into
+// the frames.
 fn descend<StorageT: StorageIndex>(
     alloc: Global,
     grm: &YaccGrammar<StorageT>,
@@ -119,7 +120,7 @@ fn descend<StorageT: StorageIndex>(
     Ok(())
 }
 
-// What stands before the place, the symbol there, and what stands behind it, if the place is one of the symbols.
+// The symbols before the place, the symbol there, and those after it, if the place is one of the symbols.
 fn around<'a, StorageT: StorageIndex>(
     symbols: &'a [Symbol<StorageT>],
     place: usize,

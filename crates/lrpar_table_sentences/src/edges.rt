@@ -12,7 +12,7 @@ use lrpar_grammar::span::{StIdx, StorageIndex, Symbol, TIdx};
 use lrpar_table_rows::table::{Action, StateTable};
 use std::alloc::{AllocError, Global};
 
-/// The table's shifts and gotos whose symbols derive texts.
+/// The table's shifts and gotos whose symbols are productive.
 pub(crate) fn edges<StorageT: StorageIndex>(
     alloc: Global,
     stable: &StateTable<StorageT>,
@@ -101,7 +101,7 @@ fn push_gotos<StorageT: StorageIndex>(
     Ok(())
 }
 
-// Appends a step, if its symbol derives a text.
+// Appends a step, if its symbol is productive.
 fn push_edge<StorageT: StorageIndex>(
     edges: &mut Vec<Edge<StorageT>>,
     shortest: &Shortest<StorageT>,

@@ -1,4 +1,4 @@
-//! The rules that a grammar reaches from its start, and which of them derive no text.
+//! The reachable rules of a grammar, and which of them are unproductive.
 ghost use Rattle.std.specs.Prelude.{◌≡◌, ◌<◌, ◌↔◌, ℕ, IfOk, IsTrue, MatchOption, length};
 ghost use Rattle.std.specs.Bool.{OnFalse, OnTrue};
 ghost use Rattle.lrpar_grammar.specs.Grammar.{Grammar, Nonterminal, prods_len};
@@ -12,7 +12,7 @@ use lrpar_grammar::span::{PIdx, RIdx, StorageIndex, Symbol};
 use std::alloc::{AllocError, Global};
 use std::marker::Model;
 
-/// Of each rule of a grammar whether it is reached from the start.
+/// For each rule of a grammar whether it is reachable.
 #[derive(Debug, Drop)]
 pub struct Reachable {
     marks: Vec<bool>,
@@ -27,11 +27,11 @@ impl Model for Reachable {
 }
 
 impl Reachable {
-    /// The rules that the grammar reaches from its start: the added rule, and with a rule each one on the right side of one of its
-    /// productions.
+    /// The rules that are reachable from the grammar's start: the added rule, and with a rule each one on the right side of one
+    /// of its productions.
     ///
-    /// It goes over the productions until no rule more is reached: few times in practice, and at most one more than there are rules.
-    /// Memory grows with the rules. An `Err` comes where memory doesn't suffice.
+    /// It goes over the productions until no more rules are found: few times in practice, and at most one more than there are
+    /// rules. Memory grows with the rules. An `Err` comes if an allocation fails.
     pub fn new<StorageT: StorageIndex>(
         alloc: Global,
         grm: &YaccGrammar<StorageT>,
@@ -42,7 +42,7 @@ impl Reachable {
         Ok(Reachable { marks })
     }
 
-    /// Whether the rule is reached from the start. No rule past the grammar's is.
+    /// Whether the rule is reachable. No rule past the grammar's is.
     pub fn is_reachable<StorageT: StorageIndex>(&self, rule: RIdx<StorageT>) -> bool
         ensures marked { result ≡ is_marked self.now (StorageT.index rule.0) }
         ensures exact { (g : Grammar) → AreAllMarked g self.now → IsTrue result ↔ IsReachableRule g (StorageT.index rule.0) }
@@ -54,7 +54,7 @@ impl Reachable {
     }
 }
 
-/// The first rule, by its number, that the grammar reaches from its start and of which nothing is kept, if there is one.
+/// The first reachable rule, by its number, with nothing kept, if there is one.
 pub(crate) fn unproductive<StorageT: StorageIndex>(
     alloc: Global,
     grm: &YaccGrammar<StorageT>,
@@ -67,7 +67,7 @@ pub(crate) fn unproductive<StorageT: StorageIndex>(
     Ok(first_unproductive(grm, choices, &marks))
 }
 
-// The first marked rule of which nothing is kept.
+// The first marked rule with nothing kept.
 fn first_unproductive<StorageT: StorageIndex>(
     grm: &YaccGrammar<StorageT>,
     choices: &[Option<Choice<StorageT>>],
@@ -86,7 +86,7 @@ fn first_unproductive<StorageT: StorageIndex>(
     None
 }
 
-// For each rule whether the grammar reaches it from its start.
+// For each rule whether it is reachable.
 fn reachable_rules<StorageT: StorageIndex>(
     alloc: Global,
     grm: &YaccGrammar<StorageT>,
@@ -111,7 +111,7 @@ fn added_rule<StorageT: StorageIndex>(
     Ok(marks)
 }
 
-// Marks the rules on the right sides of the productions of marked rules, and tells whether any was new.
+// Marks the rules on the right sides of the productions of marked rules, and returns whether any was new.
 fn mark_all<StorageT: StorageIndex>(grm: &YaccGrammar<StorageT>, marks: &mut [bool]) -> bool
     requires marks { AreMarked grm.now marks.old }
     ensures marks { AreMarked grm.now marks.new }
@@ -128,7 +128,7 @@ fn mark_all<StorageT: StorageIndex>(grm: &YaccGrammar<StorageT>, marks: &mut [bo
     grown
 }
 
-// Marks the rules on the right side of the production, if its rule is marked, and tells whether any was new.
+// Marks the rules on the right side of the production, if its rule is marked, and returns whether any was new.
 fn mark_after<StorageT: StorageIndex>(
     grm: &YaccGrammar<StorageT>,
     marks: &mut [bool],
@@ -155,7 +155,7 @@ fn mark_after<StorageT: StorageIndex>(
     grown
 }
 
-// Marks the symbol, if it is a rule, and tells whether it was new.
+// Marks the symbol, if it is a rule, and returns whether it was new.
 fn mark<StorageT: StorageIndex>(marks: &mut [bool], symbol: Symbol<StorageT>) -> bool
     requires { (r : ℕ) → symbol_of StorageT.index symbol ≡ Nonterminal r → r < length marks.old }
     ensures marks { (g : Grammar) → AreMarked g marks.old → IsReachableSymbol g (symbol_of StorageT.index symbol) → AreMarked g marks.new }

@@ -1,4 +1,5 @@
-//! The shortest texts of rules, settled in the order of their lengths, as in Knuth, 'A Generalization of Dijkstra's Algorithm'.
+//! The minimal sentences of rules, settled in the order of their lengths, as in Knuth, 'A Generalization of Dijkstra's
+//! Algorithm'.
 ghost use Rattle.std.specs.Prelude.{◌≡◌, ◌<◌, ℕ, IfOk, MatchOption, length, map, option_map};
 ghost use Rattle.lrpar_grammar.specs.Grammar.{prods_len, rules_len};
 ghost use Rattle.lrpar_grammar.specs.Symbols.{symbol_of};
@@ -9,7 +10,7 @@ use lrpar_grammar::grammar::YaccGrammar;
 use lrpar_grammar::span::{PIdx, RIdx, StorageIndex, Symbol};
 use std::alloc::{AllocError, Global};
 
-/// What is kept of a rule that derives a text: the least number of tokens, and the production that a shortest tree begins with.
+/// What is kept of a productive rule: the length of a minimal sentence, and the production that its tree begins with.
 #[derive(Clone, Copy, Debug, PartialEq, Eq)]
 pub(crate) struct Choice<StorageT> {
     pub(crate) len: usize,
@@ -31,7 +32,7 @@ pub(crate) fn settled<StorageT: StorageIndex>(
     Ok(choices)
 }
 
-// Nothing, for so many rules.
+// A list that has nothing for each of the rules.
 fn nothing_kept<StorageT: StorageIndex>(
     alloc: Global,
     rules: usize,

@@ -1,4 +1,4 @@
-//! Shortest ways to the states of a table, settled in the order of their lengths.
+//! Minimal access strings of the states of a table, settled in the order of their lengths.
 ghost use Rattle.std.specs.Prelude.{◌≡◌, ◌≢◌, ◌<◌, ℕ, All, IfOk, List, MatchOption, None, Option, Some, length, slice_set};
 ghost use Rattle.lrpar_table_rows.specs.Table.{Table, states_len};
 ghost use Rattle.lrpar_table_build.specs.Built.{IsBuilt};
@@ -53,7 +53,7 @@ fn settled_by<StorageT: StorageIndex>(
     Ok(accesses)
 }
 
-// A way without a step to the start state, and nothing for all others.
+// An access string without a step for the start state, and nothing for all others.
 fn start_kept<StorageT: StorageIndex>(
     alloc: Global,
     stable: &StateTable<StorageT>,
@@ -68,7 +68,7 @@ fn start_kept<StorageT: StorageIndex>(
     Ok(accesses)
 }
 
-// Nothing, for so many states.
+// A list that has nothing for each of the states.
 fn nothing_kept<StorageT: StorageIndex>(
     alloc: Global,
     states: usize,
@@ -83,7 +83,7 @@ fn nothing_kept<StorageT: StorageIndex>(
     Ok(accesses)
 }
 
-// The least length of a way by a step to a state of which nothing is kept yet.
+// The least length of an access string by a step to a state with nothing kept yet.
 fn least_open<StorageT: StorageIndex>(
     edges: &[Edge<StorageT>],
     accesses: &[Option<Access<StorageT>>],
@@ -99,7 +99,7 @@ fn least_open<StorageT: StorageIndex>(
     least
 }
 
-// The length of the way by the step, if nothing is kept yet of the state that it leads to.
+// The length of the access string by the step, if nothing is kept yet of the state that it leads to.
 fn open_len<StorageT: StorageIndex>(
     accesses: &[Option<Access<StorageT>>],
     edge: &Edge<StorageT>,
@@ -115,7 +115,7 @@ fn open_len<StorageT: StorageIndex>(
     }
 }
 
-// Keeps each way by a step to a state of which nothing is kept yet that has the length, which is the least one.
+// Keeps each access string that has the length, which is the least one, by a step to a state with nothing kept yet.
 fn settle_all<StorageT: StorageIndex>(
     edges: &[Edge<StorageT>],
     accesses: &mut [Option<Access<StorageT>>],
@@ -136,7 +136,7 @@ fn settle_all<StorageT: StorageIndex>(
     }
 }
 
-// Keeps a way to the state.
+// Keeps an access string of the state.
 fn keep<StorageT: StorageIndex>(
     accesses: &mut [Option<Access<StorageT>>],
     state: usize,

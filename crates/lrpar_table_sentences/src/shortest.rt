@@ -1,4 +1,4 @@
-//! Shortest texts of rules and symbols, and their trees.
+//! Minimal sentences of rules and symbols, and their trees.
 ghost use Rattle.std.specs.Prelude.{◌≡◌, ◌↔◌, ◌∷◌, ◌++◌, ℕ, [], IfOk, IsTrue, MatchOption, OnOk, map};
 ghost use Rattle.std.specs.Option.{is_some};
 ghost use Rattle.lrpar_grammar.specs.Grammar.{Grammar};
@@ -20,13 +20,13 @@ use lrpar_grammar::span::{RIdx, StorageIndex, Symbol, TIdx};
 use std::alloc::{AllocError, Global};
 use std::marker::Model;
 
-/// Of each rule of a grammar how many tokens the shortest text has that the rule derives, and a tree of one.
+/// For each rule of a grammar the length of a minimal sentence, in tokens, and the tree of one.
 #[derive(Debug)]
 pub struct Shortest<StorageT: StorageIndex> {
     choices: Vec<Option<Choice<StorageT>>>,
 }
 
-// A drop of its own, so that what lets go of one elsewhere proves one call.
+// A drop of its own: code that drops one then has one call to prove.
 impl<StorageT: StorageIndex> Drop for Shortest<StorageT> {
     fn drop(self) {
         let Shortest { choices } = self;
@@ -44,11 +44,11 @@ impl<StorageT: StorageIndex> Model for Shortest<StorageT> {
 }
 
 impl<StorageT: StorageIndex> Shortest<StorageT> {
-    /// The shortest texts of the grammar's rules.
+    /// The minimal sentences of the grammar's rules.
     ///
     /// They are settled in the order of their lengths (Knuth, 'A Generalization of Dijkstra's Algorithm'), by sweeps over the
-    /// productions: few in practice, and at most one more than there are rules. Memory grows with the rules. An `Err` comes where
-    /// memory doesn't suffice.
+    /// productions: few in practice, and at most one more than there are rules. Memory grows with the rules. An `Err` comes if an
+    /// allocation fails.
     pub fn new(alloc: Global, grm: &YaccGrammar<StorageT>) -> Result<Self, AllocError>
         ensures { IfOk result (λ shortest. AreShortest grm.now usize.MAX shortest) }
     {
@@ -56,8 +56,7 @@ impl<StorageT: StorageIndex> Shortest<StorageT> {
         Ok(Shortest { choices })
     }
 
-    /// The least number of tokens of a text that the symbol derives: `usize::MAX` where each has so many or more, and `None` where
-    /// it derives none.
+    /// The number of tokens of a minimal sentence of the symbol, capped at `usize::MAX`; `None` if the symbol is unproductive.
     pub fn len_of(&self, symbol: Symbol<StorageT>) -> Option<usize>
         ensures len { result ≡ len_at self.now (symbol_of StorageT.index symbol) }
         ensures shortest { (g : Grammar) → AreShortest g usize.MAX self.now → IsShortestIfAny g usize.MAX (symbol_of StorageT.index symbol ∷ []) result }
@@ -65,7 +64,7 @@ impl<StorageT: StorageIndex> Shortest<StorageT> {
         len_of(&self.choices, symbol)
     }
 
-    /// Whether the rule derives some text. No rule past the grammar's does.
+    /// Whether the rule is productive. No rule past the grammar's is.
     pub fn derives_text(&self, rule: RIdx<StorageT>) -> bool
         ensures kept { result ≡ is_some (choice_at self.now (StorageT.index rule.0)) }
         ensures exact { (g : Grammar) → AreShortest g usize.MAX self.now → IsTrue result ↔ HasTree g (StorageT.index rule.0) }
@@ -73,8 +72,8 @@ impl<StorageT: StorageIndex> Shortest<StorageT> {
         choice_of(&self.choices, rule).is_some()
     }
 
-    /// The least number of tokens of a text that the symbols derive: `usize::MAX` where each has so many or more, and `None` where
-    /// one of the symbols derives none.
+    /// The number of tokens of a minimal sentence of the symbols, capped at `usize::MAX`; `None` if one of the symbols is
+    /// unproductive.
     pub fn len_of_all(&self, symbols: &[Symbol<StorageT>]) -> Option<usize>
         ensures len { result ≡ total_len usize.MAX self.now (map (symbol_of StorageT.index) symbols.now) }
         ensures shortest { (g : Grammar) → AreShortest g usize.MAX self.now → IsShortestIfAny g usize.MAX (map (symbol_of StorageT.index) symbols.now) result }
@@ -82,10 +81,10 @@ impl<StorageT: StorageIndex> Shortest<StorageT> {
         total_len(&self.choices, symbols)
     }
 
-    /// Appends the moves of a tree of the symbol that has as few tokens as any, where there is such a tree.
+    /// Appends the moves of the tree of a minimal sentence of the symbol, which has to be productive.
     ///
-    /// Time and memory grow with the moves. An `Err` comes where memory doesn't suffice, as it can't for `usize::MAX` tokens, and
-    /// leaves some of the moves behind what `out` had.
+    /// Time and memory grow with the moves. An `Err` comes if an allocation fails, as it must for `usize::MAX` tokens; `out` may
+    /// then have some of the moves after what it had.
     pub fn push_moves(
         &self,
         alloc: Global,
@@ -101,7 +100,7 @@ impl<StorageT: StorageIndex> Shortest<StorageT> {
         push_symbol(alloc, grm, &self.choices, out, symbol)
     }
 
-    /// Appends the moves of trees of the symbols, one each, that have as few tokens as any, where there are such trees.
+    /// Appends the moves of the trees of a minimal sentence of the symbols, each of which has to be productive.
     ///
     /// Time, memory and `Err` are as with `push_moves`.
     pub fn push_all_moves(
@@ -119,8 +118,8 @@ impl<StorageT: StorageIndex> Shortest<StorageT> {
         push_symbols(alloc, grm, &self.choices, out, symbols)
     }
 
-    /// Appends the moves of trees of the symbols, one each, whose first token is `first`, where there are such trees. What stands
-    /// behind that token in its nodes are shortest trees.
+    /// Appends the moves of trees of the symbols, one each, whose first token is `first`. There have to be such trees. In the
+    /// nodes around that token, the trees after it are those of minimal sentences.
     ///
     /// It looks for the rules that can begin with the token, by sweeps over the productions. `Err` is as with `push_moves`.
     pub fn push_moves_from(
@@ -139,10 +138,10 @@ impl<StorageT: StorageIndex> Shortest<StorageT> {
         push_beginning(alloc, grm, &self.choices, out, symbols, first)
     }
 
-    /// The first rule, by its number, that the grammar reaches from its start and that derives no text, if there is one.
+    /// The first rule, by its number, that is reachable and unproductive, if there is one.
     ///
-    /// It goes over the productions until no rule more is reached: few times in practice, and at most one more than there are rules.
-    /// Memory grows with the rules. An `Err` comes where memory doesn't suffice.
+    /// It goes over the productions until no more reachable rules are found: few times in practice, and at most one more than
+    /// there are rules. Memory grows with the rules. An `Err` comes if an allocation fails.
     pub fn unproductive(
         &self,
         alloc: Global,

@@ -1,4 +1,4 @@
-//! What is kept of states on the way to which one is.
+//! Transitions of a table, and what is kept of each state: the last one of its access string.
 
 use lrpar_grammar::span::{StIdx, StorageIndex, Symbol};
 
@@ -11,7 +11,7 @@ pub struct Step<StorageT> {
     pub symbol: Symbol<StorageT>,
 }
 
-/// What is kept of a state that a text leads to: the least number of tokens, and the last step of a shortest way, if it has one.
+/// What is kept of a state that has an access string: the least number of tokens, and the last step, if it has one.
 #[derive(Clone, Copy, Debug, PartialEq, Eq)]
 pub(crate) struct Access<StorageT> {
     pub(crate) len: usize,

@@ -55,7 +55,7 @@ pub(crate) fn push_symbol<StorageT: StorageIndex>(
     unfold(grm, choices, &mut frames, out)
 }
 
-/// Appends the moves of the frames, the last of which is the innermost.
+/// Appends the moves of the frames; the last frame is the innermost.
 pub(crate) fn unfold<StorageT: StorageIndex>(
     grm: &YaccGrammar<StorageT>,
     choices: &[Option<Choice<StorageT>>],
@@ -84,7 +84,7 @@ pub(crate) fn unfold<StorageT: StorageIndex>(
     Ok(())
 }
 
-// The symbol behind the frame's dot, if there is one.
+// The symbol after the frame's dot, if there is one.
 fn symbol_at<StorageT: StorageIndex>(
     grm: &YaccGrammar<StorageT>,
     frame: Frame<StorageT>,
@@ -101,7 +101,8 @@ fn symbol_at<StorageT: StorageIndex>(
     }
 }
 
-// Takes the symbol if it is a token, and begins the production that is kept of it if it is a rule. Tells whether the symbol has a tree.
+// Takes the symbol if it is a token, and begins the production that is kept of it if it is a rule. Returns whether the symbol has
+// a tree.
 fn push_begun<StorageT: StorageIndex>(
     choices: &[Option<Choice<StorageT>>],
     frames: &mut Vec<Frame<StorageT>>,

@@ -13,7 +13,7 @@ use std::rt::Files;
 use std::{fs, io};
 use test_case_lines::cases::Case;
 use test_case_lines::fault::Fault;
-use test_case_lines::told::Told;
+use test_case_lines::printed::Printed;
 use test_case_lines::values::number_at;
 
 /// The keys of the lines that say what is done.
@@ -21,7 +21,7 @@ pub const INPUTS: &[&str] = &["text", "grammar", "bound", "show"];
 
 /// The counterexamples of the conflicts of the grammar's table.
 pub fn outcome<R: Files>(
-    told: &mut Told,
+    told: &mut Printed,
     rt: &R,
     alloc: Global,
     case: Case<'_, '_>,
@@ -44,7 +44,7 @@ fn source<R: Files>(rt: &R, alloc: Global, case: Case<'_, '_>) -> Result<String,
 
 // The counterexamples of the table that is built of the grammar.
 fn push_of_grammar(
-    told: &mut Told,
+    told: &mut Printed,
     alloc: Global,
     case: Case<'_, '_>,
     grm: &YaccGrammar<u16>,
@@ -58,7 +58,7 @@ fn push_of_grammar(
 
 // The counterexamples of a table.
 fn push_of_table(
-    told: &mut Told,
+    told: &mut Printed,
     alloc: Global,
     case: Case<'_, '_>,
     grm: &YaccGrammar<u16>,
@@ -78,7 +78,7 @@ fn push_of_table(
 
 // What the case asks for: the text of the counterexamples, or how many there are.
 fn push_shown(
-    told: &mut Told,
+    told: &mut Printed,
     alloc: Global,
     case: Case<'_, '_>,
     grm: &YaccGrammar<u16>,
@@ -99,7 +99,7 @@ fn push_shown(
 
 // How many conflicts, counterexamples and texts of them there are, and how many of these have one text with two derivations.
 fn push_count(
-    told: &mut Told,
+    told: &mut Printed,
     table: &StateTable<u16>,
     examples: &[ConflictExample<u16>],
     text: &str,

@@ -3,6 +3,6 @@ use Rattle.std.specs.String.{string_bytes}
 use Rattle.lrpar_diagnostics.specs.Columns.{repeated}
 use Rattle.lrpar_diagnostics.proofs.source.push_repeated.Given as goal
 
--- so many are added
+-- this number of characters is added
 abbrev pub invariant-loop-i : goal.invariant-loop-i
 invariant-loop-i l = string_bytes l.out ≡ string_bytes l.initial.out ++ repeated l._i l.c

@@ -2,7 +2,7 @@ use Rattle.std.proofs.Common.{◌≡◌}
 use Rattle.lrpar_grammar.specs.Grammar.{end_token}
 use Rattle.lrpar_table_stacks.specs.Overlay.{overlaid}
 use Rattle.lrpar_parse_repair.proofs.TrialLemmas.{top_known}
-use Rattle.lrpar_parse_cpctplus.proofs.StackAnswerLemmas.{accepts_told}
+use Rattle.lrpar_parse_cpctplus.proofs.StackAnswerLemmas.{accepts_by_action}
 use Rattle.lrpar_parse_cpctplus.proofs.search.accepts.Goals as goal
 
 pub action-requires-clause-state : goal.action-requires-clause-state
@@ -17,5 +17,5 @@ returns-clause-accepts g c =
     let t = index c.eof_token_idx-end.result.0 in
     let end : t ≡ end_token d.grammar = rw c.grm.ensures at c.eof_token_idx-end.ensures in
     let read = rw c.stable-table.ensures.table at c.action.ensures.action in
-    accepts_told d.grammar d.table d.cap c.args.states.now c.settle_over.new.stack _ t (index c.top.result.0) index c.action.result c.is_accept.result
+    accepts_by_action d.grammar d.table d.cap c.args.states.now c.settle_over.new.stack _ t (index c.top.result.0) index c.action.result c.is_accept.result
     c.in_ok-settle_over.ensures.settled end c.top.ensures read c.is_accept.ensures

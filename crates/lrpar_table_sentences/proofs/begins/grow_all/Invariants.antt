@@ -4,7 +4,7 @@ use Rattle.lrpar_table_sentences.specs.Choices.{choices_of}
 use Rattle.lrpar_table_sentences.specs.Starts.{AreStarts, CanStart, starts_of, starts_open}
 use Rattle.lrpar_table_sentences.proofs.begins.grow_all.Given as goal
 
--- either less rules can't begin, or all is as before and nothing is missing of the productions so far
+-- either fewer rules can't begin, or all is as before and nothing is missing of the productions so far
 abbrev pub invariant-loop-prod : goal.invariant-loop-prod
 invariant-loop-prod g l =
     let index = g.StorageT.StorageIndex.index in

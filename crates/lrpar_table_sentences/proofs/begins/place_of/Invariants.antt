@@ -5,7 +5,7 @@ use Rattle.lrpar_table_sentences.specs.Choices.{choices_of}
 use Rattle.lrpar_table_sentences.specs.Starts.{place_of, starts_of}
 use Rattle.lrpar_table_sentences.proofs.begins.place_of.Given as goal
 
--- a place is that of the symbols that are left, so much further
+-- the place is that of the symbols that are left, plus the number of symbols so far
 abbrev pub invariant-loop-place : goal.invariant-loop-place
 invariant-loop-place g l =
     let index = g.StorageT.StorageIndex.index in

@@ -5,7 +5,7 @@ use Rattle.lrpar_table_sentences.specs.Reachable.{AreMarked, unmarked}
 use Rattle.lrpar_table_sentences.proofs.ReachableLemmas.{MarkedAt}
 use Rattle.lrpar_table_sentences.proofs.reachable.mark_after.Given as goal
 
--- either less rules are unmarked, or all is as before and the symbols so far are marked
+-- either fewer rules are unmarked, or all is as before and the symbols so far are marked
 abbrev pub invariant-loop-symbol : goal.invariant-loop-symbol
 invariant-loop-symbol g l =
     let symbols = symbols_of l.grm (g.StorageT.StorageIndex.index l.fn.pidx.0) in

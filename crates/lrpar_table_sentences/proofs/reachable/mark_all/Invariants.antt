@@ -3,7 +3,7 @@ use Rattle.std.specs.Bool.{OnFalse, OnTrue}
 use Rattle.lrpar_table_sentences.specs.Reachable.{AreMarked, MarksOn, unmarked}
 use Rattle.lrpar_table_sentences.proofs.reachable.mark_all.Given as goal
 
--- either less rules are unmarked, or all is as before and nothing is missing of the productions so far
+-- either fewer rules are unmarked, or all is as before and nothing is missing of the productions so far
 abbrev pub invariant-loop-prod : goal.invariant-loop-prod
 invariant-loop-prod g l =
     AreMarked l.grm l.marks

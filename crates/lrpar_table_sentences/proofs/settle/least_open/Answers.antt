@@ -1,7 +1,7 @@
 use Rattle.std.proofs.Common.{◌^◌, ◌-◌, ℕ, arith, ap, sym, ◌∙◌}
 use Rattle.lrpar_table_sentences.specs.Choices.{choices_of}
 use Rattle.lrpar_table_sentences.specs.Lens.{open_len}
-use Rattle.lrpar_table_sentences.proofs.SettleLemmas.{index_back, least_more, least_told}
+use Rattle.lrpar_table_sentences.proofs.SettleLemmas.{index_back, least_more, least_found}
 use Rattle.lrpar_table_sentences.proofs.settle.least_open.Goals as goal
 
 pub loop-prod-preserved : goal.loop-prod-preserved
@@ -12,5 +12,5 @@ loop-prod-preserved g c =
 
 pub returns : goal.returns
 returns g c =
-    least_told c.args.grm.now (2 ^ 64 - 1) (choices_of g.StorageT.StorageIndex.index c.args.choices.now) c.loop-prod.prod c.loop-prod.least
+    least_found c.args.grm.now (2 ^ 64 - 1) (choices_of g.StorageT.StorageIndex.index c.args.choices.now) c.loop-prod.prod c.loop-prod.least
     (omega (arith, c.loop-prod-test.false, c.loop-prod.auto.prod-end, c.prods_len-prod-end.ensures.len)) c.loop-prod.invariant

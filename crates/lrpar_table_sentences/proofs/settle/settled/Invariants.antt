@@ -6,6 +6,6 @@ use Rattle.lrpar_table_sentences.proofs.settle.settled.Given as goal
 abbrev pub invariant-levels : goal.invariant-levels
 invariant-levels g l = AreRight l.grm (2 ^ 64 - 1) (choices_of g.StorageT.StorageIndex.index l.choices.items)
 
--- of how many rules nothing is kept
+-- how many rules have nothing kept
 abbrev pub decreases-levels : goal.decreases-levels
 decreases-levels g l = open_in (choices_of g.StorageT.StorageIndex.index l.choices.items)

@@ -3,7 +3,7 @@ use Rattle.std.proofs.lemmas.List.{length-map}
 use Rattle.lrpar_table_sentences.specs.AccessLens.{edge_of, edges_of}
 use Rattle.lrpar_table_sentences.specs.AccessStrings.{accesses_of}
 use Rattle.lrpar_table_sentences.proofs.SettleLemmas.{least_more}
-use Rattle.lrpar_table_sentences.proofs.AccessLemmas.{open_at, open_here, steps_told}
+use Rattle.lrpar_table_sentences.proofs.AccessLemmas.{open_at, open_here, steps_least}
 use Rattle.lrpar_table_sentences.proofs.settle_access.least_open.Goals as goal
 
 pub loop-edge-preserved : goal.loop-edge-preserved
@@ -16,5 +16,5 @@ loop-edge-preserved g c =
 pub returns : goal.returns
 returns g c =
     let index = g.StorageT.StorageIndex.index in
-    steps_told (2 ^ 64 - 1) (accesses_of index c.args.accesses.now) (edges_of index c.args.edges.now) c.loop-edge.edge-index c.loop-edge.least
+    steps_least (2 ^ 64 - 1) (accesses_of index c.args.accesses.now) (edges_of index c.args.edges.now) c.loop-edge.edge-index c.loop-edge.least
     (let long = length-map c.args.edges.now (edge_of index) in omega (arith, long, c.loop-edge-test.false, c.loop-edge.auto.edge-index-end)) c.loop-edge.invariant

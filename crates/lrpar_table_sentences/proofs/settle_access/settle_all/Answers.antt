@@ -1,5 +1,5 @@
 use Rattle.std.proofs.Common.{◌^◌, ◌-◌, ◌∙◌, sym, ap, arith}
-use Rattle.lrpar_table_sentences.proofs.AccessLemmas.{ways_end, ways_settle, ways_stay}
+use Rattle.lrpar_table_sentences.proofs.AccessLemmas.{accesses_end, accesses_settle, accesses_stay}
 use Rattle.lrpar_table_sentences.proofs.settle_access.settle_all.Goals as goal
 use Rattle.lrpar_table_sentences.proofs.settle_access.settle_all.Goals.{then-eq, else-eq}
 
@@ -11,11 +11,11 @@ loop-edge-preserved g c =
           let bound = c.requires.within c.loop-edge.edge-index c.edge-item.result c.loop-edge-test.true in
           let same = ap (λ e. index e.next.0) c.edge-item.is in
           let kept = c.loop-edge.auto.accesses in
-          ways_settle index (2 ^ 64 - 1) c.args.len c.args.edges.now c.args.accesses.now c.loop-edge.accesses c.if-eq.accesses c.loop-edge.edge-index c.loop-edge.invariant
+          accesses_settle index (2 ^ 64 - 1) c.args.len c.args.edges.now c.args.accesses.now c.loop-edge.accesses c.if-eq.accesses c.loop-edge.edge-index c.loop-edge.invariant
           c.edge-item.result c.open_len.result c.loop-edge-test.true c.edge-item.is c.open_len.ensures w.from.result (sym c.eq.ensures ∙ w.if-eq.true) w.from.ensures
           (omega (arith, bound, same, kept, w.from.ensures)) (w.accesses-is ∙ w.keep.ensures)
       | else-eq w ↦
-          ways_stay index (2 ^ 64 - 1) c.args.len c.args.edges.now c.args.accesses.now c.loop-edge.accesses c.if-eq.accesses c.loop-edge.edge-index c.loop-edge.invariant
+          accesses_stay index (2 ^ 64 - 1) c.args.len c.args.edges.now c.args.accesses.now c.loop-edge.accesses c.if-eq.accesses c.loop-edge.edge-index c.loop-edge.invariant
           c.edge-item.result c.open_len.result c.loop-edge-test.true c.edge-item.is c.open_len.ensures (sym c.eq.ensures ∙ w.if-eq.false) w.accesses-is
     ]
 
@@ -32,4 +32,4 @@ returns-clause-right g c = λ table choices are right below. (c.loop-edge.invari
 
 pub returns-clause-fewer : goal.returns-clause-fewer
 returns-clause-fewer g c =
-    ways_end g.StorageT.StorageIndex.index (2 ^ 64 - 1) c.args.len c.args.edges.now c.args.accesses.now c.loop-edge.accesses c.loop-edge.edge-index c.loop-edge-test.false c.loop-edge.invariant
+    accesses_end g.StorageT.StorageIndex.index (2 ^ 64 - 1) c.args.len c.args.edges.now c.args.accesses.now c.loop-edge.accesses c.loop-edge.edge-index c.loop-edge-test.false c.loop-edge.invariant

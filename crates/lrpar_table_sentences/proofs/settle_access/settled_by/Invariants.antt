@@ -6,6 +6,6 @@ use Rattle.lrpar_table_sentences.proofs.settle_access.settled_by.Given as goal
 abbrev pub invariant-levels : goal.invariant-levels
 invariant-levels g l = AreRightAccesses l.stable (2 ^ 64 - 1) l.shortest (accesses_of g.StorageT.StorageIndex.index l.accesses.items)
 
--- of how many states nothing is kept
+-- how many states have nothing kept
 abbrev pub decreases-levels : goal.decreases-levels
 decreases-levels g l = open_accesses (accesses_of g.StorageT.StorageIndex.index l.accesses.items)

@@ -4,7 +4,7 @@ use Rattle.std.specs.String.{string_bytes}
 use Rattle.lrpar_diagnostics.specs.Underline.{marked_line, printed_after, printed_lines}
 use Rattle.lrpar_diagnostics.proofs.source.Source.push_block.Given as goal
 
--- with the lines behind this one, the text so far is the whole
+-- with the lines after this one, the text so far is the whole
 abbrev pub invariant-loop-next : goal.invariant-loop-next
 invariant-loop-next l =
     let src = l.self.src.now in

@@ -1,10 +1,10 @@
 use Rattle.std.proofs.Common.{◌∙◌, AllPairs, ℕ, List, None, Option, Some, arith, subst, sym}
 use Rattle.std.proofs.lemmas.Result.{IfOk-weaker}
 use Rattle.lrpar_parse_repair.specs.Asked.{Asked}
-use Rattle.lrpar_parse_lexemes.specs.Known.{token_by}
+use Rattle.lrpar_parse_lexemes.specs.Views.{token_by}
 use Rattle.lrpar_parse_repair.specs.PlainSteps.{plain_sequences}
 use Rattle.lrpar_parse_repair.specs.Sequences.{PlainStep}
-use Rattle.lrpar_parse_cpctplus.specs.Cheapest.{BeginsWithin}
+use Rattle.lrpar_parse_cpctplus.specs.Cheapest.{IsCandidateWithin}
 use Rattle.lrpar_parse_cpctplus.specs.Costs.{Terms}
 use Rattle.lrpar_parse_cpctplus.specs.Order.{ComesFirst}
 use Rattle.lrpar_parse_cpctplus.specs.SearchView.{sequences_found}
@@ -23,9 +23,9 @@ returns-in_default g c =
     let some = c.shifts-shifts.ensures.stop.shifts in
     let each = λ (t : ℕ). (c.limit-limit.ensures.costs t).0 in
     let first = rw c.in_default.is at c.in_ok-found.ensures.tally in
-    let second = subst (λ (a : Asked g.row.LexemeT.Denot). AreMoreThan c.new-search.result.terms.now.limit (BeginsWithin token c.new-search.result.terms.now.costs a bound))
+    let second = subst (λ (a : Asked g.row.LexemeT.Denot). AreMoreThan c.new-search.result.terms.now.limit (IsCandidateWithin token c.new-search.result.terms.now.costs a bound))
     c.new-search.ensures.point first in
-    let third = subst (λ (t : Terms). AreMoreThan t.limit (BeginsWithin token t.costs at bound)) c.new-search.ensures.terms second in
+    let third = subst (λ (t : Terms). AreMoreThan t.limit (IsCandidateWithin token t.costs at bound)) c.new-search.ensures.terms second in
     record { allowed = rw c.new.ensures.items (answer_exceeded token terms at bound c.bounds.invariant third) }
 
 pub returns-then-not-is_empty : goal.returns-then-not-is_empty

@@ -4,7 +4,7 @@ use Rattle.lrpar_table_stacks.specs.Stack.{IsStack}
 use Rattle.lrpar_parse_repair.specs.Sequences.{CanGoOn}
 use Rattle.lrpar_parse_cpctplus.proofs.search.Search.can_go_on.Given as goal
 
--- what is left to be fed from here can be, exactly where all could be from the start
+-- what is left to be fed from here can be, if and only if all could be from the start
 abbrev pub invariant-feeding : goal.invariant-feeding
 invariant-feeding g l =
     let token = λ (x : g.row.LexemeT.Denot). g.StorageT.StorageIndex.index (g.LexemeT.Lexeme.parts x).token in

@@ -1,9 +1,9 @@
 use Rattle.std.proofs.Common.{◌≡◌, IsTrue, true, false, refl}
 use Rattle.std.proofs.lemmas.Result.{IfOk-weaker}
 use Rattle.lrpar_table_stacks.specs.Overlay.{overlaid}
-use Rattle.lrpar_parse_lexemes.specs.Known.{token_by}
+use Rattle.lrpar_parse_lexemes.specs.Views.{token_by}
 use Rattle.lrpar_parse_repair.specs.PlainSteps.{plain_steps}
-use Rattle.lrpar_parse_cpctplus.proofs.WalkLemmas.{fresh_leads, last_not, repair_told}
+use Rattle.lrpar_parse_cpctplus.proofs.WalkLemmas.{fresh_leads, last_not, repair_by_test}
 use Rattle.lrpar_parse_cpctplus.proofs.search.Search.is_repair.Goals as goal
 
 pub returns-clause-repair : goal.returns-clause-repair
@@ -17,7 +17,7 @@ returns-clause-repair g c =
     let leads = fresh_leads index parts c.args.self.now old c.in_ok-refresh.ensures.walking c.in_ok-refresh.ensures.fresh path_is in
     let last = last_not index c.args.walk.now.path.items c.deref.ensures.value c.if-ends_in_shifts.false c.ends_in_shifts.ensures in
     IfOk-weaker c.can_go_on.result _ _
-    (λ told h. repair_told (token_by index parts) at old (overlaid now.states) now.place (IsTrue told) c.requires.walking.begins.formed last leads h)
+    (λ fact h. repair_by_test (token_by index parts) at old (overlaid now.states) now.place (IsTrue fact) c.requires.walking.begins.formed last leads h)
     c.can_go_on.ensures.goes_on
 
 pub returns-then-stops-clause-repair : goal.returns-then-stops-clause-repair
@@ -31,5 +31,5 @@ returns-then-stops-clause-repair g c =
     let leads = fresh_leads index parts c.args.self.now old c.in_ok-refresh.ensures.walking c.in_ok-refresh.ensures.fresh path_is in
     let last = last_not index c.args.walk.now.path.items c.deref.ensures.value c.if-ends_in_shifts.false c.ends_in_shifts.ensures in
     let none = c.stops.ensures c.if-stops.true in
-    repair_told (token_by index parts) at old (overlaid now.states) now.place (IsTrue false) c.requires.walking.begins.formed last leads
+    repair_by_test (token_by index parts) at old (overlaid now.states) now.place (IsTrue false) c.requires.walking.begins.formed last leads
     ((λ h. let e : false ≡ true = h in cc), (λ goes_on. absurd (none goes_on)))

@@ -6,9 +6,9 @@ use Rattle.lrpar_parse_repair.specs.Sequences.{PlainStep}
 use Rattle.lrpar_parse_repair.specs.declared.repair_step.RepairStep.{RepairStep}
 use Rattle.lrpar_table_stacks.specs.Overlay.{overlaid}
 use Rattle.lrpar_parse_cpctplus.specs.SearchView.{IsWalked, step_cost_by}
-use Rattle.lrpar_parse_cpctplus.specs.WalkAnswers.{place_in_front}
+use Rattle.lrpar_parse_cpctplus.specs.WalkAnswers.{place_before}
 use Rattle.lrpar_parse_cpctplus.proofs.BeforeLemmas.{last_step_of}
-use Rattle.lrpar_parse_cpctplus.proofs.WalkLemmas.{walk_front, walk_left}
+use Rattle.lrpar_parse_cpctplus.proofs.WalkLemmas.{walk_before, walk_left}
 use Rattle.lrpar_parse_cpctplus.proofs.search.Search.leave.Goals as goal
 
 pub overflow_sub-walk : goal.overflow_sub-walk
@@ -22,9 +22,9 @@ overflow_sub-walk g c =
     let whole : plain_steps index old.path.items ≡ new ++ x ∷ [] =
     ap (λ (l : List (RepairStep g.row.StorageT.Denot)). plain_steps index l) c.in-Some.ensures.items ∙ map-append (plain_step index) c.pop.new.self.items (c.in-Some.last ∷ []) in
     let w = subst (λ (l : List PlainStep). IsWalked index parts search l old.states.base (overlaid old.states) old.fresh old.place old.cost) whole c.requires.walking in
-    let known = walk_front index parts search new x old.states.base (overlaid old.states) old.fresh old.place old.cost w in
-    let front : step_cost_by index parts search c.place_in_front-walk.result x ≡ step_cost_by index parts search (place_in_front old.place x) x =
-    ap (λ m. step_cost_by index parts search m x) c.place_in_front-walk.ensures in
+    let known = walk_before index parts search new x old.states.base (overlaid old.states) old.fresh old.place old.cost w in
+    let front : step_cost_by index parts search c.place_before-walk.result x ≡ step_cost_by index parts search (place_before old.place x) x =
+    ap (λ m. step_cost_by index parts search m x) c.place_before-walk.ensures in
     omega (arith, known.2, front, c.cost_at.ensures.cost, c.from.ensures)
 
 pub rank_of-requires : goal.rank_of-requires
@@ -49,8 +49,8 @@ returns-clause-walking g c =
     let whole : plain_steps index old.path.items ≡ new ++ x ∷ [] =
     ap (λ (l : List (RepairStep g.row.StorageT.Denot)). plain_steps index l) c.in-Some.ensures.items ∙ map-append (plain_step index) c.pop.new.self.items (c.in-Some.last ∷ []) in
     let w = subst (λ (l : List PlainStep). IsWalked index parts search l old.states.base (overlaid old.states) old.fresh old.place old.cost) whole c.requires.walking in
-    walk_left index parts search new x old.states.base (overlaid old.states) old.fresh c.stays_fresh-walk.result old.place c.place_in_front-walk.result old.cost _
-    c.limit-limit.ensures.costs w c.stays_fresh-walk.ensures c.place_in_front-walk.ensures (ap (λ m. old.cost - m) (c.from.ensures ∙ c.cost_at.ensures.cost))
+    walk_left index parts search new x old.states.base (overlaid old.states) old.fresh c.stays_fresh-walk.result old.place c.place_before-walk.result old.cost _
+    c.limit-limit.ensures.costs w c.stays_fresh-walk.ensures c.place_before-walk.ensures (ap (λ m. old.cost - m) (c.from.ensures ∙ c.cost_at.ensures.cost))
 
 pub returns-clause-left : goal.returns-clause-left
 returns-clause-left g c =

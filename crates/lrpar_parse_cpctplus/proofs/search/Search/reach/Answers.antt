@@ -3,7 +3,7 @@ use Rattle.std.specs.Int.{from_bool}
 use Rattle.lrpar_table_check.specs.Checked.{Checked}
 use Rattle.lrpar_table_stacks.specs.Expected.{AcceptsAtEnd}
 use Rattle.lrpar_table_stacks.specs.Overlay.{overlaid}
-use Rattle.lrpar_parse_lexemes.specs.Known.{token_by}
+use Rattle.lrpar_parse_lexemes.specs.Views.{token_by}
 use Rattle.lrpar_parse_cpctplus.specs.Reaching.{is_far}
 use Rattle.lrpar_parse_cpctplus.specs.SearchView.{ReachesFrom}
 use Rattle.lrpar_parse_cpctplus.proofs.ReachLemmas.{reach_ends, reach_fails, reach_fed}
@@ -67,8 +67,8 @@ returns-clause-reach g c =
     let past : length at.lexemes ≤ l.at =
     omega (arith, long, c.if-max-end.false, c.max.ensures, c.feeding-test.false, c.min-at-end.ensures, c.feeding.auto.at) in
     let last : l.at ≤ length at.lexemes = omega (arith, long, l.invariant.last, c.min-at-end.ensures, c.requires.within) in
-    let told = subst (λ (d : Checked). IsTrue c.in_ok-ends.ends ↔ AcceptsAtEnd d.grammar d.table (overlaid l.states)) c.data.ensures.data c.in_ok-ends.ensures.accepts in
-    let far = reach_ends token at.checked.grammar at.checked.table at.lexemes (at.place + 250) (overlaid l.states) l.at c.in_ok-ends.ends past told in
+    let fact = subst (λ (d : Checked). IsTrue c.in_ok-ends.ends ↔ AcceptsAtEnd d.grammar d.table (overlaid l.states)) c.data.ensures.data c.in_ok-ends.ensures.accepts in
+    let far = reach_ends token at.checked.grammar at.checked.table at.lexemes (at.place + 250) (overlaid l.states) l.at c.in_ok-ends.ends past fact in
     let same : min l.at (at.place + 250) ≡ c.min.result =
     omega (arith, past, last, long, c.min.ensures, c.saturating_add-most.ensures, c.place.ensures.place, c.lexemes-end.type_inv.0) in
     let sum : min l.at (at.place + 250) + from_bool c.in_ok-ends.ends ≡ c.min.result + c.from.result = rw (same, c.from.ensures) refl in

@@ -5,7 +5,7 @@ use Rattle.lrpar_table_stacks.specs.Stack.{states_of}
 use Rattle.lrpar_table_check.proofs.LengthLemmas.{Comes}
 use Rattle.lrpar_table_check.proofs.chains.Chains.reductions.Given as goal
 
--- there are states, all of the table, to which the chain has come by so many steps
+-- there are states, all of the table, to which the chain has come by `made` steps
 abbrev pub invariant-loop-made : goal.invariant-loop-made
 invariant-loop-made g l =
     let index = g.StorageT.StorageIndex.index in

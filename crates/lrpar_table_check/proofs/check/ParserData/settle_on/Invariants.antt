@@ -4,7 +4,7 @@ use Rattle.lrpar_table_stacks.specs.Stack.{IsStack}
 use Rattle.lrpar_table_stacks.specs.StackReduction.{StackReducesBy}
 use Rattle.lrpar_table_check.proofs.check.ParserData.settle_on.Given as goal
 
--- so many reductions made a stack of the one at the start
+-- `count` reductions made a stack of the one at the start
 abbrev pub invariant-reductions : goal.invariant-reductions
 invariant-reductions g l =
     let kind = g.S.StateStack in

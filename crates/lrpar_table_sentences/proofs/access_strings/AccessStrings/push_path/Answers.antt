@@ -10,7 +10,7 @@ returns g c = λ grm graph table are access at.
     let s = index c.args.s.0 in
     let path = are.paths s access at in
     let is : c.args.self.now ≡ accesses_of index c.deref.result.now = search rules in
-    let told = c.in_ok-push_back.ensures.steps path.0 (subst (λ accesses. GoBack accesses s path.0) is path.1) in
+    let fact = c.in_ok-push_back.ensures.steps path.0 (subst (λ accesses. GoBack accesses s path.0) is path.1) in
     let old = c.args.out.now.items in
     let out = c.push_back.new.out.items in
     let new = c.reverse_from.new.steps in
@@ -21,4 +21,4 @@ returns g c = λ grm graph table are access at.
     let back = lent_back out new c.push_back.new.out.len (sym full) same in
     let made = c.reverse_from.ensures ∙ ap (λ xs. take n xs ++ reverse (drop n xs)) c.deref_mut.ensures.value in
     let count : n ≡ length old = omega (arith, c.len-from.ensures, c.args.out.now.ok.0) in
-    (reverse path.0, path.2, ap (steps_of index) back ∙ turned index old out new path.0 n count told made)
+    (reverse path.0, path.2, ap (steps_of index) back ∙ turned index old out new path.0 n count fact made)

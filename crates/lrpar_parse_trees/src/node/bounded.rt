@@ -1,14 +1,15 @@
-//! Which of two lists of trees has fewer nodes.
+//! Which of two lists of trees has fewer nodes. Walks over trees that have no memory for a list recurse into that one, so that their
+//! stack stays bounded.
 ghost use Rattle.std.specs.Prelude.{◌≤◌, IfSome};
 
 use crate::node::Node;
 
-/// How deep calls without a list go before they look which trees have fewer nodes.
+/// How deep a walk without a list recurses before it compares the numbers of nodes.
 pub(crate) const CALLS: usize = 500;
 
-// Whether the first trees have fewer nodes than the others. Takes no memory, and calls itself no deeper than a number of
-// nodes can be halved.
-pub(crate) fn are_fewer<LexemeT, StorageT>(
+// Whether the first trees have fewer nodes than the others. Takes no memory, and recurses no deeper than a number of nodes can be
+// halved.
+pub(crate) fn have_fewer_nodes<LexemeT, StorageT>(
     nodes: &[Node<LexemeT, StorageT>],
     others: &[Node<LexemeT, StorageT>],
 ) -> bool {
@@ -21,15 +22,15 @@ pub(crate) fn are_fewer<LexemeT, StorageT>(
     )
 }
 
-// Those of two lists of trees that have fewer nodes: whether they are the first, and how many nodes they have.
+// The list with fewer nodes: whether it is the first one, and how many nodes it has.
 #[derive(Clone, Copy)]
 struct Fewer {
     are_first: bool,
     len: usize,
 }
 
-// Those that have fewer nodes, if these are within the limit. Both are counted with a budget that doubles, so that the time
-// goes by the fewer ones.
+// The list with fewer nodes; `None`, if both have more nodes than the limit. Both are counted with a budget that doubles, so that
+// the time depends on the smaller number.
 #[cycle(count)]
 fn fewer_of<LexemeT, StorageT>(
     nodes: &[Node<LexemeT, StorageT>],
@@ -60,8 +61,8 @@ fn fewer_of<LexemeT, StorageT>(
     }
 }
 
-// How many nodes the trees have, if these are within the budget. After each node there are the trees below it and those
-// beside it: the fewer nodes are counted by a call, which has at most half of what is left of the budget.
+// How many nodes the trees have; `None`, if there are more than the budget. After a node, the trees below it and those beside it are
+// left: a recursive call counts those with fewer nodes, with at most half of the budget that is left.
 #[cycle(count)]
 fn count<LexemeT, StorageT>(mut nodes: &[Node<LexemeT, StorageT>], budget: usize) -> Option<usize>
     ensures { IfSome result (λ len. len ≤ budget) }

@@ -1,10 +1,10 @@
 //! The shape of a grammar text: declarations, `%%`, rules, an optional second `%%`, the end.
 ghost use Rattle.std.specs.Prelude.{◌≡◌};
-ghost use Rattle.lrpar_grammar_words.specs.Shape.{after, colon, declaration, may_end, more_tokens, named, next_rule, quoted, symbol, token};
+ghost use Rattle.lrpar_grammar_words.specs.WordOrder.{after, colon, declaration, may_end, more_tokens, named, next_rule, quoted, symbol, token};
 
 use crate::words::WordKind;
 
-/// What may stand next in a grammar text.
+/// What is allowed next in a grammar text.
 #[derive(Clone, Copy)]
 pub enum Expected {
     /// A declaration, or the first `%%`.
@@ -29,10 +29,10 @@ pub enum Expected {
     TextEnd,
 }
 
-/// What a word of a grammar text stands for.
+/// The role of a word in a grammar text.
 #[derive(Clone, Copy)]
 pub enum Role {
-    /// A sign that says what comes after it.
+    /// A sign that only says what comes after it.
     Sign,
     /// The start rule.
     Start,
@@ -51,8 +51,8 @@ pub enum Role {
 }
 
 impl Expected {
-    // What a word of that kind stands for here, and what may stand after it: none where it can't stand.
-    #[tactic(auto, unfolding(crate::specs::Shape::after))]
+    // The role of a word of that kind here, and what is allowed after it: `None` if no such word is allowed here.
+    #[tactic(auto, unfolding(crate::specs::WordOrder::after))]
     pub(crate) fn after(self, kind: WordKind) -> Option<(Role, Expected)>
         ensures { result ≡ after self kind }
     {
@@ -94,7 +94,7 @@ fn declaration(kind: WordKind) -> Option<(Role, Expected)>
     }
 }
 
-// A name that stands for `role`, before `next`.
+// A name with that role, followed by `next`.
 fn named(kind: WordKind, role: Role, next: Expected) -> Option<(Role, Expected)>
     ensures { result ≡ named kind role next }
 {
@@ -104,7 +104,7 @@ fn named(kind: WordKind, role: Role, next: Expected) -> Option<(Role, Expected)>
     }
 }
 
-// A name or a quoted word that stands for `role`, before `next`.
+// A name or a quoted word with that role, followed by `next`.
 fn token(kind: WordKind, role: Role, next: Expected) -> Option<(Role, Expected)>
     ensures { result ≡ token kind role next }
 {
@@ -114,7 +114,7 @@ fn token(kind: WordKind, role: Role, next: Expected) -> Option<(Role, Expected)>
     }
 }
 
-// A quoted word that stands for `role`, before `next`.
+// A quoted word with that role, followed by `next`.
 fn quoted(kind: WordKind, role: Role, next: Expected) -> Option<(Role, Expected)>
     ensures { result ≡ quoted kind role next }
 {

@@ -1,11 +1,11 @@
--- The shape of a grammar text, as a finite automaton over the kinds of its words: `Declaration` is where it begins.
+-- The shape of a grammar text, as a finite automaton over the kinds of its words. Its start state is `Declaration`.
 use Rattle.std.specs.Prelude.{Bool, true, false, Option, Some, None}
 use Rattle.lrpar_grammar_words.specs.declared.words.WordKind.{WordKind}
 use Rattle.lrpar_grammar_words.specs.declared.words.WordKind.TheVariants.{Name, Quoted, StartSign, TokenSign, EppSign, RulesSign, Colon, Bar, Semicolon}
-use Rattle.lrpar_grammar_words.specs.declared.shape.Expected.{Expected}
-use Rattle.lrpar_grammar_words.specs.declared.shape.Expected.TheVariants.{Declaration, StartName, FirstToken, MoreTokens, EppName, EppText, NextRule, RuleColon, NextSymbol, TextEnd}
-use Rattle.lrpar_grammar_words.specs.declared.shape.Role.{Role}
-use Rattle.lrpar_grammar_words.specs.declared.shape.Role.TheVariants.{Sign, Start, Declared, EppOf, Epp, Defined, Symbol, AlternativeEnd}
+use Rattle.lrpar_grammar_words.specs.declared.word_order.Expected.{Expected}
+use Rattle.lrpar_grammar_words.specs.declared.word_order.Expected.TheVariants.{Declaration, StartName, FirstToken, MoreTokens, EppName, EppText, NextRule, RuleColon, NextSymbol, TextEnd}
+use Rattle.lrpar_grammar_words.specs.declared.word_order.Role.{Role}
+use Rattle.lrpar_grammar_words.specs.declared.word_order.Role.TheVariants.{Sign, Start, Declared, EppOf, Epp, Defined, Symbol, AlternativeEnd}
 
 -- a sign with which a declaration begins, or `%%`
 abbrev pub declaration : WordKind → Option (Role × Expected)
@@ -53,7 +53,7 @@ abbrev pub colon : WordKind → Option (Role × Expected)
 colon Colon = Some (Sign, NextSymbol)
 colon _ = None
 
--- what a word of a kind stands for, and what may stand after it: none where it can't stand
+-- the role of a word of that kind, and what is allowed after it; `None` if no such word is allowed here
 unfoldable pub after : Expected → WordKind → Option (Role × Expected)
 after Declaration kind = declaration kind
 after StartName kind = named kind Start Declaration
@@ -66,7 +66,7 @@ after RuleColon kind = colon kind
 after NextSymbol kind = symbol kind
 after TextEnd kind = None
 
--- the text may end before a rule, or after the second `%%`
+-- whether the text may end here: before a rule, or after the second `%%`
 abbrev pub may_end : Expected → Bool
 may_end NextRule = true
 may_end TextEnd = true

@@ -1,5 +1,5 @@
 use Rattle.std.proofs.Common.{◌+◌, ◌-◌, ◌*◌, ◌<◌, ◌≤◌}
-use Rattle.lrpar_parse_trees.proofs.node.fewer.+count.Given as goal
+use Rattle.lrpar_parse_trees.proofs.node.bounded.+count.Given as goal
 
 -- the budget of a count, and the limit for one of two counts, which calls counts with at most this budget
 abbrev pub decreases-count : goal.decreases-count

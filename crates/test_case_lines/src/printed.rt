@@ -4,18 +4,18 @@ use lrpar_grammar::span::Span;
 use std::alloc::Global;
 use std::fmt;
 
-/// What comes of a case, as far as it is written. That memory was wanting is kept until the end, so that what writes needn't fail
-/// ("Errors are values", The Go Blog, 2015).
+/// What comes of a case, as far as it is written. A failed allocation is kept until the end, so that no call that writes has an error
+/// of its own ("Errors are values", The Go Blog, 2015).
 #[derive(Drop)]
-pub struct Told {
+pub struct Printed {
     text: String,
     is_whole: bool,
 }
 
-impl Told {
+impl Printed {
     /// Nothing so far.
-    pub fn new(alloc: Global) -> Told {
-        Told {
+    pub fn new(alloc: Global) -> Printed {
+        Printed {
             text: String::new(alloc),
             is_whole: true,
         }
@@ -26,7 +26,7 @@ impl Told {
         self.text.as_str()
     }
 
-    /// Notes that memory was wanting.
+    /// Notes that an allocation failed.
     pub fn lack_memory(&mut self) {
         self.is_whole = false;
     }
@@ -38,14 +38,14 @@ impl Told {
         }
     }
 
-    /// Writes a value as it is shown.
+    /// Writes a value by `Display`.
     pub fn show<T: fmt::Display>(&mut self, value: &T) {
         if write!(self.text, "{value}").is_err() {
             self.is_whole = false;
         }
     }
 
-    /// Writes a value as it is debugged.
+    /// Writes a value by `Debug`.
     pub fn debug<T: fmt::Debug>(&mut self, value: &T) {
         if write!(self.text, "{value:?}").is_err() {
             self.is_whole = false;
@@ -77,27 +77,27 @@ impl Told {
         self.show(&sign);
     }
 
-    /// Writes a text, a value as it is shown, and the end of the line.
+    /// Writes a text, a value by `Display`, and the end of the line.
     pub fn line<T: fmt::Display>(&mut self, text: &str, value: &T) {
         self.text(text);
         self.show(value);
         self.text("\n");
     }
 
-    /// Writes what another one has.
-    pub fn append(&mut self, other: &Told) {
+    /// Writes the text of another one.
+    pub fn append(&mut self, other: &Printed) {
         self.text(other.so_far());
         self.is_whole &= other.is_whole;
     }
 
-    /// Whether two have the same. Where memory was wanting to one of them, that is noted.
-    pub fn agree(&mut self, first: &Told, second: &Told) -> bool {
+    /// Whether two have the same text. If an allocation failed in one of them, that is noted.
+    pub fn agree(&mut self, first: &Printed, second: &Printed) -> bool {
         self.is_whole &= first.is_whole && second.is_whole;
         first.so_far() == second.so_far()
     }
 
-    /// Writes a text that came, under its key: nothing where it is empty; as lines of text where it ends in a line feed; else beside
-    /// the key, with escapes.
+    /// Writes a text that came, under its key: nothing if it is empty; as lines of text if it ends in a line feed; else beside the
+    /// key, with escapes.
     pub fn field(&mut self, key: &str, text: &str) {
         if text.is_empty() {
             return;
@@ -132,7 +132,7 @@ impl Told {
         self.text("\n");
     }
 
-    /// What is written, unless memory was wanting.
+    /// What is written, unless an allocation failed.
     pub fn end(self) -> Result<String, Fault> {
         if self.is_whole {
             Ok(self.text)

@@ -1,4 +1,4 @@
--- Where steps lead, and what they cost, step by step.
+-- The configurations to which steps lead, and what steps cost, step by step.
 use Rattle.std.proofs.Common.{◌≡◌, ◌<◌, ◌≤◌, ◌+◌, ◌∙◌, inl, inr, ℕ, zero, suc, List, [], ◌∷◌, ◌++◌, refl, sym, subst, ap, arith, replicate}
 use Rattle.std.proofs.lemmas.List.{append-nil, append_assoc}
 use Rattle.lrpar_grammar.specs.Grammar.{Grammar}
@@ -32,7 +32,7 @@ module _ {X : Type 0} (token : X → ℕ) (g : Grammar) (lexemes : List X) (cost
   pub cost_begins : (i : ℕ) (p q : List PlainStep) → steps_cost token g lexemes costs i p ≤ steps_cost token g lexemes costs i (p ++ q)
   cost_begins i p q = omega (arith, cost_append i p q)
 
-  -- steps of which the last is no Shift cost something, where each token does
+  -- steps of which the last is no Shift cost something, if each token does
   pub cost_some : ((t : ℕ) → 0 < token_cost costs t) → (i : ℕ) (p : List PlainStep) (s : PlainStep) → ¬ (s ≡ PlainShift)
       → 0 < steps_cost token g lexemes costs i (p ++ s ∷ [])
   cost_some each i p (PlainInsert t) other = omega (arith, cost_push i p (PlainInsert t), each t)
@@ -40,7 +40,7 @@ module _ {X : Type 0} (token : X → ℕ) (g : Grammar) (lexemes : List X) (cost
   cost_some each i p PlainShift other = absurd (other refl)
 
 module _ {X : Type 0} (token : X → ℕ) (g : Grammar) (table : Table) (lexemes : List X) where
-  -- steps lead to the place behind them
+  -- steps lead to the place after them
   pub step_place : (st : List ℕ) (i : ℕ) (s : PlainStep) (ps next : List ℕ) (j : ℕ) → StepsTo token g table lexemes st i s ps next j → j ≡ place_after i s
   step_place st i (PlainInsert t) ps next j x = x.2
   step_place st i PlainDelete ps next j x = x.3
@@ -126,7 +126,7 @@ module _ {X : Type 0} (token : X → ℕ) (g : Grammar) (table : Table) (lexemes
       subst (λ (l : List ℕ). CanGoOn token g table lexemes k l i) x.1 (subst (λ (m : ℕ). CanGoOn token g table lexemes k after m) x.2 on)
   leads_works k st i (s ∷ p) ps after j x on = (x.0, x.1, x.2, x.4, leads_works k x.1 x.2 p x.3 after j x.5 on)
 
-  -- what works is taken in one way
+  -- what works is taken by one run only
   pub works_on : (k : ℕ) (st : List ℕ) (i : ℕ) (p : List PlainStep) (ps after : List ℕ) (j : ℕ)
       → Replays token g table lexemes st i p ps after j → Works token g table lexemes k st i p → CanGoOn token g table lexemes k after j
   works_on k st i [] ps after j x on =
@@ -137,7 +137,7 @@ module _ {X : Type 0} (token : X → ℕ) (g : Grammar) (table : Table) (lexemes
       (subst (λ (m : ℕ). Works token g table lexemes k h.1 m p) (sym same.2) h.4) in
       works_on k x.1 x.2 p x.3 after j x.5 next
 
-  -- where more lexemes can be fed, so can fewer
+  -- if more lexemes can be fed, so can fewer
   pub fewer_go_on : (n m : ℕ) (st : List ℕ) (i : ℕ) → CanGoOn token g table lexemes (n + m) st i → CanGoOn token g table lexemes n st i
   fewer_go_on zero m st i h = tt
   fewer_go_on (suc n) m st i h =

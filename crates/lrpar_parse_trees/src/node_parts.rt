@@ -1,4 +1,4 @@
-//! What is told of the nodes of a tree.
+//! The parts of a tree's node: the name and the text of a lexeme, the name of a rule, and the trees below.
 ghost use Rattle.std.specs.Prelude.{◌≡◌, IfSome, Some, slice_range};
 ghost use Rattle.lrpar_parse_trees.specs.TreeText.{nodes_below};
 ghost use Rattle.lrpar_parse_trees.specs.Fronts.{is_rule};
@@ -9,7 +9,7 @@ use lrpar_grammar::grammar::YaccGrammar;
 use lrpar_grammar::span::{RIdx, StorageIndex, TIdx};
 use lrpar_parse_lexemes::lex_api::Lexeme;
 
-/// A lexeme: its token's name, its part of the input, and where that starts and ends.
+/// A lexeme as trees print it: its token's name, its part of the input, and where that starts and ends.
 #[derive(Clone, Copy)]
 pub(crate) struct Leaf<'a> {
     pub(crate) name: &'a str,
@@ -20,7 +20,8 @@ pub(crate) struct Leaf<'a> {
     pub(crate) is_faulty: bool,
 }
 
-/// What is told of a lexeme, if it has a token of the grammar other than the end token, and lies in the input, between two characters.
+/// The parts of a lexeme. `None`, if its token is the end token or isn't the grammar's, or if it doesn't start and end between two
+/// characters of the input.
 pub(crate) fn leaf_of<'a, LexemeT: Lexeme<StorageT>, StorageT: StorageIndex>(
     grm: &'a YaccGrammar<StorageT>,
     input: &'a str,
@@ -47,7 +48,7 @@ pub(crate) fn leaf_of<'a, LexemeT: Lexeme<StorageT>, StorageT: StorageIndex>(
     })
 }
 
-/// The name of a rule, if it is the grammar's.
+/// The name of a rule; `None`, if the grammar doesn't have it.
 pub(crate) fn rule_name<StorageT: StorageIndex>(
     grm: &YaccGrammar<StorageT>,
     rule: RIdx<StorageT>,
@@ -73,7 +74,7 @@ pub(crate) fn trees_of<LexemeT, StorageT>(
     }
 }
 
-/// Whether the node is one of a rule.
+/// Whether the node is a rule's.
 pub(crate) fn is_rule<LexemeT, StorageT>(node: &Node<LexemeT, StorageT>) -> bool
     ensures { result ≡ is_rule node.now }
 {
