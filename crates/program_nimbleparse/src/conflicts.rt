@@ -81,9 +81,9 @@ fn push_title(
     write!(text, "{state}: ")?;
     push_moves(&mut text, grm, example)?;
     let label = match example.second() {
-        Move::Take(_) => "this could be made instead; an example is below",
+        Move::Take(_) => "this could be reduced instead; an example is below",
         Move::Make(_) =>
-            "of two productions that can be made, the one that stands first is; an example is below",
+            "of two productions that can be reduced, the first one is; an example is below",
     };
     push_message(
         out,
@@ -104,15 +104,15 @@ fn push_moves(
 ) -> Result<(), AllocError> {
     match example.second() {
         Move::Take(_) => {
-            text.push_str("the token is taken, and ")?;
+            text.push_str("the token is shifted, and ")?;
             push_rule_of(text, grm, example.first())?;
-            text.push_str(" isn't made")
+            text.push_str(" isn't reduced")
         }
         Move::Make(_) => {
             push_rule_of(text, grm, example.first())?;
             text.push_str(" or ")?;
             push_rule_of(text, grm, example.second())?;
-            text.push_str(" can be made")
+            text.push_str(" can be reduced")
         }
     }
 }
