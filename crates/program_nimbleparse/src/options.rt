@@ -28,13 +28,13 @@ pub(crate) const HELP: &str = "
 Reads the rules of a lexer and a grammar, and parses each input: standard input for none, or for `-`.
 
   -q           print errors alone: no trees, no warnings, no notes
-  -r none      look for no repairs: the first error of an input is the last
-  -r cpctplus  look for the cheapest repairs at each error, and go on with the first of them (this is the default)
-  --limit N    give up at an error where more beginnings of repairs than this cost no more (4000)
-  --shifts K   so many lexemes have to follow a repair (3)
+  -r none      search for no repairs: the first error of an input is the last
+  -r cpctplus  search for the cheapest repairs at each error, and go on with the first of them (the default)
+  --limit N    give up at an error if more than N candidates cost no more than its repairs (4000)
+  --shifts K   K lexemes have to follow a repair (3)
   --format F   print trees in brackets on one line, as an indented tree, as json, or as a graph (dot)
   -h           print this
-  --           the words behind it are paths
+  --           the words after it are paths
 
 Status 0: each input has a tree and no error; 1: an input has errors; 2: there is no answer.
 ";
