@@ -23,7 +23,7 @@ pub enum Recovery {
     Nothing,
     /// The cheapest ones.
     Cheapest {
-        /// How many beginnings of repairs may be as cheap as the repairs that are looked for, or cheaper.
+        /// How many candidates, beginnings of repairs, may cost no more than the repairs.
         limit: usize,
     },
 }
