@@ -1,5 +1,5 @@
-//! Parses over a grammar and its state table: lexers and lexemes in, values and errors out. All that a user of the library names is
-//! here.
+//! The library for users: parses over a grammar and its state table, from lexers and lexemes to values and errors. All that a user of
+//! the library names is here.
 #![tactic(auto)]
 
 mod storage_num;
@@ -15,7 +15,7 @@ pub use lrpar_parse_trees::Node;
 pub use lrpar_table::check::ParserData;
 pub use lrpar_table::{build, check, table};
 
-/// The parts of a text, and the numbers of rules, productions, tokens and states.
+/// Spans of a text, and the numbers of rules, productions, tokens and states.
 pub mod span {
     pub use crate::storage_num::StorageNum;
     pub use lrpar_grammar::span::{
@@ -23,7 +23,7 @@ pub mod span {
     };
 }
 
-/// What a parse hands to its caller at an error, the sequences that the caller hands back, and who may hand them in.
+/// Recoverers: what a parse passes to one at an error point, the steps of the sequences that it returns, and the recoverers of the library.
 pub mod repair {
     pub use lrpar_parse_cpctplus::{CostFault, CpctPlus};
     pub use lrpar_parse_repair::repair::{

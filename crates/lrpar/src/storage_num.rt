@@ -1,11 +1,11 @@
-//! Storage numbers as numbers of `num_traits`, whose contracts take long to load. So they stand apart from the index types, which ask
-//! for none of them.
+//! Storage types as numbers of `num_traits`. The contracts of `num_traits` take long to load, so the index types don't use them, and this
+//! is a trait of its own.
 ghost use Rattle.std.specs.Prelude.{◌≡◌, ◌<◌, ◌↔◌, ℕ, pos, Some, refl};
 
 use lrpar_grammar_places::span::StorageIndex;
 use num_traits::{PrimInt, Unsigned};
 
-/// What rules, productions, tokens and states are numbered by: `u8`, `u16` or `u32`. As a number, a value is its index.
+/// A storage type, which numbers rules, productions, tokens and states: `u8`, `u16` or `u32`. As a number, a value is its index.
 pub trait StorageNum: StorageIndex + PrimInt + Unsigned {
     ghost value_law: { (x : Self) → Self.value x ≡ pos (Self.index x) };
 

@@ -1,4 +1,4 @@
--- The states on the way to a state, and by which symbols each is reached.
+-- The states of an access path, and the symbols by which each is reached.
 use Rattle.std.proofs.Common.{◌≡◌, ◌<◌, ◌≤◌, ◌∙◌, refl, sym, ap, subst, inl, inr, arith, ℕ, zero, suc, List, [], ◌∷◌, ◌++◌, None, Some, get_or, length, map, reverse, take}
 use Rattle.std.proofs.lemmas.Bool.{cases_lt}
 use Rattle.std.proofs.lemmas.List.{append_assoc, append-nil, get_or-map, get_or_past, length-map, reverse-append}
@@ -13,18 +13,18 @@ use Rattle.lrpar_table_build.proofs.DecidedLemmas.{Accepting, Failing, IsActing,
 use Rattle.lrpar_table_build.proofs.SetLemmas.{next_more}
 use Rattle.lrpar_table_sentences.specs.AccessStrings.{IsPathTo, StepOf, StepsLead, step_of, steps_of, symbols_in}
 use Rattle.lrpar_table_sentences.specs.declared.transitions.Step.{Step}
-use Rattle.lrpar_conflict_derivations.specs.Climbing.{state_before}
+use Rattle.lrpar_conflict_derivations.specs.Completion.{state_before}
 
-module _ (g : Grammar) (graph : Graph) (table : Table) (wanted : IsCanonicalTable g graph table) where
-  -- what the table does is what the set wants, in range, and nothing out of range
+module _ (g : Grammar) (graph : Graph) (table : Table) (resolved : IsCanonicalTable g graph table) where
+  -- the table's action is the one that the item set calls for, in range, and nothing out of range
   acts_in : (s t : ℕ) → IsActing g graph s table t
   acts_in s t =
       elim (cases_lt s (states_len table)) [
-        | inr past ↦ Failing (wanted.no_state s t past)
+        | inr past ↦ Failing (resolved.no_state s t past)
         | inl within ↦
             elim (cases_lt t (tokens_len g)) [
-              | inr past ↦ let is = wanted.tokens in Failing (wanted.no_token s t (omega (arith, past, is)))
-              | inl below ↦ acting g graph s table t (wanted.acts s t within below)
+              | inr past ↦ let is = resolved.tokens in Failing (resolved.no_token s t (omega (arith, past, is)))
+              | inl below ↦ acting g graph s table t (resolved.acts s t within below)
             ]
       ]
 
@@ -40,10 +40,10 @@ module _ (g : Grammar) (graph : Graph) (table : Table) (wanted : IsCanonicalTabl
   leads_by s (Nonterminal r) next within at =
       elim (cases_lt r (rules_len g)) [
         | inr past ↦
-            let is = wanted.rules in
-            let none : goto_of table s r ≡ None = wanted.no_rule s r (omega (arith, past, is)) in absurd (cc)
+            let is = resolved.rules in
+            let none : goto_of table s r ≡ None = resolved.no_rule s r (omega (arith, past, is)) in absurd (cc)
         | inl below ↦
-            let goes = wanted.goes s r within below in
+            let goes = resolved.goes s r within below in
             elim (before_decided g graph s (Nonterminal r)) [
               | inl before ↦
                   let to = goes.goes before in
@@ -71,20 +71,20 @@ within_by : (table : Table) → IsClosed table → (s : ℕ) (x : GrammarSymbol)
 within_by table closed s (Terminal t) next goes = closed.shifts_within s t next goes
 within_by table closed s (Nonterminal r) next goes = closed.gotos_within s r next goes
 
--- each state on the way is reached by the symbols before it
+-- each state of an access path is reached by the symbols before it
 pub state_reached : (g : Grammar) (graph : Graph) (table : Table) → IsCanonicalTable g graph table → IsClosed table → (steps : List StepOf) (s last : ℕ)
     (front : List GrammarSymbol) → s < states_len table → StepsLead table s steps last → IsPathTo g graph s front
     → (i : ℕ) → i ≤ length steps → IsPathTo g graph (state_before steps last i) (front ++ take i (symbols_in steps))
-state_reached g graph table wanted closed [] s last front within lead path i low =
+state_reached g graph table resolved closed [] s last front within lead path i low =
     let none : take i (symbols_in []) ≡ [] = take_nothing i in
     subst (λ (w : List GrammarSymbol). IsPathTo g graph last w) (sym (ap (λ v. front ++ v) none ∙ append-nil front))
     (subst (λ (n : ℕ). IsPathTo g graph n front) lead path)
-state_reached g graph table wanted closed (step ∷ steps) s last front within lead path zero low =
+state_reached g graph table resolved closed (step ∷ steps) s last front within lead path zero low =
     subst (λ (w : List GrammarSymbol). IsPathTo g graph step.from w) (sym (append-nil front)) (subst (λ (n : ℕ). IsPathTo g graph n front) (sym lead.0) path)
-state_reached g graph table wanted closed (step ∷ steps) s last front within lead path (suc i) low =
+state_reached g graph table resolved closed (step ∷ steps) s last front within lead path (suc i) low =
     let next = lead.1.0 in
-    let leads = leads_by g graph table wanted s step.symbol next within lead.1.1 in
-    let more = state_reached g graph table wanted closed steps next last (front ++ step.symbol ∷ []) (within_by table closed s step.symbol next lead.1.1) lead.1.2
+    let leads = leads_by g graph table resolved s step.symbol next within lead.1.1 in
+    let more = state_reached g graph table resolved closed steps next last (front ++ step.symbol ∷ []) (within_by table closed s step.symbol next lead.1.1) lead.1.2
     (path_further g graph s next step.symbol front leads path) i (omega arith) in
     subst (λ (w : List GrammarSymbol). IsPathTo g graph (state_before steps last i) w) (append_assoc front (step.symbol ∷ []) (take i (symbols_in steps))) more
 

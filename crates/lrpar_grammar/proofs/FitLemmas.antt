@@ -1,4 +1,4 @@
--- The places of a grammar that is kept.
+-- The places of a grammar, as they are kept.
 use Rattle.std.proofs.Common.{◌≡◌, ◌<◌, ◌+◌, ◌-◌, ℕ, suc, List, ◌∷◌, length, map, get_or, ap, sym, ◌∙◌, arith, inl, inr}
 use Rattle.std.specs.List.{All}
 use Rattle.std.specs.Str.{IsUtf8}
@@ -15,7 +15,7 @@ use Rattle.lrpar_grammar_reader.specs.Parts.{rule_name_of, token_name_of}
 use Rattle.lrpar_grammar_reader.specs.SpansFit.{AreSpansInOrder, ProductionFits}
 use Rattle.lrpar_grammar_places.proofs.ListLemmas.{All-map-at}
 
--- the places of the rules, the added one among them, which lies at the start of every text
+-- the places of all rules: the added one is at the start of every text
 pub rules_fit_all : (src : List ℕ) (rules : List RulePart) → IsUtf8 src → All (λ r. IsPartOf src r.span) rules
     → All (λ r. IsPartOf src r.span) (added_rule ∷ map rule_name_of rules)
 rules_fit_all src rules utf8 fit =
@@ -39,7 +39,7 @@ pub prods_fit_listed : {S : Type 0} (index : S → ℕ) (src : List ℕ) (prods 
     → All (λ p. ProductionFits src (split_prod_of index p)) prods
 prods_fit_listed index src prods fit k d within = All-map-at (ProductionFits src) (split_prod_of index) prods fit k d within
 
--- a part that starts before the end of the one in front of it
+-- a part that starts before the end of the part before it is out of order
 pub order_fails : (spans : List Extent) (i end : ℕ) (span : Extent) → (i ≡ 0 → end ≡ 0) → ((d : Extent) → 0 < i → (get_or spans (i - 1) d).end ≡ end)
     → i < length spans → span ≡ get_or spans i span → span.start < end → AreSpansInOrder spans → ⊥
 order_fails spans i end span first last within is early order =

@@ -1,4 +1,4 @@
--- What sound parts make, and the one fault of parts that aren't sound.
+-- What sound parts make, and the first fault of parts that aren't sound.
 use Rattle.std.proofs.Common.{inl, inr, ◌≡◌, ◌↔◌, ◌<◌, ◌≤◌, ◌+◌, ℕ, suc, List, [], ◌∷◌, ◌++◌, length, map, get_or, Vec, Bool, true, false, Some, Result, Ok, Err, refl, subst, sym, ap, ◌∙◌, arith}
 use Rattle.std.specs.List.{slice_get, All}
 use Rattle.std.specs.Option.{option_map, option_map_or}
@@ -18,7 +18,7 @@ use Rattle.lrpar_grammar_reader.specs.Grammar.{added_rule, Production, IsListedS
 use Rattle.lrpar_grammar_reader.specs.Symbols.{symbol_of}
 use Rattle.lrpar_grammar_reader.specs.Parts.{Parts, AreSound, IsFirstFault, IsListedProd, IsRefusalOf, grammar_of, parts_of, prod_of, rule_name_of}
 
--- only one fault comes first
+-- only one fault is the first
 first_fault_alone : (limit : ℕ) (x : Parts) (found fault : GrammarFault) → IsFirstFault limit x found → IsFirstFault limit x fault → found ≡ fault
 first_fault_alone limit x NoRules NoRules a b = refl
 first_fault_alone limit x NoRules StorageTooSmall a b = absurd (b.0 a)
@@ -42,7 +42,7 @@ first_fault_alone limit x BadSymbol BadSymbol a b = refl
 first_fault_alone limit x BadSymbol _ a b = absurd b
 first_fault_alone limit x _ fault a b = absurd a
 
--- sound parts have none
+-- sound parts have no first fault
 sound_no_fault : (limit : ℕ) (x : Parts) → AreSound limit x → (fault : GrammarFault) → IsFirstFault limit x fault → ⊥
 sound_no_fault limit x sound NoRules first = sound.rules first
 sound_no_fault limit x sound StorageTooSmall first = first.1 sound.storage
@@ -50,23 +50,23 @@ sound_no_fault limit x sound BadStart first = first.2 sound.start
 sound_no_fault limit x sound BadSymbol first = first.3 sound.symbols
 sound_no_fault limit x sound _ first = first
 
--- the first fault is answered exactly where it is the first
+-- the first fault is returned exactly if it is the first
 pub answers_first : {T : Type 0} (limit : ℕ) (x : Parts) (found fault : GrammarFault) → IsFirstFault limit x found
     → (◌≡◌ {A = Result T GrammarFault} (Err found) (Err fault)) ↔ IsFirstFault limit x fault
 answers_first limit x found fault first =
     (λ e. let same : found ≡ fault = cc in subst (IsFirstFault limit x) same first, λ h. ap Err (first_fault_alone limit x found fault first h))
 
--- where the parts are sound, a grammar is none of the faults that parts can have
+-- if the parts are sound, a grammar is returned and no fault is the first
 pub answers_grammar : {T : Type 0} (limit : ℕ) (x : Parts) (grm : T) (fault : GrammarFault) → AreSound limit x
     → (◌≡◌ {A = Result T GrammarFault} (Ok grm) (Err fault)) ↔ IsFirstFault limit x fault
 answers_grammar limit x grm fault sound = (λ e. absurd (cc), λ h. absurd (sound_no_fault limit x sound fault h))
 
--- whether memory was wanting
+-- whether an allocation failed
 abbrev is_memory : GrammarFault → Bool
 is_memory Memory = true
 is_memory _ = false
 
--- nor is want of memory
+-- and the same if an allocation fails
 pub answers_memory : {T : Type 0} (limit : ℕ) (x : Parts) (result : Result T GrammarFault) (fault : GrammarFault) → AreSound limit x
     → IsErrAnd result (λ refusal. refusal ≡ Memory) → is_memory fault ≡ false → IsErrOf result fault ↔ IsFirstFault limit x fault
 answers_memory limit x (Ok grm) fault sound memory other = absurd memory
@@ -80,19 +80,19 @@ pub first_refuses : (limit : ℕ) (x : Parts) (fault : GrammarFault) → IsFirst
 first_refuses limit x Memory first = absurd first
 first_refuses limit x _ first = first
 
--- so does want of memory, where the parts are sound
+-- so does a failed allocation, if the parts are sound
 pub memory_refuses : {T : Type 0} (limit : ℕ) (x : Parts) (result : Result T GrammarFault) → AreSound limit x → IsErrAnd result (λ refusal. refusal ≡ Memory)
     → IfErr result (IsRefusalOf limit x)
 memory_refuses limit x (Ok grm) sound memory = absurd memory
 memory_refuses limit x (Err refusal) sound memory = subst (IsRefusalOf limit x) (sym memory) sound
 
--- what the listed productions are, seen in the whole list
+-- a listed production in the whole list
 pub listed_prod_at : (x : Parts) (p : ℕ) (d : Production) → p < length x.prods → slice_get (grammar_of x).prods p ≡ Some (get_or x.prods p d)
 listed_prod_at x p d within =
     slice_get-get_or (x.prods ++ added_prod x.start ∷ []) p d (omega (arith, length-append x.prods (added_prod x.start ∷ [])))
     ∙ ap Some (get_or_append_left x.prods (added_prod x.start ∷ []) d p within)
 
--- the start production, seen in the whole list
+-- the start production in the whole list
 pub start_prod_at : (x : Parts) → slice_get (grammar_of x).prods (start_prod (grammar_of x)) ≡ Some (added_prod x.start)
 start_prod_at x =
     let prods = x.prods ++ added_prod x.start ∷ [] in
@@ -101,11 +101,11 @@ start_prod_at x =
     ap (slice_get prods) place ∙ slice_get-get_or prods (length x.prods) (added_prod x.start) (omega arith)
     ∙ ap Some (get_or_at x.prods (added_prod x.start) [] (added_prod x.start) (length x.prods) refl)
 
--- a number below the start production's is a listed production's
+-- a number below the start production's is that of a listed production
 pub below_start_prod : (x : Parts) (p : ℕ) → p < start_prod (grammar_of x) → p < length x.prods
 below_start_prod x p below = omega (arith, length-append x.prods (added_prod x.start ∷ []))
 
--- each production of the parts has as many places as symbols
+-- each production of the parts has a place for each symbol
 pub parts_have_spans : {S : Type 0} (index : S → ℕ) (parts : GrammarParts S) → All HasSpans (parts_of index parts).prods
 parts_have_spans index parts =
     All-map HasSpans (prod_of index) parts.prods.items
@@ -149,7 +149,7 @@ sound_well_formed limit x sound spans =
           ];
     }
 
--- the grammar that is kept of sound parts is the one that they make
+-- the kept grammar of sound parts is the one that they make
 pub kept_is_made : {S : Type 0} (index : S → ℕ) (parts : GrammarParts S) (prods : List (SplitProd S))
     → map (split_prod_of index) prods ≡ map (prod_of index) parts.prods.items ++ added_prod (index parts.start.0) ∷ []
     → kept_grammar index parts.rules.items parts.tokens.items prods parts.start.0 ≡ grammar_of (parts_of index parts)
@@ -220,7 +220,7 @@ rule_of_within g p formed within =
           omega arith
     ]
 
--- a kept production, seen in the grammar
+-- a kept production in the grammar
 pub kept_prod_at : {S : Type 0} (index : S → ℕ) (prods : List (SplitProd S)) (p : ℕ) (prod : SplitProd S) → p < length prods → prod ≡ get_or prods p prod
     → slice_get (map (split_prod_of index) prods) p ≡ Some (split_prod_of index prod)
 kept_prod_at index prods p prod within is =

@@ -1,6 +1,6 @@
--- Derivation trees and rewriting are one. The leaves of a tree are derived by rewriting its nodes from the top, the children of
--- a node from left to right. A derivation gives its trees from its end: there each token is a leaf, and a step backwards makes the
--- trees of a production's symbols the children of one node.
+-- Derivation trees and rewriting agree. The leaves of a tree are derived by rewriting its nodes from the top, the children of
+-- a node from left to right. From a derivation, trees are built from its end: there each token is a leaf, and each step backwards
+-- makes the trees of a production's symbols the children of one node.
 use Rattle.std.proofs.Common.{◌≡◌, ◌<◌, ◌∙◌, refl, sym, ap, subst, ℕ, zero, suc, List, [], ◌∷◌, ◌++◌}
 use Rattle.std.proofs.lemmas.List.{append-nil, append_assoc, map-append}
 use Rattle.lrpar_grammar_reader.specs.Grammar.{Grammar, GrammarSymbol, Nonterminal, Terminal, prods_len, rule_of, symbols_of}
@@ -8,9 +8,9 @@ use Rattle.lrpar_grammar.specs.Tree.{Tree, Forest, Leaf, Branch, Nil, Cons, leav
 use Rattle.lrpar_grammar.specs.Rewriting.{Rewrites, DerivesIn, Derives, terminals, LeavesAreDerived, DerivedAreLeaves}
 use Rattle.lrpar_grammar.proofs.ForestLemmas.{joined, joined_leaves, joined_fits, splits, split_leaves, leaf_forest, leaf_forest_leaves}
 
--- a step in front of more symbols
-rewrites_in_front : (g : Grammar) (form next rest : List GrammarSymbol) → Rewrites g form next → Rewrites g (form ++ rest) (next ++ rest)
-rewrites_in_front g form next rest h =
+-- a step before more symbols
+rewrites_before : (g : Grammar) (form next rest : List GrammarSymbol) → Rewrites g form next → Rewrites g (form ++ rest) (next ++ rest)
+rewrites_before g form next rest h =
     record {
       before = h.before;
       prod = h.prod;
@@ -20,7 +20,7 @@ rewrites_in_front g form next rest h =
       to = ap (λ ss. ss ++ rest) h.to ∙ append_assoc (h.before ++ symbols_of g h.prod) h.after rest;
     }
 
--- a step behind more symbols
+-- a step after more symbols
 rewrites_after : (g : Grammar) (front form next : List GrammarSymbol) → Rewrites g form next → Rewrites g (front ++ form) (front ++ next)
 rewrites_after g front form next h =
     record {
@@ -33,15 +33,15 @@ rewrites_after g front form next h =
           ∙ ap (λ ss. ss ++ h.after) (sym (append_assoc front h.before (symbols_of g h.prod)));
     }
 
--- a derivation in front of more symbols
-in_front : (g : Grammar) (n : ℕ) (form last rest : List GrammarSymbol) → DerivesIn g n form last → DerivesIn g n (form ++ rest) (last ++ rest)
-in_front g zero form last rest h = ap (λ ss. ss ++ rest) h
-in_front g (suc n) form last rest h = (h.0 ++ rest, rewrites_in_front g form h.0 rest h.1, in_front g n h.0 last rest h.2)
+-- a derivation before more symbols
+derives_before : (g : Grammar) (n : ℕ) (form last rest : List GrammarSymbol) → DerivesIn g n form last → DerivesIn g n (form ++ rest) (last ++ rest)
+derives_before g zero form last rest h = ap (λ ss. ss ++ rest) h
+derives_before g (suc n) form last rest h = (h.0 ++ rest, rewrites_before g form h.0 rest h.1, derives_before g n h.0 last rest h.2)
 
--- a derivation behind more symbols
-further : (g : Grammar) (n : ℕ) (front form last : List GrammarSymbol) → DerivesIn g n form last → DerivesIn g n (front ++ form) (front ++ last)
-further g zero front form last h = ap (λ ss. front ++ ss) h
-further g (suc n) front form last h = (front ++ h.0, rewrites_after g front form h.0 h.1, further g n front h.0 last h.2)
+-- a derivation after more symbols
+derives_after : (g : Grammar) (n : ℕ) (front form last : List GrammarSymbol) → DerivesIn g n form last → DerivesIn g n (front ++ form) (front ++ last)
+derives_after g zero front form last h = ap (λ ss. front ++ ss) h
+derives_after g (suc n) front form last h = (front ++ h.0, rewrites_after g front form h.0 h.1, derives_after g n front h.0 last h.2)
 
 -- one derivation after another
 one_after : (g : Grammar) (n : ℕ) (form middle last : List GrammarSymbol) → DerivesIn g n form middle → Derives g middle last → Derives g form last
@@ -54,12 +54,12 @@ one_after g (suc n) form middle last h more =
 side_by_side : (g : Grammar) (s : GrammarSymbol) (ss first others : List GrammarSymbol)
     → Derives g (s ∷ []) first → Derives g ss others → Derives g (s ∷ ss) (first ++ others)
 side_by_side g s ss first others left right =
-    let start = in_front g left.0 (s ∷ []) first ss left.1 in
-    let rest : Derives g (first ++ ss) (first ++ others) = (right.0, further g right.0 first ss others right.1) in
+    let start = derives_before g left.0 (s ∷ []) first ss left.1 in
+    let rest : Derives g (first ++ ss) (first ++ others) = (right.0, derives_after g right.0 first ss others right.1) in
     one_after g left.0 (s ∷ ss) (first ++ ss) (first ++ others) start rest
 
 module _ {X : Type 0} (token : X → ℕ) (g : Grammar) where
-  -- the leaves of a tree are derived from the symbol that it fits, and those of trees from their symbols
+  -- the leaves of a tree are derived from the symbol that it fits, and those of a list of trees from its symbols
   mutual
     pub tree_is_derived : (tree : Tree X) (s : GrammarSymbol) → Fits token g tree s → Derives g (s ∷ []) (terminals token (leaves tree))
     tree_is_derived (Leaf x) (Terminal t) fits = (0, ap (λ n. Terminal n ∷ []) (sym fits))
@@ -129,14 +129,14 @@ module _ {X : Type 0} (token : X → ℕ) (g : Grammar) where
       }
   form_has_forest (suc n) form lexemes h = before_step form h.0 lexemes h.1 (form_has_forest n h.0 lexemes h.2)
 
-  -- one tree, where the form is one symbol
+  -- one tree, if the form is one symbol
   only_tree : (s : GrammarSymbol) (lexemes : List X) (trees : Forest X) → ForestFits token g trees (s ∷ []) → forest_leaves trees ≡ lexemes
       → (tree : Tree X) × Fits token g tree s × (leaves tree ≡ lexemes)
   only_tree s lexemes Nil fits same = absurd fits
   only_tree s lexemes (Cons t Nil) fits same = (t, fits.0, sym (append-nil (leaves t)) ∙ same)
   only_tree s lexemes (Cons t (Cons u us)) fits same = absurd fits.1
 
-  -- where a symbol derives the lexemes' tokens, some tree fits it that has these leaves
+  -- if a symbol derives the lexemes' tokens, a tree with these leaves fits it
   pub derived_has_tree : (s : GrammarSymbol) (lexemes : List X) → Derives g (s ∷ []) (terminals token lexemes)
       → (tree : Tree X) × Fits token g tree s × (leaves tree ≡ lexemes)
   derived_has_tree s lexemes h =

@@ -1,4 +1,4 @@
--- The rows of a grammar's productions by rule, one production more at a time.
+-- The rows of productions by rule, as the productions grow by one at a time.
 use Rattle.std.proofs.Common.{◌≡◌, ◌<◌, ◌+◌, ℕ, suc, true, false, cond, eqb, List, [], ◌∷◌, ◌++◌, length, map, set, get_or, refl, subst, sym, ap, ◌∙◌, arith, rules, Vec, inl, inr, zero-add}
 use Rattle.std.specs.declared.alloc.Global.{Global}
 use Rattle.std.proofs.lemmas.List.{length-set, length-append, get_or_at, get_or_append_left, get_or-set_same, get_or-set_other, map-append, append-nil}
@@ -19,7 +19,7 @@ prods_from-push r p (x ∷ xs) y =
       | false ↦ ih ∙ ap (λ n. prods_from r (p + 1) xs ++ cond (eqb y.rule r) (n ∷ []) []) same
     ]
 
--- one production more, put into its rule's row, keeps the rows
+-- the rows stay right if one more production is put into its rule's row
 pub AreRowsOf-push : {S : Type 0} (index : S → ℕ) (rules : ℕ) (prods : List Production) (rows : List (Vec (PIdx S) Global)) (y : Production) (row row' : Vec (PIdx S) Global) (p : PIdx S)
     → AreRowsOf index rules prods rows → y.rule < rules → row ≡ get_or rows y.rule row → row'.items ≡ row.items ++ p ∷ [] → index p.0 ≡ length prods
     → AreRowsOf index rules (prods ++ y ∷ []) (set rows y.rule row')
@@ -42,7 +42,7 @@ AreRowsOf-push index rules prods rows y row row' p before within read pushed num
       ];
 }
 
--- one empty row more keeps rows empty
+-- with one more empty row, all rows are empty
 pub AreRowsOf-more : {S : Type 0} (index : S → ℕ) (n : ℕ) (rows : List (Vec (PIdx S) Global)) (row : Vec (PIdx S) Global)
     → AreRowsOf index n [] rows → row.items ≡ [] → AreRowsOf index (n + 1) [] (rows ++ row ∷ [])
 AreRowsOf-more index n rows row before empty = record {

@@ -9,7 +9,7 @@ use Rattle.lrpar_grammar_reader.specs.declared.parts.RulePart.{RulePart}
 use Rattle.lrpar_grammar_reader.specs.Grammar.{Grammar, added_rule, rules_len}
 use Rattle.lrpar_grammar_reader.specs.Parts.{rule_name_of}
 
--- a listed rule, behind the added one
+-- a listed rule, after the added one
 listed_rule_at : (rules : List RulePart) (r : ℕ) (part : RulePart) → r ≢ 0 → r - 1 < length rules → part ≡ get_or rules (r - 1) part
     → slice_get (added_rule ∷ map rule_name_of rules) r ≡ Some (rule_name_of part)
 listed_rule_at rules zero part listed within is = absurd (listed refl)
@@ -18,7 +18,7 @@ listed_rule_at rules (suc r) part listed within is =
     let is' : part ≡ get_or rules r part = subst (λ n. part ≡ get_or rules n part) back is in
     slice_get-map rule_name_of rules r ∙ ap (option_map rule_name_of) (slice_get_read rules (length rules) r part refl (omega arith) is')
 
--- the same, seen in the grammar
+-- the same in the grammar
 pub kept_rule_at : (g : Grammar) (rules : List RulePart) (r n : ℕ) (part : RulePart) → added_rule ∷ map rule_name_of rules ≡ g.rules
     → r ≡ n → r ≢ 0 → n < rules_len g → part ≡ get_or rules (r - 1) part → slice_get g.rules n ≡ Some (rule_name_of part)
 kept_rule_at g rules r n part are place listed within is =
@@ -26,7 +26,7 @@ kept_rule_at g rules r n part are place listed within is =
     subst (λ p. slice_get g.rules p ≡ Some (rule_name_of part)) place
     (subst (λ rs. slice_get rs r ≡ Some (rule_name_of part)) are (listed_rule_at rules r part listed (omega arith) is))
 
--- the added rule, seen in the grammar
+-- the added rule in the grammar
 pub kept_added_rule : (g : Grammar) (rules : List RulePart) (n : ℕ) → added_rule ∷ map rule_name_of rules ≡ g.rules → n ≡ 0 → slice_get g.rules n ≡ Some added_rule
 kept_added_rule g rules n are zeroth = ap (slice_get g.rules) zeroth ∙ sym (ap (λ rs. slice_get rs 0) are)
 

@@ -1,9 +1,9 @@
--- Derivations by rewriting: sentential forms are lists of symbols, and a step replaces one nonterminal of a form.
+-- Derivations by rewriting: sentential forms are lists of symbols, and a step rewrites one nonterminal of a form.
 use Rattle.std.specs.Prelude.{◌≡◌, ◌<◌, ℕ, zero, suc, List, [], ◌∷◌, ◌++◌, map}
 use Rattle.lrpar_grammar_reader.specs.Grammar.{Grammar, GrammarSymbol, Nonterminal, Terminal, prods_len, rule_of, symbols_of}
 use Rattle.lrpar_grammar.specs.Tree.{Tree, Fits, leaves}
 
--- one step: somewhere in the form, the rule of a production is replaced by its right side
+-- one step: at one place of the form, the rule of a production is replaced by its right side
 pub record Rewrites (g : Grammar) (form next : List GrammarSymbol) : Type 0 where
   pub before : List GrammarSymbol
   pub prod : ℕ
@@ -21,16 +21,16 @@ DerivesIn g (suc n) form last = (next : List GrammarSymbol) × Rewrites g form n
 abbrev pub Derives : Grammar → List GrammarSymbol → List GrammarSymbol → Type 0
 Derives g form last = (n : ℕ) × DerivesIn g n form last
 
--- the form of the lexemes' tokens
+-- the lexemes' tokens, as a sentential form
 abbrev pub terminals : {X : Type 0} → (X → ℕ) → List X → List GrammarSymbol
 terminals token lexemes = map (λ x. Terminal (token x)) lexemes
 
--- over lexemes of type X, the tokens of a tree's leaves are derived from the symbol that the tree fits
+-- over lexemes of type X: the tokens of a tree's leaves are derived from the symbol that the tree fits
 abbrev pub LeavesAreDerived : Type 0 → Type 0
 LeavesAreDerived X =
     (token : X → ℕ) (g : Grammar) (s : GrammarSymbol) (tree : Tree X) → Fits token g tree s → Derives g (s ∷ []) (terminals token (leaves tree))
 
--- over lexemes of type X, those whose tokens are derived from a symbol are the leaves of some tree that fits it
+-- over lexemes of type X: if their tokens are derived from a symbol, the lexemes are the leaves of a tree that fits it
 abbrev pub DerivedAreLeaves : Type 0 → Type 0
 DerivedAreLeaves X =
     (token : X → ℕ) (g : Grammar) (s : GrammarSymbol) (lexemes : List X) → Derives g (s ∷ []) (terminals token lexemes)

@@ -1,4 +1,4 @@
--- The grammar of the text `%% E: T '+' E | T; T: 'ID';`, on which the definitions are tried: tokens `+` 0, ID 1, the end token 2;
+-- The grammar of the text `%% E: T '+' E | T; T: 'ID';`, an example for the definitions: tokens `+` 0, ID 1, the end token 2;
 -- rules E 1, T 2; productions `E: T '+' E` 0, `E: T` 1, `T: 'ID'` 2, `^: E` 3.
 use Rattle.std.specs.Prelude.{◌≡◌, ℕ, false, List, [], ◌∷◌, codes, Some, None}
 use Rattle.lrpar_grammar_places.specs.Span.{Extent}
@@ -36,7 +36,7 @@ tree_of_sum {X} left plus right =
 abbrev pub token_tree : Tree ℕ
 token_tree = tree_of_sum 1 0 1
 
--- a lexeme of a text, which no repair made
+-- a lexeme of a text; no repair made it
 abbrev lexeme : ℕ → ℕ → ℕ → LexemeFacts
 lexeme token start end = record { token = token; span = extent start end; faulty = false }
 
@@ -48,7 +48,7 @@ sum_lexemes = lexeme 1 0 1 ∷ lexeme 0 1 2 ∷ lexeme 1 2 3 ∷ []
 abbrev pub sum_tree : Tree LexemeFacts
 sum_tree = tree_of_sum (lexeme 1 0 1) (lexeme 0 1 2) (lexeme 1 2 3)
 
--- what the definitions say of the grammar and the tree over tokens
+-- what the definitions say about the grammar and the tree over tokens
 pub record SumIsWorkedOut : Type 0 where
   pub rules : rules_len sum_grammar ≡ 3
   pub prods : prods_len sum_grammar ≡ 4

@@ -2,7 +2,7 @@
 use Rattle.std.specs.Prelude.{◌≡◌, ◌<◌, ℕ, List, [], ◌∷◌, ◌++◌}
 use Rattle.lrpar_grammar_reader.specs.Grammar.{Grammar, GrammarSymbol, Nonterminal, Terminal, prods_len, symbols_of, rule_of}
 
--- a leaf is a lexeme, and an inner node a production with its children
+-- a leaf is a lexeme, and an inner node is a production with its children
 mutual
   pub data Tree (X : Type 0) : Type 0 where
     Leaf : (lexeme : X) → Tree X
@@ -22,7 +22,7 @@ abbrev mutual
   forest_leaves Nil = []
   forest_leaves (Cons t ts) = leaves t ++ forest_leaves ts
 
--- the productions of a tree, and of a list of trees: those of the children from left to right, and then its own
+-- the productions of a tree, and of a list of trees: first those of the children from left to right, then the node's own
 abbrev mutual
   pub productions : {X : Type 0} → Tree X → List ℕ
   productions (Leaf x) = []
@@ -32,8 +32,8 @@ abbrev mutual
   forest_productions Nil = []
   forest_productions (Cons t ts) = productions t ++ forest_productions ts
 
--- A leaf fits its lexeme's token. A node fits its production's rule where it has as many children as the production
--- has symbols, and each fits the symbol at its place.
+-- A leaf fits its lexeme's token. A node fits its production's rule if it has as many children as the production has
+-- symbols, and each child fits the symbol at its place.
 abbrev mutual
   pub Fits : {X : Type 0} → (X → ℕ) → Grammar → Tree X → GrammarSymbol → Type 0
   Fits token g (Leaf x) (Terminal t) = token x ≡ t

@@ -22,9 +22,9 @@ pub fn sum_tree_fits()
     ensures other_rule { ¬ (Fits (λ x. x.token) sum_grammar sum_tree (Nonterminal 2)) }
 {}
 
-/// Derivation trees and rewriting are one, over lexemes of any type and over those that contracts speak of: the tokens of a
-/// tree's leaves are derived from the symbol that the tree fits, and lexemes whose tokens are derived from a symbol are the
-/// leaves of a tree that fits it.
+/// Derivation trees and rewriting agree, over lexemes of any type and over the lexemes of contracts: the tokens of a
+/// tree's leaves are derived from the symbol that the tree fits, and if the tokens of lexemes are derived from a symbol, the
+/// lexemes are the leaves of a tree that fits it.
 pub fn trees_are_derivations<LexemeT>()
     ensures derived { LeavesAreDerived LexemeT }
     ensures has_tree { DerivedAreLeaves LexemeT }

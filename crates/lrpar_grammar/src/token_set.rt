@@ -5,14 +5,14 @@ ghost use Rattle.lrpar_grammar.specs.Tokens.{has, missing};
 
 use std::alloc::{AllocError, Global};
 
-/// A set of tokens below a number that it was made with: whether each is in it.
+/// A set of tokens below a fixed number, with one `bool` for each of them.
 #[derive(PartialEq, Eq, PartialOrd, Ord, Drop)]
 pub struct TokenSet {
     pub bits: Vec<bool>,
 }
 
 impl TokenSet {
-    /// The empty set, which has room for the tokens below `len`.
+    /// The empty set, with room for the tokens below `len`.
     pub fn new(alloc: Global, len: usize) -> Result<Self, AllocError>
         ensures room { IfOk result (λ set. length set.bits.items ≡ len) }
         ensures none { IfOk result (λ set. (t : ℕ) → has set.bits.items t ≡ false) }
@@ -55,7 +55,7 @@ impl TokenSet {
         self.bits[token] = true;
     }
 
-    /// Puts all tokens of the other set below `end` into this one, and tells whether any was new.
+    /// Puts all tokens of the other set below `end` into this one. Returns whether any of them was new.
     pub fn unite_below(&mut self, other: &TokenSet, end: usize) -> bool
         requires room { end ≤ length self.old.bits.items }
         requires other { end ≤ length other.now.bits.items }
@@ -84,7 +84,7 @@ impl TokenSet {
     {
         let bits = self.bits.as_slice();
         let others = other.bits.as_slice();
-        // Without a branch, so that many tokens are looked at at once.
+        // Without a branch, so that many tokens are tested at once.
         let mut covers = true;
         for token in 0..others.len() {
             covers = covers && (bits[token] || !others[token]);
@@ -92,7 +92,7 @@ impl TokenSet {
         covers
     }
 
-    /// Takes all tokens out of the set.
+    /// Removes all tokens from the set.
     pub fn clear(&mut self)
         ensures room { length self.new.bits.items ≡ length self.old.bits.items }
         ensures none { (t : ℕ) → has self.new.bits.items t ≡ false }

@@ -1,4 +1,4 @@
--- How many characters begin before a byte: counted before each 128th one, and from there on.
+-- How many characters begin before a byte: the count for each 128th one, and the characters from there on.
 use Rattle.std.proofs.Common.{◌≡◌, ◌<◌, ◌≤◌, ◌+◌, ◌-◌, ◌*◌, ◌/◌, ◌%◌, ℕ, true, false, cond, inl, inr, refl, sym, ap, ◌∙◌, arith, List, [], ◌∷◌, ◌++◌, length, take, drop, get_or, map}
 use Rattle.std.proofs.Math.Utf8.{encode, encodes, scalar, scalars, scalar_cases}
 use Rattle.std.proofs.lemmas.Bool.{cases_Bool}
@@ -17,7 +17,7 @@ use Rattle.lrpar_grammar_places.proofs.LineLemmas.{line_start_boundary}
 counted : (b : ℕ) (rest : List ℕ) → begins_char b ≡ true → count_by begins_char (b ∷ rest) ≡ 1 + count_by begins_char rest
 counted b rest begins = sum_by-cons (λ x. cond (begins_char x) 1 0) b rest ∙ ap (λ t. cond t 1 0 + count_by begins_char rest) begins
 
--- and one that goes on with it doesn't
+-- and one that continues a character doesn't
 passed : (b : ℕ) (rest : List ℕ) → (128 ≤ b) × (b < 192) → count_by begins_char (b ∷ rest) ≡ count_by begins_char rest
 passed b rest within =
     let goes_on : begins_char b ≡ false = grind (arith, nat_tests) in
@@ -41,7 +41,7 @@ one_counted c rest (of4 a b d x high below fb fd fx is e) =
     ap (λ l. count_by begins_char (l ++ rest)) e ∙ counted a (b ∷ d ∷ x ∷ rest) (begins_high a (omega arith))
     ∙ ap (λ n. 1 + n) (passed b (d ∷ x ∷ rest) fb ∙ passed d (x ∷ rest) fd ∙ passed x rest fx)
 
--- and so does each of a list
+-- and so does each character of a list
 all_counted : (cs : List ℕ) → scalars cs ≡ true → count_by begins_char (encodes cs) ≡ length cs
 all_counted [] are = refl
 all_counted (c ∷ cs) are =
@@ -49,11 +49,11 @@ all_counted (c ∷ cs) are =
     let rest = all_counted cs parts.1 in
     one_counted c (encodes cs) (shape c (scalar_cases c parts.0)) ∙ omega (arith, rest)
 
--- the characters of a text are as many as the bytes that begin one
+-- a text has the same number of characters as of bytes that begin one
 text_counted : (bs : List ℕ) → IsUtf8 bs → length (chars bs) ≡ count_by begins_char bs
 text_counted bs u = ap length (sym (chars_from_encodes u.0 bs u u.1.1)) ∙ sym (all_counted u.0 u.1.0) ∙ ap (count_by begins_char) u.1.1
 
--- those before byte b are those before byte a, and those from there on
+-- the characters before byte b are those before byte a, and those from there on
 pub chars_parted : (text : List ℕ) (a b : ℕ) → a ≤ b → chars_before text b ≡ chars_before text a + count_by begins_char (slice_range text a b)
 chars_parted text a b le =
     let whole : a + (b - a) ≡ b = omega arith in
@@ -76,7 +76,7 @@ column_counted text i utf8 cut =
 abbrev pub counts_to : List ℕ → ℕ → List ℕ
 counts_to text n = map (λ k. chars_before text (k * 128)) (range_with_len 0 (n / 128 + 1))
 
--- one byte on there is one more, where the place is a multiple of 128
+-- one byte further there is one count more, if the place is a multiple of 128
 pub counts_more : (text : List ℕ) (n : ℕ) → (n + 1) % 128 ≡ 0 → counts_to text (n + 1) ≡ counts_to text n ++ chars_before text (n + 1) ∷ []
 counts_more text n multiple =
     let next : (n + 1) / 128 ≡ n / 128 + 1 = omega arith in
@@ -85,7 +85,7 @@ counts_more text n multiple =
     ∙ map-range_with_len_more (λ k. chars_before text (k * 128)) 0 (n / 128 + 1) (n / 128 + 1) (omega arith)
     ∙ ap (λ i. counts_to text n ++ chars_before text i ∷ []) place
 
--- and none elsewhere
+-- and otherwise there is none
 pub counts_same : (text : List ℕ) (n : ℕ) → ¬ ((n + 1) % 128 ≡ 0) → counts_to text (n + 1) ≡ counts_to text n
 counts_same text n other =
     let same : (n + 1) / 128 ≡ n / 128 = omega arith in
@@ -107,7 +107,7 @@ chars_bound text i = omega (arith, count_by-le-length begins_char (take i text),
 pub counts_reach : (text : List ℕ) (i : ℕ) → i ≤ length text → i / 128 < length (char_counts text)
 counts_reach text i within = omega (arith, length-map-range_with_len (λ k. chars_before text (k * 128)) 0 (length text / 128 + 1))
 
--- it is that of the last multiple of 128
+-- it is the count up to the last multiple of 128
 pub count_found : (text : List ℕ) (i d : ℕ) → i ≤ length text → get_or (char_counts text) (i / 128) d ≡ chars_before text (i / 128 * 128)
 count_found text i d within =
     get_or-map-range_with_len (λ k. chars_before text (k * 128)) 0 (length text / 128 + 1) (i / 128) (i / 128) d (omega arith) (omega arith)

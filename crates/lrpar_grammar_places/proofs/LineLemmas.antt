@@ -1,4 +1,4 @@
--- Where lines start and end, seen from a byte: the starts up to it, and those past it.
+-- The starts and ends of lines, as seen from a byte: the starts up to it, and those past it.
 use Rattle.std.proofs.Common.{leb, ◌≡◌, ◌<◌, ◌≤◌, ◌+◌, ◌-◌, ℕ, zero, suc, true, false, refl, sym, ap, subst, ◌∙◌, arith, List, [], ◌∷◌, ◌++◌, length, slice_index, take, get_or, cond, inl, inr, add-zero}
 use Rattle.std.specs.List.{All, count_by, filter, range_with_len}
 use Rattle.std.proofs.lemmas.Bool.{cases_eq, cases_lt, leb-true, le-leb}
@@ -32,7 +32,7 @@ line_start_back text n l h =
     let e = rw same at (suffix_len-take_yes is_in_line text (n + 1) 0 (omega arith) (omega arith) inside) in
     omega (arith, e)
 
--- a line starts behind a line feed
+-- a line starts after a line feed
 line_start_here : (text : List ℕ) (n : ℕ) → n < length text → slice_index text n ≡ 10 → line_start text (n + 1) ≡ n + 1
 line_start_here text n l h =
     let same : (n + 1) - 1 ≡ n = omega arith in
@@ -40,11 +40,11 @@ line_start_here text n l h =
     let e = suffix_len-take_no is_in_line text (n + 1) 0 (omega arith) (omega arith) feed in
     omega (arith, e)
 
--- one byte on in a line
+-- one byte further in a line
 line_end_on : (text : List ℕ) (n : ℕ) → n < length text → ¬ (slice_index text n ≡ 10) → line_end text (n + 1) ≡ line_end text n
 line_end_on text n l h = let e = prefix_len-drop_yes is_in_line text n 0 l (in_line (slice_index text n) h) in omega (arith, e)
 
--- a line ends in front of a line feed
+-- a line ends before a line feed
 line_end_here : (text : List ℕ) (n : ℕ) → n < length text → slice_index text n ≡ 10 → line_end text n ≡ n
 line_end_here text n l h = let e = prefix_len-drop_no is_in_line text n 0 l (at_end (slice_index text n) h) in omega (arith, e)
 
@@ -64,7 +64,7 @@ range_with_len-append a (suc n) m =
     let on : a + suc n ≡ (a + 1) + n = omega arith in
     rw (more, on) (ap (λ s. a ∷ s) (range_with_len-append (a + 1) n m))
 
--- where numbers lie
+-- the bounds of such numbers
 range_within : (a n : ℕ) → All (λ s. (a ≤ s) × (s < a + n)) (range_with_len a n)
 range_within a n k d within =
     let count : length (range_with_len a n) ≡ n = length-range_with_len a n in
@@ -76,7 +76,7 @@ pub starts_among-append : (text : List ℕ) (a n m : ℕ) → starts_among text 
 starts_among-append text a n m =
     ap (filter (starts_line text)) (range_with_len-append a n m) ∙ filter-append (starts_line text) (range_with_len a n) (range_with_len (a + n) m)
 
--- one byte more, behind a line feed
+-- one byte more, after a line feed
 pub starts_among_feed : (text : List ℕ) (n : ℕ) → slice_index text n ≡ 10 → starts_among text 1 (n + 1) ≡ starts_among text 1 n ++ (n + 1) ∷ []
 starts_among_feed text n h =
     let place : 1 + n ≡ n + 1 = omega arith in
@@ -84,7 +84,7 @@ starts_among_feed text n h =
     let feed : starts_line text (n + 1) ≡ true = rw back (is_feed (slice_index text n) h) in
     starts_among-append text 1 n 1 ∙ ap (λ k. starts_among text 1 n ++ starts_among text k 1) place ∙ ap (λ b. starts_among text 1 n ++ cond b ((n + 1) ∷ []) []) feed
 
--- one byte more, behind any other byte
+-- one byte more, after any other byte
 pub starts_among_other : (text : List ℕ) (n : ℕ) → ¬ (slice_index text n ≡ 10) → starts_among text 1 (n + 1) ≡ starts_among text 1 n
 starts_among_other text n h =
     let place : 1 + n ≡ n + 1 = omega arith in
@@ -93,7 +93,7 @@ starts_among_other text n h =
     starts_among-append text 1 n 1 ∙ ap (λ k. starts_among text 1 n ++ starts_among text k 1) place
     ∙ ap (λ b. starts_among text 1 n ++ cond b ((n + 1) ∷ []) []) other ∙ append-nil (starts_among text 1 n)
 
--- they lie in that part
+-- the bounds of these starts
 pub starts_among_within : (text : List ℕ) (a n : ℕ) → All (λ s. (a ≤ s) × (s < a + n)) (starts_among text a n)
 starts_among_within text a n = All-filter (starts_line text) (λ s. (a ≤ s) × (s < a + n)) (range_with_len a n) (range_within a n)
 
@@ -115,7 +115,7 @@ starts_count text (suc i) within =
           ∙ sym (count_by_more_no is_line_feed text i 0 (omega arith) (no_feed (slice_index text i) other))
     ])
 
--- the last of them is where the line of byte i starts, and with none it is the first line
+-- the last start up to byte i is that of its line; if there is none, that is the first line
 pub record IsFront (text front : List ℕ) (i : ℕ) : Type 0 where
   pub last : (d : ℕ) → 0 < length front → get_or front (length front - 1) d ≡ line_start text i
   pub first : length front ≡ 0 → line_start text i ≡ 0
@@ -143,7 +143,7 @@ starts_front text (suc i) within =
           })
     ])
 
--- the first of those past byte i is behind the end of its line, and with none it is the last line
+-- the first start past byte i is after the end of its line; if there is none, that is the last line
 pub record IsRest (text rest : List ℕ) (i : ℕ) : Type 0 where
   pub next : (d : ℕ) → 0 < length rest → get_or rest 0 d ≡ line_end text i + 1
   pub last : length rest ≡ 0 → line_end text i ≡ length text
@@ -177,7 +177,7 @@ all_starts-cut text i within =
     let whole : length text ≡ i + (length text - i) = omega arith in
     ap (starts_among text 1) whole ∙ starts_among-append text 1 i (length text - i)
 
--- as many as there are line feeds before byte i lie up to it
+-- the first starts, as many as there are line feeds before byte i, are at most i
 pub starts_up_to : (text : List ℕ) (i k d : ℕ) → i ≤ length text → k < count_by is_line_feed (take i text) → get_or (all_starts text) k d ≤ i
 starts_up_to text i k d within below =
     let front = starts_among text 1 i in
@@ -187,7 +187,7 @@ starts_up_to text i k d within below =
     let bounds = starts_among_within text 1 i k d inside in
     omega (arith, bounds.1)
 
--- and the others past it
+-- and the others are past it
 pub starts_past : (text : List ℕ) (i k d : ℕ) → i ≤ length text → count_by is_line_feed (take i text) ≤ k → k < length (all_starts text) → i < get_or (all_starts text) k d
 starts_past text i k d within above inside =
     let front = starts_among text 1 i in
@@ -200,7 +200,7 @@ starts_past text i k d within above inside =
     let bounds = starts_among_within text (1 + i) (length text - i) (k - length front) d (omega (arith, count, lengths)) in
     omega (arith, bounds.0)
 
--- there are as many at least
+-- there are at least as many starts
 all_starts-length : (text : List ℕ) (i : ℕ) → i ≤ length text → count_by is_line_feed (take i text) ≤ length (all_starts text)
 all_starts-length text i within =
     let front = starts_among text 1 i in
@@ -208,7 +208,7 @@ all_starts-length text i within =
     let lengths : length (all_starts text) ≡ length front + length rest = ap length (all_starts-cut text i within) ∙ length-append front rest in
     omega (arith, starts_count text i within, lengths)
 
--- so the starts are parted by lying up to byte i
+-- so the starts up to byte i come before the others
 pub starts_parted : (text : List ℕ) (i : ℕ) → i ≤ length text → IsPartitionedBy (λ s. leb s i) (all_starts text)
 starts_parted text i within j k d before inside up_to =
     elim (cases_lt j (count_by is_line_feed (take i text))) [
@@ -219,7 +219,7 @@ starts_parted text i within j k d before inside up_to =
           absurd (omega arith)
     ]
 
--- and the place of that part is the number of line feeds before it
+-- and the number of these starts is the number of line feeds before byte i
 pub part_is_count : (text : List ℕ) (i k : ℕ) → i ≤ length text → k ≤ length (all_starts text)
     → IsPartitionPoint (λ s. leb s i ≡ true) (λ s. leb s i ≡ false) (all_starts text) k → k ≡ count_by is_line_feed (take i text)
 part_is_count text i k within bound parts =
@@ -250,11 +250,11 @@ start_found text i k d within is some =
     ∙ get_or_append_left front (starts_among text (1 + i) (length text - i)) d (k - 1) (omega (arith, count))
     ∙ ap (λ n. get_or front n d) place ∙ (starts_front text i within).last d (omega (arith, count))
 
--- with none before it, it is byte 0
+-- if there is no line feed before it, it is byte 0
 pub start_first : (text : List ℕ) (i : ℕ) → i ≤ length text → 0 ≡ count_by is_line_feed (take i text) → 0 ≡ line_start text i
 start_first text i within is = sym ((starts_front text i within).first (starts_count text i within ∙ sym is))
 
--- the end of the line of byte i is in front of the next start
+-- the end of the line of byte i is before the next start
 pub end_found : (text : List ℕ) (i k d : ℕ) → i ≤ length text → k ≡ count_by is_line_feed (take i text) → k < length (all_starts text)
     → get_or (all_starts text) k d ≡ line_end text i + 1
 end_found text i k d within is some =
@@ -269,7 +269,7 @@ end_found text i k d within is some =
     ap (λ s. get_or s k d) cut ∙ get_or-append_right front rest (length front) k d refl (omega (arith, count))
     ∙ ap (λ n. get_or rest n d) first ∙ next.next d (omega (arith, count, lengths))
 
--- with none past it, it is the end of the text
+-- if there is no start past it, it is the end of the text
 pub end_last : (text : List ℕ) (i k : ℕ) → i ≤ length text → k ≡ count_by is_line_feed (take i text) → length (all_starts text) ≤ k → length text ≡ line_end text i
 end_last text i k within is none =
     let front = starts_among text 1 i in

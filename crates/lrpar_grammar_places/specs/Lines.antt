@@ -8,7 +8,7 @@ use Rattle.std.specs.Str.{chars}
 abbrev pub is_line_feed : ℕ → Bool
 is_line_feed byte = byte == 10
 
--- a byte that isn't one
+-- a byte that isn't a line feed
 abbrev pub is_in_line : ℕ → Bool
 is_in_line byte = not (is_line_feed byte)
 
@@ -24,7 +24,7 @@ line_end text i = i + prefix_len is_in_line (drop i text)
 abbrev pub lines_of : List ℕ → ℕ → ℕ → List ℕ
 lines_of text i j = slice_range text (line_start text i) (line_end text j)
 
--- the line of byte i: one more than the line feeds before it
+-- the number of the line of byte i: one more than the line feeds before it
 abbrev pub line_of : List ℕ → ℕ → ℕ
 line_of text i = 1 + count_by is_line_feed (take i text)
 
@@ -36,25 +36,25 @@ column_of text i = 1 + length (chars (slice_range text (line_start text i) i))
 abbrev pub starts_line : List ℕ → ℕ → Bool
 starts_line text i = is_line_feed (slice_index text (i - 1))
 
--- a byte that begins a character; any other goes on with the one before it
+-- a byte that begins a character; any other byte continues one
 abbrev pub begins_char : ℕ → Bool
 begins_char byte = not (byte / 64 == 2)
 
--- how many characters begin before byte i
+-- the number of characters that begin before byte i
 abbrev pub chars_before : List ℕ → ℕ → ℕ
 chars_before text i = count_by begins_char (take i text)
 
--- how many begin before each of the bytes 0, 128, 256 and so on, as far as the text goes
+-- the numbers of characters that begin before the bytes 0, 128, 256 and so on, up to the end of the text
 abbrev pub char_counts : List ℕ → List ℕ
 char_counts text = map (λ k. chars_before text (k * 128)) (range_with_len 0 (length text / 128 + 1))
 
--- where the lines of a text start but for the first, ascending, how many characters begin before each 128th byte, and how many
--- bytes the text has
+-- The starts of all lines but the first, ascending; the numbers of characters that begin before each 128th byte; and
+-- the length of the text.
 pub record LineTable : Type 0 where
   pub starts : List ℕ
   pub counts : List ℕ
   pub len : ℕ
 
--- those of a text
+-- the line table of a text
 abbrev pub line_table : List ℕ → LineTable
 line_table text = record { starts = filter (starts_line text) (range_with_len 1 (length text)); counts = char_counts text; len = length text }

@@ -7,11 +7,11 @@ pub record Extent : Type 0 where
   pub start : ℕ
   pub end : ℕ
 
--- the empty part at the start of every text, where things lie that no text spells
+-- the empty part at the start of every text: the place of things that no text spells
 abbrev pub nowhere : Extent
 nowhere = record { start = 0; end = 0 }
 
--- the part starts and ends in the text, between two characters each time
+-- the part starts and ends in the text, each between two characters
 pub record IsPartOf (src : List ℕ) (span : Extent) : Type 0 where
   pub start : IsCharBoundary src span.start
   pub end : IsCharBoundary src span.end

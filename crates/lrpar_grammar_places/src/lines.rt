@@ -7,17 +7,17 @@ use crate::span::Span;
 use std::alloc::{AllocError, Global};
 use std::marker::Model;
 
-// How many bytes stand between two places of a text up to which the characters are counted.
+// The distance in bytes between two places of a text up to which the characters are counted.
 const STEP: usize = 128;
 
-/// Where the lines of a text start. Lines start at byte 0 and after each line feed, and count from 1. A line ends before its line
-/// feed or, the last one, at the text's end. Counts of characters go with them, so that a column in a long line is found as soon
-/// as one in a short line.
+/// The lines of a text. A line starts at byte 0 and after each line feed, and lines count from 1. A line ends before its line
+/// feed, and the last one at the text's end. Counts of characters are stored with the starts, so that a column in a long line is
+/// found as fast as one in a short line.
 #[derive(Debug, Drop)]
 pub struct NewlineCache {
-    // where each line but the first starts
+    // the start of each line but the first
     starts: Vec<usize>,
-    // how many characters begin before each `STEP`th byte, from byte 0 on
+    // the number of characters that begin before each `STEP`th byte, from byte 0 on
     counts: Vec<usize>,
     len: usize,
 }
@@ -34,7 +34,7 @@ impl Model for NewlineCache {
 }
 
 impl NewlineCache {
-    /// The lines of a text. Takes time linear in it, and memory for each line feed and for each 128 bytes.
+    /// The lines of a text. Takes time linear in the text, and memory for each line feed and for each 128 bytes.
     pub fn new(alloc: Global, src: &str) -> Result<Self, AllocError>
         ensures { IfOk result (λ cache. cache ≡ line_table src.now) }
     {
@@ -57,8 +57,8 @@ impl NewlineCache {
         })
     }
 
-    /// The line of a byte, counted from 1: none past the length of the text, at which there is one. Takes time logarithmic in the
-    /// number of lines.
+    /// The line of a byte, counted from 1. The byte at the length of the text has a line; a later one gives `None`. Takes time
+    /// logarithmic in the number of lines.
     pub fn byte_to_line_num(&self, byte: usize) -> Option<usize>
         ensures within { IsSome result ↔ (byte ≤ (self.now).len) }
         ensures line { (text : List ℕ) → self.now ≡ line_table text → IfSome result (λ line. line ≡ line_of text byte) }
@@ -69,9 +69,9 @@ impl NewlineCache {
         Some(1 + self.feeds_before(byte))
     }
 
-    /// The line and the column of a byte, each counted from 1, and columns in characters: none past the length of the text, at
-    /// which there is one, or inside a character. The text must be the one whose lines these are. Takes time logarithmic in the
-    /// number of lines, however long they are.
+    /// The line and the column of a byte, each counted from 1, and columns in characters. The byte at the length of the text has
+    /// them; a later one and one inside a character give `None`. `src` must be the text whose lines these are. Takes time
+    /// logarithmic in the number of lines, however long they are.
     pub fn byte_to_line_num_and_col_num(&self, src: &str, byte: usize) -> Option<(usize, usize)>
         requires { self.now ≡ line_table src.now }
         ensures boundary { IsSome result ↔ IsCharBoundary src.now byte }
@@ -82,13 +82,13 @@ impl NewlineCache {
             return None;
         }
         let line = 1 + self.feeds_before(byte);
-        let in_front = self.chars_before(src, self.line_start(byte));
-        let column = 1 + self.chars_before(src, byte) - in_front;
+        let before_line = self.chars_before(src, self.line_start(byte));
+        let column = 1 + self.chars_before(src, byte) - before_line;
         Some((line, column))
     }
 
-    /// Where the line of the start of a span starts, and where that of its end ends, in bytes. The span must end within the text.
-    /// Takes time logarithmic in the number of lines.
+    /// The start of the line that has the span's start, and the end of the line that has its end, in bytes. The span must end
+    /// within the text. Takes time logarithmic in the number of lines.
     pub fn span_line_bytes(&self, span: Span) -> (usize, usize)
         requires { span.end ≤ (self.now).len }
         ensures start { (text : List ℕ) → self.now ≡ line_table text → result.0 ≡ line_start text span.start }
@@ -98,7 +98,7 @@ impl NewlineCache {
         (self.line_start(span.start()), self.line_end(span.end()))
     }
 
-    // How many line feeds stand before a byte.
+    // The number of line feeds before a byte.
     fn feeds_before(&self, byte: usize) -> usize
         requires { byte ≤ (self.now).len }
         ensures bound { result ≤ length (self.now).starts }
@@ -107,7 +107,7 @@ impl NewlineCache {
         self.starts.partition_point(|start| *start <= byte)
     }
 
-    // How many characters begin before a byte. Looks at fewer than `STEP` bytes.
+    // The number of characters that begin before a byte. Looks at fewer than `STEP` bytes.
     fn chars_before(&self, src: &str, byte: usize) -> usize
         requires table { self.now ≡ line_table src.now }
         requires within { byte ≤ length src.now }
@@ -117,7 +117,7 @@ impl NewlineCache {
         self.counts[step] + chars_begun(&src.as_bytes()[step * STEP..byte])
     }
 
-    // Where the line of a byte starts.
+    // The byte at which the line of a byte starts.
     fn line_start(&self, byte: usize) -> usize
         requires { byte ≤ (self.now).len }
         ensures start { (text : List ℕ) → self.now ≡ line_table text → result ≡ line_start text byte }
@@ -129,7 +129,7 @@ impl NewlineCache {
         }
     }
 
-    // Where the line of a byte ends, in front of its line feed.
+    // The byte at which the line of a byte ends, before its line feed.
     fn line_end(&self, byte: usize) -> usize
         requires { byte ≤ (self.now).len }
         ensures end { (text : List ℕ) → self.now ≡ line_table text → result ≡ line_end text byte }
@@ -142,14 +142,14 @@ impl NewlineCache {
     }
 }
 
-// How many characters begin in bytes of a text.
+// The number of characters that begin in bytes of a text.
 fn chars_begun(bytes: &[u8]) -> usize
     ensures { result ≡ count_by begins_char bytes.now }
 {
     bytes.iter().filter(|byte| begins_char(**byte)).count()
 }
 
-// Whether a byte begins a character; any other goes on with the one before it.
+// Whether a byte begins a character; any other byte continues one.
 fn begins_char(byte: u8) -> bool
     ensures { result ≡ begins_char byte }
 {

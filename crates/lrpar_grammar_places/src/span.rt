@@ -54,7 +54,7 @@ impl Span {
         self.end
     }
 
-    /// How many bytes the part has.
+    /// The length of the part in bytes.
     pub fn len(&self) -> usize
         ensures len { result ≡ self.now.end - self.now.start }
     {
@@ -69,24 +69,24 @@ impl Span {
     }
 }
 
-/// What a type has to do for rules, productions, tokens and states to be numbered by it: no more than to be compared, hashed,
-/// printed, and turned into an index and back.
+/// What a type must do to number rules, productions, tokens and states: its values are compared, hashed and printed, and turned
+/// into an index and back.
 pub trait StorageIndex: Copy + Ord + Debug + Hash {
-    /// The number that a value stands for.
+    /// The number that a value represents.
     ghost index: { Self → ℕ };
 
-    /// The value that stands for a number.
+    /// The value that represents a number.
     ghost at_index: { ℕ → Self };
 
-    /// How many numbers the type has.
+    /// The number of values that the type has.
     ghost limit: { ℕ };
 
-    /// The number that the value stands for, which is below the type's limit.
+    /// The number that the value represents. It is below the type's limit.
     fn to_index(self) -> usize
         ensures value { result ≡ index self }
         ensures within { result < limit };
 
-    /// The value that stands for `n`, where the type has it.
+    /// The value that represents `n`, if the type has it.
     fn from_index(n: usize) -> Option<Self>
         ensures within { IsSome result ↔ (n < limit) }
         ensures value { IfSome result (λ x. x ≡ at_index n) }
@@ -192,7 +192,7 @@ pub trait Numbered<StorageT: StorageIndex>: Copy + Debug {
     /// The number.
     ghost number: { Self → ℕ };
 
-    /// The number of this kind.
+    /// The value of this kind with that number.
     fn numbered(number_of: StorageT) -> Self
         ensures { number result ≡ StorageT.index number_of };
 }
@@ -308,36 +308,36 @@ impl<StorageT: StorageIndex> From<StIdx<StorageT>> for usize {
 /// A symbol on the right side of a production.
 #[derive(Clone, Copy, Debug, PartialEq, Eq, Hash)]
 pub enum Symbol<StorageT> {
-    /// All that the rule derives.
+    /// Whatever the rule derives.
     Rule(RIdx<StorageT>),
     /// One lexeme of the token.
     Token(TIdx<StorageT>),
 }
 
-/// What the spans of an error or a warning stand for.
+/// What the spans of an error or a warning show.
 #[derive(Clone, Copy, Debug, PartialEq, Eq, Hash)]
 pub enum SpansKind {
     /// The one place of an error.
     Error,
-    /// The places at which a thing stands more than once, the first one first.
+    /// The places of a thing that is there more than once, the first one first.
     DuplicationError,
     /// Any other places.
     Other,
 }
 
-/// A thing that lies at places of a text.
+/// A thing that has places in a text.
 pub trait Spanned {
     /// The places.
     ghost places: { Self → List Extent };
 
-    /// What the places stand for.
+    /// What the places show.
     ghost kind: { Self → SpansKind };
 
-    /// The places, the most telling one first.
+    /// The places, the most helpful one first.
     fn spans(&self) -> &[Span]
         ensures { result.now ≡ places self.now };
 
-    /// What the places stand for.
+    /// What the places show.
     fn spanskind(&self) -> SpansKind
         ensures { result ≡ kind self.now };
 }

@@ -1,4 +1,4 @@
--- A fault of the declarations and rules of a text is one of the text.
+-- A fault of the declarations and rules of a text is a fault of the text.
 use Rattle.std.proofs.Common.{ℕ, List}
 use Rattle.lrpar_grammar_words.specs.Outline.{IsOutlineOf, TextOutline}
 use Rattle.lrpar_grammar_reader.specs.declared.parts.GrammarFault.{GrammarFault}
@@ -6,7 +6,7 @@ use Rattle.lrpar_grammar_reader.specs.declared.parts.GrammarFault.TheVariants.{N
 use Rattle.lrpar_grammar_reader.specs.Spells.{IsFaultOf}
 use Rattle.lrpar_grammar_reader.specs.TextNames.{IsRefusedAs}
 
--- what refuses them refuses the text
+-- why they are refused is why the text is refused
 pub refusal_of_text : (limit : ℕ) (text : List ℕ) (o : TextOutline) → IsOutlineOf text o → (fault : GrammarFault) → IsRefusedAs limit o fault → IsFaultOf limit text fault
 refusal_of_text limit text o reads NoRules has = record { outline = o; reads = reads; has = has }
 refusal_of_text limit text o reads StorageTooSmall has = record { outline = o; reads = reads; clean = has.0; many = has.1 }

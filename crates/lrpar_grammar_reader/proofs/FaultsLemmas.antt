@@ -1,4 +1,4 @@
--- Words that have a fault, and lists in which none has.
+-- Words that have a fault, and lists in which no word has one.
 use Rattle.std.proofs.Common.{◌≡◌, ◌<◌, ◌≤◌, ◌+◌, ℕ, zero, suc, Bool, true, false, cond, not, Bor, List, [], ◌∷◌, ◌++◌, length, length-take, map, take, get_or, Option, Some, None, option_map, nat_cmp, inl, inr, refl, ap, sym, subst, ◌∙◌, arith}
 use Rattle.std.specs.BTreeMap.{BTreeMap, get_by}
 use Rattle.std.specs.Cmp.Lexicographic.{slice_cmp}
@@ -18,7 +18,7 @@ use Rattle.lrpar_grammar_reader.specs.Spells.{AreDistinct, IsRepeatedAt, Numberi
 use Rattle.lrpar_grammar_reader.proofs.GrowthLemmas.{take_map_more}
 use Rattle.lrpar_grammar_reader.proofs.SpanLemmas.{placed_at}
 
--- none is found where none passes
+-- if none passes, none is found
 pub none_found : {X : Type 0} (p : X → Bool) (xs : List X) → All (λ x. p x ≡ false) xs → IsNone (find p xs)
 none_found p [] none = refl
 none_found p (x ∷ xs) none =
@@ -33,42 +33,42 @@ found_at p (x ∷ xs) (suc i) d within none is =
     ap (λ b. cond b (Some x) (find p xs)) (All-head (λ y. p y ≡ false) x (take i xs) none)
     ∙ found_at p xs i d (omega arith) (All-tail (λ y. p y ≡ false) x (take i xs) none) is
 
--- the first word that passes stands at its place
-pub stands : (p : PlacedWord → Bool) (words : List Word) (i : ℕ) (d : Word) (span : Extent) → i < length words → All (λ w. p w ≡ false) (take i (map placed words))
+-- the first word that passes lies at its place
+pub lies_at : (p : PlacedWord → Bool) (words : List Word) (i : ℕ) (d : Word) (span : Extent) → i < length words → All (λ w. p w ≡ false) (take i (map placed words))
     → p (placed (get_or words i d)) ≡ true → span ≡ (placed (get_or words i d)).span → LiesAt (find p (map placed words)) span
-stands p words i d span within none is at =
+lies_at p words i d span within none is at =
     let ws = map placed words in
     let word : get_or ws i (placed d) ≡ placed (get_or words i d) = get_or-map placed words i d (placed d) within in
     let found : find p ws ≡ Some (get_or ws i (placed d)) =
     found_at p ws i (placed d) (omega (arith, length-map words placed)) none (subst (λ w. p w ≡ true) (sym word) is) in
     ap (option_map (λ w. w.span)) (found ∙ ap Some word) ∙ ap Some (sym at)
 
--- the first of two stands there, or the second, where there is no first
-pub stands_first : (a b : Option PlacedWord) (span : Extent) → LiesAt a span → LiesAt (option_or a b) span
-stands_first None b span at = absurd (cc)
-stands_first (Some w) b span at = at
+-- the first of two lies there, or the second, if there is no first
+pub lies_at_first : (a b : Option PlacedWord) (span : Extent) → LiesAt a span → LiesAt (option_or a b) span
+lies_at_first None b span at = absurd (cc)
+lies_at_first (Some w) b span at = at
 
-pub stands_second : (a b : Option PlacedWord) (span : Extent) → IsNone a → LiesAt b span → LiesAt (option_or a b) span
-stands_second None b span none at = at
-stands_second (Some w) b span none at = absurd (cc)
+pub lies_at_second : (a b : Option PlacedWord) (span : Extent) → IsNone a → LiesAt b span → LiesAt (option_or a b) span
+lies_at_second None b span none at = at
+lies_at_second (Some w) b span none at = absurd (cc)
 
 -- there is neither of two
 pub neither : (a b : Option PlacedWord) → IsNone a → IsNone b → IsNone (option_or a b)
 neither None b none other = other
 neither (Some w) b none other = absurd (cc)
 
--- the first word that passes, among those that elements give
-pub stands_in : {X : Type 0} (p : PlacedWord → Bool) (f : X → List PlacedWord) (xs : List X) (i : ℕ) (d : X) (span : Extent) → i < length xs
+-- the first word that passes, among those that the elements give
+pub lies_at_in : {X : Type 0} (p : PlacedWord → Bool) (f : X → List PlacedWord) (xs : List X) (i : ℕ) (d : X) (span : Extent) → i < length xs
     → All (λ x. All (λ w. p w ≡ false) (f x)) (take i xs) → LiesAt (find p (f (get_or xs i d))) span → LiesAt (find p (flat_map f xs)) span
-stands_in p f [] i d span within none at = absurd (omega arith)
-stands_in p f (x ∷ xs) zero d span within none at =
-    subst (λ r. LiesAt r span) (sym (find-append p (f x) (flat_map f xs))) (stands_first (find p (f x)) (find p (flat_map f xs)) span at)
-stands_in p f (x ∷ xs) (suc i) d span within none at =
+lies_at_in p f [] i d span within none at = absurd (omega arith)
+lies_at_in p f (x ∷ xs) zero d span within none at =
+    subst (λ r. LiesAt r span) (sym (find-append p (f x) (flat_map f xs))) (lies_at_first (find p (f x)) (find p (flat_map f xs)) span at)
+lies_at_in p f (x ∷ xs) (suc i) d span within none at =
     let before = none_found p (f x) (All-head (λ y. All (λ w. p w ≡ false) (f y)) x (take i xs) none) in
-    let rest = stands_in p f xs i d span (omega arith) (All-tail (λ y. All (λ w. p w ≡ false) (f y)) x (take i xs) none) at in
-    subst (λ r. LiesAt r span) (sym (find-append p (f x) (flat_map f xs))) (stands_second (find p (f x)) (find p (flat_map f xs)) span before rest)
+    let rest = lies_at_in p f xs i d span (omega arith) (All-tail (λ y. All (λ w. p w ≡ false) (f y)) x (take i xs) none) at in
+    subst (λ r. LiesAt r span) (sym (find-append p (f x) (flat_map f xs))) (lies_at_second (find p (f x)) (find p (flat_map f xs)) span before rest)
 
--- none of the words that elements give is found
+-- none of the words that the elements give is found
 pub none_in : {X : Type 0} (p : PlacedWord → Bool) (f : X → List PlacedWord) (xs : List X) → All (λ x. All (λ w. p w ≡ false) (f x)) xs → IsNone (find p (flat_map f xs))
 none_in p f [] none = refl
 none_in p f (x ∷ xs) none =
@@ -80,7 +80,7 @@ none_in p f (x ∷ xs) none =
 pub none_fails : {X : Type 0} (p : X → Bool) (xs : List X) → All (λ x. p x ≡ true) xs → All (λ x. not (p x) ≡ false) xs
 none_fails p xs all = All-weaker (λ x. p x ≡ true) (λ x. not (p x) ≡ false) (λ x is. ap not is) xs all
 
--- the same of words that elements give
+-- the same for words that the elements give
 pub none_fails_in : {X Y : Type 0} (p : Y → Bool) (f : X → List Y) (xs : List X) → All (λ x. All (λ y. p y ≡ true) (f x)) xs → All (λ x. All (λ y. not (p y) ≡ false) (f x)) xs
 none_fails_in p f xs all = All-weaker (λ x. All (λ y. p y ≡ true) (f x)) (λ x. All (λ y. not (p y) ≡ false) (f x)) (λ x. none_fails p (f x)) xs all
 
@@ -93,21 +93,21 @@ no_token_rule n rules same none =
 pub start_unknown : (n : Numbering) (o : TextOutline) (starts : List PlacedWord) (span : Extent) → starts ≡ o.starts
     → LiesAt (find (λ w. not (is_among w.name n.rules)) starts) span → LiesAt (unknown_rule n o) span
 start_unknown n o starts span same at =
-    stands_first (find (λ w. not (is_among w.name n.rules)) o.starts) (find (λ w. not (is_known n w)) (flat_map (λ x. x.symbols) o.alternatives)) span
+    lies_at_first (find (λ w. not (is_among w.name n.rules)) o.starts) (find (λ w. not (is_known n w)) (flat_map (λ x. x.symbols) o.alternatives)) span
     (subst (λ ws. LiesAt (find (λ w. not (is_among w.name n.rules)) ws) span) same at)
 
--- each name after `%start` is one of a rule
+-- each name after `%start` is the name of a rule
 starts_known : (n : Numbering) (o : TextOutline) (starts : List PlacedWord) → starts ≡ o.starts → All (λ w. is_among w.name n.rules ≡ true) starts
     → IsNone (find (λ w. not (is_among w.name n.rules)) o.starts)
 starts_known n o starts same known =
     none_found (λ w. not (is_among w.name n.rules)) o.starts
     (subst (All (λ w. not (is_among w.name n.rules) ≡ false)) same (none_fails (λ (w : PlacedWord). is_among w.name n.rules) starts known))
 
--- the first symbol that is neither a token nor a rule, where those names are known
+-- the first symbol that is neither a token nor a rule, if the names after `%start` are known
 pub symbol_unknown : (n : Numbering) (o : TextOutline) (starts : List PlacedWord) (alternatives : List TextAlternative) (span : Extent) → starts ≡ o.starts → alternatives ≡ o.alternatives
     → All (λ w. is_among w.name n.rules ≡ true) starts → LiesAt (find (λ w. not (is_known n w)) (flat_map (λ x. x.symbols) alternatives)) span → LiesAt (unknown_rule n o) span
 symbol_unknown n o starts alternatives span same alike known at =
-    stands_second (find (λ w. not (is_among w.name n.rules)) o.starts) (find (λ w. not (is_known n w)) (flat_map (λ x. x.symbols) o.alternatives)) span
+    lies_at_second (find (λ w. not (is_among w.name n.rules)) o.starts) (find (λ w. not (is_known n w)) (flat_map (λ x. x.symbols) o.alternatives)) span
     (starts_known n o starts same known)
     (subst (λ (xs : List TextAlternative). LiesAt (find (λ w. not (is_known n w)) (flat_map (λ x. x.symbols) xs)) span) alike at)
 
@@ -121,11 +121,11 @@ no_unknown_rule n o starts alternatives same alike starts_are symbols_are =
     (none_fails_in (is_known n) (λ (x : TextAlternative). x.symbols) o.alternatives
     (subst (All (λ (x : TextAlternative). All (λ w. is_known n w ≡ true) x.symbols)) alike symbols_are)))
 
--- what holds of as many elements as there are holds of all
+-- what holds of the first elements holds of all, if there are no others
 pub all_of : {X Y : Type 0} (P : Y → Type 0) (f : X → Y) (xs : List X) (i : ℕ) → length xs ≤ i → All P (take i (map f xs)) → All P (map f xs)
 all_of P f xs i past so_far = subst (All P) (take_all i (map f xs) (omega (arith, length-map xs f))) so_far
 
--- one more word whose name isn't one before it
+-- one more word whose name no earlier one has
 pub unrepeated_more : (words items : List Word) (i : ℕ) (w : Word) → items ≡ words → i < length items → is_among (get_or items i w).name.now (take i (map placed words)) ≡ false
     → ((k : ℕ) (d : PlacedWord) → k < i → is_among (get_or (map placed words) k d).name (take k (map placed words)) ≡ false)
     → (k : ℕ) (d : PlacedWord) → k < i + 1 → is_among (get_or (map placed words) k d).name (take k (map placed words)) ≡ false
@@ -146,7 +146,7 @@ pub known_is : (numbers : BTreeMap (Bor (List ℕ)) ℕ) (words front : List Pla
     → found ≡ is_some (get_by (λ k. slice_cmp nat_cmp q k.now) numbers) → found ≡ b → is_among q front ≡ b
 known_is numbers words front q found b all same asked is = sym (ap is_some (all q) ∙ ap (is_among q) same) ∙ sym asked ∙ is
 
--- words so far of which none has the name of one before it are distinct
+-- the words so far are distinct, if none has the name of an earlier one
 distinct_front : (words : List PlacedWord) (i : ℕ) → i < length words → ((k : ℕ) (d : PlacedWord) → k < i → is_among (get_or words k d).name (take k words) ≡ false)
     → AreDistinct (take i words)
 distinct_front words i within before k d below =
@@ -154,20 +154,20 @@ distinct_front words i within before k d below =
     subst (λ s. is_among (get_or (take i words) k d).name s ≡ false) (sym (take-take k i words (omega arith)))
     (subst (λ w. is_among w.name (take k words) ≡ false) (sym (get_or-take i words k d below')) (before k d below'))
 
--- the first word whose name is one before it
+-- the first word with the name of an earlier one
 pub repeated_at : (words items : List Word) (i : ℕ) (d : Word) (span : Extent) → items ≡ words → i < length items
     → is_among (get_or items i d).name.now (take i (map placed words)) ≡ true → span ≡ (placed (get_or items i d)).span
     → ((k : ℕ) (e : PlacedWord) → k < i → is_among (get_or (map placed words) k e).name (take k (map placed words)) ≡ false) → IsRepeatedAt (map placed words) span
 repeated_at words items i d span same within again at before = record {
   word = placed (get_or items i d);
   place = i;
-  stands = placed_at words items i i (get_or items i d) same refl (sym (slice_get-get_or items i d within));
+  found = placed_at words items i i (get_or items i d) same refl (sym (slice_get-get_or items i d within));
   again = again;
   first = distinct_front (map placed words) i (omega (arith, ap length same, length-map words placed)) before;
   at = sym at;
 }
 
--- a new word is put behind those before
+-- a new word is appended
 pub new_more : (words items before after : List Word) (i : ℕ) (d : Word) → items ≡ words → i < length items → map placed before ≡ take i (map placed words)
     → is_among (get_or items i d).name.now (take i (map placed words)) ≡ false → map placed after ≡ with_name (map placed before) (placed (get_or items i d))
     → map placed after ≡ take (i + 1) (map placed words)

@@ -18,7 +18,7 @@ pushed f items new base xs i d within is so_far =
     ap (map f) is ∙ map-append f items (get_or xs i d ∷ []) ∙ ap (λ s. s ++ f (get_or xs i d) ∷ []) so_far
     ∙ append_assoc base (take i (map f xs)) (f (get_or xs i d) ∷ []) ∙ ap (λ s. base ++ s) (sym (take_map_more f xs i d within))
 
--- what a filter keeps of one more element
+-- what a filter keeps of a list with one element
 filter_one : {Y : Type 0} (p : Y → Bool) (y : Y) (b : Bool) → p y ≡ b → filter p (y ∷ []) ≡ cond b (y ∷ []) []
 filter_one p y b is = ap (λ c. cond c (y ∷ []) []) is
 
@@ -43,7 +43,7 @@ left_out f p items new base xs i d within is fails so_far =
     ∙ ap (λ s. base ++ s) (sym (ap (filter p) (take_map_more f xs i d within) ∙ filter-append p (take i (map f xs)) (y ∷ [])
     ∙ ap (λ s. filter p (take i (map f xs)) ++ s) (filter_one p y false fails) ∙ append-nil (filter p (take i (map f xs)))))
 
--- what one more element gives stands behind the rest
+-- what one more element gives comes after the rest
 pub gave_more : {X Y Z : Type 0} (f : X → Y) (g : Y → List Z) (items new base : List Z) (xs : List X) (i : ℕ) (d : X) → i < length xs
     → new ≡ items ++ g (f (get_or xs i d)) → items ≡ base ++ flat_map g (take i (map f xs)) → new ≡ base ++ flat_map g (take (i + 1) (map f xs))
 gave_more f g items new base xs i d within is so_far =
@@ -59,7 +59,7 @@ all_more P f xs i d within holds so_far =
     let holds' : P (get_or (map f xs) i (f d)) = subst P (sym (get_or-map f xs i d (f d) within)) holds in
     All-more P (map f xs) i (f d) (omega (arith, length-map xs f)) so_far holds'
 
--- an element that is made of another is pushed
+-- an element made from another is pushed
 pub made_more : {X Y Z W : Type 0} (f : X → Y) (g : Y → Z) (h : W → Z) (items new : List W) (w : W) (xs : List X) (i : ℕ) (d : X) → i < length xs
     → new ≡ items ++ w ∷ [] → h w ≡ g (f (get_or xs i d)) → map h items ≡ map g (take i (map f xs)) → map h new ≡ map g (take (i + 1) (map f xs))
 made_more f g h items new w xs i d within is made so_far =

@@ -1,4 +1,4 @@
--- Numbers of names, as a list of words grows.
+-- The numbers of names, as a list of words grows.
 use Rattle.std.proofs.Common.{◌≡◌, ◌<◌, ◌+◌, ℕ, suc, Bool, true, false, cond, List, [], ◌∷◌, ◌++◌, length, map, take, get_or, Option, Some, None, option_map, bytes_eq, nat_cmp, refl, ap, sym, subst, ◌∙◌, arith, Bor}
 use Rattle.std.specs.Option.{is_some}
 use Rattle.std.specs.Map.{update}
@@ -19,20 +19,20 @@ last_step true r s n new step = absurd (cc)
 last_step false None s n new step = let same : n + 1 ≡ suc n = omega arith in ap (option_map (λ k. k + 1)) (step refl) ∙ ap (λ k. Some k) same
 last_step false (Some k) s n new step = absurd (cc)
 
--- a new name stands last
+-- a new name has the last number
 pub number_of_last : (ws : List PlacedWord) (w : PlacedWord) (name : List ℕ) → bytes_eq name w.name ≡ true → ◌≡◌ {A = Option ℕ} (number_of name ws) None
     → number_of name (ws ++ w ∷ []) ≡ Some (length ws)
 number_of_last [] w name same new = ap (λ b. cond b (Some 0) None) same
 number_of_last (x ∷ ws) w name same new =
     last_step (bytes_eq name x.name) (number_of name ws) (number_of name (ws ++ w ∷ [])) (length ws) new (number_of_last ws w name same)
 
--- another name has the number that it had
+-- any other name keeps its number
 pub number_of_other : (ws : List PlacedWord) (w : PlacedWord) (name : List ℕ) → bytes_eq name w.name ≡ false
     → number_of name (ws ++ w ∷ []) ≡ number_of name ws
 number_of_other [] w name other = ap (λ b. cond b (Some 0) None) other
 number_of_other (x ∷ ws) w name other = ap (λ r. cond (bytes_eq name x.name) (Some 0) (option_map (λ n. n + 1) r)) (number_of_other ws w name other)
 
--- the same by whether the name is the new one
+-- the same, by whether the name is the new one
 push_cases : (ws : List PlacedWord) (w : PlacedWord) (q : List ℕ) → ◌≡◌ {A = Option ℕ} (number_of w.name ws) None → (b : Bool) → bytes_eq w.name q ≡ b
     → cond b (Some (length ws)) (number_of q ws) ≡ number_of q (ws ++ w ∷ [])
 push_cases ws w q new true is =
@@ -41,23 +41,23 @@ push_cases ws w q new true is =
 push_cases ws w q new false is =
     sym (number_of_other ws w q (false_from_ne_true (bytes_eq q w.name) (λ same. false≢true (sym is ∙ (bytes_eq-Decides w.name q).1 (sym ((bytes_eq-Decides q w.name).0 same))))))
 
--- the numbers of all names, once a new one is put last
+-- the numbers of all names, after a new one is appended
 number_of_push : (ws : List PlacedWord) (w : PlacedWord) (q : List ℕ) → ◌≡◌ {A = Option ℕ} (number_of w.name ws) None
     → cond (bytes_eq w.name q) (Some (length ws)) (number_of q ws) ≡ number_of q (ws ++ w ∷ [])
 number_of_push ws w q new = push_cases ws w q new (bytes_eq w.name q) refl
 
--- the numbers once a new name is put into the map
+-- the numbers, after a new name is put into the map
 pub numbers_push : (m n : BTreeMap (Bor (List ℕ)) ℕ) (ws : List PlacedWord) (w : PlacedWord) → AreNumbers m ws → ◌≡◌ {A = Option ℕ} (number_of w.name ws) None
     → ((q : List ℕ) → get_by (λ k. slice_cmp nat_cmp q k.now) n ≡ update bytes_eq (λ ds. get_by (λ k. slice_cmp nat_cmp ds k.now) m) w.name (Some (length ws)) q)
     → AreNumbers n (ws ++ w ∷ [])
 numbers_push m n ws w numbers new put = λ q. put q ∙ ap (cond (bytes_eq w.name q) (Some (length ws))) (numbers q) ∙ number_of_push ws w q new
 
--- the words of distinct names among the first so many, and one more
+-- the words with distinct names among the first words, and one more
 pub first_more : (ws : List PlacedWord) (i : ℕ) (d : PlacedWord) → i < length ws → first_of_each (take (i + 1) ws) ≡ with_name (first_of_each (take i ws)) (get_or ws i d)
 unfolding first_of_each
 first_more ws i d within = fold_more with_name [] ws i d within
 
--- the same over words of the code
+-- the same for words of the code
 pub first_more_placed : (words : List Word) (i : ℕ) (d : Word) → i < length words
     → with_name (first_of_each (take i (map placed words))) (placed (get_or words i d)) ≡ first_of_each (take (i + 1) (map placed words))
 first_more_placed words i d within =

@@ -19,7 +19,7 @@ use Rattle.lrpar_grammar_reader.specs.Spells.{Numbering, declared_words, is_toke
 use Rattle.lrpar_grammar_reader.specs.SpansFit as fits
 use Rattle.lrpar_grammar_reader.specs.SpansFit.{IsPartOfLine, ProductionFits, SpansFit}
 
--- what holds of all words holds of those that are kept by name
+-- what holds of all words holds of those that are kept
 fold_all : (P : PlacedWord → Type 0) (ws known : List PlacedWord) → All P known → All P ws → All P (fold with_name known ws)
 fold_all P [] known holds more = holds
 fold_all P (w ∷ ws) known holds more =
@@ -27,7 +27,7 @@ fold_all P (w ∷ ws) known holds more =
     (cond_both (is_among w.name known) known (known ++ w ∷ []) (All P) (λ _. holds) (λ _. All-push P known w holds (All-head P w ws more)))
     (All-tail P w ws more)
 
--- and so of the first of each name
+-- and so of the first word of each name
 first_all : (P : PlacedWord → Type 0) (ws : List PlacedWord) → All P ws → All P (first_of_each ws)
 unfolding first_of_each
 first_all P ws holds = fold_all P ws [] (All-nil P) holds
@@ -40,18 +40,18 @@ used_all P declared (x ∷ xs) holds =
     (All-filter (is_token declared) P x.symbols (All-head (AllOfAlternative P) x xs holds).symbols)
     (used_all P declared xs (All-tail (AllOfAlternative P) x xs holds))
 
--- a part of one line, by the two records
+-- a part of one line, by the other record
 in_line : (src : List ℕ) (span : Extent) → LiesInLine src span → IsPartOfLine src span
 in_line src span lies = record { part = record { start = lies.start; end = lies.end }; line = lies.line }
 
--- nothing, at a place where a word starts
+-- the empty part at the start of a word
 nothing_fits : (src : List ℕ) (span : Extent) → LiesInLine src span → IsPartOfLine src (record { start = span.start; end = span.start })
 nothing_fits src span lies = record {
   part = record { start = lies.start; end = lies.start };
   line = λ k d within. absurd (omega (arith, length-take (span.start - span.start) (drop span.start src)));
 }
 
--- the start of every text
+-- the empty part at the start of every text
 nowhere_fits : (src : List ℕ) → IsUtf8 src → IsPartOfLine src nowhere
 nowhere_fits src utf8 = record {
   part = record { start = IsCharBoundary-start src utf8; end = IsCharBoundary-start src utf8 };
@@ -62,20 +62,20 @@ nowhere_fits src utf8 = record {
 at_place : (P : PlacedWord → Type 0) (ws : List PlacedWord) (k : ℕ) (w : PlacedWord) → All P ws → slice_get ws k ≡ Some w → P w
 at_place P ws k w all is = subst P (get_or_from_slice_get ws k w w is) (all k w (slice_get_within ws k w is))
 
--- from the start of a word to the end of another
+-- the part from the start of a word to the end of another
 between_fits : (src : List ℕ) (first last : Option PlacedWord) (nothing : Extent) → ((w : PlacedWord) → first ≡ Some w → LiesInLine src w.span)
     → ((w : PlacedWord) → last ≡ Some w → LiesInLine src w.span) → IsPartOf src nothing → IsPartOf src (span_between first last nothing)
 between_fits src (Some a) (Some b) nothing first last fit = let x = first a (λ _. Some a) in let y = last b (λ _. Some b) in record { start = x.start; end = y.end }
 between_fits src (Some a) None nothing first last fit = fit
 between_fits src None last' nothing first last fit = fit
 
--- where there are no symbols
+-- the same, without symbols
 empty_fits : (n : Numbering) (src : List ℕ) (ws : List PlacedWord) (nothing : Extent) → IsPartOfLine src nothing → map (symbol_of_word n) ws ≡ []
     → IsPartOfLine src (span_between (slice_get ws 0) (slice_get ws (length ws - 1)) nothing)
 empty_fits n src [] nothing fit none = fit
 empty_fits n src (w ∷ ws) nothing fit none = absurd (cc)
 
--- the places of words in order
+-- the places of words in order are in order
 order_fits : (ws : List PlacedWord) → AreWordsInOrder ws → fits.AreSpansInOrder (map (λ w. w.span) ws)
 order_fits ws order = λ k d within.
     let w : PlacedWord = record { kind = Name; name = []; span = d } in
@@ -85,7 +85,7 @@ order_fits ws order = λ k d within.
     subst (λ (x : Extent). (get_or (map (λ v. v.span) ws) k d).end ≤ x.start) (sym next)
     (subst (λ (x : Extent). x.end ≤ (get_or ws (k + 1) w).span.start) (sym here) (order k (k + 1) w (omega arith) within'))
 
--- the places of an alternative
+-- the places of an alternative fit
 alternative_fits : (n : Numbering) (src : List ℕ) (x : TextAlternative) → AllOfAlternative (λ w. LiesInLine src w.span) x → AreWordsInOrder x.symbols
     → ProductionFits src (prod_of_alternative n x)
 alternative_fits n src x lies order =
@@ -100,7 +100,7 @@ alternative_fits n src x lies order =
       order = order_fits x.symbols order;
     }
 
--- the places of the added production
+-- the places of the added production fit
 added_fits : (src : List ℕ) (start : ℕ) → IsUtf8 src → ProductionFits src (added_prod start)
 added_fits src start utf8 =
     let none = nowhere_fits src utf8 in

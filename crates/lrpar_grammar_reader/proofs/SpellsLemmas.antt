@@ -1,4 +1,4 @@
--- What the declarations and rules of a text make, where they have no fault.
+-- The parts that the declarations and rules of a text make, if they have no fault.
 use Rattle.std.proofs.Common.{◌≡◌, ◌≢◌, ◌<◌, ◌+◌, ◌||◌, ℕ, zero, suc, Bool, true, false, cond, List, [], ◌∷◌, ◌++◌, length, map, fold, get_or, Option, Some, None, option_map, unwrap_or, refl, ap, sym, subst, ◌∙◌, arith}
 use Rattle.std.specs.List.{All, Contains, filter, flat_map, slice_get}
 use Rattle.std.specs.Option.{is_some, option_map_or}
@@ -28,7 +28,7 @@ is_among_push : (ws : List PlacedWord) (w : PlacedWord) (q : List ℕ) → is_am
 is_among_push [] w q found = absurd (cc)
 is_among_push (x ∷ ws) w q found = keep_step _ (number_of q ws) (number_of q (ws ++ w ∷ [])) (is_among_push ws w q) found
 
--- a name that is among the words, by whether the new word is put behind them
+-- a name among the words is among them still, whether the new word is appended or not
 with_step : (b : Bool) (ws : List PlacedWord) (w : PlacedWord) (q : List ℕ) → is_among q ws ≡ true → is_among q (cond b ws (ws ++ w ∷ [])) ≡ true
 with_step true ws w q found = found
 with_step false ws w q found = is_among_push ws w q found
@@ -38,13 +38,13 @@ fold_keeps : (ws known : List PlacedWord) (q : List ℕ) → is_among q known �
 fold_keeps [] known q found = found
 fold_keeps (w ∷ ws) known q found = fold_keeps ws (with_name known w) q (with_step (is_among w.name known) known w q found)
 
--- the new word's name, by whether it was known
+-- the new word's name is known then, by whether it was known
 new_step : (b : Bool) (known : List PlacedWord) (w : PlacedWord) → is_among w.name known ≡ b → is_among w.name (cond b known (known ++ w ∷ [])) ≡ true
 new_step true known w is = is
 new_step false known w is =
     ap is_some (number_of_last known w w.name ((bytes_eq-Decides w.name w.name).1 refl) (not_found (number_of w.name known) is))
 
--- each word's name is known in the end
+-- each word's name is known at the end
 fold_knows : (ws known : List PlacedWord) (w : PlacedWord) (k : ℕ) → k < length ws → get_or ws k w ≡ w → is_among w.name (fold with_name known ws) ≡ true
 fold_knows [] known w k within is = absurd (omega arith)
 fold_knows (x ∷ ws) known w zero within is =
@@ -57,7 +57,7 @@ pub among_first : (ws : List PlacedWord) (w : PlacedWord) → Contains ws w → 
 unfolding first_of_each
 among_first ws w contains = fold_knows ws [] w contains.0 contains.1 contains.2
 
--- a later element
+-- an element of a list is one of a longer list
 contains_cons : {X : Type 0} (x : X) (xs : List X) (w : X) → Contains xs w → Contains (x ∷ xs) w
 contains_cons x xs w (k, within, is) = (suc k, omega arith, is)
 
@@ -74,7 +74,7 @@ contains_filter p (x ∷ xs) w zero within is passes =
     subst (λ b. Contains (cond b (x ∷ filter p xs) (filter p xs)) w) (sym passes') (zero, omega arith, is)
 contains_filter p (x ∷ xs) w (suc k) within is passes = filter_step (p x) x (filter p xs) w (contains_filter p xs w k (omega arith) is passes)
 
--- an element of what an element gives
+-- an element of what one element gives
 contains_flat_map : {X Y : Type 0} (f : X → List Y) (xs : List X) (x : X) (y : Y) (k : ℕ) → k < length xs → get_or xs k x ≡ x → Contains (f x) y → Contains (flat_map f xs) y
 contains_flat_map f [] x y k within is has = absurd (omega arith)
 contains_flat_map f (z ∷ xs) x y zero within is has = Contains-append_left (f z) (flat_map f xs) y (subst (λ v. Contains (f v) y) (sym is) has)
@@ -94,7 +94,7 @@ number_step : (b among_tokens among_rules : Bool) → (b ≡ true → among_toke
 number_step true t r token known = token refl
 number_step false t r token known = known
 
--- where nothing is unknown, everything has a number
+-- if nothing is unknown, everything has a number
 pub clean_numbers : (o : TextOutline) → AreOfDefinedRules o → IsClean o → All (AreNumbered (numbering_of o)) o.alternatives
 clean_numbers o of clean = λ k d within.
     let x = get_or o.alternatives k d in
@@ -107,12 +107,12 @@ clean_numbers o of clean = λ k d within.
           (token_known o x w has_x (All-contains_itself x.symbols j e inside)) (clean.names_known.symbols_known k d within j e inside);
     }
 
--- what is found has a number
+-- a rule that is found has a listed number
 found_rule : (r : Option ℕ) (len : ℕ) → ((n : ℕ) → r ≡ Some n → n < len) → is_some r ≡ true → (0 < option_map_or (λ n. n + 1) r 0) × (option_map_or (λ n. n + 1) r 0 < len + 1)
 found_rule None len within found = absurd (cc)
 found_rule (Some n) len within found = let below : n < len = within n refl in (omega arith, omega arith)
 
--- the same of a token
+-- the same for a token
 found_token : (r : Option ℕ) (len : ℕ) → ((n : ℕ) → r ≡ Some n → n < len) → is_some r ≡ true → unwrap_or r 0 < len
 found_token None len within found = absurd (cc)
 found_token (Some n) len within found = within n refl
@@ -137,12 +137,12 @@ prod_listed n x has = record {
       (λ w known. symbol_listed (is_token n.declared w) n w known) x.symbols has.symbols);
 }
 
--- a name that is found stands among some words
+-- a name can be found only among at least one word
 some_among : (ws : List PlacedWord) (q : List ℕ) → is_among q ws ≡ true → 0 < length ws
 some_among [] q found = absurd (cc)
 some_among (w ∷ ws) q found = omega arith
 
--- where a rule is defined, there is one
+-- if a rule is defined, there is one
 pub some_rules : (ws : List PlacedWord) → ws ≢ [] → 0 < length (first_of_each ws)
 some_rules [] some = absurd (some refl)
 some_rules (w ∷ ws) some = some_among (first_of_each (w ∷ ws)) w.name (among_first (w ∷ ws) w (zero, omega arith, refl))
@@ -153,12 +153,12 @@ start_step : (n : Numbering) (r : Option PlacedWord) → 0 < length n.rules → 
 start_step n None some known = (omega arith, omega arith)
 start_step n (Some w) some known = rule_listed n.rules w.name (known w refl)
 
--- a list of rules isn't empty where it has an element
+-- a mapped list isn't empty if the list has an element
 pub mapped_some : {X Y : Type 0} (f : X → Y) (xs : List X) → 0 < length xs → map f xs ≢ []
 mapped_some f [] some is = absurd (omega arith)
 mapped_some f (x ∷ xs) some is = absurd (cc)
 
--- what fits the storage type in the lists fits it in the parts
+-- if the lists fit the storage type, the parts do
 pub parts_fit : (limit : ℕ) (o : TextOutline) → FitAll limit (numbering_of o) o → FitStorage limit (spelled_parts o)
 parts_fit limit o fit = record {
   rules = let few : length (rule_words o) < limit = fit.rules in omega (arith, length-map (rule_words o) rule_of_word);

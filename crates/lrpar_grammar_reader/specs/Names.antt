@@ -7,7 +7,7 @@ use Rattle.std.specs.Ordering.{nat_cmp}
 use Rattle.std.specs.Cmp.Lexicographic.{slice_cmp}
 use Rattle.lrpar_grammar_words.specs.Words.{PlacedWord}
 
--- the place of the first word of that name, in a list of words
+-- the place of the first word with that name in a list of words
 abbrev pub number_of : List ℕ → List PlacedWord → Option ℕ
 number_of name [] = None
 number_of name (w ∷ ws) = if bytes_eq name w.name then Some 0 else option_map (λ n. n + 1) (number_of name ws)
@@ -16,14 +16,14 @@ number_of name (w ∷ ws) = if bytes_eq name w.name then Some 0 else option_map 
 abbrev pub is_among : List ℕ → List PlacedWord → Bool
 is_among name words = is_some (number_of name words)
 
--- the words before and one more, if it has a name of its own
+-- the words, and one more if its name is new
 abbrev pub with_name : List PlacedWord → PlacedWord → List PlacedWord
 with_name words w = if is_among w.name words then words else words ++ w ∷ []
 
--- the words of distinct names, each where it stands first
+-- the words with distinct names: of each name the first word
 unfoldable pub first_of_each : List PlacedWord → List PlacedWord
 first_of_each words = fold with_name [] words
 
--- a map has the number of each name of the words, which is its place among them
+-- the map gives each name of the words its number, which is its place among them
 abbrev pub AreNumbers : BTreeMap (Bor (List ℕ)) ℕ → List PlacedWord → Type 0
 AreNumbers numbers words = (q : List ℕ) → get_by (λ k. slice_cmp nat_cmp q k.now) numbers ≡ number_of q words

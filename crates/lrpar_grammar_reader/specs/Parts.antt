@@ -21,7 +21,7 @@ pub record Parts : Type 0 where
 abbrev pub rule_name_of : RulePart → RuleName
 rule_name_of r = record { name = string_bytes r.name; span = r.span }
 
--- a token by the bytes of its name and of its printed text, which is its name where it has none of its own
+-- a token by the bytes of its name and of its printed text, which is the name if the token has no other
 abbrev pub token_name_of : TokenPart → TokenName
 token_name_of t = record { name = string_bytes t.name; epp = option_map_or string_bytes t.epp (string_bytes t.name); span = t.span }
 
@@ -52,7 +52,7 @@ grammar_of x = record {
   start = x.start;
 }
 
--- the parts and what is added to them can be numbered below `limit`
+-- the parts and what the grammar adds to them can be numbered below `limit`
 pub record FitStorage (limit : ℕ) (x : Parts) : Type 0 where
   pub rules : length x.rules < limit
   pub tokens : length x.tokens < limit
@@ -80,8 +80,8 @@ pub record AreSound (limit : ℕ) (x : Parts) : Type 0 where
   pub start : HasListedStart x
   pub symbols : HasListedSymbols x
 
--- This is the first fault of the parts: it holds, and those that come before it don't. They are looked for in the
--- order in which they stand here.
+-- This is the first fault of the parts: it holds, and those before it don't. The faults are tested in the order of
+-- these lines.
 abbrev pub IsFirstFault : ℕ → Parts → GrammarFault → Type 0
 IsFirstFault limit x NoRules = x.rules ≡ []
 IsFirstFault limit x StorageTooSmall = (x.rules ≢ []) × ¬ (FitStorage limit x)
@@ -89,7 +89,7 @@ IsFirstFault limit x BadStart = (x.rules ≢ []) × FitStorage limit x × ¬ (Ha
 IsFirstFault limit x BadSymbol = (x.rules ≢ []) × FitStorage limit x × HasListedStart x × ¬ (HasListedSymbols x)
 IsFirstFault limit x _ = ⊥
 
--- why the parts make no grammar: their first fault, or want of memory, where they have none
+-- why the parts make no grammar: their first fault or, if they have none, a failed allocation
 abbrev pub IsRefusalOf : ℕ → Parts → GrammarFault → Type 0
 IsRefusalOf limit x Memory = AreSound limit x
 IsRefusalOf limit x fault = IsFirstFault limit x fault

@@ -1,4 +1,4 @@
--- Which grammar a text spells: numbers, names, printed texts and places by its declarations and rules, and the faults
+-- The grammar that a text spells: numbers, names, printed texts and places by its declarations and rules, and the faults
 -- that these can have. A number has no bound here.
 use Rattle.std.specs.Prelude.{◌≡◌, ◌≢◌, ◌<◌, ◌≤◌, ◌+◌, ◌-◌, ◌||◌, not, ℕ, Bool, true, false, List, [], ◌++◌, length, map, filter, take, All, slice_get, slice_index_or, IsNone, Option, Some, option_map, unwrap_or, if◌then◌else◌}
 use Rattle.std.specs.List.{find, flat_map}
@@ -19,15 +19,15 @@ abbrev pub is_quoted : WordKind → Bool
 is_quoted Quoted = true
 is_quoted _ = false
 
--- the rules, each where it is first defined
+-- the rules: of each name the word that first defines it
 abbrev pub rule_words : TextOutline → List PlacedWord
 rule_words o = first_of_each o.defined
 
--- the declared tokens, each where it is first declared
+-- the declared tokens: of each name the word that first declares it
 abbrev pub declared_words : TextOutline → List PlacedWord
 declared_words o = first_of_each o.declared
 
--- a quoted word is a token among such declared tokens, and an unquoted one that is declared
+-- a word is a token if it is quoted, or if its name is among the declared tokens
 abbrev pub is_token : List PlacedWord → PlacedWord → Bool
 is_token declared w = is_quoted w.kind || is_among w.name declared
 
@@ -35,11 +35,11 @@ is_token declared w = is_quoted w.kind || is_among w.name declared
 abbrev pub used_tokens : List PlacedWord → List TextAlternative → List PlacedWord
 used_tokens declared alternatives = flat_map (λ x. filter (is_token declared) x.symbols) alternatives
 
--- the tokens, each where it is first declared or used
+-- the tokens: of each name the word that first declares or uses it
 abbrev pub token_words : TextOutline → List PlacedWord
 token_words o = first_of_each (o.declared ++ used_tokens (declared_words o) o.alternatives)
 
--- the lists by which rules and tokens are numbered, and that of the declared tokens
+-- the lists by which rules and tokens are numbered, and the list of the declared tokens
 pub record Numbering : Type 0 where
   pub rules : List PlacedWord
   pub declared : List PlacedWord
@@ -49,7 +49,7 @@ pub record Numbering : Type 0 where
 abbrev pub numbering_of : TextOutline → Numbering
 numbering_of o = record { rules = rule_words o; declared = declared_words o; tokens = token_words o }
 
--- the number of a rule: the added one is 0
+-- the number of a rule; the added rule is number 0
 abbrev pub rule_number : List PlacedWord → List ℕ → ℕ
 rule_number rules name = option_map_or (λ n. n + 1) (number_of name rules) 0
 
@@ -57,21 +57,21 @@ rule_number rules name = option_map_or (λ n. n + 1) (number_of name rules) 0
 abbrev pub token_number : List PlacedWord → List ℕ → ℕ
 token_number tokens name = unwrap_or (number_of name tokens) 0
 
--- the symbol that a word of an alternative stands for
+-- the symbol that a word of an alternative represents
 abbrev pub symbol_of_word : Numbering → PlacedWord → GrammarSymbol
 symbol_of_word n w = if is_token n.declared w then Terminal (token_number n.tokens w.name) else Nonterminal (rule_number n.rules w.name)
 
--- from the start of the one to the end of the other
+-- from the start of the first word to the end of the last
 abbrev pub span_between : Option PlacedWord → Option PlacedWord → Extent → Extent
 span_between (Some first) (Some last) nothing = record { start = first.span.start; end = last.span.end }
 span_between _ _ nothing = nothing
 
--- from its first symbol to its last one: without symbols, nothing before the sign that ends it
+-- from the first symbol to the last; without symbols, the empty part before the sign that ends the alternative
 abbrev pub alternative_span : TextAlternative → Extent
 alternative_span x =
     span_between (slice_get x.symbols 0) (slice_get x.symbols (length x.symbols - 1)) (record { start = x.end.span.start; end = x.end.span.start })
 
--- the text after the first `%epp` of a name, else the name
+-- the text of the first `%epp` of a name, else the name
 abbrev pub printed_text : TextOutline → List ℕ → List ℕ
 printed_text o name = option_map_or (λ n. option_map_or (λ w. w.name) (slice_get o.epp_texts n) name) (number_of name o.epps) name
 
@@ -92,11 +92,11 @@ prod_of_alternative n x = record {
   span = alternative_span x;
 }
 
--- the number of the rule after `%start`, else that of the first rule
+-- the number of the rule after `%start`, else the number of the first rule
 abbrev pub start_number : Numbering → List PlacedWord → ℕ
 start_number n starts = option_map_or (λ w. rule_number n.rules w.name) (slice_get starts 0) 1
 
--- what a grammar with these declarations and rules is made of
+-- the parts of a grammar with these declarations and rules
 abbrev pub spelled_parts : TextOutline → Parts
 spelled_parts o = record {
   rules = map rule_of_word (rule_words o);
@@ -109,11 +109,11 @@ spelled_parts o = record {
 abbrev pub AreDistinct : List PlacedWord → Type 0
 AreDistinct words = (k : ℕ) (d : PlacedWord) → k < length words → is_among (slice_index_or words k d).name (take k words) ≡ false
 
--- a symbol that is a token or a rule
+-- whether a symbol is a token or a rule
 abbrev pub is_known : Numbering → PlacedWord → Bool
 is_known n w = is_token n.declared w || is_among w.name n.rules
 
--- no rule has the name of a declared token, and each name that is used is one of a rule or a token
+-- no rule has the name of a declared token, and each name that is used is the name of a rule or a token
 pub record AreNamesKnown (n : Numbering) (o : TextOutline) : Type 0 where
   pub rules_undeclared : All (λ w. is_among w.name n.declared ≡ false) n.rules
   pub start_defined : All (λ w. is_among w.name n.rules ≡ true) o.starts
@@ -127,7 +127,7 @@ pub record IsClean (o : TextOutline) : Type 0 where
   pub some_rule : o.defined ≢ []
   pub names_known : AreNamesKnown (numbering_of o) o
 
--- one start, and no second `%epp` of a name
+-- at most one start, and no second `%epp` of a name
 pub record AreDeclaredOnce (o : TextOutline) : Type 0 where
   pub one_start : length o.starts ≤ 1
   pub one_epp_each : AreDistinct o.epps
@@ -145,21 +145,21 @@ unknown_rule n o =
 abbrev pub unknown_token : Numbering → TextOutline → Option PlacedWord
 unknown_token n o = find (λ w. not (is_among w.name n.tokens)) o.epps
 
--- there is such a word, and it stands at this place
+-- there is such a word, and this is its place
 abbrev pub LiesAt : Option PlacedWord → Extent → Type 0
 LiesAt word span = option_map (λ w. w.span) word ≡ Some span
 
--- the first word that has the name of one before it stands at this place
+-- the first word that has the name of an earlier one is at this place
 pub record IsRepeatedAt (words : List PlacedWord) (span : Extent) : Type 0 where
   pub word : PlacedWord
   pub place : ℕ
-  pub stands : slice_get words place ≡ Some word
+  pub found : slice_get words place ≡ Some word
   pub again : is_among word.name (take place words) ≡ true
   pub first : AreDistinct (take place words)
   pub at : word.span ≡ span
 
--- This is the first fault of the declarations and rules: it holds at this place, the first one where it does, and those that
--- come before it don't. They are looked for in the order in which they stand here. Want of memory isn't one of theirs.
+-- This is the first fault of the declarations and rules: it holds, this is the first place where it does, and the faults
+-- before it don't hold. They are tested in the order of these lines. A failed allocation isn't one of them.
 abbrev pub HasFaultBy : Numbering → TextOutline → GrammarFault → Type 0
 HasFaultBy n o (RepeatedStart span) = LiesAt (slice_get o.starts 1) span
 HasFaultBy n o (RepeatedEpp span) = (length o.starts ≤ 1) × IsRepeatedAt o.epps span
@@ -174,12 +174,12 @@ HasFaultBy n o BadStart = ⊥
 HasFaultBy n o StorageTooSmall = ⊥
 HasFaultBy n o Memory = Unit {0}
 
--- the same by the numbers of the outline itself
+-- the same, with the numbers of the outline itself
 abbrev pub HasFault : TextOutline → GrammarFault → Type 0
 HasFault o fault = HasFaultBy (numbering_of o) o fault
 
--- The text spells the grammar: it reads as words of the shape, these have none of the faults, and the grammar is that
--- of its declarations and rules.
+-- The text spells the grammar: it has an outline, the outline has none of the faults, and the grammar is that of its
+-- declarations and rules.
 pub record Spells (text : List ℕ) (g : Grammar) : Type 0 where
   pub outline : TextOutline
   pub reads : IsOutlineOf text outline
@@ -197,22 +197,22 @@ pub record SpellsTooMany (limit : ℕ) (text : List ℕ) : Type 0 where
   pub clean : IsClean outline
   pub many : FitStorage limit (spelled_parts outline) → ⊥
 
--- the text reads as words of the shape whose first fault it is
+-- the text has an outline, and this is its first fault
 pub record ReadsWithFault (text : List ℕ) (fault : GrammarFault) : Type 0 where
   pub outline : TextOutline
   pub reads : IsOutlineOf text outline
   pub has : HasFault outline fault
 
--- Why a text gives no grammar. `Syntax`: it reads as no words of the shape, and this is the place where it is stuck.
--- `StorageTooSmall`: the storage type is too small for the grammar that it spells. Any other but want of memory is the
--- first fault of its declarations and rules.
+-- Why a text gives no grammar. `Syntax`: it has no outline, and reading it is stuck at this place. `StorageTooSmall`: the
+-- storage type is too small for the grammar that it spells. `Memory`: an allocation failed. Any other: this is the first
+-- fault of its declarations and rules.
 abbrev pub IsFaultOf : ℕ → List ℕ → GrammarFault → Type 0
 IsFaultOf limit text (Syntax place) = IsUnreadableAt text place
 IsFaultOf limit text StorageTooSmall = SpellsTooMany limit text
 IsFaultOf limit text Memory = Unit {0}
 IsFaultOf limit text fault = ReadsWithFault text fault
 
--- the text can't be read at this place, or memory was wanting
+-- the text can't be read on from this place, or an allocation failed
 abbrev pub IsOutlineFault : List ℕ → GrammarFault → Type 0
 IsOutlineFault text (Syntax place) = IsUnreadableAt text place
 IsOutlineFault text Memory = Unit {0}

@@ -1,4 +1,4 @@
--- The tables of names that a grammar is read with.
+-- The tables of names with which a grammar is read.
 use Rattle.std.specs.Prelude.{◌≡◌, ◌<◌, ℕ, Bool, true, All, length, if◌then◌else◌}
 use Rattle.lrpar_grammar_words.specs.Words.{PlacedWord}
 use Rattle.lrpar_grammar_words.specs.Outline.{TextAlternative, TextOutline}
@@ -9,11 +9,11 @@ use Rattle.lrpar_grammar_reader.specs.Spells.{HasFault, IsClean, Numbering, is_t
 use Rattle.lrpar_grammar_reader.specs.declared.parts.GrammarFault.{GrammarFault}
 use Rattle.lrpar_grammar_reader.specs.declared.parts.GrammarFault.TheVariants.{StorageTooSmall}
 
--- the lists of the tables
+-- the lists of words in the tables
 abbrev pub numbering_by : Tables → Numbering
 numbering_by x = record { rules = x.rules; declared = x.declared; tokens = x.tokens }
 
--- the symbol that a word stands for has a number
+-- the symbol that a word represents has a number
 abbrev pub has_number : Numbering → PlacedWord → Bool
 has_number n w = if is_token n.declared w then is_among w.name n.tokens else is_among w.name n.rules
 
@@ -27,13 +27,13 @@ pub record FitTables (limit : ℕ) (n : Numbering) : Type 0 where
   pub rules : length n.rules < limit
   pub tokens : length n.tokens < limit
 
--- the rules, tokens and alternatives can be numbered below `limit`, with what is added to them
+-- the rules, tokens and alternatives can be numbered below `limit`, with what the grammar adds to them
 pub record FitAll (limit : ℕ) (n : Numbering) (o : TextOutline) : Type 0 where
   pub rules : length n.rules < limit
   pub tokens : length n.tokens < limit
   pub prods : length o.alternatives < limit
 
--- the parts of clean declarations and rules, which make a grammar
+-- the parts of clean declarations and rules: they make a grammar
 pub record AreSpelled (limit : ℕ) (o : TextOutline) (x : Parts) : Type 0 where
   pub clean : IsClean o
   pub is : x ≡ spelled_parts o

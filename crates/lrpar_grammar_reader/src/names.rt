@@ -12,13 +12,13 @@ use std::alloc::{AllocError, Global};
 use std::collections::BTreeMap;
 use std::marker::Model;
 
-/// Words of distinct names. The number of each is its place among them.
+/// Words with distinct names. The number of each is its place among them.
 pub struct Names<'a> {
     words: Vec<Word<'a>>,
     numbers: BTreeMap<&'a str, usize>,
 }
 
-// A drop of its own, so that what lets go of one elsewhere proves one call.
+// Hand-written, so that code that drops names needs the proof of one call only.
 impl<'a> Drop for Names<'a> {
     fn drop(self) {
         let Names { words, numbers } = self;
@@ -40,7 +40,7 @@ impl<'a> Model for Names<'a> {
 }
 
 impl<'a> Names<'a> {
-    /// The words of distinct names among these, each where it stands first. Takes logarithmic time for each word.
+    /// The words with distinct names among these: of each name the first word. Takes logarithmic time for each word.
     pub fn first_of_each(alloc: Global, words: &[Word<'a>]) -> Result<Self, AllocError>
         ensures { IfOk result (λ names. names ≡ first_of_each (map placed words.now)) }
     {
@@ -55,8 +55,8 @@ impl<'a> Names<'a> {
         })
     }
 
-    /// The tokens of the `%epp`s, which have to be of distinct names. `RepeatedEpp` comes at the first one whose name an earlier
-    /// one has, and `Memory` where it doesn't suffice. A second `%start` is looked for before.
+    /// The tokens of the `%epp`s, which must have distinct names. Fails with `RepeatedEpp` at the first one whose name an earlier
+    /// one has, and with `Memory` if an allocation fails. There must be at most one `%start`.
     pub fn of_epps(alloc: Global, outline: &Outline<'a>) -> Result<Self, GrammarFault>
         requires { length (outline_of outline.now).starts ≤ 1 }
         ensures names { IfOk result (λ names. names ≡ (outline_of outline.now).epps) }
@@ -74,14 +74,14 @@ impl<'a> Names<'a> {
         Ok(Names { words, numbers })
     }
 
-    /// The words, by number.
+    /// The words, in the order of their numbers.
     pub fn words(&self) -> &[Word<'a>]
         ensures { map placed result.now ≡ self.now }
     {
         &self.words
     }
 
-    /// How many words there are.
+    /// The number of words.
     pub fn len(&self) -> usize
         ensures { result ≡ length self.now }
     {
@@ -103,7 +103,7 @@ impl<'a> Names<'a> {
     }
 }
 
-// Gives the word the next number, where its name is new.
+// Gives the word the next number if its name is new.
 fn add<'a>(
     first: &mut Vec<Word<'a>>,
     numbers: &mut BTreeMap<&'a str, usize>,

@@ -1,4 +1,4 @@
-//! The parts that a grammar is made of, as a reader or a caller hands them in, and their faults.
+//! The parts of a grammar, as a reader or a caller supplies them, and their faults.
 ghost use Rattle.std.specs.Prelude.{◌≡◌, ◌↔◌, ◌<◌, ◌+◌, IsTrue, IfSome, IfNone};
 ghost use Rattle.lrpar_grammar_reader.specs.declared.parts.GrammarFault.TheVariants.{Memory};
 ghost use Rattle.lrpar_grammar_reader.specs.Grammar.{IsListedSymbol};
@@ -8,23 +8,23 @@ use lrpar_grammar_places::span::{RIdx, Span, StorageIndex, Symbol};
 use std::alloc::{AllocError, AllocFailed};
 use thiserror::Error;
 
-/// A rule: its name, and where it is first defined.
+/// A rule: its name, and the place where it is first defined.
 #[derive(Debug, Drop)]
 pub struct RulePart {
-    /// The rule's name, which needn't be distinct.
+    /// The rule's name. Two rules may have the same name.
     pub name: String,
-    /// Where it is first defined.
+    /// The place where it is first defined.
     pub span: Span,
 }
 
-/// A token: its name, the text that messages print for it, and where it is first declared or used.
+/// A token: its name, the text that messages print for it, and the place where it is first declared or used.
 #[derive(Debug, Drop)]
 pub struct TokenPart {
-    /// The token's name, which needn't be distinct.
+    /// The token's name. Two tokens may have the same name.
     pub name: String,
-    /// The text that messages print, where it isn't the name.
+    /// The text that messages print, if it isn't the name.
     pub epp: Option<String>,
-    /// Where it is first declared or used.
+    /// The place where it is first declared or used.
     pub span: Span,
 }
 
@@ -49,14 +49,14 @@ pub struct ProdPart<StorageT> {
     pub rule: RIdx<StorageT>,
     /// The right side: rules numbered from 1 and tokens from 0, each with its place.
     pub symbols: Vec<(Symbol<StorageT>, Span)>,
-    /// Where the production stands.
+    /// The place of the production.
     pub span: Span,
 }
 
-/// All that a grammar is made of. Rules are numbered from 1, tokens and productions from 0, each in the order listed.
+/// All the parts of a grammar. Rules are numbered from 1, tokens and productions from 0, each in the order listed.
 #[derive(Debug, Drop)]
 pub struct GrammarParts<StorageT> {
-    /// The rules, of which there has to be one.
+    /// The rules. There must be at least one.
     pub rules: Vec<RulePart>,
     /// The tokens, without the end token.
     pub tokens: Vec<TokenPart>,
@@ -69,7 +69,7 @@ pub struct GrammarParts<StorageT> {
 /// Why there is no grammar.
 #[derive(Debug, Drop, PartialEq, Eq, Error)]
 pub enum GrammarFault {
-    /// A production's rule or a symbol isn't the number of a listed rule or token.
+    /// A production's rule or one of its symbols isn't the number of a listed rule or token.
     #[error("bad symbol")]
     BadSymbol,
     /// The start rule isn't the number of a listed rule.
@@ -78,11 +78,11 @@ pub enum GrammarFault {
     /// No rule is listed.
     #[error("no rules")]
     NoRules,
-    /// There are more rules, productions or tokens than the storage type numbers, the added ones counted.
+    /// There are more rules, productions or tokens, with the added ones, than the storage type can number.
     #[error("storage type too small")]
     StorageTooSmall,
-    /// The text isn't one of a grammar: at this byte stands the first word that can't be read or can't stand there, a
-    /// quote or comment that isn't closed, or the end that comes too early.
+    /// The text isn't a grammar text. At this byte is the first word that can't be read or isn't allowed there, a
+    /// quote or comment that isn't closed, or the end of the text, if it comes too early.
     #[error("syntax at byte {0}")]
     Syntax(usize),
     /// A name after `%start` that is no rule, or a symbol that is neither a declared token nor a rule.
@@ -100,7 +100,7 @@ pub enum GrammarFault {
     /// A second `%epp` of one name.
     #[error("repeated %epp at byte {at}", at = .0.start())]
     RepeatedEpp(Span),
-    /// Memory was wanting.
+    /// An allocation failed.
     #[error("out of memory")]
     Memory,
 }
@@ -108,8 +108,8 @@ pub enum GrammarFault {
 impl<StorageT: StorageIndex> GrammarParts<StorageT> {
     ghost use Rattle.lrpar_grammar_reader.specs.Parts.{parts_of, AreSound, FitStorage, HasListedStart, HasListedSymbols, IsFirstFault};
 
-    /// The first fault but want of memory: none where a grammar can be made of the parts. Takes time linear in them, and no
-    /// memory.
+    /// The first fault of the parts, `Memory` aside. `None` if a grammar can be made of them. Takes time linear in the parts, and
+    /// no memory.
     pub fn fault(&self) -> Option<GrammarFault>
         ensures found { IfSome result (IsFirstFault StorageT.limit (parts_of StorageT.index self.now)) }
         ensures sound { IfNone result (AreSound StorageT.limit (parts_of StorageT.index self.now)) }
@@ -127,7 +127,7 @@ impl<StorageT: StorageIndex> GrammarParts<StorageT> {
         }
     }
 
-    // Whether all can be numbered, with the added rule, production and end token.
+    // Whether all can be numbered, with the added rule, the added production and the end token.
     fn fit_storage(&self) -> bool
         ensures { IsTrue result ↔ FitStorage StorageT.limit (parts_of StorageT.index self.now) }
     {
@@ -136,7 +136,7 @@ impl<StorageT: StorageIndex> GrammarParts<StorageT> {
             && StorageT::from_index(self.prods.len()).is_some()
     }
 
-    // Whether the start rule is a listed one.
+    // Whether the start rule is a listed rule.
     fn has_listed_start(&self) -> bool
         ensures { IsTrue result ↔ HasListedStart (parts_of StorageT.index self.now) }
     {
@@ -161,7 +161,7 @@ impl<StorageT: StorageIndex> GrammarParts<StorageT> {
 impl<StorageT: StorageIndex> ProdPart<StorageT> {
     ghost use Rattle.lrpar_grammar_reader.specs.Parts.{IsListedProd, prod_of};
 
-    // Whether the production is of one of `rules` listed rules, and its symbols are listed ones.
+    // Whether the production is of one of `rules` listed rules, and its symbols are listed.
     fn is_listed(&self, rules: usize, tokens: usize) -> bool
         ensures { IsTrue result ↔ IsListedProd (rules + 1) tokens (prod_of StorageT.index self.now) }
     {

@@ -1,4 +1,4 @@
-//! The parts of a grammar that a text spells.
+//! The parts of the grammar that a text spells.
 ghost use Rattle.std.specs.Prelude.{◌≡◌, ◌≤◌, IfErr, IfOk, OnOk, length};
 ghost use Rattle.lrpar_grammar_words.specs.Outline.{AreOfDefinedRules, HasOrderedSymbols, IsOutlineOf, outline_of};
 ghost use Rattle.lrpar_grammar_reader.specs.Parts.{AreSound, grammar_of, parts_of};
@@ -14,12 +14,12 @@ use lrpar_grammar_places::span::StorageIndex;
 use lrpar_grammar_words::outline::{Outline, OutlineFault};
 use std::alloc::Global;
 
-/// The parts that the text spells: sound ones, and their places fit the text.
+/// The parts of the grammar that the text spells. They make a grammar, and their places fit the text.
 ///
-/// Refused with `Syntax` where the text isn't one of a grammar, else by the first of these that holds: `RepeatedStart`,
+/// Fails with `Syntax` if the text isn't a grammar text, else with the first of these that holds: `RepeatedStart`,
 /// `RepeatedEpp`, `NoRules`, `TokenIsRule`, `UnknownRule`, `UnknownToken`, each at its first place, and
-/// `StorageTooSmall`; or with `Memory`. Takes memory linear in the text, time linear in it but for names, of which each
-/// is looked up in logarithmic time.
+/// `StorageTooSmall`; or with `Memory` if an allocation fails. Takes memory linear in the text, and time linear in it but
+/// for names: each of these is looked up in logarithmic time.
 pub fn read_parts<StorageT: StorageIndex>(
     alloc: Global,
     text: &str,
@@ -47,7 +47,7 @@ fn read_outline(alloc: Global, text: &str) -> Result<Outline, GrammarFault>
     }
 }
 
-// The parts that declarations and rules without a fault spell.
+// The parts that the declarations and rules spell, if they have no fault.
 fn checked_parts<StorageT: StorageIndex>(
     alloc: Global,
     outline: &Outline,
@@ -73,7 +73,7 @@ fn has_one_start(outline: &Outline) -> Result<(), GrammarFault>
     }
 }
 
-// The same, where there is one start and no second text for a token.
+// The same, if there is at most one start and no second text for a token.
 fn named_parts<StorageT: StorageIndex>(
     alloc: Global,
     outline: &Outline,
@@ -94,7 +94,7 @@ fn named_parts<StorageT: StorageIndex>(
     fitting_parts(alloc, outline, tables)
 }
 
-// The same, where they are clean.
+// The same, if the declarations and rules are clean.
 fn fitting_parts<StorageT: StorageIndex>(
     alloc: Global,
     outline: &Outline,

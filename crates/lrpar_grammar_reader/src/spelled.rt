@@ -1,4 +1,4 @@
-//! The parts of a grammar, by its declarations and rules.
+//! The parts of a grammar, made of its declarations and rules.
 ghost use Rattle.std.specs.Prelude.{◌≡◌, ◌<◌, ◌↔◌, All, IfOk, IsTrue, length, map, true};
 ghost use Rattle.lrpar_grammar_words.specs.Words.{placed};
 ghost use Rattle.lrpar_grammar_words.specs.Outline.{AreWordsInOrder, AreOfDefinedRules, HasOrderedSymbols, alternative_of, outline_of};
@@ -16,7 +16,7 @@ use lrpar_grammar_words::outline::{Alternative, Outline};
 use lrpar_grammar_words::words::Word;
 use std::alloc::{AllocError, Global};
 
-/// What the grammar of clean declarations and rules is made of.
+/// The parts of the grammar that clean declarations and rules spell.
 pub fn spelled_parts<StorageT: StorageIndex>(
     alloc: Global,
     outline: &Outline,
@@ -38,7 +38,7 @@ pub fn spelled_parts<StorageT: StorageIndex>(
     })
 }
 
-/// Whether the storage type numbers all rules, tokens and productions, with what is added to them.
+/// Whether the storage type can number all rules, tokens and productions, with what the grammar adds to them.
 pub fn fit<StorageT: StorageIndex>(outline: &Outline, tables: &Tables) -> bool
     ensures { IsTrue result ↔ FitAll StorageT.limit (numbering_by tables.now) (outline_of outline.now) }
 {
@@ -60,7 +60,7 @@ fn start_rule<StorageT: StorageIndex>(starts: &[Word], tables: &Tables) -> RIdx<
     }
 }
 
-// The rules, by number.
+// The rules, in the order of their numbers.
 fn rule_parts(alloc: Global, words: &[Word]) -> Result<Vec<RulePart>, AllocError>
     ensures { IfOk result (λ parts. map rule_name_of parts.items ≡ map rule_of_word (map placed words.now)) }
 {
@@ -71,7 +71,7 @@ fn rule_parts(alloc: Global, words: &[Word]) -> Result<Vec<RulePart>, AllocError
     Ok(parts)
 }
 
-// A rule with its name and place.
+// A rule, with its name and place.
 fn rule_part(alloc: Global, word: &Word) -> Result<RulePart, AllocError>
     ensures { IfOk result (λ part. rule_name_of part ≡ rule_of_word (placed word.now)) }
 {
@@ -81,7 +81,7 @@ fn rule_part(alloc: Global, word: &Word) -> Result<RulePart, AllocError>
     })
 }
 
-// The tokens, by number, with their printed texts.
+// The tokens, in the order of their numbers, with their printed texts.
 fn token_parts(
     alloc: Global,
     words: &[Word],
@@ -98,7 +98,7 @@ fn token_parts(
     Ok(parts)
 }
 
-// A token with its name, its printed text and its place.
+// A token, with its name, its printed text and its place.
 fn token_part(
     alloc: Global,
     word: &Word,
@@ -129,7 +129,7 @@ fn printed_text<'a>(name: &'a str, epps: &Names, outline: &'a Outline) -> &'a st
     }
 }
 
-// The productions, in order.
+// The productions, in the order of the text.
 fn prod_parts<StorageT: StorageIndex>(
     alloc: Global,
     alternatives: &[Alternative],
@@ -166,7 +166,7 @@ fn prod_part<StorageT: StorageIndex>(
     })
 }
 
-// Where a production stands.
+// The place of a production.
 fn prod_span(alternative: &Alternative) -> Span
     requires { AreWordsInOrder (alternative_of alternative.now).symbols }
     ensures { result ≡ alternative_span (alternative_of alternative.now) }
@@ -199,7 +199,7 @@ fn symbols<StorageT: StorageIndex>(
     Ok(pairs)
 }
 
-// The symbol that a word stands for.
+// The symbol that a word represents.
 fn symbol<StorageT: StorageIndex>(word: &Word, tables: &Tables) -> Symbol<StorageT>
     requires room { FitTables StorageT.limit (numbering_by tables.now) }
     requires known { has_number (numbering_by tables.now) (placed word.now) ≡ true }
@@ -212,7 +212,7 @@ fn symbol<StorageT: StorageIndex>(word: &Word, tables: &Tables) -> Symbol<Storag
     }
 }
 
-// The number of a rule, of which the added one is 0.
+// The number of a rule. The added rule is number 0.
 fn rule_idx<StorageT: StorageIndex>(rules: &Names, name: &str) -> RIdx<StorageT>
     requires room { length rules.now < StorageT.limit }
     requires known { is_among name.now rules.now ≡ true }

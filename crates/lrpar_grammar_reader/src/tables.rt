@@ -1,4 +1,4 @@
-//! The tables of names that a grammar is read with.
+//! The tables of names with which a grammar is read.
 ghost use Rattle.std.specs.Prelude.{◌≡◌, ◌++◌, ◌≤◌, IfErr, IfOk, OnOk, filter, length, map};
 ghost use Rattle.lrpar_grammar_words.specs.Words.{placed};
 ghost use Rattle.lrpar_grammar_words.specs.Outline.{alternative_of, outline_of};
@@ -23,8 +23,8 @@ impl<'a> Tables<'a> {
     ghost use Rattle.lrpar_grammar_reader.specs.Spells.{numbering_of};
     ghost use Rattle.lrpar_grammar_reader.specs.TextNames.{numbering_by};
 
-    /// The tables of an outline. `RepeatedEpp` comes at a second `%epp` of one name, and `Memory` where it doesn't suffice. A second
-    /// `%start` is looked for before.
+    /// The tables of an outline. Fails with `RepeatedEpp` at a second `%epp` of a name, and with `Memory` if an allocation fails.
+    /// There must be at most one `%start`.
     pub fn new(alloc: Global, outline: &Outline<'a>) -> Result<Self, GrammarFault>
         requires { length (outline_of outline.now).starts ≤ 1 }
         ensures numbering { IfOk result (λ tables. numbering_by tables ≡ numbering_of (outline_of outline.now)) }
@@ -46,14 +46,14 @@ impl<'a> Tables<'a> {
     }
 }
 
-/// Whether the word stands for a token.
+/// Whether the word represents a token.
 pub fn is_token(word: &Word, declared: &Names) -> bool
     ensures { result ≡ is_token declared.now (placed word.now) }
 {
     is_quoted(word.kind) || declared.contains(word.name)
 }
 
-// Whether the word is a quoted one.
+// Whether the word is quoted.
 fn is_quoted(kind: WordKind) -> bool
     ensures { result ≡ is_quoted kind }
 {
@@ -77,7 +77,7 @@ fn token_words<'a>(
     Ok(words)
 }
 
-// Puts the words behind the others.
+// Appends the words.
 fn push_all<'a>(words: &mut Vec<Word<'a>>, more: &[Word<'a>]) -> Result<(), AllocError>
     ensures { OnOk result (map placed words.new.items ≡ map placed words.old.items ++ map placed more.now) }
 {
@@ -87,7 +87,7 @@ fn push_all<'a>(words: &mut Vec<Word<'a>>, more: &[Word<'a>]) -> Result<(), Allo
     Ok(())
 }
 
-// Puts those that stand for tokens behind the others.
+// Appends the words that represent tokens.
 fn push_tokens<'a>(
     words: &mut Vec<Word<'a>>,
     symbols: &[Word<'a>],

@@ -1,4 +1,4 @@
-//! Names that are wrong: of rules that are tokens, and those that nothing has.
+//! Names that are wrong: names of rules that are declared tokens, and names of nothing.
 ghost use Rattle.std.specs.Prelude.{◌≡◌, ◌≢◌, [], not, true, false, All, IfErr, MatchOption, OnOk, map};
 ghost use Rattle.std.specs.List.{find, flat_map};
 ghost use Rattle.lrpar_grammar_words.specs.Outline.{alternative_of, outline_of};
@@ -14,9 +14,9 @@ use lrpar_grammar_places::span::Span;
 use lrpar_grammar_words::outline::{Alternative, Outline};
 use lrpar_grammar_words::words::Word;
 
-/// Refuses names that are known to be wrong: by `TokenIsRule` a rule's that is a declared token's, by `UnknownRule` one that is no
-/// rule's behind `%start`, or neither a rule's nor a token's in an alternative, and by `UnknownToken` one behind `%epp` that is no
-/// token's; in this order, each at the first such word. Other faults are looked for before.
+/// Refuses wrong names. In this order, each at the first such word: with `TokenIsRule` a rule that has the name of a declared
+/// token, with `UnknownRule` a name after `%start` that is no rule or a symbol that is neither a rule nor a token, and with
+/// `UnknownToken` a name after `%epp` that is no token. The caller must have ruled out the faults that come before these.
 pub fn has_known_names(outline: &Outline, tables: &Tables) -> Result<(), GrammarFault>
     requires once { AreDeclaredOnce (outline_of outline.now) }
     requires some_rule { (outline_of outline.now).defined ≢ [] }
@@ -38,7 +38,7 @@ pub fn has_known_names(outline: &Outline, tables: &Tables) -> Result<(), Grammar
     Ok(())
 }
 
-// Where the first of the words stands whose name is among the names.
+// The place of the first word whose name is among the names.
 fn find_among(words: &[Word], names: &Names) -> Option<Span>
     ensures { MatchOption result (All (λ w. is_among w.name names.now ≡ false) (map placed words.now))
         (LiesAt (find (λ w. is_among w.name names.now) (map placed words.now))) }
@@ -51,7 +51,7 @@ fn find_among(words: &[Word], names: &Names) -> Option<Span>
     None
 }
 
-// Where the first of the words stands whose name isn't among the names.
+// The place of the first word whose name isn't among the names.
 fn find_missing(words: &[Word], names: &Names) -> Option<Span>
     ensures { MatchOption result (All (λ w. is_among w.name names.now ≡ true) (map placed words.now))
         (LiesAt (find (λ w. not (is_among w.name names.now)) (map placed words.now))) }
@@ -64,7 +64,7 @@ fn find_missing(words: &[Word], names: &Names) -> Option<Span>
     None
 }
 
-// Where the first symbol stands that is neither a token nor a rule, among those of alternatives.
+// The place of the first symbol of the alternatives that is neither a token nor a rule.
 fn unknown_symbol(alternatives: &[Alternative], tables: &Tables) -> Option<Span>
     ensures { MatchOption result
         (All (λ x. All (λ w. is_known (numbering_by tables.now) w ≡ true) x.symbols) (map alternative_of alternatives.now))
@@ -78,7 +78,7 @@ fn unknown_symbol(alternatives: &[Alternative], tables: &Tables) -> Option<Span>
     None
 }
 
-// Where the first symbol stands that is neither a token nor a rule.
+// The place of the first symbol that is neither a token nor a rule.
 fn find_unknown(symbols: &[Word], tables: &Tables) -> Option<Span>
     ensures { MatchOption result (All (λ w. is_known (numbering_by tables.now) w ≡ true) (map placed symbols.now))
         (LiesAt (find (λ w. not (is_known (numbering_by tables.now) w)) (map placed symbols.now))) }

@@ -14,11 +14,11 @@ use Rattle.lrpar_grammar_words.specs.declared.words.WordKind.TheVariants.{Name, 
 use Rattle.lrpar_grammar_words.specs.Words.{begins_name, blank_piece, closed_len, comment_after, is_byte_at, is_in_name, is_white, name_after, piece_at, piece_from, quoted_after, sign_after, word_piece}
 use Rattle.lrpar_grammar_words.specs.Forms.{IsPieceText}
 
--- a text begins with another one, by the test
+-- a text begins with another one, if the test says so
 pub starts : (s p : List ℕ) → starts_with nat_eq s p ≡ true → s ≡ p ++ drop (length p) s
 starts s p is = (starts_is Decides-eqb s p (starts_with nat_eq s p) refl).0 is
 
--- and the test is true where it does
+-- and the test says so if it does
 pub starts_true : (s p rest : List ℕ) → s ≡ p ++ rest → starts_with nat_eq s p ≡ true
 starts_true s p rest is = (starts_is Decides-eqb s p (starts_with nat_eq s p) refl).1 rest is
 
@@ -27,12 +27,12 @@ pub record Begins (s : List ℕ) (x : Piece) : Type 0 where
   pub within : x.len ≤ length s
   pub is : IsPieceText x.word (take x.len s)
 
--- by a test that chooses one of two answers
+-- by a test that chooses one of two results
 either : (b : Bool) (l r : Option Piece) (s : List ℕ) (x : Piece) → cond b l r ≡ Some x → (b ≡ true → l ≡ Some x → Begins s x) → (b ≡ false → r ≡ Some x → Begins s x) → Begins s x
 either true l r s x is left right = left refl is
 either false l r s x is left right = right refl is
 
--- the answer is this piece
+-- the result is this piece
 found : (s : List ℕ) (x y : Piece) → ◌≡◌ {A = Option Piece} (Some y) (Some x) → Begins s y → Begins s x
 found s x y same begins = subst (Begins s) (same_Some y x same) begins
 
@@ -52,7 +52,7 @@ first_all q s = λ k d below.
     let within : k < prefix_len q s = omega (arith, length-take (prefix_len q s) s) in
     subst (λ c. q c ≡ true) (sym (get_or-take (prefix_len q s) s k d within)) (prefix_len_passes q s k d within)
 
--- the same of those before one that passes
+-- the same for those before the first one that passes
 before_all : (p : ℕ → Bool) (s : List ℕ) → All (λ c. p c ≡ false) (take (position_or_len p s) s)
 before_all p s = λ k d below.
     let within : k < position_or_len p s = omega (arith, length-take (position_or_len p s) s) in
@@ -76,7 +76,7 @@ name_begins c t x is =
     }))
     (λ _ none. absurd (cc))
 
--- a sign that s goes on with
+-- a sign: `%`, and then p
 sign_begins : (t p : List ℕ) (kind : WordKind) (len : ℕ) → length p < len → len ≤ length p + 1 → starts_with nat_eq t p ≡ true → ((u : List ℕ) → IsPieceText (Some kind) (take len (37 ∷ (p ++ u))))
     → Begins (37 ∷ t) (word_piece kind len)
 sign_begins t p kind len more few is reads =
@@ -99,7 +99,7 @@ signs_begin t x is =
     (λ passes same. found (37 ∷ t) x (word_piece RulesSign 2) same (sign_begins t (codes "%") RulesSign 2 (omega arith) (omega arith) passes (λ u. refl)))
     (λ _ none. absurd (cc)))))
 
--- a byte is another than the one that the test looks for
+-- a byte is none that the test looks for
 other_byte : (c d : ℕ) → (c == d) ≡ false → c ≡ d → ⊥
 other_byte c d is same = false≢true (sym is ∙ (Decides-eqb c d).1 same)
 
@@ -137,7 +137,7 @@ quoted_begins quote t x quotes is =
     }))
     (λ _ none. absurd (cc))
 
--- what goes up to the first `*/`
+-- the first n bytes of s end with the first `*/`
 record Closes (s : List ℕ) (n : ℕ) : Type 0 where
   pub text : List ℕ
   pub unclosed : (k : ℕ) → k < length text → take 2 (drop k (text ++ codes "*/")) ≢ codes "*/"
@@ -145,7 +145,7 @@ record Closes (s : List ℕ) (n : ℕ) : Type 0 where
   pub within : n ≤ length s
   pub long : 2 ≤ n
 
--- nothing closes before it, with one byte more in front
+-- no `*/` ends earlier, with one more byte at the start
 first_closes : (c : ℕ) (s text : List ℕ) → take 2 (c ∷ (text ++ codes "*/")) ≡ take 2 (c ∷ s) → starts_with nat_eq (c ∷ s) (codes "*/") ≡ false
     → ((k : ℕ) → k < length text → take 2 (drop k (text ++ codes "*/")) ≢ codes "*/") → (k : ℕ) → k < suc (length text) → take 2 (drop k (c ∷ (text ++ codes "*/"))) ≢ codes "*/"
 first_closes c s text same fails rest zero below is =
@@ -153,7 +153,7 @@ first_closes c s text same fails rest zero below is =
     false≢true (sym fails ∙ starts_true (c ∷ s) (codes "*/") (drop 2 (c ∷ s)) whole)
 first_closes c s text same fails rest (suc k) below is = rest k (omega arith) is
 
--- one byte more in front of it
+-- one more byte at the start
 closes_more : (c : ℕ) (s : List ℕ) (m : ℕ) → starts_with nat_eq (c ∷ s) (codes "*/") ≡ false → Closes s m → Closes (c ∷ s) (m + 1)
 closes_more c s m fails rest =
     let more : m + 1 ≡ suc m = omega arith in
@@ -167,21 +167,21 @@ closes_more c s m fails rest =
       long = two;
     }
 
--- it closes right here
+-- `*/` is at the start of s
 closes_here : (s : List ℕ) → starts_with nat_eq s (codes "*/") ≡ true → Closes s 2
 closes_here s passes =
     let whole : s ≡ codes "*/" ++ drop 2 s = starts s (codes "*/") passes in
     let long : length s ≡ length (codes "*/" ++ drop 2 s) = ap length whole in
     record { text = []; unclosed = λ k below. absurd (omega arith); is = ap (take 2) whole; within = omega arith; long = omega arith }
 
--- by whether it closes here
+-- by whether `*/` is at the start of s
 closes_by : (b : Bool) (c : ℕ) (s : List ℕ) (n : ℕ) (r : Option ℕ) → starts_with nat_eq (c ∷ s) (codes "*/") ≡ b → cond b (Some 2) (option_map (λ k. k + 1) r) ≡ Some n
     → ((m : ℕ) → r ≡ Some m → Closes s m) → Closes (c ∷ s) n
 closes_by true c s n r here is rest = let same : 2 ≡ n = same_Some 2 n is in subst (Closes (c ∷ s)) same (closes_here (c ∷ s) here)
 closes_by false c s n None here is rest = absurd (cc)
 closes_by false c s n (Some m) here is rest = let same : m + 1 ≡ n = same_Some (m + 1) n is in subst (Closes (c ∷ s)) same (closes_more c s m here (rest m refl))
 
--- where a comment closes
+-- the length of a comment that closes
 closes : (s : List ℕ) (n : ℕ) → closed_len s ≡ Some n → Closes s n
 closes [] n is = absurd (cc)
 closes (c ∷ s) n is = closes_by (starts_with nat_eq (c ∷ s) (codes "*/")) c s n (closed_len s) refl is (closes s)
@@ -241,7 +241,7 @@ byte_begins : (c k : ℕ) (t : List ℕ) (x : Piece) (kind : WordKind) → (c ==
 byte_begins c k t x kind at same is =
     subst (λ d. Begins (d ∷ t) x) (sym ((Decides-eqb c k).0 at)) (found (k ∷ t) x (word_piece kind 1) same (record { within = omega arith; is = is }))
 
--- whatever is read
+-- any piece that is read
 piece_begins : (c : ℕ) (t : List ℕ) (x : Piece) → piece_from c t ≡ Some x → Begins (c ∷ t) x
 unfolding piece_from
 piece_begins c t x is =
@@ -254,7 +254,7 @@ piece_begins c t x is =
     (λ _ is7. either (c == 59) _ _ (c ∷ t) x is7 (λ at same. byte_begins c 59 t x Semicolon at same refl)
     (λ _ in_it. name_begins c t x in_it)))))))
 
--- the text begins with what is read
+-- the text begins with the piece that is read
 pub text_begins : (s : List ℕ) (x : Piece) → piece_at s ≡ Some x → Begins s x
 text_begins [] x is = absurd (cc)
 text_begins (c ∷ t) x is = piece_begins c t x is

@@ -1,4 +1,4 @@
--- Where a word or blanks stand, no less is read.
+-- If a text begins with a word or blanks, no fewer bytes are read.
 use Rattle.std.proofs.Common.{◌≡◌, ◌≢◌, ◌<◌, ◌≤◌, ◌+◌, ◌==◌, ◌||◌, ◌&&◌, ◌⊎◌, not, nat_eq, nat_lt, ℕ, suc, Bool, true, false, cond, List, [], ◌∷◌, ◌++◌, append_assoc, codes, drop, get_or, length, take, Option, Some, None, option_map, inl, inr, refl, ap, sym, subst, ◌∙◌, arith}
 use Rattle.std.specs.List.{All, position_or_len, prefix_len, starts_with}
 use Rattle.std.proofs.lemmas.Bool.{false_from_ne_true, false≢true, lt-ltb, ne_eqb}
@@ -13,14 +13,14 @@ use Rattle.lrpar_grammar_words.specs.Words.{begins_name, blank_piece, closed_len
 use Rattle.lrpar_grammar_words.specs.Forms.{IsBlank, IsLongestPiece, IsPieceText, IsWord, NothingIsPassedOver, PiecesAreLongest}
 use Rattle.lrpar_grammar_words.proofs.FormLemmas.{starts, text_begins}
 
--- at the start of s a piece is read that is of this kind and has this many bytes or more
+-- the piece at the start of s is of this kind, and has n bytes or more
 record Reads (s : List ℕ) (word : Option WordKind) (n : ℕ) : Type 0 where
   pub piece : Piece
   pub is : piece_at s ≡ Some piece
   pub kind : piece.word ≡ word
   pub long : n ≤ piece.len
 
--- the answer of a test that is true, and of one that is false
+-- the result of a test that is true, and of one that is false
 first : (b : Bool) (l r : Option Piece) → b ≡ true → cond b l r ≡ l
 first true l r is = refl
 first false l r is = absurd (cc)
@@ -29,7 +29,7 @@ second : (b : Bool) (l r : Option Piece) → b ≡ false → cond b l r ≡ r
 second true l r is = absurd (cc)
 second false l r is = refl
 
--- the first elements pass
+-- all of the first elements pass
 passes_on : (q : ℕ → Bool) (xs rest : List ℕ) → All (λ c. q c ≡ true) xs → length xs ≤ prefix_len q (xs ++ rest)
 passes_on q [] rest all = omega arith
 passes_on q (x ∷ xs) rest all =
@@ -37,7 +37,7 @@ passes_on q (x ∷ xs) rest all =
     let more : length xs ≤ prefix_len q (xs ++ rest) = passes_on q xs rest (All-tail (λ c. q c ≡ true) x xs all) in
     omega arith
 
--- and the one behind them doesn't
+-- and the one after them doesn't
 stops_at : (q : ℕ → Bool) (xs : List ℕ) (y : ℕ) (rest : List ℕ) → All (λ c. q c ≡ true) xs → q y ≡ false → prefix_len q (xs ++ y ∷ rest) ≡ length xs
 stops_at q [] y rest all fails = ap (λ b. cond b (1 + prefix_len q rest) 0) fails
 stops_at q (x ∷ xs) y rest all fails =
@@ -50,7 +50,7 @@ white_reads : (c : ℕ) (rest : List ℕ) → is_white c ≡ true → Reads (c �
 unfolding piece_from
 white_reads c rest white = record { piece = blank_piece 1; is = first (is_white c) _ _ white; kind = refl; long = omega arith }
 
--- a byte with which a name begins is none that stands elsewhere
+-- a byte that begins a name is not one that begins something else
 apart : (c k : ℕ) → begins_name k ≡ false → begins_name c ≡ true → (c == k) ≡ false
 apart c k other begins = false_from_ne_true (c == k) (λ same. false≢true (sym other ∙ ap begins_name (sym ((Decides-eqb c k).0 same)) ∙ begins))
 
@@ -59,7 +59,7 @@ neither : (a b : Bool) → a ≡ false → b ≡ false → (a || b) ≡ false
 neither true b left right = absurd (cc)
 neither false b left right = right
 
--- where a name begins, a name is read
+-- if a byte begins a name, a name is read
 name_from : (c : ℕ) (t : List ℕ) → begins_name c ≡ true → piece_from c t ≡ name_after c t
 unfolding piece_from
 name_from c t begins =
@@ -87,13 +87,13 @@ name_reads c others rest begins all =
       long = omega arith;
     }
 
--- bytes that no quote and no line feed is
+-- bytes other than the quote and a line feed
 unquoted_passes : (quote : ℕ) (text : List ℕ) → All (λ c. (c ≢ quote) × (c ≢ 10)) text → All (λ c. not ((c == quote) || (c == 10)) ≡ true) text
 unquoted_passes quote text all =
     All-weaker (λ c. (c ≢ quote) × (c ≢ 10)) (λ c. not ((c == quote) || (c == 10)) ≡ true)
     (λ c other. ap not (neither (c == quote) (c == 10) (ne_eqb c quote other.0) (ne_eqb c 10 other.1))) text all
 
--- a list that isn't empty has a first element
+-- a nonempty list has a first element
 some_len : (xs : List ℕ) → xs ≢ [] → 0 < length xs
 some_len [] some = absurd (some refl)
 some_len (x ∷ xs) some = omega arith
@@ -103,11 +103,11 @@ both : (a b : Bool) → a ≡ true → b ≡ true → (a && b) ≡ true
 both true b left right = right
 both false b left right = absurd (cc)
 
--- the quote ends what stands in quotes
+-- the quote ends a quoted text
 quote_ends : (quote : ℕ) → not ((quote == quote) || (quote == 10)) ≡ false
 quote_ends quote = ap (λ b. not (b || (quote == 10))) ((Decides-eqb quote quote).1 refl)
 
--- a quoted text is read, behind its first quote
+-- a quoted text is read after its first quote
 quoted_reads : (quote : ℕ) (text rest : List ℕ) → text ≢ [] → All (λ c. (c ≢ quote) × (c ≢ 10)) text
     → quoted_after quote ((text ++ quote ∷ []) ++ rest) ≡ Some (word_piece Quoted (length text + 2))
 unfolding quoted_after
@@ -147,12 +147,12 @@ line_reads line rest all =
     passes_on (λ c. not (c == 10)) line rest (All-weaker (λ c. c ≢ 10) (λ c. not (c == 10) ≡ true) (λ c other. ap not (ne_eqb c 10 other)) line all) in
     record { piece = blank_piece (2 + n); is = refl; kind = refl; long = omega arith }
 
--- no `*/` stands at the start, where none does before the end
+-- no `*/` is at the start, if the first two bytes are others
 no_close : (s rest : List ℕ) → 2 ≤ length s → take 2 s ≢ codes "*/" → starts_with nat_eq (s ++ rest) (codes "*/") ≡ false
 no_close s rest long other = false_from_ne_true (starts_with nat_eq (s ++ rest) (codes "*/")) (λ passes.
     other (sym (take-append-le 2 s rest long) ∙ ap (take 2) (starts (s ++ rest) (codes "*/") passes)))
 
--- where a comment closes
+-- the length of a comment that closes
 close_reads : (text rest : List ℕ) → ((k : ℕ) → k < length text → take 2 (drop k (text ++ codes "*/")) ≢ codes "*/")
     → closed_len ((text ++ codes "*/") ++ rest) ≡ Some (length text + 2)
 close_reads [] rest unclosed = refl
@@ -210,11 +210,11 @@ piece_reads : (word : Option WordKind) (p rest : List ℕ) → IsPieceText word 
 piece_reads (Some kind) p rest is = word_reads kind p rest is
 piece_reads None p rest is = blank_reads p rest is
 
--- the same of the first bytes of a text
+-- the same for the first bytes of a text
 front_reads : (s : List ℕ) (n : ℕ) (word : Option WordKind) → IsPieceText word (take n s) → Reads s word (length (take n s))
 front_reads s n word is = subst (λ t. Reads t word (length (take n s))) (take-append-drop n s) (piece_reads word (take n s) (drop n s) is)
 
--- a piece that is read is the longest
+-- the piece that is read is the longest
 read_is_longest : (s : List ℕ) (x : Piece) → piece_at s ≡ Some x → IsLongestPiece s x
 read_is_longest s x is =
     let begins = text_begins s x is in
@@ -229,7 +229,7 @@ read_is_longest s x is =
           omega arith;
     }
 
--- pieces of one kind and length are one
+-- pieces of equal kind and length are equal
 same_piece : (x y : Piece) → x.word ≡ y.word → x.len ≡ y.len → x ≡ y
 same_piece x y word len = ap (λ w. record { word = w; len = x.len }) word ∙ ap (λ n. record { word = y.word; len = n }) len
 
@@ -244,11 +244,11 @@ longest_is_read s x most =
     let same : other.piece.len ≡ x.len = omega arith in
     other.is ∙ ap (λ y. Some y) (same_piece other.piece x other.kind same)
 
--- what is read is the longest word or blanks
+-- the piece that is read is the longest word or blanks
 pub pieces_are_longest : PiecesAreLongest
 pieces_are_longest s x = (read_is_longest s x, longest_is_read s x)
 
--- where nothing is read, none begin
+-- if nothing is read, no word and no blanks begin there
 pub nothing_is_passed_over : NothingIsPassedOver
 nothing_is_passed_over s none n word is =
     let other = front_reads s n word is in

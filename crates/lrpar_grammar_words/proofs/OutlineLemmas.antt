@@ -1,4 +1,4 @@
--- How far a text is read, and what the words that were read outline.
+-- How far a text is read, and the outline of the words that were read.
 use Rattle.std.proofs.Common.{◌≡◌, ◌<◌, ◌≤◌, ◌+◌, ◌-◌, ℕ, true, false, List, [], ◌∷◌, ◌++◌, append_assoc, length, length-drop, drop, get_or, Option, Some, None, option_map, option_and_then, zero-add, refl, ap, sym, subst, ◌∙◌, arith}
 use Rattle.std.specs.List.{All, Contains, slice_get}
 use Rattle.std.specs.Option.{IsNone, MatchOption, is_some, option_to_list}
@@ -9,21 +9,21 @@ use Rattle.std.proofs.lemmas.List.Quantifiers.{all_pairs_push}
 use Rattle.std.proofs.lemmas.Option.{get_or_from_slice_get, same_Some, slice_get_within}
 use Rattle.lrpar_grammar_words.specs.declared.words.Piece.{Piece}
 use Rattle.lrpar_grammar_words.specs.declared.words.WordKind.{WordKind}
-use Rattle.lrpar_grammar_words.specs.declared.shape.Expected.{Expected}
-use Rattle.lrpar_grammar_words.specs.declared.shape.Expected.TheVariants.{Declaration}
-use Rattle.lrpar_grammar_words.specs.declared.shape.Role.{Role}
-use Rattle.lrpar_grammar_words.specs.declared.shape.Role.TheVariants.{Sign, Start, Declared, EppOf, Epp, Defined, Symbol, AlternativeEnd}
+use Rattle.lrpar_grammar_words.specs.declared.word_order.Expected.{Expected}
+use Rattle.lrpar_grammar_words.specs.declared.word_order.Expected.TheVariants.{Declaration}
+use Rattle.lrpar_grammar_words.specs.declared.word_order.Role.{Role}
+use Rattle.lrpar_grammar_words.specs.declared.word_order.Role.TheVariants.{Sign, Start, Declared, EppOf, Epp, Defined, Symbol, AlternativeEnd}
 use Rattle.lrpar_grammar_words.specs.Words.{IsCutInto, IsCutUpTo, PlacedWord, ReadsAs, piece_at, word_at, words_of}
-use Rattle.lrpar_grammar_words.specs.Shape.{after, may_end}
+use Rattle.lrpar_grammar_words.specs.WordOrder.{after, may_end}
 use Rattle.lrpar_grammar_words.specs.Outline.{AreWordsInOrder, HasOrderedSymbols, AreOfDefinedRules, IsOutlineOf, IsStuck, IsStuckAt, IsUnreadableAt, OutlineIsOne, TextOutline, after_words, TextAlternative, ended, no_words, with_word}
 use Rattle.lrpar_grammar_words.proofs.WordsLemmas.{no_piece, reads_as_one}
 
--- the alternative that a sign ends, where a rule is defined
+-- the alternative that a sign ends, if a rule is defined
 pub ended_is : (o : TextOutline) (w rule : PlacedWord) → slice_get o.defined (length o.defined - 1) ≡ Some rule
     → ended o w ≡ record { rule = rule; symbols = o.symbols; end = w } ∷ []
 ended_is o w rule found = ap (λ r. option_to_list (option_map (λ x. record { rule = x; symbols = o.symbols; end = w }) r)) found
 
--- the alternative that a sign ends is of the rule that is defined last
+-- the alternative that a sign ends is of the last rule defined
 of_last : (o : TextOutline) (w : PlacedWord) (r : Option PlacedWord) → slice_get o.defined (length o.defined - 1) ≡ r
     → All {X = TextAlternative} (λ x. Contains o.defined x.rule) (option_to_list (option_map (λ rule. record { rule = rule; symbols = o.symbols; end = w }) r))
 of_last o w None is = All-nil (λ (x : TextAlternative). Contains o.defined x.rule)
@@ -36,7 +36,7 @@ of_last o w (Some rule) is =
 ended_defined : (o : TextOutline) (w : PlacedWord) → All {X = TextAlternative} (λ x. Contains o.defined x.rule) (ended o w)
 ended_defined o w = of_last o w (slice_get o.defined (length o.defined - 1)) refl
 
--- up to a place the text reads as the words `seen`, whatever comes after it
+-- up to a place the text reads as the words `seen`, whatever comes after that place
 pub record ReadsTo (text : List ℕ) (place : ℕ) (seen : List PlacedWord) : Type 0 where
   pub onward : (xs : List Piece) → IsCutInto (drop place text) xs → ReadsAs text (seen ++ words_of place (drop place text) xs)
   pub only : (words : List PlacedWord) → ReadsAs text words
@@ -49,7 +49,7 @@ reads_none text = record {
   only = λ words reads. (reads.pieces, reads.cut, reads.listed);
 }
 
--- the word that a piece is
+-- the word that a piece is, if it is one
 abbrev pub word_of_piece : ℕ → List ℕ → Piece → List PlacedWord
 word_of_piece place s x = option_to_list (option_map (λ kind. word_at place s kind x.len) x.word)
 
@@ -96,7 +96,7 @@ uncut : (s : List ℕ) (xs : List Piece) → 0 < length s → piece_at s ≡ Non
 uncut s [] some none cut = let empty : length s ≡ 0 = ap length cut in absurd (omega arith)
 uncut s (x ∷ xs) some none cut = let found : ◌≡◌ {A = Option Piece} None (Some x) = sym none ∙ cut.0 in absurd (cc)
 
--- where no piece begins, the text can't be read
+-- if no piece begins at a place, the text can't be read
 pub reads_stuck : (text : List ℕ) (place : ℕ) (seen : List PlacedWord) → place < length text → piece_at (drop place text) ≡ None
     → ReadsTo text place seen → (words : List PlacedWord) → ReadsAs text words → ⊥
 reads_stuck text place seen within none reads words whole =
@@ -119,7 +119,7 @@ reads_all text place seen past reads =
           from.2 ∙ ap (λ xs. seen ++ words_of place (drop place text) xs) (cut_empty (drop place text) from.0 empty from.1) ∙ append-nil seen,
     )
 
--- the outline of words that are followed by others
+-- the outline of words followed by other words
 pub after_words_append : (expected : Expected) (o : TextOutline) (xs ys : List PlacedWord)
     → after_words expected o (xs ++ ys) ≡ option_and_then (λ step. after_words step.0 step.1 ys) (after_words expected o xs)
 after_words_append expected o [] ys = refl
@@ -143,7 +143,7 @@ cut_more s (y ∷ ys) n x (at, few, rest) is =
           (cut_more (drop y.len s) ys (n - y.len) x rest (subst (λ r. piece_at r ≡ Some x) (sym from) is)),
     )
 
--- and its word stands behind the others
+-- its word comes after the others
 words_more : (s : List ℕ) (xs : List Piece) (n place : ℕ) (x : Piece) → IsCutUpTo s n xs
     → words_of place s (xs ++ x ∷ []) ≡ words_of place s xs ++ word_of_piece (place + n) (drop n s) x
 words_more s [] n place x none =
@@ -159,20 +159,20 @@ words_more s (y ∷ ys) n place x (at, few, rest) =
     ∙ ap (λ k. words ++ word_of_piece k (drop (n - y.len) (drop y.len s)) x) further ∙ ap (λ r. words ++ word_of_piece (place + n) r x) from)
     ∙ sym (append_assoc word words (word_of_piece (place + n) (drop n s) x))
 
--- the same of the words that were seen of a text
+-- the same for the words that were seen of a text
 listed_more : (text : List ℕ) (place : ℕ) (seen : List PlacedWord) (pieces : List Piece) (x : Piece) → IsCutUpTo text place pieces → seen ≡ words_of 0 text pieces
     → words_of 0 text (pieces ++ x ∷ []) ≡ seen ++ word_of_piece place (drop place text) x
 listed_more text place seen pieces x cut listed =
     words_more text pieces place 0 x cut ∙ ap (λ k. words_of 0 text pieces ++ word_of_piece k (drop place text) x) (zero-add place)
     ∙ ap (λ ws. ws ++ word_of_piece place (drop place text) x) (sym listed)
 
--- up to a place the symbols stand in order
+-- up to a place the symbols are in the order of the text
 pub record AreOrderedTo (place : ℕ) (o : TextOutline) : Type 0 where
   pub before : All (λ w. w.span.end ≤ place) o.symbols
   pub apart : AreWordsInOrder o.symbols
   pub ended : HasOrderedSymbols o
 
--- the text is read up to a place, and its words so far outline what they do
+-- the text is read up to a place, and `expected` and the outline are those of its words so far
 pub record OutlinesTo (text : List ℕ) (place : ℕ) (expected : Expected) (o : TextOutline) : Type 0 where
   pub seen : List PlacedWord
   pub reads : ReadsTo text place seen
@@ -183,7 +183,7 @@ pub record OutlinesTo (text : List ℕ) (place : ℕ) (expected : Expected) (o :
   pub rules : AreOfDefinedRules o
   pub order : AreOrderedTo place o
 
--- nothing is out of order
+-- no symbols are in order
 ordered_none : AreOrderedTo 0 no_words
 ordered_none = record {
   before = All-nil (λ (w : PlacedWord). w.span.end ≤ 0);
@@ -191,7 +191,7 @@ ordered_none = record {
   ended = All-nil (λ (x : TextAlternative). AreWordsInOrder x.symbols);
 }
 
--- what stands before a place stands before a later one
+-- what is before a place is before a later one
 ordered_later : (place later : ℕ) (o : TextOutline) → place ≤ later → AreOrderedTo place o → AreOrderedTo later o
 ordered_later place later o le order = record {
   before = All-weaker (λ (w : PlacedWord). w.span.end ≤ place) (λ (w : PlacedWord). w.span.end ≤ later) (λ w h. omega arith) o.symbols order.before;
@@ -211,7 +211,7 @@ ordered_symbol place later o w from to le order =
       ended = order.ended;
     }
 
--- the alternative that a sign ends has the symbols
+-- the alternative that a sign ends has the symbols in order
 ended_ordered : (o : TextOutline) (w : PlacedWord) (r : Option PlacedWord) → AreWordsInOrder o.symbols
     → All {X = TextAlternative} (λ x. AreWordsInOrder x.symbols) (option_to_list (option_map (λ rule. record { rule = rule; symbols = o.symbols; end = w }) r))
 ended_ordered o w None apart = All-nil (λ (x : TextAlternative). AreWordsInOrder x.symbols)
@@ -236,7 +236,7 @@ ordered_word place later o AlternativeEnd w from to le order = record {
       (ended_ordered o w (slice_get o.defined (length o.defined - 1)) order.apart);
 }
 
--- nothing is read
+-- nothing is read yet
 pub outlines_none : (text : List ℕ) → OutlinesTo text 0 Declaration no_words
 outlines_none text = record { seen = []; reads = reads_none text; pieces = []; cut = refl; listed = refl; shape = refl; rules = All-nil (λ (x : TextAlternative). Contains no_words.defined x.rule); order = ordered_none }
 
@@ -275,7 +275,7 @@ rules_kept o AlternativeEnd w rules = All-append (λ (x : TextAlternative). Cont
 pub outlines_word : (text : List ℕ) (place : ℕ) (expected next : Expected) (o : TextOutline) (x : Piece) (kind : WordKind) (role : Role)
     → piece_at (drop place text) ≡ Some x → x.word ≡ Some kind → after expected kind ≡ Some (role, next)
     → OutlinesTo text place expected o → OutlinesTo text (place + x.len) next (with_word o role (word_at place (drop place text) kind x.len))
-outlines_word text place expected next o x kind role is word stands to =
+outlines_word text place expected next o x kind role is word follows to =
     let w = word_at place (drop place text) kind x.len in
     let seen : to.seen ++ word_of_piece place (drop place text) x ≡ to.seen ++ w ∷ [] =
     ap (λ r. to.seen ++ option_to_list (option_map (λ k. word_at place (drop place text) k x.len) r)) word in
@@ -286,7 +286,7 @@ outlines_word text place expected next o x kind role is word stands to =
       cut = cut_more text to.pieces place x to.cut is;
       listed = sym (listed_more text place to.seen to.pieces x to.cut to.listed ∙ seen);
       shape = after_words_append Declaration no_words to.seen (w ∷ []) ∙ ap (option_and_then (λ step. after_words step.0 step.1 (w ∷ []))) to.shape
-          ∙ ap (option_and_then (λ step. after_words step.1 (with_word o step.0 w) [])) stands;
+          ∙ ap (option_and_then (λ step. after_words step.1 (with_word o step.0 w) [])) follows;
       rules = rules_kept o role w to.rules;
       order = ordered_word place (place + x.len) o role w (omega arith) (omega arith) (omega arith) to.order;
     }
@@ -298,7 +298,7 @@ stuck_at text place expected o to stuck = record {
   cut = to.cut;
   expected = expected;
   outline = o;
-  stand = subst (λ ws. after_words Declaration no_words ws ≡ Some (expected, o)) to.listed to.shape;
+  leads = subst (λ ws. after_words Declaration no_words ws ≡ Some (expected, o)) to.listed to.shape;
   stuck = stuck;
 }
 
@@ -308,19 +308,19 @@ stuck_piece e [] some none = absurd (omega arith)
 stuck_piece e (c ∷ s) some none =
     subst (λ (r : Option Piece). MatchOption r (Unit {0}) (λ x. MatchOption x.word ⊥ (λ kind. IsNone (after e kind)))) (sym none) tt
 
--- a word can't stand there
+-- a word isn't allowed there
 stuck_word : (e : Expected) (s : List ℕ) (x : Piece) (kind : WordKind) → piece_at s ≡ Some x → x.word ≡ Some kind → after e kind ≡ None → IsStuck e s
 stuck_word e [] x kind is word none = absurd (cc)
 stuck_word e (c ∷ s) x kind is word none =
     subst (λ (r : Option Piece). MatchOption r (Unit {0}) (λ y. MatchOption y.word ⊥ (λ k. IsNone (after e k)))) (sym is)
     (subst (λ (w : Option WordKind). MatchOption w ⊥ (λ k. IsNone (after e k))) (sym word) (ap is_some none))
 
--- where no piece begins, the text has no outline
+-- if no piece begins at a place, the text has no outline
 unread_piece : (text : List ℕ) (place : ℕ) (expected : Expected) (o : TextOutline) → place < length text → piece_at (drop place text) ≡ None
     → OutlinesTo text place expected o → (p : TextOutline) → IsOutlineOf text p → ⊥
 unread_piece text place expected o within none to p outlined = reads_stuck text place to.seen within none to.reads outlined.words outlined.reads
 
--- and is stuck there
+-- and it is stuck there
 pub refused_piece : (text : List ℕ) (place : ℕ) (expected : Expected) (o : TextOutline) → place < length text → piece_at (drop place text) ≡ None
     → OutlinesTo text place expected o → IsUnreadableAt text place
 refused_piece text place expected o within none to = record {
@@ -328,11 +328,11 @@ refused_piece text place expected o within none to = record {
   stuck = stuck_at text place expected o to (stuck_piece expected (drop place text) (omega (arith, length-drop place text)) none);
 }
 
--- where a word can't stand, the text has no outline
+-- if a word isn't allowed at its place, the text has no outline
 unread_word : (text : List ℕ) (place : ℕ) (expected : Expected) (o : TextOutline) (x : Piece) (kind : WordKind)
     → piece_at (drop place text) ≡ Some x → x.word ≡ Some kind → after expected kind ≡ None
     → OutlinesTo text place expected o → (p : TextOutline) → IsOutlineOf text p → ⊥
-unread_word text place expected o x kind is word stands to p outlined =
+unread_word text place expected o x kind is word follows to p outlined =
     let from = to.reads.only outlined.words outlined.reads in
     let more = after_piece text place to.seen outlined.words x is from.0 from.1 from.2 in
     let w = word_at place (drop place text) kind x.len in
@@ -343,16 +343,16 @@ unread_word text place expected o x kind is word stands to p outlined =
     let none : ◌≡◌ {A = Option (Expected × TextOutline)} (after_words Declaration no_words outlined.words) None =
     ap (after_words Declaration no_words) words ∙ after_words_append Declaration no_words to.seen (w ∷ rest)
     ∙ ap (option_and_then (λ step. after_words step.0 step.1 (w ∷ rest))) to.shape
-    ∙ ap (option_and_then (λ step. after_words step.1 (with_word o step.0 w) rest)) stands in
+    ∙ ap (option_and_then (λ step. after_words step.1 (with_word o step.0 w) rest)) follows in
     let found : ◌≡◌ {A = Option (Expected × TextOutline)} None (Some (outlined.have.last, p)) = sym none ∙ outlined.have.shape in
     absurd (cc)
 
--- and is stuck there
+-- and it is stuck there
 pub refused_word : (text : List ℕ) (place : ℕ) (expected : Expected) (o : TextOutline) (x : Piece) (kind : WordKind)
     → piece_at (drop place text) ≡ Some x → x.word ≡ Some kind → after expected kind ≡ None → OutlinesTo text place expected o → IsUnreadableAt text place
-refused_word text place expected o x kind is word stands to = record {
-  unread = unread_word text place expected o x kind is word stands to;
-  stuck = stuck_at text place expected o to (stuck_word expected (drop place text) x kind is word stands);
+refused_word text place expected o x kind is word follows to = record {
+  unread = unread_word text place expected o x kind is word follows to;
+  stuck = stuck_at text place expected o to (stuck_word expected (drop place text) x kind is word follows);
 }
 
 -- at the end the text has the outline of its words
@@ -361,7 +361,7 @@ pub outlines_all : (text : List ℕ) (place : ℕ) (expected : Expected) (o : Te
 outlines_all text place expected o past ends to =
     record { words = to.seen; reads = (reads_all text place to.seen past to.reads).0; have = record { last = expected; shape = to.shape; ends = ends } }
 
--- where the text ends too early, it has no outline
+-- if the text ends too early, it has no outline
 unread_end : (text : List ℕ) (place : ℕ) (expected : Expected) (o : TextOutline) → length text ≤ place → may_end expected ≡ false
     → OutlinesTo text place expected o → (p : TextOutline) → IsOutlineOf text p → ⊥
 unread_end text place expected o past early to p outlined =
@@ -372,7 +372,7 @@ unread_end text place expected o past early to p outlined =
     let clash : true ≡ false = sym outlined.have.ends ∙ ap may_end last ∙ early in
     absurd (cc)
 
--- and is stuck there
+-- and it is stuck there
 pub refused_end : (text : List ℕ) (place : ℕ) (expected : Expected) (o : TextOutline) → length text ≤ place → may_end expected ≡ false
     → OutlinesTo text place expected o → IsUnreadableAt text place
 refused_end text place expected o past early to = record {
@@ -380,7 +380,7 @@ refused_end text place expected o past early to = record {
   stuck = stuck_at text place expected o to (subst (IsStuck expected) (sym (drop_of_length-le text past)) early);
 }
 
--- a text has one outline
+-- a text has one outline at most
 pub outline_is_one : OutlineIsOne
 outline_is_one text x y a b =
     let words : a.words ≡ b.words = reads_as_one text a.words b.words a.reads b.reads in

@@ -1,4 +1,4 @@
--- The words of a grammar text have the outline that its declarations and rules list.
+-- The words of a grammar text have the outline of its declarations and rules.
 use Rattle.std.proofs.Common.{◌≡◌, ◌-◌, ◌+◌, ◌⊎◌, true, List, [], ◌∷◌, ◌++◌, append_assoc, fold, length, Option, Some, None, option_and_then, inl, inr, refl, ap, sym, subst, ◌∙◌, arith}
 use Rattle.std.specs.List.{All, flat_map, slice_get}
 use Rattle.std.specs.Option.{IfSome, option_to_list}
@@ -8,85 +8,85 @@ use Rattle.std.proofs.lemmas.List.Elements.{All-head, All-tail}
 use Rattle.std.proofs.lemmas.Option.{slice_get-get_or}
 use Rattle.lrpar_grammar_words.specs.declared.words.WordKind.{WordKind}
 use Rattle.lrpar_grammar_words.specs.declared.words.WordKind.TheVariants.{Name, Quoted, StartSign, TokenSign, EppSign, RulesSign, Bar, Semicolon}
-use Rattle.lrpar_grammar_words.specs.declared.shape.Expected.{Expected}
-use Rattle.lrpar_grammar_words.specs.declared.shape.Expected.TheVariants.{Declaration, StartName, FirstToken, MoreTokens, EppName, EppText, NextRule, RuleColon, NextSymbol, TextEnd}
-use Rattle.lrpar_grammar_words.specs.declared.shape.Role.{Role}
-use Rattle.lrpar_grammar_words.specs.declared.shape.Role.TheVariants.{Sign, Start, Declared, EppOf, Epp, Defined, Symbol, AlternativeEnd}
+use Rattle.lrpar_grammar_words.specs.declared.word_order.Expected.{Expected}
+use Rattle.lrpar_grammar_words.specs.declared.word_order.Expected.TheVariants.{Declaration, StartName, FirstToken, MoreTokens, EppName, EppText, NextRule, RuleColon, NextSymbol, TextEnd}
+use Rattle.lrpar_grammar_words.specs.declared.word_order.Role.{Role}
+use Rattle.lrpar_grammar_words.specs.declared.word_order.Role.TheVariants.{Sign, Start, Declared, EppOf, Epp, Defined, Symbol, AlternativeEnd}
 use Rattle.lrpar_grammar_words.specs.Words.{PlacedWord}
-use Rattle.lrpar_grammar_words.specs.Shape.{after, declaration, may_end, more_tokens, token}
+use Rattle.lrpar_grammar_words.specs.WordOrder.{after, declaration, may_end, more_tokens, token}
 use Rattle.lrpar_grammar_words.specs.Outline.{HaveOutline, TextAlternative, TextOutline, after_words, ended, no_words, with_word}
 use Rattle.lrpar_grammar_words.specs.Phrases.{AreOfGrammarText, EppIs, GrammarText, IsAlternative, IsDeclaration, IsRule, IsTokenWord, StartIs, TextDeclaration, TextRule, TokensAre, alternative_words, declaration_words, declared_of, epp_of, grammar_outline, grammar_words, printed_of, rule_words, start_of}
 use Rattle.lrpar_grammar_words.proofs.OutlineLemmas.{after_words_append, ended_is}
 
--- from what may stand next and an outline, the words lead to what may stand behind them and their outline
+-- from what is allowed next and an outline, the words lead to what is allowed after them and their outline
 abbrev Leads : Expected → TextOutline → List PlacedWord → Expected → TextOutline → Type 0
 Leads e o ws f p = after_words e o ws ≡ Some (f, p)
 
--- words one after another
+-- words followed by other words
 leads_on : (e : Expected) (o : TextOutline) (xs : List PlacedWord) (f : Expected) (p : TextOutline) (ys : List PlacedWord) (g : Expected) (q : TextOutline)
     → Leads e o xs f p → Leads f p ys g q → Leads e o (xs ++ ys) g q
 leads_on e o xs f p ys g q first second =
     after_words_append e o xs ys ∙ ap (option_and_then (λ (step : Expected × TextOutline). after_words step.0 step.1 ys)) first ∙ second
 
--- one word in front
+-- one word before other words
 leads_by : (e : Expected) (o : TextOutline) (w : PlacedWord) (role : Role) (f : Expected) (ws : List PlacedWord) (g : Expected) (q : TextOutline)
     → after e w.kind ≡ Some (role, f) → Leads f (with_word o role w) ws g q → Leads e o (w ∷ ws) g q
-leads_by e o w role f ws g q stands rest =
-    ap (option_and_then (λ (step : Role × Expected). after_words step.1 (with_word o step.0 w) ws)) stands ∙ rest
+leads_by e o w role f ws g q follows rest =
+    ap (option_and_then (λ (step : Role × Expected). after_words step.1 (with_word o step.0 w) ws)) follows ∙ rest
 
--- what a token stands for
-token_stands : (w : PlacedWord) (role : Role) (next : Expected) → IsTokenWord w → token w.kind role next ≡ Some (role, next)
-token_stands w role next (inl is) = ap (λ kind. token kind role next) is
-token_stands w role next (inr is) = ap (λ kind. token kind role next) is
+-- the role of a token
+token_follows : (w : PlacedWord) (role : Role) (next : Expected) → IsTokenWord w → token w.kind role next ≡ Some (role, next)
+token_follows w role next (inl is) = ap (λ kind. token kind role next) is
+token_follows w role next (inr is) = ap (λ kind. token kind role next) is
 
--- a token that goes on a list
-more_stands : (w : PlacedWord) → IsTokenWord w → after MoreTokens w.kind ≡ Some (Declared, MoreTokens)
+-- the role of one more token of a list
+more_follows : (w : PlacedWord) → IsTokenWord w → after MoreTokens w.kind ≡ Some (Declared, MoreTokens)
 unfolding after
-more_stands w (inl is) = ap (after MoreTokens) is
-more_stands w (inr is) = ap (after MoreTokens) is
+more_follows w (inl is) = ap (after MoreTokens) is
+more_follows w (inr is) = ap (after MoreTokens) is
 
--- a symbol
-symbol_stands : (w : PlacedWord) → IsTokenWord w → after NextSymbol w.kind ≡ Some (Symbol, NextSymbol)
+-- the role of a symbol
+symbol_follows : (w : PlacedWord) → IsTokenWord w → after NextSymbol w.kind ≡ Some (Symbol, NextSymbol)
 unfolding after
-symbol_stands w (inl is) = ap (after NextSymbol) is
-symbol_stands w (inr is) = ap (after NextSymbol) is
+symbol_follows w (inl is) = ap (after NextSymbol) is
+symbol_follows w (inr is) = ap (after NextSymbol) is
 
 -- more tokens are declared
 tokens_lead : (ws : List PlacedWord) (o : TextOutline) → All IsTokenWord ws → Leads MoreTokens o ws MoreTokens (record o { declared = o.declared ++ ws })
 unfolding with_word
 tokens_lead [] o are = ap (λ (s : List PlacedWord). Some (MoreTokens, record o { declared = s })) (sym (append-nil o.declared))
 tokens_lead (w ∷ ws) o are =
-    leads_by MoreTokens o w Declared MoreTokens ws MoreTokens (record o { declared = o.declared ++ (w ∷ ws) }) (more_stands w (All-head IsTokenWord w ws are))
+    leads_by MoreTokens o w Declared MoreTokens ws MoreTokens (record o { declared = o.declared ++ (w ∷ ws) }) (more_follows w (All-head IsTokenWord w ws are))
     (tokens_lead ws (with_word o Declared w) (All-tail IsTokenWord w ws are)
     ∙ ap (λ (s : List PlacedWord). Some (MoreTokens, record o { declared = s })) (append_assoc o.declared (w ∷ []) ws))
 
--- symbols stand in an alternative
+-- symbols of an alternative are read
 symbols_lead : (ws : List PlacedWord) (o : TextOutline) → All IsTokenWord ws → Leads NextSymbol o ws NextSymbol (record o { symbols = o.symbols ++ ws })
 unfolding with_word
 symbols_lead [] o are = ap (λ (s : List PlacedWord). Some (NextSymbol, record o { symbols = s })) (sym (append-nil o.symbols))
 symbols_lead (w ∷ ws) o are =
-    leads_by NextSymbol o w Symbol NextSymbol ws NextSymbol (record o { symbols = o.symbols ++ (w ∷ ws) }) (symbol_stands w (All-head IsTokenWord w ws are))
+    leads_by NextSymbol o w Symbol NextSymbol ws NextSymbol (record o { symbols = o.symbols ++ (w ∷ ws) }) (symbol_follows w (All-head IsTokenWord w ws are))
     (symbols_lead ws (with_word o Symbol w) (All-tail IsTokenWord w ws are)
     ∙ ap (λ (s : List PlacedWord). Some (NextSymbol, record o { symbols = s })) (append_assoc o.symbols (w ∷ []) ws))
 
--- a declaration may stand next: at the beginning, behind a declaration, and behind tokens
+-- a declaration is allowed next: at the beginning, after a declaration, and after tokens
 abbrev IsOpen : Expected → Type 0
 IsOpen e = (e ≡ Declaration) ⊎ (e ≡ MoreTokens)
 
--- what may stand where tokens may go on, but a token
+-- what is allowed next if one more token is, other than a token
 more_is : (kind : WordKind) (step : Role × Expected) → declaration kind ≡ Some step → more_tokens kind ≡ Some step
 more_is Name step is = absurd (cc)
 more_is Quoted step is = absurd (cc)
 more_is _ step is = is
 
--- a sign stands wherever a declaration may
-sign_stands : (e : Expected) (w : PlacedWord) (kind : WordKind) (step : Role × Expected) → IsOpen e → w.kind ≡ kind → declaration kind ≡ Some step
+-- a sign is allowed wherever a declaration is
+sign_follows : (e : Expected) (w : PlacedWord) (kind : WordKind) (step : Role × Expected) → IsOpen e → w.kind ≡ kind → declaration kind ≡ Some step
     → after e w.kind ≡ Some step
 unfolding after
-sign_stands e w kind step (inl at) is stands =
-    subst (λ (x : Expected). after x w.kind ≡ Some step) (sym at) (ap declaration is ∙ stands)
-sign_stands e w kind step (inr at) is stands =
-    subst (λ (x : Expected). after x w.kind ≡ Some step) (sym at) (ap more_tokens is ∙ more_is kind step stands)
+sign_follows e w kind step (inl at) is follows =
+    subst (λ (x : Expected). after x w.kind ≡ Some step) (sym at) (ap declaration is ∙ follows)
+sign_follows e w kind step (inr at) is follows =
+    subst (λ (x : Expected). after x w.kind ≡ Some step) (sym at) (ap more_tokens is ∙ more_is kind step follows)
 
 -- the outline with one more declaration
 abbrev with_declaration : TextOutline → TextDeclaration → TextOutline
@@ -101,22 +101,22 @@ unfolding after with_word
 declaration_leads e o (StartIs sign name) ready is = (
   Declaration,
   inl refl,
-  leads_by e o sign Sign StartName (name ∷ []) Declaration (with_declaration o (StartIs sign name)) (sign_stands e sign StartSign (Sign, StartName) ready is.0 refl)
+  leads_by e o sign Sign StartName (name ∷ []) Declaration (with_declaration o (StartIs sign name)) (sign_follows e sign StartSign (Sign, StartName) ready is.0 refl)
       (leads_by StartName o name Start Declaration [] Declaration (with_declaration o (StartIs sign name)) (ap (after StartName) is.1) refl),
 )
 declaration_leads e o (TokensAre sign first others) ready is = (
   MoreTokens,
   inr refl,
-  leads_by e o sign Sign FirstToken (first ∷ others) MoreTokens (with_declaration o (TokensAre sign first others)) (sign_stands e sign TokenSign (Sign, FirstToken) ready is.0 refl)
-      (leads_by FirstToken o first Declared MoreTokens others MoreTokens (with_declaration o (TokensAre sign first others)) (token_stands first Declared MoreTokens is.1)
+  leads_by e o sign Sign FirstToken (first ∷ others) MoreTokens (with_declaration o (TokensAre sign first others)) (sign_follows e sign TokenSign (Sign, FirstToken) ready is.0 refl)
+      (leads_by FirstToken o first Declared MoreTokens others MoreTokens (with_declaration o (TokensAre sign first others)) (token_follows first Declared MoreTokens is.1)
       (tokens_lead others (with_word o Declared first) is.2
       ∙ ap (λ (s : List PlacedWord). Some (MoreTokens, record o { declared = s })) (append_assoc o.declared (first ∷ []) others))),
 )
 declaration_leads e o (EppIs sign named printed) ready is = (
   Declaration,
   inl refl,
-  leads_by e o sign Sign EppName (named ∷ printed ∷ []) Declaration (with_declaration o (EppIs sign named printed)) (sign_stands e sign EppSign (Sign, EppName) ready is.0 refl)
-      (leads_by EppName o named EppOf EppText (printed ∷ []) Declaration (with_declaration o (EppIs sign named printed)) (token_stands named EppOf EppText is.1)
+  leads_by e o sign Sign EppName (named ∷ printed ∷ []) Declaration (with_declaration o (EppIs sign named printed)) (sign_follows e sign EppSign (Sign, EppName) ready is.0 refl)
+      (leads_by EppName o named EppOf EppText (printed ∷ []) Declaration (with_declaration o (EppIs sign named printed)) (token_follows named EppOf EppText is.1)
       (leads_by EppText (with_word o EppOf named) printed Epp Declaration [] Declaration (with_declaration o (EppIs sign named printed)) (ap (after EppText) is.2) refl)),
 )
 
@@ -129,7 +129,7 @@ declarations_lead (d ∷ ds) e o ready are =
     let rest = declarations_lead ds one.0 (with_declaration o d) one.1 (All-tail IsDeclaration d ds are) in
     (rest.0, rest.1, leads_on e o (declaration_words d) one.0 (with_declaration o d) (flat_map declaration_words ds) rest.0 (fold with_declaration o (d ∷ ds)) one.2 rest.2)
 
--- the name of the rule that was defined last
+-- the last rule defined so far has that name
 abbrev IsLast : TextOutline → PlacedWord → Type 0
 IsLast o name = slice_get o.defined (length o.defined - 1) ≡ Some name
 
@@ -151,7 +151,7 @@ alternative_leads name sign next x o ends none last is =
     (leads_by NextSymbol p x.end AlternativeEnd next [] next (with_alternatives o (x ∷ [])) (ap (after NextSymbol) is.end ∙ ends)
     (ap (λ (xs : List TextAlternative). Some (next, record o { alternatives = o.alternatives ++ xs; symbols = [] })) one))
 
--- the alternatives that a `|` ends are read
+-- the alternatives that end with `|` are read
 firsts_lead : (name : PlacedWord) (xs : List TextAlternative) (o : TextOutline) → o.symbols ≡ [] → IsLast o name → All (IsAlternative name Bar) xs
     → Leads NextSymbol o (flat_map alternative_words xs) NextSymbol (with_alternatives o xs)
 unfolding after
@@ -197,7 +197,7 @@ rules_lead (r ∷ rs) o none are =
     leads_on NextRule o (rule_words r) NextRule (with_rule o r) (flat_map rule_words rs) NextRule (fold with_rule o (r ∷ rs))
     (rule_leads o r none (All-head IsRule r rs are)) (rules_lead rs (with_rule o r) refl (All-tail IsRule r rs are))
 
--- a list of an outline that grows by what each step gives
+-- a list of an outline that each step extends
 grown : {X D : Type 0} (f : TextOutline → List X) (step : TextOutline → D → TextOutline) (g : D → List X) → ((o : TextOutline) (d : D) → f (step o d) ≡ f o ++ g d)
     → (ds : List D) (o : TextOutline) → f (fold step o ds) ≡ f o ++ flat_map g ds
 grown f step g each [] o = sym (append-nil (f o))
@@ -255,7 +255,7 @@ same_outline x y a b c d e f g =
     let same : of x ≡ of y = cc in
     same
 
--- no symbols are left over
+-- no symbols remain
 no_symbols_left : (rs : List TextRule) (o : TextOutline) → o.symbols ≡ [] → (fold with_rule o rs).symbols ≡ []
 no_symbols_left [] o none = none
 no_symbols_left (r ∷ rs) o none = no_symbols_left rs (with_rule o r) refl
@@ -278,7 +278,7 @@ read_is_listed t =
     ∙ ap (λ (s : List TextAlternative). s ++ flat_map (λ (r : TextRule). r.firsts ++ r.last ∷ []) rs) (kept (λ o. o.alternatives) with_declaration keeps_alternatives ds no_words))
     (no_symbols_left rs p (kept (λ o. o.symbols) with_declaration keeps_symbols ds no_words))
 
--- what stands behind the rules
+-- what is allowed after the rules is read
 close_leads : (o : TextOutline) (close : Option PlacedWord) → IfSome close (λ w. w.kind ≡ RulesSign)
     → (f : Expected) × (may_end f ≡ true) × Leads NextRule o (option_to_list close) f o
 unfolding after with_word
@@ -298,7 +298,7 @@ text_has_outline words o are =
     let rest = flat_map rule_words t.rules ++ option_to_list t.close in
     let from_rules = leads_on NextRule p (flat_map rule_words t.rules) NextRule q (option_to_list t.close) further.0 q (rules_lead t.rules p none are.is.rules) further.2 in
     let from_middle = leads_by before.0 p t.middle Sign NextRule rest further.0 q
-    (sign_stands before.0 t.middle RulesSign (Sign, NextRule) before.1 are.is.middle refl) from_rules in
+    (sign_follows before.0 t.middle RulesSign (Sign, NextRule) before.1 are.is.middle refl) from_rules in
     let whole = leads_on Declaration no_words (flat_map declaration_words t.declarations) before.0 p (t.middle ∷ rest) further.0 q before.2 from_middle in
     let listed : q ≡ o = read_is_listed t ∙ sym are.outline in
     record {

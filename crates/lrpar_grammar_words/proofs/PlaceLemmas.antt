@@ -1,4 +1,4 @@
--- Where the words of a text lie: each between two characters, and on one line.
+-- Where the words of a text lie: each begins and ends between two characters, and is on one line.
 use Rattle.std.proofs.Common.{◌≡◌, ◌≢◌, ◌<◌, ◌≤◌, ◌+◌, ◌-◌, ◌*◌, ◌==◌, ◌&&◌, ◌||◌, not, eqb, ltb, ℕ, Bool, true, cond, List, [], ◌∷◌, length, length-drop, length-take, drop, take, get_or, Option, Some, None, option_map, option_and_then, refl, ap, sym, subst, ◌∙◌, inl, inr, nat_eq, codes, zero, suc, arith}
 use Rattle.std.specs.List.{All, slice_get, starts_with, prefix_len, position_or_len, slice_range}
 use Rattle.std.specs.Option.{option_to_list}
@@ -15,11 +15,11 @@ use Rattle.lrpar_grammar_words.specs.declared.words.WordKind.{WordKind}
 use Rattle.lrpar_grammar_words.specs.declared.words.WordKind.TheVariants.{Name, Quoted, StartSign, TokenSign, EppSign, RulesSign, Colon, Bar, Semicolon}
 use Rattle.lrpar_grammar_places.specs.Span.{Extent}
 use Rattle.lrpar_grammar_words.specs.Words.{IsCutInto, IsWordPiece, PlacedWord, ReadsAs, begins_name, blank_piece, closed_len, comment_after, is_byte_at, is_in_name, is_white, name_after, piece_at, piece_from, quote_len, quoted_after, sign_after, word_at, word_piece, words_of}
-use Rattle.lrpar_grammar_words.specs.declared.shape.Expected.{Expected}
-use Rattle.lrpar_grammar_words.specs.declared.shape.Expected.TheVariants.{Declaration}
-use Rattle.lrpar_grammar_words.specs.declared.shape.Role.{Role}
-use Rattle.lrpar_grammar_words.specs.declared.shape.Role.TheVariants.{Sign, Start, Declared, EppOf, Epp, Defined, Symbol, AlternativeEnd}
-use Rattle.lrpar_grammar_words.specs.Shape.{after}
+use Rattle.lrpar_grammar_words.specs.declared.word_order.Expected.{Expected}
+use Rattle.lrpar_grammar_words.specs.declared.word_order.Expected.TheVariants.{Declaration}
+use Rattle.lrpar_grammar_words.specs.declared.word_order.Role.{Role}
+use Rattle.lrpar_grammar_words.specs.declared.word_order.Role.TheVariants.{Sign, Start, Declared, EppOf, Epp, Defined, Symbol, AlternativeEnd}
+use Rattle.lrpar_grammar_words.specs.WordOrder.{after}
 use Rattle.lrpar_grammar_words.specs.Outline.{IsOutlineOf, TextAlternative, TextOutline, after_words, ended, no_words, with_word}
 use Rattle.lrpar_grammar_words.proofs.WordsLemmas.{ends_char, starts_char}
 
@@ -34,17 +34,17 @@ pub record IsLinePiece (s : List ℕ) (len : ℕ) (kind : WordKind) : Type 0 whe
 abbrev pub is_plain : ℕ → Bool
 is_plain c = ltb c 128 && not (eqb c 10)
 
--- the two parts of that
+-- the two parts of `is_plain`
 plain_parts : (c : ℕ) → is_plain c ≡ true → (c < 128) × (c ≢ 10)
 plain_parts c plain =
     let parts = and_parts (ltb c 128) (not (eqb c 10)) plain in
     (ltb-true c 128 parts.0, eqb-false c 10 (not-true (eqb c 10) parts.1))
 
--- a name has no other bytes
+-- the bytes of a name are plain
 name_plain : (c : ℕ) → is_in_name c ≡ true → is_plain c ≡ true
 name_plain c in_name = grind (arith, nat_tests)
 
--- a word without quotes, of such bytes
+-- a word without quotes that has only plain bytes
 plain_word : (s : List ℕ) (len : ℕ) (kind : WordKind) → quote_len kind ≡ 0 → 0 < len → len ≤ length s
     → ((k : ℕ) → k < len → is_plain (get_or s k 0) ≡ true) → IsLinePiece s len kind
 plain_word s len kind unquoted some most plain =
@@ -59,7 +59,7 @@ plain_word s len kind unquoted some most plain =
       line = λ k from to. (plain_parts (get_or s k 0) (plain k (omega arith))).1;
     }
 
--- such a piece of a first byte and bytes that follow it
+-- such a word: a plain first byte, and n plain bytes after it
 plain_after : (c : ℕ) (s : List ℕ) (n : ℕ) (kind : WordKind) → quote_len kind ≡ 0 → n ≤ length s → is_plain c ≡ true
     → ((k : ℕ) → k < n → is_plain (get_or s k 0) ≡ true) → IsLinePiece (c ∷ s) (1 + n) kind
 plain_after c s n kind unquoted most first rest =
@@ -71,7 +71,7 @@ plain_after c s n kind unquoted most first rest =
     plain_bytes c s n first rest zero within = first
     plain_bytes c s n first rest (suc k) within = rest k (omega arith)
 
--- a sign: its first byte, and the bytes that have to follow it
+-- a sign: its first byte, and the bytes that must follow it
 sign_lies : (c : ℕ) (s p : List ℕ) (kind : WordKind) → quote_len kind ≡ 0 → is_plain c ≡ true → starts_with nat_eq s p ≡ true
     → prefix_len is_plain p ≡ length p → IsLinePiece (c ∷ s) (1 + length p) kind
 sign_lies c s p kind unquoted first starts plain =
@@ -81,7 +81,7 @@ sign_lies c s p kind unquoted first starts plain =
     let byte : get_or p k 0 ≡ get_or s k 0 = ap (λ l. get_or l k 0) same ∙ get_or-take (length p) s k 0 within in
     subst (λ b. is_plain b ≡ true) byte (prefix_len_passes is_plain p k 0 (omega arith)))
 
--- a word in quotes, neither quote nor line feed in it
+-- a word in quotes, with no quote and no line feed in it
 quoted_lies : (quote : ℕ) (s : List ℕ) (n : ℕ) → quote < 128 → 0 < n → n < length s → get_or s n 0 ≡ quote
     → ((k : ℕ) → k < n → get_or s k 0 ≢ 10) → IsLinePiece (quote ∷ s) (n + 2) Quoted
 quoted_lies quote s n ascii some within ends line =
@@ -101,7 +101,7 @@ quoted_lies quote s n ascii some within ends line =
     inside s n line zero from to = absurd (omega arith)
     inside s n line (suc k) from to = line k (omega arith)
 
--- where s begins with a word, that lies in s on one line
+-- if s begins with a word, the word lies in s, on one line
 abbrev pub BeginsOnLine : List ℕ → Option Piece → Type 0
 BeginsOnLine s r = (kind : WordKind) (len : ℕ) → r ≡ Some (word_piece kind len) → IsLinePiece s len kind
 
@@ -123,7 +123,7 @@ word_begins s n k lies kind len is =
     let word : k ≡ kind = same_Some k kind (ap (λ (x : Piece). x.word) same) in
     subst (λ m. IsLinePiece s m kind) (ap (λ (x : Piece). x.len) same) (subst (IsLinePiece s n) word lies)
 
--- a comment that is closed somewhere, or isn't
+-- a comment, whether it is closed or not
 closed_begins : (s : List ℕ) (found : Option ℕ) → BeginsOnLine s (option_map (λ n. blank_piece (2 + n)) found)
 closed_begins s None = none_begins s
 closed_begins s (Some n) = blank_begins s (2 + n)
@@ -217,7 +217,7 @@ piece_begins c s =
       | inr other ↦ let same = eqb-true c 34 other in omega arith
     ]
 
--- the same of a list that may be empty
+-- the same for a list that may be empty
 pub begins_on_line : (s : List ℕ) → BeginsOnLine s (piece_at s)
 begins_on_line [] = none_begins []
 begins_on_line (c ∷ s) = piece_begins c s
@@ -228,12 +228,12 @@ pub record LiesInLine (text : List ℕ) (span : Extent) : Type 0 where
   pub end : IsCharBoundary text span.end
   pub line : All (λ byte. byte ≢ 10) (slice_range text span.start span.end)
 
--- at most one quote stands at each end
+-- at most one quote is at each end
 quote_few : (kind : WordKind) → quote_len kind ≤ 1
 quote_few Quoted = omega arith
 quote_few _ = omega arith
 
--- such a word of the rest of a text lies in the text
+-- such a word of the rest of a text lies in the whole text
 word_lies : (text : List ℕ) (place len : ℕ) (kind : WordKind) → IsUtf8 text → IsLinePiece (drop place text) len kind
     → LiesInLine text (word_at place (drop place text) kind len).span
 word_lies text place len kind utf8 lies =
@@ -255,7 +255,7 @@ word_lies text place len kind utf8 lies =
           subst (λ x. x ≢ 10) (piece ∙ sym same ∙ sym at) (lies.line (quote + k) (omega arith) (omega arith));
     }
 
--- what holds of the word that there may be
+-- what holds of the word, if there is one
 option_all : {X Y : Type 0} (P : Y → Type 0) (f : X → Y) (r : Option X) → ((x : X) → r ≡ Some x → P (f x)) → All P (option_to_list (option_map f r))
 option_all P f None holds = All-nil P
 option_all P f (Some x) holds = All-cons P (f x) [] (holds x refl) (All-nil P)
@@ -281,12 +281,12 @@ pub reads_in_line : (text : List ℕ) (words : List PlacedWord) → IsUtf8 text 
 reads_in_line text words utf8 reads =
     subst (All (λ (w : PlacedWord). LiesInLine text w.span)) (sym reads.listed) (words_lie text 0 reads.pieces utf8 reads.cut)
 
--- the alternative's symbols, and the sign that ends it
+-- P holds of the alternative's symbols, and of the sign that ends it
 pub record AllOfAlternative (P : PlacedWord → Type 0) (x : TextAlternative) : Type 0 where
   pub symbols : All P x.symbols
   pub end : P x.end
 
--- the rules, tokens and alternatives of an outline
+-- P holds of the declared tokens, the rules, the alternatives and the symbols of an outline
 pub record AllOfOutline (P : PlacedWord → Type 0) (o : TextOutline) : Type 0 where
   pub declared : All P o.declared
   pub defined : All P o.defined
@@ -332,7 +332,7 @@ all_after P expected last o p (w ∷ ws) holds all is =
       | Some step ↦ λ yes. all_after P step.1 last (with_word o step.0 w) p ws (All-tail P w ws holds) (all_with_word P o step.0 w (All-head P w ws holds) all) yes
     ]) is
 
--- nothing
+-- an outline without words
 all_none : (P : PlacedWord → Type 0) → AllOfOutline P no_words
 all_none P = record { declared = All-nil P; defined = All-nil P; alternatives = All-nil (AllOfAlternative P); symbols = All-nil P }
 

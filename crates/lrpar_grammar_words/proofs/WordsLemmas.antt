@@ -8,12 +8,12 @@ use Rattle.std.proofs.lemmas.Bool.{cases_lt}
 use Rattle.lrpar_grammar_words.specs.declared.words.Piece.{Piece}
 use Rattle.lrpar_grammar_words.specs.Words.{IsCutInto, ReadsAsOne, closed_len, piece_at, words_of}
 
--- two numbers that are added to a found one
+-- two numbers added to a found number, one after the other
 option_map_add : (found : Option ℕ) (i : ℕ) → option_map (λ n. n + i) (option_map (λ n. n + 1) found) ≡ option_map (λ n. n + (i + 1)) found
 option_map_add None i = refl
 option_map_add (Some n) i = let same : (n + 1) + i ≡ n + (i + 1) = omega arith in ap (λ k. Some k) same
 
--- where no comment ends, it ends one byte further in the rest
+-- if no comment ends at i, the end from i + 1 on is one byte nearer
 pub closed_len_more : (text : List ℕ) (i : ℕ) → i < length text → starts_with nat_eq (drop i text) (codes "*/") ≡ false
     → option_map (λ n. n + i) (closed_len (drop i text)) ≡ option_map (λ n. n + (i + 1)) (closed_len (drop (i + 1) text))
 closed_len_more text i within unclosed =
@@ -23,7 +23,7 @@ closed_len_more text i within unclosed =
     at_drop_more closed_len text i 0 within ∙ ap (λ b. cond b (Some 2) (option_map (λ n. n + 1) rest)) test in
     ap (option_map (λ n. n + i)) step ∙ option_map_add rest i
 
--- past a first byte that is ASCII, or at it, a text may be cut
+-- a text may be cut before or after a first byte that is ASCII
 pub starts_char : (text : List ℕ) (place len quote : ℕ) → IsUtf8 text → place + len ≤ length text → 0 < len → quote ≤ 1
     → get_or (drop place text) 0 0 < 128 → IsCharBoundary text (place + quote)
 starts_char text place len quote utf8 within some few first =
@@ -38,7 +38,7 @@ starts_char text place len quote utf8 within some few first =
           subst (IsCharBoundary text) same (IsCharBoundary-after_ascii text place utf8 (omega arith) ascii)
     ]
 
--- before a last byte that is ASCII, or past it, a text may be cut
+-- a text may be cut before or after a last byte that is ASCII
 pub ends_char : (text : List ℕ) (place len quote : ℕ) → IsUtf8 text → place + len ≤ length text → 0 < len → quote ≤ 1
     → get_or (drop place text) (len - 1) 0 < 128 → IsCharBoundary text (place + (len - quote))
 ends_char text place len quote utf8 within some few last =
@@ -51,11 +51,11 @@ ends_char text place len quote utf8 within some few last =
           subst (IsCharBoundary text) same (IsCharBoundary-before_ascii text (place + (len - 1)) (omega arith) ascii)
     ]
 
--- what is cut at an end isn't cut further
+-- no piece begins at the end of a text
 pub no_piece : (s : List ℕ) (x : Piece) → s ≡ [] → piece_at s ≡ Some x → ⊥
 no_piece s x ends is = let none : piece_at s ≡ None = ap piece_at ends in let same : ◌≡◌ {A = Option Piece} None (Some x) = sym none ∙ is in absurd (cc)
 
--- a text is cut in one way
+-- a text can be cut into only one list of pieces
 cut_one : (s : List ℕ) (xs ys : List Piece) → IsCutInto s xs → IsCutInto s ys → xs ≡ ys
 cut_one s [] [] a b = refl
 cut_one s [] (y ∷ ys) a b = absurd (no_piece s y a b.0)

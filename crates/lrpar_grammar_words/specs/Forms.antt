@@ -1,4 +1,4 @@
--- What the words and blanks of a grammar text are, by their bytes alone: nothing is said of how they are found.
+-- What the words and blanks of a grammar text are, by their bytes alone. How they are found isn't said here.
 use Rattle.std.specs.Prelude.{◌≡◌, ◌≢◌, ◌↔◌, ◌<◌, ◌≤◌, ◌⊎◌, true, ℕ, List, [], ◌∷◌, ◌++◌, All, codes, drop, length, take, Option, Some, None}
 use Rattle.lrpar_grammar_words.specs.declared.words.WordKind.{WordKind}
 use Rattle.lrpar_grammar_words.specs.declared.words.WordKind.TheVariants.{Name, Quoted, StartSign, TokenSign, EppSign, RulesSign, Colon, Bar, Semicolon}
@@ -13,7 +13,7 @@ pub record IsName (s : List ℕ) : Type 0 where
   pub goes_on : All (λ c. is_in_name c ≡ true) others
   pub is : s ≡ first ∷ others
 
--- `'` or `"`, one byte or more but that quote and LF, and the quote again
+-- `'` or `"`, one or more bytes other than that quote and LF, and the quote again
 pub record IsQuotedText (s : List ℕ) : Type 0 where
   pub quote : ℕ
   pub text : List ℕ
@@ -40,13 +40,13 @@ pub record IsWhite (s : List ℕ) : Type 0 where
   pub white : is_white byte ≡ true
   pub is : s ≡ byte ∷ []
 
--- `//` and bytes of that line
+-- `//` and bytes without LF
 pub record IsLineComment (s : List ℕ) : Type 0 where
   pub line : List ℕ
   pub on_line : All (λ c. c ≢ 10) line
   pub is : s ≡ codes "//" ++ line
 
--- `/*` and what goes up to the next `*/`
+-- `/*`, and the bytes up to the end of the next `*/`
 pub record IsClosedComment (s : List ℕ) : Type 0 where
   pub text : List ℕ
   pub unclosed : (k : ℕ) → k < length text → take 2 (drop k (text ++ codes "*/")) ≢ codes "*/"
@@ -56,21 +56,21 @@ pub record IsClosedComment (s : List ℕ) : Type 0 where
 abbrev pub IsBlank : List ℕ → Type 0
 IsBlank s = IsWhite s ⊎ (IsLineComment s ⊎ IsClosedComment s)
 
--- a word of that kind, or blanks
+-- a word of that kind, or blanks if there is no kind
 abbrev pub IsPieceText : Option WordKind → List ℕ → Type 0
 IsPieceText (Some kind) s = IsWord kind s
 IsPieceText None s = IsBlank s
 
--- s begins with this word, or with these blanks, and with none that is longer
+-- the piece x is a word or blanks at the start of s, and none there is longer
 pub record IsLongestPiece (s : List ℕ) (x : Piece) : Type 0 where
   pub within : x.len ≤ length s
   pub is : IsPieceText x.word (take x.len s)
   pub longest : (n : ℕ) (word : Option WordKind) → n ≤ length s → IsPieceText word (take n s) → n ≤ x.len
 
--- what is read at a place is the longest word or blanks there
+-- the piece at the start of s is the longest word or blanks there
 abbrev pub PiecesAreLongest : Type 0
 PiecesAreLongest = (s : List ℕ) (x : Piece) → (piece_at s ≡ Some x) ↔ IsLongestPiece s x
 
--- where nothing is read, no word or blanks begin
+-- if there is no piece at the start of s, then s begins with no word or blanks
 abbrev pub NothingIsPassedOver : Type 0
 NothingIsPassedOver = (s : List ℕ) → piece_at s ≡ None → (n : ℕ) (word : Option WordKind) → IsPieceText word (take n s) → ⊥

@@ -1,5 +1,5 @@
 pub mod Words
-pub mod Shape
+pub mod WordOrder
 pub mod Outline
 pub mod Phrases
 pub mod Forms

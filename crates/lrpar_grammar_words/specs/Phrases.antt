@@ -1,4 +1,4 @@
--- The grammar of grammar texts, over their words: declarations, `%%`, rules, and perhaps a second `%%`. And what these list.
+-- The grammar of grammar texts, over their words: declarations, `%%`, rules, and perhaps a second `%%`; and the outline of each.
 use Rattle.std.specs.Prelude.{◌≡◌, ◌↔◌, List, [], ◌∷◌, ◌++◌, All, map, Option, IfSome, ◌⊎◌}
 use Rattle.std.specs.List.{flat_map}
 use Rattle.std.specs.Option.{option_to_list}
@@ -13,7 +13,7 @@ pub data TextDeclaration : Type 0 where
   TokensAre : (sign : PlacedWord) → (first : PlacedWord) → (others : List PlacedWord) → TextDeclaration
   EppIs : (sign : PlacedWord) → (token : PlacedWord) → (printed : PlacedWord) → TextDeclaration
 
--- a name, `:`, the alternatives that a `|` ends, and the last one, which the `;` ends
+-- a name, `:`, the alternatives that end with `|`, and the last one, which ends with `;`
 pub record TextRule : Type 0 where
   pub name : PlacedWord
   pub colon : PlacedWord
@@ -37,7 +37,7 @@ IsDeclaration (StartIs sign name) = (sign.kind ≡ StartSign) × (name.kind ≡ 
 IsDeclaration (TokensAre sign first others) = (sign.kind ≡ TokenSign) × IsTokenWord first × All IsTokenWord others
 IsDeclaration (EppIs sign token printed) = (sign.kind ≡ EppSign) × IsTokenWord token × (printed.kind ≡ Quoted)
 
--- an alternative of that rule: names and quoted words, none perhaps, and a sign of that kind
+-- an alternative of that rule: names and quoted words, or none, and a sign of that kind
 pub record IsAlternative (rule : PlacedWord) (sign : WordKind) (x : TextAlternative) : Type 0 where
   pub of : x.rule ≡ rule
   pub symbols : All IsTokenWord x.symbols
@@ -75,27 +75,27 @@ rule_words r = r.name ∷ r.colon ∷ (flat_map alternative_words r.firsts ++ al
 abbrev pub grammar_words : GrammarText → List PlacedWord
 grammar_words t = flat_map declaration_words t.declarations ++ (t.middle ∷ (flat_map rule_words t.rules ++ option_to_list t.close))
 
--- the name that a declaration makes the start
+-- the name that a declaration makes the start rule
 abbrev pub start_of : TextDeclaration → List PlacedWord
 start_of (StartIs sign name) = name ∷ []
 start_of _ = []
 
--- the tokens that it declares
+-- the tokens that a declaration declares
 abbrev pub declared_of : TextDeclaration → List PlacedWord
 declared_of (TokensAre sign first others) = first ∷ others
 declared_of _ = []
 
--- the token that it has a printed text for
+-- the token whose printed text a declaration gives
 abbrev pub epp_of : TextDeclaration → List PlacedWord
 epp_of (EppIs sign token printed) = token ∷ []
 epp_of _ = []
 
--- that text
+-- the printed text that a declaration gives
 abbrev pub printed_of : TextDeclaration → List PlacedWord
 printed_of (EppIs sign token printed) = printed ∷ []
 printed_of _ = []
 
--- what the declarations and rules list
+-- the outline of the declarations and rules
 abbrev pub grammar_outline : GrammarText → TextOutline
 grammar_outline t = record {
   starts = flat_map start_of t.declarations;
@@ -107,13 +107,13 @@ grammar_outline t = record {
   symbols = [];
 }
 
--- the words are those of a grammar text, whose declarations and rules list what the outline does
+-- the words are those of a grammar text with this outline
 pub record AreOfGrammarText (words : List PlacedWord) (o : TextOutline) : Type 0 where
   pub text : GrammarText
   pub is : IsGrammarText text
   pub are : words ≡ grammar_words text
   pub outline : o ≡ grammar_outline text
 
--- words have an outline exactly where they are those of a grammar text that lists it
+-- words have an outline if and only if they are those of a grammar text with that outline
 abbrev pub OutlinesAreOfTexts : Type 0
 OutlinesAreOfTexts = (words : List PlacedWord) (o : TextOutline) → HaveOutline words o ↔ AreOfGrammarText words o

@@ -20,11 +20,11 @@ is_digit c = nat_le 48 c && nat_le c 57
 abbrev pub begins_name : ℕ → Bool
 begins_name c = (nat_le 97 c && nat_le c 122) || (nat_le 65 c && nat_le c 90) || (c == 95) || (c == 46)
 
--- what a name has
+-- a byte that a name may contain
 abbrev pub is_in_name : ℕ → Bool
 is_in_name c = begins_name c || is_digit c
 
--- the byte c stands at that place
+-- s has the byte c at that place
 abbrev pub is_byte_at : List ℕ → ℕ → ℕ → Bool
 is_byte_at s place c = nat_lt place (length s) && (slice_index s place == c)
 
@@ -32,11 +32,11 @@ is_byte_at s place c = nat_lt place (length s) && (slice_index s place == c)
 abbrev pub word_piece : WordKind → ℕ → Piece
 word_piece kind len = record { word = Some kind; len = len }
 
--- so many bytes of blanks
+-- blanks of that length in bytes
 abbrev pub blank_piece : ℕ → Piece
 blank_piece len = record { word = None; len = len }
 
--- how many bytes there are up to the end of the first `*/`
+-- the number of bytes up to the end of the first `*/`
 abbrev pub closed_len : List ℕ → Option ℕ
 closed_len [] = None
 closed_len (c ∷ s) = if starts_with nat_eq (c ∷ s) (codes "*/") then Some 2 else option_map (λ n. n + 1) (closed_len s)
@@ -62,11 +62,11 @@ sign_after s =
     else (if starts_with nat_eq s (codes "epp") then Some (word_piece EppSign 4)
     else (if starts_with nat_eq s (codes "%") then Some (word_piece RulesSign 2) else None)))
 
--- a name that begins with that byte, as long as it goes on
+-- the name that begins with the byte c and goes on in s, as long as it can
 unfoldable pub name_after : ℕ → List ℕ → Option Piece
 name_after c s = if begins_name c then Some (word_piece Name (1 + prefix_len is_in_name s)) else None
 
--- the longest piece that begins with that byte and goes on in s
+-- the longest piece that begins with the byte c and goes on in s
 unfoldable pub piece_from : ℕ → List ℕ → Option Piece
 piece_from c s =
     if is_white c then Some (blank_piece 1)
@@ -77,22 +77,22 @@ piece_from c s =
     else (if c == 124 then Some (word_piece Bar 1)
     else (if c == 59 then Some (word_piece Semicolon 1) else name_after c s))))))
 
--- the longest piece that can be read at the start: blanks or a word
+-- the longest piece at the start of s: a word or blanks
 abbrev pub piece_at : List ℕ → Option Piece
 piece_at [] = None
 piece_at (c ∷ s) = piece_from c s
 
--- a piece has one byte or more, and at most so many
+-- a piece has at least one byte, and at most `limit`
 pub record IsWithin (piece : Piece) (limit : ℕ) : Type 0 where
   pub some : 0 < piece.len
   pub most : piece.len ≤ limit
 
--- how many bytes of a quote stand at each end of a word
+-- the length in bytes of the quote at each end of a word
 abbrev pub quote_len : WordKind → ℕ
 quote_len Quoted = 1
 quote_len _ = 0
 
--- the word of that kind and length with which s begins has room for its quotes, and its first and last byte are ASCII
+-- s begins with a word of that kind and length: it has room for its quotes, and its first and last byte are ASCII
 pub record IsWordPiece (s : List ℕ) (len : ℕ) (kind : WordKind) : Type 0 where
   pub room : 2 * quote_len kind ≤ len
   pub first : slice_index s 0 < 128
@@ -108,7 +108,7 @@ pub record PlacedWord : Type 0 where
 abbrev pub placed : Word → PlacedWord
 placed w = record { kind = w.kind; name = w.name.now; span = record { start = w.end - length w.name.now; end = w.end } }
 
--- the word of that kind and length that stands at the start of s, which lies at a place of a text
+-- the word of that kind and length at the start of s, which begins at that place of the text
 abbrev pub word_at : ℕ → List ℕ → WordKind → ℕ → PlacedWord
 word_at place s kind len =
     let quote = quote_len kind in
@@ -118,17 +118,17 @@ word_at place s kind len =
       span = record { start = place + quote; end = place + (len - quote) };
     }
 
--- s is cut into these pieces, each the longest that can be read at its place
+-- s is cut into these pieces, each the longest one at its place
 abbrev pub IsCutInto : List ℕ → List Piece → Type 0
 IsCutInto s [] = s ≡ []
 IsCutInto s (x ∷ xs) = (piece_at s ≡ Some x) × IsCutInto (drop x.len s) xs
 
--- the first n bytes of s are cut into these pieces, each the longest that can be read at its place
+-- the first n bytes of s are cut into these pieces, each the longest one at its place
 abbrev pub IsCutUpTo : List ℕ → ℕ → List Piece → Type 0
 IsCutUpTo s n [] = n ≡ 0
 IsCutUpTo s n (x ∷ xs) = (piece_at s ≡ Some x) × (x.len ≤ n) × IsCutUpTo (drop x.len s) (n - x.len) xs
 
--- the words among the pieces of s, which lies at a place of a text
+-- the words among the pieces of s, which begins at that place of the text
 abbrev pub words_of : ℕ → List ℕ → List Piece → List PlacedWord
 words_of place s [] = []
 words_of place s (x ∷ xs) =

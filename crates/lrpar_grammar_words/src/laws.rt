@@ -4,8 +4,8 @@ ghost use Rattle.lrpar_grammar_words.specs.Outline.{OutlineIsOne, StuckIsOne};
 ghost use Rattle.lrpar_grammar_words.specs.Phrases.{OutlinesAreOfTexts};
 ghost use Rattle.lrpar_grammar_words.specs.Words.{ReadsAsOne};
 
-/// What is read at a place of a grammar text is the longest word that stands there, or the longest blanks. Where nothing is read,
-/// none stand there.
+/// The piece at a place of a grammar text is the longest word or the longest blanks there. If there is no piece, the rest of the
+/// text begins with no word and no blanks.
 pub fn pieces_are_longest()
     ensures read { PiecesAreLongest }
     ensures unread { NothingIsPassedOver }
@@ -21,13 +21,13 @@ pub fn text_has_one_outline()
     ensures { OutlineIsOne }
 {}
 
-/// A grammar text that can't be read is stuck at one place: where it can't be read on, by what may stand behind its words so far.
+/// Reading a grammar text is stuck at one place at most: where what comes next isn't allowed after the words so far.
 pub fn text_is_stuck_at_one_place()
     ensures { StuckIsOne }
 {}
 
-/// Words have an outline exactly where they are those of a grammar text: declarations, `%%`, rules, and perhaps a second `%%`. It
-/// lists what these declare and define, each in the order of the text.
+/// Words have an outline if and only if they are those of a grammar text: declarations, `%%`, rules, and perhaps a second `%%`.
+/// The outline lists what these declare and define, each in the order of the text.
 pub fn outlines_are_of_grammar_texts()
     ensures { OutlinesAreOfTexts }
 {}

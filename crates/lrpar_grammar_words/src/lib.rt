@@ -3,5 +3,5 @@
 
 pub mod laws;
 pub mod outline;
-pub mod shape;
+pub mod word_order;
 pub mod words;

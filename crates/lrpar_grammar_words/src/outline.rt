@@ -3,7 +3,7 @@ ghost use Rattle.std.specs.Prelude.{◌≡◌, IfOk, IfErr, OnOk};
 ghost use Rattle.lrpar_grammar_words.specs.Words.{placed};
 ghost use Rattle.lrpar_grammar_words.specs.declared.outline.OutlineFault.TheVariants.{Memory};
 
-use crate::shape::{Expected, Role};
+use crate::word_order::{Expected, Role};
 use crate::words::{Word, piece_at, word_at};
 use std::alloc::{AllocError, AllocFailed, Global};
 use std::mem;
@@ -11,7 +11,7 @@ use std::mem;
 /// An alternative of a rule.
 #[derive(Drop)]
 pub struct Alternative<'a> {
-    /// The rule that was defined last before it.
+    /// The last rule defined before it.
     pub rule: Word<'a>,
     /// Its symbols.
     pub symbols: Vec<Word<'a>>,
@@ -37,7 +37,7 @@ pub struct Outline<'a> {
     pub(crate) symbols: Vec<Word<'a>>,
 }
 
-// A drop of its own, so that what lets go of one elsewhere proves one call.
+// Hand-written, so that code that drops an outline needs the proof of one call only.
 impl<'a> Drop for Outline<'a> {
     fn drop(self) {
         let Outline {
@@ -62,10 +62,10 @@ impl<'a> Drop for Outline<'a> {
 /// Why a text has no outline.
 #[derive(Drop)]
 pub enum OutlineFault {
-    /// The text isn't one of a grammar: at this byte stands the first word that can't be read or can't stand there, a
-    /// quote or comment that isn't closed, or the end that comes too early.
+    /// The text isn't a grammar text. At this byte is the first word that can't be read or isn't allowed there, a
+    /// quote or comment that isn't closed, or the end of the text, if it comes too early.
     Syntax(usize),
-    /// Memory was wanting.
+    /// An allocation failed.
     Memory,
 }
 
@@ -88,7 +88,7 @@ impl<T: Drop> From<AllocFailed<T>> for OutlineFault {
 impl<'a> Outline<'a> {
     ghost use Rattle.lrpar_grammar_words.specs.Outline.{outline_of, no_words, with_word, AreOfDefinedRules, HasOrderedSymbols, IsOutlineOf, IsRefused};
 
-    /// The declarations and rules of the text. Takes time and memory linear in the text.
+    /// The declarations and rules of the text. Takes time and memory linear in the length of the text.
     pub fn read(alloc: Global, text: &'a str) -> Result<Self, OutlineFault>
         ensures outline { IfOk result (λ o. IsOutlineOf text.now (outline_of o)) }
         ensures rules { IfOk result (λ o. AreOfDefinedRules (outline_of o)) }
@@ -135,7 +135,7 @@ impl<'a> Outline<'a> {
         }
     }
 
-    // Takes one more word, by what it stands for.
+    // Adds one more word, by its role.
     #[tactic(auto, unfolding(crate::specs::Outline::with_word))]
     fn take(&mut self, alloc: Global, role: Role, word: Word<'a>) -> Result<(), AllocError>
         ensures { OnOk result (outline_of self.new ≡ with_word (outline_of self.old) role (placed word.entry)) }
@@ -153,7 +153,7 @@ impl<'a> Outline<'a> {
         Ok(())
     }
 
-    // Ends the alternative of the symbols so far.
+    // Ends the alternative that has the symbols so far.
     #[tactic(auto, unfolding(crate::specs::Outline::with_word))]
     fn end_alternative(&mut self, alloc: Global, end: Word<'a>) -> Result<(), AllocError>
         ensures { OnOk result (outline_of self.new ≡ with_word (outline_of self.old) Role.AlternativeEnd (placed end.entry)) }

@@ -5,12 +5,12 @@ ghost use Rattle.lrpar_grammar_words.specs.Words.{IsWordPiece, IsWithin, begins_
 
 use lrpar_grammar_places::span::Span;
 
-/// What a word of a grammar text is.
+/// The kind of a word of a grammar text.
 #[derive(Clone, Copy)]
 pub enum WordKind {
-    /// ASCII letters, digits, `_` and `.`, the first of them no digit.
+    /// ASCII letters, digits, `_` and `.`, of which the first isn't a digit.
     Name,
-    /// A name between quotes, which may have any characters but that quote and LF.
+    /// A name between quotes. It may have any characters except that quote and LF.
     Quoted,
     /// `%start`
     StartSign,
@@ -31,16 +31,16 @@ pub enum WordKind {
 /// A word of a grammar text.
 #[derive(Clone, Copy)]
 pub struct Word<'a> {
-    /// What it is.
+    /// Its kind.
     pub kind: WordKind,
     /// Its text, without quotes.
     pub name: &'a str,
-    /// The byte after that text.
+    /// The byte after that text, counted from the start of the grammar text.
     pub end: usize,
 }
 
 impl Word<'_> {
-    /// Where the word stands, without quotes.
+    /// The span of the word, without quotes.
     pub fn span(&self) -> Span
         ensures { result ≡ (placed self.now).span }
     {
@@ -48,7 +48,7 @@ impl Word<'_> {
     }
 }
 
-// The longest piece of a text at some place: a word or, where `word` is none, blanks. It has so many bytes.
+// The longest piece of a text at some place: a word or, if `word` is `None`, blanks. Its length is in bytes.
 #[derive(Clone, Copy)]
 pub(crate) struct Piece {
     pub(crate) word: Option<WordKind>,
@@ -56,7 +56,7 @@ pub(crate) struct Piece {
 }
 
 impl Piece {
-    // So many bytes of blanks.
+    // Blanks of that length in bytes.
     fn blank(len: usize) -> Piece
         ensures { result ≡ blank_piece len }
     {
@@ -88,7 +88,7 @@ impl WordKind {
         WordKind::Semicolon,
     ];
 
-    // How many bytes of a quote stand at each end.
+    // The length in bytes of the quote at each end.
     fn quote_len(self) -> usize
         ensures len { result ≡ quote_len self }
         ensures few { result ≤ 1 }
@@ -100,7 +100,7 @@ impl WordKind {
     }
 }
 
-// The word of that kind and length that stands at `place` of the text.
+// The word of that kind and length that begins at `place` of the text.
 pub(crate) fn word_at(text: &str, place: usize, kind: WordKind, len: usize) -> Word
     requires within { place + len ≤ length text.now }
     requires some { 0 < len }
@@ -117,7 +117,7 @@ pub(crate) fn word_at(text: &str, place: usize, kind: WordKind, len: usize) -> W
     }
 }
 
-// The piece that the rest of a text begins with: none where the rest is empty, or where nothing can be read.
+// The piece that the rest of a text begins with: `None` if the rest is empty, or if no word and no blanks begin there.
 pub(crate) fn piece_at(rest: &[u8]) -> Option<Piece>
     ensures piece { result ≡ piece_at rest.now }
     ensures within { IfSome result (λ piece. IsWithin piece (length rest.now)) }
@@ -148,7 +148,7 @@ fn piece_from(first: u8, after: &[u8]) -> Option<Piece>
     }
 }
 
-// The comment whose `/` stands before `after`.
+// The comment with its first `/` before `after`.
 #[tactic(auto, unfolding(crate::specs::Words::comment_after))]
 fn comment_after(after: &[u8]) -> Option<Piece>
     ensures piece { result ≡ comment_after after.now }
@@ -162,7 +162,7 @@ fn comment_after(after: &[u8]) -> Option<Piece>
     }
 }
 
-// How many bytes come before the first LF.
+// The number of bytes before the first LF.
 fn line_len(text: &[u8]) -> usize
     ensures len { result ≡ position_or_len (λ c. c == 10) text.now }
     ensures within { result ≤ length text.now }
@@ -175,7 +175,7 @@ fn line_len(text: &[u8]) -> usize
     text.len()
 }
 
-// How many bytes there are up to the end of the first `*/`.
+// The number of bytes up to the end of the first `*/`.
 fn closed_len(text: &[u8]) -> Option<usize>
     ensures len { result ≡ closed_len text.now }
     ensures within { IfSome result (λ len. len ≤ length text.now) }
@@ -188,7 +188,7 @@ fn closed_len(text: &[u8]) -> Option<usize>
     None
 }
 
-// The quoted word whose first quote stands before `after`.
+// The quoted word with its first quote before `after`.
 #[tactic(auto, unfolding(crate::specs::Words::quoted_after))]
 fn quoted_after(quote: u8, after: &[u8]) -> Option<Piece>
     ensures piece { result ≡ quoted_after quote after.now }
@@ -203,7 +203,7 @@ fn quoted_after(quote: u8, after: &[u8]) -> Option<Piece>
     }
 }
 
-// How many bytes come before the first quote or LF.
+// The number of bytes before the first quote or LF.
 fn unquoted_len(quote: u8, text: &[u8]) -> usize
     ensures len { result ≡ position_or_len (λ c. (c == quote) || (c == 10)) text.now }
     ensures within { result ≤ length text.now }
@@ -216,7 +216,7 @@ fn unquoted_len(quote: u8, text: &[u8]) -> usize
     text.len()
 }
 
-// The sign whose `%` stands before `after`.
+// The sign with its `%` before `after`.
 #[tactic(auto, unfolding(crate::specs::Words::sign_after))]
 fn sign_after(after: &[u8]) -> Option<Piece>
     ensures piece { result ≡ sign_after after.now }
@@ -250,7 +250,7 @@ fn name_after(first: u8, after: &[u8]) -> Option<Piece>
     }
 }
 
-// How many bytes of a name the text begins with.
+// The number of bytes at the start of the text that may be in a name.
 fn name_len(text: &[u8]) -> usize
     ensures len { result ≡ prefix_len is_in_name text.now }
     ensures within { result ≤ length text.now }
@@ -264,7 +264,7 @@ fn name_len(text: &[u8]) -> usize
     text.len()
 }
 
-// Whether a name begins with the byte.
+// Whether a name may begin with the byte.
 fn begins_name(byte: u8) -> bool
     ensures begins { result ≡ begins_name byte }
     ensures ascii { IsTrue result → byte < 128 }
@@ -272,7 +272,7 @@ fn begins_name(byte: u8) -> bool
     matches!(byte, b'a'..=b'z' | b'A'..=b'Z' | b'_' | b'.')
 }
 
-// Whether a name has the byte.
+// Whether a name may contain the byte.
 fn is_in_name(byte: u8) -> bool
     ensures within { result ≡ is_in_name byte }
     ensures ascii { IsTrue result → byte < 128 }

@@ -1,4 +1,4 @@
--- A pattern behind an assertion that the text begins finds what the pattern finds, if that begins at 0.
+-- A pattern after an assertion that the text starts there finds what the pattern finds, if that begins at 0.
 use Rattle.std.proofs.Common.{◌≡◌, ℕ, ◌+◌, ◌<◌, ◌≤◌, Bool, true, false, cond, ◌==◌, List, length, is_some, min, Option, Some, None, option_map, refl, sym, ap, ◌∙◌, subst, ⊎_elim, arith, true≢false, ne_eqb, zero, suc}
 use Rattle.std.proofs.lemmas.Bool.{cases_Bool, cases_lt, cond-false, cond-true}
 use Rattle.std.proofs.lemmas.Option.{none-some, same_Some, slice_get-get_or}
@@ -23,7 +23,7 @@ use Rattle.regex_meta.specs.declared.program.Program.{Program}
 use Rattle.lrpar_lexer.specs.Anchored.{FindsAtStart, HasNothingAtStart, IsAfterStart, after_start, if_at_start, without_start}
 use Rattle.lrpar_lexer.specs.Matching.{HasNoMatch}
 
--- only the first place of a text has nothing in front of it
+-- only the first place of a text has nothing before it
 begins_at : (text : List ℕ) (i : ℕ) → i ≤ length text → holds Start text i ≡ true → i ≡ 0
 unfolding holds holds_between
 begins_at text zero within begins = refl
@@ -32,13 +32,13 @@ begins_at text (suc i) within begins =
     absurd (true≢false (sym begins ∙ rw (next, byte_before-add-one text i, slice_get-get_or text i 0 (omega arith))))
 
 module _ (re : Re) (text : List ℕ) where
-  -- at 0 the two do the same
+  -- at 0 both do the same
   attempt_at_start : attempt text (after_start re) accept 0 ≡ attempt text re accept 0
   unfolding attempt holds holds_between
   attempt_at_start =
       cond-true (holds Start text 0) _ None (rw (byte_before-zero text) refl) ∙ attempt_cong text re _ accept 0 (λ j matches. refl)
 
-  -- and elsewhere the one finds nothing
+  -- and elsewhere the pattern with the assertion finds nothing
   attempt_past_start : (i : ℕ) (t : Trace) → i ≤ length text → attempt text (after_start re) accept i ≡ Some t → i ≡ 0
   unfolding attempt
   attempt_past_start i t within found = ⊎_elim
@@ -50,7 +50,7 @@ module _ (re : Re) (text : List ℕ) where
   later_is_none : (m : Match) → 0 < m.start → if_at_start (Some (span m)) ≡ None
   later_is_none m later = cond-false (m.start == 0) (Some (span m)) None (ne_eqb m.start 0 (λ same. omega arith))
 
-  -- where nothing matches at 0, a match begins later
+  -- if nothing matches at 0, a match begins later
   begins_later : (m : Match) → attempt text re accept 0 ≡ None
       → cond (is_boundary text m.start) (attempt text re accept m.start) None ≡ Some m.trace → 0 < m.start
   begins_later m none here = ⊎_elim
@@ -91,7 +91,7 @@ module _ (re : Re) (text : List ℕ) where
       ∙ sym (ap (λ m. if_at_start (option_map span m)) (something_at_start some.0 boundary some.1)))
       (option_cases (attempt text re accept 0))
 
--- so a program of a pattern, where the text begins, finds what the pattern finds there
+-- so the program of a pattern after the assertion finds what the pattern finds at the start
 pub finds_after : (source : List ℕ) (program : Program) → IsAfterStart source program → FindsAtStart program (without_start (pattern_of program))
 finds_after source program it text utf8 =
     let boundary : is_boundary text 0 ≡ true = test_of_IsCharBoundary text 0 (IsCharBoundary-start text utf8) in
@@ -99,7 +99,7 @@ finds_after source program it text utf8 =
     ap (λ re. option_map span (find re text 0)) it.after ∙ found_at_start (meaning it.tree) text boundary
     ∙ ap (λ re. if_at_start (option_map span (find_str re text 0))) (sym pattern)
 
--- where a text begins with no byte with which a match can begin, nothing matches there
+-- if a text doesn't begin with a byte that can begin a match, nothing matches at its start
 pub nothing_begins : (program : Program) (set : List Bool) → program.first ≡ Some set → (text : List ℕ) (bound : ℕ) (found : Option ℕ)
     → bound ≡ min (length text) 1 → IsFirst (IsInSet set text) 0 bound found → is_some found ≡ false → HasNothingAtStart (pattern_of program) text
 nothing_begins program set is text bound None short none _ =

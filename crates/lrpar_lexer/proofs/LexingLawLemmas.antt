@@ -1,4 +1,4 @@
--- A text is lexed in one way: at each place one rule wins, with one length, or none does.
+-- A text is lexed in only one way: at each place one rule wins, with one length, or none does.
 use Rattle.std.proofs.Common.{◌≡◌, ℕ, ◌+◌, ◌<◌, ◌≤◌, List, ◌++◌, length, map, drop, take, get_or, Option, Some, sym, subst, ◌∙◌, ap₂, refl, arith, slice_get, inl, inr}
 use Rattle.std.specs.List.{All}
 use Rattle.std.proofs.lemmas.Bool.{cases_lt}
@@ -18,7 +18,7 @@ module _ (patterns : List Re) (rest : List ℕ) where
       subst P (get_or_from_slice_get patterns i wins.pattern wins.pattern wins.is)
       (all i wins.pattern (slice_get_within patterns i wins.pattern wins.is))
 
-  -- where a pattern wins, not none matches
+  -- if a pattern wins, it isn't true that none matches
   wins_not_none : (i n : ℕ) → Wins patterns rest i n → NoneMatches patterns rest → ⊥
   wins_not_none i n wins none = of_winner (HasNoMatch rest) i n none wins n wins.matches
 
@@ -26,7 +26,7 @@ module _ (patterns : List Re) (rest : List ℕ) where
   no_longer : (i n j m : ℕ) → Wins patterns rest i n → Wins patterns rest j m → n ≤ m
   no_longer i n j m one other = of_winner (MatchesAtMost rest m) i n other.longest one n one.matches
 
-  -- no winner stands before another
+  -- no winner comes before another
   no_earlier : (i n j m : ℕ) → Wins patterns rest i n → Wins patterns rest j m → i < j → ⊥
   no_earlier i n j m one other before =
       let within : j < length patterns = slice_get_within patterns j other.pattern other.is in
@@ -61,7 +61,7 @@ module _ (rules : List Rule) (text : List ℕ) (at : ℕ) where
       subst (λ i. slice_get (map (λ (r : Rule). r.token) rules) i ≡ Some s) same.0 one.is in
       (same_Some s t (sym there ∙ other.is), same.1)
 
-  -- what is read isn't nothing
+  -- if something is read, a pattern matches
   read_not_none : (s : Option ℕ) (n : ℕ) → Reads rules text at s n → NoneMatches (map (λ r. r.pattern) rules) (drop at text) → ⊥
   read_not_none s n one none = wins_not_none (map (λ r. r.pattern) rules) (drop at text) one.rule n one.wins none
 

@@ -1,4 +1,4 @@
--- The answers for a text, step by step.
+-- The lexemes and errors of a text, step by step.
 use Rattle.std.proofs.Common.{◌≡◌, ℕ, ◌+◌, ◌<◌, ◌≤◌, ◌-◌, List, [], ◌∷◌, ◌++◌, length, map, drop, Option, Some, Result, Err, sym, subst, ap, refl, arith, slice_get, append_assoc, length-drop, get_or}
 use Rattle.std.specs.Str.{IsCharBoundary}
 use Rattle.std.proofs.lemmas.List.{append-nil, get_or-drop, length-map}
@@ -12,12 +12,12 @@ use Rattle.lrpar_lexer.specs.Matching.{IsWinner, NoneMatches, Wins}
 use Rattle.lrpar_lexer.specs.Rules.{Rule, pattern_of, plain_rules}
 use Rattle.lrpar_lexer.specs.Lexing.{Lexes, Reads, lexemes_of, nothing_at, ends, stops, reads}
 
--- the answers so far, and those from byte `at` on, are those of the whole text
+-- the results so far, and then those from byte `at` on, are the results of the whole text
 abbrev pub LeadsTo : List Rule → List ℕ → ℕ → List (Result (Token ℕ) NoToken) → Type 0
 LeadsTo rules text at before = (after : List (Result (Token ℕ) NoToken)) → Lexes rules text at after → Lexes rules text 0 (before ++ after)
 
 module _ (rules : List Rule) (text : List ℕ) where
-  -- at first
+  -- at the start
   pub leads_at_first : LeadsTo rules text 0 []
   leads_at_first after lexes = lexes
 
@@ -59,12 +59,12 @@ module _ (rules : List LexRule) (text : List ℕ) (at : ℕ) where
   pub wins_within : (i n : ℕ) → Wins (map pattern_of rules) (drop at text) i n → i < length rules
   wins_within i n wins = omega (arith, length-map rules pattern_of, slice_get_within (map pattern_of rules) i wins.pattern wins.is)
 
-  -- the rule that wins is read
+  -- the winner is read
   pub reads_winner : (i n : ℕ) (token : Option ℕ) → Wins (map pattern_of rules) (drop at text) i n
       → slice_get (map (λ (r : Rule). r.token) (plain_rules rules)) i ≡ Some token → Reads (plain_rules rules) text at token n
   reads_winner i n token wins is =
       record { rule = i; wins = subst (λ ps. Wins ps (drop at text) i n) (patterns_same rules) wins; is = is }
 
-  -- where no pattern matches, no rule does
+  -- if no pattern matches, no rule does
   pub none_matches : NoneMatches (map pattern_of rules) (drop at text) → NoneMatches (map (λ (r : Rule). r.pattern) (plain_rules rules)) (drop at text)
   none_matches none = subst (λ ps. NoneMatches ps (drop at text)) (patterns_same rules) none

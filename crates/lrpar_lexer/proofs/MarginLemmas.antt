@@ -1,4 +1,4 @@
--- The bytes that count for nothing at the ends of a line, and those of a gap, are ASCII characters.
+-- The bytes that are ignored at the ends of a line, and the bytes of a gap, are ASCII characters.
 use Rattle.std.proofs.Common.{◌≡◌, ℕ, ◌<◌, Bool, true, List, [], ◌∷◌, Option, arith}
 use Rattle.std.specs.Char.{char_set_contains}
 use Rattle.std.specs.Str.Pattern.{FindsPrefixBy, FindsSuffixBy, IsTrimEndMatches, IsTrimStartMatches}
@@ -18,7 +18,7 @@ blank_ascii c is = grind (arith, nat_tests)
 pub margin_ascii : (c : ℕ) → is_margin c ≡ true → c < 128
 margin_ascii c is = grind (arith, nat_tests)
 
--- what `trim_start_matches` and `trim_end_matches` answer for a list of characters
+-- what `trim_start_matches` and `trim_end_matches` find for a list of characters
 abbrev pub FindsFront : List ℕ → List ℕ → Option ℕ → Type 0
 FindsFront set text found = (test : ℕ → Bool) → ((c : ℕ) → char_set_contains set c ≡ test c) → FindsPrefixBy test text found
 

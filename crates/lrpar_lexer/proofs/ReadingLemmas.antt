@@ -1,4 +1,4 @@
--- What a line has in front of its gap and of its ending: one pattern, one name.
+-- What a line has before its gap and before its ending: one pattern, one name.
 use Rattle.std.proofs.Common.{◌≡◌, ◌≢◌, ◌⊎◌, ◌==◌, ℕ, ◌+◌, ◌-◌, ◌<◌, ◌≤◌, suc, true, List, [], ◌∷◌, ◌++◌, length, take, drop, get_or, Option, Some, None, MatchOption, Bor, inl, inr, sym, subst, ◌∙◌, ap, ap₂, refl, arith, append_assoc, length-append, length-take-le, length-drop, take-append-drop, take_at, drop_at}
 use Rattle.std.specs.List.{All, suffix_len}
 use Rattle.std.specs.Str.{NoCharPasses}
@@ -12,7 +12,7 @@ use Rattle.lrpar_lexer.specs.RuleLines.{HasEnding, HasGap, ReadsAs, is_blank, qu
 use Rattle.lrpar_lexer.specs.RuleLineLaws.{LinesReadOneWay}
 use Rattle.lrpar_lexer.proofs.TrimLemmas.{EndCut, StopsAt, cut_is_all}
 
--- what is cut off the end of a text is a gap, where it's some but not all of it
+-- what is cut off the end of a text is a gap, if it is some of the text but not all
 pub gap_of_cut : (text pattern : List ℕ) (cut : EndCut is_blank text pattern) → StopsAt is_blank text cut.kept → 0 < length pattern
     → length pattern < length text → HasGap text pattern
 gap_of_cut text pattern cut stops some less =
@@ -38,7 +38,7 @@ gap_lengths text pattern has = (
   omega (arith, ap length has.is, length-append pattern has.gap, has.some),
 )
 
--- a pattern is what is left of the text without the longest end of blanks
+-- a pattern is what remains of the text without the longest end of blanks
 pub gap_is_end : (text pattern : List ℕ) → HasGap text pattern → pattern ≡ without_end is_blank text
 gap_is_end text pattern has =
     let n : ℕ = length pattern in
@@ -57,7 +57,7 @@ gap_is_end text pattern has =
     let kept : length text - suffix_len is_blank text ≡ n = omega arith in
     sym (take_at pattern has.gap n refl) ∙ ap (take n) (sym has.is) ∙ ap (λ i. take i text) (sym kept)
 
--- where all of the text is cut off, or nothing, it has no gap
+-- if all of the text is cut off, or nothing, it has no gap
 pub no_gap : (text rest : List ℕ) (cut : EndCut is_blank text rest) → StopsAt is_blank text cut.kept
     → (length rest ≡ 0) ⊎ (length rest ≡ length text) → (pattern : List ℕ) → HasGap text pattern → ⊥
 no_gap text rest cut stops lengths pattern has =
@@ -70,7 +70,7 @@ no_gap text rest cut stops lengths pattern has =
       | inr all ↦ absurd (omega arith)
     ]
 
--- what follows a byte for the last time begins no later than what follows it another time
+-- what follows the last place of a byte begins no earlier than what follows another place of it
 not_later : (byte : ℕ) (f n g m : List ℕ) → f ++ byte ∷ n ≡ g ++ byte ∷ m → All (λ b. b ≢ byte) n → length f < length g → ⊥
 not_later byte f n g m same none before =
     let lengths : length f + suc (length n) ≡ length g + suc (length m) =
@@ -82,7 +82,7 @@ not_later byte f n g m same none before =
     ∙ get_or-append_right (f ++ byte ∷ []) n (length f + 1) (length g) 0 (length_push f byte) (omega arith) in
     none (length g - (length f + 1)) 0 (omega arith) (sym there ∙ here)
 
--- a text stands in one way round the last of a byte
+-- a text is split at the last place of a byte in only one way
 pub one_last : (byte : ℕ) (f n g m : List ℕ) → f ++ byte ∷ n ≡ g ++ byte ∷ m → All (λ b. b ≢ byte) n → All (λ b. b ≢ byte) m
     → (f ≡ g) × (n ≡ m)
 one_last byte f n g m same none other = elim (cases_order (length f) (length g)) [
@@ -156,7 +156,7 @@ has_name line quoted front name is (inner, unquoted) = record {
   unquoted = unquoted;
 }
 
--- what stands in front of the one ending of a line has no gap: the line doesn't read
+-- if the text before the one ending of a line has no gap, the line doesn't read as a rule
 pub no_pattern : (line front : List ℕ) (name : Option (List ℕ)) → HasEnding line front name → ((pattern : List ℕ) → ¬ (HasGap front pattern))
     → (pattern : List ℕ) (other : Option (List ℕ)) → ReadsAs line pattern other → ⊥
 no_pattern line front name ending none pattern other reads =

@@ -1,4 +1,4 @@
--- What a fault says of the line that it names, also where a `?` hands it on.
+-- What holds of the line of a fault, also if a `?` returns the fault.
 use Rattle.std.proofs.Common.{◌≡◌, ℕ, Result, Ok, Err, IfErr, IsErrAnd, sym, subst}
 use Rattle.lrpar_lexer.specs.RuleTexts.{NamesLine}
 use Rattle.lrpar_lexer.specs.declared.rules.LineFault.{LineFault}
@@ -11,8 +11,8 @@ module _ (P Q : ℕ → LineFault → Type 0) (so : (n : ℕ) (why : LineFault) 
   names_weaker (Line number why) is = so number why is
   names_weaker Memory is = is
 
-  -- the same of a fault that a `?` hands on
-  pub names_handed : {T : Type 0} (fault : RulesFault) (r : Result T RulesFault) → IsErrAnd r (λ y. y ≡ fault) → NamesLine P fault
+  -- the same for a fault that a `?` returns
+  pub names_returned : {T : Type 0} (fault : RulesFault) (r : Result T RulesFault) → IsErrAnd r (λ y. y ≡ fault) → NamesLine P fault
       → IfErr r (NamesLine Q)
-  names_handed fault (Ok x) is names = tt
-  names_handed fault (Err y) is names = subst (NamesLine Q) (sym is) (names_weaker fault names)
+  names_returned fault (Ok x) is names = tt
+  names_returned fault (Err y) is names = subst (NamesLine Q) (sym is) (names_weaker fault names)

@@ -11,7 +11,7 @@ use Rattle.lrpar_lexer.specs.RuleTexts.{AreRulesOf, IsFirstFault, IsRuleOf, Says
 use Rattle.lrpar_lexer.specs.declared.rule.LexRule.{LexRule}
 use Rattle.lrpar_lexer.specs.declared.rules.LineFault.{LineFault}
 
--- what counts of one line more
+-- what one more line adds
 cores_push : (lines : List (List ℕ)) (line : List ℕ)
     → cores_of (lines ++ line ∷ []) ≡ cores_of lines ++ cond (nat_lt 0 (length (core_of line))) (core_of line ∷ []) []
 cores_push lines line =
@@ -23,7 +23,7 @@ module _ (grammar : Grammar) (lines : List (List ℕ)) (number : ℕ) (line : Li
   one_more : take (number + 1) lines ≡ take number lines ++ line ∷ []
   one_more = take_more lines number line within ∙ ap (λ l. take number lines ++ l ∷ []) (sym is)
 
-  -- a line that counts says one rule more
+  -- a line that isn't blank gives one more rule
   pub rule_more : (rules : List LexRule) (rule : LexRule) → 0 < length (core_of line) → AreRulesOf grammar (take number lines) rules
       → IsRuleOf grammar (core_of line) rule → AreRulesOf grammar (take (number + 1) lines) (rules ++ rule ∷ [])
   rule_more rules rule counts are says =
@@ -33,7 +33,7 @@ module _ (grammar : Grammar) (lines : List (List ℕ)) (number : ℕ) (line : Li
       subst (λ cores. AllZip (IsRuleOf grammar) cores (rules ++ rule ∷ [])) (sym more)
       (all_zipped_more (IsRuleOf grammar) (cores_of (take number lines)) rules (core_of line) rule are says)
 
-  -- one that doesn't count says none
+  -- a blank line gives none
   pub rules_stay : (rules : List LexRule) → length (core_of line) ≡ 0 → AreRulesOf grammar (take number lines) rules
       → AreRulesOf grammar (take (number + 1) lines) rules
   rules_stay rules none are =
@@ -43,7 +43,7 @@ module _ (grammar : Grammar) (lines : List (List ℕ)) (number : ℕ) (line : Li
       ∙ append-nil (cores_of (take number lines)) in
       subst (λ cores. AllZip (IsRuleOf grammar) cores rules) (sym more) are
 
-  -- a line that counts and says no rule is the first such one, where the lines before it say rules
+  -- a line that isn't blank and gives no rule is the first such one, if the lines before it give rules
   pub fault_here : (rules : List LexRule) (why : LineFault) → 0 < length (core_of line) → AreRulesOf grammar (take number lines) rules
       → SaysNoRule grammar (core_of line) why → IsFirstFault grammar lines (number + 1) why
   fault_here rules why counts are says =

@@ -1,4 +1,4 @@
--- What is left of a text where the characters that pass a test are cut off its front, or off its end, if they are all ASCII.
+-- What remains of a text if the characters that pass a test are cut off its start, or off its end, if they are all ASCII.
 use Rattle.std.proofs.Common.{◌≡◌, ℕ, ◌+◌, ◌-◌, ◌<◌, ◌≤◌, Bool, true, false, List, [], ◌∷◌, ◌++◌, length, take, drop, get_or, Option, Some, None, inl, inr, sym, subst, ◌∙◌, ap, arith, encode_utf8, IfSome, length-take-le, length-drop, take-take, take_all, drop-drop, get_or-drop, get_or-take, below_more}
 use Rattle.std.specs.Char.{IsScalar, len_utf8}
 use Rattle.std.specs.List.{suffix_len}
@@ -11,7 +11,7 @@ use Rattle.std.proofs.lemmas.Str.{encode_ascii, len_utf8_ascii}
 use Rattle.std.proofs.lemmas.Str.Pattern.{drop_at_char}
 use Rattle.lrpar_lexer.specs.RuleLines.{without_end, without_front}
 
--- `rest` is the text without some bytes at its front, which pass
+-- `rest` is the text without some bytes at its start, which pass
 record FrontCut (test : ℕ → Bool) (text rest : List ℕ) : Type 0 where
   cut : ℕ
   within : cut ≤ length text
@@ -25,7 +25,7 @@ pub record EndCut (test : ℕ → Bool) (text rest : List ℕ) : Type 0 where
   pub is : rest ≡ take kept text
   pub passes : (j : ℕ) → kept ≤ j → j < length text → test (get_or text j 0) ≡ true
 
--- the last byte of what is left fails
+-- the last byte of what remains fails
 abbrev pub StopsAt : (ℕ → Bool) → List ℕ → ℕ → Type 0
 StopsAt test text kept = 0 < kept → test (get_or text (kept - 1) 0) ≡ false
 
@@ -33,7 +33,7 @@ scalar_ascii : (c : ℕ) → c < 128 → IsScalar c
 scalar_ascii c small = grind (arith, nat_tests)
 
 module _ (test : ℕ → Bool) (ascii : (c : ℕ) → test c ≡ true → c < 128) where
-  -- a character that passes stands at the front: it is one byte
+  -- a character that passes is at the start: it is one byte
   at_front : (text : List ℕ) (width : ℕ) → HasPassingCharAt test text 0 width
       → (width ≡ 1) × (0 < length text) × (test (get_or text 0 0) ≡ true)
   at_front text width (c, passes, at) =
@@ -166,7 +166,7 @@ module _ (test : ℕ → Bool) (ascii : (c : ℕ) → test c ≡ true → c < 12
               ap test (sym here) ∙ end_stops rest found (says rest found is) zero (omega arith),
         )
 
--- so it is the text without the longest such end
+-- so what remains is the text without the longest such end
 pub cut_is_all : (test : ℕ → Bool) (text rest : List ℕ) (cut : EndCut test text rest) → StopsAt test text cut.kept → rest ≡ without_end test text
 cut_is_all test text rest cut stops =
     let len : suffix_len test text ≡ length text - cut.kept = suffix_len_is test text cut.kept 0 cut.within cut.passes stops in

@@ -17,14 +17,14 @@ use Rattle.lrpar_lexer.specs.Anchored.{FindsAtStart}
 use Rattle.lrpar_lexer.specs.Rules.{anchored_of, pattern_of}
 use Rattle.lrpar_lexer.specs.Matching.{HasNoMatch, IsMatch, IsMatchLen, IsWinner, MatchesAtMost, MatchesLess, Wins, better}
 
--- one of a list changes, and its value stays: all values stay
+-- if one element of a list changes and keeps its value, all values stay
 pub values_stay : {A B : Type 0} (value : A → B) (all : List A) (i : ℕ) (old new : A) → i < length all → old ≡ get_or all i old
     → value new ≡ value old → map value (set all i new) ≡ map value all
 values_stay value all i old new within read same =
     let at : get_or (map value all) i (value old) ≡ value old = get_or-map value all i old _ within ∙ ap value (sym read) in
     map-set value all i new ∙ ap (set (map value all) i) (same ∙ sym at) ∙ set-get_or (map value all) i _
 
--- an item of a list is at its place in a longer one
+-- an item of a list has the same place in a longer one
 get_earlier : (xs ys : List Re) (i : ℕ) (x : Re) → slice_get xs i ≡ Some x → slice_get (xs ++ ys) i ≡ Some x
 get_earlier [] ys i x is = absurd (cc)
 get_earlier (y ∷ xs) ys zero x is = is
@@ -42,7 +42,7 @@ one_length {m = m} {n = n} one other =
     ap (λ (s : ℕ × ℕ). s.1) same
 
 module _ (patterns : List Re) (rest : List ℕ) (pattern : Re) where
-  -- one more pattern that matches no more leaves the winner
+  -- if one more pattern doesn't match more, the winner stays
   still_wins : (i n : ℕ) → Wins patterns rest i n → MatchesAtMost rest n pattern → Wins (patterns ++ pattern ∷ []) rest i n
   still_wins i n wins most =
       let within : i < length patterns = slice_get_within patterns i wins.pattern wins.is in
@@ -86,7 +86,7 @@ module _ (patterns : List Re) (rest : List ℕ) (pattern : Re) where
       (λ less. still_wins w.rule w.len wins (λ m found. let same : m ≡ n = one_length found is in let most : n ≤ w.len = grind (arith, nat_tests) in omega arith))
       (λ more. now_wins n is (All-weaker (MatchesAtMost rest w.len) (MatchesLess rest n) (λ p most m found. let at : m ≤ w.len = most m found in let above : w.len < n = grind (arith, nat_tests) in omega arith) patterns wins.longest))
 
--- the same over a list of which the first patterns were looked at
+-- the same for a list whose first patterns were tried
 pub better_wins_at : (patterns : List Re) (rest : List ℕ) (i : ℕ) (best : Option Winner) (found : Option ℕ) → i < length patterns
     → IsWinner (take i patterns) rest best → ((pattern : Re) → slice_get patterns i ≡ Some pattern → IsMatchLen rest pattern found)
     → IsWinner (take (i + 1) patterns) rest (better best i found)
@@ -99,7 +99,7 @@ better_wins_at patterns rest i best found within wins at =
     (subst (λ k. IsWinner (take i patterns ++ pattern ∷ []) rest (better best k found)) len
     (better_wins (take i patterns) rest pattern best found wins found_at))
 
--- what is found by a rule's program is the match of its pattern
+-- what a rule's program finds is the match of its pattern
 pub match_of_rule : (rules : List LexRule) (programs : List Program) (rest : List ℕ) (i : ℕ) (found : Option ℕ) → programs ≡ map anchored_of rules
     → ((program : Program) (pattern : Re) → slice_get programs i ≡ Some program → FindsAtStart program pattern → IsMatchLen rest pattern found)
     → (pattern : Re) → slice_get (map pattern_of rules) i ≡ Some pattern → IsMatchLen rest pattern found

@@ -1,4 +1,4 @@
--- What a pattern finds at the beginning of a text.
+-- What a pattern finds at the start of a text.
 use Rattle.std.specs.Prelude.{◌≡◌, ℕ, ◌==◌, List, Option, Some, None, if◌then◌else◌, option_map, IsUtf8}
 use Rattle.regex.specs.Patterns.{Re, Reads, Start, cat, default_config, empty, find_str, look, span}
 use Rattle.regex_hir.specs.Meaning.{meaning}
@@ -13,27 +13,27 @@ abbrev pub if_at_start : Option (ℕ × ℕ) → Option (ℕ × ℕ)
 if_at_start None = None
 if_at_start (Some s) = if s.0 == 0 then Some s else None
 
--- in each text the program finds what the pattern finds, if that begins at 0, and else nothing
+-- in each text the program finds what the pattern finds, if that begins at 0, and nothing otherwise
 abbrev pub FindsAtStart : Program → Re → Type 0
 FindsAtStart program pattern = (text : List ℕ) → IsUtf8 text
     → option_map span (leftmost program text 0) ≡ if_at_start (option_map span (find_str pattern text 0))
 
--- the pattern, where the text begins
+-- the pattern after an assertion that the text starts there
 abbrev pub after_start : Re → Re
 after_start pattern = cat (look Start) (cat pattern empty)
 
--- what stands in a pattern behind its first part
+-- the pattern in what `after_start` gives
 abbrev pub without_start : Re → Re
 without_start (cat first (cat pattern rest)) = pattern
 without_start _ = empty
 
--- the program searches for what the grammar of patterns reads in the source, where the text begins
+-- the program searches, at the start of a text, for the pattern that the grammar of patterns reads in the source
 pub record IsAfterStart (source : List ℕ) (program : Program) : Type 0 where
   pub tree : Hir
   pub names : Names
   pub read : Reads default_config source tree names
   pub after : pattern_of program ≡ after_start (meaning tree)
 
--- the pattern matches nothing where the text begins
+-- the pattern matches nothing at the start of the text
 abbrev pub HasNothingAtStart : Re → List ℕ → Type 0
 HasNothingAtStart pattern text = attempt text pattern accept 0 ≡ None

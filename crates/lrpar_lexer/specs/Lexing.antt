@@ -1,4 +1,4 @@
--- What the rules of a lexer give for a text.
+-- The lexemes and errors that the rules of a lexer give for a text.
 use Rattle.std.specs.Prelude.{◌≡◌, ℕ, ◌+◌, ◌<◌, ◌≤◌, false, List, [], ◌∷◌, ◌++◌, length, map, drop, Option, Some, None, Result, Ok, Err, slice_get}
 use Rattle.lrpar_lexer.specs.Matching.{NoneMatches, Wins}
 use Rattle.lrpar_lexer.specs.Rules.{Rule}
@@ -19,13 +19,13 @@ pub record Reads (rules : List Rule) (text : List ℕ) (at : ℕ) (token : Optio
   pub wins : Wins (map (λ r. r.pattern) rules) (drop at text) rule n
   pub is : slice_get (map (λ r. r.token) rules) rule ≡ Some token
 
--- the lexemes of a match: one, or none where it has no token
+-- the lexemes of a match: one, or none if the rule has no token
 abbrev pub lexemes_of : Option ℕ → ℕ → ℕ → List (Result (Token ℕ) NoToken)
 lexemes_of None at n = []
 lexemes_of (Some token) at n = Ok (lexeme_of token at n) ∷ []
 
--- The answers for a text from byte `at` on: a lexeme for each match of a rule with a token, and an error where no rule matches,
--- with which they end.
+-- The lexemes and errors of a text from byte `at` on: a lexeme for each match of a rule with a token, and an error if no rule
+-- matches, which is the last result.
 pub data Lexes (rules : List Rule) (text : List ℕ) : ℕ → List (Result (Token ℕ) NoToken) → Type 0 where
   ends : (at : ℕ) → length text ≤ at → Lexes rules text at []
   stops : (at : ℕ) → at < length text → NoneMatches (map (λ r. r.pattern) rules) (drop at text) → Lexes rules text at (Err (nothing_at at) ∷ [])

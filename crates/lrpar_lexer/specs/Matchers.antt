@@ -1,8 +1,8 @@
--- What clauses see of the searches.
+-- The searches, as clauses see them.
 use Rattle.std.specs.Prelude.{List, map}
 use Rattle.regex_meta.specs.declared.program.Program.{Program}
 use Rattle.lrpar_lexer.specs.declared.matching.Matchers.{Matchers}
 
--- the programs that they run
+-- the programs of the searches
 abbrev pub programs_of : Matchers → List Program
 programs_of m = map (λ s. s.program.now) m.searchers.items

@@ -1,11 +1,11 @@
--- Which of several patterns wins at the beginning of a text. What a pattern finds is what `regex` finds.
+-- Which of several patterns wins at the start of a text. What a pattern finds is what `regex` finds.
 use Rattle.std.specs.Prelude.{◌≡◌, ℕ, ◌<◌, ◌≤◌, List, Option, Some, None, if◌then◌else◌, nat_le, option_map, MatchOption, take, slice_get}
 use Rattle.std.specs.List.{All}
 use Rattle.std.specs.Str.{IsCharBoundary}
 use Rattle.regex.specs.Patterns.{Re, find_str, span}
 use Rattle.lrpar_lexer.specs.declared.matching.Winner.{Winner}
 
--- what the pattern finds in `rest` begins there, has n bytes, which aren't none, and ends between two characters
+-- what the pattern finds in `rest` begins at its start, has n bytes, at least one, and ends between two characters
 pub record IsMatch (rest : List ℕ) (pattern : Re) (n : ℕ) : Type 0 where
   pub found : option_map span (find_str pattern rest 0) ≡ Some (0, n)
   pub some : 0 < n
@@ -15,15 +15,15 @@ pub record IsMatch (rest : List ℕ) (pattern : Re) (n : ℕ) : Type 0 where
 abbrev pub HasNoMatch : List ℕ → Re → Type 0
 HasNoMatch rest pattern = (n : ℕ) → ¬ (IsMatch rest pattern n)
 
--- how many bytes the pattern matches at the beginning of `rest`, if it does
+-- the number of bytes that the pattern matches at the start of `rest`, if it does
 abbrev pub IsMatchLen : List ℕ → Re → Option ℕ → Type 0
 IsMatchLen rest pattern found = MatchOption found (HasNoMatch rest pattern) (IsMatch rest pattern)
 
--- the pattern's match has at most so many bytes, or there is none
+-- the pattern's match has at most `most` bytes, or there is none
 abbrev pub MatchesAtMost : List ℕ → ℕ → Re → Type 0
 MatchesAtMost rest most pattern = (n : ℕ) → IsMatch rest pattern n → n ≤ most
 
--- the pattern's match has fewer bytes, or there is none
+-- the pattern's match has fewer than `bound` bytes, or there is none
 abbrev pub MatchesLess : List ℕ → ℕ → Re → Type 0
 MatchesLess rest bound pattern = (n : ℕ) → IsMatch rest pattern n → n < bound
 
@@ -43,7 +43,7 @@ NoneMatches patterns rest = All (HasNoMatch rest) patterns
 abbrev pub IsWinner : List Re → List ℕ → Option Winner → Type 0
 IsWinner patterns rest winner = MatchOption winner (NoneMatches patterns rest) (λ w. Wins patterns rest w.rule w.len)
 
--- the better of two winners: pattern i with its match only where that is longer
+-- the better of two winners: pattern i with its match only if that is longer
 abbrev pub better : Option Winner → ℕ → Option ℕ → Option Winner
 better best i None = best
 better None i (Some n) = Some (record { rule = i; len = n })

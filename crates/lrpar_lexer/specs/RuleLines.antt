@@ -1,9 +1,9 @@
--- The lines of a text of rules, and how a line reads.
+-- The lines of a text of rules, and what a line reads as.
 use Rattle.std.specs.Prelude.{◌≡◌, ◌≢◌, ℕ, ◌-◌, ◌<◌, ◌==◌, nat_lt, Bool, false, ◌||◌, IsTrue, List, [], ◌∷◌, ◌++◌, length, map, take, drop, filter, Option, Some, None, IfSome}
 use Rattle.std.specs.List.{All, prefix_len, slice_split, suffix_len}
 use Rattle.lrpar_grammar_places.specs.Lines.{is_line_feed}
 
--- the lines of a text: what stands between its line feeds
+-- the lines of a text: the parts between its line feeds
 abbrev pub text_lines : List ℕ → List (List ℕ)
 text_lines text = slice_split is_line_feed text
 
@@ -15,18 +15,18 @@ is_blank byte = byte == 32 || byte == 9
 abbrev pub is_margin : ℕ → Bool
 is_margin byte = is_blank byte || byte == 13
 
--- the text without the bytes at its front that pass a test, all up to the first that doesn't; the same at its end
+-- the text without the bytes at its start that pass a test, up to the first that doesn't; then the same at its end
 abbrev pub without_front : (ℕ → Bool) → List ℕ → List ℕ
 without_front test text = drop (prefix_len test text) text
 
 abbrev pub without_end : (ℕ → Bool) → List ℕ → List ℕ
 without_end test text = take (length text - suffix_len test text) text
 
--- what counts of a line
+-- the line without spaces, tabs and carriage returns at its ends
 abbrev pub core_of : List ℕ → List ℕ
 core_of line = without_end is_margin (without_front is_margin line)
 
--- what counts of each line that counts
+-- the same for each line, without the lines that are empty then
 abbrev pub cores_of : List (List ℕ) → List (List ℕ)
 cores_of lines = filter (λ core. nat_lt 0 (length core)) (map core_of lines)
 
@@ -36,17 +36,17 @@ quote = 39
 abbrev pub semicolon : ℕ
 semicolon = 59
 
--- how a line ends: with a name between quotes, or with a semicolon
+-- the end of a line: a name between quotes, or a semicolon
 abbrev pub ending_of : Option (List ℕ) → List ℕ
 ending_of None = semicolon ∷ []
 ending_of (Some name) = quote ∷ name ++ quote ∷ []
 
--- the line is `front` and then such an ending; no quote is in the name
+-- the line is `front` and then such an ending; the name has no quote
 pub record HasEnding (line front : List ℕ) (name : Option (List ℕ)) : Type 0 where
   pub is : line ≡ front ++ ending_of name
   pub unquoted : IfSome name (All (λ byte. byte ≢ quote))
 
--- the text is a pattern and then spaces and tabs, of which there is one at least; the pattern isn't empty, and ends with neither
+-- the text is a pattern and then at least one space or tab; the pattern isn't empty, and ends with neither of these
 pub record HasGap (text pattern : List ℕ) : Type 0 where
   pub gap : List ℕ
   pub is : text ≡ pattern ++ gap
@@ -57,7 +57,7 @@ pub record HasGap (text pattern : List ℕ) : Type 0 where
   pub ends : pattern ≡ front ++ last ∷ []
   pub solid : is_blank last ≡ false
 
--- the line reads as a pattern and the name of a token, or none: the pattern, spaces and tabs, and the ending
+-- the line reads as a pattern, and the name of a token or no name: the pattern, spaces and tabs, and the ending
 pub record ReadsAs (line pattern : List ℕ) (name : Option (List ℕ)) : Type 0 where
   pub front : List ℕ
   pub ending : HasEnding line front name

@@ -1,4 +1,4 @@
--- The rules that a text writes for a grammar, one a line.
+-- The rules that a text gives for a grammar, one a line.
 use Rattle.std.specs.Prelude.{◌≡◌, ◌≢◌, ℕ, ◌-◌, ◌<◌, List, length, take, ⊤, Option, Some, None, IsSome, bytes_eq, slice_get}
 use Rattle.std.specs.List.{AllZip, position}
 use Rattle.regex.specs.Patterns.{default_config}
@@ -15,16 +15,16 @@ use Rattle.lrpar_lexer.specs.declared.rules.LineFault.TheVariants.{Unread, Unnam
 use Rattle.lrpar_lexer.specs.declared.rules.RulesFault.{RulesFault}
 use Rattle.lrpar_lexer.specs.declared.rules.RulesFault.TheVariants.{Line, Memory}
 
--- the grammar's first token of a name
+-- the first token of the grammar with that name
 abbrev pub first_named : Grammar → List ℕ → Option ℕ
 first_named grammar name = position (λ token. bytes_eq token.name name) grammar.tokens
 
--- the token of a rule: the grammar's first of the name, which there is; none where there's no name
+-- the token of a rule: the first token of the grammar with that name, which must exist; without a name, no token
 abbrev pub IsTokenOf : Grammar → Option (List ℕ) → Option ℕ → Type 0
 IsTokenOf grammar None token = token ≡ None
 IsTokenOf grammar (Some name) token = (token ≡ first_named grammar name) × IsSome token
 
--- the rule is what the line says: its pattern is what `regex` reads in the line's, and its token is that of the line's name
+-- the rule is the one of the line: its pattern is what `regex` reads in the line's pattern, and its token is that of the line's name
 pub record IsRuleOf (grammar : Grammar) (line : List ℕ) (rule : LexRule) : Type 0 where
   pub pattern : List ℕ
   pub name : Option (List ℕ)
@@ -32,23 +32,23 @@ pub record IsRuleOf (grammar : Grammar) (line : List ℕ) (rule : LexRule) : Typ
   pub has_pattern : HasPattern pattern rule
   pub has_token : IsTokenOf grammar name (token_of rule)
 
--- there is one rule for each of the lines that counts, in their order, and it is what the line says
+-- there is one rule for each line that isn't blank, in the order of the lines, and it is the rule of that line
 abbrev pub AreRulesOf : Grammar → List (List ℕ) → List LexRule → Type 0
 AreRulesOf grammar lines rules = AllZip (IsRuleOf grammar) (cores_of lines) rules
 
--- `regex` answers this error for the pattern, and neither memory nor a check of its own fails: it's one of syntax, as its grammar
--- refuses the pattern; or the program would be too big, and then the text is a pattern
+-- `regex` refuses the pattern with this error, which is neither `OutOfMemory` nor `Internal`: the grammar of patterns refuses it, or its
+-- program would be too big
 abbrev pub IsRefusalOf : List ℕ → Error → Type 0
 IsRefusalOf pattern error = (error ≢ OutOfMemory) × (error ≢ Internal) × IsRefusal default_config pattern error × IsRightKind default_config pattern error
 
--- The line says no rule, for this reason: it doesn't read as one; or it does, and names no token of the grammar; or it does, and `regex`
--- refuses its pattern with this error.
+-- The line gives no rule, for this reason: it doesn't read as one; or it does, and its name is of no token of the grammar; or it does, and
+-- `regex` refuses its pattern with this error.
 abbrev pub SaysNoRule : Grammar → List ℕ → LineFault → Type 0
 SaysNoRule grammar line Unread = (pattern : List ℕ) (name : Option (List ℕ)) → ¬ (ReadsAs line pattern name)
 SaysNoRule grammar line Unnamed = (pattern name : List ℕ) × ReadsAs line pattern (Some name) × (first_named grammar name ≡ None)
 SaysNoRule grammar line (Pattern error) = (pattern : List ℕ) × (name : Option (List ℕ)) × ReadsAs line pattern name × IsRefusalOf pattern error
 
--- line `number`, from 1 on, counts and says no rule for this reason, and the lines before it that count say rules
+-- line `number`, counted from 1, isn't blank and gives no rule for this reason, and the lines before it give rules, blank ones aside
 pub record IsFirstFault (grammar : Grammar) (lines : List (List ℕ)) (number : ℕ) (why : LineFault) : Type 0 where
   pub line : List ℕ
   pub from_one : 0 < number
@@ -58,11 +58,11 @@ pub record IsFirstFault (grammar : Grammar) (lines : List (List ℕ)) (number : 
   pub rules : List LexRule
   pub before : AreRulesOf grammar (take (number - 1) lines) rules
 
--- the line that a fault names, and why it is no rule, are such, if it names one
+-- `IsSuch` holds for the line and the reason of the fault, unless the fault is `Memory`
 abbrev pub NamesLine : (ℕ → LineFault → Type 0) → RulesFault → Type 0
 NamesLine IsSuch (Line number why) = IsSuch number why
 NamesLine IsSuch Memory = ⊤
 
--- the fault names the first line that counts and says no rule, and why it says none
+-- the fault is that of the first line, blank ones aside, that gives no rule, with the reason; or it is `Memory`
 abbrev pub IsFaultOf : Grammar → List ℕ → RulesFault → Type 0
 IsFaultOf grammar text fault = NamesLine (IsFirstFault grammar (text_lines text)) fault

@@ -9,27 +9,27 @@ use Rattle.regex_syntax.specs.Grammar.{Names}
 use Rattle.lrpar_lexer.specs.Anchored.{without_start}
 use Rattle.lrpar_lexer.specs.declared.rule.LexRule.{LexRule}
 
--- the pattern of a rule, and the token of what it matches: none where that is skipped
+-- the pattern of a rule, and the token of its matches; `None` if they are skipped
 pub record Rule : Type 0 where
   pub pattern : Re
   pub token : Option ℕ
 
--- what a rule's program searches for, behind the assertion that the text begins
+-- what a rule's program searches for, without the assertion that the text starts there
 abbrev pub pattern_of : LexRule → Re
 pattern_of rule = without_start (programs.pattern_of rule.anchored)
 
--- what searches for the pattern at the beginning of a text
+-- the program that searches for the rule's pattern at the start of a text
 abbrev pub anchored_of : LexRule → Program
 anchored_of rule = rule.anchored
 
--- the same of a rule of the program
+-- a rule of the code as plain data
 abbrev pub plain_rule : LexRule → Rule
 plain_rule rule = record { pattern = pattern_of rule; token = option_map (λ token. token.0) rule.token }
 
 abbrev pub plain_rules : List LexRule → List Rule
 plain_rules rules = map plain_rule rules
 
--- the rule's pattern is what the grammar of `regex` reads in the text, by its default options
+-- the rule's pattern is what the grammar of `regex` reads in the text, with the default options
 pub record HasPattern (text : List ℕ) (rule : LexRule) : Type 0 where
   pub tree : Hir
   pub names : Names

@@ -1,4 +1,4 @@
-//! Laws of lexers by rules, of lexemes, and of rules as a text.
+//! Laws of lexers that use rules, of lexemes, and of rules as a text.
 ghost use Rattle.std.specs.Prelude.{◌↔◌, IsTrue};
 ghost use Rattle.lrpar_grammar_places.specs.Comparisons.{HashesAs};
 ghost use Rattle.lrpar_lexer.specs.LexingLaws.{LexesOneWay};
@@ -10,18 +10,18 @@ use crate::token::Token;
 use lrpar_grammar_places::span::StorageIndex;
 use std::hash::Hash;
 
-/// By the same rules a text has one list of lexemes and errors, from each place on.
+/// With the same rules a text has one list of lexemes and errors, from each place on.
 pub fn texts_are_lexed_one_way()
     ensures { LexesOneWay }
 {}
 
-/// A line of a text of rules reads as one pattern and one name, or none, if it reads as a rule.
+/// A line of a text of rules reads as at most one pattern and one name, or no name.
 pub fn lines_read_one_way()
     ensures { LinesReadOneWay }
 {}
 
-/// Two lexemes are equal exactly where they have one token and one place, and either both come of a repair or neither does. A
-/// hasher is fed what it is fed of the token's number, then both ends, and then whether a repair made it.
+/// Two lexemes are equal if and only if they have the same token and the same place, and both are made by a repair or neither. A
+/// hasher is fed what it is fed for the token's number, then both ends, and then whether a repair made the lexeme.
 pub fn tokens_are_compared_by_parts<StorageT: StorageIndex>()
     ensures equal { (x y : Token StorageT) → IsTrue (⟦<Token<StorageT> as PartialEq>⟧.eq x y) ↔ IsSameToken StorageT.index x y }
     ensures hash { HashesAs (token_input StorageT.hash_input) ⟦<Token<StorageT> as PartialEq>⟧.eq ⟦<Token<StorageT> as Hash>⟧.hash_input }

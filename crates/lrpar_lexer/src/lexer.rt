@@ -13,11 +13,11 @@ use lrpar_grammar_places::span::Span;
 use lrpar_parse_lexemes::{Lexer, NonStreamingLexer};
 use std::alloc::{AllocError, Global};
 
-/// The lexer of a text by rules. At each place the rule wins whose pattern matches most of what follows, and the first such
-/// rule. Where it has a token, what it matches is a lexeme; else that is skipped. Where no rule matches there is an error, and
-/// with it the lexemes end.
+/// A lexer of a text by rules. At each place the rule with the longest match wins, and among several such rules the first. If it
+/// has a token, the match is a lexeme; otherwise the match is skipped. If no rule matches, there is an error, and it is the last
+/// result.
 ///
-/// A pattern's match at a place is the one that `regex` finds in the text from there on, if it begins there and isn't empty.
+/// A pattern's match at a place is what `regex` finds in the text from that place on, if it begins there and isn't empty.
 #[derive(Drop)]
 pub struct RuleLexer<'rules, 'input> {
     rules: &'rules [LexRule],

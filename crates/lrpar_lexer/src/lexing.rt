@@ -1,4 +1,4 @@
-//! The lexemes of a text.
+//! The lexemes and errors of a text.
 ghost use Rattle.std.specs.Prelude.{◌≡◌, ◌<◌, ◌≤◌, ◌+◌, ◌++◌, IfOk, OnOk, length, map, option_map, slice_get};
 ghost use Rattle.lrpar_lexer.specs.Lexing.{Lexes, lexemes_of};
 ghost use Rattle.lrpar_lexer.specs.Rules.{plain_rules};
@@ -9,7 +9,7 @@ use crate::token::{NoToken, Token};
 use lrpar_grammar_places::span::TIdx;
 use std::alloc::{AllocError, Global};
 
-// The answers for a text, by the rules.
+// The lexemes and errors of a text, by the rules.
 pub(crate) fn answers(
     alloc: Global,
     rules: &[LexRule],
@@ -39,7 +39,7 @@ fn token_of(rules: &[LexRule], rule: usize) -> Option<TIdx<u32>>
     rules[rule].token
 }
 
-// Adds the lexeme of the token with `len` bytes from byte `at` on; nothing where there is no token.
+// Appends the lexeme of the token, with `len` bytes from byte `at` on; nothing if there is no token.
 fn push_lexeme(
     answers: &mut Vec<Result<Token<u32>, NoToken>>,
     token: Option<TIdx<u32>>,

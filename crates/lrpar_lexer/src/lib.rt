@@ -1,4 +1,4 @@
-//! A lexer by rules, each a regular expression and a token; and its rules as a text.
+//! A lexer that uses rules, each a regular expression and a token; and its rules as a text.
 #![tactic(auto)]
 
 pub mod laws;

@@ -12,7 +12,7 @@ use crate::rule::LexRule;
 use regex_meta::{Program, Searcher};
 use std::alloc::{AllocError, Global};
 
-/// What wins at a place: which of the rules, and how many bytes it takes.
+/// The winner at a place: the rule, and the number of bytes that it takes.
 #[derive(Clone, Copy)]
 pub(crate) struct Winner {
     pub(crate) rule: usize,
@@ -39,7 +39,7 @@ impl<'r> Matchers<'r> {
         Ok(Matchers { searchers })
     }
 
-    // The winner at the beginning of a text, if a pattern matches there.
+    // The winner at the start of a text, if a pattern matches there.
     pub(crate) fn winner(&mut self, rest: &str) -> Option<Winner>
         ensures winner { (rules : List LexRule) → programs_of self.old ≡ map anchored_of rules
             → IsWinner (map pattern_of rules) rest.now result }
@@ -53,7 +53,7 @@ impl<'r> Matchers<'r> {
         best
     }
 
-    // How many bytes one of the patterns matches at the beginning of a text, if it does.
+    // The number of bytes that one of the patterns matches at the start of a text, if it does.
     fn match_len(&mut self, index: usize, rest: &str) -> Option<usize>
         requires { index < vec_len self.old.searchers }
         ensures found { (program : Program) (pattern : Re) → slice_get (programs_of self.old) index ≡ Some program
@@ -65,7 +65,7 @@ impl<'r> Matchers<'r> {
     }
 }
 
-// How many bytes the pattern matches at the beginning of a text, if it does.
+// The number of bytes that the pattern matches at the start of a text, if it does.
 fn match_len(searcher: &mut Searcher<'_>, rest: &str) -> Option<usize>
     ensures found { (pattern : Re) → FindsAtStart searcher.old.program.now pattern → IsMatchLen rest.now pattern result }
     ensures same { searcher.new.program.now ≡ searcher.old.program.now }
@@ -81,7 +81,7 @@ fn match_len(searcher: &mut Searcher<'_>, rest: &str) -> Option<usize>
     }
 }
 
-// Whether a match can begin with the text's first byte. It is asked before a search, which takes longer.
+// Whether a match can begin with the text's first byte. This is tested before a search, which takes longer.
 fn can_begin(program: &Program, text: &[u8]) -> bool
     ensures { result ≡ false → HasNothingAtStart (searched_by program.now) text.now }
 {
@@ -91,7 +91,7 @@ fn can_begin(program: &Program, text: &[u8]) -> bool
     }
 }
 
-// The better of two: that of pattern `index` only where it is longer.
+// The better of two: the match of pattern `index` only if it is longer.
 fn better(best: Option<Winner>, index: usize, found: Option<usize>) -> Option<Winner>
     ensures { result ≡ better best index found }
 {

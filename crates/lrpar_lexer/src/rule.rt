@@ -16,19 +16,19 @@ use regex_syntax::{Config, Parsed};
 use std::alloc::{AllocError, Global};
 use std::fmt;
 
-/// Bytes that a compiled pattern may take: some more than the 10 MiB of `regex`, as there is one assertion more.
+/// The limit in bytes for a compiled pattern: a little more than the 10 MiB of `regex`, as there is one more assertion.
 const SIZE_LIMIT: usize = 11 << 20;
 
-/// A rule: a pattern, and the token of what it matches; what a rule without a token matches is skipped.
+/// A rule: a pattern, and the token of its matches. The matches of a rule without a token are skipped.
 pub struct LexRule {
-    /// The pattern behind an assertion that the text begins there, so that a search of the rest of a text reads no further than
-    /// a match at its beginning could.
+    /// The pattern after an assertion that the text starts there, so that a search of the rest of a text reads no further than
+    /// a match at its start could.
     pub(crate) anchored: Program,
     pub(crate) token: Option<TIdx<u32>>,
     ghost finds: { FindsAtStart anchored (without_start (pattern_of anchored)) },
 }
 
-// A drop of its own, so that what lets go of one elsewhere proves one call.
+// Hand-written, so that code that drops a rule needs the proof of one call only.
 impl Drop for LexRule {
     fn drop(self) {
         let LexRule { anchored, token: _ } = self;
@@ -39,7 +39,7 @@ impl Drop for LexRule {
 impl LexRule {
     ghost use Rattle.lrpar_lexer.specs.Rules.{HasPattern, token_of};
 
-    /// The rule of this pattern and token. Refused as `regex` refuses the pattern. The pattern is compiled here, and never again.
+    /// The rule with this pattern and token. Fails as `regex` fails for the pattern. The pattern is compiled only here.
     pub fn new(alloc: Global, pattern: &str, token: Option<TIdx<u32>>) -> Result<LexRule, Error>
         ensures pattern { IfOk result (HasPattern pattern.now) }
         ensures token { IfOk result (λ rule. token_of rule ≡ option_map (λ token. token.0) token) }
@@ -51,7 +51,7 @@ impl LexRule {
         Ok(LexRule { anchored, token })
     }
 
-    /// The token of what the pattern matches, if it has one.
+    /// The token of the pattern's matches, if they have one.
     pub fn token(&self) -> Option<TIdx<u32>>
         ensures { token_of self.now ≡ option_map (λ token. token.0) result }
     {
@@ -67,7 +67,7 @@ impl fmt::Debug for LexRule {
     }
 }
 
-// The program that finds at the beginning of a text what the pattern finds there.
+// The program that finds at the start of a text what the pattern finds there.
 fn anchored(alloc: Global, pattern: &str) -> Result<Program, Error>
     ensures read { IfOk result (IsAfterStart pattern.now) }
     ensures refused { IfErr result (IsRefusal default_config pattern.now) }
@@ -82,7 +82,7 @@ fn anchored(alloc: Global, pattern: &str) -> Result<Program, Error>
     Ok(Program::new(alloc, tree, groups, SIZE_LIMIT)?)
 }
 
-// The tree behind an assertion that the text begins.
+// The tree after an assertion that the text starts there.
 fn after_start(alloc: Global, hir: Hir) -> Result<Hir, AllocError>
     ensures { IfOk result (λ tree. meaning tree ≡ after_start (meaning hir)) }
 {

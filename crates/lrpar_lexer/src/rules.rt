@@ -10,33 +10,33 @@ use lrpar_grammar_places::span::TIdx;
 use std::alloc::{AllocError, AllocFailed, Global};
 use thiserror::Error;
 
-/// Why a text isn't one of rules.
+/// Why a text gives no rules.
 #[derive(Debug, Drop, Error)]
 pub enum RulesFault {
-    /// The line of this number, counted from 1, is no rule, for this reason.
+    /// The line with this number, counted from 1, gives no rule, for this reason.
     #[error("line {0}")]
     Line(usize, LineFault),
-    /// Memory was wanting.
+    /// An allocation failed.
     #[error("out of memory")]
     Memory,
 }
 
-/// Why a line is no rule.
+/// Why a line gives no rule.
 #[derive(Clone, Copy, Debug, PartialEq, Eq)]
 pub enum LineFault {
-    /// It isn't written as one.
+    /// It doesn't have the form of a rule.
     Unread,
-    /// It names no token of the grammar.
+    /// Its name isn't the name of a token of the grammar.
     Unnamed,
-    /// `regex` refuses its pattern, for this reason. Places of that are bytes of the pattern.
+    /// `regex` refuses its pattern, with this error. The places of the error are bytes of the pattern.
     Pattern(regex::Error),
 }
 
-/// The rules of a text, one a line, with the tokens of the grammar. `PATTERN 'NAME'` is the rule of the token NAME, and
-/// `PATTERN ;` the rule of what is skipped; spaces and tabs stand between. At both ends of a line spaces, tabs and carriage
-/// returns count for nothing, and a line that has nothing else is left out. NAME is what stands between the last two quotes.
+/// The rules of a text, one a line, with tokens of the grammar. `PATTERN 'NAME'` is a rule with the token NAME, and
+/// `PATTERN ;` is a rule whose matches are skipped; one or more spaces or tabs come after the pattern. Spaces, tabs and carriage
+/// returns at both ends of a line are ignored, and so is a line with nothing else. NAME is the text between the last two quotes.
 ///
-/// The rules come in the order of their lines. A fault names the first line that is no rule, and why it isn't; the lines before it are.
+/// The rules are in the order of their lines. A fault has the first line that gives no rule, and the reason.
 pub fn rules_of(
     alloc: Global,
     grm: &YaccGrammar<u32>,
@@ -65,7 +65,7 @@ fn core_of(line: &str) -> &str
         .trim_end_matches([' ', '\t', '\r'])
 }
 
-// The rule of a line, which has this number.
+// The rule of a line with this number.
 fn rule_of(
     alloc: Global,
     grm: &YaccGrammar<u32>,
@@ -98,7 +98,7 @@ fn refusal(error: &regex::Error, number: usize) -> RulesFault
     }
 }
 
-// The token of that name.
+// The first token with that name.
 fn token_named(grm: &YaccGrammar<u32>, name: &str, number: usize) -> Result<TIdx<u32>, RulesFault>
     ensures token { IfOk result (λ token. first_named grm.now name.now ≡ Some token.0) }
     ensures fault { IfErr result (NamesLine (λ n why. (n ≡ number) × (why ≡ LineFault.Unnamed) × (first_named grm.now name.now ≡ None))) }
@@ -119,7 +119,7 @@ fn rule_parts(line: &str) -> Option<(&str, Option<&str>)>
     Some((pattern_before_gap(front)?, name))
 }
 
-// What stands in front of the ending of a line, and the name of its token, if the ending has one.
+// The text before the ending of a line, and the name of its token, if the ending has one.
 fn line_parts(line: &str) -> Option<(&str, Option<&str>)>
     ensures { MatchOption result
         ((front : List ℕ) (name : Option (List ℕ)) → ¬ (HasEnding line.now front name))
@@ -134,7 +134,7 @@ fn line_parts(line: &str) -> Option<(&str, Option<&str>)>
     }
 }
 
-// The pattern that stands in front of spaces and tabs, of which there has to be one.
+// The pattern before spaces and tabs, of which there must be at least one.
 fn pattern_before_gap(front: &str) -> Option<&str>
     ensures { MatchOption result
         ((pattern : List ℕ) → ¬ (HasGap front.now pattern))

@@ -1,4 +1,4 @@
-//! Lexemes, and the error where no rule matches.
+//! Lexemes, and the error for a place at which no rule matches.
 ghost use Rattle.std.specs.Prelude.{◌≡◌, ◌+◌, ◌≤◌};
 ghost use Rattle.lrpar_lexer.specs.Lexing.{lexeme_of, nothing_at};
 
@@ -7,7 +7,7 @@ use lrpar_parse_lexemes::{LexError, Lexeme, LexerTypes};
 use std::error::Error;
 use std::fmt;
 
-/// A lexeme: its token, where it lies, and whether a repair made it.
+/// A lexeme: its token, its place, and whether a repair made it.
 #[derive(Clone, Copy, Debug, PartialEq, Eq, Hash)]
 pub struct Token<StorageT> {
     number: StorageT,
@@ -74,21 +74,21 @@ impl<StorageT: StorageIndex> Lexeme<StorageT> for Token<StorageT> {
     }
 }
 
-/// A place where no token fits.
+/// The error for a place at which no token fits.
 #[derive(Debug, Drop)]
 pub struct NoToken {
     span: Span,
 }
 
 impl NoToken {
-    /// The error of `span`.
+    /// The error at `span`.
     pub fn new(span: Span) -> NoToken
         ensures { result ≡ record { span = span } }
     {
         NoToken { span }
     }
 
-    // The empty place at a byte.
+    // The error for the empty place at a byte.
     pub(crate) fn at(byte: usize) -> NoToken
         ensures { result ≡ nothing_at byte }
     {
@@ -119,7 +119,7 @@ impl LexError for NoToken {
     }
 }
 
-/// The types of lexers with these lexemes and errors.
+/// The types of lexers with these lexemes and these errors.
 #[derive(Clone, Debug, Drop)]
 pub struct TokenTypes;
 

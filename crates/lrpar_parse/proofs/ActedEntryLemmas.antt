@@ -1,4 +1,4 @@
--- A tree for which an entry with a span stands folds to its argument, and lies at its span.
+-- A tree that an entry with a span represents folds to its argument, and has its span.
 use Rattle.std.proofs.Common.{◌≡◌, ◌-◌, ◌∙◌, ℕ, List, [], ◌∷◌, Option, Some, length, drop, ap, refl, subst, sym}
 use Rattle.std.specs.List.{AllZip}
 use Rattle.lrpar_grammar_places.specs.Span.{Extent}
@@ -11,19 +11,19 @@ use Rattle.lrpar_parse.specs.Acted.{ActedTo, AllActedTo}
 use Rattle.lrpar_parse_run.specs.RunStack.{AllRepresent, Represents}
 use Rattle.lrpar_parse_run.specs.declared.values.AStackType.{AStackType}
 
--- An entry that stands for a tree after a span has the tree's span, and its argument is one to which the tree folds.
+-- An entry that represents a tree after a span has the tree's span, and the tree folds to its argument.
 pub record IsActedAt {X V : Type 0} (span : X → Extent) (acts : ℕ → Extent → List (AStackType X V) → V → Type 0) (before : Extent) (t : Tree X) (e : Placed (AStackType X V)) : Type 0 where
   pub lies : e.span ≡ span_after span before t
   pub folds : ActedTo span acts before t e.argument
 
--- The same of trees side by side: the last one lies where the last entry does, and a node over them where one over the
--- entries does.
+-- The same for trees side by side: the last one has the span of the last entry, and a node over them has the span of one over the
+-- entries.
 record AllActedAt {X V : Type 0} (span : X → Extent) (acts : ℕ → Extent → List (AStackType X V) → V → Type 0) (before : Extent) (ts : Forest X) (es : List (Placed (AStackType X V))) : Type 0 where
   pub lie : last_part before (spans_of es) ≡ last_span span before ts
   pub over : span_over before (spans_of es) ≡ span_after span before (Branch 0 ts)
   pub fold : AllActedTo span acts before ts (arguments_of es)
 
--- where a node lies is no matter of its production
+-- the span of a node doesn't depend on its production
 any_node : {X : Type 0} (span : X → Extent) (before : Extent) (p : ℕ) (ts : Forest X) → span_after span before (Branch 0 ts) ≡ span_after span before (Branch p ts)
 any_node span before p Nil = refl
 any_node span before p (Cons t ts) = refl
@@ -36,20 +36,20 @@ module _ {X V : Type 0} (span : X → Extent) (acts : ℕ → Extent → List (A
   node p before es e = IsPlacedValue (acts p) before es e
 
   mutual
-    pub stands_acted : (before : Option (Placed (AStackType X V))) (t : Tree X) (e : Placed (AStackType X V)) → Represents leaf node before t e → IsActedAt span acts (span_before before) t e
-    stands_acted before (Leaf x) e stands = record { lies = stands.lies; folds = stands.is }
-    stands_acted before (Branch p children) e (es, stand, made) =
-        let all = all_acted before children es stand in
+    pub represented_acted : (before : Option (Placed (AStackType X V))) (t : Tree X) (e : Placed (AStackType X V)) → Represents leaf node before t e → IsActedAt span acts (span_before before) t e
+    represented_acted before (Leaf x) e represents = record { lies = represents.lies; folds = represents.is }
+    represented_acted before (Branch p children) e (es, represent, made) =
+        let all = all_acted before children es represent in
         let lies : e.span ≡ span_after span (span_before before) (Branch p children) = made.lies ∙ all.over ∙ any_node span (span_before before) p children in
         record { lies = lies; folds = (arguments_of es, made.value, made.is, all.fold, subst (λ (s : Extent). acts p s (arguments_of es) made.value) lies made.acted) }
 
     all_acted : (before : Option (Placed (AStackType X V))) (ts : Forest X) (es : List (Placed (AStackType X V))) → AllRepresent leaf node before ts es → AllActedAt span acts (span_before before) ts es
-    all_acted before Nil [] stand = record { lie = refl; over = refl; fold = tt }
-    all_acted before Nil (e ∷ es) stand = absurd stand
-    all_acted before (Cons t ts) [] stand = absurd stand
-    all_acted before (Cons t ts) (e ∷ es) stand =
-        let first = stands_acted before t e stand.0 in
-        let others = all_acted (Some e) ts es stand.1 in
+    all_acted before Nil [] represent = record { lie = refl; over = refl; fold = tt }
+    all_acted before Nil (e ∷ es) represent = absurd represent
+    all_acted before (Cons t ts) [] represent = absurd represent
+    all_acted before (Cons t ts) (e ∷ es) represent =
+        let first = represented_acted before t e represent.0 in
+        let others = all_acted (Some e) ts es represent.1 in
         let lie : last_part e.span (spans_of es) ≡ last_span span (span_after span (span_before before) t) ts =
         subst (λ (s : Extent). last_part e.span (spans_of es) ≡ last_span span s ts) first.lies others.lie in
         record {
@@ -59,14 +59,14 @@ module _ {X V : Type 0} (span : X → Extent) (acts : ℕ → Extent → List (A
           fold = (first.folds, subst (λ (s : Extent). AllActedTo span acts s ts (arguments_of es)) first.lies others.fold);
         }
 
--- what holds of the arguments of entries, place by place, holds of the list of them
+-- what holds for the arguments of entries, place by place, holds for the list of them
 pub zip_arguments : {S T : Type 0} (R : S → T → Type 0) (symbols : List S) (es : List (Placed T)) → AllZip (λ s e. R s e.argument) symbols es → AllZip R symbols (arguments_of es)
 zip_arguments R [] [] all = tt
 zip_arguments R [] (e ∷ es) all = absurd all
 zip_arguments R (s ∷ symbols) [] all = absurd all
 zip_arguments R (s ∷ symbols) (e ∷ es) all = (all.0, zip_arguments R symbols es all.1)
 
--- the arguments of the last entries, where these suit the symbols
+-- the arguments of the last entries, if these suit the symbols
 pub own_arguments : {S T : Type 0} (R : S → T → Type 0) (symbols : List S) (es : List (Placed T)) (count : ℕ) (args : List T)
     → args ≡ arguments_of (drop (length es - count) es) → AllZip (λ s e. R s e.argument) symbols (drop (length es - count) es) → AllZip R symbols args
 own_arguments R symbols es count args args_are suit = subst (AllZip R symbols) (sym args_are) (zip_arguments R symbols (drop (length es - count) es) suit)

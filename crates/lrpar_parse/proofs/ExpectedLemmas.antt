@@ -1,5 +1,5 @@
--- What may come next after the lexemes of a lexer: the lexemes are fed one by one, as far as they can be, and the answer is that
--- over them.
+-- What may come next after the lexemes of a lexer: the lexemes are fed one by one, as far as they can be, and the result is the one for
+-- these.
 use Rattle.std.proofs.Common.{◌≡◌, ◌≢◌, ◌<◌, ◌+◌, ◌↔◌, ◌∙◌, inl, inr, ℕ, List, [], ◌∷◌, ◌++◌, map, length, get_or, slice_get, Bool, true, false, IsTrue, Some, None, Result, Ok, Err, refl, sym, ap, subst, arith}
 use Rattle.std.proofs.lemmas.Option.{slice_get_read, slice_get_within}
 use Rattle.lrpar_grammar.specs.Grammar.{Grammar, end_token, tokens_len}
@@ -60,14 +60,14 @@ module _ {X : Type 0} (token : X → ℕ) (d : Checked) (lexemes : List X) where
       here : token_at token d.grammar lexemes i ≡ token x
       here = token_at_lexeme token d.grammar lexemes i x at
 
-      -- what was answered of that token says so of the lexeme's
-      module _ (t : ℕ) (is : t ≡ token x) (from : List ℕ) (same : from ≡ st) (yes : Bool) (told : IsTrue yes ↔ IsExpected d.grammar d.table from t) where
+      -- the answer for that token is the answer for the lexeme's token
+      module _ (t : ℕ) (is : t ≡ token x) (from : List ℕ) (same : from ≡ st) (yes : Bool) (answered : IsTrue yes ↔ IsExpected d.grammar d.table from t) where
         -- one more is fed
         pub fed_more : yes ≡ true → (shifted : Bool) (after : List ℕ) → IsFedBy d.grammar d.table d.cap t st shifted after
             → FeedsFront token d.grammar d.table lexemes (i + 1) after
         fed_more holds shifted after by =
             let yes_it : IsTrue yes = subst (λ (b : Bool). IsTrue b) (sym holds) refl in
-            let expected = subst (λ (l : List ℕ). IsExpected d.grammar d.table l t) same (told.0 yes_it) in
+            let expected = subst (λ (l : List ℕ). IsExpected d.grammar d.table l t) same (answered.0 yes_it) in
             let other : t ≢ end_token d.grammar = λ e. apart (sym is ∙ e) in
             let feeds = expected_fed d.grammar d.table d.cap t st shifted after other expected by in
             let next = subst (λ (u : ℕ). Feeds d.grammar d.table u st feeds.0 after) (is ∙ sym here) feeds.1 in
@@ -78,7 +78,7 @@ module _ {X : Type 0} (token : X → ℕ) (d : Checked) (lexemes : List X) where
         fed_stops fails =
             let below = slice_get_within lexemes i x at in
             let stops : ¬ (IsExpected d.grammar d.table from t) = λ expected.
-            let no : IsTrue false = subst (λ (b : Bool). IsTrue b) fails (told.1 expected) in cc in
+            let no : IsTrue false = subst (λ (b : Bool). IsTrue b) fails (answered.1 expected) in cc in
             record {
               fed = fed;
               within = omega (arith, below);
@@ -88,7 +88,7 @@ module _ {X : Type 0} (token : X → ℕ) (d : Checked) (lexemes : List X) where
                   stops (subst (λ (l : List ℕ). IsExpected d.grammar d.table l t) (sym same) (inl (other, (prods, next, there))));
             }
 
-  -- what may come next where they are fed so far
+  -- what may come next after the lexemes that are fed
   pub expected_after : IsChecked d → (place : ℕ) (st tokens : List ℕ) → ComesFurthest token d lexemes place st → AreExpected d.grammar d.table st tokens
       → IsExpectedAfter token d lexemes place tokens
   expected_after checked place st tokens comes expected =
@@ -113,7 +113,7 @@ module _ {S X E : Type 0} (index : S → ℕ) (facts : X → LexemeFacts) (d : C
   facts_are : map facts lexemes ≡ lexeme_facts facts lexed
   facts_are = ap (map facts) are
 
-  -- a fault of a lexeme is answered
+  -- a fault of a lexeme is returned
   pub fault_is_answer : (fault : ParseFault) → IsLexemeFault d.grammar (map facts lexemes) (Some fault) → IsExpectedAnswer index facts d lexed (Err fault)
   fault_is_answer fault is = record {
     answer = tt;

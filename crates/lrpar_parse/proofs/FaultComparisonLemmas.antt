@@ -1,4 +1,4 @@
--- What the derived comparison of faults says of their contents.
+-- What the derived comparison of faults says about their contents.
 use Rattle.std.proofs.Common.{◌≡◌, ◌↔◌, ℕ, Bool, true, false, IsTrue, refl}
 use Rattle.std.specs.Prelude.{◌==◌}
 use Rattle.lrpar_parse.specs.declared.fault.ParseFault.{ParseFault}
@@ -10,7 +10,7 @@ lexeme_of (BadToken i) = i
 lexeme_of (StartsDecrease i) = i
 lexeme_of Memory = 0
 
--- a comparison of faults that answers as each kind asks is equality
+-- a comparison of faults that is right for each kind is equality
 pub fault_alike : (same : ParseFault → ParseFault → Bool)
     → (bad : (i j : ℕ) → same (BadToken i) (BadToken j) ≡ (i == j))
     → (decrease : (i j : ℕ) → same (StartsDecrease i) (StartsDecrease j) ≡ (i == j))

@@ -1,4 +1,4 @@
--- The first lexeme that has a fault is the only one that is named.
+-- There is one first lexeme that has a fault.
 use Rattle.std.proofs.Common.{◌≡◌, ◌<◌, ◌≤◌, ◌+◌, ◌⊎◌, ℕ, List, length, Some, None, inl, inr, sym, subst, ap, ◌∙◌, refl, arith}
 use Rattle.std.specs.List.{slice_get}
 use Rattle.std.proofs.lemmas.Bool.{cases_order, cases_lt}
@@ -8,7 +8,7 @@ use Rattle.lrpar_grammar.specs.Sentence.{LexemeFacts, HasBadToken, HasEarlyStart
 use Rattle.lrpar_parse.specs.LexemeFault.{IsLexemeFault}
 use Rattle.lrpar_parse.specs.declared.fault.ParseFault.TheVariants.{BadToken, StartsDecrease}
 
--- the start of the lexeme in front of lexeme i, or 0 in front of the first
+-- the start of the lexeme before lexeme i, or 0 before the first
 abbrev pub IsPreviousStart : List LexemeFacts → ℕ → ℕ → Type 0
 IsPreviousStart lexemes i start =
     ((i ≡ 0) × (start ≡ 0)) ⊎ ((j : ℕ) × (x : LexemeFacts) × (j + 1 ≡ i) × (slice_get lexemes j ≡ Some x) × (x.span.start ≡ start))
@@ -124,6 +124,6 @@ valid_has_no_fault g lexemes valid = record {
   none = (λ _. valid, λ _. refl);
 }
 
--- lexeme i is in front of the next one
+-- lexeme i is before the next one
 pub next_previous : (lexemes : List LexemeFacts) (i start : ℕ) (x : LexemeFacts) → slice_get lexemes i ≡ Some x → start ≡ x.span.start → IsPreviousStart lexemes (i + 1) start
 next_previous lexemes i start x at is = inr (i, x, refl, at, sym is)

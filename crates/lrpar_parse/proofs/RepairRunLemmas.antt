@@ -1,4 +1,4 @@
--- Runs with repairs: which sequences are listed, where the stops lie, and when the run comes to accept.
+-- Runs with repairs: which sequences are listed, where the error points are, and when the run accepts.
 use Rattle.std.proofs.Common.{◌≡◌, ◌≢◌, ◌<◌, ◌≤◌, ◌+◌, ◌*◌, ◌/◌, ◌↔◌, inl, inr, ℕ, zero, suc, List, [], ◌∷◌, Option, Some, None, IsSome, option_map, length, map, refl, sym, subst, ap, arith, All}
 use Rattle.std.proofs.Math.Nat.{le-div_iff_mul-le}
 use Rattle.std.proofs.lemmas.List.Elements.{All-nil, All-cons, All-head, All-tail, All-weaker}
@@ -48,7 +48,7 @@ module _ {X : Type 0} (token : X → ℕ) (g : Grammar) (table : Table) (lexemes
   replays_inserts st i (step ∷ steps) ps after j x =
       All-cons (InsertsListed g) step steps (step_inserts st i step x.0 x.1 x.2 x.4) (replays_inserts x.1 x.2 steps x.3 after j x.5)
 
-  -- so where it stops, no lexeme can be fed
+  -- so at its error point no lexeme can be fed
   stuck_stays : (k : ℕ) (st : List ℕ) (i : ℕ) → 0 < k → IsSettled table (token_at token g lexemes i) st → IsStuck token g table lexemes st i → i ≤ length lexemes
       → ¬ (CanGoOn token g table lexemes k st i)
   stuck_stays k st i some settled stuck fits on =
@@ -65,7 +65,7 @@ mapped_some : {A B : Type 0} (f : A → B) (o : Option A) → IsSome o → IsSom
 mapped_some f None some = some
 mapped_some f (Some x) some = refl
 
--- so many stops, each k after the one before it
+-- the number of error points, each k after the one before it
 div_bound : (m n k : ℕ) → 0 < k → m * k ≤ n + k → m ≤ n / k + 1
 div_bound zero n k some h = omega arith
 div_bound (suc m) n k some h =
@@ -74,7 +74,7 @@ div_bound (suc m) n k some h =
     let most : m * k ≤ n = omega (arith, all) in
     omega (arith, (le-div_iff_mul-le some).1 most)
 
--- no stops, and one
+-- no error points, and one
 pairs_none : {A : Type 0} (R : A → A → Type 0) → AllPairs R []
 pairs_none R i j d before within = absurd (omega arith)
 
@@ -88,7 +88,7 @@ module _ {X : Type 0} (facts : X → LexemeFacts) (allows : Point X → List (Li
       → All (Works token_of g table lexemes k stop.stack stop.place) listed
   listed_work stop listed h = those_all (Works token_of g table lexemes k stop.stack stop.place) h.answer listed h.those
 
-  -- so k lexemes can be fed from what the first one gives, which lies no earlier, and in the input
+  -- so k lexemes can be fed after the first one; the place there is no earlier, and in the input
   after_first : (stop : Stop) (first : List PlainStep) (listed : List (List PlainStep)) (made after : List ℕ) (j : ℕ)
       → IsListedAt facts allows k g table lexemes stop (first ∷ listed) → Replays token_of g table lexemes stop.stack stop.place first made after j
       → stop.place ≤ length lexemes → CanGoOn token_of g table lexemes k after j × (stop.place ≤ j) × (j ≤ length lexemes)
@@ -103,40 +103,40 @@ module _ {X : Type 0} (facts : X → LexemeFacts) (allows : Point X → List (Li
         replays_within token_of g table lexemes stop.stack stop.place first made after j fits r,
       )
 
-  -- the stops of a run lie at its place or after it
+  -- the error points of a run are at its place or after it
   run_from : (st : List ℕ) (i : ℕ) (found : List RepairStop) (consumed : Option (List X)) (prods : List ℕ)
       → RepairRun facts allows k g table lexemes st i found consumed prods → All (λ s. i ≤ s.stop.place) found
   run_from _ _ _ _ _ (runs_through st i prods far) = All-nil (λ s. i ≤ s.stop.place)
   run_from _ _ _ _ _ (ends_there st i prods stop far listed) =
       let h = far_stops token_of g table lexemes st i prods (Stopped stop) far in
       All-cons (λ s. i ≤ s.stop.place) (record { stop = stop; listed = [] }) [] h.0 (All-nil (λ s. i ≤ s.stop.place))
-  run_from _ _ _ _ _ (is_repaired st i prods stop first listed made after j mended found consumed rest far at replays eaten run) =
+  run_from _ _ _ _ _ (is_repaired st i prods stop first listed made after j recovered found consumed rest far at replays eaten run) =
       let h = far_stops token_of g table lexemes st i prods (Stopped stop) far in
       let next = after_first stop first listed made after j at replays h.1 in
       All-cons (λ s. i ≤ s.stop.place) (record { stop = stop; listed = first ∷ listed }) found h.0
       (All-weaker (λ s. j ≤ s.stop.place) (λ s. i ≤ s.stop.place) (λ s le. omega (arith, le, next.1, h.0)) found (run_from after j found consumed rest run))
 
-  -- where k lexemes can be fed, they lie k after it
+  -- if k lexemes can be fed, they are k after it
   run_after : (st : List ℕ) (i : ℕ) (found : List RepairStop) (consumed : Option (List X)) (prods : List ℕ)
       → CanGoOn token_of g table lexemes k st i → RepairRun facts allows k g table lexemes st i found consumed prods → All (λ s. i + k ≤ s.stop.place) found
   run_after _ _ _ _ _ on (runs_through st i prods far) = All-nil (λ s. i + k ≤ s.stop.place)
   run_after _ _ _ _ _ on (ends_there st i prods stop far listed) =
       let h = go_on_far token_of g table lexemes k st i prods (Stopped stop) on far in
       All-cons (λ s. i + k ≤ s.stop.place) (record { stop = stop; listed = [] }) [] h.0 (All-nil (λ s. i + k ≤ s.stop.place))
-  run_after _ _ _ _ _ on (is_repaired st i prods stop first listed made after j mended found consumed rest far at replays eaten run) =
+  run_after _ _ _ _ _ on (is_repaired st i prods stop first listed made after j recovered found consumed rest far at replays eaten run) =
       let h = go_on_far token_of g table lexemes k st i prods (Stopped stop) on far in
       let next = after_first stop first listed made after j at replays h.1 in
       All-cons (λ s. i + k ≤ s.stop.place) (record { stop = stop; listed = first ∷ listed }) found h.0
       (All-weaker (λ s. j ≤ s.stop.place) (λ s. i + k ≤ s.stop.place) (λ s le. omega (arith, le, next.1, h.0)) found (run_from after j found consumed rest run))
 
-  -- so each stop lies k after those before it
+  -- so each error point is k after those before it
   run_apart : (st : List ℕ) (i : ℕ) (found : List RepairStop) (consumed : Option (List X)) (prods : List ℕ)
       → RepairRun facts allows k g table lexemes st i found consumed prods → AllPairs (λ s t. s.stop.place + k ≤ t.stop.place) found
   run_apart _ _ _ _ _ (runs_through st i prods far) = pairs_none (λ s t. s.stop.place + k ≤ t.stop.place)
   run_apart _ _ _ _ _ (ends_there st i prods stop far listed) =
       AllPairs-cons (λ s t. s.stop.place + k ≤ t.stop.place) (record { stop = stop; listed = [] }) [] (All-nil (λ t. stop.place + k ≤ t.stop.place))
       (pairs_none (λ s t. s.stop.place + k ≤ t.stop.place))
-  run_apart _ _ _ _ _ (is_repaired st i prods stop first listed made after j mended found consumed rest far at replays eaten run) =
+  run_apart _ _ _ _ _ (is_repaired st i prods stop first listed made after j recovered found consumed rest far at replays eaten run) =
       let h = far_stops token_of g table lexemes st i prods (Stopped stop) far in
       let next = after_first stop first listed made after j at replays h.1 in
       AllPairs-cons (λ s t. s.stop.place + k ≤ t.stop.place) (record { stop = stop; listed = first ∷ listed }) found
@@ -144,13 +144,13 @@ module _ {X : Type 0} (facts : X → LexemeFacts) (allows : Point X → List (Li
       (run_after after j found consumed rest next.0 run))
       (run_apart after j found consumed rest run)
 
-  -- how many there can be, where k lexemes can be fed
+  -- how many there can be, if k lexemes can be fed
   few_after : (st : List ℕ) (i : ℕ) (found : List RepairStop) (consumed : Option (List X)) (prods : List ℕ) → i ≤ length lexemes
       → CanGoOn token_of g table lexemes k st i → RepairRun facts allows k g table lexemes st i found consumed prods → length found * k + i ≤ length lexemes
   few_after _ _ _ _ _ fits on (runs_through st i prods far) = omega (arith, fits)
   few_after _ _ _ _ _ fits on (ends_there st i prods stop far listed) =
       let h = go_on_far token_of g table lexemes k st i prods (Stopped stop) on far in omega (arith, h.0, h.1)
-  few_after _ _ _ _ _ fits on (is_repaired st i prods stop first listed made after j mended found consumed rest far at replays eaten run) =
+  few_after _ _ _ _ _ fits on (is_repaired st i prods stop first listed made after j recovered found consumed rest far at replays eaten run) =
       let h = go_on_far token_of g table lexemes k st i prods (Stopped stop) on far in
       let next = after_first stop first listed made after j at replays h.1 in
       let less : length found * k + j ≤ length lexemes = few_after after j found consumed rest next.2 next.0 run in
@@ -158,12 +158,12 @@ module _ {X : Type 0} (facts : X → LexemeFacts) (allows : Point X → List (Li
       let one_more : length (record { stop = stop; listed = first ∷ listed } ∷ found) ≡ length found + 1 = omega arith in
       subst (λ (m : ℕ). m * k + i ≤ length lexemes) (sym one_more) more
 
-  -- and at all
+  -- and in any case
   few : (st : List ℕ) (i : ℕ) (found : List RepairStop) (consumed : Option (List X)) (prods : List ℕ) → i ≤ length lexemes
       → RepairRun facts allows k g table lexemes st i found consumed prods → length found * k + i ≤ length lexemes + k
   few _ _ _ _ _ fits (runs_through st i prods far) = omega (arith, fits)
   few _ _ _ _ _ fits (ends_there st i prods stop far listed) = omega (arith, fits)
-  few _ _ _ _ _ fits (is_repaired st i prods stop first listed made after j mended found consumed rest far at replays eaten run) =
+  few _ _ _ _ _ fits (is_repaired st i prods stop first listed made after j recovered found consumed rest far at replays eaten run) =
       let h = far_stops token_of g table lexemes st i prods (Stopped stop) far in
       let next = after_first stop first listed made after j at replays h.1 in
       let less : length found * k + j ≤ length lexemes = few_after after j found consumed rest next.2 next.0 run in
@@ -171,7 +171,7 @@ module _ {X : Type 0} (facts : X → LexemeFacts) (allows : Point X → List (Li
       let one_more : length (record { stop = stop; listed = first ∷ listed } ∷ found) ≡ length found + 1 = omega arith in
       subst (λ (m : ℕ). m * k + i ≤ length lexemes + k) (sym one_more) more
 
-  -- what works where a run stops is sound
+  -- a sequence that works at an error point is sound
   works_sound : (st : List ℕ) (i : ℕ) (steps : List PlainStep) → 0 < k → i ≤ length lexemes → IsSettled table (token_at token_of g lexemes i) st
       → IsStuck token_of g table lexemes st i → Works token_of g table lexemes k st i steps → IsSound g (length lexemes) i steps
   works_sound st i steps some fits settled stuck works =
@@ -200,24 +200,24 @@ module _ {X : Type 0} (facts : X → LexemeFacts) (allows : Point X → List (Li
   run_sound _ _ _ _ _ some (runs_through st i prods far) = All-nil IsSoundStop
   run_sound _ _ _ _ _ some (ends_there st i prods stop far at) =
       All-cons IsSoundStop (record { stop = stop; listed = [] }) [] (stop_sound st i prods stop [] some far at) (All-nil IsSoundStop)
-  run_sound _ _ _ _ _ some (is_repaired st i prods stop first listed made after j mended found consumed rest far at replays eaten run) =
+  run_sound _ _ _ _ _ some (is_repaired st i prods stop first listed made after j recovered found consumed rest far at replays eaten run) =
       All-cons IsSoundStop (record { stop = stop; listed = first ∷ listed }) found (stop_sound st i prods stop (first ∷ listed) some far at)
       (run_sound after j found consumed rest some run)
 
-  abbrev IsMended : RepairStop → Type 0
-  IsMended s = s.listed ≢ []
+  abbrev IsRepaired : RepairStop → Type 0
+  IsRepaired s = s.listed ≢ []
 
-  -- where no sequence is listed at a stop, nothing is consumed
+  -- if no sequence is listed at an error point, nothing is consumed
   run_accepts : (st : List ℕ) (i : ℕ) (found : List RepairStop) (consumed : Option (List X)) (prods : List ℕ)
-      → RepairRun facts allows k g table lexemes st i found consumed prods → IsSome consumed ↔ All IsMended found
-  run_accepts _ _ _ _ _ (runs_through st i prods far) = ((λ _. All-nil IsMended), (λ _. refl))
+      → RepairRun facts allows k g table lexemes st i found consumed prods → IsSome consumed ↔ All IsRepaired found
+  run_accepts _ _ _ _ _ (runs_through st i prods far) = ((λ _. All-nil IsRepaired), (λ _. refl))
   run_accepts _ _ _ _ _ (ends_there st i prods stop far at) =
-      ((λ some. absurd (cc)), (λ all. absurd (All-head IsMended (record { stop = stop; listed = [] }) [] all refl)))
-  run_accepts _ _ _ _ _ (is_repaired st i prods stop first listed made after j mended found consumed rest far at replays eaten run) =
+      ((λ some. absurd (cc)), (λ all. absurd (All-head IsRepaired (record { stop = stop; listed = [] }) [] all refl)))
+  run_accepts _ _ _ _ _ (is_repaired st i prods stop first listed made after j recovered found consumed rest far at replays eaten run) =
       let more = run_accepts after j found consumed rest run in
       let here : RepairStop = record { stop = stop; listed = first ∷ listed } in (
-        (λ some. All-cons IsMended here found (λ e. cc) (more.0 (some_mapped _ consumed some))),
-        (λ all. mapped_some _ consumed (more.1 (All-tail IsMended here found all))),
+        (λ some. All-cons IsRepaired here found (λ e. cc) (more.0 (some_mapped _ consumed some))),
+        (λ all. mapped_some _ consumed (more.1 (All-tail IsRepaired here found all))),
       )
 
 module _ {X : Type 0} (facts : X → LexemeFacts) (allows : Point X → List (List PlainStep) → Type 0) where
@@ -235,7 +235,7 @@ module _ {X : Type 0} (facts : X → LexemeFacts) (allows : Point X → List (Li
   accepts_where_repaired k g table lexemes st found consumed prods run = run_accepts facts allows k g table lexemes st 0 found consumed prods run
 
 module _ {X : Type 0} (facts : X → LexemeFacts) (k : ℕ) (g : Grammar) (table : Table) (lexemes : List X) where
-  -- a stop at which nothing is listed
+  -- an error point at which nothing is listed
   abbrev bare : Stop → RepairStop
   bare s = record { stop = s; listed = [] }
 
@@ -243,13 +243,13 @@ module _ {X : Type 0} (facts : X → LexemeFacts) (k : ℕ) (g : Grammar) (table
   bare_stops [] = refl
   bare_stops (s ∷ found) = ap (λ (l : List Stop). s ∷ l) (bare_stops found)
 
-  -- where nothing is handed in, the run has no repairs
+  -- if nothing is supplied, the run has no repairs
   runs_bare : (st : List ℕ) (i : ℕ) (rs : List RepairStop) (consumed : Option (List X)) (prods : List ℕ)
       → RepairRun facts (λ _ answer. answer ≡ []) k g table lexemes st i rs consumed prods
       → Run (λ x. (facts x).token) g table lexemes st i (map (λ (r : RepairStop). r.stop) rs) consumed prods
   runs_bare _ _ _ _ _ (runs_through st i prods far) = comes_through st i prods far
   runs_bare _ _ _ _ _ (ends_there st i prods stop far at) = gives_up st i prods stop far
-  runs_bare _ _ _ _ _ (is_repaired st i prods stop first listed made after j mended found consumed rest far at replays eaten run) =
+  runs_bare _ _ _ _ _ (is_repaired st i prods stop first listed made after j recovered found consumed rest far at replays eaten run) =
       let none = those_none (Works (λ x. (facts x).token) g table lexemes k stop.stack stop.place) at.answer (first ∷ listed) at.allowed at.those in absurd (cc)
 
   runs_so : (st : List ℕ) (i : ℕ) (found : List Stop) (consumed : Option (List X)) (prods : List ℕ)

@@ -1,4 +1,4 @@
--- What runs keep of a stack: it stays one of the table; and where a run stops, the table has no action.
+-- Runs keep a stack a stack of the table; and at an error point the table has no action.
 use Rattle.std.proofs.Common.{◌≡◌, ◌<◌, ◌+◌, inl, inr, ℕ, List, [], ◌∷◌, Option, map, sym, subst, arith, All}
 use Rattle.std.proofs.lemmas.List.Elements.{All-nil, All-cons}
 use Rattle.std.proofs.lemmas.Option.{slice_get_cases}
@@ -25,7 +25,7 @@ use Rattle.lrpar_table_stacks.proofs.RunLemmas.{far_ends_by_failing, token_at_en
 use Rattle.lrpar_parse_run.proofs.AskedLemmas.{keeps_off_end}
 
 module _ (g : Grammar) (table : Table) (cap : ℕ) (run : IsRun g table cap) where
-  -- all reductions at a token keep a stack one
+  -- all reductions at a token lead from a stack of the table to one
   pub settles_stack : (t : ℕ) (st ps after : List ℕ) → t < table.tokens → IsStack table st → Settles g table t st ps after → IsStack table after
   settles_stack t st [] after within stack settles = subst (IsStack table) settles.0 stack
   settles_stack t st (p ∷ ps) after within stack settles =
@@ -37,7 +37,7 @@ module _ (g : Grammar) (table : Table) (cap : ℕ) (run : IsRun g table cap) whe
       let settled = settles_stack t st ps feeds.settled within stack feeds.settles in
       subst (IsStack table) (sym feeds.pushed) (stack_shifted g table cap run t within feeds.settled feeds.next settled feeds.shifts)
 
-  -- where a run stops, it stands on a stack
+  -- the stack of an error point is a stack of the table
   abbrev pub EndsOnStack : FarEnd → Type 0
   EndsOnStack Accepted = Unit {0}
   EndsOnStack (Stopped stop) = IsStack table stop.stack
@@ -49,7 +49,7 @@ module _ (g : Grammar) (table : Table) (cap : ℕ) (run : IsRun g table cap) whe
     far_stack _ _ _ _ stack (accepts st i ps settled at_end settles accepted) = tt
     far_stack _ _ _ _ stack (stops st i ps settled fits settles stuck) = settles_stack (token_at token g lexemes i) st ps settled (known i) stack settles
 
-    -- a step keeps a stack one
+    -- a step leads from a stack of the table to one
     step_stack : (st : List ℕ) (i : ℕ) (step : PlainStep) (ps next : List ℕ) (j : ℕ) → IsStack table st → StepsTo token g table lexemes st i step ps next j
         → IsStack table next
     step_stack st i (PlainInsert t) ps next j stack x = feeds_stack t st ps next (omega (arith, x.0, last)) stack x.1
@@ -73,7 +73,7 @@ module _ {X : Type 0} (facts : X → LexemeFacts) (allows : Point X → List (Li
   run_stacks _ _ _ _ _ stack (ends_there st i prods stop far at) =
       All-cons (OnStack table) (record { stop = stop; listed = [] }) []
       (far_stack g table cap run (λ x. (facts x).token) lexemes known last st i prods (Stopped stop) stack far) (All-nil (OnStack table))
-  run_stacks _ _ _ _ _ stack (is_repaired st i prods stop first listed made after j mended found consumed rest far at replays eaten more) =
+  run_stacks _ _ _ _ _ stack (is_repaired st i prods stop first listed made after j recovered found consumed rest far at replays eaten more) =
       let here = far_stack g table cap run (λ x. (facts x).token) lexemes known last st i prods (Stopped stop) stack far in
       let next = replays_stack g table cap run (λ x. (facts x).token) lexemes known last stop.stack stop.place first made after j here replays in
       All-cons (OnStack table) (record { stop = stop; listed = first ∷ listed }) found here (run_stacks after j found consumed rest next more)
@@ -116,7 +116,7 @@ module _ {X : Type 0} (facts : X → LexemeFacts) (allows : Point X → List (Li
   run_fails _ _ _ _ _ stack (ends_there st i prods stop far at) =
       All-cons Fails_at (record { stop = stop; listed = [] }) []
       (far_ends_by_failing (λ x. (facts x).token) g table lexemes st i prods (Stopped stop) never good (stack_has_path table st stack) far) (All-nil Fails_at)
-  run_fails _ _ _ _ _ stack (is_repaired st i prods stop first listed made after j mended found consumed rest far at replays eaten more) =
+  run_fails _ _ _ _ _ stack (is_repaired st i prods stop first listed made after j recovered found consumed rest far at replays eaten more) =
       let here = far_stack g table cap run (λ x. (facts x).token) lexemes known last st i prods (Stopped stop) stack far in
       let next = replays_stack g table cap run (λ x. (facts x).token) lexemes known last stop.stack stop.place first made after j here replays in
       let fails = far_ends_by_failing (λ x. (facts x).token) g table lexemes st i prods (Stopped stop) never good (stack_has_path table st stack) far in

@@ -50,14 +50,14 @@ feeds_b : Feeds sum_grammar sum_table 1 (0 ∷ 2 ∷ 4 ∷ []) [] (0 ∷ 2 ∷ 4
 unfolding action_of goto_of
 feeds_b = record { settled = 0 ∷ 2 ∷ 4 ∷ []; settles = (refl, λ p e. no_shift 3 p e); next = 3; shifts = refl; pushed = refl }
 
--- at the end all is reduced, and accepted
+-- at the end all reductions are made, and the table accepts
 at_end : Far (λ t. t) sum_grammar sum_table sum_tokens (0 ∷ 2 ∷ 4 ∷ 3 ∷ []) 3 (2 ∷ 1 ∷ 0 ∷ []) Accepted
 unfolding action_of goto_of
 at_end =
     accepts (0 ∷ 2 ∷ 4 ∷ 3 ∷ []) 3 (2 ∷ 1 ∷ 0 ∷ []) (0 ∷ 1 ∷ []) refl
     (0 ∷ 2 ∷ 4 ∷ 2 ∷ [], second, (0 ∷ 2 ∷ 4 ∷ 5 ∷ [], third, (0 ∷ 1 ∷ [], fourth, (refl, λ p e. no_accept p e)))) refl
 
--- so the run comes through
+-- so the run accepts
 pub sum_runs_through : SumRunsThrough
 unfolding action_of goto_of
 sum_runs_through =

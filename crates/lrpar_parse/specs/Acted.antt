@@ -1,4 +1,4 @@
--- Folds of a derivation tree by actions, which are handed where each node lies.
+-- Folds of a derivation tree by actions, which get the span of each node.
 use Rattle.std.specs.Prelude.{◌≡◌, ℕ, List, [], ◌∷◌}
 use Rattle.lrpar_grammar.specs.Grammar.{Grammar, rule_of}
 use Rattle.lrpar_grammar.specs.Tree.{Tree, Forest, Leaf, Branch, Nil, Cons}
@@ -10,7 +10,7 @@ use Rattle.lrpar_parse_run.specs.declared.values.AStackType.TheVariants.{ActionT
 -- `acts p span args v`: production p at this span has the value v over these arguments. A leaf folds to its lexeme, and an
 -- inner node to a value of its production, at the node's span, over arguments to which its children fold.
 abbrev mutual
-  -- a tree after the span `before` folds to an argument
+  -- the tree, after the span `before`, folds to the argument
   pub ActedTo : {X V : Type 0} → (X → Extent) → (ℕ → Extent → List (AStackType X V) → V → Type 0) → Extent → Tree X → AStackType X V → Type 0
   ActedTo span acts before (Leaf x) arg = arg ≡ Lexeme x
   ActedTo {X} {V} span acts before (Branch p children) arg =
@@ -24,12 +24,12 @@ abbrev mutual
   AllActedTo span acts before (Cons t ts) [] = ⊥
   AllActedTo span acts before (Cons t ts) (arg ∷ args) = ActedTo span acts before t arg × AllActedTo span acts (span_after span before t) ts args
 
--- the values that the actions may answer for a production of the grammar, over this lexer and with this parameter; `answers` are
--- those for its rule
+-- the values that the actions may return for a production of the grammar, with this lexer and this parameter; `answers` says which values
+-- they may return for a production and its rule
 abbrev pub acts_by : {X V L P : Type 0} → (ℕ → ℕ → L → Extent → List (AStackType X V) → P → V → Type 0) → Grammar → L → P → ℕ → Extent → List (AStackType X V) → V → Type 0
 acts_by answers g lexer param p span args v = answers p (rule_of g p) lexer span args param v
 
--- the tree, with nothing in front of it, folds to the value, which has the fact of the start rule
+-- the tree, with nothing before it, folds to the value, which has the fact of the start rule
 pub record IsActedValue {X V L P : Type 0} (span : X → Extent) (answers : ℕ → ℕ → L → Extent → List (AStackType X V) → P → V → Type 0) (fact : ℕ → V → Type 0) (g : Grammar) (lexer : L) (param : P) (tree : Tree X) (value : V) : Type 0 where
   pub folds : ActedTo span (acts_by answers g lexer param) nowhere tree (ActionType value)
   pub kept : fact g.start value

@@ -1,4 +1,4 @@
--- What is answered of what may come next after the lexemes of a lexer.
+-- The answer of `expected`: what may come next after the lexemes of a lexer.
 use Rattle.std.specs.Prelude.{◌≡◌, ◌<◌, ◌≤◌, ◌↔◌, ◌⊎◌, ℕ, List, ◌∷◌, ◌++◌, Contains, length, take, Result, IfOk, IsErrOf}
 use Rattle.lrpar_grammar.specs.Grammar.{Grammar, end_token}
 use Rattle.lrpar_grammar.specs.Sentence.{LexemeFacts, IsFirstBadToken, IsFirstEarlyStart, IsSentence}
@@ -14,38 +14,36 @@ use Rattle.lrpar_parse.specs.declared.expected.Expected.{Expected}
 use Rattle.lrpar_parse.specs.declared.fault.ParseFault.{ParseFault}
 use Rattle.lrpar_parse.specs.declared.fault.ParseFault.TheVariants.{BadToken, StartsDecrease, Memory}
 
--- each token with which some sentence goes on after these lexemes is listed, and the end token exactly where they are a sentence
+-- each token with which some sentence goes on after these lexemes is listed; the end token is listed if and only if they are a sentence
 pub record ListsNext {X : Type 0} (token : X → ℕ) (g : Grammar) (front : List X) (tokens : List ℕ) : Type 0 where
   pub next : (x : X) (rest : List X) → IsSentence token g (front ++ x ∷ rest) → Contains tokens (token x)
   pub end : Contains tokens (end_token g) ↔ IsSentence token g front
 
--- from the start the run feeds the lexemes in front of this place, which gives this stack, and no more: the one that stands
--- there can't be fed
+-- from the start the run feeds the lexemes before this place, which leads to this stack; the lexeme at the place can't be fed
 pub record ComesFurthest {X : Type 0} (token : X → ℕ) (d : Checked) (lexemes : List X) (place : ℕ) (stack : List ℕ) : Type 0 where
   pub fed : FeedsFront token d.grammar d.table lexemes place stack
   pub within : place ≤ length lexemes
   pub furthest : place < length lexemes → (prods next : List ℕ) → ¬ (Feeds d.grammar d.table (token_at token d.grammar lexemes place) stack prods next)
 
--- so many lexemes are fed, and these tokens may come next there
+-- the lexemes before this place are fed, and these tokens may come next there
 pub record IsExpectedAfter {X : Type 0} (token : X → ℕ) (d : Checked) (lexemes : List X) (place : ℕ) (tokens : List ℕ) : Type 0 where
   pub stack : List ℕ
   pub comes : ComesFurthest token d lexemes place stack
   pub expected : AreExpected d.grammar d.table stack tokens
-  -- the end token only after a sentence; and where the table is complete, all with which sentences go on
+  -- the end token is expected only after a sentence; if the table is complete, all tokens with which sentences go on are expected
   pub sentence : Contains tokens (end_token d.grammar) → IsSentence token d.grammar (take place lexemes)
   pub complete : IsComplete d.grammar d.graph d.table → ListsNext token d.grammar (take place lexemes) tokens
 
--- The answer over what a lexer answered. `index` is the number that a storage number stands for, and `facts` what is known of a
--- lexeme.
+-- The result for an answer of the lexer. `index` gives the number of a value of the storage type, and `facts` the facts of a lexeme.
 pub record IsExpectedAnswer {S X E : Type 0} (index : S → ℕ) (facts : X → LexemeFacts) (d : Checked) (lexed : List (Result X E)) (result : Result (Expected S E) ParseFault) : Type 0 where
-  -- the first lexing error, and what may come next after the lexemes in front of it
+  -- the first lexing error, and what may come next after the lexemes before it
   pub answer : IfOk result (λ e. (e.lexing_error ≡ first_error lexed)
       × IsExpectedAfter (λ x. (facts x).token) d (lexemes_of lexed) e.place (tokens_of index e.tokens.items))
-  -- refusals: a fault of one of these lexemes is answered exactly where it is the first
+  -- errors: the fault of a lexeme is returned if and only if it is the first fault of these lexemes
   pub bad_token : (i : ℕ) → IsErrOf result (BadToken i) ↔ IsFirstBadToken d.grammar (lexeme_facts facts lexed) i
   pub starts_decrease : (i : ℕ) → IsErrOf result (StartsDecrease i) ↔ IsFirstEarlyStart d.grammar (lexeme_facts facts lexed) i
 
--- memory was wanting, or there is an answer that the lexer allows, and this is the answer over it
+-- out of memory, or the lexer allows an answer, and the result is the one for this answer
 abbrev pub Expects : {S X E : Type 0} → (S → ℕ) → (X → LexemeFacts) → Checked → (List (Result X E) → Type 0) → Result (Expected S E) ParseFault → Type 0
 Expects {X = X} {E = E} index facts d lexes result =
     IsErrOf result Memory ⊎ ((lexed : List (Result X E)) × lexes lexed × IsExpectedAnswer index facts d lexed result)

@@ -1,13 +1,13 @@
--- What a lexer answers: lexemes, and errors where no token fits.
+-- The answer of a lexer: lexemes, and errors for parts that no token fits.
 use Rattle.std.specs.Prelude.{List, [], ◌∷◌, Option, Some, None, Result, Ok, Err}
 
--- the first lexing error, wherever it stands
+-- the first lexing error, if there is one anywhere
 abbrev pub first_error : {X E : Type 0} → List (Result X E) → Option E
 first_error [] = None
 first_error (Ok x ∷ answers) = first_error answers
 first_error (Err e ∷ answers) = Some e
 
--- the lexemes in front of the first lexing error: all of them, where there is none
+-- the lexemes before the first lexing error; all lexemes, if there is no error
 abbrev pub lexemes_of : {X E : Type 0} → List (Result X E) → List X
 lexemes_of [] = []
 lexemes_of (Ok x ∷ answers) = x ∷ lexemes_of answers

@@ -1,11 +1,11 @@
--- The fault for which a list of lexemes is refused.
+-- The fault of a list of lexemes.
 use Rattle.std.specs.Prelude.{◌≡◌, ◌↔◌, ℕ, List, Option, Some, None}
 use Rattle.lrpar_grammar.specs.Grammar.{Grammar}
 use Rattle.lrpar_grammar.specs.Sentence.{LexemeFacts, IsFirstBadToken, IsFirstEarlyStart, IsValidList}
 use Rattle.lrpar_parse.specs.declared.fault.ParseFault.{ParseFault}
 use Rattle.lrpar_parse.specs.declared.fault.ParseFault.TheVariants.{BadToken, StartsDecrease}
 
--- it names the first lexeme that has a fault, with its fault, and there is none exactly where the list is valid
+-- it is the first fault of a lexeme, and there is none if and only if the list is valid
 pub record IsLexemeFault (g : Grammar) (lexemes : List LexemeFacts) (fault : Option ParseFault) : Type 0 where
   pub bad_token : (i : ℕ) → (fault ≡ Some (BadToken i)) ↔ IsFirstBadToken g lexemes i
   pub starts_decrease : (i : ℕ) → (fault ≡ Some (StartsDecrease i)) ↔ IsFirstEarlyStart g lexemes i

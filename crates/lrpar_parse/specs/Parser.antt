@@ -2,18 +2,18 @@
 use Rattle.std.specs.Prelude.{ℕ, List}
 use Rattle.lrpar_parse_lexemes.specs.Lexemes.{LexemeParts}
 use Rattle.lrpar_table_check.specs.Checked.{Checked}
-use Rattle.lrpar_parse_lexemes.specs.Known.{facts_by}
+use Rattle.lrpar_parse_lexemes.specs.Views.{facts_by}
 use Rattle.lrpar_parse_repair.specs.Sequences.{PlainStep}
 use Rattle.lrpar_parse_repair.specs.Asked.{Asked, allowed_at}
 use Rattle.lrpar_parse_run.specs.Subject.{Subject}
 
--- the checked table, the recoverer that is asked at an error, and how many lexemes have to follow a repair
+-- the checked table, the recoverer that is called at an error, and how many lexemes must follow a repair
 pub record Parser (R : Type 0) : Type 0 where
   pub checked : Checked
   pub recoverer : R
   pub shifts : ℕ
 
--- what its parses are about; `parts` are those of a lexeme, and `allows` tells which answers a recoverer may give
+-- what its parses are about; `parts` gives the parts of a lexeme, and `allows` says which answers a recoverer may give
 abbrev pub subject : {S X R : Type 0} → (S → ℕ) → (X → LexemeParts S) → (R → Asked X → List (List PlainStep) → Type 0) → Parser R → Subject X
 subject index parts allows parser =
     record {

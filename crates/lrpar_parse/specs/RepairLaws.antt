@@ -1,4 +1,4 @@
--- Laws of sequences of repairs and of runs with repairs.
+-- Laws of repair sequences and of runs with repairs.
 use Rattle.std.specs.Prelude.{◌≡◌, ◌≢◌, ◌<◌, ◌≤◌, ◌+◌, ◌/◌, ◌↔◌, ℕ, List, [], All, length, map, option_map, Option, IsSome}
 use Rattle.std.specs.List.{AllPairs}
 use Rattle.lrpar_grammar.specs.Grammar.{Grammar, end_token}
@@ -13,24 +13,24 @@ use Rattle.lrpar_table_stacks.specs.Run.{Run, Stop, token_at}
 use Rattle.lrpar_parse_repair.specs.Sequences.{PlainStep, PlainInsert, PlainDelete, PlainShift}
 use Rattle.lrpar_parse_repair.specs.Replays.{places_of}
 
--- an Insert is of a token of the grammar other than the end token
+-- an Insert inserts a token of the grammar other than the end token
 abbrev pub InsertsListed : Grammar → PlainStep → Type 0
 InsertsListed g (PlainInsert t) = t < end_token g
 InsertsListed g PlainDelete = Unit {0}
 InsertsListed g PlainShift = Unit {0}
 
--- the sequence has a step; it inserts tokens of the grammar other than the end token; and from place i it goes past no lexeme
--- that isn't there
+-- the sequence has a step; it inserts tokens of the grammar other than the end token; and from place i it deletes and shifts no more
+-- lexemes than are left
 pub record IsSound (g : Grammar) (lexemes i : ℕ) (steps : List PlainStep) : Type 0 where
   pub some : steps ≢ []
   pub inserts : All (InsertsListed g) steps
   pub places : i + places_of steps ≤ lexemes
 
--- the recoverer has at most one answer at each point
-abbrev pub HandsInOne : {X : Type 0} → (Point X → List (List PlainStep) → Type 0) → Type 0
-HandsInOne {X} allows = (point : Point X) (a b : List (List PlainStep)) → allows point a → allows point b → a ≡ b
+-- the recoverer has at most one answer at each error point
+abbrev pub SuppliesOne : {X : Type 0} → (Point X → List (List PlainStep) → Type 0) → Type 0
+SuppliesOne {X} allows = (point : Point X) (a b : List (List PlainStep)) → allows point a → allows point b → a ≡ b
 
--- runs with repairs over lexemes of this kind, from the first place on, where k is at least 1
+-- runs with repairs over lexemes of this type
 module _ {X : Type 0} (facts : X → LexemeFacts) (allows : Point X → List (List PlainStep) → Type 0) where
   -- each listed sequence is sound
   abbrev pub ListsSound : Type 0
@@ -39,21 +39,21 @@ module _ {X : Type 0} (facts : X → LexemeFacts) (allows : Point X → List (Li
       → 0 < k → RepairRun facts allows k g table lexemes st 0 stops consumed prods
       → All (λ s. All (IsSound g (length lexemes) s.stop.place) s.listed) stops
 
-  -- each stop lies at least k lexemes after those before it, so n lexemes have at most n / k + 1 stops
+  -- each error point is at least k lexemes after those before it, so over n lexemes there are at most n / k + 1
   abbrev pub StopsLieApart : Type 0
   StopsLieApart =
       (k : ℕ) (g : Grammar) (table : Table) (lexemes : List X) (st : List ℕ) (stops : List RepairStop) (consumed : Option (List X)) (prods : List ℕ)
       → 0 < k → RepairRun facts allows k g table lexemes st 0 stops consumed prods
       → AllPairs (λ s t. s.stop.place + k ≤ t.stop.place) stops × (length stops ≤ length lexemes / k + 1)
 
-  -- the run comes to accept exactly where a sequence is listed at each stop
+  -- the run accepts if and only if a sequence is listed at each error point
   abbrev pub AcceptsWhereRepaired : Type 0
   AcceptsWhereRepaired =
       (k : ℕ) (g : Grammar) (table : Table) (lexemes : List X) (st : List ℕ) (stops : List RepairStop) (consumed : Option (List X)) (prods : List ℕ)
       → RepairRun facts allows k g table lexemes st 0 stops consumed prods
       → IsSome consumed ↔ All (λ s. s.listed ≢ []) stops
 
-  -- over a checked table and a valid list, from a stack of the table, the stack of each stop is one too
+  -- over a checked table and a valid list, from a stack of the table, the stack of each error point is a stack of the table
   abbrev pub StopsAtStacks : Type 0
   StopsAtStacks =
       (d : Checked) (k : ℕ) (lexemes : List X) (st : List ℕ) (stops : List RepairStop) (consumed : Option (List X)) (prods : List ℕ)
@@ -61,7 +61,7 @@ module _ {X : Type 0} (facts : X → LexemeFacts) (allows : Point X → List (Li
       → RepairRun facts allows k d.grammar d.table lexemes st 0 stops consumed prods
       → All (λ s. IsStack d.table s.stop.stack) stops
 
-  -- and so the top state of each stop has no action at the token there
+  -- and so the top state of each error point has no action at the token there
   abbrev pub StopsByFailing : Type 0
   StopsByFailing =
       (d : Checked) (k : ℕ) (lexemes : List X) (st : List ℕ) (stops : List RepairStop) (consumed : Option (List X)) (prods : List ℕ)
@@ -69,16 +69,16 @@ module _ {X : Type 0} (facts : X → LexemeFacts) (allows : Point X → List (Li
       → RepairRun facts allows k d.grammar d.table lexemes st 0 stops consumed prods
       → All (λ s. top_action d.table (token_at (λ x. (facts x).token) d.grammar lexemes s.stop.place) s.stop.stack ≡ Fails) stops
 
-  -- where the recoverer has at most one answer at each point, two runs from one stack and place have the same stops, list the
-  -- same there, make the same reductions, and consume lexemes of which the same is known
+  -- if the recoverer has at most one answer at each error point, two runs from one stack and place have the same error points, list the
+  -- same sequences there, make the same reductions, and consume lexemes with the same facts
   abbrev pub RepairRunsOneWay : Type 0
   RepairRunsOneWay =
-      HandsInOne allows → (k : ℕ) (g : Grammar) (table : Table) (lexemes : List X) (st : List ℕ) (i : ℕ)
+      SuppliesOne allows → (k : ℕ) (g : Grammar) (table : Table) (lexemes : List X) (st : List ℕ) (i : ℕ)
       (a b : List RepairStop) (xs ys : Option (List X)) (ps qs : List ℕ)
       → RepairRun facts allows k g table lexemes st i a xs ps → RepairRun facts allows k g table lexemes st i b ys qs
       → (a ≡ b) × (option_map (map facts) xs ≡ option_map (map facts) ys) × (ps ≡ qs)
 
--- where the recoverer hands in nothing, the run is the one without repairs
+-- if the recoverer supplies nothing, the run is the one without repairs
 abbrev pub RunsWithoutRepairs : Type 0 → Type 0
 RunsWithoutRepairs X =
     (facts : X → LexemeFacts) (k : ℕ) (g : Grammar) (table : Table) (lexemes : List X) (st : List ℕ) (i : ℕ) (stops : List Stop) (consumed : Option (List X)) (prods : List ℕ)

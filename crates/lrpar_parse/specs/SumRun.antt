@@ -8,6 +8,6 @@ use Rattle.lrpar_table_stacks.specs.Run.{Run}
 abbrev pub sum_tokens : List ℕ
 sum_tokens = 1 ∷ 0 ∷ 1 ∷ []
 
--- from the start state the run comes through, and reduces by `T: 'ID'` twice, `E: T` and `E: T '+' E`
+-- from the start state the run accepts, and reduces by `T: 'ID'` twice, `E: T` and `E: T '+' E`
 abbrev pub SumRunsThrough : Type 0
 SumRunsThrough = Run (λ t. t) sum_grammar sum_table sum_tokens (0 ∷ []) 0 [] (Some sum_tokens) (2 ∷ 2 ∷ 1 ∷ 0 ∷ [])

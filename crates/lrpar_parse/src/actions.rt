@@ -1,10 +1,10 @@
-//! Values that a caller's actions make of productions.
+//! Actions: a caller's values for productions.
 ghost use Rattle.std.specs.Prelude.{◌≡◌, ◌≤◌, ◌-◌, ◌↔◌, ℕ, List, IfOk, IsTrue, OnOk, drop, length, map, take};
 ghost use Rattle.lrpar_grammar_places.specs.Span.{Extent};
 ghost use Rattle.lrpar_grammar.specs.Grammar.{GrammarSymbol};
 ghost use Rattle.lrpar_grammar.specs.Symbols.{symbol_of};
 ghost use Rattle.lrpar_parse_run.specs.declared.values.AStackType.{AStackType};
-ghost use Rattle.lrpar_parse_lexemes.specs.Known.{span_by, token_by};
+ghost use Rattle.lrpar_parse_lexemes.specs.Views.{span_by, token_by};
 ghost use Rattle.lrpar_parse_run.specs.Placed.{IsPlacedLexeme, IsPlacedValue, arguments_of, spans_of};
 ghost use Rattle.lrpar_parse_run.specs.PlacedRising.{placed_rise};
 ghost use Rattle.lrpar_parse_run.specs.Spans.{Rise};
@@ -20,26 +20,27 @@ use lrpar_parse_run::top::made_of_top;
 use lrpar_parse_run::values::AStackType;
 use std::alloc::{AllocError, Global};
 
-/// What makes the values of a parse by `parse_actions`, production by production. An implementation states three things:
-/// which productions it takes, a fact for each rule, which each value of the rule has, and which answers it may give. So
-/// where an argument is of the rule's kind by that fact, no arm of another kind is ever reached.
+/// Actions: they make the values of `parse_actions`, production by production. An implementation states three things: which
+/// productions it takes; for each rule a fact, which every value of the rule has; and which answers it may give. If the fact says of
+/// which kind a rule's value is, an action never gets an argument of another kind, and the other arms of a `match` are never reached.
 pub trait Actions<StorageT: StorageIndex, LexemeT: Lexeme<StorageT>, LexerT> {
     /// The values of rules.
     type ActionT: Drop;
 
-    /// What each action is lent besides.
+    /// A parameter that each action borrows.
     type ParamT;
 
-    /// Which productions it takes: by number, rule and symbols.
+    /// Which productions the actions take: by number, rule and symbols.
     ghost taken: { Self → ℕ → ℕ → List GrammarSymbol → Type 0 };
 
-    /// What is true of the values of a rule.
+    /// The fact of a rule, which each of its values has.
     ghost fact: { Self → ℕ → Self.ActionT → Type 0 };
 
     /// The answers that `act` may give: by production, rule, lexer, span, arguments and parameter.
     ghost answers: { Self → ℕ → ℕ → LexerT → Extent → List (AStackType LexemeT Self.ActionT) → Self.ParamT → Self.ActionT → Type 0 };
 
-    /// Whether it takes the production of this number, this rule and these symbols. `act` is called for these alone.
+    /// Whether the actions take the production of this number, this rule and these symbols. `act` is called for such productions
+    /// alone.
     fn takes(
         &self,
         pidx: PIdx<StorageT>,
@@ -48,9 +49,9 @@ pub trait Actions<StorageT: StorageIndex, LexemeT: Lexeme<StorageT>, LexerT> {
     ) -> bool
         ensures { IsTrue result ↔ taken self.now (StorageT.index pidx.0) (StorageT.index ridx.0) (map (symbol_of StorageT.index) symbols.now) };
 
-    /// The value of the production, which is one of this rule, over the arguments for its symbols: a lexeme for a token,
-    /// and a value for a rule. It lies at `span`: from the first symbol's start to the last one's end; where it has no
-    /// symbols, where the symbol before it lies, or at 0..0. It fails if memory runs out.
+    /// The value of a production of rule `ridx`. `args` has an argument for each of its symbols, from left to right: a lexeme for a
+    /// token, and a value for a rule. `span` extends from the first symbol's start to the last one's end. A production without symbols
+    /// has the span of the symbol before it, or 0..0 if there is none. `Err`: out of memory; it ends the parse.
     fn act(
         &self,
         alloc: Global,
@@ -67,7 +68,7 @@ pub trait Actions<StorageT: StorageIndex, LexemeT: Lexeme<StorageT>, LexerT> {
         ensures answers { IfOk result (answers self.now (StorageT.index pidx.0) (StorageT.index ridx.0) lexer.now span args.items param.now) };
 }
 
-/// The values of a caller's actions.
+/// Builds the value of a caller's actions.
 #[derive(Drop)]
 pub struct Acting<'a, LexerT, A, ParamT> {
     pub actions: &'a A,
@@ -123,7 +124,7 @@ impl<
     ghost rising = { λ b g. placed_rise (span_by LexemeT.parts) (acts_by (A.answers b.actions.now) g b.lexer.now b.param.now) };
 }
 
-// The arguments that the top `count` entries are, which are taken off, the lowest first.
+// Pops the top `count` entries, and returns their arguments, the lowest first.
 fn arguments_of<T: Drop>(
     alloc: Global,
     count: usize,

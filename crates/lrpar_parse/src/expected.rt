@@ -1,10 +1,10 @@
-//! What may come next after lexemes: how far they can be fed, and the tokens that can be fed there.
+//! What may come next after lexemes: how many of them can be fed, and the tokens that can be fed then.
 ghost use Rattle.std.specs.Prelude.{IfOk};
 ghost use Rattle.lrpar_table_stacks.specs.Expected.{tokens_of};
 ghost use Rattle.lrpar_table_stacks.specs.Stack.{IsStack, states_of};
 ghost use Rattle.lrpar_grammar.specs.Sentence.{IsValidList};
 ghost use Rattle.lrpar_parse.specs.ExpectedAnswer.{ComesFurthest, IsExpectedAfter};
-ghost use Rattle.lrpar_parse_lexemes.specs.Known.{known, token_by};
+ghost use Rattle.lrpar_parse_lexemes.specs.Views.{known, token_by};
 
 use lrpar_grammar::span::{StIdx, StorageIndex, TIdx};
 use lrpar_parse_lexemes::lex_api::Lexeme;
@@ -14,17 +14,17 @@ use std::alloc::{AllocError, Global};
 /// What may come next after the lexemes of a lexer.
 #[derive(Debug, Drop)]
 pub struct Expected<StorageT: StorageIndex, LexErrorT> {
-    /// How many of the lexemes in front of the first lexing error are fed: all of them, or those in front of the first that
-    /// can't be.
+    /// How many of the lexemes before the first lexing error can be fed: all of them, or those before the first one that can't
+    /// be.
     pub place: usize,
-    /// The tokens that may come next there, ascending. The end token is one of them where the parse would accept.
+    /// The tokens that may come next there, in ascending order. The end token is among them if the parse would accept there.
     pub tokens: Vec<TIdx<StorageT>>,
-    /// The first lexing error.
+    /// The first lexing error, if the lexer returned one.
     pub lexing_error: Option<LexErrorT>,
 }
 
-/// How many of the lexemes, which have no fault, can be fed in turn from the start state, and the tokens that may come next
-/// there.
+/// How many of these valid lexemes can be fed in turn from the start state, and the tokens that may come next there. `Err`: out of
+/// memory.
 pub(crate) fn expected_after<StorageT: StorageIndex, LexemeT: Lexeme<StorageT>>(
     alloc: Global,
     checked: &ParserData<StorageT>,
@@ -34,15 +34,15 @@ pub(crate) fn expected_after<StorageT: StorageIndex, LexemeT: Lexeme<StorageT>>(
     ensures { IfOk result (λ after. IsExpectedAfter (token_by StorageT.index LexemeT.parts) checked.now lexemes.now after.0
         (tokens_of StorageT.index after.1.items)) }
 {
-    // Checked: what is told of it by sentences.
+    // The contract of `stable` gives that the table is checked.
     let _table = checked.stable();
     let (place, stack) = fed(alloc, checked, lexemes)?;
     let tokens = checked.expected(alloc, &stack)?;
     Ok((place, tokens))
 }
 
-// Feeds the lexemes, which have no fault, from the start state on, up to the first that can't be fed. Answers how many were,
-// and the stack that this gives, before any reduction under the token of that one.
+// Feeds the valid lexemes from the start state on, up to the first one that can't be fed. Returns how many were fed, and the stack
+// after them, before any reduction at the token of that one.
 fn fed<StorageT: StorageIndex, LexemeT: Lexeme<StorageT>>(
     alloc: Global,
     checked: &ParserData<StorageT>,

@@ -1,20 +1,20 @@
-//! Why a parse is refused.
+//! Why a parse returns no answer.
 ghost use Rattle.std.specs.Prelude.{◌≡◌};
 ghost use Rattle.lrpar_parse.specs.declared.fault.ParseFault.TheVariants.{Memory};
 
 use std::alloc::{AllocError, AllocFailed};
 use thiserror::Error;
 
-/// Why a parse is refused: it has neither a value nor errors.
+/// Why a parse returns neither a value nor errors.
 #[derive(Clone, Copy, Debug, PartialEq, Eq, Error)]
 pub enum ParseFault {
-    /// This lexeme, counted from 0, has the end token or one that the grammar doesn't have.
+    /// This lexeme, counted from 0, has the end token or a token that the grammar doesn't have.
     #[error("bad token at lexeme {0}")]
     BadToken(usize),
-    /// This lexeme, counted from 0, starts before the one in front of it.
+    /// This lexeme, counted from 0, starts before the start of the lexeme before it.
     #[error("start decreases at lexeme {0}")]
     StartsDecrease(usize),
-    /// Memory was wanting.
+    /// An allocation failed.
     #[error("out of memory")]
     Memory,
 }

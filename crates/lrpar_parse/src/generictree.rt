@@ -1,4 +1,4 @@
-//! A tree as the value of a caller's actions.
+//! An action that makes the parse tree.
 ghost use Rattle.std.specs.Prelude.{◌≡◌, IfOk, map};
 ghost use Rattle.lrpar_parse_run.specs.Nodes.{IsNonterm, node_of};
 
@@ -8,8 +8,8 @@ use lrpar_parse_run::values::AStackType;
 use lrpar_parse_trees::node::Node;
 use std::alloc::{AllocError, Global};
 
-/// The node of a rule over the arguments of an action: each lexeme is a node of its own. The span and the parameter aren't
-/// looked at. It fails if memory runs out.
+/// An action that makes the tree: the node of the rule over the arguments, of which each lexeme becomes a node. It uses neither the
+/// lexer, nor the span, nor the parameter. `Err`: out of memory.
 pub fn action_generictree<
     'input,
     StorageT: StorageIndex,

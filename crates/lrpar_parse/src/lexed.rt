@@ -1,10 +1,10 @@
-//! A lexer's answer: its lexemes or its first error.
+//! The lexemes and the first error of a lexer's answer.
 ghost use Rattle.std.specs.Prelude.{◌≡◌, IfOk, MatchResult, Some, None};
 ghost use Rattle.lrpar_parse.specs.Lexed.{first_error, lexemes_of};
 
 use std::alloc::{AllocError, Global};
 
-/// The lexemes, or the first lexing error, wherever it stands.
+/// The lexemes, or the first lexing error, if there is one anywhere. `Err`: out of memory.
 pub(crate) fn lexemes_or_error<LexemeT: Drop, LexErrorT: Drop>(
     alloc: Global,
     answers: Vec<Result<LexemeT, LexErrorT>>,
@@ -20,7 +20,7 @@ pub(crate) fn lexemes_or_error<LexemeT: Drop, LexErrorT: Drop>(
     }
 }
 
-/// The lexemes in front of the first lexing error, and that error; all of them, where there is none.
+/// The lexemes before the first lexing error, and that error; all lexemes, if there is no error. `Err`: out of memory.
 pub(crate) fn lexemes_before_error<LexemeT: Drop, LexErrorT: Drop>(
     alloc: Global,
     answers: Vec<Result<LexemeT, LexErrorT>>,

@@ -1,14 +1,14 @@
 //! The faults of lexemes.
 ghost use Rattle.lrpar_parse.specs.LexemeFault.{IsLexemeFault};
-ghost use Rattle.lrpar_parse_lexemes.specs.Known.{known};
+ghost use Rattle.lrpar_parse_lexemes.specs.Views.{known};
 
 use crate::fault::ParseFault;
 use lrpar_grammar::grammar::YaccGrammar;
 use lrpar_grammar::span::StorageIndex;
 use lrpar_parse_lexemes::lex_api::Lexeme;
 
-/// The first lexeme that has a fault, with its fault: a token that is the end token or isn't the grammar's, or else a
-/// start before that of the lexeme in front of it.
+/// The first lexeme that has a fault, with its fault: its token is the end token or isn't the grammar's, or else it starts before the
+/// start of the lexeme before it.
 pub fn lexeme_fault<LexemeT: Lexeme<StorageT>, StorageT: StorageIndex>(
     grm: &YaccGrammar<StorageT>,
     lexemes: &[LexemeT],

@@ -1,4 +1,4 @@
-//! Parses: the calls that take a lexer and answer a value and the errors.
+//! The parser: calls that take a lexer, and return a value or a tree, and the errors.
 ghost use Rattle.std.specs.Prelude.{◌≡◌, ◌<◌, ◌∷◌, ◌↔◌, [], Result, IfErr, IfOk, IfSome, IsOk, IsTrue, option_map};
 ghost use Rattle.lrpar_table_check.specs.Checked.{IsChecked};
 ghost use Rattle.lrpar_grammar.specs.Sentence.{IsValidList};
@@ -9,7 +9,7 @@ ghost use Rattle.lrpar_parse_run.specs.Entries.{HasValueEntry};
 ghost use Rattle.lrpar_parse.specs.ExpectedAnswer.{Expects};
 ghost use Rattle.lrpar_parse_run.specs.Folds.{Folds};
 ghost use Rattle.lrpar_parse_run.specs.declared.values.AStackType.TheVariants.{ActionType};
-ghost use Rattle.lrpar_parse_lexemes.specs.Known.{facts_by, known, span_by};
+ghost use Rattle.lrpar_parse_lexemes.specs.Views.{facts_by, known, span_by};
 ghost use Rattle.lrpar_parse_run.specs.Made.{made_by};
 ghost use Rattle.lrpar_parse_run.specs.Nodes.{IsNonterm, IsTerm};
 ghost use Rattle.lrpar_parse.specs.Parse.{ParsesTo, ParsesToErrors};
@@ -43,11 +43,14 @@ use lrpar_table::check::ParserData;
 use std::alloc::{AllocError, Global};
 use std::marker::{Model, PhantomData};
 
-/// A value, where the parse comes to one, and the errors.
+/// A value, if the parse comes to one, and the errors in order.
 type Answer<StorageT, LexerTypesT, V> = (Option<V>, Vec<LexParseError<StorageT, LexerTypesT>>);
 
-/// A parser by a checked table, with the recoverer that it asks at an error, and with how many lexemes have to follow a
-/// repair.
+/// A parser: a checked table, a recoverer, and how many lexemes must follow a repair.
+///
+/// `new` makes a parser without repairs, which ends at its first error; `recoverer` and `shifts` change that. Each parse call takes a
+/// lexer. `parse_map` makes a value with two functions, and `parse_actions` with an action for each production; `parse_generictree` makes
+/// the parse tree; `parse_noaction` returns the errors alone. A parser can parse any number of times.
 #[derive(Drop)]
 pub struct RTParserBuilder<
     'a,
@@ -79,8 +82,8 @@ impl<'a, StorageT: StorageIndex, LexerTypesT: LexerTypes<StorageT = StorageT>> R
     LexerTypesT,
     NoRecovery,
 > {
-    /// A parser of the grammar by the table that was checked with it. It hands in no repair, and asks for 3 lexemes after
-    /// one.
+    /// Makes a parser for a grammar and its checked table. Its recoverer is `NoRecovery`, and 3 lexemes must follow a repair. Takes no
+    /// memory.
     pub fn new(checked: &'a ParserData<StorageT>) -> Self
         ensures made { result.checked ≡ checked.now }
         ensures shifts { result.shifts ≡ 3 }
@@ -102,7 +105,7 @@ impl<
     LexerTypesT: LexerTypes<StorageT = StorageT>,
     R: Recoverer<StorageT, LexerTypesT::LexemeT> + Drop,
 > RTParserBuilder<'a, StorageT, LexerTypesT, R> {
-    /// The same parser with another recoverer. As many lexemes have to follow a repair as before.
+    /// The same parser with another recoverer, which it calls at each error. The number of lexemes that must follow a repair stays.
     pub fn recoverer<Q: Recoverer<StorageT, LexerTypesT::LexemeT> + Drop>(
         self,
         recoverer: Q,
@@ -117,9 +120,9 @@ impl<
         }
     }
 
-    /// The same parser, for which `count` lexemes have to follow a repair: a sequence works where so many lexemes can be
-    /// taken after it, or all that are left, where they are fewer, and the parse then accepts. It has to be at least 1; a
-    /// refusal hands the parser back as it was.
+    /// The same parser, but `count` lexemes must follow a repair. So a sequence works if this number of lexemes can be fed after it; or,
+    /// if fewer are left, if all of these can, and the parse then accepts. `count` must be at least 1; the `Err` has the parser as it
+    /// was.
     pub fn shifts(self, count: usize) -> Result<Self, ZeroShifts<Self>>
         ensures set { IfOk result (λ p. p ≡ record { checked = self.entry.checked; recoverer = self.entry.recoverer; shifts = count }) }
         ensures back { IfErr result (λ refused. refused ≡ self.entry) }
@@ -136,7 +139,7 @@ impl<
         })
     }
 
-    /// How many lexemes have to follow a repair.
+    /// How many lexemes must follow a repair.
     pub fn shift_count(&self) -> usize
         ensures count { result ≡ self.now.shifts }
         ensures some { 0 < result }
@@ -144,22 +147,22 @@ impl<
         self.shifts
     }
 
-    /// Parses what the lexer answers, which it is asked once. A lexeme has the value that `fterm` gives; a rule has
-    /// the value that `fnonterm` gives of the rule and the values of its symbols, from left to right.
+    /// Parses the lexemes that the lexer returns, and makes a value. `fterm` gives the value of a lexeme, and `fnonterm` gives the value of
+    /// a rule from the rule and the values of its symbols, from left to right. The lexer is called once.
     ///
-    /// Where the lexer answers an error, the first one is answered alone. Otherwise there is an error for each place where
-    /// the parse finds no action: the state and the lexeme there, and those that work of the sequences that the recoverer
-    /// hands in, which it is asked for once. The parse goes on from what the first of them gives, or ends where there is
-    /// none; so there is a value exactly where each error lists a sequence. A lexeme that a repair inserts is faulty, and has
-    /// a value as any other.
+    /// If the lexer returns lexing errors, the first one is the only error, and there is no value. Otherwise there is a parse error for
+    /// each error point: the state and the lexeme for which there is no action, and those of the recoverer's sequences that work there.
+    /// The recoverer is called once for each error point. The parse replays the first of these sequences and goes on; if there is none,
+    /// it ends. So there is a value if and only if each error lists a sequence. A lexeme that a repair inserts is faulty, and has a value
+    /// like any other.
     ///
-    /// `BadToken` and `StartsDecrease` name the first lexeme that has either fault, where the lexer answers no error.
-    /// The answer is `Memory` if memory runs out, be it the lexer's or the recoverer's.
+    /// `Err(BadToken)` or `Err(StartsDecrease)`: the lexer returned no lexing error, and this is the first lexeme with a fault.
+    /// `Err(Memory)`: out of memory, also in the lexer or in the recoverer.
     ///
-    /// The time grows with the lexemes, the reductions and the steps that are handed in. Under one lookahead there are at
-    /// most as many reductions as the cap times the states on the stack before it, and over a whole parse to a value over l
-    /// leaves, with e errors, at most `cap * (cap + 3) * (l + e + 1)`. The test of a sequence of m steps makes at most
-    /// `cap * (h + (m + k + 1) * (cap + 3))`, where h states stand and k lexemes have to follow.
+    /// The time grows with the lexemes, the reductions, and the steps that the recoverer supplies. Let `cap` be that of the checked table.
+    /// At one lookahead there are at most `cap * h` reductions, if the stack has h states before it. A parse to a value over l leaves, with
+    /// e errors, makes at most `cap * (cap + 3) * (l + e + 1)`. The test of a sequence of m steps makes at most
+    /// `cap * (h + (m + k + 1) * (cap + 3))`, if the stack has h states and k lexemes must follow a repair.
     pub fn parse_map<
         'input,
         L: NonStreamingLexer<'input, LexerTypesT>,
@@ -175,7 +178,7 @@ impl<
     ) -> Result<Answer<StorageT, LexerTypesT, V>, ParseFault>
         requires fterm { F.IsAlwaysCallable fterm }
         requires fnonterm { G.IsAlwaysCallable fnonterm }
-        // Memory was wanting, or there is an answer that the lexer allows, and this is the parse over it.
+        // Out of memory, or the lexer allows an answer, and the result is that of the parse over this answer.
         ensures parse { ParsesTo (subject StorageT.index LexerTypesT.LexemeT.parts R.allows self.now) (L.allows lexer.now)
             (Folds (F.post fterm) (made_by StorageT.index (G.post fnonterm)) self.now.checked.grammar) result }
     {
@@ -190,15 +193,16 @@ impl<
         }
     }
 
-    /// Parses what the lexer answers, which it is asked once. Each production has the value that the actions answer for it,
-    /// its rule, its span, the arguments for its symbols and `param`. The errors are those that `parse_map` answers, and it
-    /// refuses what that refuses; the answer is also `Memory` where memory was wanting in an action. The next parse by the
+    /// Parses the lexemes that the lexer returns, and makes a value with actions. The actions give the value of each production, from its
+    /// number, its rule, the lexer, its span, the arguments for its symbols, and `param`. The lexer is called once.
+    ///
+    /// The actions must take each production of the grammar but the start production, as `takes_all` tests.
+    ///
+    /// The errors and each `Err` are as for `parse_map`; `Err(Memory)` also means that an action ran out of memory. The next parse by the
     /// same parser is as if this one hadn't been.
     ///
-    /// Beside what the actions take, a production with symbols takes memory for two lists of its arguments. The time grows
-    /// as that of `parse_map`.
-    ///
-    /// The actions have to take each production of the grammar but the start production, which `takes_all` tells.
+    /// Besides what the actions take, a production with symbols takes memory for two lists of its arguments. The time grows as that of
+    /// `parse_map`.
     pub fn parse_actions<
         'input,
         L: NonStreamingLexer<'input, LexerTypesT>,
@@ -211,7 +215,7 @@ impl<
         param: &A::ParamT,
     ) -> Result<Answer<StorageT, LexerTypesT, A::ActionT>, ParseFault>
         requires taken { TakesAll (A.taken actions.now) self.now.checked.grammar }
-        // Memory was wanting, or there is an answer that the lexer allows, and this is the parse over it.
+        // Out of memory, or the lexer allows an answer, and the result is that of the parse over this answer.
         ensures parse { ParsesTo (subject StorageT.index LexerTypesT.LexemeT.parts R.allows self.now) (L.allows lexer.now)
             (IsActedValue (span_by LexerTypesT.LexemeT.parts) (A.answers actions.now) (A.fact actions.now) self.now.checked.grammar lexer.now param.now)
             result }
@@ -227,7 +231,7 @@ impl<
         }
     }
 
-    /// Whether the actions take each production of the grammar but the start production.
+    /// Whether the actions take each production of the grammar but the start production. `parse_actions` requires it.
     pub fn takes_all<
         'input,
         L: NonStreamingLexer<'input, LexerTypesT>,
@@ -245,36 +249,36 @@ impl<
         true
     }
 
-    /// The grammar.
+    /// The grammar of the parser.
     pub fn grammar(&self) -> &YaccGrammar<StorageT>
         ensures { result.now ≡ self.now.checked.grammar }
     {
         self.checked.grm()
     }
 
-    /// Parses what the lexer answers, which it is asked once, to its tree. The errors are those that `parse_map` answers,
-    /// and it refuses what that refuses. Each rule with symbols takes memory once, for the list of its nodes.
+    /// Parses the lexemes that the lexer returns, and makes their parse tree. The lexer is called once. The errors and each `Err` are as
+    /// for `parse_map`. Each rule with symbols takes memory once, for the list of its trees.
     pub fn parse_generictree<'input, L: NonStreamingLexer<'input, LexerTypesT>>(
         &self,
         alloc: Global,
         lexer: &L,
     ) -> Result<Answer<StorageT, LexerTypesT, Node<LexerTypesT::LexemeT, StorageT>>, ParseFault>
-        // Memory was wanting, or there is an answer that the lexer allows, and this is the parse over it.
+        // Out of memory, or the lexer allows an answer, and the result is that of the parse over this answer.
         ensures parse { ParsesTo (subject StorageT.index LexerTypesT.LexemeT.parts R.allows self.now) (L.allows lexer.now)
             (Folds IsTerm (IsNonterm StorageT.index) self.now.checked.grammar) result }
     {
         self.parsed(alloc, lexer, &Trees)
     }
 
-    /// Parses what the lexer answers, which it is asked once, and makes nothing of it. The errors are those that
-    /// `parse_map` answers, and it refuses what that refuses. No memory is taken but for the lexemes, the stack of states,
-    /// the errors, and the sequences that are handed in with their test.
+    /// Parses the lexemes that the lexer returns, for the errors alone. The lexer is called once. The errors and each `Err` are as for
+    /// `parse_map`. Takes memory for the lexemes, the stack of states, the errors, and the recoverer's sequences and their test, and for
+    /// nothing else.
     pub fn parse_noaction<'input, L: NonStreamingLexer<'input, LexerTypesT>>(
         &self,
         alloc: Global,
         lexer: &L,
     ) -> Result<Vec<LexParseError<StorageT, LexerTypesT>>, ParseFault>
-        // Memory was wanting, or there is an answer that the lexer allows, and these are the errors of the parse over it.
+        // Out of memory, or the lexer allows an answer, and the result has the errors of the parse over this answer.
         ensures parse { ParsesToErrors (subject StorageT.index LexerTypesT.LexemeT.parts R.allows self.now) (L.allows lexer.now) result }
     {
         match self.parsed(alloc, lexer, &Nothing) {
@@ -283,21 +287,22 @@ impl<
         }
     }
 
-    /// What may come next after the lexemes in front of the first error that the lexer answers, which it is asked once: how
-    /// many of them can be fed in turn, without repairs, and the tokens that can be fed there, at the stack that they give,
-    /// before any reduction under the token of the next one; with the end token, where the parse would accept.
+    /// What may come next after the lexemes that the lexer returns, for example to complete an input. Only the lexemes before the first
+    /// lexing error count. The result says how many of them can be fed in turn, without repairs, and which tokens can be fed there: at
+    /// the stack after these lexemes, before any reduction at the token of the next one. The end token is among them if the parse would
+    /// accept. The lexer is called once, and the recoverer isn't called.
     ///
-    /// `BadToken` and `StartsDecrease` name the first of these lexemes that has either fault. The recoverer isn't asked. The
-    /// answer is `Memory` if memory runs out, be it the lexer's.
+    /// `Err(BadToken)` or `Err(StartsDecrease)`: this is the first of these lexemes with a fault. `Err(Memory)`: out of memory, also in the
+    /// lexer.
     ///
-    /// Reductions are made twice: once to see whether a lexeme can be fed, and once to feed it. The tokens cost one settle
-    /// for each at which the top state doesn't find an error.
+    /// Reductions are made twice: once to test whether a lexeme can be fed, and once to feed it. Then each token at which the top state has
+    /// an action costs one settle.
     pub fn expected<'input, L: NonStreamingLexer<'input, LexerTypesT>>(
         &self,
         alloc: Global,
         lexer: &L,
     ) -> Result<Expected<StorageT, LexerTypesT::LexErrorT>, ParseFault>
-        // Memory was wanting, or there is an answer that the lexer allows, and this is what may come next after its lexemes.
+        // Out of memory, or the lexer allows an answer, and the result says what may come next after its lexemes.
         ensures expected { Expects StorageT.index (facts_by StorageT.index LexerTypesT.LexemeT.parts) self.now.checked (L.allows lexer.now) result }
     {
         let answers = lexer.iter(alloc)?;
@@ -313,7 +318,7 @@ impl<
         })
     }
 
-    // Parses what the lexer answers to an entry of what is built.
+    // Parses the lexemes that the lexer returns to an entry of the builder.
     fn parsed<
         'input,
         L: NonStreamingLexer<'input, LexerTypesT>,
@@ -338,7 +343,7 @@ impl<
         }
     }
 
-    // What the run over valid lexemes comes to: an entry, if it accepts, and the errors of its stops.
+    // The answer of the run over valid lexemes: an entry, if it accepts, and the errors of its error points.
     fn ran<B: Build<StorageT, LexerTypesT::LexemeT>>(
         &self,
         alloc: Global,
@@ -350,17 +355,17 @@ impl<
         ensures ran { IfOk result (IsTreeAnswer (subject StorageT.index LexerTypesT.LexemeT.parts R.allows self.now)
             (B.builds build.now) lexemes.now) }
     {
-        let course = WholeRun {
+        let whole_run = WholeRun {
             run: Run::new(self.checked, build),
             lexemes,
             recoverer: &self.recoverer,
             shifts: self.shift_count(),
         };
-        course.over(alloc)
+        whole_run.over(alloc)
     }
 }
 
-// The argument that an entry is.
+// The argument of an entry.
 fn argument_of<T: Drop>(entry: Option<Placed<T>>) -> Option<T>
     ensures { result ≡ option_map (λ e. e.argument) entry }
 {
@@ -382,7 +387,7 @@ fn value_of<LexemeT: Drop, V: Drop>(entry: Option<AStackType<LexemeT, V>>) -> Op
     }
 }
 
-// This error alone.
+// A list of this error alone.
 fn one_error<StorageT: StorageIndex, LexerTypesT: LexerTypes<StorageT = StorageT>>(
     alloc: Global,
     error: LexParseError<StorageT, LexerTypesT>,

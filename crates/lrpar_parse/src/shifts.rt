@@ -1,11 +1,11 @@
-//! Why a number of lexemes that have to follow a repair is refused.
+//! The error of `shifts`.
 ghost use Rattle.std.specs.Prelude.{◌≡◌};
 
 use std::error::Error;
 use std::fmt;
 use std::marker::Model;
 
-/// The number was 0: some lexeme has to follow a repair.
+/// The number of lexemes that must follow a repair was 0, but it must be at least 1. It holds the builder.
 #[derive(Drop)]
 pub struct ZeroShifts<B> {
     pub(crate) builder: B,
@@ -18,7 +18,7 @@ impl<B> Model for ZeroShifts<B> {
 }
 
 impl<B> ZeroShifts<B> {
-    /// The builder, as it was.
+    /// The builder as it was.
     pub fn into_builder(self) -> B
         ensures { result ≡ self }
     {
@@ -26,7 +26,7 @@ impl<B> ZeroShifts<B> {
     }
 }
 
-// Of the builder it shows nothing, so that a caller's `?` asks nothing of its types.
+// It doesn't show the builder, so that a caller's `?` requires nothing of its types.
 impl<B: Drop> fmt::Debug for ZeroShifts<B> {
     fn fmt<W: fmt::Write>(&self, f: &mut fmt::Formatter<W>) -> fmt::Result {
         write!(f, "ZeroShifts")

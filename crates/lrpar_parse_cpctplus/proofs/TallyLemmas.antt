@@ -4,7 +4,7 @@ use Rattle.std.proofs.lemmas.List.{length-append, length-map}
 use Rattle.lrpar_grammar.specs.Grammar.{end_token}
 use Rattle.lrpar_parse_lexemes.specs.Lexemes.{LexemeParts}
 use Rattle.lrpar_parse_repair.specs.Asked.{IsStop}
-use Rattle.lrpar_parse_lexemes.specs.Known.{token_by}
+use Rattle.lrpar_parse_lexemes.specs.Views.{token_by}
 use Rattle.lrpar_parse_repair.specs.PlainSteps.{plain_step, plain_steps}
 use Rattle.lrpar_parse_repair.specs.Sequences.{PlainStep}
 use Rattle.lrpar_parse_repair.specs.declared.repair_step.RepairStep.{RepairStep}

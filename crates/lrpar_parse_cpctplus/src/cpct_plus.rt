@@ -1,7 +1,7 @@
 //! The recoverer CPCT+, which returns the repairs of least cost.
 ghost use Rattle.std.specs.Prelude.{◌≡◌, [], IfErr, IfOk, IfSome, IsNone};
 ghost use Rattle.lrpar_grammar.specs.Grammar.{tokens_len};
-ghost use Rattle.lrpar_parse_lexemes.specs.Known.{token_by};
+ghost use Rattle.lrpar_parse_lexemes.specs.Views.{token_by};
 ghost use Rattle.lrpar_parse_repair.specs.PlainSteps.{plain_sequences};
 ghost use Rattle.lrpar_parse_cpctplus.specs.Answer.{AreCheapest};
 ghost use Rattle.lrpar_parse_cpctplus.specs.Costs.{AreCosts, token_cost};

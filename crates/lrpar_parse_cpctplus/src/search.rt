@@ -8,7 +8,7 @@ ghost use Rattle.lrpar_table_stacks.specs.Overlay.{overlaid};
 ghost use Rattle.lrpar_table_stacks.specs.Reduction.{top_action};
 ghost use Rattle.lrpar_table_stacks.specs.Run.{token_at};
 ghost use Rattle.lrpar_table_stacks.specs.Stack.{IsStack};
-ghost use Rattle.lrpar_parse_lexemes.specs.Known.{token_by};
+ghost use Rattle.lrpar_parse_lexemes.specs.Views.{token_by};
 ghost use Rattle.lrpar_parse_repair.specs.PlainSteps.{plain_step, plain_steps};
 ghost use Rattle.lrpar_parse_repair.specs.Sequences.{PlainDelete, PlainInsert, PlainShift, IsTokenFed, StepsTo};
 ghost use Rattle.lrpar_parse_cpctplus.specs.Forms.{EndsIn};

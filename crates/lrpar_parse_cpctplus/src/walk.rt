@@ -3,7 +3,7 @@ ghost use Rattle.std.specs.Prelude.{◌≡◌, ◌<◌, ◌^◌, ◌↔◌, ◌+
 ghost use Rattle.lrpar_grammar.specs.Grammar.{end_token};
 ghost use Rattle.lrpar_table_stacks.specs.Overlay.{overlaid};
 ghost use Rattle.lrpar_table_stacks.specs.Stack.{IsStack};
-ghost use Rattle.lrpar_parse_lexemes.specs.Known.{token_by};
+ghost use Rattle.lrpar_parse_lexemes.specs.Views.{token_by};
 ghost use Rattle.lrpar_parse_repair.specs.PlainSteps.{plain_step, plain_steps};
 ghost use Rattle.lrpar_parse_repair.specs.Sequences.{PlainDelete};
 ghost use Rattle.lrpar_parse_cpctplus.specs.Cheapest.{IsCandidateWithin, CanBeTaken, IsRepair, LeadsTo, RepairsAt};

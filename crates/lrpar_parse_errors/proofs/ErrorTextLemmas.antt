@@ -15,7 +15,7 @@ use Rattle.lrpar_parse_lexemes.specs.declared.pp_fault.PpFault.TheVariants.{NoPr
 use Rattle.lrpar_parse_errors.proofs.SequenceTextLemmas.{IsInRange, named_append, named_parts, unnamed_within}
 use Rattle.lrpar_grammar_places.proofs.ListLemmas.{all_both}
 
--- one more sequence behind its number
+-- one more sequence after its number
 numbered_more : (most i : ℕ) (texts : List (List ℕ)) (text : List ℕ)
     → numbered most i (texts ++ text ∷ []) ≡ numbered most i texts ++ (numbering most (i + length texts) ++ text)
 numbered_more most i [] text =
@@ -40,7 +40,7 @@ zip_more R [] (z ∷ ys) x y all last = absurd all
 zip_more R (w ∷ xs) [] x y all last = absurd all
 zip_more R (w ∷ xs) (z ∷ ys) x y all last = (all.0, zip_more R xs ys x y all.1 last)
 
--- some sequences are printed behind a text, each behind its number
+-- some sequences are printed after a text, each after its number
 pub record AreListed (names : ℕ → Option (List ℕ) → Type 0) (input : List ℕ) (most : ℕ) (sequences : List (List Part)) (old out : List ℕ) : Type 0 where
   pub texts : List (List ℕ)
   pub each : AllZip (IsPartsText names input) sequences texts
@@ -75,14 +75,14 @@ named_sequences names input (parts ∷ sequences) (text ∷ texts) each =
     named_append names (inserted parts) (flat_map inserted sequences) (named_parts names input parts each.0.texts each.0.each)
     (named_sequences names input sequences texts each.1)
 
--- the first token without a name of a sequence is the first of all, where those in front are printed
+-- the first token without a name of a sequence is the first of all, if the sequences before it are printed
 pub unnamed_sequence : (names : ℕ → Option (List ℕ) → Type 0) (input : List ℕ) (most : ℕ) (front after : List (List Part)) (parts : List Part) (old out : List ℕ) (t : ℕ)
     → AreListed names input most front old out → IsFirstUnnamed names (inserted parts) t → IsFirstUnnamed names (flat_map inserted (front ++ parts ∷ after)) t
 unnamed_sequence names input most front after parts old out t so_far first =
     rw (flat_map-append inserted front (parts ∷ after))
     (unnamed_within names (flat_map inserted front) (inserted parts) (flat_map inserted after) t (named_sequences names input front so_far.texts so_far.each) first)
 
--- a list around the element at a place
+-- a list as the elements before a place, the element there, and those after it
 around : {A : Type 0} (xs : List A) (i : ℕ) (x : A) → i < length xs → x ≡ get_or xs i x → xs ≡ take i xs ++ x ∷ drop (i + 1) xs
 around [] i x below at = absurd (omega arith)
 around (y ∷ xs) zero x below at = ap (λ z. z ∷ xs) (sym at)
@@ -135,7 +135,7 @@ listed_next index span names input most sequences i x old out first text second 
     let more = listed_more names input most i (all_parts index span (take i sequences)) (sequence_parts index span x.items) old out first text second so_far count is e₁ e₂ in
     rw (taken sequences i x below at, all_parts_append index span (take i sequences) (x ∷ [])) more
 
--- what a fault says of a sequence, it says of all
+-- a fault of one sequence is a fault of all of them
 pub fault_listed : {X S A : Type 0} (index : S → ℕ) (span : X → Extent) (names : ℕ → Option (List ℕ) → Type 0) (input : List ℕ) (most : ℕ)
     (sequences : List (Vec (ParseRepair X S) A)) (i : ℕ) (x : Vec (ParseRepair X S) A) (old out : List ℕ) (fault : PpFault S)
     → i < length sequences → x ≡ get_or sequences i x → AreListed names input most (all_parts index span (take i sequences)) old out
@@ -160,7 +160,7 @@ pub listed_all : {X S A : Type 0} (index : S → ℕ) (span : X → Extent) (nam
 listed_all index span names input most sequences i old out long so_far =
     (so_far.texts, so_far.printed, rw (sym (taken_all sequences i long)) so_far.each)
 
--- behind the words that sequences were found, they are the text of an error
+-- with the words `Repair sequences found:` before them, they are the text of an error
 pub listed_after : {X S A : Type 0} (index : S → ℕ) (span : X → Extent) (names : ℕ → Option (List ℕ) → Type 0) (input : List ℕ) (most : ℕ)
     (sequences : List (Vec (ParseRepair X S) A)) (before old out : List ℕ)
     → 0 < length sequences → most ≡ digits (length sequences) → old ≡ before ++ codes " Repair sequences found:"
@@ -174,13 +174,13 @@ listed_after index span names input most sequences before old out full count beg
       each,
     )
 
--- what holds of all that a list is mapped to
+-- what holds for each element of a mapped list
 pub mapped_at : {A B : Type 0} (P : B → Type 0) (f : A → B) (xs : List A) (i : ℕ) (x : A) → i < length xs → x ≡ get_or xs i x → AllByRecursion P (map f xs) → P (f x)
 mapped_at P f [] i x below at all = absurd (omega arith)
 mapped_at {A = A} P f (y ∷ ys) zero x below at all = let Q : A → Type 0 = λ z. P (f z) in subst Q (sym at) all.0
 mapped_at P f (y ∷ ys) (suc i) x below at all = mapped_at P f ys i x (omega arith) at all.1
 
--- one more of what a list is mapped to; and all of it, at the list's end
+-- one more element of a mapped list; and all of them, at the list's end
 pub mapped_next : {A B : Type 0} (P : B → Type 0) (f : A → B) (xs : List A) (i : ℕ) (x : A) → i < length xs → x ≡ get_or xs i x
     → AllByRecursion P (map f (take i xs)) → P (f x) → AllByRecursion P (map f (take (i + 1) xs))
 mapped_next P f xs i x below at so_far here =

@@ -1,4 +1,4 @@
--- Parse errors that differ in nothing.
+-- Equal parse errors.
 use Rattle.std.proofs.Common.{◌≡◌, ℕ, List, ap}
 use Rattle.lrpar_parse_lexemes.specs.Repair.{Repair}
 use Rattle.lrpar_parse_errors.specs.Failure.{Failure}

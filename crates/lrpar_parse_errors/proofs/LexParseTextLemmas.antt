@@ -38,7 +38,7 @@ module _ {S L B C : Type 0} (span : B → Extent) (names : ℕ → Option (List 
       } in
       subst (λ (e : LexParseError S L B C). IsErrorText place span names input e new) (sym is) text
 
-  -- what a fault says of the repairs of a parse error, it says of the error
+  -- a fault of the repairs of a parse error is a fault of the error
   pub parsing_fault : {N : Type 0} (index : N → ℕ) (error : LexParseError S L B C) (e : Failure B) (repairs : List (List (Repair B))) (fault : PpFault N)
       → error ≡ ParseError e → repairs ≡ e.repairs → IsPpFault index names (tokens_of span repairs) fault → IsPpFault index names (error_tokens span error) fault
   parsing_fault index error e repairs fault is same failed =

@@ -1,4 +1,4 @@
--- The texts of sequences of repairs.
+-- The texts of repair sequences.
 use Rattle.std.proofs.Common.{◌≡◌, ℕ, suc, ◌+◌, ◌<◌, ◌∙◌, Bool, true, false, cond, not, List, [], ◌∷◌, ◌++◌, Option, Some, length, take, drop, refl, ap, sym, arith, append_assoc, append-nil, codes, Result, Ok, Err, is_ok, OnOk, IfErr, IsErrAnd, subst, if◌then◌else◌}
 use Rattle.std.specs.Prelude.{◌==◌}
 use Rattle.std.specs.List.{AllByRecursion, AllZip, flat_map, join_by, position_or_len, before_first, after_first}
@@ -14,7 +14,7 @@ use Rattle.lrpar_parse_errors.specs.SequenceText.{on_one_line, Part, Inserts, De
 abbrev feeds : ℕ → Bool
 feeds b = b == 10
 
--- a text without line feeds stands as it is
+-- a text without line feeds is unchanged
 plain_cons : (v : Bool) (b : ℕ) (bs : List ℕ) → cond (not v) (1 + position_or_len feeds bs) 0 ≡ suc (length bs)
     → (position_or_len feeds bs ≡ length bs → on_one_line bs ≡ bs) → cond v (92 ∷ 110 ∷ []) (b ∷ []) ++ on_one_line bs ≡ b ∷ bs
 plain_cons true b bs none ih = absurd (omega (arith, none))
@@ -24,7 +24,7 @@ pub plain_line : (text : List ℕ) → position_or_len feeds text ≡ length tex
 plain_line [] none = refl
 plain_line (b ∷ bs) none = plain_cons (b == 10) b bs none (plain_line bs)
 
--- a text with line feeds: what stands before the first, the two characters, and what stands after it
+-- a text with line feeds: what comes before the first, the two characters, and what comes after it
 split_cons : (v : Bool) (b : ℕ) (bs : List ℕ) → cond (not v) (1 + position_or_len feeds bs) 0 < suc (length bs)
     → (position_or_len feeds bs < length bs → on_one_line bs ≡ before_first feeds bs ++ (92 ∷ 110 ∷ on_one_line (after_first feeds bs)))
     → cond v (92 ∷ 110 ∷ []) (b ∷ []) ++ on_one_line bs
@@ -43,7 +43,7 @@ pub split_line : (text : List ℕ) → position_or_len feeds text < length text
 split_line [] found = absurd (omega (arith, found))
 split_line (b ∷ bs) found = split_cons (b == 10) b bs found (split_line bs)
 
--- a line more and the two characters behind a text, and the rest behind these
+-- a line more and the two characters after a text, and the rest after these
 pub line_more : (out first second line others rest : List ℕ) → line ≡ before_first feeds rest → others ≡ after_first feeds rest → position_or_len feeds rest < length rest
     → first ≡ out ++ line → second ≡ first ++ (92 ∷ 110 ∷ []) → second ++ on_one_line others ≡ out ++ on_one_line rest
 line_more out first second line others rest is-line is-others found e₁ e₂ =
@@ -54,7 +54,7 @@ line_more out first second line others rest is-line is-others found e₁ e₂ =
     ∙ ap (λ o. out ++ (before_first feeds rest ++ (92 ∷ 110 ∷ on_one_line o))) is-others
     ∙ ap (λ t. out ++ t) (sym (split_line rest found))
 
--- a text is added, unless memory was wanting
+-- a text is added, unless memory ran out
 pub added : {T E : Type 0} (r : Result T E) (new out text whole : List ℕ) → new ≡ (if is_ok r then out ++ text else out) → out ++ text ≡ whole → OnOk r (new ≡ whole)
 added (Ok x) new out text whole e same = e ∙ same
 added (Err x) new out text whole e same = tt
@@ -63,12 +63,12 @@ added (Err x) new out text whole e same = tt
 pub added_twice : (old first second between new : List ℕ) → between ≡ old ++ first → new ≡ between ++ second → new ≡ old ++ (first ++ second)
 added_twice old first second between new e₁ e₂ = e₂ ∙ ap (λ o. o ++ second) e₁ ∙ append_assoc old first second
 
--- an error that is passed on
+-- an error that is returned as it is
 pub err_same : {T E : Type 0} (r : Result T E) (P : E → Type 0) (e : E) → IsErrAnd r (λ f. f ≡ e) → P e → IfErr r P
 err_same (Ok x) P e is holds = tt
 err_same (Err f) P e is holds = subst P (sym is) holds
 
--- what is printed of a part is printed of the sequence's next part
+-- the text of a part is that of the sequence's next part
 abbrev pub IsInRange : (ℕ → Option (List ℕ) → Type 0) → ℕ → Type 0
 IsInRange names t = (name : List ℕ) × names t (Some name)
 
@@ -86,7 +86,7 @@ named_parts names input (Inserts t ∷ parts) (text ∷ texts) each = ((each.0.0
 named_parts names input (Deletes a ∷ parts) (text ∷ texts) each = named_parts names input parts texts each.1
 named_parts names input (Shifts a ∷ parts) (text ∷ texts) each = named_parts names input parts texts each.1
 
--- the first token without a name among some is the first among more, where those in front have names
+-- the first token without a name among some tokens is the first among more, if those before it have names
 pub unnamed_within : (names : ℕ → Option (List ℕ) → Type 0) (front tokens further : List ℕ) (t : ℕ)
     → AllByRecursion (IsInRange names) front → IsFirstUnnamed names tokens t → IsFirstUnnamed names (front ++ (tokens ++ further)) t
 unnamed_within names front tokens further t named first = record {
@@ -98,7 +98,7 @@ unnamed_within names front tokens further t named first = record {
   unnamed = first.unnamed;
 }
 
--- what stands between texts that are there and one more
+-- the separator between the texts so far and one more
 abbrev pub separator_after : List (List ℕ) → List ℕ
 separator_after [] = []
 separator_after (text ∷ texts) = codes ", "
@@ -117,7 +117,7 @@ zip_more R [] (z ∷ ys) x y all last = absurd all
 zip_more R (w ∷ xs) [] x y all last = absurd all
 zip_more R (w ∷ xs) (z ∷ ys) x y all last = (all.0, zip_more R xs ys x y all.1 last)
 
--- some parts of all are printed behind a text, and then comes a separator
+-- some parts of all are printed after a text, and then comes a separator
 pub record IsPrintedSoFar (names : ℕ → Option (List ℕ) → Type 0) (input : List ℕ) (all rest : List Part) (old out separator : List ℕ) : Type 0 where
   pub done : List Part
   pub texts : List (List ℕ)

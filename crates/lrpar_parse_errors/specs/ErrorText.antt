@@ -13,20 +13,20 @@ use Rattle.lrpar_parse_errors.specs.SequenceText.{IsPartsText, RepairsFit, inser
 abbrev pub digits : ℕ → ℕ
 digits n = length (decimal n)
 
--- what is wrong, and the line and the column of a byte
+-- what is wrong, and the line and the column of a byte of the input
 abbrev pub place_text : List ℕ → List ℕ → ℕ → List ℕ
 place_text what input byte = what ++ codes " at line " ++ decimal (line_of input byte) ++ codes " column " ++ decimal (column_of input byte) ++ codes "."
 
--- what stands in front of sequence i, where the numbers have so many digits at most: numbers are right-aligned
+-- what comes before sequence i: its number, right-aligned in a column for numbers of at most `most` digits
 abbrev pub numbering : ℕ → ℕ → List ℕ
 numbering most i = 10 ∷ codes "  " ++ replicate (most - digits i + 1) 32 ++ decimal i ++ codes ": "
 
--- sequences from number i on, each behind its number
+-- sequences from number i on, each after its number
 abbrev pub numbered : ℕ → ℕ → List (List ℕ) → List ℕ
 numbered most i [] = []
 numbered most i (text ∷ texts) = numbering most i ++ text ++ numbered most (i + 1) texts
 
--- the texts of the sequences of an error, or that there are none
+-- the texts of the sequences of an error, or a text that says that there are none
 abbrev pub repairs_text : List (List ℕ) → List ℕ
 repairs_text [] = codes " No repair sequences found."
 repairs_text (text ∷ texts) = codes " Repair sequences found:" ++ numbered (digits (length (text ∷ texts))) 1 (text ∷ texts)
@@ -37,7 +37,7 @@ pub record IsFailureText {X : Type 0} (span : X → Extent) (names : ℕ → Opt
   pub each : AllZip (IsPartsText names input) (map (parts_of span) e.repairs) sequences
   pub is : text ≡ place_text (codes "Parsing error") input (span e.lexeme).start ++ repairs_text sequences
 
--- what a parse error speaks of lies in the input, between two characters
+-- each part of the input that a parse error names starts and ends between two characters of the input
 pub record FailureFits {X : Type 0} (span : X → Extent) (input : List ℕ) (e : Failure X) : Type 0 where
   pub lexeme : IsPartOf input (span e.lexeme)
   pub repairs : AllByRecursion (RepairsFit span input) e.repairs

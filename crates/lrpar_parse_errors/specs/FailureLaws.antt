@@ -1,4 +1,4 @@
--- Equality of parse errors is symmetric and transitive where that of lexemes is.
+-- Equality of parse errors is symmetric and transitive if equality of lexemes is.
 use Rattle.std.specs.Prelude.{Bool}
 use Rattle.std.specs.Cmp.{IsPartialEquivalence, on_per, and_per}
 use Rattle.std.specs.Cmp.Lexicographic.{lists_per}

@@ -1,9 +1,9 @@
--- Lexing errors and parse errors side by side.
+-- A lexing error or a parse error.
 use Rattle.lrpar_parse_errors.specs.Failure.{Failure}
 use Rattle.lrpar_parse_errors.specs.declared.errors.LexParseError.{LexParseError}
 use Rattle.lrpar_parse_errors.specs.declared.errors.LexParseError.TheVariants.{LexError, ParseError}
 
--- what one function gives of a lexing error, and another of a parse error
+-- one function for lexing errors, and another for parse errors
 abbrev pub lex_parse_of : {S L B C Y : Type 0} → (C → Y) → (Failure B → Y) → LexParseError S L B C → Y
 lex_parse_of of_lexing of_parsing (LexError e) = of_lexing e
 lex_parse_of of_lexing of_parsing (ParseError e) = of_parsing e

@@ -1,4 +1,4 @@
--- What a caller's function prints for a token, and the faults of texts.
+-- What a caller's function prints for a token, and why a text can't be made.
 use denote.Ref.{Bor}
 use Rattle.std.specs.Prelude.{◌≡◌, ℕ, List, Option, option_map}
 use Rattle.lrpar_grammar_places.specs.declared.span.TIdx.{TIdx}
@@ -6,12 +6,12 @@ use Rattle.lrpar_parse_errors.specs.SequenceText.{IsFirstUnnamed}
 use Rattle.lrpar_parse_lexemes.specs.declared.pp_fault.PpFault.{PpFault}
 use Rattle.lrpar_parse_lexemes.specs.declared.pp_fault.PpFault.TheVariants.{NoPrintedName, Memory}
 
--- `answers` are the function's answers. It is called with a token of this number, and gives this text, or none.
+-- `answers` are the function's answers. For a token of this number it returns this text, or `None`.
 abbrev pub printed_by : {S : Type 0} → (S → ℕ) → (TIdx S → Option (Bor (List ℕ)) → Type 0) → ℕ → Option (List ℕ) → Type 0
 printed_by {S} index answers t name =
     (token : TIdx S) × (answer : Option (Bor (List ℕ))) × (index token.0 ≡ t) × (option_map (λ text. text.now) answer ≡ name) × answers token answer
 
--- the fault names the first of the tokens for which nothing is printed; of a want of memory nothing is said
+-- the fault names the first of the tokens for which nothing is printed, or is `Memory`
 abbrev pub IsPpFault : {S : Type 0} → (S → ℕ) → (ℕ → Option (List ℕ) → Type 0) → List ℕ → PpFault S → Type 0
 IsPpFault index names tokens (NoPrintedName t) = IsFirstUnnamed names tokens (index t.0)
 IsPpFault index names tokens Memory = Unit {0}

@@ -1,4 +1,4 @@
--- Parts of printed sequences of the program as those of the definitions.
+-- Parts of printed sequences of the program, as the definitions see them.
 use Rattle.std.specs.Prelude.{ℕ, List, map}
 use Rattle.lrpar_grammar_places.specs.Span.{Extent}
 use Rattle.lrpar_parse_lexemes.specs.Repairs.{repair_of}

@@ -1,5 +1,4 @@
--- The texts of sequences of repairs, over the bytes of the input. `names` says what is printed for a token: a name, or
--- nothing.
+-- The texts of repair sequences, over the bytes of the input. `names` says what is printed for a token: a name, or nothing.
 use Rattle.std.specs.Prelude.{◌≡◌, ◌==◌, if◌then◌else◌, ℕ, List, [], ◌∷◌, ◌++◌, codes, slice_range, Option, Some, None}
 use Rattle.std.specs.List.{AllByRecursion, AllZip, flat_map, join_by}
 use Rattle.lrpar_grammar_places.specs.Lines.{is_line_feed}
@@ -16,7 +15,7 @@ pub data Part : Type 0 where
   Deletes : (span : Extent) → Part
   Shifts : (span : Extent) → Part
 
--- A deletion in front of other parts: it is one with a first deletion that starts exactly where it ends.
+-- a deletion before other parts: joined with the first of these, if that is a deletion that starts at the byte where this one ends
 abbrev pub joined : Extent → List Part → List Part
 joined a [] = Deletes a ∷ []
 joined a (Inserts t ∷ parts) = Deletes a ∷ Inserts t ∷ parts
@@ -43,12 +42,13 @@ pub record IsPartsText (names : ℕ → Option (List ℕ) → Type 0) (input : L
   pub each : AllZip (IsPartText names input) parts texts
   pub is : text ≡ join_by (λ part. part) (codes ", ") texts
 
--- the parts of the input that a repair or a printed part speaks of lie in it, between two characters
+-- the part of the input that a repair names starts and ends between two characters of the input
 abbrev pub RepairFits : {X : Type 0} → (X → Extent) → List ℕ → Repair X → Type 0
 RepairFits span input (Inserted t) = Unit {0}
 RepairFits span input (Deleted x) = IsPartOf input (span x)
 RepairFits span input (Shifted x) = IsPartOf input (span x)
 
+-- the same for a printed part
 abbrev pub PartFits : List ℕ → Part → Type 0
 PartFits input (Inserts t) = Unit {0}
 PartFits input (Deletes span) = IsPartOf input span
@@ -58,16 +58,17 @@ PartFits input (Shifts span) = IsPartOf input span
 abbrev pub RepairsFit : {X : Type 0} → (X → Extent) → List ℕ → List (Repair X) → Type 0
 RepairsFit span input repairs = AllByRecursion (RepairFits span input) repairs
 
--- the token that a part, and the tokens that a list of parts would insert, in order
+-- the token that a part would insert
 abbrev pub inserted_by : Part → List ℕ
 inserted_by (Inserts t) = t ∷ []
 inserted_by (Deletes span) = []
 inserted_by (Shifts span) = []
 
+-- the tokens that a list of parts would insert, in order
 abbrev pub inserted : List Part → List ℕ
 inserted parts = flat_map inserted_by parts
 
--- t is the first of the tokens for which nothing is printed: each one in front of it has a name
+-- t is the first of the tokens for which nothing is printed: each token before it has a name
 pub record IsFirstUnnamed (names : ℕ → Option (List ℕ) → Type 0) (tokens : List ℕ) (t : ℕ) : Type 0 where
   pub before : List ℕ
   pub after : List ℕ

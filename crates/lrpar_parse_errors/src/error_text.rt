@@ -23,8 +23,8 @@ impl<StorageT: StorageIndex, LexerTypesT: LexerTypes<StorageT = StorageT>> LexPa
 > {
     ghost use Rattle.lrpar_parse_errors.specs.LexParseText.{ErrorFits, IsErrorText, error_tokens};
 
-    /// Whether each part of the input that the error speaks of starts and ends between two characters of the input. Takes
-    /// time linear in the repairs, and no memory.
+    /// Whether each part of the input that the error names starts and ends between two characters of the input. `pp` requires
+    /// it. Takes time linear in the repairs, and no memory.
     pub fn fits(&self, input: &str) -> bool
         ensures { IsTrue result ↔ ErrorFits LexerTypesT.LexErrorT.place (λ x. (LexerTypesT.LexemeT.parts x).span) input.now self.now }
     {
@@ -36,19 +36,18 @@ impl<StorageT: StorageIndex, LexerTypesT: LexerTypes<StorageT = StorageT>> LexPa
         }
     }
 
-    /// The text of the error. Where it starts it says `Lexing error at line L column C.` or
-    /// `Parsing error at line L column C.`, of the start of the part or of the lexeme in question. Lines and columns count
-    /// from 1, and columns count characters.
+    /// The text of the error. It begins with `Lexing error at line L column C.` or `Parsing error at line L column C.`. There
+    /// starts the part that no token fits, or the lexeme that has no action. Lines and columns count from 1, and columns count
+    /// characters.
     ///
-    /// After a parse error follows ` No repair sequences found.`, or ` Repair sequences found:` and a line for each
-    /// sequence, with its number, right-aligned, and its steps, parted by `, `: `Insert` and what `epp` prints for the
-    /// token, `Delete` or `Shift` and a part of the input. Deletions that touch are one step. A line feed in a part of the
-    /// input prints as the two characters `\n`.
+    /// For a parse error the text goes on with ` No repair sequences found.`, or with ` Repair sequences found:` and a line for
+    /// each sequence: its number, right-aligned, and its steps, separated by `, `. A step is `Insert` and what `epp` prints for
+    /// the token, or `Delete` or `Shift` and a part of the input. Deletions that touch are one step. A line feed in a part of
+    /// the input prints as the two characters `\n`.
     ///
-    /// Each part of the input that the error speaks of has to start and end between two characters of the lexer's input.
-    /// `NoPrintedName` is answered exactly where `epp` has no text for a token to insert, and names the first such token.
-    /// The answer is `Memory` if memory runs out. Takes time linear in the text, but for what the lexer takes for
-    /// the line and the column.
+    /// Each part of the input that the error names must start and end between two characters of the lexer's input, as `fits`
+    /// says. `Err(NoPrintedName)` if `epp` has no text for a token to insert: it names the first such token.
+    /// `Err(Memory)`: out of memory. Takes time linear in the text, and the lexer's time for the line and the column.
     pub fn pp<
         'input,
         L: NonStreamingLexer<'input, LexerTypesT>,
@@ -76,7 +75,7 @@ impl<StorageT: StorageIndex, LexerTypesT: LexerTypes<StorageT = StorageT>> LexPa
     }
 }
 
-// Whether the part starts and ends in the input, between two characters each time.
+// Whether the part of the input starts and ends between two characters.
 fn is_part(span: Span, input: &str) -> bool
     ensures { IsTrue result ↔ IsPartOf input.now span }
 {
@@ -113,7 +112,7 @@ fn repairs_fit<LexemeT: Lexeme<StorageT>, StorageT: StorageIndex>(
     true
 }
 
-// Whether the lexeme of a repair lies in the input, where it has one.
+// Whether the lexeme of a repair lies in the input, if it has one.
 fn repair_fits<LexemeT: Lexeme<StorageT>, StorageT: StorageIndex>(
     repair: &ParseRepair<LexemeT, StorageT>,
     input: &str,
@@ -126,7 +125,7 @@ fn repair_fits<LexemeT: Lexeme<StorageT>, StorageT: StorageIndex>(
     }
 }
 
-// Adds what is wrong, with the line and the column of the start of the span.
+// Adds what is wrong, and the line and the column of the start of the span.
 fn push_place<'input, LexerTypesT: LexerTypes, L: NonStreamingLexer<'input, LexerTypesT>>(
     out: &mut String,
     lexer: &L,
@@ -141,7 +140,7 @@ fn push_place<'input, LexerTypesT: LexerTypes, L: NonStreamingLexer<'input, Lexe
     write!(out, "{what} at line {line} column {column}.")
 }
 
-// Adds what stands in front of a sequence: its number, right-aligned below numbers of so many digits at most.
+// Adds what comes before a sequence: its number, right-aligned in a column for numbers of at most `most` digits.
 fn push_numbering(
     out: &mut String,
     alloc: Global,
@@ -190,7 +189,7 @@ fn push_repairs<
     push_listed(out, alloc, lexer, epp, most, sequences)
 }
 
-// Adds the sequences, each behind its number, where the numbers have so many digits at most.
+// Adds the sequences, each after its number. The numbers have at most `most` digits.
 fn push_listed<
     'input,
     StorageT: StorageIndex,

@@ -1,4 +1,4 @@
-//! Parse errors, and the repairs that they offer.
+//! Lexing errors and parse errors, and the repairs that parse errors list.
 ghost use Rattle.std.specs.Prelude.{◌≡◌};
 ghost use Rattle.lrpar_parse_errors.specs.Failure.{failure_text};
 ghost use Rattle.lrpar_parse_lexemes.specs.Repairs.{repairs_of};
@@ -11,7 +11,7 @@ use std::error::Error;
 use std::fmt;
 use std::marker::Model;
 
-/// A place at which a parse found no action, and how the input could be repaired there.
+/// A parse error: the state and the lexeme for which the table has no action, and repair sequences that work there.
 #[derive(Debug)]
 pub struct ParseError<LexemeT: Lexeme<StorageT>, StorageT: StorageIndex> {
     stidx: StIdx<StorageT>,
@@ -19,7 +19,7 @@ pub struct ParseError<LexemeT: Lexeme<StorageT>, StorageT: StorageIndex> {
     repairs: Vec<Vec<ParseRepair<LexemeT, StorageT>>>,
 }
 
-// A drop of its own, so that what lets go of one elsewhere proves one call.
+// An `impl Drop` of its own, so that a function that drops a value proves one call only.
 impl<LexemeT: Lexeme<StorageT>, StorageT: StorageIndex> Drop for ParseError<LexemeT, StorageT> {
     fn drop(self) {
         let ParseError {
@@ -41,7 +41,7 @@ impl<LexemeT: Lexeme<StorageT>, StorageT: StorageIndex> Model for ParseError<Lex
 }
 
 impl<LexemeT: Lexeme<StorageT>, StorageT: StorageIndex> ParseError<LexemeT, StorageT> {
-    /// The error in state `stidx` at `lexeme`, for which `repairs` were found.
+    /// Makes the error in state `stidx` at `lexeme`, with these repair sequences.
     pub fn new(
         stidx: StIdx<StorageT>,
         lexeme: LexemeT,
@@ -58,21 +58,21 @@ impl<LexemeT: Lexeme<StorageT>, StorageT: StorageIndex> ParseError<LexemeT, Stor
         }
     }
 
-    /// The number of the state that the parse was in.
+    /// The state that the parse was in: the top of its stack, after all reductions at the lexeme's token.
     pub fn stidx(&self) -> StIdx<StorageT>
         ensures state { StorageT.index result.0 ≡ self.now.state }
     {
         self.stidx
     }
 
-    /// The lexeme for which that state has no action.
+    /// The lexeme for which that state has no action. At the end of the input it is the end lexeme: empty and faulty.
     pub fn lexeme(&self) -> &LexemeT
         ensures lexeme { result.now ≡ self.now.lexeme }
     {
         &self.lexeme
     }
 
-    /// The sequences of repairs that were found, which may be none. There can be more than these.
+    /// The repair sequences that were found. There may be none, and others may work, too.
     pub fn repairs(&self) -> &Vec<Vec<ParseRepair<LexemeT, StorageT>>>
         ensures repairs { repairs_of StorageT.index result.now.items ≡ self.now.repairs }
     {
@@ -121,9 +121,9 @@ impl<LexemeT: Lexeme<StorageT>, StorageT: StorageIndex> Error for ParseError<Lex
 /// A lexing error or a parse error.
 #[derive(Debug, Drop)]
 pub enum LexParseError<StorageT: StorageIndex, LexerTypesT: LexerTypes<StorageT = StorageT>> {
-    /// No token fits a part of the input.
+    /// A lexing error: no token fits a part of the input.
     LexError(LexerTypesT::LexErrorT),
-    /// No action fits a lexeme.
+    /// A parse error: the table has no action for a lexeme.
     ParseError(ParseError<LexerTypesT::LexemeT, StorageT>),
 }
 

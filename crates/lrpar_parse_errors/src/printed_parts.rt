@@ -1,4 +1,4 @@
-//! The parts of a printed sequence of repairs.
+//! The parts of a printed repair sequence.
 ghost use Rattle.std.specs.Prelude.{◌≡◌, ◌<◌, ◌≤◌, ◌∷◌, [], MatchOption, IfSome, length};
 ghost use Rattle.lrpar_parse_errors.specs.SequenceText.{joined};
 ghost use Rattle.lrpar_parse_errors.specs.PrintedParts.{part_of, sequence_parts};
@@ -12,13 +12,13 @@ use lrpar_parse_lexemes::lex_api::Lexeme;
 pub enum Part<StorageT> {
     /// A token to insert.
     Insert(TIdx<StorageT>),
-    /// A part of the input to delete: that of one lexeme, or of lexemes that touch.
+    /// A part of the input to delete: one lexeme, or lexemes that touch.
     Delete(Span),
     /// A lexeme to shift.
     Shift(Span),
 }
 
-/// The first part of a sequence, and the repairs behind it: none where the sequence is at its end.
+/// The first part of a sequence, and the repairs after it; `None` at the end of the sequence.
 pub fn next_part<LexemeT: Lexeme<StorageT>, StorageT: StorageIndex>(
     repairs: &[ParseRepair<LexemeT, StorageT>],
 ) -> Option<(Part<StorageT>, &[ParseRepair<LexemeT, StorageT>])>
@@ -39,8 +39,8 @@ pub fn next_part<LexemeT: Lexeme<StorageT>, StorageT: StorageIndex>(
     })
 }
 
-// The deletion that begins with `first`, and the repairs behind it: each deletion in `repairs` that starts exactly where
-// the one in front of it ends belongs to it.
+// The deletion that begins with `first`, and the repairs after it. It includes each following deletion that starts at the byte
+// where the one before it ends.
 fn deletion<LexemeT: Lexeme<StorageT>, StorageT: StorageIndex>(
     first: Span,
     repairs: &[ParseRepair<LexemeT, StorageT>],

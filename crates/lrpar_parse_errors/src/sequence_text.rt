@@ -1,4 +1,4 @@
-//! The text of one sequence of repairs.
+//! The text of one repair sequence.
 ghost use Rattle.std.specs.Prelude.{◌≡◌, ◌++◌, List, ℕ, OnOk, IfErr, map};
 ghost use Rattle.std.specs.String.{string_bytes};
 ghost use Rattle.lrpar_parse_errors.specs.Printed.{IsPpFault, printed_by};
@@ -62,8 +62,8 @@ fn push_part<
     }
 }
 
-// Adds the text of a sequence: those of its parts, joined by `, `. It borrows the list, not a slice of it: the proof of its
-// caller, which goes over many, takes a third less time so.
+// Adds the text of a sequence: its parts' texts, joined by `, `. It borrows the list instead of a slice: so the proof of its
+// caller, which has a loop over sequences, takes a third less time.
 pub(crate) fn push_sequence<
     'input,
     StorageT: StorageIndex,

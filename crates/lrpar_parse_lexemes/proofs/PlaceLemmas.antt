@@ -1,4 +1,4 @@
--- Where lexemes start and end, as it is read of their list.
+-- Where lexemes start and end, read from their list.
 use Rattle.std.proofs.Common.{◌≡◌, ◌-◌, ◌∙◌, ℕ, List, None, Option, Some, length, map, ap, sym}
 use Rattle.std.specs.List.{slice_get}
 use Rattle.std.specs.Option.{option_map, option_map_or}
@@ -19,13 +19,13 @@ last_mapped f xs o is =
     let place : length (map f xs) - 1 ≡ length xs - 1 = ap (λ n. n - 1) (length-map xs f) in
     ap (slice_get (map f xs)) place ∙ (slice_get-map f xs (length xs - 1) ∙ ap (option_map f) (sym is))
 
--- so it is known where the last lexeme ends
+-- so this is where the last lexeme ends
 pub last_end_is : {X : Type 0} (facts : X → LexemeFacts) (xs : List X) (o : Option X) → o ≡ slice_get xs (length xs - 1)
     → last_end (map facts xs) ≡ option_map_or (λ x. (facts x).span.end) o 0
 last_end_is facts xs None is = ap (λ (o : Option LexemeFacts). option_map_or (λ x. x.span.end) o 0) (last_mapped facts xs None is)
 last_end_is facts xs (Some x) is = ap (λ (o : Option LexemeFacts). option_map_or (λ x. x.span.end) o 0) (last_mapped facts xs (Some x) is)
 
--- past the last lexeme one starts where that ends
+-- past the last lexeme the start is where that one ends
 pub start_at_none : {X : Type 0} (facts : X → LexemeFacts) (xs : List X) (i : ℕ) → slice_get xs i ≡ None → start_at (map facts xs) i ≡ last_end (map facts xs)
 start_at_none facts xs i is =
     ap (λ (o : Option LexemeFacts). option_map_or (λ x. x.span.start) o (last_end (map facts xs))) (slice_get-map facts xs i ∙ ap (option_map facts) is)

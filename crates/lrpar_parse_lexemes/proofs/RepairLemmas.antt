@@ -1,4 +1,4 @@
--- What comparing and cloning lists of repairs says of the repairs that contracts see.
+-- Comparisons and clones of lists of repairs, for the repairs that contracts see.
 use Rattle.std.proofs.Common.{◌∙◌, ◌≡◌, ℕ, Bool, List, [], ◌∷◌, refl, Vec, vec_len}
 use Rattle.std.specs.Prelude.{map, false, ◌==◌, ◌&&◌}
 use Rattle.std.specs.List.{AllZip, each_same}
@@ -9,7 +9,7 @@ use Rattle.lrpar_parse_lexemes.specs.declared.repairs.ParseRepair.TheVariants.{I
 use Rattle.lrpar_parse_lexemes.specs.Repair.{repair_eq}
 use Rattle.lrpar_parse_lexemes.specs.Repairs.{repair_of, repairs_of}
 
--- clones of sequences of repairs are seen as the same repairs
+-- contracts see clones of repair sequences as the same repairs
 pub repairs_clone : {X S A : Type 0} (index : S → ℕ) (xs ys : List (Vec (ParseRepair X S) A))
     → AllZip (λ v w. AllZip (λ x y. y ≡ x) v.items w.items × (vec_len w ≡ vec_len v)) xs ys
     → repairs_of index ys ≡ repairs_of index xs
@@ -19,7 +19,7 @@ repairs_clone index (v ∷ vs) [] h = absurd h
 repairs_clone index (v ∷ vs) (w ∷ ws) h =
     λ i. map (repair_of index) (each_same v.items w.items h.0.0 i) ∷ repairs_clone index vs ws h.1 i
 
--- a comparison of repairs that answers as each kind asks is that of the repairs seen
+-- a comparison of repairs that is right for each kind is that of the repairs that contracts see
 pub repair_alike : {X S : Type 0} (index : S → ℕ) (eq : X → X → Bool) (same : ParseRepair X S → ParseRepair X S → Bool)
     → (inserts : (t u : TIdx S) → same (Insert t) (Insert u) ≡ (index t.0 == index u.0))
     → (deletes : (x y : X) → same (Delete x) (Delete y) ≡ eq x y)
@@ -43,7 +43,7 @@ repair_alike index eq same ii dd ss ind ins di ds si sd (Shift x) (Shift y) = ss
 
 module _ {X S : Type 0} (index : S → ℕ) (eq : X → X → Bool) (same : ParseRepair X S → ParseRepair X S → Bool)
     (alike : (x y : ParseRepair X S) → same x y ≡ repair_eq eq (repair_of index x) (repair_of index y)) where
-  -- a comparison of sequences of repairs is that of the repairs seen
+  -- a comparison of repair sequences is that of the repairs that contracts see
   pub sequence_eq : (xs ys : List (ParseRepair X S))
       → pointwise same xs ys ≡ pointwise (repair_eq eq) (map (repair_of index) xs) (map (repair_of index) ys)
   sequence_eq [] [] = refl
@@ -51,7 +51,7 @@ module _ {X S : Type 0} (index : S → ℕ) (eq : X → X → Bool) (same : Pars
   sequence_eq (x ∷ xs) [] = refl
   sequence_eq (x ∷ xs) (y ∷ ys) = λ i. alike x y i && sequence_eq xs ys i
 
-  -- and so for lists of them
+  -- the same for lists of them
   pub repairs_eq : {A : Type 0} (xs ys : List (Vec (ParseRepair X S) A))
       → pointwise (λ v w. pointwise same v.items w.items) xs ys
       ≡ pointwise (pointwise (repair_eq eq)) (repairs_of index xs) (repairs_of index ys)
@@ -60,7 +60,7 @@ module _ {X S : Type 0} (index : S → ℕ) (eq : X → X → Bool) (same : Pars
   repairs_eq (v ∷ vs) [] = refl
   repairs_eq (v ∷ vs) (w ∷ ws) = λ i. sequence_eq v.items w.items i && repairs_eq vs ws i
 
-  -- and so for what such a comparison answers
+  -- the same for the result of such a comparison
   pub answer_eq : {A : Type 0} (xs ys : List (Vec (ParseRepair X S) A)) (answer : Bool)
       → answer ≡ pointwise (λ v w. pointwise same v.items w.items) xs ys
       → answer ≡ pointwise (pointwise (repair_eq eq)) (repairs_of index xs) (repairs_of index ys)

@@ -1,10 +1,10 @@
--- Lexemes of the program, whose tokens are storage numbers.
+-- The parts of a lexeme, and where lexemes of a list start and end.
 use Rattle.std.specs.Prelude.{ℕ, ◌+◌, ◌-◌, Bool, true, List, length, slice_get}
 use Rattle.std.specs.Option.{option_map_or}
 use Rattle.lrpar_grammar_places.specs.Span.{Extent}
 use Rattle.lrpar_grammar_places.specs.Facts.{LexemeFacts}
 
--- a lexeme's token, where it lies, and whether a repair made it
+-- a lexeme's token, its span, and whether a repair made it
 pub record LexemeParts (S : Type 0) : Type 0 where
   pub token : S
   pub span : Extent
@@ -18,15 +18,15 @@ facts_of index x = record { token = index x.token; span = x.span; faulty = x.fau
 abbrev pub lexeme_parts : {S : Type 0} → S → ℕ → ℕ → Bool → LexemeParts S
 lexeme_parts token start len faulty = record { token = token; span = record { start = start; end = start + len }; faulty = faulty }
 
--- where the last lexeme ends; 0 where there is none
+-- where the last lexeme ends; 0 if there is none
 abbrev pub last_end : List LexemeFacts → ℕ
 last_end lexemes = option_map_or (λ x. x.span.end) (slice_get lexemes (length lexemes - 1)) 0
 
--- the lexeme past the last one: it has this token, is empty where the last one ends, and is faulty
+-- the end lexeme: it has this token, is empty where the last lexeme ends, and is faulty
 abbrev pub lexeme_past : ℕ → List LexemeFacts → LexemeFacts
 lexeme_past token lexemes = record { token = token; span = record { start = last_end lexemes; end = last_end lexemes }; faulty = true }
 
--- where lexeme i starts; past the last one, where that ends
+-- where lexeme i starts; past the last lexeme, where that one ends
 abbrev pub start_at : List LexemeFacts → ℕ → ℕ
 start_at lexemes i = option_map_or (λ x. x.span.start) (slice_get lexemes i) (last_end lexemes)
 

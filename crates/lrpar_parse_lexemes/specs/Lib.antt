@@ -3,4 +3,4 @@ pub mod Repair
 pub mod RepairLaws
 pub mod Repairs
 pub mod FaultText
-pub mod Known
+pub mod Views

@@ -1,4 +1,4 @@
--- Equality of repairs is symmetric and transitive where that of lexemes is.
+-- Equality of repairs is symmetric and transitive if equality of lexemes is.
 use Rattle.std.specs.Prelude.{◌≡◌, Bool, true, ◌==◌, refl}
 use Rattle.std.specs.Cmp.{IsPartialEquivalence, partial_equiv_from_equiv}
 use Rattle.std.proofs.lemmas.Cmp.{nat_eq_equiv}

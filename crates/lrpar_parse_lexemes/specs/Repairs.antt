@@ -1,4 +1,4 @@
--- Repairs of the program as those of the definitions; `index` is the number that a storage number stands for.
+-- Repairs of the program as the definitions see them. `index` gives the number of a value of the storage type.
 use Rattle.std.specs.Prelude.{◌++◌, ℕ, pos, List, map, Vec}
 use Rattle.std.specs.Hash as fed
 use Rattle.lrpar_parse_lexemes.specs.Repair.{Repair, Inserted, Deleted, Shifted}
@@ -11,12 +11,12 @@ repair_of index (Insert token) = Inserted (index token.0)
 repair_of index (Delete lexeme) = Deleted lexeme
 repair_of index (Shift lexeme) = Shifted lexeme
 
--- a list of sequences of repairs
+-- a list of repair sequences
 abbrev pub repairs_of : {X S A : Type 0} → (S → ℕ) → List (Vec (ParseRepair X S) A) → List (List (Repair X))
 repairs_of index sequences = map (λ sequence. map (repair_of index) sequence.items) sequences
 
--- what a hasher is fed of a repair: 0 for an insertion, 1 for a deletion and 2 for a shift, and then what it is fed of the
--- token's number or of the lexeme
+-- what a repair's hash feeds the hasher: 0 for an insertion, 1 for a deletion and 2 for a shift, and then the token's number or
+-- the lexeme
 abbrev pub repair_input : {X S : Type 0} → (S → List (List ℕ)) → (X → List (List ℕ)) → ParseRepair X S → List (List ℕ)
 repair_input number lexeme (Insert token) = fed.isize (pos 0) ++ number token.0
 repair_input number lexeme (Delete deleted) = fed.isize (pos 1) ++ lexeme deleted

@@ -13,15 +13,15 @@ use crate::repairs::ParseRepair;
 use lrpar_grammar_places::span::StorageIndex;
 use std::hash::Hash;
 
-/// Two repairs are equal exactly where they are of one kind, and their tokens or lexemes are equal. A hasher is fed which of the
-/// three a repair is, and then what it is fed of the token's number or of the lexeme.
+/// Two repairs are equal if and only if they are of one kind and their tokens or lexemes are equal. A repair's hash feeds the hasher
+/// which of the three kinds it is, and then the token's number or the lexeme.
 pub fn repairs_are_compared_by_contents<StorageT: StorageIndex, LexemeT: Lexeme<StorageT>>()
     ensures equal { (x y : ParseRepair LexemeT StorageT) → ⟦<ParseRepair<LexemeT, StorageT> as PartialEq>⟧.eq x y
         ≡ repair_eq LexemeT.PartialEq.eq (repair_of StorageT.index x) (repair_of StorageT.index y) }
     ensures hash { HashesAs (repair_input StorageT.hash_input LexemeT.hash_input) ⟦<ParseRepair<LexemeT, StorageT> as PartialEq>⟧.eq ⟦<ParseRepair<LexemeT, StorageT> as Hash>⟧.hash_input }
 {}
 
-/// Two faults of a text are equal exactly where both name one token, or both are a want of memory.
+/// Two faults of a text are equal if and only if both name one token, or both are `Memory`.
 pub fn pp_faults_are_compared_by_contents<StorageT: StorageIndex>()
     ensures { (x y : PpFault StorageT) → IsTrue (⟦<PpFault<StorageT> as PartialEq>⟧.eq x y) ↔ IsSameFault StorageT.index x y }
 {}

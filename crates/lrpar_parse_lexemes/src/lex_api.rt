@@ -16,24 +16,24 @@ pub trait LexerTypes: Debug + Clone {
     /// The lexemes.
     type LexemeT: Lexeme<Self::StorageT>;
 
-    /// What tokens, rules, productions and states are numbered by. Parsers ask that it be a `StorageIndex`.
+    /// The integer type that numbers tokens, rules, productions and states. Parsers require it to be a `StorageIndex`.
     type StorageT;
 
-    /// What the lexer answers where no token fits.
+    /// What the lexer answers for a part of the input that no token fits.
     type LexErrorT: LexError;
 }
 
-/// A part of the input that stands for one token.
+/// A lexeme: a part of the input, and the token that it is. A lexeme that a repair inserts is empty and faulty.
 pub trait Lexeme<StorageT>: Copy + Debug + Display + Eq + Hash {
-    /// The lexeme's token, where it lies, and whether a repair made it.
+    /// The lexeme's token, its span, and whether a repair made it.
     ghost parts: { Self → LexemeParts StorageT };
 
-    /// The lexeme of token `tok_id` with `len` bytes from byte `start` on. It isn't faulty.
+    /// Makes a lexeme of token `tok_id`, with `len` bytes from byte `start` on. It isn't faulty.
     fn new(tok_id: StorageT, start: usize, len: usize) -> Self
         requires fits { start + len < 2 ^ 64 }
         ensures parts { parts result ≡ lexeme_parts tok_id start len false };
 
-    /// The lexeme that `new` gives for the same arguments, but faulty: a repair made it, and the input needn't have it.
+    /// Makes the lexeme that `new` makes of the same arguments, but faulty: a repair made it, and it needn't be in the input.
     fn new_faulty(tok_id: StorageT, start: usize, len: usize) -> Self
         requires fits { start + len < 2 ^ 64 }
         ensures parts { parts result ≡ lexeme_parts tok_id start len true };
@@ -42,7 +42,7 @@ pub trait Lexeme<StorageT>: Copy + Debug + Display + Eq + Hash {
     fn tok_id(&self) -> StorageT
         ensures token { result ≡ (parts self.now).token };
 
-    /// Where the lexeme lies, in bytes.
+    /// The lexeme's span, in bytes of the input.
     fn span(&self) -> Span
         ensures span { result ≡ (parts self.now).span };
 
@@ -51,23 +51,23 @@ pub trait Lexeme<StorageT>: Copy + Debug + Display + Eq + Hash {
         ensures faulty { result ≡ (parts self.now).faulty };
 }
 
-/// A part of the input that no token fits.
+/// A lexing error: a part of the input that no token fits.
 pub trait LexError: Error {
-    /// Where the part lies.
+    /// The span of the part.
     ghost place: { Self → Extent };
 
-    /// Where the part lies, in bytes.
+    /// The span of the part, in bytes of the input.
     fn span(&self) -> Span
         ensures place { result ≡ place self.now };
 }
 
-/// What gives a parse its lexemes.
+/// A lexer: it gives a parse the lexemes of its input.
 pub trait Lexer<LexerTypesT: LexerTypes> {
     /// The answers that `iter` may give.
     ghost allows: { Self → List (Result LexerTypesT.LexemeT LexerTypesT.LexErrorT) → Type 0 };
 
-    /// The lexemes and the lexing errors of the whole input, in order. A lexer may stop at an error or go on past it,
-    /// and may answer another list the next time. It fails if memory runs out.
+    /// The lexemes and the lexing errors of the whole input, in order. A lexer may stop at an error or continue past it,
+    /// and may answer another list the next time. `Err`: out of memory.
     fn iter(
         &self,
         alloc: Global,
@@ -75,7 +75,7 @@ pub trait Lexer<LexerTypesT: LexerTypes> {
         ensures allowed { IfOk result (λ answers. allows self.now answers.items) };
 }
 
-/// A lexer that has its whole input, and so can give parts of it, and lines and columns.
+/// A lexer that has its whole input. So it can return parts of the input, and lines and columns.
 pub trait NonStreamingLexer<'input, LexerTypesT: LexerTypes>: Lexer<LexerTypesT> {
     /// The input's bytes.
     ghost text: { Self → List ℕ };
@@ -86,14 +86,14 @@ pub trait NonStreamingLexer<'input, LexerTypesT: LexerTypes>: Lexer<LexerTypesT>
         requires end { IsCharBoundary (text self.now) span.end }
         ensures part { result.now ≡ slice_range (text self.now) span.start span.end };
 
-    /// The input's lines from that of the start of `span` to that of its end, without the last line feed. The span
+    /// The input's lines from the one where `span` starts to the one where it ends, without the last line feed. The span
     /// must start and end between two characters of the input.
     fn span_lines_str(&self, span: Span) -> &'input str
         requires start { IsCharBoundary (text self.now) span.start }
         requires end { IsCharBoundary (text self.now) span.end }
         ensures lines { result.now ≡ lines_of (text self.now) span.start span.end };
 
-    /// The line and the column of the start of `span`, and those of its end, each counted from 1, and columns in
+    /// The line and the column of the start of `span`, and those of its end. Both count from 1, and columns count
     /// characters. The span must start and end between two characters of the input.
     fn line_col(&self, span: Span) -> ((usize, usize), (usize, usize))
         requires start { IsCharBoundary (text self.now) span.start }

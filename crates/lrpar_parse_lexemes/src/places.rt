@@ -1,12 +1,12 @@
 //! Where lexemes start and end, and the lexeme past the last one.
 ghost use Rattle.std.specs.Prelude.{◌≡◌};
 ghost use Rattle.lrpar_parse_lexemes.specs.Lexemes.{last_end, lexeme_past, start_at};
-ghost use Rattle.lrpar_parse_lexemes.specs.Known.{facts_by, known};
+ghost use Rattle.lrpar_parse_lexemes.specs.Views.{facts_by, known};
 
 use crate::lex_api::Lexeme;
 use lrpar_grammar_places::span::{StorageIndex, TIdx};
 
-/// Where the lexeme at the place starts; past the last one, where that ends.
+/// The byte where the lexeme at this place starts; past the last lexeme, the byte where that one ends.
 pub fn start_of<StorageT: StorageIndex, LexemeT: Lexeme<StorageT>>(
     lexemes: &[LexemeT],
     place: usize,
@@ -19,7 +19,7 @@ pub fn start_of<StorageT: StorageIndex, LexemeT: Lexeme<StorageT>>(
     }
 }
 
-/// Where the last lexeme ends; 0 where there is none.
+/// The byte where the last lexeme ends; 0 if there is none.
 pub fn end_of<StorageT: StorageIndex, LexemeT: Lexeme<StorageT>>(lexemes: &[LexemeT]) -> usize
     ensures { result ≡ last_end (known StorageT.index LexemeT.parts lexemes.now) }
 {
@@ -29,7 +29,7 @@ pub fn end_of<StorageT: StorageIndex, LexemeT: Lexeme<StorageT>>(lexemes: &[Lexe
     }
 }
 
-/// The lexeme past the last one.
+/// The end lexeme: it has the end token, is empty after the last lexeme, and is faulty.
 pub fn end_lexeme<StorageT: StorageIndex, LexemeT: Lexeme<StorageT>>(
     end: TIdx<StorageT>,
     lexemes: &[LexemeT],

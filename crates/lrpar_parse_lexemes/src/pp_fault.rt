@@ -1,4 +1,4 @@
-//! Why the text of an error isn't made.
+//! Why the text of an error can't be made.
 ghost use Rattle.std.specs.Prelude.{◌≡◌};
 ghost use Rattle.lrpar_parse_lexemes.specs.declared.pp_fault.PpFault.TheVariants.{Memory};
 
@@ -7,12 +7,12 @@ use std::alloc::{AllocError, AllocFailed};
 use std::error::Error;
 use std::fmt;
 
-/// Why the text of an error isn't made.
+/// Why the text of an error can't be made.
 #[derive(Clone, Copy, Debug, PartialEq, Eq)]
 pub enum PpFault<StorageT> {
-    /// A repair inserts this token, for which there is no text to print. It is the first such token.
+    /// There is no text to print for this token, which a repair inserts. It is the first such token.
     NoPrintedName(TIdx<StorageT>),
-    /// Memory was wanting.
+    /// An allocation failed.
     Memory,
 }
 

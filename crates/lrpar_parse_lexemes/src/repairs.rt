@@ -1,18 +1,18 @@
-//! The steps of repairs.
+//! The steps of a repair sequence, as an error lists it.
 ghost use Rattle.std.specs.Prelude.{◌≡◌, ⊤};
 
 use crate::lex_api::Lexeme;
 use lrpar_grammar_places::span::{StorageIndex, TIdx};
 use std::alloc::AllocError;
 
-/// One step of a repair.
+/// One step of a repair sequence.
 #[derive(Debug, Drop, PartialEq, Eq, Hash)]
 pub enum ParseRepair<LexemeT, StorageT> {
-    /// A lexeme of the token is put in front of the input that is left.
+    /// Insert a lexeme of this token before the rest of the input.
     Insert(TIdx<StorageT>),
-    /// The next lexeme of the input is left out.
+    /// Leave out the next lexeme of the input, which is this one.
     Delete(LexemeT),
-    /// The next lexeme of the input is taken as it is.
+    /// Keep the next lexeme of the input, which is this one.
     Shift(LexemeT),
 }
 

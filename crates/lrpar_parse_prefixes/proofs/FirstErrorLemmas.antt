@@ -29,7 +29,7 @@ module _ {X : Type 0} (facts : X → LexemeFacts) (allows : Point X → List (Li
         prods,
         subst (λ (s : RepairStop). Far (λ x. (facts x).token) g table lexemes st i prods (Stopped s.stop)) (same_first own first [] later is) far,
       )
-  first_without k g table lexemes _ _ _ _ _ (is_repaired st i prods stop head listed made after j mended stops consumed rest far is_listed replays consumes run) first later is =
+  first_without k g table lexemes _ _ _ _ _ (is_repaired st i prods stop head listed made after j recovered stops consumed rest far is_listed replays consumes run) first later is =
       let own : RepairStop = record { stop = stop; listed = head ∷ listed } in (
         prods,
         subst (λ (s : RepairStop). Far (λ x. (facts x).token) g table lexemes st i prods (Stopped s.stop)) (same_first own first stops later is) far,

@@ -115,7 +115,7 @@ module _ (g : Grammar) (graph : Graph) (table : Table) (well : IsWellFormed g) (
       → AreTreesOf g (reverse path) trees → BeginSentence g (forest_leaves trees)
   walk_begins s path walk within trees fit =
       let same = walk_path g graph table well built closed s path walk in
-      let some = built.canonical.some s (let is = built.wanted.states in omega (arith, within, is)) in
+      let some = built.canonical.some s (let is = built.resolved.states in omega (arith, within, is)) in
       let x = some.0 in
       let reached : IsReachedBy g path x = (same x).0 some.1 in
       let holds = item_holds g well each path x reached in

@@ -1,7 +1,7 @@
 //! Laws about runs over tables that are built of a grammar: each function has some as its contract, and does nothing.
 ghost use Rattle.std.specs.Prelude.{ℕ};
 ghost use Rattle.lrpar_grammar.specs.Sentence.{LexemeFacts};
-ghost use Rattle.lrpar_parse_lexemes.specs.Known.{facts_by};
+ghost use Rattle.lrpar_parse_lexemes.specs.Views.{facts_by};
 ghost use Rattle.lrpar_parse_repair.specs.Asked.{allowed_at};
 ghost use Rattle.lrpar_table_check.specs.Checked.{Checked};
 ghost use Rattle.lrpar_parse_prefixes.specs.FirstErrors.{FirstErrorsAreExact, FirstErrorsComeInTime};

@@ -1,4 +1,4 @@
--- The repairs by which an error lists sequences, one step and one sequence after the other.
+-- The repairs that an error lists for sequences, one step and one sequence after the other.
 use Rattle.std.proofs.Common.{◌≡◌, ◌<◌, ◌≤◌, ◌+◌, ◌∙◌, ℕ, List, [], ◌∷◌, ◌++◌, Vec, ap, drop, get_or, length, sym, take}
 use Rattle.std.specs.Prelude.{map}
 use Rattle.std.proofs.lemmas.List.{append-nil, append_assoc, drop_all, drop_more, map-append, take_more}

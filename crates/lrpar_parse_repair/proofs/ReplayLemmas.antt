@@ -1,4 +1,4 @@
--- What is replayed, and where runs stop: what works can be replayed, in one way, and a run stops where no more can be fed.
+-- Replays and error points: a sequence that works can be replayed, with one result, and a run stops where it can feed no more.
 use Rattle.std.proofs.Common.{◌≡◌, ◌≤◌, ◌+◌, ◌∙◌, inl, inr, ℕ, zero, suc, List, [], ◌∷◌, ◌++◌, length, refl, sym, subst, arith}
 use Rattle.lrpar_grammar.specs.Grammar.{Grammar}
 use Rattle.lrpar_table_rows.specs.Table.{Table}
@@ -69,7 +69,7 @@ module _ {X : Type 0} (token : X → ℕ) (g : Grammar) (table : Table) (lexemes
   far_stops _ _ _ _ (stops st i ps settled fits settles stuck) =
       (omega arith, fits, settles_settled g table (token_at token g lexemes i) st ps settled settles, stuck)
 
-  -- where k lexemes can be fed, a run stops no earlier
+  -- if k lexemes can be fed, a run stops no earlier than after them
   pub go_on_far : (k : ℕ) (st : List ℕ) (i : ℕ) (ps : List ℕ) (end : FarEnd) → CanGoOn token g table lexemes k st i → Far token g table lexemes st i ps end
       → StopsFrom (i + k) end
   go_on_far zero st i ps end on far = stops_later (i + zero) i end (omega arith) (far_stops st i ps end far)

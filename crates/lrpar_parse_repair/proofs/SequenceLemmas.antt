@@ -1,4 +1,4 @@
--- Sequences of repairs: which step can be taken in which way, and what that says of whether a sequence works.
+-- Repair sequences: the results of steps, and what they say about whether a sequence works.
 use Rattle.std.proofs.Common.{◌≡◌, ◌≢◌, ◌<◌, ◌≤◌, ◌+◌, ◌-◌, ◌∙◌, ◌↔◌, ◌⊎◌, inl, inr, ℕ, suc, List, [], ◌∷◌, ◌++◌, Bool, true, false, Option, Some, None, slice_get, drop, take, get_or, Vec, vec_len, length, IsTrue, refl, sym, subst, ap, arith}
 use Rattle.std.specs.Prelude.{map}
 use Rattle.std.specs.List.{AllZip, each_same}
@@ -72,7 +72,7 @@ pub those_no_more : {A B : Type 0} (f : A → B) (P : B → Type 0) (xs ys : Lis
 those_no_more f P xs ys x h fails = rw (map-append f xs (x ∷ [])) (those_left P (map f xs) (map f ys) (f x) h fails)
 
 module _ {X : Type 0} (token : X → ℕ) (g : Grammar) (table : Table) (lexemes : List X) where
-  -- a step gives one stack at one place, by one list of reductions
+  -- a step has one result: one stack, one place, and one list of reductions
   pub steps_one_way : (st : List ℕ) (i : ℕ) (step : PlainStep) (ps a : List ℕ) (j : ℕ) (qs b : List ℕ) (k : ℕ)
       → StepsTo token g table lexemes st i step ps a j → StepsTo token g table lexemes st i step qs b k → (ps ≡ qs) × (a ≡ b) × (j ≡ k)
   steps_one_way st i (PlainInsert t) ps a j qs b k x y =
@@ -95,7 +95,7 @@ module _ {X : Type 0} (token : X → ℕ) (g : Grammar) (table : Table) (lexemes
       let by = subst (λ (o' : Option ℕ). IsStepTaken token g table lexemes st i step after o') is taken in
       steps_within st i step by.0 after j fits by.1
 
-  -- a sequence whose first step was taken works where the rest works from what that gave
+  -- a sequence whose first step was taken works if the rest works from its result
   pub works_more : (k : ℕ) (st : List ℕ) (i : ℕ) (step : PlainStep) (steps : List PlainStep) (ps next : List ℕ) (j : ℕ)
       → StepsTo token g table lexemes st i step ps next j
       → Works token g table lexemes k next j steps ↔ Works token g table lexemes k st i (step ∷ steps)
@@ -113,7 +113,7 @@ module _ {X : Type 0} (token : X → ℕ) (g : Grammar) (table : Table) (lexemes
       → ¬ (Works token g table lexemes k st i (step ∷ steps))
   works_not k st i step steps fails h = fails h.0 h.1 h.2 h.3
 
-  -- where the next lexeme was fed, k + 1 lexemes can be fed where k can from what that gave
+  -- if the next lexeme was fed, k + 1 lexemes can be fed if k can be from its result
   pub go_on_more : (k : ℕ) (st : List ℕ) (i : ℕ) (ps next : List ℕ) (j : ℕ) → StepsTo token g table lexemes st i PlainShift ps next j
       → CanGoOn token g table lexemes k next j ↔ CanGoOn token g table lexemes (suc k) st i
   go_on_more k st i ps next j x = (
@@ -128,7 +128,7 @@ module _ {X : Type 0} (token : X → ℕ) (g : Grammar) (table : Table) (lexemes
         ]),
   )
 
-  -- where it can't be fed, none can
+  -- if it can't be fed, none can
   pub go_on_not : (k : ℕ) (st : List ℕ) (i : ℕ) → i < length lexemes
       → ((ps next : List ℕ) (j : ℕ) → ¬ (StepsTo token g table lexemes st i PlainShift ps next j))
       → ¬ (CanGoOn token g table lexemes (suc k) st i)
@@ -150,8 +150,8 @@ module _ {X : Type 0} (token : X → ℕ) (g : Grammar) (table : Table) (lexemes
         ]),
   )
 
-  -- What is said of a start holds of a place on the way: as n of k lexemes were fed, k - n more can be fed from here exactly
-  -- where that is so. One more was fed.
+  -- What holds for a start holds for a later place: after n of k lexemes were fed, k - n more can be fed from here if and only if k
+  -- can be fed from the start. One more was fed.
   pub go_on_next : (P : Type 0) (k n : ℕ) (st : List ℕ) (i : ℕ) (o : Option ℕ) (after : List ℕ) (j : ℕ) → n < k
       → IsStepTaken token g table lexemes st i PlainShift after o → o ≡ Some j
       → CanGoOn token g table lexemes (k - n) st i ↔ P → CanGoOn token g table lexemes (k - (n + 1)) after j ↔ P
@@ -182,7 +182,7 @@ module _ {X : Type 0} (token : X → ℕ) (g : Grammar) (table : Table) (lexemes
       let first = subst (λ (m : ℕ). CanGoOn token g table lexemes m st i ↔ P) left here in
       ((λ q. first.0 (end.0 (accepts.0 q))), (λ p. accepts.1 (end.1 (first.1 p))))
 
-  -- So it is of the steps of a sequence, of which those from n on are left. One more was taken.
+  -- The same holds for the steps of a sequence, of which those from n on are left. One more was taken.
   pub works_next : {S : Type 0} (index : S → ℕ) (P : Type 0) (k : ℕ) (steps : List (RepairStep S)) (n : ℕ) (step : RepairStep S) (st : List ℕ) (i : ℕ) (o : Option ℕ) (after : List ℕ) (j : ℕ)
       → n < length steps → step ≡ get_or steps n step
       → IsStepTaken token g table lexemes st i (plain_step index step) after o → o ≡ Some j
@@ -231,7 +231,7 @@ module _ {X : Type 0} (token : X → ℕ) (g : Grammar) (table : Table) (lexemes
   pub insert_refused : (st : List ℕ) (i t : ℕ) (after : List ℕ) → end_token g ≤ t → IsStepTaken token g table lexemes st i (PlainInsert t) after None
   insert_refused st i t after past = λ prods next j step. omega (arith, past, step.0)
 
-  -- One more sequence of an answer was tested, from a stack that is the one borrowed: it works, and is listed.
+  -- One more sequence of an answer was tested, from the borrowed stack: it works, and is listed.
   pub listed_more : {S A : Type 0} (index : S → ℕ) (k : ℕ) (st : List ℕ) (i : ℕ) (xs ys zs : List (Vec (RepairStep S) A)) (x : Vec (RepairStep S) A)
       (steps : List (RepairStep S)) (from : List ℕ) (works : Bool) → from ≡ st → steps ≡ x.items → zs ≡ ys ++ x ∷ []
       → IsTrue works ↔ Works token g table lexemes k from i (plain_steps index steps) → works ≡ true
@@ -257,7 +257,7 @@ module _ {X : Type 0} (token : X → ℕ) (g : Grammar) (table : Table) (lexemes
       let differ : IsTrue false = subst (λ (b : Bool). IsTrue b) e works_here in cc in
       those_no_more (λ (v : Vec (RepairStep _) _). plain_steps index v.items) (Works token g table lexemes k st i) xs ys x h fails
 
--- what an overlay's states say of a token that is fed
+-- what an overlay's states say about a token that is fed
 pub token_fed : (g : Grammar) (table : Table) (cap t : ℕ) (old : Overlaid) (fed : Bool) (new : Overlaid) → IsFedOver g table cap t old fed new
     → IsTokenFed g table t (overlaid old) (overlaid new) fed
 token_fed g table cap t old true new h = (h.prods, h.states)
@@ -266,7 +266,7 @@ token_fed g table cap t old false new h = λ prods next feeds.
     let same = settles_one_way g table t (overlaid old) prods by.prods feeds.settled (overlaid new) feeds.settles by.settles in
     h.1 feeds.next (subst (λ (st : List ℕ). top_action table t st ≡ ShiftTo feeds.next) same.1 feeds.shifts)
 
--- where all reductions are made at the end token, the states accept where the top does
+-- if all reductions at the end token are made, the states accept if the top does
 pub accepts_by_top : (g : Grammar) (table : Table) (cap : ℕ) (old : Overlaid) (count : ℕ) (new : Overlaid)
     → IsSettledOver g table cap (end_token g) old count new
     → (top_action table (end_token g) (overlaid new) ≡ Accepts) ↔ AcceptsAtEnd g table (overlaid old)

@@ -1,4 +1,4 @@
--- What the derived comparison of steps says of their contents.
+-- What the derived comparison of steps says about their contents.
 use Rattle.std.proofs.Common.{◌≡◌, ◌↔◌, ℕ, Bool, true, false, IsTrue, refl, sym, ap, ◌∙◌}
 use Rattle.std.specs.Prelude.{◌==◌}
 use Rattle.std.proofs.lemmas.Bool.{eqb-true, eq-eqb}
@@ -8,7 +8,7 @@ use Rattle.lrpar_parse_repair.specs.Sequences.{PlainStep, PlainInsert, PlainDele
 use Rattle.lrpar_parse_repair.specs.declared.repair_step.RepairStep.{RepairStep}
 use Rattle.lrpar_parse_repair.specs.declared.repair_step.RepairStep.TheVariants.{Insert, Delete, Shift}
 
--- values of one kind, each with a number, which are equal exactly where these are
+-- values of one kind, each with a number, which are equal if and only if these are
 pub by_number : {A : Type 0} (kind : ℕ → A) (unkind : A → ℕ) → ((n : ℕ) → unkind (kind n) ≡ n) → (same : Bool) (m n : ℕ) → same ≡ (m == n)
     → IsTrue same ↔ (kind m ≡ kind n)
 by_number kind unkind back same m n is =
@@ -27,7 +27,7 @@ token_of (PlainInsert t) = t
 token_of PlainDelete = 0
 token_of PlainShift = 0
 
--- a comparison of steps that answers as each kind asks is that of the steps seen
+-- a comparison of steps that is right for each kind is that of the steps that contracts see
 pub step_alike : {S : Type 0} (index : S → ℕ) (same : RepairStep S → RepairStep S → Bool)
     → (inserts : (t u : TIdx S) → same (Insert t) (Insert u) ≡ (index t.0 == index u.0))
     → (deletes : same Delete Delete ≡ true) → (shifts : same Shift Shift ≡ true)

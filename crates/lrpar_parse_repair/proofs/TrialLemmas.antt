@@ -1,4 +1,4 @@
--- What the test of a sequence learns of a stack whose reductions are counted.
+-- What the test of a sequence learns from a stack that counts its reductions.
 use Rattle.std.proofs.Common.{◌≡◌, ◌<◌, ◌≤◌, ◌+◌, ◌-◌, ◌*◌, ◌^◌, ◌∙◌, ◌↔◌, ℕ, List, [], ◌∷◌, ◌++◌, Bool, true, false, Some, Result, Ok, Err, Vec, ap, arith, length, length-append, refl, subst, sym}
 use Rattle.std.specs.Prelude.{IfOk, IsTrue, OnOk, min}
 use Rattle.std.specs.List.{sum_by}
@@ -86,7 +86,7 @@ costs_one cap count before after low mid high loss counted higher =
     let more : cap * high ≤ cap * (mid + 1) = mul-le-mul_left cap higher in
     omega (arith, loss, counted, more)
 
--- what is told of a token that was fed once all reductions were made
+-- what holds for a token that was fed once all reductions were made
 pub record IsFedAndCounted (g : Grammar) (table : Table) (cap t : ℕ) (old new : Counted) (shifted : Bool) : Type 0 where
   pub fed : IsTokenFed g table t (overlaid old.stack) (overlaid new.stack) shifted
   pub base : new.stack.base ≡ old.stack.base
@@ -122,18 +122,18 @@ module _ (g : Grammar) (table : Table) (cap t : ℕ) (old mid : Counted) (by : I
         (fed_height g table cap t old.stack by.count mid.stack by.settled fed new.stack h);
   }
 
-  -- a stack whose reductions at the end token are all made accepts where the action that is read at its top is to
+  -- a stack whose reductions at the end token are all made accepts if the action at its top is to accept
   pub settled_accepts : {S : Type 0} (index : S → ℕ) (s : ℕ) (action : Action S) (accepts : Bool) → t ≡ end_token g → top_of (overlaid mid.stack) ≡ Some s
       → plain_action index action ≡ action_of table s t → IsTrue accepts ↔ (plain_action index action ≡ Accepts)
       → IsTrue accepts ↔ AcceptsAtEnd g table (overlaid old.stack)
-  settled_accepts index s action accepts is top read tells =
+  settled_accepts index s action accepts is top read exact =
       let at_end = subst (λ (u : ℕ). IsSettledOver g table cap u old.stack by.count mid.stack) is by.settled in
       let both = accepts_by_top g table cap old.stack by.count mid.stack at_end in
       let same : top_action table (end_token g) (overlaid mid.stack) ≡ plain_action index action =
       subst (λ (u : ℕ). top_action table u (overlaid mid.stack) ≡ plain_action index action) is (action_by_top table t (overlaid mid.stack) s top ∙ sym read) in
-      ((λ yes_it. both.0 (same ∙ tells.0 yes_it)), (λ ends. tells.1 (sym same ∙ both.1 ends)))
+      ((λ yes_it. both.0 (same ∙ exact.0 yes_it)), (λ ends. exact.1 (sym same ∙ both.1 ends)))
 
--- what holds in a case where all went well
+-- what holds if all went well
 pub on_ok : {T E P : Type 0} {Q : T → Type 0} (r : Result T E) → ((x : T) → Q x → P) → IfOk r Q → OnOk r P
 on_ok (Ok x) f q = f x q
 on_ok (Err e) f q = tt
@@ -157,7 +157,7 @@ sum_tested cap height steps k before after low costs =
     let less : cap * ((steps + k) * (cap + 3)) ≤ cap * ((steps + k + 1) * (cap + 3)) = mul-le-mul_left cap (mul-le-mul_right (cap + 3) (omega arith)) in
     omega (arith, costs, less)
 
--- one sequence more was tested, from the stack that is borrowed
+-- one sequence more was tested, from the borrowed stack
 pub listed_costs : {S A : Type 0} (index : S → ℕ) (cap k : ℕ) (start old set new : Counted) (xs : List (Vec (RepairStep S) A)) (x : Vec (RepairStep S) A) (steps : List (RepairStep S))
     → overlaid set.stack ≡ start.stack.base → steps ≡ x.items → set.reductions ≡ old.reductions → CostsAtMost cap (length steps + k) set new
     → old.reductions ≤ start.reductions + most_listed cap (length start.stack.base) k (plain_sequences index xs)

@@ -1,4 +1,4 @@
--- What a recoverer is handed at an error, and what is known of it.
+-- What a recoverer gets at an error point, with the checked table, and what holds for it.
 use Rattle.std.specs.Prelude.{◌≡◌, ◌<◌, ◌≤◌, ℕ, List, length, slice_get, Some}
 use Rattle.lrpar_grammar.specs.Grammar.{end_token}
 use Rattle.lrpar_table_rows.specs.Table.{Fails}
@@ -9,8 +9,8 @@ use Rattle.lrpar_table_stacks.specs.Stack.{IsStack}
 use Rattle.lrpar_parse_repair.specs.Recovery.{Point}
 use Rattle.lrpar_parse_repair.specs.Sequences.{PlainStep}
 
--- the checked table; how many lexemes have to follow a repair; the lexemes of the parse; the place of the one that no action takes, one
--- past the last for the end; and the states of the stack after all reductions at its token, bottom first
+-- the checked table; how many lexemes must follow a repair; the lexemes of the parse; the place of the one that has no action, which is
+-- one past the last at the end of the input; and the states of the stack after all reductions at its token, bottom first
 pub record Asked (X : Type 0) : Type 0 where
   pub checked : Checked
   pub shifts : ℕ
@@ -18,16 +18,16 @@ pub record Asked (X : Type 0) : Type 0 where
   pub place : ℕ
   pub stack : List ℕ
 
--- what is asked at a point of a parse
+-- the question to a recoverer at an error point of a parse
 abbrev pub asked_at : {X : Type 0} → Checked → ℕ → Point X → Asked X
 asked_at d k point = record { checked = d; shifts = k; lexemes = point.lexemes; place = point.place; stack = point.stack }
 
--- the answers that a recoverer may give at the points of a parse
+-- the answers that a recoverer may give at the error points of a parse
 abbrev pub allowed_at : {X : Type 0} → (Asked X → List (List PlainStep) → Type 0) → Checked → ℕ → Point X → List (List PlainStep) → Type 0
 allowed_at allows d k point answer = allows (asked_at d k point) answer
 
--- A parse stops there: at least one lexeme has to follow a repair; the place is one of a lexeme, or one past the last; each lexeme has a
--- token of the grammar that isn't the end token; the stack is one of the table; and its top has no action at the token of the place
+-- An error point of a parse: at least one lexeme must follow a repair; the place is that of a lexeme, or one past the last; each lexeme
+-- has a token of the grammar other than the end token; the stack is the table's; and its top has no action at the token of the place.
 pub record IsStop {X : Type 0} (token : X → ℕ) (at : Asked X) : Type 0 where
   pub checked : IsChecked at.checked
   pub shifts : 0 < at.shifts

@@ -1,4 +1,4 @@
--- Steps of the program as those of the definitions; `index` is the number that a storage number stands for.
+-- Steps of the program as the definitions see them. `index` gives the number of a value of the storage type.
 use Rattle.std.specs.Prelude.{ℕ, List, map, Vec}
 use Rattle.lrpar_parse_repair.specs.Sequences.{PlainStep, PlainInsert, PlainDelete, PlainShift}
 use Rattle.lrpar_parse_repair.specs.declared.repair_step.RepairStep.{RepairStep}

@@ -1,11 +1,11 @@
--- What a sequence of repairs makes of the lexemes: which it consumes, which it makes, and how an error lists it.
+-- What a repair sequence does to the lexemes: which ones it consumes, and how an error lists it.
 use Rattle.std.specs.Prelude.{◌≡◌, ◌+◌, ℕ, List, [], ◌∷◌, map, slice_get, Some}
 use Rattle.lrpar_grammar.specs.Sentence.{LexemeFacts}
 use Rattle.lrpar_parse_lexemes.specs.Repair.{Repair, Inserted, Deleted, Shifted}
 use Rattle.lrpar_parse_lexemes.specs.Lexemes.{inserted_at}
 use Rattle.lrpar_parse_repair.specs.Sequences.{PlainStep, PlainInsert, PlainDelete, PlainShift}
 
--- from place i the steps consume these lexemes, in order: the inserted one of each Insert, and the next one of each Shift
+-- from place i the steps consume these lexemes, in order: for each Insert the inserted one, and for each Shift the next one
 abbrev pub Consumes : {X : Type 0} → (X → LexemeFacts) → List X → ℕ → List PlainStep → List X → Type 0
 Consumes facts lexemes i [] xs = xs ≡ []
 Consumes facts lexemes i (PlainInsert t ∷ steps) [] = ⊥
@@ -14,7 +14,7 @@ Consumes facts lexemes i (PlainDelete ∷ steps) xs = Consumes facts lexemes (i 
 Consumes facts lexemes i (PlainShift ∷ steps) [] = ⊥
 Consumes facts lexemes i (PlainShift ∷ steps) (x ∷ xs) = (slice_get lexemes i ≡ Some x) × Consumes facts lexemes (i + 1) steps xs
 
--- the repairs by which an error lists the steps, each Delete and Shift with its own of the lexemes that are left
+-- the repairs that an error lists for the steps, each Delete and Shift with its own lexeme of those that are left
 abbrev pub repairs_over : {X : Type 0} → List X → List PlainStep → List (Repair X)
 repairs_over left [] = []
 repairs_over left (PlainInsert t ∷ steps) = Inserted t ∷ repairs_over left steps

@@ -1,10 +1,10 @@
--- What a hasher is fed of a step of a repair.
+-- What the hash of a step feeds the hasher.
 use Rattle.std.specs.Prelude.{◌++◌, ℕ, pos, List}
 use Rattle.std.specs.Hash as fed
 use Rattle.lrpar_parse_repair.specs.declared.repair_step.RepairStep.{RepairStep}
 use Rattle.lrpar_parse_repair.specs.declared.repair_step.RepairStep.TheVariants.{Insert, Delete, Shift}
 
--- 0 for an insertion, 1 for a deletion and 2 for a shift; and after an insertion's what it is fed of the token's number
+-- 0 for an insertion, 1 for a deletion and 2 for a shift; and for an insertion then the token's number
 abbrev pub step_input : {S : Type 0} → (S → List (List ℕ)) → RepairStep S → List (List ℕ)
 step_input number (Insert token) = fed.isize (pos 0) ++ number token.0
 step_input number Delete = fed.isize (pos 1)

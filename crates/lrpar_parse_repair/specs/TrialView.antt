@@ -1,21 +1,21 @@
--- The test of sequences of repairs, as contracts see it.
+-- The test of repair sequences, as contracts see it.
 use Rattle.std.specs.Prelude.{ℕ, List, Option}
 use Rattle.lrpar_parse_lexemes.specs.Lexemes.{LexemeParts}
-use Rattle.lrpar_parse_lexemes.specs.Known.{token_by}
+use Rattle.lrpar_parse_lexemes.specs.Views.{token_by}
 use Rattle.lrpar_parse_repair.specs.Sequences.{PlainStep, CanGoOn, IsStepTaken, Works}
 use Rattle.lrpar_parse_repair.specs.declared.trial.Trial.{Trial}
 
--- what the test tells of a sequence: it works from the stack at the place; `parts` are those of a lexeme
+-- what the test says about a sequence: it works from the stack at the place; `parts` gives the parts of a lexeme
 abbrev pub WorksBy : {S X : Type 0} → (S → ℕ) → (X → LexemeParts S) → Trial S X → List ℕ → ℕ → List PlainStep → Type 0
 WorksBy index parts trial st i steps =
     Works (token_by index parts) trial.checked.now.grammar trial.checked.now.table trial.lexemes.now trial.shifts st i steps
 
--- of what comes after its steps: the run can go on from the stack at the place
+-- about what comes after its steps: the run can go on from the stack at the place
 abbrev pub GoesOnFrom : {S X : Type 0} → (S → ℕ) → (X → LexemeParts S) → Trial S X → List ℕ → ℕ → Type 0
 GoesOnFrom index parts trial st i =
     CanGoOn (token_by index parts) trial.checked.now.grammar trial.checked.now.table trial.lexemes.now trial.shifts st i
 
--- and of one step: it was taken, or can't be
+-- and about one step: it was taken, or can't be
 abbrev pub IsTakenBy : {S X : Type 0} → (S → ℕ) → (X → LexemeParts S) → Trial S X → List ℕ → ℕ → PlainStep → List ℕ → Option ℕ → Type 0
 IsTakenBy index parts trial st i step after next =
     IsStepTaken (token_by index parts) trial.checked.now.grammar trial.checked.now.table trial.lexemes.now st i step after next

@@ -1,4 +1,4 @@
-//! The states of a parse, which are borrowed, as a stack whose reductions are counted.
+//! A stack over the borrowed states of a parse, with a count of its reductions.
 ghost use Rattle.std.specs.Prelude.{◌≡◌, ◌<◌, ◌↔◌, length, IfOk, OnOk, IsTrue};
 ghost use Rattle.lrpar_table_stacks.specs.Expected.{AcceptsAtEnd};
 ghost use Rattle.lrpar_table_stacks.specs.Overlay.{overlaid};
@@ -15,7 +15,7 @@ use lrpar_table_rows::table::Action;
 use std::alloc::{AllocError, Global};
 use std::marker::Model;
 
-/// A stack over the states that are borrowed, and how many reductions were made of it.
+/// A stack over borrowed states, and how many reductions it has made.
 #[derive(Drop)]
 pub struct Counter<'a, StorageT: StorageIndex> {
     stack: Overlay<'a, StorageT>,
@@ -31,7 +31,7 @@ impl<'a, StorageT: StorageIndex> Model for Counter<'a, StorageT> {
 }
 
 impl<'a, StorageT: StorageIndex> Counter<'a, StorageT> {
-    /// Stands for the states, of which no reduction was made.
+    /// The stack of these states, with no reduction made.
     pub fn new(alloc: Global, states: &'a [StIdx<StorageT>]) -> Self
         requires { 0 < length states.now }
         ensures base { result.stack.base ≡ states_of StorageT.index states.now }
@@ -43,7 +43,7 @@ impl<'a, StorageT: StorageIndex> Counter<'a, StorageT> {
         }
     }
 
-    /// Stands for the states that are borrowed again. The count stays.
+    /// Sets the stack back to the borrowed states. The count stays.
     pub fn set_back(&mut self)
         ensures base { self.new.stack.base ≡ self.old.stack.base }
         ensures states { overlaid self.new.stack ≡ self.old.stack.base }
@@ -52,7 +52,7 @@ impl<'a, StorageT: StorageIndex> Counter<'a, StorageT> {
         self.stack.set_back();
     }
 
-    /// Feeds the token, which is one of the grammar; answers whether it was fed.
+    /// Feeds the token, which must be the grammar's. Returns whether it was fed. `Err`: out of memory.
     pub fn feed(
         &mut self,
         checked: &ParserData<StorageT>,
@@ -64,7 +64,7 @@ impl<'a, StorageT: StorageIndex> Counter<'a, StorageT> {
         ensures stack { IsStack checked.now.table (overlaid self.new.stack) }
         ensures base { OnOk result (self.new.stack.base ≡ self.old.stack.base) }
 
-        // Its reductions are counted, and are at most those that a token costs.
+        // Its reductions are counted. There are at most as many as one token may cost.
         ensures counted { OnOk result (AreCounted checked.now.grammar checked.now.table (StorageT.index token.0) self.old self.new.reductions) }
         ensures cost { OnOk result (CostsAtMost checked.now.cap 1 self.old self.new) }
     {
@@ -74,7 +74,7 @@ impl<'a, StorageT: StorageIndex> Counter<'a, StorageT> {
         checked.feed_over(&mut self.stack, token)
     }
 
-    /// Whether the stack accepts at the end token, whose reductions are made.
+    /// Makes all reductions at the end token, and returns whether the stack then accepts. `Err`: out of memory.
     pub fn accepts(&mut self, checked: &ParserData<StorageT>) -> Result<bool, AllocError>
         requires stack { IsStack checked.now.table (overlaid self.old.stack) }
         ensures accepts { IfOk result (λ accepts. IsTrue accepts ↔ AcceptsAtEnd checked.now.grammar checked.now.table (overlaid self.old.stack)) }
@@ -88,7 +88,7 @@ impl<'a, StorageT: StorageIndex> Counter<'a, StorageT> {
         Ok(is_accept(table.action(self.stack.top(), end)))
     }
 
-    // Makes all reductions under the token, which is one of the grammar, and counts them.
+    // Makes all reductions at the token, which is the grammar's, and counts them.
     fn settle(
         &mut self,
         checked: &ParserData<StorageT>,

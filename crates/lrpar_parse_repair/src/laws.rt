@@ -1,4 +1,4 @@
-//! Laws about the definitions that contracts cite: each function has one as its contract, and does nothing.
+//! Laws about the definitions that contracts cite. Each function states one as its contract, and does nothing.
 ghost use Rattle.std.specs.Prelude.{◌≡◌, ◌↔◌, IsTrue};
 ghost use Rattle.lrpar_grammar_places.specs.Comparisons.{HashesAs};
 ghost use Rattle.lrpar_parse_repair.specs.declared.repair_step.RepairStep.{RepairStep};
@@ -9,8 +9,8 @@ use crate::repair_step::RepairStep;
 use lrpar_grammar::span::StorageIndex;
 use std::hash::Hash;
 
-/// Two steps are equal exactly where they are of one kind, and insertions have tokens of one number. A hasher is fed which of the
-/// three a step is, and after that, of an insertion, what it is fed of the token's number.
+/// Two steps are equal if and only if they are of one kind and, for insertions, have tokens of one number. A step's hash feeds the
+/// hasher which of the three kinds it is, and for an insertion then the token's number.
 pub fn steps_are_compared_by_contents<StorageT: StorageIndex>()
     ensures equal { (x y : RepairStep StorageT) → IsTrue (⟦<RepairStep<StorageT> as PartialEq>⟧.eq x y)
         ↔ (plain_step StorageT.index x ≡ plain_step StorageT.index y) }

@@ -1,4 +1,4 @@
-//! The repairs by which an error lists sequences.
+//! The sequences of an error as repairs, each with its lexemes.
 ghost use Rattle.std.specs.Prelude.{◌≡◌, ◌∷◌, [], List, map, IfOk, IfSome, None};
 ghost use Rattle.lrpar_parse_lexemes.specs.Repairs.{repair_of, repairs_of};
 ghost use Rattle.lrpar_parse_repair.specs.Repaired.{repairs_over};
@@ -11,8 +11,8 @@ use lrpar_parse_lexemes::ParseRepair;
 use lrpar_parse_lexemes::lex_api::Lexeme;
 use std::alloc::{AllocError, Global};
 
-/// The repairs by which an error lists these sequences, over the lexemes that are left where it comes: each Delete and Shift with its own
-/// lexeme. It takes time and memory linear in their steps.
+/// The repairs that an error lists for these sequences: each Delete and Shift gets its own lexeme of those that are `left` at the error
+/// point. Takes time and memory linear in the steps. `Err`: out of memory.
 pub fn listed_repairs<StorageT: StorageIndex, LexemeT: Lexeme<StorageT>>(
     alloc: Global,
     left: &[LexemeT],
@@ -27,7 +27,7 @@ pub fn listed_repairs<StorageT: StorageIndex, LexemeT: Lexeme<StorageT>>(
     Ok(repairs)
 }
 
-// The repairs of the steps over the lexemes that are left; past the last of these there is none.
+// The repairs of the steps over the lexemes that are left. They end at a step that has no lexeme left.
 fn repairs_over<StorageT: StorageIndex, LexemeT: Lexeme<StorageT>>(
     alloc: Global,
     left: &[LexemeT],
@@ -49,7 +49,7 @@ fn repairs_over<StorageT: StorageIndex, LexemeT: Lexeme<StorageT>>(
     Ok(repairs)
 }
 
-// The repair of the step over the lexemes that are left, and those that are left after it.
+// The repair of the step over the lexemes that are left, and those that are left after it; `None`, if it has no lexeme.
 fn repair_over<'a, StorageT: StorageIndex, LexemeT: Lexeme<StorageT>>(
     step: RepairStep<StorageT>,
     left: &'a [LexemeT],

@@ -1,7 +1,7 @@
-//! Repairs: what a parse hands to its caller at an error, the sequences that the caller hands back, and two ways to answer.
+//! Recoverers: what a parse passes to one at an error point, the trait of recoverers, and two simple ones.
 ghost use Rattle.std.specs.Prelude.{◌≡◌, [], List, IfOk, IsOk};
 ghost use Rattle.lrpar_table_stacks.specs.Stack.{states_of};
-ghost use Rattle.lrpar_parse_lexemes.specs.Known.{token_by};
+ghost use Rattle.lrpar_parse_lexemes.specs.Views.{token_by};
 ghost use Rattle.lrpar_parse_repair.specs.PlainSteps.{plain_sequences};
 ghost use Rattle.lrpar_parse_repair.specs.Sequences.{PlainStep};
 ghost use Rattle.lrpar_parse_repair.specs.Asked.{Asked, IsStop};
@@ -13,10 +13,10 @@ use lrpar_table_check::check::ParserData;
 use std::alloc::{AllocError, Global};
 use std::marker::Model;
 
-/// Where a parse found no action: its checked table, how many lexemes have to follow a repair, its lexemes, its place among them and its
-/// stack. All but the number are borrowed.
+/// An error point: where a parse found no action. It has the checked table, the number of lexemes that must follow a repair, the lexemes
+/// of the parse, the place of the one that has no action, and the stack. All but the numbers are borrowed.
 ///
-/// A parse makes one at each error. What holds of it, each call tells by its clause `stop`.
+/// A parse makes one at each error, and passes it to the recoverer. The clause `stop` of each call says what holds for it.
 #[derive(Debug, Drop)]
 pub struct RecoveryPoint<'a, StorageT: StorageIndex, LexemeT: Lexeme<StorageT>> {
     data: &'a ParserData<StorageT>,
@@ -29,7 +29,7 @@ pub struct RecoveryPoint<'a, StorageT: StorageIndex, LexemeT: Lexeme<StorageT>> 
 impl<'a, StorageT: StorageIndex, LexemeT: Lexeme<StorageT>> Model
     for RecoveryPoint<'a, StorageT, LexemeT> {
     ghost use Rattle.lrpar_table_stacks.specs.Stack.{states_of};
-    ghost use Rattle.lrpar_parse_lexemes.specs.Known.{token_by};
+    ghost use Rattle.lrpar_parse_lexemes.specs.Views.{token_by};
     ghost use Rattle.lrpar_parse_repair.specs.Asked.{Asked, IsStop};
 
     ghost Value = { Asked LexemeT };
@@ -52,7 +52,7 @@ impl<'a, StorageT: StorageIndex, LexemeT: Lexeme<StorageT>> Model
 }
 
 impl<'a, StorageT: StorageIndex, LexemeT: Lexeme<StorageT>> RecoveryPoint<'a, StorageT, LexemeT> {
-    /// The point of these, where no action takes the lexeme at the place. Takes no memory.
+    /// Makes the error point of these. The state on top must have no action at the token of the place. Takes no memory.
     pub fn new(
         checked: &'a ParserData<StorageT>,
         shifts: usize,
@@ -86,7 +86,7 @@ impl<'a, StorageT: StorageIndex, LexemeT: Lexeme<StorageT>> RecoveryPoint<'a, St
         self.data
     }
 
-    /// How many lexemes have to follow a repair: at least one.
+    /// How many lexemes must follow a repair: at least one.
     pub fn shifts(&self) -> usize
         ensures shifts { result ≡ self.now.shifts }
         ensures stop { IsStop (token_by StorageT.index LexemeT.parts) self.now }
@@ -94,7 +94,7 @@ impl<'a, StorageT: StorageIndex, LexemeT: Lexeme<StorageT>> RecoveryPoint<'a, St
         self.shifts
     }
 
-    /// All lexemes of the parse. Each has a token of the grammar other than the end token.
+    /// All lexemes of the parse, also those before the error. Each has a token of the grammar other than the end token.
     pub fn lexemes(&self) -> &'a [LexemeT]
         ensures lexemes { result.now ≡ self.now.lexemes }
         ensures stop { IsStop (token_by StorageT.index LexemeT.parts) self.now }
@@ -102,7 +102,7 @@ impl<'a, StorageT: StorageIndex, LexemeT: Lexeme<StorageT>> RecoveryPoint<'a, St
         self.lexemes
     }
 
-    /// The place of the lexeme that no action takes, counted from 0; one past the last lexeme for the end of the input.
+    /// The place of the lexeme that has no action, counted from 0. At the end of the input it is the number of lexemes.
     pub fn place(&self) -> usize
         ensures place { result ≡ self.now.place }
         ensures stop { IsStop (token_by StorageT.index LexemeT.parts) self.now }
@@ -110,8 +110,8 @@ impl<'a, StorageT: StorageIndex, LexemeT: Lexeme<StorageT>> RecoveryPoint<'a, St
         self.place
     }
 
-    /// The states of the parse, bottom first, after all reductions at that lexeme's token: a stack of the table, on whose top state there
-    /// is no action at that token.
+    /// The states of the parse, bottom first, after all reductions at that lexeme's token (at the end token, at the end of the input).
+    /// They are a stack of the table, and the state on top has no action at that token.
     pub fn stack(&self) -> &'a [StIdx<StorageT>]
         ensures stack { states_of StorageT.index result.now ≡ self.now.stack }
         ensures stop { IsStop (token_by StorageT.index LexemeT.parts) self.now }
@@ -120,14 +120,14 @@ impl<'a, StorageT: StorageIndex, LexemeT: Lexeme<StorageT>> RecoveryPoint<'a, St
     }
 }
 
-/// What hands in sequences of repairs at an error.
+/// A recoverer: it supplies repair sequences at an error point.
 pub trait Recoverer<StorageT: StorageIndex, LexemeT: Lexeme<StorageT>> {
-    /// The answers that `recover` may give at a point.
+    /// The answers that `recover` may give at an error point.
     ghost allows: { Self → Asked LexemeT → List (List PlainStep) → Type 0 };
 
-    /// Sequences that may repair the input at the point. The parse tests each of them: an error lists those that work, in
-    /// the order of the answer, and the parse goes on from what the first one gives. So an answer may have any sequences,
-    /// and may be another one the next time. It fails if memory runs out.
+    /// Repair sequences for the error point. The parse tests each of them. Its error lists those that work, in the order of the
+    /// answer, and the parse replays the first of these and goes on. So an answer may have any sequences, also ones that don't
+    /// work, and may be another one the next time. `Err`: out of memory.
     fn recover(
         &self,
         alloc: Global,
@@ -136,7 +136,7 @@ pub trait Recoverer<StorageT: StorageIndex, LexemeT: Lexeme<StorageT>> {
         ensures allowed { IfOk result (λ answer. allows self.now point.now (plain_sequences StorageT.index answer.items)) };
 }
 
-/// Hands in no sequence. It never fails.
+/// The recoverer that supplies no sequence. So a parse ends at its first error. It never fails.
 #[derive(Clone, Copy, Debug, Drop, PartialEq, Eq, Hash)]
 pub struct NoRecovery;
 
@@ -156,13 +156,13 @@ impl<StorageT: StorageIndex, LexemeT: Lexeme<StorageT>> Recoverer<StorageT, Lexe
     }
 }
 
-/// Hands in the same sequences at each error.
+/// The recoverer that supplies the same sequences at each error. It fails if it can't clone them.
 #[derive(Debug)]
 pub struct FixedRecoverer<StorageT: StorageIndex> {
     sequences: Vec<Vec<RepairStep<StorageT>>>,
 }
 
-// A drop of its own, so that what lets go of one elsewhere proves one call.
+// An `impl Drop` of its own, so that a function that drops a value proves one call only.
 impl<StorageT: StorageIndex> Drop for FixedRecoverer<StorageT> {
     fn drop(self) {
         let FixedRecoverer { sequences } = self;
@@ -181,7 +181,7 @@ impl<StorageT: StorageIndex> Model for FixedRecoverer<StorageT> {
 }
 
 impl<StorageT: StorageIndex> FixedRecoverer<StorageT> {
-    /// The recoverer that hands in these. Takes no memory.
+    /// The recoverer that supplies these sequences. Takes no memory.
     pub fn new(sequences: Vec<Vec<RepairStep<StorageT>>>) -> Self
         ensures { result ≡ plain_sequences StorageT.index sequences.items }
     {

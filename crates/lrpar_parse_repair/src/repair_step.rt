@@ -1,18 +1,18 @@
-//! The steps of the sequences that a caller hands in.
+//! The steps of the sequences that a recoverer supplies.
 ghost use Rattle.std.specs.Prelude.{◌≡◌, ⊤};
 
 use lrpar_grammar::span::TIdx;
 use std::alloc::AllocError;
 
-/// One step of a sequence that is handed in. The steps are those of Diekmann and Tratt, *Don't Panic! Better, Fewer, Syntax
-/// Errors for LR Parsers*.
+/// One step of a repair sequence that a recoverer supplies. The steps are those of Diekmann and Tratt, *Don't Panic! Better, Fewer,
+/// Syntax Errors for LR Parsers*.
 #[derive(Debug, Drop, PartialEq, Eq, Hash)]
 pub enum RepairStep<StorageT> {
-    /// A lexeme of the token is put in front of the input that is left.
+    /// Insert a lexeme of this token before the rest of the input.
     Insert(TIdx<StorageT>),
-    /// The next lexeme of the input is left out.
+    /// Leave out the next lexeme of the input.
     Delete,
-    /// The next lexeme of the input is taken as it is.
+    /// Keep the next lexeme of the input.
     Shift,
 }
 

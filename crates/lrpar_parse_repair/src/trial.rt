@@ -1,10 +1,10 @@
-//! The test of sequences of repairs, over the states of a parse, which are borrowed.
+//! The test whether repair sequences work, over the borrowed states of a parse.
 ghost use Rattle.std.specs.Prelude.{◌≡◌, ◌<◌, ◌≤◌, ◌+◌, ◌↔◌, length, IfOk, OnOk, IsTrue, None};
 ghost use Rattle.lrpar_table_stacks.specs.Overlay.{overlaid};
 ghost use Rattle.lrpar_table_stacks.specs.Stack.{IsStack, states_of};
 ghost use Rattle.lrpar_grammar.specs.Sentence.{IsValidList};
 ghost use Rattle.lrpar_parse_repair.specs.Counting.{CostsAtMost, most_listed};
-ghost use Rattle.lrpar_parse_lexemes.specs.Known.{known};
+ghost use Rattle.lrpar_parse_lexemes.specs.Views.{known};
 ghost use Rattle.lrpar_parse_repair.specs.PlainSteps.{plain_sequences, plain_step, plain_steps};
 ghost use Rattle.lrpar_parse_repair.specs.Sequences.{PlainInsert, PlainShift, AreThoseWith};
 
@@ -15,7 +15,7 @@ use lrpar_parse_lexemes::lex_api::Lexeme;
 use lrpar_table_check::check::ParserData;
 use std::alloc::{AllocError, Global};
 
-/// What sequences are tested by: the checked table and the lexemes of a parse, and how many lexemes have to follow a repair.
+/// What a test of sequences needs: the checked table and the lexemes of a parse, and how many lexemes must follow a repair.
 #[derive(Drop)]
 pub struct Trial<'a, StorageT: StorageIndex, LexemeT> {
     checked: &'a ParserData<StorageT>,
@@ -38,9 +38,10 @@ impl<'a, StorageT: StorageIndex, LexemeT: Lexeme<StorageT>> Trial<'a, StorageT, 
         }
     }
 
-    /// The sequences of the answer that work from the stack at the place, in order, each as often as it stands there.
+    /// The sequences of the answer that work from the stack at the place, in order, each as often as in the answer. `Err`: out of
+    /// memory.
     ///
-    /// The stack is copied for none of them: they are tested one after the other over the same list, which is borrowed.
+    /// The stack is not copied: the sequences are tested one after the other over the same borrowed list.
     pub fn listed(
         &self,
         alloc: Global,
@@ -59,7 +60,7 @@ impl<'a, StorageT: StorageIndex, LexemeT: Lexeme<StorageT>> Trial<'a, StorageT, 
         self.tested(alloc, &mut states, place, answer)
     }
 
-    // The sequences of the answer that work from the states that are borrowed, at the place. Each is tested once.
+    // The sequences of the answer that work from the borrowed states at the place. Each is tested once.
     fn tested(
         &self,
         alloc: Global,
@@ -74,7 +75,7 @@ impl<'a, StorageT: StorageIndex, LexemeT: Lexeme<StorageT>> Trial<'a, StorageT, 
             (WorksBy StorageT.index LexemeT.parts self.now states.old.stack.base place)
             (plain_sequences StorageT.index answer.items) (plain_sequences StorageT.index listed.items)) }
 
-        // The tests make no more reductions than the sequences may cost.
+        // The tests make at most as many reductions as the sequences may cost.
         ensures bounded { OnOk result (states.new.reductions
             ≤ states.old.reductions + most_listed self.now.checked.now.cap (length states.old.stack.base) self.now.shifts (plain_sequences StorageT.index answer.items)) }
     {
@@ -115,8 +116,8 @@ impl<'a, StorageT: StorageIndex, LexemeT: Lexeme<StorageT>> Trial<'a, StorageT, 
         self.can_go_on(states, at)
     }
 
-    // Whether as many lexemes as have to follow a repair can be fed in turn; or all that are left, where they are fewer, and
-    // the states then accept.
+    // Whether the number of lexemes that must follow a repair can be fed in turn; or, if fewer are left, whether all of these can,
+    // and the states then accept.
     fn can_go_on(
         &self,
         states: &mut Counter<'_, StorageT>,
@@ -143,7 +144,7 @@ impl<'a, StorageT: StorageIndex, LexemeT: Lexeme<StorageT>> Trial<'a, StorageT, 
         Ok(true)
     }
 
-    // Takes the step from the states at the place, and answers the place after it; none, where it can't be taken.
+    // Takes the step from the states at the place. Returns the place after it; `None`, if it can't be taken.
     fn take(
         &self,
         states: &mut Counter<'_, StorageT>,
@@ -171,7 +172,7 @@ impl<'a, StorageT: StorageIndex, LexemeT: Lexeme<StorageT>> Trial<'a, StorageT, 
         }
     }
 
-    // Feeds the token, where it is one of the grammar other than the end token; the place stays.
+    // Feeds the token, if it is one of the grammar other than the end token. The place stays.
     fn insert(
         &self,
         states: &mut Counter<'_, StorageT>,
@@ -193,7 +194,7 @@ impl<'a, StorageT: StorageIndex, LexemeT: Lexeme<StorageT>> Trial<'a, StorageT, 
         }
     }
 
-    // Feeds the token of the lexeme at the place, where there is one; the next place comes after it.
+    // Feeds the token of the lexeme at the place, if there is one. Returns the next place.
     fn shift(
         &self,
         states: &mut Counter<'_, StorageT>,

@@ -1,4 +1,4 @@
--- What a recoverer is handed where a run stops.
+-- What a recoverer gets at an error point.
 use Rattle.std.proofs.Common.{◌≡◌, ◌<◌, ◌≤◌, inl, inr, ℕ, List, Some, arith, length, map}
 use Rattle.std.proofs.lemmas.Option.{slice_get_cases}
 use Rattle.lrpar_grammar.specs.Grammar.{Grammar, end_token}
@@ -29,7 +29,7 @@ keeps_off_end {X} facts g lexemes valid j within same =
       | inr past ↦ let over = past.0 in absurd (omega (arith, over, within))
     ]
 
--- over lexemes without a fault a stack of a checked table stops where its top has no action
+-- over valid lexemes, a stack of a checked table whose top has no action is at an error point
 pub stop_of : {X : Type 0} (facts : X → LexemeFacts) (d : Checked) (k : ℕ) (lexemes : List X) (i : ℕ) (st : List ℕ) → IsChecked d → 0 < k
     → IsValidList d.grammar (map facts lexemes) → IsStack d.table st → i ≤ length lexemes
     → top_action d.table (token_at (λ x. (facts x).token) d.grammar lexemes i) st ≡ Fails
@@ -43,7 +43,7 @@ stop_of facts d k lexemes i st checked some valid stack within fails = record {
   fails = fails;
 }
 
--- where a run stops over lexemes without a fault, the top has no action
+-- at an error point of a run over valid lexemes, the top has no action
 pub far_fails : {X E : Type 0} (facts : X → LexemeFacts) (builds : Building X E) (d : Checked) (lexemes : List X) (old : Stacked E) (i j : ℕ) (new : Stacked E)
     → NeverSticks d.grammar d.table → IsValidList d.grammar (map facts lexemes) → IsRunStack builds.suits d.table old
     → GoesFar facts builds d lexemes old i (Some j) new

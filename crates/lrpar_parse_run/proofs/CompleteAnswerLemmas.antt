@@ -1,5 +1,5 @@
--- Runs with repairs by a complete table. A run comes to accept without a stop, or it has a first stop; up to there it is a run
--- without repairs, of which it is known what it is to sentences.
+-- Runs with repairs by a complete table. A run accepts without an error point, or it has a first one; up to there it is a run without
+-- repairs, whose relation to sentences is known.
 use Rattle.std.proofs.Common.{◌≡◌, ◌<◌, ◌≤◌, ◌+◌, ◌∙◌, ◌⊎◌, inl, inr, ℕ, List, [], ◌∷◌, MatchOption, Option, Some, drop, length, take, refl, subst, sym}
 use Rattle.lrpar_grammar.specs.Sentence.{IsSentence, LexemeFacts}
 use Rattle.lrpar_grammar.specs.Tree.{Tree, productions}
@@ -38,7 +38,7 @@ module _ {X : Type 0} (facts : X → LexemeFacts) (allows : Point X → List (Li
   abbrev token : X → ℕ
   token x = (facts x).token
 
-  -- a run has a first stop, and goes so far
+  -- a run has a first error point, and goes this far
   record HasFirst (st : List ℕ) (i : ℕ) (runs : List RepairStop) : Type 0 where
     pub first : RepairStop
     pub later : List RepairStop
@@ -46,7 +46,7 @@ module _ {X : Type 0} (facts : X → LexemeFacts) (allows : Point X → List (Li
     pub prods : List ℕ
     pub far : Far token d.grammar d.table lexemes st i prods (Stopped first.stop)
 
-  -- a run comes to accept, or has a first stop
+  -- a run accepts, or has a first error point
   begins : (st : List ℕ) (i : ℕ) (runs : List RepairStop) (o : Option (List X)) (ps : List ℕ) → RepairRun facts allows k d.grammar d.table lexemes st i runs o ps
       → (Far token d.grammar d.table lexemes st i ps Accepted × (runs ≡ []) × (o ≡ Some (drop i lexemes))) ⊎ HasFirst st i runs
   begins _ _ _ _ _ (runs_through st i ps far) = inl (far, refl, refl)
@@ -61,13 +61,13 @@ module _ {X : Type 0} (facts : X → LexemeFacts) (allows : Point X → List (Li
     one_tree : (tree other : Tree X) → IsTreeOver token d.grammar lexemes tree → IsTreeOver token d.grammar lexemes other → tree ≡ other
     one_tree tree other a b = takes.one tree other a.fits b.fits (a.leaves_are ∙ sym b.leaves_are)
 
-    -- the run that comes to accept reduces by the productions of each tree over its lexemes
+    -- a run that accepts reduces by the productions of each tree over its lexemes
     only_prods : RunsTo token d.grammar d.table lexemes prods Accepted → (tree : Tree X) → IsTreeOver token d.grammar lexemes tree → productions tree ≡ prods
     only_prods far tree is =
         let run = subst (λ (xs : List X). RunsTo token d.grammar d.table xs (productions tree) Accepted) is.leaves_are (takes.only tree is.fits) in
         (runs_one_way token d.grammar d.table lexemes (d.table.start ∷ []) 0 (productions tree) prods Accepted Accepted run far).0
 
-    -- it comes to accept
+    -- it accepts
     taken : RunsTo token d.grammar d.table lexemes prods Accepted → runs ≡ [] → consumed ≡ Some lexemes
         → length prods ≤ most_productions d.cap (length lexemes) 0 → TakesSentence token d lexemes runs consumed prods errors
     taken far none all bound = record {
@@ -81,7 +81,7 @@ module _ {X : Type 0} (facts : X → LexemeFacts) (allows : Point X → List (Li
     }
 
     module _ (stop : HasFirst (d.table.start ∷ []) 0 runs) where
-      -- it has a first stop, so that the lexemes are no sentence
+      -- it has a first error point, so that the lexemes are no sentence
       no_sentence : IsSentence token d.grammar lexemes → ⊥
       no_sentence sentence =
           let run = (takes.exact lexemes).0 sentence in
@@ -127,7 +127,7 @@ module _ {X : Type 0} (facts : X → LexemeFacts) (allows : Point X → List (Li
         | inr stop ↦ stopped takes runs consumed prods errors to back stop
       ]
 
--- and of other errors, as many
+-- the same for other errors, if there are none if and only if there were none
 pub errors_as : {X F G : Type 0} (token : X → ℕ) (d : Checked) (lexemes : List X) (runs : List RepairStop) (consumed : Option (List X)) (prods : List ℕ)
     (errors : List F) (others : List G) → (errors ≡ [] → others ≡ []) → (others ≡ [] → errors ≡ [])
     → TakesSentence token d lexemes runs consumed prods errors → TakesSentence token d lexemes runs consumed prods others

@@ -1,4 +1,4 @@
--- How far a run comes from a place: lexeme by lexeme, to where it stops or accepts.
+-- How far a run goes from a place: lexeme by lexeme, until it accepts or has an error point.
 use Rattle.std.proofs.Common.{◌≡◌, ◌<◌, ◌≤◌, ◌+◌, ◌-◌, ◌∙◌, ℕ, List, [], ◌∷◌, ◌++◌, None, Some, drop, get_or, length, take, ap, arith, subst, sym}
 use Rattle.std.proofs.lemmas.List.{get_or-drop, length-append, length-drop, take_all, take_more}
 use Rattle.std.proofs.lemmas.Option.{get_or_from_slice_get, slice_get_within}

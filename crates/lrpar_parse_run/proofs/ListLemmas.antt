@@ -2,7 +2,7 @@
 use Rattle.std.proofs.Common.{◌≡◌, List, [], ◌∷◌, refl}
 use Rattle.std.specs.List.{AllZip}
 
--- of two lists of one element, that at the only place
+-- the elements of two lists of one element
 pub zip_one : {A B : Type 0} (R : A → B → Type 0) (x : A) (ys : List B) → AllZip R (x ∷ []) ys → (y : B) × (ys ≡ y ∷ []) × R x y
 zip_one R x [] all = absurd all
 zip_one R x (y ∷ []) all = (y, refl, all.0)

@@ -1,5 +1,5 @@
--- What the stacks of a run do between two places: what stands on them after that, how many reductions were made, and what the
--- steps of a sequence of repairs give.
+-- What the stacks of a run do between two places: what they represent after that, how many reductions were made, and the results of the
+-- steps of a repair sequence.
 use Rattle.std.proofs.Common.{◌≡◌, ◌<◌, ◌≤◌, ◌+◌, ◌*◌, ◌∙◌, ℕ, List, [], ◌∷◌, ◌++◌, Some, length, map, ap, arith, refl, subst, sym}
 use Rattle.std.proofs.lemmas.List.{append_assoc, append-nil, length-append, length-map}
 use Rattle.std.proofs.lemmas.Option.{slice_get_within}
@@ -27,7 +27,7 @@ use Rattle.lrpar_table_stacks.proofs.RunLemmas.{token_at_lexeme}
 use Rattle.lrpar_parse_repair.proofs.SequenceLemmas.{steps_one_way}
 use Rattle.lrpar_parse_run.proofs.RunStackLemmas.{IsRepresented, represented_reduce_all, represented_shift}
 
--- the bound of what was reduced, where it is settled once more, and where a lexeme is shifted then
+-- the bound of the reductions, if the stacks settle once more, and if a lexeme is then shifted
 settle_more : (cap n m a b h x k : ℕ) → n + cap * a ≤ cap * (h + x) + cap * (cap + 2) * k → m + cap * b ≤ cap * (a + cap + 2)
     → (n + m) + cap * b ≤ cap * (h + x) + cap * (cap + 2) * (k + 1)
 settle_more cap n m a b h x k before here = omega (arith, before, here)
@@ -44,8 +44,8 @@ module _ {X E : Type 0} (facts : X → LexemeFacts) (builds : Building X E) (d :
   abbrev Moved : Stacked E → List X → List ℕ → ℕ → Stacked E → Type 0
   Moved old xs ps n new = Moves facts builds d old xs ps n new
 
-  abbrev Stands : Stacked E → List X → List ℕ → Type 0
-  Stands stack xs ps = IsRepresented token builds.leaf (builds.node d.grammar) builds.suits d.grammar d.table stack xs ps
+  abbrev Represented : Stacked E → List X → List ℕ → Type 0
+  Represented stack xs ps = IsRepresented token builds.leaf (builds.node d.grammar) builds.suits d.grammar d.table stack xs ps
 
   -- one after the other
   pub moves_then : (a b c : Stacked E) (xs : List X) (ps : List ℕ) (n : ℕ) (ys : List X) (qs : List ℕ) (m : ℕ)
@@ -66,25 +66,25 @@ module _ {X E : Type 0} (facts : X → LexemeFacts) (builds : Building X E) (d :
       (subst (λ (w : ℕ). Moved a ((xs ++ ys) ++ x ∷ []) ((ps ++ qs) ++ last.settles.prods) w new) count
       (and_shifts (xs ++ ys) (ps ++ qs) (n + m) mid x new (moves_then a b mid xs ps n ys qs m before first) last)))
 
-  -- the trees that stand on the stacks have the lexemes as further leaves, and the reductions as further productions
+  -- the trees that the stacks represent have the lexemes as further leaves, and the reductions as further productions
   pub moves_represent : NeverSticks d.grammar d.table → (old new : Stacked E) (xs : List X) (ps : List ℕ) (n : ℕ) (c : List X) (b : List ℕ)
-      → Stands old c b → Moved old xs ps n new → Stands new (c ++ xs) (b ++ ps)
-  moves_represent never old _ _ _ _ c b stands rests =
-      subst (λ (w : List X). Stands old w (b ++ [])) (sym (append-nil c)) (subst (λ (w : List ℕ). Stands old c w) (sym (append-nil b)) stands)
-  moves_represent never old _ _ _ _ c b stands (and_settles xs ps n mid t new first last) =
-      let before = moves_represent never old mid xs ps n c b stands first in
-      subst (λ (w : List ℕ). Stands new (c ++ xs) w) (append_assoc b ps last.prods)
+      → Represented old c b → Moved old xs ps n new → Represented new (c ++ xs) (b ++ ps)
+  moves_represent never old _ _ _ _ c b represents rests =
+      subst (λ (w : List X). Represented old w (b ++ [])) (sym (append-nil c)) (subst (λ (w : List ℕ). Represented old c w) (sym (append-nil b)) represents)
+  moves_represent never old _ _ _ _ c b represents (and_settles xs ps n mid t new first last) =
+      let before = moves_represent never old mid xs ps n c b represents first in
+      subst (λ (w : List ℕ). Represented new (c ++ xs) w) (append_assoc b ps last.prods)
       (represented_reduce_all token builds.leaf (builds.node d.grammar) builds.suits d.grammar d.table never t mid last.prods new (c ++ xs) (b ++ ps) before last.steps)
-  moves_represent never old _ _ _ _ c b stands (and_shifts xs ps n mid x new first last) =
-      let before = moves_represent never old mid xs ps n c b stands first in
+  moves_represent never old _ _ _ _ c b represents (and_shifts xs ps n mid x new first last) =
+      let before = moves_represent never old mid xs ps n c b represents first in
       let qs = last.settles.prods in
       let settled = represented_reduce_all token builds.leaf (builds.node d.grammar) builds.suits d.grammar d.table never (token x) mid qs last.mid (c ++ xs) (b ++ ps) before last.settles.steps in
       let path = (never.shifts settled.symbols last.mid.states (token x) last.next settled.path last.shifts).1 in
       let shifted = represented_shift token builds.leaf (builds.node d.grammar) builds.suits d.grammar d.table last.mid new (c ++ xs) ((b ++ ps) ++ qs) x last.entry last.next settled path last.made last.suit last.of_states last.of_entries in
-      subst (λ (w : List X). Stands new w (b ++ (ps ++ qs))) (append_assoc c xs (x ∷ []))
-      (subst (λ (w : List ℕ). Stands new ((c ++ xs) ++ x ∷ []) w) (append_assoc b ps qs) shifted)
+      subst (λ (w : List X). Represented new w (b ++ (ps ++ qs))) (append_assoc c xs (x ∷ []))
+      (subst (λ (w : List ℕ). Represented new ((c ++ xs) ++ x ∷ []) w) (append_assoc b ps qs) shifted)
 
-  -- so many reductions were made
+  -- the bound of the reductions that were made
   pub moves_bound : (old new : Stacked E) (xs : List X) (ps : List ℕ) (n : ℕ) → Moved old xs ps n new
       → length ps + d.cap * length new.states ≤ d.cap * (length old.states + length xs) + d.cap * (d.cap + 2) * n
   moves_bound old _ _ _ _ rests = omega arith
@@ -108,7 +108,7 @@ module _ {X E : Type 0} (facts : X → LexemeFacts) (builds : Building X E) (d :
     pushed = s.of_states;
   }
 
-  -- and where one can be fed, the stacks don't stick
+  -- and if one can be fed, the stacks don't stick
   pub feeds_not_sticks : (t : ℕ) (old new : Stacked E) (ps next : List ℕ) → Feeds d.grammar d.table t old.states ps next → Sticks builds d t old new → ⊥
   feeds_not_sticks t old new ps next f s =
       let same = settles_one_way d.grammar d.table t old.states ps s.settles.prods f.settled new.states f.settles (states_settle builds d t old new s.settles) in
@@ -121,18 +121,18 @@ module _ {X E : Type 0} (facts : X → LexemeFacts) (builds : Building X E) (d :
   start x = (facts x).span.start
 
   module _ (keeps : KeepsRising start builds.leaf (builds.node d.grammar) builds.rises) where
-    -- the entries lie in order where a lexeme is shifted that starts no earlier
+    -- the entries stay in order if a lexeme is shifted that starts no earlier
     pub rise_by_shift : (t : ℕ) (x : X) (old new : Stacked E) → Shifts builds d t x old new → RiseUpTo builds.rises old.entries (start x) → builds.rises new.entries (start x)
     rise_by_shift t x old new s (low, least, rise) =
         let settled = rise_reduce_all start builds.leaf (builds.node d.grammar) builds.suits builds.rises keeps d.grammar d.table t s.settles.prods old s.mid low s.settles.steps rise in
         subst (λ (es : List E). builds.rises es (start x)) (sym s.of_entries) (keeps.by_leaf s.mid.entries low x s.entry settled least s.made)
 
-    -- and where it is settled
+    -- and if the stacks settle
     pub rise_by_settle : (t most : ℕ) (old new : Stacked E) → SettlesTo builds d t old new → RiseUpTo builds.rises old.entries most → RiseUpTo builds.rises new.entries most
     rise_by_settle t most old new s (low, least, rise) =
         (low, least, rise_reduce_all start builds.leaf (builds.node d.grammar) builds.suits builds.rises keeps d.grammar d.table t s.prods old new low s.steps rise)
 
-    -- where lexeme i is shifted, they lie in order up to the next one
+    -- if lexeme i is shifted, they are in order up to the next one
     pub rise_to_next : (lexemes : List X) (i : ℕ) (x : X) (old new : Stacked E) → StartsRise (map facts lexemes) → slice_get lexemes i ≡ Some x
         → Shifts builds d (token x) x old new → RiseUpTo builds.rises old.entries (start_at (map facts lexemes) i) → RiseUpTo builds.rises new.entries (start_at (map facts lexemes) (i + 1))
     rise_to_next lexemes i x old new starts is s (low, least, rise) =
@@ -141,7 +141,7 @@ module _ {X E : Type 0} (facts : X → LexemeFacts) (builds : Building X E) (d :
         let next = starts i (rw length-map within) in
         (start x, omega (arith, start_is, next), rise_by_shift (token x) x old new s (low, omega (arith, start_is, least), rise))
 
-    -- where a lexeme is shifted that starts where lexeme i does, they lie in order up to there
+    -- if a lexeme is shifted that starts where lexeme i does, they are in order up to there
     pub rise_to_same : (most : ℕ) (x : X) (old new : Stacked E) → start x ≡ most
         → Shifts builds d (token x) x old new → RiseUpTo builds.rises old.entries most → RiseUpTo builds.rises new.entries most
     rise_to_same most x old new start_is s (low, least, rise) =
@@ -195,7 +195,7 @@ module _ {X E : Type 0} (facts : X → LexemeFacts) (builds : Building X E) (d :
           (moves_then a b c x.recovered x.prods (length x.recovered) y.recovered y.prods (length y.recovered) x.moves y.moves);
     }
 
-    -- where the first step was replayed, the others can be replayed from what that gave
+    -- if the first step was replayed, the others can be replayed from its result
     pub replay_left : (old new : Stacked E) (i j : ℕ) (step : PlainStep) (steps : List PlainStep) (ps after : List ℕ) (k : ℕ) → IsDone old i (step ∷ []) new j
         → Replayed old.states i (step ∷ steps) ps after k → (qs : List ℕ) × Replayed new.states j steps qs after k
     replay_left old new i j step steps ps after k x r =

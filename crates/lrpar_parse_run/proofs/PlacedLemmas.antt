@@ -1,4 +1,4 @@
--- The span of a production over entries, as it is worked out from the first and the last of them.
+-- The span of a production over entries, computed from the first and the last of them.
 use Rattle.std.proofs.Common.{◌≡◌, ◌≤◌, ◌-◌, ◌∙◌, ℕ, suc, List, [], ◌∷◌, ◌++◌, Option, Some, length, nat_eq, slice_index_or, true, false, ap, arith, refl, subst, sym}
 use Rattle.std.proofs.lemmas.Bool.{eqb-true}
 use Rattle.std.specs.List.{last_or, slice_get}
@@ -43,7 +43,7 @@ first_before_last before (e ∷ es) high first last rise some first_is last_is =
     let end : (last_part e.span (spans_of es)).start ≡ last.span.start = ap (λ (s : Extent). s.start) (last_at e es last last_is) in
     omega (arith, order, start, end)
 
--- and so the span goes from the one to the other
+-- and so the span extends from the one to the other
 pub over_own : {T : Type 0} (before : Extent) (own : List (Placed T)) (first last : Placed T) (span : Extent) → nat_eq (length own) 0 ≡ false
     → first ≡ slice_index_or own 0 first → last ≡ slice_index_or own (length own - 1) last → span.start ≡ first.span.start → span.end ≡ last.span.end → span ≡ span_over before (spans_of own)
 over_own before [] first last span some first_is last_is start end = absurd (let no : ⊥ = cc in no)

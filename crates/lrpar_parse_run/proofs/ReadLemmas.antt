@@ -1,4 +1,4 @@
--- The lexeme of an error, as it is read of the list.
+-- The lexeme of an error, read from the list.
 use Rattle.std.proofs.Common.{◌≡◌, ℕ, List, MatchOption, None, Option, Some, map, subst, sym}
 use Rattle.std.specs.List.{slice_get}
 use Rattle.lrpar_grammar.specs.Grammar.{Grammar, end_token}

@@ -11,12 +11,12 @@ use Rattle.lrpar_parse_run.specs.Reducing.{Builds, Built, KeepsRest, SuitsRun}
 use Rattle.lrpar_parse_run.specs.Stacked.{SettlesTo}
 use Rattle.lrpar_parse_run.specs.RunStack.{IsRunStack, ReducesAllTo, ReducesTo, Stacked}
 
--- where all reductions are made none is left
+-- if all reductions are made, none is left
 settled_after : (g : Grammar) (table : Table) (t : ℕ) (st prods after : List ℕ) → Settles g table t st prods after → IsSettled table t after
 settled_after g table t st [] after h = subst (λ (s : List ℕ). IsSettled table t s) h.0 h.1
 settled_after g table t st (p ∷ prods) after h = settled_after g table t h.0 prods after h.2
 
--- `built` is how a `V` is seen: its grammar, builder, stacks and borrow; and `builds` what the builder builds
+-- `built` gives what contracts see of a `V`: its grammar, builder, stacks and borrow; and `builds` says what the builder builds
 module _ {V B X E : Type 0} (built : V → Built B E) (builds : B → Building X E) (g : Grammar) (table : Table) (t : ℕ) where
   -- reductions of the stacks, by one grammar and with one builder
   builds_all : (from : Built B E) (old : V) (prods : List ℕ) (new : V) → KeepsRest from (built old) → from.grammar ≡ g
@@ -44,7 +44,7 @@ pub record IsReduced {B X E : Type 0} (builds : B → Building X E) (d : Checked
   pub run_stack : IsRunStack (builds build).suits d.table new.stack
   pub settles : SettlesTo (builds build) d t st new.stack
 
--- where the loop settles them it does so
+-- if the loop settles the states, it settles the stacks
 pub builds_settle : {V B X E : Type 0} (built : V → Built B E) (builds : B → Building X E) (d : Checked) (t : ℕ) (build : B) (st : Stacked E) (lender : ℕ)
     (old : V) (count : ℕ) (new : V) → built old ≡ record { grammar = d.grammar; build = build; stack = st; lender = lender }
     → IsStackSettledBy (λ (s : V). (built s).stack.states) (λ (a : V) (p r n : ℕ) (b : V). Builds builds (built a) p r n (built b)) d.grammar d.table d.cap t old count new

@@ -1,4 +1,4 @@
--- Lists whose end stands in reverse.
+-- Lists whose end is in reverse.
 use Rattle.std.proofs.Common.{◌≡◌, ℕ, ◌+◌, ◌-◌, ◌<◌, List, [], ◌∷◌, ◌++◌, length, take, drop, get_or, reverse, ap, arith, subst, sym, ◌∙◌, ◌≤◌, append_assoc, drop-cons, add-one, length-drop}
 use Rattle.std.specs.List.{AllZip}
 use Rattle.std.proofs.lemmas.List.{append-nil, drop_all, take_all, take_more, same_from_push, reverse-append}
@@ -15,13 +15,13 @@ last_reversed kept all old new i x is more popped =
     ∙ sym (append_assoc kept (reverse (drop (i + 1) all)) (get_or all i x ∷ [])) in
     same_from_push new (kept ++ reverse (drop (i + 1) all)) x (get_or all i x) (sym popped ∙ is ∙ turned)
 
--- one more of a list that is taken from its front
+-- one more of a list from which elements are taken at the front
 pub zip_take_more : {A B : Type 0} (R : A → B → Type 0) (all : List A) (vs : List B) (i : ℕ) (x : A) (v : B) → i < length all → x ≡ get_or all i x
     → AllZip R (take i all) vs → R x v → AllZip R (take (i + 1) all) (vs ++ v ∷ [])
 zip_take_more R all vs i x v more is given last =
     rw (take_more all i x more, sym is) (zip_push R (take i all) vs x v given last)
 
--- where no item of the last `count` is left, those in front are kept, and what is so of the taken ones is so of all the last
+-- if no item of the last `count` is left, those before them are kept, and what holds for the taken ones holds for all of the last
 pub all_taken : {A : Type 0} (P : List A → Type 0) (all left : List A) (at count i : ℕ) → at + count ≡ length all → count ≤ i
     → left ≡ take at all ++ reverse (drop i (drop at all)) → P (take i (drop at all))
     → (left ≡ take (length all - count) all) × P (drop (length all - count) all)
@@ -32,7 +32,7 @@ all_taken {A} P all left at count i whole end is holds =
     let taken = subst P (take_all i (drop at all) short) holds in
     (subst (λ (n : ℕ). left ≡ take n all) from kept, subst (λ (n : ℕ). P (drop n all)) from taken)
 
--- items that go together by one relation go together by a wider one
+-- lists that are related place by place are related by a weaker relation, too
 pub zip_wider : {A B : Type 0} (R Q : A → B → Type 0) → ((x : A) (y : B) → R x y → Q x y) → (xs : List A) (ys : List B) → AllZip R xs ys → AllZip Q xs ys
 zip_wider R Q wider [] [] h = tt
 zip_wider R Q wider [] (y ∷ ys) h = absurd h

@@ -1,4 +1,4 @@
--- The entries on a run's stack lie in order: what reductions keep.
+-- Reductions keep the entries on a run's stack in order.
 use Rattle.std.proofs.Common.{◌≡◌, ◌-◌, ℕ, List, [], ◌∷◌, ◌++◌, Option, length, subst, sym}
 use Rattle.std.proofs.lemmas.List.{take-append-drop}
 use Rattle.lrpar_grammar.specs.Grammar.{Grammar, GrammarSymbol, prod_len}

@@ -1,4 +1,4 @@
--- The trees that stand on a run's stack, from the start to the end: what a shift and a reduction put there.
+-- The trees that a run's stack represents, from the start to the end: the effect of a shift and of a reduction.
 use Rattle.std.proofs.Common.{◌≡◌, ◌-◌, ◌+◌, ◌∙◌, ℕ, List, [], ◌∷◌, ◌++◌, None, Option, Some, length, take, drop, ap, arith, refl, subst, sym}
 use Rattle.std.specs.List.{AllZip, last_or}
 use Rattle.std.proofs.lemmas.List.{append_assoc, append-nil, length-append}
@@ -41,13 +41,13 @@ module _ {X E : Type 0} (token : X → ℕ) (leaf : X → E → Type 0) (node : 
   with_last_fits (Cons t ts) [] u s fits last = absurd fits
   with_last_fits (Cons t ts) (x ∷ xs) u s fits last = (fits.0, with_last_fits ts xs u s fits.1 last)
 
-  -- one more entry stands for it
-  with_last_stands : (before : Option E) (trees : Forest X) (entries : List E) (u : Tree X) (e : E)
+  -- one more entry represents it
+  with_last_represents : (before : Option E) (trees : Forest X) (entries : List E) (u : Tree X) (e : E)
       → AllRepresent leaf node before trees entries → Represents leaf node (last_or before entries) u e → AllRepresent leaf node before (with_last trees u) (entries ++ e ∷ [])
-  with_last_stands before Nil [] u e stands last = (last, tt)
-  with_last_stands before Nil (x ∷ xs) u e stands last = absurd stands
-  with_last_stands before (Cons t ts) [] u e stands last = absurd stands
-  with_last_stands before (Cons t ts) (x ∷ xs) u e stands last = (stands.0, with_last_stands (Some x) ts xs u e stands.1 last)
+  with_last_represents before Nil [] u e represents last = (last, tt)
+  with_last_represents before Nil (x ∷ xs) u e represents last = absurd represents
+  with_last_represents before (Cons t ts) [] u e represents last = absurd represents
+  with_last_represents before (Cons t ts) (x ∷ xs) u e represents last = (represents.0, with_last_represents (Some x) ts xs u e represents.1 last)
 
   -- Trees that fit `below ++ top`, cut between the two.
   record IsCut (before : Option E) (trees : Forest X) (below top : List GrammarSymbol) (entries : List E) : Type 0 where
@@ -55,52 +55,52 @@ module _ {X E : Type 0} (token : X → ℕ) (leaf : X → E → Type 0) (node : 
     pub back : Forest X
     pub front_fits : ForestFits token g front below
     pub back_fits : ForestFits token g back top
-    pub front_stands : AllRepresent leaf node before front (take (length below) entries)
-    pub back_stands : AllRepresent leaf node (last_or before (take (length below) entries)) back (drop (length below) entries)
+    pub front_represents : AllRepresent leaf node before front (take (length below) entries)
+    pub back_represents : AllRepresent leaf node (last_or before (take (length below) entries)) back (drop (length below) entries)
     pub leaves_are : forest_leaves front ++ forest_leaves back ≡ forest_leaves trees
     pub productions_are : forest_productions front ++ forest_productions back ≡ forest_productions trees
 
   -- such trees can be cut there
   cut : (before : Option E) (trees : Forest X) (below top : List GrammarSymbol) (entries : List E)
       → ForestFits token g trees (below ++ top) → AllRepresent leaf node before trees entries → IsCut before trees below top entries
-  cut before trees [] top entries fits stands = record {
+  cut before trees [] top entries fits represents = record {
     front = Nil;
     back = trees;
     front_fits = tt;
     back_fits = fits;
-    front_stands = tt;
-    back_stands = stands;
+    front_represents = tt;
+    back_represents = represents;
     leaves_are = refl;
     productions_are = refl;
   }
-  cut before Nil (s ∷ below) top entries fits stands = absurd fits
-  cut before (Cons t ts) (s ∷ below) top [] fits stands = absurd stands
-  cut before (Cons t ts) (s ∷ below) top (e ∷ entries) fits stands =
-      let more = cut (Some e) ts below top entries fits.1 stands.1 in
+  cut before Nil (s ∷ below) top entries fits represents = absurd fits
+  cut before (Cons t ts) (s ∷ below) top [] fits represents = absurd represents
+  cut before (Cons t ts) (s ∷ below) top (e ∷ entries) fits represents =
+      let more = cut (Some e) ts below top entries fits.1 represents.1 in
       record {
         front = Cons t more.front;
         back = more.back;
         front_fits = (fits.0, more.front_fits);
         back_fits = more.back_fits;
-        front_stands = (stands.0, more.front_stands);
-        back_stands = more.back_stands;
+        front_represents = (represents.0, more.front_represents);
+        back_represents = more.back_represents;
         leaves_are = append_assoc (leaves t) (forest_leaves more.front) (forest_leaves more.back) ∙ ap (λ w. leaves t ++ w) more.leaves_are;
         productions_are = append_assoc (productions t) (forest_productions more.front) (forest_productions more.back) ∙ ap (λ w. productions t ++ w) more.productions_are;
       }
 
-  -- The states are joined by symbols, each of which a tree fits and an entry suits; the entries stand for these trees, whose
-  -- leaves are the lexemes consumed so far, and whose productions are those of the reductions made so far.
+  -- Symbols lead from state to state. A tree fits each symbol, and an entry suits it. The entries represent these trees, whose leaves are
+  -- the lexemes consumed so far, and whose productions are those of the reductions made so far.
   pub record IsRepresented (stack : Stacked E) (consumed : List X) (prods : List ℕ) : Type 0 where
     pub symbols : List GrammarSymbol
     pub trees : Forest X
     pub path : IsPath table symbols stack.states
     pub suit : AllZip suits symbols stack.entries
     pub fits : ForestFits token g trees symbols
-    pub stands : AllRepresent leaf node None trees stack.entries
+    pub represents : AllRepresent leaf node None trees stack.entries
     pub leaves_are : forest_leaves trees ≡ consumed
     pub productions_are : forest_productions trees ≡ prods
 
-  -- at the start the start state stands alone, with nothing consumed
+  -- at the start the start state is alone, with nothing consumed
   pub represented_start : (stack : Stacked E) → stack.states ≡ table.start ∷ [] → stack.entries ≡ [] → IsRepresented stack [] []
   represented_start stack states entries = record {
     symbols = [];
@@ -108,7 +108,7 @@ module _ {X E : Type 0} (token : X → ℕ) (leaf : X → E → Type 0) (node : 
     path = subst (IsPath table []) (sym states) (refl, tt);
     suit = subst (AllZip suits []) (sym entries) tt;
     fits = tt;
-    stands = subst (AllRepresent leaf node None Nil) (sym entries) tt;
+    represents = subst (AllRepresent leaf node None Nil) (sym entries) tt;
     leaves_are = refl;
     productions_are = refl;
   }
@@ -124,7 +124,7 @@ module _ {X E : Type 0} (token : X → ℕ) (leaf : X → E → Type 0) (node : 
     path = subst (IsPath table (h.symbols ++ Terminal (token x) ∷ [])) (sym states) path;
     suit = subst (AllZip suits (h.symbols ++ Terminal (token x) ∷ [])) (sym entries) (zip_push suits h.symbols old.entries (Terminal (token x)) e h.suit suit);
     fits = with_last_fits h.trees h.symbols (Leaf x) (Terminal (token x)) h.fits refl;
-    stands = subst (AllRepresent leaf node None (with_last h.trees (Leaf x))) (sym entries) (with_last_stands None h.trees old.entries (Leaf x) e h.stands made);
+    represents = subst (AllRepresent leaf node None (with_last h.trees (Leaf x))) (sym entries) (with_last_represents None h.trees old.entries (Leaf x) e h.represents made);
     leaves_are = with_last_leaves h.trees (Leaf x) ∙ ap (λ w. w ++ x ∷ []) h.leaves_are;
     productions_are = with_last_productions h.trees (Leaf x) ∙ append-nil (forest_productions h.trees) ∙ h.productions_are;
   }
@@ -138,12 +138,12 @@ module _ {X E : Type 0} (token : X → ℕ) (leaf : X → E → Type 0) (node : 
       let len : length old.entries ≡ length along.below + prod_len g p =
       AllZip-long suits (along.below ++ symbols_of g p) old.entries split_suit ∙ length-append along.below (symbols_of g p) in
       let at_cut : length along.below ≡ length old.entries - prod_len g p = omega (arith, len) in
-      let parts = cut None h.trees along.below (symbols_of g p) old.entries (subst (ForestFits token g h.trees) along.split h.fits) h.stands in
+      let parts = cut None h.trees along.below (symbols_of g p) old.entries (subst (ForestFits token g h.trees) along.split h.fits) h.represents in
       let u : Tree X = Branch p parts.back in
       let kept = kept_by g p old.entries in
-      let front : AllRepresent leaf node None parts.front kept = subst (λ n. AllRepresent leaf node None parts.front (take n old.entries)) at_cut parts.front_stands in
+      let front : AllRepresent leaf node None parts.front kept = subst (λ n. AllRepresent leaf node None parts.front (take n old.entries)) at_cut parts.front_represents in
       let back : AllRepresent leaf node (last_or None kept) parts.back (popped_by g p old.entries) =
-      subst (λ n. AllRepresent leaf node (last_or None (take n old.entries)) parts.back (drop n old.entries)) at_cut parts.back_stands in
+      subst (λ n. AllRepresent leaf node (last_or None (take n old.entries)) parts.back (drop n old.entries)) at_cut parts.back_represents in
       let below_suit : AllZip suits along.below kept = subst (λ n. AllZip suits along.below (take n old.entries)) at_cut (zip_take suits along.below (symbols_of g p) old.entries split_suit) in
       let same : along.after ≡ new.states = reduces_to_one g table t old.states p p along.after new.states along.reduces r.of_states in
       let symbols : List GrammarSymbol = along.below ++ Nonterminal (rule_of g p) ∷ [] in
@@ -153,8 +153,8 @@ module _ {X E : Type 0} (token : X → ℕ) (leaf : X → E → Type 0) (node : 
         path = subst (IsPath table symbols) same along.path;
         suit = subst (AllZip suits symbols) (sym r.of_entries) (zip_push suits along.below kept (Nonterminal (rule_of g p)) r.entry below_suit r.suit);
         fits = with_last_fits parts.front along.below u (Nonterminal (rule_of g p)) parts.front_fits (along.reduces.known, refl, parts.back_fits);
-        stands = subst (AllRepresent leaf node None (with_last parts.front u)) (sym r.of_entries)
-            (with_last_stands None parts.front kept u r.entry front (popped_by g p old.entries, back, r.made));
+        represents = subst (AllRepresent leaf node None (with_last parts.front u)) (sym r.of_entries)
+            (with_last_represents None parts.front kept u r.entry front (popped_by g p old.entries, back, r.made));
         leaves_are = with_last_leaves parts.front u ∙ parts.leaves_are ∙ h.leaves_are;
         productions_are = with_last_productions parts.front u
             ∙ (sym (append_assoc (forest_productions parts.front) (forest_productions parts.back) (p ∷ []))
@@ -176,21 +176,21 @@ abbrev pub IsOneTree : {X E : Type 0} → (X → ℕ) → (X → E → Type 0) �
 IsOneTree {X} {E} token leaf node g s trees entries =
     (u : Tree X) × (e : E) × (trees ≡ Cons u Nil) × (entries ≡ e ∷ []) × Fits token g u s × Represents leaf node None u e
 
--- trees that fit one symbol are one
+-- if trees fit one symbol, there is one tree
 one_tree : {X E : Type 0} (token : X → ℕ) (leaf : X → E → Type 0) (node : ℕ → Option E → List E → E → Type 0) (g : Grammar) (s : GrammarSymbol) (trees : Forest X) (entries : List E)
     → ForestFits token g trees (s ∷ []) → AllRepresent leaf node None trees entries → IsOneTree token leaf node g s trees entries
-one_tree token leaf node g s Nil entries fits stands = absurd fits
-one_tree token leaf node g s (Cons u (Cons v us)) entries fits stands = absurd fits.1
-one_tree token leaf node g s (Cons u Nil) [] fits stands = absurd stands
-one_tree token leaf node g s (Cons u Nil) (e ∷ []) fits stands = (u, e, refl, refl, fits.0, stands.0)
-one_tree token leaf node g s (Cons u Nil) (e ∷ x ∷ entries) fits stands = absurd stands.1
+one_tree token leaf node g s Nil entries fits represents = absurd fits
+one_tree token leaf node g s (Cons u (Cons v us)) entries fits represents = absurd fits.1
+one_tree token leaf node g s (Cons u Nil) [] fits represents = absurd represents
+one_tree token leaf node g s (Cons u Nil) (e ∷ []) fits represents = (u, e, refl, refl, fits.0, represents.0)
+one_tree token leaf node g s (Cons u Nil) (e ∷ x ∷ entries) fits represents = absurd represents.1
 
 -- the run accepts, with the start rule alone on the stack
 pub represented_accept : {X E : Type 0} (token : X → ℕ) (builds : Building X E) (d : Checked) (stack : Stacked E) (consumed : List X) (prods : List ℕ)
     → (h : IsRepresented token builds.leaf (builds.node d.grammar) builds.suits d.grammar d.table stack consumed prods) → h.symbols ≡ Nonterminal d.grammar.start ∷ []
     → (e : E) × (stack.entries ≡ e ∷ []) × IsValueOf token d.grammar (IsOfTree builds d) consumed prods e
 represented_accept {X} {E} token builds d stack consumed prods h alone =
-    let one = one_tree token builds.leaf (builds.node d.grammar) d.grammar (Nonterminal d.grammar.start) h.trees stack.entries (subst (ForestFits token d.grammar h.trees) alone h.fits) h.stands in
+    let one = one_tree token builds.leaf (builds.node d.grammar) d.grammar (Nonterminal d.grammar.start) h.trees stack.entries (subst (ForestFits token d.grammar h.trees) alone h.fits) h.represents in
     let suit = zip_one builds.suits (Nonterminal d.grammar.start) stack.entries (subst (λ (symbols : List GrammarSymbol). AllZip builds.suits symbols stack.entries) alone h.suit) in
     let same : suit.0 ≡ one.1 = let e : suit.0 ∷ [] ≡ one.1 ∷ [] = sym suit.1 ∙ one.3 in cc in (
       one.1,
@@ -200,6 +200,6 @@ represented_accept {X} {E} token builds d stack consumed prods h alone =
         fits = one.4;
         leaves_are = sym (append-nil (leaves one.0)) ∙ ap forest_leaves (sym one.2) ∙ h.leaves_are;
         productions_are = sym (append-nil (productions one.0)) ∙ ap forest_productions (sym one.2) ∙ h.productions_are;
-        tells = record { stands = one.5; suit = subst (builds.suits (Nonterminal d.grammar.start)) same suit.2 };
+        evaluates = record { represents = one.5; suit = subst (builds.suits (Nonterminal d.grammar.start)) same suit.2 };
       },
     )

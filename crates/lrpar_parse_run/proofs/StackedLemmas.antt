@@ -1,4 +1,4 @@
--- The stacks of a run, as plain lists: what they do where all reductions are made.
+-- The stacks of a run, as plain lists: what they do once all reductions are made.
 use Rattle.std.proofs.Common.{◌≡◌, ◌∙◌, ℕ, List, [], ◌∷◌, ◌++◌, Option, ap, refl, subst, sym}
 use Rattle.std.specs.List.{AllZip}
 use Rattle.lrpar_grammar.specs.Grammar.{Grammar, GrammarSymbol, Terminal, end_token}
@@ -33,7 +33,7 @@ pub no_shift : {E S : Type 0} (index : S → ℕ) (suits : GrammarSymbol → E �
 no_shift index suits d new action s never run_stack is shift =
     (never.shifts run_stack.symbols new.states (end_token d.grammar) (index s.0) run_stack.path (sym is ∙ ap (plain_action index) shift)).0 refl
 
--- where the token is shifted the stacks stay those of a run
+-- if the token is shifted, the stacks stay those of a run
 pub run_stack_shift : {E : Type 0} (suits : GrammarSymbol → E → Type 0) (d : Checked) (t next : ℕ) (old new : Stacked E) (e : E)
     → NeverSticks d.grammar d.table → IsRunStack suits d.table old → top_action d.table t old.states ≡ ShiftTo next
     → new.states ≡ old.states ++ next ∷ [] → new.entries ≡ old.entries ++ e ∷ [] → suits (Terminal t) e → IsRunStack suits d.table new
@@ -43,7 +43,7 @@ run_stack_shift suits d t next old new e never run_stack shifts states entries s
   suit = subst (AllZip suits (run_stack.symbols ++ Terminal t ∷ [])) (sym entries) (zip_push suits run_stack.symbols old.entries (Terminal t) e run_stack.suit suit);
 }
 
--- the states settle where the stacks do
+-- the states settle if the stacks do
 pub states_settle : {X E : Type 0} (builds : Building X E) (d : Checked) (t : ℕ) (old new : Stacked E)
     → (h : SettlesTo builds d t old new) → Settles d.grammar d.table t old.states h.prods new.states
 states_settle builds d t old new h = settles_from d.grammar d.table t old.states h.prods new.states (states_reduce (builds.node d.grammar) builds.suits d.grammar d.table t old h.prods new h.steps) h.settled

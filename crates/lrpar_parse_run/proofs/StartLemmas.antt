@@ -8,13 +8,13 @@ use Rattle.lrpar_grammar.specs.Sentence.{IsValidList, LexemeFacts}
 use Rattle.lrpar_parse_lexemes.specs.Lexemes.{last_end, start_at}
 use Rattle.lrpar_parse_run.specs.Moves.{StartsRise}
 
--- a place where nothing is lies past the end
+-- a place without an element is past the end
 pub none_past : {A : Type 0} (xs : List A) (i : ℕ) → slice_get xs i ≡ None → length xs ≤ i
 none_past [] i none = omega arith
 none_past (x ∷ xs) zero none = absurd (let no : ⊥ = cc in no)
 none_past (x ∷ xs) (suc i) none = let rest : length xs ≤ i = none_past xs i none in omega arith
 
--- the starts don't decrease, nor does the end of the last one lie before its start, if that is so of the last one alone
+-- the starts don't decrease, and the last one ends no earlier than it starts, if that holds for the last one alone
 pub starts_rise : (g : Grammar) (lexemes : List LexemeFacts) → IsValidList g lexemes
     → ((x : LexemeFacts) → slice_get lexemes (length lexemes - 1) ≡ Some x → x.span.start ≤ x.span.end) → StartsRise lexemes
 starts_rise g lexemes valid ordered i within = by_places (slice_get lexemes i) (slice_get lexemes (i + 1)) refl refl

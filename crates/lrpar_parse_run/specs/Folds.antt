@@ -1,10 +1,10 @@
--- Folds of a derivation tree, where a lexeme may have several values, and so may a rule over the values of its children.
+-- Folds of a derivation tree. A lexeme may have several values, and so may a rule over the values of its children.
 use Rattle.std.specs.Prelude.{ℕ, List, [], ◌∷◌}
 use Rattle.lrpar_grammar.specs.Grammar.{Grammar, rule_of}
 use Rattle.lrpar_grammar.specs.Tree.{Tree, Forest, Leaf, Branch, Nil, Cons}
 
 -- `leaf x v`: lexeme x has the value v. `node r vs v`: rule r has the value v over the children's values vs. A leaf folds
--- to a value of its lexeme, and an inner node to one of its production's rule over values to which its children fold.
+-- to a value of its lexeme, and an inner node to a value of its production's rule over values to which its children fold.
 abbrev mutual
   pub Folds : {X V : Type 0} → (X → V → Type 0) → (ℕ → List V → V → Type 0) → Grammar → Tree X → V → Type 0
   Folds leaf node g (Leaf x) v = leaf x v

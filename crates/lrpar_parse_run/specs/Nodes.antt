@@ -1,4 +1,4 @@
--- Trees of the program as those of the definitions.
+-- The nodes that a parse builds, as the definitions see them.
 use Rattle.std.specs.Prelude.{◌≡◌, ℕ, List, Vec}
 use Rattle.std.specs.declared.alloc.Global.{Global}
 use Rattle.lrpar_grammar_places.specs.declared.span.RIdx.{RIdx}
@@ -19,7 +19,7 @@ pub record IsNonterm {X S : Type 0} (index : S → ℕ) (r : ℕ) (nodes : List 
   pub children_are : children.items ≡ nodes
   pub is : node ≡ Nonterm ridx children
 
--- the node of an argument: that of its lexeme, or itself
+-- the node of an argument: that of its lexeme, or the argument's own node
 abbrev pub node_of : {X S : Type 0} → AStackType X (Node X S) → Node X S
 node_of (Lexeme x) = Term x
 node_of (ActionType node) = node

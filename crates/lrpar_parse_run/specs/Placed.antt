@@ -1,4 +1,4 @@
--- Entries with their spans, as they stand on the stack of a parse by actions.
+-- Entries with their spans, on the stack of a parse with actions.
 use Rattle.std.specs.Prelude.{◌≡◌, List, map, Option}
 use Rattle.std.specs.Option.{option_map_or}
 use Rattle.lrpar_grammar_places.specs.Span.{Extent, nowhere}
@@ -7,10 +7,11 @@ use Rattle.lrpar_parse_run.specs.declared.placed.Placed.{Placed}
 use Rattle.lrpar_parse_run.specs.declared.values.AStackType.{AStackType}
 use Rattle.lrpar_parse_run.specs.declared.values.AStackType.TheVariants.{ActionType, Lexeme}
 
--- the spans of entries, and the arguments that they are
+-- the spans of entries
 abbrev pub spans_of : {T : Type 0} → List (Placed T) → List Extent
 spans_of es = map (λ e. e.span) es
 
+-- the arguments of entries
 abbrev pub arguments_of : {T : Type 0} → List (Placed T) → List T
 arguments_of es = map (λ e. e.argument) es
 
@@ -18,12 +19,12 @@ arguments_of es = map (λ e. e.argument) es
 abbrev pub span_before : {T : Type 0} → Option (Placed T) → Extent
 span_before before = option_map_or (λ e. e.span) before nowhere
 
--- the entry is a lexeme at its place
+-- the entry is a lexeme with its span
 pub record IsPlacedLexeme {X V : Type 0} (span : X → Extent) (x : X) (e : Placed (AStackType X V)) : Type 0 where
   pub lies : e.span ≡ span x
   pub is : e.argument ≡ Lexeme x
 
--- The entry is a value over the entries `es`, to the right of `before`. `acts span args v`: at this span there may be the
+-- The entry is a value over the entries `es`, to the right of `before`. `acts span args v`: a production with this span may have the
 -- value v over these arguments.
 pub record IsPlacedValue {X V : Type 0} (acts : Extent → List (AStackType X V) → V → Type 0) (before : Option (Placed (AStackType X V))) (es : List (Placed (AStackType X V))) (e : Placed (AStackType X V)) : Type 0 where
   pub value : V

@@ -8,21 +8,22 @@ use Rattle.lrpar_parse_run.specs.Spans.{Rise, span_over}
 use Rattle.lrpar_parse_run.specs.declared.placed.Placed.{Placed}
 use Rattle.lrpar_parse_run.specs.declared.values.AStackType.{AStackType}
 
--- the start of the last of these parts; the bound, where there is none
+-- the start of the last of these parts; the bound, if there is none
 abbrev pub last_start : ℕ → List Extent → ℕ
 last_start low [] = low
 last_start low (part ∷ parts) = last_start part.start parts
 
--- parts that rise can be cut: those in front rise to the start of their last one, and those behind from there
+-- parts that rise can be cut: those before the cut rise to the start of their last one
 rise_front : (low : ℕ) (xs ys : List Extent) (high : ℕ) → Rise low (xs ++ ys) high → Rise low xs (last_start low xs)
 rise_front low [] ys high rise = omega arith
 rise_front low (x ∷ xs) ys high rise = (rise.0, rise_front x.start xs ys high rise.1)
 
+-- the parts after a cut rise from the start of the last one before it
 pub rise_back : (low : ℕ) (xs ys : List Extent) (high : ℕ) → Rise low (xs ++ ys) high → Rise (last_start low xs) ys high
 rise_back low [] ys high rise = rise
 rise_back low (x ∷ xs) ys high rise = rise_back x.start xs ys high rise.1
 
--- and put together
+-- parts that rise can be joined
 rise_both : (low mid : ℕ) (xs ys : List Extent) (high : ℕ) → Rise low xs mid → (last_start low xs ≤ mid → Rise (last_start low xs) ys high) → Rise low (xs ++ ys) high
 rise_both low mid [] ys high front back = back front
 rise_both low mid (x ∷ xs) ys high front back = (front.0, rise_both x.start mid xs ys high front.1 back)
@@ -39,7 +40,7 @@ rise_within low (x ∷ xs) high rise =
 rise_one : (low mid : ℕ) (xs : List Extent) (y : Extent) (high : ℕ) → Rise low xs mid → mid ≤ y.start → y.start ≤ high → Rise low (xs ++ y ∷ []) high
 rise_one low mid xs y high front above below = rise_both low mid xs (y ∷ []) high front (λ least. (omega arith, below))
 
--- the start of the last of them, as the span before what comes next
+-- the start of the last entry is that of the span before what comes next
 last_start_is : {T : Type 0} (before : Option (Placed T)) (kept : List (Placed T)) → last_start (span_before before).start (spans_of kept) ≡ (span_before (last_or before kept)).start
 last_start_is before [] = refl
 last_start_is before (e ∷ es) = last_start_is (Some e) es
@@ -49,7 +50,7 @@ pub spans_both : {T : Type 0} (xs ys : List (Placed T)) → spans_of (xs ++ ys) 
 spans_both [] ys = refl
 spans_both (x ∷ xs) ys = ap (λ w. x.span ∷ w) (spans_both xs ys)
 
--- the entry of a node starts where the order allows
+-- the span of a node starts no earlier than the span before it, and no later than the bound
 over_start : (mid : ℕ) (before : Extent) (parts : List Extent) (high : ℕ) → mid ≡ before.start → Rise mid parts high → (mid ≤ (span_over before parts).start) × ((span_over before parts).start ≤ high)
 over_start mid before [] high is rise = (omega (arith, is), omega (arith, is, rise))
 over_start mid before (x ∷ xs) high is rise = (rise.0, rise_within x.start xs high rise.1)

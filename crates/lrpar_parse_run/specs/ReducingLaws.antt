@@ -1,4 +1,4 @@
--- What a reduction that is due asks of the stacks of a run holds, and it leaves stacks of a run, their entries in order.
+-- A reduction that is due can be made on the stacks of a run, and leaves stacks of a run, with their entries in order.
 use Rattle.std.proofs.Common.{◌≡◌, ◌+◌, ◌-◌, ◌∙◌, ℕ, List, [], ◌∷◌, ◌++◌, length, take, drop, ap, arith, refl, subst, sym}
 use Rattle.std.specs.List.{AllZip}
 use Rattle.std.proofs.lemmas.List.{length-append, take-append-drop}
@@ -14,7 +14,7 @@ use Rattle.lrpar_parse_run.specs.Rising.{KeepsRising}
 use Rattle.lrpar_parse_run.specs.RunStack.{IsRunStack, Stacked, kept_by, popped_by}
 use Rattle.lrpar_parse_run.specs.ZipLaws.{zip_drop, zip_push, zip_take}
 
--- What a reduction by p at token t knows of the stacks before it.
+-- What holds for the stacks before a reduction by p at token t.
 module _ {E : Type 0} (suits : GrammarSymbol → E → Type 0) (g : Grammar) (table : Table) (stack : Stacked E) (run_stack : IsRunStack suits table stack) (t p : ℕ) (along : ReducesAlong g table run_stack.symbols stack.states t p) where
   -- there is an entry for each symbol
   entries_are : length stack.entries ≡ length along.below + prod_len g p
@@ -30,7 +30,7 @@ module _ {E : Type 0} (suits : GrammarSymbol → E → Type 0) (g : Grammar) (ta
   kept_suit : AllZip suits along.below (kept_by g p stack.entries)
   kept_suit = subst (λ (n : ℕ). AllZip suits along.below (take n stack.entries)) below_are (zip_take suits along.below (symbols_of g p) stack.entries suit_split)
 
-  -- and those that are taken off suit the production's symbols
+  -- and those that are popped suit the production's symbols
   popped_suit : AllZip suits (symbols_of g p) (popped_by g p stack.entries)
   popped_suit = subst (λ (n : ℕ). AllZip suits (symbols_of g p) (drop n stack.entries)) below_are (zip_drop suits along.below (symbols_of g p) stack.entries suit_split)
 
@@ -55,7 +55,7 @@ module _ {B X E : Type 0} (builds : B → Building X E) (g : Grammar) (table : T
       }
 
   module _ (start : X → ℕ) (keeps : (b : B) (h : Grammar) → KeepsRising start (builds b).leaf ((builds b).node h) (builds b).rises) where
-    -- and it leaves stacks of a run, their entries in order
+    -- and it leaves stacks of a run, with their entries in order
     pub builds_suit : (old : Built B E) (p : ℕ) (new : Built B E) → SuitsRun builds g table old
         → Reduces g table t old.stack.states p new.stack.states → Builds builds old p (rule_of g p) (prod_len g p) new → SuitsRun builds g table new
     builds_suit old p new is of_states by =

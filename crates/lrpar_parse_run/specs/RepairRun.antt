@@ -1,5 +1,5 @@
--- A run with repairs: where it stops, the recoverer hands in sequences, those that work are listed, and the run goes on from
--- what the first of them gives.
+-- A run with repairs: at an error point the recoverer supplies sequences, those that work are listed, and the run goes on after a
+-- replay of the first of them.
 use Rattle.std.specs.Prelude.{◌≡◌, ◌-◌, ℕ, List, [], ◌∷◌, ◌++◌, map, take, drop, option_map, Option, Some, None}
 use Rattle.lrpar_grammar.specs.Grammar.{Grammar}
 use Rattle.lrpar_grammar.specs.Sentence.{LexemeFacts}
@@ -12,35 +12,35 @@ use Rattle.lrpar_table_stacks.specs.Run.{Far, Accepted, Stopped, Stop}
 use Rattle.lrpar_parse_run.specs.RunAnswer.{IsLexemeAt}
 use Rattle.lrpar_parse_repair.specs.Sequences.{PlainStep, AreThoseWith, Replays, Works}
 
--- where a run stops, and the sequences that are listed there
+-- an error point of a run, and the sequences that are listed there
 pub record RepairStop : Type 0 where
   pub stop : Stop
   pub listed : List (List PlainStep)
 
--- the lexemes that a run feeds on its way from place i to place j
+-- the lexemes that a run feeds from place i to place j
 abbrev pub fed_between : {X : Type 0} → List X → ℕ → ℕ → List X
 fed_between lexemes i j = take (j - i) (drop i lexemes)
 
--- `allows` tells which answers the recoverer may give at a point, and k how many lexemes have to follow a repair
+-- `allows` says which answers the recoverer may give at an error point, and k how many lexemes must follow a repair
 module _ {X : Type 0} (facts : X → LexemeFacts) (allows : Point X → List (List PlainStep) → Type 0) (k : ℕ) (g : Grammar) (table : Table) (lexemes : List X) where
-  -- at the stop there is an answer that the recoverer allows for the lexemes, the place and the settled stack, and these are
-  -- the members of it that work from there
+  -- there is an answer that the recoverer allows for the lexemes, the place and the settled stack of the error point, and these are its
+  -- members that work from there
   pub record IsListedAt (stop : Stop) (listed : List (List PlainStep)) : Type 0 where
     pub answer : List (List PlainStep)
     pub allowed : allows (record { lexemes = lexemes; place = stop.place; stack = stop.stack }) answer
     pub those : AreThoseWith (Works (λ x. (facts x).token) g table lexemes k stop.stack stop.place) answer listed
 
-  -- A run from the stack at place i: where it stops, and what is listed there; the lexemes that it consumes, if it comes to
-  -- accept; and its reductions.
+  -- A run from the stack at place i: its error points, with what is listed there; the lexemes that it consumes, if it accepts; and its
+  -- reductions.
   pub data RepairRun : List ℕ → ℕ → List RepairStop → Option (List X) → List ℕ → Type 0 where
-    -- it comes to accept, and consumes the lexemes from place i on
+    -- it accepts, and consumes the lexemes from place i on
     runs_through : (st : List ℕ) (i : ℕ) (prods : List ℕ) → Far (λ x. (facts x).token) g table lexemes st i prods Accepted
         → RepairRun st i [] (Some (drop i lexemes)) prods
-    -- it stops, and no sequence is listed
+    -- it has an error point, at which no sequence is listed, and ends there
     ends_there : (st : List ℕ) (i : ℕ) (prods : List ℕ) (stop : Stop) → Far (λ x. (facts x).token) g table lexemes st i prods (Stopped stop)
         → IsListedAt stop [] → RepairRun st i (record { stop = stop; listed = [] } ∷ []) None prods
-    -- it stops, the first listed sequence is replayed, and the run goes on from what that gives: it consumes the lexemes up
-    -- to the stop, what the sequence consumes, and what is consumed from there on
+    -- it has an error point, the first listed sequence is replayed, and the run goes on from the result: it consumes the lexemes before
+    -- the error point, what the sequence consumes, and what is consumed from there on
     is_repaired : (st : List ℕ) (i : ℕ) (prods : List ℕ) (stop : Stop) (first : List PlainStep) (listed : List (List PlainStep))
         (made after : List ℕ) (j : ℕ) (recovered : List X) (stops : List RepairStop) (consumed : Option (List X)) (rest : List ℕ)
         → Far (λ x. (facts x).token) g table lexemes st i prods (Stopped stop) → IsListedAt stop (first ∷ listed)
@@ -50,7 +50,7 @@ module _ {X : Type 0} (facts : X → LexemeFacts) (allows : Point X → List (Li
         → RepairRun st i (record { stop = stop; listed = first ∷ listed } ∷ stops)
         (option_map (λ xs. fed_between lexemes i stop.place ++ recovered ++ xs) consumed) (prods ++ made ++ rest)
 
--- the error of a stop: the top state of its settled stack, the lexeme at its place, and the listed sequences, each Delete and
+-- the error of an error point: the top state of its settled stack, the lexeme at its place, and the listed sequences, each Delete and
 -- Shift with its own lexeme
 pub record IsRepairFailure {X : Type 0} (facts : X → LexemeFacts) (g : Grammar) (lexemes : List X) (at : RepairStop) (failure : Failure X) : Type 0 where
   pub state : top_of at.stop.stack ≡ Some failure.state

@@ -1,7 +1,6 @@
--- What stands on the stack of a run, as plain lists, bottom first: its states, and entries for the trees between them. Three
--- relations say what a parse builds. `leaf x e`: entry e may stand for lexeme x. `node p before es e`: e may stand for a
--- node of production p whose children have the entries es, and which has `before` to its left. `suits s e`: e may stand
--- for symbol s.
+-- The stack of a run, as plain lists, bottom first: its states, and entries that represent the trees between them. Three relations
+-- say what a parse builds. `leaf x e`: entry e may represent lexeme x. `node p before es e`: e may represent a node of production p
+-- whose children have the entries es, and which has `before` to its left. `suits s e`: e may be an entry of symbol s.
 use Rattle.std.specs.Prelude.{◌≡◌, ◌-◌, ℕ, List, [], ◌∷◌, ◌++◌, length, take, drop, Option, Some, None}
 use Rattle.std.specs.List.{AllZip, last_or}
 use Rattle.lrpar_grammar.specs.Grammar.{Grammar, GrammarSymbol, Nonterminal, rule_of, prod_len}
@@ -19,31 +18,32 @@ pub record Stacked (E : Type 0) : Type 0 where
 abbrev pub kept_by : {E : Type 0} → Grammar → ℕ → List E → List E
 kept_by g p entries = take (length entries - prod_len g p) entries
 
--- the entries that a reduction by p takes off
+-- the entries that a reduction by p pops
 abbrev pub popped_by : {E : Type 0} → Grammar → ℕ → List E → List E
 popped_by g p entries = drop (length entries - prod_len g p) entries
 
 module _ {X E : Type 0} (leaf : X → E → Type 0) (node : ℕ → Option E → List E → E → Type 0) where
-  -- which entries stand for a tree with `before` to its left, and for trees side by side
+  -- the entry represents the tree, with `before` to its left
   abbrev mutual
     pub Represents : Option E → Tree X → E → Type 0
     Represents before (Leaf x) e = leaf x e
     Represents before (Branch p children) e = (es : List E) × AllRepresent before children es × node p before es e
 
+    -- the entries represent trees side by side, one each
     pub AllRepresent : Option E → Forest X → List E → Type 0
     AllRepresent before Nil [] = Unit {0}
     AllRepresent before Nil (e ∷ es) = ⊥
     AllRepresent before (Cons t ts) [] = ⊥
     AllRepresent before (Cons t ts) (e ∷ es) = Represents before t e × AllRepresent (Some e) ts es
 
--- the states are joined by symbols, and for each of them there is an entry that suits it
+-- symbols lead from state to state, and for each symbol there is an entry that suits it
 pub record IsRunStack {E : Type 0} (suits : GrammarSymbol → E → Type 0) (table : Table) (stack : Stacked E) : Type 0 where
   pub symbols : List GrammarSymbol
   pub path : IsPath table symbols stack.states
   pub suit : AllZip suits symbols stack.entries
 
--- At token t the stacks reduce by production p: the states do, and the entries of its symbols make way for one of a node
--- of p over them.
+-- at token t the stacks reduce by production p: the states do, and the entries of its symbols are replaced by that of a node of p over
+-- them
 pub record ReducesTo {E : Type 0} (node : ℕ → Option E → List E → E → Type 0) (suits : GrammarSymbol → E → Type 0) (g : Grammar) (table : Table) (t : ℕ) (old : Stacked E) (p : ℕ) (new : Stacked E) : Type 0 where
   pub of_states : Reduces g table t old.states p new.states
   pub entry : E

@@ -1,11 +1,11 @@
--- Spans of trees. What stands in front of a tree decides where a node without children is.
+-- Spans of trees. What comes before a node without children determines its span.
 use Rattle.std.specs.Prelude.{◌≡◌, ◌≤◌, ℕ, List, [], ◌∷◌}
 use Rattle.lrpar_grammar_places.specs.Span.{Extent, nowhere}
 use Rattle.lrpar_grammar.specs.Tree.{Tree, Forest, Leaf, Branch, Nil, Cons}
 
--- The span of a tree after the span `before`, which is 0..0 where nothing stands there. A leaf has its lexeme's. A node
--- without children has the span before it. Another node runs from its first child's start to its last child's end; its
--- first child comes after what the node comes after, and each later one after its left neighbour.
+-- The span of a tree after the span `before`, which is 0..0 if nothing comes before. A leaf has its lexeme's span. A node without
+-- children has the span before it. Another node extends from its first child's start to its last child's end; its first child comes
+-- after what the node comes after, and each later child after its left neighbour.
 abbrev mutual
   pub span_after : {X : Type 0} → (X → Extent) → Extent → Tree X → Extent
   span_after span before (Leaf x) = span x
@@ -13,12 +13,12 @@ abbrev mutual
   span_after span before (Branch p (Cons t ts)) =
       record { start = (span_after span before t).start; end = (last_span span (span_after span before t) ts).end }
 
-  -- the span of the last of these trees, which come after a span; that span, where there is none
+  -- the span of the last of these trees, which come after a span; that span, if there is no tree
   pub last_span : {X : Type 0} → (X → Extent) → Extent → Forest X → Extent
   last_span span before Nil = before
   last_span span before (Cons t ts) = last_span span (span_after span before t) ts
 
--- the last of a part and those after it
+-- the last of a part and the parts after it
 abbrev pub last_part : Extent → List Extent → Extent
 last_part part [] = part
 last_part part (next ∷ parts) = last_part next parts

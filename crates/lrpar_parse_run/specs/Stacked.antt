@@ -15,12 +15,12 @@ pub record SettlesTo {X E : Type 0} (builds : Building X E) (d : Checked) (t : �
   pub settled : IsSettled d.table t new.states
   pub few : length prods + most_reductions d.cap (length new.states) ≤ most_reductions d.cap (length old.states + d.cap + 2)
 
--- all reductions are made at token t, and then the top has no action
+-- the stacks make all reductions at token t, and then the top has no action
 pub record Sticks {X E : Type 0} (builds : Building X E) (d : Checked) (t : ℕ) (old new : Stacked E) : Type 0 where
   pub settles : SettlesTo builds d t old new
   pub fails : top_action d.table t new.states ≡ Fails
 
--- lexeme x with token t is taken: all reductions are made at the token, and then the top shifts it, with an entry of x
+-- lexeme x with token t is shifted: the stacks make all reductions at the token, and then push the next state with an entry of x
 pub record Shifts {X E : Type 0} (builds : Building X E) (d : Checked) (t : ℕ) (x : X) (old new : Stacked E) : Type 0 where
   pub mid : Stacked E
   pub settles : SettlesTo builds d t old mid

@@ -5,8 +5,8 @@ use Rattle.lrpar_table_check.specs.Checked.{Checked}
 use Rattle.lrpar_parse_repair.specs.Recovery.{Point}
 use Rattle.lrpar_parse_repair.specs.Sequences.{PlainStep}
 
--- the checked table; what is known of a lexeme; which answers the recoverer may give at a point; and how many lexemes have to
--- follow a repair
+-- the checked table; the facts of a lexeme; which answers the recoverer may give at an error point; and how many lexemes must follow a
+-- repair
 pub record Subject (X : Type 0) : Type 1 where
   pub checked : Checked
   pub facts : X → LexemeFacts

@@ -1,8 +1,8 @@
--- Lists side by side: a relation that holds place by place, of one more place and of the two sides of a cut.
+-- Lists side by side: a relation that holds place by place holds with one more place, and on both sides of a cut.
 use Rattle.std.specs.Prelude.{List, [], ◌∷◌, ◌++◌, length, take, drop}
 use Rattle.std.specs.List.{AllZip}
 
--- a relation that holds place by place holds of one more place
+-- a relation that holds place by place holds with one more place
 pub zip_push : {A B : Type 0} (R : A → B → Type 0) (xs : List A) (ys : List B) (x : A) (y : B)
     → AllZip R xs ys → R x y → AllZip R (xs ++ x ∷ []) (ys ++ y ∷ [])
 zip_push R [] [] x y all last = (last, tt)
@@ -10,13 +10,13 @@ zip_push R [] (z ∷ ys) x y all last = absurd all
 zip_push R (w ∷ xs) [] x y all last = absurd all
 zip_push R (w ∷ xs) (z ∷ ys) x y all last = (all.0, zip_push R xs ys x y all.1 last)
 
--- it holds of the places in front of a cut
+-- it holds for the places before a cut
 pub zip_take : {A B : Type 0} (R : A → B → Type 0) (xs zs : List A) (ys : List B) → AllZip R (xs ++ zs) ys → AllZip R xs (take (length xs) ys)
 zip_take R [] zs ys all = tt
 zip_take R (x ∷ xs) zs [] all = absurd all
 zip_take R (x ∷ xs) zs (y ∷ ys) all = (all.0, zip_take R xs zs ys all.1)
 
--- and of those after it
+-- and for those after it
 pub zip_drop : {A B : Type 0} (R : A → B → Type 0) (xs zs : List A) (ys : List B) → AllZip R (xs ++ zs) ys → AllZip R zs (drop (length xs) ys)
 zip_drop R [] zs ys all = all
 zip_drop R (x ∷ xs) zs [] all = absurd all

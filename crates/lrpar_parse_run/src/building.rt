@@ -10,21 +10,22 @@ use lrpar_grammar::span::{PIdx, StorageIndex};
 use lrpar_parse_lexemes::lex_api::Lexeme;
 use std::alloc::{AllocError, Global};
 
-/// What a parse builds. The run speaks of this trait alone.
+/// What a parse builds: values, trees or nothing. The run uses this trait alone.
 pub trait Build<StorageT: StorageIndex, LexemeT: Lexeme<StorageT>> {
-    /// What stands on the stack for a symbol.
+    /// The entry that is on the stack for a symbol.
     type Entry: Drop;
 
-    /// By which grammars it can build, and which entries may have symbols, lexemes and productions; and which lie in order.
+    /// For which grammars it can build, which entries symbols, lexemes and productions may have, and which lists of entries are in
+    /// order.
     ghost builds: { Self → Building LexemeT Self.Entry };
 
-    /// The entry of a lexeme that is shifted.
+    /// The entry for a lexeme that is shifted.
     fn shifted(&self, lexeme: LexemeT) -> Self::Entry
         ensures leaf { (builds self.now).leaf lexeme result }
         ensures suit { (builds self.now).suits (Terminal (StorageT.index (LexemeT.parts lexeme).token)) result };
 
-    /// Takes the entries of the production's symbols, which are `count`, off the entries, and answers that of the
-    /// production. Where memory was wanting, some of the entries may be gone.
+    /// Takes the entries of the production's symbols off the list, the last `count` ones, and returns the entry of the
+    /// production. After an `Err`, which means out of memory, some of the entries may be gone.
     fn reduced(
         &self,
         alloc: Global,

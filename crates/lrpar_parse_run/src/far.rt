@@ -1,7 +1,7 @@
-//! How far a run comes from a place, without repairs.
+//! How far a run goes from a place, without repairs.
 ghost use Rattle.std.specs.Prelude.{◌<◌, ◌≤◌, IfOk, IfSome, OnOk, length};
 ghost use Rattle.lrpar_grammar.specs.Sentence.{IsValidList};
-ghost use Rattle.lrpar_parse_lexemes.specs.Known.{facts_by, known};
+ghost use Rattle.lrpar_parse_lexemes.specs.Views.{facts_by, known};
 ghost use Rattle.lrpar_parse_lexemes.specs.Lexemes.{start_at};
 ghost use Rattle.lrpar_parse_run.specs.Moves.{GoesFar, RiseUpTo, StartsRise};
 ghost use Rattle.lrpar_parse_run.specs.RunStack.{IsRunStack};
@@ -20,7 +20,8 @@ impl<'a, StorageT: StorageIndex, LexemeT: Lexeme<StorageT>, B: Build<StorageT, L
     LexemeT,
     B,
 > {
-    /// Goes on from the place as far as it can, and answers the place where it stops; none, where it accepts.
+    /// Runs from the place as far as it can. Returns the place of the error point; `None`, if the run accepts. `Err`: out of
+    /// memory.
     pub fn far(
         &self,
         alloc: Global,

@@ -1,4 +1,4 @@
-//! Nothing is built: a parse gives its errors alone.
+//! Building nothing, for a parse that gives errors alone.
 ghost use Rattle.std.specs.Prelude.{◌≡◌, ◌≤◌, ◌-◌, OnOk, length, take};
 
 use crate::building::Build;

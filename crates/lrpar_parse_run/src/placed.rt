@@ -1,4 +1,4 @@
-//! Where the values that a caller's actions make lie.
+//! Arguments of a caller's actions, with their spans.
 ghost use Rattle.std.specs.Prelude.{◌≡◌, ◌++◌, ℕ};
 ghost use Rattle.std.specs.List.{last_or};
 ghost use Rattle.lrpar_parse_run.specs.Placed.{span_before, spans_of};
@@ -6,14 +6,14 @@ ghost use Rattle.lrpar_parse_run.specs.Spans.{Rise, span_over};
 
 use lrpar_grammar::span::Span;
 
-/// An argument of an action, and where it lies.
+/// An argument of an action, with its span.
 #[derive(Drop)]
 pub struct Placed<T> {
     pub span: Span,
     pub argument: T,
 }
 
-/// The span of a production over its own entries, to the right of the others.
+/// The span of a production over its `own` entries, which come after the entries `before`.
 pub fn span_of<T>(before: &[Placed<T>], own: &[Placed<T>]) -> Span
     requires { (start : ℕ) × Rise 0 (spans_of (before.now ++ own.now)) start }
     ensures { result ≡ span_over (span_before (last_or None before.now)) (spans_of own.now) }

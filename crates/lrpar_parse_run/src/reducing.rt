@@ -1,4 +1,4 @@
-//! The stacks of a run while they are reduced: a stack of states of which each reduction makes an entry.
+//! The stacks of a run during reductions: a `StateStack` in which each reduction also builds an entry.
 ghost use Rattle.std.specs.Prelude.{◌≡◌, ◌<◌, ◌-◌, [], ◌∷◌, ◌++◌, length, take, OnOk, OnErr};
 
 use crate::building::Build;
@@ -10,7 +10,7 @@ use lrpar_table_stacks::state_stack::{Reduction, StateStack};
 use std::alloc::{AllocError, Global};
 use std::marker::PhantomData;
 
-/// The stacks, with the grammar by which they are reduced, and what builds the entries.
+/// The stacks, with the grammar of the reductions and the builder of the entries.
 #[derive(Drop)]
 pub struct Reducing<
     'a,

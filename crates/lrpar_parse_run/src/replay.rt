@@ -1,10 +1,10 @@
-//! The replay of a sequence of repairs on the stacks of a run.
+//! The replay of a repair sequence on the stacks of a run.
 ghost use Rattle.std.specs.Prelude.{◌<◌, ◌≤◌, ℕ, length, List, IfOk, OnOk, [], ◌∷◌};
 ghost use Rattle.lrpar_grammar.specs.Grammar.{end_token};
 ghost use Rattle.lrpar_grammar.specs.Sentence.{IsValidList};
 ghost use Rattle.lrpar_table_stacks.specs.Path.{NeverSticks};
 ghost use Rattle.lrpar_table_stacks.specs.Reduction.{Feeds};
-ghost use Rattle.lrpar_parse_lexemes.specs.Known.{facts_by, known};
+ghost use Rattle.lrpar_parse_lexemes.specs.Views.{facts_by, known};
 ghost use Rattle.lrpar_parse_lexemes.specs.Lexemes.{start_at};
 ghost use Rattle.lrpar_parse_run.specs.Moves.{CanReplay, CanStep, IsReplayed, RiseUpTo, StartsRise};
 ghost use Rattle.lrpar_parse_repair.specs.PlainSteps.{plain_step, plain_steps};
@@ -26,8 +26,8 @@ impl<'a, StorageT: StorageIndex, LexemeT: Lexeme<StorageT>, B: Build<StorageT, L
     LexemeT,
     B,
 > {
-    /// Takes the steps in turn, from the place on, which can be done, and answers the place after them. An inserted lexeme is
-    /// faulty and empty where the next one starts.
+    /// Replays the steps from the place on. They must work. Returns the place after them. An inserted lexeme is faulty, and empty
+    /// where the next lexeme starts. `Err`: out of memory.
     pub fn replay(
         &self,
         alloc: Global,
@@ -59,7 +59,7 @@ impl<'a, StorageT: StorageIndex, LexemeT: Lexeme<StorageT>, B: Build<StorageT, L
         Ok(at)
     }
 
-    // Takes the step from the place on, which can be done, and answers the place after it.
+    // Replays one step from the place on. It must work. Returns the place after it.
     fn step(
         &self,
         alloc: Global,
@@ -98,7 +98,7 @@ impl<'a, StorageT: StorageIndex, LexemeT: Lexeme<StorageT>, B: Build<StorageT, L
         }
     }
 
-    // Shifts the lexeme, whose token can be fed.
+    // Shifts the lexeme. Its token must be one that can be fed.
     fn feed(
         &self,
         alloc: Global,

@@ -1,4 +1,4 @@
-//! The run: shifts and reductions over lexemes that have no fault, by a checked table.
+//! The run: shifts and reductions over valid lexemes, by a checked table.
 ghost use Rattle.std.specs.Prelude.{◌≡◌, ◌≢◌, ◌<◌, ℕ, IfOk, OnOk, IsTrue, IsFalse};
 ghost use Rattle.lrpar_grammar.specs.Grammar.{end_token};
 ghost use Rattle.lrpar_table_stacks.specs.Path.{NeverSticks};
@@ -17,7 +17,7 @@ use lrpar_table_rows::table::Action;
 use std::alloc::{AllocError, Global};
 use std::marker::PhantomData;
 
-/// The checked table of a run, and what is built.
+/// The checked table of a run, and what the run builds.
 #[derive(Drop)]
 pub struct Run<'a, StorageT: StorageIndex, LexemeT, B> {
     pub checked: &'a ParserData<StorageT>,
@@ -42,7 +42,8 @@ impl<'a, StorageT: StorageIndex, LexemeT: Lexeme<StorageT>, B: Build<StorageT, L
         }
     }
 
-    /// Makes all reductions under the lexeme's token and shifts it, if the top state does; answers whether it did.
+    /// Makes all reductions at the lexeme's token, and shifts the lexeme if the table then has a shift. Returns whether it did.
+    /// `Err`: out of memory.
     pub fn take(
         &self,
         alloc: Global,
@@ -72,7 +73,7 @@ impl<'a, StorageT: StorageIndex, LexemeT: Lexeme<StorageT>, B: Build<StorageT, L
         }
     }
 
-    /// Makes all reductions under the token, and answers the action of the state that is then on top.
+    /// Makes all reductions at the token, and returns the action of the state that is then on top. `Err`: out of memory.
     pub fn settle(
         &self,
         alloc: Global,
@@ -88,7 +89,7 @@ impl<'a, StorageT: StorageIndex, LexemeT: Lexeme<StorageT>, B: Build<StorageT, L
         ensures action { IfOk result (λ action. plain_action StorageT.index action ≡ top_action self.now.checked.now.table (StorageT.index token.0) stack.new.states) }
     {
         let stable = self.checked.stable();
-        // Past these the table has no entry, so that a path is a stack.
+        // The table has entries for these numbers of tokens and rules only, so that a path is a stack.
         let (_tokens, _rules) = (stable.tokens_len(), stable.rules_len());
         let mut reducing = Reducing::new(alloc, self.checked.grm(), self.build, stack);
         Ok(self.checked.settle_on(&mut reducing, token)?.action)

@@ -1,4 +1,4 @@
-//! The stacks of a run: the states, and what stands between each two neighbours.
+//! The stacks of a run: the states, and an entry for each state but the lowest.
 ghost use Rattle.std.specs.Prelude.{◌≡◌, ◌<◌, ◌≤◌, ◌-◌, ℕ, [], ◌∷◌, ◌++◌, length, take, drop, slice_get, Some, OnErr, OnOk, IfOk};
 ghost use Rattle.std.specs.List.{AllZip};
 ghost use Rattle.lrpar_table_stacks.specs.Stack.{states_of, top_of};
@@ -13,7 +13,7 @@ use lrpar_table_stacks::state_stack::{Reduction, StateStack};
 use std::alloc::{AllocError, Global};
 use std::marker::Model;
 
-/// The stacks. Above the lowest state each state has the entry of the symbol that led to it.
+/// The stacks. Each state but the lowest has the entry of the symbol that led to it.
 #[derive(Drop)]
 pub struct Stack<StorageT: StorageIndex, E: Drop> {
     states: Vec<StIdx<StorageT>>,
@@ -30,7 +30,7 @@ impl<StorageT: StorageIndex, E: Drop> Model for Stack<StorageT, E> {
 }
 
 impl<StorageT: StorageIndex, E: Drop> Stack<StorageT, E> {
-    /// The stack of one state.
+    /// The stack with one state and no entry. `Err`: out of memory.
     pub fn new(alloc: Global, start: StIdx<StorageT>) -> Result<Self, AllocError>
         ensures { IfOk result (λ stack. stack ≡ record { states = StorageT.index start.0 ∷ []; entries = [] }) }
     {
@@ -64,7 +64,7 @@ impl<StorageT: StorageIndex, E: Drop> Stack<StorageT, E> {
         self.states[self.states.len() - 1]
     }
 
-    /// The state at this height, from 0 on.
+    /// The state at this height, counted from 0.
     pub fn state_at(&self, at: usize) -> StIdx<StorageT>
         requires { at < length self.now.states }
         ensures { slice_get self.now.states at ≡ Some (StorageT.index result.0) }
@@ -72,7 +72,7 @@ impl<StorageT: StorageIndex, E: Drop> Stack<StorageT, E> {
         self.states[at]
     }
 
-    /// Puts a state on top, with the entry of the symbol that led to it.
+    /// Pushes a state, with the entry of the symbol that led to it. `Err`: out of memory.
     pub fn push(&mut self, state: StIdx<StorageT>, entry: E) -> Result<(), AllocError>
         ensures states { OnOk result (self.new.states ≡ self.old.states ++ StorageT.index state.0 ∷ []) }
         ensures entries { OnOk result (self.new.entries ≡ self.old.entries ++ entry ∷ []) }
@@ -82,8 +82,8 @@ impl<StorageT: StorageIndex, E: Drop> Stack<StorageT, E> {
         Ok(())
     }
 
-    /// Takes the entries of the production's symbols off, puts the one that is made of them in their place, and reduces the
-    /// states. Where memory was wanting, the states stay, and some of the entries may be gone.
+    /// Replaces the entries of the production's symbols by the entry that is built of them, and reduces the states. After an
+    /// `Err`, which means out of memory, the states are unchanged, and some of the entries may be gone.
     pub fn reduce<LexemeT: Lexeme<StorageT>, B: Build<StorageT, LexemeT, Entry = E>>(
         &mut self,
         alloc: Global,
@@ -108,7 +108,7 @@ impl<StorageT: StorageIndex, E: Drop> Stack<StorageT, E> {
         self.states.reduce(by)
     }
 
-    /// The entry, where it is all that stands on the stack.
+    /// The entry of a stack that has one only.
     pub fn into_entry(mut self) -> E
         requires { (e : E) × (self.entries ≡ e ∷ []) }
         ensures { self.entries ≡ result ∷ [] }

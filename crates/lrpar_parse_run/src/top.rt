@@ -1,11 +1,12 @@
-//! What is made of the entries on top of a stack.
+//! A list made of the entries on top of a stack.
 ghost use Rattle.std.specs.Prelude.{◌≡◌, ◌≤◌, ◌-◌, ◌++◌, IfOk, OnOk, length, take, drop, reverse};
 ghost use Rattle.std.specs.List.{AllZip};
 
 use std::alloc::{AllocError, Global};
 
-/// What the function makes of the top `count` entries, which are taken off, the lowest first. They are turned round on their
-/// place, so that the list of what is made is the only one that takes memory.
+/// Pops the top `count` entries, and returns what the function makes of each, the lowest first. They are reversed in place, so
+/// that the returned list is the only one that takes memory. After an `Err`, which means out of memory, some of the entries may be
+/// gone.
 pub fn made_of_top<E: Drop, V: Drop, F: Fn(E) -> V>(
     alloc: Global,
     count: usize,
@@ -26,7 +27,7 @@ pub fn made_of_top<E: Drop, V: Drop, F: Fn(E) -> V>(
     Ok(made)
 }
 
-// Turns the top `count` entries round, and answers how many stand below them.
+// Reverses the top `count` entries in place. Returns how many are below them.
 fn turn_top<E>(count: usize, entries: &mut Vec<E>) -> usize
     requires { count ≤ length entries.old.items }
     ensures below { result ≡ length entries.old.items - count }

@@ -1,4 +1,4 @@
-//! The trees that a parse builds.
+//! Building the tree of a parse.
 ghost use Rattle.std.specs.Prelude.{◌≡◌, ◌<◌, ◌≤◌, ◌-◌, IfOk, OnOk, length, take, drop};
 ghost use Rattle.lrpar_grammar.specs.Grammar.{rule_of, start_prod};
 ghost use Rattle.lrpar_parse_run.specs.Nodes.{IsNonterm, IsTerm};

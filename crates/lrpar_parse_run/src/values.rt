@@ -1,4 +1,4 @@
-//! Values that a caller's two functions make of lexemes and of rules.
+//! Building a value with a caller's two functions, one for lexemes and one for rules.
 ghost use Rattle.std.specs.Prelude.{◌≡◌, ◌<◌, ◌≤◌, ◌-◌, IfOk, OnOk, length, take, drop};
 ghost use Rattle.std.specs.List.{AllZip};
 ghost use Rattle.lrpar_grammar.specs.Grammar.{Nonterminal, rule_of, start_prod};
@@ -13,16 +13,16 @@ use lrpar_parse_lexemes::lex_api::Lexeme;
 use std::alloc::{AllocError, Global};
 use std::marker::PhantomData;
 
-/// What stands on a stack for a symbol.
+/// What a parse has for a symbol: a value for a rule, and a lexeme for a token. An action gets these as its arguments.
 #[derive(Debug, Drop)]
 pub enum AStackType<LexemeT, ActionT> {
-    /// For a rule: the value that was made for it.
+    /// The symbol is a rule: the value that was made for it.
     ActionType(ActionT),
-    /// For a token: the lexeme that was shifted.
+    /// The symbol is a token: the lexeme that was shifted.
     Lexeme(LexemeT),
 }
 
-/// The values of two functions: one for lexemes, and one for rules over the values of their symbols.
+/// Two functions: `fterm` gives the value of a lexeme, and `fnonterm` the value of a rule over the values of its symbols.
 #[derive(Drop)]
 pub struct Functions<'a, V, F, G> {
     pub fterm: &'a F,
@@ -77,7 +77,7 @@ impl<
     ghost rising = { λ b g. record { with_none = tt; by_leaf = λ es n x e rise low is. tt; by_node = λ kept es n p e rise is. tt } };
 }
 
-// The values of the top `count` entries, which are taken off, the lowest first.
+// Pops the top `count` entries, and returns their values, the lowest first.
 fn values_of<LexemeT: Copy, V: Drop, F: Fn(LexemeT) -> V>(
     alloc: Global,
     fterm: &F,

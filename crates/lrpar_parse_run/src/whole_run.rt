@@ -1,12 +1,12 @@
-//! The course of a run with repairs: where it stops, the recoverer is asked once, and the run goes on from what the first
-//! sequence gives that works.
+//! The whole run of a parse with repairs. At each error point the recoverer is called once, and the first of its sequences that
+//! works is replayed; then the run goes on.
 ghost use Rattle.std.specs.Prelude.{◌≡◌, ◌<◌, ◌≤◌, IfOk, IfSome, OnOk, length};
 ghost use Rattle.lrpar_grammar.specs.Sentence.{IsValidList};
 ghost use Rattle.lrpar_table_stacks.specs.Stack.{IsStack};
 ghost use Rattle.lrpar_table_stacks.specs.Reduction.{top_action};
-ghost use Rattle.lrpar_parse_lexemes.specs.Known.{token_by, known};
+ghost use Rattle.lrpar_parse_lexemes.specs.Views.{token_by, known};
 ghost use Rattle.lrpar_parse_lexemes.specs.Lexemes.{start_at};
-ghost use Rattle.lrpar_parse_run.specs.Recovering.{IsListedBy, IsRecovered, IsNoted};
+ghost use Rattle.lrpar_parse_run.specs.Recovering.{IsListedBy, IsRecovered, IsRecorded};
 ghost use Rattle.lrpar_parse_run.specs.Moves.{RiseUpTo, StartsRise};
 ghost use Rattle.lrpar_parse_repair.specs.PlainSteps.{plain_sequences};
 ghost use Rattle.lrpar_parse_run.specs.RepairAnswer.{IsRepairErrorOf};
@@ -29,8 +29,7 @@ use lrpar_parse_repair::repair_step::RepairStep;
 use lrpar_parse_repair::trial::Trial;
 use std::alloc::{AllocError, Global};
 
-/// What the course of a run is made by: what goes on and what is built, the lexemes, the recoverer, and how many lexemes
-/// have to follow a repair.
+/// What a whole run needs: the table and the builder, the lexemes, the recoverer, and how many lexemes must follow a repair.
 #[derive(Drop)]
 pub struct WholeRun<
     'a,
@@ -54,8 +53,10 @@ impl<
 > WholeRun<'a, StorageT, LexerTypesT, B, R> {
     ghost use Rattle.lrpar_parse_run.specs.WholeRunView.{subject};
 
-    /// Runs from the first lexeme, to where the run accepts, or to a stop for which no sequence works. Each later stop lies so
-    /// many lexemes further as have to follow a repair, so it ends.
+    /// Runs from the first lexeme until the table accepts, or until an error point at which no sequence works. Returns the entry of
+    /// the whole, if the table accepts, and the errors. `Err`: out of memory.
+    ///
+    /// The run ends: each later error point is further by at least the number of lexemes that must follow a repair.
     pub fn over(
         &self,
         alloc: Global,
@@ -82,7 +83,7 @@ impl<
         }
     }
 
-    // Adds the error of the stop, and goes on by the first sequence that works there: answers the place after it. None, where
+    // Adds the error of the error point, and replays the first sequence that works there. Returns the place after it; `None`, if
     // no sequence works.
     fn resume(
         &self,
@@ -108,7 +109,7 @@ impl<
         ensures recovered { IfOk result (IsRecovered (subject StorageT.index LexerTypesT.LexemeT.parts R.allows self.now) (B.builds self.now.run.build.now)
             self.now.lexemes.now stack.old stop errors.old.items stack.new errors.new.items) }
     {
-        // Past these the table has no entry, so that a path is a stack.
+        // The table has entries for these numbers of tokens and rules only, so that a path is a stack.
         let stable = self.run.checked.stable();
         let (_tokens, _rules) = (stable.tokens_len(), stable.rules_len());
         let listed = self.recorded(alloc, stack, stop, errors)?;
@@ -119,7 +120,7 @@ impl<
         Ok(Some(next))
     }
 
-    // Adds the error of the stop, and answers the sequences that it lists.
+    // Adds the error of the error point, and returns the sequences that it lists.
     fn recorded(
         &self,
         alloc: Global,
@@ -134,7 +135,7 @@ impl<
             self.now.run.checked.now.grammar self.now.lexemes.now place) stack.now.states ≡ Fails }
         requires some { 0 < length stack.now.states }
         requires within { place ≤ length self.now.lexemes.now }
-        ensures recorded { IfOk result (λ listed. IsNoted (subject StorageT.index LexerTypesT.LexemeT.parts R.allows self.now) self.now.lexemes.now
+        ensures recorded { IfOk result (λ listed. IsRecorded (subject StorageT.index LexerTypesT.LexemeT.parts R.allows self.now) self.now.lexemes.now
             (stop_at stack.now.states place) errors.old.items errors.new.items (plain_sequences StorageT.index listed.items)) }
     {
         let listed = self.listed(alloc, stack, place)?;
@@ -142,7 +143,7 @@ impl<
         Ok(listed)
     }
 
-    // The sequences that work at the stop, of those that the recoverer hands in, which it is asked for once.
+    // Calls the recoverer once, and returns those of its sequences that work at the error point.
     fn listed(
         &self,
         alloc: Global,
@@ -166,7 +167,7 @@ impl<
         Trial::new(self.run.checked, self.lexemes, self.shifts).listed(alloc, states, place, answer)
     }
 
-    // The error of the stop, at which these sequences are listed.
+    // The error of the error point, which lists these sequences.
     fn error(
         &self,
         alloc: Global,
@@ -188,7 +189,7 @@ impl<
     }
 }
 
-// The starts of the lexemes of a valid list don't decrease, and the end of the last one doesn't lie before its start.
+// The starts of the lexemes of a valid list don't decrease, and the last one ends no earlier than it starts.
 fn starts_rise<StorageT: StorageIndex, LexemeT: Lexeme<StorageT>>(
     grm: &YaccGrammar<StorageT>,
     lexemes: &[LexemeT],

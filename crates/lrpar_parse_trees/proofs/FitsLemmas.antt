@@ -20,7 +20,7 @@ use Rattle.lrpar_parse_trees.proofs.TreeTextLemmas.{fit_root, fit_below, fit_who
 use Rattle.lrpar_grammar_places.proofs.ListLemmas.{all_front, all_back, all_both}
 use Rattle.lrpar_parse_trees.proofs.WeightLemmas.{weight, weights, weight_step}
 
--- a property that asks for no level
+-- a property that doesn't depend on the level
 abbrev pub IsLevel : {X S : Type 0} → (Met X S → Type 0) → Type 0
 IsLevel {X = X} {S = S} P = (node : Node X S) (a b : ℕ) → P (root_at a node) → P (root_at b node)
 
@@ -52,7 +52,7 @@ fit_shift P same (suc n) a b (node ∷ rest) within all =
     all_both P (met_from node b) (all_met b rest) (fit_whole P node b (same node a b (fit_root P node a here)) below)
     (fit_shift P same n a b rest (omega (arith, weight_below node)) after)
 
--- it holds of two lists of trees where it holds of each
+-- it holds for two lists of trees if it holds for each
 pub fit_parts : {X S : Type 0} (P : Met X S → Type 0) (ms ns : List (Node X S)) → AllByRecursion P (all_met 1 (ms ++ ns))
     → AllByRecursion P (all_met 1 ms) × AllByRecursion P (all_met 1 ns)
 fit_parts P ms ns all =
@@ -63,7 +63,7 @@ pub fit_joined : {X S : Type 0} (P : Met X S → Type 0) (ms ns : List (Node X S
     → AllByRecursion P (all_met 1 (ms ++ ns))
 fit_joined P ms ns front back = rw flat_map-append (all_both P (all_met 1 ms) (all_met 1 ns) front back)
 
--- the first tree in hand is entered: its root has the property, and what is left has it with the trees below in its place
+-- the first current tree is entered: its root has the property, and what is left has it with the trees below in its place
 pub fits_enter : {X S : Type 0} (P : Met X S → Type 0) (same : IsLevel P) (node : Node X S) (rest nodes more : List (Node X S)) → nodes ≡ node ∷ rest
     → AllByRecursion P (all_met 1 (nodes ++ more)) → P (root_at 1 node) × AllByRecursion P (all_met 1 (nodes_below node ++ (rest ++ more)))
 fits_enter P same node rest nodes more is all =
@@ -100,7 +100,7 @@ pub weights_apart : {X S : Type 0} (node : Node X S) (rest nodes below : List (N
     → weights nodes ≡ 1 + (weights below + weights rest)
 weights_apart node rest nodes below is at = rw (is, at) (omega (arith, weight_below node))
 
--- what the loop has left behind the trees in hand, the last list first
+-- what the loop has left after the current trees, the last list first
 abbrev pub later_trees : {X S : Type 0} → List (Bor (List (Node X S))) → List (Node X S)
 later_trees [] = []
 later_trees (rest ∷ rests) = later_trees rests ++ rest.now
@@ -110,7 +110,7 @@ pub later_trees_push : {X S : Type 0} (rests : List (Bor (List (Node X S)))) (re
 later_trees_push [] rest = sym (append-nil rest.now)
 later_trees_push (r ∷ rs) rest = ap (λ ns. ns ++ r.now) (later_trees_push rs rest) ∙ append_assoc rest.now (later_trees rs) r.now
 
--- how many nodes are left, when the first tree in hand is entered
+-- how many nodes are left, when the first current tree is entered
 pub weights_below : {X S : Type 0} (node : Node X S) (rest nodes more : List (Node X S)) → nodes ≡ node ∷ rest
     → weights (nodes ++ more) ≡ 1 + (weights (nodes_below node) + weights (rest ++ more))
 weights_below node rest nodes more is = rw is (omega (arith, weight_below node))

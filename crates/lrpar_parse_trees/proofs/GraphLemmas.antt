@@ -1,4 +1,4 @@
--- What is left to write of a tree as a graph, by what a loop has left: the trees in hand, and those of each level above.
+-- What is left to write of a tree as a graph, by what a loop has left: the current trees, and those of each level above.
 use denote.Ref.{Bor}
 use Rattle.std.proofs.Common.{◌≡◌, ℕ, ◌+◌, ◌<◌, List, [], ◌∷◌, ◌++◌, Option, codes, map, subst, refl, ap, sym, ◌∙◌, add-zero, arith, append_assoc, append-nil, sum_by}
 use Rattle.std.proofs.lemmas.List.Sums.{sum_by-cons}
@@ -83,11 +83,11 @@ module _ {X S : Type 0} (facts : X → LexemeFacts) (index : S → ℕ) (g : Gra
       ∙ ap (λ n. (inner ++ rest) ++ below a.0 n a.1.now) number
       ∙ append_assoc inner rest (below a.0 ((next + count aside.1.now) + counts above) a.1.now)
 
-  -- all that is left, with trees in hand, of which the first one's root has the number `next`
+  -- all that is left, with current trees, of which the first one's root has the number `next`
   abbrev pub left_lines : ℕ → ℕ → List (ℕ × Bor (List (Node X S))) → List (Node X S) → List ℕ
   left_lines parent next above left = below parent next left ++ later above (next + count left)
 
-  -- the first of the trees in hand is entered, and the others are put aside
+  -- the first of the current trees is entered, and the others are put aside
   pub left_enter : (parent next : ℕ) (above : List (ℕ × Bor (List (Node X S)))) (rest : Bor (List (Node X S))) (node : Node X S) (left : List (Node X S))
       → left ≡ node ∷ rest.now
       → line next node ++ (edge_line parent next ++ left_lines next (next + 1) (above ++ (parent, rest) ∷ []) (nodes_below node))
@@ -106,7 +106,7 @@ module _ {X S : Type 0} (facts : X → LexemeFacts) (index : S → ℕ) (g : Gra
       ∙ ap (λ n. below parent next (node ∷ rest.now) ++ later above n) sum
       ∙ ap (left_lines parent next above) (sym is)
 
-  -- no tree is in hand, and those that were put aside last are taken again
+  -- no current tree is left, and those that were put aside last are taken again
   pub left_turn : (parent next : ℕ) (above : List (ℕ × Bor (List (Node X S)))) (aside : ℕ × Bor (List (Node X S)))
       → left_lines aside.0 next above aside.1.now ≡ left_lines parent next (above ++ aside ∷ []) []
   left_turn parent next above aside =

@@ -1,4 +1,4 @@
--- A tree that is being made again, told by the walk through all of it.
+-- A tree that is being cloned, as the walk through all of it.
 use Rattle.std.proofs.Common.{◌≡◌, ℕ, suc, ◌+◌, List, [], ◌∷◌, ◌++◌, length, ap, sym, ◌∙◌, append_assoc, append-nil, arith, length-append, Vec}
 use Rattle.std.specs.declared.alloc.Global.{Global}
 use Rattle.lrpar_grammar_places.specs.declared.span.RIdx.{RIdx}
@@ -10,17 +10,17 @@ use Rattle.lrpar_parse_trees.specs.Walks.{walk, walks, children}
 use Rattle.lrpar_parse_trees.proofs.WeightLemmas.{weights}
 use Rattle.lrpar_parse_trees.proofs.WalkLemmas.{walk_out, walks_append, visit_nonterm, children_nonterm, visit_term, children_term}
 
--- of the rules below, the lowest first: what the walk meets before it comes to the tree in hand
+-- of the rules below, the lowest first: what the walk meets before it comes to the current tree
 abbrev pub opened : {X S : Type 0} → List (Growing X S) → List (Visit X S)
 opened [] = []
 opened (f ∷ fs) = Entered f.ridx.0 (suc (length f.made.items + length f.left.now)) ∷ (walks f.made.items ++ opened fs)
 
--- what it meets behind that
+-- what it meets after that
 abbrev pub closing : {X S : Type 0} → List (Growing X S) → List (Visit X S)
 closing [] = []
 closing (f ∷ fs) = closing fs ++ walks f.left.now
 
--- all of it, with a rule in hand over trees that are made and trees that are left
+-- all of it, with a current rule over trees that are made and trees that are left
 abbrev pub whole : {X S : Type 0} → List (Growing X S) → S → List (Node X S) → List (Node X S) → List (Visit X S)
 whole below r made left = opened below ++ (Entered r (length made + length left) ∷ (walks made ++ (walks left ++ closing below)))
 
@@ -44,7 +44,7 @@ pub closing_push : {X S : Type 0} (fs : List (Growing X S)) (f : Growing X S) �
 closing_push [] f = sym (append-nil (walks f.left.now))
 closing_push (e ∷ fs) f = ap (λ vs. vs ++ walks e.left.now) (closing_push fs f) ∙ append_assoc (walks f.left.now) (closing fs) (walks e.left.now)
 
--- a tree that is made again takes its place
+-- the clone of a tree takes its place
 pub whole_made : {X S : Type 0} (below : List (Growing X S)) (r : S) (made left : List (Node X S)) (old new : Node X S) → walk new ≡ walk old
     → whole below r (made ++ new ∷ []) left ≡ whole below r made (old ∷ left)
 whole_made below r made left old new same =

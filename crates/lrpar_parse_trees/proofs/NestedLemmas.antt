@@ -1,4 +1,4 @@
--- What is left to write of a tree on one line, by what a loop has left: the trees in hand, and those of each level above.
+-- What is left to write of a tree on one line, by what a loop has left: the current trees, and those of each level above.
 use denote.Ref.{Bor}
 use Rattle.std.proofs.Common.{◌≡◌, ℕ, ◌+◌, ◌*◌, ◌<◌, Bool, true, false, List, [], ◌∷◌, ◌++◌, length, map, refl, ap, sym, ◌∙◌, arith, append_assoc, append-nil, length-append}
 use Rattle.lrpar_grammar.specs.Grammar.{Grammar, rule_name}
@@ -21,7 +21,7 @@ layer_weight (Node-F.Nonterm ridx nodes) = refl
 pub weight_out : {X S : Type 0} (node : Node X S) → weight node ≡ 1 + weights (nodes_below node)
 weight_out {X = X} {S = S} node = fold_out-Node X S ℕ weight_step node ∙ layer_weight (out-Node X S node)
 
--- how many nodes stand in lists
+-- how many nodes are in lists
 abbrev pub weights_of : {X S : Type 0} → List (Bor (List (Node X S))) → ℕ
 weights_of [] = 0
 weights_of (rest ∷ below) = weights rest.now + weights_of below
@@ -42,7 +42,7 @@ module _ {X S : Type 0} (form : Form) (facts : X → LexemeFacts) (index : S →
   abbrev pub trees : Bool → List (Node X S) → List ℕ
   trees first nodes = joined form first (map text nodes)
 
-  -- what stands behind the front of a node
+  -- what follows the front of a node
   abbrev pub further : Bool → List (Node X S) → List ℕ
   further false nodes = []
   further true nodes = trees true nodes ++ end_of form
@@ -53,7 +53,7 @@ module _ {X S : Type 0} (form : Form) (facts : X → LexemeFacts) (index : S →
   layer_text (Node-F.Term x) = sym (append-nil _)
   layer_text (Node-F.Nonterm ridx nodes) = append_assoc (rule_front form (rule_name g (index ridx.0))) (trees true nodes.items) (end_of form)
 
-  -- the text of a tree: its front, and what stands behind that
+  -- the text of a tree: its front, and what follows it
   pub text_out : (node : Node X S) → text node ≡ front node ++ further (is_rule node) (nodes_below node)
   text_out node = fold_out-Node X S (List ℕ) (nested_step form facts index g input) node ∙ layer_text (out-Node X S node)
 
@@ -73,11 +73,11 @@ module _ {X S : Type 0} (form : Form) (facts : X → LexemeFacts) (index : S →
       ap (λ l. l ++ (trees false b.now ++ end_of form)) (later_push below rest)
       ∙ append_assoc (trees false rest.now ++ end_of form) (later below) (trees false b.now ++ end_of form)
 
-  -- all that is left, with trees in hand, of which the next one is the first of its node or not
+  -- all that is left, with current trees, of which the next one is the first of its node or not
   abbrev pub left_text : Bool → List (Bor (List (Node X S))) → List (Node X S) → List ℕ
   left_text first below left = trees first left ++ (end_of form ++ later below)
 
-  -- the first of the trees in hand stands in front of the others
+  -- the first of the current trees comes before the others
   first_text : (first : Bool) (below : List (Bor (List (Node X S)))) (rest : Bor (List (Node X S))) (node : Node X S) (left : List (Node X S))
       → left ≡ node ∷ rest.now
       → gap form first ++ (text node ++ left_text false below rest.now) ≡ left_text first below left
@@ -114,7 +114,7 @@ module _ {X S : Type 0} (form : Form) (facts : X → LexemeFacts) (index : S →
       let whole : text node ≡ front node = leaf_text node leaf in
       ap (λ l. gap form first ++ (l ++ left_text false below rest.now)) (sym whole) ∙ first_text first below rest node left is
 
-  -- no tree is in hand, and those that were put aside last are taken again
+  -- no current tree is left, and those that were put aside last are taken again
   pub left_turn : (first : Bool) (below : List (Bor (List (Node X S)))) (rest : Bor (List (Node X S)))
       → end_of form ++ left_text false below rest.now ≡ left_text first (below ++ rest ∷ []) []
   left_turn first below rest =
@@ -152,7 +152,7 @@ pub turn_smaller : {X S : Type 0} (below : List (Bor (List (Node X S)))) (rest :
     → left_measure below rest.now < left_measure (below ++ rest ∷ []) []
 turn_smaller below rest = omega (arith, weights_push below rest, length-append below (rest ∷ []))
 
--- three texts are added, one behind the other
+-- three texts are added, one after the other
 pub added_thrice : (old a b c mid next new : List ℕ) → mid ≡ old ++ a → next ≡ mid ++ b → new ≡ next ++ c → new ≡ old ++ (a ++ b ++ c)
 added_thrice old a b c mid next new first second third =
     third ∙ ap (λ l. l ++ c) (second ∙ ap (λ l. l ++ b) first ∙ append_assoc old a b) ∙ append_assoc old (a ++ b) c

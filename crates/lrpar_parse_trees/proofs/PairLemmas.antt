@@ -3,11 +3,11 @@ use Rattle.std.proofs.Common.{◌≡◌, ◌+◌, arith, List, [], ◌∷◌, �
 use Rattle.lrpar_parse_trees.specs.declared.node.Node.{Node}
 use Rattle.lrpar_parse_trees.specs.declared.node.equal.Pair.{Pair}
 
--- as many on both sides
+-- the same number on both sides
 abbrev pub IsEven : {X S : Type 0} → Pair X S → Type 0
 IsEven pair = length pair.nodes.now ≡ length pair.others.now
 
--- what comes after what is in hand: of the pairs, the last one first
+-- what comes after the current trees: of the pairs, the last one first
 abbrev pub later_nodes : {X S : Type 0} → List (Pair X S) → List (Node X S)
 later_nodes [] = []
 later_nodes (pair ∷ pairs) = later_nodes pairs ++ pair.nodes.now
@@ -24,7 +24,7 @@ pub later_others_push : {X S : Type 0} (pairs : List (Pair X S)) (pair : Pair X 
 later_others_push [] pair = sym (append-nil pair.others.now)
 later_others_push (p ∷ ps) pair = ap (λ ns. ns ++ p.others.now) (later_others_push ps pair) ∙ append_assoc pair.others.now (later_others ps) p.others.now
 
--- as many are left behind the first
+-- the same number is left after the first
 pub rests_even : {A : Type 0} (nodes others rest others_rest : List A) → length rest + 1 ≡ length nodes → length others_rest + 1 ≡ length others
     → length nodes ≡ length others → length rest ≡ length others_rest
 rests_even nodes others rest others_rest one other even = omega arith

@@ -40,7 +40,7 @@ shown_nonterm {X = X} {S = S} lexeme number node r nodes is =
     ∙ fold-roll-Node X S (Option (List ℕ)) (shown_step lexeme number) (Node-F.Nonterm r nodes)
     ∙ ap (λ t. shown_rule (number r.0) ++? t ++? shown_end) (items_map (shown lexeme number) [] nodes.items)
 
--- what is left after the trees in hand, the last list first
+-- what is left after the current trees, the last list first
 abbrev pub later_shown : {A : Type 0} → (A → Option (List ℕ)) → List (Bor (List A)) → Option (List ℕ)
 later_shown text [] = Some []
 later_shown text (rest ∷ rests) = later_shown text rests ++? (debug_items text comma_space rest.now ++? shown_end)
@@ -54,11 +54,11 @@ later_push text (r ∷ rs) rest =
     let last = debug_items text comma_space r.now ++? shown_end in
     ap (λ t. t ++? last) (later_push text rs rest) ∙ then_text_assoc first (later_shown text rs) last
 
--- all that is left, with trees in hand after a mark
+-- all that is left, with current trees after a mark
 abbrev pub left_shown : {A : Type 0} → (A → Option (List ℕ)) → List ℕ → List A → List (Bor (List A)) → Option (List ℕ)
 left_shown text mark nodes left = (debug_items text mark nodes ++? shown_end) ++? later_shown text left
 
--- the first of the trees in hand, and what is left then
+-- the first of the current trees, and what is left then
 left_first : {A : Type 0} (text : A → Option (List ℕ)) (mark : List ℕ) (node : A) (rest nodes : List A) (left : List (Bor (List A))) → nodes ≡ node ∷ rest
     → left_shown text mark nodes left ≡ Some mark ++? (text node ++? left_shown text comma_space rest left)
 left_first text mark node rest nodes left is =
@@ -89,7 +89,7 @@ left_nonterm lexeme number mark node r below rest nodes inner left aside is at s
     ∙ ap (λ t. Some mark ++? (shown_rule (number r.0) ++? (items ++? t))) (sym (ap (later_shown text) put ∙ later_push text left rest))
     ∙ ap (λ ns. Some mark ++? (shown_rule (number r.0) ++? left_shown text [] ns aside)) (sym same)
 
--- no tree is in hand: the end of a rule, and what was put aside last
+-- no current tree is left: the end of a rule, and what was put aside last
 pub left_end : {A : Type 0} (text : A → Option (List ℕ)) (mark : List ℕ) (nodes : List A) (rest : Bor (List A)) (left aside : List (Bor (List A)))
     → nodes ≡ [] → aside ≡ left ++ rest ∷ [] → left_shown text mark nodes aside ≡ shown_end ++? left_shown text comma_space rest.now left
 left_end text mark nodes rest left aside none put =

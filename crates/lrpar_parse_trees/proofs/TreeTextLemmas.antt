@@ -22,7 +22,7 @@ pub met_out : {X S : Type 0} (node : Node X S) (level : ℕ) → met_from node l
 met_out {X = X} {S = S} node level =
     ap (λ (f : ℕ → List (Met X S)). f level) (fold_out-Node X S (ℕ → List (Met X S)) met_step node) ∙ layer_from (out-Node X S node) level
 
--- what is left behind the trees in hand: the trees of each level, the highest level first
+-- what is left after the current trees: the trees of each level, the highest level first
 abbrev pub later : {X S : Type 0} → ℕ → List (Bor (List (Node X S))) → List (Met X S)
 later level [] = []
 later level (rest ∷ below) = later (level + 1) below ++ all_met level rest.now
@@ -38,11 +38,11 @@ later_push level (b ∷ bs) rest =
     ∙ append_assoc (all_met (level + 1 + length bs) rest.now) (later (level + 1) bs) (all_met level b.now)
     ∙ ap (λ n. all_met n rest.now ++ (later (level + 1) bs ++ all_met level b.now)) same
 
--- all that is left, with some trees in hand
+-- all that is left, with current trees
 abbrev pub left_met : {X S : Type 0} → List (Bor (List (Node X S))) → List (Node X S) → List (Met X S)
 left_met below left = all_met (length below + 1) left ++ later 1 below
 
--- the first of the trees in hand is entered, and the others are put aside
+-- the first of the current trees is entered, and the others are put aside
 pub left_enter : {X S : Type 0} (below : List (Bor (List (Node X S)))) (rest : Bor (List (Node X S))) (node : Node X S)
     → left_met below (node ∷ rest.now) ≡ root_at (length (below ++ rest ∷ [])) node ∷ left_met (below ++ rest ∷ []) (nodes_below node)
 left_enter below rest node =
@@ -55,7 +55,7 @@ left_enter below rest node =
     ∙ ap (λ ms. root_at (n + 1) node ∷ (all_met (n + 1 + 1) (nodes_below node) ++ ms)) (sym (later_push 1 below rest))
     ∙ ap (λ m. root_at m node ∷ (all_met (m + 1) (nodes_below node) ++ later 1 (below ++ rest ∷ []))) longer
 
--- no tree is in hand, and those that were put aside last are taken again
+-- no current tree is left, and those that were put aside last are taken again
 pub left_turn : {X S : Type 0} (below : List (Bor (List (Node X S)))) (rest : Bor (List (Node X S))) → left_met (below ++ rest ∷ []) [] ≡ left_met below rest.now
 left_turn below rest =
     let turned : 1 + length below ≡ length below + 1 = omega arith in
@@ -72,7 +72,7 @@ pub fit_whole : {X S : Type 0} (P : Met X S → Type 0) (node : Node X S) (level
     → AllByRecursion P (met_from node level)
 fit_whole P node level root below = rw (met_out node level) (root, below)
 
--- the first tree in hand is printed
+-- the first current tree is printed
 pub text_enter : {X S : Type 0} (line : Met X S → List ℕ) (below : List (Bor (List (Node X S)))) (rest : Bor (List (Node X S))) (node : Node X S) (left : List (Node X S)) (out first : List ℕ)
     → left ≡ node ∷ rest.now → first ≡ out ++ line (root_at (length (below ++ rest ∷ [])) node)
     → first ++ flat_map line (left_met (below ++ rest ∷ []) (nodes_below node)) ≡ out ++ flat_map line (left_met below left)
@@ -86,14 +86,14 @@ pub fit_enter : {X S : Type 0} (P : Met X S → Type 0) (below : List (Bor (List
     → left ≡ node ∷ rest.now → AllByRecursion P (left_met below left) → AllByRecursion P (root_at (length (below ++ rest ∷ [])) node ∷ left_met (below ++ rest ∷ []) (nodes_below node))
 fit_enter {X = X} {S = S} P below rest node left is all = let Q : List (Met X S) → Type 0 = AllByRecursion P in subst Q (ap (left_met below) is ∙ left_enter below rest node) all
 
--- and back: the first tree in hand fits where its root does, and what is left behind that
+-- and back: the first current tree fits if its root and what is left after that do
 pub fit_left : {X S : Type 0} (P : Met X S → Type 0) (below : List (Bor (List (Node X S)))) (rest : Bor (List (Node X S))) (node : Node X S) (left : List (Node X S))
     → left ≡ node ∷ rest.now → P (root_at (length (below ++ rest ∷ [])) node) → AllByRecursion P (left_met (below ++ rest ∷ []) (nodes_below node))
     → AllByRecursion P (left_met below left)
 fit_left {X = X} {S = S} P below rest node left is root all =
     let Q : List (Met X S) → Type 0 = AllByRecursion P in subst Q (sym (ap (left_met below) is ∙ left_enter below rest node)) (root, all)
 
--- a tree fits where its root does, and what is left behind that
+-- a tree fits if its root and what is left after that do
 pub fit_begins : {X S : Type 0} (P : Met X S → Type 0) (node : Node X S) → P (root_at 0 node) → AllByRecursion P (left_met [] (nodes_below node))
     → AllByRecursion P (met_from node 0)
 fit_begins P node root all = fit_whole P node 0 root (all_front P (all_met 1 (nodes_below node)) [] all)
@@ -106,7 +106,7 @@ text_begins line node out e =
     ∙ ap (λ ms. line (root_at 0 node) ++ flat_map line ms) (append-nil (all_met (0 + 1) (nodes_below node)))
     ∙ ap (flat_map line) (sym (met_out node 0))
 
--- how many nodes are left when the first tree in hand is entered
+-- how many nodes are left when the first current tree is entered
 pub left_length : {X S : Type 0} (below : List (Bor (List (Node X S)))) (rest : Bor (List (Node X S))) (node : Node X S) (left : List (Node X S))
     → left ≡ node ∷ rest.now → length (left_met below left) ≡ suc (length (left_met (below ++ rest ∷ []) (nodes_below node)))
 left_length below rest node left is = ap length (ap (left_met below) is ∙ left_enter below rest node)
@@ -122,7 +122,7 @@ left_falls below aside rest node left inner is put same =
     rw (put, same) (entered_falls (length (left_met below left)) (length (left_met (below ++ rest ∷ []) (nodes_below node))) (length below) (length (below ++ rest ∷ []))
     (left_length below rest node left is) (length_push below rest))
 
--- no tree is in hand, and those that were put aside last are taken again
+-- no current tree is left, and those that were put aside last are taken again
 pub left_turned : {X S : Type 0} (below aside : List (Bor (List (Node X S)))) (rest : Bor (List (Node X S))) (left : List (Node X S))
     → length left ≡ 0 → aside ≡ below ++ rest ∷ [] → left_met aside left ≡ left_met below rest.now
 left_turned below aside rest left none put = rw (nil_from_length left none, put) (left_turn below rest)
@@ -149,7 +149,7 @@ pub text_ends : {X S : Type 0} (line : Met X S → List ℕ) (below : List (Bor 
 text_ends line below left out whole none lowest is =
     sym (append-nil out) ∙ ap (λ ms. out ++ flat_map line ms) (sym (left_none below left none lowest)) ∙ is
 
--- the first tree in hand fits at its level
+-- the first current tree fits at its level
 pub fit_first : {X S : Type 0} (P : Met X S → Type 0) (below aside : List (Bor (List (Node X S)))) (rest : Bor (List (Node X S))) (node : Node X S) (left : List (Node X S))
     (level : ℕ) → left ≡ node ∷ rest.now → aside ≡ below ++ rest ∷ [] → level ≡ length aside → AllByRecursion P (left_met below left) → P (root_at level node)
 fit_first P below aside rest node left level is put at all =

@@ -33,7 +33,7 @@ walk_out {X = X} {S = S} node = fold_out-Node X S (List (Visit X S)) walk_step n
 pub weight_out : {X S : Type 0} (node : Node X S) → weight node ≡ 1 + weights (children node)
 weight_out {X = X} {S = S} node = fold_out-Node X S ℕ weight_step node ∙ layer_weight (out-Node X S node)
 
--- what stands at a node of either kind
+-- the visit of a node of either kind
 pub visit_term : {X S : Type 0} (node : Node X S) (x : X) → node ≡ Term x → visit node ≡ Met x
 visit_term node x is = ap visit is ∙ search (rules, the_lemmas)
 
@@ -60,7 +60,7 @@ walks_enter node rest =
 pub weights_enter : {X S : Type 0} (node : Node X S) (rest : List (Node X S)) → weights (node ∷ rest) ≡ 1 + weights (children node ++ rest)
 weights_enter node rest = omega (arith, weight_out node, weights_append (children node) rest)
 
--- equal nodes have as many children
+-- equal nodes have the same number of children
 visits_even : {X S : Type 0} (eq : X → X → Bool) (same : S → S → Bool) (a b : Node-F X S (Node X S))
     → visit_eq eq same (layer_visit a) (layer_visit b) ≡ true → length (layer_children a) ≡ length (layer_children b)
 visits_even eq same (Node-F.Term x) (Node-F.Term y) like = refl
@@ -73,7 +73,7 @@ pub children_even : {X S : Type 0} (eq : X → X → Bool) (same : S → S → B
     → visit_eq eq same (visit a) (visit b) ≡ true → length (children a) ≡ length (children b)
 children_even {X = X} {S = S} eq same a b like = visits_even eq same (out-Node X S a) (out-Node X S b) like
 
--- trees are equal where their roots are alike and the trees below these are equal
+-- trees are equal if their roots are alike and the trees below these are equal
 node_out : {X S : Type 0} (eq : X → X → Bool) (same : S → S → Bool) (a b : Node X S)
     → node_eq eq same a b ≡ (visit_eq eq same (visit a) (visit b) && nodes_eq eq same (children a) (children b))
 node_out eq same a b = rw (walk_out a, walk_out b) refl
@@ -94,7 +94,7 @@ leaf_alike eq same a b x is like =
     let none : true ≡ nodes_eq eq same (children a) (children b) = rw (left, right) refl in
     none ∙ node_alike eq same a b like
 
--- the same of a rule, over lists of its trees and of the other's; and these are as many
+-- the same for a rule, over lists of its trees and of the other's, which have the same length
 pub alike_even : {X S : Type 0} (eq : X → X → Bool) (same : S → S → Bool) (a b : Node X S) (r : RIdx S) (nodes : Vec (Node X S) Global) (left right : List (Node X S))
     → a ≡ Nonterm r nodes → true ≡ visit_eq eq same (visit a) (visit b) → left ≡ nodes.items → right ≡ children b → length left ≡ length right
 alike_even eq same a b r nodes left right is like l o =
@@ -110,7 +110,7 @@ split_step : (like : Bool) (e f g : Bool) → (like ≡ true → e ≡ (f && g))
 split_step false e f g rest = refl
 split_step true e f g rest = rest refl
 
--- as many trees on both sides, with walks behind them, are equal where the trees are and what is behind them
+-- two lists of the same length, each with a walk after it, are equal if the trees are and what comes after them is
 pub nodes_eq_split : {X S : Type 0} (eq : X → X → Bool) (same : S → S → Bool) (n : ℕ) (left right : List (Node X S)) (s t : List (Visit X S))
     → length left ≡ length right → weights left ≤ n
     → pointwise (visit_eq eq same) (walks left ++ s) (walks right ++ t) ≡ (nodes_eq eq same left right && pointwise (visit_eq eq same) s t)
@@ -130,7 +130,7 @@ nodes_eq_append eq same left right more others even =
     rw (walks_append left more, walks_append right others)
     (nodes_eq_split eq same (weights left) left right (walks more) (walks others) even (omega arith))
 
--- where the first nodes are alike, their children stand in their places
+-- if the first nodes are alike, their children are in their places
 pub nodes_eq_enter : {X S : Type 0} (eq : X → X → Bool) (same : S → S → Bool) (a b : Node X S) (like : Bool) (rest others nodes others' more more' : List (Node X S))
     → nodes ≡ a ∷ rest → others' ≡ b ∷ others → like ≡ visit_eq eq same (visit a) (visit b)
     → nodes_eq eq same (nodes ++ more) (others' ++ more')

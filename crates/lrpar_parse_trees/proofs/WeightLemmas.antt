@@ -54,7 +54,7 @@ pub weights_append : {X S : Type 0} (ms ns : List (Node X S)) → weights (ms ++
 weights_append [] ns = omega arith
 weights_append (m ∷ ms) ns = omega (arith, weights_append ms ns)
 
--- a tree in hand is entered, with the trees below it in hand, and the others are put aside: what is left falls
+-- a current tree is entered, the trees below it become the current ones, and the others are put aside: what is left falls
 entered_falls : (whole below after n m : ℕ) → whole ≡ 1 + (below + after) → m ≡ n + 1 → 2 * (below + after) + m < 2 * whole + n
 entered_falls whole below after n m is longer = omega arith
 
@@ -63,7 +63,7 @@ pub weights_fall : {X S : Type 0} (inner below rest more later : List (Node X S)
 weights_fall inner below rest more later whole n m is same aside longer =
     rw (same, aside, weights_append below (rest ++ more)) (entered_falls whole (weights below) (weights (rest ++ more)) n m is longer)
 
--- a tree in hand is done with
+-- a current tree is finished
 skipped_falls : (whole below after n m : ℕ) → whole ≡ 1 + (below + after) → m ≡ n → 2 * after + m < 2 * whole + n
 skipped_falls whole below after n m is same = omega arith
 
@@ -71,7 +71,7 @@ pub weights_skip : {X S : Type 0} (below : ℕ) (rest more later : List (Node X 
     → later ≡ more → m ≡ n → 2 * weights (rest ++ later) + m < 2 * whole + n
 weights_skip below rest more later whole n m is same even = rw same (skipped_falls whole below (weights (rest ++ more)) n m is even)
 
--- no tree is in hand, and those that were put aside last are taken again
+-- no current tree is left, and those that were put aside last are taken again
 turned_falls : (whole n m : ℕ) → n ≡ m + 1 → 2 * whole + m < 2 * whole + n
 turned_falls whole n m longer = omega arith
 

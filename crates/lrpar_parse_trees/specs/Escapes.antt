@@ -1,4 +1,4 @@
--- Texts between double quotes, as JSON has them.
+-- Texts between double quotes, escaped as in JSON.
 use Rattle.std.specs.Prelude.{◌==◌, ◌+◌, ◌/◌, ◌%◌, ◌∷◌, if◌then◌else◌, ℕ, List, [], encode_utf8, nat_lt}
 use Rattle.std.specs.List.{flat_map}
 use Rattle.std.specs.Str.{chars}
@@ -11,7 +11,7 @@ hex_digit n = if nat_lt n 10 then n + 48 else n + 87
 abbrev pub hex_escape : ℕ → List ℕ
 hex_escape n = 92 ∷ 117 ∷ 48 ∷ 48 ∷ hex_digit (n / 16) ∷ hex_digit (n % 16) ∷ []
 
--- a character: `"` and `\` behind a `\`, line feed, carriage return and tab by a letter, other control characters by their numbers
+-- a character: `"` and `\` after a `\`, line feed, carriage return and tab as a letter, other control characters as numbers
 abbrev pub escaped_char : ℕ → List ℕ
 escaped_char c =
     if c == 34 then 92 ∷ 34 ∷ []

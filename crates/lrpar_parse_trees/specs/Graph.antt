@@ -9,7 +9,7 @@ use Rattle.lrpar_parse_trees.specs.declared.node.Node.TheOpen.{Node-F}
 use Rattle.lrpar_parse_trees.specs.declared.node.Node.TheFolds.{fold-Node}
 use Rattle.lrpar_parse_trees.specs.Labels.{label_text}
 
--- the line of a node of a rule: its number, and the rule's name
+-- the line of a rule's node: its number, and the rule's name
 abbrev pub rule_line : ℕ → List ℕ → List ℕ
 rule_line number name = codes "  n" ++ decimal number ++ codes " [label=\"" ++ label_text name ++ codes "\"];\n"
 
@@ -21,7 +21,7 @@ leaf_label name text = (if bytes_eq name text then [] else label_text name ++ co
 abbrev pub leaf_line : ℕ → List ℕ → List ℕ → List ℕ
 leaf_line number name text = codes "  n" ++ decimal number ++ codes " [label=\"" ++ leaf_label name text ++ codes "\", shape=box];\n"
 
--- the same of a lexeme of the grammar over the input
+-- the line of a lexeme of the grammar over the input
 abbrev pub lexeme_line : Grammar → List ℕ → ℕ → LexemeFacts → List ℕ
 lexeme_line g input number x =
     leaf_line number (option_map_or (λ name. name) (token_name g x.token) []) (slice_range input x.span.start x.span.end)
@@ -30,18 +30,18 @@ lexeme_line g input number x =
 abbrev pub edge_line : ℕ → ℕ → List ℕ
 edge_line parent child = codes "  n" ++ decimal parent ++ codes " -> n" ++ decimal child ++ codes ";\n"
 
--- a tree that is drawn: how many nodes it has, and its lines, once the number of its root and the line of the edge to that are known
+-- a tree that is drawn: how many nodes it has, and its lines, given the number of its root and the line of the edge to the root
 pub record Drawn : Type 0 where
   pub nodes : ℕ
   pub lines : ℕ → List ℕ → List ℕ
 
--- the lines of the trees below a node, of which the next one's root has this number, and each other's the first number after
--- those of the tree before it
+-- the lines of the trees below a node: the first root has the number `next`, and each later root the first number after the tree
+-- before it
 abbrev pub lines_below : ℕ → ℕ → List Drawn → List ℕ
 lines_below parent next [] = []
 lines_below parent next (tree ∷ trees) = tree.lines next (edge_line parent next) ++ lines_below parent (next + tree.nodes) trees
 
--- a node over its trees, whose numbers come after its own
+-- a node over its trees; their numbers come after its own
 abbrev pub drawn_step : {X S : Type 0} → (X → LexemeFacts) → (S → ℕ) → Grammar → List ℕ → Node-F X S Drawn → Drawn
 drawn_step facts index g input (Node-F.Term x) = record {
   nodes = 1;

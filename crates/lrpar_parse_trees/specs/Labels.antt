@@ -1,4 +1,4 @@
--- Texts as labels of Graphviz have them, between double quotes.
+-- Texts between double quotes, escaped as in labels of Graphviz.
 use Rattle.std.specs.Prelude.{◌==◌, ◌||◌, ◌&&◌, ◌∷◌, if◌then◌else◌, ℕ, Bool, List, codes, encode_utf8, nat_lt}
 use Rattle.std.specs.List.{flat_map}
 use Rattle.std.specs.Str.{chars}
@@ -8,8 +8,8 @@ use Rattle.lrpar_parse_trees.specs.Escapes.{hex_escape}
 abbrev pub is_control : ℕ → Bool
 is_control c = nat_lt c 32 || (nat_lt 126 c && nat_lt c 160)
 
--- A character of a label, which Graphviz shows: `"` and `\` as they are, a line feed as the end of a line, and `&` as it is, which would
--- begin the name of a character; a tab as `\t`, a carriage return as `\r`, and other control characters by their numbers, as `\u0001`.
+-- A character of a label, escaped so that Graphviz shows `"`, `\` and `&` unchanged, a line feed as the end of a line, a tab as `\t`, a
+-- carriage return as `\r`, and another control character as its number, like `\u0001`.
 abbrev pub label_char : ℕ → List ℕ
 label_char c =
     if c == 34 then codes "\\\""

@@ -1,4 +1,4 @@
--- What is written of a node of a graph before its trees.
+-- The lines of a graph: those of a node, and those of the trees below it.
 use Rattle.std.specs.Prelude.{ℕ, List, map}
 use Rattle.lrpar_grammar.specs.Grammar.{Grammar, rule_name}
 use Rattle.lrpar_grammar.specs.Sentence.{LexemeFacts}
@@ -15,6 +15,6 @@ layer_line facts index g input number (Node-F.Nonterm ridx nodes) = rule_line nu
 abbrev pub node_line : {X S : Type 0} → (X → LexemeFacts) → (S → ℕ) → Grammar → List ℕ → ℕ → Node X S → List ℕ
 node_line {X = X} {S = S} facts index g input number node = layer_line facts index g input number (out-Node X S node)
 
--- the lines of the trees below the node of this number, of which the first one's root has the number `next`
+-- the lines of the trees below the node of this number; the first root has the number `next`
 abbrev pub trees_lines : {X S : Type 0} → (X → LexemeFacts) → (S → ℕ) → Grammar → List ℕ → ℕ → ℕ → List (Node X S) → List ℕ
 trees_lines facts index g input parent next nodes = lines_below parent next (map (drawn facts index g input) nodes)

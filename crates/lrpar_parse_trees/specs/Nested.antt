@@ -1,4 +1,4 @@
--- Trees on one line: each node around the texts of its trees.
+-- Trees on one line: the text of a node encloses the texts of its trees.
 use Rattle.std.specs.Prelude.{◌∷◌, ◌++◌, if◌then◌else◌, ℕ, Bool, true, false, List, [], bytes_eq, codes, slice_range}
 use Rattle.std.specs.Fmt.{decimal}
 use Rattle.std.specs.Option.{option_map_or}
@@ -11,18 +11,18 @@ use Rattle.lrpar_parse_trees.specs.Escapes.{escaped}
 use Rattle.lrpar_parse_trees.specs.declared.form.Form.{Form}
 use Rattle.lrpar_parse_trees.specs.declared.form.Form.TheVariants.{Brackets, Json}
 
--- what stands in front of each tree of a node, of which this is the first or not
+-- what comes before a tree of a node: its first tree, or another one
 abbrev pub gap : Form → Bool → List ℕ
 gap Brackets first = codes " "
 gap Json true = []
 gap Json false = codes ","
 
--- what stands behind the trees of a node
+-- what comes after the trees of a node
 abbrev pub end_of : Form → List ℕ
 end_of Brackets = codes " ]"
 end_of Json = codes "]}"
 
--- what stands in front of the trees of a node: the name of its rule
+-- what comes before the trees of a node: the name of its rule, and an opening bracket
 abbrev pub bracket_rule : List ℕ → List ℕ
 bracket_rule name = name ++ codes "["
 
@@ -33,7 +33,7 @@ abbrev pub rule_front : Form → List ℕ → List ℕ
 rule_front Brackets name = bracket_rule name
 rule_front Json name = json_rule name
 
--- a lexeme in brackets: its token's name, where that isn't its text, and its text between double quotes
+-- a lexeme in the form with brackets: its token's name, if that isn't its text, and its text between double quotes
 abbrev pub bracket_leaf : List ℕ → List ℕ → List ℕ
 bracket_leaf name text = (if bytes_eq name text then [] else name ++ codes " ") ++ codes "\"" ++ escaped text ++ codes "\""
 
@@ -51,12 +51,12 @@ abbrev pub leaf_text : Form → List ℕ → List ℕ → ℕ → ℕ → Bool �
 leaf_text Brackets name text start end faulty = bracket_leaf name text
 leaf_text Json name text start end faulty = json_leaf name text start end faulty
 
--- the same of a lexeme of the grammar over the input
+-- the text of a lexeme of the grammar over the input
 abbrev pub lexeme_text : Form → Grammar → List ℕ → LexemeFacts → List ℕ
 lexeme_text form g input x =
     leaf_text form (option_map_or (λ name. name) (token_name g x.token) []) (slice_range input x.span.start x.span.end) x.span.start x.span.end x.faulty
 
--- the texts of trees, each behind what stands in front of it
+-- the texts of trees, each after its separator
 abbrev pub joined : Form → Bool → List (List ℕ) → List ℕ
 joined form first [] = []
 joined form first (text ∷ texts) = gap form first ++ text ++ joined form false texts

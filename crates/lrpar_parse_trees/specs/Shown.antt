@@ -1,4 +1,4 @@
--- The text that `{:?}` writes of a tree, where those of its lexemes and of its rules' numbers are known.
+-- The text that `{:?}` writes for a tree, over the `Debug` texts of its lexemes and of its rules' numbers.
 use Rattle.std.specs.Prelude.{ℕ, List, [], Option, Some, codes}
 use Rattle.std.specs.Fmt.{◌++?◌, debug_items}
 use Rattle.lrpar_parse_trees.specs.declared.node.Node.{Node}
@@ -13,7 +13,7 @@ shown_lexeme lexeme = Some (codes "Term { lexeme: ") ++? lexeme ++? Some (codes 
 abbrev pub shown_rule : Option (List ℕ) → Option (List ℕ)
 shown_rule number = Some (codes "Nonterm { ridx: RIdx(") ++? number ++? Some (codes "), nodes: [")
 
--- the end of such a list, and of the rule
+-- the end of the list of trees, and of the rule
 abbrev pub shown_end : Option (List ℕ)
 shown_end = Some (codes "] }")
 

@@ -1,4 +1,4 @@
--- The text of a tree of the program: its nodes from the root down and from left to right, a line each.
+-- The text of a tree of the program: a line for each node, from the root down and from left to right.
 use Rattle.std.specs.Prelude.{◌<◌, ◌+◌, ℕ, List, [], ◌∷◌, ◌++◌, replicate, slice_range}
 use Rattle.std.specs.Option.{option_map_or}
 use Rattle.std.specs.List.{AllByRecursion, flat_map}
@@ -10,17 +10,17 @@ use Rattle.lrpar_parse_trees.specs.declared.node.Node.TheOpen.{Node-F}
 use Rattle.lrpar_parse_trees.specs.declared.node.Node.TheViews.{out-Node}
 use Rattle.lrpar_parse_trees.specs.declared.node.Node.TheFolds.{fold-Node}
 
--- a node that is met at a level: a lexeme, or a rule
+-- a node at a level: a lexeme, or a rule
 pub data Met (X S : Type 0) : Type 0 where
   LeafAt : (level : ℕ) (lexeme : X) → Met X S
   RuleAt : (level : ℕ) (rule : S) → Met X S
 
--- a node at a level, over what is met in its children, which stand a level deeper
+-- a node and those below it, which are a level deeper
 abbrev pub met_step : {X S : Type 0} → Node-F X S (ℕ → List (Met X S)) → ℕ → List (Met X S)
 met_step (Node-F.Term x) level = LeafAt level x ∷ []
 met_step (Node-F.Nonterm ridx children) level = RuleAt level ridx.0 ∷ flat_map (λ child. child (level + 1)) children.items
 
--- the nodes of a tree whose root stands at a level
+-- the nodes of a tree whose root is at a level
 abbrev pub met_from : {X S : Type 0} → Node X S → ℕ → List (Met X S)
 met_from {X = X} {S = S} = fold-Node X S (ℕ → List (Met X S)) met_step
 
@@ -38,8 +38,8 @@ met_line facts index g input (RuleAt level r) = line_at level (rule_name g (inde
 abbrev pub tree_text : {X S : Type 0} → (X → LexemeFacts) → (S → ℕ) → Grammar → List ℕ → Node X S → List ℕ
 tree_text facts index g input node = flat_map (met_line facts index g input) (met_from node 0)
 
--- A rule is the grammar's. A lexeme has one of its tokens, but for the end token, which has no name; and it lies in the input,
--- between two characters.
+-- A rule is the grammar's. A lexeme has a token of the grammar other than the end token, which has no name; and it starts and ends
+-- between two characters of the input.
 abbrev pub MetFits : {X S : Type 0} → (X → LexemeFacts) → (S → ℕ) → Grammar → List ℕ → Met X S → Type 0
 MetFits facts index g input (LeafAt level x) = ((facts x).token < end_token g) × IsPartOf input (facts x).span
 MetFits facts index g input (RuleAt level r) = index r < rules_len g
@@ -48,7 +48,7 @@ MetFits facts index g input (RuleAt level r) = index r < rules_len g
 abbrev pub TreeFits : {X S : Type 0} → (X → LexemeFacts) → (S → ℕ) → Grammar → List ℕ → Node X S → Type 0
 TreeFits facts index g input node = AllByRecursion (MetFits facts index g input) (met_from node 0)
 
--- the root of a tree, and the trees below it
+-- the root of a tree, at a level
 abbrev pub layer_met : {X S : Type 0} → ℕ → Node-F X S (Node X S) → Met X S
 layer_met level (Node-F.Term x) = LeafAt level x
 layer_met level (Node-F.Nonterm ridx nodes) = RuleAt level ridx.0
@@ -56,6 +56,7 @@ layer_met level (Node-F.Nonterm ridx nodes) = RuleAt level ridx.0
 abbrev pub root_at : {X S : Type 0} → ℕ → Node X S → Met X S
 root_at {X = X} {S = S} level node = layer_met level (out-Node X S node)
 
+-- the trees below the root
 abbrev pub layer_nodes : {X S : Type 0} → Node-F X S (Node X S) → List (Node X S)
 layer_nodes (Node-F.Term x) = []
 layer_nodes (Node-F.Nonterm ridx nodes) = nodes.items
@@ -63,6 +64,6 @@ layer_nodes (Node-F.Nonterm ridx nodes) = nodes.items
 abbrev pub nodes_below : {X S : Type 0} → Node X S → List (Node X S)
 nodes_below {X = X} {S = S} node = layer_nodes (out-Node X S node)
 
--- what is met in several trees at one level
+-- the nodes of several trees whose roots are at one level
 abbrev pub all_met : {X S : Type 0} → ℕ → List (Node X S) → List (Met X S)
 all_met level nodes = flat_map (λ node. met_from node level) nodes

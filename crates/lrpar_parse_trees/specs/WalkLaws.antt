@@ -1,4 +1,4 @@
--- Equality of trees is symmetric and transitive where that of lexemes and of rules is, and an equivalence likewise.
+-- Equality of trees is symmetric and transitive if equality of lexemes and of rules is, and an equivalence if both are equivalences.
 use Rattle.std.specs.Prelude.{◌≡◌, ℕ, Bool, true, ◌==◌, refl}
 use Rattle.std.specs.Cmp.{IsPartialEquivalence, IsEquivalence, on_per, on_equiv, and_per, and_equiv, equiv, partial_equiv_from_equiv}
 use Rattle.std.specs.Cmp.Lexicographic.{lists_per, lists_equiv}
@@ -7,7 +7,7 @@ use Rattle.std.proofs.lemmas.Cmp.{nat_eq_equiv}
 use Rattle.lrpar_parse_trees.specs.Visits.{Visit, Met, Entered, visit_eq}
 use Rattle.lrpar_parse_trees.specs.Walks.{walk, node_eq}
 
--- of rules with numbers of children
+-- equality of rules with numbers of children
 abbrev entered_eq : {S : Type 0} → (S → S → Bool) → S × ℕ → S × ℕ → Bool
 entered_eq same = eq_of_both (on (λ e. e.0) same) (on (λ e. e.1) ◌==◌)
 
@@ -17,7 +17,7 @@ entered_per rules = and_per (on_per (λ e. e.0) rules) (on_per (λ e. e.1) (part
 entered_equiv : {S : Type 0} {same : S → S → Bool} → IsEquivalence same → IsEquivalence (entered_eq same)
 entered_equiv rules = and_equiv (on_equiv (λ e. e.0) rules) (on_equiv (λ e. e.1) nat_eq_equiv)
 
--- of what a walk meets: symmetric
+-- equality of visits is symmetric
 visit_symm : {X S : Type 0} (eq : X → X → Bool) (same : S → S → Bool) → IsPartialEquivalence eq → IsPartialEquivalence same
     → (x y : Visit X S) → visit_eq eq same x y ≡ visit_eq eq same y x
 visit_symm eq same laws rules (Met x) (Met y) = laws.symm x y
@@ -25,14 +25,14 @@ visit_symm eq same laws rules (Entered r n) (Entered q m) = (entered_per rules).
 visit_symm eq same laws rules (Met x) (Entered r n) = refl
 visit_symm eq same laws rules (Entered r n) (Met y) = refl
 
--- of what a walk meets: transitive
+-- equality of visits is transitive
 visit_trans : {X S : Type 0} (eq : X → X → Bool) (same : S → S → Bool) → IsPartialEquivalence eq → IsPartialEquivalence same
     → (x y z : Visit X S) → visit_eq eq same x y ≡ true → visit_eq eq same y z ≡ true → visit_eq eq same x z ≡ true
 visit_trans eq same laws rules (Met x) (Met y) (Met z) h k = laws.trans x y z h k
 visit_trans eq same laws rules (Entered r n) (Entered q m) (Entered p l) h k = (entered_per rules).trans (r, n) (q, m) (p, l) h k
 visit_trans eq same laws rules _ _ _ h k = cc
 
--- of what a walk meets: reflexive
+-- equality of visits is reflexive
 visit_refl : {X S : Type 0} (eq : X → X → Bool) (same : S → S → Bool) → IsEquivalence eq → IsEquivalence same
     → (x : Visit X S) → visit_eq eq same x x ≡ true
 visit_refl eq same laws rules (Met x) = laws.refl x

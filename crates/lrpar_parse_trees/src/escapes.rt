@@ -5,9 +5,9 @@ ghost use Rattle.lrpar_parse_trees.specs.Escapes.{escaped, escaped_char, hex_dig
 
 use std::alloc::AllocError;
 
-/// Adds the text as it stands between double quotes in JSON (RFC 8259): `"` and `\` behind a `\`, line feed, carriage return and tab as
-/// `\n`, `\r` and `\t`, any other control character as `\u00` and two hexadecimal digits, and all else as it is. Takes time linear in
-/// the text. An `Err` leaves some of that behind what `out` had.
+/// Adds the text, escaped as between double quotes in JSON (RFC 8259): `"` and `\` after a `\`, line feed, carriage return and tab as
+/// `\n`, `\r` and `\t`, any other control character as `\u00` and two hexadecimal digits, and all else unchanged. Takes time linear in
+/// the text. After an `Err`, which means out of memory, `out` has its old text and some of the new one.
 pub fn push_escaped(out: &mut String, text: &str) -> Result<(), AllocError>
     ensures { OnOk result (string_bytes out.new ≡ string_bytes out.old ++ escaped text.now) }
 {
@@ -17,7 +17,7 @@ pub fn push_escaped(out: &mut String, text: &str) -> Result<(), AllocError>
     Ok(())
 }
 
-// Adds a character.
+// Adds a character, escaped.
 fn push_char(out: &mut String, c: char) -> Result<(), AllocError>
     ensures { OnOk result (string_bytes out.new ≡ string_bytes out.old ++ escaped_char c) }
 {
@@ -32,7 +32,7 @@ fn push_char(out: &mut String, c: char) -> Result<(), AllocError>
     }
 }
 
-/// Adds a character by its number.
+/// Adds a character below U+0100 as `\u00` and two hexadecimal digits.
 pub(crate) fn push_hex(out: &mut String, number: u32) -> Result<(), AllocError>
     requires { number < 256 }
     ensures { OnOk result (string_bytes out.new ≡ string_bytes out.old ++ hex_escape number) }

@@ -10,19 +10,20 @@ ghost use Rattle.lrpar_parse_trees.specs.Lines.{node_line, trees_lines};
 
 use crate::Node;
 use crate::labels::push_label;
-use crate::parts::{Leaf, leaf_of, rule_name, trees_of};
+use crate::node_parts::{Leaf, leaf_of, rule_name, trees_of};
 use lrpar_grammar::grammar::YaccGrammar;
 use lrpar_grammar::span::StorageIndex;
 use lrpar_parse_lexemes::lex_api::Lexeme;
 use std::alloc::{AllocError, Global};
 use std::io::{self, ErrorKind, Write};
 
-/// Writes the tree as a graph in the language of Graphviz (<https://graphviz.org/doc/info/lang.html>): a node a line, before those
-/// below it, each with a line for its edge from the node above; each rule by its name, and each lexeme in a box, by its token's name,
-/// if that is another text, and by its part of the input. Nodes are numbered from 0 in the order of the lines.
+/// Writes the tree as a graph in the language of Graphviz (<https://graphviz.org/doc/info/lang.html>). Each node has a line, before
+/// the nodes below it; and each node but the root then has a line for the edge from the node above. A rule is labelled with its name; a
+/// lexeme is a box, labelled with its part of the input, after its token's name if that is another text. Nodes are numbered from 0 in
+/// the order of the lines.
 ///
-/// It fails as `write_nested` does, and as out of memory where `usize` has no number for a node; and it takes the time and the memory
-/// of that.
+/// Fails as `write_nested` does, and as out of memory if `usize` has no number for a node. Takes the time and the memory that
+/// `write_nested` takes.
 pub fn write_graph<LexemeT: Lexeme<StorageT>, StorageT: StorageIndex, W: Write>(
     alloc: Global,
     grm: &YaccGrammar<StorageT>,
@@ -40,7 +41,7 @@ pub fn write_graph<LexemeT: Lexeme<StorageT>, StorageT: StorageIndex, W: Write>(
     out.write_all(b"}\n")
 }
 
-// Writes the lines of the trees below the root. `line` is where they are made.
+// Writes the lines of the trees below the root. `line` is a buffer for one line.
 fn write_below<LexemeT: Lexeme<StorageT>, StorageT: StorageIndex, W: Write>(
     alloc: Global,
     out: &mut W,
@@ -77,7 +78,7 @@ fn write_below<LexemeT: Lexeme<StorageT>, StorageT: StorageIndex, W: Write>(
     }
 }
 
-// The number after this one. More nodes than there are numbers are more than memory holds.
+// The next number. A tree with more nodes than `usize` can count doesn't fit in memory, so this is out of memory.
 fn number_after(number: usize) -> io::Result<usize>
     ensures { IfOk result (λ next. next ≡ number + 1) }
 {

@@ -7,9 +7,10 @@ ghost use Rattle.lrpar_parse_trees.specs.Labels.{is_control, label_char, label_t
 use crate::escapes::push_hex;
 use std::alloc::AllocError;
 
-/// Adds the text as a label has it between double quotes, so that Graphviz shows the text: `"` and `\` after a `\`, a line feed
-/// as `\n`, and `&` as `&amp;`. A tab is shown as `\t`, a carriage return as `\r`, and any other control character as `\u00` and two
-/// hexadecimal digits. Takes time linear in the text. An `Err` leaves some of that after what `out` had.
+/// Adds the text, escaped as between the double quotes of a label, so that Graphviz shows the text: `"` and `\` after a `\`, a line
+/// feed as `\n`, and `&` as `&amp;`. Graphviz shows a tab as `\t`, a carriage return as `\r`, and any other control character as `\u00`
+/// and two hexadecimal digits. Takes time linear in the text. After an `Err`, which means out of memory, `out` has its old text and
+/// some of the new one.
 pub(crate) fn push_label(out: &mut String, text: &str) -> Result<(), AllocError>
     ensures { OnOk result (string_bytes out.new ≡ string_bytes out.old ++ label_text text.now) }
 {
@@ -19,7 +20,7 @@ pub(crate) fn push_label(out: &mut String, text: &str) -> Result<(), AllocError>
     Ok(())
 }
 
-// Adds a character.
+// Adds a character, escaped.
 fn push_label_char(out: &mut String, c: char) -> Result<(), AllocError>
     ensures { OnOk result (string_bytes out.new ≡ string_bytes out.old ++ label_char c) }
 {

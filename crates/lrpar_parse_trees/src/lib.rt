@@ -7,7 +7,7 @@ mod graph;
 mod labels;
 mod nested;
 pub mod node;
-mod parts;
+mod node_parts;
 mod tree_text;
 mod tree_write;
 

@@ -1,4 +1,4 @@
-//! Trees on one line, each node around those of its trees.
+//! Trees on one line: the text of a node encloses the texts of its trees.
 ghost use Rattle.std.specs.Prelude.{◌≡◌, ◌++◌, [], if◌then◌else◌, OnOk, bytes_eq, codes};
 ghost use Rattle.std.specs.Io.KnownBytes.{Appends};
 ghost use Rattle.std.specs.String.{string_bytes};
@@ -9,18 +9,18 @@ ghost use Rattle.lrpar_parse_trees.specs.Fronts.{front_text, trees_text};
 use crate::Node;
 use crate::escapes::push_escaped;
 use crate::form::Form;
-use crate::parts::{Leaf, is_rule, leaf_of, rule_name, trees_of};
+use crate::node_parts::{Leaf, is_rule, leaf_of, rule_name, trees_of};
 use lrpar_grammar::grammar::YaccGrammar;
 use lrpar_grammar::span::StorageIndex;
 use lrpar_parse_lexemes::lex_api::Lexeme;
 use std::alloc::{AllocError, Global};
 use std::io::{self, ErrorKind, Write};
 
-/// Writes the tree on one line, without a line feed behind it. It fails where a write fails or memory is wanting, and with
-/// `InvalidInput` at the first node that doesn't fit the grammar and the input, as `Node::fits` tells, in front of which all is written.
+/// Writes the tree on one line, without a line feed at the end. Fails if a write fails or an allocation fails, and with `InvalidInput`
+/// at the first node that doesn't fit the grammar and the input, as `Node::fits` tests. All that comes before this node is then written.
 ///
-/// Takes time linear in the text, which is linear in the tree, and memory for a piece of it and a list of as many entries as the tree
-/// has levels. However deep the tree is, the call's own depth stays the same.
+/// Takes time linear in the text, which is linear in the tree, and memory for a piece of the text and for a list with an entry for each
+/// level of the tree. Its stack doesn't grow with the depth of the tree.
 pub fn write_nested<LexemeT: Lexeme<StorageT>, StorageT: StorageIndex, W: Write>(
     alloc: Global,
     form: Form,
@@ -41,7 +41,7 @@ pub fn write_nested<LexemeT: Lexeme<StorageT>, StorageT: StorageIndex, W: Write>
     }
 }
 
-// Writes the trees of a node of a rule, and its end. `piece` is where their pieces are made.
+// Writes the trees of a node of a rule, and its end. `piece` is a buffer for one piece.
 fn write_trees<LexemeT: Lexeme<StorageT>, StorageT: StorageIndex, W: Write>(
     alloc: Global,
     out: &mut W,
@@ -82,7 +82,7 @@ fn write_trees<LexemeT: Lexeme<StorageT>, StorageT: StorageIndex, W: Write>(
     }
 }
 
-// Writes a lexeme, or what stands in front of the trees of a node. `piece` is where it is made.
+// Writes a lexeme, or what comes before the trees of a node. `piece` is the buffer for it.
 fn write_front<LexemeT: Lexeme<StorageT>, StorageT: StorageIndex, W: Write>(
     out: &mut W,
     piece: &mut String,
@@ -108,7 +108,7 @@ fn write_front<LexemeT: Lexeme<StorageT>, StorageT: StorageIndex, W: Write>(
     out.write_all(piece.as_bytes())
 }
 
-// Adds what stands in front of the trees of a rule.
+// Adds what comes before the trees of a rule.
 fn push_rule(piece: &mut String, form: Form, name: &str) -> Result<(), AllocError>
     ensures { OnOk result (string_bytes piece.new ≡ string_bytes piece.old ++ rule_front form name.now) }
 {
@@ -126,7 +126,7 @@ fn push_bracket_rule(piece: &mut String, name: &str) -> Result<(), AllocError>
     piece.push('[')
 }
 
-// Adds a rule's name as JSON, and what stands in front of its trees.
+// Adds what comes before the trees of a rule in JSON, with its name.
 fn push_json_rule(piece: &mut String, name: &str) -> Result<(), AllocError>
     ensures { OnOk result (string_bytes piece.new ≡ string_bytes piece.old ++ json_rule name.now) }
 {
@@ -146,7 +146,7 @@ fn push_leaf(piece: &mut String, form: Form, leaf: Leaf<'_>) -> Result<(), Alloc
     }
 }
 
-// Adds a lexeme: its token's name, where that isn't its text, and its text between double quotes.
+// Adds a lexeme: its token's name, if that isn't its text, and its text between double quotes.
 fn push_bracket_leaf(piece: &mut String, leaf: Leaf<'_>) -> Result<(), AllocError>
     ensures { OnOk result (string_bytes piece.new ≡ string_bytes piece.old ++ bracket_leaf leaf.entry.name.now leaf.entry.text.now) }
 {
@@ -156,7 +156,7 @@ fn push_bracket_leaf(piece: &mut String, leaf: Leaf<'_>) -> Result<(), AllocErro
     piece.push('"')
 }
 
-// Adds the name of a token and a space, where the name isn't the text.
+// Adds the name of a token and a space, if the name isn't the text.
 fn push_other_name(piece: &mut String, name: &str, text: &str) -> Result<(), AllocError>
     ensures { OnOk result (string_bytes piece.new ≡ string_bytes piece.old ++ (if bytes_eq name.now text.now then [] else name.now ++ codes " ")) }
 {
@@ -189,7 +189,7 @@ fn push_json_place(piece: &mut String, leaf: Leaf<'_>) -> Result<(), AllocError>
     piece.push('}')
 }
 
-// Adds that a repair made a lexeme, where one did.
+// Adds that a repair made the lexeme, if one did.
 fn push_inserted(piece: &mut String, is_faulty: bool) -> Result<(), AllocError>
     ensures { OnOk result (string_bytes piece.new ≡ string_bytes piece.old ++ (if is_faulty then codes ",\"inserted\":true" else [])) }
 {

@@ -1,7 +1,7 @@
-//! Trees of lexemes and rules.
+//! Parse trees: lexemes, and rules over trees.
+pub(crate) mod bounded;
 mod copied;
 mod equal;
-pub(crate) mod fewer;
 mod shown;
 
 ghost use Rattle.std.specs.Prelude.{◌≡◌, [], MatchOption};
@@ -9,18 +9,18 @@ ghost use Rattle.std.specs.Prelude.{◌≡◌, [], MatchOption};
 use lrpar_grammar::span::RIdx;
 use std::mem;
 
-/// A tree of lexemes and rules.
+/// A parse tree: a lexeme, or a rule over the trees of its symbols.
 ///
-/// A tree can be as deep as memory allows: `clone`, `==`, `fits`, `Debug` and the drop take time linear in the nodes, and no
-/// stack for a level. The drop takes no memory. The others keep a list with an entry for each level. If they run out of memory,
-/// `clone` says so, `Debug` is an error, and `==` and `fits` go on without the list: their stack stays bounded, and a tree that is
-/// deep and bushy takes them longer.
+/// A tree can be as deep as memory allows. `clone`, `==`, `fits`, `Debug` and dropping take time linear in the nodes, and their stack
+/// doesn't grow with the depth. Dropping takes no memory. The others keep a list with an entry for each level. If they run out of
+/// memory, `clone` and `Debug` return an error, and `==` and `fits` go on without the list: their stack stays bounded, but a deep tree
+/// with many branches takes them longer.
 ///
-/// `Debug` writes what a derive writes, on one line or, as `{:#?}`, on many.
+/// `Debug` writes the text that a derived `Debug` writes: on one line, or on many lines for `{:#?}`.
 ///
-/// As the type has a drop of its own, a pattern looks at a node by reference. `mem::replace` takes the trees out of it.
+/// The type implements `Drop`, so match on a node by reference. `mem::replace` takes the trees out of a node.
 pub enum Node<LexemeT, StorageT> {
-    /// A lexeme.
+    /// A leaf: a lexeme.
     Term {
         /// The lexeme.
         lexeme: LexemeT,
@@ -35,8 +35,8 @@ pub enum Node<LexemeT, StorageT> {
 }
 
 impl<LexemeT: Drop, StorageT: Drop> Drop for Node<LexemeT, StorageT> {
-    // The trees that are left stand in a list. Where a tree with children is met before that is empty, the list goes
-    // into a node, and this into the place of the first child, which is then the next tree.
+    // `left` holds the trees that are left to drop. If the next tree has children while there are such trees, these go into a node
+    // in the place of its first child, its children are then those that are left, and that child is the next tree.
     fn drop(mut self) {
         let mut left = None;
         loop {
@@ -76,7 +76,7 @@ impl<LexemeT: Drop, StorageT: Drop> Drop for Node<LexemeT, StorageT> {
     }
 }
 
-// The list, where it has items.
+// The list, if it has items.
 fn unless_empty<T>(items: Vec<T>) -> Option<Vec<T>>
     ensures { MatchOption result (items.items ≡ []) (λ list. list ≡ items) }
 {

@@ -1,4 +1,4 @@
-//! The text of a tree.
+//! The text of a tree, with a line for each node, and the test whether a tree fits a grammar and an input.
 ghost use Rattle.std.specs.Prelude.{◌≡◌, ◌++◌, ◌↔◌, ℕ, IfOk, IsTrue, OnOk};
 ghost use Rattle.std.specs.List.{AllByRecursion};
 ghost use Rattle.std.specs.String.{string_bytes};
@@ -6,7 +6,7 @@ ghost use Rattle.lrpar_parse_lexemes.specs.Lexemes.{facts_of};
 ghost use Rattle.lrpar_parse_trees.specs.TreeText.{MetFits, TreeFits, all_met, met_line, nodes_below, root_at, tree_text};
 
 use crate::node::Node;
-use crate::node::fewer::{CALLS, are_fewer};
+use crate::node::bounded::{CALLS, have_fewer_nodes};
 use lrpar_grammar::grammar::YaccGrammar;
 use lrpar_grammar::span::{StorageIndex, TIdx};
 use lrpar_parse_errors::spaces::push_spaces;
@@ -14,10 +14,11 @@ use lrpar_parse_lexemes::lex_api::Lexeme;
 use std::alloc::{AllocError, Global};
 
 impl<LexemeT: Lexeme<StorageT>, StorageT: StorageIndex> Node<LexemeT, StorageT> {
-    /// Whether the tree is one of the grammar over the input: its rules are the grammar's, its lexemes have tokens of the
-    /// grammar other than the end token, and each lexeme starts and ends between two characters of the input. Takes time
-    /// linear in the tree and no stack for a level; it keeps a list with an entry for each level. If it runs out of memory, it
-    /// goes on without the list: its stack stays bounded, and a tree that is deep and bushy takes it longer.
+    /// Whether the tree fits the grammar and the input: its rules are the grammar's, its lexemes have tokens of the grammar other
+    /// than the end token, and each lexeme starts and ends between two characters of the input. `pp` requires it.
+    ///
+    /// Takes time linear in the tree, and a list with an entry for each level. If it runs out of memory, it goes on without the
+    /// list: its stack stays bounded, but a deep tree with many branches takes longer.
     pub fn fits(&self, grm: &YaccGrammar<StorageT>, input: &str) -> bool
         ensures { IsTrue result ↔ TreeFits (λ x. facts_of StorageT.index (LexemeT.parts x)) StorageT.index grm.now input.now self.now }
     {
@@ -30,12 +31,12 @@ impl<LexemeT: Lexeme<StorageT>, StorageT: StorageIndex> Node<LexemeT, StorageT> 
         }
     }
 
-    /// The text of the tree: a line for each node in front of those of its children, indented by one space a level. A
-    /// lexeme's line has its token's name, a space and its part of the input, a rule's line its name. The tree has to fit
-    /// the grammar and the input. It fails if memory runs out.
+    /// The text of the tree: a line for each node, before the lines of its children, indented by one space for each level. A
+    /// lexeme's line has its token's name, a space and its part of the input; a rule's line has its name. The tree must fit the
+    /// grammar and the input, as `fits` tests. `Err`: out of memory.
     ///
-    /// Takes time linear in the text, and beside it a list of as many entries as the tree has levels. However deep the
-    /// tree is, the call's own depth stays the same.
+    /// Takes time linear in the text, and memory for the text and for a list with an entry for each level. Its stack doesn't grow
+    /// with the depth of the tree.
     pub fn pp(
         &self,
         alloc: Global,
@@ -66,8 +67,8 @@ impl<LexemeT: Lexeme<StorageT>, StorageT: StorageIndex> Node<LexemeT, StorageT> 
     }
 }
 
-// Whether these trees fit. A list holds what is left of them, an entry a level. If it can't grow, the trees below a node are
-// looked at without one.
+// Whether these trees fit. A list holds the trees that are left, an entry for each level. If it can't grow, the trees below a node
+// are tested without one.
 fn all_fit<'a, LexemeT: Lexeme<StorageT>, StorageT: StorageIndex>(
     alloc: Global,
     grm: &YaccGrammar<StorageT>,
@@ -102,9 +103,9 @@ fn all_fit<'a, LexemeT: Lexeme<StorageT>, StorageT: StorageIndex>(
     }
 }
 
-// Whether these trees fit, with no list. After a node there are the trees below it and those beside it: a call of itself looks
-// at the ones, and the loop goes on with the others. The calls are those below the node, and no deeper than `calls`; from there
-// on they are those of the fewer nodes.
+// Whether these trees fit, without a list. After a node, the trees below it and those beside it are left: a recursive call tests the
+// ones, and the loop goes on with the others. Down to the depth `calls` a call takes the trees below the node; deeper, it takes
+// those that have fewer nodes.
 fn fit_by_calls<'a, LexemeT: Lexeme<StorageT>, StorageT: StorageIndex>(
     grm: &YaccGrammar<StorageT>,
     input: &str,
@@ -119,7 +120,7 @@ fn fit_by_calls<'a, LexemeT: Lexeme<StorageT>, StorageT: StorageIndex>(
             return false;
         }
         let below = children(node);
-        if calls > 0 || are_fewer(below, rest) {
+        if calls > 0 || have_fewer_nodes(below, rest) {
             if !fit_by_calls(grm, input, below, calls.saturating_sub(1)) {
                 return false;
             }

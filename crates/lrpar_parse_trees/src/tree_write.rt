@@ -13,11 +13,12 @@ use std::alloc::Global;
 use std::io::{self, ErrorKind, Write};
 
 impl<LexemeT: Lexeme<StorageT>, StorageT: StorageIndex> Node<LexemeT, StorageT> {
-    /// Writes the text of the tree, as `pp` gives it, line by line. It fails where a write fails or memory is wanting, and with
-    /// `InvalidInput` at the first node that doesn't fit the grammar and the input, in front of which all lines are written.
+    /// Writes the text of the tree, which `pp` returns, line by line. Fails if a write fails or an allocation fails, and with
+    /// `InvalidInput` at the first node that doesn't fit the grammar and the input, as `fits` tests. All lines before this node's are
+    /// then written.
     ///
-    /// Takes time linear in the text, and memory for one line and a list of as many entries as the tree has levels. However
-    /// deep the tree is, the call's own depth stays the same.
+    /// Takes time linear in the text, and memory for one line and for a list with an entry for each level. Its stack doesn't grow
+    /// with the depth of the tree.
     pub fn write<W: Write>(
         &self,
         alloc: Global,
@@ -49,7 +50,7 @@ impl<LexemeT: Lexeme<StorageT>, StorageT: StorageIndex> Node<LexemeT, StorageT> 
     }
 }
 
-// Writes the line of the root of a tree, at a level. `line` is where it is made.
+// Writes the line of the root of a tree, at a level. `line` is a buffer for it.
 fn write_line<LexemeT: Lexeme<StorageT>, StorageT: StorageIndex, W: Write>(
     out: &mut W,
     line: &mut String,

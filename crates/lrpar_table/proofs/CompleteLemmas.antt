@@ -144,8 +144,8 @@ module _ (g : Grammar) (graph : Graph) (table : Table) (well : IsWellFormed g) (
 
 pub built_tables_are_complete_without_conflicts : BuiltTablesAreCompleteWithoutConflicts
 built_tables_are_complete_without_conflicts g graph table well built = (
-  λ complete. built.no_conflicts.1 (one_action g graph table well built.canonical built.wanted complete),
-  λ none. is_complete g graph table well built.canonical built.wanted (built.no_conflicts.0 none),
+  λ complete. built.no_conflicts.1 (one_action g graph table well built.canonical built.resolved complete),
+  λ none. is_complete g graph table well built.canonical built.resolved (built.no_conflicts.0 none),
 )
 
 pub grammars_without_conflicts_have_one_tree : {X : Type 0} → GrammarsWithoutConflictsHaveOneTree X

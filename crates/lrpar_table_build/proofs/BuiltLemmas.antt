@@ -1,4 +1,4 @@
--- A graph and a table of the states are built as they should be.
+-- A graph and a table of the states are built right.
 use Rattle.std.proofs.Common.{◌≡◌, ◌≢◌, ◌<◌, ◌↔◌, ◌∷◌, refl, sym, ap, subst, arith, ℕ, List, [], Option, Some, None, length, nat_eq}
 use Rattle.std.specs.List.{Contains}
 use Rattle.std.specs.Map.{lookup}
@@ -28,21 +28,21 @@ use Rattle.lrpar_table_build.proofs.TableRowLemmas.{action_is, goto_is}
 pub start_len : (g : Grammar) → IsWellFormed g → prod_len g (start_prod g) ≡ 1
 start_len g well = ap (λ (w : List GrammarSymbol). length w) well.last_symbols
 
--- numbers that aren't none have one among them
+-- a list of numbers that isn't empty has a number
 one_of : (ks : List ℕ) → ks ≢ [] → (k : ℕ) × Contains ks k
 one_of [] some = absurd (some refl)
 one_of (k ∷ ks) some = (k, member_first k ks)
 
 module _ (g : Grammar) (well : IsWellFormed g) (states : List StateOf) (are : AreStates g states) (sets : ℕ → ItemOf → Type 0)
     (same : (s : ℕ) → AreSame (sets s) (sets_at states s)) where
-  -- a state that wants to accept does so at the end token
+  -- a state calls for accept at the end token alone
   accepts_only_at_end : (s t : ℕ) → s < length states → HasAccept g sets s t → t ≡ end_token g
   accepts_only_at_end s t below candidate =
       let item = item_at (start_prod g) 1 t in
       let reached = are.canonical.reached s below in
       reached_at_end g well reached.0 item ((reached.1 item).0 ((same s item).0 candidate)) refl
 
-  -- a state that is refused wants to accept and a reduction
+  -- a state that is refused has an accept/reduce conflict
   pub refused_conflict : (s : ℕ) → s < length states → IsRefusedState g states s → IsAcceptConflict g sets s
   refused_conflict s below refused =
       let t = refused.0 in
@@ -55,13 +55,13 @@ module _ (g : Grammar) (well : IsWellFormed g) (states : List StateOf) (are : Ar
       let there = subst (λ n. Contains (reductions g cores n) one.0) end one.1 in
       (subst (HasAccept g sets s) end candidate, (one.0, (candidate_is g sets s cores known (same s) (end_token g) one.0).1 there))
 
-  -- no step is by the end token
+  -- no transition is by the end token
   no_step_at_end : (s : ℕ) (step : Option ℕ) → IsTransition g (length states) (sets_at states) s (Terminal (end_token g)) step → step ≡ None
   no_step_at_end s None h = refl
   no_step_at_end s (Some next) h =
       let before = h.0 in absurd (no_end_token g well before.0.prod before.0.dot (end_token g) refl before.2)
 
-  -- and where none is refused, none wants that
+  -- if no state is refused, none has an accept/reduce conflict
   pub accept_alone : ((s t : ℕ) → s < length states → t < tokens_len g → ¬ (IsAcceptReduce g (state_at states s).cores (state_at states s).shifts t))
       → AcceptAlone g (length states) sets
   accept_alone none s below conflict =
@@ -76,14 +76,14 @@ module _ (g : Grammar) (well : IsWellFormed g) (states : List StateOf) (are : Ar
         accept = (accept_is g sets s cores known (same s) t (start_len g well)).0 conflict.0;
       })
 
--- the rows of the states are a graph with the canonical sets
+-- the rows of the states are a graph with the canonical collection
 rows_canonical : (g : Grammar) → IsWellFormed g → (states : List StateOf) → AreStates g states → IsCanonical g (item_rows g states)
 rows_canonical g well states are =
     let len : graph_len (item_rows g states) ≡ length states = length-map states _ in
     subst (λ n. AreCanonical g n (sets_of (item_rows g states))) (sym len)
     (canonical_same g (sets_of (item_rows g states)) (sets_at states) (rows_same g states well are.canonical) (length states) are.canonical)
 
--- what a refusal of a state tells
+-- what a refusal of a state says
 pub build_refusal : (g : Grammar) → IsWellFormed g → (states : List StateOf) → AreStates g states → (most limit : ℕ) (fault : BuildFault)
     → IsRefusalOf (length states) (IsRefusedState g states) fault → IsBuildRefusal g most limit fault
 build_refusal g well states are most limit (AcceptReduceConflict n) h =
@@ -111,7 +111,7 @@ module _ (g : Grammar) (well : IsWellFormed g) (states : List StateOf) (are : Ar
       subst (λ n. AreCanonical g n (sets_of graph)) (sym len)
       (canonical_same g (sets_of graph) (sets_at states) graph_sets (length states) are.canonical)
 
-  -- the table does in each state what the set wants
+  -- each state of the table has the actions of its set after conflict resolution
   graph_table : (limit : ℕ) → IsTable limit (table_of_states g states) → IsCanonicalTable g graph (table_of_states g states)
   graph_table limit is =
       let table = table_of_states g states in

@@ -1,5 +1,5 @@
--- Canonical sets have no conflicts exactly where none of them wants two different actions at one token; and those that they have fit the
--- grammar.
+-- A canonical collection has no conflicts exactly if none of its sets calls for two different actions at one token; and its conflicts
+-- fit the grammar.
 use Rattle.std.proofs.Common.{◌≡◌, ◌≢◌, ◌<◌, ◌+◌, refl, sym, ap, subst, inl, inr, arith, ℕ, List, [], ◌∷◌, All, slice_index_or, None, Option, Some}
 use Rattle.std.specs.List.{Contains}
 use Rattle.std.proofs.lemmas.Bool.{cases_eq}
@@ -28,13 +28,13 @@ module _ (g : Grammar) (graph : Graph) (well : IsWellFormed g) (canonical : IsCa
       let item = item_at p k t in
       let reached = canonical.reached s within in reached_items g well reached.0 item ((reached.1 item).0 has)
 
-  -- a state that wants to accept does so at the end token
+  -- a state calls for accept at the end token alone
   accept_at_end : (s t : ℕ) → s < graph_len graph → HasAccept g (sets_of graph) s t → t ≡ end_token g
   accept_at_end s t within candidate =
       let item = item_at (start_prod g) 1 t in
       let reached = canonical.reached s within in reached_at_end g well reached.0 item ((reached.1 item).0 candidate) refl
 
-  -- where an item stands before a token, the state goes on by it
+  -- if an item has a token after its dot, the state has a transition by it
   next_state : (s t : ℕ) → s < graph_len graph → HasAfterDot g (sets_of graph) s (Terminal t)
       → (next : ℕ) × IsTransition g (graph_len graph) (sets_of graph) s (Terminal t) (Some next)
   next_state s t within before =
@@ -54,7 +54,7 @@ module _ (g : Grammar) (graph : Graph) (well : IsWellFormed g) (canonical : IsCa
         ),
       )
 
-  -- a state goes to one state by a token
+  -- a state has one transition by a token
   one_next : (s t n m : ℕ) → IsTransition g (graph_len graph) (sets_of graph) s (Terminal t) (Some n)
       → IsTransition g (graph_len graph) (sets_of graph) s (Terminal t) (Some m) → n ≡ m
   one_next s t n m to other =
@@ -128,7 +128,7 @@ module _ (g : Grammar) (graph : Graph) (well : IsWellFormed g) (canonical : IsCa
       one_action s t Accepts Fails within candidate also = absurd also
       one_action s t Fails b within candidate also = absurd candidate
 
-    -- and where each state wants one action, nothing can be listed
+    -- if each state calls for one action, nothing can be listed
     module _ (one : HaveOneAction g (graph_len graph) (sets_of graph)) where
       no_reduce_listed : (lists : ConflictLists) → conflicts ≡ Some lists → (x : ReduceReduce)
           → Contains lists.reduce_reduce x → ⊥
@@ -162,7 +162,7 @@ no_conflicts_are_one_action g graph conflicts well canonical are alone = (
   λ one. none_listed g graph well canonical conflicts are alone one conflicts refl,
 )
 
--- what holds of all that a list contains holds of its elements
+-- what holds of all that a list contains holds of each element
 all_contained : {X : Type 0} (P : X → Type 0) (xs : List X) → ((x : X) → Contains xs x → P x) → All P xs
 all_contained P xs each i d below = each (slice_index_or xs i d) (All-contains_itself xs i d below)
 

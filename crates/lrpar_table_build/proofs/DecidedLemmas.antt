@@ -1,4 +1,4 @@
--- What items of a list want is decided: there is such an item, or there is none; and of productions that are wanted there is a least.
+-- Whether the items of a list call for an action is decidable; and of the reductions that they call for, one is by the least production.
 use Rattle.std.proofs.Common.{◌≡◌, ◌≢◌, ◌<◌, ◌≤◌, ◌+◌, ◌⊎◌, ◌∙◌, refl, sym, ap, subst, inl, inr, arith, ℕ, zero, suc, List, [], ◌∷◌, None, Option, Some, slice_get}
 use Rattle.std.specs.List.{Contains, list_any}
 use Rattle.std.proofs.lemmas.Bool.{cases_Bool, cases_eq, cases_lt, false≢true}
@@ -9,7 +9,7 @@ use Rattle.lrpar_table_rows.proofs.GraphLemmas.{is_item, item_by_test}
 use Rattle.lrpar_table_items.specs.Canonical.{ActsAsResolved, LeadsTo, HasAfterDot, HasAccept, HasFirstReduce, HasReduce, sets_of}
 use Rattle.lrpar_table_build.proofs.MemberLemmas.{member_cases}
 
--- an element of a list has what is decided of each, or none has
+-- if a fact is decidable of each element of a list, some element has it, or none has
 some_or_none : {X : Type 0} (P : X → Type 0) → ((x : X) → P x ⊎ ¬ (P x)) → (xs : List X)
     → ((x : X) × Contains xs x × P x) ⊎ ((x : X) → Contains xs x → ¬ (P x))
 some_or_none P decided [] = inr (λ x there holds. omega (arith, there.1))
@@ -27,7 +27,7 @@ some_or_none P decided (y ∷ ys) =
           ]
     ]
 
--- a number with what is decided of each has a least one
+-- if a fact is decidable of each number, there is a least number that has it, or no number below n has it
 least_below : (P : ℕ → Type 0) → ((n : ℕ) → P n ⊎ ¬ (P n)) → (n : ℕ)
     → ((m : ℕ) × P m × ((q : ℕ) → P q → m ≤ q)) ⊎ ((q : ℕ) → q < n → ¬ (P q))
 least_below P decided zero = inr (λ q below holds. omega (arith, below))
@@ -76,7 +76,7 @@ symbol_decided (Nonterminal r) (Some (Nonterminal q)) =
       | inr other ↦ inr (λ h. other (cc))
     ]
 
--- the item is a complete one of a production other than the start production, at token t
+-- a complete item of a production other than the start production, with lookahead t
 abbrev IsReduction : Grammar → ℕ → ItemOf → Type 0
 IsReduction g t x = (x.prod ≢ start_prod g) × (x.dot ≡ prod_len g x.prod) × (x.token ≡ t)
 
@@ -105,7 +105,7 @@ module _ (g : Grammar) (graph : Graph) (s : ℕ) where
         | inr failed ↦ inr (λ there. false≢true (sym failed ∙ test.1 there))
       ]
 
-  -- an item of it stands before the symbol, or none does
+  -- an item of it has the symbol after its dot, or none has
   pub before_decided : (symbol : GrammarSymbol) → HasAfterDot g (sets_of graph) s symbol ⊎ ¬ (HasAfterDot g (sets_of graph) s symbol)
   before_decided symbol =
       let next : ItemOf → Option GrammarSymbol = λ x. slice_get (symbols_of g x.prod) x.dot in
@@ -114,7 +114,7 @@ module _ (g : Grammar) (graph : Graph) (s : ℕ) where
         | inr none ↦ inr (λ h. none h.0 h.1 h.2)
       ]
 
-  -- it wants a reduction, or not
+  -- it calls for the reduction, or not
   reduce_decided : (t p : ℕ) → HasReduce g (sets_of graph) s t p ⊎ ¬ (HasReduce g (sets_of graph) s t p)
   reduce_decided t p =
       elim (cases_eq p (start_prod g)) [
@@ -126,12 +126,12 @@ module _ (g : Grammar) (graph : Graph) (s : ℕ) where
             ]
       ]
 
-  -- where it wants any, it wants a first one
+  -- if it calls for any reduction, it calls for one by a least production
   pub first_reduction : (t p : ℕ) → HasReduce g (sets_of graph) s t p → (first : ℕ) × HasFirstReduce g (sets_of graph) s t first
   first_reduction t p candidate =
       let found = least (HasReduce g (sets_of graph) s t) (reduce_decided t) p candidate in (found.0, (found.1, found.2))
 
-  -- it wants some first reduction, or none
+  -- it calls for a reduction by a least production, or for none
   pub first_decided : (t : ℕ) → ((p : ℕ) × HasFirstReduce g (sets_of graph) s t p) ⊎ ((p : ℕ) → ¬ (HasReduce g (sets_of graph) s t p))
   first_decided t =
       elim (some_or_none (IsReduction g t) (reduction_decided g t) (items_of graph s)) [
@@ -144,7 +144,7 @@ module _ (g : Grammar) (graph : Graph) (s : ℕ) where
       ]
 
   module _ (table : Table) (t : ℕ) where
-    -- what it does, and why
+    -- the action of the state at token t, and the items that call for it
     pub data IsActing : Type 0 where
       Shifting : (next : ℕ) → action_of table s t ≡ ShiftTo next → HasAfterDot g (sets_of graph) s (Terminal t)
           → LeadsTo g (sets_of graph) s (Terminal t) next → IsActing

@@ -1,4 +1,4 @@
--- The conflicts that are listed, state by state and token by token, are those of the sets; and they stand in order.
+-- The conflicts that are listed, state by state and token by token, are those of the sets; and they are in order.
 use Rattle.std.proofs.Common.{◌≡◌, ◌<◌, ◌+◌, ◌↔◌, ◌⊎◌, ◌∙◌, ◌∷◌, refl, sym, ap, subst, inl, inr, arith, ℕ, List, [], All, Option, Some, None, cond, drop, length, map, nat_eq}
 use Rattle.std.specs.List.{Contains, range_with_len}
 use Rattle.std.specs.List.Sorted.{IsStrictlySortedBy}
@@ -30,7 +30,7 @@ same_is : (a b : ℕ) → a ≡ b → nat_cmp a b ≡ Equal
 same_is a b same =
     cond-false _ Less (cond (nat_eq a b) Equal Greater) (le-ltb a b (omega (arith, same))) ∙ cond-true _ Equal Greater (eq-eqb a b same)
 
--- conflicts of two reductions in order
+-- reduce/reduce conflicts in order
 by_state : (x y : ReduceReduce) → x.state < y.state → reduce_reduce_cmp x y ≡ Less
 by_state x y less =
     ap (λ (o : Ordering). ordering_then (ordering_then o (nat_cmp x.token y.token)) (nat_cmp x.second y.second)) (less_is x.state y.state less)
@@ -45,7 +45,7 @@ by_second x y state token less =
     ap (λ (o : Ordering). ordering_then (ordering_then o (nat_cmp x.token y.token)) (nat_cmp x.second y.second)) (same_is x.state y.state state)
     ∙ ap (λ (o : Ordering). ordering_then o (nat_cmp x.second y.second)) (same_is x.token y.token token) ∙ less_is x.second y.second less
 
--- conflicts of a shift in order
+-- shift/reduce conflicts in order
 shift_by_state : (x y : ShiftReduce) → x.state < y.state → shift_reduce_cmp x y ≡ Less
 shift_by_state x y less = ap (λ (o : Ordering). ordering_then o (nat_cmp x.token y.token)) (less_is x.state y.state less)
 
@@ -53,11 +53,11 @@ shift_by_token : (x y : ShiftReduce) → x.state ≡ y.state → x.token < y.tok
 shift_by_token x y state less =
     ap (λ (o : Ordering). ordering_then o (nat_cmp x.token y.token)) (same_is x.state y.state state) ∙ less_is x.token y.token less
 
--- a conflict of two reductions among these: its first production is the first of them, and its second is a later one
+-- a reduce/reduce conflict among these productions: its first production is the first of them, and its second is a later one
 abbrev IsOfReductions : List ℕ → ReduceReduce → Type 0
 IsOfReductions prods x = (later : List ℕ) × (prods ≡ x.first ∷ later) × Contains later x.second
 
--- a conflict of a shift with the first of these
+-- a shift/reduce conflict with the first of these productions
 abbrev IsOfShift : Option ℕ → List ℕ → ShiftReduce → Type 0
 IsOfShift shift prods x = ((next : ℕ) × (shift ≡ Some next)) × ((later : List ℕ) × (prods ≡ x.prod ∷ later))
 
@@ -67,7 +67,7 @@ second_later p later x of =
     let same : later ≡ of.0 = ap (λ (ks : List ℕ). drop 1 ks) of.1 in subst (λ (ks : List ℕ). Contains ks x.second) (sym same) of.2
 
 module _ (s t : ℕ) where
-  -- those at one token
+  -- the reduce/reduce conflicts at one token
   at_token : (prods : List ℕ) (x : ReduceReduce) → Contains (reduce_conflicts_at s t prods) x → (x.state ≡ s) × (x.token ≡ t) × IsOfReductions prods x
   at_token [] x h = absurd (member_none x h)
   at_token (p ∷ later) x h =
@@ -102,7 +102,7 @@ module _ (s t : ℕ) where
   token_sorted [] up = sorted_none reduce_reduce_cmp
   token_sorted (p ∷ later) up = later_sorted (p + 1) p later up.1
 
-  -- those of a shift at one token
+  -- the shift/reduce conflicts at one token
   shift_at_token : (shift : Option ℕ) (prods : List ℕ) (x : ShiftReduce) → Contains (shift_conflicts_at s t shift prods) x
       → (x.state ≡ s) × (x.token ≡ t) × IsOfShift shift prods x
   shift_at_token None prods x h = absurd (member_none x h)
@@ -136,7 +136,7 @@ module _ (s t : ℕ) where
       sorted_first shift_reduce_cmp made [] (λ y h. absurd (member_none y h)) (sorted_none shift_reduce_cmp)
 
 module _ (g : Grammar) (cores : List CoreSet) (s : ℕ) where
-  -- those of a state
+  -- the conflicts of a state
   at_state : (x : ReduceReduce) → Contains (reduce_conflicts g cores s) x
       → (x.state ≡ s) × (x.token < tokens_len g) × IsOfReductions (reductions g cores x.token) x
   at_state x h =
@@ -195,7 +195,7 @@ module _ (g : Grammar) (cores : List CoreSet) (s : ℕ) where
         0 (tokens_len g)
 
 module _ (g : Grammar) (states : List StateOf) (n : ℕ) where
-  -- those of all states
+  -- the conflicts of all states
   at_states : (x : ReduceReduce) → Contains (reduce_conflicts_below g states n) x
       → (x.state < n) × (x.token < tokens_len g) × IsOfReductions (reductions g (state_at states x.state).cores x.token) x
   at_states x h =
@@ -261,7 +261,7 @@ unless_empty_is [] [] = refl
 unless_empty_is [] (y ∷ ys) = refl
 unless_empty_is (x ∷ xs) ys = refl
 
--- there are none where both are empty, and else both are kept
+-- there are none if both are empty; otherwise both are kept
 pub unless_empty_none : (xs : List ReduceReduce) (ys : List ShiftReduce) → length xs ≡ 0 → length ys ≡ 0 → None ≡ unless_empty xs ys
 unless_empty_none [] [] none nothing = refl
 unless_empty_none [] (y ∷ ys) none nothing = absurd (omega (arith, nothing))
@@ -274,7 +274,7 @@ unless_empty_kept lists [] [] rr sr (inr some) = absurd (omega (arith, some))
 unless_empty_kept lists [] (y ∷ ys) rr sr some = λ i. Some (record { reduce_reduce = rr i; shift_reduce = sr i })
 unless_empty_kept lists (x ∷ xs) ys rr sr some = λ i. Some (record { reduce_reduce = rr i; shift_reduce = sr i })
 
--- and kept ones aren't both
+-- lists that are kept aren't both empty
 pub unless_empty_some : (xs : List ReduceReduce) (ys : List ShiftReduce) (lists : ConflictLists) → unless_empty xs ys ≡ Some lists
     → lists.reduce_reduce ≡ [] → lists.shift_reduce ≡ [] → ⊥
 unless_empty_some [] [] lists is none nothing = absurd (cc)
@@ -283,14 +283,14 @@ unless_empty_some [] (y ∷ ys) lists is none nothing =
 unless_empty_some (x ∷ xs) ys lists is none nothing =
     let both : x ∷ xs ≡ [] = ap (λ (l : ConflictLists). l.reduce_reduce) (ap lists_in is) ∙ none in absurd (cc)
 
--- they stand in order
+-- they are in order
 pub in_order : (g : Grammar) (states : List StateOf) (n : ℕ)
     → AreInOrder (lists_in (unless_empty (reduce_conflicts_below g states n) (shift_conflicts_below g states n)))
 in_order g states n =
     subst AreInOrder (sym (unless_empty_is (reduce_conflicts_below g states n) (shift_conflicts_below g states n)))
     (record { reduce_reduce = states_sorted g states n; shift_reduce = shifts_states_sorted g states n })
 
--- where a reduction is wanted first, it is the first of the list
+-- the reduction by the least production is the first of the list
 first_splits : (g : Grammar) (sets : ℕ → ItemOf → Type 0) (s : ℕ) (cores : List CoreSet) → All (IsCoreOf g) cores → AreSame (sets s) (IsAmong cores)
     → (t p : ℕ) → HasFirstReduce g sets s t p → (later : List ℕ) × (reductions g cores t ≡ p ∷ later)
 first_splits g sets s cores known is t p first =
@@ -304,7 +304,7 @@ first_splits g sets s cores known is t p first =
     ] in
     cases (reductions g cores t) refl
 
--- an item stands before a token just where there is a step by it
+-- if there is a transition by a token, an item has the token after its dot
 step_before : (g : Grammar) (sets : ℕ → ItemOf → Type 0) (len s t : ℕ) (step : Option ℕ) (next : ℕ) → IsTransition g len sets s (Terminal t) step → step ≡ Some next
     → HasAfterDot g sets s (Terminal t)
 step_before g sets len s t None next h is = absurd (cc)
@@ -317,7 +317,7 @@ before_step g sets len s t (Some next) h before = (next, refl)
 
 module _ (g : Grammar) (states : List StateOf) (are : AreStates g states) (sets : ℕ → ItemOf → Type 0)
     (same : (s : ℕ) → AreSame (sets s) (sets_at states s)) where
-  -- those that are listed are those of the sets
+  -- the listed conflicts are those of the sets
   reduce_is : (x : ReduceReduce) → x.state < length states
       → IsOfReductions (reductions g (state_at states x.state).cores x.token) x ↔ IsReduceConflict g sets x
   reduce_is x below =

@@ -1,4 +1,4 @@
--- Members of lists that are filtered, counted and joined; and lists that are sorted where they are joined.
+-- Members of lists that are filtered, counted and joined; and joined lists that are sorted.
 use Rattle.std.proofs.Common.{◌≡◌, ◌≢◌, ◌<◌, ◌≤◌, ◌+◌, ◌⊎◌, ◌∷◌, ◌++◌, ℕ, zero, suc, Bool, true, cond, List, [], refl, sym, subst, arith, inl, inr, filter}
 use Rattle.std.specs.List.{AllByRecursion, Contains, flat_map, range_with_len}
 use Rattle.std.specs.List.Sorted.{IsStrictlySortedBy}
@@ -22,7 +22,7 @@ member_first x ys = (0, omega arith, refl)
 pub member_later : {X : Type 0} (y : X) (ys : List X) (x : X) → Contains ys x → Contains (y ∷ ys) x
 member_later y ys x h = (suc h.0, omega (arith, h.1), h.2)
 
--- a member of what passes a test is one that passes it
+-- a member of a filtered list is a member that passes the test
 pub filter_member : {X : Type 0} (p : X → Bool) (xs : List X) (x : X) → Contains (filter p xs) x → Contains xs x × (p x ≡ true)
 filter_member p [] x h = absurd (member_none x h)
 filter_member p (y ∷ ys) x h =
@@ -72,7 +72,7 @@ range_has a (suc n) k from below =
           member_later a (range_with_len (a + 1) n) k (range_has (a + 1) n k (omega (arith, from, differs)) (omega (arith, below)))
     ]
 
--- a member of lists that are joined is one of one of them
+-- a member of joined lists is a member of one of them
 pub joined_member : {X Y : Type 0} (f : X → List Y) (xs : List X) (y : Y) → Contains (flat_map f xs) y → (x : X) × Contains xs x × Contains (f x) y
 joined_member f [] y h = absurd (member_none y h)
 joined_member f (x ∷ xs) y h =
@@ -103,7 +103,7 @@ module _ {Y : Type 0} (R : Y → Y → Ordering) where
         | inr later ↦ all_before x ys y less.1 later
       ]
 
-  -- a first one that comes before all others
+  -- a sorted list with one more first element, which comes before all others
   pub sorted_first : (x : Y) (ys : List Y) → ((y : Y) → Contains ys y → R x y ≡ Less) → IsStrictlySortedBy R ys → IsStrictlySortedBy R (x ∷ ys)
   unfolding IsStrictlySortedBy
   sorted_first x ys less sorted = (before_all x ys less, sorted)
@@ -112,7 +112,7 @@ module _ {Y : Type 0} (R : Y → Y → Ordering) where
   unfolding IsStrictlySortedBy
   sorted_none = tt
 
-  -- two sorted lists, where each of the first comes before each of the second
+  -- two sorted lists joined, if each element of the first comes before each of the second
   sorted_append : (xs ys : List Y) → IsStrictlySortedBy R xs → IsStrictlySortedBy R ys → ((x y : Y) → Contains xs x → Contains ys y → R x y ≡ Less)
       → IsStrictlySortedBy R (xs ++ ys)
   unfolding IsStrictlySortedBy
@@ -125,7 +125,7 @@ module _ {Y : Type 0} (R : Y → Y → Ordering) where
     sorted_append xs ys left.1 right (λ z y h there. less z y (member_later x xs z h) there),
   )
 
-  -- lists that are joined by ascending numbers
+  -- sorted lists joined by ascending numbers are sorted
   pub sorted_joined : (f : ℕ → List Y) → ((k : ℕ) → IsStrictlySortedBy R (f k))
       → ((i j : ℕ) (x y : Y) → i < j → Contains (f i) x → Contains (f j) y → R x y ≡ Less) → (a n : ℕ) → IsStrictlySortedBy R (flat_map f (range_with_len a n))
   sorted_joined f each less a zero = sorted_none

@@ -1,5 +1,5 @@
--- What the items of reached sets have in common. A set is the closure of the start item, or of the items of another set, each advanced
--- by one; and the closure adds items with the dot at the front.
+-- What the items of all sets that gotos reach have in common. Such a set is the closure of the start item, or of the items of another
+-- set, each advanced by one; and the closure adds items with the dot at the start.
 use Rattle.std.proofs.Common.{◌≡◌, ◌≢◌, ◌<◌, ◌+◌, ◌⊎◌, ◌∙◌, refl, sym, ap, subst, inl, inr, arith, ℕ, zero, suc, List, [], ◌∷◌, drop, length, Option, Some, slice_get}
 use Rattle.std.specs.Option.{option_map_or}
 use Rattle.std.proofs.lemmas.Bool.{cases_lt}
@@ -7,33 +7,33 @@ use Rattle.std.proofs.lemmas.Option.{get_or_from_slice_get, slice_get_cases, sli
 use Rattle.lrpar_grammar.specs.Grammar.{Grammar, GrammarSymbol, IsListedSymbol, IsWellFormed, Nonterminal, Terminal, end_token, prods_len, rule_of, rules_len, start_prod, symbols_of, tokens_len}
 use Rattle.lrpar_table_rows.specs.Graph.{ItemOf, item_at}
 use Rattle.lrpar_table_rows.specs.Safe.{IsItem}
-use Rattle.lrpar_table_first.specs.First.{IsFirst, Behind, Rule, Token}
+use Rattle.lrpar_table_first.specs.First.{IsFirst, Empty, Rule, Token}
 use Rattle.lrpar_table_items.specs.ItemSets.{Adds, Added, IsAdvanced, IsInClosure, IsReachedBy, IsStartItem, Own}
 use Rattle.lrpar_table_first.proofs.FirstLemmas.{AreBelow, AreBelow-append}
 use Rattle.lrpar_table_first.proofs.GrowthLemmas.{prods_below}
 
--- the first of what is left of a list
+-- the first element of the rest of a list
 pub head_after : {X : Type 0} (xs : List X) (n : ℕ) (x : X) (rest : List X) → drop n xs ≡ x ∷ rest → slice_get xs n ≡ Some x
 head_after [] zero x rest h = absurd (cc)
 head_after [] (suc n) x rest h = absurd (cc)
 head_after (y ∷ ys) zero x rest h = let same : y ≡ x = cc in ap (λ z. Some z) same
 head_after (y ∷ ys) (suc n) x rest h = head_after ys n x rest h
 
--- what is left of symbols below a mark
-AreBelow-drop : (mark n : ℕ) (w : List GrammarSymbol) → AreBelow mark w → AreBelow mark (drop n w)
-AreBelow-drop mark zero w below = below
-AreBelow-drop mark (suc n) [] below = tt
-AreBelow-drop mark (suc n) (Terminal t ∷ w) below = AreBelow-drop mark n w below.1
-AreBelow-drop mark (suc n) (Nonterminal r ∷ w) below = AreBelow-drop mark n w below
+-- the rest of symbols below the dummy lookahead
+AreBelow-drop : (dummy n : ℕ) (w : List GrammarSymbol) → AreBelow dummy w → AreBelow dummy (drop n w)
+AreBelow-drop dummy zero w below = below
+AreBelow-drop dummy (suc n) [] below = tt
+AreBelow-drop dummy (suc n) (Terminal t ∷ w) below = AreBelow-drop dummy n w below.1
+AreBelow-drop dummy (suc n) (Nonterminal r ∷ w) below = AreBelow-drop dummy n w below
 
--- an item of a closure is one of the items, or one of the closure adds it
+-- an item of a closure is one of the items, or an item of the closure adds it
 pub closure_cases : (g : Grammar) (items : ItemOf → Type 0) (x : ItemOf) → IsInClosure g items x
     → items x ⊎ ((from : ItemOf) × IsInClosure g items from × Adds g from x)
 closure_cases g items x (Own y h) = inl h
 closure_cases g items x (Added y z h adds) = inr (y, h, adds)
 
--- what holds of the start item, of an item that is advanced where it holds of the item, and of what such an item adds, holds of all
--- items of a closure, and of all that are reached
+-- if something holds of the start item, and advancing and adding keep it, it holds of all items of a closure, and of all items
+-- that gotos reach
 module _ (g : Grammar) (P : ItemOf → Type 0) (added : (x y : ItemOf) → P x → Adds g x y → P y) where
   pub closure_each : (items : ItemOf → Type 0) → ((x : ItemOf) → items x → P x) → (x : ItemOf) → IsInClosure g items x → P x
   closure_each items own x (Own y h) = own y h
@@ -60,7 +60,7 @@ module _ (g : Grammar) (well : IsWellFormed g) where
             absurd (omega (arith, within, empty))
       ]
 
-  -- the start production is one
+  -- the start production is one of the grammar
   pub start_known : start_prod g < prods_len g
   start_known = known_by_symbol (start_prod g) 0 (Nonterminal g.start) (ap (λ (w : List GrammarSymbol). slice_get w 0) well.last_symbols)
 
@@ -84,15 +84,15 @@ module _ (g : Grammar) (well : IsWellFormed g) where
             subst P same (well.start_added, well.start_within)
       ]
 
-  -- so the added rule is none
+  -- so none is the start rule `^`
   pub no_added_rule : (p k r : ℕ) → r ≡ 0 → slice_get (symbols_of g p) k ≡ Some (Nonterminal r) → ⊥
   no_added_rule p k r is at = let listed = symbol_listed p k (Nonterminal r) at in omega (arith, listed.0, is)
 
-  -- nor is the end token
+  -- and none is the end token
   pub no_end_token : (p k t : ℕ) → t ≡ end_token g → slice_get (symbols_of g p) k ≡ Some (Terminal t) → ⊥
   no_end_token p k t is at = let listed : t < end_token g = symbol_listed p k (Terminal t) at in omega (arith, listed, is)
 
-  -- an item stands before the rule of what it adds
+  -- an item has the rule of what it adds after its dot
   before_added : (x y : ItemOf) → Adds g x y → slice_get (symbols_of g x.prod) x.dot ≡ Some (Nonterminal (rule_of g y.prod))
   before_added x y adds =
       subst (λ (r : ℕ). slice_get (symbols_of g x.prod) x.dot ≡ Some (Nonterminal r)) (sym adds.of_rule)
@@ -103,10 +103,10 @@ module _ (g : Grammar) (well : IsWellFormed g) where
   added_is_listed x y adds is =
       no_added_rule x.prod x.dot (rule_of g y.prod) (ap (rule_of g) is ∙ well.last_rule) (before_added x y adds)
 
-  -- what symbols begin with before a token is a token
+  -- First(w, a) has only tokens, if a is a token
   first_below : (a : ℕ) (w : List GrammarSymbol) (t : ℕ) → a < tokens_len g → AreBelow (tokens_len g) w → IsFirst g a w t
       → t < tokens_len g
-  first_below a w t low free Behind = low
+  first_below a w t low free Empty = low
   first_below a w t low free (Token s v) = free.0
   first_below a w t low free (Rule p r v s known by h) =
       first_below a _ s low (AreBelow-append (tokens_len g) (symbols_of g p) v (prods_below g well p known) free) h
@@ -138,11 +138,11 @@ module _ (g : Grammar) (well : IsWellFormed g) where
       (λ is. refl)
       (λ x s last at is. last is)
 
-  -- in the set that is reached at the start, all dots are at the front
+  -- in the set of the start state, all dots are at the start
   pub start_is_fresh : (x : ItemOf) → IsReachedBy g [] x → x.dot ≡ 0
   start_is_fresh = closure_each g (λ x. x.dot ≡ 0) (λ x y before adds. adds.fresh) (IsStartItem g) (λ x is. ap (λ y. y.dot) is)
 
-  -- and in no other one the start production's dot is
+  -- in no other set the start production's dot is at the start
   pub start_item_at_start : (path : List GrammarSymbol) (x : ItemOf) → IsReachedBy g path x → x.prod ≡ start_prod g → x.dot ≡ 0 → path ≡ []
   start_item_at_start [] x h last fresh = refl
   start_item_at_start (s ∷ path) x h last fresh =
@@ -151,7 +151,7 @@ module _ (g : Grammar) (well : IsWellFormed g) where
         | inr more ↦ absurd (added_is_listed more.0 x more.2 last)
       ]
 
-  -- an item with its dot at the front, but the start item, has its rule before a dot of its set
+  -- for an item with its dot at the start, other than the start item, an item of its set has its rule after the dot
   pub comes_with_rule : (path : List GrammarSymbol) (y : ItemOf) → IsReachedBy g path y → y.dot ≡ 0 → y.prod ≢ start_prod g
       → (x : ItemOf) × IsReachedBy g path x × (slice_get (symbols_of g x.prod) x.dot ≡ Some (Nonterminal (rule_of g y.prod)))
   comes_with_rule [] y h fresh listed =

@@ -1,4 +1,5 @@
--- What a set of items wants to be done at a token, told by its cores: the list of the reductions, and whether to accept.
+-- The actions before conflict resolution at a token, computed from the cores of an item set: the list of reductions, and whether to
+-- accept.
 use Rattle.std.proofs.Common.{◌≡◌, ◌<◌, ◌≤◌, ◌+◌, ◌==◌, ◌&&◌, ◌↔◌, ◌∙◌, sym, ap, subst, inl, inr, arith, ℕ, zero, suc, Bool, true, false, cond, List, [], ◌∷◌, All, Option, Some, None, filter}
 use Rattle.std.specs.List.{Contains, range_with_len}
 use Rattle.std.proofs.lemmas.Bool.{and_from, and_parts, cases_Bool, eq-eqb, eqb-true}
@@ -37,7 +38,7 @@ kept_ascend test a (suc n) =
     ]
 
 module _ (g : Grammar) (cores : List CoreSet) where
-  -- a complete item is there where the test says so
+  -- a complete item is there exactly if the test says so
   pub complete_found : (t p : ℕ) → (is_complete_at g cores t p ≡ true) ↔ IsAmong cores (item_at p (prod_len g p) t)
   complete_found t p =
       let test : CoreSet → Bool = λ core. is_complete g p core && has core.tokens t in (
@@ -70,7 +71,7 @@ module _ (g : Grammar) (cores : List CoreSet) where
   reductions_ascend t = kept_ascend (is_complete_at g cores t) 0 (start_prod g)
 
 module _ (g : Grammar) (sets : ℕ → ItemOf → Type 0) (s : ℕ) (cores : List CoreSet) (known : All (IsCoreOf g) cores) (is : AreSame (sets s) (IsAmong cores)) where
-  -- the reductions are those that are wanted
+  -- the listed reductions are those that the set calls for
   pub candidate_is : (t p : ℕ) → HasReduce g sets s t p ↔ Contains (reductions g cores t) p
   candidate_is t p = (
     λ h.
@@ -85,7 +86,7 @@ module _ (g : Grammar) (sets : ℕ → ItemOf → Type 0) (s : ℕ) (cores : Lis
         (omega (arith, below), (is (item_at p (prod_len g p) t)).1 one.1),
   )
 
-  -- the first of them is the one that is wanted first
+  -- the first of them is the one by the least production
   pub first_is : (t p : ℕ) (later : List ℕ) → reductions g cores t ≡ p ∷ later → HasFirstReduce g sets s t p
   first_is t p later at =
       let up : AscendFrom 0 (p ∷ later) = subst (AscendFrom 0) at (reductions_ascend g cores t) in (
@@ -96,11 +97,11 @@ module _ (g : Grammar) (sets : ℕ → ItemOf → Type 0) (s : ℕ) (cores : Lis
   pub first_alone : (t p q : ℕ) → HasFirstReduce g sets s t p → HasFirstReduce g sets s t q → p ≡ q
   first_alone t p q one other = omega (arith, one.1 q other.0, other.1 p one.0)
 
-  -- where there are none, none is wanted
+  -- if there are none, the set calls for none
   pub none_is : (t p : ℕ) → reductions g cores t ≡ [] → ¬ (HasReduce g sets s t p)
   none_is t p at candidate = member_none p (subst (λ (ks : List ℕ). Contains ks p) at ((candidate_is t p).0 candidate))
 
-  -- to accept is wanted where the start production is complete
+  -- the set calls for accept exactly if the start production is complete
   pub accept_is : (t : ℕ) → prod_len g (start_prod g) ≡ 1 → HasAccept g sets s t ↔ (is_complete_at g cores t (start_prod g) ≡ true)
   accept_is t one = (
     λ h. (complete_found g cores t (start_prod g)).1
@@ -109,7 +110,7 @@ module _ (g : Grammar) (sets : ℕ → ItemOf → Type 0) (s : ℕ) (cores : Lis
         (subst (λ n. IsAmong cores (item_at (start_prod g) n t)) one ((complete_found g cores t (start_prod g)).0 h)),
   )
 
-  -- so a table that does what is told by the cores and the shifts does what is wanted
+  -- so a table with the actions that are computed from cores and shifts has those after conflict resolution
   pub acts_as_resolved : (len t : ℕ) (table : Table) (shift : Option ℕ) (prods : List ℕ) (accepts : Bool) → prod_len g (start_prod g) ≡ 1
       → IsTransition g len sets s (Terminal t) shift → reductions g cores t ≡ prods → is_complete_at g cores t (start_prod g) ≡ accepts
       → action_of table s t ≡ resolved shift prods accepts → ActsAsResolved g sets table s t
@@ -140,7 +141,7 @@ module _ (g : Grammar) (sets : ℕ → ItemOf → Type 0) (s : ℕ) (cores : Lis
     fails = λ none no_reduction no_accept. does;
   }
 
--- and so does one that goes where the steps are
+-- and a table with the transitions by rules has the gotos of the item sets
 pub goes_as_items : (g : Grammar) (sets : ℕ → ItemOf → Type 0) (len s r : ℕ) (table : Table) (goto : Option ℕ)
     → IsTransition g len sets s (Nonterminal r) goto → goto_of table s r ≡ goto → GoesAsItems g sets table s r
 goes_as_items g sets len s r table None step does = record { goes = λ before. absurd (step before); stays = λ none. does }

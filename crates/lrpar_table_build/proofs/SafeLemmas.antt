@@ -1,5 +1,5 @@
--- A table that does what the canonical sets want is safe. What the table does is traced back to what a set wants; and what a set has
--- follows from how it is reached.
+-- A table of the canonical collection is safe. Each action of the table is one that its set calls for; and the items of a set follow
+-- from how gotos reach it.
 use Rattle.std.proofs.Common.{◌≡◌, ◌<◌, ◌+◌, ◌∙◌, refl, sym, ap, subst, inl, inr, arith, ℕ, List, [], None, Some, slice_get}
 use Rattle.std.proofs.lemmas.Bool.{cases_lt}
 use Rattle.lrpar_grammar.proofs.PartsLemmas.{rule_of_within}
@@ -16,7 +16,7 @@ use Rattle.lrpar_table_items.specs.ItemSets.{IsAdvanced, IsInNext, IsReachedBy, 
 use Rattle.lrpar_table_build.proofs.DecidedLemmas.{Accepting, Failing, IsActing, Reducing, Shifting, acting, before_decided}
 use Rattle.lrpar_table_build.proofs.ReachedLemmas.{added_is_listed, closure_cases, comes_with_rule, no_end_token, reached_at_end, reached_items, start_is_fresh, start_item_at_start}
 
--- an item of the set to which a set goes, with its dot past the front, is one of that set's, advanced by one
+-- a kernel item of a goto of a set, whose dot isn't at the start, is an item of the set, advanced by one
 advanced_from : (g : Grammar) (items : ItemOf → Type 0) (x : GrammarSymbol) (p k t : ℕ) → IsInNext g items x (item_at p (k + 1) t)
     → (slice_get (symbols_of g p) k ≡ Some x) × items (item_at p k t)
 advanced_from g items x p k t h =
@@ -35,7 +35,7 @@ advanced_from g items x p k t h =
 
 module _ (g : Grammar) (graph : Graph) (table : Table) (well : IsWellFormed g) (canonical : IsCanonical g graph)
     (resolved : IsCanonicalTable g graph table) where
-  -- each state is reached by a path
+  -- a path reaches each state
   reached_by : (s p k t : ℕ) → HasItem graph s p k t → (path : List GrammarSymbol) × IsReachedBy g path (item_at p k t)
   reached_by s p k t has =
       let reached = canonical.reached s (state_in_range graph s p k t has) in
@@ -45,7 +45,7 @@ module _ (g : Grammar) (graph : Graph) (table : Table) (well : IsWellFormed g) (
   start_there : HasItem graph 0 (start_prod g) 0 (end_token g)
   start_there = (canonical.start (item_at (start_prod g) 0 (end_token g))).1 (Own (item_at (start_prod g) 0 (end_token g)) refl)
 
-  -- what the table does is what the set wants, in range, and nothing out of range
+  -- in range, the table's action is the set's after conflict resolution; out of range, it is an error
   acts_in : (s t : ℕ) → IsActing g graph s table t
   acts_in s t =
       elim (cases_lt s (states_len table)) [
@@ -86,7 +86,7 @@ module _ (g : Grammar) (graph : Graph) (table : Table) (well : IsWellFormed g) (
         | Failing is ↦ absurd (cc)
       ]
 
-  -- so is where it goes by a rule
+  -- so is the goto by a rule
   goto_of_item : (s r next : ℕ) → s < states_len table → goto_of table s r ≡ Some next → LeadsTo g (sets_of graph) s (Nonterminal r) next
   goto_of_item s r next within at =
       elim (cases_lt r (rules_len g)) [
@@ -108,7 +108,7 @@ module _ (g : Grammar) (graph : Graph) (table : Table) (well : IsWellFormed g) (
   leads_by s (Terminal t) next within goes = (shift_of_item s t next goes).1
   leads_by s (Nonterminal r) next within goes = goto_of_item s r next within goes
 
-  -- no set leads to that of the start
+  -- no goto is the set of the start state
   never_to_start : (s : ℕ) (x : GrammarSymbol) → LeadsTo g (sets_of graph) s x 0 → ⊥
   never_to_start s x leads =
       let start = item_at (start_prod g) 0 (end_token g) in
@@ -117,7 +117,7 @@ module _ (g : Grammar) (graph : Graph) (table : Table) (well : IsWellFormed g) (
         | inr more ↦ added_is_listed g well more.0 start more.2 refl
       ]
 
-  -- the start production's first core is in state 0 alone
+  -- the core `^: . S` is in state 0 alone
   start_alone : (s : ℕ) → HasCore graph s (start_prod g) 0 → s ≡ 0
   start_alone s has =
       let item = item_at (start_prod g) 0 has.0 in

@@ -1,4 +1,4 @@
--- Numbered sets that have the same items: what is told of the one holds of the other. And the sets of rows of items, which are those of
+-- Numbered sets that have the same items: what holds of one holds of the other. And the sets of rows of items, which are those of
 -- the cores that the rows were made of.
 use Rattle.std.proofs.Common.{◌≡◌, ◌<◌, ◌↔◌, ◌∙◌, sym, ap, subst, inl, inr, arith, ℕ, true, List, [], Option, Some, None, filter, length}
 use Rattle.std.specs.List.{Contains, range_with_len}
@@ -17,34 +17,34 @@ use Rattle.lrpar_table_items.specs.CompleteItems.{items_of_core, items_of_cores}
 use Rattle.lrpar_table_build.proofs.MemberLemmas.{filter_has, filter_member, joined_has, joined_member, member_none, range_has, range_member}
 use Rattle.lrpar_table_build.proofs.ReachedLemmas.{reached_items}
 
--- to have the same items
+-- having the same items is symmetric
 pub same_back : (items others : ItemOf → Type 0) → AreSame items others → AreSame others items
 same_back items others same x = ((same x).1, (same x).0)
 
 pub same_on : (items others more : ItemOf → Type 0) → AreSame items others → AreSame others more → AreSame items more
 same_on items others more one two x = (λ h. (two x).0 ((one x).0 h), λ h. (one x).1 ((two x).1 h))
 
--- the closure of more items has what that of fewer has
+-- the closure of more items has all that the closure of fewer has
 pub closure_more : (g : Grammar) (items others : ItemOf → Type 0) → ((x : ItemOf) → items x → others x) → (x : ItemOf)
     → IsInClosure g items x → IsInClosure g others x
 closure_more g items others more x (Own y h) = Own y (more y h)
 closure_more g items others more x (Added y z h adds) = Added y z (closure_more g items others more y h) adds
 
--- and so has the set to which it goes
+-- so has the goto
 pub next_more : (g : Grammar) (items others : ItemOf → Type 0) (s : GrammarSymbol) → ((x : ItemOf) → items x → others x)
     → (x : ItemOf) → IsInNext g items s x → IsInNext g others s x
 next_more g items others s more =
     closure_more g (IsAdvanced g items s) (IsAdvanced g others s) (λ y h. (h.0, more h.0 h.1, h.2, h.3))
 
 module _ (g : Grammar) (sets others : ℕ → ItemOf → Type 0) (same : (s : ℕ) → AreSame (sets s) (others s)) where
-  -- an item stands before the symbol in both
+  -- an item with the symbol after its dot is in both
   pub before_same : (s : ℕ) (symbol : GrammarSymbol) → HasAfterDot g others s symbol → HasAfterDot g sets s symbol
   before_same s symbol h = (h.0, (same s h.0).1 h.1, h.2)
 
   pub before_other : (s : ℕ) (symbol : GrammarSymbol) → HasAfterDot g sets s symbol → HasAfterDot g others s symbol
   before_other s symbol h = (h.0, (same s h.0).0 h.1, h.2)
 
-  -- both go to the same
+  -- both have the same gotos
   pub leads_same : (s : ℕ) (symbol : GrammarSymbol) (next : ℕ) → LeadsTo g others s symbol next → LeadsTo g sets s symbol next
   leads_same s symbol next h x = (
     λ there. next_more g (others s) (sets s) symbol (λ y. (same s y).1) x ((h x).0 ((same next x).0 there)),
@@ -55,7 +55,7 @@ module _ (g : Grammar) (sets others : ℕ → ItemOf → Type 0) (same : (s : �
   step_same len s symbol None none = λ before. none (before_other s symbol before)
   step_same len s symbol (Some next) h = (before_same s symbol h.0, h.1, leads_same s symbol next h.2)
 
-  -- both are canonical
+  -- both are the canonical collection
   pub canonical_same : (len : ℕ) → AreCanonical g len others → AreCanonical g len sets
   canonical_same len are = record {
     start = same_on (sets 0) (others 0) (IsReachedBy g []) (same 0) are.start;
@@ -85,7 +85,7 @@ items_core tokens core x prod dot there within =
     let is : item_at core.prod core.dot x.token ≡ x = ap (λ p. item_at p core.dot x.token) prod ∙ ap (λ k. item_at x.prod k x.token) dot in
     subst (Contains (items_of_core tokens core)) is made
 
--- and so are those of cores
+-- so are the items of cores
 pub cores_items : (tokens : ℕ) (cores : List CoreSet) (x : ItemOf) → Contains (items_of_cores tokens cores) x ↔ (IsAmong cores x × (x.token < tokens))
 cores_items tokens cores x = (
   λ h.
@@ -103,7 +103,7 @@ module _ (g : Grammar) (states : List StateOf) where
   row_at : (s : ℕ) → s < length states → items_of (item_rows g states) s ≡ items_of_cores (tokens_len g) (state_at states s).cores
   row_at s below = get_or-map (λ (state : StateOf). items_of_cores (tokens_len g) state.cores) states s _ [] below
 
-  -- the rows have the items of the canonical sets
+  -- the rows have the items of the canonical collection
   pub rows_same : IsWellFormed g → AreCanonical g (length states) (sets_at states) → (s : ℕ) → AreSame (sets_of (item_rows g states) s) (sets_at states s)
   rows_same well are s x =
       elim (cases_lt s (length states)) as (λ _. sets_of (item_rows g states) s x ↔ sets_at states s x) [

@@ -1,4 +1,4 @@
--- The table of the states: each row has what is wanted, ascending; and what is looked up in it.
+-- The table of the states: each row has the actions after conflict resolution, ascending; and look-ups in it.
 use Rattle.std.proofs.Common.{◌≡◌, ◌≢◌, ◌<◌, ◌≤◌, ◌+◌, ◌∙◌, ◌∷◌, ◌++◌, refl, sym, ap, subst, inl, inr, arith, ℕ, zero, suc, Bool, true, false, List, [], All, Option, Some, None, length, map, nat_eq, slice_index, slice_index_or, unwrap_or}
 use Rattle.std.specs.List.{Contains, flat_map, range_with_len}
 use Rattle.std.specs.List.Sorted.{IsStrictlyIncreasing}
@@ -31,7 +31,7 @@ increasing_from a (x ∷ y ∷ ks) up (suc k) below =
     let next : suc (k + 1) ≡ suc k + 1 = omega arith in
     subst (λ n. slice_index (x ∷ y ∷ ks) (suc k) < slice_index (x ∷ y ∷ ks) n) next (increasing_from (x + 1) (y ∷ ks) up.1 k (omega (arith, below)))
 
--- an action in front of later ones
+-- a look-up of the first action of a row
 entry_here : (k : ℕ) (action : TableAction) (later : List (ℕ × TableAction)) → lookup (nat_eq k) later ≡ None
     → unwrap_or (lookup (nat_eq k) (entry_at k action ++ later)) Fails ≡ action
 entry_here k (ShiftTo next) later none = ap (λ o. unwrap_or o Fails) (lookup_head (nat_eq k) (k, ShiftTo next) later (eq-eqb k k refl))
@@ -66,7 +66,7 @@ entry_each tokens states k Accepts below within =
 entry_each tokens states k Fails below within = All-nil (IsActionEntry tokens states)
 
 module _ (f : ℕ → TableAction) where
-  -- the row of an action for each of some numbers
+  -- a row with an action for each of n numbers from a on
   abbrev row_from : ℕ → ℕ → List (ℕ × TableAction)
   row_from a n = flat_map (λ t. entry_at t (f t)) (range_with_len a n)
 
@@ -74,7 +74,7 @@ module _ (f : ℕ → TableAction) where
   row_ascends a zero = tt
   row_ascends a (suc n) = entry_ascends a (f a) (row_from (a + 1) n) (row_ascends (a + 1) n)
 
-  -- what is looked up in it
+  -- a look-up in it
   row_lookup : (a n t : ℕ) → a ≤ t → t < a + n → unwrap_or (lookup (nat_eq t) (row_from a n)) Fails ≡ f t
   row_lookup a zero t from below = absurd (omega (arith, from, below))
   row_lookup a (suc n) t from below =
@@ -96,7 +96,7 @@ module _ (f : ℕ → TableAction) where
       (entry_each tokens states a (f a) (omega (arith, low)) (within a (omega (arith, low))))
       (row_each tokens states (a + 1) n (omega (arith, low)) within)
 
--- what is wanted leads to a state where a shift does
+-- the action after conflict resolution has its state in range, if the shift has
 resolved_within : (states : ℕ) (shift : Option ℕ) (prods : List ℕ) (accepts : Bool) → ((next : ℕ) → shift ≡ Some next → next < states)
     → IsActionWithin states (resolved shift prods accepts)
 resolved_within states (Some next) prods accepts within = within next refl
@@ -128,7 +128,7 @@ module _ (g : Grammar) (states : List StateOf) (are : AreStates g states) (well 
             absurd (member_none among.0 among.1)
       ]
 
-  -- what a step says
+  -- what a transition says
   step_some : (s : ℕ) (symbol : GrammarSymbol) (step : Option ℕ) (next : ℕ) → IsTransition g (length states) (sets_at states) s symbol step → step ≡ Some next
       → HasAfterDot g (sets_at states) s symbol × (next < length states)
   step_some s symbol None next h is = absurd (cc)
@@ -137,7 +137,7 @@ module _ (g : Grammar) (states : List StateOf) (are : AreStates g states) (well 
   action_row : (s : ℕ) → s < length states → actions_at (table_of_states g states) s ≡ resolved_row g (state_at states s).cores (state_at states s).shifts
   action_row s below = get_or-map (λ (state : StateOf). resolved_row g state.cores state.shifts) states s _ [] below
 
-  -- the action at a token is what is wanted
+  -- the action at a token is the one after conflict resolution
   pub action_is : (s t : ℕ) → s < length states → t < tokens_len g
       → action_of (table_of_states g states) s t ≡ resolved_at g (state_at states s).cores (state_at states s).shifts t
   unfolding action_of

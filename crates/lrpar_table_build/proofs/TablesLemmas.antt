@@ -1,4 +1,4 @@
--- The loops over states: what one state more adds to the rows, and the rows of all states put together.
+-- The loops over states: what one more state adds to the rows, and the rows of all states together.
 use Rattle.std.proofs.Common.{◌≡◌, ◌<◌, ◌+◌, ◌++◌, ◌∷◌, ◌∙◌, ℕ, List, [], All, Option, sym, ap, subst, get_or, length, map, take}
 use Rattle.std.specs.Map.{keys_of}
 use Rattle.std.proofs.lemmas.List.{get_or-map, map-append}
@@ -12,11 +12,11 @@ use Rattle.lrpar_table_items.specs.Resolution.{AreOnce, AscendFrom, IsRefusal}
 use Rattle.lrpar_table_items.specs.declared.fault.BuildFault.{BuildFault}
 use Rattle.lrpar_table_items.specs.declared.fault.BuildFault.TheVariants.{AcceptReduceConflict, Memory, StorageTooSmall, TooManyStates}
 
--- a state of the code is the one in its place
+-- a state of the code is the one at its place
 pub state_read : {X : Type 0} (f : X → StateOf) (xs : List X) (s : ℕ) (x : X) → s < length xs → x ≡ get_or xs s x → state_at (map f xs) s ≡ f x
 state_read f xs s x within is = get_or-map f xs s x _ within ∙ ap f (sym is)
 
--- a row more
+-- one more row
 pub row_more : {X R Z : Type 0} (view : R → Z) (f : X → StateOf) (h : StateOf → Z) (xs : List X) (i : ℕ) (x : X) (made pushed : List R) (row : R)
     → i < length xs → x ≡ get_or xs i x → map view made ≡ map h (map f (take i xs)) → pushed ≡ made ++ row ∷ [] → view row ≡ h (f x)
     → map view pushed ≡ map h (map f (take (i + 1) xs))
@@ -26,7 +26,7 @@ row_more view f h xs i x made pushed row within is so_far more same =
 
 module _ (g : Grammar) (states : List StateOf) (are : AreStates g states) (s : ℕ) (state : StateOf) (below : s < length states)
     (is : state_at states s ≡ state) where
-  -- what a state's row asks of its cores and its shifts
+  -- what a state's row requires of its cores and its shifts
   pub cores_known : All (λ (core : CoreSet). core.prod < prods_len g) state.cores
   cores_known k d within =
       subst (λ (st : StateOf). All (λ (core : CoreSet). core.prod < prods_len g) st.cores) is (λ n e low. (are.cores s below n e low).prod) k d within
@@ -37,7 +37,7 @@ module _ (g : Grammar) (states : List StateOf) (are : AreStates g states) (s : �
   pub shifts_ascend : AscendFrom 0 (keys_of state.shifts)
   shifts_ascend = subst (λ (st : StateOf). AscendFrom 0 (keys_of st.shifts)) is (are.shifts_ascend s below)
 
--- the refusal of a state is one of the states
+-- a refusal of a state is a refusal of the states
 pub refusal_of : (len s n : ℕ) (reason : Type 0) (reasons : ℕ → Type 0) (fault : BuildFault) → s < len → n ≡ s → (reason → reasons s)
     → IsRefusal n reason fault → IsRefusalOf len reasons fault
 refusal_of len s n reason reasons (AcceptReduceConflict m) below same is h =

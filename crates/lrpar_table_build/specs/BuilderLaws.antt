@@ -1,4 +1,4 @@
--- What follows where a table does what the canonical sets want.
+-- Canonical tables, their conflicts, and what follows: such a table is safe.
 use Rattle.std.specs.Prelude.{◌≡◌, ◌<◌, ◌≤◌, ◌↔◌, ℕ, [], Contains, Option, Some, None}
 use Rattle.lrpar_grammar.specs.Grammar.{Grammar, IsWellFormed, Terminal, rules_len, tokens_len}
 use Rattle.lrpar_table_rows.specs.ConflictsFit.{ConflictsFit}
@@ -7,8 +7,8 @@ use Rattle.lrpar_table_rows.specs.Safe.{IsSafe}
 use Rattle.lrpar_table_rows.specs.Table.{ConflictLists, ReduceReduce, ShiftReduce, Table, TableAction, ShiftTo, ReduceBy, Accepts, Fails, action_of, goto_of, states_len}
 use Rattle.lrpar_table_items.specs.Canonical.{ActsAsResolved, GoesAsItems, IsAcceptConflict, IsCanonical, IsReduceConflict, IsShiftConflict, IsTransition, HasAccept, HasReduce, sets_of}
 
--- the table has a state for each set of the graph, and starts in number 0; it has the grammar's tokens and rules; in each state it
--- does and goes as the set wants; and past its states, its tokens and its rules it does nothing
+-- the table has a state for each set of the graph, and starts in number 0; it has the grammar's tokens and rules; each state has the
+-- actions of its set after conflict resolution, and the set's gotos; and past its states, tokens and rules it has no entries
 pub record IsCanonicalTable (g : Grammar) (graph : Graph) (table : Table) : Type 0 where
   pub states : graph_len graph ≡ states_len table
   pub start : table.start ≡ 0
@@ -20,33 +20,33 @@ pub record IsCanonicalTable (g : Grammar) (graph : Graph) (table : Table) : Type
   pub no_token : (s t : ℕ) → table.tokens ≤ t → action_of table s t ≡ Fails
   pub no_rule : (s r : ℕ) → table.rules ≤ r → goto_of table s r ≡ None
 
--- a table that does what the canonical sets of a grammar want is safe
+-- a table of the canonical collection of a grammar is safe
 abbrev pub CanonicalTablesAreSafe : Type 0
 CanonicalTablesAreSafe =
     (g : Grammar) (graph : Graph) (table : Table) → IsWellFormed g → IsCanonical g graph → IsCanonicalTable g graph table
     → IsSafe g graph table
 
--- set s, one of len, wants the action at token t
+-- an action before conflict resolution: set s, one of len, calls for the action at token t
 abbrev pub HasAction : Grammar → ℕ → (ℕ → ItemOf → Type 0) → ℕ → ℕ → TableAction → Type 0
 HasAction g len sets s t (ShiftTo next) = IsTransition g len sets s (Terminal t) (Some next)
 HasAction g len sets s t (ReduceBy p) = HasReduce g sets s t p
 HasAction g len sets s t Accepts = HasAccept g sets s t
 HasAction g len sets s t Fails = ⊥
 
--- none of the len sets wants two different actions at one token
+-- none of the len sets calls for two different actions at one token
 abbrev pub HaveOneAction : Grammar → ℕ → (ℕ → ItemOf → Type 0) → Type 0
 HaveOneAction g len sets = (s t : ℕ) (a b : TableAction) → s < len → HasAction g len sets s t a → HasAction g len sets s t b → a ≡ b
 
--- none of the len sets wants to accept and a reduction
+-- none of the len sets has an accept/reduce conflict
 abbrev pub AcceptAlone : Grammar → ℕ → (ℕ → ItemOf → Type 0) → Type 0
 AcceptAlone g len sets = (s : ℕ) → s < len → ¬ (IsAcceptConflict g sets s)
 
--- the lists, or empty ones
+-- the lists of conflicts, or empty lists
 abbrev pub lists_in : Option ConflictLists → ConflictLists
 lists_in (Some lists) = lists
 lists_in None = record { reduce_reduce = []; shift_reduce = [] }
 
--- what is listed are the conflicts of the graph's sets, and no others; where there are none, there are no lists
+-- the lists have the conflicts of the graph's sets, and no others; if there are none, there are no lists
 pub record AreConflictsOf (g : Grammar) (graph : Graph) (conflicts : Option ConflictLists) : Type 0 where
   pub reduce_reduce : (x : ReduceReduce) → Contains (lists_in conflicts).reduce_reduce x
       ↔ ((x.state < graph_len graph) × (x.token < tokens_len g) × IsReduceConflict g (sets_of graph) x)
@@ -54,14 +54,15 @@ pub record AreConflictsOf (g : Grammar) (graph : Graph) (conflicts : Option Conf
       ↔ ((x.state < graph_len graph) × (x.token < tokens_len g) × IsShiftConflict g (sets_of graph) x)
   pub some : (lists : ConflictLists) → conflicts ≡ Some lists → lists.reduce_reduce ≡ [] → lists.shift_reduce ≡ [] → ⊥
 
--- canonical sets have no conflicts exactly where none wants two different actions at one token, accepting beside a reduction aside
+-- a canonical collection without accept/reduce conflicts has no conflicts exactly if no set calls for two different actions at one
+-- token
 abbrev pub NoConflictsAreOneAction : Type 0
 NoConflictsAreOneAction =
     (g : Grammar) (graph : Graph) (conflicts : Option ConflictLists) → IsWellFormed g → IsCanonical g graph
     → AreConflictsOf g graph conflicts → AcceptAlone g (graph_len graph) (sets_of graph)
     → (conflicts ≡ None) ↔ HaveOneAction g (graph_len graph) (sets_of graph)
 
--- what is listed of canonical sets fits the grammar
+-- the listed conflicts of a canonical collection fit the grammar
 abbrev pub CanonicalConflictsFit : Type 0
 CanonicalConflictsFit =
     (g : Grammar) (graph : Graph) (conflicts : Option ConflictLists) → IsWellFormed g → IsCanonical g graph

@@ -1,4 +1,4 @@
-//! The table builder: of a grammar, its canonical item sets and the table that they make.
+//! The table builder: the canonical collection of LR(1) item sets of a grammar, and its canonical LR(1) table.
 ghost use Rattle.std.specs.Prelude.{◌≤◌, IfErr, IfOk};
 ghost use Rattle.lrpar_table_rows.specs.Graph.{graph_len};
 ghost use Rattle.lrpar_table_build.specs.Built.{IsBuildRefusal, IsBuilt};
@@ -11,24 +11,26 @@ use lrpar_table_items::states::states;
 use lrpar_table_rows::table::{StateGraph, StateTable};
 use std::alloc::Global;
 
-/// The canonical LR(1) item sets of the grammar, at most so many, and the table that does what they want. State 0 is that of the
-/// start.
+/// The canonical collection of LR(1) item sets of the grammar, at most `max_states`, and the canonical LR(1) table. State 0 is the
+/// start state.
 ///
-/// Where an item set wants a shift and a reduction, the table shifts; where it wants several reductions, the table makes the first
-/// one: these are the table's conflicts, listed by state, token and production. They fit the grammar, and there are none where no
-/// item set wants two different actions at one token. `AcceptReduceConflict` comes if some item set wants to accept and a
-/// reduction; its number is that of the item set in the order in which they are found, which no clause pins.
-/// `TooManyStates` comes where there are more item sets than `max_states`, `StorageTooSmall` where there are more than `StorageT`
-/// has numbers, and `Memory` where it doesn't suffice.
+/// If an item set calls for a shift and a reduction at one token, the table shifts; if it calls for several reductions, the table
+/// reduces by the first production. These are the table's shift/reduce and reduce/reduce conflicts, listed by state, token and
+/// production. They fit the grammar. There are none exactly if no item set calls for two different actions at one token.
+///
+/// It returns `AcceptReduceConflict` if an item set calls for accept and for a reduction; its number is that of the item set in the
+/// order in which they are built, which no contract fixes. It returns `TooManyStates` if there are more item sets than
+/// `max_states`, `StorageTooSmall` if there are more than `StorageT` has numbers, and `Memory` if an allocation fails.
 pub fn from_yacc<StorageT: StorageIndex>(
     alloc: Global,
     grm: &YaccGrammar<StorageT>,
     max_states: usize,
 ) -> Result<(StateGraph<StorageT>, StateTable<StorageT>), BuildFault>
-    // The item sets are the canonical ones, and the table does what they want: it is safe, and its conflicts are theirs and fit.
+    // The item sets are the canonical collection, and the table has their actions after conflict resolution. It is safe, and its
+    // conflicts are theirs and fit.
     ensures built { IfOk result (λ built. IsBuilt grm.now built.0 built.1) }
     ensures room { IfOk result (λ built. graph_len built.0 ≤ max_states) }
-    // A refusal tells that there are too many, or that one wants what no table does.
+    // `TooManyStates` and `StorageTooSmall`: there are too many item sets; `AcceptReduceConflict`: one calls for accept and a reduction.
     ensures refused { IfErr result (IsBuildRefusal grm.now max_states StorageT.limit) }
 {
     let _start = grm.start_prod();

@@ -1,4 +1,4 @@
-//! The graph and the table that states make.
+//! The state graph and the table of the canonical collection.
 ghost use Rattle.std.specs.Prelude.{◌≡◌, ◌≢◌, ◌<◌, ◌≤◌, ◌↔◌, ◌++◌, ℕ, IfErr, IfOk, OnOk, length, map};
 ghost use Rattle.lrpar_grammar.specs.Grammar.{IsWellFormed, tokens_len};
 ghost use Rattle.lrpar_table_rows.specs.Graph.{HasItem, graph_len};
@@ -28,10 +28,10 @@ type ActionRow<StorageT> = Vec<(TIdx<StorageT>, Action<StorageT>)>;
 /// The gotos that a state stores: rules with states, ascending.
 type GotoRow<StorageT> = Vec<(RIdx<StorageT>, StIdx<StorageT>)>;
 
-/// The item sets of the states, and the table that does what they want, with the conflicts among that.
+/// The item sets of the states, and the table with their actions after conflict resolution, and with their conflicts.
 ///
-/// `AcceptReduceConflict` names a state that wants to accept, and a reduction; `Memory` comes where it doesn't suffice. It takes
-/// time near the number of states times tokens times complete cores.
+/// It returns `AcceptReduceConflict` with a state that calls for accept and for a reduction, and `Memory` if an allocation fails. It
+/// takes time proportional to the number of states times tokens times complete cores.
 pub(crate) fn tables<StorageT: StorageIndex>(
     alloc: Global,
     grm: &YaccGrammar<StorageT>,
@@ -50,7 +50,7 @@ pub(crate) fn tables<StorageT: StorageIndex>(
     Ok((graph, table))
 }
 
-// What each state does at each token where it does something, and the conflicts of the states, if there are any.
+// The actions of each state but errors, and the conflicts of the states, if there are any.
 fn all_actions<StorageT: StorageIndex>(
     alloc: Global,
     grm: &YaccGrammar<StorageT>,
@@ -71,7 +71,7 @@ fn all_actions<StorageT: StorageIndex>(
     Ok((rows, conflicts_of(rr, sr)))
 }
 
-// What each state does at each token where it does something. The conflicts of the states are appended to `rr` and `sr`.
+// The actions of each state but errors. The reduce/reduce conflicts are appended to `rr`, the shift/reduce conflicts to `sr`.
 fn rows_of_actions<StorageT: StorageIndex>(
     alloc: Global,
     grm: &YaccGrammar<StorageT>,
@@ -116,11 +116,11 @@ fn graph_of<StorageT: StorageIndex>(
     let rows = rows_of_items(alloc, grm, states)?;
     match StateGraph::from_rows(alloc, rows) {
         Ok(graph) => Ok(graph),
-        Err(fault) => Err(want_of_memory(fault)),
+        Err(fault) => Err(out_of_memory(fault)),
     }
 }
 
-// Where each state goes by rules.
+// The gotos of each state.
 fn rows_of_gotos<StorageT: StorageIndex>(
     alloc: Global,
     states: Vec<State<StorageT>>,
@@ -149,7 +149,7 @@ fn conflicts_of<StorageT: StorageIndex>(
     }
 }
 
-// The table of the states, of which this is what they do, and these are the conflicts.
+// The table of the states with these actions and conflicts.
 fn table_of_states<StorageT: StorageIndex>(
     alloc: Global,
     grm: &YaccGrammar<StorageT>,
@@ -181,7 +181,7 @@ fn table_of_states<StorageT: StorageIndex>(
     table_of(alloc, rows)
 }
 
-// The table of rows that are those of one.
+// The table of rows that are those of a table.
 fn table_of<StorageT: StorageIndex>(
     alloc: Global,
     rows: SparseRows<StorageT>,
@@ -192,12 +192,12 @@ fn table_of<StorageT: StorageIndex>(
 {
     match StateTable::from_sparse(alloc, rows) {
         Ok(table) => Ok(table),
-        Err(fault) => Err(want_of_memory(fault)),
+        Err(fault) => Err(out_of_memory(fault)),
     }
 }
 
-// The fault of the rows where their numbers are right: memory was wanting.
-fn want_of_memory(fault: TableFault) -> BuildFault
+// The fault of rows whose numbers are right: an allocation failed.
+fn out_of_memory(fault: TableFault) -> BuildFault
     requires { fault ≢ TableFault.BadIndex }
     ensures { result ≡ Memory }
 {

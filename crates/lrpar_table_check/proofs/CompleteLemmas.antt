@@ -21,7 +21,7 @@ use Rattle.std.proofs.lemmas.List.Elements.{All-cons, All-drop, All-head, All-ni
 use Rattle.std.proofs.lemmas.Option.{slice_get_within}
 use Rattle.lrpar_grammar.specs.Grammar.{Grammar, GrammarSymbol, IsListedSymbol, IsWellFormed, Nonterminal, Terminal, end_token, prod_len, prods_len, rule_of, rules_len, start_prod, symbols_of}
 use Rattle.lrpar_grammar.specs.Tree.{Tree, Forest, Leaf, Branch, Nil, Cons, leaves, forest_leaves, productions, forest_productions, Fits, ForestFits}
-use Rattle.lrpar_table_first.specs.First.{IsFirst, Behind}
+use Rattle.lrpar_table_first.specs.First.{IsFirst, Empty}
 use Rattle.lrpar_table_rows.specs.Graph.{Graph, HasItem}
 use Rattle.lrpar_table_rows.proofs.GraphLemmas.{state_in_range}
 use Rattle.lrpar_table_rows.specs.Safe.{GoesBy, HasShape}
@@ -32,7 +32,7 @@ use Rattle.lrpar_table_stacks.specs.Run.{Far, FarEnd, Accepted, goes_on, accepts
 use Rattle.lrpar_table_stacks.specs.Stack.{top_of}
 use Rattle.lrpar_table_conditions.specs.declared.completeness.CompletenessCondition.TheVariants.{C1, C2, C3, C4, C5}
 use Rattle.lrpar_table_stacks.proofs.ChainLemmas.{top_over}
-use Rattle.lrpar_table_conditions.proofs.FirstTokenLemmas.{Stand, at_drop, first_token, forest_begins, stand_all, stand_split, stand_token, stand_within}
+use Rattle.lrpar_table_conditions.proofs.FirstTokenLemmas.{AreBetween, at_drop, first_token, forest_begins, between_all, between_split, between_token, between_within}
 use Rattle.lrpar_table_stacks.proofs.RunLemmas.{token_at_end}
 use Rattle.lrpar_table_stacks.proofs.StepLemmas.{action_by_top, goto_by_top}
 
@@ -134,23 +134,23 @@ module _ {X : Type 0} (token : X → ℕ) (g : Grammar) (graph : Graph) (table :
     pub far : (qs : List ℕ) (end : FarEnd) → Runs (st ++ ups) j qs end → Runs st i (prods ++ qs) end
 
   -- a leaf is shifted
-  leaf_runs : (x : X) (a : ℕ) (st : List ℕ) (s p k t i j : ℕ) → token x ≡ a → top_of st ≡ Some s → Stand lexemes (x ∷ []) i j
+  leaf_runs : (x : X) (a : ℕ) (st : List ℕ) (s p k t i j : ℕ) → token x ≡ a → top_of st ≡ Some s → AreBetween lexemes (x ∷ []) i j
       → StepsOn graph table s (Terminal a) p k t → TreeRuns st s p k t (Terminal a) [] i j
-  leaf_runs x a st s p k t i j fits top stand step =
-      let is : token_at token g lexemes i ≡ a = stand_token token g lexemes (x ∷ []) i j stand ∙ fits in
+  leaf_runs x a st s p k t i j fits top between step =
+      let is : token_at token g lexemes i ≡ a = between_token token g lexemes (x ∷ []) i j between ∙ fits in
       let shifts : top_action table (token_at token g lexemes i) st ≡ ShiftTo step.0 =
       action_by_top table (token_at token g lexemes i) st s top ∙ ap (action_of table s) is ∙ step.1 in
       let settled : IsSettled table (token_at token g lexemes i) st =
       λ q reduces. let no : ShiftTo step.0 ≡ ReduceBy q = sym shifts ∙ reduces in cc in
       let feeds : Feeds g table (token_at token g lexemes i) st [] (st ++ step.0 ∷ []) =
       record { settled = st; settles = (refl, settled); next = step.0; shifts = shifts; pushed = refl } in
-      let past : j ≡ i + 1 = stand.past in
+      let past : j ≡ i + 1 = between.past in
       record {
         next = step.0;
         goes = step.1;
         item = step.2;
         far = λ qs end rest.
-            goes_on st i [] qs (st ++ step.0 ∷ []) end (stand_within lexemes x [] i j stand) feeds
+            goes_on st i [] qs (st ++ step.0 ∷ []) end (between_within lexemes x [] i j between) feeds
             (subst (λ (m : ℕ). Runs (st ++ step.0 ∷ []) m qs end) past rest);
       }
 
@@ -175,11 +175,11 @@ module _ {X : Type 0} (token : X → ℕ) (g : Grammar) (graph : Graph) (table :
       }
 
   -- no symbols are left
-  none_runs : (st : List ℕ) (s q k b i j : ℕ) → top_of st ≡ Some s → HasItem graph s q k b → Stand lexemes [] i j → ForestRuns st q k b [] [] i j
-  none_runs st s q k b i j top has stand =
+  none_runs : (st : List ℕ) (s q k b i j : ℕ) → top_of st ≡ Some s → HasItem graph s q k b → AreBetween lexemes [] i j → ForestRuns st q k b [] [] i j
+  none_runs st s q k b i j top has between =
       let bare : st ++ [] ≡ st = append-nil st in
       let same : k ≡ k + 0 = omega arith in
-      let place : j ≡ i = let past = stand.past in omega (arith, past) in
+      let place : j ≡ i = let past = between.past in omega (arith, past) in
       record {
         ups = [];
         many = refl;
@@ -210,33 +210,33 @@ module _ {X : Type 0} (token : X → ℕ) (g : Grammar) (graph : Graph) (table :
 
   mutual
     pub tree_runs : (tree : Tree X) (x : GrammarSymbol) (st : List ℕ) (s p k t : ℕ) (w : List GrammarSymbol) (i j : ℕ) → Fits token g tree x
-        → top_of st ≡ Some s → HasItem graph s p k t → drop k (symbols_of g p) ≡ x ∷ w → Stand lexemes (leaves tree) i j
+        → top_of st ≡ Some s → HasItem graph s p k t → drop k (symbols_of g p) ≡ x ∷ w → AreBetween lexemes (leaves tree) i j
         → IsFirst g t w (token_at token g lexemes j) → TreeRuns st s p k t x (productions tree) i j
-    tree_runs (Leaf l) (Terminal a) st s p k t w i j fits top has further stand first =
-        leaf_runs l a st s p k t i j fits top stand (steps_on s p k t (Terminal a) has (at_drop (symbols_of g p) k (Terminal a) w further).0)
-    tree_runs (Leaf l) (Nonterminal r) st s p k t w i j fits top has further stand first = absurd fits
-    tree_runs (Branch q children) (Terminal a) st s p k t w i j fits top has further stand first = absurd fits
-    tree_runs (Branch q children) (Nonterminal r) st s p k t w i j fits top has further stand first =
+    tree_runs (Leaf l) (Terminal a) st s p k t w i j fits top has further between first =
+        leaf_runs l a st s p k t i j fits top between (steps_on s p k t (Terminal a) has (at_drop (symbols_of g p) k (Terminal a) w further).0)
+    tree_runs (Leaf l) (Nonterminal r) st s p k t w i j fits top has further between first = absurd fits
+    tree_runs (Branch q children) (Terminal a) st s p k t w i j fits top has further between first = absurd fits
+    tree_runs (Branch q children) (Nonterminal r) st s p k t w i j fits top has further between first =
         let b = token_at token g lexemes j in
         let begun = complete.each C2 s (state_within s p k t has) p k t has r w further q b fits.0 fits.1 first in
-        let inner = forest_runs children (symbols_of g q) st s q 0 b i j fits.2 top begun refl stand refl in
+        let inner = forest_runs children (symbols_of g q) st s q 0 b i j fits.2 top begun refl between refl in
         let known = (shape.items s p k t has).prod in
         let other = not_start g formed q r fits.1 (rule_listed g formed p k r w known further) in
         node_runs q r st s p k t (forest_productions children) i j fits.0 fits.1 other top
         (steps_on s p k t (Nonterminal r) has (at_drop (symbols_of g p) k (Nonterminal r) w further).0) inner
 
     pub forest_runs : (ts : Forest X) (ss : List GrammarSymbol) (st : List ℕ) (s q k b i j : ℕ) → ForestFits token g ts ss
-        → top_of st ≡ Some s → HasItem graph s q k b → drop k (symbols_of g q) ≡ ss → Stand lexemes (forest_leaves ts) i j
+        → top_of st ≡ Some s → HasItem graph s q k b → drop k (symbols_of g q) ≡ ss → AreBetween lexemes (forest_leaves ts) i j
         → token_at token g lexemes j ≡ b → ForestRuns st q k b ss (forest_productions ts) i j
-    forest_runs Nil [] st s q k b i j fits top has further stand last = none_runs st s q k b i j top has stand
-    forest_runs Nil (x ∷ ss) st s q k b i j fits top has further stand last = absurd fits
-    forest_runs (Cons t ts) [] st s q k b i j fits top has further stand last = absurd fits
-    forest_runs (Cons t ts) (x ∷ ss) st s q k b i j fits top has further stand last =
+    forest_runs Nil [] st s q k b i j fits top has further between last = none_runs st s q k b i j top has between
+    forest_runs Nil (x ∷ ss) st s q k b i j fits top has further between last = absurd fits
+    forest_runs (Cons t ts) [] st s q k b i j fits top has further between last = absurd fits
+    forest_runs (Cons t ts) (x ∷ ss) st s q k b i j fits top has further between last =
         let m = i + length (leaves t) in
-        let parts = stand_split lexemes (leaves t) (forest_leaves ts) i j stand in
+        let parts = between_split lexemes (leaves t) (forest_leaves ts) i j between in
         let first : IsFirst g b ss (token_at token g lexemes m) =
         subst (λ (n : ℕ). IsFirst g b ss n)
-        (sym (stand_token token g lexemes (forest_leaves ts) m j parts.1 ∙ ap (first_token token (forest_leaves ts)) last))
+        (sym (between_token token g lexemes (forest_leaves ts) m j parts.1 ∙ ap (first_token token (forest_leaves ts)) last))
         (forest_begins token g b ts ss fits.1) in
         let one = tree_runs t x st s q k b ss i m fits.0 top has further parts.0 first in
         let next : drop (k + 1) (symbols_of g q) ≡ ss = rw add-one (at_drop (symbols_of g q) k x ss further).1 in
@@ -250,10 +250,10 @@ module _ {X : Type 0} (token : X → ℕ) (g : Grammar) (graph : Graph) (table :
       let n = length lexemes in
       let end : token_at token g lexemes n ≡ end_token g = token_at_end token g lexemes n (omega arith) in
       let item = complete.each C1 table.start closed.start_within refl in
-      let stand : Stand lexemes (leaves tree) 0 n = subst (λ (xs : List X). Stand lexemes xs 0 n) (sym are) (stand_all lexemes) in
-      let first : IsFirst g (end_token g) [] (token_at token g lexemes n) = subst (λ (t : ℕ). IsFirst g (end_token g) [] t) (sym end) Behind in
+      let between : AreBetween lexemes (leaves tree) 0 n = subst (λ (xs : List X). AreBetween lexemes xs 0 n) (sym are) (between_all lexemes) in
+      let first : IsFirst g (end_token g) [] (token_at token g lexemes n) = subst (λ (t : ℕ). IsFirst g (end_token g) [] t) (sym end) Empty in
       let run = tree_runs tree (Nonterminal g.start) (table.start ∷ []) table.start (start_prod g) 0 (end_token g) [] 0 n fits refl item
-      formed.last_symbols stand first in
+      formed.last_symbols between first in
       let one : 0 + 1 ≡ prod_len g (start_prod g) = sym (ap (λ (ss : List GrammarSymbol). length ss) formed.last_symbols) in
       let whole = subst (λ (k : ℕ). HasItem graph run.next (start_prod g) k (end_token g)) one run.item in
       let ends = complete.each C5 run.next (state_within run.next (start_prod g) (prod_len g (start_prod g)) (end_token g) whole)

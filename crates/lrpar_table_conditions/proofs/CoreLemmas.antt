@@ -1,4 +1,4 @@
--- What the tests of the safety conditions decide.
+-- Tests of a state's cores decide the safety conditions.
 use Rattle.std.proofs.Common.{◌≡◌, ◌≢◌, ◌<◌, ◌≤◌, ◌+◌, ◌↔◌, ◌∙◌, ℕ, Bool, IsTrue, List, length, map, Option, Some, None, slice_get, slice_index_or, refl, sym, ap, subst, arith}
 use Rattle.std.proofs.lemmas.Option.{none-some, slice_get-map, slice_get_read}
 use Rattle.std.specs.List.{Contains}
@@ -29,7 +29,7 @@ pub begun_read : {S : Type 0} (index : S → ℕ) (graph : Graph) (s : ℕ) (cor
 begun_read index graph s cores i core all below read =
     ((all (index core.0.0) core.1).1 (Contains-image (core_of index) cores core (i, below, sym read))).0
 
--- and it is of the grammar where the items are
+-- and it is of the grammar, if the table has the shape S1
 pub core_in_shape : (g : Grammar) (graph : Graph) (table : Table) (s p k : ℕ) → HasShape g graph table → HasCore graph s p k
     → (p < prods_len g) × (k ≤ prod_len g p)
 core_in_shape g graph table s p k shape has = let item = shape.items s p k has.0 has.1 in (item.prod, item.dot)
@@ -41,14 +41,14 @@ pub item_read : {S : Type 0} (index : S → ℕ) (graph : Graph) (s : ℕ) (item
 item_read index graph s items i item all below read =
     subst (λ (is : List ItemOf). Contains is (item_of index item)) all (Contains-image (item_of index) items item (i, below, sym read))
 
--- a symbol that was read is the one of the right side
+-- a symbol that was read is the symbol of the right side
 pub symbol_read : {S : Type 0} (index : S → ℕ) (xs : List (Symbol S)) (ys : List GrammarSymbol) (k : ℕ) (x : Symbol S)
     → map (symbol_of index) xs ≡ ys → k < length xs → x ≡ slice_index_or xs k x → slice_get ys k ≡ Some (symbol_of index x)
 symbol_read index xs ys k x is below read =
     subst (λ (zs : List GrammarSymbol). slice_get zs k ≡ Some (symbol_of index x)) is
     (slice_get-map (symbol_of index) xs k ∙ ap (option_map (symbol_of index)) (slice_get_read xs (length xs) k x refl below read))
 
--- a goto is found where there is one
+-- a goto is found exactly if there is one
 pub goto_test : {S : Type 0} (index : S → ℕ) (found : Option (StIdx S)) (goto : Option ℕ) → plain_goto index found ≡ goto
     → IsTrue (is_some found) ↔ ((next : ℕ) × (goto ≡ Some next))
 goto_test index (Some s) goto is = (λ _. (index s.0, sym is), λ _. refl)
@@ -62,11 +62,11 @@ before_test P dot before b is test = (
   λ all. test.1 (all before is),
 )
 
--- what is known beside a test
+-- a test with a known fact decides both
 pub beside_test : {A B : Type 0} (b : Bool) → A → IsTrue b ↔ B → IsTrue b ↔ (A × B)
 beside_test b known test = (λ h. (known, test.0 h), λ h. test.1 h.1)
 
--- cores follow where each with a dot past 0 comes from the core before
+-- cores follow if each with a dot past 0 comes from the core one symbol before
 pub cores_follow_each : (g : Grammar) (graph : Graph) (s : ℕ) (x : GrammarSymbol) (next : ℕ)
     → ((p k : ℕ) → HasCore graph next p k → (before : ℕ) → k ≡ before + 1 → (slice_get (symbols_of g p) before ≡ Some x) × HasCore graph s p before)
     ↔ CoresFollow g graph s x next
@@ -75,14 +75,14 @@ cores_follow_each g graph s x next = (
   λ follow p k h before e. follow p before (subst (HasCore graph next p) e h),
 )
 
--- steps are shifts and gotos
+-- transitions are shifts and gotos
 pub steps_by_kind : (g : Grammar) (graph : Graph) (table : Table) (s : ℕ)
     → ((t next : ℕ) → action_of table s t ≡ ShiftTo next → CoresFollow g graph s (Terminal t) next)
     → ((r next : ℕ) → goto_of table s r ≡ Some next → CoresFollow g graph s (Nonterminal r) next) → StepsFromCores g graph table s
 steps_by_kind g graph table s shifts gotos (Terminal t) next h = shifts t next h
 steps_by_kind g graph table s shifts gotos (Nonterminal r) next h = gotos r next h
 
--- and a state that neither a shift nor a goto leads to isn't gone to
+-- if neither a shift nor a goto leads to a state, no transition does
 pub never_by_kind : (table : Table) (s next : ℕ) → ((t : ℕ) → action_of table s t ≢ ShiftTo next) → ((r : ℕ) → goto_of table s r ≢ Some next)
     → (x : GrammarSymbol) → ¬ (GoesBy table s x next)
 never_by_kind table s next shifts gotos (Terminal t) h = shifts t h

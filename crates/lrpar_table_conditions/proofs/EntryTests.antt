@@ -1,4 +1,4 @@
--- What tests of a state's entries decide.
+-- Tests of a state's entries decide the safety conditions.
 use Rattle.std.proofs.Common.{◌≡◌, ◌≢◌, ◌<◌, ◌↔◌, ◌⊎◌, ℕ, List, All, Some, slice_index_or, refl, sym, subst, inl, inr}
 use Rattle.std.specs.List.{Contains}
 use Rattle.std.proofs.lemmas.List.{get_or_default}
@@ -34,7 +34,7 @@ all_actions table s es P exact fails = (
     is_error Accepts = inr (λ h. absurd cc)
     is_error Fails = inl refl
 
--- what a condition asks of each stored action it asks of each action
+-- if a condition holds of each stored action, it holds of each action
 pub actions_asked : (g : Grammar) (graph : Graph) (table : Table) (condition : SafetyCondition) (s : ℕ) (es : List (ℕ × TableAction))
     → ((t : ℕ) (action : TableAction) → Contains es (t, action) ↔ ((action_of table s t ≡ action) × (action ≢ Fails)))
     → All (λ e. ActionHolds g graph table condition s e.0 e.1) es
@@ -54,7 +54,7 @@ all_gotos table s es P exact = (
       each e.0 e.1 ((exact e.0 e.1).0 there),
 )
 
--- a condition that names no shifts asks nothing of one; nor does any of what it doesn't name
+-- a condition that names no shifts requires nothing of a shift; the same for reductions, accepts and gotos
 pub shift_unasked : (g : Grammar) (graph : Graph) (table : Table) (condition : SafetyCondition) (s t next : ℕ) → condition ≢ S3 → condition ≢ S4
     → condition ≢ S8 → ShiftHolds g graph table condition s t next
 shift_unasked g graph table S3 s t next not_third not_fourth not_eighth = absurd (not_third refl)
@@ -92,7 +92,7 @@ module _ (g : Grammar) (graph : Graph) (table : Table) (s : ℕ) where
       → ((r next : ℕ) → goto_of table s r ≡ Some next → GotoHolds g graph table S4 s r next) → StepsFromCores g graph table s
   steps_each actions gotos = steps_by_kind g graph table s (λ t next at. actions t (ShiftTo next) at) gotos
 
-  -- and the other way
+  -- conversely
   pub steps_actions : StepsFromCores g graph table s → (t : ℕ) (action : TableAction) → action_of table s t ≡ action → ActionHolds g graph table S4 s t action
   steps_actions steps t (ShiftTo next) at = steps (Terminal t) next at
   steps_actions steps t (ReduceBy p) at = tt
@@ -119,13 +119,13 @@ module _ (g : Grammar) (graph : Graph) (table : Table) (s : ℕ) where
       holds accepts t Accepts at = accepts t at
       holds accepts t Fails at = tt
 
-  -- that it doesn't go back, by actions and gotos
+  -- S8 by actions and gotos: no transition to the start state
   pub never_each : ((t : ℕ) (action : TableAction) → action_of table s t ≡ action → ActionHolds g graph table S8 s t action)
       → ((r next : ℕ) → goto_of table s r ≡ Some next → GotoHolds g graph table S8 s r next) → (x : GrammarSymbol) → ¬ (GoesBy table s x table.start)
   never_each actions gotos =
       never_by_kind table s table.start (λ t at. actions t (ShiftTo table.start) at refl) (λ r at. gotos r table.start at refl)
 
-  -- and the other way
+  -- conversely
   pub never_actions : ((x : GrammarSymbol) → ¬ (GoesBy table s x table.start)) → (t : ℕ) (action : TableAction) → action_of table s t ≡ action
       → ActionHolds g graph table S8 s t action
   never_actions never t (ShiftTo next) at = λ back. never (Terminal t) (subst (λ (n : ℕ). action_of table s t ≡ ShiftTo n) back at)
@@ -133,12 +133,12 @@ module _ (g : Grammar) (graph : Graph) (table : Table) (s : ℕ) where
   never_actions never t Accepts at = tt
   never_actions never t Fails at = tt
 
-  -- and of gotos
+  -- and for gotos
   pub never_gotos : ((x : GrammarSymbol) → ¬ (GoesBy table s x table.start)) → (r next : ℕ) → goto_of table s r ≡ Some next
       → GotoHolds g graph table S8 s r next
   never_gotos never r next at = λ back. never (Nonterminal r) (subst (λ (n : ℕ). goto_of table s r ≡ Some n) back at)
 
-  -- that its reductions are named, by actions
+  -- S1 by actions: reductions are by productions of the grammar
   pub named_each : ((t p : ℕ) → action_of table s t ≡ ReduceBy p → p < prods_len g) → (t : ℕ) (action : TableAction) → action_of table s t ≡ action
       → IsInRange g action
   named_each named t (ShiftTo next) at = tt

@@ -1,13 +1,13 @@
--- The first token of a tree, with what follows it, is one that its symbol begins with. And lexemes that stand at a place of a list.
+-- The first token of a tree with root symbol X, followed by a token a, is in First(X, a). And lexemes that are at a place of a list.
 use Rattle.std.proofs.Common.{◌≡◌, ◌<◌, ◌+◌, ◌∙◌, refl, sym, ap, subst, arith, ℕ, zero, suc, List, [], ◌∷◌, ◌++◌, length, drop, slice_get, Some, length-append}
 use Rattle.std.proofs.Math.Seq.{drop-append_seam}
 use Rattle.std.proofs.lemmas.List.{append-nil, append_assoc, drop-drop, length-drop}
 use Rattle.lrpar_grammar.specs.Grammar.{Grammar, GrammarSymbol, Nonterminal, Terminal, end_token, symbols_of}
 use Rattle.lrpar_grammar.specs.Tree.{Tree, Forest, Leaf, Branch, Nil, Cons, leaves, forest_leaves, Fits, ForestFits}
-use Rattle.lrpar_table_first.specs.First.{IsFirst, Behind, Token, Rule}
+use Rattle.lrpar_table_first.specs.First.{IsFirst, Empty, Token, Rule}
 use Rattle.lrpar_table_stacks.specs.Run.{token_at}
 
--- the token of the first lexeme, or what is behind them where there is none
+-- the token of the first lexeme, or, if there is none, the token after the lexemes
 abbrev pub first_token : {X : Type 0} → (X → ℕ) → List X → ℕ → ℕ
 first_token token [] after = after
 first_token token (x ∷ xs) after = token x
@@ -36,14 +36,14 @@ module _ {X : Type 0} (token : X → ℕ) (g : Grammar) (a : ℕ) where
         subst (λ (n : ℕ). IsFirst g a (s ∷ ss ++ w) n) (sym (first_token-append token (leaves t) (forest_leaves ts) c))
         (tree_first t s (ss ++ w) (first_token token (forest_leaves ts) c) fits.0 (forest_first ts ss w c fits.1 first))
 
-  -- with a itself behind
+  -- and if a itself follows
   pub forest_begins : (ts : Forest X) (ss : List GrammarSymbol) → ForestFits token g ts ss
       → IsFirst g a ss (first_token token (forest_leaves ts) a)
   forest_begins ts ss fits =
       subst (λ (w : List GrammarSymbol). IsFirst g a w (first_token token (forest_leaves ts) a)) (append-nil ss)
-      (forest_first ts ss [] a fits Behind)
+      (forest_first ts ss [] a fits Empty)
 
--- the token at a place is the first of what is left from there on
+-- the token at a place is that of the first lexeme from there on
 token_at_drop : {X : Type 0} (token : X → ℕ) (g : Grammar) (lexemes : List X) (i : ℕ)
     → token_at token g lexemes i ≡ first_token token (drop i lexemes) (end_token g)
 token_at_drop token g [] zero = refl
@@ -51,14 +51,14 @@ token_at_drop token g [] (suc i) = refl
 token_at_drop token g (x ∷ xs) zero = refl
 token_at_drop token g (x ∷ xs) (suc i) = token_at_drop token g xs i
 
--- these lexemes stand from place i up to place j
-pub record Stand {X : Type 0} (lexemes xs : List X) (i j : ℕ) : Type 0 where
+-- the lexemes from place i up to place j are these
+pub record AreBetween {X : Type 0} (lexemes xs : List X) (i j : ℕ) : Type 0 where
   pub at : drop i lexemes ≡ xs ++ drop j lexemes
   pub past : j ≡ i + length xs
 
--- all of them
-pub stand_all : {X : Type 0} (lexemes : List X) → Stand lexemes lexemes 0 (length lexemes)
-stand_all lexemes = record {
+-- all lexemes
+pub between_all : {X : Type 0} (lexemes : List X) → AreBetween lexemes lexemes 0 (length lexemes)
+between_all lexemes = record {
   at = sym (ap (λ rest. lexemes ++ rest) (drop_past lexemes) ∙ append-nil lexemes);
   past = omega arith;
 }
@@ -67,31 +67,31 @@ stand_all lexemes = record {
     drop_past [] = refl
     drop_past (x ∷ xs) = drop_past xs
 
--- the token in front of them
-pub stand_token : {X : Type 0} (token : X → ℕ) (g : Grammar) (lexemes xs : List X) (i j : ℕ) → Stand lexemes xs i j
+-- the token at their first place
+pub between_token : {X : Type 0} (token : X → ℕ) (g : Grammar) (lexemes xs : List X) (i j : ℕ) → AreBetween lexemes xs i j
     → token_at token g lexemes i ≡ first_token token xs (token_at token g lexemes j)
-stand_token {X} token g lexemes xs i j stand =
-    token_at_drop token g lexemes i ∙ ap (λ (l : List X). first_token token l (end_token g)) stand.at
+between_token {X} token g lexemes xs i j between =
+    token_at_drop token g lexemes i ∙ ap (λ (l : List X). first_token token l (end_token g)) between.at
     ∙ first_token-append token xs (drop j lexemes) (end_token g)
     ∙ ap (first_token token xs) (sym (token_at_drop token g lexemes j))
 
--- a first one is a lexeme of the list
-pub stand_within : {X : Type 0} (lexemes : List X) (x : X) (xs : List X) (i j : ℕ) → Stand lexemes (x ∷ xs) i j → i < length lexemes
-stand_within {X} lexemes x xs i j stand =
-    omega (arith, ap (λ (l : List X). length l) stand.at, length-drop i lexemes)
+-- if there is a first one, its place is within the list
+pub between_within : {X : Type 0} (lexemes : List X) (x : X) (xs : List X) (i j : ℕ) → AreBetween lexemes (x ∷ xs) i j → i < length lexemes
+between_within {X} lexemes x xs i j between =
+    omega (arith, ap (λ (l : List X). length l) between.at, length-drop i lexemes)
 
--- the first of them, and the others behind
-pub stand_split : {X : Type 0} (lexemes xs ys : List X) (i j : ℕ) → Stand lexemes (xs ++ ys) i j
-    → Stand lexemes xs i (i + length xs) × Stand lexemes ys (i + length xs) j
-stand_split {X} lexemes xs ys i j stand =
-    let whole : drop i lexemes ≡ xs ++ (ys ++ drop j lexemes) = stand.at ∙ append_assoc xs ys (drop j lexemes) in
+-- the first of them, and the others after those
+pub between_split : {X : Type 0} (lexemes xs ys : List X) (i j : ℕ) → AreBetween lexemes (xs ++ ys) i j
+    → AreBetween lexemes xs i (i + length xs) × AreBetween lexemes ys (i + length xs) j
+between_split {X} lexemes xs ys i j between =
+    let whole : drop i lexemes ≡ xs ++ (ys ++ drop j lexemes) = between.at ∙ append_assoc xs ys (drop j lexemes) in
     let rest : drop (i + length xs) lexemes ≡ ys ++ drop j lexemes =
     sym (drop-drop (length xs) i lexemes) ∙ ap (λ (l : List X). drop (length xs) l) whole ∙ drop-append_seam xs (ys ++ drop j lexemes) in (
       record { at = whole ∙ ap (λ (l : List X). xs ++ l) (sym rest); past = refl },
-      record { at = rest; past = let past = stand.past in omega (arith, past, length-append xs ys) },
+      record { at = rest; past = let past = between.past in omega (arith, past, length-append xs ys) },
     )
 
--- the symbol behind a dot, and those behind it
+-- the symbol after a dot, and those after it
 pub at_drop : {A : Type 0} (l : List A) (k : ℕ) (x : A) (w : List A) → drop k l ≡ x ∷ w → (slice_get l k ≡ Some x) × (drop (suc k) l ≡ w)
 at_drop [] zero x w e = let no : [] ≡ x ∷ w = e in cc
 at_drop [] (suc k) x w e = let no : [] ≡ x ∷ w = e in cc

@@ -1,5 +1,5 @@
--- What the tests of the conditions of completeness decide. Items of one core stand side by side in a state; they are tested by
--- their lookaheads, which are taken together.
+-- What the tests of the conditions of completeness decide. Items of one core are neighbours in a state; they are tested together,
+-- by their lookaheads.
 use Rattle.std.proofs.Common.{◌≡◌, ◌≢◌, ◌<◌, ◌≤◌, ◌+◌, ◌-◌, ◌↔◌, ◌∙◌, ◌⊎◌, ◌||◌, ◌&&◌, ◌==◌, inl, inr, refl, sym, ap, subst, arith, ℕ, zero, suc, Bool, true, false, IsTrue, not, List, [], ◌∷◌, ◌++◌, All, length, map, drop, take, get_or, set, slice_get, Some, Option, cond, eqb, Bor, IfSome, MatchOption, None}
 use Rattle.std.proofs.lemmas.Bool.{and_parts, both_ways, cases_eq, cases_lt, eq-eqb, eqb-true, false≢true, false_from_ne_true, not-true, or_cases, or_left, or_right}
 use Rattle.std.proofs.lemmas.List.{drop_more, get_or-drop, get_or-map, get_or-set_other, get_or-set_same, get_or-take, get_or_default, length-drop, length-map, length-set, length-take-le, take_all}
@@ -42,7 +42,7 @@ pub each_lookahead : {S : Type 0} (index : S → ℕ) (P : ℕ → Type 0) (item
 each_lookahead {S} index P items i past holds =
     All-map P (λ (item : PIdx S × ℕ × TIdx S). index item.2.0) items (λ k d below. holds k d (omega (arith, past, below)))
 
--- and back
+-- conversely
 pub lookahead_at : {S : Type 0} (index : S → ℕ) (P : ℕ → Type 0) (items : List (PIdx S × ℕ × TIdx S)) (i : ℕ) (item : PIdx S × ℕ × TIdx S)
     → i < length items → item ≡ get_or items i item → All P (lookaheads_of index items) → P (index item.2.0)
 lookahead_at {S} index P items i item within is all =
@@ -55,23 +55,23 @@ pub found_holds : {X : Type 0} (P : X → Type 0) (xs : List X) (k : ℕ) (found
 found_holds P xs k None all is cases = tt
 found_holds P xs k (Some x) all is cases = subst P (sym is) (all k x.now cases.0)
 
--- two facts of each element that are one
+-- equivalent facts of each element
 pub each_same : {X : Type 0} (P Q : X → Type 0) (xs : List X) (b : Bool) → ((x : X) → P x ↔ Q x) → IsTrue b ↔ All P xs → IsTrue b ↔ All Q xs
 each_same P Q xs b same test = (
   λ h. All-weaker P Q (λ x. (same x).0) xs (test.0 h),
   λ all. test.1 (All-weaker Q P (λ x. (same x).1) xs all),
 )
 
--- what first holds of the first of some elements
+-- what holds of all of some elements holds of one
 pub first_of_some : {X : Type 0} (P : X → Type 0) (xs : List X) → 0 < length xs → All P xs → (x : X) × P x
 first_of_some P [] some all = absurd (omega arith)
 first_of_some P (x ∷ xs) some all = (x, all 0 x some)
 
--- one element more in front
+-- with one more first element
 one_more : (xs : List ℕ) (y x : ℕ) → Contains xs x → Contains (y ∷ xs) x
 one_more xs y x h = (suc h.0, omega (arith, h.1), h.2)
 
--- there is an element at a place within
+-- there is an element at each place within a list
 some_at : {X : Type 0} (xs : List X) (i : ℕ) → i < length xs → (x : X) × (slice_get xs i ≡ Some x)
 some_at [] i within = absurd (omega arith)
 some_at (x ∷ xs) zero within = (x, refl)
@@ -95,7 +95,7 @@ prods_from_has r p (y ∷ ys) (suc i) x at is =
     let later : Contains rest (p + suc i) = subst (Contains rest) place (prods_from_has r (p + 1) ys i x at is) in
     elim (eqb y.rule r) as (λ b. Contains (cond b (p ∷ rest) rest) (p + suc i)) [ true ↦ one_more rest p (p + suc i) later | false ↦ later ]
 
--- where a number among them comes from
+-- the place of a number among the productions of a rule
 record IsOfRule (r p : ℕ) (xs : List Production) (q : ℕ) : Type 0 where
   pub place : ℕ
   pub is : q ≡ p + place
@@ -144,7 +144,7 @@ each_of_rule g r P = (
       each q (slice_get_within g.prods q of.prod at) (ap (λ (o : Option Production). option_map_or (λ x. x.rule) o 0) at ∙ of.rule),
 )
 
--- C2 by the lookaheads as a set, and by the set of what comes before them
+-- C2 by the set of lookaheads, and by the set of First(w, t) for these lookaheads t
 pub closed_core : (g : Grammar) (rows : List (List Bool)) (p k r : ℕ) (w : List GrammarSymbol) (tokens : List ℕ) (after begun cleared : List Bool) (test : Bool)
     → drop k (symbols_of g p) ≡ Nonterminal r ∷ w → ((t : ℕ) → IsTrue (has after t) ↔ Contains tokens t) → ((t : ℕ) → has cleared t ≡ false)
     → ((t : ℕ) → IsTrue (has begun t) ↔ (IsTrue (has cleared t) ⊎ IsFirstBefore g after w t))
@@ -154,8 +154,8 @@ closed_core g rows p k r w tokens after begun cleared test further are none put 
   λ h i d below.
       let t = get_or tokens i d in
       let has_t : IsTrue (has after t) = (are t).1 (All-contains_itself tokens i d below) in
-      λ r' w' behind' q b known by first.
-      let same : Nonterminal r' ∷ w' ≡ Nonterminal r ∷ w = sym behind' ∙ further in
+      λ r' w' after' q b known by first.
+      let same : Nonterminal r' ∷ w' ≡ Nonterminal r ∷ w = sym after' ∙ further in
       let same_rule : r' ≡ r = cc in
       let same_rest : w' ≡ w = cc in
       let first' = subst (λ (v : List GrammarSymbol). IsFirst g t v b) same_rest first in
@@ -167,12 +167,12 @@ closed_core g rows p k r w tokens after begun cleared test further are none put 
       ]),
 )
 
--- C2 where no rule is behind the dot
+-- C2 if no rule is after the dot
 pub nothing_to_close : (g : Grammar) (rows : List (List Bool)) (p k : ℕ) (tokens : List ℕ) → ((r : ℕ) (w : List GrammarSymbol) → drop k (symbols_of g p) ≢ Nonterminal r ∷ w)
     → IsTrue true ↔ All (ClosesAmong g rows p k) tokens
 nothing_to_close g rows p k tokens none = accepted (λ i d below r w further. absurd (none r w further))
 
--- by the lookaheads of a state's first items it is C2 of the state
+-- by the lookaheads of a state's items with dot 0 it is C2 of the state
 pub closes_by_starts : (g : Grammar) (graph : Graph) (s p k t : ℕ) (rows : List (List Bool)) → AreStartsOf (items_of graph s) rows
     → ClosesAmong g rows p k t ↔ ClosesItem g graph s p k t
 closes_by_starts g graph s p k t rows starts = (
@@ -180,7 +180,7 @@ closes_by_starts g graph s p k t rows starts = (
   λ closes r w further q b known by first. (starts q b).1 (closes r w further q b known by first),
 )
 
--- C3 by the token behind the dot
+-- C3 by the token after the dot
 pub shifts_each : (g : Grammar) (graph : Graph) (table : Table) (s p k a : ℕ) (tokens : List ℕ) (test : Bool) → slice_get (symbols_of g p) k ≡ Some (Terminal a)
     → IsTrue test ↔ All (StepsOn graph table s (Terminal a) p k) tokens → IsTrue test ↔ All (ShiftsItem g graph table s p k) tokens
 shifts_each g graph table s p k a tokens test at decides =
@@ -197,7 +197,7 @@ pub nothing_to_shift : (g : Grammar) (graph : Graph) (table : Table) (s p k : �
     → IsTrue true ↔ All (ShiftsItem g graph table s p k) tokens
 nothing_to_shift g graph table s p k tokens none = accepted (λ i d below a further. absurd (none a further))
 
--- C4 by the rule behind the dot
+-- C4 by the rule after the dot
 pub carries_each : (g : Grammar) (graph : Graph) (table : Table) (s p k r : ℕ) (tokens : List ℕ) (test : Bool) → slice_get (symbols_of g p) k ≡ Some (Nonterminal r)
     → IsTrue test ↔ All (StepsOn graph table s (Nonterminal r) p k) tokens → IsTrue test ↔ All (CarriesItem g graph table s p k) tokens
 carries_each g graph table s p k r tokens test at decides =
@@ -214,7 +214,7 @@ pub nothing_to_carry : (g : Grammar) (graph : Graph) (table : Table) (s p k : �
     → IsTrue true ↔ All (CarriesItem g graph table s p k) tokens
 nothing_to_carry g graph table s p k tokens none = accepted (λ i d below r further. absurd (none r further))
 
--- a step by where the state goes
+-- a transition, by the state to which it leads
 pub steps_each : (graph : Graph) (table : Table) (s : ℕ) (x : GrammarSymbol) (next p k : ℕ) (tokens : List ℕ) (test : Bool) → GoesBy table s x next
     → ((n : ℕ) → GoesBy table s x n → n ≡ next) → IsTrue test ↔ All (HasItem graph next p (k + 1)) tokens → IsTrue test ↔ All (StepsOn graph table s x p k) tokens
 steps_each graph table s x next p k tokens test goes one decides =
@@ -224,13 +224,13 @@ steps_each graph table s x next p k tokens test goes one decides =
       λ step. subst (λ (n : ℕ). HasItem graph n p (k + 1) t) (one step.0 step.1) step.2,
     )) decides
 
--- a state that goes nowhere makes none
+-- a state without a transition by the symbol has none
 pub steps_none : (graph : Graph) (table : Table) (s : ℕ) (x : GrammarSymbol) (p k : ℕ) (tokens : List ℕ) → 0 < length tokens
     → ((n : ℕ) → ¬ (GoesBy table s x n)) → IsTrue false ↔ All (StepsOn graph table s x p k) tokens
 steps_none graph table s x p k tokens some never =
     refused (λ all. let first = first_of_some (StepsOn graph table s x p k) tokens some all in never first.1.0 first.1.1)
 
--- C5 where the dot is at the end
+-- C5 if the dot is at the end
 pub ends_each : (g : Grammar) (table : Table) (s p k : ℕ) (tokens : List ℕ) (test : Bool) → k ≡ prod_len g p
     → IsTrue test ↔ All (λ t. EndsBy g p (action_of table s t)) tokens → IsTrue test ↔ All (EndsItem g table s p k) tokens
 ends_each g table s p k tokens test all decides =
@@ -240,7 +240,7 @@ ends_each g table s p k tokens test all decides =
       λ ends. record { reduces = ends.reduces all; accepts = ends.accepts all },
     )) decides
 
--- and where it isn't
+-- and if it isn't
 pub nothing_to_end : (g : Grammar) (table : Table) (s p k : ℕ) (tokens : List ℕ) → k ≢ prod_len g p → IsTrue true ↔ All (EndsItem g table s p k) tokens
 nothing_to_end g table s p k tokens other =
     accepted (λ i d below. record { reduces = λ all. absurd (other all); accepts = λ all. absurd (other all) })
@@ -277,7 +277,7 @@ module _ {S : Type 0} (index : S → ℕ) (items : List (PIdx S × ℕ × TIdx S
       subst (λ (m : ℕ). P (index (get_or items n d).0.0) m (index (get_or items n d).2.0)) dot
       (subst (λ (m : ℕ). P m k (index (get_or items n d).2.0)) prod now)
 
-  -- and back
+  -- conversely
   pub core_all : ((n : ℕ) (d : PIdx S × ℕ × TIdx S) → n < length items → Holds (get_or items n d)) → All (P p k) (lookaheads_of index part)
   core_all each =
       All-map (P p k) (λ (x : PIdx S × ℕ × TIdx S). index x.2.0) part (λ j d inside.
@@ -292,7 +292,7 @@ module _ {S : Type 0} (index : S → ℕ) (items : List (PIdx S × ℕ × TIdx S
       let both = subst (λ (m : ℕ). P p m (index (get_or items n d).2.0)) (core.dots n d from below ∙ dot_is d) first in
       subst (λ (x : PIdx S × ℕ × TIdx S). P p k (index x.2.0)) is both)
 
--- what is asked for items is what is asked at the state
+-- a condition holds for each item exactly if it holds at the state
 pub asked_at : (g : Grammar) (graph : Graph) (table : Table) (condition : CompletenessCondition) (s : ℕ) → condition ≢ C1 → condition ≢ C2
     → EachItem graph s (ItemHolds g graph table condition s) ↔ IsCompleteAt g graph table condition s
 asked_at g graph table C1 s other another = absurd (other refl)
@@ -305,7 +305,7 @@ asked_at g graph table C5 s other another = (λ h. h, λ h. h)
 pub none_put : (bits : List Bool) → ((t : ℕ) → has bits t ≡ false) → (t : ℕ) → IsTrue (has bits t) ↔ Contains [] t
 none_put bits none t = (λ h. absurd (false≢true (sym (none t) ∙ h)), λ h. absurd (omega (arith, h.1)))
 
--- one lookahead more
+-- one more lookahead
 pub one_put : {S : Type 0} (index : S → ℕ) (items : List (PIdx S × ℕ × TIdx S)) (i : ℕ) (item : PIdx S × ℕ × TIdx S) (old new : List Bool) (token : ℕ)
     → i < length items → item ≡ get_or items i item → token ≡ index item.2.0
     → ((t : ℕ) → IsTrue (has old t) ↔ Contains (lookaheads_of index (take i items)) t) → ((t : ℕ) → has new t ≡ (has old t || t == token))
@@ -338,25 +338,25 @@ all_put {S} index items i bits past put t =
 at_place : {X : Type 0} (P : X → Type 0) (xs : List X) (k : ℕ) (x : X) → All P xs → slice_get xs k ≡ Some x → P x
 at_place P xs k x all at = subst P (get_or_from_slice_get xs k x x at) (all k x (slice_get_within xs k x at))
 
--- the token behind a dot is one of the grammar
+-- the token after a dot is one of the grammar
 pub token_low : (g : Grammar) → IsWellFormed g → (p k a : ℕ) → p < prods_len g → slice_get (symbols_of g p) k ≡ Some (Terminal a) → a < tokens_len g
 token_low g well p k a known at = at_place (IsSymbolBelow (rules_len g) (tokens_len g)) (symbols_of g p) k (Terminal a) (prod_symbols g well p known) at
 
--- the symbol behind a dot, of those of the code
+-- the symbol after a dot, read from those of the code
 pub symbol_found : {S : Type 0} (index : S → ℕ) (xs : List (Symbol S)) (ys : List GrammarSymbol) (k : ℕ) (x shown : Symbol S) → map (symbol_of index) xs ≡ ys
     → slice_get xs k ≡ Some x → x ≡ shown → slice_get ys k ≡ Some (symbol_of index shown)
 symbol_found {S} index xs ys k x shown are at is =
     ap (λ (zs : List GrammarSymbol). slice_get zs k) (sym are) ∙ slice_get-map (symbol_of index) xs k ∙ ap (option_map (symbol_of index)) at
     ∙ ap (λ (y : Symbol S). Some (symbol_of index y)) is
 
--- no symbol behind the dot
+-- no symbol after the dot
 pub symbol_past : {S : Type 0} (index : S → ℕ) (xs : List (Symbol S)) (ys : List GrammarSymbol) (k : ℕ) (x : GrammarSymbol) → map (symbol_of index) xs ≡ ys
     → length xs ≤ k → slice_get ys k ≢ Some x
 symbol_past {S} index xs ys k x are past at =
     let within = slice_get_within ys k x at in
     omega (arith, within, past, length-map xs (symbol_of index), ap (λ (zs : List GrammarSymbol). length zs) are)
 
--- a rule stands behind the dot in the one form and in the other
+-- a rule is after the dot in one form exactly if it is in the other
 pub rule_at : (g : Grammar) (p k r : ℕ) (w : List GrammarSymbol) → drop k (symbols_of g p) ≡ Nonterminal r ∷ w → slice_get (symbols_of g p) k ≡ Some (Nonterminal r)
 rule_at g p k r w further = (at_drop (symbols_of g p) k (Nonterminal r) w further).0
 
@@ -367,7 +367,7 @@ no_rule_at g p k none r at =
     let here = get_or_from_slice_get (symbols_of g p) k (Nonterminal r) (Nonterminal r) at in
     none r (drop (k + 1) (symbols_of g p)) (drop_more (symbols_of g p) k (Nonterminal r) within ∙ ap (λ (x : GrammarSymbol). x ∷ drop (k + 1) (symbols_of g p)) here)
 
--- some items have some lookaheads
+-- if there are items, there are lookaheads
 pub some_lookaheads : {S : Type 0} (index : S → ℕ) (items : List (PIdx S × ℕ × TIdx S)) → 0 < length items → 0 < length (lookaheads_of index items)
 some_lookaheads {S} index items some = omega (arith, some, length-map items (λ (x : PIdx S × ℕ × TIdx S). index x.2.0))
 
@@ -379,11 +379,11 @@ no_shift index (Reduce p) is e none n shifts = let no : ReduceBy (index p.0) ≡
 no_shift index Accept is e none n shifts = let no : Accepts ≡ ShiftTo n = e ∙ shifts in cc
 no_shift index Error is e none n shifts = let no : Fails ≡ ShiftTo n = e ∙ shifts in cc
 
--- what a test decides, in other words
+-- a test that decides a fact decides an equivalent fact
 pub decided_as : {A B : Type 0} (b : Bool) → IsTrue b ↔ A → A ↔ B → IsTrue b ↔ B
 decided_as b test same = (λ h. same.0 (test.0 h), λ holds. test.1 (same.1 holds))
 
--- one item more of a core
+-- one more item of a core
 pub core_more : {S : Type 0} (index : S → ℕ) (items : List (PIdx S × ℕ × TIdx S)) (place end : ℕ) (a b x y : PIdx S × ℕ × TIdx S) → AreOfCore index items place end
     → end < length items → index (get_or items end a).0.0 ≡ index (get_or items place b).0.0 → (get_or items end x).1 ≡ (get_or items place y).1
     → AreOfCore index items place (end + 1)
@@ -433,7 +433,7 @@ module _ {S : Type 0} (index : S → ℕ) (items : List (PIdx S × ℕ × TIdx S
   dot_same : (d : PIdx S × ℕ × TIdx S) → (get_or items place d).1 ≡ dot_at
   dot_same d = ap (λ (i : PIdx S × ℕ × TIdx S). i.1) (get_or_default items place d b here_within)
 
-  -- what holds of the items up to a core, and of its items by their lookaheads, holds of the items up to its end
+  -- what holds of the items before a core, and of the core's items by their lookaheads, holds of the items up to the core's end
   pub core_holds_on : ((n : ℕ) (d : PIdx S × ℕ × TIdx S) → n < place → P (index (get_or items n d).0.0) (get_or items n d).1 (index (get_or items n d).2.0))
       → All (P prod_at dot_at) (lookaheads_of index (take (end - place) (drop place items)))
       → (n : ℕ) (d : PIdx S × ℕ × TIdx S) → n < end → P (index (get_or items n d).0.0) (get_or items n d).1 (index (get_or items n d).2.0)
@@ -455,12 +455,12 @@ starts_len g sets room = sym (length-map sets (λ s. s.bits.items)) ∙ room.pro
 pub start_within : (g : Grammar) (sets : List TokenSet) (p prod : ℕ) → HaveStarts g (rows_of sets) → p < prods_len g → prod ≡ p → prod < length sets
 start_within g sets p prod room known is = let count = room.prods in omega (arith, count, known, is, length-map sets (λ s. s.bits.items))
 
--- and it is as wide as all
+-- it is as wide as all sets
 pub start_wide : (g : Grammar) (sets : List TokenSet) (prod : ℕ) (d : TokenSet) → HaveStarts g (rows_of sets) → prod < length sets
     → length (get_or sets prod d).bits.items ≡ dummy_lookahead g + 1
 start_wide g sets prod d room within = All-map-at (λ row. length row ≡ dummy_lookahead g + 1) (λ s. s.bits.items) sets room.wide prod d within
 
--- a set that is as wide in the place of one of them keeps their room
+-- with a set of the same width in place of one of them, they keep their room
 pub starts_room : (g : Grammar) (sets : List TokenSet) (prod : ℕ) (new : TokenSet) → HaveStarts g (rows_of sets) → length new.bits.items ≡ dummy_lookahead g + 1
     → HaveStarts g (rows_of (set sets prod new))
 starts_room g sets prod new room wide =
@@ -469,7 +469,7 @@ starts_room g sets prod new room wide =
       wide = All-set (λ row. length row ≡ dummy_lookahead g + 1) (rows_of sets) prod new.bits.items wide room.wide;
     })
 
--- and so do sets of the same widths
+-- so do sets of the same widths
 pub starts_cleared : (g : Grammar) (before after : List (List Bool)) → HaveStarts g before → map (λ row. length row) after ≡ map (λ row. length row) before
     → HaveStarts g after
 starts_cleared g before after room same =
@@ -483,7 +483,7 @@ starts_cleared g before after room same =
           ∙ room.wide k d inside;
     }
 
--- the token of a first item is put into the set of its production
+-- the lookahead of an item with dot 0 is added to the set of its production
 pub start_put : (sets : List TokenSet) (p prod token t' q t : ℕ) (d new : TokenSet) → prod < length sets → prod ≡ p → token ≡ t'
     → ((u : ℕ) → has new.bits.items u ≡ (has (get_or sets prod d).bits.items u || u == token))
     → IsTrue (has (row_at (rows_of (set sets prod new)) q) t) ↔ (IsTrue (has (row_at (rows_of sets) q) t) ⊎ (item_at p 0 t' ≡ item_at q 0 t))
@@ -524,19 +524,19 @@ start_put sets p prod token t' q t d new within is token_is put =
           )
     ]
 
--- an item that is no first item is none of them
+-- an item whose dot isn't 0 is none of them
 pub no_start : (p k t q u : ℕ) (P : Type 0) → k ≢ 0 → P ↔ (P ⊎ (item_at p k t ≡ item_at q 0 u))
 no_start p k t q u P other = (
   λ h. inl h,
   λ h. elim h as (λ _. P) [ inl before ↦ before | inr item ↦ absurd (other (ap (λ (x : ItemOf). x.dot) item)) ],
 )
 
--- what is among some elements, but isn't the first, is among the others
+-- an element that isn't the first is among the others
 later_among : (x y : ItemOf) (xs : List ItemOf) → x ≢ y → Contains (x ∷ xs) y → Contains xs y
 later_among x y xs other (zero, below, is) = absurd (other is)
 later_among x y xs other (suc i, below, is) = (i, omega (arith, below), is)
 
--- the token of a first item is taken out of the set of its production
+-- the lookahead of an item with dot 0 is removed from the set of its production
 pub start_taken : (sets : List TokenSet) (p prod token t' q t : ℕ) (d new : TokenSet) → prod < length sets → prod ≡ p → token ≡ t'
     → ((u : ℕ) → has new.bits.items u ≡ (has (get_or sets prod d).bits.items u && not (u == token)))
     → IsTrue (has (row_at (rows_of (set sets prod new)) q) t) → IsTrue (has (row_at (rows_of sets) q) t) × (item_at p 0 t' ≢ item_at q 0 t)
@@ -562,11 +562,11 @@ start_taken sets p prod token t' q t d new within is token_is taken h =
           (sym kept ∙ h, λ item. other (sym (is ∙ ap (λ (x : ItemOf). x.prod) item)))
     ]
 
--- the sets have first items of these alone
+-- the sets have only lookaheads of items with dot 0 among these
 abbrev pub HaveFirstsAmong : List ItemOf → List (List Bool) → Type 0
 HaveFirstsAmong items rows = (q t : ℕ) → IsTrue (has (row_at rows q) t) → Contains items (item_at q 0 t)
 
--- one item less
+-- one item fewer
 pub starts_fewer : {S : Type 0} (index : S → ℕ) (items : List (PIdx S × ℕ × TIdx S)) (i : ℕ) (item : PIdx S × ℕ × TIdx S) (old new : List (List Bool))
     → i < length items → item ≡ get_or items i item → HaveFirstsAmong (map (item_of index) (drop i items)) old
     → ((q t : ℕ) → IsTrue (has (row_at new q) t) → IsTrue (has (row_at old q) t) × (item_of index item ≢ item_at q 0 t))
@@ -579,7 +579,7 @@ starts_fewer {S} index items i item old new within is so_far left q t h =
     subst (λ (xs : List ItemOf). Contains xs (item_at q 0 t)) more (so_far q t (left q t h).0) in
     later_among (item_of index item) (item_at q 0 t) rest (left q t h).1 among
 
--- none is left
+-- if no item is left, the sets are empty
 pub starts_gone : (rows : List (List Bool)) → HaveFirstsAmong [] rows → (q t : ℕ) → has (row_at rows q) t ≡ false
 starts_gone rows among q t = false_from_ne_true (has (row_at rows q) t) (λ h. absurd (omega (arith, (among q t h).1)))
 
@@ -587,7 +587,7 @@ starts_gone rows among q t = false_from_ne_true (has (row_at rows q) t) (λ h. a
 pub starts_none : (rows : List (List Bool)) → ((q t : ℕ) → has (row_at rows q) t ≡ false) → AreStartsOf [] rows
 starts_none rows none q t = (λ h. absurd (false≢true (sym (none q t) ∙ h)), λ h. absurd (omega (arith, h.1)))
 
--- one item more
+-- one more item
 pub starts_more : {S : Type 0} (index : S → ℕ) (items : List (PIdx S × ℕ × TIdx S)) (i : ℕ) (item : PIdx S × ℕ × TIdx S) (old new : List (List Bool))
     → i < length items → item ≡ get_or items i item → AreStartsOf (map (item_of index) (take i items)) old
     → ((q t : ℕ) → IsTrue (has (row_at new q) t) ↔ (IsTrue (has (row_at old q) t) ⊎ (item_of index item ≡ item_at q 0 t)))
@@ -622,7 +622,7 @@ of_rule_known {S} index g r prods i pidx are within is =
     let all = subst (λ (qs : List ℕ). All (λ q. q < prods_len g) qs) (sym are) known in
     subst (λ (x : PIdx S). index x.0 < prods_len g) (sym is) (All-map-at (λ q. q < prods_len g) (λ (x : PIdx S). index x.0) prods all i pidx within)
 
--- a condition stands in the list at the place one less than its number
+-- a condition is in the list at the place one less than its number
 pub listed_at : (condition : CompletenessCondition) → get_or ALL (condition_number condition - 1) condition ≡ condition
 listed_at C1 = refl
 listed_at C2 = refl
@@ -630,7 +630,7 @@ listed_at C3 = refl
 listed_at C4 = refl
 listed_at C5 = refl
 
--- and what stands at a place has the number one more
+-- and the condition at a place has the number one more
 number_at : (k : ℕ) (d : CompletenessCondition) → k < length ALL → condition_number (get_or ALL k d) ≡ k + 1
 number_at zero d low = refl
 number_at (suc zero) d low = refl
@@ -647,7 +647,7 @@ some_number C3 = omega arith
 some_number C4 = omega arith
 some_number C5 = omega arith
 
--- a condition in front of the one at a place stands at an earlier place
+-- a condition with a lower number than the one at a place is at an earlier place
 pub earlier_listed : (earlier : CompletenessCondition) (k : ℕ) (d : CompletenessCondition) → k < length ALL
     → condition_number earlier < condition_number (get_or ALL k d) → condition_number earlier - 1 < k
 earlier_listed earlier k d within lower =

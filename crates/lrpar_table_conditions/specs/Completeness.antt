@@ -1,4 +1,4 @@
--- The conditions of completeness by their numbers, and that the list of them has them all.
+-- The conditions of completeness by their numbers; and the list of them has them all.
 use Rattle.std.specs.Prelude.{◌++◌, ℕ, List, codes}
 use Rattle.std.specs.Fmt.{decimal}
 use Rattle.std.specs.List.{Contains}
@@ -19,7 +19,7 @@ condition_number C5 = 5
 abbrev pub condition_text : CompletenessCondition → List ℕ
 condition_text condition = codes "C" ++ decimal (condition_number condition)
 
--- each condition stands in the list
+-- each condition is in the list
 pub is_listed : (condition : CompletenessCondition) → Contains ALL condition
 is_listed C1 = (0, omega arith, refl)
 is_listed C2 = (1, omega arith, refl)

@@ -1,4 +1,4 @@
--- The conditions of completeness at a state, told for the items of one core, and what is known where they are tested.
+-- The conditions of completeness at a state, for the items of one core; and what is known when they are tested.
 use Rattle.std.specs.Prelude.{◌≡◌, ◌≢◌, ◌≤◌, ◌<◌, ◌+◌, ◌↔◌, ℕ, Bool, IsTrue, List, ◌∷◌, All, Contains, drop, length, map, slice_index_or}
 use Rattle.lrpar_grammar_places.specs.declared.span.PIdx.{PIdx}
 use Rattle.lrpar_grammar_places.specs.declared.span.TIdx.{TIdx}
@@ -14,34 +14,34 @@ use Rattle.lrpar_table_conditions.specs.declared.completeness.CompletenessCondit
 use Rattle.lrpar_table_conditions.specs.declared.completeness.CompletenessCondition.TheVariants.{C3, C4, C5}
 use Rattle.lrpar_table_conditions.specs.declared.completeness_test.sets.WorkSets.{WorkSets}
 
--- the grammar is well formed, the table has its shape, and these are the sets of what its rules begin with
+-- the grammar is well formed, the table has the shape S1, and these are the FIRST sets of the rules
 pub record IsKnown (g : Grammar) (graph : Graph) (table : Table) (firsts : List (List Bool)) : Type 0 where
   pub well_formed : IsWellFormed g
   pub shape : HasShape g graph table
   pub exact : AreFirsts g firsts
 
--- there is a set for each production, with room for each token and for the mark
+-- there is a set for each production, with room for each token and for the dummy lookahead
 pub record HaveStarts (g : Grammar) (rows : List (List Bool)) : Type 0 where
   pub prods : length rows ≡ prods_len g
   pub wide : All (λ row. length row ≡ dummy_lookahead g + 1) rows
 
--- each of the sets has room for each token and for the mark
+-- each of the sets has room for each token and for the dummy lookahead
 pub record HaveRoomFor (g : Grammar) (sets : WorkSets) : Type 0 where
   pub after : length sets.after.bits.items ≡ dummy_lookahead g + 1
   pub front : length sets.front.bits.items ≡ dummy_lookahead g + 1
   pub begun : length sets.begun.bits.items ≡ dummy_lookahead g + 1
   pub starts : HaveStarts g (rows_of sets.starts.items)
 
--- and those of the productions hold nothing
+-- the sets have room, and those of the productions are empty
 pub record AreReady (g : Grammar) (sets : WorkSets) : Type 0 where
   pub room : HaveRoomFor g sets
   pub none : HoldNothing (rows_of sets.starts.items)
 
--- each production's set has the lookaheads with which its first item is among these items
+-- each production's set has the lookaheads of its items with dot 0 among these items
 abbrev pub AreStartsOf : List ItemOf → List (List Bool) → Type 0
 AreStartsOf items rows = (q t : ℕ) → IsTrue (has (row_at rows q) t) ↔ Contains items (item_at q 0 t)
 
--- C2 for an item `A: v . B w  {t}`, by these sets: `B: . u` has b for each production of B and each b of First(w, t)
+-- C2 for an item `A: v . B w  {t}`, by these sets: for each production `B: u` and each b of First(w, t), the set has b
 abbrev pub ClosesAmong : Grammar → List (List Bool) → ℕ → ℕ → ℕ → Type 0
 ClosesAmong g rows p k t =
     (r : ℕ) (w : List GrammarSymbol) → drop k (symbols_of g p) ≡ Nonterminal r ∷ w
@@ -51,19 +51,19 @@ ClosesAmong g rows p k t =
 abbrev pub lookaheads_of : {S : Type 0} → (S → ℕ) → List (PIdx S × ℕ × TIdx S) → List ℕ
 lookaheads_of index items = map (λ item. index item.2.0) items
 
--- what a condition asks of state s for an item, but for C1 and C2
+-- what a condition other than C1 and C2 requires of state s for an item
 abbrev pub ItemHolds : Grammar → Graph → Table → CompletenessCondition → ℕ → ℕ → ℕ → ℕ → Type 0
 ItemHolds g graph table C3 s p k t = ShiftsItem g graph table s p k t
 ItemHolds g graph table C4 s p k t = CarriesItem g graph table s p k t
 ItemHolds g graph table C5 s p k t = EndsItem g table s p k t
 ItemHolds g graph table _ s p k t = Unit {0}
 
--- an action that ends the production: a reduction by it, or Accept for the start production
+-- an action that ends the production: a reduction by it, or accept for the start production
 pub record EndsBy (g : Grammar) (p : ℕ) (action : TableAction) : Type 0 where
   pub reduces : p ≢ start_prod g → action ≡ ReduceBy p
   pub accepts : p ≡ start_prod g → action ≡ Accepts
 
--- the items from a place up to an end have the core of the first of them, and are some
+-- the items from a place up to an end, at least one, all have the same core
 pub record AreOfCore {S : Type 0} (index : S → ℕ) (items : List (PIdx S × ℕ × TIdx S)) (place end : ℕ) : Type 0 where
   pub some : place < end
   pub within : end ≤ length items

@@ -7,15 +7,16 @@ use std::fmt;
 /// A condition that a complete table meets in each state. Its text is `C` and its number.
 #[derive(Clone, Copy, Debug, PartialEq, Eq, Hash)]
 pub enum CompletenessCondition {
-    /// The start state has the start production's first item, before the end token.
+    /// The start state has the start item `^: . S {end}`.
     C1 = 1,
-    /// An item before a rule comes with that rule's productions, before each token with which what is behind it can go on.
+    /// The items of a state are closed: if an item has a rule after its dot, with the symbols w after the rule, the state has the items
+    /// of that rule's productions with dot 0, with each token of First(w, lookahead) as lookahead.
     C2 = 2,
-    /// An item before a token has a shift to a state with the item behind the token.
+    /// For an item with a token after its dot, the state shifts the token to a state with the advanced item.
     C3 = 3,
-    /// An item before a rule has a goto to a state with the item behind the rule.
+    /// For an item with a rule after its dot, the state has a goto by the rule to a state with the advanced item.
     C4 = 4,
-    /// A complete item is reduced at its lookahead, and that of the start production is accepted.
+    /// For a complete item, the state reduces by its production at its lookahead, or accepts, if it is the start production.
     C5 = 5,
 }
 

@@ -12,7 +12,7 @@ pub enum CompleteFault {
     /// This condition fails at this state.
     #[error("condition {0} at state {1}")]
     Condition(CompletenessCondition, usize),
-    /// Memory was wanting.
+    /// An allocation failed.
     #[error("out of memory")]
     Memory,
 }

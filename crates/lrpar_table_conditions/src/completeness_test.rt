@@ -23,8 +23,8 @@ use std::alloc::Global;
 
 /// Checks that a table is complete: that each condition holds in each state.
 ///
-/// The fault is the first of the conditions C1 to C5 that fails, at the lowest state at which it does. `Memory` comes where
-/// memory was wanting for sets of tokens: one for each rule and each production, and four more.
+/// The fault is the first of the conditions C1 to C5 that fails, at the lowest state at which it fails. It is `Memory` if an
+/// allocation fails, for sets of tokens: one for each rule and each production, and four more.
 pub fn check_complete<StorageT: StorageIndex>(
     alloc: Global,
     grm: &YaccGrammar<StorageT>,
@@ -46,7 +46,7 @@ pub fn check_complete<StorageT: StorageIndex>(
     }
 }
 
-/// What is checked, with the set of the tokens that each rule begins with.
+/// The parts that are checked, with the FIRST set of each rule.
 #[derive(Drop)]
 pub(crate) struct Completeness<'a, StorageT: StorageIndex> {
     grm: &'a YaccGrammar<StorageT>,
@@ -75,7 +75,7 @@ impl<'a, StorageT: StorageIndex> Completeness<'a, StorageT> {
         }
     }
 
-    /// The first condition that fails, and the lowest state at which it does. `sets` are to work with.
+    /// The first condition that fails, and the lowest state at which it fails. `sets` is scratch space.
     pub(crate) fn first_fault(&self, sets: &mut WorkSets) -> Option<(CompletenessCondition, usize)>
         requires known { IsKnown self.now.grm.now self.now.sgraph.now self.now.stable.now (rows_of self.now.firsts.now) }
         requires ready { AreReady self.now.grm.now sets.old }
@@ -133,7 +133,7 @@ impl<'a, StorageT: StorageIndex> Completeness<'a, StorageT> {
         }
     }
 
-    // C1: as the start state, the state has the start production's first item before the end token.
+    // C1: if the state is the start state, it has the start item `^: . S {end}`.
     fn has_start_item(&self, s: StIdx<StorageT>) -> bool
         ensures { IsTrue result ↔ HasStartItem self.now.grm.now self.now.sgraph.now self.now.stable.now (StorageT.index s.0) }
     {
@@ -143,7 +143,8 @@ impl<'a, StorageT: StorageIndex> Completeness<'a, StorageT> {
                 .has_item(s, self.grm.start_prod(), 0, self.grm.eof_token_idx())
     }
 
-    // C2: for each item of the state. The sets of first items hold nothing before and behind it, so that a state costs what it has.
+    // C2, closure: for each item of the state. The sets of items with dot 0 are empty before and after, so a state costs time for its
+    // own items alone.
     fn closes_items(&self, s: StIdx<StorageT>, sets: &mut WorkSets) -> bool
         requires known { IsKnown self.now.grm.now self.now.sgraph.now self.now.stable.now (rows_of self.now.firsts.now) }
         requires state { StorageT.index s.0 < states_len self.now.stable.now }
@@ -159,8 +160,8 @@ impl<'a, StorageT: StorageIndex> Completeness<'a, StorageT> {
         closed
     }
 
-    // C2: for each of the items, where the first items among all are told by their lookaheads. Items of one core stand side by side, and
-    // are tested together.
+    // C2, closure: for each of the items. The items with dot 0 are in `starts`, as the lookaheads of each production. Items of one core
+    // are neighbours, and are tested together.
     fn closes_each(&self, items: &[Item<StorageT>], sets: &mut WorkSets) -> bool
         requires known { IsKnown self.now.grm.now self.now.sgraph.now self.now.stable.now (rows_of self.now.firsts.now) }
         requires items { All (λ item. IsItem self.now.grm.now (StorageT.index item.0.0) item.1 (StorageT.index item.2.0)) items.now }
@@ -202,7 +203,7 @@ impl<'a, StorageT: StorageIndex> Completeness<'a, StorageT> {
         true
     }
 
-    // Whether what the condition asks holds for the items of the production and the dot with these items' lookaheads.
+    // Whether the condition holds for the items with this production and dot, and with these items' lookaheads.
     fn core_holds(
         &self,
         condition: CompletenessCondition,
@@ -229,7 +230,7 @@ impl<'a, StorageT: StorageIndex> Completeness<'a, StorageT> {
     }
 }
 
-// Where the items that have the core of the one at a place end.
+// The end of the items that have the same core as the one at a place.
 fn core_end<StorageT: StorageIndex>(items: &[Item<StorageT>], place: usize) -> usize
     requires { place < length items.now }
     ensures { AreOfCore StorageT.index items.now place result }

@@ -27,7 +27,7 @@ impl<'a, StorageT: StorageIndex> Checkable<'a, StorageT> {
         true
     }
 
-    /// S8: the state doesn't go to the start state, and has the start production's first core only as the start state.
+    /// S8: the state has no transition to the start state, and has the core `^: . S` only if it is the start state.
     pub fn never_enters_start(&self, s: StIdx<StorageT>) -> bool
         requires shape { HasShape self.now.grm.now self.now.sgraph.now self.now.stable.now }
         requires state { StorageT.index s.0 < states_len self.now.stable.now }
@@ -43,7 +43,7 @@ impl<'a, StorageT: StorageIndex> Checkable<'a, StorageT> {
         usize::from(s) == usize::from(self.stable.start_state())
     }
 
-    // Whether the cores of state `next` with a dot past 0 come from cores of the state by the symbol.
+    // Whether the cores of state `next` with a dot past 0, those of kernel items, come from cores of the state by the symbol.
     pub(crate) fn cores_follow(
         &self,
         s: StIdx<StorageT>,
@@ -100,7 +100,7 @@ impl<'a, StorageT: StorageIndex> Checkable<'a, StorageT> {
             && self.sgraph.has_core(s, pidx, self.grm.prod(pidx).len())
     }
 
-    /// S6: the cores with dot 0, but that of the start production, have their gotos.
+    /// S6: for each core with dot 0, other than that of the start production, the state has a goto by its rule.
     pub fn goes_by_rules(&self, s: StIdx<StorageT>) -> bool
         requires shape { HasShape self.now.grm.now self.now.sgraph.now self.now.stable.now }
         requires state { StorageT.index s.0 < states_len self.now.stable.now }
@@ -126,7 +126,7 @@ impl<'a, StorageT: StorageIndex> Checkable<'a, StorageT> {
             || self.stable.goto(s, self.grm.prod_to_rule(pidx)).is_some()
     }
 
-    // S8 of the state's cores: it has the start production's first core only as the start state.
+    // S8 of the state's cores: it has the core `^: . S` only if it is the start state.
     fn begins_as_start(&self, s: StIdx<StorageT>) -> bool
         requires shape { HasShape self.now.grm.now self.now.sgraph.now self.now.stable.now }
         requires state { StorageT.index s.0 < states_len self.now.stable.now }
@@ -137,7 +137,7 @@ impl<'a, StorageT: StorageIndex> Checkable<'a, StorageT> {
     }
 }
 
-// Whether two symbols are one.
+// Whether two symbols are the same.
 fn is_symbol<StorageT: StorageIndex>(a: Symbol<StorageT>, b: Symbol<StorageT>) -> bool
     ensures { IsTrue result ↔ (symbol_of StorageT.index a ≡ symbol_of StorageT.index b) }
 {

@@ -22,7 +22,7 @@ impl<'a, StorageT: StorageIndex> Checkable<'a, StorageT> {
         self.actions_hold(SafetyCondition::S3, s)
     }
 
-    /// S4: the cores of each state that the state goes to come from its own.
+    /// S4: the cores of kernel items of each state to which the state goes come from its own cores.
     pub fn steps_from_cores(&self, s: StIdx<StorageT>) -> bool
         requires shape { HasShape self.now.grm.now self.now.sgraph.now self.now.stable.now }
         requires state { StorageT.index s.0 < states_len self.now.stable.now }
@@ -40,7 +40,7 @@ impl<'a, StorageT: StorageIndex> Checkable<'a, StorageT> {
         self.actions_hold(SafetyCondition::S5, s)
     }
 
-    /// S7: the state accepts at the end token alone, and has the start production's complete core where it does.
+    /// S7: the state accepts at the end token alone, and only if it has the start production's complete core.
     pub fn accepts_only_at_end(&self, s: StIdx<StorageT>) -> bool
         requires shape { HasShape self.now.grm.now self.now.sgraph.now self.now.stable.now }
         requires state { StorageT.index s.0 < states_len self.now.stable.now }
@@ -49,7 +49,7 @@ impl<'a, StorageT: StorageIndex> Checkable<'a, StorageT> {
         self.actions_hold(SafetyCondition::S7, s)
     }
 
-    // Whether the state doesn't go to the start state.
+    // Whether the state has no transition to the start state.
     pub(crate) fn goes_never_back(&self, s: StIdx<StorageT>) -> bool
         requires shape { HasShape self.now.grm.now self.now.sgraph.now self.now.stable.now }
         requires state { StorageT.index s.0 < states_len self.now.stable.now }
@@ -137,7 +137,7 @@ impl<'a, StorageT: StorageIndex> Checkable<'a, StorageT> {
         }
     }
 
-    // Whether the condition holds of an acceptance of the state.
+    // Whether the condition holds of an accept of the state.
     fn accept_holds(
         &self,
         condition: SafetyCondition,

@@ -1,23 +1,23 @@
--- What symbols begin with before the tokens of a set, told from what they begin with before the mark.
+-- First(w, a) for the tokens a of a set, computed from First(w, d) for the dummy lookahead d.
 use Rattle.std.proofs.Common.{◌≡◌, ◌<◌, ◌+◌, ◌||◌, ◌&&◌, ◌↔◌, ◌⊎◌, ◌∙◌, refl, sym, subst, inl, inr, arith, ℕ, Bool, true, false, List, [], ◌∷◌, All, length, nat_lt, IsTrue}
 use Rattle.std.proofs.lemmas.Bool.{and_from, and_parts, lt-ltb, ltb-true, or_cases, or_left, or_right}
 use Rattle.std.proofs.lemmas.List.{append-nil}
 use Rattle.std.proofs.lemmas.List.Elements.{All-head, All-tail}
 use Rattle.lrpar_grammar.specs.Grammar.{Grammar, GrammarSymbol, IsWellFormed, Nonterminal, Terminal, prods_len, rule_of, symbols_of}
-use Rattle.lrpar_table_first.specs.First.{IsFirst, Behind, Rule}
+use Rattle.lrpar_table_first.specs.First.{IsFirst, Empty, Rule}
 use Rattle.lrpar_table_first.specs.FirstRows.{AreFirsts, IsFirstBefore, IsSymbolBelow, begins, dummy_lookahead}
 use Rattle.lrpar_grammar.specs.Tokens.{has}
 use Rattle.lrpar_table_first.proofs.FirstLemmas.{AreBelow, closed_begins, first_after, first_by_dummy, first_from_dummy, sound_begins}
 use Rattle.lrpar_table_first.proofs.GrowthLemmas.{has_room, prods_below}
 
--- symbols below the mark
+-- listed symbols are below the dummy lookahead
 pub symbols_below : (rules dummy : ℕ) (w : List GrammarSymbol) → All (IsSymbolBelow rules dummy) w → AreBelow dummy w
 symbols_below rules dummy [] all = tt
 symbols_below rules dummy (Nonterminal r ∷ w) all = symbols_below rules dummy w (All-tail (IsSymbolBelow rules dummy) (Nonterminal r) w all)
 symbols_below rules dummy (Terminal t ∷ w) all =
     (All-head (IsSymbolBelow rules dummy) (Terminal t) w all, symbols_below rules dummy w (All-tail (IsSymbolBelow rules dummy) (Terminal t) w all))
 
--- what a set has once the tokens of another below a bound were put into it
+-- what a set has once the tokens of another below a bound were added to it
 pub united : (old other new : List Bool) (n t : ℕ) → has new t ≡ (has old t || (nat_lt t n && has other t))
     → IsTrue (has new t) ↔ (IsTrue (has old t) ⊎ ((t < n) × IsTrue (has other t)))
 united old other new n t put = (
@@ -33,7 +33,7 @@ united old other new n t put = (
 
 module _ (g : Grammar) (well : IsWellFormed g) (rows : List (List Bool)) (firsts : AreFirsts g rows) (w : List GrammarSymbol)
     (free : AreBelow (dummy_lookahead g) w) where
-  -- by exact sets symbols begin with what they begin with
+  -- by exact sets, `begins` computes First(w, d)
   pub begins_is : (t : ℕ) → IsTrue (begins (dummy_lookahead g) rows w t) ↔ IsFirst g (dummy_lookahead g) w t
   begins_is t =
       let below = prods_below g well in
@@ -44,17 +44,17 @@ module _ (g : Grammar) (well : IsWellFormed g) (rows : List (List Bool)) (firsts
       (Rule p (rule_of g p) [] s known refl (subst (λ v. IsFirst g (dummy_lookahead g) v s) (sym (append-nil (symbols_of g p))) first)) in
       (λ h. sound_begins g (dummy_lookahead g) below rows sound w t h, λ first. closed_begins g (dummy_lookahead g) below rows closed w t first)
 
-  -- before a token of a set
+  -- what is in First(w, d) and is a token is in First(w, a) for a token a of the set
   pub before_from_dummy : (after : List Bool) (t : ℕ) → ((a : ℕ) × IsTrue (has after a)) → t < dummy_lookahead g → IsFirst g (dummy_lookahead g) w t
       → IsFirstBefore g after w t
   before_from_dummy after t some low first = (some.0, some.1, first_from_dummy g (dummy_lookahead g) (prods_below g well) some.0 w t low first)
 
   pub before_through : (after : List Bool) (t : ℕ) → IsTrue (has after t) → IsFirst g (dummy_lookahead g) w (dummy_lookahead g) → IsFirstBefore g after w t
   before_through after t in_after through =
-      let all = first_after g (dummy_lookahead g) (prods_below g well) t w [] t (dummy_lookahead g) refl free through Behind in
+      let all = first_after g (dummy_lookahead g) (prods_below g well) t w [] t (dummy_lookahead g) refl free through Empty in
       (t, in_after, subst (λ v. IsFirst g t v t) (append-nil w) all)
 
-  -- and back
+  -- conversely: t is in First(w, d), or w is nullable and t is in the set
   pub before_cases : (after : List Bool) (t : ℕ) → IsFirstBefore g after w t
       → ((t < dummy_lookahead g) × IsFirst g (dummy_lookahead g) w t) ⊎ (IsFirst g (dummy_lookahead g) w (dummy_lookahead g) × IsTrue (has after t))
   before_cases after t h =
@@ -66,7 +66,7 @@ module _ (g : Grammar) (well : IsWellFormed g) (rows : List (List Bool)) (firsts
   module _ (after front old middle : List Bool) (some : (a : ℕ) × IsTrue (has after a))
       (begun : (t : ℕ) → has front t ≡ begins (dummy_lookahead g) rows w t)
       (put : (t : ℕ) → has middle t ≡ (has old t || (nat_lt t (dummy_lookahead g) && has front t))) where
-    -- where the symbols derive something, what they begin with is all
+    -- if the symbols aren't nullable, what they begin with is all
     pub added_before : has front (dummy_lookahead g) ≡ false
         → (t : ℕ) → IsTrue (has middle t) ↔ (IsTrue (has old t) ⊎ IsFirstBefore g after w t)
     added_before ends t =
@@ -85,7 +85,7 @@ module _ (g : Grammar) (well : IsWellFormed g) (rows : List (List Bool)) (firsts
           ],
         )
 
-    -- where they derive nothing, the set's tokens come too
+    -- if they are nullable, the set's tokens are added, too
     pub added_through : (new : List Bool) → length after ≡ dummy_lookahead g + 1 → has front (dummy_lookahead g) ≡ true
         → ((t : ℕ) → has new t ≡ (has middle t || (nat_lt t (dummy_lookahead g + 1) && has after t)))
         → (t : ℕ) → IsTrue (has new t) ↔ (IsTrue (has old t) ⊎ IsFirstBefore g after w t)

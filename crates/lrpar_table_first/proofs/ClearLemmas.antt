@@ -8,7 +8,7 @@ use Rattle.lrpar_grammar.specs.Tokens.{has}
 use Rattle.lrpar_grammar.specs.declared.token_set.TokenSet.{TokenSet}
 use Rattle.lrpar_table_first.proofs.GrowthLemmas.{row_in, rows-set}
 
--- one set more is emptied
+-- after one more set, all sets so far are empty
 pub cleared_more : (sets : List TokenSet) (i : ℕ) (new : TokenSet) → i < length sets → ((t : ℕ) → has new.bits.items t ≡ false)
     → ((r t : ℕ) → r < i → has (row_at (rows_of sets) r) t ≡ false)
     → (r t : ℕ) → r < i + 1 → has (row_at (rows_of (set sets i new)) r) t ≡ false

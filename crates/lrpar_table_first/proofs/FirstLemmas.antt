@@ -1,15 +1,15 @@
--- What lists of symbols begin with. The sets of the rules are worked out with a mark behind, a number that no token has. What is in
--- them is derived (soundness), and once they are closed all that is derived is in them (completeness). With any other token behind,
--- it takes the place of the mark.
+-- FIRST sets of lists of symbols. The sets of the rules are computed with a dummy lookahead, a number that no token has. What is in
+-- them is in the FIRST sets (soundness), and once they are closed, all that is in the FIRST sets is in them (completeness). For any
+-- other token as lookahead, it replaces the dummy lookahead.
 use Rattle.std.proofs.Common.{◌≡◌, ◌<◌, ◌&&◌, ◌⊎◌, refl, sym, subst, inl, inr, arith, ℕ, Bool, List, [], ◌∷◌, ◌++◌, nat_lt, IsTrue}
 use Rattle.std.proofs.lemmas.Bool.{and_from, and_parts, eqb-true, eq-eqb, lt-ltb, ltb-true, or_cases, or_left, or_right}
 use Rattle.std.proofs.lemmas.List.{append_assoc}
 use Rattle.lrpar_grammar.specs.Grammar.{Grammar, GrammarSymbol, Nonterminal, Terminal, prods_len, rule_of, symbols_of}
-use Rattle.lrpar_table_first.specs.First.{IsFirst, Behind, Token, Rule}
+use Rattle.lrpar_table_first.specs.First.{IsFirst, Empty, Token, Rule}
 use Rattle.lrpar_table_first.specs.FirstRows.{begins, row_at}
 use Rattle.lrpar_grammar.specs.Tokens.{has}
 
--- no token of the symbols is the mark, nor above it
+-- each token of the symbols is below the dummy lookahead
 abbrev pub AreBelow : ℕ → List GrammarSymbol → Type 0
 AreBelow dummy [] = Unit {0}
 AreBelow dummy (Terminal t ∷ w) = (t < dummy) × AreBelow dummy w
@@ -20,8 +20,8 @@ AreBelow-append dummy [] w left right = right
 AreBelow-append dummy (Terminal t ∷ u) w left right = (left.0, AreBelow-append dummy u w left.1 right)
 AreBelow-append dummy (Nonterminal r ∷ u) w left right = AreBelow-append dummy u w left right
 
--- what a list with a rule in front begins with: what is in the rule's set but the mark, and where that has the mark what follows
--- begins with
+-- what a list that starts with a rule begins with: the tokens of the rule's set; and, if the set has the dummy lookahead, what the
+-- rest begins with
 pub begins_cases : (dummy : ℕ) (rows : List (List Bool)) (r : ℕ) (w : List GrammarSymbol) (t : ℕ) → IsTrue (begins dummy rows (Nonterminal r ∷ w) t)
     → ((t < dummy) × IsTrue (has (row_at rows r) t)) ⊎ (IsTrue (has (row_at rows r) dummy) × IsTrue (begins dummy rows w t))
 begins_cases dummy rows r w t h =
@@ -46,33 +46,33 @@ begins_rest dummy rows r w t through h =
     (and_from (has (row_at rows r) dummy) (begins dummy rows w t) through h)
 
 module _ (g : Grammar) (dummy : ℕ) (below : (p : ℕ) → p < prods_len g → AreBelow dummy (symbols_of g p)) where
-  -- what symbols begin with, they begin with before others too
-  pub first_in_front : (u w : List GrammarSymbol) (t : ℕ) → t < dummy → IsFirst g dummy u t → IsFirst g dummy (u ++ w) t
-  first_in_front u w t low Behind = absurd (omega (arith, low))
-  first_in_front u w t low (Token s v) = Token s (v ++ w)
-  first_in_front u w t low (Rule p r v s known by h) =
-      Rule p r (v ++ w) s known by (subst (λ x. IsFirst g dummy x s) (append_assoc (symbols_of g p) v w) (first_in_front (symbols_of g p ++ v) w s low h))
+  -- First(u, d) without d is in First(u w, d)
+  pub first_of_prefix : (u w : List GrammarSymbol) (t : ℕ) → t < dummy → IsFirst g dummy u t → IsFirst g dummy (u ++ w) t
+  first_of_prefix u w t low Empty = absurd (omega (arith, low))
+  first_of_prefix u w t low (Token s v) = Token s (v ++ w)
+  first_of_prefix u w t low (Rule p r v s known by h) =
+      Rule p r (v ++ w) s known by (subst (λ x. IsFirst g dummy x s) (append_assoc (symbols_of g p) v w) (first_of_prefix (symbols_of g p ++ v) w s low h))
 
-  -- where symbols derive nothing, what follows them is what they begin with
+  -- if u is nullable, First(w, a) is in First(u w, a)
   pub first_after : (a : ℕ) (u w : List GrammarSymbol) (t m : ℕ) → m ≡ dummy → AreBelow dummy u → IsFirst g dummy u m → IsFirst g a w t → IsFirst g a (u ++ w) t
-  first_after a u w t m is free Behind rest = rest
+  first_after a u w t m is free Empty rest = rest
   first_after a u w t m is free (Token s v) rest = absurd (omega (arith, free.0, is))
   first_after a u w t m is free (Rule p r v s known by h) rest =
       Rule p r (v ++ w) t known by (subst (λ x. IsFirst g a x t) (append_assoc (symbols_of g p) v w)
       (first_after a (symbols_of g p ++ v) w t s is (AreBelow-append dummy (symbols_of g p) v (below p known) free) h rest))
 
-  -- soundness: where what is in the sets is derived, so is what symbols begin with by the sets
+  -- soundness: if the sets have nothing but the FIRST sets, so has what `begins` computes from them
   pub sound_begins : (rows : List (List Bool)) → ((r t : ℕ) → IsTrue (has (row_at rows r) t) → IsFirst g dummy (Nonterminal r ∷ []) t)
       → (w : List GrammarSymbol) (t : ℕ) → IsTrue (begins dummy rows w t) → IsFirst g dummy w t
-  sound_begins rows sound [] t h = subst (λ x. IsFirst g dummy [] x) (sym (eqb-true t dummy h)) Behind
+  sound_begins rows sound [] t h = subst (λ x. IsFirst g dummy [] x) (sym (eqb-true t dummy h)) Empty
   sound_begins rows sound (Terminal s ∷ w) t h = subst (λ x. IsFirst g dummy (Terminal s ∷ w) x) (sym (eqb-true t s h)) (Token s w)
   sound_begins rows sound (Nonterminal r ∷ w) t h =
       elim (begins_cases dummy rows r w t h) [
-        | inl own ↦ first_in_front (Nonterminal r ∷ []) w t own.0 (sound r t own.1)
+        | inl own ↦ first_of_prefix (Nonterminal r ∷ []) w t own.0 (sound r t own.1)
         | inr rest ↦ first_after dummy (Nonterminal r ∷ []) w t dummy refl tt (sound r dummy rest.0) (sound_begins rows sound w t rest.1)
       ]
 
-  -- what two lists of symbols begin with is what the first does, or what the second does where the first derives nothing
+  -- what two lists of symbols begin with is what the first does, or what the second does if the first is nullable
   begins_parts : (rows : List (List Bool)) (u w : List GrammarSymbol) (t : ℕ) → AreBelow dummy u → IsTrue (begins dummy rows (u ++ w) t)
       → ((t < dummy) × IsTrue (begins dummy rows u t)) ⊎ (IsTrue (begins dummy rows u dummy) × IsTrue (begins dummy rows w t))
   begins_parts rows [] w t free h = inr (eq-eqb dummy dummy refl, h)
@@ -87,11 +87,11 @@ module _ (g : Grammar) (dummy : ℕ) (below : (p : ℕ) → p < prods_len g → 
             ]
       ]
 
-  -- completeness: where the sets are closed, symbols begin by the sets with all that they begin with
+  -- completeness: if the sets are closed, `begins` computes all of First(w, d) from them
   pub closed_begins : (rows : List (List Bool))
       → ((p : ℕ) → p < prods_len g → (t : ℕ) → IsTrue (begins dummy rows (symbols_of g p) t) → IsTrue (has (row_at rows (rule_of g p)) t))
       → (w : List GrammarSymbol) (t : ℕ) → IsFirst g dummy w t → IsTrue (begins dummy rows w t)
-  closed_begins rows closed w t Behind = eq-eqb dummy dummy refl
+  closed_begins rows closed w t Empty = eq-eqb dummy dummy refl
   closed_begins rows closed w t (Token s v) = eq-eqb s s refl
   closed_begins rows closed w t (Rule p r v s known by h) =
       let inside = closed_begins rows closed (symbols_of g p ++ v) s h in
@@ -101,16 +101,16 @@ module _ (g : Grammar) (dummy : ℕ) (below : (p : ℕ) → p < prods_len g → 
         | inr late ↦ begins_rest dummy rows r v s (has_row dummy (closed p known dummy late.0)) late.1
       ]
 
-  -- with a token behind in place of the mark
+  -- a token of First(w, d) is in First(w, a)
   pub first_from_dummy : (a : ℕ) (w : List GrammarSymbol) (t : ℕ) → t < dummy → IsFirst g dummy w t → IsFirst g a w t
-  first_from_dummy a w t low Behind = absurd (omega (arith, low))
+  first_from_dummy a w t low Empty = absurd (omega (arith, low))
   first_from_dummy a w t low (Token s v) = Token s v
   first_from_dummy a w t low (Rule p r v s known by h) = Rule p r v s known by (first_from_dummy a (symbols_of g p ++ v) s low h)
 
-  -- and back
+  -- conversely: t is a token of First(w, d), or w is nullable and t is a
   pub first_by_dummy : (a : ℕ) (w : List GrammarSymbol) (t : ℕ) → AreBelow dummy w → IsFirst g a w t
       → ((t < dummy) × IsFirst g dummy w t) ⊎ (IsFirst g dummy w dummy × (t ≡ a))
-  first_by_dummy a w t free Behind = inr (Behind, refl)
+  first_by_dummy a w t free Empty = inr (Empty, refl)
   first_by_dummy a w t free (Token s v) = inl (free.0, Token s v)
   first_by_dummy a w t free (Rule p r v s known by h) =
       elim (first_by_dummy a (symbols_of g p ++ v) s (AreBelow-append dummy (symbols_of g p) v (below p known) free) h) [

@@ -1,4 +1,4 @@
--- One production more is looked at: what it begins with is put into the set of its rule.
+-- One step of the computation: what one more production begins with is added to the set of its rule.
 use Rattle.std.proofs.Common.{◌≡◌, ◌<◌, ◌≤◌, ◌+◌, ◌||◌, ◌&&◌, ◌∙◌, sym, ap, subst, inl, inr, arith, ℕ, Bool, false, List, [], ◌∷◌, ◌++◌, All, length, set, get_or, nat_lt, take, drop, IsTrue}
 use Rattle.std.proofs.lemmas.Bool.{and_from, and_parts, cases_eq, cases_lt, eqb-true, false≢true, lt-ltb, or_cases, or_right}
 use Rattle.std.proofs.lemmas.List.{append-nil, drop_all, get_or-map, get_or-set_other, get_or-set_same, get_or_past, length-map, length-set, map-set, set-get_or, take_all}
@@ -11,7 +11,7 @@ use Rattle.lrpar_grammar.specs.Tokens.{has, missing}
 use Rattle.lrpar_grammar.specs.declared.token_set.TokenSet.{TokenSet}
 use Rattle.lrpar_table_first.proofs.FirstLemmas.{AreBelow, begins_cases, closed_begins, sound_begins}
 
--- listed symbols have no token above the last one
+-- all tokens of listed symbols are at most the last one
 listed_below : (rules tokens : ℕ) (w : List GrammarSymbol) → All (IsListedSymbol rules tokens) w → AreBelow (tokens + 1) w
 listed_below rules tokens [] all = tt
 listed_below rules tokens (Nonterminal r ∷ w) all =
@@ -20,7 +20,7 @@ listed_below rules tokens (Terminal t ∷ w) all =
     let low = All-head (IsListedSymbol rules tokens) (Terminal t) w all in
     (omega (arith, low), listed_below rules tokens w (All-tail (IsListedSymbol rules tokens) (Terminal t) w all))
 
--- the mark stands in no production
+-- no production has the dummy lookahead among its symbols
 pub prods_below : (g : Grammar) → IsWellFormed g → (p : ℕ) → p < prods_len g → AreBelow (dummy_lookahead g) (symbols_of g p)
 prods_below g well p known =
     elim (cases_lt p (start_prod g)) [
@@ -47,7 +47,7 @@ pub room_set : (g : Grammar) (rows : List (List Bool)) (r : ℕ) (bits : List Bo
 room_set g rows r bits room wide =
     record { rules = length-set rows r bits ∙ room.rules; wide = All-set (λ row. length row ≡ dummy_lookahead g + 1) rows r bits wide room.wide }
 
--- and lacks less, where the new set does
+-- it lacks fewer tokens, if the new set does
 pub missing_set : (rows : List (List Bool)) (r : ℕ) (bits : List Bool) → r < length rows → missing bits < missing (row_at rows r)
     → total_missing (set rows r bits) < total_missing rows
 missing_set rows r bits within less = let sums = sum_by-set missing rows r bits [] within in omega (arith, sums, less)
@@ -55,7 +55,7 @@ missing_set rows r bits within less = let sums = sum_by-set missing rows r bits 
 module _ (g : Grammar) (well : IsWellFormed g) (rows : List (List Bool)) (p : ℕ) (known : p < prods_len g) (front bits : List Bool)
     (begun : (t : ℕ) → has front t ≡ begins (dummy_lookahead g) rows (symbols_of g p) t)
     (put : (t : ℕ) → has bits t ≡ (has (row_at rows (rule_of g p)) t || (nat_lt t (dummy_lookahead g + 1) && has front t))) where
-  -- what was put in is derived
+  -- what was added is in the FIRST set
   pub sound_more : rule_of g p < length rows → AreSound g rows → AreSound g (set rows (rule_of g p) bits)
   sound_more within sound r t h =
       let own = rule_of g p in
@@ -66,24 +66,24 @@ module _ (g : Grammar) (well : IsWellFormed g) (rows : List (List Bool)) (p : �
             elim (or_cases (has (row_at rows own) t) (nat_lt t (dummy_lookahead g + 1) && has front t) now) as (λ _. IsFirst g (dummy_lookahead g) (Nonterminal r ∷ []) t) [
               | inl before ↦ sound r t (subst (λ x. IsTrue (has (row_at rows x) t)) (sym same) before)
               | inr fresh ↦
-                  let in_front = sym (begun t) ∙ (and_parts (nat_lt t (dummy_lookahead g + 1)) (has front t) fresh).1 in
-                  let first = sound_begins g (dummy_lookahead g) (prods_below g well) rows sound (symbols_of g p) t in_front in
+                  let in_first = sym (begun t) ∙ (and_parts (nat_lt t (dummy_lookahead g + 1)) (has front t) fresh).1 in
+                  let first = sound_begins g (dummy_lookahead g) (prods_below g well) rows sound (symbols_of g p) t in_first in
                   Rule p r [] t known (sym same) (subst (λ w. IsFirst g (dummy_lookahead g) w t) (sym (append-nil (symbols_of g p))) first)
             ]
         | inr other ↦ sound r t (subst (λ x. IsTrue (has x t)) (get_or-set_other rows own r bits [] other) h)
       ]
 
-  -- where nothing was new, the set had all
+  -- if nothing was new, the set had all
   pub closed_same : length front ≡ dummy_lookahead g + 1 → bits ≡ row_at rows (rule_of g p) → IsClosedAt g rows p
   closed_same wide same t h =
       let own = rule_of g p in
-      let in_front : IsTrue (has front t) = begun t ∙ h in
-      let low : t < dummy_lookahead g + 1 = let inside = has_room front t in_front in omega (arith, wide, inside) in
+      let in_first : IsTrue (has front t) = begun t ∙ h in
+      let low : t < dummy_lookahead g + 1 = let inside = has_room front t in_first in omega (arith, wide, inside) in
       let now : IsTrue (has bits t) = put t ∙ or_right (has (row_at rows own) t) (nat_lt t (dummy_lookahead g + 1) && has front t)
-      (and_from (nat_lt t (dummy_lookahead g + 1)) (has front t) (lt-ltb t (dummy_lookahead g + 1) low) in_front) in
+      (and_from (nat_lt t (dummy_lookahead g + 1)) (has front t) (lt-ltb t (dummy_lookahead g + 1) low) in_first) in
       subst (λ x. IsTrue (has x t)) same now
 
--- what a rule alone begins with is in its set
+-- `begins` of a rule alone is in the rule's set
 begins_alone : (dummy : ℕ) (rows : List (List Bool)) (r t : ℕ) → IsTrue (begins dummy rows (Nonterminal r ∷ []) t) → IsTrue (has (row_at rows r) t)
 begins_alone dummy rows r t h =
     elim (begins_cases dummy rows r [] t h) [
@@ -104,11 +104,11 @@ exact_sets g well rows room sound closed =
       );
     }
 
--- a list of sets is as long as that of their tokens
+-- there are as many sets as rules
 pub sets_len : (g : Grammar) (sets : List TokenSet) → HaveRoom g (rows_of sets) → length sets ≡ rules_len g
 sets_len g sets room = sym (length-map sets (λ s. s.bits.items)) ∙ room.rules
 
--- the set in a place, by its row
+-- the set at a place, by its row
 pub row_in : (sets : List TokenSet) (r : ℕ) (d : TokenSet) → r < length sets → (get_or sets r d).bits.items ≡ row_at (rows_of sets) r
 row_in sets r d within = sym (get_or-map (λ s. s.bits.items) sets r d [] within)
 
@@ -171,7 +171,7 @@ module _ (g : Grammar) (well : IsWellFormed g) (sets : List TokenSet) (p r dummy
       subst (λ rows. IsClosedAt g rows p) (sym (grown_same same))
       (closed_same g well (rows_of sets) p known front new.bits.items begun_by put_by long (same ∙ old_row))
 
--- a list that was lent in full is what comes back
+-- a list that was lent in full comes back as it is
 pub lent_back : {X : Type 0} (old new : List X) (n : ℕ) → length old ≡ n → length new ≡ n → take n (new ++ drop (length new) old) ≡ new
 lent_back old new n before after =
     let none : length old ≤ length new = omega (arith, before, after) in

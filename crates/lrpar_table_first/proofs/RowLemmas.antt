@@ -1,4 +1,4 @@
--- Sets of tokens in a list, one for each rule, and what a walk over symbols puts into a set.
+-- Sets of tokens in a list, one for each rule, and what a walk over symbols adds to a set.
 use Rattle.std.proofs.Common.{◌≡◌, ◌<◌, ◌+◌, ◌==◌, ◌||◌, ◌&&◌, ◌∙◌, refl, sym, ap, subst, arith, ℕ, suc, Bool, true, false, List, [], ◌∷◌, All, length, map, set, drop, get_or, nat_lt}
 use Rattle.std.proofs.Math.Bool.{or_assoc}
 use Rattle.std.proofs.Math.Seq.{drop-cons}
@@ -11,17 +11,17 @@ use Rattle.lrpar_table_first.specs.FirstRows.{begins, row_at, rows_of}
 use Rattle.lrpar_grammar.specs.Tokens.{has}
 use Rattle.lrpar_grammar.specs.declared.token_set.TokenSet.{TokenSet}
 
--- the row of a rule is that of the set in its place
+-- the row of a rule is that of the set at its place
 pub row_is : (sets : List TokenSet) (r : ℕ) (set : TokenSet) → r < length sets → set ≡ get_or sets r set → row_at (rows_of sets) r ≡ set.bits.items
 row_is sets r set within is = get_or-map (λ s. s.bits.items) sets r set [] within ∙ sym (ap (λ s. s.bits.items) is)
 
--- a set of a list whose sets have this room has it
+-- if all sets of a list have this room, each of them has it
 pub wide_at : (sets : List TokenSet) (r n : ℕ) (set : TokenSet) → All (λ row. length row ≡ n) (rows_of sets) → r < length sets → set ≡ get_or sets r set
     → length set.bits.items ≡ n
 wide_at sets r n set wide within is =
     subst (λ s. length s.bits.items ≡ n) (sym is) (All-map-at (λ row. length row ≡ n) (λ s. s.bits.items) sets wide r set within)
 
--- the symbols from a place on are the one there and those behind it
+-- the symbols from a place on are the one there and those after it
 pub symbols_from : {S : Type 0} (index : S → ℕ) (symbols : List (Symbol S)) (i : ℕ) (symbol : Symbol S) → i < length symbols → symbol ≡ get_or symbols i symbol
     → drop i (map (symbol_of index) symbols) ≡ symbol_of index symbol ∷ drop (i + 1) (map (symbol_of index) symbols)
 symbols_from index symbols i symbol within is =
@@ -43,7 +43,7 @@ module _ (dummy : ℕ) (rows : List (List Bool)) (symbols : List GrammarSymbol) 
       → (t : ℕ) → has new t ≡ (has old t || begins dummy rows symbols t)
   walk_token s w at put t = put t ∙ subst (λ x. (has front t || begins dummy rows x t) ≡ (has old t || begins dummy rows symbols t)) at (so_far t)
 
-  -- a rule that derives something ends it too
+  -- a rule that isn't nullable ends it, too
   pub walk_rule : (r : ℕ) (w : List GrammarSymbol) → drop i symbols ≡ Nonterminal r ∷ w → has (row_at rows r) dummy ≡ false
       → ((t : ℕ) → has new t ≡ (has front t || (nat_lt t dummy && has (row_at rows r) t)))
       → (t : ℕ) → has new t ≡ (has old t || begins dummy rows symbols t)
@@ -53,7 +53,7 @@ module _ (dummy : ℕ) (rows : List (List Bool)) (symbols : List GrammarSymbol) 
       put t ∙ ap (λ b. has front t || b) (sym ends)
       ∙ subst (λ x. (has front t || begins dummy rows x t) ≡ (has old t || begins dummy rows symbols t)) at (so_far t)
 
-  -- one that derives nothing is walked over
+  -- the walk goes on past a nullable one
   pub walk_on : (r : ℕ) → drop i symbols ≡ Nonterminal r ∷ drop (i + 1) symbols → has (row_at rows r) dummy ≡ true
       → ((t : ℕ) → has new t ≡ (has front t || (nat_lt t dummy && has (row_at rows r) t)))
       → (t : ℕ) → (has new t || begins dummy rows (drop (i + 1) symbols) t) ≡ (has old t || begins dummy rows symbols t)
@@ -64,7 +64,7 @@ module _ (dummy : ℕ) (rows : List (List Bool)) (symbols : List GrammarSymbol) 
       ap (λ b. b || rest) (put t) ∙ or_assoc (has front t) own rest ∙ ap (λ b. has front t || b) (sym goes)
       ∙ subst (λ x. (has front t || begins dummy rows x t) ≡ (has old t || begins dummy rows symbols t)) at (so_far t)
 
--- a symbol of a list is as all of it are
+-- what all symbols of a list are, each is
 pub symbol_below : {S : Type 0} (index : S → ℕ) (P : GrammarSymbol → Type 0) (symbols : List (Symbol S)) (i : ℕ) (symbol shown : Symbol S)
     → All P (map (symbol_of index) symbols) → i < length symbols → symbol ≡ get_or symbols i symbol → symbol ≡ shown → P (symbol_of index shown)
 symbol_below index P symbols i symbol shown all within is shows =

@@ -1,4 +1,4 @@
--- The symbols of a production, and which of them comes first behind a dot.
+-- The symbols of a production, and which of them is the first after a dot.
 use Rattle.std.proofs.Common.{◌≡◌, ◌<◌, ◌≤◌, ◌+◌, ◌-◌, ◌∙◌, sym, ap, subst, inl, inr, arith, ℕ, suc, List, [], ◌∷◌, All, length, map, drop, take}
 use Rattle.std.proofs.lemmas.Bool.{cases_lt}
 use Rattle.std.proofs.lemmas.List.{drop-map, length-drop, length-map, take_all}
@@ -14,7 +14,7 @@ pub begins_by : {S : Type 0} (index : S → ℕ) (symbols rest : List (Symbol S)
     → map (symbol_of index) symbols ≡ symbol_of index shown ∷ map (symbol_of index) rest
 begins_by index symbols rest first shown split shows = ap (map (symbol_of index)) split.0 ∙ ap (λ s. symbol_of index s ∷ map (symbol_of index) rest) shows
 
--- the symbols of a production from a place on, the first of which was split off
+-- the symbols of a production from a place on, after the first of them was split off
 pub after_by : {S : Type 0} (index : S → ℕ) (symbols rest : List (Symbol S)) (first shown : Symbol S) (all : List GrammarSymbol) (k : ℕ)
     → map (symbol_of index) symbols ≡ all → IsFirstAndRest (take (length symbols - k) (drop k symbols)) first rest → first ≡ shown
     → drop k all ≡ symbol_of index shown ∷ map (symbol_of index) rest
@@ -23,7 +23,7 @@ after_by index symbols rest first shown all k is split shows =
     let whole = take_all (length symbols - k) (drop k symbols) long in
     ap (drop k) (sym is) ∙ drop-map (symbol_of index) k symbols ∙ begins_by index (drop k symbols) rest first shown (subst (λ xs. IsFirstAndRest xs first rest) whole split) shows
 
--- nothing is left of them, or a token comes first: then no rule does
+-- if nothing is left of them, or a token comes first, no rule comes first
 pub nothing_after : {S : Type 0} (index : S → ℕ) (symbols : List (Symbol S)) (all : List GrammarSymbol) (k : ℕ) → map (symbol_of index) symbols ≡ all
     → length (take (length symbols - k) (drop k symbols)) ≡ 0 → (r : ℕ) (w : List GrammarSymbol) → drop k all ≡ Nonterminal r ∷ w → ⊥
 nothing_after index symbols all k is none r w begins =
@@ -41,7 +41,7 @@ symbol_weaker : (rules tokens : ℕ) (s : GrammarSymbol) → IsListedSymbol rule
 symbol_weaker rules tokens (Nonterminal r) h = h.1
 symbol_weaker rules tokens (Terminal t) h = omega (arith, h)
 
--- all symbols of a production are below the mark, and so are all but the first
+-- each symbol of a production is a rule of the grammar, or a token below the dummy lookahead
 pub prod_symbols : (g : Grammar) → IsWellFormed g → (p : ℕ) → p < prods_len g → All (IsSymbolBelow (rules_len g) (tokens_len g)) (symbols_of g p)
 prod_symbols g well p known =
     let weaker : (s : GrammarSymbol) → IsListedSymbol (rules_len g) (end_token g) s → IsSymbolBelow (rules_len g) (tokens_len g) s = symbol_weaker (rules_len g) (end_token g) in
@@ -54,7 +54,7 @@ prod_symbols g well p known =
           (All-cons (IsSymbolBelow (rules_len g) (tokens_len g)) (Nonterminal g.start) [] well.start_within (All-nil (IsSymbolBelow (rules_len g) (tokens_len g)))))
     ]
 
--- a rule that stands in a production is one of the grammar, and so are the symbols behind it
+-- a rule in a production is one of the grammar, and so are the symbols after it
 pub after_listed : (g : Grammar) → IsWellFormed g → (p k r : ℕ) (w : List GrammarSymbol) → p < prods_len g → drop k (symbols_of g p) ≡ Nonterminal r ∷ w
     → (r < rules_len g) × All (IsSymbolBelow (rules_len g) (tokens_len g)) w
 after_listed g well p k r w known begins =

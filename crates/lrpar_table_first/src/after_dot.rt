@@ -1,4 +1,4 @@
-//! Which rule a production has behind a dot.
+//! The rule after the dot of an item.
 ghost use Rattle.std.specs.Prelude.{◌≡◌, ◌≢◌, ◌<◌, ◌≤◌, ◌∷◌, ℕ, List, All, IfSome, MatchOption, drop, map};
 ghost use Rattle.lrpar_grammar.specs.Grammar.{GrammarSymbol, IsWellFormed, Nonterminal, prod_len, prods_len, rules_len, symbols_of, tokens_len};
 ghost use Rattle.lrpar_grammar.specs.Symbols.{symbol_of};
@@ -7,7 +7,7 @@ ghost use Rattle.lrpar_table_first.specs.FirstRows.{IsSymbolBelow};
 use lrpar_grammar::grammar::YaccGrammar;
 use lrpar_grammar::span::{PIdx, RIdx, StorageIndex, Symbol};
 
-/// The rule that the production has behind so many symbols, if it has one there, and the symbols behind it.
+/// The rule that the production has right after its first `dot` symbols, if a rule is there, and the symbols after that rule.
 pub fn rule_after<'a, StorageT: StorageIndex>(
     grm: &'a YaccGrammar<StorageT>,
     pidx: PIdx<StorageT>,

@@ -1,4 +1,4 @@
-//! The tokens that rules begin with.
+//! FIRST sets of rules, and which rules are nullable.
 ghost use Rattle.std.specs.Prelude.{◌≡◌, ◌<◌, ◌+◌, ◌||◌, ◌↔◌, ◌⊎◌, ℕ, All, IfOk, IsTrue, false, length, map};
 ghost use Rattle.std.specs.Bool.{OnFalse, OnTrue};
 ghost use Rattle.lrpar_grammar.specs.Grammar.{IsWellFormed, prods_len, rules_len, tokens_len};
@@ -11,8 +11,8 @@ use lrpar_grammar::span::{PIdx, StorageIndex, Symbol};
 use lrpar_grammar::token_set::TokenSet;
 use std::alloc::{AllocError, Global};
 
-/// For each rule the set of the tokens that it begins with. The number of tokens, which is no token's, stands in the set of a
-/// rule that derives nothing.
+/// The FIRST set of each rule: the tokens that it can begin with. The number of tokens, which is no token's number, serves as
+/// dummy lookahead: the set of a nullable rule has it.
 pub fn first_sets<StorageT: StorageIndex>(
     alloc: Global,
     grm: &YaccGrammar<StorageT>,
@@ -26,7 +26,7 @@ pub fn first_sets<StorageT: StorageIndex>(
     Ok(sets)
 }
 
-/// A set for each rule, with nothing in it.
+/// An empty set for each rule.
 pub fn empty_sets<StorageT: StorageIndex>(
     alloc: Global,
     grm: &YaccGrammar<StorageT>,
@@ -41,7 +41,7 @@ pub fn empty_sets<StorageT: StorageIndex>(
     Ok(sets)
 }
 
-/// Takes everything out of the sets.
+/// Empties the sets.
 pub fn clear_all(sets: &mut [TokenSet])
     ensures none { HoldNothing (rows_of sets.new) }
     ensures room { map (λ row. length row) (rows_of sets.new) ≡ map (λ row. length row) (rows_of sets.old) }
@@ -51,8 +51,8 @@ pub fn clear_all(sets: &mut [TokenSet])
     }
 }
 
-// Puts into the set of each production's rule what the production begins with, and tells whether anything was new. `front`
-// is a set to work with.
+// Adds the FIRST set of each production, by the sets so far, to the set of its rule, and returns whether anything was new.
+// `front` is scratch space.
 fn grow_all<StorageT: StorageIndex>(
     grm: &YaccGrammar<StorageT>,
     sets: &mut [TokenSet],
@@ -77,7 +77,7 @@ fn grow_all<StorageT: StorageIndex>(
     grown
 }
 
-// Puts into the set of the production's rule what the production begins with, and tells whether anything was new.
+// Adds the FIRST set of the production, by the sets so far, to the set of its rule, and returns whether anything was new.
 fn grow<StorageT: StorageIndex>(
     grm: &YaccGrammar<StorageT>,
     pidx: PIdx<StorageT>,
@@ -102,8 +102,7 @@ fn grow<StorageT: StorageIndex>(
     sets[rule].unite_below(front, dummy + 1)
 }
 
-/// Puts into `set` what the symbols begin with before any token of `after`: nothing, where `after` is empty. `front` is a set to
-/// work with.
+/// Adds First(symbols, a) to `set` for each token a of `after`: nothing, if `after` is empty. `front` is scratch space.
 pub fn add_first_before<StorageT: StorageIndex>(
     grm: &YaccGrammar<StorageT>,
     sets: &[TokenSet],
@@ -135,8 +134,8 @@ pub fn add_first_before<StorageT: StorageIndex>(
     }
 }
 
-/// Puts into `front` the tokens that the symbols begin with, where each rule begins with its set; and the mark, where each
-/// symbol's set has it.
+/// Adds the FIRST set of the symbols to `front`, computed from the set of each rule; and the dummy lookahead, if all symbols are
+/// nullable by these sets.
 pub fn add_first<StorageT: StorageIndex>(
     sets: &[TokenSet],
     symbols: &[Symbol<StorageT>],

@@ -1,4 +1,4 @@
--- The added rule stands on no right side.
+-- The start rule `^` of the augmented grammar is on no right side.
 use Rattle.std.proofs.Common.{◌≡◌, ◌<◌, sym, ap, subst, inl, inr, arith, ℕ, List, [], ◌∷◌, All, drop}
 use Rattle.std.specs.Option.{option_map_or}
 use Rattle.std.proofs.lemmas.Bool.{cases_order}
@@ -6,7 +6,7 @@ use Rattle.std.proofs.lemmas.List.Elements.{All-cons, All-drop, All-head, All-ni
 use Rattle.std.proofs.lemmas.Option.{slice_get_past}
 use Rattle.lrpar_grammar.specs.Grammar.{Grammar, GrammarSymbol, IsListedSymbol, IsWellFormed, Nonterminal, Terminal, end_token, rules_len, start_prod, symbols_of}
 
--- the symbol isn't the added rule
+-- the symbol isn't the start rule `^`
 abbrev IsNotAdded : GrammarSymbol → Type 0
 IsNotAdded (Nonterminal r) = 0 < r
 IsNotAdded (Terminal t) = Unit {0}
@@ -16,7 +16,7 @@ listed_not_added rules tokens (Nonterminal r) listed = listed.0
 listed_not_added rules tokens (Terminal t) listed = tt
 
 module _ (g : Grammar) (well : IsWellFormed g) where
-  -- a rule on a right side isn't the added one
+  -- a rule on a right side isn't the start rule `^`
   listed_rules : (p : ℕ) → All IsNotAdded (symbols_of g p)
   listed_rules p =
       elim (cases_order p (start_prod g)) [

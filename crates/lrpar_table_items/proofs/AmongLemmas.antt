@@ -11,7 +11,7 @@ use Rattle.lrpar_table_items.specs.Cores.{AreBringing, CoreSet, IsAmong, IsOfCor
 use Rattle.lrpar_table_items.specs.ItemSets.{IsInClosure}
 use Rattle.lrpar_table_items.proofs.ClosureLemmas.{IsOfBrought, closure_is}
 
--- a core more has its items
+-- one more core adds its items
 pub among_more : (cores more : List CoreSet) (core : CoreSet) (x : ItemOf) → more ≡ cores ++ core ∷ [] → IsAmong more x ↔ (IsAmong cores x ⊎ IsOfCore core x)
 among_more cores more core x is =
     subst (λ cs. IsAmong cs x ↔ (IsAmong cores x ⊎ IsOfCore core x)) (sym is) (
@@ -25,7 +25,7 @@ among_more cores more core x is =
       ],
     )
 
--- what is among two lists is among the one or the other
+-- what is among two lists is among one or the other
 pub among_append : (cores more : List CoreSet) (x : ItemOf) → IsAmong (cores ++ more) x ↔ (IsAmong cores x ⊎ IsAmong more x)
 among_append cores more x = (
   λ h. elim (Contains-append_cases cores more h.0 h.1) [
@@ -38,7 +38,7 @@ among_append cores more x = (
   ],
 )
 
--- the items of a rule more
+-- the items of one more rule
 pub rows_more : (g : Grammar) (rows : List (List Bool)) (first before after : ItemOf → Type 0) (n : ℕ) (tokens : List Bool) (x : ItemOf)
     → tokens ≡ row_at rows n → (before x ↔ (first x ⊎ (IsOfRows g rows x × (rule_of g x.prod < n)))) → (after x ↔ (before x ⊎ IsOfRule g n tokens x))
     → after x ↔ (first x ⊎ (IsOfRows g rows x × (rule_of g x.prod < n + 1)))
@@ -67,7 +67,7 @@ rows_more g rows first before after n tokens x row so_far one = (
   ],
 )
 
--- with all of them, the closure is there
+-- a list with the items of the cores, and of all rules that the closure adds, has the closure
 pub closure_among : (g : Grammar) (cores after : List CoreSet) (rows : List (List Bool))
     → ((r t : ℕ) → HasIn rows r t ↔ IsBrought g (AreBringing g cores) r t)
     → ((x : ItemOf) → IsAmong after x ↔ (IsAmong cores x ⊎ IsOfRows g rows x))

@@ -1,4 +1,4 @@
--- What a list of cores brings, put into sets one core after the other.
+-- The rules that a list of cores brings by closure, added to sets one core after the other.
 use Rattle.std.proofs.Common.{◌≡◌, ◌<◌, ◌+◌, ◌↔◌, ◌⊎◌, ◌∙◌, sym, ap, subst, inl, inr, arith, ℕ, Bool, List, [], ◌∷◌, ◌++◌, drop, get_or, length, map, set, IsTrue}
 use Rattle.std.proofs.lemmas.Bool.{cases_eq, false≢true}
 use Rattle.std.proofs.lemmas.List.{get_or-map, get_or-set_other, get_or-set_same, length-map}
@@ -13,7 +13,7 @@ use Rattle.lrpar_table_items.proofs.BroughtLemmas.{brought_twice}
 use Rattle.lrpar_table_first.proofs.GrowthLemmas.{room_set, row_in, rows-set, sets_len}
 use Rattle.lrpar_table_items.proofs.SpreadLemmas.{same_rest, same_rule}
 
--- sets that are emptied keep their room
+-- emptied sets keep their room
 pub cleared_room : (g : Grammar) (before after : List (List Bool)) → HaveRoom g before → map (λ row. length row) after ≡ map (λ row. length row) before
     → HaveRoom g after
 cleared_room g before after room same =
@@ -27,14 +27,14 @@ cleared_room g before after room same =
           ∙ room.wide k d inside;
     }
 
--- sets with nothing in them have what no core brings
+-- empty sets have what an empty list of cores brings
 pub none_brought : (g : Grammar) (rows : List (List Bool)) → HoldNothing rows → (r t : ℕ) → HasIn rows r t ↔ AreBringing g [] r t
 none_brought g rows none r t = (
   λ h. absurd (false≢true (sym (none r t) ∙ h)),
   λ h. let low = h.1.1 in absurd (omega (arith, low)),
 )
 
--- a core more brings what it does
+-- what a list with one more core brings
 pub bringing_more : (g : Grammar) (cores : List CoreSet) (core : CoreSet) (r t : ℕ)
     → AreBringing g (cores ++ core ∷ []) r t ↔ (AreBringing g cores r t ⊎ Brings g core r t)
 bringing_more g cores core r t = (
@@ -63,7 +63,7 @@ brought_more g cores more core before after is so_far one r t =
       ],
     )
 
--- what comes with what the sets have, comes with what the cores bring
+-- if the sets had what the cores bring, their closure is that of what the cores bring
 pub brought_by_cores : (g : Grammar) (cores : List CoreSet) (before after : List (List Bool))
     → ((r t : ℕ) → HasIn before r t ↔ AreBringing g cores r t) → ((r t : ℕ) → HasIn after r t ↔ IsBrought g (HasIn before) r t)
     → (r t : ℕ) → HasIn after r t ↔ IsBrought g (AreBringing g cores) r t
@@ -72,7 +72,7 @@ brought_by_cores g cores before after own all r t = (
   λ h. (all r t).1 (brought_twice g (HasIn before) (AreBringing g cores) (λ q s brings. Given q s ((own q s).1 brings)) r t h),
 )
 
--- a core before a token, or with nothing behind its dot, brings nothing
+-- a core with no rule after its dot brings nothing
 pub brings_nothing : (g : Grammar) (core : CoreSet) (rows : List (List Bool)) → ((r : ℕ) (w : List GrammarSymbol) → drop core.dot (symbols_of g core.prod) ≡ Nonterminal r ∷ w → ⊥)
     → (r t : ℕ) → HasIn rows r t ↔ (HasIn rows r t ⊎ Brings g core r t)
 brings_nothing g core rows never r t = (

@@ -1,5 +1,5 @@
--- The closure of a list of cores: the items of the cores, and each production of each rule that they bring, with the lookaheads that
--- come with the rule.
+-- The closure of a list of cores: the items of the cores; and each production of each rule that the closure adds, with the rule's
+-- lookaheads.
 use Rattle.std.proofs.Common.{◌≡◌, ◌<◌, ◌↔◌, ◌⊎◌, ◌∙◌, refl, sym, ap, subst, inl, inr, ℕ, List, ◌∷◌, drop}
 use Rattle.lrpar_grammar.specs.Grammar.{Grammar, Nonterminal, prods_len, rule_of, symbols_of}
 use Rattle.lrpar_table_rows.specs.Graph.{ItemOf}
@@ -7,14 +7,14 @@ use Rattle.lrpar_table_items.specs.ItemSets.{Adds, IsInClosure, Own, Added}
 use Rattle.lrpar_table_items.specs.Brought.{IsBrought, Given, Brought}
 use Rattle.lrpar_table_items.specs.Cores.{AreBringing, Brings, CoreSet, IsAmong}
 
--- an item that a rule brings: its dot is at the front, and its lookahead comes with the rule of its production
+-- an item that the closure adds: its dot is at the start, and its lookahead is one that the closure adds for its rule
 pub record IsOfBrought (g : Grammar) (cores : List CoreSet) (x : ItemOf) : Type 0 where
   pub fresh : x.dot ≡ 0
   pub known : x.prod < prods_len g
   pub comes : IsBrought g (AreBringing g cores) (rule_of g x.prod) x.token
 
 module _ (g : Grammar) (cores : List CoreSet) where
-  -- what an item of a core adds, the core brings
+  -- what an item of a core adds is of a rule that the core brings
   added_by_core : (x y : ItemOf) → IsAmong cores x → Adds g x y → IsOfBrought g cores y
   added_by_core x y among adds =
       let core = among.0 in
@@ -27,7 +27,7 @@ module _ (g : Grammar) (cores : List CoreSet) where
         comes = subst (λ r. IsBrought g (AreBringing g cores) r y.token) (sym adds.of_rule) (Given adds.rule y.token (core, among.1, brings));
       }
 
-  -- and what an item of a rule adds, comes with that rule
+  -- what an added item adds is of a rule that the closure adds
   added_by_rule : (x y : ItemOf) → IsOfBrought g cores x → Adds g x y → IsOfBrought g cores y
   added_by_rule x y of adds =
       let at : symbols_of g x.prod ≡ Nonterminal adds.rule ∷ adds.rest = ap (λ n. drop n (symbols_of g x.prod)) (sym of.fresh) ∙ adds.before in
@@ -37,7 +37,7 @@ module _ (g : Grammar) (cores : List CoreSet) where
         comes = subst (λ r. IsBrought g (AreBringing g cores) r y.token) (sym adds.of_rule) (Brought x.prod adds.rule x.token y.token adds.rest of.known at of.comes adds.first);
       }
 
-  -- so the closure has nothing else
+  -- so the closure has no other items
   pub closure_parts : (x : ItemOf) → IsInClosure g (IsAmong cores) x → IsAmong cores x ⊎ IsOfBrought g cores x
   closure_parts x (Own y h) = inl h
   closure_parts x (Added y z h adds) =
@@ -46,7 +46,7 @@ module _ (g : Grammar) (cores : List CoreSet) where
         | inr of ↦ inr (added_by_rule y z of adds)
       ]
 
-  -- and it has all of that
+  -- and it has all of these
   pub brought_in_closure : (r t : ℕ) → IsBrought g (AreBringing g cores) r t
       → (q : ℕ) → q < prods_len g → rule_of g q ≡ r → IsInClosure g (IsAmong cores) (record { prod = q; dot = 0; token = t })
   brought_in_closure r t (Given r' t' bringing) q known of =

@@ -1,4 +1,4 @@
--- What the loops over cores and tokens put together, told by what the next one adds.
+-- The lists that the loops over cores and tokens build, by what one more core or token adds.
 use Rattle.std.proofs.Common.{◌≡◌, ◌<◌, ◌+◌, ◌==◌, ◌&&◌, ◌||◌, ◌++◌, ◌∷◌, ◌∙◌, ℕ, Bool, true, false, not, cond, List, [], sym, ap, arith, length, map, take, get_or, filter, zero-add}
 use Rattle.std.specs.List.{range_with_len}
 use Rattle.std.proofs.lemmas.List.{append-nil, append_assoc, get_or-map, length-map, map-append}
@@ -27,7 +27,7 @@ filter_yes : {Y : Type 0} (h : ℕ → Y) (p : ℕ → Bool) (n : ℕ) → p n �
     → map h (filter p (range_with_len 0 (n + 1))) ≡ map h (filter p (range_with_len 0 n)) ++ h n ∷ []
 filter_yes h p n passes = filter_one h p n ∙ ap (λ b. map h (filter p (range_with_len 0 n)) ++ map h (cond b (n ∷ []) [])) passes
 
--- what a loop over numbers pushes for one that passes
+-- a loop over numbers pushes an element for a number that passes the test
 pub pushed_yes : {X Y : Type 0} (f : X → Y) (h : ℕ → Y) (p : ℕ → Bool) (made pushed : List X) (base : List Y) (x : X) (n : ℕ)
     → map f made ≡ base ++ map h (filter p (range_with_len 0 n)) → pushed ≡ made ++ x ∷ [] → f x ≡ h n → p n ≡ true
     → map f pushed ≡ base ++ map h (filter p (range_with_len 0 (n + 1)))
@@ -36,7 +36,7 @@ pushed_yes f h p made pushed base x n so_far more same passes =
     ∙ append_assoc base (map h (filter p (range_with_len 0 n))) (f x ∷ [])
     ∙ ap (λ y. base ++ (map h (filter p (range_with_len 0 n)) ++ y ∷ [])) same ∙ ap (λ s. base ++ s) (sym (filter_yes h p n passes))
 
--- the items of one core more
+-- the items of one more core
 pub cores_more : {X : Type 0} (f : X → CoreSet) (tokens : ℕ) (cores : List X) (i : ℕ) (x : X) → i < length cores → x ≡ get_or cores i x
     → items_of_cores tokens (map f (take (i + 1) cores)) ≡ items_of_cores tokens (map f (take i cores)) ++ items_of_core tokens (f x)
 cores_more f tokens cores i x within is =
@@ -44,7 +44,7 @@ cores_more f tokens cores i x within is =
     ∙ flat_map-append (items_of_core tokens) (map f (take i cores)) (f x ∷ [])
     ∙ ap (λ s. items_of_cores tokens (map f (take i cores)) ++ s) (append-nil (items_of_core tokens (f x)))
 
--- the productions of one core more
+-- the productions of one more core
 module _ {X : Type 0} (f : X → CoreSet) (start t : ℕ) (xs : List X) (i : ℕ) (x : X) (within : i < length xs) (is : x ≡ get_or xs i x) where
   prods_more : prods_at start (map f (take (i + 1) xs)) t ≡ prods_at start (map f (take i xs)) t ++ prods_at start (f x ∷ []) t
   prods_more =
@@ -82,7 +82,7 @@ module _ {X : Type 0} (f : X → CoreSet) (start t : ℕ) (xs : List X) (i : ℕ
       let there : get_or (map f xs) i (f x) ≡ f x = get_or-map f xs i x (f x) within ∙ ap f (sym is) in
       list_any_at test (map f xs) i (f x) inside (ap test there ∙ passes)
 
--- what passes a test, of one element more
+-- the elements that pass a test, with one more element
 module _ {X Y : Type 0} (f : X → Y) (test : Y → Bool) (xs : List X) (i : ℕ) (x : X) (within : i < length xs) (is : x ≡ get_or xs i x) where
   passing_more : filter test (map f (take (i + 1) xs)) ≡ filter test (map f (take i xs)) ++ filter test (f x ∷ [])
   passing_more = ap (filter test) (map-take_more f xs i x within is) ∙ filter-append test (map f (take i xs)) (f x ∷ [])

@@ -1,4 +1,4 @@
--- What the loops over productions and tokens put together, told by what the next one adds; and where shifts ascend.
+-- The lists that the loops over productions and tokens build, by what one more production or token adds; and shifts that ascend.
 use Rattle.std.proofs.Common.{◌≡◌, ◌≢◌, ◌<◌, ◌+◌, ◌++◌, ◌∷◌, ◌∙◌, ℕ, cond, nat_eq, List, [], Some, None, refl, sym, ap, arith, length, map, take, get_or, zero-add}
 use Rattle.std.specs.List.{range_with_len, flat_map}
 use Rattle.std.specs.Map.{keys_of, lookup}
@@ -9,7 +9,7 @@ use Rattle.lrpar_grammar_places.proofs.ListLemmas.{map-take_more, range_more}
 use Rattle.lrpar_table_rows.specs.Table.{ReduceReduce}
 use Rattle.lrpar_table_items.specs.Resolution.{AscendFrom, reduce_conflicts_at}
 
--- the conflicts with the first production, of one production more
+-- the conflicts with the first production, with one more production
 pub conflicts_more : {X Y : Type 0} (view : Y → ReduceReduce) (f : X → ℕ) (s t p : ℕ) (later : List X) (i : ℕ) (x : X) (made pushed : List Y) (y : Y)
     (base : List ReduceReduce) → i < length later → x ≡ get_or later i x
     → map view made ≡ base ++ reduce_conflicts_at s t (p ∷ map f (take i later)) → pushed ≡ made ++ y ∷ []
@@ -22,27 +22,27 @@ conflicts_more view f s t p later i x made pushed y base within is so_far more s
     ∙ ap (λ z. base ++ (map conflict (map f (take i later)) ++ z ∷ [])) same
     ∙ ap (λ z. base ++ z) (sym (ap (map conflict) (map-take_more f later i x within is) ∙ map-append conflict (map f (take i later)) (f x ∷ [])))
 
--- where shifts ascend from a number on, none is by a lower one
+-- if shifts ascend from a number on, none is by a lower number
 pub lookup_past : {X : Type 0} (t n : ℕ) (entries : List (ℕ × X)) → t < n → AscendFrom n (keys_of entries) → lookup (nat_eq t) entries ≡ None
 lookup_past t n [] past up = refl
 lookup_past t n (e ∷ entries) past up =
     let other : t ≢ e.0 = omega (arith, past, up.0) in
     ap (λ b. cond b (Some e.1) (lookup (nat_eq t) entries)) (ne_eqb t e.0 other) ∙ lookup_past t (e.0 + 1) entries (omega (arith, past, up.0)) up.1
 
--- nor is one by the number, where the first isn't
+-- if the first isn't by that number, none is by that number either
 pub lookup_other : {X : Type 0} (t : ℕ) (e : ℕ × X) (entries : List (ℕ × X)) → AscendFrom t (keys_of (e ∷ entries)) → (e.0 ≡ t → ⊥)
     → lookup (nat_eq t) (e ∷ entries) ≡ None
 lookup_other t e entries up other =
     let differs : t ≢ e.0 = λ same. other (sym same) in
     ap (λ b. cond b (Some e.1) (lookup (nat_eq t) entries)) (ne_eqb t e.0 differs) ∙ lookup_past t (e.0 + 1) entries (omega (arith, up.0)) up.1
 
--- lists joined for each number below an end, one number more
+-- the lists of each number below an end, joined, with one more number
 pub flat_more : {Y : Type 0} (f : ℕ → List Y) (n : ℕ) → flat_map f (range_with_len 0 (n + 1)) ≡ flat_map f (range_with_len 0 n) ++ f n
 flat_more f n =
     ap (flat_map f) (sym (range_more 0 n)) ∙ flat_map-append f (range_with_len 0 n) ((0 + n) ∷ [])
     ∙ ap (λ s. flat_map f (range_with_len 0 n) ++ s) (append-nil (f (0 + n))) ∙ ap (λ k. flat_map f (range_with_len 0 n) ++ f k) (zero-add n)
 
--- the same where the lists are told by a view
+-- the same for lists that are seen through a view
 pub joined_more : {X Y : Type 0} (view : X → Y) (f : ℕ → List Y) (n : ℕ) (made pushed : List X) (base : List Y)
     → map view made ≡ base ++ flat_map f (range_with_len 0 n) → map view pushed ≡ map view made ++ f n
     → map view pushed ≡ base ++ flat_map f (range_with_len 0 (n + 1))

@@ -1,4 +1,4 @@
--- A set of items has one kernel: cores in their order, each with some lookahead, are told by their items.
+-- An item set has one kernel: two lists of cores in order, each with at least one lookahead, are the same if their items are.
 use Rattle.std.proofs.Common.{◌≡◌, ◌≤◌, ◌+◌, ◌==◌, ◌&&◌, ◌⊎◌, ◌∙◌, refl, sym, ap, subst, inl, inr, arith, zero-add, ℕ, Bool, false, cond, List, [], ◌∷◌, All, length, IsTrue}
 use Rattle.std.specs.List.{Contains, count_by}
 use Rattle.std.proofs.lemmas.List.Sums.{sum_by-cons}
@@ -15,7 +15,7 @@ use Rattle.lrpar_grammar.specs.Tokens.{has}
 use Rattle.lrpar_table_items.specs.Resolution.{AreOnce}
 use Rattle.lrpar_table_items.proofs.CoreLemmas.{among_cons, among_nil, core_is}
 
--- sets with room for as many tokens that have the same ones are the same
+-- sets of tokens with the same room and the same tokens are the same
 bits_is : (xs ys : List Bool) → length xs ≡ length ys → ((t : ℕ) → IsTrue (has xs t) → IsTrue (has ys t)) → ((t : ℕ) → IsTrue (has ys t) → IsTrue (has xs t)) → xs ≡ ys
 bits_is xs ys len to back =
     ext_get_or false xs ys len
@@ -32,7 +32,7 @@ abbrev is_core : ℕ → ℕ → CoreSet → Bool
 is_core p k core = (core.prod == p) && (core.dot == k)
 
 module _ (g : Grammar) where
-  -- nothing comes before itself, and of two cores one alone comes before the other
+  -- the order of cores is irreflexive and asymmetric
   itself : (p k q l : ℕ) → p ≡ q → k ≡ l → Precedes g p k q l → ⊥
   itself p k q l prod dot h =
       let rule = ap (rule_of g) prod in
@@ -45,8 +45,8 @@ module _ (g : Grammar) where
             ]
       ]
 
-  listed_one_way : (p q : ℕ) → IsListedBefore g p q → IsListedBefore g q p → ⊥
-  listed_one_way p q h back =
+  listed_asymmetric : (p q : ℕ) → IsListedBefore g p q → IsListedBefore g q p → ⊥
+  listed_asymmetric p q h back =
       elim h [
         | inl less ↦
             elim back [
@@ -62,8 +62,8 @@ module _ (g : Grammar) where
             ]
       ]
 
-  one_way : (p k q l : ℕ) → Precedes g p k q l → Precedes g q l p k → ⊥
-  one_way p k q l h back =
+  precedes_asymmetric : (p k q l : ℕ) → Precedes g p k q l → Precedes g q l p k → ⊥
+  precedes_asymmetric p k q l h back =
       elim h [
         | inl greater ↦
             elim back [
@@ -74,18 +74,18 @@ module _ (g : Grammar) where
             let dots = first.0 in
             elim back [
               | inl other ↦ omega (arith, dots, other)
-              | inr further ↦ listed_one_way p q first.1 further.1
+              | inr further ↦ listed_asymmetric p q first.1 further.1
             ]
       ]
 
-  -- what is among later cores comes later
+  -- the cores of items among later cores come later
   later : (core : CoreSet) (cores : List CoreSet) (x : ItemOf) → All (ComesBefore g core) cores → IsAmong cores x
       → Precedes g core.prod core.dot x.prod x.dot
   later core cores x all h =
       let before = All-contains (ComesBefore g core) cores h.0 all h.1 in
       subst (λ k. Precedes g core.prod core.dot x.prod k) h.2.1 (subst (λ p. Precedes g core.prod core.dot p h.0.dot) h.2.0 before)
 
-  -- where all items of one list are among another, the other's first core is the one's, or comes before it
+  -- if all items of the first list are among the second, the second list's first core is the first one's, or comes before it
   leads : (a b : CoreSet) (xs ys : List CoreSet) → IsFilled a → AreCoresInOrder g (b ∷ ys) → ((x : ItemOf) → IsAmong (a ∷ xs) x → IsAmong (b ∷ ys) x)
       → ((b.prod ≡ a.prod) × (b.dot ≡ a.dot)) ⊎ ComesBefore g b a
   leads a b xs ys filled order to =
@@ -97,7 +97,7 @@ module _ (g : Grammar) where
 
   module _ (a b : CoreSet) (xs ys : List CoreSet) (prod : a.prod ≡ b.prod) (dot : a.dot ≡ b.dot) (order : AreCoresInOrder g (a ∷ xs)) (other : AreCoresInOrder g (b ∷ ys))
       (to : (x : ItemOf) → IsAmong (a ∷ xs) x → IsAmong (b ∷ ys) x) where
-    -- then, where it is the one's, it has the one's lookaheads
+    -- if the first cores are the same, the second list's has all lookaheads of the first list's
     first_tokens : (t : ℕ) → IsTrue (has a.tokens t) → IsTrue (has b.tokens t)
     first_tokens t h =
         let x : ItemOf = record { prod = a.prod; dot = a.dot; token = t } in
@@ -106,7 +106,7 @@ module _ (g : Grammar) where
           | inr further ↦ absurd (itself b.prod b.dot a.prod a.dot (sym prod) (sym dot) (later b ys x other.0 further))
         ]
 
-    -- and what is among the one's others is among the other's
+    -- and the other items of the first list are among the other items of the second
     others : (x : ItemOf) → IsAmong xs x → IsAmong ys x
     others x h =
         elim ((among_cons b ys x).0 (to x ((among_cons a xs x).1 (inr h)))) [
@@ -135,7 +135,7 @@ module _ (g : Grammar) where
         | inr before ↦
             elim (leads b a ys xs (All-head IsFilled b ys full) order back) [
               | inl is ↦ is
-              | inr after ↦ absurd (one_way b.prod b.dot a.prod a.dot before after)
+              | inr after ↦ absurd (precedes_asymmetric b.prod b.dot a.prod a.dot before after)
             ]
       ] in
       let Wide = λ (c : CoreSet). length c.tokens ≡ n in
@@ -149,13 +149,13 @@ module _ (g : Grammar) where
       (λ x. (others a b xs ys core.0 core.1 order other to x, others b a ys xs (sym core.0) (sym core.1) other order back x)) in
       cc
 
-  -- so are a grammar's
+  -- so are cores of a grammar
   pub one_kernel : (xs ys : List CoreSet) → AreCores g xs → AreCores g ys → AreSame (IsAmong xs) (IsAmong ys) → xs ≡ ys
   one_kernel xs ys cores others same =
       cores_is (dummy_lookahead g + 1) xs ys cores.in_order others.in_order cores.filled others.filled (λ k d low. (cores.of_grammar k d low).wide)
       (λ k d low. (others.of_grammar k d low).wide) same
 
-  -- each core stands once in its order
+  -- cores in order have each core once
   none_of : (cores : List CoreSet) (p k : ℕ) → ((core : CoreSet) → Contains cores core → (core.prod ≡ p) × (core.dot ≡ k) → ⊥)
       → count_by (is_core p k) cores ≡ 0
   none_of [] p k apart = refl

@@ -1,5 +1,5 @@
--- The order in which kernels are found tells them apart, and is that in which the code compares them. So a kernel is found in the map
--- of numbers where it has one, and a new one leaves what is there.
+-- In the order of the map, kernels that compare equal are the same, and the code compares kernels in this order. So the map finds a
+-- kernel exactly if it has a number, and a new kernel leaves the other numbers as they are.
 use Rattle.std.proofs.Common.{◌≡◌, ◌≢◌, ◌<◌, ◌∷◌, ◌++◌, ◌∙◌, refl, sym, ap, subst, inl, inr, arith, ℕ, true, false, List, [], Some, None, get_or, length, map}
 use Rattle.std.specs.BTreeMap.{BTreeMap, Updates, get_by, is_at}
 use Rattle.std.specs.Cmp.Lexicographic.{slice_cmp}
@@ -13,7 +13,7 @@ use Rattle.std.proofs.lemmas.Bool.{cases_Bool, cases_lt}
 use Rattle.std.proofs.lemmas.List.{get_or-map, get_or_append_left, get_or_push, length-map, length_push, map-append}
 use Rattle.std.proofs.lemmas.Map.Lookups.{exact_unsigned}
 use Rattle.lrpar_grammar_places.specs.declared.span.StIdx.{StIdx}
-use Rattle.lrpar_table_rows.specs.Ascending.{TellsApart}
+use Rattle.lrpar_table_rows.specs.Ascending.{ComparesExactly}
 use Rattle.lrpar_table_items.specs.Cores.{CoreSet, core_set}
 use Rattle.lrpar_table_items.specs.KernelMap.{NumbersKernels, core_cmp, key_cmp}
 use Rattle.lrpar_table_items.specs.Next.{kernel_rows, kernel_at}
@@ -21,41 +21,41 @@ use Rattle.lrpar_table_items.specs.KernelMap.{IsFresh}
 use Rattle.lrpar_table_items.specs.declared.cores.CoreItems.{CoreItems}
 use Rattle.lrpar_table_items.proofs.CoreLemmas.{core_is}
 
--- two comparisons, the second asked where the first ties, tie where both do
+-- if two comparisons one after the other tie, each of them ties
 both_tie : (a b : Ordering) → ordering_then a b ≡ Equal → (a ≡ Equal) × (b ≡ Equal)
 both_tie Less b h = absurd (cc)
 both_tie Equal b h = (refl, h)
 both_tie Greater b h = absurd (cc)
 
--- lists are told apart where their elements are
-lists_apart : {X : Type 0} (R : X → X → Ordering) → TellsApart R → TellsApart (slice_cmp R)
-lists_apart R apart [] [] h = refl
-lists_apart R apart [] (y ∷ ys) h = absurd (cc)
-lists_apart R apart (x ∷ xs) [] h = absurd (cc)
-lists_apart R apart (x ∷ xs) (y ∷ ys) h =
+-- if elements that compare equal are the same, so are lists
+lists_compare_exactly : {X : Type 0} (R : X → X → Ordering) → ComparesExactly R → ComparesExactly (slice_cmp R)
+lists_compare_exactly R apart [] [] h = refl
+lists_compare_exactly R apart [] (y ∷ ys) h = absurd (cc)
+lists_compare_exactly R apart (x ∷ xs) [] h = absurd (cc)
+lists_compare_exactly R apart (x ∷ xs) (y ∷ ys) h =
     let ties = both_tie (R x y) (slice_cmp R xs ys) h in
     let first = apart x y ties.0 in
-    let rest = lists_apart R apart xs ys ties.1 in
+    let rest = lists_compare_exactly R apart xs ys ties.1 in
     cc
 
-bools_apart : TellsApart bool_cmp
-bools_apart true true h = refl
-bools_apart false false h = refl
-bools_apart true false h = absurd (cc)
-bools_apart false true h = absurd (cc)
+bools_compare_exactly : ComparesExactly bool_cmp
+bools_compare_exactly true true h = refl
+bools_compare_exactly false false h = refl
+bools_compare_exactly true false h = absurd (cc)
+bools_compare_exactly false true h = absurd (cc)
 
-cores_apart : TellsApart core_cmp
-cores_apart a b h =
+cores_compare_exactly : ComparesExactly core_cmp
+cores_compare_exactly a b h =
     let prod = both_tie (nat_cmp a.prod b.prod) (ordering_then (nat_cmp a.dot b.dot) (slice_cmp bool_cmp a.tokens b.tokens)) h in
     let rest = both_tie (nat_cmp a.dot b.dot) (slice_cmp bool_cmp a.tokens b.tokens) prod.1 in
     core_is a b (exact_unsigned a.prod b.prod prod.0) (exact_unsigned a.dot b.dot rest.0)
-    (lists_apart bool_cmp bools_apart a.tokens b.tokens rest.1)
+    (lists_compare_exactly bool_cmp bools_compare_exactly a.tokens b.tokens rest.1)
 
--- so kernels are told apart
-pub kernels_apart : TellsApart (slice_cmp core_cmp)
-kernels_apart = lists_apart core_cmp cores_apart
+-- so kernels that compare equal are the same
+pub kernels_compare_exactly : ComparesExactly (slice_cmp core_cmp)
+kernels_compare_exactly = lists_compare_exactly core_cmp cores_compare_exactly
 
--- lists compare as their images, where their elements do
+-- if elements compare as their images do, so do lists
 pub lists_compare : {X Y : Type 0} (R : X → X → Ordering) (Q : Y → Y → Ordering) (f : X → Y) → ((x y : X) → R x y ≡ Q (f x) (f y))
     → (xs ys : List X) → slice_cmp R xs ys ≡ slice_cmp Q (map f xs) (map f ys)
 lists_compare R Q f same [] [] = refl
@@ -63,12 +63,12 @@ lists_compare R Q f same [] (y ∷ ys) = refl
 lists_compare R Q f same (x ∷ xs) [] = refl
 lists_compare R Q f same (x ∷ xs) (y ∷ ys) = λ i. ordering_then (same x y i) (lists_compare R Q f same xs ys i)
 
--- the order of the code's cores, where this is that of its numbers
+-- the order of the code's cores, by the order of its numbers
 abbrev pub order_of : {S : Type 0} → (S → S → Ordering) → CoreItems S → CoreItems S → Ordering
 order_of cmp x y =
     ordering_then (cmp x.prod.0 y.prod.0) (ordering_then (nat_cmp x.dot y.dot) (slice_cmp bool_cmp x.tokens.bits.items y.tokens.bits.items))
 
--- it is that of their sets
+-- it is the order of the cores that they represent
 cores_compare : {S : Type 0} (index : S → ℕ) (cmp : S → S → Ordering) → ((a b : S) → cmp a b ≡ nat_cmp (index a) (index b)) → (x y : CoreItems S)
     → order_of cmp x y ≡ core_cmp (core_set index x) (core_set index y)
 cores_compare index cmp law x y =
@@ -82,12 +82,12 @@ module _ {S A : Type 0} (index : S → ℕ) (cmp : S → S → Ordering) (law : 
   key_order key = lists_compare (order_of cmp) core_cmp (core_set index) (cores_compare index cmp law) cores key.items
 
   module _ (numbers : BTreeMap (Vec (CoreItems S) A) (StIdx S)) where
-    -- what the map has at some cores it has at their kernel
+    -- a look-up by cores of the code is a look-up by the kernel that they represent
     pub at_kernel : get_by (λ key. slice_cmp (order_of cmp) cores key.items) numbers ≡ get_by (key_cmp index (map (core_set index) cores)) numbers
     at_kernel = λ i. get_by (λ key. key_order key i) numbers
 
     module _ (rows kernels : List (List CoreSet)) (are : rows ≡ kernels) (has : NumbersKernels index rows numbers) where
-      -- where a kernel has a number, the map has that one
+      -- if a kernel has a number, the map has that number
       number_of : (s : ℕ) → s < length kernels → kernel_at kernels s ≡ map (core_set index) cores
           → option_map (λ state. index state.0) (get_by (λ key. slice_cmp (order_of cmp) cores key.items) numbers) ≡ Some s
       number_of s below same =
@@ -95,12 +95,12 @@ module _ {S A : Type 0} (index : S → ℕ) (cmp : S → S → Ordering) (law : 
           ∙ subst (λ k. option_map (λ state. index state.0) (get_by (key_cmp index k) numbers) ≡ Some s) same
           (subst (λ found. NumbersKernels index found numbers) are has s below)
 
-      -- so where the map has none, the kernel is new
+      -- so if the map has none, the kernel is new
       pub new_without : None ≡ get_by (λ key. slice_cmp (order_of cmp) cores key.items) numbers → IsFresh kernels (map (core_set index) cores)
       new_without none s below same =
           let some : None ≡ Some s = ap (option_map (λ state. index state.0)) none ∙ number_of s below same in absurd (cc)
 
-      -- and where it has the number of another one, too
+      -- the kernel is new, too, if the map has the number of another kernel
       pub new_beside : (state : StIdx S) → Some state ≡ get_by (λ key. slice_cmp (order_of cmp) cores key.items) numbers
           → (index state.0 < length kernels → kernel_at kernels (index state.0) ≢ map (core_set index) cores) → IsFresh kernels (map (core_set index) cores)
       new_beside state found other s below same =
@@ -126,7 +126,7 @@ module _ {S A : Type 0} (index : S → ℕ) (cmp : S → S → Ordering) (law : 
     (kernel key : Vec (CoreItems S) A) (copy : map (core_set index) key.items ≡ map (core_set index) kernel.items) (state : StIdx S)
     (fresh : IsFresh rows (map (core_set index) kernel.items))
     (updates : Updates (λ a b. slice_cmp (order_of cmp) a.items b.items) before after key (Some state)) where
-  -- what the map has at a number
+  -- the map has number s for kernel k
   abbrev HasOne : ℕ → List CoreSet → Type 0
   HasOne s k = option_map (λ state. index state.0) (get_by (key_cmp index k) after) ≡ Some s
 
@@ -134,7 +134,7 @@ module _ {S A : Type 0} (index : S → ℕ) (cmp : S → S → Ordering) (law : 
   new_key : IsFresh (kernel_rows index kernels) (map (core_set index) key.items)
   new_key = subst (λ k. IsFresh (kernel_rows index kernels) k) (sym copy) (subst (λ found. IsFresh found (map (core_set index) kernel.items)) (sym are) fresh)
 
-  -- so the map has the others' numbers still
+  -- so the map still has the numbers of the others
   pub others_stay : NumbersKernels index (kernel_rows index kernels) after
   others_stay s below =
       let other = get_or kernels s key in
@@ -145,7 +145,7 @@ module _ {S A : Type 0} (index : S → ℕ) (cmp : S → S → Ordering) (law : 
       elim (cases_Bool (is_eq (slice_cmp (order_of cmp) key.items other.items))) [
         | inl ties ↦
             let equal = sym (key_order index cmp law key.items other) ∙ tie_is _ ties in
-            absurd (new_key s below (at ∙ sym (kernels_apart (map (core_set index) key.items) (map (core_set index) other.items) equal)))
+            absurd (new_key s below (at ∙ sym (kernels_compare_exactly (map (core_set index) key.items) (map (core_set index) other.items) equal)))
         | inr not ↦ not
       ] in
       let stays = updates.2 other apart in
@@ -153,9 +153,9 @@ module _ {S A : Type 0} (index : S → ℕ) (cmp : S → S → Ordering) (law : 
       (ap (option_map (λ state. index state.0)) (sym (at_kernel index cmp law other.items after) ∙ stays ∙ at_kernel index cmp law other.items before)
       ∙ subst (λ k. option_map (λ state. index state.0) (get_by (key_cmp index k) before) ≡ Some s) at (has s below))
 
-  -- and the new one's, where it stands behind them
-  pub new_stands : index state.0 ≡ length rows → NumbersKernels index (kernel_rows index (kernels ++ kernel ∷ [])) after
-  new_stands next s below =
+  -- and the number of the new one, which is last
+  pub new_is_numbered : index state.0 ≡ length rows → NumbersKernels index (kernel_rows index (kernels ++ kernel ∷ [])) after
+  new_is_numbered next s below =
       let before = kernel_rows index kernels in
       let last = map (core_set index) kernel.items in
       let pushed : kernel_rows index (kernels ++ kernel ∷ []) ≡ before ++ last ∷ [] =

@@ -1,4 +1,4 @@
--- The kernel to which cores go by a symbol: those that stand before it, each advanced.
+-- The kernel of the goto of cores by a symbol: those with the symbol after the dot, each advanced.
 use Rattle.std.proofs.Common.{Bor, ◌≡◌, ◌<◌, ◌≤◌, ◌+◌, ◌↔◌, ◌⊎◌, ◌∙◌, refl, sym, ap, subst, inl, inr, arith, ℕ, Bool, true, false, cond, List, [], ◌∷◌, ◌++◌, All, IfSome, MatchOption, Option, Some, None, get_or, length, map, slice_get, take}
 use Rattle.std.specs.List.{HoldsAt, filter}
 use Rattle.std.specs.Option.{option_copied, option_map}
@@ -14,7 +14,7 @@ use Rattle.lrpar_table_items.specs.CoreOrder.{AreCores, AreCoresInOrder, ComesBe
 use Rattle.lrpar_table_items.specs.Next.{HaveAfterDot, advanced, is_symbol, next_kernel, symbol_after}
 use Rattle.lrpar_table_items.proofs.CoreLemmas.{among_cons, among_nil}
 
--- the test of a symbol holds where it is that symbol
+-- if the test of a symbol holds, it is that symbol
 pub symbol_from : (symbol : GrammarSymbol) (further : Option GrammarSymbol) → is_symbol symbol further ≡ true → further ≡ Some symbol
 symbol_from symbol None h = absurd (false≢true h)
 symbol_from (Nonterminal r) (Some (Nonterminal q)) h = ap (λ n. Some (Nonterminal n)) (sym (eqb-true r q h))
@@ -29,7 +29,7 @@ symbol_itself (Terminal t) = eq-eqb t t refl
 pub symbol_to : (symbol : GrammarSymbol) (further : Option GrammarSymbol) → further ≡ Some symbol → is_symbol symbol further ≡ true
 symbol_to symbol further is = ap (is_symbol symbol) is ∙ symbol_itself symbol
 
--- what was read in a place of a production, whose symbols are those of a list
+-- the symbol that was read at a place of a production, whose symbols are those of a list
 pub after_read : {X : Type 0} (f : X → GrammarSymbol) (xs : List X) (all : List GrammarSymbol) (k : ℕ) (found : Option (Bor X)) → map f xs ≡ all
     → IfSome found (λ x. x.now ≡ get_or xs k x.now) → MatchOption found (length xs ≤ k) (λ x. (k < length xs) × HoldsAt (λ y. x.now ≡ y) xs k)
     → option_map f (option_copied found) ≡ slice_get all k
@@ -42,14 +42,14 @@ module _ (g : Grammar) (symbol : GrammarSymbol) where
   abbrev before : CoreSet → Bool
   before core = is_symbol symbol (symbol_after g core)
 
-  -- a core more that stands before the symbol, and one that doesn't
+  -- one more core with the symbol after its dot, and one without
   pub next_one : (core : CoreSet) (cores : List CoreSet) → before core ≡ true → next_kernel g symbol (core ∷ cores) ≡ advanced core ∷ next_kernel g symbol cores
   next_one core cores here = ap (λ b. map advanced (cond b (core ∷ filter before cores) (filter before cores))) here
 
   pub next_none : (core : CoreSet) (cores : List CoreSet) → before core ≡ false → next_kernel g symbol (core ∷ cores) ≡ next_kernel g symbol cores
   next_none core cores apart = ap (λ b. map advanced (cond b (core ∷ filter before cores) (filter before cores))) apart
 
-  -- the items of a core that stands before the symbol, advanced, and back
+  -- the items of an advanced core are the advanced items of the core, if it has the symbol after its dot
   advanced_to : (core : CoreSet) (y : ItemOf) → before core ≡ true → IsOfCore (advanced core) y → IsAdvanced g (IsOfCore core) symbol y
   advanced_to core y here of =
       let x : ItemOf = record { prod = core.prod; dot = core.dot; token = y.token } in (
@@ -69,7 +69,7 @@ module _ (g : Grammar) (symbol : GrammarSymbol) where
       let back : IsOfCore (advanced core) (item_at x.prod (x.dot + 1) x.token) = (of.0, ap (λ k. k + 1) of.1, of.2) in
       (symbol_to symbol (symbol_after g core) further, subst (IsOfCore (advanced core)) (sym is) back)
 
-  -- what is advanced of a core and others is of that core, or of the others
+  -- the advanced items of a core and others are those of the core and those of the others
   advanced_cases : (core : CoreSet) (cores : List CoreSet) (y : ItemOf) → IsAdvanced g (IsAmong (core ∷ cores)) symbol y
       → IsAdvanced g (IsOfCore core) symbol y ⊎ IsAdvanced g (IsAmong cores) symbol y
   advanced_cases core cores y h =
@@ -78,7 +78,7 @@ module _ (g : Grammar) (symbol : GrammarSymbol) where
         | inr other ↦ inr (h.0, other, h.2, h.3)
       ]
 
-  -- the kernel's items are the cores' before the symbol, each advanced
+  -- the kernel's items are the cores' items with the symbol after the dot, each advanced
   pub next_to : (cores : List CoreSet) (y : ItemOf) → IsAmong (next_kernel g symbol cores) y → IsAdvanced g (IsAmong cores) symbol y
   next_to [] y h = absurd (among_nil y h)
   next_to (core ∷ cores) y h =
@@ -114,7 +114,7 @@ module _ (g : Grammar) (symbol : GrammarSymbol) where
   pub next_is : (cores : List CoreSet) (y : ItemOf) → IsAmong (next_kernel g symbol cores) y ↔ IsAdvanced g (IsAmong cores) symbol y
   next_is cores y = (next_to cores y, next_from cores y)
 
-  -- it stands in its order
+  -- it is in order
   later_advanced : (a b : CoreSet) → ComesBefore g a b → ComesBefore g (advanced a) (advanced b)
   later_advanced a b h =
       elim h [
@@ -152,18 +152,18 @@ module _ (g : Grammar) (symbol : GrammarSymbol) where
         filled = All-map IsFilled advanced passed (λ k d low. All-filter before IsFilled cores are.filled k d low);
       }
 
-  -- no dot of it is at the front
+  -- no dot of it is at the start
   pub next_begun : (cores : List CoreSet) → All (IsBegun g) (next_kernel g symbol cores)
   next_begun cores = All-map (IsBegun g) advanced (filter before cores) (λ k d low. inl (omega arith))
 
-  -- it has cores exactly where an item stands before the symbol
+  -- if an item has the symbol after its dot, the kernel has cores
   pub next_some : (cores : List CoreSet) → HaveAfterDot g cores symbol → 0 < length (next_kernel g symbol cores)
   next_some cores h =
       let x = h.0 in
       let there = (next_from cores (item_at x.prod (x.dot + 1) x.token) (x, h.1, h.2, refl)).1 in
       let low = there.1 in omega (arith, low)
 
--- a core more of a list
+-- one more core of a list
 pub next_more : {X : Type 0} (g : Grammar) (symbol : GrammarSymbol) (core_of : X → CoreSet) (xs : List X) (i : ℕ) (x : X) → i < length xs → x ≡ get_or xs i x
     → next_kernel g symbol (map core_of (take (i + 1) xs))
     ≡ next_kernel g symbol (map core_of (take i xs)) ++ next_kernel g symbol (core_of x ∷ [])
@@ -182,9 +182,9 @@ some_item (core ∷ cores) filled some =
     let x : ItemOf = record { prod = core.prod; dot = core.dot; token = first.0 } in
     (x, (among_cons core cores x).1 (inl (refl, refl, first.1)))
 
-pub next_stands : (g : Grammar) (symbol : GrammarSymbol) (cores : List CoreSet) → AreCores g cores → 0 < length (next_kernel g symbol cores)
+pub next_has_after_dot : (g : Grammar) (symbol : GrammarSymbol) (cores : List CoreSet) → AreCores g cores → 0 < length (next_kernel g symbol cores)
     → HaveAfterDot g cores symbol
-next_stands g symbol cores are some =
+next_has_after_dot g symbol cores are some =
     let item = some_item (next_kernel g symbol cores) (next_cores g symbol cores are).filled some in
     let from = next_to g symbol cores item.0 item.1 in
     (from.0, from.1, from.2)

@@ -1,4 +1,4 @@
--- Kernels that are numbered, one after the other.
+-- Kernels that get numbers, one after the other.
 use Rattle.std.proofs.Common.{◌≡◌, ◌≢◌, ◌<◌, ◌≤◌, ◌+◌, ◌==◌, ◌∙◌, refl, sym, ap, subst, inl, inr, arith, ℕ, true, false, List, [], ◌∷◌, ◌++◌, Option, Some, None, length, map}
 use Rattle.std.proofs.lemmas.Bool.{cases_lt, eq-eqb, eqb-true, false≢true}
 use Rattle.std.proofs.lemmas.List.{get_or_append_left, get_or_push, length-map, length_push}
@@ -19,10 +19,10 @@ use Rattle.lrpar_table_items.specs.States.{AreExpanded, AreSteps, IsExpanded, St
 use Rattle.lrpar_table_items.specs.declared.fault.BuildFault.{BuildFault}
 use Rattle.lrpar_table_items.specs.declared.fault.BuildFault.TheVariants.{AcceptReduceConflict, Memory, StorageTooSmall, TooManyStates}
 use Rattle.lrpar_table_items.proofs.CoreLemmas.{among_cons, among_nil}
-use Rattle.lrpar_table_items.proofs.NextLemmas.{next_is, next_kernel_is, next_some, next_stands}
+use Rattle.lrpar_table_items.proofs.NextLemmas.{next_has_after_dot, next_is, next_kernel_is, next_some}
 use Rattle.lrpar_table_items.proofs.StatesLemmas.{advanced_same, closure_same, reaches_more, same_via}
 
--- a list that is tested for being empty
+-- a test whether a list is empty
 pub none_tested : {X Y : Type 0} (f : X → Y) (xs : List X) (len : ℕ) → length xs ≡ len → (len == 0) ≡ true → length (map f xs) ≡ 0
 none_tested f xs len is tested =
     let count = length-map xs f in
@@ -36,7 +36,7 @@ some_tested f xs len is tested =
       | inr none ↦ let zero_len : len ≡ 0 = omega (arith, none) in absurd (false≢true (sym tested ∙ eq-eqb len 0 zero_len))
     ]
 
--- the kernels are kept where one comes behind them
+-- the kernels are kept as they are, and when one is appended
 pub kept_itself : (kernels : List (List CoreSet)) → AreKept kernels kernels
 kept_itself kernels = record { len = omega arith; same = λ s low. refl }
 
@@ -55,7 +55,7 @@ kept_twice first second third early late =
     }
 
 module _ (g : Grammar) where
-  -- and still each is there once, and reached
+  -- each is still there once, and reached
   pub kernels_push : (kernels : List (List CoreSet)) (kernel : List CoreSet) (path : List GrammarSymbol) → AreKernels g kernels → IsKernel g kernel
       → IsReachedKernel g kernel path → ((s : ℕ) → s < length kernels → kernel_at kernels s ≢ kernel) → AreKernels g (kernels ++ kernel ∷ [])
   kernels_push kernels kernel path are is reached fresh =
@@ -104,7 +104,7 @@ module _ (g : Grammar) where
             ];
       }
 
-  -- cores go where they went
+  -- the transitions of cores stay
   pub goes_kept : (before after : List (List CoreSet)) (cores : List CoreSet) (symbol : GrammarSymbol) (next : Option ℕ) → AreKept before after
       → GoesTo g before cores symbol next → GoesTo g after cores symbol next
   goes_kept before after cores symbol None kept goes = goes
@@ -132,12 +132,12 @@ module _ (g : Grammar) where
     shifts = steps_kept before after state.cores _ state.shifts kept is.shifts;
   }
 
--- no core's next kernel is reached where none stands before the symbol
+-- if the next kernel is empty, the cores have no transition by the symbol
 pub goes_nowhere : (g : Grammar) (kernels : List (List CoreSet)) (cores : List CoreSet) (symbol : GrammarSymbol) → length (next_kernel g symbol cores) ≡ 0
     → GoesTo g kernels cores symbol None
-goes_nowhere g kernels cores symbol none stands = let some = next_some g symbol cores stands in omega (arith, some, none)
+goes_nowhere g kernels cores symbol none after_dot = let some = next_some g symbol cores after_dot in omega (arith, some, none)
 
--- a kernel that is reached gets a number
+-- a kernel of a set that gotos reach gets a number
 module _ (g : Grammar) (well : IsWellFormed g) (max limit : ℕ) (kernels : List (List CoreSet)) (numbered : AreNumbered g max limit kernels)
     (kernel : List CoreSet) (is : IsKernel g kernel) (path : List GrammarSymbol) (reached : IsReachedKernel g kernel path) where
   pushed : IsFresh kernels kernel → AreKernels g (kernels ++ kernel ∷ [])
@@ -174,7 +174,7 @@ number_kept max limit kernels kernel n after number =
       | inr new ↦ subst (AreKept kernels) (sym new.is) (kept_push kernels kernel)
     ]
 
--- the next kernel of cores that are reached does
+-- so does the next kernel of cores that are reached
 module _ (g : Grammar) (well : IsWellFormed g) (max limit : ℕ) (kernels : List (List CoreSet)) (numbered : AreNumbered g max limit kernels)
     (cores : List CoreSet) (are : AreCores g cores) (path : List GrammarSymbol) (reached : AreSame (IsAmong cores) (IsReachedBy g path))
     (symbol : GrammarSymbol) (kernel : List CoreSet) (next : kernel ≡ next_kernel g symbol cores) (some : 0 < length kernel) where
@@ -202,12 +202,12 @@ module _ (g : Grammar) (well : IsWellFormed g) (max limit : ℕ) (kernels : List
 
     step_goes : GoesTo g after cores symbol (Some n)
     step_goes = (
-      next_stands g symbol cores are some_next,
+      next_has_after_dot g symbol cores are some_next,
       number.found.within,
       subst (λ k. AreSame (IsAmong k) (IsAdvanced g (IsAmong cores) symbol)) (sym (number.found.is ∙ next)) (next_is g symbol cores),
     )
 
--- cores take a step: the kernels are numbered and kept, and the cores go there
+-- one transition of cores: the kernels are numbered and kept, and the transition leads to one of them
 pub record IsStepDone (g : Grammar) (max limit : ℕ) (before : List (List CoreSet)) (cores : List CoreSet) (symbol : GrammarSymbol) (to : Option ℕ)
     (after : List (List CoreSet)) : Type 0 where
   pub numbered : AreNumbered g max limit after
@@ -298,11 +298,11 @@ start_items g core prod dot is x = (
       subst (IsAmong (core ∷ [])) (sym h) start,
 )
 
--- whose closure is reached by no symbol
+-- its closure is reached by the empty path
 pub start_reached : (g : Grammar) (kernel : List CoreSet) → AreSame (IsAmong kernel) (IsStartItem g) → IsReachedKernel g kernel []
 start_reached g kernel same = closure_same g (IsAmong kernel) (IsStartItem g) same
 
--- cores with the closure of a kernel that is reached are reached
+-- if gotos reach the closure of a kernel, they reach cores with that closure
 pub cores_reached : (g : Grammar) (kernel cores others : List CoreSet) (path : List GrammarSymbol) → others ≡ cores
     → AreSame (IsAmong cores) (IsInClosure g (IsAmong kernel)) → IsReachedKernel g kernel path → AreSame (IsAmong others) (IsReachedBy g path)
 cores_reached g kernel cores others path is same reached =
@@ -318,7 +318,7 @@ starts_kept g before after kept starts =
       is = subst (λ k. AreSame (IsAmong k) (IsStartItem g)) (sym (kept.same 0 some)) starts.is;
     }
 
--- the state of one kernel more
+-- the state of one more kernel
 pub expanded_more : (g : Grammar) (before after : List (List CoreSet)) (states : List StateOf) (state : StateOf) → AreKept before after
     → length states < length before → AreExpanded g before states → IsExpanded g after (kernel_at before (length states)) state
     → AreExpanded g after (states ++ state ∷ [])

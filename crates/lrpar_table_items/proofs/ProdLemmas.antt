@@ -54,7 +54,7 @@ listed_of_rule r n (y ∷ ys) p has_one =
     ]
 
 module _ (g : Grammar) where
-  -- each production of a rule is one of those that are listed of it, and no other one is
+  -- the productions that are listed for a rule are those of the rule, and no others
   pub in_prods : (r p : ℕ) → p < prods_len g → rule_of g p ≡ r → Contains (prods_of g r) p
   in_prods r p low is =
       elim (slice_get_cases g.prods p).1 as (λ _. Contains (prods_of g r) p) [
@@ -72,7 +72,7 @@ module _ (g : Grammar) where
       let at : slice_get g.prods p ≡ Some found.1 = subst (λ (n : ℕ). slice_get g.prods n ≡ Some found.1) (sym same) found.3 in
       (slice_get_within g.prods p found.1 at, ap (λ o. option_map_or (λ (x : Production). x.rule) o 0) at ∙ found.4)
 
--- so is one that is lent with the rule's
+-- so is one that was read from this list
 pub listed_at : {S : Type 0} (index : S → ℕ) (g : Grammar) (r : ℕ) (prods : List (PIdx S)) (i : ℕ) (pidx : PIdx S) → prod_numbers index prods ≡ prods_of g r
     → i < length prods → pidx ≡ get_or prods i pidx → (index pidx.0 < prods_len g) × (rule_of g (index pidx.0) ≡ r)
 listed_at index g r prods i pidx are low is =

@@ -1,4 +1,4 @@
--- The closure's cores in their order: the kernel's, and then the productions of each rule that comes with them.
+-- The closure's cores in order: the kernel's, and then the productions of each rule that the closure adds.
 use Rattle.std.proofs.Common.{◌≡◌, ◌<◌, ◌≤◌, ◌+◌, ◌↔◌, ◌⊎◌, ◌∙◌, refl, sym, ap, subst, inl, inr, arith, ℕ, Bool, cond, List, [], ◌∷◌, ◌++◌, All, IsTrue, get_or, length, map}
 use Rattle.std.proofs.lemmas.Bool.{cases_eq, cases_lt, eq-eqb, ne_eqb}
 use Rattle.std.proofs.lemmas.List.{append_assoc, map-append}
@@ -15,7 +15,7 @@ use Rattle.lrpar_table_items.proofs.AmongLemmas.{among_append}
 use Rattle.lrpar_table_items.proofs.ProdLemmas.{in_prods, of_prods, rule_below}
 use Rattle.lrpar_table_items.proofs.AddedLemmas.{rule_after_listed}
 
--- each number comes before all behind it
+-- each number is less than all numbers after it
 abbrev AreRising : List ℕ → Type 0
 AreRising [] = Unit {0}
 AreRising (p ∷ ps) = All (λ q. p < q) ps × AreRising ps
@@ -45,11 +45,11 @@ rising r n (y ∷ ys) =
           subst (λ (b : Bool). AreRising (cond b (n ∷ prods_from r (n + 1) ys) (prods_from r (n + 1) ys))) (sym (ne_eqb y.rule r other)) (rising r (n + 1) ys)
     ]
 
--- the production with its dot at the front
+-- the production's core with its dot at the start
 abbrev pub front_core : List Bool → ℕ → CoreSet
 front_core tokens p = record { prod = p; dot = 0; tokens = tokens }
 
--- cores behind which productions were put, and then one more
+-- cores to which productions were appended, and then one more
 pub put_more : (first before after : List CoreSet) (tokens : List Bool) (ps more : List ℕ) (p : ℕ) → more ≡ ps ++ p ∷ []
     → before ≡ first ++ map (front_core tokens) ps → after ≡ before ++ front_core tokens p ∷ [] → after ≡ first ++ map (front_core tokens) more
 put_more first before after tokens ps more p is so_far put =
@@ -57,7 +57,7 @@ put_more first before after tokens ps more p is so_far put =
     ∙ ap (λ cs. first ++ cs) (sym (map-append (front_core tokens) ps (p ∷ []))) ∙ ap (λ qs. first ++ map (front_core tokens) qs) (sym is)
 
 module _ (g : Grammar) where
-  -- cores in their order, and others that they come before
+  -- cores in order, and others after them
   order_append : (cores more : List CoreSet) → AreCoresInOrder g cores → AreCoresInOrder g more → All (λ c. All (ComesBefore g c) more) cores
       → AreCoresInOrder g (cores ++ more)
   order_append [] more order other before = other
@@ -94,7 +94,7 @@ module _ (g : Grammar) where
           | inr low ↦ inr (omega (arith, low))
         ]
 
-    -- all productions of a rule, with lookaheads, behind cores that come before them
+    -- all productions of a rule, with lookaheads, appended to cores that come before them
     pub front_cores : (cores : List CoreSet) → AreCores g cores → All (IsAhead g r) cores → length tokens ≡ dummy_lookahead g + 1 → (t : ℕ) → IsTrue (has tokens t)
         → AreCores g (cores ++ map (front_core tokens) (prods_of g r)) × All (IsAhead g (r + 1)) (cores ++ map (front_core tokens) (prods_of g r))
     front_cores cores are ahead wide t some =
@@ -161,7 +161,7 @@ module _ (g : Grammar) where
   pub all_ahead : (r : ℕ) (cores : List CoreSet) → All (IsAhead g r) cores → All (IsAhead g (r + 1)) cores
   all_ahead r cores ahead = All-weaker (IsAhead g r) (IsAhead g (r + 1)) (ahead_more r []) cores ahead
 
-  -- a kernel's come before the first listed rule's
+  -- a kernel's cores come before those of the first listed rule
   pub begun_ahead : IsWellFormed g → (cores : List CoreSet) → All (IsBegun g) cores → All (IsAhead g 1) cores
   begun_ahead well cores begun =
       All-weaker (IsBegun g) (IsAhead g 1)
@@ -170,7 +170,7 @@ module _ (g : Grammar) where
         | inr start ↦ let rule = ap (rule_of g) start ∙ well.last_rule in inr (omega (arith, rule))
       ]) cores begun
 
-  -- no item is of the added rule, where that has no lookaheads
+  -- if the start rule `^` has no lookaheads, no item is added for it
   pub none_of_added : (rows : List (List Bool)) (cores : List CoreSet) (x : ItemOf) → ((t : ℕ) → HasIn rows 0 t → ⊥)
       → IsAmong cores x ↔ (IsAmong cores x ⊎ (IsOfRows g rows x × (rule_of g x.prod < 1)))
   none_of_added rows cores x none = (
@@ -184,7 +184,7 @@ module _ (g : Grammar) where
     ],
   )
 
-  -- those of the first n rules are all
+  -- if the grammar has at most n rules, the items of the first n rules are all
   pub all_of_rows : IsWellFormed g → (rows : List (List Bool)) (first after : ItemOf → Type 0) (n : ℕ) (x : ItemOf) → rules_len g ≤ n
       → (after x ↔ (first x ⊎ (IsOfRows g rows x × (rule_of g x.prod < n)))) → after x ↔ (first x ⊎ IsOfRows g rows x)
   all_of_rows well rows first after n x all so_far = (
@@ -198,7 +198,7 @@ module _ (g : Grammar) where
     ],
   )
 
-  -- the added rule comes with none
+  -- the closure never adds the start rule `^`
   pub added_not_brought : IsWellFormed g → (cores : List CoreSet) (r t : ℕ) → IsBrought g (AreBringing g cores) r t → 0 < r
   added_not_brought well cores r t (Given r' t' h) = rule_after_listed g well h.0.prod h.0.dot r' h.2.0 h.2.1
   added_not_brought well cores r t (Brought p r' s t' w low symbols of first) = rule_after_listed g well p 0 r' w symbols

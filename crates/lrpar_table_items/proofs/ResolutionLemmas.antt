@@ -13,7 +13,7 @@ use Rattle.lrpar_grammar.specs.Tokens.{has}
 use Rattle.lrpar_table_items.specs.Resolution.{AreOnce, AscendFrom, is_complete, is_complete_at, reductions}
 use Rattle.lrpar_table_items.specs.CompleteItems.{prods_at}
 
--- counts of one element more
+-- counts with one more element
 count_yes : {X : Type 0} (q : X → Bool) (x : X) (xs : List X) → q x ≡ true → count_by q (x ∷ xs) ≡ 1 + count_by q xs
 count_yes q x xs h = sum_by-cons (λ y. cond (q y) 1 0) x xs ∙ ap (λ b. cond b 1 0 + count_by q xs) h
 
@@ -27,7 +27,7 @@ count_up q x xs =
       | inr failed ↦ let e = count_no q x xs failed in omega (arith, e)
     ]
 
--- what is filtered counts for no more
+-- a filtered list has no greater count
 count_filter : {X : Type 0} (q r q' : X → Bool) → ((x : X) → r x ≡ true → q x ≡ true → q' x ≡ true) → (xs : List X) → count_by q (filter r xs) ≤ count_by q' xs
 count_filter q r q' implies [] = omega arith
 count_filter q r q' implies (x ∷ xs) =
@@ -47,13 +47,13 @@ count_filter q r q' implies (x ∷ xs) =
           ]
     ]
 
--- numbers that ascend from one on ascend from a lower one on
+-- numbers that ascend from a number on ascend from a lower number on
 pub ascend_lower : (a b : ℕ) (ks : List ℕ) → a ≤ b → AscendFrom b ks → AscendFrom a ks
 ascend_lower a b [] low up = tt
 ascend_lower a b (k ∷ ks) low up = (omega (arith, low, up.0), up.1)
 
 module _ {X : Type 0} (n : X → ℕ) where
-  -- what is at least a number, and isn't it, is greater
+  -- numbers that are at least m, and none of them m, are greater
   above : (m : ℕ) (xs : List X) → All (λ y. m ≤ n y) xs → count_by (λ y. n y == m) xs ≡ 0 → All (λ y. m + 1 ≤ n y) xs
   above m [] low none = All-nil (λ y. m + 1 ≤ n y)
   above m (y ∷ ys) low none =
@@ -91,7 +91,7 @@ module _ {X : Type 0} (n : X → ℕ) where
             (ascend_lower a (n x + 1) (map n (filter p xs)) (omega (arith, up.0)) (ascend_filter p (n x + 1) xs up.1))
       ]
 
--- an image is sorted as what it is of
+-- an image of sorted elements is sorted
 pub sorted_image : {X Y : Type 0} (h : X → Y) (n : Y → ℕ) (xs : List X) → IsNonDecreasingBy (λ x. n (h x)) xs → IsNonDecreasingBy n (map h xs)
 sorted_image h n [] sorted i j d up below = absurd (omega (arith, below))
 sorted_image h n (x ∷ xs) sorted i j d up below =
@@ -110,7 +110,7 @@ among_past b p (k ∷ ks) past up =
     let other : k ≢ p = omega (arith, past, up.0) in
     ap (λ x. x || list_any (λ k. k == p) ks) (ne_eqb k p other) ∙ among_past (k + 1) p ks (omega (arith, past, up.0)) up.1
 
--- numbers that ascend are those of a range that are among them
+-- a range, filtered by whether a number is among ascending ones, gives these numbers
 pub filter_among : (test : ℕ → Bool) (n a : ℕ) (ks : List ℕ) → AscendFrom a ks → All (λ k. k < a + n) ks
     → ((p : ℕ) → a ≤ p → p < a + n → test p ≡ list_any (λ k. k == p) ks) → filter test (range_with_len a n) ≡ ks
 filter_among test zero a [] up low is = refl
@@ -149,7 +149,7 @@ and_true : (b : Bool) → (b && true) ≡ b
 and_true true = refl
 and_true false = refl
 
--- a production other than the start production is among those at a token where a core of it has the token
+-- a production other than the start production is among those at a token exactly if a core of it has the token
 among_prods : (start t p : ℕ) (ys : List CoreSet) → p ≢ start
     → list_any (λ k. k == p) (prods_at start ys t) ≡ list_any (λ core. (core.prod == p) && has core.tokens t) ys
 among_prods start t p [] other = refl
@@ -173,7 +173,7 @@ among_prods start t p (c ∷ ys) other =
           ]
     ]
 
--- a test of what is filtered
+-- a test of a filtered list
 any_filter : {X : Type 0} (q r q' : X → Bool) → ((x : X) → (r x && q x) ≡ q' x) → (xs : List X) → list_any q (filter r xs) ≡ list_any q' xs
 any_filter q r q' same [] = refl
 any_filter q r q' same (x ∷ xs) =
@@ -201,7 +201,7 @@ complete_test g t p core =
           ∙ sym (ap (λ b. (b && (core.dot == prod_len g p)) && has core.tokens t) (ne_eqb core.prod p other))
     ]
 
--- a core that ends, of the production
+-- a complete core of the production
 complete_both : (g : Grammar) (p : ℕ) (core : CoreSet) → (core.dot == prod_len g core.prod) ≡ true → (core.prod == p) ≡ true
     → ((core.prod == p) && (core.dot == prod_len g p)) ≡ true
 complete_both g p core ends here =
@@ -224,7 +224,7 @@ prods_below start t (c ∷ ys) known =
 
 module _ (g : Grammar) (cores complete : List CoreSet)
     (moved : IsPermutation (filter (λ core. core.dot == prod_len g core.prod) cores) complete) where
-  -- one of the complete cores is of the production and has the token where there is a complete item
+  -- one of the complete cores is of the production and has the token exactly if there is a complete item
   pub complete_is : (t p : ℕ) → list_any (λ core. (core.prod == p) && has core.tokens t) complete ≡ is_complete_at g cores t p
   complete_is t p =
       let test : CoreSet → Bool = λ core. (core.prod == p) && has core.tokens t in

@@ -1,4 +1,4 @@
--- One production brings the rule that it begins with: what was worked out is put into the set of that rule.
+-- One production brings the rule that it begins with: the lookaheads are added to the set of that rule.
 use Rattle.std.proofs.Common.{◌≡◌, ◌<◌, ◌+◌, ◌||◌, ◌&&◌, ◌↔◌, ◌⊎◌, ◌∙◌, sym, ap, subst, inl, inr, arith, ℕ, Bool, false, List, [], ◌∷◌, ◌++◌, All, length, set, get_or, drop, nat_lt, IsTrue}
 use Rattle.std.proofs.lemmas.Bool.{OnFalse_at, OnTrue_at, cases_Bool, cases_eq, cases_lt, false≢true}
 use Rattle.std.proofs.lemmas.List.{get_or-set_other, get_or-set_same, set-get_or}
@@ -15,7 +15,7 @@ use Rattle.lrpar_table_items.proofs.ProdLemmas.{in_prods}
 use Rattle.lrpar_table_items.proofs.BroughtLemmas.{brought_twice, closed_brought}
 use Rattle.lrpar_table_first.proofs.GrowthLemmas.{has_room, missing_set, room_set, row_in, rows-set, sets_len}
 
--- what was given comes
+-- what was given is in the closure
 pub brought_itself : (g : Grammar) (rows : List (List Bool)) → AreBroughtFrom g rows rows
 brought_itself g rows r t h = Given r t h
 
@@ -24,7 +24,7 @@ first_rule [] = 0
 first_rule (Terminal t ∷ w) = 0
 first_rule (Nonterminal r ∷ w) = r
 
--- lists that begin with rules are alike in both parts
+-- if two lists that begin with rules are the same, so are the rules and the rests
 pub same_rule : (r s : ℕ) (v w : List GrammarSymbol) → Nonterminal r ∷ v ≡ Nonterminal s ∷ w → r ≡ s
 unfolding first_rule
 same_rule r s v w e = ap first_rule e
@@ -32,7 +32,7 @@ same_rule r s v w e = ap first_rule e
 pub same_rest : (r s : ℕ) (v w : List GrammarSymbol) → Nonterminal r ∷ v ≡ Nonterminal s ∷ w → v ≡ w
 same_rest r s v w e = ap (drop 1) e
 
--- what holds where a production has put what it brings to the set of the rule that it begins with
+-- what holds after the lookaheads that a production brings were added to the set of the rule that it begins with
 pub record IsSpreadTo (g : Grammar) (sets : List TokenSet) (p target : ℕ) (old new : TokenSet) : Type 0 where
   pub room : HaveRoom g (rows_of (set sets target new))
   pub kept : Keeps (rows_of sets) (rows_of (set sets target new))
@@ -129,7 +129,7 @@ module _ (g : Grammar) (sets : List TokenSet) (p rule target dummy : ℕ) (w : L
   pub spread_to : IsSpreadTo g sets p target d' new
   spread_to = record { room = spread_room; kept = spread_keeps; sound = spread_sound; grown = spread_less; same = spread_same; closed = spread_closed }
 
--- where the production's rule has no lookaheads, it brings nothing
+-- if the production's rule has no lookaheads, the production brings nothing
 spread_nothing : (g : Grammar) (sets : List TokenSet) (p rule : ℕ) (d : TokenSet) → rule ≡ rule_of g p → rule_of g p < rules_len g → HaveRoom g (rows_of sets)
     → ((t : ℕ) → IsTrue (has (get_or sets rule d).bits.items t) → ⊥) → IsSpreadAt g (rows_of sets) p
 spread_nothing g sets p rule d is low room none r s t w begins has_s first =
@@ -137,7 +137,7 @@ spread_nothing g sets p rule d is low room none r s t w begins has_s first =
     let row = row_in sets rule d (omega (arith, count, is, low)) ∙ ap (row_at (rows_of sets)) is in
     absurd (none s (subst (λ b. IsTrue (has b s)) (sym row) has_s))
 
--- one spread after another
+-- one step of the closure after another
 pub brought_on : (g : Grammar) (one two three : List (List Bool)) → AreBroughtFrom g one two → AreBroughtFrom g two three → AreBroughtFrom g one three
 brought_on g one two three before after r t h = brought_twice g (HasIn one) (HasIn two) before r t (after r t h)
 
@@ -147,12 +147,12 @@ keeps_on one two three before after r t h = after r t (before r t h)
 pub keeps_itself : (rows : List (List Bool)) → Keeps rows rows
 keeps_itself rows r t h = h
 
--- sets that keep what they had, and have what each production brings, have just what comes with what they had
+-- if the sets kept what they had, have nothing but its closure, and are closed at each production, they are exactly that closure
 pub exact_spread : (g : Grammar) (before after : List (List Bool)) → Keeps before after → AreBroughtFrom g before after
     → ((p : ℕ) → p < prods_len g → IsSpreadAt g after p) → (r t : ℕ) → HasIn after r t ↔ IsBrought g (HasIn before) r t
 exact_spread g before after kept sound closed r t = (λ h. sound r t h, λ h. closed_brought g (HasIn before) after kept closed r t h)
 
--- a pass, by one production more: something was new by now, or nothing yet
+-- a pass, with one more production: something was new, or nothing so far
 pub step_grown : (first before after : List (List Bool)) (grown : Bool) → OnTrue grown (total_missing before < total_missing first)
     → OnFalse grown (before ≡ first) → total_missing after < total_missing before → total_missing after < total_missing first
 step_grown first before after grown less same fewer =
@@ -161,7 +161,7 @@ step_grown first before after grown less same fewer =
       | inr fell ↦ let same' = OnFalse_at fell same in subst (λ rows. total_missing after < total_missing rows) same' fewer
     ]
 
--- what the productions of one rule more bring
+-- the sets are closed at the productions of one more rule
 pub step_closed : (g : Grammar) (before after : List (List Bool)) (n : ℕ) → after ≡ before
     → ((p : ℕ) → p < prods_len g → rule_of g p < n → IsSpreadAt g before p) → IsSpreadOf g after n
     → (p : ℕ) → p < prods_len g → rule_of g p < n + 1 → IsSpreadAt g after p
@@ -171,14 +171,14 @@ step_closed g before after n same closed last p known low =
       | inr late ↦ last p known (omega (arith, low, late))
     ]
 
--- what one production more brings
+-- the sets are closed at one more production
 pub step_listed : (g : Grammar) (before after : List (List Bool)) (prods more : List ℕ) (p : ℕ) → after ≡ before → more ≡ prods ++ p ∷ []
     → All (IsSpreadAt g before) prods → IsSpreadAt g after p → All (IsSpreadAt g after) more
 step_listed g before after prods more p same is so_far last =
     subst (All (IsSpreadAt g after)) (sym is)
     (All-push (IsSpreadAt g after) prods p (subst (λ rows. All (IsSpreadAt g rows) prods) (sym same) so_far) last)
 
--- what all productions of a rule bring, the rule brings
+-- sets that are closed at all listed productions of a rule are closed at the rule
 pub spread_of : (g : Grammar) (rows : List (List Bool)) (n : ℕ) → All (IsSpreadAt g rows) (prods_of g n) → IsSpreadOf g rows n
 spread_of g rows n all p known is = All-contains (IsSpreadAt g rows) (prods_of g n) p all (in_prods g n p known is)
 

@@ -1,4 +1,4 @@
--- What one token adds to a state's row and to its conflicts, as the complete cores of the state tell it.
+-- What one token adds to a state's row and to its conflicts, computed from the complete cores of the state.
 use Rattle.std.proofs.Common.{◌≡◌, ◌<◌, ◌+◌, ◌==◌, ◌∙◌, ℕ, Bool, List, All, Option, Result, Ok, Err, IfErr, sym, ap, subst, arith, inl, inr, filter, nat_eq}
 use Rattle.std.specs.List.Sorted.{IsNonDecreasingBy, IsPermutation}
 use Rattle.std.specs.Map.{lookup}
@@ -14,25 +14,25 @@ use Rattle.lrpar_table_items.specs.declared.fault.BuildFault.{BuildFault}
 use Rattle.lrpar_table_items.specs.declared.fault.BuildFault.TheVariants.{AcceptReduceConflict, Memory, StorageTooSmall, TooManyStates}
 use Rattle.lrpar_table_items.proofs.ResolutionLemmas.{complete_is, prods_are}
 
--- the complete cores of a state, sorted, tell the reductions at a token
+-- the reductions at a token, computed from the complete cores of a state, sorted
 pub reductions_are : (g : Grammar) (cores complete : List CoreSet) (start t : ℕ) (prods : List ℕ)
     → IsPermutation (filter (λ core. core.dot == prod_len g core.prod) cores) complete → IsNonDecreasingBy (λ (core : CoreSet). core.prod) complete
     → AreOnce cores → All (λ core. core.prod < prods_len g) cores → start ≡ start_prod g → prods ≡ prods_at start complete t → prods ≡ reductions g cores t
-reductions_are g cores complete start t prods moved sorted once known is told =
+reductions_are g cores complete start t prods moved sorted once known is reported =
     let low : All (λ (core : CoreSet). core.prod < start_prod g + 1) cores =
     λ k d within. let one = known k d within in omega (arith, one) in
     let kept = All-permutation (λ (core : CoreSet). core.prod < start_prod g + 1) _ complete moved
     (All-filter (λ core. core.dot == prod_len g core.prod) (λ (core : CoreSet). core.prod < start_prod g + 1) cores low) in
-    told ∙ ap (λ n. prods_at n complete t) is ∙ prods_are g cores complete moved sorted once kept t
+    reported ∙ ap (λ n. prods_at n complete t) is ∙ prods_are g cores complete moved sorted once kept t
 
--- and whether to accept
+-- whether to accept, computed from them
 pub accepts_are : (g : Grammar) (cores complete : List CoreSet) (start t : ℕ) (accepts : Bool)
     → IsPermutation (filter (λ core. core.dot == prod_len g core.prod) cores) complete → start ≡ start_prod g → accepts ≡ accepts_at start complete t
     → accepts ≡ is_complete_at g cores t (start_prod g)
-accepts_are g cores complete start t accepts moved is told =
-    told ∙ ap (λ n. accepts_at n complete t) is ∙ complete_is g cores complete moved t (start_prod g)
+accepts_are g cores complete start t accepts moved is reported =
+    reported ∙ ap (λ n. accepts_at n complete t) is ∙ complete_is g cores complete moved t (start_prod g)
 
--- so what is pushed is what is wanted there
+-- so the action that is pushed is the one after conflict resolution
 pub entry_is : (g : Grammar) (cores : List CoreSet) (shifts : List (ℕ × ℕ)) (n t : ℕ) (goto : Option ℕ) (prods : List ℕ) (accepts : Bool)
     → n ≡ t → goto ≡ lookup (nat_eq t) shifts → prods ≡ reductions g cores t → accepts ≡ is_complete_at g cores t (start_prod g)
     → entry_at n (resolved goto prods accepts) ≡ entry_at t (resolved_at g cores shifts t)
@@ -41,7 +41,7 @@ entry_is g cores shifts n t goto prods accepts number shift reduces accept =
     ∙ ap (λ x. entry_at t (resolved (lookup (nat_eq t) shifts) x accepts)) reduces
     ∙ ap (λ x. entry_at t (resolved (lookup (nat_eq t) shifts) (reductions g cores t) x)) accept
 
--- and the conflict of the shift
+-- and the shift/reduce conflict
 pub shift_conflict_is : (g : Grammar) (cores : List CoreSet) (shifts : List (ℕ × ℕ)) (s n t : ℕ) (goto : Option ℕ) (prods : List ℕ)
     → n ≡ t → goto ≡ lookup (nat_eq t) shifts → prods ≡ reductions g cores t
     → shift_conflicts_at s n goto prods ≡ shift_conflicts_at s t (lookup (nat_eq t) shifts) (reductions g cores t)
@@ -49,7 +49,7 @@ shift_conflict_is g cores shifts s n t goto prods number shift reduces =
     ap (λ m. shift_conflicts_at s m goto prods) number ∙ ap (λ x. shift_conflicts_at s t x prods) shift
     ∙ ap (shift_conflicts_at s t (lookup (nat_eq t) shifts)) reduces
 
--- to accept beside a reduction, as the code sees it
+-- an accept/reduce conflict, as the code sees it
 pub beside_is : (g : Grammar) (cores : List CoreSet) (shifts : List (ℕ × ℕ)) (t : ℕ) (goto : Option ℕ) (prods : List ℕ) (accepts : Bool)
     → goto ≡ lookup (nat_eq t) shifts → prods ≡ reductions g cores t → accepts ≡ is_complete_at g cores t (start_prod g)
     → AcceptsBeside goto prods accepts ≡ IsAcceptReduce g cores shifts t
@@ -65,7 +65,7 @@ below_next P n so_far here k below =
       | inr late ↦ let at : n ≡ k = omega (arith, late, below) in subst P at here
     ]
 
--- a refusal at a token is one of the state
+-- a refusal at a token is a refusal of the state
 pub refused_at : (g : Grammar) (cores : List CoreSet) (shifts : List (ℕ × ℕ)) (s t : ℕ) (reason : Type 0) (fault : BuildFault)
     → t < tokens_len g → (reason → IsAcceptReduce g cores shifts t) → IsRefusal s reason fault → IsRefusal s (HasAcceptReduce g cores shifts) fault
 refused_at g cores shifts s t reason (AcceptReduceConflict n) within is refused = (refused.0, (t, within, is refused.1))
@@ -73,7 +73,7 @@ refused_at g cores shifts s t reason Memory within is refused = tt
 refused_at g cores shifts s t reason TooManyStates within is refused = refused
 refused_at g cores shifts s t reason StorageTooSmall within is refused = refused
 
--- an error that is handed on keeps its fact
+-- what holds of an error holds after it is returned by `?`
 pub error_same : {T E : Type 0} (result : Result T E) (P : E → Type 0) (e : E) → IsErrAnd result (λ f. f ≡ e) → P e → IfErr result P
 error_same (Ok x) P e is holds = tt
 error_same (Err f) P e is holds = subst P (sym is) holds

@@ -1,4 +1,4 @@
--- States that were worked out from all kernels have the canonical sets.
+-- The states that are built of all kernels are the canonical collection.
 use Rattle.std.proofs.Common.{◌≡◌, ◌<◌, ◌⊎◌, ◌∙◌, sym, ap, subst, inl, inr, arith, ℕ, List, [], ◌∷◌, All, Option, Some, None, length, nat_eq, slice_index_or}
 use Rattle.std.specs.Map.{lookup}
 use Rattle.std.proofs.lemmas.List.Elements.{All-contains}
@@ -16,7 +16,7 @@ use Rattle.lrpar_table_items.proofs.AddedLemmas.{rule_after_listed}
 use Rattle.lrpar_table_items.proofs.KernelLemmas.{once_in_order, one_kernel}
 use Rattle.lrpar_table_items.proofs.NextLemmas.{some_item}
 
--- what is the same as a third is the same
+-- two sets that are the same as a third are the same
 pub same_via : (items others more : ItemOf → Type 0) → AreSame items others → AreSame others more → AreSame items more
 same_via items others more first second x = (λ h. (second x).0 ((first x).0 h), λ h. (first x).1 ((second x).1 h))
 
@@ -24,7 +24,7 @@ pub same_back : (items others : ItemOf → Type 0) → AreSame items others → 
 same_back items others same x = ((same x).1, (same x).0)
 
 module _ (g : Grammar) where
-  -- more items have a greater closure
+  -- the closure is monotone: more items have a greater closure
   pub closure_to : (items others : ItemOf → Type 0) → ((x : ItemOf) → items x → others x) → (x : ItemOf) → IsInClosure g items x → IsInClosure g others x
   closure_to items others to x (Own y h) = Own y (to y h)
   closure_to items others to x (Added y z h adds) = Added y z (closure_to items others to y h) adds
@@ -36,13 +36,13 @@ module _ (g : Grammar) where
       → AreSame (IsAdvanced g items symbol) (IsAdvanced g others symbol)
   advanced_same items others symbol same x = (λ h. (h.0, (same h.0).0 h.1, h.2, h.3), λ h. (h.0, (same h.0).1 h.1, h.2, h.3))
 
-  -- a closure with an item is that of some item
+  -- if a closure has an item, so has the set of items that it is the closure of
   pub closure_of_some : (items : ItemOf → Type 0) (x : ItemOf) → IsInClosure g items x → (y : ItemOf) × items y
   closure_of_some items x (Own y h) = (y, h)
   closure_of_some items x (Added y z h adds) = closure_of_some items y h
 
   module _ (well : IsWellFormed g) where
-    -- an item of a closure whose dot isn't at the front, or which is the start production's, isn't added
+    -- an item of a closure whose dot isn't at the start, or which is of the start production, isn't added
     pub own_of_begun : (items : ItemOf → Type 0) (x : ItemOf) → IsInClosure g items x → (0 < x.dot) ⊎ (x.prod ≡ start_prod g) → items x
     own_of_begun items x (Own y h) begun = h
     own_of_begun items x (Added y z h adds) begun =
@@ -84,7 +84,7 @@ module _ (g : Grammar) where
           let is = are.each s low in
           let item = some_item (kernel_at kernels s) is.cores.filled is.some in (item.0, Own item.0 item.1)
 
-      -- so many sets are reached as there are kernels
+      -- gotos reach as many sets as there are kernels
       pub reaches_more : (n : ℕ) → n < length kernels → ReachesMore g n
       reaches_more n less =
           let len = are.len in
@@ -116,7 +116,7 @@ module _ (g : Grammar) where
     set_is : (s : ℕ) → s < length kernels → AreSame (sets_at states s) (closure_at s)
     set_is s low = let below : s < length states = omega (arith, low, len) in (expanded s below).items
 
-    -- where a state goes by a symbol, its items do
+    -- a state's transition by a symbol is that of its item set
     step_is : (s : ℕ) (symbol : GrammarSymbol) (next : Option ℕ) → GoesTo g kernels (state_at states s).cores symbol next
         → IsTransition g (length states) (sets_at states) s symbol next
     step_is s symbol None goes = goes
@@ -140,7 +140,7 @@ module _ (g : Grammar) where
         same_via (sets_at states 0) (closure_at 0) (IsReachedBy g []) (set_is 0 some)
         (closure_same (IsAmong (kernel_at kernels 0)) (IsStartItem g) start)
 
-    -- each set that is reached is some state's: along the path, from the start on
+    -- each set that a path reaches is some state's: along the path, from the start on
     step_reached : (path : List GrammarSymbol) (symbol : GrammarSymbol) (s : ℕ) → AreSame (sets_at states s) (IsReachedBy g path)
         → (next : Option ℕ) → IsTransition g (length states) (sets_at states) s symbol next → (x : ItemOf) → IsReachedBy g (symbol ∷ path) x
         → (t : ℕ) × (t < length states) × AreSame (sets_at states t) (IsReachedBy g (symbol ∷ path))

@@ -1,4 +1,4 @@
--- Rows of where cores go, one symbol after the other.
+-- Rows of transitions, one symbol after the other.
 use Rattle.std.proofs.Common.{◌≡◌, ◌≢◌, ◌<◌, ◌≤◌, ◌+◌, ◌∙◌, refl, sym, ap, subst, inl, inr, arith, ℕ, cond, List, [], ◌∷◌, ◌++◌, All, Some, None, nat_eq}
 use Rattle.std.specs.Map.{keys_of, lookup}
 use Rattle.std.proofs.lemmas.Bool.{cases_eq, cases_lt, eq-eqb, ne_eqb}
@@ -7,13 +7,13 @@ use Rattle.std.proofs.lemmas.List.Elements.{All-head, All-nil, All-push, All-tai
 use Rattle.lrpar_grammar.specs.Grammar.{Grammar, GrammarSymbol, IsWellFormed, rules_len, tokens_len}
 use Rattle.lrpar_table_items.specs.Cores.{CoreSet}
 use Rattle.lrpar_table_first.specs.FirstRows.{IsSymbolBelow}
-use Rattle.lrpar_table_items.proofs.SymbolLemmas.{stands_below}
+use Rattle.lrpar_table_items.proofs.SymbolLemmas.{symbol_at_below}
 use Rattle.lrpar_table_items.specs.Kernels.{AreKept, GoesTo}
 use Rattle.lrpar_table_items.specs.States.{AreSteps, AreStepsBelow}
 use Rattle.lrpar_table_items.specs.Resolution.{AscendFrom}
 use Rattle.lrpar_table_items.proofs.NumberLemmas.{goes_kept}
 
--- a number more, which is greater than all
+-- one more number, which is greater than all others
 ascend_push : (ks : List ℕ) (a n : ℕ) → AscendFrom a ks → All (λ k. k < n) ks → a ≤ n → AscendFrom a (ks ++ n ∷ [])
 ascend_push [] a n up below low = (low, tt)
 ascend_push (k ∷ ks) a n up below low =
@@ -22,7 +22,7 @@ ascend_push (k ∷ ks) a n up below low =
 keys_push : (rows : List (ℕ × ℕ)) (row : ℕ × ℕ) → keys_of (rows ++ row ∷ []) ≡ keys_of rows ++ row.0 ∷ []
 keys_push rows row = map-append (λ (r : ℕ × ℕ). r.0) rows (row ∷ [])
 
--- what is looked up among a row more
+-- a look-up in a row with one more entry
 lookup_past : (rows : List (ℕ × ℕ)) (n k : ℕ) → All (λ m. m < n) (keys_of rows) → n ≤ k → lookup (nat_eq k) rows ≡ None
 lookup_past [] n k below past = refl
 lookup_past (row ∷ rows) n k below past =
@@ -48,7 +48,7 @@ module _ (g : Grammar) (before after : List (List CoreSet)) (kept : AreKept befo
   below_more : All (λ k. k < n + 1) (keys_of rows)
   below_more = All-weaker (λ k. k < n) (λ k. k < n + 1) (λ k low. omega (arith, low)) (keys_of rows) so_far.below
 
-  -- one symbol more, by which the cores go nowhere, or to a state
+  -- one more symbol, with no transition, or one to a state
   pub step_none : GoesTo g after cores (symbol n) None → AreStepsBelow g after cores symbol rows (n + 1)
   step_none none = record {
     ascend = so_far.ascend;
@@ -86,7 +86,7 @@ module _ (g : Grammar) (before after : List (List CoreSet)) (kept : AreKept befo
       subst (λ rs. AreStepsBelow g after cores symbol rs (n + 1)) (sym is) pushed
 
 module _ (g : Grammar) (well : IsWellFormed g) where
-  -- by no symbol past the grammar's do cores go anywhere
+  -- cores have no transition by a symbol past the grammar's last one
   pub all_steps : (kernels : List (List CoreSet)) (cores : List CoreSet) (symbol : ℕ → GrammarSymbol) (rows : List (ℕ × ℕ)) (n : ℕ)
       → ((k : ℕ) → IsSymbolBelow (rules_len g) (tokens_len g) (symbol k) → k < n) → AreStepsBelow g kernels cores symbol rows n
       → AreSteps g kernels cores symbol rows
@@ -97,7 +97,7 @@ module _ (g : Grammar) (well : IsWellFormed g) where
           | inl low ↦ steps.goes k low
           | inr past ↦
               let nowhere : GoesTo g kernels cores (symbol k) None =
-              λ stands. let low = known k (stands_below g well stands.0.prod stands.0.dot (symbol k) stands.2) in omega (arith, low, past) in
+              λ after_dot. let low = known k (symbol_at_below g well after_dot.0.prod after_dot.0.dot (symbol k) after_dot.2) in omega (arith, low, past) in
               subst (GoesTo g kernels cores (symbol k)) (sym (lookup_past rows n k steps.below past)) nowhere
         ];
   }

@@ -1,4 +1,4 @@
--- The kernels to which cores go, one core after the other: it is put to the kernel of the symbol that it stands before.
+-- The kernels to which cores go, one core after the other: each is appended to the kernel of the symbol after its dot.
 use Rattle.std.proofs.Common.{Vec, ◌≡◌, ◌≢◌, ◌<◌, ◌+◌, ◌∙◌, refl, sym, ap, subst, inl, inr, arith, ℕ, zero, suc, true, false, List, [], ◌∷◌, ◌++◌, Some, drop, get_or, length, map, set, take}
 use Rattle.std.proofs.lemmas.Bool.{cases_eq, ne_eqb}
 use Rattle.std.proofs.lemmas.List.{append-nil, get_or-map, get_or-set_other, get_or-set_same, length-map, length-set, map-set}
@@ -14,7 +14,7 @@ module _ (g : Grammar) (core : CoreSet) (symbol : ℕ → GrammarSymbol) (rows :
   left : (n : ℕ) → is_symbol (symbol n) (symbol_after g core) ≡ false → kernel_at rows n ≡ kernel_at rows n ++ next_kernel g (symbol n) (core ∷ [])
   left n apart = sym (append-nil (kernel_at rows n)) ∙ ap (λ k. kernel_at rows n ++ k) (sym (next_none g (symbol n) core [] apart))
 
-  -- the core stands before one of the symbols
+  -- one of the symbols is after the core's dot
   pub put_there : (target : ℕ) (new : List CoreSet) → target < length rows → new ≡ kernel_at rows target ++ advanced core ∷ []
       → is_symbol (symbol target) (symbol_after g core) ≡ true → ((n : ℕ) → n ≢ target → is_symbol (symbol n) (symbol_after g core) ≡ false)
       → ArePutTo g core symbol rows (set rows target new)
@@ -29,7 +29,7 @@ module _ (g : Grammar) (core : CoreSet) (symbol : ℕ → GrammarSymbol) (rows :
         ];
   }
 
--- a core more of a list
+-- one more core of a list
 pub next_core : {X : Type 0} (g : Grammar) (symbol : ℕ → GrammarSymbol) (core_of : X → CoreSet) (xs : List X) (i : ℕ) (x : X) (rows more : List (List CoreSet))
     → i < length xs → x ≡ get_or xs i x → AreNext g (map core_of (take i xs)) symbol rows → ArePutTo g (core_of x) symbol rows more
     → AreNext g (map core_of (take (i + 1) xs)) symbol more
@@ -38,7 +38,7 @@ next_core g symbol core_of xs i x rows more low is so_far put n below =
     let early : n < length rows = omega (arith, len, below) in
     put.each n early ∙ ap (λ k. k ++ next_kernel g (symbol n) (core_of x ∷ [])) (so_far n early) ∙ sym (next_more g (symbol n) core_of xs i x low is)
 
--- the kernel of the symbol behind the dot is one of the rows, and has the core behind its others
+-- the kernel of the symbol after the dot is one of the rows, and has the core as its last
 module _ {S A : Type 0} (index : S → ℕ) (g : Grammar) (core : CoreSet) (rows : List (Vec (CoreItems S) A)) (target : ℕ)
     (row new : Vec (CoreItems S) A) where
   abbrev cores : Vec (CoreItems S) A → List CoreSet
@@ -65,7 +65,7 @@ module _ {S A : Type 0} (index : S → ℕ) (g : Grammar) (core : CoreSet) (rows
       put_row Terminal low is (symbol_to (Terminal target) (symbol_after g core) after)
       (λ n other. ap (is_symbol (Terminal n)) after ∙ ne_eqb n target other)
 
--- rows that were lent and written back, with a core more put to them
+-- rows that were lent and written back, with one more core appended
 module _ {S A : Type 0} (index : S → ℕ) (rows lent new : List (Vec (CoreItems S) A)) (len : ℕ) (held : length rows ≡ len) (value : lent ≡ rows)
     (same : length new ≡ length lent) where
   back : take len (new ++ drop (length new) rows) ≡ new
@@ -86,7 +86,7 @@ module _ {S A : Type 0} (index : S → ℕ) (rows lent new : List (Vec (CoreItem
       (next_core g symbol (core_set index) cores i core (kernel_rows index rows) (kernel_rows index new) low is so_far
       (subst (λ kernels. ArePutTo g (core_set index core) symbol (kernel_rows index kernels) (kernel_rows index new)) value put))
 
--- a kernel more without cores
+-- one more kernel without cores
 pub none_more : {S A : Type 0} (index : S → ℕ) (kernels more : List (Vec (CoreItems S) A)) (last : Vec (CoreItems S) A) → more ≡ kernels ++ last ∷ []
     → last.items ≡ [] → ((n : ℕ) → kernel_at (kernel_rows index kernels) n ≡ []) → (n : ℕ) → kernel_at (kernel_rows index more) n ≡ []
 none_more index [] more last is empty none zero = ap (λ kernels. kernel_at (kernel_rows index kernels) 0) is ∙ ap (map (core_set index)) empty
@@ -96,7 +96,7 @@ none_more index (first ∷ kernels) more last is empty none (suc n) =
     ap (λ rows. kernel_at (kernel_rows index rows) (suc n)) is
     ∙ none_more index kernels (kernels ++ last ∷ []) last refl empty (λ m. none (suc m)) n
 
--- the kernel that stands at a symbol's number is that to which the cores go by it
+-- the kernel at a symbol's number is that of the goto of the cores by the symbol
 pub next_at : {S A : Type 0} (index : S → ℕ) (kernels : List (Vec (CoreItems S) A)) (g : Grammar) (cores : List CoreSet) (symbol : ℕ → GrammarSymbol)
     → AreNext g cores symbol (kernel_rows index kernels) → (n : ℕ) → n < length kernels → (kernel : Vec (CoreItems S) A) → kernel ≡ get_or kernels n kernel
     → (lent : List (CoreItems S)) → lent ≡ kernel.items → map (core_set index) lent ≡ next_kernel g (symbol n) cores

@@ -30,8 +30,8 @@ module _ (g : Grammar) (well : IsWellFormed g) where
             ]
       ]
 
-  pub stands_below : (p k : ℕ) (symbol : GrammarSymbol) → slice_get (symbols_of g p) k ≡ Some symbol → IsSymbolBelow (rules_len g) (tokens_len g) symbol
-  stands_below p k symbol is =
+  pub symbol_at_below : (p k : ℕ) (symbol : GrammarSymbol) → slice_get (symbols_of g p) k ≡ Some symbol → IsSymbolBelow (rules_len g) (tokens_len g) symbol
+  symbol_at_below p k symbol is =
       let Below = IsSymbolBelow (rules_len g) (tokens_len g) in
       subst Below (get_or_from_slice_get (symbols_of g p) k symbol symbol is)
       (All-get_or Below (symbols_of g p) k symbol (slice_get_within (symbols_of g p) k symbol is) (all_below p))
@@ -39,4 +39,4 @@ module _ (g : Grammar) (well : IsWellFormed g) where
   pub symbol_below : {X : Type 0} (f : X → GrammarSymbol) (p k : ℕ) (found : Option X) → option_map f found ≡ slice_get (symbols_of g p) k
       → IfSome found (λ x. IsSymbolBelow (rules_len g) (tokens_len g) (f x))
   symbol_below f p k None is = tt
-  symbol_below f p k (Some x) is = stands_below p k (f x) (sym is)
+  symbol_below f p k (Some x) is = symbol_at_below p k (f x) (sym is)

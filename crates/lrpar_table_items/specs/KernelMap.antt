@@ -1,4 +1,4 @@
--- Kernels and their numbers, and a map that has them. Its keys are kernels in an order of their own, by which they are found.
+-- Kernels and their numbers, and a map from kernels to numbers. The map has its own order of kernels.
 use Rattle.std.specs.Prelude.{◌≡◌, ◌≢◌, ◌<◌, ℕ, List, Some, length, map}
 use Rattle.std.specs.BTreeMap.{BTreeMap, get_by}
 use Rattle.std.specs.Cmp.Lexicographic.{slice_cmp}
@@ -24,11 +24,11 @@ IsFresh kernels kernel = (s : ℕ) → s < length kernels → kernel_at kernels 
 abbrev pub core_cmp : CoreSet → CoreSet → Ordering
 core_cmp a b = ordering_then (nat_cmp a.prod b.prod) (ordering_then (nat_cmp a.dot b.dot) (slice_cmp bool_cmp a.tokens b.tokens))
 
--- where a key of the map is in the order, from this kernel
+-- this kernel compared with a key of the map
 abbrev pub key_cmp : {S A : Type 0} → (S → ℕ) → List CoreSet → Vec (CoreItems S) A → Ordering
 key_cmp index kernel key = slice_cmp core_cmp kernel (map (core_set index) key.items)
 
--- the map has each kernel, with its number
+-- the map has the number of each kernel
 abbrev pub NumbersKernels : {S A : Type 0} → (S → ℕ) → List (List CoreSet) → BTreeMap (Vec (CoreItems S) A) (StIdx S) → Type 0
 NumbersKernels index kernels numbers =
     (s : ℕ) → s < length kernels → option_map (λ state. index state.0) (get_by (key_cmp index (kernel_at kernels s)) numbers) ≡ Some s

@@ -1,5 +1,6 @@
--- What a set of items wants to be done at each token, and its conflicts, as in Aho and Ullman, 'The Theory of Parsing, Translation,
--- and Compiling'. The set is told by its cores, each with its lookaheads, and by its shifts: tokens, each with the state that is next.
+-- The actions that an item set calls for at each token, its conflicts, and their resolution, as in Aho and Ullman, 'The Theory of
+-- Parsing, Translation, and Compiling'. An item set is its cores, each with its lookaheads, and its shifts: tokens, each with the
+-- next state.
 use Rattle.std.specs.Prelude.{◌≡◌, ◌≢◌, ◌<◌, ◌≤◌, ◌==◌, ◌&&◌, ℕ, Bool, true, false, IsTrue, List, [], ◌∷◌, Option, Some, None, count_by, filter, map, nat_eq, ◌+◌}
 use Rattle.std.specs.List.{flat_map, list_any, range_with_len}
 use Rattle.std.specs.Map.{lookup}
@@ -12,30 +13,31 @@ use Rattle.lrpar_grammar.specs.Tokens.{has}
 use Rattle.lrpar_table_items.specs.declared.fault.BuildFault.{BuildFault}
 use Rattle.lrpar_table_items.specs.declared.fault.BuildFault.TheVariants.{AcceptReduceConflict, Memory, StorageTooSmall, TooManyStates}
 
--- a token with the state that is next
+-- a token with the next state
 abbrev pub shift_entry : {S : Type 0} → (S → ℕ) → TIdx S × StIdx S → ℕ × ℕ
 shift_entry index entry = (index entry.0.0, index entry.1.0)
 
--- the core is production p with the dot behind all its symbols
+-- the core is complete and of production p: the dot is after all symbols
 abbrev pub is_complete : Grammar → ℕ → CoreSet → Bool
 is_complete g p core = (core.prod == p) && (core.dot == prod_len g p)
 
--- whether there is a complete item `A: v .  {t}` of production p
+-- the cores have a complete item `A: v .  {t}` of production p
 abbrev pub is_complete_at : Grammar → List CoreSet → ℕ → ℕ → Bool
 is_complete_at g cores t p = list_any (λ core. is_complete g p core && has core.tokens t) cores
 
--- R(t), the productions other than the start production with a complete item at token t, ascending
+-- R(t), the reductions before conflict resolution: the productions with a complete item at token t, ascending, without the start
+-- production
 abbrev pub reductions : Grammar → List CoreSet → ℕ → List ℕ
 reductions g cores t = filter (is_complete_at g cores t) (range_with_len 0 (start_prod g))
 
--- a shift comes first, then the first reduction, then to accept
+-- conflict resolution: the shift wins, then the reduction by the least production, then accept
 abbrev pub resolved : Option ℕ → List ℕ → Bool → TableAction
 resolved (Some next) prods accepts = ShiftTo next
 resolved None (p ∷ later) accepts = ReduceBy p
 resolved None [] true = Accepts
 resolved None [] false = Fails
 
--- what is wanted at token t
+-- the action at token t, after conflict resolution
 abbrev pub resolved_at : Grammar → List CoreSet → List (ℕ × ℕ) → ℕ → TableAction
 resolved_at g cores shifts t = resolved (lookup (nat_eq t) shifts) (reductions g cores t) (is_complete_at g cores t (start_prod g))
 
@@ -46,56 +48,56 @@ entry_at t (ReduceBy p) = (t, ReduceBy p) ∷ []
 entry_at t Accepts = (t, Accepts) ∷ []
 entry_at t Fails = []
 
--- what is wanted at each token, ascending, without the errors
+-- the actions at each token, after conflict resolution, tokens ascending, without the errors
 abbrev pub resolved_row : Grammar → List CoreSet → List (ℕ × ℕ) → List (ℕ × TableAction)
 resolved_row g cores shifts = flat_map (λ t. entry_at t (resolved_at g cores shifts t)) (range_with_len 0 (tokens_len g))
 
--- at token t in state s, each later reduction conflicts with the first
+-- the reduce/reduce conflicts at token t in state s: the first reduction with each later one
 abbrev pub reduce_conflicts_at : ℕ → ℕ → List ℕ → List ReduceReduce
 reduce_conflicts_at s t [] = []
 reduce_conflicts_at s t (p ∷ later) = map (λ q. record { token = t; first = p; second = q; state = s }) later
 
--- the conflicts between two reductions in state s, by their tokens
+-- the reduce/reduce conflicts in state s, tokens ascending
 abbrev pub reduce_conflicts : Grammar → List CoreSet → ℕ → List ReduceReduce
 reduce_conflicts g cores s = flat_map (λ t. reduce_conflicts_at s t (reductions g cores t)) (range_with_len 0 (tokens_len g))
 
--- at token t in state s, a shift conflicts with the first reduction
+-- the shift/reduce conflict at token t in state s: the shift with the first reduction
 abbrev pub shift_conflicts_at : ℕ → ℕ → Option ℕ → List ℕ → List ShiftReduce
 shift_conflicts_at s t None prods = []
 shift_conflicts_at s t (Some next) [] = []
 shift_conflicts_at s t (Some next) (p ∷ later) = record { token = t; prod = p; state = s } ∷ []
 
--- the conflicts between a shift and a reduction in state s, by their tokens
+-- the shift/reduce conflicts in state s, tokens ascending
 abbrev pub shift_conflicts : Grammar → List CoreSet → List (ℕ × ℕ) → ℕ → List ShiftReduce
 shift_conflicts g cores shifts s =
     flat_map (λ t. shift_conflicts_at s t (lookup (nat_eq t) shifts) (reductions g cores t)) (range_with_len 0 (tokens_len g))
 
--- to accept beside a reduction, where there is no shift
+-- an accept/reduce conflict: items call for accept and for a reduction, and for no shift
 pub record AcceptsBeside (shift : Option ℕ) (prods : List ℕ) (accepts : Bool) : Type 0 where
   pub no_shift : shift ≡ None
   pub some : prods ≢ []
   pub accept : IsTrue accepts
 
--- at token t it is wanted to accept beside a reduction
+-- the item set has an accept/reduce conflict at token t
 abbrev pub IsAcceptReduce : Grammar → List CoreSet → List (ℕ × ℕ) → ℕ → Type 0
 IsAcceptReduce g cores shifts t = AcceptsBeside (lookup (nat_eq t) shifts) (reductions g cores t) (is_complete_at g cores t (start_prod g))
 
--- at some token it is
+-- the item set has an accept/reduce conflict at some token
 abbrev pub HasAcceptReduce : Grammar → List CoreSet → List (ℕ × ℕ) → Type 0
 HasAcceptReduce g cores shifts = (t : ℕ) × (t < tokens_len g) × IsAcceptReduce g cores shifts t
 
--- what a fault of state s tells: that there is a reason to refuse it, or that memory didn't suffice
+-- a fault at state s: there is this reason to refuse the state, or an allocation failed
 abbrev pub IsRefusal : ℕ → Type 0 → BuildFault → Type 0
 IsRefusal s reason (AcceptReduceConflict n) = (n ≡ s) × reason
 IsRefusal s reason Memory = Unit {0}
 IsRefusal s reason TooManyStates = ⊥
 IsRefusal s reason StorageTooSmall = ⊥
 
--- each core stands at most once
+-- each core is there at most once
 abbrev pub AreOnce : List CoreSet → Type 0
 AreOnce cores = (p k : ℕ) → count_by (λ core. (core.prod == p) && (core.dot == k)) cores ≤ 1
 
--- the numbers ascend, from a number on
+-- the numbers ascend, and are at least n
 abbrev pub AscendFrom : ℕ → List ℕ → Type 0
 AscendFrom n [] = Unit {0}
 AscendFrom n (k ∷ ks) = (n ≤ k) × AscendFrom (k + 1) ks

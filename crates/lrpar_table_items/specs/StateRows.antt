@@ -1,4 +1,4 @@
--- The rows that states make: what each does and where it goes, its items, and the conflicts, state by state.
+-- The rows of a table, made from states: actions after conflict resolution, gotos, items and conflicts, state by state.
 use Rattle.std.specs.Prelude.{◌<◌, ℕ, List, [], ◌∷◌, Option, Some, None, length, map}
 use Rattle.std.specs.List.{flat_map, range_with_len}
 use Rattle.lrpar_grammar.specs.Grammar.{Grammar, rules_len, tokens_len}
@@ -10,11 +10,11 @@ use Rattle.lrpar_table_items.specs.CompleteItems.{items_of_cores}
 use Rattle.lrpar_table_items.specs.declared.fault.BuildFault.{BuildFault}
 use Rattle.lrpar_table_items.specs.declared.fault.BuildFault.TheVariants.{AcceptReduceConflict, Memory, StorageTooSmall, TooManyStates}
 
--- what each state does at the tokens at which it does something
+-- the actions of each state, without errors
 abbrev pub action_rows : Grammar → List StateOf → List (List (ℕ × TableAction))
 action_rows g states = map (λ (state : StateOf). resolved_row g state.cores state.shifts) states
 
--- where each state goes by rules
+-- the gotos of each state
 abbrev pub goto_rows : List StateOf → List (List (ℕ × ℕ))
 goto_rows states = map (λ (state : StateOf). state.gotos) states
 
@@ -22,15 +22,15 @@ goto_rows states = map (λ (state : StateOf). state.gotos) states
 abbrev pub item_rows : Grammar → List StateOf → Graph
 item_rows g states = map (λ (state : StateOf). items_of_cores (tokens_len g) state.cores) states
 
--- the conflicts between two reductions of the first n states
+-- the reduce/reduce conflicts of the first n states
 abbrev pub reduce_conflicts_below : Grammar → List StateOf → ℕ → List ReduceReduce
 reduce_conflicts_below g states n = flat_map (λ s. reduce_conflicts g (state_at states s).cores s) (range_with_len 0 n)
 
--- the conflicts between a shift and a reduction of the first n states
+-- the shift/reduce conflicts of the first n states
 abbrev pub shift_conflicts_below : Grammar → List StateOf → ℕ → List ShiftReduce
 shift_conflicts_below g states n = flat_map (λ s. shift_conflicts g (state_at states s).cores (state_at states s).shifts s) (range_with_len 0 n)
 
--- the lists, unless there is nothing in them
+-- the two lists, or none if both are empty
 abbrev pub unless_empty : List ReduceReduce → List ShiftReduce → Option ConflictLists
 unless_empty [] [] = None
 unless_empty [] (x ∷ xs) = Some (record { reduce_reduce = []; shift_reduce = x ∷ xs })
@@ -40,7 +40,7 @@ unless_empty (x ∷ xs) ys = Some (record { reduce_reduce = x ∷ xs; shift_redu
 abbrev pub conflicts_of_states : Grammar → List StateOf → Option ConflictLists
 conflicts_of_states g states = unless_empty (reduce_conflicts_below g states (length states)) (shift_conflicts_below g states (length states))
 
--- the table of the states, which starts in number 0
+-- the table of the states; its start state is number 0
 abbrev pub table_of_states : Grammar → List StateOf → Table
 table_of_states g states = record {
   start = 0;
@@ -52,11 +52,11 @@ table_of_states g states = record {
   conflicts = conflicts_of_states g states;
 }
 
--- state s wants at some token to accept beside a reduction, where there is no shift
+-- state s has an accept/reduce conflict: at some token it calls for accept and for a reduction, and for no shift
 abbrev pub IsRefusedState : Grammar → List StateOf → ℕ → Type 0
 IsRefusedState g states s = HasAcceptReduce g (state_at states s).cores (state_at states s).shifts
 
--- what a fault tells: that there is a reason to refuse its state, which is one of len, or that memory didn't suffice
+-- a fault: there is this reason to refuse the state that it names, which is below len, or an allocation failed
 abbrev pub IsRefusalOf : ℕ → (ℕ → Type 0) → BuildFault → Type 0
 IsRefusalOf len reason (AcceptReduceConflict n) = (n < len) × reason n
 IsRefusalOf len reason Memory = Unit {0}

@@ -1,4 +1,4 @@
--- The states that are built: each with its cores, and where it goes by the symbols that its items stand before.
+-- The states that are built: each with its cores, and its transitions by the symbols after the dots of its items.
 use Rattle.std.specs.Prelude.{◌≡◌, ◌<◌, ℕ, List, [], All, length, map, nat_eq, slice_index_or}
 use Rattle.std.specs.Map.{keys_of, lookup}
 use Rattle.std.specs.declared.vec.Vec.{Vec}
@@ -24,7 +24,7 @@ pub record StateOf : Type 0 where
   pub gotos : List (ℕ × ℕ)
   pub shifts : List (ℕ × ℕ)
 
--- that of the code
+-- the state that a value of code represents
 abbrev pub state_of : {S : Type 0} → (S → ℕ) → State S → StateOf
 state_of index state = record {
   cores = map (core_set index) state.items.items;
@@ -40,7 +40,7 @@ state_at states s = slice_index_or states s (record { cores = []; gotos = []; sh
 abbrev pub sets_at : List StateOf → ℕ → ItemOf → Type 0
 sets_at states s = IsAmong (state_at states s).cores
 
--- the states have the canonical sets, each core of a state once, and where they go they list by ascending numbers
+-- the states' item sets are the canonical collection; each state has each core once, and its transitions in ascending order
 pub record AreStates (g : Grammar) (states : List StateOf) : Type 0 where
   pub canonical : AreCanonical g (length states) (sets_at states)
   pub cores : (s : ℕ) → s < length states → All (IsCoreOf g) (state_at states s).cores
@@ -52,29 +52,29 @@ pub record AreStates (g : Grammar) (states : List StateOf) : Type 0 where
   pub shifts : (s t : ℕ) → s < length states
       → IsTransition g (length states) (sets_at states) s (Terminal t) (lookup (nat_eq t) (state_at states s).shifts)
 
--- a symbol's number, and the state to which the step by it leads
+-- a transition: a symbol's number, and the next state
 abbrev pub step_entry : {K S : Type 0} → (K → ℕ) → (S → ℕ) → K × StIdx S → ℕ × ℕ
 step_entry number index entry = (number entry.0, index entry.1.0)
 
--- rows of the numbers of symbols, ascending, with where cores go by each: to one of the kernels, or nowhere
+-- the row has the cores' transitions by all symbols of one kind, numbers ascending
 pub record AreSteps (g : Grammar) (kernels : List (List CoreSet)) (cores : List CoreSet) (symbol : ℕ → GrammarSymbol) (rows : List (ℕ × ℕ)) : Type 0 where
   pub ascend : AscendFrom 0 (keys_of rows)
   pub goes : (n : ℕ) → GoesTo g kernels cores (symbol n) (lookup (nat_eq n) rows)
 
--- the state has the closure of the kernel, and goes to these kernels
+-- the state's items are the closure of the kernel, and its transitions lead to these kernels
 pub record IsExpanded (g : Grammar) (kernels : List (List CoreSet)) (kernel : List CoreSet) (state : StateOf) : Type 0 where
   pub items : AreSame (IsAmong state.cores) (IsInClosure g (IsAmong kernel))
   pub cores : AreCores g state.cores
   pub gotos : AreSteps g kernels state.cores Nonterminal state.gotos
   pub shifts : AreSteps g kernels state.cores Terminal state.shifts
 
--- rows of the numbers of symbols below n, ascending, with where cores go by each
+-- the row has the cores' transitions by the symbols of one kind with numbers below n, numbers ascending
 pub record AreStepsBelow (g : Grammar) (kernels : List (List CoreSet)) (cores : List CoreSet) (symbol : ℕ → GrammarSymbol) (rows : List (ℕ × ℕ)) (n : ℕ) : Type 0 where
   pub ascend : AscendFrom 0 (keys_of rows)
   pub below : All (λ k. k < n) (keys_of rows)
   pub goes : (k : ℕ) → k < n → GoesTo g kernels cores (symbol k) (lookup (nat_eq k) rows)
 
--- these are the kernels to which the item set goes by the symbols of one kind, of which a grammar has so many
+-- the kernels to which the item set goes by the symbols of one kind, as many as the grammar has symbols of this kind
 abbrev pub AreKernelsBy : {S A : Type 0} → (S → ℕ) → (ℕ → GrammarSymbol) → (Grammar → ℕ) → Successors S → List (Vec (CoreItems S) A) → Type 0
 AreKernelsBy index symbol len_in successors kernels =
     (g : Grammar) → AreSuccessors index g successors
@@ -85,6 +85,6 @@ pub record StartsRight (g : Grammar) (kernels : List (List CoreSet)) : Type 0 wh
   pub some : 0 < length kernels
   pub is : AreSame (IsAmong (kernel_at kernels 0)) (IsStartItem g)
 
--- the states have the closures of the first kernels, and go to these kernels
+-- the states' items are the closures of the first kernels, and their transitions lead to these kernels
 abbrev pub AreExpanded : Grammar → List (List CoreSet) → List StateOf → Type 0
 AreExpanded g kernels states = (s : ℕ) → s < length states → IsExpanded g kernels (kernel_at kernels s) (state_at states s)

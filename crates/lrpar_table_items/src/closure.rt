@@ -1,4 +1,4 @@
-//! The closure of a set of items.
+//! The closure of a set of LR(1) items.
 ghost use Rattle.std.specs.Prelude.{◌≡◌, ◌<◌, ◌+◌, ◌↔◌, ◌⊎◌, ◌++◌, ◌∷◌, ℕ, [], All, IfOk, OnOk, length, map};
 ghost use Rattle.lrpar_grammar.specs.Grammar.{IsWellFormed, rules_len};
 ghost use Rattle.lrpar_table_rows.specs.Graph.{ItemOf};
@@ -17,8 +17,8 @@ use lrpar_table_first::after_dot::rule_after;
 use lrpar_table_first::first::{add_first_before, clear_all};
 use std::alloc::{AllocError, Global};
 
-/// The closure of the kernel's cores: they themselves, and with its lookaheads each production of each rule that comes with them. The last
-/// three are sets to work with, of which the first are one for each rule.
+/// The closure of the kernel's cores: the cores themselves; and each production, with its dot at the start, of each rule that the
+/// closure adds, with the rule's lookaheads. `brought`, with a set for each rule, `front` and `fresh` are scratch space.
 pub(crate) fn closure<StorageT: StorageIndex>(
     alloc: Global,
     grm: &YaccGrammar<StorageT>,
@@ -47,7 +47,7 @@ pub(crate) fn closure<StorageT: StorageIndex>(
     Ok(closure)
 }
 
-// Appends each production of each rule that has lookaheads, with them. The added rule has none.
+// Appends each production of each rule that has lookaheads, with these lookaheads. The start rule `^` has none.
 fn push_brought<StorageT: StorageIndex>(
     alloc: Global,
     grm: &YaccGrammar<StorageT>,
@@ -97,7 +97,7 @@ fn push_rule<StorageT: StorageIndex>(
     Ok(())
 }
 
-// Appends the production, its dot at the front, with these lookaheads.
+// Appends the production, with its dot at the start and these lookaheads.
 fn push_core<StorageT: StorageIndex>(
     alloc: Global,
     pidx: PIdx<StorageT>,
@@ -116,8 +116,7 @@ fn push_core<StorageT: StorageIndex>(
     Ok(())
 }
 
-/// Puts into `brought`, in place of what was there, the rules that come with the cores by closure, with their lookaheads. The last
-/// two are sets to work with.
+/// Sets `brought` to the lookaheads of each rule that the closure of the cores adds. `front` and `fresh` are scratch space.
 pub(crate) fn bring<StorageT: StorageIndex>(
     grm: &YaccGrammar<StorageT>,
     firsts: &[TokenSet],
@@ -145,7 +144,7 @@ pub(crate) fn bring<StorageT: StorageIndex>(
     spread(grm, firsts, brought, front, fresh);
 }
 
-// Puts to what is brought the rule that the core stands before, if it does, with its lookaheads. `front` is a set to work with.
+// Adds to `brought` the lookaheads of the rule after the core's dot, if a rule is there. `front` is scratch space.
 fn bring_one<StorageT: StorageIndex>(
     grm: &YaccGrammar<StorageT>,
     firsts: &[TokenSet],

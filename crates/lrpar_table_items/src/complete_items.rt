@@ -1,4 +1,4 @@
-//! Complete cores, and what they tell of a token.
+//! Complete items by their cores, and the reductions and the accept that they call for at a token.
 ghost use Rattle.std.specs.Prelude.{◌≡◌, ◌<◌, ◌==◌, ◌&&◌, All, IfOk, filter, map, not};
 ghost use Rattle.std.specs.List.Sorted.{IsNonDecreasingBy, IsPermutation};
 ghost use Rattle.lrpar_grammar.specs.Grammar.{prod_len, prods_len};
@@ -12,7 +12,7 @@ use lrpar_grammar::grammar::YaccGrammar;
 use lrpar_grammar::span::{PIdx, StorageIndex};
 use std::alloc::{AllocError, Global};
 
-// Whether the core's dot stands behind all symbols.
+// Whether the core is complete: its dot is after all symbols.
 fn ends<StorageT: StorageIndex>(grm: &YaccGrammar<StorageT>, core: &CoreItems<StorageT>) -> bool
     requires { StorageT.index core.now.prod.0 < prods_len grm.now }
     ensures { result ≡ (core.now.dot == prod_len grm.now (StorageT.index core.now.prod.0)) }
@@ -20,7 +20,7 @@ fn ends<StorageT: StorageIndex>(grm: &YaccGrammar<StorageT>, core: &CoreItems<St
     core.dot == grm.prod(core.prod).len()
 }
 
-/// The complete cores of those, by their productions.
+/// Those of the cores that are complete, in the order of their productions.
 pub fn complete_cores<'a, StorageT: StorageIndex>(
     alloc: Global,
     grm: &YaccGrammar<StorageT>,
@@ -42,7 +42,8 @@ pub fn complete_cores<'a, StorageT: StorageIndex>(
     Ok(complete)
 }
 
-/// The productions other than the start production, of complete cores that have the token.
+/// The reductions at the token before conflict resolution: the productions of the complete cores that have the token as
+/// lookahead, without the start production.
 pub fn reductions_at<StorageT: StorageIndex>(
     alloc: Global,
     start: usize,
@@ -61,14 +62,14 @@ pub fn reductions_at<StorageT: StorageIndex>(
     Ok(prods)
 }
 
-// Whether the core is of another production than the start production, and has the token.
+// Whether the core is of another production than the start production, and has the token as lookahead.
 fn reduces<StorageT: StorageIndex>(core: &CoreItems<StorageT>, start: usize, token: usize) -> bool
     ensures { result ≡ (not (StorageT.index core.now.prod.0 == start) && has core.now.tokens.bits.items token) }
 {
     usize::from(core.prod) != start && core.tokens.contains(token)
 }
 
-/// Whether the start production is one of those of complete cores that have the token.
+/// Whether a complete core of the start production has the token as lookahead.
 pub fn accepts<StorageT: StorageIndex>(
     start: usize,
     complete: &[&CoreItems<StorageT>],
@@ -84,7 +85,7 @@ pub fn accepts<StorageT: StorageIndex>(
     false
 }
 
-// Whether the core is of the start production, and has the token.
+// Whether the core is of the start production, and has the token as lookahead.
 fn accepts_by<StorageT: StorageIndex>(
     core: &CoreItems<StorageT>,
     start: usize,

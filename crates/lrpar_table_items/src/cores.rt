@@ -1,4 +1,4 @@
-//! Items by their cores.
+//! LR(1) items by their LR(0) cores, each with the set of its lookaheads.
 ghost use Rattle.std.specs.Prelude.{◌≡◌, ◌↔◌, IfOk, IsTrue, map};
 ghost use Rattle.lrpar_table_items.specs.Cores.{core_set};
 
@@ -6,7 +6,7 @@ use lrpar_grammar::span::{PIdx, StorageIndex};
 use lrpar_grammar::token_set::TokenSet;
 use std::alloc::{AllocError, Global};
 
-/// The items of one core: its production, how many of its symbols stand before the dot, and the set of their lookaheads.
+/// The items of one core: its production, how many of its symbols are before the dot, and the set of the items' lookaheads.
 #[derive(PartialEq, Eq, PartialOrd, Ord, Drop)]
 pub struct CoreItems<StorageT> {
     pub prod: PIdx<StorageT>,
@@ -14,7 +14,7 @@ pub struct CoreItems<StorageT> {
     pub tokens: TokenSet,
 }
 
-/// Whether the cores are the same.
+/// Whether the lists have the same cores, with the same lookaheads, in the same order.
 pub fn are_same<StorageT: StorageIndex>(
     cores: &[CoreItems<StorageT>],
     others: &[CoreItems<StorageT>],
@@ -32,7 +32,7 @@ pub fn are_same<StorageT: StorageIndex>(
     true
 }
 
-// Whether the core is the same.
+// Whether the cores are the same, with the same lookaheads.
 fn is_same<StorageT: StorageIndex>(core: &CoreItems<StorageT>, other: &CoreItems<StorageT>) -> bool
     ensures { IsTrue result ↔ (core_set StorageT.index core.now ≡ core_set StorageT.index other.now) }
 {
@@ -44,7 +44,7 @@ fn is_same<StorageT: StorageIndex>(core: &CoreItems<StorageT>, other: &CoreItems
     core.tokens.bits == other.tokens.bits
 }
 
-/// The same cores.
+/// A copy of the cores.
 pub fn copied<StorageT: StorageIndex>(
     alloc: Global,
     cores: &[CoreItems<StorageT>],

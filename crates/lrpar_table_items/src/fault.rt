@@ -8,16 +8,16 @@ use thiserror::Error;
 /// Why a table isn't built.
 #[derive(Clone, Copy, Debug, PartialEq, Eq, Error)]
 pub enum BuildFault {
-    /// More item sets are reached than was allowed.
+    /// The canonical collection has more item sets than allowed.
     #[error("too many states")]
     TooManyStates,
-    /// The item set of this state accepts and reduces at the end.
+    /// The items of this state call for accept and for a reduction at the end token.
     #[error("accept and reduce in state {0}")]
     AcceptReduceConflict(usize),
-    /// More item sets are reached than the storage type numbers.
+    /// The canonical collection has more item sets than the storage type has numbers.
     #[error("storage type too small")]
     StorageTooSmall,
-    /// Memory was wanting.
+    /// An allocation failed.
     #[error("out of memory")]
     Memory,
 }

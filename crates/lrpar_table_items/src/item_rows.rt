@@ -1,4 +1,4 @@
-//! The items of the states, as a graph has them.
+//! The items of the states, as rows for a state graph.
 ghost use Rattle.std.specs.Prelude.{◌≡◌, IfOk, map};
 ghost use Rattle.lrpar_table_rows.specs.PlainItems.{graph_of_rows};
 ghost use Rattle.lrpar_table_items.specs.StateRows.{item_rows};
@@ -11,7 +11,7 @@ use lrpar_grammar::span::StorageIndex;
 use lrpar_table_rows::table::Item;
 use std::alloc::{AllocError, Global};
 
-/// The items of each state. After an Err nothing is left of them.
+/// The items of each state. After an `Err` nothing is left of them.
 pub fn rows_of_items<StorageT: StorageIndex>(
     alloc: Global,
     grm: &YaccGrammar<StorageT>,

@@ -2,8 +2,8 @@
 use crate::cores::CoreItems;
 use lrpar_grammar::span::{RIdx, StIdx, TIdx};
 
-/// An item set, by its cores, and the states to which it goes by the symbols before which items stand: by rules, ascending, and by
-/// tokens, ascending.
+/// A state: its item set, by cores, and its transitions, one for each symbol after the dot of an item: by rules, ascending, and
+/// by tokens, ascending.
 #[derive(Drop)]
 pub struct State<StorageT> {
     pub items: Vec<CoreItems<StorageT>>,

@@ -1,4 +1,4 @@
-//! The items of cores, one by one.
+//! The LR(1) items of cores, one by one.
 ghost use Rattle.std.specs.Prelude.{◌≡◌, ◌++◌, IfOk, OnOk, map};
 ghost use Rattle.lrpar_grammar.specs.Grammar.{tokens_len};
 ghost use Rattle.lrpar_table_rows.specs.PlainItems.{item_of};

@@ -1,4 +1,4 @@
-//! Kernels, each with its number.
+//! Kernels, the kernel items of states by their cores, each with the number of its state.
 ghost use Rattle.std.specs.Prelude.{◌≡◌, ◌<◌, ◌∷◌, ◌++◌, [], IfErr, IfOk, MatchOption, OnOk, length, map};
 ghost use Rattle.lrpar_table_items.specs.Cores.{core_set};
 ghost use Rattle.lrpar_table_items.specs.KernelMap.{IsFound, IsFresh};
@@ -12,13 +12,13 @@ use std::alloc::{AllocError, Global};
 use std::collections::BTreeMap;
 use std::marker::Model;
 
-/// The kernels that were found, by their numbers; and their numbers, to find them quickly.
+/// The kernels so far, by their numbers; and a map from kernels to their numbers.
 pub struct Kernels<StorageT: StorageIndex> {
     kernels: Vec<Vec<CoreItems<StorageT>>>,
     numbers: BTreeMap<Vec<CoreItems<StorageT>>, StIdx<StorageT>>,
 }
 
-// A drop of its own, so that what lets go of one elsewhere proves one call.
+// With its own `Drop`, a function that drops one proves one call.
 impl<StorageT: StorageIndex> Drop for Kernels<StorageT> {
     fn drop(self) {
         let Kernels { kernels, numbers } = self;
@@ -41,7 +41,7 @@ impl<StorageT: StorageIndex> Model for Kernels<StorageT> {
 }
 
 impl<StorageT: StorageIndex> Kernels<StorageT> {
-    /// None yet.
+    /// No kernels.
     pub fn new(alloc: Global) -> Self
         ensures { result ≡ [] }
     {
@@ -51,14 +51,14 @@ impl<StorageT: StorageIndex> Kernels<StorageT> {
         }
     }
 
-    /// How many there are.
+    /// The number of kernels.
     pub fn len(&self) -> usize
         ensures { result ≡ length self.now }
     {
         self.kernels.len()
     }
 
-    /// A kernel with the cores of that with this number.
+    /// A copy of the kernel with this number.
     pub fn kernel(
         &self,
         alloc: Global,
@@ -70,7 +70,7 @@ impl<StorageT: StorageIndex> Kernels<StorageT> {
         copied(alloc, &self.kernels[number])
     }
 
-    /// The number of the kernel, if it has one. It takes time logarithmic in the kernels.
+    /// The number of the kernel, if it has one. It takes time logarithmic in the number of kernels.
     pub fn find(&self, kernel: &[CoreItems<StorageT>]) -> Option<StIdx<StorageT>>
         ensures { MatchOption result (IsFresh self.now (map (core_set StorageT.index) kernel.now))
             (λ state. IsFound self.now (map (core_set StorageT.index) kernel.now) (StorageT.index state.0)) }
@@ -85,7 +85,7 @@ impl<StorageT: StorageIndex> Kernels<StorageT> {
         }
     }
 
-    /// Puts the kernel behind the others, with this number; after an Err it isn't there.
+    /// Appends the kernel, with this number. After an `Err` the kernel isn't there.
     pub fn push(
         &mut self,
         alloc: Global,

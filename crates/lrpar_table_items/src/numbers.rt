@@ -1,4 +1,4 @@
-//! The numbers of kernels.
+//! The numbers of kernels, which are the numbers of states.
 ghost use Rattle.std.specs.Prelude.{IfErr, IfOk, map};
 ghost use Rattle.lrpar_table_items.specs.Cores.{core_set};
 ghost use Rattle.lrpar_table_items.specs.Numbers.{IsNumberFault, IsNumberOf};
@@ -9,7 +9,7 @@ use crate::kernels::Kernels;
 use lrpar_grammar::span::{StIdx, StorageIndex};
 use std::alloc::Global;
 
-/// The number of the kernel, which is the next one if it is new.
+/// The number of the kernel. A new kernel gets the next number.
 pub(crate) fn number<StorageT: StorageIndex>(
     kernels: &mut Kernels<StorageT>,
     alloc: Global,

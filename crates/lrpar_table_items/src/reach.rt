@@ -1,4 +1,4 @@
-//! The rules that come with a rule by closure.
+//! The rules that the closure adds for rules after the dot, with their lookaheads.
 ghost use Rattle.std.specs.Prelude.{◌≡◌, ◌<◌, ◌+◌, ◌↔◌, ℕ, length};
 ghost use Rattle.std.specs.Bool.{OnFalse, OnTrue};
 ghost use Rattle.lrpar_grammar.specs.Grammar.{IsWellFormed, prods_len, rules_len, tokens_len};
@@ -11,7 +11,8 @@ use lrpar_grammar::token_set::TokenSet;
 use lrpar_table_first::after_dot::rule_after;
 use lrpar_table_first::first::add_first_before;
 
-/// Puts into the sets all that comes with what they have, by closure. The last two are sets to work with.
+/// Closes the sets, which have the lookaheads of each rule: adds the lookaheads of all rules that the closure adds. `front` and
+/// `fresh` are scratch space.
 pub(crate) fn spread<StorageT: StorageIndex>(
     grm: &YaccGrammar<StorageT>,
     firsts: &[TokenSet],
@@ -32,7 +33,7 @@ pub(crate) fn spread<StorageT: StorageIndex>(
     'passes: while spread_all(grm, firsts, sets, front, fresh) {}
 }
 
-// Lets each rule that has lookaheads bring what its productions begin with, and tells whether anything was new.
+// For each rule that has lookaheads, adds the rules that its productions begin with, and returns whether anything was new.
 fn spread_all<StorageT: StorageIndex>(
     grm: &YaccGrammar<StorageT>,
     firsts: &[TokenSet],
@@ -63,7 +64,7 @@ fn spread_all<StorageT: StorageIndex>(
     grown
 }
 
-// Lets each production of the rule bring the rule that it begins with, if the rule has lookaheads, and tells whether anything was new.
+// If the rule has lookaheads, adds the rule that each of its productions begins with, and returns whether anything was new.
 fn spread_rule<StorageT: StorageIndex>(
     grm: &YaccGrammar<StorageT>,
     firsts: &[TokenSet],
@@ -100,8 +101,8 @@ fn spread_rule<StorageT: StorageIndex>(
     grown
 }
 
-// Lets the production bring the rule that it begins with, before each lookahead of the production's rule, and tells whether anything
-// was new.
+// Adds the rule that the production begins with, with the lookaheads First(w, t): w are the symbols after it in the production, and
+// t is a lookahead of the production's rule. Returns whether anything was new.
 fn spread_from<StorageT: StorageIndex>(
     grm: &YaccGrammar<StorageT>,
     firsts: &[TokenSet],

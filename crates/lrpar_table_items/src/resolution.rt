@@ -1,4 +1,4 @@
-//! What a state does at a token, and its conflicts there.
+//! Conflict resolution: the action of a state at a token, from the actions that its items call for, and the conflicts among these.
 ghost use Rattle.std.specs.Prelude.{◌≡◌, ◌<◌, ◌+◌, ◌++◌, ◌∷◌, ◌==◌, ℕ, IfErr, IfOk, OnOk, map, nat_eq};
 ghost use Rattle.std.specs.Map.{keys_of, lookup};
 ghost use Rattle.lrpar_grammar.specs.Symbols.{prod_numbers};
@@ -11,7 +11,7 @@ use lrpar_grammar::span::{PIdx, StIdx, StorageIndex, TIdx};
 use lrpar_table_rows::table::Action;
 use std::alloc::AllocError;
 
-/// The token, the two productions and the state of a conflict between reductions.
+/// A reduce/reduce conflict: the token, the two productions and the state.
 pub type ReduceReduce<StorageT> = (
     TIdx<StorageT>,
     PIdx<StorageT>,
@@ -19,10 +19,11 @@ pub type ReduceReduce<StorageT> = (
     StIdx<StorageT>,
 );
 
-/// The token, the production and the state of a conflict between a shift and a reduction.
+/// A shift/reduce conflict: the token, the production and the state.
 pub type ShiftReduce<StorageT> = (TIdx<StorageT>, PIdx<StorageT>, StIdx<StorageT>);
 
-/// Appends a conflict with the first of the productions for each later one. An Err is for memory; some may have been added then.
+/// Appends a reduce/reduce conflict with the first of the productions for each later one. An `Err` means that an allocation failed;
+/// after it, some may have been appended.
 pub fn push_conflicts<StorageT: StorageIndex>(
     prods: &[PIdx<StorageT>],
     tidx: &TIdx<StorageT>,
@@ -38,7 +39,7 @@ pub fn push_conflicts<StorageT: StorageIndex>(
     }
 }
 
-// Appends a conflict with the least production for each later one.
+// Appends a reduce/reduce conflict with the least production for each later one.
 fn push_later<StorageT: StorageIndex>(
     least: &PIdx<StorageT>,
     later: &[PIdx<StorageT>],
@@ -55,7 +56,7 @@ fn push_later<StorageT: StorageIndex>(
     Ok(())
 }
 
-/// The state of the first shift, if that is by the token, and the shifts that are left then.
+/// The state of the first shift and the other shifts, if that shift is by the token; otherwise no state, and all shifts.
 pub fn split_shift<StorageT: StorageIndex>(
     shifts: &[(TIdx<StorageT>, StIdx<StorageT>)],
     token: usize,
@@ -81,8 +82,8 @@ pub fn split_shift<StorageT: StorageIndex>(
     }
 }
 
-/// Appends the conflict of a shift by the token with the first production, if there is one. An Err is for memory; nothing was added
-/// then.
+/// Appends the shift/reduce conflict of a shift by the token with the first production, if there is one. An `Err` means that an
+/// allocation failed; after it, nothing was appended.
 pub fn push_shift_conflict<StorageT: StorageIndex>(
     prods: &[PIdx<StorageT>],
     tidx: &TIdx<StorageT>,
@@ -101,8 +102,8 @@ pub fn push_shift_conflict<StorageT: StorageIndex>(
     }
 }
 
-/// Appends what is done at the token where there is no shift. `AcceptReduceConflict` comes where there is a production beside the
-/// start production's end, and `Memory` where it doesn't suffice; nothing was added then.
+/// Appends the action at the token if there is no shift: the reduction by the first production, or accept. It returns
+/// `AcceptReduceConflict` if the items call for both, and `Memory` if an allocation fails; after an `Err` nothing was appended.
 pub fn push_unshifted<StorageT: StorageIndex>(
     prods: &[PIdx<StorageT>],
     accepting: bool,

@@ -1,4 +1,4 @@
-//! Sets to work with, for closures.
+//! FIRST sets and scratch space, for closures.
 ghost use Rattle.std.specs.Prelude.{◌↔◌, IfOk, map};
 ghost use Rattle.lrpar_grammar.specs.Grammar.{IsWellFormed};
 ghost use Rattle.lrpar_table_rows.specs.Graph.{ItemOf};
@@ -15,7 +15,7 @@ use lrpar_grammar::token_set::TokenSet;
 use lrpar_table_first::first::{empty_sets, first_sets};
 use std::alloc::{AllocError, Global};
 
-/// The tokens that rules begin with, and sets to work with.
+/// The FIRST sets of the rules, and scratch space for closures.
 pub struct Sets {
     pub firsts: Vec<TokenSet>,
     pub brought: Vec<TokenSet>,
@@ -23,7 +23,7 @@ pub struct Sets {
     pub fresh: TokenSet,
 }
 
-// A drop of its own, so that what lets go of one elsewhere proves one call.
+// With its own `Drop`, a function that drops one proves one call.
 impl Drop for Sets {
     fn drop(self) {
         let Sets {
@@ -40,7 +40,7 @@ impl Drop for Sets {
 }
 
 impl Sets {
-    /// Those of the grammar.
+    /// The FIRST sets of the grammar, and scratch space.
     pub fn new<StorageT: StorageIndex>(
         alloc: Global,
         grm: &YaccGrammar<StorageT>,

@@ -1,4 +1,4 @@
-//! What a state does at each token, and its conflicts.
+//! The actions of a state at each token, after conflict resolution, and its conflicts.
 ghost use Rattle.std.specs.Prelude.{◌≡◌, ◌<◌, ◌+◌, ◌++◌, ℕ, All, IfErr, IfOk, OnOk, map};
 ghost use Rattle.std.specs.Map.{keys_of};
 ghost use Rattle.lrpar_grammar.specs.Grammar.{prods_len, tokens_len};
@@ -19,11 +19,12 @@ use lrpar_grammar::span::{PIdx, StIdx, StorageIndex, TIdx};
 use lrpar_table_rows::table::Action;
 use std::alloc::Global;
 
-/// What the state does at each token where it does something, ascending. Its conflicts are appended to `rr` and `sr`.
+/// The actions of the state but errors, tokens ascending. Its reduce/reduce conflicts are appended to `rr`, and its shift/reduce
+/// conflicts to `sr`.
 ///
-/// `AcceptReduceConflict` comes where the start production is complete beside another one, at the same token, and there is no
-/// shift; and `Memory` where it doesn't suffice. After an Err the lists hold some of the conflicts. It takes time near the number
-/// of tokens times the complete cores.
+/// It returns `AcceptReduceConflict` if the start production and another one have complete items with the same lookahead, and no
+/// item calls for a shift there; and `Memory` if an allocation fails. After an `Err` the lists have some of the conflicts. It takes
+/// time proportional to the number of tokens times the number of complete cores.
 pub fn state_row<StorageT: StorageIndex>(
     alloc: Global,
     grm: &YaccGrammar<StorageT>,
@@ -63,7 +64,7 @@ pub fn state_row<StorageT: StorageIndex>(
     Ok(row)
 }
 
-// Appends what is done at the token, and the conflict of its shift.
+// Appends the action at the token, and the shift/reduce conflict, if there is one.
 fn push_token<StorageT: StorageIndex>(
     prods: &[PIdx<StorageT>],
     shift: Option<StIdx<StorageT>>,

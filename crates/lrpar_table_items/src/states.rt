@@ -1,4 +1,4 @@
-//! The states: the item sets that are reached, each once.
+//! The states of a grammar: the canonical collection of LR(1) item sets.
 ghost use Rattle.std.specs.Prelude.{◌≡◌, ◌<◌, ◌≤◌, ◌+◌, ℕ, List, IfErr, IfOk, OnOk, length, map};
 ghost use Rattle.std.specs.Option.{option_map};
 ghost use Rattle.lrpar_grammar.specs.Grammar.{Grammar, GrammarSymbol, IsWellFormed, Nonterminal, Terminal, rules_len, tokens_len};
@@ -27,10 +27,11 @@ use lrpar_grammar::span::{Numbered, RIdx, StIdx, StorageIndex, TIdx};
 use lrpar_grammar::token_set::TokenSet;
 use std::alloc::{AllocError, Global};
 
-/// The states of the grammar, at most so many: each item set that is reached, once, and where it goes.
+/// The canonical collection of the grammar, with at most `max_states` states: each item set that gotos reach from the start, once,
+/// with its transitions.
 ///
-/// `TooManyStates` comes where there are more than `max_states`, `StorageTooSmall` where there are more than `StorageT` has
-/// numbers, and `Memory` where it doesn't suffice; after an Err none is left.
+/// It returns `TooManyStates` if there are more than `max_states`, `StorageTooSmall` if there are more than `StorageT` has numbers,
+/// and `Memory` if an allocation fails. After an `Err` nothing is left.
 pub fn states<StorageT: StorageIndex>(
     alloc: Global,
     grm: &YaccGrammar<StorageT>,
@@ -46,7 +47,7 @@ pub fn states<StorageT: StorageIndex>(
     all_states(alloc, grm, max_states, &mut sets, &mut kernels)
 }
 
-// The states of these kernels, and of those that they lead to.
+// The states of these kernels, and of all kernels to which these lead.
 fn all_states<StorageT: StorageIndex>(
     alloc: Global,
     grm: &YaccGrammar<StorageT>,
@@ -88,7 +89,7 @@ fn start_kernels<StorageT: StorageIndex>(
     Ok(kernels)
 }
 
-// The start production, with the end token behind.
+// The kernel of the start item `^: . S {end}`.
 fn start_kernel<StorageT: StorageIndex>(
     alloc: Global,
     grm: &YaccGrammar<StorageT>,
@@ -109,7 +110,7 @@ fn start_kernel<StorageT: StorageIndex>(
     Ok(kernel)
 }
 
-// The state of the kernel with this number, whose successors are numbered.
+// The state of the kernel with this number. Kernels to which it goes and that are new get numbers.
 fn expanded<StorageT: StorageIndex>(
     alloc: Global,
     grm: &YaccGrammar<StorageT>,
@@ -139,7 +140,7 @@ fn expanded<StorageT: StorageIndex>(
     })
 }
 
-// Where the kernel of a step leads, if it has cores: it gets a number, if it has none.
+// The state of the kernel to which a transition leads, if the kernel has cores. A new kernel gets a number.
 fn step<StorageT: StorageIndex>(
     alloc: Global,
     max_states: usize,
@@ -162,17 +163,17 @@ trait SymbolKind<StorageT: StorageIndex>: Numbered<StorageT> {
     // The symbol of a number.
     ghost symbol: { ℕ → GrammarSymbol };
 
-    // How many the grammar has.
+    // The number of symbols of this kind in the grammar.
     ghost len_in: { Grammar → ℕ };
 
     ghost known: { (g : Grammar) (n : ℕ) → IsSymbolBelow (rules_len g) (tokens_len g) (symbol n) → n < len_in g };
 
-    // How many the grammar has.
+    // The number of symbols of this kind in the grammar.
     fn len(grm: &YaccGrammar<StorageT>) -> usize
         ensures len { result ≡ len_in grm.now }
         ensures within { result ≤ StorageT.limit };
 
-    // The kernels to which the item set goes by them.
+    // The kernels to which the item set goes by symbols of this kind.
     fn kernels(successors: &Successors<StorageT>) -> &[Vec<CoreItems<StorageT>>]
         ensures { AreKernelsBy StorageT.index symbol len_in successors.now result.now };
 }
@@ -209,7 +210,7 @@ impl<StorageT: StorageIndex> SymbolKind<StorageT> for TIdx<StorageT> {
     }
 }
 
-// Where the item set goes by rules, and where by tokens.
+// The transitions of the item set by rules, and those by tokens.
 fn all_steps<StorageT: StorageIndex>(
     alloc: Global,
     grm: &YaccGrammar<StorageT>,
@@ -241,7 +242,7 @@ fn all_steps<StorageT: StorageIndex>(
     Ok((gotos, shifts))
 }
 
-// Where the item set goes by the symbols of one kind, ascending.
+// The transitions of the item set by the symbols of one kind, ascending.
 fn steps<StorageT: StorageIndex, SymbolT: SymbolKind<StorageT>>(
     alloc: Global,
     grm: &YaccGrammar<StorageT>,

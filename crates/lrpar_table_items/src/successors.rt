@@ -1,4 +1,4 @@
-//! The kernels to which an item set goes.
+//! The kernels of the gotos of an item set.
 ghost use Rattle.std.specs.Prelude.{◌≡◌, ◌<◌, ◌+◌, ◌^◌, ◌∷◌, ◌++◌, ℕ, [], All, IfOk, IfSome, OnOk, length, map};
 ghost use Rattle.std.specs.Option.{option_map};
 ghost use Rattle.lrpar_grammar.specs.Grammar.{IsWellFormed, Nonterminal, Terminal, rules_len, tokens_len};
@@ -13,8 +13,8 @@ use lrpar_grammar::grammar::YaccGrammar;
 use lrpar_grammar::span::{StorageIndex, Symbol};
 use std::alloc::{AllocError, Global};
 
-/// A closed item set, by its cores, and the kernels to which it goes: one for each rule and one for each token. That of a symbol
-/// which stands behind no dot has no cores.
+/// A closed item set, by its cores, and the kernels to which it goes: one for each rule and one for each token. The kernel of a
+/// symbol that comes after no dot has no cores.
 #[derive(Drop)]
 pub struct Successors<StorageT> {
     pub items: Vec<CoreItems<StorageT>>,
@@ -23,7 +23,7 @@ pub struct Successors<StorageT> {
 }
 
 impl<StorageT: StorageIndex> Successors<StorageT> {
-    /// That of the cores, by one pass over them.
+    /// The item set of these cores and its kernels, by one pass over the cores.
     pub fn new(
         alloc: Global,
         grm: &YaccGrammar<StorageT>,
@@ -47,7 +47,7 @@ impl<StorageT: StorageIndex> Successors<StorageT> {
     }
 }
 
-// So many kernels without cores.
+// `len` kernels without cores.
 fn no_kernels<StorageT: StorageIndex>(
     alloc: Global,
     len: usize,
@@ -62,7 +62,7 @@ fn no_kernels<StorageT: StorageIndex>(
     Ok(kernels)
 }
 
-// Puts the core, advanced, to the kernel of the symbol that it stands before, if it does.
+// Appends the core, with its dot advanced, to the kernel of the symbol after its dot, if there is one.
 fn put_next<StorageT: StorageIndex>(
     alloc: Global,
     grm: &YaccGrammar<StorageT>,
@@ -92,7 +92,7 @@ fn put_next<StorageT: StorageIndex>(
     }
 }
 
-// The symbol that the core stands before, if it does: one of the grammar.
+// The symbol after the core's dot, if there is one: a symbol of the grammar.
 fn symbol_after<StorageT: StorageIndex>(
     grm: &YaccGrammar<StorageT>,
     core: &CoreItems<StorageT>,
@@ -106,7 +106,7 @@ fn symbol_after<StorageT: StorageIndex>(
     grm.prod(core.prod).get(core.dot).copied()
 }
 
-// Appends the core, with its dot behind one symbol more.
+// Appends the core, with its dot one symbol further.
 fn push_advanced<StorageT: StorageIndex>(
     alloc: Global,
     core: &CoreItems<StorageT>,

@@ -17,7 +17,7 @@ use Rattle.std.proofs.lemmas.List.Sorted.{searchable_from_sorted, Contains-permu
 use Rattle.std.proofs.lemmas.List.Filters.{dedup_is}
 use Rattle.std.proofs.lemmas.List.Kept.{Contains-dedup, Contains-from_dedup, IsStrictlySortedBy-dedup}
 use Rattle.std.proofs.lemmas.Map.Keys.{Less-from_sorted}
-use Rattle.lrpar_table_rows.specs.Ascending.{IsAscending, TellsApart, HaveSame}
+use Rattle.lrpar_table_rows.specs.Ascending.{ComparesExactly, HaveSame, IsAscending}
 
 -- what comes after isn't less
 after_not_less : {X : Type 0} {R : X → X → Ordering} → IsTotalOrder R → (x y : X) → R x y ≡ Less → is_lt (R y x) ≡ false
@@ -28,7 +28,7 @@ pub sorted_from_strict : {X : Type 0} {R : X → X → Ordering} → IsTotalOrde
 sorted_from_strict o xs strict k d low high =
     after_not_less o (slice_index_or xs k d) (slice_index_or xs (k + 1) d) (Less-from_sorted _ xs k (k + 1) d strict (omega arith) high)
 
--- where all elements before a place are less than x and all from there on are greater, x is none of them
+-- if all elements before a place are less than x and all from there on are greater, x is none of them
 not_here : {X : Type 0} {R : X → X → Ordering} → IsTotalOrder R → (xs : List X) (x : X) (i : ℕ)
     → IsPartitionPoint (λ y. R y x ≡ Less) (λ y. R y x ≡ Greater) xs i → Contains xs x → ⊥
 not_here {X} {R} o xs x i parts h =
@@ -47,30 +47,30 @@ found_in_row {R = R} o xs x (Err i) row within parted =
 
 -- a sort and the removal of what repeats make a row
 pub row_from_sort : {X : Type 0} {R : X → X → Ordering} {E : X → X → Bool} → IsTotalOrder R → ((x y : X) → E x y ≡ eq_by_cmp R x y)
-    → TellsApart R → (xs ys : List X) → IsSorted R xs → IsFiltered (DiffersFromLast E) [] xs ys → IsAscending R ys
+    → ComparesExactly R → (xs ys : List X) → IsSorted R xs → IsFiltered (DiffersFromLast E) [] xs ys → IsAscending R ys
 row_from_sort o ties exact xs ys up left = record { sorted = rw (dedup_is _ xs ys left) (IsStrictlySortedBy-dedup o ties xs up); exact = exact }
 
--- elements that E counts as the same are the same, where it does so just at `Equal`
-same_from_equal : {X : Type 0} {R : X → X → Ordering} {E : X → X → Bool} → ((x y : X) → E x y ≡ eq_by_cmp R x y) → TellsApart R
+-- if E says equal exactly at `Equal`, elements that E says are equal are the same
+same_from_equal : {X : Type 0} {R : X → X → Ordering} {E : X → X → Bool} → ((x y : X) → E x y ≡ eq_by_cmp R x y) → ComparesExactly R
     → (x y : X) → E x y ≡ true → x ≡ y
 same_from_equal {R = R} ties exact x y e = exact x y ((Equal-is (R x y)).0 (sym (ties x y) ∙ e))
 
 -- and they lose no element
 pub same_from_sort : {X : Type 0} {R : X → X → Ordering} {E : X → X → Bool} → IsEquivalence E → ((x y : X) → E x y ≡ eq_by_cmp R x y)
-    → TellsApart R → (xs ys zs : List X) → IsPermutation xs ys → IsFiltered (DiffersFromLast E) [] ys zs → HaveSame zs xs
+    → ComparesExactly R → (xs ys zs : List X) → IsPermutation xs ys → IsFiltered (DiffersFromLast E) [] ys zs → HaveSame zs xs
 same_from_sort equals ties exact xs ys zs moved left x =
     let is = dedup_is _ ys zs left in (
       λ h. Contains-permutation ys xs x (IsPermutation-sym xs ys moved) (Contains-from_dedup _ ys x (rw is at h)),
       λ h. rw is (Contains-dedup equals (same_from_equal ties exact) ys x (Contains-permutation xs ys x moved h)),
     )
 
--- where the last element is already what is put behind it, the elements stay the same
+-- if the last element is equal to one that is to be appended, the elements stay the same
 pub same_from_last : {X : Type 0} (E : X → X → Bool) → ((x y : X) → E x y ≡ true → x ≡ y) → (xs : List X) (last : Option (Bor X)) (more : Bor X)
     (r : Bool) → option_copied last ≡ slice_get xs (length xs - 1) → r ≡ option_eq (λ x y. E x.now y.now) last (Some more) → r ≡ true
     → HaveSame xs (xs ++ more.now ∷ [])
-same_from_last E exact xs None more r read told passed = absurd cc
-same_from_last E exact xs (Some last) more r read told passed =
-    let same : last.now ≡ more.now = exact last.now more.now (sym told ∙ passed) in
+same_from_last E exact xs None more r read reported passed = absurd cc
+same_from_last E exact xs (Some last) more r read reported passed =
+    let same : last.now ≡ more.now = exact last.now more.now (sym reported ∙ passed) in
     λ x. (
       λ h. Contains-append_left xs (more.now ∷ []) x h,
       λ h.

@@ -1,4 +1,4 @@
--- How many entries a table stores, told by its actions and its gotos.
+-- The number of entries that a table stores, counted by its actions and its gotos.
 use Rattle.std.proofs.Common.{◌≡◌, ◌≢◌, ◌<◌, ◌+◌, ◌↔◌, ◌∙◌, ℕ, Bool, true, false, ◌&&◌, nat_eq, List, [], ◌∷◌, All, Option, Some, None, length, map, slice_index_or, refl, ap, sym, subst, inl, inr, arith}
 use Rattle.std.specs.Cmp.{nat_eq_equiv}
 use Rattle.std.specs.List.{Contains, count_by, filter, range_with_len, sum_by}
@@ -18,7 +18,7 @@ use Rattle.lrpar_table_rows.specs.Table.{IsActionEntry, IsTable, Table, TableAct
 use Rattle.lrpar_table_rows.proofs.EntryLemmas.{action_cases, action_stored, actions_good, distinct_numbers, goto_entry_of, gotos_exact, gotos_good}
 use Rattle.lrpar_table_rows.proofs.ItemLemmas.{Contains-image, Contains-preimage}
 
--- tests that pass at the same are the same
+-- tests that pass at the same values are the same
 same_test : (a b : Bool) → (a ≡ true → b ≡ true) → (b ≡ true → a ≡ true) → a ≡ b
 same_test true b to from = sym (to refl)
 same_test false true to from = from refl
@@ -32,7 +32,7 @@ range_up n k below =
     let next = get_or-range_with_len 0 n (k + 1) 0 (omega (arith, len, below)) in
     omega (arith, here, next)
 
--- each of them is there
+-- each number below n is in the range
 range_has : (n k : ℕ) → k < n → Contains (range_with_len 0 n) k
 range_has n k below =
     let len = length-range_with_len 0 n in
@@ -65,14 +65,14 @@ key_of {X} es k there =
 has_key : {X : Type 0} (es : List (ℕ × X)) (k : ℕ) (x : X) → Contains es (k, x) → Contains (keys_of es) k
 has_key {X} es k x there = Contains-image (λ (e : ℕ × X). e.0) es (k, x) there
 
--- an action is none but an error
+-- an action other than an error
 no_error : (action : TableAction) → action ≢ Fails → is_no_error action ≡ true
 no_error (ShiftTo s) not = refl
 no_error (ReduceBy p) not = refl
 no_error Accepts not = refl
 no_error Fails not = absurd (not refl)
 
--- a state stores as many actions as it has tokens with one
+-- a state stores as many actions as there are tokens with an action other than an error
 pub actions_counted : (limit : ℕ) (table : Table) → IsTable limit table → (s : ℕ) → actions_in table s ≡ length (actions_at table s)
 actions_counted limit table is s =
     let es = actions_at table s in
@@ -96,7 +96,7 @@ actions_counted limit table is s =
     within : (es : List (ℕ × TableAction)) (e : ℕ × TableAction) → All (IsActionEntry table.tokens table.states) es → Contains es e → e.0 < table.tokens
     within es e each there = let entry = All-contains (IsActionEntry table.tokens table.states) es e each there in entry.token
 
--- and as many gotos as it has rules with one
+-- and as many gotos as there are rules with a goto
 pub gotos_counted : (limit : ℕ) (table : Table) → IsTable limit table → (s : ℕ) → gotos_in table s ≡ length (gotos_at table s)
 gotos_counted limit table is s =
     let es = gotos_at table s in
@@ -141,7 +141,7 @@ sum_by-image {X} {Y} f g (x ∷ xs) =
     let all = sum_by-cons (λ (y : X). f (g y)) x xs in
     omega (arith, image, all, sum_by-image f g xs)
 
--- the rows of a list, read by their places, have as many elements as its rows
+-- the rows of a list, read by their places, have as many elements as the list's rows
 rows_read : {X : Type 0} (rows : List (List X)) (n : ℕ) → length rows ≡ n
     → sum_by (λ s. length (slice_index_or rows s [])) (range_with_len 0 n) ≡ sum_by (λ row. length row) rows
 rows_read {X} rows n len =

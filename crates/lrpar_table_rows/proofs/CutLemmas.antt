@@ -20,7 +20,7 @@ cut_row starts xs s below = get_or-map-range_with_len (part starts xs) 0 (length
 pub length-cut : {X : Type 0} (starts : List ℕ) (xs : List X) → length (cut starts xs) ≡ length starts - 1
 length-cut starts xs = length-map-range_with_len (part starts xs) 0 (length starts - 1)
 
--- no place comes after a later one
+-- no place is greater than a later one
 starts_up : (starts : List ℕ) (end : ℕ) → AreStarts starts end → (d s : ℕ) → s + d < length starts → slice_index starts s ≤ slice_index starts (s + d)
 starts_up starts end are zero s below = rw add-zero (omega arith)
 starts_up starts end are (suc d) s below =
@@ -93,7 +93,7 @@ cut_push starts xs ys more are is =
     let last : part longer (xs ++ ys) n ≡ ys = range_at_end xs ys _ _ from to in
     rw (rows, map-range_with_len_more (part longer (xs ++ ys)) 0 n n (omega arith), ← before, last) refl
 
--- the pairs of the front of two lists
+-- the pairs of the first elements of two lists
 zip-take : {K V : Type 0} (n : ℕ) (ks : List K) (vs : List V) → take n (zip ks vs) ≡ zip (take n ks) (take n vs)
 zip-take zero ks vs = refl
 zip-take (suc n) [] vs = refl
@@ -177,13 +177,13 @@ cut_more items starts keys keys_after values values_after rows i more row so_far
           (rw (← is) at (sym (map_more items rows i row below)));
     }
 
--- where a row begins and ends
+-- the places at which a row begins and ends
 pub record IsRowAt (starts : List ℕ) (end row : ℕ) : Type 0 where
   pub next : row + 1 < length starts
   pub up : slice_index starts row ≤ slice_index starts (row + 1)
   pub within : slice_index starts (row + 1) ≤ end
 
--- each row has a place where it begins, and one where it ends
+-- each row has a place at which it begins, and one at which it ends
 pub row_at : {K V : Type 0} (starts : List ℕ) (keys : List K) (values : List V) (rows : List (List (K × V))) (row : ℕ)
     → AreParts starts keys values → cut starts (zip keys values) ≡ rows → row < length rows → IsRowAt starts (length keys) row
 row_at starts keys values rows row parts is below =
@@ -205,7 +205,7 @@ row_is starts keys part_keys values part_values rows row a b parts is below from
     let here = cut_row starts (zip keys values) row at.next in
     rw (keys_are, values_are, ← is, here, from, to) (sym (zip-range (slice_index starts row) (slice_index starts (row + 1)) keys values parts.paired))
 
--- the first rows have as many elements as stand before the next
+-- the first rows have as many elements as there are before the next row
 first_rows_len : {X : Type 0} (starts : List ℕ) (xs : List X) → AreStarts starts (length xs) → (n : ℕ) → n < length starts
     → sum_by (λ row. length row) (map (part starts xs) (range_with_len 0 n)) ≡ slice_index starts n
 first_rows_len starts xs are zero below = sym are.first
@@ -224,7 +224,7 @@ first_rows_len {X} starts xs are (suc n) below =
 pub rows_len_is : {X : Type 0} (starts : List ℕ) (xs : List X) → AreStarts starts (length xs) → sum_by (λ row. length row) (cut starts xs) ≡ length xs
 rows_len_is starts xs are = first_rows_len starts xs are (length starts - 1) (omega (arith, are.some)) ∙ are.last
 
--- and so have rows of pairs as many as there are keys
+-- rows of pairs have as many elements as there are keys
 pub pairs_len_is : {K V : Type 0} (starts : List ℕ) (keys : List K) (values : List V) → AreParts starts keys values
     → sum_by (λ row. length row) (cut starts (zip keys values)) ≡ length keys
 pairs_len_is starts keys values parts =

@@ -24,7 +24,7 @@ distinct_numbers ks up =
     let less = AllPairs-from_increasing ks up i j d before below in
     ne_eqb (slice_index_or ks i d) (slice_index_or ks j d) (λ same. omega (arith, less, same)))
 
--- an entry is there where the look-up finds it
+-- an entry is there exactly if the look-up finds it
 pub entry_found : {X : Type 0} (es : List (ℕ × X)) (k : ℕ) (x : X) → IsStrictlyIncreasing (keys_of es)
     → Contains es (k, x) ↔ (lookup (nat_eq k) es ≡ Some x)
 entry_found es k x up = (
@@ -39,18 +39,18 @@ lookup_cases {X} es k =
     elim o as (λ v. (v ≡ None) ⊎ ((x : X) × (v ≡ Some x))) [ None ↦ inl refl | Some x ↦ inr (x, refl) ] in
     cases (lookup (nat_eq k) es)
 
--- the keys of an image, where the image has the numbers of the keys
+-- the keys of an image that has the numbers of the keys
 pub keys_of-map : {K V X : Type 0} (number : K → ℕ) (value : V → X) (es : List (K × V))
     → keys_of (map (λ e. (number e.0, value e.1)) es) ≡ map (λ e. number e.0) es
 keys_of-map number value [] = refl
 keys_of-map number value (e ∷ es) = ap (λ ks. number e.0 ∷ ks) (keys_of-map number value es)
 
--- the numbers of the firsts
+-- the numbers of the keys
 map-keys : {K V : Type 0} (number : K → ℕ) (es : List (K × V)) → map (λ e. number e.0) es ≡ map number (keys_of es)
 map-keys number [] = refl
 map-keys number (e ∷ es) = ap (λ ks. number e.0 ∷ ks) (map-keys number es)
 
--- the keys of two lists side by side, where each key has a value
+-- the keys of two lists side by side, in which each key has a value
 pub keys_of-pairs : {K V X : Type 0} (number : K → ℕ) (value : V → X) (ks : List K) (vs : List V) → length vs ≡ length ks
     → keys_of (map (λ e. (number e.0, value e.1)) (zip ks vs)) ≡ map number ks
 keys_of-pairs number value ks vs paired =
@@ -78,7 +78,7 @@ module _ {K V X : Type 0} (number : K → ℕ) (value : V → X) (ks : List K) (
   keys_are : map number ks ≡ keys_of es
   keys_are = sym (keys_of-pairs number value ks vs paired) ∙ ap keys_of is
 
-  -- the keys ascend where those of the entries do
+  -- if the keys of the entries ascend, so do these keys
   pub keys_ascend : IsStrictlyIncreasing (keys_of es) → IsStrictlyIncreasing (map number ks)
   keys_ascend up = subst IsStrictlyIncreasing (sym keys_are) up
 
@@ -108,7 +108,7 @@ action_cases table s t =
       | inr found ↦ inr (found.0, Contains-from_lookup eqb-true t found.0 (actions_at table s) found.1, ap (λ o. unwrap_or o Fails) found.1)
     ]
 
--- where the stored actions have their states in range, so has every action
+-- if the stored actions have their states in range, so has every action
 pub action_within_row : (table : Table) (s t : ℕ) → All (IsActionEntry table.tokens table.states) (actions_at table s)
     → IsActionWithin table.states (action_of table s t)
 action_within_row table s t each =
@@ -119,12 +119,12 @@ action_within_row table s t each =
           subst (IsActionWithin table.states) (sym found.2) entry.within
     ]
 
--- where no key is the token, there is an error
+-- if no key is the token, the action is an error
 pub action_missing : (table : Table) (s t : ℕ) → ¬ (Contains (keys_of (actions_at table s)) t) → action_of table s t ≡ Fails
 unfolding action_of
 action_missing table s t missing = ap (λ o. unwrap_or o Fails) (no_entry (actions_at table s) t missing)
 
--- where no key is the rule, there is no goto
+-- if no key is the rule, there is no goto
 pub goto_missing : (table : Table) (s r : ℕ) → ¬ (Contains (keys_of (gotos_at table s)) r) → goto_of table s r ≡ None
 unfolding goto_of
 goto_missing table s r missing = no_entry (gotos_at table s) r missing
@@ -135,14 +135,14 @@ pub goto_within_row : (table : Table) (s r next : ℕ) → All (IsGotoEntry tabl
 goto_within_row table s r next each there =
     let entry = All-contains (IsGotoEntry table.rules table.states) (gotos_at table s) (r, next) each there in entry.within
 
--- an entry whose token is out of range is none, as the test of it says
+-- an entry whose token is out of range isn't a right entry, as its test says
 pub action_out_of_range : (tokens states t : ℕ) (entry : ℕ × TableAction) → t ≡ entry.0 → tokens ≤ t → IsTrue (nat_lt t tokens) ↔ IsActionEntry tokens states entry
 action_out_of_range tokens states t entry same past = (
   λ h. let less = ltb-true t tokens h in absurd (omega (arith, less, past)),
   λ is. let less = is.token in absurd (omega (arith, less, same, past)),
 )
 
--- and of one whose token is in range, and which is a shift, the test of its state tells whether it is one
+-- if the token of an entry is in range, and its action is a shift, the test of its state decides whether it is a right entry
 pub shift_in_range : (tokens states t next s : ℕ) (entry : ℕ × TableAction) → t ≡ entry.0 → t < tokens → entry.1 ≡ ShiftTo next → s ≡ next
     → IsTrue (nat_lt s states) ↔ IsActionEntry tokens states entry
 shift_in_range tokens states t next s entry same below shift at = (
@@ -166,7 +166,7 @@ entries_test {K} {V} {X} number value P row b up test =
       λ are. test.1 (All-unmap P entry row are.each),
     )
 
--- a row whose keys don't ascend is refused, as it should be
+-- the test fails for a row whose keys don't ascend, as it should
 pub entries_refused : {K V X : Type 0} (number : K → ℕ) (value : V → X) (P : ℕ × X → Type 0) (row : List (K × V)) (b : Bool) → b ≡ false
     → IsTrue b ↔ IsStrictlyIncreasing (map (λ e. number e.0) row) → IsTrue b ↔ AreEntries P (map (λ e. (number e.0, value e.1)) row)
 entries_refused number value P row b failed test = (
@@ -176,7 +176,7 @@ entries_refused number value P row b failed test = (
 
 -- what is known of a table
 module _ (limit : ℕ) (table : Table) (is : IsTable limit table) where
-  -- the entries of a state of a table are as they should be, also of one that there isn't
+  -- the entries of each state of a table are right entries; a state out of range has none
   pub actions_good : (s : ℕ) → AreEntries (IsActionEntry table.tokens table.states) (actions_at table s)
   actions_good s =
       elim (cases_lt s (length table.actions)) as (λ _. AreEntries (IsActionEntry table.tokens table.states) (actions_at table s)) [
@@ -186,7 +186,7 @@ module _ (limit : ℕ) (table : Table) (is : IsTable limit table) where
             rw none (record { ascending = λ k h. absurd (omega (arith, h)); each = λ k d h. absurd (omega (arith, h)) })
       ]
 
-  -- and its gotos
+  -- the same of its gotos
   pub gotos_good : (s : ℕ) → AreEntries (IsGotoEntry table.rules table.states) (gotos_at table s)
   gotos_good s =
       elim (cases_lt s (length table.gotos)) as (λ _. AreEntries (IsGotoEntry table.rules table.states) (gotos_at table s)) [

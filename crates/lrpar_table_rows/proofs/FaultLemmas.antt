@@ -3,20 +3,20 @@ use Rattle.std.proofs.Common.{◌≡◌, ◌<◌, ◌≤◌, ◌↔◌, ℕ, Res
 use Rattle.lrpar_table_rows.specs.declared.fault.TableFault.{TableFault}
 use Rattle.lrpar_table_rows.specs.declared.fault.TableFault.TheVariants.{BadIndex, Memory}
 
--- what is as it should be isn't refused where a value is made of it
+-- if the input is right, a result that is a value isn't `BadIndex`
 pub made_of_good : {T : Type 0} (A : Type 0) (x : T) → A → IsErrOf (Ok x) BadIndex ↔ ¬ A
 made_of_good A x good = (λ h. absurd cc, λ bad. absurd (bad good))
 
--- nor where memory was wanting
+-- nor is it if an allocation failed
 pub memory_of_good : {T : Type 0} (A : Type 0) (r : Result T TableFault) → A → IsErrAnd r (λ fault. fault ≡ Memory) → IsErrOf r BadIndex ↔ ¬ A
 memory_of_good A (Ok x) good memory = absurd memory
 memory_of_good A (Err fault) good memory = (λ h. absurd cc, λ bad. absurd (bad good))
 
--- and what isn't as it should be is refused
+-- if the input isn't right, `BadIndex` is the right result
 pub refused_as_bad : {T : Type 0} (A : Type 0) → ¬ A → IsErrOf {T = T} (Err BadIndex) BadIndex ↔ ¬ A
 refused_as_bad A bad = (λ h. bad, λ bad. refl)
 
--- so with a count that has to be at most a limit: it is refused where it is more
+-- a count that has to be at most a limit is refused exactly if it is more
 module _ (limit count : ℕ) where
   pub made_of_few : {T : Type 0} (x : T) → count ≤ limit → IsErrOf (Ok x) BadIndex ↔ (limit < count)
   made_of_few x few = (λ h. absurd cc, λ many. absurd (omega (arith, few, many)))

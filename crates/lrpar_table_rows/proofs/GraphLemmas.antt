@@ -1,4 +1,4 @@
--- What state graphs have, told by tests of lists of items, and by what holds of each item.
+-- What state graphs have, computed by tests of lists of items, and by what holds of each item.
 use Rattle.std.proofs.Common.{◌≡◌, ◌<◌, ◌↔◌, ℕ, zero, suc, Bool, IsTrue, false, true, ◌&&◌, nat_eq, List, [], length, map, All, slice_index_or, subst, refl, ap, arith, inl, inr}
 use Rattle.std.proofs.lemmas.Bool.{and_from, and_parts, cases_lt, eq-eqb, eqb-true, false≢true}
 use Rattle.std.proofs.lemmas.List.{get_or_past}
@@ -19,7 +19,7 @@ state_in_range graph s p k t h =
       | inr past ↦ let none = ap (λ (xs : List ItemOf). length xs) (get_or_past graph s [] past) in absurd (omega (arith, h.1, none))
     ]
 
--- where there are no items there are no cores
+-- if there are no items, there are no cores
 pub no_core_there : (p k : ℕ) → IsTrue false ↔ AreWithCore [] p k
 no_core_there p k = (λ h. absurd (false≢true h), λ core. absurd (omega (arith, core.1.1)))
 
@@ -49,7 +49,7 @@ core_from_test p k x h =
     let dot : x.dot ≡ k = eqb-true _ _ parts.1 in
     let is : item_at x.prod x.dot x.token ≡ item_at p k x.token = cc in is
 
--- items have an item where one of them passes the test
+-- items have an item exactly if one of them passes the test
 pub item_by_test : (items : List ItemOf) (p k t : ℕ) → (list_any (is_item p k t) items ≡ true) ↔ Contains items (item_at p k t)
 item_by_test items p k t = (
   λ h.
@@ -60,7 +60,7 @@ item_by_test items p k t = (
       list_any-from_Any (is_item p k t) items (h.0, item_at p k t, h.1, h.2, passes),
 )
 
--- items have a core where one of them passes its test
+-- items have a core exactly if one of them passes its test
 pub core_by_test : (items : List ItemOf) (p k : ℕ) → (list_any (is_with_core p k) items ≡ true) ↔ AreWithCore items p k
 core_by_test items p k = (
   λ h.
@@ -71,7 +71,7 @@ core_by_test items p k = (
       list_any-from_Any (is_with_core p k) items (h.1.0, item_at p k h.0, h.1.1, h.1.2, passes),
 )
 
--- what holds of each item that `items` answers holds of each item of the state, and of no other list
+-- something holds of each item that `items` returns exactly if it holds of each item of the state
 pub all_items : {S : Type 0} (index : S → ℕ) (P : ℕ → ℕ → ℕ → Type 0) (graph : Graph) (s : ℕ) (items : List (PIdx S × ℕ × TIdx S))
     → map (item_of index) items ≡ items_of graph s
     → All (λ x. P (index x.0.0) x.1 (index x.2.0)) items ↔ ((p k t : ℕ) → HasItem graph s p k t → P p k t)
@@ -86,7 +86,7 @@ all_items {S} index P graph s items is = (
       each (index x.0.0) x.1 (index x.2.0) has,
 )
 
--- what holds of each core that `cores` answers holds of each core of the state, and of no other list
+-- something holds of each core that `cores` returns exactly if it holds of each core of the state
 pub all_cores : {S : Type 0} (index : S → ℕ) (P : ℕ → ℕ → Type 0) (graph : Graph) (s : ℕ) (cores : List (PIdx S × ℕ))
     → ((p k : ℕ) → HasCore graph s p k ↔ Contains (map (core_of index) cores) (p, k))
     → All (λ c. P (index c.0.0) c.1) cores ↔ ((p k : ℕ) → HasCore graph s p k → P p k)
@@ -100,7 +100,7 @@ all_cores {S} index P graph s cores is = (
       each (index c.0.0) c.1 ((is (index c.0.0) c.1).1 (Contains-image (core_of index) cores c (All-contains_itself cores i d below))),
 )
 
--- what holds of each core that `begun_cores` answers, and of each with the dot at the front, holds of each core of the state
+-- what holds of each core that `begun_cores` returns, and of each core with the dot at the start, holds of each core of the state
 begun_holds : {S : Type 0} (index : S → ℕ) (P : ℕ → ℕ → Type 0) (graph : Graph) (s : ℕ) (cores : List (PIdx S × ℕ))
     → ((p k : ℕ) → (HasCore graph s p k × (0 < k)) ↔ Contains (map (core_of index) cores) (p, k)) → ((p : ℕ) → P p 0)
     → All (λ c. P (index c.0.0) c.1) cores → (p k : ℕ) → HasCore graph s p k → P p k

@@ -1,4 +1,4 @@
--- Items of code and the numbers that they stand for.
+-- Items of code and the numbers that they represent.
 use Rattle.std.proofs.Common.{sym, ◌++◌, ◌&&◌, Bool, true, nat_eq, inl, inr, ◌≡◌, ◌<◌, ◌↔◌, ◌∙◌, ℕ, suc, zero, List, [], ◌∷◌, map, slice_index_or, subst, ap, refl, arith}
 use Rattle.std.proofs.Math.ListN.{get_or-map}
 use Rattle.std.proofs.lemmas.List.{length-map}
@@ -41,11 +41,11 @@ HaveSame-map f xs ys same y = (
   λ h. let x = Contains-preimage f ys y h in subst (Contains (map f xs)) x.2 (Contains-image f xs x.0 ((same x.0).1 x.1)),
 )
 
--- a number of which its index is known is known
+-- numbers with the same index are the same
 pub exact_index : {S : Type 0} (index : S → ℕ) (at_index : ℕ → S) → ((x : S) → at_index (index x) ≡ x) → (x y : S) → index x ≡ index y → x ≡ y
 exact_index index at_index law x y e = sym (law x) ∙ ap at_index e ∙ law y
 
--- two comparisons, the second asked where the first ties, tie where both do
+-- if two comparisons one after the other tie, each of them ties
 then_ties : (a b : Ordering) → ordering_then a b ≡ Equal → (a ≡ Equal) × (b ≡ Equal)
 then_ties Less b h = absurd (cc)
 then_ties Equal b h = (refl, h)
@@ -60,27 +60,27 @@ module _ {S : Type 0} (index : S → ℕ) (exact : (x y : S) → index x ≡ ind
   same_token : (t u : TIdx S) → index t.0 ≡ index u.0 → t ≡ u
   same_token t u e = ap (λ (v : S). let made : TIdx S = record { 0 = v } in made) (exact t.0 u.0 e)
 
-  -- cores that compare equal are the same, where numbers compare as what they stand for
-  pub cores_told_apart : (cmp : S → S → Ordering) → ((a b : S) → cmp a b ≡ nat_cmp (index a) (index b)) → (x y : PIdx S × ℕ)
+  -- if numbers compare as their indexes do, cores that compare equal are the same
+  pub cores_compare_exactly : (cmp : S → S → Ordering) → ((a b : S) → cmp a b ≡ nat_cmp (index a) (index b)) → (x y : PIdx S × ℕ)
       → ordering_then (cmp x.0.0 y.0.0) (nat_cmp x.1 y.1) ≡ Equal → x ≡ y
-  cores_told_apart cmp law x y h =
+  cores_compare_exactly cmp law x y h =
       let ties = then_ties _ _ h in
       let prod : x.0 ≡ y.0 = same_prod x.0 y.0 (ranked (index x.0.0) (index y.0.0) Equal (sym ties.0 ∙ law x.0.0 y.0.0)) in
       let dot : x.1 ≡ y.1 = ranked x.1 y.1 Equal (sym ties.1) in
       let is : (x.0, x.1) ≡ (y.0, y.1) = cc in is
 
-  -- and so are items
-  pub items_told_apart : (cmp : S → S → Ordering) → ((a b : S) → cmp a b ≡ nat_cmp (index a) (index b)) → (x y : PIdx S × ℕ × TIdx S)
+  -- so are items that compare equal
+  pub items_compare_exactly : (cmp : S → S → Ordering) → ((a b : S) → cmp a b ≡ nat_cmp (index a) (index b)) → (x y : PIdx S × ℕ × TIdx S)
       → ordering_then (ordering_then (cmp x.0.0 y.0.0) (nat_cmp x.1 y.1)) (cmp x.2.0 y.2.0) ≡ Equal → x ≡ y
-  items_told_apart cmp law x y h =
+  items_compare_exactly cmp law x y h =
       let ties = then_ties _ _ h in
-      let core = cores_told_apart cmp law (x.0, x.1) (y.0, y.1) ties.0 in
+      let core = cores_compare_exactly cmp law (x.0, x.1) (y.0, y.1) ties.0 in
       let prod : x.0 ≡ y.0 = ap (λ (c : PIdx S × ℕ). c.0) core in
       let dot : x.1 ≡ y.1 = ap (λ (c : PIdx S × ℕ). c.1) core in
       let token : x.2 ≡ y.2 = same_token x.2 y.2 (ranked (index x.2.0) (index y.2.0) Equal (sym ties.1 ∙ law x.2.0 y.2.0)) in
       let is : (x.0, x.1, x.2) ≡ (y.0, y.1, y.2) = cc in is
 
-  -- and so are cores that a test counts as the same
+  -- so are cores that a test says are equal
   pub cores_same_by_test : (eq : S → S → Bool) → ((a b : S) → eq a b ≡ nat_eq (index a) (index b)) → (x y : PIdx S × ℕ)
       → (eq x.0.0 y.0.0 && nat_eq x.1 y.1) ≡ true → x ≡ y
   cores_same_by_test eq law x y h =
@@ -89,7 +89,7 @@ module _ {S : Type 0} (index : S → ℕ) (exact : (x y : S) → index x ≡ ind
       let dot : x.1 ≡ y.1 = eqb-true _ _ parts.1 in
       let is : (x.0, x.1) ≡ (y.0, y.1) = cc in is
 
-  -- a list has an item where its image has the item's numbers
+  -- a list has an item exactly if its image has the item's numbers
   pub item_by_numbers : (items : List (PIdx S × ℕ × TIdx S)) (p : PIdx S) (k : ℕ) (t : TIdx S)
       → Contains items (p, k, t) ↔ Contains (map (item_of index) items) (item_at (index p.0) k (index t.0))
   item_by_numbers items p k t = (
@@ -103,7 +103,7 @@ module _ {S : Type 0} (index : S → ℕ) (exact : (x y : S) → index x ≡ ind
         subst (Contains items) is x.1,
   )
 
-  -- the cores have a core where the image of the items has its numbers
+  -- the cores have a core exactly if the image of the items has its numbers
   pub core_by_numbers : (items : List (PIdx S × ℕ × TIdx S)) (cores : List (PIdx S × ℕ)) (p : PIdx S) (k : ℕ)
       → AreCoresOf items cores → Contains cores (p, k) ↔ AreWithCore (map (item_of index) items) (index p.0) k
   core_by_numbers items cores p k of = (
@@ -136,7 +136,7 @@ cores_by_numbers index items cores of p k = (
       (index t.0.0, subst (Contains (map (item_of index) items)) is has),
 )
 
--- and so do the images of items and of the cores whose dot isn't at the front
+-- the same of the images of items and of the cores whose dot isn't at the start
 pub begun_by_numbers : {S : Type 0} (index : S → ℕ) (items : List (PIdx S × ℕ × TIdx S)) (cores begun : List (PIdx S × ℕ)) → AreCoresOf items cores
     → AreBegunOf cores begun → (p k : ℕ) → (AreWithCore (map (item_of index) items) p k × (0 < k)) ↔ Contains (map (core_of index) begun) (p, k)
 begun_by_numbers {S} index items cores begun of are p k = (
@@ -152,7 +152,7 @@ begun_by_numbers {S} index items cores begun of are p k = (
       ),
 )
 
--- a core more, whose dot isn't at the front, or is
+-- one more core, whose dot isn't at the start, or is
 module _ {S : Type 0} (seen begun : List (PIdx S × ℕ)) (core : PIdx S × ℕ) (are : AreBegunOf seen begun) where
   pub begun_more : 0 < core.1 → AreBegunOf (seen ++ core ∷ []) (begun ++ core ∷ [])
   begun_more some p k = (
@@ -220,14 +220,14 @@ same_at_each (x ∷ xs) [] all s = absurd all
 same_at_each (x ∷ xs) (y ∷ ys) all zero = all.0
 same_at_each (x ∷ xs) (y ∷ ys) all (suc s) = same_at_each xs ys all.1 s
 
--- a row in order has its image in order, where the image's order is that of the row
+-- if a row is in order, and its image is ordered alike, the image is in order
 pub sorted_image : {X Y : Type 0} (R : X → X → Ordering) (Q : Y → Y → Ordering) (f : X → Y) → ((x y : X) → R x y ≡ Q (f x) (f y))
     → (xs : List X) → IsStrictlySortedBy R xs → IsStrictlySortedBy Q (map f xs)
 unfolding IsStrictlySortedBy
 sorted_image R Q f same [] h = h
 sorted_image R Q f same (x ∷ xs) h = (first_image R Q f same x xs h.0, sorted_image R Q f same xs h.1)
 
--- where numbers compare as what they stand for, so do items
+-- if numbers compare as their indexes do, so do items
 pub same_item_order : {S : Type 0} (index : S → ℕ) (cmp : S → S → Ordering) → ((a b : S) → cmp a b ≡ nat_cmp (index a) (index b))
     → (x y : PIdx S × ℕ × TIdx S)
     → ordering_then (ordering_then (cmp x.0.0 y.0.0) (nat_cmp x.1 y.1)) (cmp x.2.0 y.2.0) ≡ item_cmp (item_of index x) (item_of index y)
@@ -237,7 +237,7 @@ same_item_order index cmp law x y =
     ap (λ (o : Ordering). ordering_then (ordering_then o (nat_cmp x.1 y.1)) (cmp x.2.0 y.2.0)) prod
     ∙ ap (λ (o : Ordering). ordering_then (ordering_then (nat_cmp (index x.0.0) (index y.0.0)) (nat_cmp x.1 y.1)) o) token
 
--- and cores
+-- if numbers compare as their indexes do, so do cores
 pub same_core_order : {S : Type 0} (index : S → ℕ) (cmp : S → S → Ordering) → ((a b : S) → cmp a b ≡ nat_cmp (index a) (index b))
     → (x y : PIdx S × ℕ) → ordering_then (cmp x.0.0 y.0.0) (nat_cmp x.1 y.1) ≡ core_cmp (core_of index x) (core_of index y)
 same_core_order index cmp law x y = ap (λ (o : Ordering). ordering_then o (nat_cmp x.1 y.1)) (law x.0.0 y.0.0)

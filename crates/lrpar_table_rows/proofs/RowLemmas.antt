@@ -12,7 +12,7 @@ use Rattle.lrpar_table_rows.specs.Rows.{AreRows, IsActionRow, IsGotoRow, Rows, k
 use Rattle.lrpar_table_rows.specs.Table.{AreEntries, IsActionEntry, IsActionWithin, IsGotoEntry, IsGotoWithin, IsTable, TableAction, ShiftTo, ReduceBy, Accepts, Fails, action_of, goto_of}
 
 module _ {A B : Type 0} (keep : A → Option B) where
-  -- what is kept of a row whose first element has number n
+  -- the entries that are kept of a row whose first element has number n
   abbrev pub kept_from : ℕ → List A → List (ℕ × B)
   kept_from n row = filter_map (kept_entry keep) (enumerate_from n row)
 
@@ -30,7 +30,7 @@ module _ {A B : Type 0} (keep : A → Option B) where
       first_kept P n (keep x) (kept_from (n + 1) row) (λ b is. each n x b (omega (arith, fits)) (All-head Q x row all) is)
       (kept_all P Q m each (n + 1) row (omega (arith, fits)) (All-tail Q x row all))
 
-  -- all that is kept has numbers from n on
+  -- all kept entries have numbers from n on
   kept_past : (low n : ℕ) (row : List A) → low ≤ n → AllByRecursion (λ e. low ≤ e.0) (kept_from n row)
   kept_past low n [] from = tt
   kept_past low n (x ∷ row) from =
@@ -44,13 +44,13 @@ module _ {A B : Type 0} (keep : A → Option B) where
   ascending_cons n (e ∷ es) all up (suc k) h =
       let same : suc k + 1 ≡ suc (k + 1) = omega arith in rw same (up k (omega (arith, h)))
 
-  -- what is kept first, and what is kept later
+  -- later entries that ascend still do with the entry of the first element
   ascending_first : (n : ℕ) (o : Option B) (es : List (ℕ × B)) → AllByRecursion (λ e. n + 1 ≤ e.0) es → IsStrictlyIncreasing (keys_of es)
       → IsStrictlyIncreasing (keys_of (cons_option (option_map (λ kept. (n, kept)) o) es))
   ascending_first n None es all up = up
   ascending_first n (Some b) es all up = ascending_cons n es all up
 
-  -- what is kept ascends
+  -- the kept entries ascend
   pub kept_ascends : (n : ℕ) (row : List A) → IsStrictlyIncreasing (keys_of (kept_from n row))
   kept_ascends n [] = λ k h. absurd (omega (arith, h))
   kept_ascends n (x ∷ row) =
@@ -68,13 +68,13 @@ module _ {A B : Type 0} (keep : A → Option B) where
   find_first n t None es same none = none
   find_first n t (Some b) es same none = lookup_head (nat_eq t) (n, b) es (eq-eqb t n same)
 
-  -- a number before all that is kept isn't found
+  -- a number below those of all kept entries isn't found
   not_before : (n t : ℕ) (row : List A) → t < n → lookup (nat_eq t) (kept_from n row) ≡ None
   not_before n t [] less = refl
   not_before n t (x ∷ row) less =
       skip_first n t (keep x) (kept_from (n + 1) row) (λ same. omega (arith, same, less)) ∙ not_before (n + 1) t row (omega (arith, less))
 
-  -- a look-up finds what is kept of the element of that number
+  -- a look-up finds the entry that is kept for the element with that number
   pub lookup_kept : (n i t : ℕ) (row : List A) → t ≡ n + i → lookup (nat_eq t) (kept_from n row) ≡ option_and_then keep (slice_get row i)
   lookup_kept n i t [] is = refl
   lookup_kept n zero t (x ∷ row) is =
@@ -111,7 +111,7 @@ pub map-map : {X Y Z : Type 0} (f : X → Y) (h : Y → Z) (xs : List X) → map
 map-map f h [] = refl
 map-map f h (x ∷ xs) = ap (λ ys. h (f x) ∷ ys) (map-map f h xs)
 
--- an image of rows has the image of a row, and of no row where there is none
+-- an image of rows has the image of each row, and the empty row if there is none
 row_of_image : {X Y : Type 0} (f : List X → List Y) → f [] ≡ [] → (rows : List (List X)) (s : ℕ)
     → slice_index_or (map f rows) s [] ≡ f (slice_index_or rows s [])
 row_of_image f none [] s = sym none
@@ -165,7 +165,7 @@ goto_of_rows rows s r =
     let at : slice_index_or (map row_gotos rows.gotos) s [] ≡ row_gotos row = row_of_image row_gotos refl rows.gotos s in
     rw at (lookup_kept (λ goto. goto) 0 r r row (omega arith) ∙ goto_in_row row r)
 
--- what a row of actions stores is as it should be
+-- the entries that are stored of a row of actions are right entries
 row_actions_good : (tokens states : ℕ) (row : List TableAction) → IsActionRow tokens states row → AreEntries (IsActionEntry tokens states) (row_actions row)
 row_actions_good tokens states row is = record {
   ascending = kept_ascends unless_error 0 row;
@@ -178,7 +178,7 @@ row_actions_good tokens states row is = record {
       0 row (omega (arith, is.0)) is.1);
 }
 
--- what a row of gotos stores is as it should be
+-- the entries that are stored of a row of gotos are right entries
 row_gotos_good : (rules states : ℕ) (row : List (Option ℕ)) → IsGotoRow rules states row → AreEntries (IsGotoEntry rules states) (row_gotos row)
 row_gotos_good rules states row is = record {
   ascending = kept_ascends (λ goto. goto) 0 row;
@@ -189,7 +189,7 @@ row_gotos_good rules states row is = record {
       0 row (omega (arith, is.0)) is.1);
 }
 
--- the table of rows is one
+-- the table of right rows is a table
 pub table_from_rows : (limit : ℕ) (rows : Rows) → AreRows limit rows → IsTable limit (table_of rows)
 table_from_rows limit rows are = record {
   actions_len = length-map rows.actions row_actions;

@@ -1,4 +1,4 @@
--- Safe tables told by tests, which compute.
+-- Tests that compute whether a table is safe.
 use Rattle.std.proofs.Common.{◌≡◌, ◌<◌, ◌∙◌, inl, inr, refl, sym, ap, subst, arith, add-one, ℕ, zero, suc, Bool, true, false, cond, not, ◌&&◌, nat_eq, nat_lt, nat_le, List, Option, Some, None, slice_get}
 use Rattle.std.proofs.lemmas.Bool.{and_parts, both_ways, cases_eq, cases_lt, cond-false, cond-true, eq-eqb, eqb-true, leb-true, ltb-true, ne_eqb, not-true}
 use Rattle.std.proofs.lemmas.List.Sums.{AllPass-from_list_all}
@@ -32,7 +32,7 @@ all_below_at p (suc n) h k below =
 passes : {X : Type 0} (p : X → Bool) (xs : List X) (x : X) → list_all p xs ≡ true → Contains xs x → p x ≡ true
 passes p xs x h there = subst (λ y. p y ≡ true) there.2 (AllPass-from_list_all p xs h there.0 x there.1)
 
--- this symbol is there
+-- the option has this symbol
 abbrev is_symbol : GrammarSymbol → Option GrammarSymbol → Bool
 is_symbol (Terminal t) (Some (Terminal u)) = nat_eq u t
 is_symbol (Nonterminal r) (Some (Nonterminal q)) = nat_eq q r
@@ -46,7 +46,7 @@ symbol_found (Nonterminal r) (Some (Terminal u)) h = absurd (both_ways _ refl h)
 symbol_found (Nonterminal r) (Some (Nonterminal q)) h = ap (λ (n : ℕ). Some (Nonterminal n)) (eqb-true q r h)
 symbol_found (Nonterminal r) None h = absurd (both_ways _ refl h)
 
--- what is there
+-- the value of an option that isn't empty
 some_found : (found : Option ℕ) → is_some found ≡ true → (next : ℕ) × (found ≡ Some next)
 some_found (Some next) h = (next, refl)
 some_found None h = absurd (both_ways _ refl h)
@@ -64,7 +64,7 @@ core_follows g graph s x p (suc k) = is_symbol x (slice_get (symbols_of g p) k) 
 abbrev cores_follow : Grammar → Graph → ℕ → GrammarSymbol → ℕ → Bool
 cores_follow g graph s x next = list_all (λ i. core_follows g graph s x i.prod i.dot) (items_of graph next)
 
--- what the conditions ask of an action
+-- whether an action meets the conditions
 abbrev action_passes : Grammar → Graph → Table → ℕ → ℕ → TableAction → Bool
 action_passes g graph table s t (ShiftTo next) =
     not (nat_eq t (end_token g)) && (cores_follow g graph s (Terminal t) next && not (nat_eq next table.start))
@@ -73,11 +73,11 @@ action_passes g graph table s t (ReduceBy p) =
 action_passes g graph table s t Accepts = nat_eq t (end_token g) && has_core graph s (start_prod g) 1
 action_passes g graph table s t Fails = true
 
--- and of a goto
+-- whether a goto meets the conditions
 abbrev goto_passes : Grammar → Graph → Table → ℕ → ℕ → ℕ → Bool
 goto_passes g graph table s r next = cores_follow g graph s (Nonterminal r) next && not (nat_eq next table.start)
 
--- and of a core
+-- whether a core meets the conditions
 abbrev core_passes : Grammar → Table → ℕ → ℕ → ℕ → Bool
 core_passes g table s p zero = cond (nat_eq p (start_prod g)) (nat_eq s table.start) (is_some (goto_of table s (rule_of g p)))
 core_passes g table s p (suc k) = not (nat_eq s table.start)
@@ -86,7 +86,7 @@ core_passes g table s p (suc k) = not (nat_eq s table.start)
 abbrev item_passes : Grammar → ItemOf → Bool
 item_passes g i = nat_lt i.prod (prods_len g) && (nat_le i.dot (prod_len g i.prod) && nat_lt i.token (tokens_len g))
 
--- all that a state has passes
+-- all actions, gotos, cores and items of a state pass
 abbrev pub state_passes : Grammar → Graph → Table → ℕ → Bool
 state_passes g graph table s =
     (list_all (λ e. action_passes g graph table s e.0 e.1) (actions_at table s) && list_all (λ e. goto_passes g graph table s e.0 e.1) (gotos_at table s))

@@ -1,4 +1,4 @@
--- The search of a number among numbers that ascend, which halves the part that is left.
+-- The binary search for a number among numbers that ascend.
 use Rattle.std.proofs.Common.{◌≡◌, ◌<◌, ◌≤◌, ◌+◌, ◌-◌, ℕ, List, length, map, slice_index, slice_index_or, ◌∙◌, ap, subst, sym, arith, inl, inr}
 use Rattle.std.specs.List.{Contains}
 use Rattle.std.specs.List.Sorted.{IsStrictlyIncreasing}
@@ -6,7 +6,7 @@ use Rattle.std.proofs.lemmas.Bool.{cases_lt}
 use Rattle.std.proofs.lemmas.List.{get_or-map, get_or_default, length-map}
 use Rattle.std.proofs.lemmas.List.Kept.{AllPairs-from_increasing}
 
--- of the places, `size` from `base` on are left: what stands before them is less, and what comes after them greater
+-- `size` places from `base` on are left: the numbers before them are less than the one looked for, those after them greater
 pub record IsSearched (ns : List ℕ) (sought base size : ℕ) : Type 0 where
   pub within : base + size ≤ length ns
   pub below : (k : ℕ) → k < base → slice_index ns k < sought
@@ -20,7 +20,7 @@ searched_first f xs sought = record {
   above = λ k low high. let inside : k < length xs = rw length-map at high in absurd (omega (arith, low, inside));
 }
 
--- where the middle one isn't greater, the part from it on is left
+-- if the middle one isn't greater, the part from it on is left
 pub searched_up : (ns : List ℕ) (sought base size half : ℕ) → IsStrictlyIncreasing ns → IsSearched ns sought base size → half < size
     → slice_index ns (base + half) ≤ sought → IsSearched ns sought (base + half) (size - half)
 searched_up ns sought base size half up so_far less here = record {
@@ -29,7 +29,7 @@ searched_up ns sought base size half up so_far less here = record {
   above = λ k low high. so_far.above k (omega (arith, low, less)) high;
 }
 
--- where it is greater, the part before it is left, and here one more in some cases
+-- if it is greater, the part before it is left, and here one more in some cases
 pub searched_down : (ns : List ℕ) (sought base size half : ℕ) → IsStrictlyIncreasing ns → IsSearched ns sought base size → half + half ≤ size
     → sought < slice_index ns (base + half) → IsSearched ns sought base (size - half)
 searched_down ns sought base size half up so_far less here = record {
@@ -42,7 +42,7 @@ searched_down ns sought base size half up so_far less here = record {
       ];
 }
 
--- where none is left, or one that is another, the number isn't there
+-- if none is left, or one that is another number, the number isn't there
 pub searched_out : (ns : List ℕ) (sought base size : ℕ) → IsSearched ns sought base size → size ≤ 1 → (size ≡ 1 → ¬ (slice_index ns base ≡ sought))
     → ¬ (Contains ns sought)
 searched_out ns sought base size so_far small other there =
@@ -60,7 +60,7 @@ searched_out ns sought base size so_far small other there =
           ]
     ]
 
--- a number between two that stand side by side isn't there
+-- a number between two neighbours isn't there
 pub between_sides : (ns : List ℕ) (sought place : ℕ) → IsStrictlyIncreasing ns → place + 1 < length ns → slice_index ns place < sought
     → sought < slice_index ns (place + 1) → ¬ (Contains ns sought)
 between_sides ns sought place up next below above =

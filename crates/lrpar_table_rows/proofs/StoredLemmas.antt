@@ -1,4 +1,4 @@
--- The entries of a state, of which keys and values are stored side by side.
+-- The entries of a state, with keys and values stored side by side.
 use Rattle.std.proofs.Common.{◌≡◌, ◌<◌, ◌∙◌, sym, ap, subst, arith, ℕ, List, length, map, slice_index_or}
 use Rattle.std.specs.List.{zip}
 use Rattle.std.proofs.lemmas.List.{get_or-map, length-map}

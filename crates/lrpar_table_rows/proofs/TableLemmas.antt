@@ -41,7 +41,7 @@ stored_are index rows states actions gotos states_are actions_are gotos_are =
     let goes = gotos_are ∙ sym (map-map (λ row. map (plain_goto index) row.items) row_gotos rows.gotos.items) in
     cc
 
--- rows of a length that is small enough are short
+-- rows of length n, which is at most a limit, are no longer than the limit
 pub short_rows : {R X Y : Type 0} (items : R → List X) (f : X → Y) (P : Y → Type 0) (rows : List R) (n limit : ℕ)
     → All (λ ys. (length ys ≡ n) × All P ys) (map (λ r. map f (items r)) rows) → n ≤ limit → All (λ r. length (items r) ≤ limit) rows
 short_rows items f P rows n limit all fits k d below =

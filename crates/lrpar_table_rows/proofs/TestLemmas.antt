@@ -1,4 +1,4 @@
--- What tests decide, and lists that are looked through.
+-- What tests decide, and loops over lists.
 use Rattle.std.proofs.Common.{◌≡◌, ◌<◌, ◌≤◌, ◌+◌, ◌↔◌, ◌∙◌, ℕ, suc, ◌∷◌, false, true, IsTrue, List, [], Option, length, map, slice_index_or, unwrap_or, refl, sym, ap, subst, below_more, arith}
 use Rattle.std.specs.List.{All, AllZip, Contains}
 use Rattle.std.proofs.lemmas.Bool.{false≢true}
@@ -22,12 +22,12 @@ refused fails = (λ h. absurd (cc), λ holds. absurd (fails holds))
 pub length_by_image : {X Y : Type 0} (f : X → Y) (xs : List X) (ys : List Y) → map f xs ≡ ys → length xs ≡ length ys
 length_by_image {Y = Y} f xs ys is = sym (length-map xs f) ∙ ap (λ (zs : List Y). length zs) is
 
--- what a look-up of a place reads, or else gives, is what stands there, or else the default
+-- a look-up at a place, with a default, returns what is there, or else the default
 pub item_read : {X : Type 0} (xs ys : List X) (i : ℕ) (item : Option X) (d : X) → ys ≡ xs → (i ≤ i → (e : X) → unwrap_or item e ≡ slice_index_or ys i e)
     → unwrap_or item d ≡ slice_index_or xs i d
 item_read {X} xs ys i item d same read = subst (λ (zs : List X). unwrap_or item d ≡ slice_index_or zs i d) same (read (omega arith) d)
 
--- and in an empty list nothing is found
+-- nothing is in an empty list
 pub none_there : {X : Type 0} (x : X) → IsTrue false ↔ Contains [] x
 none_there x = (λ h. absurd (false≢true h), λ there. absurd (omega (arith, there.1)))
 
@@ -35,7 +35,7 @@ none_there x = (λ h. absurd (false≢true h), λ there. absurd (omega (arith, t
 pub all_read : {X : Type 0} (P : X → Type 0) (xs : List X) (i : ℕ) (x : X) → All P xs → i < length xs → x ≡ slice_index_or xs i x → P x
 all_read P xs i x all below is = subst P (sym is) (all i x below)
 
--- lists whose elements are paired have as many
+-- lists whose elements are paired have the same length
 pub same_len : {X Y : Type 0} (R : X → Y → Type 0) (xs : List X) (ys : List Y) → AllZip R xs ys → length xs ≡ length ys
 same_len R [] [] all = refl
 same_len R [] (y ∷ ys) all = absurd all

@@ -6,14 +6,14 @@ use Rattle.std.specs.declared.cmp.Ordering.{Ordering}
 use Rattle.std.specs.declared.cmp.Ordering.TheVariants.{Equal}
 
 -- elements that compare equal are the same
-abbrev pub TellsApart : {X : Type 0} → (X → X → Ordering) → Type 0
-TellsApart {X} cmp = (x y : X) → cmp x y ≡ Equal → x ≡ y
+abbrev pub ComparesExactly : {X : Type 0} → (X → X → Ordering) → Type 0
+ComparesExactly {X} cmp = (x y : X) → cmp x y ≡ Equal → x ≡ y
 
 -- each element comes before those after it, and elements that compare equal are the same
 pub record IsAscending {X : Type 0} (cmp : X → X → Ordering) (xs : List X) : Type 0 where
   pub sorted : IsStrictlySortedBy cmp xs
-  pub exact : TellsApart cmp
+  pub exact : ComparesExactly cmp
 
--- the same elements, in whatever order and however often
+-- the same elements, in any order and each any number of times
 abbrev pub HaveSame : {X : Type 0} → List X → List X → Type 0
 HaveSame {X} xs ys = (x : X) → Contains xs x ↔ Contains ys x

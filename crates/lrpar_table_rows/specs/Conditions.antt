@@ -1,4 +1,4 @@
--- The safety conditions by their numbers, and that the list of them has them all.
+-- The safety conditions by their numbers; and the list of them has them all.
 use Rattle.std.specs.Prelude.{◌++◌, ℕ, List, codes}
 use Rattle.std.specs.Fmt.{decimal}
 use Rattle.std.specs.List.{Contains}
@@ -21,7 +21,7 @@ condition_number S8 = 8
 abbrev pub condition_text : SafetyCondition → List ℕ
 condition_text condition = codes "S" ++ decimal (condition_number condition)
 
--- each condition stands in the list
+-- each condition is in the list
 pub is_listed : (condition : SafetyCondition) → Contains ALL condition
 is_listed S2 = (0, omega arith, refl)
 is_listed S3 = (1, omega arith, refl)

@@ -1,4 +1,4 @@
--- Rows that lie one after the other in one list, told by where each begins.
+-- Rows that lie one after the other in one list, with a list of the places where they begin.
 use Rattle.std.specs.Prelude.{◌≡◌, ◌<◌, ◌≤◌, ◌+◌, ◌-◌, ℕ, List, length, map, slice_index, slice_range}
 use Rattle.std.specs.List.{range_with_len}
 
@@ -6,14 +6,14 @@ use Rattle.std.specs.List.{range_with_len}
 abbrev pub cut : {X : Type 0} → List ℕ → List X → List (List X)
 cut starts xs = map (λ s. slice_range xs (slice_index starts s) (slice_index starts (s + 1))) (range_with_len 0 (length starts - 1))
 
--- the first place is 0, the places don't descend, and the last one is `end`
+-- the first place is 0, no place is less than the one before, and the last one is `end`
 pub record AreStarts (starts : List ℕ) (end : ℕ) : Type 0 where
   pub some : 0 < length starts
   pub first : slice_index starts 0 ≡ 0
   pub up : (s : ℕ) → s + 1 < length starts → slice_index starts s ≤ slice_index starts (s + 1)
   pub last : slice_index starts (length starts - 1) ≡ end
 
--- the places fit the list of keys, and there is a value for each key
+-- the places divide the list of keys, and there is a value for each key
 pub record AreParts {K V : Type 0} (starts : List ℕ) (keys : List K) (values : List V) : Type 0 where
   pub placed : AreStarts starts (length keys)
   pub paired : length values ≡ length keys

@@ -1,21 +1,21 @@
--- The item sets of the states of an LR automaton. An item is written as its production with a dot, and its lookahead:
+-- The sets of LR(1) items of the states of an LR automaton. An item is written as its production with a dot, and its lookahead:
 -- `E: T . '+' E  {end}`.
 use Rattle.std.specs.Prelude.{ℕ, List, [], length, slice_index_or}
 use Rattle.std.specs.List.{Contains}
 use Rattle.std.specs.Ordering.{nat_cmp, ordering_then}
 use Rattle.std.specs.declared.cmp.Ordering.{Ordering}
 
--- the number of a production, how many of its symbols stand before the dot, and the number of the lookahead
+-- an LR(1) item: the number of a production, how many of its symbols are before the dot, and the number of the lookahead
 pub record ItemOf : Type 0 where
   pub prod : ℕ
   pub dot : ℕ
   pub token : ℕ
 
--- for each state its items
+-- the items of each state
 abbrev pub Graph : Type 0
 Graph = List (List ItemOf)
 
--- how many states there are
+-- the number of states
 abbrev pub graph_len : Graph → ℕ
 graph_len graph = length graph
 
@@ -27,7 +27,7 @@ items_of graph s = slice_index_or graph s []
 abbrev pub item_at : ℕ → ℕ → ℕ → ItemOf
 item_at p k t = record { prod = p; dot = k; token = t }
 
--- production p with k symbols before the dot is the core of one of the items
+-- production p with k symbols before the dot is the LR(0) core of one of the items
 abbrev pub AreWithCore : List ItemOf → ℕ → ℕ → Type 0
 AreWithCore items p k = (t : ℕ) × Contains items (item_at p k t)
 
@@ -35,7 +35,7 @@ AreWithCore items p k = (t : ℕ) × Contains items (item_at p k t)
 abbrev pub HasItem : Graph → ℕ → ℕ → ℕ → ℕ → Type 0
 HasItem graph s p k t = Contains (items_of graph s) (item_at p k t)
 
--- state s has production p with k symbols before the dot, with some lookahead
+-- state s has the LR(0) core: production p with k symbols before the dot, with some lookahead
 abbrev pub HasCore : Graph → ℕ → ℕ → ℕ → Type 0
 HasCore graph s p k = AreWithCore (items_of graph s) p k
 

@@ -1,4 +1,4 @@
--- What the rows of code stand for, by the numbers of their indexes.
+-- The rows that values of code represent, by the numbers of their indexes.
 use Rattle.std.specs.Prelude.{ℕ, map, Option, Some, None}
 use Rattle.lrpar_grammar_places.specs.declared.span.RIdx.{RIdx}
 use Rattle.lrpar_grammar_places.specs.declared.span.StIdx.{StIdx}
@@ -10,23 +10,23 @@ use Rattle.lrpar_table_rows.specs.declared.rows.Action.TheVariants.{Shift, Reduc
 use Rattle.lrpar_table_rows.specs.declared.rows.SparseRows.{SparseRows}
 use Rattle.lrpar_table_rows.specs.declared.rows.TableRows.{TableRows}
 
--- an action
+-- the action that a value of code represents
 abbrev pub plain_action : {S : Type 0} → (S → ℕ) → Action S → TableAction
 plain_action index (Shift s) = ShiftTo (index s.0)
 plain_action index (Reduce p) = ReduceBy (index p.0)
 plain_action index Accept = Accepts
 plain_action index Error = Fails
 
--- a state to go to, if there is one
+-- the goto that a value of code represents, if there is one
 abbrev pub plain_goto : {S : Type 0} → (S → ℕ) → Option (StIdx S) → Option ℕ
 plain_goto index (Some s) = Some (index s.0)
 plain_goto index None = None
 
--- a token with an action
+-- an entry of a row of actions: a token with an action
 abbrev pub action_entry : {S : Type 0} → (S → ℕ) → TIdx S × Action S → ℕ × TableAction
 action_entry index entry = (index entry.0.0, plain_action index entry.1)
 
--- a rule with a state to go to
+-- an entry of a row of gotos: a rule with a state to go to
 abbrev pub goto_entry : {S : Type 0} → (S → ℕ) → RIdx S × StIdx S → ℕ × ℕ
 goto_entry index entry = (index entry.0.0, index entry.1.0)
 

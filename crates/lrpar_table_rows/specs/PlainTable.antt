@@ -1,4 +1,4 @@
--- What the parts of a table in code stand for, by the numbers of their indexes.
+-- The table that the parts of a table in code represent, by the numbers of their indexes.
 use Rattle.std.specs.Prelude.{ℕ, List, map, length, Option}
 use Rattle.lrpar_grammar_places.specs.declared.span.RIdx.{RIdx}
 use Rattle.lrpar_grammar_places.specs.declared.span.StIdx.{StIdx}
@@ -7,7 +7,7 @@ use Rattle.lrpar_table_rows.specs.PlainRows.{action_entry, goto_entry}
 use Rattle.lrpar_table_rows.specs.Table.{ConflictLists, Table}
 use Rattle.lrpar_table_rows.specs.declared.rows.Action.{Action}
 
--- the table of these parts: its start, how many tokens and rules it has, and what each state stores
+-- the table of these parts: its start state, its numbers of tokens and rules, and the entries of each state
 abbrev pub plain_table : {S : Type 0} → (S → ℕ) → StIdx S → ℕ → ℕ → List (List (TIdx S × Action S)) → List (List (RIdx S × StIdx S)) → Option ConflictLists → Table
 plain_table index start tokens rules actions gotos conflicts = record {
   start = index start.0;

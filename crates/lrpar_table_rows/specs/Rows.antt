@@ -1,10 +1,10 @@
--- Full rows, of which a table is made: an action for each token, and an optional state for each rule.
+-- Full rows, from which a table is made: an action for each token, and an optional state for each rule.
 use Rattle.std.specs.Prelude.{◌≡◌, ◌<◌, ◌≤◌, ℕ, List, length, map, filter_map, option_map, All, Option, Some, None}
 use Rattle.std.specs.List.{enumerate_from}
 use Rattle.lrpar_table_rows.specs.Table.{ConflictLists, IsActionWithin, IsGotoWithin, Table, TableAction, ShiftTo, ReduceBy, Accepts, Fails}
 
--- the start state; how many tokens and rules there are; for each state an action for each token, and an optional state
--- for each rule
+-- the start state; the numbers of tokens and rules; for each state an action for each token, and an optional state for
+-- each rule
 pub record Rows : Type 0 where
   pub start : ℕ
   pub tokens : ℕ
@@ -21,8 +21,8 @@ IsActionRow tokens states row = (length row ≡ tokens) × All (IsActionWithin s
 abbrev pub IsGotoRow : ℕ → ℕ → List (Option ℕ) → Type 0
 IsGotoRow rules states row = (length row ≡ rules) × All (IsGotoWithin states) row
 
--- each state has its two rows, every state that they name is one of the table, and so is the start state; the
--- numbers of states, tokens and rules are at most `limit`
+-- each state has its two rows; every state that they name is one of the table, and so is the start state; the numbers of
+-- states, tokens and rules are at most `limit`
 pub record AreRows (limit : ℕ) (rows : Rows) : Type 0 where
   pub gotos_len : length rows.gotos ≡ length rows.actions
   pub states_fit : length rows.actions ≤ limit
@@ -32,11 +32,11 @@ pub record AreRows (limit : ℕ) (rows : Rows) : Type 0 where
   pub action_rows : All (IsActionRow rows.tokens (length rows.actions)) rows.actions
   pub goto_rows : All (IsGotoRow rows.rules (length rows.actions)) rows.gotos
 
--- what is kept of an element, with its number
+-- the entry that is kept for an element, with the element's number; or none
 abbrev pub kept_entry : {A B : Type 0} → (A → Option B) → ℕ × A → Option (ℕ × B)
 kept_entry keep element = option_map (λ kept. (element.0, kept)) (keep element.1)
 
--- what is kept of the elements of a row, each with its number
+-- the entries that are kept for the elements of a row, each with its number
 abbrev pub row_entries : {A B : Type 0} → (A → Option B) → List A → List (ℕ × B)
 row_entries keep row = filter_map (kept_entry keep) (enumerate_from 0 row)
 
@@ -55,7 +55,7 @@ row_actions row = row_entries unless_error row
 abbrev pub row_gotos : List (Option ℕ) → List (ℕ × ℕ)
 row_gotos row = row_entries (λ goto. goto) row
 
--- the table that stores what the rows have
+-- the table of the rows: it stores their entries
 abbrev pub table_of : Rows → Table
 table_of rows = record {
   start = rows.start;

@@ -1,11 +1,11 @@
--- The table of the grammar *sum*, on which the definitions are computed: tokens '+' 0, 'ID' 1, end 2; rules ^ 0, E 1, T 2;
--- productions 0 `E: T '+' E`, 1 `E: T`, 2 `T: 'ID'`, 3 `^: E`.
+-- The table of the grammar *sum*, an example for which the definitions are computed: tokens '+' 0, 'ID' 1, end 2; rules ^ 0,
+-- E 1, T 2; productions 0 `E: T '+' E`, 1 `E: T`, 2 `T: 'ID'`, 3 `^: E`.
 use Rattle.std.specs.Prelude.{◌+◌, ◌++◌, ℕ, List, [], ◌∷◌, Option, Some, None, slice_set}
 use Rattle.lrpar_table_rows.specs.Graph.{Graph, ItemOf, item_at, items_of}
 use Rattle.lrpar_table_rows.specs.Rows.{Rows}
 use Rattle.lrpar_table_rows.specs.Table.{Table, TableAction, ShiftTo, ReduceBy, Accepts, Fails}
 
--- its six states: 0 `^: . E`, 1 `^: E .`, 2 `E: T . '+' E` and `E: T .`, 3 `T: 'ID' .`,
+-- its six states, by their kernel items: 0 `^: . E`, 1 `^: E .`, 2 `E: T . '+' E` and `E: T .`, 3 `T: 'ID' .`,
 -- 4 `E: T '+' . E`, 5 `E: T '+' E .`
 abbrev pub sum_table : Table
 sum_table = record {
@@ -20,7 +20,7 @@ sum_table = record {
   conflicts = None;
 }
 
--- a row of three actions: at '+', at 'ID' and at the end
+-- a row of three actions: at '+', at 'ID' and at the end token
 abbrev pub three_actions : TableAction → TableAction → TableAction → List TableAction
 three_actions plus id end = plus ∷ id ∷ end ∷ []
 
@@ -28,7 +28,7 @@ three_actions plus id end = plus ∷ id ∷ end ∷ []
 abbrev pub three_gotos : Option ℕ → Option ℕ → Option ℕ → List (Option ℕ)
 three_gotos added e t = added ∷ e ∷ t ∷ []
 
--- the full rows of that table
+-- the full rows of the small table
 abbrev pub sum_rows : Rows
 sum_rows = record {
   start = 0;
@@ -43,7 +43,7 @@ sum_rows = record {
   conflicts = None;
 }
 
--- the items of those states: 0 `^: . E {end}`, `E: . T '+' E {end}`, `E: . T {end}`, `T: . 'ID' {'+', end}`;
+-- the items of these states: 0 `^: . E {end}`, `E: . T '+' E {end}`, `E: . T {end}`, `T: . 'ID' {'+', end}`;
 -- 1 `^: E . {end}`; 2 `E: T . '+' E {end}`, `E: T . {end}`; 3 `T: 'ID' . {'+', end}`; 4 `E: T '+' . E {end}`,
 -- `E: . T '+' E {end}`, `E: . T {end}`, `T: . 'ID' {'+', end}`; 5 `E: T '+' E . {end}`
 abbrev pub sum_graph : Graph
@@ -55,22 +55,22 @@ sum_graph =
     ∷ (item_at 0 2 2 ∷ item_at 0 0 2 ∷ item_at 1 0 2 ∷ item_at 2 0 0 ∷ item_at 2 0 2 ∷ [])
     ∷ (item_at 0 3 2 ∷ []) ∷ []
 
--- that table with other actions in state s
+-- the small table with other actions in state s
 abbrev pub with_actions : ℕ → List (ℕ × TableAction) → Table
 with_actions s actions = record sum_table { actions = slice_set sum_table.actions s actions }
 
--- that table with other gotos in state s
+-- the small table with other gotos in state s
 abbrev pub with_gotos : ℕ → List (ℕ × ℕ) → Table
 with_gotos s gotos = record sum_table { gotos = slice_set sum_table.gotos s gotos }
 
--- a table with one state more, which has no entries
+-- a table with one more state, which has no entries
 abbrev pub with_bare_state : Table → Table
 with_bare_state table = record table { states = table.states + 1; actions = table.actions ++ [] ∷ []; gotos = table.gotos ++ [] ∷ [] }
 
--- the items of the six states, and of one more, which has none
+-- the items of the six states, and of one more, which has no items
 abbrev pub with_bare_items : Graph
 with_bare_items = sum_graph ++ [] ∷ []
 
--- the items of the six states with one item more in state s
+-- the items of the six states with one more item in state s
 abbrev pub with_item : ℕ → ItemOf → Graph
 with_item s item = slice_set sum_graph s (items_of sum_graph s ++ item ∷ [])

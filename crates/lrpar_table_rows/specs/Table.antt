@@ -1,25 +1,25 @@
--- State tables: what is done in each state at each token, and where each state goes by each rule.
+-- State tables: the action of each state at each token, and the goto of each state by each rule.
 use Rattle.std.specs.Prelude.{◌≡◌, ◌≢◌, ◌<◌, ◌≤◌, ◌+◌, ℕ, Bool, true, false, List, [], length, nat_eq, All, Option, Some, None, count_by, sum_by, unwrap_or, slice_index_or}
 use Rattle.std.specs.List.{range_with_len}
 use Rattle.std.specs.List.Sorted.{IsStrictlyIncreasing}
 use Rattle.std.specs.Map.{keys_of, lookup}
 use Rattle.std.specs.Option.{is_some}
 
--- a parser goes to a state and takes the token, reduces by a production, accepts, or finds an error
+-- a parser shifts the token and goes to a state, reduces by a production, accepts, or reports an error
 pub data TableAction : Type 0 where
   ShiftTo : (state : ℕ) → TableAction
   ReduceBy : (prod : ℕ) → TableAction
   Accepts : TableAction
   Fails : TableAction
 
--- at a token, a state can reduce by each of two productions
+-- a reduce/reduce conflict: at the token, the state can reduce by either of two productions
 pub record ReduceReduce : Type 0 where
   pub token : ℕ
   pub first : ℕ
   pub second : ℕ
   pub state : ℕ
 
--- at a token, a state can shift it, or reduce by a production
+-- a shift/reduce conflict: at the token, the state can shift it, or reduce by a production
 pub record ShiftReduce : Type 0 where
   pub token : ℕ
   pub prod : ℕ
@@ -30,8 +30,8 @@ pub record ConflictLists : Type 0 where
   pub reduce_reduce : List ReduceReduce
   pub shift_reduce : List ShiftReduce
 
--- the start state; how many states, tokens and rules there are; for each state what is stored: actions, each with its
--- token, and states to go to, each with its rule
+-- the start state; the numbers of states, tokens and rules; for each state the entries that are stored: actions, each with
+-- its token, and states to go to, each with its rule
 pub record Table : Type 0 where
   pub start : ℕ
   pub states : ℕ
@@ -41,7 +41,7 @@ pub record Table : Type 0 where
   pub gotos : List (List (ℕ × ℕ))
   pub conflicts : Option ConflictLists
 
--- how many states there are
+-- the number of states
 abbrev pub states_len : Table → ℕ
 states_len table = table.states
 
@@ -53,11 +53,11 @@ actions_at table s = slice_index_or table.actions s []
 abbrev pub gotos_at : Table → ℕ → List (ℕ × ℕ)
 gotos_at table s = slice_index_or table.gotos s []
 
--- what is done in state s at token t: the action that is stored, or else an error
+-- the action of state s at token t: the one that is stored, or else an error
 unfoldable pub action_of : Table → ℕ → ℕ → TableAction
 action_of table s t = unwrap_or (lookup (nat_eq t) (actions_at table s)) Fails
 
--- where state s goes by rule r: the goto that is stored, if there is one
+-- the goto of state s by rule r: the one that is stored, if there is one
 unfoldable pub goto_of : Table → ℕ → ℕ → Option ℕ
 goto_of table s r = lookup (nat_eq r) (gotos_at table s)
 
@@ -68,27 +68,27 @@ is_no_error (ReduceBy p) = true
 is_no_error Accepts = true
 is_no_error Fails = false
 
--- at how many tokens state s has an action other than an error
+-- the number of tokens at which state s has an action other than an error
 abbrev pub actions_in : Table → ℕ → ℕ
 actions_in table s = count_by (λ t. is_no_error (action_of table s t)) (range_with_len 0 table.tokens)
 
--- by how many rules state s has a goto
+-- the number of rules by which state s has a goto
 abbrev pub gotos_in : Table → ℕ → ℕ
 gotos_in table s = count_by (λ r. is_some (goto_of table s r)) (range_with_len 0 table.rules)
 
--- how many entries there are: the pairs of a state and a token with an action other than an error, and the pairs of a state
--- and a rule with a goto
+-- the number of entries: the pairs of a state and a token with an action other than an error, and the pairs of a state and a
+-- rule with a goto
 abbrev pub entries_len : Table → ℕ
 entries_len table = sum_by (λ s. actions_in table s + gotos_in table s) (range_with_len 0 table.states)
 
--- the state of a shift, if it is one, is below `states`
+-- if the action is a shift, its state is below `states`
 abbrev pub IsActionWithin : ℕ → TableAction → Type 0
 IsActionWithin states (ShiftTo s) = s < states
 IsActionWithin states (ReduceBy p) = Unit {0}
 IsActionWithin states Accepts = Unit {0}
 IsActionWithin states Fails = Unit {0}
 
--- the state to go to, if there is one, is below `states`
+-- if there is a goto, its state is below `states`
 abbrev pub IsGotoWithin : ℕ → Option ℕ → Type 0
 IsGotoWithin states (Some s) = s < states
 IsGotoWithin states None = Unit {0}
@@ -104,12 +104,12 @@ pub record IsGotoEntry (rules states : ℕ) (entry : ℕ × ℕ) : Type 0 where
   pub rule : entry.0 < rules
   pub within : entry.1 < states
 
--- the entries stand in ascending order of their numbers, each number once, and each entry is as it should be
+-- the entries are in ascending order of their numbers, each number once, and each is a right entry
 pub record AreEntries {X : Type 0} (IsEntry : ℕ × X → Type 0) (entries : List (ℕ × X)) : Type 0 where
   pub ascending : IsStrictlyIncreasing (keys_of entries)
   pub each : All IsEntry entries
 
--- each state has its two lists of entries, every state that they name is one of the table, and so is the start state; the
+-- each state has its two lists of entries; every state that they name is one of the table, and so is the start state; the
 -- numbers of states, tokens and rules are at most `limit`
 pub record IsTable (limit : ℕ) (table : Table) : Type 0 where
   pub actions_len : length table.actions ≡ table.states

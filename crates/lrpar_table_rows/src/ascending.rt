@@ -2,7 +2,7 @@
 ghost use Rattle.std.specs.Prelude.{◌≡◌, ◌↔◌, ◌∷◌, ◌++◌, [], true, IsTrue, OnOk};
 ghost use Rattle.std.specs.List.{Contains};
 ghost use Rattle.std.specs.List.Sorted.{IsStrictlySortedBy};
-ghost use Rattle.lrpar_table_rows.specs.Ascending.{HaveSame, TellsApart};
+ghost use Rattle.lrpar_table_rows.specs.Ascending.{ComparesExactly, HaveSame};
 
 use std::alloc::AllocError;
 use std::marker::Model;
@@ -25,9 +25,9 @@ impl<T: Ord> Model for Ascending<T> {
 }
 
 impl<T: Ord + Drop> Ascending<T> {
-    /// The row of these elements, sorted in place.
+    /// The row of these elements, which are sorted in place.
     pub(crate) fn from_vec(elements: Vec<T>) -> Self
-        requires exact { TellsApart T.cmp }
+        requires exact { ComparesExactly T.cmp }
         ensures same { HaveSame result elements.items }
     {
         let mut elements = elements;

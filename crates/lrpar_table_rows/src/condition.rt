@@ -4,22 +4,22 @@ ghost use Rattle.lrpar_table_rows.specs.Conditions.{condition_number, condition_
 
 use std::fmt;
 
-/// A condition that a safe table meets in each state. Its text is `S` and its number; `S1` is the shape.
+/// A condition that a safe table meets in each state. Its text is `S` and its number; `S1` is the table's shape.
 #[derive(Clone, Copy, Debug, PartialEq, Eq, Hash)]
 pub enum SafetyCondition {
     /// The items of the start state have dot 0.
     S2 = 2,
     /// No state shifts the end token.
     S3 = 3,
-    /// Each step's items come from cores one symbol before.
+    /// Each kernel item of a state comes from the core one symbol before, in each state that leads there.
     S4 = 4,
-    /// A reduction has its complete core, and isn't by the start production.
+    /// A state that reduces has the complete core of the production, which isn't the start production.
     S5 = 5,
-    /// A core with dot 0 has the goto of its rule.
+    /// A state that has a core with dot 0 has a goto by its rule, unless the production is the start production.
     S6 = 6,
-    /// Accept stands on the end token alone, where the start production is complete.
+    /// A state accepts at the end token alone, and only if it has the complete core of the start production.
     S7 = 7,
-    /// Nothing leads to the start state, and no other state has the start production's first core.
+    /// No shift and no goto leads to the start state, and no other state has the start production's core with dot 0.
     S8 = 8,
 }
 

@@ -1,4 +1,4 @@
-//! The conflicts that were met, and decided, when a table was made.
+//! Shift/reduce and reduce/reduce conflicts that were met, and resolved, when a table was built.
 ghost use Rattle.std.specs.Prelude.{◌≡◌, ◌↔◌, All, IsTrue, length, map};
 ghost use Rattle.lrpar_table_rows.specs.ConflictsFit.{ConflictsFit, ReductionsFit, ShiftFits};
 ghost use Rattle.lrpar_table_rows.specs.PlainConflicts.{reduce_reduce_of, shift_reduce_of};
@@ -7,7 +7,7 @@ use lrpar_grammar::grammar::YaccGrammar;
 use lrpar_grammar::span::{PIdx, StIdx, StorageIndex, TIdx};
 use std::marker::Model;
 
-/// The conflicts that were met when a table was made.
+/// The shift/reduce and reduce/reduce conflicts that were met when a table was built.
 #[derive(Debug)]
 pub struct Conflicts<StorageT: StorageIndex> {
     rr: Vec<
@@ -21,7 +21,7 @@ pub struct Conflicts<StorageT: StorageIndex> {
     sr: Vec<(TIdx<StorageT>, PIdx<StorageT>, StIdx<StorageT>)>,
 }
 
-// A drop of its own, so that what lets go of one elsewhere proves one call.
+// With its own `Drop`, a function that drops one proves one call.
 impl<StorageT: StorageIndex> Drop for Conflicts<StorageT> {
     fn drop(self) {
         let Conflicts { rr, sr } = self;
@@ -41,8 +41,8 @@ impl<StorageT: StorageIndex> Model for Conflicts<StorageT> {
 }
 
 impl<StorageT: StorageIndex> Conflicts<StorageT> {
-    /// The conflicts of these two lists: `rr` has those between two reductions, as token, productions and state, and
-    /// `sr` those between a shift and a reduction, as token, production and state. No number is looked at.
+    /// The conflicts of these two lists: `rr` has the reduce/reduce conflicts, as token, productions and state, and `sr` the
+    /// shift/reduce conflicts, as token, production and state. The numbers aren't checked.
     pub fn new(
         rr: Vec<
             (
@@ -60,7 +60,7 @@ impl<StorageT: StorageIndex> Conflicts<StorageT> {
         Conflicts { rr, sr }
     }
 
-    /// The conflicts between two reductions, as token, productions and state, in the order in which they were given.
+    /// The reduce/reduce conflicts, as token, productions and state, in the order in which they were given.
     pub fn rr_conflicts(
         &self,
     ) -> &[(
@@ -74,30 +74,29 @@ impl<StorageT: StorageIndex> Conflicts<StorageT> {
         &self.rr
     }
 
-    /// The conflicts between a shift and a reduction, as token, production and state, in the order in which they were
-    /// given.
+    /// The shift/reduce conflicts, as token, production and state, in the order in which they were given.
     pub fn sr_conflicts(&self) -> &[(TIdx<StorageT>, PIdx<StorageT>, StIdx<StorageT>)]
         ensures { map (shift_reduce_of StorageT.index) result.now ≡ self.now.shift_reduce }
     {
         &self.sr
     }
 
-    /// How many conflicts there are between two reductions.
+    /// The number of reduce/reduce conflicts.
     pub fn rr_len(&self) -> usize
         ensures { result ≡ length self.now.reduce_reduce }
     {
         self.rr.len()
     }
 
-    /// How many conflicts there are between a shift and a reduction.
+    /// The number of shift/reduce conflicts.
     pub fn sr_len(&self) -> usize
         ensures { result ≡ length self.now.shift_reduce }
     {
         self.sr.len()
     }
 
-    /// Whether the conflicts fit the grammar: each token and each production that they name is one of it, and none
-    /// between a shift and a reduction is at the end token. The states aren't looked at. Takes time linear in the
+    /// Whether the conflicts fit the grammar: each token and each production that they name is one of the grammar, and no
+    /// shift/reduce conflict is at the end token. The states aren't checked. It takes time linear in the number of
     /// conflicts, and no memory.
     pub fn fit(&self, grm: &YaccGrammar<StorageT>) -> bool
         ensures { IsTrue result ↔ ConflictsFit grm.now self.now }
@@ -106,7 +105,7 @@ impl<StorageT: StorageIndex> Conflicts<StorageT> {
     }
 }
 
-// Whether the conflicts between two reductions fit the grammar.
+// Whether the reduce/reduce conflicts fit the grammar.
 fn all_reductions_fit<StorageT: StorageIndex>(
     conflicts: &[(
         TIdx<StorageT>,
@@ -126,7 +125,7 @@ fn all_reductions_fit<StorageT: StorageIndex>(
     true
 }
 
-// Whether the conflict between two reductions fits the grammar.
+// Whether the reduce/reduce conflict fits the grammar.
 fn reductions_fit<StorageT: StorageIndex>(
     conflict: (
         TIdx<StorageT>,
@@ -144,7 +143,7 @@ fn reductions_fit<StorageT: StorageIndex>(
         && usize::from(second) < grm.prods_len()
 }
 
-// Whether the conflicts between a shift and a reduction fit the grammar.
+// Whether the shift/reduce conflicts fit the grammar.
 fn all_shifts_fit<StorageT: StorageIndex>(
     conflicts: &[(TIdx<StorageT>, PIdx<StorageT>, StIdx<StorageT>)],
     grm: &YaccGrammar<StorageT>,
@@ -159,7 +158,7 @@ fn all_shifts_fit<StorageT: StorageIndex>(
     true
 }
 
-// Whether the conflict between a shift and a reduction fits the grammar.
+// Whether the shift/reduce conflict fits the grammar.
 fn shift_fits<StorageT: StorageIndex>(
     conflict: (TIdx<StorageT>, PIdx<StorageT>, StIdx<StorageT>),
     grm: &YaccGrammar<StorageT>,

@@ -1,27 +1,28 @@
-//! Guesses of where the keys of a row stand.
+//! Row displacement: one list serves all rows. A row's base plus the number of a key is the index of the key's place.
 ghost use Rattle.std.specs.Prelude.{◌≡◌, ◌≤◌, ◌+◌, ◌*◌, IfSome, OnOk, length};
 
 use crate::key::Key;
 use std::alloc::{AllocError, Global};
 
-/// How many numbers, at most, the keys of a row span for each of its entries, if there are guesses for it.
+/// If a row has displaced places, its keys span at most this many numbers for each of its entries.
 const NUMBERS_OF_AN_ENTRY: usize = 4;
 
-/// What takes a number of a row without guesses past all of them.
+/// The base of a row without displaced places: with it, any number leads past the end of the list.
 const PAST_ALL: usize = usize::MAX / 2;
 
-/// Guesses of the places of keys in their rows. For a row whose keys lie close together there is one for each number
-/// from the first key's to the last one's: the place of the last key that is no greater. No clause says what a guess is,
-/// so whoever takes one looks at the keys that stand there; the clauses say how many there are.
+/// A displacement table for rows of keys. Each row has a base, its displacement, and `places[base + number]` is the place in
+/// the row of the last key that is no greater than the number. A row whose keys lie close together has such a place for each
+/// number from its first key to its last one; the rows' parts of `places` lie one after the other. No contract says what a
+/// place is, so each user compares the key at that place; the contracts say how many places there are.
 #[derive(Debug, Drop)]
 pub(crate) struct Displacements {
-    /// For each row what is added to a number, around the end of `usize`, for the place of its guess among `places`.
+    /// The base of each row: base and number are added, wrapping around the end of `usize`, and index `places`.
     bases: Vec<usize>,
     places: Vec<u16>,
 }
 
 impl Displacements {
-    /// The guesses for no rows.
+    /// The displacement table of no rows.
     pub(crate) fn new(alloc: Global) -> Self
         ensures { length result.places.items ≡ 0 }
     {
@@ -31,7 +32,7 @@ impl Displacements {
         }
     }
 
-    /// A guess of where the key of this number stands in the row.
+    /// The place in the row at which the displacement table expects the key of this number, if the table has a place for it.
     #[inline]
     pub(crate) fn displaced(&self, row: usize, sought: usize) -> Option<usize> {
         let base = self.bases.get(row)?;
@@ -39,7 +40,7 @@ impl Displacements {
         Some(*place as usize)
     }
 
-    /// Appends the guesses for one more row. They are good where its keys ascend.
+    /// Appends one more row. Its places are right if its keys ascend.
     pub(crate) fn add_row<K: Key, V>(&mut self, row: &[(K, V)]) -> Result<(), AllocError>
         ensures { OnOk result (length self.new.places.items ≤ length self.old.places.items + 4 * length row.now) }
     {
@@ -56,7 +57,7 @@ impl Displacements {
     }
 }
 
-/// The number of the first key, and how many numbers there are from it to that of the last one, if they lie close
+/// The number of the first key, and how many numbers there are from it to that of the last key, if the keys lie close
 /// together.
 fn span_of<K: Key, V>(row: &[(K, V)]) -> Option<(usize, usize)>
     ensures { IfSome result (λ found. found.1 ≤ 4 * length row.now) }
@@ -72,7 +73,7 @@ fn span_of<K: Key, V>(row: &[(K, V)]) -> Option<(usize, usize)>
     }
 }
 
-/// Appends the guesses for `span` numbers from `first` on.
+/// Appends a place for each of `span` numbers from `first` on.
 fn push_places<K: Key, V>(
     places: &mut Vec<u16>,
     row: &[(K, V)],

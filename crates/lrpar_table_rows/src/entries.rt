@@ -7,8 +7,8 @@ use crate::key::Key;
 use std::alloc::{AllocError, Global};
 use std::marker::Model;
 
-/// Rows of entries, each a key with its value. All keys stand in one list, row after row, and the values in another. Where
-/// a key stands in its row can be guessed.
+/// Rows of entries, each a key with its value. All keys are in one list, row after row, and the values in another. A
+/// displacement table speeds up the search for a key.
 #[derive(Debug, Drop)]
 pub(crate) struct Entries<K, V> {
     starts: Vec<usize>,
@@ -29,7 +29,7 @@ impl<K, V> Model for Entries<K, V> {
 }
 
 impl<K: Key, V: Copy> Entries<K, V> {
-    /// The entries of these rows, which are copied. The guesses are good where the keys of each row ascend.
+    /// The entries of these rows, which are copied. The displacement table is right if the keys of each row ascend.
     pub(crate) fn from_rows(alloc: Global, rows: &[Vec<(K, V)>]) -> Result<Self, AllocError>
         ensures { IfOk result (λ entries. entries ≡ map (λ row. row.items) rows.now) }
     {
@@ -51,14 +51,14 @@ impl<K: Key, V: Copy> Entries<K, V> {
         })
     }
 
-    /// How many rows there are.
+    /// The number of rows.
     pub(crate) fn rows_len(&self) -> usize
         ensures { result ≡ length self.now }
     {
         self.starts.len() - 1
     }
 
-    /// How many entries all rows have.
+    /// The number of entries of all rows.
     pub(crate) fn len(&self) -> usize
         ensures { result ≡ sum_by (λ row. length row) self.now }
     {
@@ -77,7 +77,7 @@ impl<K: Key, V: Copy> Entries<K, V> {
         parts(&self.keys, &self.values, start, end)
     }
 
-    /// A guess of where the key of this number stands in its row: any place.
+    /// The place at which the displacement table expects the key of this number in its row; it may be any place.
     #[inline]
     pub(crate) fn displaced(&self, number: usize, sought: usize) -> Option<usize> {
         self.displacements.displaced(number, sought)
@@ -115,7 +115,7 @@ fn push_row<K: Copy, V: Copy>(
     Ok(())
 }
 
-/// The place of the key of this number, if it is one of the keys, which ascend. The key at the guessed place is looked at
+/// The place of the key of this number, if it is one of the keys, which ascend. The key at the displaced place is compared
 /// first.
 #[inline]
 pub(crate) fn place_by<K: Key>(keys: &[K], sought: usize, displaced: Option<usize>) -> Option<usize>
@@ -129,8 +129,8 @@ pub(crate) fn place_by<K: Key>(keys: &[K], sought: usize, displaced: Option<usiz
     }
 }
 
-/// The same, where the key at the guessed place is another. If it is the last one that is less, the next key tells that
-/// there is none; otherwise the number is searched for. It is kept out of the callers, which mostly don't come to it.
+/// The same, after the key at the displaced place was another. If that is the last key that is less, there is none of this
+/// number, as the next key shows; otherwise it is a binary search. It isn't inlined, as most look-ups don't come here.
 #[inline(never)]
 fn place_beside<K: Key>(keys: &[K], sought: usize, displaced: Option<usize>) -> Option<usize>
     requires { IsStrictlyIncreasing (map K.number keys.now) }
@@ -143,7 +143,7 @@ fn place_beside<K: Key>(keys: &[K], sought: usize, displaced: Option<usize>) -> 
     }
 }
 
-/// Whether the number lies between the key at `place` and the next one. The keys ascend, so that it is none of them.
+/// Whether the number lies between the key at `place` and the next key. The keys ascend, so then it is none of them.
 fn is_between<K: Key>(keys: &[K], sought: usize, place: usize) -> bool
     requires { IsStrictlyIncreasing (map K.number keys.now) }
     ensures { IsTrue result → ¬ (Contains (map K.number keys.now) sought) }
@@ -156,8 +156,8 @@ fn is_between<K: Key>(keys: &[K], sought: usize, place: usize) -> bool
     below < sought && sought < above
 }
 
-/// The place of the key of this number, if it is one of the keys, which ascend. The part that is
-/// left is halved until one is, and no branch hangs on a comparison until then.
+/// The place of the key of this number, if it is one of the keys, which ascend: a binary search. It halves the part that is
+/// left until one key is left, without a branch on a comparison until then.
 fn place_of<K: Key>(keys: &[K], sought: usize) -> Option<usize>
     requires { IsStrictlyIncreasing (map K.number keys.now) }
     ensures { MatchOption result (¬ (Contains (map K.number keys.now) sought))

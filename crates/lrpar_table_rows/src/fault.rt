@@ -1,17 +1,17 @@
-//! Why a table or its item sets aren't made.
+//! Why a table or a state graph can't be made.
 ghost use Rattle.std.specs.Prelude.{◌≡◌};
 ghost use Rattle.lrpar_table_rows.specs.declared.fault.TableFault.TheVariants.{Memory};
 
 use std::alloc::{AllocError, AllocFailed};
 use thiserror::Error;
 
-/// Why a table isn't made.
+/// Why a table or a state graph can't be made.
 #[derive(Clone, Copy, Debug, PartialEq, Eq, Error)]
 pub enum TableFault {
-    /// The rows aren't those of a table: their numbers or lengths are wrong, or a state is out of range.
+    /// The rows aren't those of a table: a number or a length is wrong, or a state is out of range.
     #[error("bad index")]
     BadIndex,
-    /// The memory didn't suffice.
+    /// An allocation failed.
     #[error("out of memory")]
     Memory,
 }

@@ -1,4 +1,4 @@
-//! Full rows: whether they are those of a table, and what of them is stored.
+//! Full rows: whether they are those of a table, and which of their entries are stored.
 ghost use Rattle.std.specs.Prelude.{◌≡◌, ◌<◌, ◌≤◌, ◌↔◌, ◌++◌, IsTrue, IfOk, OnOk, All, length, map};
 ghost use Rattle.std.specs.Option.{option_to_list};
 ghost use Rattle.lrpar_table_rows.specs.Rows.{AreRows, IsActionRow, IsGotoRow, kept_entry, row_actions, row_gotos, unless_error};
@@ -17,7 +17,8 @@ pub(crate) fn are_rows<StorageT: StorageIndex>(rows: &TableRows<StorageT>) -> bo
     are_numbers(rows) && are_entries(rows)
 }
 
-/// Whether there are as many rows of both kinds, numbers for all that is counted, and a start state among the states.
+/// Whether there are as many rows of both kinds, `StorageT` can number all states, tokens and rules, and the start state is one
+/// of the states.
 fn are_numbers<StorageT: StorageIndex>(rows: &TableRows<StorageT>) -> bool
     ensures { let plain = plain_rows StorageT.index rows.now in IsTrue result ↔ (
         (length plain.gotos ≡ length plain.actions) × (plain.start < length plain.actions) × (length plain.actions ≤ StorageT.limit)
@@ -31,7 +32,7 @@ fn are_numbers<StorageT: StorageIndex>(rows: &TableRows<StorageT>) -> bool
         && can_number::<StorageT>(rows.rules)
 }
 
-/// Whether each row has its length, with states in range.
+/// Whether each row has the right length, with states in range.
 fn are_entries<StorageT: StorageIndex>(rows: &TableRows<StorageT>) -> bool
     ensures { let plain = plain_rows StorageT.index rows.now in IsTrue result ↔ (
         All (IsActionRow plain.tokens (length plain.actions)) plain.actions
@@ -70,7 +71,7 @@ fn is_action_row<StorageT: StorageIndex>(
     row.len() == tokens && are_actions_within(row, states)
 }
 
-/// Whether the state of each action that has one is below `states`.
+/// Whether the state of each shift is below `states`.
 fn are_actions_within<StorageT: StorageIndex>(row: &[Action<StorageT>], states: usize) -> bool
     ensures { IsTrue result ↔ All (λ action. IsActionWithin states (plain_action StorageT.index action)) row.now }
 {
@@ -82,7 +83,7 @@ fn are_actions_within<StorageT: StorageIndex>(row: &[Action<StorageT>], states: 
     true
 }
 
-/// Whether the action's state, if it has one, is below `states`.
+/// Whether the action's state, if it is a shift, is below `states`.
 fn is_action_within<StorageT: StorageIndex>(action: Action<StorageT>, states: usize) -> bool
     ensures { IsTrue result ↔ IsActionWithin states (plain_action StorageT.index action) }
 {
@@ -141,7 +142,7 @@ fn is_goto_within<StorageT: StorageIndex>(goto: Option<StIdx<StorageT>>, states:
     }
 }
 
-/// What of the rows of actions is stored.
+/// The entries that are stored for the rows of actions.
 pub(crate) fn stored_actions<StorageT: StorageIndex>(
     alloc: Global,
     rows: &[Vec<Action<StorageT>>],
@@ -157,7 +158,7 @@ pub(crate) fn stored_actions<StorageT: StorageIndex>(
     Ok(stored)
 }
 
-/// What of the row is stored: each action but errors, with its token.
+/// The entries that are stored for the row: each action but errors, with its token.
 fn row_stored_actions<StorageT: StorageIndex>(
     alloc: Global,
     row: &[Action<StorageT>],
@@ -192,7 +193,7 @@ fn push_action<StorageT: StorageIndex>(
     }
 }
 
-/// What of the rows of gotos is stored.
+/// The entries that are stored for the rows of gotos.
 pub(crate) fn stored_gotos<StorageT: StorageIndex>(
     alloc: Global,
     rows: &[Vec<Option<StIdx<StorageT>>>],
@@ -208,7 +209,7 @@ pub(crate) fn stored_gotos<StorageT: StorageIndex>(
     Ok(stored)
 }
 
-/// What of the row is stored: each state to go to, with its rule.
+/// The entries that are stored for the row: each state to go to, with its rule.
 fn row_stored_gotos<StorageT: StorageIndex>(
     alloc: Global,
     row: &[Option<StIdx<StorageT>>],

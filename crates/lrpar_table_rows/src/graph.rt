@@ -1,4 +1,4 @@
-//! State graphs: the item sets of the states of an LR automaton.
+//! State graphs: the sets of LR(1) items of the states of an LR automaton.
 ghost use Rattle.std.specs.Prelude.{◌≡◌, ◌<◌, ◌≤◌, ◌↔◌, ℕ, IsTrue, IfOk, IsErrOf, length, map};
 ghost use Rattle.std.specs.List.{Contains, AllZip};
 ghost use Rattle.std.specs.List.Sorted.{IsStrictlySortedBy};
@@ -14,13 +14,13 @@ use lrpar_grammar::span::{PIdx, StIdx, StorageIndex, TIdx};
 use std::alloc::{AllocError, Global};
 use std::marker::Model;
 
-/// The item sets of the states of an LR automaton, of which nothing is known: they may fit a table or not.
+/// The item sets of the states of an LR automaton. Nothing is known of them: they may fit a table or not.
 #[derive(Debug)]
 pub struct StateGraph<StorageT: StorageIndex> {
     sets: Vec<ItemSet<StorageT>>,
 }
 
-// A drop of its own, so that what lets go of one elsewhere proves one call.
+// With its own `Drop`, a function that drops one proves one call.
 impl<StorageT: StorageIndex> Drop for StateGraph<StorageT> {
     fn drop(self) {
         let StateGraph { sets } = self;
@@ -40,13 +40,12 @@ impl<StorageT: StorageIndex> Model for StateGraph<StorageT> {
 }
 
 impl<StorageT: StorageIndex> StateGraph<StorageT> {
-    /// The graph of these rows: for each state, by its number, its items as production, dot and lookahead, in any order,
+    /// The graph of these rows: for each state, by its number, its LR(1) items as production, dot and lookahead, in any order,
     /// repeated or not. An item that is out of range of any grammar is kept as it is.
     ///
-    /// `BadIndex` comes exactly where there are more states than `StorageT` has numbers, before any memory is asked for,
-    /// and `Memory` where it doesn't suffice. Rows are moved in and sorted in place, in O(n log n) for n items; besides
-    /// them the graph keeps each core once more, and twice where its dot isn't at the front. After a refusal they are
-    /// dropped.
+    /// It returns `BadIndex` exactly if there are more states than `StorageT` has numbers, before any allocation, and
+    /// `Memory` if an allocation fails. The rows are moved in and sorted in place, in O(n log n) for n items. Besides them
+    /// the graph stores each core once, and once more if its dot isn't at the start. After an `Err` the rows are dropped.
     pub fn from_rows(
         alloc: Global,
         rows: Vec<Vec<(PIdx<StorageT>, usize, TIdx<StorageT>)>>,
@@ -64,7 +63,7 @@ impl<StorageT: StorageIndex> StateGraph<StorageT> {
         }
     }
 
-    /// How many states there are.
+    /// The number of states.
     pub fn states_len(&self) -> usize
         ensures states { result ≡ graph_len self.now }
         ensures fits { result ≤ StorageT.limit }
@@ -72,7 +71,7 @@ impl<StorageT: StorageIndex> StateGraph<StorageT> {
         self.sets.len()
     }
 
-    /// Whether state `s` has the item of production `p` with `dot` symbols before the dot and lookahead `t`. A state
+    /// Whether state `s` has the LR(1) item of production `p` with `dot` symbols before the dot and lookahead `t`. A state
     /// out of range has none. It is a binary search, in O(log n) for the state's n items.
     pub fn has_item(
         &self,
@@ -89,8 +88,8 @@ impl<StorageT: StorageIndex> StateGraph<StorageT> {
         }
     }
 
-    /// Whether state `s` has an item of production `p` with `dot` symbols before the dot, with some lookahead. A state
-    /// out of range has none. It is a binary search, in O(log n) for the state's n cores.
+    /// Whether state `s` has the LR(0) core of production `p` with `dot` symbols before the dot: an item with some lookahead.
+    /// A state out of range has none. It is a binary search, in O(log n) for the state's n cores.
     pub fn has_core(&self, s: StIdx<StorageT>, p: PIdx<StorageT>, dot: usize) -> bool
         ensures found { IsTrue result ↔ HasCore self.now (StorageT.index s.0) (StorageT.index p.0) dot }
     {
@@ -100,7 +99,7 @@ impl<StorageT: StorageIndex> StateGraph<StorageT> {
         }
     }
 
-    /// The items of state `s`, ascending, each once.
+    /// The LR(1) items of state `s`, ascending, each once.
     pub fn items(&self, s: StIdx<StorageT>) -> &[Item<StorageT>]
         requires { StorageT.index s.0 < graph_len self.now }
         ensures all { map (item_of StorageT.index) result.now ≡ items_of self.now (StorageT.index s.0) }
@@ -109,7 +108,7 @@ impl<StorageT: StorageIndex> StateGraph<StorageT> {
         self.sets[usize::from(s)].items()
     }
 
-    /// The cores of the items of state `s`, ascending, each once.
+    /// The LR(0) cores of the items of state `s`, ascending, each once.
     pub fn cores(&self, s: StIdx<StorageT>) -> &[Core<StorageT>]
         requires { StorageT.index s.0 < graph_len self.now }
         ensures all { (p k : ℕ) → HasCore self.now (StorageT.index s.0) p k ↔ Contains (map (core_of StorageT.index) result.now) (p, k) }
@@ -118,8 +117,8 @@ impl<StorageT: StorageIndex> StateGraph<StorageT> {
         self.sets[usize::from(s)].cores()
     }
 
-    /// The cores of the items of state `s` whose dot isn't at the front, ascending, each once: those to which steps into the state
-    /// have led.
+    /// The cores of the kernel items of state `s`, ascending, each once: those whose dot isn't at the start of the production. The
+    /// start production's core with dot 0 isn't among them.
     pub fn begun_cores(&self, s: StIdx<StorageT>) -> &[Core<StorageT>]
         requires { StorageT.index s.0 < graph_len self.now }
         ensures all { (p k : ℕ) → (HasCore self.now (StorageT.index s.0) p k × (0 < k)) ↔ Contains (map (core_of StorageT.index) result.now) (p, k) }

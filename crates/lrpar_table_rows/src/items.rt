@@ -1,4 +1,4 @@
-//! The items of one state, and their cores.
+//! The LR(1) items of one state, their LR(0) cores, and the cores of the kernel items.
 ghost use Rattle.std.specs.Prelude.{◌≡◌, ◌<◌, ◌↔◌, ℕ, IsTrue, IfOk, map};
 ghost use Rattle.std.specs.List.{Contains};
 ghost use Rattle.std.specs.List.Sorted.{IsStrictlySortedBy};
@@ -11,13 +11,13 @@ use lrpar_grammar::span::{PIdx, StorageIndex, TIdx};
 use std::alloc::{AllocError, Global};
 use std::marker::Model;
 
-/// An item: its production, how many of its symbols stand before the dot, and its lookahead.
+/// An LR(1) item: its production, how many of its symbols are before the dot, and its lookahead.
 pub type Item<StorageT> = (PIdx<StorageT>, usize, TIdx<StorageT>);
 
-/// The core of an item: its production, and how many of its symbols stand before the dot.
+/// The LR(0) core of an item: its production, and how many of its symbols are before the dot.
 pub type Core<StorageT> = (PIdx<StorageT>, usize);
 
-/// The items of a state, their cores, and those of the cores whose dot isn't at the front.
+/// The items of a state, their cores, and the cores of the kernel items: those whose dot isn't at the start.
 #[derive(Debug, Drop)]
 pub(crate) struct ItemSet<StorageT: StorageIndex> {
     items: Ascending<Item<StorageT>>,
@@ -38,7 +38,7 @@ impl<StorageT: StorageIndex> Model for ItemSet<StorageT> {
 }
 
 impl<StorageT: StorageIndex> ItemSet<StorageT> {
-    /// The set of the row's items. The row is sorted in place; memory is taken for the cores.
+    /// The set of the row's items. The row is sorted in place; memory is allocated for the cores.
     pub(crate) fn from_row(alloc: Global, row: Vec<Item<StorageT>>) -> Result<Self, AllocError>
         ensures same { IfOk result (λ set. HaveSame set (row_of StorageT.index row)) }
     {
@@ -52,14 +52,14 @@ impl<StorageT: StorageIndex> ItemSet<StorageT> {
         })
     }
 
-    /// Whether the item is one of the set: a binary search.
+    /// Whether the item is in the set: a binary search.
     pub(crate) fn has_item(&self, prod: PIdx<StorageT>, dot: usize, token: TIdx<StorageT>) -> bool
         ensures found { IsTrue result ↔ Contains self.now (item_at (StorageT.index prod.0) dot (StorageT.index token.0)) }
     {
         self.items.contains(&(prod, dot, token))
     }
 
-    /// Whether the core is that of an item of the set: a binary search.
+    /// Whether an item of the set has the core: a binary search.
     pub(crate) fn has_core(&self, prod: PIdx<StorageT>, dot: usize) -> bool
         ensures found { IsTrue result ↔ AreWithCore self.now (StorageT.index prod.0) dot }
     {
@@ -82,7 +82,7 @@ impl<StorageT: StorageIndex> ItemSet<StorageT> {
         self.cores.as_slice()
     }
 
-    /// The cores whose dot isn't at the front, ascending, each once.
+    /// The cores of the kernel items, whose dot isn't at the start, ascending, each once.
     pub(crate) fn begun(&self) -> &[Core<StorageT>]
         ensures all { (p k : ℕ) → (AreWithCore self.now p k × (0 < k)) ↔ Contains (map (core_of StorageT.index) result.now) (p, k) }
         ensures ascending { IsStrictlySortedBy core_cmp (map (core_of StorageT.index) result.now) }
@@ -105,7 +105,7 @@ fn cores_of<StorageT: StorageIndex>(
     Ok(Ascending::from_vec(cores))
 }
 
-/// The cores whose dot isn't at the front.
+/// The cores of the kernel items: those whose dot isn't at the start.
 fn begun_of<StorageT: StorageIndex>(
     alloc: Global,
     cores: &[Core<StorageT>],

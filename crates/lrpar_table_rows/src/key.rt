@@ -1,9 +1,9 @@
-//! What entries are found by.
+//! The keys of entries: tokens and rules, by their numbers.
 ghost use Rattle.std.specs.Prelude.{◌≡◌, ℕ};
 
 use lrpar_grammar::span::{RIdx, StorageIndex, TIdx};
 
-/// What entries are found by: a number.
+/// The key of an entry: a token or a rule, by its number.
 pub(crate) trait Key: Copy {
     /// The number.
     ghost number: { Self → ℕ };

@@ -1,4 +1,4 @@
-//! Laws about the definitions that contracts cite: each function has one as its contract, and does nothing.
+//! Laws about the definitions that contracts cite. Each function has such a law as its contract, and does nothing.
 ghost use Rattle.std.specs.Prelude.{◌≡◌, ◌^◌, [], ◌∷◌, Some, None};
 ghost use Rattle.lrpar_grammar.specs.Sum.{sum_grammar};
 ghost use Rattle.lrpar_table_rows.specs.Graph.{HasCore, HasItem, graph_len, item_at};
@@ -8,19 +8,19 @@ ghost use Rattle.lrpar_table_rows.specs.Sum.{sum_graph, sum_rows, sum_table, wit
 ghost use Rattle.lrpar_table_rows.specs.Table.{IsTable, ShiftTo, ReduceBy, Accepts, Fails, action_of, entries_len, goto_of, states_len};
 ghost use Rattle.lrpar_table_rows.specs.declared.condition.SafetyCondition.TheVariants.{S2, S3, S4, S5, S6, S7, S8};
 
-/// The small table of sums is one, so that `from_sparse` takes it.
+/// The small table of sums is a table, so `from_sparse` takes it.
 pub fn sum_table_is_table()
     ensures { IsTable (2 ^ 8) sum_table }
 {}
 
-/// The full rows of the small table are rows as they should be, so that `from_rows` takes them; and what is stored of them
-/// is the small table.
+/// The full rows of the small table are those of a table, so `from_rows` takes them; and the table of these rows is the small
+/// table.
 pub fn sum_rows_are_rows()
     ensures rows { AreRows (2 ^ 8) sum_rows }
     ensures table { table_of sum_rows ≡ sum_table }
 {}
 
-/// What the small table of sums does, at one entry of each kind and out of range.
+/// The actions and gotos of the small table of sums, at one entry of each kind and out of range.
 pub fn sum_table_acts()
     ensures states { states_len sum_table ≡ 6 }
     ensures entries { entries_len sum_table ≡ 12 }
@@ -36,7 +36,7 @@ pub fn sum_table_acts()
 {}
 
 /// Items and cores that states of the small table have: `E: T . '+' E {end}` in state 2, `T: . 'ID'` in state 4; and some
-/// that they lack, by the lookahead, by the dot or by the state.
+/// that they don't have, as the lookahead, the dot or the state is another.
 pub fn sum_graph_has_items()
     ensures states { graph_len sum_graph ≡ 6 }
     ensures item { HasItem sum_graph 2 0 1 2 }
@@ -51,7 +51,7 @@ pub fn sum_table_is_safe()
     ensures { IsSafe sum_grammar sum_graph sum_table }
 {}
 
-/// The small table isn't safe where one thing of it is changed. At the state that is named the condition fails that is named:
+/// The small table isn't safe once one thing of it is changed. Each condition fails for one change:
 /// S2, as the start state has the item `^: E . {end}`; S3, as state 1 shifts the end token to a state 6 with no items; S4, as
 /// state 0 shifts `ID` to state 5; S5, as state 2 reduces by `E: T '+' E`; S6, as state 4 has no goto by `T`; S7, as state 1
 /// accepts at `+`; S8, as state 4 shifts `ID` to the start state.

@@ -1,54 +1,54 @@
-//! The rows that a table is made of: full ones, or what is stored alone.
+//! The rows that a table is made of: full rows, or sparse rows, which have only the entries that are stored.
 use crate::conflicts::Conflicts;
 use lrpar_grammar::span::{PIdx, RIdx, StIdx, StorageIndex, TIdx};
 
-/// What a parser does in a state at a token.
+/// What a parser does in a state, with a token as lookahead.
 #[derive(Clone, Copy, Debug, PartialEq, Eq, Hash)]
 pub enum Action<StorageT> {
-    /// Takes the token and goes to the state.
+    /// Shifts the token and goes to the state.
     Shift(StIdx<StorageT>),
     /// Replaces the symbols of the production by its rule.
     Reduce(PIdx<StorageT>),
-    /// Accepts what was read.
+    /// Accepts the input.
     Accept,
-    /// Finds an error: no sentence goes on with the token.
+    /// Reports an error.
     Error,
 }
 
-/// The parts of a table, of which nothing is known: for each state, by its number, a row of an action for each token,
-/// and a row of an optional state for each rule.
+/// The parts of a table, not checked yet: for each state, by its number, a row with an action for each token, and a row
+/// with an optional state for each rule.
 #[derive(Debug, Drop)]
 pub struct TableRows<StorageT: StorageIndex> {
     /// The state in which a parser starts.
     pub start: StIdx<StorageT>,
-    /// How many tokens there are, the end token counted.
+    /// The number of tokens, with the end token.
     pub tokens: usize,
-    /// How many rules there are, the added one counted.
+    /// The number of rules, with the start rule `^` of the augmented grammar.
     pub rules: usize,
-    /// What each state does at each token.
+    /// The action of each state at each token.
     pub actions: Vec<Vec<Action<StorageT>>>,
-    /// Where each state goes by each rule.
+    /// The goto of each state by each rule.
     pub gotos: Vec<Vec<Option<StIdx<StorageT>>>>,
-    /// The conflicts that were met when the rows were made, if the maker kept them.
+    /// The conflicts that were met when the rows were made, if they were kept.
     pub conflicts: Option<Conflicts<StorageT>>,
 }
 
-/// The parts of a table, of which nothing is known, with what is stored alone: for each state, by its number, a list of
+/// The parts of a table, not checked yet, with only the entries that are stored: for each state, by its number, a list of
 /// tokens with their actions, and a list of rules with the states to go to.
 #[derive(Debug, Drop)]
 pub struct SparseRows<StorageT: StorageIndex> {
     /// The state in which a parser starts.
     pub start: StIdx<StorageT>,
-    /// How many states there are.
+    /// The number of states.
     pub states: usize,
-    /// How many tokens there are, the end token counted.
+    /// The number of tokens, with the end token.
     pub tokens: usize,
-    /// How many rules there are, the added one counted.
+    /// The number of rules, with the start rule `^` of the augmented grammar.
     pub rules: usize,
-    /// What each state does at the tokens at which it doesn't find an error, tokens ascending.
+    /// The actions of each state but errors, with their tokens, tokens ascending.
     pub actions: Vec<Vec<(TIdx<StorageT>, Action<StorageT>)>>,
-    /// Where each state goes by the rules by which it goes anywhere, rules ascending.
+    /// The gotos of each state, with their rules, rules ascending.
     pub gotos: Vec<Vec<(RIdx<StorageT>, StIdx<StorageT>)>>,
-    /// The conflicts that were met when the rows were made, if the maker kept them.
+    /// The conflicts that were met when the rows were made, if they were kept.
     pub conflicts: Option<Conflicts<StorageT>>,
 }

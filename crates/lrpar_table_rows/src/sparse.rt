@@ -16,8 +16,8 @@ pub(crate) fn is_sparse_table<StorageT: StorageIndex>(rows: &SparseRows<StorageT
     has_sparse_numbers(rows) && are_entries(rows)
 }
 
-/// Whether there are a row of both kinds for each state, numbers for all that is counted, and a start state among the
-/// states.
+/// Whether there is a row of both kinds for each state, `StorageT` can number all states, tokens and rules, and the start state
+/// is one of the states.
 fn has_sparse_numbers<StorageT: StorageIndex>(rows: &SparseRows<StorageT>) -> bool
     ensures { let table = sparse_table_of StorageT.index rows.now in IsTrue result ↔ (
         (length table.actions ≡ table.states) × (length table.gotos ≡ table.states) × (table.start < table.states)
@@ -156,7 +156,7 @@ fn is_goto_entry<StorageT: StorageIndex>(
     usize::from(rule) < rules && usize::from(state) < states
 }
 
-/// Whether the numbers of the keys ascend, each standing once.
+/// Whether the numbers of the keys ascend, each once.
 fn ascends<K: Key, V>(row: &[(K, V)]) -> bool
     ensures { IsTrue result ↔ IsStrictlyIncreasing (map (λ entry. K.number entry.0) row.now) }
 {

@@ -1,4 +1,4 @@
-//! State tables, which are made of rows and then only read.
+//! State tables: the actions and gotos of an LR automaton. A table is made of rows, and then only read.
 ghost use Rattle.std.specs.Prelude.{◌≡◌, ◌≢◌, ◌<◌, ◌≤◌, ◌↔◌, ℕ, [], IfOk, IsErrOf, Some, None, Contains, All, length, map, slice_index_or, zip};
 ghost use Rattle.std.specs.List.Sorted.{IsStrictlyIncreasing};
 ghost use Rattle.std.specs.Map.{keys_of};
@@ -19,8 +19,8 @@ use lrpar_grammar::span::{RIdx, StIdx, StorageIndex, TIdx};
 use std::alloc::{AllocError, Global};
 use std::marker::Model;
 
-/// What a parser does in each state, and where it goes. Only the entries are stored: in each state the tokens at which it
-/// doesn't find an error, and the rules by which it goes anywhere.
+/// The actions and gotos of each state of an LR automaton. Only entries are stored: the actions of each state but errors, and
+/// its gotos.
 #[derive(Debug)]
 pub struct StateTable<StorageT: StorageIndex> {
     start: StIdx<StorageT>,
@@ -31,7 +31,7 @@ pub struct StateTable<StorageT: StorageIndex> {
     conflicts: Option<Conflicts<StorageT>>,
 }
 
-// A drop of its own, so that what lets go of one elsewhere proves one call.
+// With its own `Drop`, a function that drops one proves one call.
 impl<StorageT: StorageIndex> Drop for StateTable<StorageT> {
     fn drop(self) {
         let StateTable {
@@ -62,11 +62,11 @@ impl<StorageT: StorageIndex> Model for StateTable<StorageT> {
 impl<StorageT: StorageIndex> StateTable<StorageT> {
     /// The table of these full rows.
     ///
-    /// `BadIndex` comes where a state hasn't one row of an action for each token and one of an optional state for each
-    /// rule; where the start state, or a state in a row, isn't one of the table; and where there are more states,
-    /// tokens or rules than `StorageT` has numbers. Productions, and what the conflicts name, aren't looked at. It is
-    /// decided before any memory is asked for. `Memory` comes where it doesn't suffice for the entries, which are
-    /// stored apart from the rows. Every entry of the rows is read a few times; in the end they are dropped.
+    /// It returns `BadIndex` if a state doesn't have one row with an action for each token and one with an optional state for
+    /// each rule; if the start state, or a state in a row, isn't one of the table; and if there are more states, tokens or
+    /// rules than `StorageT` has numbers. Productions, and what the conflicts name, aren't checked. This is decided before
+    /// any allocation. It returns `Memory` if an allocation fails: the entries are stored apart from the rows. Every entry of
+    /// the rows is read a few times; then the rows are dropped.
     pub fn from_rows(alloc: Global, rows: TableRows<StorageT>) -> Result<Self, TableFault>
         ensures made { IfOk result (λ _. AreRows StorageT.limit (plain_rows StorageT.index rows)) }
         ensures table { IfOk result (λ table. table ≡ table_of (plain_rows StorageT.index rows)) }
@@ -84,11 +84,11 @@ impl<StorageT: StorageIndex> StateTable<StorageT> {
 
     /// The table of these sparse rows.
     ///
-    /// `BadIndex` comes where there aren't as many rows of each kind as states; where a row isn't ascending, has a token
-    /// or a rule twice, or stores an error; where a token, a rule or a state is out of range, or the start state; and
-    /// where there are more states, tokens or rules than `StorageT` has numbers. Productions, and what the conflicts
-    /// name, aren't looked at. It is decided before any memory is asked for. `Memory` comes where it doesn't suffice for
-    /// the entries. Time and memory grow with states and entries, and not with tokens and rules.
+    /// It returns `BadIndex` if there aren't as many rows of each kind as states; if a row isn't ascending, has a token or a
+    /// rule twice, or stores an error; if a token, a rule, a state or the start state is out of range; and if there are more
+    /// states, tokens or rules than `StorageT` has numbers. Productions, and what the conflicts name, aren't checked. This is
+    /// decided before any allocation. It returns `Memory` if an allocation fails. Time and memory grow with states and
+    /// entries, and not with tokens and rules.
     pub fn from_sparse(alloc: Global, rows: SparseRows<StorageT>) -> Result<Self, TableFault>
         ensures made { IfOk result (λ _. IsTable StorageT.limit (sparse_table_of StorageT.index rows)) }
         ensures table { IfOk result (λ table. table ≡ sparse_table_of StorageT.index rows) }
@@ -108,7 +108,7 @@ impl<StorageT: StorageIndex> StateTable<StorageT> {
         self.start
     }
 
-    /// How many states there are.
+    /// The number of states.
     pub fn states_len(&self) -> usize
         ensures states { result ≡ states_len self.now }
         ensures fits { result ≤ StorageT.limit }
@@ -119,7 +119,7 @@ impl<StorageT: StorageIndex> StateTable<StorageT> {
         self.actions.rows_len()
     }
 
-    /// How many tokens there are, the end token counted.
+    /// The number of tokens, with the end token.
     pub fn tokens_len(&self) -> usize
         ensures tokens { result ≡ self.now.tokens }
         ensures fits { result ≤ StorageT.limit }
@@ -128,7 +128,7 @@ impl<StorageT: StorageIndex> StateTable<StorageT> {
         self.tokens
     }
 
-    /// How many rules there are, the added one counted.
+    /// The number of rules, with the start rule `^` of the augmented grammar.
     pub fn rules_len(&self) -> usize
         ensures rules { result ≡ self.now.rules }
         ensures fits { result ≤ StorageT.limit }
@@ -144,19 +144,19 @@ impl<StorageT: StorageIndex> StateTable<StorageT> {
         self.conflicts.as_ref()
     }
 
-    /// How many entries there are: the pairs of a state and a token at which it doesn't find an error, and the pairs of a
-    /// state and a rule by which it goes anywhere.
+    /// The number of entries: the pairs of a state and a token with an action other than an error, and the pairs of a state
+    /// and a rule with a goto.
     pub fn entries(&self) -> u128
         ensures { result ≡ entries_len self.now }
     {
         self.actions.len() as u128 + self.gotos.len() as u128
     }
 
-    /// What state `s` does at token `t`.
+    /// The action of state `s` at token `t`.
     ///
-    /// Where the state's tokens lie close together, those from the first to the last being at most four times as many
-    /// as it has entries, it looks at one or two of them. Otherwise it is a binary search, in O(log n) for the state's n
-    /// entries, and so it is for a token before its first or after its last.
+    /// If the state's tokens lie close together, such that the tokens from the first to the last are at most four times as
+    /// many as the state has entries, a displacement table leads to one or two of them. Otherwise, and for a token before the
+    /// first or after the last, it is a binary search, in O(log n) for the state's n entries.
     #[inline]
     pub fn action(&self, s: StIdx<StorageT>, t: TIdx<StorageT>) -> Action<StorageT>
         requires state { StorageT.index s.0 < states_len self.now }
@@ -172,9 +172,10 @@ impl<StorageT: StorageIndex> StateTable<StorageT> {
         }
     }
 
-    /// Where state `s` goes by rule `r`, if it goes anywhere.
+    /// The goto of state `s` by rule `r`, if it has one.
     ///
-    /// It is found as an action is: at once where the state's rules lie close together, and otherwise by a binary search.
+    /// It is found as an action is: by a displacement table if the state's rules lie close together, and otherwise by a binary
+    /// search.
     #[inline]
     pub fn goto(&self, s: StIdx<StorageT>, r: RIdx<StorageT>) -> Option<StIdx<StorageT>>
         requires state { StorageT.index s.0 < states_len self.now }
@@ -190,7 +191,7 @@ impl<StorageT: StorageIndex> StateTable<StorageT> {
         }
     }
 
-    /// The tokens at which state `s` doesn't find an error, ascending, and what it does at each.
+    /// The tokens at which state `s` has an action other than an error, ascending, and the action at each.
     #[inline]
     pub fn actions_of(&self, s: StIdx<StorageT>) -> (&[TIdx<StorageT>], &[Action<StorageT>])
         requires { StorageT.index s.0 < states_len self.now }
@@ -204,7 +205,7 @@ impl<StorageT: StorageIndex> StateTable<StorageT> {
         self.actions.row(usize::from(s))
     }
 
-    /// The rules by which state `s` goes to a state, ascending, and the state of each.
+    /// The rules by which state `s` has a goto, ascending, and the state of each.
     #[inline]
     pub fn gotos_of(&self, s: StIdx<StorageT>) -> (&[RIdx<StorageT>], &[StIdx<StorageT>])
         requires { StorageT.index s.0 < states_len self.now }
@@ -219,7 +220,7 @@ impl<StorageT: StorageIndex> StateTable<StorageT> {
     }
 }
 
-/// The table of what is stored of full rows, which are those of a table.
+/// The table of full rows, which are those of a table.
 fn of_rows<StorageT: StorageIndex>(
     alloc: Global,
     rows: TableRows<StorageT>,

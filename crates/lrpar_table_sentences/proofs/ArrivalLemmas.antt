@@ -115,13 +115,13 @@ module _ (g : Grammar) (graph : Graph) (table : Table) (well : IsWellFormed g) (
 
   pub are_accesses : NoStepIsOpen most accesses edges → AreAccessStrings g graph table most accesses
   are_accesses done = record {
-    states = right.states ∙ sym built.wanted.states;
+    states = right.states ∙ sym built.resolved.states;
     lens = λ s low.
         elim (option_cases (access_at accesses s)) as (λ _. IsShortestAccessIfAny g graph most s (option_map (λ (access : AccessOf). access.len) (access_at accesses s))) [
           | inl none ↦
               subst (λ (o : Option AccessOf). IsShortestAccessIfAny g graph most s (option_map (λ (access : AccessOf). access.len) o)) (sym none)
               (λ symbols trees path fit.
-              let fact = path_total s symbols trees (let count = built.wanted.states in omega (arith, count, low)) path fit in
+              let fact = path_total s symbols trees (let count = built.resolved.states in omega (arith, count, low)) path fit in
               no_walk table most choices edges are accesses right done s fact.0 (reverse symbols) none fact.1 fact.2)
           | inr some ↦
               subst (λ (o : Option AccessOf). IsShortestAccessIfAny g graph most s (option_map (λ (access : AccessOf). access.len) o)) (sym some.1)

@@ -27,10 +27,10 @@ module _ (g : Grammar) (graph : Graph) (table : Table) (well : IsWellFormed g) (
       → (next : ℕ) × GoesBy table s x next × LeadsTo g (sets_of graph) s x next
   goes_before s (Terminal t) within before =
       let listed : t < end_token g = symbol_listed g well before.0.prod before.0.dot (Terminal t) before.2 in
-      (built.wanted.acts s t within (omega (arith, listed))).shifts before
+      (built.resolved.acts s t within (omega (arith, listed))).shifts before
   goes_before s (Nonterminal r) within before =
       let listed = symbol_listed g well before.0.prod before.0.dot (Nonterminal r) before.2 in
-      (built.wanted.goes s r within listed.1).goes before
+      (built.resolved.goes s r within listed.1).goes before
 
   -- the table goes to one of its states
   pub goes_within : (s next : ℕ) (x : GrammarSymbol) → GoesBy table s x next → next < states_len table
@@ -43,7 +43,7 @@ module _ (g : Grammar) (graph : Graph) (table : Table) (well : IsWellFormed g) (
   goes_once s next other (Nonterminal r) one two = let both = sym one ∙ two in cc
 
   in_graph : (s : ℕ) → s < states_len table → s < graph_len graph
-  in_graph s within = let count = built.wanted.states in omega (arith, within, count)
+  in_graph s within = let count = built.resolved.states in omega (arith, within, count)
 
   -- if the table goes by a symbol, an item is before it
   item_before : (s next : ℕ) (x : GrammarSymbol) → s < states_len table → GoesBy table s x next → HasAfterDot g (sets_of graph) s x
@@ -60,7 +60,7 @@ module _ (g : Grammar) (graph : Graph) (table : Table) (well : IsWellFormed g) (
           let zero : next ≡ 0 =
           built.canonical.once next 0 (in_graph next (goes_within s next x goes)) (let some = built.safe.shape.some in in_graph 0 some)
           (same_on (sets_of graph next) (IsReachedBy g []) (sets_of graph 0) same (same_back (sets_of graph 0) (IsReachedBy g []) start)) in
-          let back : next ≡ table.start = zero ∙ sym built.wanted.start in
+          let back : next ≡ table.start = zero ∙ sym built.resolved.start in
           absurd ((built.safe.each S8 s within).never_back x (subst (GoesBy table s x) back goes))
       by_path (z ∷ path) same y there =
           let given = closure_given g (IsAdvanced g (IsReachedBy g path) z) y ((same y).0 there) in
@@ -79,7 +79,7 @@ module _ (g : Grammar) (graph : Graph) (table : Table) (well : IsWellFormed g) (
 
   -- a walk is a path
   pub walk_path : (s : ℕ) (path : List GrammarSymbol) → IsWalk table s path → AreSame (sets_of graph s) (IsReachedBy g path)
-  walk_path s path Starts = subst (λ n. AreSame (sets_of graph n) (IsReachedBy g [])) (sym built.wanted.start) built.canonical.start
+  walk_path s path Starts = subst (λ n. AreSame (sets_of graph n) (IsReachedBy g [])) (sym built.resolved.start) built.canonical.start
   walk_path s path (Goes from next x before walk within goes) =
       same_on (sets_of graph next) (IsInNext g (sets_of graph from) x) (IsInNext g (IsReachedBy g before) x) (goes_leads from next x within goes)
       (next_same g (sets_of graph from) (IsReachedBy g before) x (walk_path from before walk))
@@ -91,13 +91,13 @@ module _ (g : Grammar) (graph : Graph) (table : Table) (well : IsWellFormed g) (
       let zero : s ≡ 0 =
       built.canonical.once s 0 (in_graph s within) (let some = built.safe.shape.some in in_graph 0 some)
       (same_on (sets_of graph s) (IsReachedBy g []) (sets_of graph 0) same (same_back (sets_of graph 0) (IsReachedBy g []) start)) in
-      subst (λ n. IsWalk table n []) (built.wanted.start ∙ sym zero) Starts
+      subst (λ n. IsWalk table n []) (built.resolved.start ∙ sym zero) Starts
   path_walk (x ∷ path) s within same =
       let some = built.canonical.some s (in_graph s within) in
       let given = closure_given g (IsAdvanced g (IsReachedBy g path) x) some.0 ((same some.0).0 some.1) in
       let from = given.1.0 in
       let one = built.canonical.all path from given.1.1 in
-      let low : one.0 < states_len table = let count = built.wanted.states in let inside = one.1 in omega (arith, count, inside) in
+      let low : one.0 < states_len table = let count = built.resolved.states in let inside = one.1 in omega (arith, count, inside) in
       let before : HasAfterDot g (sets_of graph) one.0 x = (from, (one.2 from).1 given.1.1, given.1.2) in
       let to = goes_before one.0 x low before in
       let there : AreSame (sets_of graph to.0) (IsReachedBy g (x ∷ path)) =

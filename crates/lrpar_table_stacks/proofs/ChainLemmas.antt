@@ -1,9 +1,9 @@
--- Reductions under one token, cut into chains. The first chain has the top state as its base, and begins with it alone.
--- A reduction that drops the base ends that chain; the base of the next is the last state that is left, and it begins
--- with that state and the goto on it. So bases stand lower and lower in the first stack, each chain makes at most `cap`
--- reductions, and there are at most as many chains as states: at most `cap` reductions for each. The last chain never has
--- more than two states and one for each of its reductions, so the stack then has at most `cap + 2` states more than stand
--- below its base; and no chain began at any of those, which leaves so many chains fewer.
+-- Reductions under one lookahead, cut into chains. The first chain has the top state as its base, and begins with it alone. A
+-- reduction that drops the base ends the chain; the base of the next chain is the top state that is left, and the chain begins
+-- with that state and its goto. So bases lie lower and lower in the first stack; each chain makes at most `cap` reductions, and
+-- there are at most as many chains as states: at most `cap` reductions for each state. The last chain never has more than two
+-- states and one for each of its reductions, so the stack then has at most `cap + 2` states more than there are below the
+-- chain's base; and no chain began at any of those, so there are that many chains fewer.
 use Rattle.std.proofs.Common.{◌≡◌, ◌<◌, ◌≤◌, ◌+◌, ◌*◌, ◌-◌, ◌∙◌, inl, inr, refl, sym, ap, arith, append_assoc, ℕ, zero, suc, List, [], ◌∷◌, ◌++◌, length, take, Some, Option, length-append}
 use Rattle.std.proofs.Math.Nat.{mul-le-mul_left}
 use Rattle.std.proofs.Math.Seq.{take-append-add}
@@ -27,7 +27,7 @@ top_over (s ∷ below) short some =
     let e : length (s ∷ below ++ short) - 1 ≡ suc (length (below ++ short) - 1) = omega (arith, length-append below short) in
     rw e (top_over below short some)
 
--- and so is what it does
+-- and its action is theirs
 action_over : (table : Table) (t : ℕ) (below short : List ℕ) → 0 < length short → top_action table t (below ++ short) ≡ top_action table t short
 action_over table t below short some =
     ap (λ (top : Option ℕ). option_map_or (λ s. action_of table s t) top Fails) (top_over below short some)
@@ -36,14 +36,14 @@ goto_over : (table : Table) (r : ℕ) (below short : List ℕ) → 0 < length sh
 goto_over table r below short some =
     ap (λ (top : Option ℕ). option_and_then (λ s. goto_of table s r) top) (top_over below short some)
 
--- what a production leaves, if all its symbols are in the upper states
+-- the states that a production leaves, if all its symbols are in the upper states
 left_over : (g : Grammar) (p : ℕ) (below short : List ℕ) → prod_len g p ≤ length short
     → left_by g p (below ++ short) ≡ below ++ left_by g p short
 left_over g p below short fits =
     let e : length (below ++ short) - prod_len g p ≡ length below + (length short - prod_len g p) = omega (arith, length-append below short) in
     rw e (take-append-add below short (length short - prod_len g p))
 
--- a reduction within the upper states is one of theirs
+-- a reduction within the upper states is a reduction of these
 record Inside (g : Grammar) (table : Table) (t : ℕ) (below short : List ℕ) (p : ℕ) (next : List ℕ) : Type 0 where
   pub after : List ℕ
   pub whole : next ≡ below ++ after
@@ -69,7 +69,7 @@ inside g table t below short p next fits h =
       };
     }
 
--- a reduction gives one state more, at most
+-- a reduction gives at most one more state
 reduced_length : (g : Grammar) (table : Table) (t : ℕ) (st : List ℕ) (p : ℕ) (after : List ℕ) → Reduces g table t st p after
     → (0 < length after) × (length after ≤ length st + 1)
 reduced_length g table t st p after h =
@@ -119,7 +119,7 @@ dropped g table t below short p next all h =
       shorter = omega (arith, lower_many, fits);
     }
 
--- a chain that makes so many reductions makes fewer
+-- a chain that makes at least n + 1 reductions makes at least n
 one_less : (g : Grammar) (table : Table) (t n : ℕ) (st : List ℕ) → HasReductions g table t st (suc n) → HasReductions g table t st n
 one_less g table t zero st h = tt
 one_less g table t (suc n) st h =
@@ -143,7 +143,7 @@ record Chained (g : Grammar) (table : Table) (t : ℕ) (short : List ℕ) (k : �
   pub some : 0 < length short
   pub few : length short ≤ k + 2
 
--- it can be left where it starts
+-- no reduction yet
 chain_begins : (g : Grammar) (table : Table) (t base : ℕ) (start : List ℕ) → base < states_len table → IsChainStart table base start
     → 0 < length start → length start ≤ 2 → Chained g table t start 0
 chain_begins g table t base start within starts some few =
@@ -157,7 +157,7 @@ chain_begins g table t base start within starts some few =
       few = omega arith;
     }
 
--- one reduction more
+-- one more reduction
 chain_more : (g : Grammar) (table : Table) (t : ℕ) (short : List ℕ) (k p : ℕ) (after : List ℕ) → Chained g table t short k
     → Reduces g table t short p after → Chained g table t after (k + 1)
 chain_more g table t short k p after chained reduces =

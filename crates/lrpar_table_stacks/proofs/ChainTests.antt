@@ -1,4 +1,4 @@
--- Chains of reductions told by tests, which compute: whether a chain goes on so long, and whether all chains are short.
+-- Tests of chains of reductions, which compute: whether a chain goes on by n reductions, and whether all chains are short.
 use Rattle.std.proofs.Common.{◌≡◌, ◌≤◌, ◌∙◌, ◌↔◌, inl, inr, refl, sym, ap, subst, add-one, ℕ, zero, suc, Bool, true, false, cond, not, ◌&&◌, nat_eq, nat_lt, List, [], ◌∷◌, ◌++◌, length, Option, Some, None}
 use Rattle.std.proofs.lemmas.Bool.{and_from, and_parts, both_ways, cases_lt, cond-true, cond-false, eq-eqb, eqb-true, le-ltb, lt-ltb, ltb-true, not-true}
 use Rattle.lrpar_grammar.specs.Grammar.{Grammar, prods_len, prod_len, rule_of}
@@ -74,7 +74,7 @@ module _ (g : Grammar) (table : Table) (t : ℕ) where
   from_goes_on zero st h = tt
   from_goes_on (suc n) st h = from_action n st (from_goes_on n) (top_action table t st) refl h
 
-  -- the test decides it
+  -- the test decides whether a chain makes n reductions
   pub reductions_by_test : (n : ℕ) (st : List ℕ) → (goes_on_by g table t n st ≡ true) ↔ HasReductions g table t st n
   reductions_by_test n st = (from_goes_on n st, goes_on_from n st)
 
@@ -83,7 +83,7 @@ abbrev pub goto_is_short : Grammar → Table → ℕ → ℕ → ℕ → Option 
 goto_is_short g table cap s t None = true
 goto_is_short g table cap s t (Some next) = not (goes_on_by g table t (suc cap) (s ∷ next ∷ []))
 
--- none of the chains of s does
+-- no chain of s makes more than `cap` reductions
 abbrev pub chains_are_short : Grammar → Table → ℕ → ℕ → ℕ → Bool
 chains_are_short g table cap s t =
     not (goes_on_by g table t (suc cap) (s ∷ [])) && all_below (λ r. goto_is_short g table cap s t (goto_of table s r)) table.rules

@@ -1,4 +1,4 @@
--- What reductions of an overlay keep of its base, and what is told of it where they are all made or held up.
+-- What reductions of an overlay keep of its base, after all of them, and after an allocation failed.
 use Rattle.std.proofs.Common.{◌≡◌, ◌≤◌, ◌+◌, ◌-◌, ◌∙◌, ◌⊎◌, inl, inr, sym, subst, ap, arith, ℕ, List, [], ◌∷◌, Bool, true, false, length, refl, length-append}
 use Rattle.std.proofs.lemmas.List.{length-take-le}
 use Rattle.lrpar_grammar.specs.Grammar.{Grammar, prod_len}
@@ -10,19 +10,19 @@ use Rattle.lrpar_table_stacks.specs.Stack.{IsStack}
 use Rattle.lrpar_table_stacks.specs.StackReduction.{IsStackFedBy, IsStackShortOfMemory, IsStackSettledBy, IsStackShiftShortOfMemory, StackReducesBy}
 use Rattle.lrpar_table_stacks.proofs.StackReductionLemmas.{states_reduce_by}
 
--- how high a reduction leaves the stack
+-- the height of the stack after a reduction
 height_after : (g : Grammar) (table : Table) (t : ℕ) (st : List ℕ) (p : ℕ) (after : List ℕ) → Reduces g table t st p after
     → length after ≡ length st - prod_len g p + 1
 height_after g table t st p after reduces =
     let left : length (left_by g p st) ≡ length st - prod_len g p = length-take-le (length st - prod_len g p) st (omega arith) in
     ap (λ (l : List ℕ). length l) reduces.pushed ∙ length-append (left_by g p st) (reduces.state ∷ []) ∙ ap (λ (n : ℕ). n + 1) left
 
--- what an overlay's reductions do beside its states
+-- what an overlay's reductions do to the rest, beside its states
 abbrev pub rest_of : Overlaid → ℕ → ℕ → ℕ → Overlaid → Type 0
 rest_of old p r symbols new = OverlayReduces old symbols new
 
 module _ (g : Grammar) (table : Table) (t : ℕ) where
-  -- reductions keep what they have to
+  -- reductions keep the right states of the base
   pub keeps_by : (old : Overlaid) (prods : List ℕ) (new : Overlaid) → StackReducesBy overlaid rest_of g table t old prods new → KeepsBy g prods old new
   keeps_by old [] new same =
       subst (λ (o : Overlaid). KeepsBy g [] old o) same (record { base = refl; kept = refl; room = omega arith })
@@ -41,7 +41,7 @@ module _ (g : Grammar) (table : Table) (t : ℕ) where
       → IsSettledOver g table cap t old count new
   settled_over cap old count new h = record { states = h.of_states; keeps = keeps_by old h.of_states.prods new h.by }
 
-  -- what stays where memory was wanting is kept by the reductions so far
+  -- an overlay that stays as it is after an allocation failed keeps what the reductions so far kept
   keeps_still : (prods : List ℕ) (old mid new : Overlaid) → KeepsBy g prods old mid → OverlayStays mid new → KeepsBy g prods old new
   keeps_still prods old mid new keeps stays = record {
     base = stays.base ∙ keeps.base;

@@ -1,4 +1,4 @@
--- What an overlay stands for: the lower states of its base, and those of its tail above them.
+-- The states that an overlay represents: the lower states of its base, and those of its tail above them.
 use Rattle.std.proofs.Common.{◌≡◌, ◌<◌, ◌≤◌, ◌+◌, ◌-◌, ◌∙◌, ◌⊎◌, inl, inr, sym, subst, ap, arith, ℕ, suc, List, [], ◌∷◌, ◌++◌, length, map, take, min, get_or, slice_get, Some, None, refl, length-append, append_assoc, append-nil}
 use Rattle.std.proofs.Math.Seq.{take-append-add}
 use Rattle.std.proofs.lemmas.Bool.{cases_lt}
@@ -40,14 +40,14 @@ module _ {A : Type 0} (number : A → ℕ) where
       → top_of (take kept base ++ map number tail) ≡ Some (number x)
   top_of_tail base kept tail x last = top-append (take kept base) (map number tail) (number x) (top-map tail x (sym last))
 
-  -- of an empty list no element can be read at its end, nor of another one none
+  -- a list whose last element can't be read is empty
   no_last : (tail : List A) → None ≡ slice_get tail (length tail - 1) → tail ≡ []
   no_last [] none = refl
   no_last (x ∷ xs) none =
       let below : length (x ∷ xs) - 1 < length (x ∷ xs) = omega arith in
       absurd (none-some (get_or (x ∷ xs) (length (x ∷ xs) - 1) x) (none ∙ slice_get-get_or (x ∷ xs) (length (x ∷ xs) - 1) x below))
 
-  -- otherwise the last that is kept of the base is
+  -- otherwise the last kept state of the base is the top
   pub top_of_base : (base tail : List A) (kept : ℕ) (x : A) → 0 < kept → kept ≤ length base → x ≡ get_or base (kept - 1) x
       → None ≡ slice_get tail (length tail - 1) → top_of (take kept (map number base) ++ map number tail) ≡ Some (number x)
   top_of_base base tail kept x some within read none =
@@ -61,7 +61,7 @@ module _ {A : Type 0} (number : A → ℕ) where
       subst (λ (n : ℕ). top_of (take n st) ≡ Some (number x)) dropped (top_of_left st (length st - kept) (number x) (omega (arith, many)) here) in
       rw (no_last tail none) (rw append-nil top)
 
-  -- below what is kept stand the base's own
+  -- below what is kept, the states are those of the base
   pub over_base_at : (base tail : List A) (kept at : ℕ) (x : A) → kept ≤ length base → at < kept → x ≡ get_or base at x
       → slice_get (take kept (map number base) ++ map number tail) at ≡ Some (number x)
   over_base_at base tail kept at x within below read =
@@ -81,7 +81,7 @@ module _ {A : Type 0} (number : A → ℕ) where
       let len : length lower ≡ kept = length-take-le kept (map number base) (omega (arith, length-map base number)) in
       omega (arith, len, length-append lower (map number tail), length-map tail number)
 
-  -- and from there on those of the tail
+  -- from there on, the states are those of the tail
   pub over_tail_at : (base tail : List A) (kept at : ℕ) (x : A) → kept ≤ length base → kept ≤ at → at - kept < length tail
       → x ≡ get_or tail (at - kept) x → slice_get (take kept (map number base) ++ map number tail) at ≡ Some (number x)
   over_tail_at base tail kept at x within above inside read =
@@ -91,7 +91,7 @@ module _ {A : Type 0} (number : A → ℕ) where
       ap (λ (n : ℕ). slice_get (lower ++ map number tail) n) place ∙ slice_get-past lower (map number tail) (at - kept)
       ∙ slice_get-map number tail (at - kept) ∙ ap (option_map number) (slice_get_read tail (length tail) (at - kept) x refl inside read)
 
-  -- some of the states of a base and of a tail are dropped, and one is put on them
+  -- some of the states of a base and of a tail are dropped, and one is pushed
   pub over_put : (base : List ℕ) (kept : ℕ) (tail : List A) (left at least : ℕ) (next : A) (after : List A) → kept ≤ length base
       → at ≡ left - kept → least ≡ min kept left → after ≡ take at tail ++ next ∷ []
       → take least base ++ map number after ≡ take left (take kept base ++ map number tail) ++ number next ∷ []
@@ -113,14 +113,14 @@ module _ {A : Type 0} (number : A → ℕ) where
       ap (λ (st : List ℕ). take least base ++ st) numbers ∙ sym (append_assoc (take least base) (take at (map number tail)) (number next ∷ []))
       ∙ ap (λ (st : List ℕ). st ++ number next ∷ []) (sym lower)
 
-  -- the lower elements of a list with those of another stand for the numbers of both
+  -- the lower elements of a list with those of another represent the numbers of both
   pub over_list : (base tail first states : List A) (kept : ℕ) → first ≡ take kept base → states ≡ first ++ tail
       → map number states ≡ take kept (map number base) ++ map number tail
   over_list base tail first states kept is_first is_states =
       ap (map number) is_states ∙ map-append number first tail
       ∙ ap (λ (st : List ℕ). st ++ map number tail) (ap (map number) is_first ∙ sym (take-map number kept base))
 
--- a reduction keeps what it leaves of the base
+-- a reduction keeps the base's states that it leaves
 pub reduces_over : (view old : Overlaid) (more : List ℕ) (grown least len symbols : ℕ) → view ≡ old → len ≡ length (overlaid old) → least ≡ min view.kept (len - symbols)
     → view.room ≤ grown → OverlayReduces old symbols (record { base = view.base; kept = least; tail = more; room = grown })
 reduces_over view old more grown least len symbols is height lower wider = record {
@@ -129,7 +129,7 @@ reduces_over view old more grown least len symbols is height lower wider = recor
   room = subst (λ (o : Overlaid). o.room ≤ grown) is wider;
 }
 
--- where memory was wanting the states stay
+-- if an allocation failed, the states stay
 pub stays_over : (view old : Overlaid) (more : List ℕ) (grown : ℕ) → view ≡ old → more ≡ view.tail
     → overlaid (record { base = view.base; kept = view.kept; tail = more; room = grown }) ≡ overlaid old
 stays_over view old more grown is same = ap (λ (st : List ℕ). take view.kept view.base ++ st) same ∙ ap overlaid is
@@ -157,7 +157,7 @@ fails_over view old more grown len symbols at is within height left whole same w
       longer = subst (λ (o : Overlaid). (symbols ≡ 0) ⊎ (o.tail ≡ [])) is (longer_over view.kept len symbols at view.tail many left whole);
     }
 
--- one state more would be more than can be counted
+-- with one more state the number of states would overflow
 pub full_over : (old : Overlaid) (symbols len : ℕ) → len ≡ length (overlaid old) → len < 18446744073709551616 → len - symbols ≡ 18446744073709551615
     → OverlayFails old symbols old
 full_over old symbols len height counted most = record {

@@ -1,9 +1,9 @@
--- Paths over a safe table. A path is followed from its bottom. The claim on it, by induction on its states: where its
--- top has the complete core of a production, either the production's symbols are the path's last ones, and the state
--- below them has the core with dot 0; or the path is too short for them, all its symbols are the production's last
--- ones, and its bottom has the core with the dot before them. One state more at the bottom leaves the first as it is;
--- in the second, S4 moves the dot back by the new symbol, and dot 0 leads to the first. The start state's cores have
--- dot 0 by S2, so a path that begins at it is never too short.
+-- Paths over a safe table. A path is followed from its bottom. The claim, by induction on the path's states: if its top has
+-- the complete core of a production, either the production's symbols are the path's last ones, and the state below them has
+-- the core with dot 0; or the path is too short for them, all its symbols are the production's last ones, and its bottom has
+-- the core with the dot before them. With one more state at the bottom, the first case stays as it is; in the second, S4 moves
+-- the dot back by the new symbol, and dot 0 leads to the first case. The start state's cores have dot 0 by S2, so a path that
+-- begins with the start state is never too short.
 use Rattle.std.proofs.Common.{◌≡◌, ◌≢◌, ◌<◌, ◌+◌, ◌-◌, ◌∙◌, ◌⊎◌, inl, inr, refl, sym, ap, subst, arith, add-one, ℕ, zero, suc, List, [], ◌∷◌, ◌++◌, length, take, drop, Option, Some, slice_get, length-append}
 use Rattle.std.proofs.Math.Seq.{drop-length, take-append_seam}
 use Rattle.std.proofs.lemmas.List.{drop_more}
@@ -41,7 +41,7 @@ as_many table s [] (next ∷ st) leads = absurd leads
 as_many table s (x ∷ xs) [] leads = absurd leads
 as_many table s (x ∷ xs) (next ∷ st) leads = ap suc (as_many table next xs st leads.1)
 
--- one state more at the top
+-- one more state at the top
 pub leads_more : (table : Table) (s : ℕ) (symbols : List GrammarSymbol) (st : List ℕ) (x : GrammarSymbol) (next : ℕ)
     → Leads table s symbols st → GoesBy table (last_of s st) x next → Leads table s (symbols ++ x ∷ []) (st ++ next ∷ [])
 leads_more table s [] [] x next leads goes = (goes, tt)
@@ -49,12 +49,12 @@ leads_more table s [] (above ∷ st) x next leads goes = absurd leads
 leads_more table s (y ∷ ys) [] x next leads goes = absurd leads
 leads_more table s (y ∷ ys) (above ∷ st) x next leads goes = (leads.0, leads_more table above ys st x next leads.1 goes)
 
--- where a state goes to is a state of the table
+-- the state to which a state goes is one of the table
 pub goes_within : (table : Table) → IsClosed table → (s : ℕ) (x : GrammarSymbol) (next : ℕ) → GoesBy table s x next → next < states_len table
 goes_within table closed s (Terminal t) next goes = closed.shifts_within s t next goes
 goes_within table closed s (Nonterminal r) next goes = closed.gotos_within s r next goes
 
--- and so is the top
+-- the top is one of the table
 pub last_within : (table : Table) → IsClosed table → (s : ℕ) (symbols : List GrammarSymbol) (st : List ℕ) → s < states_len table
     → Leads table s symbols st → last_of s st < states_len table
 last_within table closed s [] [] within leads = within
@@ -67,13 +67,13 @@ last_within table closed s (x ∷ xs) (next ∷ st) within leads =
 pub goto_at_last : (table : Table) (s r : ℕ) (st : List ℕ) → top_goto table r (s ∷ st) ≡ goto_of table (last_of s st) r
 goto_at_last table s r st = ap (λ (top : Option ℕ). option_and_then (λ s. goto_of table s r) top) (top_is_last s st)
 
--- one element more of what is left of a list
+-- the rest of a list, with one more element
 one_before : {A : Type 0} (l : List A) (k : ℕ) (x : A) (xs : List A) → slice_get l k ≡ Some x → xs ≡ drop (k + 1) l → x ∷ xs ≡ drop k l
 one_before l k x xs is rest =
     let more = drop_more l k x (slice_get_within l k x is) in
     let first = get_or_from_slice_get l k x x is in cc
 
--- what stands before the last elements, told by how many these are
+-- the elements before the last n ones
 before_last : {A : Type 0} (xs ys : List A) (n : ℕ) → length ys ≡ n → take (length (xs ++ ys) - n) (xs ++ ys) ≡ xs
 before_last xs ys n many =
     let e : length (xs ++ ys) - n ≡ length xs = omega (arith, length-append xs ys) in rw e (take-append_seam xs ys)
@@ -95,7 +95,7 @@ pub record IsEndOf (g : Grammar) (graph : Graph) (s p : ℕ) (symbols : List Gra
   pub rest : symbols ≡ drop (dot + 1) (symbols_of g p)
   pub core : HasCore graph s p (dot + 1)
 
--- the dot of s tells which it is
+-- the dot of s decides which case it is
 by_dot : (g : Grammar) (graph : Graph) (table : Table) (s p k : ℕ) (symbols : List GrammarSymbol) (st : List ℕ) → Leads table s symbols st
     → HasCore graph s p k → symbols ≡ drop k (symbols_of g p) → EndsWith g graph table s p symbols st ⊎ IsEndOf g graph s p symbols
 by_dot g graph table s p zero symbols st leads core rest =
@@ -112,7 +112,7 @@ by_dot g graph table s p zero symbols st leads core rest =
 by_dot g graph table s p (suc k) symbols st leads core rest =
     inr (record { dot = k; rest = rw add-one rest; core = rw add-one core })
 
--- one state more at the bottom
+-- one more state at the bottom
 one_below : (g : Grammar) (graph : Graph) (table : Table) (s p : ℕ) (x : GrammarSymbol) (next : ℕ) (symbols : List GrammarSymbol) (st : List ℕ)
     → GoesBy table s x next → EndsWith g graph table next p symbols st → EndsWith g graph table s p (x ∷ symbols) (next ∷ st)
 one_below g graph table s p x next symbols st goes h =
@@ -128,7 +128,7 @@ one_below g graph table s p x next symbols st goes h =
     }
 
 module _ (g : Grammar) (graph : Graph) (table : Table) (closed : IsClosed table) (safe : IsSafe g graph table) where
-  -- the claim
+  -- the claim on paths
   ends : (s p : ℕ) (symbols : List GrammarSymbol) (st : List ℕ) → s < states_len table → Leads table s symbols st
       → HasCore graph (last_of s st) p (prod_len g p) → EndsWith g graph table s p symbols st ⊎ IsEndOf g graph s p symbols
   ends s p [] [] within leads core = by_dot g graph table s p (prod_len g p) [] [] leads core (sym (drop-length (symbols_of g p)))
@@ -168,7 +168,7 @@ module _ (g : Grammar) (graph : Graph) (table : Table) (closed : IsClosed table)
   leads_away s x next (y ∷ ys) (above ∷ st) within goes leads e =
       leads_away next y above ys st (goes_within table closed s x next goes) leads.0 leads.1 e
 
-  -- so one that does has none
+  -- so a path that leads there has no symbol
   leads_nowhere : (symbols : List GrammarSymbol) (st : List ℕ) → Leads table table.start symbols st → last_of table.start st ≡ table.start
       → symbols ≡ []
   leads_nowhere [] st leads e = refl
@@ -214,7 +214,7 @@ module _ (g : Grammar) (graph : Graph) (table : Table) (closed : IsClosed table)
         path = (refl, leads_more table table.start h.below h.lower (Nonterminal (rule_of g p)) goto.0 h.leads goto.1);
       }
 
-  -- an Accept
+  -- an accept
   accepts_at : IsWellFormed g → (symbols : List GrammarSymbol) (st : List ℕ) (t : ℕ) → Leads table table.start symbols st
       → top_action table t (table.start ∷ st) ≡ Accepts → (t ≡ end_token g) × (symbols ≡ Nonterminal g.start ∷ [])
   accepts_at formed symbols st t leads action =

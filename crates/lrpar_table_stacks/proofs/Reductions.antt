@@ -1,4 +1,4 @@
--- Reductions are made in one way.
+-- Reductions are deterministic.
 use Rattle.std.proofs.Common.{◌≡◌, ◌∙◌, sym, ap, ℕ, List, [], ◌∷◌, ◌++◌, Some}
 use Rattle.lrpar_grammar.specs.Grammar.{Grammar, rule_of}
 use Rattle.lrpar_table_rows.specs.Table.{Table, ReduceBy}
@@ -9,7 +9,7 @@ pub reduces_by_one : (g : Grammar) (table : Table) (t : ℕ) (st : List ℕ) (p 
     → Reduces g table t st p a → Reduces g table t st q b → p ≡ q
 reduces_by_one g table t st p q a b x y = let e : ReduceBy p ≡ ReduceBy q = sym x.action ∙ y.action in cc
 
--- and it gives one stack
+-- a reduction gives one stack
 pub reduces_to_one : (g : Grammar) (table : Table) (t : ℕ) (st : List ℕ) (p q : ℕ) (a b : List ℕ)
     → Reduces g table t st p a → Reduces g table t st q b → a ≡ b
 reduces_to_one g table t st p q a b x y =

@@ -12,25 +12,25 @@ use Rattle.lrpar_table_stacks.proofs.Reductions.{settles_one_way, reduces_to_one
 use Rattle.lrpar_table_stacks.specs.RunLaws.{Takes, RunsEndOneWay, RunsGoOnOrEnd, KeepOffEnd, EndsByFailing, RunsStopByFailing}
 use Rattle.lrpar_table_stacks.specs.Run.{Comes, Far, FarEnd, Accepted, Stopped, Stop, IsStuck, RunsOneWay, stays, comes_on, comes_through, gives_up, goes_on, accepts, stops, token_at}
 
--- reductions after which there is none are all
+-- reductions after which none is due are all reductions
 pub settles_from : (g : Grammar) (table : Table) (t : ℕ) (st ps after : List ℕ)
     → ReducesBy g table t st ps after → IsSettled table t after → Settles g table t st ps after
 settles_from g table t st [] after e settled = (e, subst (IsSettled table t) (sym e) settled)
 settles_from g table t st (p ∷ ps) after by settled = (by.0, by.1, settles_from g table t by.0 ps after by.2 settled)
 
--- all reductions are reductions
+-- `Settles` makes reductions
 pub settles_reduces : (g : Grammar) (table : Table) (t : ℕ) (st ps after : List ℕ)
     → Settles g table t st ps after → ReducesBy g table t st ps after
 settles_reduces g table t st [] after settles = settles.0
 settles_reduces g table t st (p ∷ ps) after settles = (settles.0, settles.1, settles_reduces g table t settles.0 ps after settles.2)
 
--- and after them there is none
+-- after all reductions none is due
 pub settles_settled : (g : Grammar) (table : Table) (t : ℕ) (st ps after : List ℕ)
     → Settles g table t st ps after → IsSettled table t after
 settles_settled g table t st [] after settles = subst (IsSettled table t) settles.0 settles.1
 settles_settled g table t st (p ∷ ps) after settles = settles_settled g table t settles.0 ps after settles.2
 
--- past the last lexeme stands the end token
+-- past the last lexeme the token is the end token
 pub token_at_end : {X : Type 0} (token : X → ℕ) (g : Grammar) (lexemes : List X) (i : ℕ) → length lexemes ≤ i → token_at token g lexemes i ≡ end_token g
 token_at_end token g lexemes i past = ap (λ w. option_map_or token w (end_token g)) (slice_get_past lexemes i past)
 
@@ -38,7 +38,7 @@ token_at_end token g lexemes i past = ap (λ w. option_map_or token w (end_token
 pub token_at_lexeme : {X : Type 0} (token : X → ℕ) (g : Grammar) (lexemes : List X) (i : ℕ) (x : X) → slice_get lexemes i ≡ Some x → token_at token g lexemes i ≡ token x
 token_at_lexeme token g lexemes i x e = ap (λ w. option_map_or token w (end_token g)) e
 
--- a token is fed in one way
+-- feeding a token is deterministic
 pub feeds_one_way : (g : Grammar) (table : Table) (t : ℕ) (st ps a qs b : List ℕ) → Feeds g table t st ps a → Feeds g table t st qs b → (ps ≡ qs) × (a ≡ b)
 feeds_one_way g table t st ps a qs b x y =
     let same = settles_one_way g table t st ps qs x.settled y.settled x.settles y.settles in
@@ -48,25 +48,25 @@ feeds_one_way g table t st ps a qs b x y =
     let pushed : x.settled ++ x.next ∷ [] ≡ y.settled ++ y.next ∷ [] = cc in
     (same.0, x.pushed ∙ pushed ∙ sym y.pushed)
 
--- an action shifts or it doesn't
+-- an action is a shift, or it isn't
 cases_shift : (a : TableAction) → ((next : ℕ) × (a ≡ ShiftTo next)) ⊎ ((next : ℕ) → a ≢ ShiftTo next)
 cases_shift (ShiftTo next) = inl (next, refl)
 cases_shift (ReduceBy p) = inr (λ next e. cc)
 cases_shift Accepts = inr (λ next e. cc)
 cases_shift Fails = inr (λ next e. cc)
 
--- it accepts or it doesn't
+-- an action is accept, or it isn't
 cases_accept : (a : TableAction) → (a ≡ Accepts) ⊎ (a ≢ Accepts)
 cases_accept (ShiftTo next) = inr (λ e. cc)
 cases_accept (ReduceBy p) = inr (λ e. cc)
 cases_accept Accepts = inl refl
 cases_accept Fails = inr (λ e. cc)
 
--- the symbols along a stack
+-- a path: the symbols along a stack
 abbrev pub HasPath : Table → List ℕ → Type 0
 HasPath table st = (symbols : List GrammarSymbol) × IsPath table symbols st
 
--- over a table that never sticks reductions keep them
+-- over a table that never sticks, a stack with a path has one after reductions
 pub settles_path : (g : Grammar) (table : Table) (t : ℕ) (st ps after : List ℕ)
     → NeverSticks g table → HasPath table st → Settles g table t st ps after → HasPath table after
 settles_path g table t st [] after never path settles = subst (HasPath table) settles.0 path
@@ -76,7 +76,7 @@ settles_path g table t st (p ∷ ps) after never path settles =
     let next : HasPath table along.after = (along.below ++ Nonterminal (rule_of g p) ∷ [], along.path) in
     settles_path g table t settles.0 ps after never (subst (HasPath table) same next) settles.2
 
--- and so does a lexeme that is fed
+-- and after a lexeme is fed
 pub feeds_path : (g : Grammar) (table : Table) (t : ℕ) (st ps after : List ℕ)
     → NeverSticks g table → HasPath table st → Feeds g table t st ps after → HasPath table after
 feeds_path g table t st ps after never path feeds =
@@ -95,7 +95,7 @@ module _ {X : Type 0} (token : X → ℕ) (g : Grammar) (table : Table) (lexemes
       subst (λ w. Comes token g table lexemes st i w after (j + 1)) (sym (append_assoc ps rs qs))
       (comes_on st i ps (rs ++ qs) next after (j + 1) below first (comes_more next (i + 1) rs mid j qs after rest within feeds))
 
-  -- a run goes on as it does from where it comes to
+  -- a run goes on as a run from the stack and place that it comes to
   pub comes_far : (st : List ℕ) (i : ℕ) (ps mid : List ℕ) (j : ℕ) (qs : List ℕ) (end : FarEnd)
       → Comes token g table lexemes st i ps mid j → Far token g table lexemes mid j qs end → Far token g table lexemes st i (ps ++ qs) end
   comes_far _ _ _ _ _ qs end (stays st i) far = far
@@ -103,7 +103,7 @@ module _ {X : Type 0} (token : X → ℕ) (g : Grammar) (table : Table) (lexemes
       subst (λ w. Far token g table lexemes st i w end) (sym (append_assoc ps rs qs))
       (goes_on st i ps (rs ++ qs) next end below first (comes_far next (i + 1) rs mid j qs end rest far))
 
-  -- a top that fails goes no further
+  -- a stack whose top has an error action is stuck
   pub stuck_from_fails : (settled : List ℕ) (i : ℕ)
       → top_action table (token_at token g lexemes i) settled ≡ Fails → IsStuck token g table lexemes settled i
   stuck_from_fails settled i fails = record {
@@ -113,7 +113,7 @@ module _ {X : Type 0} (token : X → ℕ) (g : Grammar) (table : Table) (lexemes
         let e : Accepts ≡ Fails = sym accepted ∙ end_fails in cc;
   }
 
-  -- over a table that never sticks a settled stack that goes no further has no action, if no lexeme has the end token
+  -- over a table that never sticks, a settled stack that is stuck has an error action, if no lexeme has the end token
   pub fails_from_stuck : (symbols : List GrammarSymbol) (settled : List ℕ) (i : ℕ)
       → NeverSticks g table → IsPath table symbols settled → i ≤ length lexemes → (i < length lexemes → token_at token g lexemes i ≢ end_token g)
       → IsSettled table (token_at token g lexemes i) settled → IsStuck token g table lexemes settled i
@@ -135,7 +135,7 @@ module _ {X : Type 0} (token : X → ℕ) (g : Grammar) (table : Table) (lexemes
       ]
       go Fails e = e
 
-  -- where a lexeme is fed, the run doesn't stop
+  -- if a lexeme is fed, the run doesn't stop there
   pub feeds_not_stuck : (st : List ℕ) (i : ℕ) (ps next qs settled : List ℕ)
       → i < length lexemes → Feeds g table (token_at token g lexemes i) st ps next → Settles g table (token_at token g lexemes i) st qs settled
       → IsStuck token g table lexemes settled i → ⊥
@@ -143,7 +143,7 @@ module _ {X : Type 0} (token : X → ℕ) (g : Grammar) (table : Table) (lexemes
       let same = settles_one_way g table (token_at token g lexemes i) st ps qs x.settled settled x.settles settles in
       stuck.shifts_not within x.next (subst (λ w. top_action table (token_at token g lexemes i) w ≡ ShiftTo x.next) same.1 x.shifts)
 
-  -- and so where it accepts
+  -- nor if the run accepts
   pub accepts_not_stuck : (st : List ℕ) (i : ℕ) (ps a qs b : List ℕ)
       → i ≡ length lexemes → Settles g table (end_token g) st ps a → top_action table (end_token g) a ≡ Accepts
       → Settles g table (token_at token g lexemes i) st qs b → IsStuck token g table lexemes b i → ⊥
@@ -170,7 +170,7 @@ module _ {X : Type 0} (token : X → ℕ) (g : Grammar) (table : Table) (lexemes
   comes_to_accept st i ps mid j qs settled comes at_end settles accepted =
       comes_far st i ps mid j qs Accepted comes (accepts mid j qs settled at_end settles accepted)
 
-  -- or it fails
+  -- or the action there is an error
   pub comes_to_end : (st : List ℕ) (i : ℕ) (ps mid : List ℕ) (j : ℕ) (qs settled : List ℕ)
       → Comes token g table lexemes st i ps mid j → j ≡ length lexemes
       → Settles g table (end_token g) mid qs settled → top_action table (end_token g) settled ≡ Fails
@@ -181,7 +181,7 @@ module _ {X : Type 0} (token : X → ℕ) (g : Grammar) (table : Table) (lexemes
       (stops mid j qs settled (omega arith) (subst (λ t. Settles g table t mid qs settled) is settles)
       (stuck_from_fails settled j (subst (λ t. top_action table t settled ≡ Fails) is fails)))
 
-  -- the top fails at a lexeme's token
+  -- the action at a lexeme's token is an error
   pub comes_to_stop : (st : List ℕ) (i : ℕ) (ps mid : List ℕ) (j : ℕ) (x : X) (qs settled : List ℕ)
       → Comes token g table lexemes st i ps mid j → slice_get lexemes j ≡ Some x
       → Settles g table (token x) mid qs settled → top_action table (token x) settled ≡ Fails
@@ -192,7 +192,7 @@ module _ {X : Type 0} (token : X → ℕ) (g : Grammar) (table : Table) (lexemes
       (stops mid j qs settled (omega (arith, slice_get_within lexemes j x at)) (subst (λ t. Settles g table t mid qs settled) is settles)
       (stuck_from_fails settled j (subst (λ t. top_action table t settled ≡ Fails) is fails)))
 
-  -- over a table that never sticks a run from a stack with a path stops only where the top fails
+  -- over a table that never sticks, a run from a stack with a path stops only at an error action
   pub far_ends_by_failing : (st : List ℕ) (i : ℕ) (ps : List ℕ) (end : FarEnd)
       → NeverSticks g table → KeepOffEnd token g lexemes → HasPath table st → Far token g table lexemes st i ps end → EndsByFailing token g table lexemes end
   far_ends_by_failing _ _ _ _ never good path (goes_on st i ps qs next end within first rest) =
@@ -202,7 +202,7 @@ module _ {X : Type 0} (token : X → ℕ) (g : Grammar) (table : Table) (lexemes
       let along = settles_path g table (token_at token g lexemes i) st ps settled never path settles in
       fails_from_stuck along.0 settled i never along.1 fits (good i) (settles_settled g table (token_at token g lexemes i) st ps settled settles) stuck
 
--- a run has one answer
+-- runs are deterministic
 pub runs_one_way : {X : Type 0} → RunsOneWay X
 runs_one_way token g table lexemes _ _ _ _ _ _ (goes_on st i ps rs next end below first rest) (goes_on st' i' ps' rs' next' end' below' first' rest') =
     let one = feeds_one_way g table (token_at token g lexemes i) st ps next ps' next' first first' in
@@ -226,7 +226,7 @@ runs_one_way token g table lexemes _ _ _ _ _ _ (stops st i ps settled fits settl
     let same = settles_one_way g table (token_at token g lexemes i) st ps qs settled settled' settles settles' in
     (same.0, ap (λ (w : List ℕ). Stopped (record { stack = w; place = i })) same.1)
 
--- so have two runs that may list a stop
+-- so are runs with their lists of stops
 pub runs_end_one_way : {X : Type 0} → RunsEndOneWay X
 runs_end_one_way token g table lexemes _ _ _ _ _ _ _ _ (comes_through st i ps far) (comes_through st' i' qs far') =
     let same = runs_one_way token g table lexemes st i ps qs Accepted Accepted far far' in
@@ -243,7 +243,7 @@ runs_end_one_way token g table lexemes _ _ _ _ _ _ _ _ (gives_up st i ps stop fa
     let stops : stop ≡ stop' = cc in
     (ap (λ (s : Stop). s ∷ []) stops, refl, same.0)
 
--- at each place a settled stack shifts the lexeme, accepts, or goes no further
+-- at each place a settled stack shifts the lexeme, accepts, or is stuck
 pub runs_go_on_or_end : {X : Type 0} → RunsGoOnOrEnd X
 runs_go_on_or_end token g table lexemes settled i fits = elim (cases_lt i (length lexemes)) as (λ _. Takes token g table lexemes settled i) [
   | inl within ↦ elim (cases_shift (top_action table (token_at token g lexemes i) settled)) as (λ _. Takes token g table lexemes settled i) [
@@ -256,7 +256,7 @@ runs_go_on_or_end token g table lexemes settled i fits = elim (cases_lt i (lengt
   ]
 ]
 
--- the same, with the symbols along the stack at hand
+-- the same, for a stack along given symbols
 pub runs_stop_by_failing : {X : Type 0} → RunsStopByFailing X
 runs_stop_by_failing token g table lexemes symbols st i ps end never good path far =
     far_ends_by_failing token g table lexemes st i ps end never good (symbols, path) far

@@ -1,4 +1,4 @@
--- Reductions of a stack over a table that is checked: they keep it a stack, and none is left where a step makes none.
+-- Reductions of a stack over a checked table: they keep it a stack, and if a step makes none, none is due.
 use Rattle.std.proofs.Common.{◌≡◌, ◌<◌, ◌≤◌, ◌+◌, ◌-◌, ◌∙◌, ◌⊎◌, inl, inr, sym, subst, arith, ℕ, zero, suc, List, [], ◌∷◌, ◌++◌, length, take, Some, Result, Ok, Err, length-append}
 use Rattle.std.proofs.lemmas.List.Elements.{All-cons, All-nil}
 use Rattle.std.specs.List.{All}
@@ -32,7 +32,7 @@ stack_states table closed [] stack = absurd stack
 stack_states table closed (s ∷ st) stack =
     joined_states table closed s st (subst (λ (s : ℕ). s < states_len table) (sym stack.0) closed.start_within) stack.1
 
--- a state joined to the top makes it a stack again
+-- a stack with one more state, joined to the top, is a stack
 joined_top : (table : Table) (s : ℕ) (st : List ℕ) (next : ℕ) → AreJoined table s st → IsJoined table (last_of s st) next
     → AreJoined table s (st ++ next ∷ [])
 joined_top table s [] next joined top = (top, tt)
@@ -43,7 +43,7 @@ stack_more : (table : Table) (st : List ℕ) (next : ℕ) → IsStack table st �
 stack_more table [] next stack top = absurd stack
 stack_more table (s ∷ st) next stack top = (stack.0, joined_top table s st next stack.1 (top (last_of s st) (top_is_last s st)))
 
--- the lower states of a stack are one
+-- the lower states of a stack are a stack
 joined_front : (table : Table) (s n : ℕ) (st : List ℕ) → AreJoined table s st → AreJoined table s (take n st)
 joined_front table s zero st joined = tt
 joined_front table s (suc n) [] joined = tt
@@ -54,7 +54,7 @@ stack_front table zero st stack some = absurd (omega arith)
 stack_front table (suc n) [] stack some = stack
 stack_front table (suc n) (s ∷ st) stack some = (stack.0, joined_front table s n st stack.1)
 
--- reductions are all, where the stack is settled
+-- reductions after which the stack is settled are all of them
 pub settles_at_end : (g : Grammar) (table : Table) (t : ℕ) (st prods after : List ℕ) → ReducesBy g table t st prods after → IsSettled table t after
     → Settles g table t st prods after
 settles_at_end g table t st [] after same settled = (same, subst (λ (s : List ℕ). IsSettled table t s) (sym same) settled)
@@ -70,7 +70,7 @@ pub record IsRun (g : Grammar) (table : Table) (cap : ℕ) : Type 0 where
   pub bounds : IsBounded g table cap
 
 module _ (g : Grammar) (table : Table) (cap : ℕ) (run : IsRun g table cap) (t : ℕ) (token : t < table.tokens) where
-  -- a reduction keeps a stack one
+  -- a reduction of a stack gives a stack
   pub stack_reduced : (st : List ℕ) (p : ℕ) (after : List ℕ) → IsStack table st → Reduces g table t st p after → IsStack table after
   stack_reduced st p after stack reduces =
       let deep : prod_len g p < length st = reduces.deep in
@@ -83,12 +83,12 @@ module _ (g : Grammar) (table : Table) (cap : ℕ) (run : IsRun g table cap) (t 
           → goto_of table s (rule_of g p) ≡ Some reduces.state
       goto_found left s top goto = sym (goto_by_top table (rule_of g p) left s top) ∙ goto
 
-  -- and so does a shift
+  -- so does a shift
   pub stack_shifted : (st : List ℕ) (next : ℕ) → IsStack table st → top_action table t st ≡ ShiftTo next → IsStack table (st ++ next ∷ [])
   stack_shifted st next stack shift =
       stack_more table st next stack (λ s top. inl (t, token, sym (action_by_top table t st s top) ∙ shift))
 
-  -- a step that makes no reduction leaves the stack as it is, with none to make
+  -- a step that makes no reduction leaves the stack as it is, and no reduction is due
   pub settled_by_step : (st after : List ℕ) (step : Step) → IsStack table st → (step ≡ LeavesNone) ⊎ (step ≡ Stays) → IsStepOf g table t st step after
       → (after ≡ st) × IsSettled table t st
   settled_by_step st after step stack is h =
@@ -120,7 +120,7 @@ module _ (g : Grammar) (table : Table) (cap : ℕ) (run : IsRun g table cap) (t 
     stays_by_step mid new step (inl is) h = subst (λ (s : Step). IsStackStep states reduces g table t mid s new) is h
     stays_by_step mid new step (inr is) h = subst (λ (s : Step). IsStackStep states reduces g table t mid s new) is h
 
-    -- and it ends them
+    -- and it ends the reductions
     pub stack_settled_by : (old mid new : X) (prods : List ℕ) (count : ℕ) (step : Step) → IsStack table (states old) → IsStack table (states mid)
         → StackReducesBy states reduces g table t old prods mid → count ≡ length prods → (step ≡ LeavesNone) ⊎ (step ≡ Stays)
         → IsStepOf g table t (states mid) step (states new) → IsStackStep states reduces g table t mid step new
@@ -142,7 +142,7 @@ module _ (g : Grammar) (table : Table) (cap : ℕ) (run : IsRun g table cap) (t 
           by = made;
         })
 
-    -- a step that makes a reduction makes one more of them, which the bound allows
+    -- a step that makes a reduction makes one more, which the bound allows
     pub stack_reduced_once : (old mid new : X) (prods : List ℕ) (step : Step) → IsStack table (states old) → IsStack table (states mid)
         → StackReducesBy states reduces g table t old prods mid → step ≡ Reduced → IsStackStep states reduces g table t mid step new
         → IsStack table (states new) × (length prods < most_reductions cap (length (states old)))
@@ -159,7 +159,7 @@ module _ (g : Grammar) (table : Table) (cap : ℕ) (run : IsRun g table cap) (t 
           (prods ++ one.0 ∷ [], counted, more),
         )
 
--- what holds whatever the result holds of its error
+-- what holds in any case holds of an error
 pub on_err_always : {T E : Type 0} (r : Result T E) (Q : Type 0) → Q → OnErr r Q
 on_err_always (Ok x) Q h = tt
 on_err_always (Err e) Q h = h

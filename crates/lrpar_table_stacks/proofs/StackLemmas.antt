@@ -1,4 +1,4 @@
--- Stacks and paths are the same states: a path tells by which symbol each state goes to the next.
+-- Stacks and paths have the same states: a path has the symbol, too, by which each state goes to the next.
 use Rattle.std.proofs.Common.{◌≡◌, ◌≢◌, ◌<◌, ◌≤◌, ◌+◌, ◌∙◌, ◌↔◌, inl, inr, sym, ap, subst, arith, ℕ, zero, suc, List, [], ◌∷◌, map, length, drop, get_or, Some, None}
 use Rattle.std.proofs.lemmas.Bool.{cases_lt}
 use Rattle.std.proofs.lemmas.List.{drop_more, drop_all, get_or-map, length-map}
@@ -13,7 +13,7 @@ use Rattle.lrpar_table_rows.specs.Table.{Table, ShiftTo, Fails, IsClosed, action
 
 module _ (table : Table) (no_token : (s t : ℕ) → table.tokens ≤ t → action_of table s t ≡ Fails)
     (no_rule : (s r : ℕ) → table.rules ≤ r → goto_of table s r ≡ None) where
-  -- where a state goes by a symbol it is joined
+  -- a state is joined to the one to which it goes by a symbol
   joined_by : (s : ℕ) (x : GrammarSymbol) (next : ℕ) → GoesBy table s x next → IsJoined table s next
   joined_by s (Terminal t) next goes =
       elim (cases_lt t table.tokens) as (λ _. IsJoined table s next) [
@@ -36,7 +36,7 @@ module _ (table : Table) (no_token : (s t : ℕ) → table.tokens ≤ t → acti
   path_is_stack symbols [] path = absurd path
   path_is_stack symbols (s ∷ st) path = (path.0, joined_along s symbols st path.1)
 
--- where states are joined, one goes to the other by a symbol
+-- if states are joined, one goes to the other by a symbol
 goes_where_joined : (table : Table) (s next : ℕ) → IsJoined table s next → (x : GrammarSymbol) × GoesBy table s x next
 goes_where_joined table s next joined =
     elim joined as (λ _. (x : GrammarSymbol) × GoesBy table s x next) [
@@ -65,7 +65,7 @@ joined_within table closed s next joined =
       | inr h ↦ closed.gotos_within s h.0 next h.2
     ]
 
--- the numbers of what is left of a list begin with that of the item at i
+-- the numbers of the rest of a list from place i on begin with that of the item at i
 left_more : {A : Type 0} (number : A → ℕ) (above : List A) (i : ℕ) (next : A) → i < length above → next ≡ get_or above i next
     → map number (drop i above) ≡ number next ∷ map number (drop (i + 1) above)
 left_more number above i next below is =
@@ -84,7 +84,7 @@ pub joined_end : {A : Type 0} (table : Table) (number : A → ℕ) (s : ℕ) (ab
     → AreJoined table s (map number (drop i above))
 joined_end table number s above i past = rw drop_all tt
 
--- keys and values side by side: each value that stands there is one of the values
+-- keys and values side by side: each value there is one of the values
 value_beside : {K V : Type 0} (ks : List K) (vs : List V) (e : K × V) → Contains (zip ks vs) e → Contains vs e.1
 value_beside [] vs e h = absurd (omega (arith, h.1))
 value_beside (k ∷ ks) [] e h = absurd (omega (arith, h.1))
@@ -92,7 +92,7 @@ value_beside (k ∷ ks) (v ∷ vs) e (zero, below, is) = (0, omega arith, ap (λ
 value_beside (k ∷ ks) (v ∷ vs) e (suc i, below, is) =
     let more = value_beside ks vs e (i, omega arith, is) in (suc more.0, omega (arith, more.1), more.2)
 
--- and each of the values stands beside a key
+-- and each of the values is beside a key
 key_beside : {K V : Type 0} (ks : List K) (vs : List V) (v : V) → length vs ≡ length ks → Contains vs v → (k : K) × Contains (zip ks vs) (k, v)
 key_beside ks [] v many h = absurd (omega (arith, h.1))
 key_beside [] (w ∷ vs) v many h = absurd (omega arith)
@@ -100,7 +100,7 @@ key_beside (k ∷ ks) (w ∷ vs) v many (zero, below, is) = (k, (0, omega arith,
 key_beside (k ∷ ks) (w ∷ vs) v many (suc i, below, is) =
     let more = key_beside ks vs v (omega arith) (i, omega arith, is) in (more.0, (suc more.1.0, omega (arith, more.1.1), more.1.2))
 
--- so the values of some entries are those that stand in them
+-- so the values are those of the entries
 pub values_of_entries : {K V X : Type 0} (number : K → ℕ) (value : V → X) (ks : List K) (vs : List V) (es : List (ℕ × X)) (x : X)
     → length vs ≡ length ks → map (λ e. (number e.0, value e.1)) (zip ks vs) ≡ es → Contains (map value vs) x ↔ ((k : ℕ) × Contains es (k, x))
 values_of_entries {K} {V} {X} number value ks vs es x many is = (
@@ -119,14 +119,14 @@ values_of_entries {K} {V} {X} number value ks vs es x many is = (
     f : K × V → ℕ × X
     f e = (number e.0, value e.1)
 
--- where it isn't at one place more, it isn't at one place more of the image
+-- if it isn't at the next place, it isn't at the next place of the image
 pub image_more : {A Y : Type 0} (f : A → Y) (y : Y) (xs : List A) (i : ℕ) (x : A) → i < length xs → x ≡ get_or xs i x → f x ≢ y
     → ((k : ℕ) (d : Y) → k < i → get_or (map f xs) k d ≢ y) → (k : ℕ) (d : Y) → k < i + 1 → get_or (map f xs) k d ≢ y
 image_more f y xs i x below read other before =
     let many : i < length (map f xs) = rw length-map below in
     each_more (λ z. z ≢ y) (map f xs) i (f x) many (ap f read ∙ sym (get_or-map f xs i x (f x) below)) other before
 
--- where it is at no place, the image doesn't have it
+-- if it is at no place, the image doesn't have it
 pub image_none : {A Y : Type 0} (f : A → Y) (y : Y) (xs : List A) (i : ℕ) → length xs ≤ i → ((k : ℕ) (d : Y) → k < i → get_or (map f xs) k d ≢ y)
     → ¬ (Contains (map f xs) y)
 image_none f y xs i past before h = before h.0 y (omega (arith, h.1, past, length-map xs f)) h.2

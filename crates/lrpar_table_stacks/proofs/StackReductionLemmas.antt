@@ -1,4 +1,4 @@
--- Reductions of a stack of any kind, which are reductions of its states.
+-- The reductions of a stack of any kind are reductions of its states.
 use Rattle.std.proofs.Common.{◌≡◌, ◌≤◌, ◌⊎◌, inl, inr, sym, subst, ap, arith, ℕ, List, [], ◌∷◌, ◌++◌, length, refl}
 use Rattle.lrpar_grammar.specs.Grammar.{Grammar, prod_len, rule_of}
 use Rattle.lrpar_table_rows.specs.Table.{Table}
@@ -7,20 +7,20 @@ use Rattle.lrpar_table_stacks.specs.Settled.{IsShortOfMemory, IsShiftShortOfMemo
 use Rattle.lrpar_table_stacks.specs.StackReduction.{IsStackShortOfMemory, IsStackShiftShortOfMemory, StackReduces, StackReducesBy}
 
 module _ {X : Type 0} (states : X → List ℕ) (reduces : X → ℕ → ℕ → ℕ → X → Type 0) (g : Grammar) (table : Table) (t : ℕ) where
-  -- reductions, and one more
+  -- reductions and one more are reductions
   pub stack_reduces_more : (old : X) (prods : List ℕ) (mid : X) (p : ℕ) (new : X) → StackReducesBy states reduces g table t old prods mid
       → StackReduces states reduces g table t mid p new → StackReducesBy states reduces g table t old (prods ++ p ∷ []) new
   stack_reduces_more old [] mid p new same last =
       (new, subst (λ (x : X). StackReduces states reduces g table t x p new) (sym same) last, refl)
   stack_reduces_more old (q ∷ prods) mid p new all last = (all.0, all.1, stack_reduces_more all.0 prods mid p new all.2 last)
 
-  -- the states make them
+  -- the states make the stack's reductions
   pub states_reduce_by : (old : X) (prods : List ℕ) (new : X) → StackReducesBy states reduces g table t old prods new
       → ReducesBy g table t (states old) prods (states new)
   states_reduce_by old [] new same = ap states same
   states_reduce_by old (p ∷ prods) new all = (states all.0, all.1.of_states, states_reduce_by all.0 prods new all.2)
 
-  -- a number that no reduction makes less isn't less after some
+  -- a number that no reduction makes less isn't less after several
   pub grows_by : (room : X → ℕ) → ((a : X) (p r n : ℕ) (b : X) → reduces a p r n b → room a ≤ room b) → (old : X) (prods : List ℕ) (new : X)
       → StackReducesBy states reduces g table t old prods new → room old ≤ room new
   grows_by room grows old [] new same = let e : room old ≡ room new = ap room same in omega (arith, e)
@@ -30,7 +30,7 @@ module _ {X : Type 0} (states : X → List ℕ) (reduces : X → ℕ → ℕ →
   module _ (fails : X → ℕ → X → Type 0) (shift_fails : X → X → Type 0) (room : X → ℕ) (grows : (a : X) (p r n : ℕ) (b : X) → reduces a p r n b → room a ≤ room b)
       (full : (a : X) (n : ℕ) (b : X) → fails a n b → (n ≡ 0) × (room a ≤ room b) × (room b ≤ length (states b)))
       (shift_full : (a b : X) → shift_fails a b → (room a ≤ room b) × (room b ≤ length (states b))) where
-    -- memory is wanting for a list of states where it is full
+    -- an allocation for a list of states fails only if the list is full
     pub list_short_of_memory : (old new : X) → IsStackShortOfMemory states reduces fails g table t old new
         → IsShortOfMemory g table t (states old) (room old) (states new) (room new)
     list_short_of_memory old new h =
@@ -65,7 +65,7 @@ module _ {X : Type 0} (states : X → List ℕ) (reduces : X → ℕ → ℕ →
           full = omega (arith, same, here.1);
         })
 
-    -- and so it is where it is fed
+    -- so does one for a list that is fed
     pub list_feed_short_of_memory : (cap : ℕ) (old new : X)
         → IsStackShortOfMemory states reduces fails g table t old new ⊎ IsStackShiftShortOfMemory states reduces shift_fails g table cap t old new
         → IsShortOfMemory g table t (states old) (room old) (states new) (room new)

@@ -1,4 +1,4 @@
--- What one step makes of a list of states, and of the chain that goes on from them.
+-- What one step does to a list of states, and to the chain that goes on from them.
 use Rattle.std.proofs.Common.{◌≡◌, ◌<◌, ◌≤◌, ◌+◌, ◌-◌, ◌∙◌, ◌↔◌, ◌⊎◌, inl, inr, refl, sym, ap, subst, arith, ℕ, zero, suc, List, [], ◌∷◌, ◌++◌, length, map, take, get_or, slice_get, Option, Some, None}
 use Rattle.std.proofs.lemmas.List.{length-append, length-map, length-take-le, map-append, take-map}
 use Rattle.std.proofs.lemmas.List.Elements.{All-push, All-take}
@@ -16,7 +16,7 @@ use Rattle.lrpar_table_stacks.specs.declared.reduction.Step.{Step}
 use Rattle.lrpar_table_stacks.specs.declared.reduction.Step.TheVariants.{Reduced, LeavesNone, Stays}
 use Rattle.lrpar_table_stacks.proofs.Reductions.{reduces_to_one}
 
--- below more symbols than there are, or as many, no state is left; and below less, one is
+-- a production with at least as many symbols as there are states leaves no state; one with fewer symbols does
 pub too_few : (height symbols states len : ℕ) → height ≡ states → symbols ≡ len → height ≤ symbols → states ≤ len
 too_few height symbols states len at is few = omega arith
 
@@ -26,7 +26,7 @@ one_left height symbols deep = omega arith
 pub place_left : (height symbols states : ℕ) → height ≡ states → symbols < height → height - symbols - 1 < states
 place_left height symbols states at deep = omega arith
 
--- a state that was read is one of those
+-- a state that was read is in range, if all states are
 pub within_at : (bound : ℕ) (st : List ℕ) (at s : ℕ) → All (λ s. s < bound) st → slice_get st at ≡ Some s → s < bound
 within_at bound st at s all read =
     subst (λ (s : ℕ). s < bound) (get_or_from_slice_get st at s s read) (all at s (slice_get_within st at s read))
@@ -38,7 +38,7 @@ slice_get-take (suc n) i [] below = refl
 slice_get-take (suc n) zero (s ∷ st) below = refl
 slice_get-take (suc n) (suc i) (s ∷ st) below = slice_get-take n i st (omega arith)
 
--- the top of what is left where some states are dropped
+-- the top of the states that are left after some are dropped
 pub top_of_left : (st : List ℕ) (count s : ℕ) → count < length st → slice_get st (length st - count - 1) ≡ Some s
     → top_of (take (length st - count) st) ≡ Some s
 top_of_left st count s deep read =
@@ -46,7 +46,7 @@ top_of_left st count s deep read =
     ap (λ (n : ℕ). slice_get (take (length st - count) st) (n - 1)) left
     ∙ slice_get-take (length st - count) (length st - count - 1) st (omega arith) ∙ read
 
--- some states that are put on the lower ones of a list stand for the numbers that are put on the lower ones of theirs
+-- a state that is pushed onto the lower states of a list represents its number, pushed onto the lower numbers
 pub put_states : {A : Type 0} (number : A → ℕ) (xs : List A) (left count : ℕ) (next : A) (after : List A) → left ≡ length xs - count
     → after ≡ take left xs ++ next ∷ [] → map number after ≡ take (length (map number xs) - count) (map number xs) ++ number next ∷ []
 put_states number xs left count next after is put =
@@ -59,11 +59,11 @@ put_states number xs left count next after is put =
 pub action_by_top : (table : Table) (t : ℕ) (st : List ℕ) (s : ℕ) → top_of st ≡ Some s → top_action table t st ≡ action_of table s t
 action_by_top table t st s top = ap (λ (o : Option ℕ). option_map_or (λ s. action_of table s t) o Fails) top
 
--- and so is its goto
+-- and the goto is that of its top
 pub goto_by_top : (table : Table) (r : ℕ) (st : List ℕ) (s : ℕ) → top_of st ≡ Some s → top_goto table r st ≡ goto_of table s r
 goto_by_top table r st s top = ap (λ (o : Option ℕ). option_and_then (λ s. goto_of table s r) o) top
 
--- so the goto that was read at the top of what is left is the goto of what is left
+-- so the goto that was read at the top of the states that are left is the goto of these states
 pub goto_of_left : (g : Grammar) (table : Table) (p : ℕ) (st : List ℕ) (symbols height s r : ℕ) (goto : Option ℕ) → symbols ≡ prod_len g p
     → height ≡ length st → symbols < height → slice_get st (height - symbols - 1) ≡ Some s → r ≡ rule_of g p → goto ≡ goto_of table s r
     → (prod_len g p < length st) × (top_goto table (rule_of g p) (left_by g p st) ≡ goto)
@@ -74,7 +74,7 @@ goto_of_left g table p st symbols height s r goto is_len is_height deep read is_
     let top = top_of_left st (prod_len g p) s below here in
     (below, goto_by_top table (rule_of g p) (left_by g p st) s top ∙ ap (goto_of table s) (sym is_rule) ∙ sym is_goto)
 
--- after a reduction the states are of the table still, and there are some
+-- after a reduction the states are still of the table, and there is at least one
 pub reduced_within : (g : Grammar) (table : Table) (t : ℕ) (st : List ℕ) (p : ℕ) (after : List ℕ) → IsClosed table
     → All (λ s. s < states_len table) st → Reduces g table t st p after → (0 < length after) × All (λ s. s < states_len table) after
 reduced_within g table t st p after closed within reduces =
@@ -92,7 +92,7 @@ reduced_within g table t st p after closed within reduces =
     goto_within None is = absurd (none-some reduces.state is)
     goto_within (Some s) is = closed.gotos_within s (rule_of g p) reduces.state is
 
--- a chain goes on by one reduction more than after its first step
+-- a chain makes one more reduction than it makes after its first step
 pub goes_on_reduced : (g : Grammar) (table : Table) (t : ℕ) (st : List ℕ) (p : ℕ) (after : List ℕ) (n : ℕ) → Reduces g table t st p after
     → HasReductions g table t st (suc n) ↔ HasReductions g table t after n
 goes_on_reduced g table t st p after n reduces = (
@@ -109,7 +109,7 @@ goes_on_reduced g table t st p after n reduces = (
   λ h. inl (p, after, reduces, h),
 )
 
--- a chain whose reduction drops all states makes that one more
+-- a chain whose reduction drops all states makes no other one
 pub goes_on_dropped : (g : Grammar) (table : Table) (t : ℕ) (st : List ℕ) (n : ℕ) → DropsAll g table t st
     → HasReductions g table t st (suc n) → n ≡ 0
 goes_on_dropped g table t st n drops h =
@@ -121,7 +121,7 @@ goes_on_dropped g table t st n drops h =
       | inr last ↦ last.1
     ]
 
--- a chain that stays makes none
+-- a chain whose step makes no reduction makes none
 pub goes_on_stays : (g : Grammar) (table : Table) (t : ℕ) (st after : List ℕ) (n : ℕ) → IsStepOf g table t st Stays after
     → ¬ (HasReductions g table t st (suc n))
 goes_on_stays g table t st after n stays h =
@@ -140,7 +140,7 @@ module _ (g : Grammar) (table : Table) (t : ℕ) (start : List ℕ) (cap : ℕ) 
       let e : left ≡ cap + 1 = omega arith in
       (λ h. rw e h, λ h. rw e at h)
 
-  -- one step more
+  -- one more step
   pub remains_more : (st after : List ℕ) (made : ℕ) (step : Step) → Remains g table t start cap st made → step ≡ Reduced
       → IsStepOf g table t st step after → Remains g table t start cap after (made + 1)
   remains_more st after made step remains is reduced left many =
@@ -162,7 +162,7 @@ module _ (g : Grammar) (table : Table) (t : ℕ) (start : List ℕ) (cap : ℕ) 
             goes_on_stays g table t st after (cap - made) (subst (λ (s : Step). IsStepOf g table t st s after) stays h) rest
       ]
 
-  -- where one reduction is still wanted, a step that makes one or would drop all states gives it
+  -- if one reduction is missing for a long chain, a step that makes one, or would drop all states, is that one
   pub remains_last : (st after : List ℕ) (made : ℕ) (step : Step) → Remains g table t start cap st made → made ≡ cap
       → (step ≡ Reduced) ⊎ (step ≡ LeavesNone) → IsStepOf g table t st step after → HasReductions g table t start (cap + 1)
   remains_last st after made step remains end is h =
@@ -174,7 +174,7 @@ module _ (g : Grammar) (table : Table) (t : ℕ) (start : List ℕ) (cap : ℕ) 
             let drops = subst (λ (s : Step). IsStepOf g table t st s after) leaves h in rest (inr (drops.0, refl))
       ]
 
-  -- and no other does
+  -- and no other step is
   pub remains_none : (st after : List ℕ) (made : ℕ) (step : Step) → Remains g table t start cap st made → made ≡ cap → step ≡ Stays
       → IsStepOf g table t st step after → ¬ (HasReductions g table t start (cap + 1))
   remains_none st after made step remains end is h all =
@@ -192,7 +192,7 @@ reduces_where_can g table t p st action known can = record {
   pushed = refl;
 }
 
--- and it is held up where memory was wanting for it
+-- an allocation can fail for it
 pub short_of_memory_at : {X : Type 0} (states : X → List ℕ) (fails : X → ℕ → X → Type 0) (g : Grammar) (table : Table) (t p : ℕ) (old new : X)
     → top_action table t (states old) ≡ ReduceBy p → p < prods_len g → CanReduce g table p (states old) → fails old (prod_len g p) new
     → states new ≡ states old → IsStepShortOfMemory states fails g table t old new
@@ -204,7 +204,7 @@ short_of_memory_at states fails g table t p old new action known can rest stays 
   of_rest = rest;
 }
 
--- what is said of an option without a value
+-- an option without a value
 pub match_none : {A : Type 0} (o : Option A) (P : Type 0) (Q : A → Type 0) → ((x : A) → ¬ (o ≡ Some x)) → MatchOption o P Q → P
 match_none None P Q none h = h
 match_none (Some x) P Q none h = absurd (none x refl)
@@ -228,7 +228,7 @@ step_of g table t p st Stays after action known (deep, none, same) = (
   same,
 )
 
--- and one of the whole stack
+-- and a step of the whole stack
 pub stack_step_of : {X : Type 0} (states : X → List ℕ) (reduces : X → ℕ → ℕ → ℕ → X → Type 0) (g : Grammar) (table : Table) (t p : ℕ) (old : X) (step : Step) (new : X)
     → top_action table t (states old) ≡ ReduceBy p → p < prods_len g → IsReduction g table p (states old) step (states new) → IsRestOf reduces g p old step new
     → IsStackStep states reduces g table t old step new
@@ -239,7 +239,7 @@ stack_step_of states reduces g table t p old Reduced new action known (deep, (st
 stack_step_of states reduces g table t p old LeavesNone new action known reduction rest = rest
 stack_step_of states reduces g table t p old Stays new action known reduction rest = rest
 
--- a state that is read in a list stands for the number there, and the last one for the top
+-- a state that was read in a list represents the number there, and the last one represents the top
 pub number_at : {A : Type 0} (number : A → ℕ) (xs : List A) (i : ℕ) (x : A) → i < length (map number xs) → x ≡ get_or xs i x
     → slice_get (map number xs) i ≡ Some (number x)
 number_at number xs i x below read =

@@ -1,4 +1,4 @@
--- What may come next at a stack: the tokens that can be fed, and the end token, where the stack accepts.
+-- The tokens that may come next at a stack: those that can be fed, and the end token, if the stack accepts.
 use Rattle.std.specs.Prelude.{◌≡◌, ◌≢◌, ◌↔◌, ◌⊎◌, ℕ, List, [], Contains, length, map}
 use Rattle.std.specs.List.Sorted.{IsStrictlyIncreasing}
 use Rattle.lrpar_grammar_places.specs.declared.span.TIdx.{TIdx}
@@ -7,7 +7,7 @@ use Rattle.lrpar_table_rows.specs.Table.{Table, Accepts}
 use Rattle.lrpar_table_stacks.specs.Overlay.{IsShortOfMemoryOver, Overlaid}
 use Rattle.lrpar_table_stacks.specs.Reduction.{Feeds, Settles, top_action}
 
--- all reductions are made at the end token, and then the top accepts
+-- after all reductions at the end token the top accepts
 pub record AcceptsAtEnd (g : Grammar) (table : Table) (st : List ℕ) : Type 0 where
   pub prods : List ℕ
   pub settled : List ℕ
@@ -28,18 +28,17 @@ pub record AreExpected (g : Grammar) (table : Table) (st tokens : List ℕ) : Ty
 abbrev pub tokens_of : {S : Type 0} → (S → ℕ) → List (TIdx S) → List ℕ
 tokens_of index tokens = map (λ t. index t.0) tokens
 
--- the stack with nothing above it, and room for so many states there
+-- the stack as an overlay, with no states above it, and with room for this number of states there
 abbrev pub laid_over : List ℕ → ℕ → Overlaid
 laid_over st room = record { base = st; kept = length st; tail = []; room = room }
 
--- Memory was wanting where token t was tried. It is wanted for the states that its reductions put over the stack, for which
--- there was so much room at first, and where those that there is then are full; or for the answer, where the token may come
--- next.
+-- An allocation failed when token t was tried: for the states that the token's reductions push over the stack. The overlay had
+-- this room for them at first, and is then full.
 pub record IsTriedShortOfMemory (g : Grammar) (table : Table) (t : ℕ) (st : List ℕ) : Type 0 where
   pub room : ℕ
   pub new : Overlaid
   pub short : IsShortOfMemoryOver g table t (laid_over st room) new
 
--- memory was wanting for a token that may come next, which is listed; or for the reductions under some token
+-- an allocation failed: for the list, with a token that may come next; or for the reductions under some token
 abbrev pub IsListShortOfMemory : Grammar → Table → List ℕ → Type 0
 IsListShortOfMemory g table st = (t : ℕ) × (IsExpected g table st t ⊎ IsTriedShortOfMemory g table t st)

@@ -1,4 +1,4 @@
--- Stacks of states with the symbols by which they are joined, both bottom first, and what a run never meets on them.
+-- Stacks of states with the symbols that lead from each state to the next, both bottom first; and what a run never meets on them.
 use Rattle.std.specs.Prelude.{◌≡◌, ◌≢◌, ℕ, List, [], ◌∷◌, ◌++◌}
 use Rattle.lrpar_grammar.specs.Grammar.{Grammar, GrammarSymbol, Nonterminal, Terminal, IsWellFormed, end_token, start_prod, rule_of, symbols_of}
 use Rattle.lrpar_table_rows.specs.Graph.{Graph}
@@ -13,13 +13,13 @@ Leads table s [] (next ∷ st) = ⊥
 Leads table s (x ∷ xs) [] = ⊥
 Leads table s (x ∷ xs) (next ∷ st) = GoesBy table s x next × Leads table next xs st
 
--- the start state stands at the bottom, and each state goes to the one above it by the symbol between them
+-- the start state is at the bottom, and each state goes to the one above it by the symbol between them
 abbrev pub IsPath : Table → List GrammarSymbol → List ℕ → Type 0
 IsPath table symbols [] = ⊥
 IsPath table symbols (s ∷ st) = (s ≡ table.start) × Leads table s symbols st
 
--- At token t a stack along these symbols reduces by p: that isn't the start production, its symbols are the top ones, more
--- states stand there, and the state that is left goes on by the rule of p.
+-- At token t a stack along these symbols reduces by p: p isn't the start production, its symbols are the top ones, there are
+-- more states than symbols of p, and the state that is left has a goto by the rule of p.
 pub record ReducesAlong (g : Grammar) (table : Table) (symbols : List GrammarSymbol) (st : List ℕ) (t p : ℕ) : Type 0 where
   pub listed : p ≢ start_prod g
   pub below : List GrammarSymbol
@@ -28,8 +28,8 @@ pub record ReducesAlong (g : Grammar) (table : Table) (symbols : List GrammarSym
   pub reduces : Reduces g table t st p after
   pub path : IsPath table (below ++ Nonterminal (rule_of g p) ∷ []) after
 
--- Whatever stack a run comes to, it can go on as the top state's action says: it doesn't shift the end token; a reduction
--- finds the symbols of its production and its goto; and where it accepts, that is at the end, with the start rule alone.
+-- On each stack that a run reaches, it can take the action of the top state: it doesn't shift the end token; a reduction finds
+-- the symbols of its production and its goto; and it accepts only at the end token, with the start rule alone.
 pub record NeverSticks (g : Grammar) (table : Table) : Type 0 where
   pub shifts : (symbols : List GrammarSymbol) (st : List ℕ) (t next : ℕ) → IsPath table symbols st → top_action table t st ≡ ShiftTo next
       → (t ≢ end_token g) × IsPath table (symbols ++ Terminal t ∷ []) (st ++ next ∷ [])

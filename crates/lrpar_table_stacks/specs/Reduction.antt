@@ -1,24 +1,24 @@
--- Reductions under a token. The table may be of any rows: where a reduction can't be made, there is none.
+-- Reductions under a lookahead. The table may be of any rows: if a reduction can't be made, there is none.
 use Rattle.std.specs.Prelude.{◌≡◌, ◌<◌, ◌-◌, ℕ, List, [], ◌∷◌, ◌++◌, length, take, Option, Some}
 use Rattle.std.specs.Option.{option_map_or, option_and_then}
 use Rattle.lrpar_grammar.specs.Grammar.{Grammar, prods_len, prod_len, rule_of}
 use Rattle.lrpar_table_rows.specs.Table.{Table, TableAction, ShiftTo, ReduceBy, Fails, action_of, goto_of}
 use Rattle.lrpar_table_stacks.specs.Stack.{top_of}
 
--- what is done at token t on a stack: the action of its top
+-- the action of a stack at token t: that of its top
 abbrev pub top_action : Table → ℕ → List ℕ → TableAction
 top_action table t st = option_map_or (λ s. action_of table s t) (top_of st) Fails
 
--- where a stack goes by rule r: the goto of its top
+-- the goto of a stack by rule r: that of its top
 abbrev pub top_goto : Table → ℕ → List ℕ → Option ℕ
 top_goto table r st = option_and_then (λ s. goto_of table s r) (top_of st)
 
--- what is left of a stack where a production's symbols are dropped
+-- the states that are left of a stack after the symbols of a production are dropped
 abbrev pub left_by : Grammar → ℕ → List ℕ → List ℕ
 left_by g p st = take (length st - prod_len g p) st
 
--- at token t the stack reduces by production p, which gives the stack `after`: the states of the production's symbols
--- are dropped, at least one is left, and the goto of the one that is left by the production's rule is pushed
+-- at token t the stack reduces by production p, which gives the stack `after`: one state for each symbol of the production is
+-- dropped, at least one state is left, and the goto of the top one by the production's rule is pushed
 pub record Reduces (g : Grammar) (table : Table) (t : ℕ) (st : List ℕ) (p : ℕ) (after : List ℕ) : Type 0 where
   pub action : top_action table t st ≡ ReduceBy p
   pub known : p < prods_len g
@@ -32,7 +32,7 @@ abbrev pub ReducesBy : Grammar → Table → ℕ → List ℕ → List ℕ → L
 ReducesBy g table t st [] after = st ≡ after
 ReducesBy g table t st (p ∷ prods) after = (next : List ℕ) × Reduces g table t st p next × ReducesBy g table t next prods after
 
--- at token t the stack's top has no reduction
+-- at token t the top of the stack has no reduction
 abbrev pub IsSettled : Table → ℕ → List ℕ → Type 0
 IsSettled table t st = (p : ℕ) → ¬ (top_action table t st ≡ ReduceBy p)
 
@@ -50,7 +50,7 @@ pub record Feeds (g : Grammar) (table : Table) (t : ℕ) (st prods after : List 
   pub shifts : top_action table t settled ≡ ShiftTo next
   pub pushed : after ≡ settled ++ next ∷ []
 
--- from a stack, under a token, there is at most one way to make all reductions
+-- reductions are deterministic: from a stack, under a lookahead, there is at most one list of all reductions
 abbrev pub SettlesOneWay : Type 0
 SettlesOneWay =
     (g : Grammar) (table : Table) (t : ℕ) (st : List ℕ) (ps qs a b : List ℕ)

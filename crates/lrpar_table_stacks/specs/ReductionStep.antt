@@ -1,4 +1,4 @@
--- One step at a token, over any list of states, be it a stack or the states of a chain.
+-- One step under a lookahead, over any list of states: a stack, or the states of a chain.
 use Rattle.std.specs.Prelude.{◌≡◌, ◌<◌, ◌≤◌, ℕ, List, [], ◌∷◌, ◌++◌, length, Some, None}
 use Rattle.lrpar_grammar.specs.Grammar.{Grammar, prods_len, prod_len, rules_len, rule_of}
 use Rattle.lrpar_table_stacks.specs.Chain.{DropsAll}
@@ -13,8 +13,8 @@ pub record FitsGrammar (g : Grammar) (table : Table) : Type 0 where
   pub reduces : (s t p : ℕ) → action_of table s t ≡ ReduceBy p → p < prods_len g
   pub rules : table.rules ≡ rules_len g
 
--- The states are reduced by p, which gives the states `after`; or p has as many symbols as they are, or more; or the state
--- that is left has no goto.
+-- The states are reduced by p, which gives the states `after`; or p has at least as many symbols as there are states; or the
+-- state that is left has no goto.
 abbrev pub IsReduction : Grammar → Table → ℕ → List ℕ → Step → List ℕ → Type 0
 IsReduction g table p st Reduced after =
     (prod_len g p < length st)
@@ -22,24 +22,24 @@ IsReduction g table p st Reduced after =
 IsReduction g table p st LeavesNone after = (length st ≤ prod_len g p) × (after ≡ st)
 IsReduction g table p st Stays after = (prod_len g p < length st) × (top_goto table (rule_of g p) (left_by g p st) ≡ None) × (after ≡ st)
 
--- At token t the states make a reduction, which gives the states `after`; or their reduction would drop them all; or there
--- is none.
+-- At token t the states make a reduction, which gives the states `after`; or their reduction would drop them all; or no
+-- reduction is due.
 abbrev pub IsStepOf : Grammar → Table → ℕ → List ℕ → Step → List ℕ → Type 0
 IsStepOf g table t st Reduced after = (p : ℕ) × Reduces g table t st p after
 IsStepOf g table t st LeavesNone after = DropsAll g table t st × (after ≡ st)
 IsStepOf g table t st Stays after = ((p : ℕ) (next : List ℕ) → ¬ (Reduces g table t st p next)) × ¬ (DropsAll g table t st) × (after ≡ st)
 
--- p has less symbols than there are states, and the state that it leaves has a goto
+-- p has fewer symbols than there are states, and the state that it leaves has a goto
 abbrev pub CanReduce : Grammar → Table → ℕ → List ℕ → Type 0
 CanReduce g table p st = (prod_len g p < length st) × ((state : ℕ) × (top_goto table (rule_of g p) (left_by g p st) ≡ Some state))
 
--- what `reduces` says of p holds of the stack, if it was reduced; otherwise the stack stays
+-- if the stack was reduced by p, the relation `reduces` holds; otherwise the stack stays as it is
 abbrev pub IsRestOf : {X : Type 0} → (X → ℕ → ℕ → ℕ → X → Type 0) → Grammar → ℕ → X → Step → X → Type 0
 IsRestOf reduces g p old Reduced new = reduces old p (rule_of g p) (prod_len g p) new
 IsRestOf reduces g p old LeavesNone new = new ≡ old
 IsRestOf reduces g p old Stays new = new ≡ old
 
--- at token t the stack, of any kind, makes a reduction; otherwise it stays
+-- at token t the stack, of any kind, makes a reduction; otherwise it stays as it is
 abbrev pub IsStackStep : {X : Type 0} → (X → List ℕ) → (X → ℕ → ℕ → ℕ → X → Type 0) → Grammar → Table → ℕ → X → Step → X → Type 0
 IsStackStep states reduces g table t old Reduced new = (p : ℕ) × StackReduces states reduces g table t old p new
 IsStackStep states reduces g table t old LeavesNone new = new ≡ old

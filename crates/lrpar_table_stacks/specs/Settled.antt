@@ -1,4 +1,4 @@
--- What a stack comes to at a token.
+-- Stacks after all reductions at a token, and after the token's shift.
 use Rattle.std.specs.Prelude.{◌≡◌, ◌≢◌, ◌≤◌, ◌+◌, ℕ, List, Bool, true, false, length}
 use Rattle.lrpar_grammar.specs.Grammar.{Grammar, prod_len}
 use Rattle.lrpar_table_stacks.specs.Chain.{most_reductions}
@@ -6,8 +6,8 @@ use Rattle.lrpar_table_stacks.specs.Reduction.{Reduces, ReducesBy, Settles, Feed
 use Rattle.lrpar_table_stacks.specs.Stack.{IsStack}
 use Rattle.lrpar_table_rows.specs.Table.{Table, ShiftTo}
 
--- At token t the stack makes all reductions, so many of them, which give the stack `after`. They are at most `cap` for each
--- state that the stack had; and at most `cap` for each state that it lost, and for `cap + 2` more.
+-- At token t the stack makes all reductions, which give the stack `after`; `count` is their number. They are at most `cap` for
+-- each state that the stack had; and at most `cap` for each state that it lost, and for `cap + 2` more.
 pub record IsSettledBy (g : Grammar) (table : Table) (cap t : ℕ) (st : List ℕ) (count : ℕ) (after : List ℕ) : Type 0 where
   pub prods : List ℕ
   pub settles : Settles g table t st prods after
@@ -23,9 +23,9 @@ IsFedBy g table cap t st true after = (prods : List ℕ) × Feeds g table t st p
 IsFedBy g table cap t st false after =
     ((count : ℕ) × IsSettledBy g table cap t st count after) × ((next : ℕ) → top_action table t after ≢ ShiftTo next)
 
--- Memory was wanting for a list that had room for so many states, and then has it for so many. At token t the stack makes
--- some first reductions, which give the stack `after`; the next one is due, by a production without symbols; no room was
--- given back; and `after` fills what there is.
+-- An allocation failed for a list that had room for `room` states, and then has room for `room_after`. At token t the stack
+-- makes the first reductions, which give the stack `after`; the next one is due, by a production without symbols; the room
+-- didn't shrink; and `after` fills it.
 pub record IsShortOfMemory (g : Grammar) (table : Table) (t : ℕ) (st : List ℕ) (room : ℕ) (after : List ℕ) (room_after : ℕ) : Type 0 where
   pub prods : List ℕ
   pub reduced : ReducesBy g table t st prods after
@@ -36,9 +36,9 @@ pub record IsShortOfMemory (g : Grammar) (table : Table) (t : ℕ) (st : List �
   pub grown : room ≤ room_after
   pub full : room_after ≤ length after
 
--- Memory was wanting for a list that had room for so many states, and then has it for so many. At token t the stack makes
--- all reductions, which give the stack `after`; its top shifts the token; no room was given back; and `after` fills what
--- there is.
+-- An allocation failed for a list that had room for `room` states, and then has room for `room_after`. At token t the stack
+-- makes all reductions, which give the stack `after`; its top shifts the token; the room didn't shrink; and `after` fills
+-- it.
 pub record IsShiftShortOfMemory (g : Grammar) (table : Table) (cap t : ℕ) (st : List ℕ) (room : ℕ) (after : List ℕ) (room_after : ℕ) : Type 0 where
   pub count : ℕ
   pub settled : IsSettledBy g table cap t st count after

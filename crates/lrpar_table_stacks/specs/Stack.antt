@@ -8,12 +8,12 @@ abbrev pub IsJoined : Table → ℕ → ℕ → Type 0
 IsJoined table s next =
     ((t : ℕ) × (t < table.tokens) × (action_of table s t ≡ ShiftTo next)) ⊎ ((r : ℕ) × (r < table.rules) × (goto_of table s r ≡ Some next))
 
--- state s is joined to the first of the states above it, and each of those to the next
+-- a shift or a goto leads from state s to the first of the states above it, and from each of those to the next
 abbrev pub AreJoined : Table → ℕ → List ℕ → Type 0
 AreJoined table s [] = Unit {0}
 AreJoined table s (next ∷ st) = IsJoined table s next × AreJoined table next st
 
--- the start state stands at the bottom, and neighbours are joined
+-- a stack of the table: the start state is at the bottom, and a shift or a goto leads from each state to the next
 abbrev pub IsStack : Table → List ℕ → Type 0
 IsStack table [] = ⊥
 IsStack table (s ∷ st) = (s ≡ table.start) × AreJoined table s st

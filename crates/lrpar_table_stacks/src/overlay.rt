@@ -1,4 +1,4 @@
-//! A stack of states over one that is borrowed: it can be reduced and fed, and the borrowed one stays as it is.
+//! A stack of states over a borrowed one. It can reduce and shift, and the borrowed one stays as it is.
 ghost use Rattle.std.specs.Prelude.{◌≡◌, ◌<◌, ◌≤◌, ◌-◌, [], ◌∷◌, ◌++◌, length, take, Some, OnOk, OnErr, IfOk};
 ghost use Rattle.lrpar_table_stacks.specs.Stack.{states_of, top_of};
 
@@ -7,7 +7,7 @@ use lrpar_grammar::span::{StIdx, StorageIndex};
 use std::alloc::{AllocError, Global};
 use std::marker::Model;
 
-/// A list of states that begins with the lower ones of a borrowed list, its base, and goes on with some of its own.
+/// A list of states that begins with the lower states of a borrowed list, its base, and goes on with states that it stores itself.
 #[derive(Debug, Drop)]
 pub struct Overlay<'a, StorageT: StorageIndex> {
     base: &'a [StIdx<StorageT>],
@@ -30,7 +30,7 @@ impl<'a, StorageT: StorageIndex> Model for Overlay<'a, StorageT> {
 impl<'a, StorageT: StorageIndex> Overlay<'a, StorageT> {
     ghost use Rattle.lrpar_table_stacks.specs.Overlay.{overlaid};
 
-    /// Stands for the base. Takes no memory; the allocator is for the states of its own.
+    /// The states of the base. It doesn't allocate; the allocator is for later states.
     pub fn new(alloc: Global, base: &'a [StIdx<StorageT>]) -> Self
         requires { 0 < length base.now }
         ensures made { result ≡ record { base = states_of StorageT.index base.now; kept = length base.now; tail = []; room = 0 } }
@@ -43,7 +43,7 @@ impl<'a, StorageT: StorageIndex> Overlay<'a, StorageT> {
         }
     }
 
-    /// How many states it stands for.
+    /// The number of states.
     pub fn len(&self) -> usize
         ensures { result ≡ length (overlaid self.now) }
     {
@@ -60,7 +60,8 @@ impl<'a, StorageT: StorageIndex> Overlay<'a, StorageT> {
         }
     }
 
-    /// How many states of the base still stand: as many as each drop left, if these were less.
+    /// The number of states of the base that are still there: the base's number of states, or the least number that a reduction
+    /// left, if that was less.
     pub fn kept(&self) -> usize
         ensures kept { result ≡ self.now.kept }
         ensures some { 0 < result }
@@ -69,7 +70,7 @@ impl<'a, StorageT: StorageIndex> Overlay<'a, StorageT> {
         self.kept
     }
 
-    /// The states as a list of their own, bottom first.
+    /// The states as a new list, bottom first.
     pub fn to_vec(&self) -> Result<Vec<StIdx<StorageT>>, AllocError>
         ensures { IfOk result (λ states. states_of StorageT.index states.items ≡ overlaid self.now) }
     {
@@ -79,7 +80,7 @@ impl<'a, StorageT: StorageIndex> Overlay<'a, StorageT> {
         Ok(states)
     }
 
-    /// Stands for the base again. Takes no memory, and gives none back.
+    /// Sets it back to the states of the base. It neither allocates nor frees memory.
     pub fn set_back(&mut self)
         ensures made { self.new ≡ record { base = self.old.base; kept = length self.old.base; tail = []; room = self.old.room } }
         ensures states { overlaid self.new ≡ self.old.base }

@@ -1,4 +1,4 @@
-//! A stack over an overlay that is borrowed, to look what tokens do there: internal.
+//! A stack over a borrowed overlay, to try tokens there: internal.
 ghost use Rattle.std.specs.Prelude.{◌≡◌, ◌<◌, ◌-◌, [], ◌∷◌, ◌++◌, length, take, OnOk, OnErr};
 ghost use Rattle.lrpar_table_stacks.specs.Expected.{laid_over};
 ghost use Rattle.lrpar_table_stacks.specs.Overlay.{overlaid};
@@ -9,7 +9,7 @@ use lrpar_grammar::span::{StIdx, StorageIndex};
 use std::alloc::{AllocError, Global};
 use std::marker::Model;
 
-/// The lower states of an overlay that is borrowed, its base, and some of its own above them.
+/// The lower states of a borrowed overlay, its base, and above them states that it stores itself.
 #[derive(Drop)]
 pub struct Probe<'o, 'a, StorageT: StorageIndex> {
     base: &'o Overlay<'a, StorageT>,
@@ -30,7 +30,7 @@ impl<'o, 'a, StorageT: StorageIndex> Model for Probe<'o, 'a, StorageT> {
 }
 
 impl<'o, 'a, StorageT: StorageIndex> Probe<'o, 'a, StorageT> {
-    /// Stands for the base. Takes no memory; the allocator is for the states of its own.
+    /// The states of the base. It doesn't allocate; the allocator is for later states.
     pub fn new(alloc: Global, base: &'o Overlay<'a, StorageT>) -> Self
         requires { 0 < length (overlaid base.now) }
         ensures { result ≡ laid_over (overlaid base.now) 0 }
@@ -42,7 +42,7 @@ impl<'o, 'a, StorageT: StorageIndex> Probe<'o, 'a, StorageT> {
         }
     }
 
-    /// Stands for the base again. Takes no memory, and gives none back.
+    /// Sets it back to the states of the base. It neither allocates nor frees memory.
     pub fn set_back(&mut self)
         ensures { self.new ≡ laid_over self.old.base self.old.room }
     {

@@ -1,4 +1,4 @@
-//! One step at a token, over any list of states, be it a stack or the states of a chain.
+//! One step under a lookahead, over any list of states: a stack, or the states of a chain.
 ghost use Rattle.std.specs.Prelude.{◌≡◌, ◌<◌, All, IfOk, OnErr, length};
 ghost use Rattle.lrpar_grammar.specs.Grammar.{prods_len, prod_len, rule_of, rules_len};
 ghost use Rattle.lrpar_table_stacks.specs.Reduction.{top_action};
@@ -13,19 +13,19 @@ use lrpar_grammar::span::{PIdx, StorageIndex, TIdx};
 use lrpar_table_rows::table::{Action, StateTable};
 use std::alloc::AllocError;
 
-/// What comes of a step.
+/// The result of a step.
 #[derive(Clone, Copy)]
 pub enum Step {
     /// A reduction was made.
     Reduced,
-    /// A reduction is due that would drop all states, and wasn't made.
+    /// A reduction is due that would drop all states. It wasn't made.
     LeavesNone,
     /// No reduction is due, or there is no goto for it.
     Stays,
 }
 
-/// Makes one reduction under the token, if it leaves a state that has the goto. Otherwise, and where memory was wanting,
-/// the states stay as they were. Answers what came of it, and the action by which it went.
+/// Makes one reduction under the token, if it leaves a state that has the goto. Otherwise, and after an `Err`, the states stay
+/// as they were. Returns the result of the step, and the action of the top. An `Err` means that an allocation failed.
 pub fn take_step<StorageT: StorageIndex, S: StateStack<StorageT>>(
     grm: &YaccGrammar<StorageT>,
     table: &StateTable<StorageT>,

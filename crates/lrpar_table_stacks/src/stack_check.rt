@@ -1,4 +1,4 @@
-//! Stacks of states: whether a list of states is one of a table.
+//! Whether a list of states is a stack of a table.
 ghost use Rattle.std.specs.Prelude.{◌≡◌, ◌<◌, ◌↔◌, ℕ, Contains, IsTrue, Some, map};
 ghost use Rattle.lrpar_table_rows.specs.PlainRows.{plain_action};
 ghost use Rattle.lrpar_table_stacks.specs.Stack.{AreJoined, IsJoined, IsStack, states_of};
@@ -7,8 +7,8 @@ ghost use Rattle.lrpar_table_rows.specs.Table.{ShiftTo, IsClosed, action_of, got
 use lrpar_grammar::span::{StIdx, StorageIndex};
 use lrpar_table_rows::table::{Action, StateTable};
 
-/// Whether these states, bottom first, are a stack of the table: the start state stands at the bottom, and a shift or a goto leads from
-/// each state to the one above it. Takes no memory. Reads at most the entries of each state but the top.
+/// Whether these states, bottom first, are a stack of the table: the start state is at the bottom, and a shift or a goto leads from
+/// each state to the one above it. It takes no memory. It reads at most the entries of each state but the top.
 pub fn is_stack_of<StorageT: StorageIndex>(
     table: &StateTable<StorageT>,
     stack: &[StIdx<StorageT>],
@@ -25,7 +25,7 @@ pub fn is_stack_of<StorageT: StorageIndex>(
     }
 }
 
-// Whether the state is joined to the first of the states above it, and each of those to the next.
+// Whether a shift or a goto leads from the state to the first of those above it, and from each of those to the next.
 fn are_joined<StorageT: StorageIndex>(
     table: &StateTable<StorageT>,
     bottom: StIdx<StorageT>,

@@ -1,5 +1,5 @@
-//! What a stack of states has to do for reductions and shifts, which one function makes over all kinds: internal, and public
-//! for a stack of the crate above, which has more than its states.
+//! The operations of a stack of states for reductions and shifts, with which one function serves all kinds of stacks: internal,
+//! and public for a stack of a crate above that has more than its states.
 ghost use Rattle.std.specs.Prelude.{◌≡◌, ◌<◌, ◌≤◌, ◌-◌, ℕ, List, [], ◌∷◌, ◌++◌, length, slice_get, take, Some, OnOk, OnErr, vec_capacity};
 ghost use Rattle.lrpar_grammar.specs.Grammar.{Grammar, prod_len, rule_of};
 ghost use Rattle.lrpar_table_stacks.specs.Reduction.{Reduces};
@@ -18,40 +18,40 @@ pub struct Reduction<StorageT> {
     pub prod: PIdx<StorageT>,
     /// Its rule.
     pub rule: RIdx<StorageT>,
-    /// How many symbols it has.
+    /// The number of its symbols.
     pub symbols: usize,
     /// The state that is pushed.
     pub next: StIdx<StorageT>,
 }
 
-/// What comes of all reductions of a stack.
+/// The result of all reductions of a stack.
 #[derive(Clone, Copy)]
 pub struct Settled<StorageT> {
-    /// How many were made.
+    /// The number of reductions.
     pub reductions: u128,
-    /// What the state then on top does.
+    /// The action of the state that is then on top.
     pub action: Action<StorageT>,
 }
 
-/// A stack of states. Its bottom is state 0 of the list that it stands for.
+/// A stack of states. Its bottom is state 0 of the list that it represents.
 pub trait StateStack<StorageT: StorageIndex> {
     /// The states, bottom first.
     ghost states: { Self → List ℕ };
 
-    /// What holds of the stack beside its states, where it is one to reduce by a grammar and a table.
+    /// What holds of the rest of the stack, beside its states, if the stack suits a grammar and a table.
     ghost suits: { Grammar → Table → Self → Type 0 };
 
-    /// What has to hold of the stack, beside its height, for a reduction by a production, of a rule and with so many
+    /// What has to hold of the stack, beside its height, for a reduction: by a production, of a rule, with this number of
     /// symbols.
     ghost can_reduce: { Self → ℕ → ℕ → ℕ → Type 0 };
 
-    /// What a reduction by a production, of a rule and with so many symbols, makes of the stack beside its states.
+    /// What a reduction does to the rest of the stack, beside its states: by a production, of a rule, with this number of symbols.
     ghost reduces: { Self → ℕ → ℕ → ℕ → Self → Type 0 };
 
-    /// What is left of the stack where memory was wanting for a reduction of so many symbols.
+    /// The stack after an allocation failed for a reduction of this number of symbols.
     ghost fails: { Self → ℕ → Self → Type 0 };
 
-    /// How many states there are.
+    /// The number of states.
     fn height(&self) -> usize
         ensures { result ≡ length (states self.now) };
 
@@ -65,8 +65,8 @@ pub trait StateStack<StorageT: StorageIndex> {
         requires { at < length (states self.now) }
         ensures { slice_get (states self.now) at ≡ Some (StorageT.index result.0) };
 
-    /// Drops the top states, one for each symbol of the reduction, and pushes the state of its goto. Where memory was
-    /// wanting, the states stay.
+    /// Drops the top states, one for each symbol of the reduction, and pushes the state of its goto. After an `Err` the
+    /// states are as before.
     fn reduce(&mut self, by: Reduction<StorageT>) -> Result<(), AllocError>
         requires can { can_reduce self.old (StorageT.index by.prod.0) (StorageT.index by.rule.0) by.symbols }
         requires deep { by.symbols < length (states self.old) }
@@ -76,24 +76,24 @@ pub trait StateStack<StorageT: StorageIndex> {
         ensures unchanged { OnErr result (states self.new ≡ states self.old) }
         ensures fails { OnErr result (fails self.old by.symbols self.new) };
 
-    /// Where the stack suits a grammar and a table, each reduction that is due by them can be made.
+    /// If the stack suits a grammar and a table, each reduction that is due by them can be made.
     ghost due_can: { (g : Grammar) (table : Table) (t : ℕ) (stack : Self) (p : ℕ) (after : List ℕ) → suits g table stack
         → Reduces g table t (states stack) p after → can_reduce stack p (rule_of g p) (prod_len g p) };
 
-    /// And the stack suits them again when it is made.
+    /// And the stack still suits them after the reduction.
     ghost reduced_suits: { (g : Grammar) (table : Table) (t : ℕ) (old : Self) (p : ℕ) (new : Self) → suits g table old
         → StackReduces states reduces g table t old p new → suits g table new };
 }
 
-/// A stack onto which a shift puts its state and nothing else.
+/// A stack onto which a shift pushes its state and nothing else.
 pub trait ShiftStack<StorageT: StorageIndex>: StateStack<StorageT> {
-    /// What a shift makes of the stack beside its states.
+    /// What a shift does to the rest of the stack, beside its states.
     ghost shifts: { Self → Self → Type 0 };
 
-    /// What is left of the stack where memory was wanting for a shift.
+    /// The stack after an allocation failed for a shift.
     ghost shift_fails: { Self → Self → Type 0 };
 
-    /// Pushes the state. Where memory was wanting, the states stay.
+    /// Pushes the state. After an `Err` the states are as before.
     fn shift(&mut self, next: StIdx<StorageT>) -> Result<(), AllocError>
         ensures states { OnOk result (Self.states self.new ≡ Self.states self.old ++ StorageT.index next.0 ∷ []) }
         ensures shifts { OnOk result (shifts self.old self.new) }
@@ -158,7 +158,7 @@ impl<StorageT: StorageIndex> ShiftStack<StorageT> for Vec<StIdx<StorageT>> {
     }
 }
 
-// Puts a state on the first `left` states, and drops those above.
+// Drops the states above the first `left` ones, and pushes a state onto these.
 pub(crate) fn put_at<StorageT: StorageIndex>(
     states: &mut Vec<StIdx<StorageT>>,
     left: usize,
@@ -179,7 +179,7 @@ pub(crate) fn put_at<StorageT: StorageIndex>(
     }
 }
 
-// Puts a state on the states. Where memory was wanting, they stay, and fill the room that there is then.
+// Pushes a state. After an `Err` the states are as before, and fill their capacity.
 pub(crate) fn push_on<StorageT: StorageIndex>(
     states: &mut Vec<StIdx<StorageT>>,
     next: StIdx<StorageT>,
@@ -189,7 +189,7 @@ pub(crate) fn push_on<StorageT: StorageIndex>(
     ensures unchanged { OnErr result (states.new.items ≡ states.old.items) }
     ensures full { OnErr result (vec_capacity states.new ≤ length states.new.items) }
 {
-    // What `push` leaves of the room where it fails isn't told; what `reserve` leaves is.
+    // After a failed `push` no contract says what the capacity is; after a failed `reserve` one does.
     states.reserve(1)?;
     states.push_reserved(next);
     Ok(())

@@ -1,4 +1,4 @@
--- What a parse answers, taken apart: unless memory ran out there is an answer of the lexer, and the parse goes one of two ways over it.
+-- The result of a parse, by cases: unless memory ran out, there is an answer of the lexer, with a lexing error or without one.
 use Rattle.std.proofs.Common.{◌≡◌, ◌<◌, ◌≤◌, ◌+◌, ℕ, List, [], ◌∷◌, None, Option, Result, Ok, Err, Some, IfErr, IfOk, ap, arith, inl, inr, refl, ◌∙◌}
 use Rattle.std.proofs.lemmas.Option.{slice_get_within}
 use Rattle.std.specs.Prelude.{slice_get}
@@ -14,11 +14,11 @@ use Rattle.lrpar_parse.specs.declared.fault.ParseFault.{ParseFault}
 use Rattle.lrpar_parse.specs.declared.fault.ParseFault.TheVariants.{BadToken, Memory, StartsDecrease}
 use Rattle.test_headline.specs.Answered.{IsDueRefusal, OfAnswer}
 
--- an answer is no refusal
+-- an answer is no fault
 ok_no_err : {A F : Type 0} (x : A) (f : F) → ◌≡◌ {A = Result A F} (Ok x) (Err f) → ⊥
 ok_no_err x f e = cc
 
--- the first lexing error is answered alone, or there is none and the answer is that of a run
+-- the first lexing error is the only error, or there is none and the answer is that of a run
 pub data Goes {T S L B C : Type 0} (about : Subject B) (errors_of : T → List (LexParseError S L B C)) (IsValued : Option (List B) → List ℕ → T → Type 0) (lexed : List (Result B C)) (answer : T) : Type 0 where
   by_error : (error : C) → first_error lexed ≡ Some error → errors_of answer ≡ LexError error ∷ [] → IsValued None [] answer → Goes about errors_of IsValued lexed answer
   by_run : first_error lexed ≡ None → IsRepairAnswer about errors_of IsValued (lexemes_of lexed) answer → Goes about errors_of IsValued lexed answer
@@ -27,9 +27,9 @@ module _ {T S L B C : Type 0} (about : Subject B) (lexes : List (Result B C) →
   way_of : (lexed : List (Result B C)) (answer : T) (error : Option C) → first_error lexed ≡ error → IsParse about errors_of IsValued lexed (Ok answer)
       → Goes about errors_of IsValued lexed answer
   way_of lexed answer None none is = by_run none (is.run none)
-  way_of lexed answer (Some error) some is = let told = is.lexing_error error some in by_error error some told.0 told.1
+  way_of lexed answer (Some error) some is = let alone = is.lexing_error error some in by_error error some alone.0 alone.1
 
-  -- what follows on both ways is true of an answer of the lexer
+  -- what follows in both cases is true of an answer of the lexer
   pub of_answer : (Holds : T → List (Result B C) → Type 0)
       → ((lexed : List (Result B C)) (answer : T) → Goes about errors_of IsValued lexed answer → Holds answer lexed)
       → (result : Result T ParseFault) → Parses about lexes errors_of IsValued result → IfOk result (λ answer. OfAnswer lexes (Holds answer))
@@ -38,7 +38,7 @@ module _ {T S L B C : Type 0} (about : Subject B) (lexes : List (Result B C) →
   of_answer Holds holds (Ok answer) (inr (lexed, allowed, is)) =
       (lexed, allowed, holds lexed answer (way_of lexed answer (first_error lexed) refl is))
 
-  -- and so what doesn't speak of the lexer's answer
+  -- and so is what doesn't mention the lexer's answer
   pub of_any : (Holds : T → Type 0) → ((lexed : List (Result B C)) (answer : T) → Goes about errors_of IsValued lexed answer → Holds answer)
       → (result : Result T ParseFault) → Parses about lexes errors_of IsValued result → IfOk result Holds
   of_any Holds holds (Err fault) parses = tt
@@ -57,7 +57,7 @@ early_is_faulty g lexemes i (j, x, y, next, before, at, early) valid =
     let ordered : x.span.start ≤ y.span.start = valid.starts j x y (slice_get_within lexemes (j + 1) y there) before there in
     omega (arith, ordered, early)
 
--- a parse is refused because memory ran out, or because a lexeme has a fault
+-- a parse returns a fault because memory ran out, or because a lexeme has a fault
 module _ {T S L B C : Type 0} (about : Subject B) (lexes : List (Result B C) → Type 0) (errors_of : T → List (LexParseError S L B C)) (IsValued : Option (List B) → List ℕ → T → Type 0) where
   pub due_refusal : (result : Result T ParseFault) → Parses about lexes errors_of IsValued result → IfErr result (IsDueRefusal about.facts about.checked.grammar lexes)
   due_refusal (Ok answer) parses = tt

@@ -1,4 +1,4 @@
--- A value comes exactly where each error lists a repair; and what a run consumes are its lexemes as first repaired.
+-- A value comes if and only if each error lists a repair; and what a run consumes are its lexemes as first repaired.
 use Rattle.std.proofs.Common.{◌≡◌, ◌≢◌, ◌+◌, ◌∙◌, ◌↔◌, ◌++◌, ℕ, List, [], ◌∷◌, All, IsSome, IfOk, IfSome, None, Option, Result, Some, Vec, ap, arith, drop, false, true, map, option_map, refl, subst, sym}
 use Rattle.std.proofs.lemmas.List.Elements.{All-nil, All-cons, All-head, All-tail}
 use Rattle.std.specs.List.{AllZip}
@@ -24,20 +24,20 @@ use Rattle.test_headline.proofs.AnswerLemmas.{Goes, by_error, by_run, of_answer,
 use Rattle.test_headline.specs.Answered.{OfAnswer}
 use Rattle.test_headline.specs.Repaired.{AsFirstRepaired, IsValueOfRepaired, ListsRepair}
 
--- what is there is something
+-- an option that is there is `Some`
 is_there : {A : Type 0} (o : Option A) (x : A) → o ≡ Some x → IsSome o
 is_there {A} o x e = subst (λ (w : Option A). IsSome w) (sym e) refl
 
 not_there : {A : Type 0} (o : Option A) → o ≡ None → IsSome o → ⊥
 not_there {A} o none some = let no : false ≡ true = subst (λ (w : Option A). IsSome w) none some in cc
 
--- a mapped list has elements exactly where the list has
+-- a mapped list has elements if and only if the list has
 mapped_some : {A B : Type 0} (f : A → B) (xs : List A) → (map f xs ≢ []) ↔ (xs ≢ [])
 mapped_some f [] = (λ some. absurd (some refl), λ some. absurd (some refl))
 mapped_some f (x ∷ xs) = ((λ _ e. (cc)), (λ _ e. (cc)))
 
 module _ {S L B C : Type 0} (about : Subject B) (lexemes : List B) where
-  -- an error lists a repair exactly where a sequence is listed at its stop
+  -- an error lists a repair if and only if a sequence is listed at its error point
   error_lists : (s : RepairStop) (e : LexParseError S L B C) → IsRepairErrorOf about lexemes s e → (s.listed ≢ []) ↔ ListsRepair e
   error_lists s (LexError e) is = absurd is
   error_lists s (ParseError failure) is =
@@ -46,7 +46,7 @@ module _ {S L B C : Type 0} (about : Subject B) (lexemes : List B) where
         λ some none. some (is.repairs ∙ ap (map (repairs_over (drop s.stop.place lexemes))) none),
       )
 
-  -- and so all errors do if one is at each stop
+  -- and so all errors do if one is listed at each error point
   errors_list : (stops : List RepairStop) (errors : List (LexParseError S L B C)) → AllZip (IsRepairErrorOf about lexemes) stops errors
       → All (λ s. s.listed ≢ []) stops ↔ All ListsRepair errors
   errors_list [] [] zip = (λ _. All-nil ListsRepair, λ _. All-nil (λ s. s.listed ≢ []))
@@ -59,42 +59,42 @@ module _ {S L B C : Type 0} (about : Subject B) (lexemes : List B) where
         λ all. All-cons (λ s. s.listed ≢ []) s stops (here.1 (All-head ListsRepair e errors all)) (there.1 (All-tail ListsRepair e errors all)),
       )
 
--- there is a value exactly where something was consumed
-value_there : {X V F Z : Type 0} (token : X → ℕ) (g : Grammar) (Tells : Tree X → V → Type 0) (consumed : Option (List X)) (prods : List ℕ) (answer : Option V × Vec F Z)
-    → HasValue token g Tells consumed prods answer → IsSome answer.0 ↔ IsSome consumed
-value_there token g Tells None prods answer none = (
+-- there is a value if and only if something was consumed
+value_there : {X V F Z : Type 0} (token : X → ℕ) (g : Grammar) (Evaluates : Tree X → V → Type 0) (consumed : Option (List X)) (prods : List ℕ) (answer : Option V × Vec F Z)
+    → HasValue token g Evaluates consumed prods answer → IsSome answer.0 ↔ IsSome consumed
+value_there token g Evaluates None prods answer none = (
   (λ some. absurd (not_there answer.0 none some)),
   (λ some. absurd (let differ : false ≡ true = some in let no : ⊥ = cc in no)),
 )
-value_there token g Tells (Some xs) prods answer (value, is, of) = ((λ _. refl), (λ _. is_there answer.0 value is))
+value_there token g Evaluates (Some xs) prods answer (value, is, of) = ((λ _. refl), (λ _. is_there answer.0 value is))
 
--- a value comes exactly where each error lists a repair
-value_where_repaired : {V S L B C Z : Type 0} (about : Subject B) (Tells : Tree B → V → Type 0) → AcceptsWhereRepaired about.facts about.allows
+-- a value comes if and only if each error lists a repair
+value_where_repaired : {V S L B C Z : Type 0} (about : Subject B) (Evaluates : Tree B → V → Type 0) → AcceptsWhereRepaired about.facts about.allows
     → (lexed : List (Result B C)) (answer : Option V × Vec (LexParseError S L B C) Z)
-    → Goes about (λ a. a.1.items) (HasValue (λ x. (about.facts x).token) about.checked.grammar Tells) lexed answer
+    → Goes about (λ a. a.1.items) (HasValue (λ x. (about.facts x).token) about.checked.grammar Evaluates) lexed answer
     → IsSome answer.0 ↔ All ListsRepair answer.1.items
-value_where_repaired about Tells accepts lexed answer (by_error error some errors none) = (
+value_where_repaired about Evaluates accepts lexed answer (by_error error some errors none) = (
   (λ there. absurd (not_there answer.0 none there)),
   (λ all. absurd (All-head ListsRepair (LexError error) [] (subst (All ListsRepair) errors all))),
 )
-value_where_repaired about Tells accepts lexed answer (by_run none is) =
-    let course = is.course in
-    let value = value_there (λ x. (about.facts x).token) about.checked.grammar Tells course.consumed course.prods answer is.value in
-    let run = accepts about.shifts about.checked.grammar about.checked.table (lexemes_of lexed) (about.checked.table.start ∷ []) course.stops course.consumed course.prods course.run in
-    let zip = errors_list about (lexemes_of lexed) course.stops answer.1.items is.errors in (
+value_where_repaired about Evaluates accepts lexed answer (by_run none is) =
+    let whole_run = is.whole_run in
+    let value = value_there (λ x. (about.facts x).token) about.checked.grammar Evaluates whole_run.consumed whole_run.prods answer is.value in
+    let run = accepts about.shifts about.checked.grammar about.checked.table (lexemes_of lexed) (about.checked.table.start ∷ []) whole_run.stops whole_run.consumed whole_run.prods whole_run.run in
+    let zip = errors_list about (lexemes_of lexed) whole_run.stops answer.1.items is.errors in (
       λ some. zip.0 (run.0 (value.0 some)),
       λ all. value.1 (run.1 (zip.1 all)),
     )
 
--- and so of what a parse answers
-pub values_where_repaired : {V S L B C Z : Type 0} (about : Subject B) (lexes : List (Result B C) → Type 0) (Tells : Tree B → V → Type 0) → AcceptsWhereRepaired about.facts about.allows
-    → (result : Result (Option V × Vec (LexParseError S L B C) Z) ParseFault) → ParsesTo about lexes Tells result
+-- and so for the result of a parse
+pub values_where_repaired : {V S L B C Z : Type 0} (about : Subject B) (lexes : List (Result B C) → Type 0) (Evaluates : Tree B → V → Type 0) → AcceptsWhereRepaired about.facts about.allows
+    → (result : Result (Option V × Vec (LexParseError S L B C) Z) ParseFault) → ParsesTo about lexes Evaluates result
     → IfOk result (λ answer. IsSome answer.0 ↔ All ListsRepair answer.1.items)
-values_where_repaired about lexes Tells accepts result parses =
-    of_any about lexes (λ a. a.1.items) (HasValue (λ x. (about.facts x).token) about.checked.grammar Tells) (λ answer. IsSome answer.0 ↔ All ListsRepair answer.1.items)
-    (λ lexed answer goes. value_where_repaired about Tells accepts lexed answer goes) result parses
+values_where_repaired about lexes Evaluates accepts result parses =
+    of_any about lexes (λ a. a.1.items) (HasValue (λ x. (about.facts x).token) about.checked.grammar Evaluates) (λ answer. IsSome answer.0 ↔ All ListsRepair answer.1.items)
+    (λ lexed answer goes. value_where_repaired about Evaluates accepts lexed answer goes) result parses
 
--- if steps are replayed, they go past these places
+-- steps that are replayed use up this number of places
 replay_places : {X : Type 0} (token : X → ℕ) (g : Grammar) (table : Table) (lexemes : List X) (st : List ℕ) (i : ℕ) (steps : List PlainStep) (prods after : List ℕ) (j : ℕ)
     → Replays token g table lexemes st i steps prods after j → j ≡ i + places_of steps
 replay_places token g table lexemes st i [] prods after j r = omega (arith, r.2)
@@ -105,7 +105,7 @@ replay_places token g table lexemes st i (PlainDelete ∷ steps) prods after j (
 replay_places token g table lexemes st i (PlainShift ∷ steps) prods after j (first, next, mid, rest, step, more, _) =
     let there = replay_places token g table lexemes next mid steps rest after j more in omega (arith, there, step.2)
 
--- what is mapped to something is something
+-- an option that maps to `Some` is `Some`
 mapped_from : {A B : Type 0} (f : A → B) (o : Option A) (y : B) → option_map f o ≡ Some y → (x : A) × (o ≡ Some x) × (y ≡ f x)
 mapped_from f None y e = absurd (let no : ⊥ = cc in no)
 mapped_from f (Some x) y e = (x, refl, cc)
@@ -116,22 +116,22 @@ consumes_repaired : {X : Type 0} (facts : X → LexemeFacts) (allows : Point X �
     → RepairRun facts allows k g table lexemes st i stops consumed prods → consumed ≡ Some xs → AsFirstRepaired facts lexemes i stops xs
 consumes_repaired facts allows k g table lexemes _ _ _ _ _ xs (runs_through st i prods far) is = cc
 consumes_repaired facts allows k g table lexemes _ _ _ _ _ xs (ends_there st i prods stop far listed) is = absurd (let no : ⊥ = cc in no)
-consumes_repaired facts allows k g table lexemes _ _ _ _ _ xs (is_repaired st i prods stop first listed made after j mended found consumed rest far at replays eaten run) is =
+consumes_repaired facts allows k g table lexemes _ _ _ _ _ xs (is_repaired st i prods stop first listed made after j recovered found consumed rest far at replays eaten run) is =
     let past = replay_places (λ x. (facts x).token) g table lexemes stop.stack stop.place first made after j replays in
-    let whole = mapped_from (λ ys. fed_between lexemes i stop.place ++ mended ++ ys) consumed xs is in
+    let whole = mapped_from (λ ys. fed_between lexemes i stop.place ++ recovered ++ ys) consumed xs is in
     let more = consumes_repaired facts allows k g table lexemes after j found consumed rest whole.0 run whole.1 in
-    (first, listed, refl, (mended, whole.0, eaten, subst (λ (m : ℕ). AsFirstRepaired facts lexemes m found whole.0) past more, whole.2))
+    (first, listed, refl, (recovered, whole.0, eaten, subst (λ (m : ℕ). AsFirstRepaired facts lexemes m found whole.0) past more, whole.2))
 
 -- what was consumed is a value's tree over the lexemes as first repaired
-value_repaired : {V S L B C Z : Type 0} (about : Subject B) (Tells : Tree B → V → Type 0) (lexed : List (Result B C)) (answer : Option V × Vec (LexParseError S L B C) Z)
+value_repaired : {V S L B C Z : Type 0} (about : Subject B) (Evaluates : Tree B → V → Type 0) (lexed : List (Result B C)) (answer : Option V × Vec (LexParseError S L B C) Z)
     (stops : List RepairStop) (consumed : Option (List B)) (prods : List ℕ) (value : Option V)
     → first_error lexed ≡ None → AllZip (IsRepairErrorOf about (lexemes_of lexed)) stops answer.1.items
     → RepairRun about.facts about.allows about.shifts about.checked.grammar about.checked.table (lexemes_of lexed) (about.checked.table.start ∷ []) 0 stops consumed prods
-    → HasValue (λ x. (about.facts x).token) about.checked.grammar Tells consumed prods answer → answer.0 ≡ value
-    → IfSome value (IsValueOfRepaired about Tells lexed answer.1.items)
-value_repaired about Tells lexed answer stops consumed prods None none errors run has is = tt
-value_repaired about Tells lexed answer stops None prods (Some value) none errors run no_value is = absurd (not_there answer.0 no_value (is_there answer.0 value is))
-value_repaired about Tells lexed answer stops (Some xs) prods (Some value) none errors run (found, found_is, of) is =
+    → HasValue (λ x. (about.facts x).token) about.checked.grammar Evaluates consumed prods answer → answer.0 ≡ value
+    → IfSome value (IsValueOfRepaired about Evaluates lexed answer.1.items)
+value_repaired about Evaluates lexed answer stops consumed prods None none errors run has is = tt
+value_repaired about Evaluates lexed answer stops None prods (Some value) none errors run no_value is = absurd (not_there answer.0 no_value (is_there answer.0 value is))
+value_repaired about Evaluates lexed answer stops (Some xs) prods (Some value) none errors run (found, found_is, of) is =
     let same : found ≡ value = let both : ◌≡◌ {A = Option _} (Some found) (Some value) = sym found_is ∙ is in cc in
     record {
       no_error = none;
@@ -140,21 +140,21 @@ value_repaired about Tells lexed answer stops (Some xs) prods (Some value) none 
       tree = of.tree;
       fits = of.fits;
       leaves_are = consumes_repaired about.facts about.allows about.shifts about.checked.grammar about.checked.table (lexemes_of lexed) (about.checked.table.start ∷ []) 0 stops (Some xs) prods (leaves of.tree) run (ap Some (sym of.leaves_are));
-      tells = subst (Tells of.tree) same of.tells;
+      evaluates = subst (Evaluates of.tree) same of.evaluates;
     }
 
-value_of_repaired : {V S L B C Z : Type 0} (about : Subject B) (Tells : Tree B → V → Type 0) (lexed : List (Result B C)) (answer : Option V × Vec (LexParseError S L B C) Z)
-    → Goes about (λ a. a.1.items) (HasValue (λ x. (about.facts x).token) about.checked.grammar Tells) lexed answer
-    → IfSome answer.0 (IsValueOfRepaired about Tells lexed answer.1.items)
-value_of_repaired {V = V} about Tells lexed answer (by_error error some errors none) = subst (λ (o : Option V). IfSome o (IsValueOfRepaired about Tells lexed answer.1.items)) (sym none) tt
-value_of_repaired about Tells lexed answer (by_run none is) =
-    value_repaired about Tells lexed answer is.course.stops is.course.consumed is.course.prods answer.0 none is.errors is.course.run is.value refl
+value_of_repaired : {V S L B C Z : Type 0} (about : Subject B) (Evaluates : Tree B → V → Type 0) (lexed : List (Result B C)) (answer : Option V × Vec (LexParseError S L B C) Z)
+    → Goes about (λ a. a.1.items) (HasValue (λ x. (about.facts x).token) about.checked.grammar Evaluates) lexed answer
+    → IfSome answer.0 (IsValueOfRepaired about Evaluates lexed answer.1.items)
+value_of_repaired {V = V} about Evaluates lexed answer (by_error error some errors none) = subst (λ (o : Option V). IfSome o (IsValueOfRepaired about Evaluates lexed answer.1.items)) (sym none) tt
+value_of_repaired about Evaluates lexed answer (by_run none is) =
+    value_repaired about Evaluates lexed answer is.whole_run.stops is.whole_run.consumed is.whole_run.prods answer.0 none is.errors is.whole_run.run is.value refl
 
--- and so of what a parse answers
-pub values_of_repaired : {V S L B C Z : Type 0} (about : Subject B) (lexes : List (Result B C) → Type 0) (Tells : Tree B → V → Type 0)
-    (result : Result (Option V × Vec (LexParseError S L B C) Z) ParseFault) → ParsesTo about lexes Tells result
-    → IfOk result (λ answer. OfAnswer lexes (λ lexed. IfSome answer.0 (IsValueOfRepaired about Tells lexed answer.1.items)))
-values_of_repaired about lexes Tells result parses =
-    of_answer about lexes (λ a. a.1.items) (HasValue (λ x. (about.facts x).token) about.checked.grammar Tells)
-    (λ answer lexed. IfSome answer.0 (IsValueOfRepaired about Tells lexed answer.1.items))
-    (λ lexed answer goes. value_of_repaired about Tells lexed answer goes) result parses
+-- and so for the result of a parse
+pub values_of_repaired : {V S L B C Z : Type 0} (about : Subject B) (lexes : List (Result B C) → Type 0) (Evaluates : Tree B → V → Type 0)
+    (result : Result (Option V × Vec (LexParseError S L B C) Z) ParseFault) → ParsesTo about lexes Evaluates result
+    → IfOk result (λ answer. OfAnswer lexes (λ lexed. IfSome answer.0 (IsValueOfRepaired about Evaluates lexed answer.1.items)))
+values_of_repaired about lexes Evaluates result parses =
+    of_answer about lexes (λ a. a.1.items) (HasValue (λ x. (about.facts x).token) about.checked.grammar Evaluates)
+    (λ answer lexed. IfSome answer.0 (IsValueOfRepaired about Evaluates lexed answer.1.items))
+    (λ lexed answer goes. value_of_repaired about Evaluates lexed answer goes) result parses

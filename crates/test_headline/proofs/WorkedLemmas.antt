@@ -1,4 +1,4 @@
--- The errors of a parse by a recoverer with one answer list those that work of it.
+-- The errors of a parse by a recoverer with one answer list the sequences of it that work.
 use Rattle.std.proofs.Common.{IfOk, Vec, ◌≡◌, ◌∙◌, ◌⊎◌, ℕ, suc, zero, List, [], ◌∷◌, None, Option, Result, Some, ap, arith, inl, inr, map, refl, subst, sym}
 use Rattle.std.specs.List.{AllZip, Contains}
 use Rattle.lrpar_parse_errors.specs.Failure.{Failure}
@@ -16,7 +16,7 @@ use Rattle.lrpar_parse.specs.Parse.{ParsesToErrors}
 use Rattle.lrpar_parse.specs.declared.fault.ParseFault.{ParseFault}
 use Rattle.test_headline.proofs.AnswerLemmas.{Goes, by_error, by_run, of_answer}
 use Rattle.test_headline.specs.Answered.{OfAnswer}
-use Rattle.test_headline.specs.Worked.{EachListsWhatWorks, ListsWhatWorks, ListsWhatWorksAt, WorksAt, told_at}
+use Rattle.test_headline.specs.Worked.{EachListsWhatWorks, ListsWhatWorks, ListsWhatWorksAt, WorksAt, repairs_at}
 
 -- an element of a list is its first or one of the others
 cons_cases : {A : Type 0} (x : A) (xs : List A) (y : A) → Contains (x ∷ xs) y → (x ≡ y) ⊎ Contains xs y
@@ -74,65 +74,65 @@ contained_mapped {A} f (x ∷ xs) y there =
       | inr later ↦ let found = contained_mapped f xs y later in (found.0, cons_other x xs found.0 found.1, found.2)
     ]
 
-module _ {X : Type 0} (about : Subject X) (handed : List (List PlainStep)) (lexemes : List X)
-    (one : (point : Point X) (answer : List (List PlainStep)) → about.allows point answer → answer ≡ handed) where
-  -- the error of a stop lists what works there
+module _ {X : Type 0} (about : Subject X) (supplied : List (List PlainStep)) (lexemes : List X)
+    (one : (point : Point X) (answer : List (List PlainStep)) → about.allows point answer → answer ≡ supplied) where
+  -- the error of an error point lists what works there
   lists_at : (s : RepairStop) (failure : Failure X) → IsListedAt about.facts about.allows about.shifts about.checked.grammar about.checked.table lexemes s.stop s.listed
-      → IsRepairFailure about.facts about.checked.grammar lexemes s failure → ListsWhatWorksAt about handed lexemes s.stop failure
+      → IsRepairFailure about.facts about.checked.grammar lexemes s failure → ListsWhatWorksAt about supplied lexemes s.stop failure
   lists_at s failure at is =
-      let P : List PlainStep → Type 0 = WorksAt about handed lexemes s.stop in
-      let f : List PlainStep → List (Repair X) = told_at about handed lexemes s.stop in
-      let same : at.answer ≡ handed = one (record { lexemes = lexemes; place = s.stop.place; stack = s.stop.stack }) at.answer at.allowed in
-      let those : AreThoseWith P handed s.listed = subst (λ (l : List (List PlainStep)). AreThoseWith P l s.listed) same at.those in
+      let P : List PlainStep → Type 0 = WorksAt about supplied lexemes s.stop in
+      let f : List PlainStep → List (Repair X) = repairs_at about supplied lexemes s.stop in
+      let same : at.answer ≡ supplied = one (record { lexemes = lexemes; place = s.stop.place; stack = s.stop.stack }) at.answer at.allowed in
+      let those : AreThoseWith P supplied s.listed = subst (λ (l : List (List PlainStep)). AreThoseWith P l s.listed) same at.those in
       record {
         state = is.state;
         lexeme = is.lexeme;
         all = λ steps there works.
-            subst (λ (l : List (List (Repair X))). Contains l (f steps)) (sym is.repairs) (mapped_contained f s.listed steps (those_contained P handed s.listed steps those there works));
+            subst (λ (l : List (List (Repair X))). Contains l (f steps)) (sym is.repairs) (mapped_contained f s.listed steps (those_contained P supplied s.listed steps those there works));
         only = λ repairs there.
             let from = contained_mapped f s.listed repairs (subst (λ (l : List (List (Repair X))). Contains l repairs) is.repairs there) in
-            let found = those_are P handed s.listed from.0 those from.1 in
+            let found = those_are P supplied s.listed from.0 those from.1 in
             (from.0, found.0, found.1, from.2);
         order = (s.listed, those, is.repairs);
       }
 
   lists_what_works : {S L C : Type 0} (s : RepairStop) (e : LexParseError S L X C) → IsListedAt about.facts about.allows about.shifts about.checked.grammar about.checked.table lexemes s.stop s.listed
-      → IsRepairErrorOf about lexemes s e → ListsWhatWorks about handed lexemes s e
+      → IsRepairErrorOf about lexemes s e → ListsWhatWorks about supplied lexemes s e
   lists_what_works s (LexError e) at is = is
   lists_what_works s (ParseError failure) at is = lists_at s failure at is
 
   -- and so do all errors of a run
   each_lists : {S L C : Type 0} (st : List ℕ) (i : ℕ) (stops : List RepairStop) (consumed : Option (List X)) (prods : List ℕ) (errors : List (LexParseError S L X C))
       → RepairRun about.facts about.allows about.shifts about.checked.grammar about.checked.table lexemes st i stops consumed prods
-      → AllZip (IsRepairErrorOf about lexemes) stops errors → AllZip (ListsWhatWorks about handed lexemes) stops errors
+      → AllZip (IsRepairErrorOf about lexemes) stops errors → AllZip (ListsWhatWorks about supplied lexemes) stops errors
   each_lists _ _ _ _ _ [] (runs_through st i prods far) zip = tt
   each_lists _ _ _ _ _ (e ∷ errors) (runs_through st i prods far) zip = absurd zip
   each_lists _ _ _ _ _ [] (ends_there st i prods stop far listed) zip = absurd zip
   each_lists _ _ _ _ _ (e ∷ []) (ends_there st i prods stop far listed) zip = (lists_what_works (record { stop = stop; listed = [] }) e listed zip.0, tt)
   each_lists _ _ _ _ _ (e ∷ f ∷ errors) (ends_there st i prods stop far listed) zip = absurd zip.1
-  each_lists _ _ _ _ _ [] (is_repaired st i prods stop first listed made after j mended found consumed rest far at replays eaten run) zip = absurd zip
-  each_lists _ _ _ _ _ (e ∷ errors) (is_repaired st i prods stop first listed made after j mended found consumed rest far at replays eaten run) zip =
+  each_lists _ _ _ _ _ [] (is_repaired st i prods stop first listed made after j recovered found consumed rest far at replays eaten run) zip = absurd zip
+  each_lists _ _ _ _ _ (e ∷ errors) (is_repaired st i prods stop first listed made after j recovered found consumed rest far at replays eaten run) zip =
       (lists_what_works (record { stop = stop; listed = first ∷ listed }) e at zip.0, each_lists after j found consumed rest errors run zip.1)
 
--- if no lexing error came, each error lists what works of what is supplied
-each_lists_what_works : {T S L B C : Type 0} (about : Subject B) (handed : List (List PlainStep)) (errors_of : T → List (LexParseError S L B C)) (IsValued : Option (List B) → List ℕ → T → Type 0)
-    → ((point : Point B) (answer : List (List PlainStep)) → about.allows point answer → answer ≡ handed)
+-- if there is no lexing error, each error lists the supplied sequences that work
+each_lists_what_works : {T S L B C : Type 0} (about : Subject B) (supplied : List (List PlainStep)) (errors_of : T → List (LexParseError S L B C)) (IsValued : Option (List B) → List ℕ → T → Type 0)
+    → ((point : Point B) (answer : List (List PlainStep)) → about.allows point answer → answer ≡ supplied)
     → (lexed : List (Result B C)) (answer : T) → Goes about errors_of IsValued lexed answer → first_error lexed ≡ None
-    → EachListsWhatWorks about handed (lexemes_of lexed) (errors_of answer)
-each_lists_what_works about handed errors_of IsValued one lexed answer (by_error error some errors no_value) none =
+    → EachListsWhatWorks about supplied (lexemes_of lexed) (errors_of answer)
+each_lists_what_works about supplied errors_of IsValued one lexed answer (by_error error some errors no_value) none =
     absurd (let differ : ◌≡◌ {A = Option _} (Some error) None = sym some ∙ none in let no : ⊥ = cc in no)
-each_lists_what_works about handed errors_of IsValued one lexed answer (by_run free is) none =
-    let course = is.course in
+each_lists_what_works about supplied errors_of IsValued one lexed answer (by_run free is) none =
+    let whole_run = is.whole_run in
     record {
-      course = course;
-      each = each_lists about handed (lexemes_of lexed) one (about.checked.table.start ∷ []) 0 course.stops course.consumed course.prods (errors_of answer) course.run is.errors;
+      whole_run = whole_run;
+      each = each_lists about supplied (lexemes_of lexed) one (about.checked.table.start ∷ []) 0 whole_run.stops whole_run.consumed whole_run.prods (errors_of answer) whole_run.run is.errors;
     }
 
--- and so of what a parse answers
-pub errors_list_what_works : {S L B C Z : Type 0} (about : Subject B) (lexes : List (Result B C) → Type 0) (handed : List (List PlainStep))
-    → ((point : Point B) (answer : List (List PlainStep)) → about.allows point answer → answer ≡ handed)
+-- and so for the result of a parse
+pub errors_list_what_works : {S L B C Z : Type 0} (about : Subject B) (lexes : List (Result B C) → Type 0) (supplied : List (List PlainStep))
+    → ((point : Point B) (answer : List (List PlainStep)) → about.allows point answer → answer ≡ supplied)
     → (result : Result (Vec (LexParseError S L B C) Z) ParseFault) → ParsesToErrors about lexes result
-    → IfOk result (λ errors. OfAnswer lexes (λ lexed. first_error lexed ≡ None → EachListsWhatWorks about handed (lexemes_of lexed) errors.items))
-errors_list_what_works about lexes handed one result parses =
-    of_answer about lexes (λ errors. errors.items) HasNoValue (λ errors lexed. first_error lexed ≡ None → EachListsWhatWorks about handed (lexemes_of lexed) errors.items)
-    (λ lexed errors goes none. each_lists_what_works about handed (λ found. found.items) HasNoValue one lexed errors goes none) result parses
+    → IfOk result (λ errors. OfAnswer lexes (λ lexed. first_error lexed ≡ None → EachListsWhatWorks about supplied (lexemes_of lexed) errors.items))
+errors_list_what_works about lexes supplied one result parses =
+    of_answer about lexes (λ errors. errors.items) HasNoValue (λ errors lexed. first_error lexed ≡ None → EachListsWhatWorks about supplied (lexemes_of lexed) errors.items)
+    (λ lexed errors goes none. each_lists_what_works about supplied (λ found. found.items) HasNoValue one lexed errors goes none) result parses

@@ -5,17 +5,17 @@ use Rattle.lrpar_parse_trees.specs.Visits.{Visit, Met, Entered}
 use Rattle.lrpar_parse_trees.specs.Walks.{walk}
 use Rattle.lrpar_parse.specs.Lexed.{first_error, lexemes_of}
 
--- the lexemes that are met
+-- the lexemes among the visits
 abbrev pub lexemes_met : {X S : Type 0} → List (Visit X S) → List X
 lexemes_met [] = []
 lexemes_met (Met x ∷ visits) = x ∷ lexemes_met visits
 lexemes_met (Entered rule children ∷ visits) = lexemes_met visits
 
--- the lexemes that a walk through the tree meets, from left to right
+-- the lexemes that a walk through the tree visits, from left to right
 abbrev pub node_leaves : {X S : Type 0} → Node X S → List X
 node_leaves node = lexemes_met (walk node)
 
--- no lexing error came, and the leaves of the tree are exactly the lexemes, in order
+-- there is no lexing error, and the leaves of the tree are exactly the lexemes, in order
 pub record HasLeaves {X S E : Type 0} (node : Node X S) (lexed : List (Result X E)) : Type 0 where
   pub no_error : first_error lexed ≡ None
   pub leaves_are : node_leaves node ≡ lexemes_of lexed

@@ -1,4 +1,4 @@
--- Errors that list what works of the sequences that are supplied.
+-- Errors that list the supplied sequences that work.
 use Rattle.std.specs.Prelude.{◌≡◌, ℕ, List, Contains, Some, drop, map}
 use Rattle.std.specs.List.{AllZip}
 use Rattle.lrpar_parse_errors.specs.Failure.{Failure}
@@ -11,40 +11,40 @@ use Rattle.lrpar_table_stacks.specs.Run.{Stop}
 use Rattle.lrpar_table_stacks.specs.Stack.{top_of}
 use Rattle.lrpar_parse_repair.specs.Repaired.{repairs_over}
 use Rattle.lrpar_parse_repair.specs.Sequences.{PlainStep, AreThoseWith, Works}
-use Rattle.lrpar_parse_run.specs.RepairAnswer.{RepairWholeRun}
+use Rattle.lrpar_parse_run.specs.RepairAnswer.{RunWithRepairs}
 use Rattle.lrpar_parse_run.specs.RepairRun.{RepairStop}
 use Rattle.lrpar_parse_run.specs.RunAnswer.{IsLexemeAt}
 use Rattle.lrpar_parse_run.specs.Subject.{Subject}
 
--- a parse by this table in which these sequences are supplied at each error, and so many lexemes have to follow a repair
-abbrev pub handing_in : {X : Type 0} → Checked → (X → LexemeFacts) → ℕ → List (List PlainStep) → Subject X
-handing_in d facts k handed = record { checked = d; facts = facts; allows = λ point answer. answer ≡ handed; shifts = k }
+-- a parse by this table in which these sequences are supplied at each error, and k lexemes must follow a repair
+abbrev pub supplying : {X : Type 0} → Checked → (X → LexemeFacts) → ℕ → List (List PlainStep) → Subject X
+supplying d facts k supplied = record { checked = d; facts = facts; allows = λ point answer. answer ≡ supplied; shifts = k }
 
-module _ {X : Type 0} (about : Subject X) (handed : List (List PlainStep)) (lexemes : List X) where
-  -- the sequence works at the stop
+module _ {X : Type 0} (about : Subject X) (supplied : List (List PlainStep)) (lexemes : List X) where
+  -- the sequence works at the error point
   abbrev pub WorksAt : Stop → List PlainStep → Type 0
   WorksAt stop steps = Works (λ x. (about.facts x).token) about.checked.grammar about.checked.table lexemes about.shifts stop.stack stop.place steps
 
-  -- how an error at the stop lists it
-  abbrev pub told_at : Stop → List PlainStep → List (Repair X)
-  told_at stop steps = repairs_over (drop stop.place lexemes) steps
+  -- the repairs that an error at the error point lists for it
+  abbrev pub repairs_at : Stop → List PlainStep → List (Repair X)
+  repairs_at stop steps = repairs_over (drop stop.place lexemes) steps
 
-  -- The error is that of the stop. Each sequence that is supplied and works there is listed, each that is listed was supplied
-  -- and works there, in the order in which they were supplied, each as often.
+  -- The error is that of the error point. Each sequence that is supplied and works there is listed, and each that is listed was supplied
+  -- and works there; they are in the order in which they were supplied, and each is listed as often as it was supplied.
   pub record ListsWhatWorksAt (stop : Stop) (failure : Failure X) : Type 0 where
     pub state : top_of stop.stack ≡ Some failure.state
     pub lexeme : IsLexemeAt about.facts about.checked.grammar lexemes stop.place failure.lexeme
-    pub all : (steps : List PlainStep) → Contains handed steps → WorksAt stop steps → Contains failure.repairs (told_at stop steps)
+    pub all : (steps : List PlainStep) → Contains supplied steps → WorksAt stop steps → Contains failure.repairs (repairs_at stop steps)
     pub only : (repairs : List (Repair X)) → Contains failure.repairs repairs
-        → (steps : List PlainStep) × Contains handed steps × WorksAt stop steps × (repairs ≡ told_at stop steps)
-    pub order : (listed : List (List PlainStep)) × AreThoseWith (WorksAt stop) handed listed × (failure.repairs ≡ map (told_at stop) listed)
+        → (steps : List PlainStep) × Contains supplied steps × WorksAt stop steps × (repairs ≡ repairs_at stop steps)
+    pub order : (listed : List (List PlainStep)) × AreThoseWith (WorksAt stop) supplied listed × (failure.repairs ≡ map (repairs_at stop) listed)
 
-  -- so it is of an error
+  -- the same for an error
   abbrev pub ListsWhatWorks : {S L C : Type 0} → RepairStop → LexParseError S L X C → Type 0
   ListsWhatWorks at (LexError error) = ⊥
   ListsWhatWorks at (ParseError failure) = ListsWhatWorksAt at.stop failure
 
-  -- the errors are those of the stops of a run, in order, and each lists what works at its stop
+  -- the errors are those of the error points of a run, in order, and each lists what works at its error point
   pub record EachListsWhatWorks {S L C : Type 0} (errors : List (LexParseError S L X C)) : Type 0 where
-    pub course : RepairWholeRun about lexemes
-    pub each : AllZip ListsWhatWorks course.stops errors
+    pub whole_run : RunWithRepairs about lexemes
+    pub each : AllZip ListsWhatWorks whole_run.stops errors

@@ -1,10 +1,10 @@
-//! A value folds a derivation, whose leaves are the lexemes as first repaired; without an error they are the lexemes themselves.
+//! A value is the fold of a derivation. Its leaves are the lexemes as first repaired; without an error they are the lexemes themselves.
 ghost use Rattle.std.specs.Prelude.{◌≡◌, [], IfOk, IfSome, MatchOption};
 ghost use Rattle.lrpar_parse_run.specs.Folds.{Folds};
 ghost use Rattle.lrpar_parse.specs.Acted.{IsActedValue};
 ghost use Rattle.lrpar_parse.specs.Arguments.{TakesAll};
 ghost use Rattle.lrpar_parse.specs.Parser.{subject};
-ghost use Rattle.lrpar_parse_lexemes.specs.Known.{span_by};
+ghost use Rattle.lrpar_parse_lexemes.specs.Views.{span_by};
 ghost use Rattle.lrpar_parse_run.specs.Made.{made_by};
 ghost use Rattle.test_headline.specs.Answered.{OfAnswer};
 ghost use Rattle.test_headline.specs.Leaves.{HasLeaves};
@@ -17,8 +17,8 @@ use lrpar_parse_lexemes::lex_api::{LexerTypes, NonStreamingLexer};
 use lrpar_parse_repair::repair::Recoverer;
 use std::alloc::Global;
 
-/// The value and the errors of a parse, whatever its recoverer supplies. A value is what a tree of the start rule folds to by the two
-/// functions, and the leaves of this tree are the lexemes as first repaired: at each error the first sequence that it lists is done.
+/// The value and the errors of a parse, whatever its recoverer supplies. A tree of the start rule folds to the value by the two functions.
+/// The leaves of this tree are the lexemes as first repaired: at each error the first sequence that it lists is replayed.
 pub fn folded_value<
     'input,
     StorageT: StorageIndex,
@@ -44,8 +44,8 @@ pub fn folded_value<
     parser.parse_map(alloc, lexer, fterm, fnonterm)
 }
 
-/// The value and the errors of a parse by actions, whatever its recoverer supplies. A value is what the actions make of a tree of the
-/// start rule, node by node, and has the fact of that rule; the leaves of this tree are the lexemes as first repaired.
+/// The value and the errors of a parse by actions, whatever its recoverer supplies. The actions make the value of a tree of the
+/// start rule, node by node, and it has the fact of that rule. The leaves of this tree are the lexemes as first repaired.
 pub fn acted_value<
     'input,
     StorageT: StorageIndex,
@@ -75,8 +75,8 @@ pub fn acted_value<
     parser.parse_actions(alloc, lexer, actions, param)
 }
 
-/// The tree and the errors of a parse, whatever its recoverer supplies. If there is no error there is a tree, and its leaves are
-/// exactly the lexemes, in order.
+/// The tree and the errors of a parse, whatever its recoverer supplies. If there is no error, there is a tree, and its leaves
+/// are exactly the lexemes, in order.
 pub fn tree_of<
     'input,
     StorageT: StorageIndex,

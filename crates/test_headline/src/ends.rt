@@ -1,6 +1,6 @@
-//! The parse ends, with its errors, or refused for a reason that its caller can rule out.
+//! The parse ends, with its errors or with a fault that its caller can rule out.
 ghost use Rattle.std.specs.Prelude.{IfErr};
-ghost use Rattle.lrpar_parse_lexemes.specs.Known.{facts_by};
+ghost use Rattle.lrpar_parse_lexemes.specs.Views.{facts_by};
 ghost use Rattle.test_headline.specs.Answered.{IsDueRefusal};
 
 use lrpar_grammar::span::StorageIndex;
@@ -10,8 +10,8 @@ use lrpar_parse_lexemes::lex_api::{LexerTypes, NonStreamingLexer};
 use lrpar_parse_repair::repair::Recoverer;
 use std::alloc::Global;
 
-/// The errors of a parse, whatever its recoverer supplies. It is refused only if memory ran out, or if the lexer answered lexemes of
-/// which one has a fault. So a parse over valid lexemes ends with an answer, as far as there is memory.
+/// The errors of a parse, whatever its recoverer supplies. There is an `Err` only if memory ran out, or if one of the
+/// lexer's lexemes has a fault. So a parse over valid lexemes ends with an answer, unless memory runs out.
 pub fn errors_of<
     'input,
     StorageT: StorageIndex,

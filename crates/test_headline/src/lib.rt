@@ -1,7 +1,7 @@
-//! What a user concludes of a parse: for every checked table, every list of valid lexemes and every recoverer, the parse ends; it gives
-//! a value exactly where no lexing error came and each parse error lists a repair; the value folds a derivation whose leaves are the
-//! lexemes as first repaired; a complete table gives every sentence its only tree; and each error lists exactly the sequences that were
-//! supplied and work, in the order in which they were supplied. Each file is about one of these. Their proofs know the crates below by
+//! What a user concludes about a parse. For every checked table, every list of valid lexemes and every recoverer: the parse ends; there is
+//! a value if and only if there is no lexing error and each parse error lists a repair; the value is the fold of a derivation whose leaves
+//! are the lexemes as first repaired; over a complete table every sentence has one tree only, which the parse returns; and each error lists
+//! exactly the supplied sequences that work, in the order in which they were supplied. Each file is about one of these. Their proofs use
 //! the contracts of public functions alone, as a user's proofs do.
 #![tactic(auto)]
 
@@ -14,5 +14,5 @@ mod values;
 pub use derivations::{acted_value, folded_value, tree_of};
 pub use ends::errors_of;
 pub use repairs::{errors_by, errors_without_repairs};
-pub use sentences::{Untold, is_sentence, only_tree, trees_are_one};
+pub use sentences::{Unknown, is_sentence, only_tree, trees_are_one};
 pub use values::value_of;

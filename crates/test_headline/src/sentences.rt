@@ -1,8 +1,8 @@
-//! A complete table gives every sentence its only tree.
+//! Over a complete table every sentence has one tree only, and a parse returns it.
 ghost use Rattle.std.specs.Prelude.{◌≡◌, ◌↔◌, ℕ, IfOk, IsTrue, OnOk};
 ghost use Rattle.lrpar_parse_run.specs.Folds.{Folds};
 ghost use Rattle.lrpar_parse_run.specs.Nodes.{IsNonterm, IsTerm};
-ghost use Rattle.lrpar_parse_lexemes.specs.Known.{token_by};
+ghost use Rattle.lrpar_parse_lexemes.specs.Views.{token_by};
 ghost use Rattle.test_headline.specs.Answered.{OfAnswer};
 ghost use Rattle.test_headline.specs.Sentences.{AnswersSentence, HasOneTree, IsOfOnlyTree};
 
@@ -14,35 +14,35 @@ use lrpar_table::check::{CompleteFault, ParserData};
 use lrpar_table_check::laws::complete_tables_take_sentences;
 use std::alloc::Global;
 
-/// Why nothing is known of the lexemes.
+/// Why nothing is known about the lexemes.
 #[derive(Debug, Drop)]
-pub enum Untold {
+pub enum Unknown {
     /// The table isn't known to be complete.
     Incomplete(CompleteFault),
-    /// The parse is refused.
+    /// The parse returned a fault.
     Refused(ParseFault),
 }
 
-/// Whether the lexemes are a sentence of the grammar: a parse by a complete table has no error exactly if they are.
+/// Whether the lexemes are a sentence of the grammar: a parse by a complete table has no error if and only if they are.
 pub fn is_sentence<
     'input,
     StorageT: StorageIndex,
     LexerTypesT: LexerTypes<StorageT = StorageT>,
     L: NonStreamingLexer<'input, LexerTypesT>,
->(alloc: Global, checked: &ParserData<StorageT>, lexer: &L) -> Result<bool, Untold>
+>(alloc: Global, checked: &ParserData<StorageT>, lexer: &L) -> Result<bool, Unknown>
     ensures { IfOk result (λ yes. OfAnswer (L.allows lexer.now) (λ lexed.
         IsTrue yes ↔ AnswersSentence (token_by StorageT.index LexerTypesT.LexemeT.parts) checked.now.grammar lexed)) }
 {
     match checked.check_complete(alloc) {
         Ok(()) => match RTParserBuilder::new(checked).parse_noaction(alloc, lexer) {
             Ok(errors) => Ok(errors.is_empty()),
-            Err(fault) => Err(Untold::Refused(fault)),
+            Err(fault) => Err(Unknown::Refused(fault)),
         },
-        Err(fault) => Err(Untold::Incomplete(fault)),
+        Err(fault) => Err(Unknown::Incomplete(fault)),
     }
 }
 
-/// The tree of the lexemes by a complete table: there is one exactly if they are a sentence, and each tree over them is this one.
+/// The tree of the lexemes by a complete table: there is one if and only if they are a sentence, and each tree over them is this one.
 pub fn only_tree<
     'input,
     StorageT: StorageIndex,
@@ -52,7 +52,7 @@ pub fn only_tree<
     alloc: Global,
     checked: &ParserData<StorageT>,
     lexer: &L,
-) -> Result<Option<Node<LexerTypesT::LexemeT, StorageT>>, Untold>
+) -> Result<Option<Node<LexerTypesT::LexemeT, StorageT>>, Unknown>
     ensures { IfOk result (λ tree. OfAnswer (L.allows lexer.now)
         (IsOfOnlyTree (token_by StorageT.index LexerTypesT.LexemeT.parts) checked.now.grammar
         (Folds IsTerm (IsNonterm StorageT.index) checked.now.grammar) tree)) }
@@ -60,13 +60,13 @@ pub fn only_tree<
     match checked.check_complete(alloc) {
         Ok(()) => match RTParserBuilder::new(checked).parse_generictree(alloc, lexer) {
             Ok((tree, _)) => Ok(tree),
-            Err(fault) => Err(Untold::Refused(fault)),
+            Err(fault) => Err(Unknown::Refused(fault)),
         },
-        Err(fault) => Err(Untold::Incomplete(fault)),
+        Err(fault) => Err(Unknown::Incomplete(fault)),
     }
 }
 
-/// Two trees of a sentence are one if the table is complete, over lexemes of any type.
+/// If the table is complete, two trees of a sentence are equal, over lexemes of any type.
 pub fn trees_are_one<StorageT: StorageIndex, LexemeT>(
     alloc: Global,
     checked: &ParserData<StorageT>,

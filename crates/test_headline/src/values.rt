@@ -1,4 +1,4 @@
-//! There is a value exactly where no lexing error came and each parse error lists a repair.
+//! There is a value if and only if there is no lexing error and each parse error lists a repair.
 ghost use Rattle.std.specs.Prelude.{◌↔◌, All, IfOk, IsSome};
 ghost use Rattle.test_headline.specs.Repaired.{ListsRepair};
 
@@ -10,8 +10,8 @@ use lrpar_parse_lexemes::lex_api::{LexerTypes, NonStreamingLexer};
 use lrpar_parse_repair::repair::Recoverer;
 use std::alloc::Global;
 
-/// The value and the errors of a parse, whatever its recoverer supplies. There is a value exactly if each error is a parse error
-/// that lists a repair.
+/// The value and the errors of a parse, whatever its recoverer supplies. There is a value if and only if each error is a parse
+/// error that lists a repair.
 pub fn value_of<
     'input,
     StorageT: StorageIndex,

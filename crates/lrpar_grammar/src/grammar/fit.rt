@@ -32,7 +32,7 @@ pub(super) fn tokens_fit(tokens: &[TokenPart], src: &str) -> bool
     true
 }
 
-// Whether the places of all productions lie in the text, as they have to.
+// Whether the places of all productions fit the text.
 pub(super) fn prods_fit<StorageT: StorageIndex>(prods: &[SplitProd<StorageT>], src: &str) -> bool
     ensures { IsTrue result ↔ All (λ prod. ProductionFits src.now (split_prod_of StorageT.index prod)) prods.now }
 {
@@ -44,7 +44,7 @@ pub(super) fn prods_fit<StorageT: StorageIndex>(prods: &[SplitProd<StorageT>], s
     true
 }
 
-// Whether the places of a production lie in the text, as they have to.
+// Whether the places of a production fit the text.
 fn prod_fits<StorageT: StorageIndex>(prod: &SplitProd<StorageT>, src: &str) -> bool
     ensures { IsTrue result ↔ ProductionFits src.now (split_prod_of StorageT.index prod.now) }
 {
@@ -54,7 +54,7 @@ fn prod_fits<StorageT: StorageIndex>(prod: &SplitProd<StorageT>, src: &str) -> b
         && are_in_order(&prod.symbol_spans)
 }
 
-// Whether each part lies on one line of the text.
+// Whether each part is on one line of the text.
 fn are_parts_of_lines(spans: &[Span], src: &str) -> bool
     ensures { IsTrue result ↔ All (IsPartOfLine src.now) spans.now }
 {
@@ -66,7 +66,7 @@ fn are_parts_of_lines(spans: &[Span], src: &str) -> bool
     true
 }
 
-// Whether each part ends before the next one starts.
+// Whether each part ends at or before the start of the next.
 fn are_in_order(spans: &[Span]) -> bool
     ensures { IsTrue result ↔ AreSpansInOrder spans.now }
 {
@@ -80,7 +80,7 @@ fn are_in_order(spans: &[Span]) -> bool
     true
 }
 
-// Whether the part lies on one line of the text.
+// Whether the part is on one line of the text.
 fn is_part_of_line(span: Span, src: &str) -> bool
     ensures { IsTrue result ↔ IsPartOfLine src.now span }
 {
@@ -90,7 +90,7 @@ fn is_part_of_line(span: Span, src: &str) -> bool
             .all(|byte| *byte != b'\n')
 }
 
-// Whether the part starts and ends in the text, between two characters each time.
+// Whether the part starts and ends in the text, each between two characters.
 fn is_part(span: Span, src: &str) -> bool
     ensures { IsTrue result ↔ IsPartOf src.now span }
 {

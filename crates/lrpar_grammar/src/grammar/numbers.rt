@@ -6,7 +6,7 @@ ghost use Rattle.std.specs.List.{range_with_len};
 use lrpar_grammar_places::span::{Numbered, StorageIndex};
 use std::marker::{Model, PhantomData};
 
-/// Numbers of one kind, of rules, productions or tokens, one after another.
+/// Numbers of one kind, of rules, productions or tokens, in ascending order.
 #[derive(Debug, Drop)]
 pub struct Numbers<StorageT: StorageIndex, I: Numbered<StorageT>> {
     next: usize,

@@ -8,7 +8,7 @@ use lrpar_grammar_places::span::{PIdx, RIdx, Span, StorageIndex, Symbol};
 use lrpar_grammar_reader::parts::ProdPart;
 use std::alloc::{AllocError, Global};
 
-// A production whose symbols and their places are lists of their own.
+// A production with its symbols and their places in two lists.
 #[derive(Debug, Drop)]
 pub(super) struct SplitProd<StorageT> {
     pub(super) rule: RIdx<StorageT>,
@@ -17,7 +17,7 @@ pub(super) struct SplitProd<StorageT> {
     pub(super) span: Span,
 }
 
-// The productions with their symbols and places as lists of their own, and the start production after them.
+// The productions with their symbols and places in two lists each, and the start production after them.
 pub(super) fn split_prods<StorageT: StorageIndex>(
     alloc: Global,
     parts: &[ProdPart<StorageT>],
@@ -35,7 +35,7 @@ pub(super) fn split_prods<StorageT: StorageIndex>(
     Ok(prods)
 }
 
-// A production with its symbols and places as lists of their own.
+// A production with its symbols and places in two lists.
 fn split_prod<StorageT: StorageIndex>(
     alloc: Global,
     part: &ProdPart<StorageT>,
@@ -77,7 +77,7 @@ fn added<StorageT: StorageIndex>(
     })
 }
 
-// The productions of each of so many rules, ascending.
+// The productions of each rule below `rules`, ascending.
 pub(super) fn prods_by_rule<StorageT: StorageIndex>(
     alloc: Global,
     rules: usize,
@@ -95,7 +95,7 @@ pub(super) fn prods_by_rule<StorageT: StorageIndex>(
     Ok(rows)
 }
 
-// So many empty rows.
+// One empty row for each rule below `rules`.
 fn empty_rows<StorageT: StorageIndex>(
     alloc: Global,
     rules: usize,

@@ -16,16 +16,16 @@ impl<StorageT: StorageIndex> YaccGrammar<StorageT> {
     ///
     /// A declaration is `%start` and a rule's name, `%token` and tokens, or `%epp`, a token and its printed text in
     /// quotes. A rule is `NAME : SYMBOLS | SYMBOLS ;`. A token is quoted or declared; any other name is a rule. Blanks,
-    /// `//` to the end of the line and `/*` to the next `*/` may stand between words. Without `%start` the first rule
-    /// is the start.
+    /// `//` to the end of the line and `/*` to the next `*/` may come between words. Without `%start` the first rule
+    /// is the start rule.
     ///
-    /// Rules are numbered by first definition, tokens by first declaration or use, productions as they stand. A place
-    /// is in bytes and without quotes; all of them fit the text, as `spans_fit` tests.
+    /// Rules are numbered by first definition, tokens by first declaration or use, productions in the order of the text. A
+    /// place is in bytes and without quotes. All places fit the text, as `spans_fit` tests.
     ///
-    /// Refused with `Syntax` where the text isn't of that shape, else by the first of these that holds:
+    /// Fails with `Syntax` if the text isn't of that shape, else with the first of these that holds:
     /// `RepeatedStart`, `RepeatedEpp`, `NoRules`, `TokenIsRule`, `UnknownRule`, `UnknownToken`, each at its first place,
-    /// and `StorageTooSmall`; or with `Memory`. Takes memory linear in the text, time linear in it but for names, of
-    /// which each is looked up in logarithmic time.
+    /// and `StorageTooSmall`; or with `Memory` if an allocation fails. Takes memory linear in the text, and time linear in
+    /// it but for names: each of these is looked up in logarithmic time.
     pub fn new_with_storaget(alloc: Global, text: &str) -> Result<Self, GrammarFault>
         ensures spelled { IfOk result (Spells text.now) }
         ensures well_formed { IfOk result IsWellFormed }

@@ -7,7 +7,7 @@ use lrpar_grammar_places::span::{StorageIndex, TIdx};
 use lrpar_grammar_reader::parts::TokenPart;
 use std::alloc::{AllocError, Global};
 
-// The place of the first token of that name.
+// The place of the first token with that name.
 pub(super) fn first_named(tokens: &[TokenPart], name: &str) -> Option<usize>
     ensures { result ≡ position (λ token. bytes_eq (string_bytes token.name) name.now) tokens.now }
 {

@@ -14,7 +14,7 @@ use lrpar_grammar_reader::parts::{GrammarFault, GrammarParts, RulePart, TokenPar
 use std::alloc::{AllocError, Global};
 use std::marker::Model;
 
-/// A context-free grammar with names and places. Rule 0 is the added rule `^`; the last production, the start
+/// A context-free grammar with names and places, augmented: rule 0 is the added rule `^`; the last production, the start
 /// production, is of that rule and derives the start rule alone; the last token is the end token, which has no name.
 #[derive(Debug)]
 pub struct YaccGrammar<StorageT: StorageIndex> {
@@ -25,7 +25,7 @@ pub struct YaccGrammar<StorageT: StorageIndex> {
     rule_prods: Vec<Vec<PIdx<StorageT>>>,
 }
 
-// A drop of its own, so that what lets go of one elsewhere proves one call.
+// Hand-written, so that code that drops a grammar needs the proof of one call only.
 impl<StorageT: StorageIndex> Drop for YaccGrammar<StorageT> {
     fn drop(self) {
         let YaccGrammar {
@@ -61,20 +61,20 @@ impl<StorageT: StorageIndex> YaccGrammar<StorageT> {
     ghost use Rattle.lrpar_grammar.specs.Printed.{printed_of};
     ghost use Rattle.lrpar_grammar_reader.specs.Grammar.{IsWellFormed, rules_len, prods_len, tokens_len, end_token, start_prod, rule_of, symbols_of, symbol_spans_of, prod_span_of, prods_of, rule_name, rule_span, token_name, token_epp, token_span};
 
-    /// The grammar of the parts. Its rules are the added rule and the listed ones, in order; its productions the
-    /// listed ones, in order, and the start production; its tokens the listed ones, in order, and the end token.
+    /// The grammar of the parts. Its rules are the added rule and the listed ones, in order; its productions are the
+    /// listed ones, in order, and the start production; its tokens are the listed ones, in order, and the end token.
     ///
-    /// Refused by the first of these that holds: no rule is listed; the storage type can't number them all, with
-    /// what is added; the start isn't a listed rule; a production's rule or a symbol isn't a listed one; memory is
-    /// wanting. Takes time and memory linear in the parts.
+    /// Fails with the first of these that holds: no rule is listed; the storage type can't number them all, with
+    /// what is added; the start isn't a listed rule; a production's rule or one of its symbols isn't listed; an allocation
+    /// fails. Takes time and memory linear in the parts.
     pub fn from_parts(alloc: Global, parts: GrammarParts<StorageT>) -> Result<Self, GrammarFault>
         ensures made { IfOk result (λ grm. grm ≡ grammar_of (parts_of StorageT.index parts)) }
         ensures well_formed { IfOk result IsWellFormed }
 
-        // Nothing else comes than such a fault, or want of memory for sound parts.
+        // An error is the first fault of the parts or, if they have none, `Memory`.
         ensures refused { IfErr result (IsRefusalOf StorageT.limit (parts_of StorageT.index parts)) }
 
-        // Each fault but want of memory comes exactly where it is the first that holds.
+        // Each fault but `Memory` is returned if and only if it is the first that holds.
         ensures no_rules { IsErrOf result GrammarFault.NoRules ↔ IsFirstFault StorageT.limit (parts_of StorageT.index parts) GrammarFault.NoRules }
         ensures storage_too_small { IsErrOf result GrammarFault.StorageTooSmall ↔ IsFirstFault StorageT.limit (parts_of StorageT.index parts) GrammarFault.StorageTooSmall }
         ensures bad_start { IsErrOf result GrammarFault.BadStart ↔ IsFirstFault StorageT.limit (parts_of StorageT.index parts) GrammarFault.BadStart }
@@ -109,7 +109,7 @@ impl<StorageT: StorageIndex> YaccGrammar<StorageT> {
         })
     }
 
-    /// How many rules there are, the added one counted.
+    /// The number of rules, with the added one.
     pub fn rules_len(&self) -> usize
         ensures len { result ≡ rules_len self.now }
         ensures within { result ≤ StorageT.limit }
@@ -117,7 +117,7 @@ impl<StorageT: StorageIndex> YaccGrammar<StorageT> {
         self.rule_prods.len()
     }
 
-    /// How many productions there are, the start production counted.
+    /// The number of productions, with the start production.
     pub fn prods_len(&self) -> usize
         ensures len { result ≡ prods_len self.now }
         ensures within { result ≤ StorageT.limit }
@@ -125,7 +125,7 @@ impl<StorageT: StorageIndex> YaccGrammar<StorageT> {
         self.prods.len()
     }
 
-    /// How many tokens there are, the end token counted.
+    /// The number of tokens, with the end token.
     pub fn tokens_len(&self) -> usize
         ensures len { result ≡ tokens_len self.now }
         ensures within { result ≤ StorageT.limit }
@@ -133,21 +133,21 @@ impl<StorageT: StorageIndex> YaccGrammar<StorageT> {
         self.tokens.len() + 1
     }
 
-    /// The rules, ascending.
+    /// The numbers of the rules, ascending.
     pub fn iter_rules(&self) -> Numbers<StorageT, RIdx<StorageT>>
         ensures { result ≡ range_with_len 0 (rules_len self.now) }
     {
         Numbers::below(self.rules_len())
     }
 
-    /// The productions, ascending.
+    /// The numbers of the productions, ascending.
     pub fn iter_pidxs(&self) -> Numbers<StorageT, PIdx<StorageT>>
         ensures { result ≡ range_with_len 0 (prods_len self.now) }
     {
         Numbers::below(self.prods_len())
     }
 
-    /// The tokens, ascending.
+    /// The numbers of the tokens, ascending.
     pub fn iter_tidxs(&self) -> Numbers<StorageT, TIdx<StorageT>>
         ensures { result ≡ range_with_len 0 (tokens_len self.now) }
     {
@@ -162,7 +162,7 @@ impl<StorageT: StorageIndex> YaccGrammar<StorageT> {
         &self.kept(pidx).symbols
     }
 
-    /// Where each symbol of a production stands.
+    /// The place of each symbol of a production.
     pub fn symbol_spans(&self, pidx: PIdx<StorageT>) -> &[Span]
         requires { StorageT.index pidx.0 < prods_len self.now }
         ensures { result.now ≡ symbol_spans_of self.now (StorageT.index pidx.0) }
@@ -179,7 +179,7 @@ impl<StorageT: StorageIndex> YaccGrammar<StorageT> {
         self.kept(pidx).rule
     }
 
-    /// Where a production stands.
+    /// The place of a production.
     pub fn prod_span(&self, pidx: PIdx<StorageT>) -> Span
         requires { StorageT.index pidx.0 < prods_len self.now }
         ensures { result ≡ prod_span_of self.now (StorageT.index pidx.0) }
@@ -215,7 +215,7 @@ impl<StorageT: StorageIndex> YaccGrammar<StorageT> {
         }
     }
 
-    /// Where a rule is first defined: the empty span at 0 for the added rule.
+    /// The place where a rule is first defined; for the added rule, the empty span at 0.
     pub fn rule_name_span(&self, ridx: RIdx<StorageT>) -> Span
         requires { StorageT.index ridx.0 < rules_len self.now }
         ensures { result ≡ rule_span self.now (StorageT.index ridx.0) }
@@ -226,7 +226,7 @@ impl<StorageT: StorageIndex> YaccGrammar<StorageT> {
         }
     }
 
-    /// A token's name: none for the end token alone.
+    /// A token's name. `None` for the end token alone.
     pub fn token_name(&self, tidx: TIdx<StorageT>) -> Option<&str>
         requires { StorageT.index tidx.0 < tokens_len self.now }
         ensures name { option_map (λ text. text.now) result ≡ token_name self.now (StorageT.index tidx.0) }
@@ -236,7 +236,7 @@ impl<StorageT: StorageIndex> YaccGrammar<StorageT> {
         Some(token.name.as_str())
     }
 
-    /// The text that messages print for a token: none for the end token alone.
+    /// The text that messages print for a token. `None` for the end token alone.
     pub fn token_epp(&self, tidx: TIdx<StorageT>) -> Option<&str>
         requires { StorageT.index tidx.0 < tokens_len self.now }
         ensures epp { option_map (λ text. text.now) result ≡ token_epp self.now (StorageT.index tidx.0) }
@@ -258,7 +258,7 @@ impl<StorageT: StorageIndex> YaccGrammar<StorageT> {
         }
     }
 
-    /// Where a token is first declared or used: none for the end token alone.
+    /// The place where a token is first declared or used. `None` for the end token alone.
     pub fn token_span(&self, tidx: TIdx<StorageT>) -> Option<Span>
         requires { StorageT.index tidx.0 < tokens_len self.now }
         ensures span { result ≡ token_span self.now (StorageT.index tidx.0) }
@@ -268,7 +268,7 @@ impl<StorageT: StorageIndex> YaccGrammar<StorageT> {
         Some(token.span)
     }
 
-    // What is kept of a token: nothing for the end token alone.
+    // What is kept for a token. `None` for the end token alone.
     fn token(&self, tidx: TIdx<StorageT>) -> Option<&TokenPart>
         requires { StorageT.index tidx.0 < tokens_len self.now }
         ensures token { option_map (λ token. token_name_of token.now) result ≡ slice_get (self.now).tokens (StorageT.index tidx.0) }
@@ -301,8 +301,8 @@ impl<StorageT: StorageIndex> YaccGrammar<StorageT> {
         TIdx(StorageT::from_index(self.tokens.len()).unwrap())
     }
 
-    /// Whether the places of the grammar fit a text: each starts and ends between two characters of it; that of each
-    /// symbol, and that of a production without symbols, lies on one line; and those of the symbols of a production
+    /// Whether the places of the grammar fit a text: each starts and ends between two characters of it; the place of each
+    /// symbol, and of each production without symbols, is on one line; and the places of the symbols of a production
     /// are in order and don't overlap. Takes time linear in the grammar and its places, and no memory.
     pub fn spans_fit(&self, src: &str) -> bool
         ensures { IsTrue result ↔ SpansFit self.now src.now }
@@ -317,7 +317,7 @@ impl<StorageT: StorageIndex> YaccGrammar<StorageT> {
         rules_fit(&self.rules, src) && tokens_fit(&self.tokens, src)
     }
 
-    /// The first token of that name. Takes time linear in the tokens.
+    /// The first token with that name. Takes time linear in the number of tokens.
     pub fn token_idx(&self, name: &str) -> Option<TIdx<StorageT>>
         ensures { option_map (λ token. StorageT.index token.0) result ≡ position (λ token. bytes_eq token.name name.now) (self.now).tokens }
     {
@@ -327,7 +327,7 @@ impl<StorageT: StorageIndex> YaccGrammar<StorageT> {
         }
     }
 
-    /// The tokens but the end token, each with its name, ascending. Takes time and memory linear in the tokens.
+    /// The tokens other than the end token, each with its name, ascending. Takes time and memory linear in their number.
     pub fn tokens_map(&self, alloc: Global) -> Result<Vec<(&str, TIdx<StorageT>)>, AllocError>
         ensures names { IfOk result (λ pairs. map (λ pair. pair.0.now) pairs.items ≡ map (λ token. token.name) (self.now).tokens) }
         ensures numbers { IfOk result (λ pairs. map (λ pair. StorageT.index pair.1.0) pairs.items ≡ range_with_len 0 (end_token self.now)) }
@@ -336,7 +336,7 @@ impl<StorageT: StorageIndex> YaccGrammar<StorageT> {
     }
 }
 
-// What is printed for a token that isn't listed: for the end token, or for none.
+// What messages print for a token that isn't listed: the end token, or no token at all.
 fn unlisted(is_end: bool) -> &'static str
     ensures { result.now ≡ (if is_end then codes "end of input" else codes "no token") }
 {

@@ -1,4 +1,4 @@
-//! Copies of trees.
+//! Clones of trees.
 ghost use Rattle.std.specs.Prelude.{◌≡◌, ◌∷◌, IfOk, length};
 ghost use Rattle.lrpar_parse_trees.specs.Visits.{Entered};
 ghost use Rattle.lrpar_parse_trees.specs.Walks.{walk, walks};
@@ -8,8 +8,8 @@ use lrpar_grammar::span::RIdx;
 use std::alloc::{AllocError, Global};
 
 impl<LexemeT: Copy, StorageT: Copy> Node<LexemeT, StorageT> {
-    /// The same tree again. It fails if memory runs out, and takes one allocation for each rule with children
-    /// and a list with an entry for each level.
+    /// A clone of the tree. Takes an allocation for each rule with children, and a list with an entry for each level. `Err`: out of
+    /// memory.
     pub fn clone(&self, alloc: Global) -> Result<Self, AllocError>
         ensures equal { IfOk result (λ node. walk node ≡ walk self.now) }
     {
@@ -20,7 +20,7 @@ impl<LexemeT: Copy, StorageT: Copy> Node<LexemeT, StorageT> {
     }
 }
 
-// A rule whose trees are being made again: those that are there, and those that are left.
+// A rule that is being cloned: the clones of its trees that are made, and the trees that are left.
 #[derive(Drop)]
 struct Growing<'a, LexemeT, StorageT> {
     ridx: RIdx<StorageT>,
@@ -28,7 +28,7 @@ struct Growing<'a, LexemeT, StorageT> {
     left: &'a [Node<LexemeT, StorageT>],
 }
 
-// The node of the rule over the same trees again. A list holds the rules that the tree in hand lies in, an entry a level.
+// The node of the rule over clones of these trees. A list holds the rules around the current tree, an entry for each level.
 fn copied<'a, LexemeT: Copy, StorageT: Copy>(
     alloc: Global,
     mut ridx: RIdx<StorageT>,

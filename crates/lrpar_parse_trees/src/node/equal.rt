@@ -3,7 +3,7 @@ ghost use Rattle.std.specs.Prelude.{◌≡◌, length};
 ghost use Rattle.lrpar_parse_trees.specs.Walks.{nodes_eq};
 
 use crate::node::Node;
-use crate::node::fewer::{CALLS, are_fewer};
+use crate::node::bounded::{CALLS, have_fewer_nodes};
 use std::alloc::Global;
 
 impl<LexemeT: PartialEq, StorageT: PartialEq> PartialEq for Node<LexemeT, StorageT> {
@@ -14,7 +14,7 @@ impl<LexemeT: PartialEq, StorageT: PartialEq> PartialEq for Node<LexemeT, Storag
 
     ghost laws = { node_per LexemeT.PartialEq.laws StorageT.PartialEq.laws };
 
-    // A list holds what is left to compare, by the allocator of the tree's own lists.
+    // A list of the trees that are left to compare is allocated as the tree's own lists are.
     fn eq(&self, other: &Self) -> bool {
         if !self.is_like(other) {
             return false;
@@ -48,7 +48,7 @@ impl<LexemeT, StorageT> Node<LexemeT, StorageT> {
         }
     }
 
-    // Whether the nodes have equal lexemes, or equal rules and as many children.
+    // Whether the nodes have equal lexemes, or equal rules and the same number of children.
     fn is_like(&self, other: &Self) -> bool
     where
         LexemeT: PartialEq,
@@ -69,15 +69,15 @@ impl<LexemeT, StorageT> Node<LexemeT, StorageT> {
     }
 }
 
-// Lists of as many nodes, which are still to be compared.
+// Two lists of the same length, which are left to compare.
 #[derive(Drop)]
 struct Pair<'a, LexemeT, StorageT> {
     nodes: &'a [Node<LexemeT, StorageT>],
     others: &'a [Node<LexemeT, StorageT>],
 }
 
-// Whether as many nodes are equal one by one. A list holds what is left to compare, an entry a level. If it can't grow, the
-// trees below a node are compared without one.
+// Whether two lists of the same length have equal trees, one by one. A list holds the trees that are left, an entry for each level.
+// If it can't grow, the trees below a node are compared without one.
 fn are_equal<'a, LexemeT: PartialEq, StorageT: PartialEq>(
     alloc: Global,
     mut nodes: &'a [Node<LexemeT, StorageT>],
@@ -123,9 +123,9 @@ fn are_equal<'a, LexemeT: PartialEq, StorageT: PartialEq>(
     }
 }
 
-// Whether as many nodes are equal one by one, with no list. After a node there are the trees below it and those beside it: a
-// call of itself compares the ones, and the loop goes on with the others. The calls are those below the node, and no deeper
-// than `calls`; from there on they are those of the fewer nodes.
+// The same without a list. After a node, the trees below it and those beside it are left: a recursive call compares the ones, and the
+// loop goes on with the others. Down to the depth `calls` a call takes the trees below the node; deeper, it takes those that have
+// fewer nodes.
 fn equal_by_calls<'a, LexemeT: PartialEq, StorageT: PartialEq>(
     mut nodes: &'a [Node<LexemeT, StorageT>],
     mut others: &'a [Node<LexemeT, StorageT>],
@@ -143,7 +143,7 @@ fn equal_by_calls<'a, LexemeT: PartialEq, StorageT: PartialEq>(
         }
         let below = node.children();
         let other_below = other.children();
-        if calls > 0 || are_fewer(below, rest) {
+        if calls > 0 || have_fewer_nodes(below, rest) {
             if !equal_by_calls(below, other_below, calls.saturating_sub(1)) {
                 return false;
             }

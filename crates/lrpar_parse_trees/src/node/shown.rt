@@ -1,4 +1,4 @@
-//! Trees as `Debug` shows them.
+//! The `Debug` text of trees.
 ghost use Rattle.std.specs.Prelude.{[]};
 ghost use Rattle.std.specs.Fmt.{◌++?◌, DisplaysOnOk, WritesOnOk, debug_items};
 ghost use Rattle.lrpar_parse_trees.specs.Shown.{shown, shown_end, shown_lexeme, shown_rule};
@@ -12,8 +12,8 @@ use std::fmt::Write;
 impl<LexemeT: fmt::Debug, StorageT: fmt::Debug> fmt::Debug for Node<LexemeT, StorageT> {
     ghost debug_output = { shown LexemeT.debug_output StorageT.debug_output };
 
-    // The text of a derive. A list holds what is left, by the allocator of the tree's own lists. If that can't grow, it is an
-    // error.
+    // The text of a derived `Debug`. A list of the trees that are left is allocated as the tree's own lists are. If it can't grow, the
+    // result is an error.
     fn fmt<W: fmt::Write>(&self, f: &mut fmt::Formatter<W>) -> fmt::Result {
         if f.alternate() {
             return write_lines(f, self);
@@ -52,7 +52,7 @@ fn write_rule<StorageT: fmt::Debug, W: fmt::Write>(
     f.write_str("), nodes: [")
 }
 
-// Writes the trees of a rule, and its end. A list holds what is left beside the trees in hand, an entry a level.
+// Writes the trees of a rule, and its end. A list holds the trees that are left on the levels above, an entry for each level.
 fn write_nodes<'a, LexemeT: fmt::Debug, StorageT: fmt::Debug, W: fmt::Write>(
     alloc: Global,
     f: &mut fmt::Formatter<W>,
@@ -95,7 +95,7 @@ fn write_nodes<'a, LexemeT: fmt::Debug, StorageT: fmt::Debug, W: fmt::Write>(
     }
 }
 
-// Writes the separator before a tree. The first tree has none, so the writer isn't called.
+// Writes the separator before a tree. For the first tree it is empty, and the writer isn't called.
 fn write_mark<W: fmt::Write>(f: &mut fmt::Formatter<W>, mark: &str) -> fmt::Result
     ensures { WritesOnOk W.write_str_gives f.old result mark.now f.new }
 {
@@ -106,7 +106,7 @@ fn write_mark<W: fmt::Write>(f: &mut fmt::Formatter<W>, mark: &str) -> fmt::Resu
     }
 }
 
-// Writes a tree with a line for each of its parts, as `{:#?}`.
+// Writes a tree as `{:#?}` does, with a line for each of its parts.
 fn write_lines<LexemeT: fmt::Debug, StorageT: fmt::Debug, W: fmt::Write>(
     f: &mut fmt::Formatter<W>,
     node: &Node<LexemeT, StorageT>,
@@ -125,7 +125,7 @@ fn write_lines<LexemeT: fmt::Debug, StorageT: fmt::Debug, W: fmt::Write>(
     }
 }
 
-// Writes the trees of a rule, and its end, likewise.
+// Writes the trees of a rule, and its end, as `{:#?}` does.
 fn write_lines_of<'a, LexemeT: fmt::Debug, StorageT: fmt::Debug, W: fmt::Write>(
     alloc: Global,
     lines: &mut Lines<W>,
@@ -160,10 +160,10 @@ fn write_lines_of<'a, LexemeT: fmt::Debug, StorageT: fmt::Debug, W: fmt::Write>(
     }
 }
 
-// How far lines are indented at level 8.
+// The indent of a line at level 8.
 const EIGHT_LEVELS: &str = "                                ";
 
-// A writer that indents each line that it begins, by four spaces a level.
+// A writer that indents each line that it begins, by four spaces for each level.
 #[derive(Drop)]
 struct Lines<'a, W> {
     f: &'a mut fmt::Formatter<W>,

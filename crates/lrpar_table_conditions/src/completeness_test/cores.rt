@@ -1,4 +1,4 @@
-//! What the conditions of completeness ask for the items of one core.
+//! The conditions of completeness for the items of one core.
 ghost use Rattle.std.specs.Prelude.{◌≡◌, ◌≢◌, ◌<◌, ◌≤◌, ◌+◌, ◌↔◌, ◌⊎◌, ◌&&◌, ◌==◌, ℕ, All, Contains, IfSome, IsTrue, MatchOption, Some, length, map, not, slice_get};
 ghost use Rattle.lrpar_grammar.specs.Grammar.{Nonterminal, Terminal, prod_len, prods_len, rule_of, rules_len, symbols_of, tokens_len};
 ghost use Rattle.lrpar_table_first.specs.FirstRows.{HoldNothing, dummy_lookahead, row_at, rows_of};
@@ -19,8 +19,8 @@ use lrpar_table_first::first::add_first_before;
 use lrpar_table_rows::table::{Action, Item};
 
 impl<'a, StorageT: StorageIndex> Completeness<'a, StorageT> {
-    // Whether, before a rule, the state has each of its productions before each token with which what is behind the rule can go on;
-    // the state's first items are told by their lookaheads.
+    // C2, closure: if a rule is after the dot, with the symbols w after it, whether the state has an item with dot 0 for each of its
+    // productions, with each token of First(w, t) for the lookaheads t. `starts` has the lookaheads of the state's items with dot 0.
     pub(super) fn closes_core(
         &self,
         pidx: PIdx<StorageT>,
@@ -56,8 +56,8 @@ impl<'a, StorageT: StorageIndex> Completeness<'a, StorageT> {
         }
     }
 
-    // Whether the first items of all productions of the rule stand before each of the tokens, where these are the lookaheads of the
-    // first items.
+    // Whether the items with dot 0 of all productions of the rule have each of the tokens as lookahead. `starts` has the lookaheads of
+    // these items.
     fn starts_cover(&self, rule: RIdx<StorageT>, tokens: &TokenSet, starts: &[TokenSet]) -> bool
         requires rule { StorageT.index rule.0 < rules_len self.now.grm.now }
         requires tokens { length tokens.now.bits.items ≡ dummy_lookahead self.now.grm.now + 1 }
@@ -75,7 +75,7 @@ impl<'a, StorageT: StorageIndex> Completeness<'a, StorageT> {
         true
     }
 
-    // Puts into each production's set, which holds nothing, the lookaheads of its first item.
+    // Adds to each production's set, which is empty, the lookaheads of its items with dot 0.
     pub(super) fn put_starts(&self, items: &[Item<StorageT>], starts: &mut [TokenSet])
         requires items { All (λ item. IsItem self.now.grm.now (StorageT.index item.0.0) item.1 (StorageT.index item.2.0)) items.now }
         requires room { HaveStarts self.now.grm.now (rows_of starts.old) }
@@ -88,7 +88,7 @@ impl<'a, StorageT: StorageIndex> Completeness<'a, StorageT> {
         }
     }
 
-    // Puts the lookahead of the item into its production's set, if it is a first item.
+    // Adds the lookahead of the item to its production's set, if its dot is 0.
     fn put_start(
         &self,
         pidx: PIdx<StorageT>,
@@ -109,7 +109,7 @@ impl<'a, StorageT: StorageIndex> Completeness<'a, StorageT> {
         starts[prod].insert(usize::from(token));
     }
 
-    // Takes the lookaheads of the first items out of the sets, which then hold nothing.
+    // Removes the lookaheads of the items with dot 0 from the sets, which are then empty.
     pub(super) fn take_starts(&self, items: &[Item<StorageT>], starts: &mut [TokenSet])
         requires items { All (λ item. IsItem self.now.grm.now (StorageT.index item.0.0) item.1 (StorageT.index item.2.0)) items.now }
         requires room { HaveStarts self.now.grm.now (rows_of starts.old) }
@@ -122,7 +122,7 @@ impl<'a, StorageT: StorageIndex> Completeness<'a, StorageT> {
         }
     }
 
-    // Takes the lookahead of the item out of its production's set, if it is a first item.
+    // Removes the lookahead of the item from its production's set, if its dot is 0.
     fn take_start(
         &self,
         pidx: PIdx<StorageT>,
@@ -143,7 +143,7 @@ impl<'a, StorageT: StorageIndex> Completeness<'a, StorageT> {
         remove(&mut starts[prod], usize::from(token));
     }
 
-    // C3: before a token, the state shifts it to a state with the items behind the token.
+    // C3: if a token is after the dot, the state shifts it to a state with the advanced items.
     pub(super) fn shifts_core(
         &self,
         s: StIdx<StorageT>,
@@ -164,7 +164,7 @@ impl<'a, StorageT: StorageIndex> Completeness<'a, StorageT> {
         }
     }
 
-    // The token behind the dot, if there is one.
+    // The token after the dot, if there is one.
     fn token_after(&self, pidx: PIdx<StorageT>, dot: usize) -> Option<TIdx<StorageT>>
         requires { StorageT.index pidx.0 < prods_len self.now.grm.now }
         ensures { let symbol = slice_get (symbols_of self.now.grm.now (StorageT.index pidx.0)) dot in
@@ -179,7 +179,7 @@ impl<'a, StorageT: StorageIndex> Completeness<'a, StorageT> {
         }
     }
 
-    // Whether the state shifts the token to a state with the items behind it.
+    // Whether the state shifts the token to a state with the advanced items.
     fn shifts_to(
         &self,
         s: StIdx<StorageT>,
@@ -202,7 +202,7 @@ impl<'a, StorageT: StorageIndex> Completeness<'a, StorageT> {
         }
     }
 
-    // C4: before a rule, the state goes by it to a state with the items behind the rule.
+    // C4: if a rule is after the dot, the state has a goto by it to a state with the advanced items.
     pub(super) fn carries_core(
         &self,
         s: StIdx<StorageT>,
@@ -224,7 +224,7 @@ impl<'a, StorageT: StorageIndex> Completeness<'a, StorageT> {
         }
     }
 
-    // Whether the state goes by the rule to a state with the items behind it.
+    // Whether the state has a goto by the rule to a state with the advanced items.
     fn goes_to(
         &self,
         s: StIdx<StorageT>,
@@ -247,9 +247,9 @@ impl<'a, StorageT: StorageIndex> Completeness<'a, StorageT> {
         }
     }
 
-    // Whether the state has the items of the production with these items' lookaheads and the dot one further. Those stand side by side
-    // where it has the same lookaheads and no others, as most states of a built table do. So each is looked for at its place behind the
-    // first one, and by a binary search where another item stands there.
+    // Whether the state has the advanced items: with this production, the dot one further, and these items' lookaheads. They are
+    // neighbours if the state has the same lookaheads and no others, as most states of a built table do. So each is looked for at its
+    // place after the first one, and by a binary search if another item is there.
     fn has_advanced(
         &self,
         next: StIdx<StorageT>,
@@ -273,7 +273,7 @@ impl<'a, StorageT: StorageIndex> Completeness<'a, StorageT> {
         true
     }
 
-    // Items of the state: where it has some of this production and this dot, from the first of them on.
+    // Items of the state: if it has some with this production and this dot, those from the first of these on.
     fn items_from(
         &self,
         s: StIdx<StorageT>,
@@ -291,7 +291,7 @@ impl<'a, StorageT: StorageIndex> Completeness<'a, StorageT> {
         &items[start..]
     }
 
-    // Whether the state has the item; `near` is one of its items, and may be the one.
+    // Whether the state has the item; `near` is one of the state's items, and may be this one.
     fn has_near(
         &self,
         near: Option<&Item<StorageT>>,
@@ -309,7 +309,7 @@ impl<'a, StorageT: StorageIndex> Completeness<'a, StorageT> {
         }
     }
 
-    // C5: where the items are complete, the state ends the production at their lookaheads.
+    // C5: if the items are complete, the state ends the production at their lookaheads.
     pub(super) fn ends_core(
         &self,
         s: StIdx<StorageT>,
@@ -342,7 +342,7 @@ impl<'a, StorageT: StorageIndex> Completeness<'a, StorageT> {
         true
     }
 
-    // Whether the state ends the production at the token: by a reduction, or Accept for the start production.
+    // Whether the state ends the production at the token: by a reduction, or by Accept for the start production.
     fn ends_at(&self, s: StIdx<StorageT>, pidx: PIdx<StorageT>, token: TIdx<StorageT>) -> bool
         requires state { StorageT.index s.0 < states_len self.now.stable.now }
         requires token { StorageT.index token.0 < self.now.stable.now.tokens }
@@ -371,7 +371,7 @@ fn is_same<StorageT: StorageIndex>(
         && usize::from(item.0) == usize::from(pidx)
 }
 
-// Puts the lookaheads of the items into the set, in place of what was there.
+// Sets the set to the lookaheads of the items.
 fn put_lookaheads<StorageT: StorageIndex>(items: &[Item<StorageT>], set: &mut TokenSet)
     requires { All (λ t. t < length set.old.bits.items) (lookaheads_of StorageT.index items.now) }
     ensures room { length set.new.bits.items ≡ length set.old.bits.items }
@@ -383,7 +383,7 @@ fn put_lookaheads<StorageT: StorageIndex>(items: &[Item<StorageT>], set: &mut To
     }
 }
 
-// Takes the token out of the set.
+// Removes the token from the set.
 fn remove(set: &mut TokenSet, token: usize)
     requires { token < length set.old.bits.items }
     ensures room { length set.new.bits.items ≡ length set.old.bits.items }

@@ -1,12 +1,12 @@
-//! The sets of tokens that the test of completeness works with.
+//! Scratch space for the test of completeness: sets of tokens.
 ghost use Rattle.std.specs.Prelude.{◌≡◌, All, IfOk, length};
 ghost use Rattle.lrpar_table_first.specs.FirstRows.{HoldNothing, rows_of};
 
 use lrpar_grammar::token_set::TokenSet;
 use std::alloc::{AllocError, Global};
 
-/// The lookaheads of a core, what can stand in front of them, and the tokens before which a rule has to come; and for each
-/// production the lookaheads of its first item in a state.
+/// The lookaheads of a core; scratch space for FIRST sets; the lookaheads that the closure requires for a rule; and for each
+/// production the lookaheads of its items with dot 0 in a state.
 #[derive(Drop)]
 pub(crate) struct WorkSets {
     pub(crate) after: TokenSet,
@@ -16,7 +16,7 @@ pub(crate) struct WorkSets {
 }
 
 impl WorkSets {
-    /// Empty sets, which have room for the tokens below `len`, for so many productions.
+    /// Empty sets, with room for the tokens below `len`, for this number of productions.
     pub(crate) fn new(alloc: Global, prods: usize, len: usize) -> Result<Self, AllocError>
         ensures after { IfOk result (λ sets. length sets.after.bits.items ≡ len) }
         ensures front { IfOk result (λ sets. length sets.front.bits.items ≡ len) }
@@ -38,7 +38,7 @@ impl WorkSets {
     }
 }
 
-// So many empty sets, which have room for the tokens below `len`.
+// `count` empty sets, with room for the tokens below `len`.
 fn empty_sets(alloc: Global, count: usize, len: usize) -> Result<Vec<TokenSet>, AllocError>
     ensures count { IfOk result (λ sets. length (rows_of sets.items) ≡ count) }
     ensures room { IfOk result (λ sets. All (λ row. length row ≡ len) (rows_of sets.items)) }

@@ -5,7 +5,7 @@ use Rattle.lrpar_grammar_words.specs.Words.{PlacedWord, placed}
 use Rattle.lrpar_grammar_words.specs.Outline.{TextAlternative, alternative_of}
 use Rattle.lrpar_grammar_reader.specs.Spells.{LiesAt, is_known}
 use Rattle.lrpar_grammar_reader.specs.TextNames.{numbering_by}
-use Rattle.lrpar_grammar_reader.proofs.FaultsLemmas.{all_of, none_fails_in, stands_in}
+use Rattle.lrpar_grammar_reader.proofs.FaultsLemmas.{all_of, none_fails_in, lies_at_in}
 use Rattle.lrpar_grammar_reader.proofs.GrowthLemmas.{all_more}
 use Rattle.lrpar_grammar_reader.proofs.wrong_names.unknown_symbol.Goals as goal
 
@@ -20,7 +20,7 @@ returns-in-Some c =
     get_or-map alternative_of xs i x (alternative_of x) within ∙ ap alternative_of (sym c.alternative-item.is) in
     let here : LiesAt (find (λ w. not (is_known n w)) (map placed x.symbols.items)) c.in-Some.span =
     subst (λ s. LiesAt (find (λ w. not (is_known n w)) (map placed s)) c.in-Some.span) c.deref.ensures.value c.in-Some.ensures in
-    stands_in (λ w. not (is_known n w)) (λ (y : TextAlternative). y.symbols) (map alternative_of xs) i (alternative_of x) c.in-Some.span (omega (arith, length-map xs alternative_of))
+    lies_at_in (λ w. not (is_known n w)) (λ (y : TextAlternative). y.symbols) (map alternative_of xs) i (alternative_of x) c.in-Some.span (omega (arith, length-map xs alternative_of))
     (none_fails_in (is_known n) (λ (y : TextAlternative). y.symbols) (take i (map alternative_of xs)) c.loop-alternative.invariant)
     (subst (λ (y : TextAlternative). LiesAt (find (λ w. not (is_known n w)) y.symbols) c.in-Some.span) (sym at) here)
 

@@ -1,6 +1,6 @@
 use Rattle.std.proofs.Common.{◌≡◌, ◌<◌, ◌==◌, ◌||◌, ℕ, get_or, false}
 use Rattle.lrpar_grammar_words.proofs.words.unquoted_len.Given as goal
 
--- neither stands before
+-- no quote and no LF comes before
 abbrev pub invariant-loop-i : goal.invariant-loop-i
 invariant-loop-i l = (k : ℕ) → k < l.i → ((get_or l.text k 0 == l.quote) || (get_or l.text k 0 == 10)) ≡ false

@@ -5,7 +5,7 @@ use Rattle.lrpar_lexer.specs.Rules.{anchored_of, plain_rules}
 use Rattle.lrpar_lexer.proofs.LexingLemmas.{LeadsTo}
 use Rattle.lrpar_lexer.proofs.lexing.answers.Given as goal
 
--- what the rest of the text gives, with the answers so far, is what the text gives
+-- the results so far, and then those of the rest of the text, are the results of the text
 abbrev pub invariant-places : goal.invariant-places
 invariant-places l = record {
   programs : programs_of l.matchers ≡ map anchored_of l.rules;

@@ -5,7 +5,7 @@ use Rattle.std.proofs.lemmas.Iterator.Splits.{YieldsList-from_str_split}
 use Rattle.std.proofs.lemmas.List.{length_push, take_all}
 use Rattle.lrpar_lexer.specs.RuleLines.{text_lines}
 use Rattle.lrpar_lexer.specs.RuleTexts.{AreRulesOf, IsFirstFault, IsRuleOf, SaysNoRule}
-use Rattle.lrpar_lexer.proofs.RuleFaultLemmas.{names_handed}
+use Rattle.lrpar_lexer.proofs.RuleFaultLemmas.{names_returned}
 use Rattle.lrpar_lexer.proofs.RuleTextLemmas.{fault_here, rule_more, rules_stay}
 use Rattle.lrpar_lexer.proofs.rules.rules_of.Goals as goal
 
@@ -20,7 +20,7 @@ returns-in_err-rule_of-clause-fault c =
     subst (λ n. (n < length lines) × (line ≡ get_or lines n line)) (sym c.lines.invariant.number)
     (YieldsList-turn (YieldsList-from_str_split 10 c.args.text.now (lit< tt) (cc) (cc) (cc)) c.lines.yielded _ c.lines.yielded_by _ _ c.in-Some.line c.in-Some.is c.next.ensures.steps) in
     let some : 0 < length core = grind (arith, nat_tests, c.is_empty.ensures, c.if-not-is_empty.true) in
-    names_handed (λ n why. (n ≡ number + 1) × SaysNoRule grammar core why) (IsFirstFault grammar lines)
+    names_returned (λ n why. (n ≡ number + 1) × SaysNoRule grammar core why) (IsFirstFault grammar lines)
     (λ n why said. subst (λ m. IsFirstFault grammar lines m why) (sym said.0)
     (fault_here grammar lines number line at.0 at.1 c.lines.rules.items why (subst (λ l. 0 < length l) c.core_of-core.ensures some)
     c.lines.invariant.rules (subst (λ l. SaysNoRule grammar l why) c.core_of-core.ensures said.1)))

@@ -3,7 +3,7 @@ use Rattle.lrpar_lexer.specs.RuleLines.{text_lines}
 use Rattle.lrpar_lexer.specs.RuleTexts.{AreRulesOf}
 use Rattle.lrpar_lexer.proofs.rules.rules_of.Given as goal
 
--- the lines so far are counted, and the rules so far are theirs
+-- the lines so far are counted, and the rules so far are their rules
 abbrev pub invariant-lines : goal.invariant-lines
 invariant-lines l = record {
   number : l.number ≡ length l.yielded;

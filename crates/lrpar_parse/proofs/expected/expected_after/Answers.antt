@@ -1,7 +1,7 @@
 use Rattle.std.proofs.Common.{List, ℕ, ap, subst}
 use Rattle.lrpar_table_stacks.specs.Expected.{AreExpected, tokens_of}
 use Rattle.lrpar_table_stacks.specs.Stack.{states_of}
-use Rattle.lrpar_parse_lexemes.specs.Known.{token_by}
+use Rattle.lrpar_parse_lexemes.specs.Views.{token_by}
 use Rattle.lrpar_parse.proofs.ExpectedLemmas.{expected_after}
 use Rattle.lrpar_parse.proofs.expected.expected_after.Goals as goal
 

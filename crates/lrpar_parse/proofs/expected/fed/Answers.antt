@@ -2,7 +2,7 @@ use Rattle.std.proofs.Common.{◌≡◌, ◌∙◌, ◌++◌, ◌∷◌, [], Lis
 use Rattle.lrpar_table_check.specs.ExpectedRuns.{FeedsFront}
 use Rattle.lrpar_table_stacks.specs.Stack.{IsStack, states_of}
 use Rattle.lrpar_table_rows.specs.Table.{Table}
-use Rattle.lrpar_parse_lexemes.specs.Known.{facts_by, token_by}
+use Rattle.lrpar_parse_lexemes.specs.Views.{facts_by, token_by}
 use Rattle.lrpar_parse.proofs.ExpectedLemmas.{fed_more, fed_none, fed_stops, known_token}
 use Rattle.lrpar_parse.proofs.expected.fed.Goals as goal
 

@@ -1,6 +1,6 @@
 use Rattle.lrpar_table_check.specs.ExpectedRuns.{FeedsFront}
 use Rattle.lrpar_table_stacks.specs.Stack.{IsStack, states_of}
-use Rattle.lrpar_parse_lexemes.specs.Known.{token_by}
+use Rattle.lrpar_parse_lexemes.specs.Views.{token_by}
 use Rattle.lrpar_parse.proofs.expected.fed.Given as goal
 
 -- the lexemes so far are fed, which gives the stack

@@ -3,7 +3,7 @@ use Rattle.lrpar_parse_errors.specs.PrintedParts.{sequence_parts}
 use Rattle.lrpar_parse_errors.specs.SequenceText.{joined}
 use Rattle.lrpar_parse_errors.proofs.printed_parts.deletion.Given as goal
 
--- the deletion so far in front of what is left is the whole
+-- the deletion so far and what is left make the whole
 abbrev pub invariant-loop-lexeme : goal.invariant-loop-lexeme
 invariant-loop-lexeme g l =
     let index = g.StorageT.StorageIndex.index in

@@ -1,6 +1,6 @@
 use Rattle.std.proofs.Common.{◌≡◌, ◌-◌, ◌∙◌, None, Some, ap, length, sym}
 use Rattle.std.specs.List.{slice_get}
-use Rattle.lrpar_parse_lexemes.specs.Known.{facts_by}
+use Rattle.lrpar_parse_lexemes.specs.Views.{facts_by}
 use Rattle.lrpar_parse_lexemes.proofs.PlaceLemmas.{last_end_is}
 use Rattle.lrpar_parse_lexemes.proofs.places.end_of.Goals as goal
 

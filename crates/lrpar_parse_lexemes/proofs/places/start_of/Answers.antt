@@ -1,7 +1,7 @@
 use Rattle.std.proofs.Common.{◌≤◌, ◌∙◌, ap, length, refl, sym}
 use Rattle.std.proofs.lemmas.Bool.{ltb-false, ltb-true}
 use Rattle.std.proofs.lemmas.Option.{slice_get_past, slice_get_read}
-use Rattle.lrpar_parse_lexemes.specs.Known.{facts_by}
+use Rattle.lrpar_parse_lexemes.specs.Views.{facts_by}
 use Rattle.lrpar_parse_lexemes.proofs.PlaceLemmas.{start_at_is}
 use Rattle.lrpar_parse_lexemes.proofs.PlaceLemmas.{start_at_none}
 use Rattle.lrpar_parse_lexemes.proofs.places.start_of.Goals as goal

@@ -2,7 +2,7 @@ use Rattle.std.proofs.Common.{◌≡◌, ◌+◌, ◌++◌, length, take, drop, 
 use Rattle.std.specs.List.{AllZip}
 use Rattle.lrpar_parse_run.proofs.top.made_of_top.Given as goal
 
--- the entries that are left stand in reverse, and what was made so far is of the others
+-- the entries that are left are in reverse, and the values so far are made of the others
 abbrev pub invariant-loop-i : goal.invariant-loop-i
 invariant-loop-i g l = record {
   whole : l.at + l.count ≡ length l.fn.entries.items;

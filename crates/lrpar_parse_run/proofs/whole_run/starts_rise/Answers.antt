@@ -3,7 +3,7 @@ use Rattle.std.proofs.lemmas.List.{length-map}
 use Rattle.std.proofs.lemmas.Option.{same_Some}
 use Rattle.std.specs.List.{slice_get}
 use Rattle.lrpar_grammar.specs.Sentence.{LexemeFacts}
-use Rattle.lrpar_parse_lexemes.specs.Known.{facts_by}
+use Rattle.lrpar_parse_lexemes.specs.Views.{facts_by}
 use Rattle.lrpar_parse_lexemes.proofs.PlaceLemmas.{last_mapped}
 use Rattle.lrpar_parse_run.proofs.StartLemmas.{none_past, starts_rise}
 use Rattle.lrpar_parse_run.proofs.whole_run.starts_rise.Goals as goal

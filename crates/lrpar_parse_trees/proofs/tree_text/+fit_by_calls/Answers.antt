@@ -29,8 +29,8 @@ returns-then-not-fit_by_calls g t c =
           (fits_apart P same c.in-Some.node.now c.in-Some.rest.now c.loop-node.nodes.now c.in-Some.ensures.cases.0 (c.loop-node.invariant.fits.1 all)).1)),
     )
 
-pub loop-node-preserved-then-are_fewer : goal.loop-node-preserved-then-are_fewer
-loop-node-preserved-then-are_fewer g t c =
+pub loop-node-preserved-then-have_fewer_nodes : goal.loop-node-preserved-then-have_fewer_nodes
+loop-node-preserved-then-have_fewer_nodes g t c =
     let index = g.StorageT.StorageIndex.index in
     let facts = λ (x : g.row.LexemeT.Denot). facts_of index (g.LexemeT.Lexeme.parts x) in
     let P = MetFits facts index c.args.grm.now c.args.input.now in
@@ -56,7 +56,7 @@ returns-then-not-fit_by_calls-2 g t c =
     let P = MetFits facts index c.args.grm.now c.args.input.now in
     let same = fits_level facts index c.args.grm.now c.args.input.now in (
       (λ h. absurd (false≢true h)),
-      (λ all. subst IsTrue c.if-not-fit_by_calls-2.true (c.fit_by_calls-else-are_fewer.ensures.1
+      (λ all. subst IsTrue c.if-not-fit_by_calls-2.true (c.fit_by_calls-else-have_fewer_nodes.ensures.1
           (fits_apart P same c.in-Some.node.now c.in-Some.rest.now c.loop-node.nodes.now c.in-Some.ensures.cases.0 (c.loop-node.invariant.fits.1 all)).2)),
     )
 
@@ -70,7 +70,7 @@ loop-node-preserved g t c =
     let rest = c.in-Some.rest.now in
     let nodes = c.loop-node.nodes.now in
     let root = (c.root_fits.ensures 1).0 c.if-not-root_fits.false in
-    let after = c.fit_by_calls-else-are_fewer.ensures.0 c.if-not-fit_by_calls-2.false in
+    let after = c.fit_by_calls-else-have_fewer_nodes.ensures.0 c.if-not-fit_by_calls-2.false in
     let weighed = weights_apart node rest nodes c.children-below.result.now c.in-Some.ensures.cases.0 c.children-below.ensures in
     record {
       fits = rw c.children-below.ensures (

@@ -10,7 +10,7 @@ use Rattle.lrpar_parse_trees.proofs.tree_text.+fit_by_calls.Given as goal
 abbrev pub decreases-fit_by_calls : goal.decreases-fit_by_calls
 decreases-fit_by_calls g l = weights l.nodes.now
 
--- what is left fits exactly where the trees do
+-- what is left fits if and only if the trees do
 abbrev pub invariant-loop-node : goal.invariant-loop-node
 invariant-loop-node g l =
     let index = g.StorageT.StorageIndex.index in

@@ -7,7 +7,7 @@ use Rattle.lrpar_parse_trees.proofs.WeightLemmas.{weights}
 use Rattle.lrpar_parse_trees.proofs.FitsLemmas.{later_trees}
 use Rattle.lrpar_parse_trees.proofs.tree_text.all_fit.Given as goal
 
--- what is left fits exactly where the trees do
+-- what is left fits if and only if the trees do
 abbrev pub invariant-loop-node : goal.invariant-loop-node
 invariant-loop-node g l =
     let index = g.StorageT.StorageIndex.index in

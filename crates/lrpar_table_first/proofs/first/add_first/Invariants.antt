@@ -4,7 +4,7 @@ use Rattle.lrpar_table_first.specs.FirstRows.{begins, rows_of}
 use Rattle.lrpar_grammar.specs.Tokens.{has}
 use Rattle.lrpar_table_first.proofs.first.add_first.Given as goal
 
--- what is put in so far, with what the symbols from here on begin with, is all
+-- what was added so far, and what the symbols from here on begin with, is all
 abbrev pub invariant-loop-symbol : goal.invariant-loop-symbol
 invariant-loop-symbol g l =
     let symbols = map (symbol_of g.StorageT.StorageIndex.index) l.symbols in

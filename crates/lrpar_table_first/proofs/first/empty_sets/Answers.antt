@@ -3,15 +3,15 @@ use Rattle.lrpar_table_first.proofs.first.empty_sets.Goals as goal
 
 pub returns-in_err-sets : goal.returns-in_err-sets
 returns-in_err-sets g c =
-    let told = c.from_residual.ensures.1 in
-    record { room = no_value c.from_residual.result _ _ told; none = no_value c.from_residual.result _ _ told }
+    let reported = c.from_residual.ensures.1 in
+    record { room = no_value c.from_residual.result _ _ reported; none = no_value c.from_residual.result _ _ reported }
 
 pub returns-in_err-new : goal.returns-in_err-new
 returns-in_err-new g c =
-    let told = c.from_residual-in_err-new.ensures.1 in
-    record { room = no_value c.from_residual-in_err-new.result _ _ told; none = no_value c.from_residual-in_err-new.result _ _ told }
+    let reported = c.from_residual-in_err-new.ensures.1 in
+    record { room = no_value c.from_residual-in_err-new.result _ _ reported; none = no_value c.from_residual-in_err-new.result _ _ reported }
 
 pub returns-in_err-push : goal.returns-in_err-push
 returns-in_err-push g c =
-    let told = c.from_residual-in_err-push.ensures.1 in
-    record { room = no_value c.from_residual-in_err-push.result _ _ told; none = no_value c.from_residual-in_err-push.result _ _ told }
+    let reported = c.from_residual-in_err-push.ensures.1 in
+    record { room = no_value c.from_residual-in_err-push.result _ _ reported; none = no_value c.from_residual-in_err-push.result _ _ reported }

@@ -2,7 +2,7 @@ use Rattle.std.proofs.Common.{◌≡◌, ◌+◌, length, All}
 use Rattle.lrpar_table_first.specs.FirstRows.{HoldNothing, dummy_lookahead, rows_of}
 use Rattle.lrpar_table_first.proofs.first.empty_sets.Given as goal
 
--- so many sets, each with room and with nothing in it
+-- as many sets as passes of the loop, each with room, and empty
 abbrev pub invariant-loop : goal.invariant-loop
 invariant-loop g l =
     (length l.sets.items ≡ l.counter) × HoldNothing (rows_of l.sets.items) × All (λ row. length row ≡ dummy_lookahead l.grm + 1) (rows_of l.sets.items)

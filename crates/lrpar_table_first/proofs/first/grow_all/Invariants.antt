@@ -3,7 +3,7 @@ use Rattle.std.specs.Bool.{OnFalse, OnTrue}
 use Rattle.lrpar_table_first.specs.FirstRows.{AreSound, HaveRoom, IsClosedAt, dummy_lookahead, rows_of, total_missing}
 use Rattle.lrpar_table_first.proofs.first.grow_all.Given as goal
 
--- either the sets lack less than before, or they are as before and are closed at the productions so far
+-- either the sets lack fewer tokens than before, or they are as before and are closed at the productions so far
 abbrev pub invariant-loop-prod : goal.invariant-loop-prod
 invariant-loop-prod g l =
     HaveRoom l.grm (rows_of l.sets)

@@ -4,7 +4,7 @@ use Rattle.lrpar_table_items.specs.Cores.{AreBringing, core_set}
 use Rattle.lrpar_table_first.specs.FirstRows.{HaveRoom, dummy_lookahead, rows_of}
 use Rattle.lrpar_table_items.proofs.closure.bring.Given as goal
 
--- what the cores so far bring is there
+-- the sets have what the cores so far bring
 abbrev pub invariant-loop-core : goal.invariant-loop-core
 invariant-loop-core g l =
     HaveRoom l.grm (rows_of l.brought)

@@ -6,7 +6,7 @@ use Rattle.lrpar_table_items.specs.CoreOrder.{AreCores, IsAhead}
 use Rattle.lrpar_table_first.specs.FirstRows.{rows_of}
 use Rattle.lrpar_table_items.proofs.closure.push_brought.Given as goal
 
--- the items of the rules so far are there, and the cores stand in their order
+-- the items of the rules so far are there, and the cores are in order
 abbrev pub invariant-loop-rule : goal.invariant-loop-rule
 invariant-loop-rule g l =
     let index = g.StorageT.StorageIndex.index in

@@ -4,7 +4,7 @@ use Rattle.lrpar_table_items.specs.Cores.{core_set}
 use Rattle.lrpar_table_items.proofs.PutLemmas.{front_core}
 use Rattle.lrpar_table_items.proofs.closure.push_rule.Given as goal
 
--- the productions so far stand behind the cores
+-- the productions so far were appended to the cores
 abbrev pub invariant-loop-pidx : goal.invariant-loop-pidx
 invariant-loop-pidx g l =
     let index = g.StorageT.StorageIndex.index in

@@ -38,19 +38,19 @@ returns-in_err-push-in-Some-from_index-clause-number g c =
 
 pub returns-in_err-push-in-Some-from_index-clause-fault : goal.returns-in_err-push-in-Some-from_index-clause-fault
 returns-in_err-push-in-Some-from_index-clause-fault g c =
-    let Told = IsNumberFault c.args.max_states g.StorageT.StorageIndex.limit c.args.kernels.now (map (core_set g.StorageT.StorageIndex.index) c.args.kernel.now) in
-    fault_same c.from_residual-in_err-push-in-Some-from_index.result Told c.in_err-push-in-Some-from_index.field-0.0
-    c.from_residual-in_err-push-in-Some-from_index.ensures.1 (subst Told (sym c.in_err-push-in-Some-from_index.ensures.fault) tt)
+    let Reported = IsNumberFault c.args.max_states g.StorageT.StorageIndex.limit c.args.kernels.now (map (core_set g.StorageT.StorageIndex.index) c.args.kernel.now) in
+    fault_same c.from_residual-in_err-push-in-Some-from_index.result Reported c.in_err-push-in-Some-from_index.field-0.0
+    c.from_residual-in_err-push-in-Some-from_index.ensures.1 (subst Reported (sym c.in_err-push-in-Some-from_index.ensures.fault) tt)
 
 pub returns-in_ok-push-in-Some-from_index-clause-number : goal.returns-in_ok-push-in-Some-from_index-clause-number
 returns-in_ok-push-in-Some-from_index-clause-number g c =
     let index = g.StorageT.StorageIndex.index in
     let kernels = c.args.kernels.now in
     let n = index c.in-Some-from_index.number in
-    let told = c.in-Some-from_index.ensures in
-    let next : n ≡ length kernels = omega (arith, told.back, c.len-next.ensures) in
-    let room : length kernels < c.args.max_states = omega (arith, next, told.back, c.if-next-max_states.false) in
-    let fits : length kernels < g.StorageT.StorageIndex.limit = omega (arith, next, told.back, told.within.0 refl) in
+    let reported = c.in-Some-from_index.ensures in
+    let next : n ≡ length kernels = omega (arith, reported.back, c.len-next.ensures) in
+    let room : length kernels < c.args.max_states = omega (arith, next, reported.back, c.if-next-max_states.false) in
+    let fits : length kernels < g.StorageT.StorageIndex.limit = omega (arith, next, reported.back, reported.within.0 refl) in
     pushed_number c.args.max_states g.StorageT.StorageIndex.limit kernels (map (core_set index) c.args.kernel.now) n c.push.new.self
     c.in_default.ensures next room fits
     (c.in_ok-push-in-Some-from_index.ensures.pushed ∙ ap (λ (kernel : List CoreSet). kernels ++ kernel ∷ []) c.in_ok-kept-in-Some-from_index.ensures)

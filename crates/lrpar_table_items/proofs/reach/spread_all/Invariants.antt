@@ -5,7 +5,7 @@ use Rattle.lrpar_table_items.specs.Brought.{AreBroughtFrom, IsSpreadAt, Keeps}
 use Rattle.lrpar_table_first.specs.FirstRows.{HaveRoom, dummy_lookahead, rows_of, total_missing}
 use Rattle.lrpar_table_items.proofs.reach.spread_all.Given as goal
 
--- either the sets lack less than before, or they are as before and have what the productions of the rules so far bring
+-- either the sets lack fewer tokens than before, or they are as before and closed at the productions of the rules so far
 abbrev pub invariant-loop-rule : goal.invariant-loop-rule
 invariant-loop-rule g l =
     HaveRoom l.grm (rows_of l.sets)

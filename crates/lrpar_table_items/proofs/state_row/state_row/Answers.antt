@@ -24,9 +24,9 @@ returns-in_err-push_token-clause-refused g c =
     let prods = map (λ p. index p.0) c.in_ok-prods.prods.items in
     let start = c.from-start.ensures ∙ c.start_prod.ensures.number in
     let sorted = sorted_image (λ core. core_set index core.now) (λ core. core.prod) c.in_ok-complete.complete.items c.in_ok-complete.ensures.sorted in
-    let told = rw c.deref.ensures.value at c.in_ok-prods.ensures in
+    let reported = rw c.deref.ensures.value at c.in_ok-prods.ensures in
     let reduces =
-    reductions_are grm cores complete c.from-start.result token prods c.in_ok-complete.ensures.all sorted c.requires.once c.requires.prods start told in
+    reductions_are grm cores complete c.from-start.result token prods c.in_ok-complete.ensures.all sorted c.requires.once c.requires.prods start reported in
     let tested = rw c.deref-in-loop-token.ensures.value at c.accepts-accepting.ensures in
     let accepts = accepts_are grm cores complete c.from-start.result token c.accepts-accepting.result c.in_ok-complete.ensures.all start tested in
     let shift = c.split_shift-shift.ensures.shift ∙ c.loop-token.invariant.5 token (omega arith) in
@@ -59,9 +59,9 @@ loop-token-preserved g c =
     let prods = map (λ p. index p.0) c.in_ok-prods.prods.items in
     let start = c.from-start.ensures ∙ c.start_prod.ensures.number in
     let sorted = sorted_image (λ core. core_set index core.now) (λ core. core.prod) c.in_ok-complete.complete.items c.in_ok-complete.ensures.sorted in
-    let told = rw c.deref.ensures.value at c.in_ok-prods.ensures in
+    let reported = rw c.deref.ensures.value at c.in_ok-prods.ensures in
     let reduces =
-    reductions_are grm cores complete c.from-start.result token prods c.in_ok-complete.ensures.all sorted c.requires.once c.requires.prods start told in
+    reductions_are grm cores complete c.from-start.result token prods c.in_ok-complete.ensures.all sorted c.requires.once c.requires.prods start reported in
     let tested = rw c.deref-in-loop-token.ensures.value at c.accepts-accepting.ensures in
     let accepts = accepts_are grm cores complete c.from-start.result token c.accepts-accepting.result c.in_ok-complete.ensures.all start tested in
     let shift = c.split_shift-shift.ensures.shift ∙ c.loop-token.invariant.5 token (omega arith) in

@@ -7,7 +7,8 @@ use Rattle.lrpar_table_items.specs.Cores.{core_set}
 use Rattle.lrpar_table_items.specs.Resolution.{AscendFrom, IsAcceptReduce, entry_at, reduce_conflicts_at, reductions, shift_conflicts_at, shift_entry, resolved_at}
 use Rattle.lrpar_table_items.proofs.state_row.state_row.Given as goal
 
--- what the tokens so far give is appended, none of them is refused, and the shifts that are left are by later ones
+-- the actions and conflicts of the tokens so far were appended, none of them is refused, and the shifts that are left are by later
+-- tokens
 abbrev pub invariant-loop-token : goal.invariant-loop-token
 invariant-loop-token g l =
     let index = g.StorageT.StorageIndex.index in

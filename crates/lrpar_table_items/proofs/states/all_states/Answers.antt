@@ -61,18 +61,18 @@ returns-clause-states g c =
 
 pub returns-in_err-state : goal.returns-in_err-state
 returns-in_err-state g c =
-    let told = c.from_residual.ensures.1 in record {
-      states = no_value c.from_residual.result _ _ told;
-      within = no_value c.from_residual.result _ _ told;
-      fits = no_value c.from_residual.result _ _ told;
-      fault = fault_same c.from_residual.result (IsFaultOfStates c.args.grm.now c.args.max_states g.StorageT.StorageIndex.limit) c.in_err-state.field-0.0 told c.in_err-state.ensures.fault;
+    let reported = c.from_residual.ensures.1 in record {
+      states = no_value c.from_residual.result _ _ reported;
+      within = no_value c.from_residual.result _ _ reported;
+      fits = no_value c.from_residual.result _ _ reported;
+      fault = fault_same c.from_residual.result (IsFaultOfStates c.args.grm.now c.args.max_states g.StorageT.StorageIndex.limit) c.in_err-state.field-0.0 reported c.in_err-state.ensures.fault;
     }
 
 pub returns-in_err-push : goal.returns-in_err-push
 returns-in_err-push g c =
-    let told = c.from_residual-in_err-push.ensures.1 in record {
-      states = no_value c.from_residual-in_err-push.result _ _ told;
-      within = no_value c.from_residual-in_err-push.result _ _ told;
-      fits = no_value c.from_residual-in_err-push.result _ _ told;
-      fault = fault_same c.from_residual-in_err-push.result (IsFaultOfStates c.args.grm.now c.args.max_states g.StorageT.StorageIndex.limit) Memory told tt;
+    let reported = c.from_residual-in_err-push.ensures.1 in record {
+      states = no_value c.from_residual-in_err-push.result _ _ reported;
+      within = no_value c.from_residual-in_err-push.result _ _ reported;
+      fits = no_value c.from_residual-in_err-push.result _ _ reported;
+      fault = fault_same c.from_residual-in_err-push.result (IsFaultOfStates c.args.grm.now c.args.max_states g.StorageT.StorageIndex.limit) Memory reported tt;
     }

@@ -4,7 +4,7 @@ use Rattle.lrpar_table_items.specs.States.{AreExpanded, StartsRight, state_of}
 use Rattle.lrpar_table_items.specs.Working.{AreSets}
 use Rattle.lrpar_table_items.proofs.states.all_states.Given as goal
 
--- the kernels are numbered, and the states so far are those of the first
+-- the kernels are numbered, and the states so far are those of the first kernels
 abbrev pub invariant-states : goal.invariant-states
 invariant-states g l =
     let index = g.StorageT.StorageIndex.index in

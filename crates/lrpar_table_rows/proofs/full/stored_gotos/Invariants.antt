@@ -3,7 +3,7 @@ use Rattle.lrpar_table_rows.specs.PlainRows.{goto_entry, plain_goto}
 use Rattle.lrpar_table_rows.specs.Rows.{row_gotos}
 use Rattle.lrpar_table_rows.proofs.full.stored_gotos.Given as goal
 
--- what is stored is what the rows so far store
+-- the stored entries are those of the rows so far
 abbrev pub invariant-loop-row : goal.invariant-loop-row
 invariant-loop-row g l =
     map (λ row. map (goto_entry g.StorageT.StorageIndex.index) row.items) l.stored.items

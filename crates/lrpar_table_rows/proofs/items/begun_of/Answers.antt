@@ -1,7 +1,7 @@
 use Rattle.std.proofs.Common.{◌≡◌, ◌++◌, ◌+◌, ◌∷◌, ◌∙◌, [], ap, arith, subst, sym, take}
 use Rattle.std.proofs.lemmas.List.{take_all, take_more}
 use Rattle.lrpar_table_rows.specs.PlainItems.{AreBegunOf}
-use Rattle.lrpar_table_rows.proofs.ItemLemmas.{begun_more, begun_no_more, cores_told_apart, exact_index}
+use Rattle.lrpar_table_rows.proofs.ItemLemmas.{begun_more, begun_no_more, cores_compare_exactly, exact_index}
 use Rattle.lrpar_grammar_places.proofs.FaultLemmas.{no_value}
 use Rattle.lrpar_table_rows.proofs.items.begun_of.Goals as goal
 use Rattle.lrpar_table_rows.proofs.items.begun_of.Goals.{then-core-gt0+in_ok-push, else-core-gt0}
@@ -10,7 +10,7 @@ pub from_vec-requires : goal.from_vec-requires
 from_vec-requires g c =
     let exact =
     exact_index g.StorageT.StorageIndex.index g.StorageT.StorageIndex.at_index g.met.StorageT.StorageIndex.at_index_law in
-    record { exact = cores_told_apart g.StorageT.StorageIndex.index exact g.StorageT.Ord.cmp g.met.StorageT.StorageIndex.cmp_law }
+    record { exact = cores_compare_exactly g.StorageT.StorageIndex.index exact g.StorageT.Ord.cmp g.met.StorageT.StorageIndex.cmp_law }
 
 pub loop-core-preserved : goal.loop-core-preserved
 loop-core-preserved g c =

@@ -6,7 +6,7 @@ use Rattle.lrpar_table_rows.proofs.EntryLemmas.{no_goto_past}
 use Rattle.lrpar_table_stacks.proofs.ChainTests.{reductions_by_test, short_by_test}
 use Rattle.lrpar_table_stacks.proofs.laws.sum_table_has_chains.Goals as goal
 
--- no state goes anywhere past the last rule
+-- no state has a goto past the last rule
 no_rule : (s r : ℕ) → 3 ≤ r → goto_of sum_table s r ≡ None
 no_rule s r past = let is : IsTable (2 ^ 8) sum_table = search rules in no_goto_past (2 ^ 8) sum_table is s r past
 

@@ -12,8 +12,8 @@ pub returns : goal.returns
 returns g c =
     let index = g.StorageT.StorageIndex.index in
     let parts = g.LexerTypesT.LexemeT.Lexeme.parts in
-    let handed = plain_sequences index c.args.sequences.items in
-    let parser : c.recoverer-parser.result ≡ record { checked = c.args.checked.now; recoverer = handed; shifts = 3 } = cc in
+    let supplied = plain_sequences index c.args.sequences.items in
+    let parser : c.recoverer-parser.result ≡ record { checked = c.args.checked.now; recoverer = supplied; shifts = 3 } = cc in
     subst
     (λ (p : Parser (List (List PlainStep))). IfOk c.parse_noaction.result (λ errors. OfAnswer (g.L.Lexer.allows c.args.lexer.now) (λ lexed. first_error lexed ≡ None →
     EachListsWhatWorks (subject index parts (λ recoverer _ answer. answer ≡ recoverer) p) p.recoverer (lexemes_of lexed) errors.items)))

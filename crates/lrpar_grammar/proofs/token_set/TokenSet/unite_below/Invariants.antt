@@ -3,7 +3,7 @@ use Rattle.std.specs.Bool.{OnFalse, OnTrue}
 use Rattle.lrpar_grammar.specs.Tokens.{has, missing}
 use Rattle.lrpar_grammar.proofs.token_set.TokenSet.unite_below.Given as goal
 
--- the tokens so far are in, and each that is new is one less that is missing
+-- the tokens so far are in the set, and each new one makes the missing ones one fewer
 abbrev pub invariant-loop-token : goal.invariant-loop-token
 invariant-loop-token l =
     let before = l.initial.bits in

@@ -7,7 +7,7 @@ use Rattle.lrpar_grammar_places.proofs.lines.NewlineCache.byte_to_line_num_and_c
 pub returns-clause-column : goal.returns-clause-column
 returns-clause-column c =
     let text = c.args.src.now in
-    let in_front : c.chars_before-in_front.result ≡ chars_before text (line_start text c.args.byte) =
-    c.chars_before-in_front.ensures ∙ ap (chars_before text) (c.line_start.ensures.start text c.requires) in
+    let before_line : c.chars_before-before_line.result ≡ chars_before text (line_start text c.args.byte) =
+    c.chars_before-before_line.ensures ∙ ap (chars_before text) (c.line_start.ensures.start text c.requires) in
     let cut : IsCharBoundary text c.args.byte = search rules in
-    omega (arith, c.chars_before.ensures, in_front, column_counted text c.args.byte c.utf8.src cut)
+    omega (arith, c.chars_before.ensures, before_line, column_counted text c.args.byte c.utf8.src cut)

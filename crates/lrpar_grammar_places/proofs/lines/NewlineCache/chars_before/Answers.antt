@@ -9,7 +9,7 @@ index-requires c =
     let counts : c.self.inside.counts.items ≡ char_counts c.args.src.now = ap (λ v. v.counts) (c.self.view_is ∙ c.requires.table) in
     omega (arith, ap length counts, counts_reach c.args.src.now c.args.byte c.requires.within)
 
--- the count, and what comes behind it
+-- the count of whole steps, and the characters after them
 whole : (c : goal.After-chars_begun) → c.index.result.now + c.chars_begun.result ≡ chars_before c.args.src.now c.args.byte
 whole c =
     let text = c.args.src.now in

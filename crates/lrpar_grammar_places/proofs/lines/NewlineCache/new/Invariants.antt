@@ -4,7 +4,7 @@ use Rattle.lrpar_grammar_places.proofs.ColumnLemmas.{counts_to}
 use Rattle.lrpar_grammar_places.proofs.LineLemmas.{starts_among}
 use Rattle.lrpar_grammar_places.proofs.lines.NewlineCache.new.Given as goal
 
--- the starts and the counts behind the bytes so far, and how many characters begin in these
+-- the starts and the counts of the bytes so far, and the number of characters that begin in them
 abbrev pub invariant-loop-at : goal.invariant-loop-at
 invariant-loop-at l = record {
   starts : l.starts.items ≡ starts_among l.byte-items 1 l.at;

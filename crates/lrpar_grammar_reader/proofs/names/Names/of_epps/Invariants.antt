@@ -3,7 +3,7 @@ use Rattle.lrpar_grammar_words.specs.Words.{PlacedWord, placed}
 use Rattle.lrpar_grammar_reader.specs.Names.{AreNumbers, is_among}
 use Rattle.lrpar_grammar_reader.proofs.names.Names.of_epps.Given as goal
 
--- the words so far are of distinct names, and numbered
+-- the words so far have distinct names, and are numbered
 abbrev pub invariant-loop-word : goal.invariant-loop-word
 invariant-loop-word l =
     let epps = map placed l.outline.epps.items in

@@ -1,6 +1,6 @@
 use Rattle.std.proofs.Common.{◌≡◌, ◌-◌, ◌+◌, length, length-drop, take, drop, Some, sym, ap, subst, ◌∙◌, List, ℕ, arith}
 use Rattle.std.proofs.lemmas.List.{take_all}
-use Rattle.lrpar_grammar_words.specs.declared.shape.Expected.TheVariants.{Declaration}
+use Rattle.lrpar_grammar_words.specs.declared.word_order.Expected.TheVariants.{Declaration}
 use Rattle.lrpar_grammar_words.specs.Words.{piece_at, word_at}
 use Rattle.lrpar_grammar_words.specs.Outline.{outline_of, with_word}
 use Rattle.lrpar_grammar_words.proofs.OutlineLemmas.{OutlinesTo, outlines_all, outlines_blank, outlines_none, outlines_word, refused_end, refused_piece, refused_word}

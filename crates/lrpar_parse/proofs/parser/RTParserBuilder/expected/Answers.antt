@@ -1,5 +1,5 @@
 use Rattle.std.proofs.Common.{◌≡◌, ap, inr}
-use Rattle.lrpar_parse_lexemes.specs.Known.{facts_by}
+use Rattle.lrpar_parse_lexemes.specs.Views.{facts_by}
 use Rattle.lrpar_parse.proofs.ExpectedLemmas.{after_is_answer, fault_is_answer}
 use Rattle.lrpar_parse.proofs.parser.RTParserBuilder.expected.Goals as goal
 

@@ -9,7 +9,7 @@ value_of-requires g c =
 pub returns-in-Ok : goal.returns-in-Ok
 returns-in-Ok g c = record {
   parse = parse_mapped _ _ _ _ _ c.in-Ok.entry c.value_of.result c.in-Ok.errors c.value_of.ensures
-      (λ t v told. made_fold _ _ _ _ t v told.stands) (rw c.in-Ok.is at c.parsed.ensures.parse);
+      (λ t v of. made_fold _ _ _ _ t v of.represents) (rw c.in-Ok.is at c.parsed.ensures.parse);
 }
 
 pub returns : goal.returns

@@ -1,7 +1,7 @@
 use Rattle.std.proofs.Common.{◌≡◌, IsTrue, true, false, refl}
 use Rattle.std.proofs.lemmas.Result.{IfOk-weaker}
 use Rattle.lrpar_table_stacks.specs.Overlay.{overlaid}
-use Rattle.lrpar_parse_lexemes.specs.Known.{token_by}
+use Rattle.lrpar_parse_lexemes.specs.Views.{token_by}
 use Rattle.lrpar_parse_repair.specs.PlainSteps.{plain_steps}
 use Rattle.lrpar_parse_cpctplus.proofs.WalkLemmas.{fresh_leads, last_not, repair_by_test}
 use Rattle.lrpar_parse_cpctplus.proofs.search.Search.is_repair.Goals as goal

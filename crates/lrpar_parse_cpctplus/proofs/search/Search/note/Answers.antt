@@ -1,7 +1,7 @@
 use Rattle.std.proofs.Common.{◌≡◌, ◌∙◌, inr, true, false, List, ap, refl, subst, sym}
 use Rattle.std.specs.List.{each_same}
 use Rattle.std.proofs.lemmas.List.Elements.{All-push}
-use Rattle.lrpar_parse_lexemes.specs.Known.{token_by}
+use Rattle.lrpar_parse_lexemes.specs.Views.{token_by}
 use Rattle.lrpar_parse_repair.specs.PlainSteps.{plain_steps}
 use Rattle.lrpar_parse_repair.specs.Sequences.{PlainStep}
 use Rattle.lrpar_parse_repair.specs.declared.repair_step.RepairStep.{RepairStep}

@@ -3,7 +3,7 @@ use Rattle.std.specs.Int.{from_bool}
 use Rattle.lrpar_table_check.specs.Checked.{Checked}
 use Rattle.lrpar_table_stacks.specs.Expected.{AcceptsAtEnd}
 use Rattle.lrpar_table_stacks.specs.Overlay.{overlaid}
-use Rattle.lrpar_parse_lexemes.specs.Known.{token_by}
+use Rattle.lrpar_parse_lexemes.specs.Views.{token_by}
 use Rattle.lrpar_parse_cpctplus.specs.Reaching.{is_far}
 use Rattle.lrpar_parse_cpctplus.specs.SearchView.{ReachesFrom}
 use Rattle.lrpar_parse_cpctplus.proofs.ReachLemmas.{reach_ends, reach_fails, reach_fed}

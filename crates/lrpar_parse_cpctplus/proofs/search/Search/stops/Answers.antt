@@ -3,7 +3,7 @@ use Rattle.lrpar_table_check.specs.Checked.{Checked}
 use Rattle.lrpar_table_rows.specs.Table.{Fails}
 use Rattle.lrpar_table_stacks.specs.Overlay.{overlaid}
 use Rattle.lrpar_table_stacks.specs.Reduction.{top_action}
-use Rattle.lrpar_parse_lexemes.specs.Known.{token_by}
+use Rattle.lrpar_parse_lexemes.specs.Views.{token_by}
 use Rattle.lrpar_parse_cpctplus.proofs.PruneLemmas.{nothing_goes_on}
 use Rattle.lrpar_parse_cpctplus.proofs.search.Search.stops.Goals as goal
 

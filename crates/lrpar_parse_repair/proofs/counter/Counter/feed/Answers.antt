@@ -15,9 +15,9 @@ returns g c =
     let all = IfOk-weaker c.feed_over.result _ (λ fed. IsFedAndCounted d.grammar d.table d.cap t old new fed)
     (λ fed h. fed_counted d.grammar d.table d.cap t old mid by fed new refl h) c.feed_over.ensures.fed in
     record {
-      fed = IfOk-weaker c.feed_over.result _ _ (λ fed told. told.fed) all;
+      fed = IfOk-weaker c.feed_over.result _ _ (λ fed holds. holds.fed) all;
       stack = c.feed_over.ensures.stack;
-      base = on_ok c.feed_over.result (λ fed told. told.base) all;
-      counted = on_ok c.feed_over.result (λ fed told. told.counted) all;
-      cost = on_ok c.feed_over.result (λ fed told. told.cost) all;
+      base = on_ok c.feed_over.result (λ fed holds. holds.base) all;
+      counted = on_ok c.feed_over.result (λ fed holds. holds.counted) all;
+      cost = on_ok c.feed_over.result (λ fed holds. holds.cost) all;
     }

@@ -5,7 +5,7 @@ use Rattle.lrpar_parse_repair.specs.Counting.{CostsAtMost}
 use Rattle.lrpar_parse_repair.specs.Sequences.{CanGoOn}
 use Rattle.lrpar_parse_repair.proofs.trial.Trial.can_go_on.Given as goal
 
--- what is left to be fed from here can be, exactly where all could be from the start
+-- what is left to be fed from here can be, if and only if all could be from the start
 abbrev pub invariant-lexemes : goal.invariant-lexemes
 invariant-lexemes g l =
     let token = λ (x : g.row.LexemeT.Denot). g.StorageT.StorageIndex.index (g.LexemeT.Lexeme.parts x).token in

@@ -6,7 +6,7 @@ use Rattle.lrpar_parse_repair.specs.PlainSteps.{plain_steps}
 use Rattle.lrpar_parse_repair.specs.Sequences.{Works}
 use Rattle.lrpar_parse_repair.proofs.trial.Trial.works.Given as goal
 
--- the steps that are left work from here, exactly where all do from the start
+-- the steps that are left work from here, if and only if all do from the start
 abbrev pub invariant-loop-step : goal.invariant-loop-step
 invariant-loop-step g l =
     let index = g.StorageT.StorageIndex.index in

@@ -5,7 +5,7 @@ use Rattle.lrpar_grammar.specs.Grammar.{end_token, tokens_len}
 use Rattle.lrpar_table_rows.specs.PlainRows.{plain_action}
 use Rattle.lrpar_table_rows.specs.Table.{Accepts, Fails}
 use Rattle.lrpar_table_stacks.specs.Reduction.{top_action}
-use Rattle.lrpar_parse_lexemes.specs.Known.{facts_by}
+use Rattle.lrpar_parse_lexemes.specs.Views.{facts_by}
 use Rattle.lrpar_parse_lexemes.specs.Lexemes.{start_at}
 use Rattle.lrpar_parse_run.specs.Moves.{GoesFar, RiseUpTo}
 use Rattle.lrpar_parse_run.proofs.FarLemmas.{come_more, come_none, come_to_accept, come_to_last, come_to_stop}

@@ -1,4 +1,4 @@
-use Rattle.lrpar_parse_lexemes.specs.Known.{facts_by}
+use Rattle.lrpar_parse_lexemes.specs.Views.{facts_by}
 use Rattle.lrpar_parse_run.proofs.MovesLemmas.{feeds_not_sticks}
 use Rattle.lrpar_parse_run.proofs.run.Run.feed.Goals as goal
 

@@ -1,6 +1,6 @@
 use Rattle.std.proofs.Common.{◌≡◌, ◌+◌, ◌∷◌, [], arith, drop, length, take}
 use Rattle.std.proofs.lemmas.List.{take_all}
-use Rattle.lrpar_parse_lexemes.specs.Known.{facts_by}
+use Rattle.lrpar_parse_lexemes.specs.Views.{facts_by}
 use Rattle.lrpar_parse_repair.specs.PlainSteps.{plain_step, plain_steps}
 use Rattle.lrpar_parse_run.proofs.MovesLemmas.{replay_left, replayed_none, replayed_then}
 use Rattle.lrpar_parse_repair.proofs.SequenceLemmas.{steps_left, steps_so_far}

@@ -1,6 +1,6 @@
 use Rattle.std.proofs.Common.{◌≤◌, drop, length, take}
 use Rattle.std.specs.Prelude.{map}
-use Rattle.lrpar_parse_lexemes.specs.Known.{facts_by}
+use Rattle.lrpar_parse_lexemes.specs.Views.{facts_by}
 use Rattle.lrpar_parse_lexemes.specs.Lexemes.{start_at}
 use Rattle.lrpar_parse_run.specs.Moves.{CanReplay, IsReplayed, RiseUpTo}
 use Rattle.lrpar_parse_repair.specs.PlainSteps.{plain_steps}

@@ -4,7 +4,7 @@ use Rattle.std.proofs.lemmas.Option.{slice_get_read}
 use Rattle.lrpar_grammar.specs.Sentence.{LexemeFacts}
 use Rattle.lrpar_table_stacks.specs.Reduction.{Feeds}
 use Rattle.lrpar_parse_lexemes.specs.Lexemes.{facts_of, start_at}
-use Rattle.lrpar_parse_lexemes.specs.Known.{facts_by}
+use Rattle.lrpar_parse_lexemes.specs.Views.{facts_by}
 use Rattle.lrpar_parse_run.proofs.MovesLemmas.{replayed_delete, replayed_insert, replayed_shift, rise_to_next, rise_to_same}
 use Rattle.lrpar_table_stacks.proofs.RunLemmas.{token_at_lexeme}
 use Rattle.lrpar_parse_repair.proofs.TokenLemmas.{good_token}

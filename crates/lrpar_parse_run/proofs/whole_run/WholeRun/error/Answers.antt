@@ -3,7 +3,7 @@ use Rattle.std.proofs.lemmas.List.{take_rest}
 use Rattle.std.proofs.lemmas.Bool.{ltb-false, ltb-true}
 use Rattle.std.proofs.lemmas.Option.{slice_get_past, slice_get_read}
 use Rattle.lrpar_grammar.specs.Grammar.{end_token}
-use Rattle.lrpar_parse_lexemes.specs.Known.{facts_by}
+use Rattle.lrpar_parse_lexemes.specs.Views.{facts_by}
 use Rattle.lrpar_parse_repair.specs.Repaired.{repairs_over}
 use Rattle.lrpar_parse_repair.specs.PlainSteps.{plain_sequences}
 use Rattle.lrpar_parse_run.specs.RunAnswer.{IsLexemeAt}

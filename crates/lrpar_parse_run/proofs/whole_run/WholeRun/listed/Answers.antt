@@ -1,7 +1,7 @@
 use Rattle.std.proofs.Common.{◌≡◌, subst}
 use Rattle.lrpar_parse_repair.specs.Asked.{asked_at}
 use Rattle.lrpar_parse_run.specs.WholeRunView.{subject}
-use Rattle.lrpar_parse_lexemes.specs.Known.{facts_by}
+use Rattle.lrpar_parse_lexemes.specs.Views.{facts_by}
 use Rattle.lrpar_parse_repair.specs.PlainSteps.{plain_sequences}
 use Rattle.lrpar_parse_run.proofs.AskedLemmas.{stop_of}
 use Rattle.lrpar_parse_run.proofs.WholeRunLemmas.{listed_ok}

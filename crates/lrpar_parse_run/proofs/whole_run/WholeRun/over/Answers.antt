@@ -3,7 +3,7 @@ use Rattle.std.specs.List.{AllZip}
 use Rattle.lrpar_parse_run.specs.WholeRunView.{subject}
 use Rattle.lrpar_parse_run.specs.RepairAnswer.{IsRepairErrorOf}
 use Rattle.lrpar_parse_run.specs.RunStack.{Stacked}
-use Rattle.lrpar_parse_lexemes.specs.Known.{facts_by}
+use Rattle.lrpar_parse_lexemes.specs.Views.{facts_by}
 use Rattle.lrpar_parse_run.proofs.AskedLemmas.{far_fails}
 use Rattle.lrpar_parse_run.proofs.WholeRunLemmas.{accepted_answer, stop_ends, stop_feeds, stop_goes_on, stop_smaller, there_accepts, there_first}
 use Rattle.lrpar_parse_run.proofs.whole_run.WholeRun.over.Goals as goal
@@ -20,7 +20,7 @@ stops-init g c =
     let first = there_first about (g.B.Build.builds build) self.lexemes.now c.in_ok-stack.stack is in
     let none : c.new-errors.result.items ≡ [] = c.new-errors.ensures.items in
     record {
-      run_stack = record { symbols = first.stands.symbols; path = first.stands.path; suit = first.stands.suit };
+      run_stack = record { symbols = first.represents.symbols; path = first.represents.path; suit = first.represents.suit };
       rises = (0, omega arith, subst (λ (es : List g.row.B-Entry.Denot). (g.B.Build.builds build).rises es 0) (sym (ap (λ (s : Stacked g.row.B-Entry.Denot). s.entries) is)) (g.met.B.Build.rising build d.grammar).with_none);
       within = omega arith;
       there = ([], first, subst (AllZip (IsRepairErrorOf about self.lexemes.now) []) (sym none) tt);

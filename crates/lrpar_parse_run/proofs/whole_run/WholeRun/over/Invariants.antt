@@ -11,8 +11,8 @@ use Rattle.lrpar_parse_run.specs.RunStack.{IsRunStack}
 use Rattle.lrpar_parse_run.proofs.WholeRunLemmas.{IsThere}
 use Rattle.lrpar_parse_run.proofs.whole_run.WholeRun.over.Given as goal
 
--- the run is at a place, after the stops of these errors; after an error as many lexemes can be fed from there as have to
--- follow a repair
+-- the run is at a place, after the error points of these errors; after an error the number of lexemes that must follow a repair can be
+-- fed from there
 abbrev pub invariant-stops : goal.invariant-stops
 invariant-stops g l =
     let about = subject g.StorageT.StorageIndex.index g.LexerTypesT.LexemeT.Lexeme.parts g.R.Recoverer.allows l.self in

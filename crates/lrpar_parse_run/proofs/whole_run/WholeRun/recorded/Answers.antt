@@ -1,5 +1,5 @@
 use Rattle.lrpar_parse_run.specs.WholeRunView.{subject}
-use Rattle.lrpar_parse_run.proofs.WholeRunLemmas.{told_of}
+use Rattle.lrpar_parse_run.proofs.WholeRunLemmas.{error_of_listed}
 use Rattle.lrpar_parse_run.proofs.whole_run.WholeRun.recorded.Goals as goal
 
 pub returns : goal.returns
@@ -13,7 +13,7 @@ returns g c =
       recorded = record {
         is = c.in_ok-listed.ensures.listed;
         error = error;
-        told = told_of about self.lexemes.now index c.args.stack.now.states c.args.place listed c.deref.result.now c.deref.ensures.value error c.in_ok-error.ensures.error;
+        error_is = error_of_listed about self.lexemes.now index c.args.stack.now.states c.args.place listed c.deref.result.now c.deref.ensures.value error c.in_ok-error.ensures.error;
         added = c.in_ok-push.ensures.items;
       };
     }

@@ -6,7 +6,7 @@ use Rattle.lrpar_parse_trees.specs.TreeText.{MetFits, TreeFits, met_line, tree_t
 use Rattle.lrpar_parse_trees.proofs.TreeTextLemmas.{left_met}
 use Rattle.lrpar_parse_trees.proofs.node.Node.write.Given as goal
 
--- with the lines of what is left, the whole text is written; and the tree fits, where what is left does
+-- with the lines of what is left, the whole text is written; and the tree fits if what is left does
 abbrev pub invariant-loop-node : goal.invariant-loop-node
 invariant-loop-node g l =
     let index = g.StorageT.StorageIndex.index in

@@ -5,7 +5,7 @@ use Rattle.lrpar_parse_trees.proofs.WeightLemmas.{weights}
 use Rattle.lrpar_parse_trees.proofs.GrowingLemmas.{whole, later}
 use Rattle.lrpar_parse_trees.proofs.node.copied.copied.Given as goal
 
--- what is made and what is left are told by the walk through the tree
+-- what is made and what is left have the walk through the tree
 abbrev pub invariant-loop-node : goal.invariant-loop-node
 invariant-loop-node g l = whole l.below.items l.ridx.0 l.made.items l.left ≡ Entered l.fn.ridx.0 (length l.fn.nodes) ∷ walks l.fn.nodes
 

@@ -3,11 +3,11 @@ use Rattle.lrpar_parse_trees.specs.Walks.{nodes_eq}
 use Rattle.lrpar_parse_trees.proofs.WeightLemmas.{weights}
 use Rattle.lrpar_parse_trees.proofs.node.equal.+equal_by_calls.Given as goal
 
--- the nodes of the first list, those of its trees among them
+-- the number of nodes of the first list's trees
 abbrev pub decreases-equal_by_calls : goal.decreases-equal_by_calls
 decreases-equal_by_calls g l = weights l.nodes.now
 
--- what is left is equal exactly where the trees are
+-- what is left is equal if and only if the trees are
 abbrev pub invariant-loop-node : goal.invariant-loop-node
 invariant-loop-node g l = record {
   same : nodes_eq g.LexemeT.PartialEq.eq g.StorageT.PartialEq.eq l.nodes l.others ≡ nodes_eq g.LexemeT.PartialEq.eq g.StorageT.PartialEq.eq l.fn.nodes l.fn.others;

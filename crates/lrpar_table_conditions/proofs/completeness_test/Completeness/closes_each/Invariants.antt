@@ -3,7 +3,7 @@ use Rattle.lrpar_table_first.specs.FirstRows.{rows_of}
 use Rattle.lrpar_table_conditions.specs.Itemwise.{ClosesAmong, HaveRoomFor}
 use Rattle.lrpar_table_conditions.proofs.completeness_test.Completeness.closes_each.Given as goal
 
--- the sets of first items are as they were, and the items so far are closed
+-- the sets of items with dot 0 are as they were, and the items so far are closed
 abbrev pub invariant-cores : goal.invariant-cores
 invariant-cores g l =
     let index = g.StorageT.StorageIndex.index in

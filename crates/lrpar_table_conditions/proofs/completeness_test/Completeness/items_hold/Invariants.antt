@@ -2,7 +2,7 @@ use Rattle.std.proofs.Common.{◌<◌, ◌≤◌, ◌-◌, ℕ, get_or, length}
 use Rattle.lrpar_table_conditions.specs.Itemwise.{ItemHolds}
 use Rattle.lrpar_table_conditions.proofs.completeness_test.Completeness.items_hold.Given as goal
 
--- what the condition asks holds for the items so far
+-- the condition holds for the items so far
 abbrev pub invariant-cores : goal.invariant-cores
 invariant-cores g l =
     let index = g.StorageT.StorageIndex.index in

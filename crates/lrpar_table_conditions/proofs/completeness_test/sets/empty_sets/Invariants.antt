@@ -2,6 +2,6 @@ use Rattle.std.proofs.Common.{◌≡◌, length, All}
 use Rattle.lrpar_table_first.specs.FirstRows.{HoldNothing, rows_of}
 use Rattle.lrpar_table_conditions.proofs.completeness_test.sets.empty_sets.Given as goal
 
--- so many sets, each with room and with nothing in it
+-- as many sets as passes of the loop, each with room, and empty
 abbrev pub invariant-loop : goal.invariant-loop
 invariant-loop l = (length (rows_of l.sets.items) ≡ l.counter) × HoldNothing (rows_of l.sets.items) × All (λ row. length row ≡ l.len) (rows_of l.sets.items)

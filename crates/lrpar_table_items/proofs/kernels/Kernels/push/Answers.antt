@@ -2,7 +2,7 @@ use Rattle.std.proofs.Common.{◌∙◌, sym, ap, subst, map}
 use Rattle.lrpar_table_items.specs.Cores.{core_set}
 use Rattle.lrpar_table_items.specs.KernelMap.{NumbersKernels}
 use Rattle.lrpar_table_items.specs.Next.{kernel_rows}
-use Rattle.lrpar_table_items.proofs.KernelMapLemmas.{new_stands, others_stay, same_numbers}
+use Rattle.lrpar_table_items.proofs.KernelMapLemmas.{new_is_numbered, others_stay, same_numbers}
 use Rattle.lrpar_grammar_places.proofs.FaultLemmas.{nothing_done}
 use Rattle.lrpar_table_items.proofs.kernels.Kernels.push.Goals as goal
 
@@ -24,7 +24,7 @@ invariant_of-self-2 g c =
     let index = g.StorageT.StorageIndex.index in
     let copy = c.in_ok-key.ensures ∙ ap (map (core_set index)) c.deref.ensures.value in
     subst (λ items. NumbersKernels index (kernel_rows index items) c.insert.new.self) (sym c.in_ok-push.ensures.items)
-    (new_stands index g.StorageT.Ord.cmp g.met.StorageT.StorageIndex.cmp_law c.self.inside.kernels.items c.self.inside.numbers c.insert.new.self
+    (new_is_numbered index g.StorageT.Ord.cmp g.met.StorageT.StorageIndex.cmp_law c.self.inside.kernels.items c.self.inside.numbers c.insert.new.self
     c.self.invariant c.args.self.now c.self.view_is c.args.kernel c.in_ok-key.key copy c.args.state c.requires.fresh c.in_ok-insert.ensures.updates
     c.requires.next)
 

@@ -4,7 +4,7 @@ use Rattle.lrpar_table_items.specs.Cores.{core_set}
 use Rattle.lrpar_table_items.specs.Next.{kernel_rows, AreNext}
 use Rattle.lrpar_table_items.proofs.successors.Successors.new.Given as goal
 
--- the kernels have the cores so far that stand before their symbols
+-- each kernel has the cores so far with its symbol after the dot, advanced
 abbrev pub invariant-loop-core : goal.invariant-loop-core
 invariant-loop-core g l =
     let index = g.StorageT.StorageIndex.index in

@@ -11,7 +11,7 @@ listed : {X Y : Type 0} (P : Y → Type 0) (f : X → Y) (xs : List X) (ys : Lis
     → IsTrue b ↔ All P ys
 listed {X} {Y} P f xs ys b is test = subst (λ (zs : List Y). IsTrue b ↔ All P zs) is (image_test P f xs b test)
 
--- the conflicts fit where those of both kinds do
+-- the conflicts fit exactly if those of both kinds do
 both : (g : Grammar) (conflicts : ConflictLists) (a b : Bool) → IsTrue a → IsTrue a ↔ All (ReductionsFit g) conflicts.reduce_reduce
     → IsTrue b ↔ All (ShiftFits g) conflicts.shift_reduce → IsTrue b ↔ ConflictsFit g conflicts
 both g conflicts a b passed first second = (
@@ -19,7 +19,7 @@ both g conflicts a b passed first second = (
   λ fit. second.1 fit.shift_reduce,
 )
 
--- and don't where those of the first kind don't
+-- they don't if those of the first kind don't
 not_first : (g : Grammar) (conflicts : ConflictLists) (a : Bool) → ¬ (IsTrue a) → IsTrue a ↔ All (ReductionsFit g) conflicts.reduce_reduce
     → IsTrue a ↔ ConflictsFit g conflicts
 not_first g conflicts a failed first = (λ h. absurd (failed h), λ fit. first.1 fit.reduce_reduce)

@@ -1,13 +1,13 @@
 use Rattle.lrpar_table_rows.specs.PlainItems.{item_of}
 use Rattle.lrpar_grammar_places.proofs.FaultLemmas.{no_value}
-use Rattle.lrpar_table_rows.proofs.ItemLemmas.{HaveSame-map, exact_index, items_told_apart}
+use Rattle.lrpar_table_rows.proofs.ItemLemmas.{HaveSame-map, exact_index, items_compare_exactly}
 use Rattle.lrpar_table_rows.proofs.items.ItemSet.from_row.Goals as goal
 
 pub from_vec-items-requires : goal.from_vec-items-requires
 from_vec-items-requires g c =
     let exact =
     exact_index g.StorageT.StorageIndex.index g.StorageT.StorageIndex.at_index g.met.StorageT.StorageIndex.at_index_law in
-    record { exact = items_told_apart g.StorageT.StorageIndex.index exact g.StorageT.Ord.cmp g.met.StorageT.StorageIndex.cmp_law }
+    record { exact = items_compare_exactly g.StorageT.StorageIndex.index exact g.StorageT.Ord.cmp g.met.StorageT.StorageIndex.cmp_law }
 
 pub invariant_of-result : goal.invariant_of-result
 invariant_of-result g c = (rw c.as_slice.ensures.all at c.in_ok-cores.ensures, rw c.as_slice-2.ensures.all at c.in_ok-begun.ensures)

@@ -1,0 +1,85 @@
+//! The parts of a tree's node: the name and the text of a lexeme, the name of a rule, and the trees below.
+ghost use Rattle.std.specs.Prelude.{◌≡◌, IfSome, Some, slice_range};
+ghost use Rattle.lrpar_parse_trees.specs.TreeText.{nodes_below};
+ghost use Rattle.lrpar_parse_trees.specs.Fronts.{is_rule};
+ghost use Rattle.lrpar_grammar.specs.Grammar.{rule_name, token_name};
+
+use crate::Node;
+use lrpar_grammar::grammar::YaccGrammar;
+use lrpar_grammar::span::{RIdx, StorageIndex, TIdx};
+use lrpar_parse_lexemes::lex_api::Lexeme;
+
+/// A lexeme as trees print it: its token's name, its part of the input, and where that starts and ends.
+#[derive(Clone, Copy)]
+pub(crate) struct Leaf<'a> {
+    pub(crate) name: &'a str,
+    pub(crate) text: &'a str,
+    pub(crate) start: usize,
+    pub(crate) end: usize,
+    /// Whether a repair made it.
+    pub(crate) is_faulty: bool,
+}
+
+/// The parts of a lexeme. `None`, if its token is the end token or isn't the grammar's, or if it doesn't start and end between two
+/// characters of the input.
+pub(crate) fn leaf_of<'a, LexemeT: Lexeme<StorageT>, StorageT: StorageIndex>(
+    grm: &'a YaccGrammar<StorageT>,
+    input: &'a str,
+    lexeme: &LexemeT,
+) -> Option<Leaf<'a>>
+    ensures name { IfSome result (λ leaf. token_name grm.now (StorageT.index (LexemeT.parts lexeme.now).token) ≡ Some leaf.name.now) }
+    ensures text { IfSome result (λ leaf. leaf.text.now ≡ slice_range input.now (LexemeT.parts lexeme.now).span.start (LexemeT.parts lexeme.now).span.end) }
+    ensures place { IfSome result (λ leaf. (leaf.start ≡ (LexemeT.parts lexeme.now).span.start) × (leaf.end ≡ (LexemeT.parts lexeme.now).span.end)) }
+    ensures faulty { IfSome result (λ leaf. leaf.is_faulty ≡ (LexemeT.parts lexeme.now).faulty) }
+{
+    let token = TIdx(lexeme.tok_id());
+    if usize::from(token) >= grm.tokens_len() {
+        return None;
+    }
+    let name = grm.token_name(token)?;
+    let span = lexeme.span();
+    let text = input.get(span.start()..span.end())?;
+    Some(Leaf {
+        name,
+        text,
+        start: span.start(),
+        end: span.end(),
+        is_faulty: lexeme.faulty(),
+    })
+}
+
+/// The name of a rule; `None`, if the grammar doesn't have it.
+pub(crate) fn rule_name<StorageT: StorageIndex>(
+    grm: &YaccGrammar<StorageT>,
+    rule: RIdx<StorageT>,
+) -> Option<&str>
+    ensures { IfSome result (λ name. name.now ≡ rule_name grm.now (StorageT.index rule.0)) }
+{
+    if usize::from(rule) < grm.rules_len() {
+        Some(grm.rule_name_str(rule))
+    } else {
+        None
+    }
+}
+
+/// The trees of a node. A lexeme has none.
+pub(crate) fn trees_of<LexemeT, StorageT>(
+    node: &Node<LexemeT, StorageT>,
+) -> &[Node<LexemeT, StorageT>]
+    ensures { result.now ≡ nodes_below node.now }
+{
+    match node {
+        Node::Term { lexeme: _ } => &[],
+        Node::Nonterm { ridx: _, nodes } => nodes,
+    }
+}
+
+/// Whether the node is a rule's.
+pub(crate) fn is_rule<LexemeT, StorageT>(node: &Node<LexemeT, StorageT>) -> bool
+    ensures { result ≡ is_rule node.now }
+{
+    match node {
+        Node::Term { lexeme: _ } => false,
+        Node::Nonterm { ridx: _, nodes: _ } => true,
+    }
+}
