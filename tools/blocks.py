@@ -1,8 +1,8 @@
 #!/usr/bin/env python3
-"""Looks whether each Rust block of README.md and docs/GUIDE.md stands in a source, as it stands there: blocks.py
+"""Looks whether each Rust block of README.md and docs/GUIDE.md is part of a source: blocks.py
 
-A block is looked for in the sources of two crates of tests and of the examples, which the gate proves and runs, but for their `pub(crate)`. Each block that
-stands in none is told, and the status is then 1."""
+A block is looked for in the sources of a crate of tests and of two crates of examples, which the gate proves and runs, but for
+their `pub(crate)`. Each block that is part of none is printed, and the status is then 1."""
 
 import pathlib
 import re
@@ -15,15 +15,15 @@ CRATES = ["test_guide", "example_language", "example_linter"]
 
 def main():
     sources = [path.read_text().replace("pub(crate) ", "") for crate in CRATES for path in sorted((ROOT / "crates" / crate / "src").rglob("*.rt"))]
-    wanting = 0
+    missing = 0
     for page in PAGES:
         text = (ROOT / page).read_text()
         for match in re.finditer(r"^```rust\n(.*?)^```", text, re.M | re.S):
             if not any(match.group(1) in source for source in sources):
-                wanting += 1
+                missing += 1
                 line = text[: match.start()].count("\n") + 1
-                print(f"{page}:{line}: this block stands in no source")
-    sys.exit(1 if wanting else 0)
+                print(f"{page}:{line}: this block is in no source")
+    sys.exit(1 if missing else 0)
 
 
 main()

@@ -1,9 +1,9 @@
 #!/usr/bin/env python3
 """Writes docs/DEFINITIONS.md from the comments in crates/*/specs: definitions.py [--check]
 
-What stands in front of the page's first part is kept. Each crate is a part, each file of its specs a part below it, in the order in which
+What comes before the page's first part is kept. Each crate is a part, each file of its specs a part below it, in the order in which
 `Lib.antt` names them, and each public definition a row: its name, and the comment above it. Definitions that follow one another under one
-comment share a row. With --check nothing is written, and the status is 1 where the page isn't the one that would be written."""
+comment share a row. With --check nothing is written, and the status is 1 if the page isn't the one that would be written."""
 
 import pathlib
 import re
@@ -37,13 +37,13 @@ def comment_of(lines):
 
 
 def split_head(lines):
-    """The comment at the top of a file, and the lines behind it."""
+    """The comment at the top of a file, and the lines after it."""
     end = next((at for at, line in enumerate(lines) if not line.startswith("--")), len(lines))
     return lines[:end], lines[end:]
 
 
 def rows(lines):
-    """The names of public definitions, with the comment that stands above them."""
+    """The names of public definitions, with the comment above them."""
     found, above, blocks = [], [], []
     for line in lines:
         code, indent = line.strip(), len(line) - len(line.lstrip())

@@ -4,13 +4,13 @@
 # in fail-alloc-from.cases, if that file is there: of their calls each of the first 200 is refused, and then one that lies a quarter
 # further each time. A run has a stack of 8 MiB, and 60 seconds.
 #
-# Wants of a command: where a call is refused, status 2, a beginning of the whole text on standard output, and on standard error
-# a beginning of what else stands there and the line `lrpar: out of memory`, or `nimbleparse: out of memory`; or else the whole
-# answer as if no call had been refused. Wants of the cases, which are
-# run twice: where a call is refused, the one line on standard error that memory was wanting, in one case or in what all cases
-# stand on, so that each other case, and the same one in the other run, has its answer; or else no line. If all calls are refused
-# from one on, no case after it has an answer, and that line is all that can be said. Prints how many calls
-# each command and the cases make, what failed, and one closing line. It stands outside the gate. It needs cc and glibc.
+# A command in which a call is refused has to end with status 2, a beginning of the whole text on standard output, and on standard
+# error a beginning of what else is written there and the line `lrpar: out of memory`, or `nimbleparse: out of memory`; or else
+# with the whole answer as if no call had been refused. The cases are run twice. If a call is refused, there has to be one line on
+# standard error, that a case, or what all cases use, is out of memory, so that each other case, and the same one in the other
+# run, has its answer; or else no line. If all calls are refused from one on, no case after it has an answer, and that line is all
+# that can be said. Prints how many calls each command and the cases make, what failed, and one closing line. The gate doesn't run
+# this script. It needs cc and glibc.
 set -u
 
 here=$(cd -P "$(dirname "$(readlink -f "${BASH_SOURCE[0]}")")" && pwd) || exit 1
@@ -18,7 +18,7 @@ readonly here
 readonly root=$here/..
 readonly program=${LRPAR_PROGRAM:-$root/crates/lrpar_program/out/lrpar_program}
 readonly nimbleparse=${NIMBLEPARSE_PROGRAM:-$root/crates/nimbleparse/out/nimbleparse}
-readonly runner=${LRPAR_CASES:-$root/crates/test_cases/out/lrpar_cases}
+readonly runner=${LRPAR_CASES:-$root/crates/test_cases/out/test_cases}
 readonly most_calls=100000
 readonly each_from=200
 readonly most_from=1000000000
@@ -31,7 +31,7 @@ trap 'rm -rf "$work"' EXIT
 passed=0
 failed=0
 
-# count CASE CHECK..: counts the case as passed where the check holds.
+# count CASE CHECK..: counts the case as passed if the check holds.
 count() {
     local name=$1
     shift
@@ -55,13 +55,13 @@ wrote() {
     [[ $status -eq $1 ]] && cmp -s "$work/out" <(printf '%s' "$2") && cmp -s "$work/err" <(printf '%s' "$3")
 }
 
-# begins FILE BYTES TEXT END: whether the file is so many bytes of the text, and then the end.
+# begins FILE BYTES TEXT END: whether the file is this number of bytes of the text, and then the end.
 begins() {
     cmp -s "$1" <(printf '%s' "$3" | head -c "$2" && printf '%s' "$4")
 }
 
-# Whether both streams ended early, standard error with the line that memory was wanting.
-wants_memory() {
+# Whether both streams ended early, standard error with the line `out of memory`.
+is_out_of_memory() {
     local line=$speaker': out of memory
 ' out err
     out=$(stat -c %s "$work/out")
@@ -73,8 +73,8 @@ gives_answer() {
     wrote "$want_status" "$want_out" "$want_err"
 }
 
-gives_answer_or_no_memory() {
-    gives_answer || wants_memory
+gives_answer_or_is_out_of_memory() {
+    gives_answer || is_out_of_memory
 }
 
 # One line, which begins as the usage line does.
@@ -102,7 +102,7 @@ refuse_each() {
             count "$*: some call is refused" test "$call" -gt 1
             return
         fi
-        count "$*: refused ${way,,} call $call" gives_answer_or_no_memory
+        count "$*: refused ${way,,} call $call" gives_answer_or_is_out_of_memory
     done
     count "$*: at most $most_calls calls" false
 }
@@ -123,8 +123,8 @@ refuse_each_call_of_nimbleparse() {
     refuse_each FROM "$nimbleparse" "$@"
 }
 
-# Whether the cases were run, and told as wrong at most one, or none and those behind it not run, for want of memory.
-gives_cases_or_no_memory() {
+# Whether the cases were run, and at most one was reported, as out of memory; or none, if those after it were not run.
+gives_cases_or_is_out_of_memory() {
     case $status in
         0) cmp -s "$work/out" "$work/all" && [[ ! -s $work/err ]] ;;
         1) [[ $(wc -l <"$work/err") -eq 1 ]] && grep -q 'out of memory$' "$work/err" ;;
@@ -144,7 +144,7 @@ refuse_calls_of_cases() {
             count "$name: some call is refused" test "$call" -gt 1
             return
         fi
-        count "$name: refused ${way,,} call $call" gives_cases_or_no_memory
+        count "$name: refused ${way,,} call $call" gives_cases_or_is_out_of_memory
     done
     count "$name: at most $most calls" false
 }

@@ -3,7 +3,7 @@
 
     fail-io.py
 
-Wants of a run, beside one in which nothing fails:
+What a run has to give, beside one in which nothing fails:
 
 - a file that can't be opened or read: status 2, and the line `lrpar: cannot read PATH`, or `lrpar: cannot read standard input`; of
   `nimbleparse` the line `PATH: error: cannot read this file: REASON`, with `-` for standard input;
@@ -11,14 +11,14 @@ Wants of a run, beside one in which nothing fails:
   program's name;
 - a read or a write that is short or interrupted: the same answer;
 - a write to standard error that fails: the same status and the same standard output;
-- want of memory for a read or a write: status 2, and the line `lrpar: out of memory`, or with that name;
+- a read or a write that is out of memory: status 2, and the line `lrpar: out of memory`, or with that name;
 - a pipe that nobody reads, or a full device, as standard output: as a write that fails, whether or not the program is started
   with the signal SIGPIPE ignored; as standard error: as a write that fails there;
-- always: what stands on standard output is a beginning of the right output, and what stands on standard error is a beginning
-  of the right text and perhaps the line of the fault.
+- always: standard output has a beginning of the right output, and standard error has a beginning of the right text and
+  perhaps the line of the fault.
 
-Prints how many calls of each kind each command makes, each run that is otherwise, and one closing line. It stands outside the
-gate. It needs Python 3.9, cc and glibc. LRPAR_PROGRAM and NIMBLEPARSE_PROGRAM are the paths of the programs, where these aren't
+Prints how many calls of each kind each command makes, each run that is otherwise, and one closing line. The gate doesn't run
+it. It needs Python 3.9, cc and glibc. LRPAR_PROGRAM and NIMBLEPARSE_PROGRAM are the paths of the programs, if these aren't
 the ones that `./lrpar` and `./nimbleparse` build.
 """
 import errno
@@ -165,7 +165,7 @@ class Failing(NamedTuple):
 
 
 class Runs:
-    """Runs of a program in a folder, of which each is wanted to end in one way; and how many did."""
+    """Runs of a program in a folder, each of which has to end in one way; and how many did."""
 
     def __init__(self, program, folder, shim):
         self.program, self.folder, self.shim, self.mark = program, folder, shim, os.path.join(folder, "mark")
@@ -220,14 +220,14 @@ class Runs:
                 if path is None:
                     self.count(came == right, f"{name}: no {kind} {at}", came)
                     return at - 1
-                told = errno.errorcode.get(how, how)
-                self.count(is_right(self.program, right, came, Failing(kind, at, how), path, self.folder), f"{name}: {kind} {at}: {told}", came)
+                failure = errno.errorcode.get(how, how)
+                self.count(is_right(self.program, right, came, Failing(kind, at, how), path, self.folder), f"{name}: {kind} {at}: {failure}", came)
         self.count(False, f"{name}: fewer than {MOST_CALLS} calls of {kind}", right)
         return MOST_CALLS
 
 
 def is_right(program, right, came, failing, path, folder):
-    """whether the answer is what is wanted where a call for the file at the path fails"""
+    """whether the answer is the right one if a call for the file at the path fails"""
     if failing.how in HARMLESS:
         return came == right
     if failing.kind == "err":

@@ -1,4 +1,4 @@
-/* A preloaded allocator of which one call fails, or all from one on.
+/* A preloaded allocator that refuses one call, or all from one on.
  *
  * Calls of malloc, calloc, realloc, aligned_alloc and posix_memalign are counted together, from the start of `main`
  * on. Call number FAIL_ALLOC_AT (from 1) answers that there is no memory; all others go to the C library. Where

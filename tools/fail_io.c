@@ -1,4 +1,4 @@
-/* Preloaded reads and writes of which one fails, or is short.
+/* Preloaded reads and writes, one of which fails or is short.
  *
  * From the start of `main` on the calls of one kind are counted: FAIL_IO_KIND is `open`, `read`, `out` (writes to standard
  * output) or `err` (writes to standard error). Call number FAIL_IO_AT (from 1) doesn't reach the system: it answers as

@@ -1,14 +1,14 @@
-# What the launchers at the top do, which read this: builds a proved program, where it isn't built or a source changed since, and runs it.
+# What the launchers at the top do, which read this: builds a proved program, if it isn't built or a source changed since, and runs it.
 # They set `label`, the program's name; `root`, the repository; `main`, the crate of the program; and `answered`, words that the program
 # answers with status 0. Nothing but the program writes to standard output.
 
-# What the launcher itself ends with where there is no program to run. The program ends with 0, 1 or 2.
+# What the launcher itself ends with if there is no program to run. The program ends with 0, 1 or 2.
 readonly NOT_BUILT=125
 # What README.md says of the first build.
 readonly FIRST_BUILD="15 to 45 minutes"
 # The kilobytes that one process of a proof takes at most.
 readonly JOB_MEMORY=2000000
-# A crate gets at most one process, and one more for each so many of its lines: each takes 15 seconds to start.
+# A crate gets at most one process, and one more for each JOB_LINES of its lines: each takes 15 seconds to start.
 readonly JOB_LINES=150
 
 say() {
@@ -25,17 +25,17 @@ readonly seconds=$crate/out/launcher.seconds
 # Held by the start that builds, while it builds.
 readonly lock=$crate/out/launcher.lock
 # A copy of the crates for each library that is proved, and `base`, which these are copied from. `rt` locks the crates below
-# the one that it works on until it ends; in copies, two that stand on one crate don't wait for each other.
+# the one that it works on until it ends; in copies, two that use one crate don't wait for each other.
 readonly rooms=$crate/out/launcher.rooms
 readonly base=$rooms/base
 
 # By crate, what its line of crates.txt names: crates of the repository, and libraries of the kit.
 declare -A uses=()
-# The crates that the program stands on, itself or through others, each behind those that it names; the program comes last.
+# The crates that the program uses, itself or through others, each after those that it names; the program comes last.
 declare -a crates=()
 # By crate, how many lines it has of code, definitions and proofs.
 declare -A lines=()
-# By crate, how many lines there are from its own to the program's, by the longest way through crates that stand on one another.
+# By crate, how many lines there are from its own to the program's, by the longest path through crates that use one another.
 declare -A ahead=()
 # By crate: waits, runs or done.
 declare -A state=()
@@ -56,7 +56,7 @@ read_crates() {
     done <"$root/crates.txt"
 }
 
-# Adds the crate, behind those that it names.
+# Adds the crate, after those that it names.
 add_crate() {
     local below
     state[$1]=waits
@@ -68,7 +68,7 @@ add_crate() {
     crates+=("$1")
 }
 
-# Whether the program stands and nothing that it is built of has changed since.
+# Whether the program is there and nothing that it is built of has changed since.
 is_built() {
     [[ -x $program && -e $stamp ]] || return 1
     local name newer places=("$root/crates.txt")
@@ -79,7 +79,7 @@ is_built() {
     [[ -z $newer ]]
 }
 
-# note TEXT: a line with the time so far in the log, and on standard error where that is a terminal.
+# note TEXT: a line with the time so far in the log, and on standard error if that is a terminal.
 note() {
     local line
     printf -v line '%d:%02d %s' $((SECONDS / 60)) $((SECONDS % 60)) "$1"
@@ -139,13 +139,13 @@ announce() {
     fi
 }
 
-# link FROM TO: a copy of a folder that has the very files of the first, where the file system allows. They are read or replaced, and
+# link FROM TO: a copy of a folder that has the very files of the first, if the file system allows. They are read or replaced, and
 # never written into.
 link() {
     cp -al "$1" "$2" 2>/dev/null || { rm -rf "$2" && cp -a "$1" "$2"; }
 }
 
-# Copies the sources as they stand, so that what is built is one state of them.
+# Copies the sources as they are, so that what is built is one state of them.
 copy_sources() {
     local name part
     mkdir -p "$base/crates" && cp -a "$root/crates.txt" "$base" || return 1
@@ -171,7 +171,7 @@ clear_rooms() {
     rm -rf "$rooms"
 }
 
-# follow CRATE: copies what `rt` says into the log, behind the crate's name, and notes how many functions are checked.
+# follow CRATE: copies what `rt` says into the log, after the crate's name, and notes how many functions are checked.
 follow() {
     local line
     while IFS= read -r line; do
@@ -289,7 +289,7 @@ finish() {
     fi
 }
 
-# Proves and builds the crates, side by side where they don't need one another. Where one fails, `failed` is its name.
+# Proves and builds the crates, side by side if they don't need one another. If one fails, `failed` is its name.
 prove_all() {
     local ended status name
     while ((finished < ${#crates[@]})); do
@@ -382,7 +382,7 @@ build() {
     return "$status"
 }
 
-# Builds the program where no other start has built it meanwhile.
+# Builds the program if no other start has built it meanwhile.
 build_once() {
     local held status
     if ! command -v rt >/dev/null; then

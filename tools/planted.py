@@ -1,17 +1,17 @@
 """Tries wrong bodies that the prover has to refuse, outside the gate: planted.sh [--workers N] [CRATE | CRATE/EDIT]..
 
 An edit is a file tools/planted/CRATE/EDIT.edit in the format of must-fail: a line 'file: src/..' and pairs of lines 'old: TEXT'
-and 'new: TEXT', each old TEXT standing once in that file. A line 'only: MODULE::FUNCTION', which must-fail passes over, names
+and 'new: TEXT', each old TEXT found once in that file. A line 'only: MODULE::FUNCTION', which must-fail passes over, names
 what to check; there may be several. Without one it is each function that the edit changes.
 
 An edit is tried by 'rt check --only' of that, over the kept proofs of the crate, which is checked unedited first. Edits that change
 the inside of one function each, all of different functions, share a check: none of them changes a contract, so each function is
-refused for its own edit. Such an edit counts as refused where its function isn't proved by a reason that names the code; each other
+refused for its own edit. Such an edit counts as refused if its function isn't proved by a reason that names the code; each other
 one of that check is tried again alone. What passes alone is tried on the whole crate before it counts as not refused. At most N
 checks go on side by side (four, if N isn't given), each in a copy of the repository of its own, whose made files are hard links:
 rattle never writes into a file that it made, but puts another one in its place.
 
-An edit that is refused only because a proof file names what it took away, or by no reason that is told, shows nothing of a
+An edit that is refused only because a proof file names what it took away, or by no reason that is given, shows nothing of a
 contract: it counts as failed, and the closing line names it.
 """
 import argparse
@@ -54,7 +54,7 @@ class BadEdit(Exception):
 class Edit:
     crate: str
     name: str
-    # What to check, where the edit says so.
+    # What to check, if the edit says so.
     only: list
     # The texts of the files that it changes, by their path in the crate.
     texts: dict
@@ -87,7 +87,7 @@ def edits_named(words):
 
 
 def edit_files(folder):
-    """Returns the edits of a folder in the order of their names, none where there is no such folder."""
+    """Returns the edits of a folder in the order of their names, none if there is no such folder."""
     names = sorted(os.listdir(folder)) if os.path.isdir(folder) else []
     return [f"{folder}/{it}" for it in names if it.endswith(".edit")]
 
@@ -114,7 +114,7 @@ def read_edit(file, crate):
 
 
 def apply(edit, path, old, new):
-    """Puts the new text in place of the old one, which has to stand once in the file."""
+    """Puts the new text in place of the old one, which has to be found once in the file."""
     if not path.startswith(("src/", "specs/", "proofs/")):
         raise BadEdit("no 'file:' line names a file of src/, specs/ or proofs/")
     if not old:
@@ -176,7 +176,7 @@ def is_within(lines, head, at):
 
 
 def owner_of(lines, at):
-    """Returns a pattern of what stands before the name of a method: the type, and the trait with the type that it is for."""
+    """Returns a pattern of what comes before the name of a method: the type, and the trait with the type that it is for."""
     start = next((it for it in range(at, -1, -1) if OWNER.match(lines[it])), at)
     end = next((it for it in range(start, at) if lines[it].endswith("{")), at)
     head = " ".join(lines[start : end + 1]).replace("->", " ")
@@ -235,7 +235,7 @@ def can_join(group, edit):
 
 
 def joined_texts(edits):
-    """Returns the texts of the files that the edits change, by their path, and none where an old text no longer stands there once."""
+    """Returns the texts of the files that the edits change, by their path, and none if an old text is no longer found there once."""
     texts = {}
     for edit in edits:
         for path, old, new in edit.pairs:
@@ -261,7 +261,7 @@ def copy_repository(source, to, parts):
 
 
 def link(source, to):
-    """Has a folder of made files at another place too, in place of what stands there: by hard links, or on another disk by copies."""
+    """Has a folder of made files at another place too, in place of what is there: by hard links, or on another disk by copies."""
     shutil.rmtree(to, ignore_errors=True)
     if not os.path.isdir(source):
         return
@@ -339,21 +339,21 @@ def try_group(group, copy, kept):
 
 def reason_of(name, lines):
     """Returns by which reason the function of this name isn't proved, by a place in the code or in the function's own proof files. It is
-    nothing where there is none, or where only names are wanting there that the edit took away."""
+    nothing if there is none, or if only names are missing there that the edit took away."""
     end = next((at for at, it in enumerate(lines) if it.startswith(f"fn {name}: not proved") or it.startswith(f"fn {name}: no proof")), None)
     if end is None:
         return ""
     start = next((at for at in range(end - 1, -1, -1) if re.match(r"fn \S+: ", lines[at])), -1)
     own = f"proofs/{'/'.join(name.split('::')[1:])}/"
-    told = [it for it in lines[start + 1 : end] if re.match(r"(?:note: )?src/\S+:\d+:\d+:", it)]
-    told += [it for it in lines if it.removeprefix("./").startswith(own) and ": error" in it]
-    return refusal_by(told + [it for it in lines[end : end + 1] if OPEN.match(it)])
+    reasons = [it for it in lines[start + 1 : end] if re.match(r"(?:note: )?src/\S+:\d+:\d+:", it)]
+    reasons += [it for it in lines if it.removeprefix("./").startswith(own) and ": error" in it]
+    return refusal_by(reasons + [it for it in lines[end : end + 1] if OPEN.match(it)])
 
 
-def refusal_by(told):
-    """Returns what to say of an edit that is refused for these reasons, and nothing where each only names what it took away."""
-    shown = [it for it in told if not TAKEN_AWAY.match(it)]
-    beside = "" if len(shown) == len(told) else ", beside names that it takes away"
+def refusal_by(reasons):
+    """Returns what to say of an edit that is refused for these reasons, and nothing if each only names what it took away."""
+    shown = [it for it in reasons if not TAKEN_AWAY.match(it)]
+    beside = "" if len(shown) == len(reasons) else ", beside names that it takes away"
     return f"refused{beside}: {shown[0][:160]}" if shown else ""
 
 
@@ -369,13 +369,13 @@ def judged(edit, status, lines):
         why = "it took too long" if status is None else f"status {status}"
         said = next((it for it in lines if "error" in it), lines[-1])
         return FAILED, f"BAD EDIT: the check came to no verdict ({why}): {said[:160]}"
-    told = [it for it in lines if PLACE.match(it) and (": error" in it or it.startswith("note: "))]
-    told += [it for it in lines if OPEN.match(it)]
-    if refusal_by(told):
-        return REFUSED, refusal_by(told)
-    if told:
-        return UNSHOWN, f"REFUSED BY A NAME ALONE: a proof file names what the edit took away: change a value and keep the names: {told[0][:300]}"
-    return UNSHOWN, "REFUSED BY NO REASON that is told"
+    reasons = [it for it in lines if PLACE.match(it) and (": error" in it or it.startswith("note: "))]
+    reasons += [it for it in lines if OPEN.match(it)]
+    if refusal_by(reasons):
+        return REFUSED, refusal_by(reasons)
+    if reasons:
+        return UNSHOWN, f"REFUSED BY A NAME ALONE: a proof file names what the edit took away: change a value and keep the names: {reasons[0][:300]}"
+    return UNSHOWN, "REFUSED BY NO REASON that is given"
 
 
 def is_unread(line, changed):

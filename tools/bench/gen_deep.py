@@ -2,7 +2,7 @@
 
     gen_deep.py COUNT > FILE.lx
 
-writes so many lexemes of token 0, of one byte each.
+writes this number of lexemes of token 0, of one byte each.
 """
 import struct
 import sys

@@ -2,7 +2,7 @@
 
     gen_grammar.py RULES > GRAMMAR.y
 
-writes a grammar of so many rules, some 1,000 bytes each: three long alternatives of rules, of tokens that %token
+writes a grammar of this number of rules, some 1,000 bytes each: three long alternatives of rules, of tokens that %token
 declares, and of quoted tokens; an empty alternative in some; comments of both kinds. It is the same text each time.
 """
 import random
@@ -35,7 +35,7 @@ def symbol(chance, rules):
 
 
 def rule(chance, number, rules):
-    """a rule, with a comment in front of it and one behind each alternative"""
+    """a rule, with a comment before it and one after each alternative"""
     yield f"// The rule of number {number}, which stands for nothing."
     yield f"rule_{number}"
     for place in range(ALTERNATIVES):

@@ -3,13 +3,13 @@
     gen_json.py BYTES > TEXT.json
 
 writes lists of ten in lists of ten, down to strings, numbers and words of eight characters on average. The text has
-about so many bytes, and is the same each time.
+about this number of bytes, and is the same each time.
 """
 import random
 import sys
 
 LISTED = 10
-# An element, the comma behind it, and its part of the brackets of all lists.
+# An element, the comma after it, and its part of the brackets of all lists.
 BYTES_AN_ELEMENT = 8 + 1 + 2 / 9
 LETTERS = "abcdefghijklmnopqrstuvwxyz"
 DIGITS = "0123456789"
@@ -28,7 +28,7 @@ def element(chance):
 
 
 def write(out, chance, count, most):
-    """so many elements in lists, each of which is full but the last of its level; `most` would fill this one"""
+    """this number of elements in lists, each of which is full but the last of its level; `most` would fill this one"""
     out.write("[")
     below = most // LISTED
     for first in range(0, count, below):

@@ -2,10 +2,10 @@
 
     large.py [--program PATH] [--only NAME] [--small]
 
-The program is the one that `./lrpar` builds, where no path is given. Each input is made in two sizes, the second one ten times
+The program is the one that `./lrpar` builds, if no path is given. Each input is made in two sizes, the second one ten times
 the first. Prints for each run its processor seconds, the most memory that it had, its status, and how often the time of the
 smaller size it took. `--small` leaves the large sizes out. What is printed goes to nowhere, but for `closed`, whose output is a
-pipe that nobody reads: the text of a tree of so many levels has a line of as many spaces for each level.
+pipe that nobody reads: the text of a tree with many levels has a line with as many spaces for each level.
 """
 import argparse
 import os
@@ -49,14 +49,14 @@ def file(name, text):
 
 
 def json_text(size):
-    """a JSON text of so many bytes"""
+    """a JSON text of this number of bytes"""
     with open("json", "w", encoding="utf-8") as out:
         subprocess.run([sys.executable, os.path.join(HERE, "gen_json.py"), str(size)], stdout=out, check=True)
     return Made(["tree", os.path.join(JSON, "grammar.y"), os.path.join(JSON, "lexer.lex"), "json"])
 
 
 def productions(size):
-    """a grammar of so many productions, in as many rules as each has alternatives: a state for each token has the ends of all that
+    """a grammar of this number of productions, in as many rules as each has alternatives: a state for each token has the ends of all that
     end in it, each under another lookahead"""
     many = round(size**0.5)
     alternatives = " | ".join(f"'t{token}'" for token in range(many))
@@ -66,18 +66,18 @@ def productions(size):
 
 
 def states(size):
-    """a grammar whose table has some more than so many states: a list of as many tokens"""
+    """a grammar whose table has some more states than this number: a list of as many tokens"""
     return file("states.y", "%% S: " + " ".join(f"'t{token}'" for token in range(size - 5)) + ";")
 
 
 def alternatives(size):
-    """a grammar of one rule with so many alternatives, of one token each"""
+    """a grammar of one rule with this number of alternatives, of one token each"""
     tokens = " | ".join(f"'t{token}'" for token in range(size))
     return file("alternatives.y", f"%% S: {tokens};")
 
 
 def chain(size):
-    """a grammar of so many rules, each of which is the next one"""
+    """a grammar of this number of rules, each of which is the next one"""
     rules = "".join(f"R{number}: R{number + 1};\n" for number in range(size))
     return file("chain.y", f"%% {rules}R{size}: 'N';\n")
 
@@ -92,7 +92,7 @@ def nested(text):
 
 
 def lexer(size):
-    """a lexer of so many rules, for 100 tokens, on a text of 1,000 lexemes of all of the rules"""
+    """a lexer of this number of rules, for 100 tokens, on a text of 1,000 lexemes of all of the rules"""
     words = [f"word{number}" for number in range(size)]
     grammar = "%% L: L W | ; W: " + " | ".join(f"'T{token}'" for token in range(100)) + ";"
     text = " ".join(words[number * 7_919 % size] for number in range(1_000))
@@ -109,7 +109,7 @@ INPUTS = [
     Input("check-alternatives", 4_000, "alternatives", lambda size: Made(["check", alternatives(size), "65535"])),
     Input("conflicts-alternatives", 4_000, "alternatives", lambda size: Made(["conflicts", alternatives(size)])),
     Input("check-chain", 5_000, "rules in a chain", lambda size: Made(["check", chain(size), "65535"])),
-    Input("line", 10_000, "errors, each 1,000 bytes behind the last one in one line", lambda size: marked(("n" * 999 + "!") * size)),
+    Input("line", 10_000, "errors, each 1,000 bytes after the last one in one line", lambda size: marked(("n" * 999 + "!") * size)),
     Input("lines", 10_000, "errors, one in each line of 1,000 bytes", lambda size: marked(("n" * 998 + "!\n") * size)),
     Input("errors", 100_000, "errors, one in each line of 10 bytes", lambda size: marked(("n" * 8 + "!\n") * size)),
     Input("rules", 10_000, "rules of a lexer, and 1,000 lexemes", lexer),

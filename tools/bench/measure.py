@@ -24,9 +24,9 @@ FEWEST, MOST = min(REPETITIONS), max(REPETITIONS)
 TABLES = ("graph", "rows", "sparse", "check", "complete")
 LOOKS = ("actions", "gotos", "actions_apart", "gotos_apart")
 LOOKED_UP = 1_000_000
-# A deep tree has so many levels, and the process so much stack.
+# How many levels a deep tree has, and how much stack the process.
 LEVELS = 1_000_000
-# Lists with marks, of which each tenth lexeme is one, stand in so many brackets and have so many lexemes.
+# Lists with marks, which each tenth lexeme is: in how many brackets they are, and how many lexemes they have.
 DEPTHS = (10, 10_000)
 LISTED = (10_000, 100_000)
 GAP = 10
@@ -34,7 +34,7 @@ STACK = 8 << 20
 
 
 def run(words, stack=None):
-    """what a program writes to standard output, or None where it doesn't know the mode"""
+    """what a program writes to standard output, or None if it doesn't know the mode"""
     limit = stack and (lambda: resource.setrlimit(resource.RLIMIT_STACK, (stack, stack)))
     ran = subprocess.run(words, capture_output=True, text=True, preexec_fn=limit)
     if ran.returncode == 2 and "usage" in ran.stderr:
@@ -56,7 +56,7 @@ def peer_nanoseconds(peer, mode, repetitions, table, lexemes):
 
 
 def by_turns(rounds, *calls):
-    """for each call what it gives in each round; where the first gives None, the others aren't made"""
+    """for each call what it gives in each round; if the first gives None, the others aren't made"""
     given = [[] for _ in calls]
     for _ in range(rounds):
         for call, figures in zip(calls, given):
@@ -91,14 +91,14 @@ class Bench:
         return os.path.join(self.words.data, name)
 
     def files(self, grammar, count):
-        """table and lexemes, as the program wants them"""
+        """table and lexemes, as the program takes them"""
         return self.file(f"{grammar}.lrb"), self.file(f"{grammar}.{count}.lx")
 
     def peer_files(self, grammar, count):
         return self.file(f"{grammar}.tab"), self.file(f"{grammar}.{count}.lx")
 
     def ours_and_before(self, mode, repetitions, *files):
-        """the figures of a mode: ours, and those of the program before, where there is one"""
+        """the figures of a mode: ours, and those of the program before, if there is one"""
         programs = [it for it in (self.words.program, self.words.before) if it]
         calls = [lambda program=it: nanoseconds(program, mode, repetitions, *files) for it in programs]
         given = by_turns(self.words.rounds, *calls)
@@ -229,7 +229,7 @@ def counted(tool, found, options, words, files):
 
 
 def peak(words):
-    """the most bytes that the process had, or None where it fails"""
+    """the most bytes that the process had, or None if it fails"""
     started = subprocess.Popen(words, stdout=subprocess.DEVNULL, stderr=subprocess.DEVNULL)
     _, status, used = os.wait4(started.pid, 0)
     started.returncode = os.waitstatus_to_exitcode(status)

@@ -4,7 +4,7 @@
 
 `--tree` names the built lrpar_program, which is timed as a whole, and `--parts` the built bench_program, which times the
 lexer alone, the lexer with the parse, and the text of the tree. The texts are those of gen_json.py, of 1 and of 10 MB
-where no sizes are given; the grammar and the lexer's rules are those of crates/test_cases/data/json. The runs of the sizes take
+if no sizes are given; the grammar and the lexer's rules are those of crates/test_cases/data/json. The runs of the sizes take
 turns. Prints for each size the median of the seconds, nanoseconds a byte, and the most memory that a process had, in
 bytes a byte; and in a line `growth` how many times as long a byte takes in the last size as in the first, as the median
 of the rounds' ratios.
@@ -26,7 +26,7 @@ REPETITIONS = 3
 
 
 def text_of(folder, size):
-    """the path of a text of about so many bytes"""
+    """the path of a text of about this number of bytes"""
     path = os.path.join(folder, f"{size}.json")
     with open(path, "w") as out:
         subprocess.run([sys.executable, os.path.join(HERE, "gen_json.py"), str(size)], stdout=out, check=True)

@@ -4,10 +4,10 @@
 #
 #     refuse.sh PROGRAM
 #
-# PROGRAM is the built bench_program, which reads a text twice, builds its table twice, or asks of it twice. Wants: where a call for memory
-# of the first time is refused, that this time answers a want of memory and the next one gives the answer, or that both
-# give it, since a list asks again for less; and the other way round.
-# Prints the cases that failed, and one closing line. It stands outside the gate. It needs cc and glibc.
+# PROGRAM is the built bench_program, which reads a text twice, builds its table twice, or asks twice whether
+# the table is complete. If a call for memory of the first time is refused, this time has to report it and the next one has to give
+# the answer, or both have to give it, since a list asks again for less; and the other way round. Prints the cases that failed, and
+# one closing line. The gate doesn't run this script. It needs cc and glibc.
 set -u
 
 here=$(cd -P "$(dirname "$(readlink -f "${BASH_SOURCE[0]}")")" && pwd) || exit 1
@@ -31,7 +31,7 @@ printf "%%start A\n%%%%\nA : 'a' 'b' | B 'b';\nB : 'a' | C;\nC : 'a';\n" >"$work
 passed=0
 failed=0
 
-# The program's outcome in a mode where its call for memory of this number is refused.
+# The program's outcome in a mode in which its call for memory of this number is refused.
 outcome() {
     rm -f "$work/mark"
     FAIL_ALLOC_AT=$1 FAIL_ALLOC_MARK=$work/mark LD_PRELOAD=$work/fail_alloc.so \

@@ -2,7 +2,7 @@
 
     repairs.py [--program PATH] [--limit N] [--rounds N]
 
-The program is the `nimbleparse` that `./nimbleparse` builds, where no path is given. The texts are in C, by the grammar and the lexer of
+The program is the `nimbleparse` that `./nimbleparse` builds, if no path is given. The texts are in C, by the grammar and the lexer of
 the cases. Of each one the processor seconds of the program are taken, the least of some rounds, less those that it takes for an empty
 text: so reading the grammar and building the table don't count. Prints for each text the seconds with its errors, those without, and
 their ratio.
@@ -31,12 +31,12 @@ FUNCTION = """int f%d(int a, int b)
 }
 """
 LEXEMES = 50
-# What stands in a function that is wrong, by how much the cheapest repair costs.
+# What is right in a function, and what a wrong one has instead, by the cost of the cheapest repair.
 WRONG = {1: ("b * 2;", "b * 2"), 2: ("(c - 1)", "(c -")}
 
 
 def text(functions, wrong=(), cost=1):
-    """so many functions; those whose numbers are told are wrong, and want a repair of that cost"""
+    """this number of functions; those with the numbers `wrong` need a repair of that cost"""
     right, changed = WRONG[cost]
     parts = [FUNCTION % number for number in range(functions)]
     for number in wrong:

@@ -5,8 +5,8 @@
 #
 # TOOLS is a folder with tools/data.py, which makes tables and lexemes, and with the peer's crate peer_lrpar/. Each
 # GRAMMAR is a grammar text, with a rule of it that is a list; without any they are those of TOOLS/../grammars. FOLDER
-# keeps what is built, and what stands there already isn't built again. README.md says the rest. It stands outside
-# the gate. It needs rt, cargo and python3, and valgrind for --counts.
+# keeps what is built, and what is there already isn't built again. README.md says the rest. The gate doesn't run this
+# script. It needs rt, cargo and python3, and valgrind for --counts.
 set -u
 
 here=$(cd -P "$(dirname "$(readlink -f "${BASH_SOURCE[0]}")")" && pwd) || exit 1
@@ -32,13 +32,14 @@ stop() {
 copy_repository() {
     local file to
     mkdir -p "$copy" || return 1
-    tar -C "$root" --exclude='crates/lrpar_program/out' --exclude='crates/lrpar_test*/out' --exclude='crates/lrpar_case*/out' -cf - HANDLES crates.txt crates |
+    tar -C "$root" --exclude='crates/lrpar_program/out' --exclude='crates/nimbleparse/out' --exclude='crates/test_*/out' \
+        --exclude='crates/example_*/out' -cf - HANDLES crates.txt crates |
         tar -C "$copy" -xf - || return 1
     while IFS= read -r file; do
         to=$copy/crates/bench_program/${file%.txt}
         mkdir -p "$(dirname "$to")" && cp "$here/program/$file" "$to" || return 1
     done < <(cd "$here/program" && find . -name '*.txt')
-    printf 'bench_program: lrpar lrpar_grammar_places lrpar_grammar lrpar_lexer thiserror\n' >>"$copy/crates.txt"
+    printf 'bench_program: lrpar lrpar_grammar_places lrpar_grammar lrpar_conflict_examples lrpar_lexer thiserror\n' >>"$copy/crates.txt"
 }
 
 # Proves the program and all below it, as far as no proof was kept, and builds it.

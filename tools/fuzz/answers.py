@@ -38,7 +38,7 @@ def errors_and_tree(out):
             raise Unread(f"an error of the form {found[0]!r}")
         listed = sequences(lines) if tail.endswith(":") else []
         if tail.endswith(":") and not listed:
-            raise Unread("no sequence behind the colon")
+            raise Unread("no sequence after the colon")
         errors.append(Error(kind, (int(line), int(column)), listed))
     return errors, tree(lines) if lines else None
 

@@ -7,16 +7,16 @@ from program import complaint
 
 
 class Wrong(Exception):
-    """What was wanted, and what came."""
+    """What was expected, and what came."""
 
-    def __init__(self, wanted, came):
-        super().__init__(wanted, came)
-        self.wanted, self.came = wanted, came
+    def __init__(self, expected, came):
+        super().__init__(expected, came)
+        self.expected, self.came = expected, came
 
 
-def want(is_met, wanted, came):
+def expect(is_met, expected, came):
     if not is_met:
-        raise Wrong(wanted, came)
+        raise Wrong(expected, came)
 
 
 class Case:
@@ -35,19 +35,19 @@ class Case:
         return name
 
     def run(self, *words, given=b""):
-        """the answer, which has to be of a known form, and the same where the case is repeated"""
+        """the answer, which has to be of a known form, and the same again if the case is repeated"""
         words = [word if isinstance(word, bytes) else word.encode() for word in words]
         answer = self.run_once(words, given)
         if self.is_repeated:
             again = self.run_once(words, given)
-            want(again[:3] == answer[:3], answer[:3], again[:3])
+            expect(again[:3] == answer[:3], answer[:3], again[:3])
         return answer
 
     def run_once(self, words, given):
         answer = self.program.run(words, given, self.folder)
         self.runs.append((words, given, dict(self.files), answer))
         wrong = complaint(words, self.files, answer)
-        want(wrong is None, "an answer of a known form, within the limits", wrong)
+        expect(wrong is None, "an answer of a known form, within the limits", wrong)
         return answer
 
     def tree(self, text, repairs=None, shifts=None):
@@ -61,15 +61,15 @@ class Case:
 
 
 def parsed(case, *words, **options):
-    """errors and tree of a run of `tree`, whose status has to suit; none where the table is refused"""
+    """errors and tree of a run of `tree`, whose status has to suit; none if the table is refused"""
     answer = case.tree(*words, **options)
     if answer.status == 2:
-        want(answer.err.startswith(b"lrpar: table: "), "a tree, an error, or a table that is refused", answer.err)
+        expect(answer.err.startswith(b"lrpar: table: "), "a tree, an error, or a table that is refused", answer.err)
         return None
     errors, tree = read(answer.out)
     clean = tree is not None and not errors
-    want(answer.status == (0 if clean else 1), "status 0 for a tree without errors, else 1", answer.status)
-    want(tree is not None or errors, "a tree or an error", answer.out)
+    expect(answer.status == (0 if clean else 1), "status 0 for a tree without errors, else 1", answer.status)
+    expect(tree is not None or errors, "a tree or an error", answer.out)
     return errors, tree
 
 

@@ -1,5 +1,5 @@
 """Ends: whatever the bytes and words, the program ends with a status and a line of a known form."""
-from case import want
+from case import expect
 from grammars import Grammar, text_of, token
 from texts import any_language, any_sequences, any_tokens, noise, repairs_of, spoiled, text_by
 
@@ -38,14 +38,14 @@ def ends_check(case):
 
 def ends_conflicts(case):
     """the conflicts of any grammar text: `conflicts` takes each one that `check` builds a table of"""
-    told, checked = case.run("conflicts", "g.y"), case.run("check", "g.y", "65535")
+    listed, checked = case.run("conflicts", "g.y"), case.run("check", "g.y", "65535")
     if checked.err:
-        want(told[:3] == checked[:3], "the fault that `check` tells", told)
+        expect(listed[:3] == checked[:3], "the fault that `check` reports", listed)
         return
-    want(told.status == 0, "status 0 for a table", told)
+    expect(listed.status == 0, "status 0 for a table", listed)
     result = checked.out.decode().splitlines()[-1]
     if not result.startswith("refused: "):
-        want((told.out == b"") == (result == "complete"), "conflicts where the table isn't complete", told.out)
+        expect((listed.out == b"") == (result == "complete"), "conflicts if the table isn't complete", listed.out)
 
 
 def ends_calc(case):
@@ -95,7 +95,7 @@ PATTERNS = (
 
 
 def ends_lexer(case):
-    """rules of any patterns: where nothing is skipped, the slices of a tree's leaves are the text"""
+    """rules of any patterns: if nothing is skipped, the slices of a tree's leaves are the text"""
     chance = case.chance
     case.file("g.y", "%token A B C %% S: | S T; T: A | B | C;")
     skips = chance.random() < 0.2
@@ -106,4 +106,4 @@ def ends_lexer(case):
     answer = case.tree(text)
     if answer.status == 0 and not skips:
         came = "".join(line.lstrip(" ")[2:] for line in answer.out.decode().splitlines() if line.lstrip(" ")[1:2] == " ")
-        want(came == text, text, came)
+        expect(came == text, text, came)

@@ -84,7 +84,7 @@ def rule_names(chance, count):
 
 
 def token_names(chance, count, rules):
-    """names of tokens, some of which are to be declared: the names, and these"""
+    """names of tokens, and those of them that are to be declared"""
     named = [name for name in DECLARED_NAMES if name not in rules]
     fresh = [f"t{number}" for number in range(count)]
     declared = chance.sample(named, chance.randrange(min(count, len(named)) + 1))
@@ -199,7 +199,7 @@ def finished(chance, rules, declared, start=None, deterministic=False):
     return grammar
 
 
-# Printed texts. Those of a grammar differ, so that a printed sequence stands for one sequence alone.
+# Printed texts. Those of a grammar differ, so that a printed sequence can be read back in one way.
 PRINTED = ["plus", "a word", "the 'end'", "→", "🦀🦀", "%%", "//", " ", "x"]
 
 KINDS = random_grammar, leading_grammar, ladder_grammar, layered_grammar
@@ -273,7 +273,7 @@ def quoted(chance, text):
 
 
 def spaced(chance, words):
-    """the words with blanks before, between and behind them"""
+    """the words with blanks before, between and after them"""
     style = chance.choice(("tight", "plain", "odd"))
     newline = chance.choice(("\n", "\n", "\r\n"))
     pieces = [] if style != "odd" else blanks(chance, newline)

@@ -1,5 +1,5 @@
 """Sums by `demo`, values by `calc` and lists with marks, whose answers are known as they are made."""
-from case import want
+from case import expect
 
 
 
@@ -10,8 +10,8 @@ def sum_by_demo(case):
     lines = []
     for depth, name in enumerate(names):
         lines += [" " * depth + "E", " " * depth + " T", " " * depth + "  ID " + name, " " * depth + " + +"]
-    wanted = "\n".join(lines[:-1]) + "\n"
-    want((answer.status, answer.out.decode()) == (0, wanted), wanted, answer.out.decode())
+    expected = "\n".join(lines[:-1]) + "\n"
+    expect((answer.status, answer.out.decode()) == (0, expected), expected, answer.out.decode())
 
 
 # Values are below this.
@@ -25,13 +25,13 @@ def value_by_calc(case):
     newline = chance.choice(("\n", "\r\n", "\n\n", " \n\t\n"))
     answer = case.run("calc", given=newline.join(text for text, _ in lines).encode())
     values = [value for _, value in lines]
-    wanted = "".join(f"Result: {value}\n" for value in values if value is not None)
+    expected = "".join(f"Result: {value}\n" for value in values if value is not None)
     complaints = "Unable to evaluate expression.\n" * values.count(None)
-    want((answer.status, answer.out.decode(), answer.err.decode()) == (int(None in values), wanted, complaints), wanted, answer)
+    expect((answer.status, answer.out.decode(), answer.err.decode()) == (int(None in values), expected, complaints), expected, answer)
 
 
 def valued(chance, depth):
-    """the text of an expression, and its value, which is none where some part of it doesn't fit 64 bits"""
+    """the text of an expression, and its value, which is none if some part of it doesn't fit 64 bits"""
     text, value = valued_term(chance, depth)
     for _ in range(chance.choice((0, 0, 1, 2))):
         more, other = valued_term(chance, depth - 1)
@@ -66,7 +66,7 @@ def gap(chance):
 
 
 def list_with_marks(case):
-    """a list of `a` in which each `b` is an error that a deletion mends, with lexemes enough behind it"""
+    """a list of `a` in which each `b` is an error that a deletion mends, with lexemes enough after it"""
     chance = case.chance
     recursion = chance.choice(("| S 'a'", "'a' | S 'a'", "| 'a' S", "'a' | 'a' S"))
     case.file("g.y", f"%token b %% S: {recursion}; Useless: b;")
@@ -77,12 +77,12 @@ def list_with_marks(case):
     answer = case.tree("b" + "b".join("a" * run for run in runs), repairs="\n".join([*repairs, "delete"]), shifts=shifts)
     places = [1 + sum(runs[:number]) + number for number in range(len(runs))]
     errors = "".join(f"Parsing error at line 1 column {place}. Repair sequences found:\n   1: Delete b\n" for place in places)
-    wanted = errors + list_tree(sum(runs), "| S" in recursion, not recursion.startswith("'"))
-    want((answer.status, answer.out.decode()) == (1, wanted), wanted, answer.out.decode())
+    expected = errors + list_tree(sum(runs), "| S" in recursion, not recursion.startswith("'"))
+    expect((answer.status, answer.out.decode()) == (1, expected), expected, answer.out.decode())
 
 
 def list_tree(count, is_left, has_empty):
-    """the text of the tree of so many `a`"""
+    """the text of the tree of this number of `a`"""
     levels = count + has_empty
     lines = [" " * depth + "S" for depth in range(levels)]
     leaves = [" " * depth + "a a" for depth in range(1, count + 1)]

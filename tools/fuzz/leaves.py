@@ -3,15 +3,15 @@ work."""
 from typing import NamedTuple
 
 import answers
-from case import parsed, want
+from case import parsed, expect
 from texts import any_language, any_sequences, any_tokens, repairs_of, text_by
 
-# So many lexemes have to follow a repair where the words don't say it.
+# How many lexemes have to follow a repair if the words don't say it.
 SHIFTS = 3
 
 
 class Seen(NamedTuple):
-    """A text with the sequences that were handed in, and for each error its lexeme and the sequences that it lists."""
+    """A text with the sequences that were supplied, and for each error its lexeme and the sequences that it lists."""
 
     language: object
     text: object
@@ -39,32 +39,32 @@ def leaves(case):
 
 
 def see_errors(grammar, text, errors, sequences, shifts):
-    """sees that the errors lie in order, and list sequences that were handed in; gives for each its place and these"""
+    """sees that the errors lie in order, and list sequences that were supplied; gives for each its place and these"""
     places, past, steps = text.places(), 0, []
     for number, error in enumerate(errors):
-        want(error.kind == "Parsing" and error.place in places, "a parse error at a lexeme or the end", error)
+        expect(error.kind == "Parsing" and error.place in places, "a parse error at a lexeme or the end", error)
         at = places[error.place]
-        want(at >= past, f"error {number} at lexeme {past} or later", error)
+        expect(at >= past, f"error {number} at lexeme {past} or later", error)
         listed = listed_of(grammar, text, at, error, sequences)
-        want(listed or number + 1 == len(errors), "repairs of each error but the last", errors)
+        expect(listed or number + 1 == len(errors), "repairs of each error but the last", errors)
         steps.append((at, listed))
         past = after(at, listed[0]) + shifts if listed else past
     return steps
 
 
 def listed_of(grammar, text, at, error, sequences):
-    """the sequences that the lines of an error stand for, each behind the one before it among those that were handed in"""
+    """the sequences that the lines of an error print, each after the one before it among those that were supplied"""
     left, listed = list(sequences), []
     for line in error.lines:
         while left and printed_sequence(grammar, text, at, left[0]) != line:
             del left[0]
-        want(left, "sequences that were handed in, in their order", error)
+        expect(left, "sequences that were supplied, in their order", error)
         listed.append(left.pop(0))
     return listed
 
 
 def printed_sequence(grammar, text, at, steps):
-    """the line of a sequence at a lexeme, without its number; none where it can't be taken"""
+    """the line of a sequence at a lexeme, without its number; none if it can't be taken"""
     parts, joins = [], False
     for kind, *name in steps:
         if kind == "insert":
@@ -83,7 +83,7 @@ def printed_sequence(grammar, text, at, steps):
 
 
 def after(at, steps):
-    """the lexeme behind a sequence"""
+    """the lexeme after a sequence"""
     return at + sum(kind != "insert" for kind, *_ in steps)
 
 
@@ -105,7 +105,7 @@ def kept(text, begin, end):
 
 
 def first_repaired(text, steps):
-    """the lexemes by the first sequence of each of these errors, up to the last of them, and the lexeme behind it"""
+    """the lexemes by the first sequence of each of these errors, up to the last of them, and the lexeme after it"""
     given, past = [], 0
     for at, listed in steps:
         given += kept(text, past, at) + repaired(text, at, listed[0])
@@ -114,33 +114,33 @@ def first_repaired(text, steps):
 
 
 def see_tree(grammar, text, errors, tree, steps):
-    """sees that there is a tree exactly where each error lists a sequence, and that it is one over the lexemes as first repaired"""
+    """sees that there is a tree exactly if each error lists a sequence, and that it is one over the lexemes as first repaired"""
     is_mended = all(listed for _, listed in steps)
-    want((tree is not None) == is_mended, "a tree exactly where each error lists a sequence", (errors, tree))
+    expect((tree is not None) == is_mended, "a tree exactly if each error lists a sequence", (errors, tree))
     if tree is None:
         return
     given, past = first_repaired(text, steps)
     given += kept(text, past, len(text.tokens))
-    want(answers.leaves(tree) == given, given, answers.leaves(tree))
-    want(tree.name == grammar.start_rule() and tree.text is None, "the start rule at the root", tree)
-    want(answers.misfit(grammar, tree) is None, "children that an alternative has", answers.misfit(grammar, tree))
+    expect(answers.leaves(tree) == given, given, answers.leaves(tree))
+    expect(tree.name == grammar.start_rule() and tree.text is None, "the start rule at the root", tree)
+    expect(answers.misfit(grammar, tree) is None, "children that an alternative has", answers.misfit(grammar, tree))
 
 
 def see_unrepaired(case, text, errors):
     """sees that without repairs there is the first error alone"""
     found, tree = parsed(case, text.text)
-    want([error.place for error in found] == [error.place for error in errors[:1]], errors[:1], found)
-    want(not any(error.lines for error in found), "no sequences without repairs", found)
+    expect([error.place for error in found] == [error.place for error in errors[:1]], errors[:1], found)
+    expect(not any(error.lines for error in found), "no sequences without repairs", found)
 
 
 def see_more_shifts(case, text, sequences, errors, shifts):
-    """sees that where more lexemes have to follow, the first error lists some of the same sequences, in order"""
+    """sees that if more lexemes have to follow, the first error lists some of the same sequences, in order"""
     if not errors or case.chance.random() < 0.7:
         return
     found, _ = parsed(case, text.text, repairs=repairs_of(case.chance, sequences), shifts=shifts + case.chance.randint(1, 3))
-    want(found and found[0].place == errors[0].place, errors[0], found)
+    expect(found and found[0].place == errors[0].place, errors[0], found)
     left = iter(errors[0].lines)
-    want(all(line in left for line in found[0].lines), errors[0].lines, found[0].lines)
+    expect(all(line in left for line in found[0].lines), errors[0].lines, found[0].lines)
 
 
 def repairs(case):
@@ -169,10 +169,10 @@ def see_repair(case, seen, number, sequence, works):
     text, at = seen.text, seen.steps[number][0]
     given, past = first_repaired(text, seen.steps[:number])
     given += kept(text, past, at) + repaired(text, at, sequence)
-    behind = kept(text, after(at, sequence), len(text.tokens))
-    mended = text_by(case.chance, seen.language, [name for name, _ in given + behind])
+    rest = kept(text, after(at, sequence), len(text.tokens))
+    mended = text_by(case.chance, seen.language, [name for name, _ in given + rest])
     found, _ = parsed(case, mended.text)
     end = len(given) + seen.shifts
     is_early = any(mended.places().get(error.place, -1) < end for error in found)
-    wanted = f"{'no' if works else 'an'} error before lexeme {end} of the text with {sequence} in place at error {number}"
-    want(is_early != works, wanted, found)
+    expected = f"{'no' if works else 'an'} error before lexeme {end} of the text with {sequence} in place at error {number}"
+    expect(is_early != works, expected, found)

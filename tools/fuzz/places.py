@@ -1,5 +1,5 @@
-"""Places: a fault of a grammar's text is told where it is."""
-from case import want
+"""Places: a fault of a grammar's text is reported where it is."""
+from case import expect
 from grammars import Piece, any_grammar, joined, quoted, spaced, text_of, token_word, words_of
 from texts import spoiled
 
@@ -43,7 +43,7 @@ def cut_text(case, grammar):
 
 
 def is_whole(pieces):
-    """whether the words end where a text may"""
+    """whether the words end where a text may end"""
     words = [piece.text for piece in pieces if piece.kind in ("sign", "name", "quoted")]
     return "%%" in words and words[-1] in (";", "%%")
 
@@ -127,4 +127,4 @@ def any_change(case, grammar):
 
 def see_fault(case, text, fault):
     answer = case.run("check", case.file("g.y", text), "3")
-    want((answer.status, answer.err.decode()) == (2, f"lrpar: grammar: {fault}\n"), fault, answer.err)
+    expect((answer.status, answer.err.decode()) == (2, f"lrpar: grammar: {fault}\n"), fault, answer.err)

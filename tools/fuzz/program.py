@@ -88,7 +88,7 @@ def written(stream):
 
 
 def complaint(words, files, answer):
-    """what is wrong with an answer, whatever the words and the files (paths and their bytes, or nothing where they can't be read)"""
+    """what is wrong with an answer, whatever the words and the files (paths and their bytes, or nothing if they can't be read)"""
     if answer.seconds > SECONDS or answer.memory > MEMORY or answer.status not in (0, 1, 2):
         return f"status {answer.status} after {answer.seconds:.1f} seconds with {answer.memory} bytes"
     try:

@@ -1,5 +1,5 @@
 """The properties, and which one the case of a number has. Each makes a case by chance, runs the program on it, and raises `Wrong`
-where the answer isn't what is wanted."""
+if the answer isn't what is expected."""
 from checks import check
 from ends import ends
 from leaves import leaves, repairs

@@ -23,8 +23,8 @@ from properties import PLAN, PROPERTIES
 
 HERE = os.path.dirname(os.path.abspath(__file__))
 PROGRAM = os.path.join(HERE, "..", "..", "crates", "lrpar_program", "out", "lrpar_program")
-# How often the number of cases so far is told, in seconds.
-TOLD = 60
+# How often the number of cases so far is printed, in seconds.
+PRINTED = 60
 
 
 def words_of(arguments):
@@ -40,7 +40,7 @@ def words_of(arguments):
 
 
 def numbers(first, cases, only):
-    """the numbers of the cases, which have the one property where one is named"""
+    """the numbers of the cases, which have the one property if one is named"""
     while cases:
         if only in (None, PLAN[first % len(PLAN)]):
             yield first
@@ -65,18 +65,18 @@ class Worker:
             PROPERTIES[name](case)
             return None
         except Wrong as wrong:
-            told = f"wanted: {wrong.wanted}\ncame: {wrong.came}\n"
+            report = f"expected: {wrong.expected}\ncame: {wrong.came}\n"
         except Exception:
-            told = f"the script failed:\n{traceback.format_exc()}"
-        keep_case(os.path.join(self.keep, f"{self.seed}-{number}"), case, f"property {name}, seed {self.seed}, case {number}\n{told}")
-        return f"failed: case {number}, {name}: {told}"
+            report = f"the script failed:\n{traceback.format_exc()}"
+        keep_case(os.path.join(self.keep, f"{self.seed}-{number}"), case, f"property {name}, seed {self.seed}, case {number}\n{report}")
+        return f"failed: case {number}, {name}: {report}"
 
 
-def keep_case(folder, case, told):
-    """writes what was wanted and what came, and each run with its files, its answer, and a script that makes it again"""
+def keep_case(folder, case, report):
+    """writes what was expected and what came, and each run with its files, its answer, and a script that makes it again"""
     shutil.rmtree(folder, ignore_errors=True)
     os.makedirs(folder)
-    write(folder, "told", told.encode(errors="backslashreplace"))
+    write(folder, "report", report.encode(errors="backslashreplace"))
     for number, (words, given, files, answer) in enumerate(case.runs, 1):
         place = os.path.join(folder, f"run-{number}")
         os.mkdir(place)
@@ -108,16 +108,16 @@ def failed(number):
 
 
 def run_cases(words, shared):
-    """runs the cases, tells of each that fails, and gives their number"""
-    failures, begun, told = 0, time.monotonic(), time.monotonic()
+    """runs the cases, reports each that fails, and gives their number"""
+    failures, begun, printed = 0, time.monotonic(), time.monotonic()
     with multiprocessing.Pool(words.jobs, begin, shared) as pool:
         for done, wrong in enumerate(pool.imap(failed, numbers(words.first, words.cases, words.only), 20), 1):
             if wrong:
                 failures += 1
                 print(wrong, flush=True)
-            if time.monotonic() - told > TOLD:
-                told = time.monotonic()
-                print(f"{done} cases so far, {done / (told - begun):.0f} a second", flush=True)
+            if time.monotonic() - printed > PRINTED:
+                printed = time.monotonic()
+                print(f"{done} cases so far, {done / (printed - begun):.0f} a second", flush=True)
     return failures
 
 

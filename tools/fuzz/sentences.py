@@ -1,5 +1,5 @@
 """Sentences: of a complete grammar each parses to its only tree."""
-from case import parsed, want
+from case import parsed, expect
 from checks import checked
 from grammars import any_grammar, ladder_grammar, layered_grammar, leading_grammar, random_grammar, text_of
 from known import list_with_marks, sum_by_demo, value_by_calc
@@ -32,8 +32,8 @@ def sentences_of(case, language):
             return
         text = text_by(chance, language, leaves_of(tree))
         answer = case.tree(text.text)
-        wanted = printed_tree(tree, language.characters)
-        want(answer.status == 0 and answer.out.decode() == wanted, wanted, answer.out.decode())
+        expected = printed_tree(tree, language.characters)
+        expect(answer.status == 0 and answer.out.decode() == expected, expected, answer.out.decode())
         if language.characters:
             see_changed(case, language, text)
 
@@ -42,7 +42,7 @@ def see_no_sentence(case, language):
     """sees that a grammar without sentences takes no text"""
     text = text_by(case.chance, language, any_tokens(case.chance, language.grammar))
     errors, tree = parsed(case, text.text)
-    want(errors and tree is None, "an error of each text of a grammar without sentences", tree)
+    expect(errors and tree is None, "an error of each text of a grammar without sentences", tree)
 
 
 def see_changed(case, language, text):
@@ -54,10 +54,10 @@ def see_changed(case, language, text):
     tokens, at = changed(chance, text.tokens, list(language.characters))
     other = text_by(chance, language, tokens)
     errors, tree = parsed(case, other.text)
-    want(len(errors) <= 1 and (tree is None) == bool(errors), "one error or a tree", errors)
+    expect(len(errors) <= 1 and (tree is None) == bool(errors), "one error or a tree", errors)
     for error in errors:
         found = other.places().get(error.place, -1)
-        want(error.kind == "Parsing" and found >= at and not error.lines, f"an error at lexeme {at} or later", error)
+        expect(error.kind == "Parsing" and found >= at and not error.lines, f"an error at lexeme {at} or later", error)
     if tree is not None:
         see_tree(language.grammar, other, errors, tree, [])
 
@@ -71,5 +71,5 @@ def see_unknown(case, text):
     spoilt = before + UNKNOWN + raw[byte:].decode()
     line, column = before.count("\n") + 1, len(before) - (before.rfind("\n") + 1) + 1
     answer = case.tree(spoilt)
-    wanted = f"Lexing error at line {line} column {column}.\n"
-    want((answer.status, answer.out.decode()) == (1, wanted), wanted, answer.out.decode())
+    expected = f"Lexing error at line {line} column {column}.\n"
+    expect((answer.status, answer.out.decode()) == (1, expected), expected, answer.out.decode())

@@ -96,7 +96,7 @@ def text_by(chance, language, tokens):
 
 
 def derivation(chance, grammar, most=40):
-    """a random tree of the start rule, (rule, children) and tokens; none where it derives no list of tokens"""
+    """a random tree of the start rule, (rule, children) and tokens; none if it derives no list of tokens"""
     least = heights(grammar)
     start = grammar.start_rule()
     if start not in least:

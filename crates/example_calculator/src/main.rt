@@ -1,5 +1,5 @@
-//! A calculator. It reads lines from standard input, and prints the value of each, or that it has none, behind its errors with their
-//! repairs.
+//! A calculator. It reads lines from standard input, and prints for each its errors with their repairs, and then its value, or that it
+//! has none.
 #![tactic(auto)]
 
 ghost use Rattle.std.specs.Prelude.{◌↔◌, IfOk, IsTrue};
@@ -26,7 +26,7 @@ const LEXER: &str = r"
     \) ')'
     [ \t\r]+ ;";
 
-/// The values of a line: a number, or nothing where it is too large, or was put in by a repair.
+/// The values of a line: a number, or nothing if it is too large, or a repair inserted it.
 #[derive(Drop)]
 struct Calculation<'a> {
     line: &'a str,
@@ -78,8 +78,8 @@ fn main(rt: HostRuntime) -> Result<(), Failed> {
     let text = io::read_to_string(rt.alloc(), rt.stdin())?;
     let calc = language_of(rt.alloc(), GRAMMAR, LEXER)?;
     for line in text.as_str().split_terminator('\n') {
-        let told = calculated(rt.alloc(), &calc, line)?;
-        print!(rt; "{told}")?;
+        let out = calculated(rt.alloc(), &calc, line)?;
+        print!(rt; "{out}")?;
     }
     Ok(())
 }
@@ -89,11 +89,11 @@ fn calculated<'a>(alloc: Global, calc: &'a Language, line: &'a str) -> Result<St
     let lexer = RuleLexer::new(alloc, &calc.rules, line)?;
     let parser = RTParserBuilder::new(&calc.data).recoverer(CpctPlus::new(10_000));
     let (value, errors) = parser.parse_actions(alloc, &lexer, &Calculation { line }, &())?;
-    let mut told = String::new(alloc);
-    push_errors(&mut told, alloc, calc.data.grm(), &lexer, line, &errors)?;
+    let mut out = String::new(alloc);
+    push_errors(&mut out, alloc, calc.data.grm(), &lexer, line, &errors)?;
     match value.unwrap_or(None) {
-        Some(number) => writeln!(told, "{line} = {number}")?,
-        None => writeln!(told, "{line} has no value")?,
+        Some(number) => writeln!(out, "{line} = {number}")?,
+        None => writeln!(out, "{line} has no value")?,
     }
-    Ok(told)
+    Ok(out)
 }

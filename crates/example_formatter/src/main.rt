@@ -1,5 +1,5 @@
-//! A formatter of settings. It reads them from standard input, and prints one a line, with one space at each side of `=`; or, where the text
-//! has errors, these.
+//! A formatter of settings. It reads them from standard input, and prints one a line, with one space at each side of `=`; or the errors of
+//! the text, if it has any.
 #![tactic(auto)]
 
 use example_language::{Failed, Language, language_of, push_errors};
@@ -22,8 +22,8 @@ const LEXER: &str = r#"
 fn main(rt: HostRuntime) -> Result<(), Failed> {
     let text = io::read_to_string(rt.alloc(), rt.stdin())?;
     let settings = language_of(rt.alloc(), GRAMMAR, LEXER)?;
-    let shown = formatted(rt.alloc(), &settings, text.as_str())?;
-    print!(rt; "{shown}")?;
+    let out = formatted(rt.alloc(), &settings, text.as_str())?;
+    print!(rt; "{out}")?;
     Ok(())
 }
 
@@ -31,25 +31,18 @@ fn main(rt: HostRuntime) -> Result<(), Failed> {
 fn formatted<'a>(alloc: Global, settings: &'a Language, text: &'a str) -> Result<String, Failed> {
     let lexer = RuleLexer::new(alloc, &settings.rules, text)?;
     let errors = RTParserBuilder::new(&settings.data).parse_noaction(alloc, &lexer)?;
-    let mut shown = String::new(alloc);
+    let mut out = String::new(alloc);
     if errors.is_empty() {
-        push_settings(&mut shown, alloc, &lexer, text)?;
+        push_settings(&mut out, alloc, &lexer, text)?;
     } else {
-        push_errors(
-            &mut shown,
-            alloc,
-            settings.data.grm(),
-            &lexer,
-            text,
-            &errors,
-        )?;
+        push_errors(&mut out, alloc, settings.data.grm(), &lexer, text, &errors)?;
     }
-    Ok(shown)
+    Ok(out)
 }
 
 // Adds the settings of a text that has no error.
 fn push_settings(
-    shown: &mut String,
+    out: &mut String,
     alloc: Global,
     lexer: &RuleLexer<'_, '_>,
     text: &str,
@@ -60,9 +53,9 @@ fn push_settings(
         };
         let span = lexeme.span();
         match text.get(span.start()..span.end()).unwrap_or("") {
-            "=" => shown.push_str(" = ")?,
-            ";" => shown.push_str(";\n")?,
-            word => shown.push_str(word)?,
+            "=" => out.push_str(" = ")?,
+            ";" => out.push_str(";\n")?,
+            word => out.push_str(word)?,
         }
     }
     Ok(())

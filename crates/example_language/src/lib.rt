@@ -47,9 +47,9 @@ pub fn language_of(alloc: Global, grammar: &str, lexer: &str) -> Result<Language
     Ok(Language { data, rules })
 }
 
-/// Adds the text of each error, with a line feed behind it.
+/// Adds the text of each error, with a line feed after it.
 pub fn push_errors<'a, L: NonStreamingLexer<'a, TokenTypes>>(
-    told: &mut String,
+    out: &mut String,
     alloc: Global,
     grm: &'a YaccGrammar<u32>,
     lexer: &L,
@@ -60,8 +60,8 @@ pub fn push_errors<'a, L: NonStreamingLexer<'a, TokenTypes>>(
 {
     for error in errors {
         if error.fits(text) {
-            told.push_str(&error.pp(alloc, lexer, |token| Some(grm.epp_of(token)))?)?;
-            told.push('\n')?;
+            out.push_str(&error.pp(alloc, lexer, |token| Some(grm.epp_of(token)))?)?;
+            out.push('\n')?;
         }
     }
     Ok(())

@@ -1,4 +1,4 @@
-//! A linter of JSON. It reads a text from standard input, and tells its errors, with repairs; keys that stand twice in an object; and how
+//! A linter of JSON. It reads a text from standard input, and prints its errors, with repairs; keys that are twice in an object; and how
 //! deep the text nests.
 #![tactic(auto)]
 
@@ -33,25 +33,25 @@ const LEXER: &str = r#"
 fn main(rt: HostRuntime) -> Result<(), Failed> {
     let text = io::read_to_string(rt.alloc(), rt.stdin())?;
     let json = language_of(rt.alloc(), GRAMMAR, LEXER)?;
-    let told = linted(rt.alloc(), &json, text.as_str())?;
-    print!(rt; "{told}")?;
+    let out = linted(rt.alloc(), &json, text.as_str())?;
+    print!(rt; "{out}")?;
     Ok(())
 }
 
-// What is told of the text: its errors, and what its lexemes say.
+// The report about the text: its errors, and what its lexemes show.
 fn linted<'a>(alloc: Global, json: &'a Language, text: &'a str) -> Result<String, Failed> {
     let lexer = RuleLexer::new(alloc, &json.rules, text)?;
     let parser = RTParserBuilder::new(&json.data).recoverer(CpctPlus::new(10_000));
     let errors = parser.parse_noaction(alloc, &lexer)?;
-    let mut told = String::new(alloc);
-    push_errors(&mut told, alloc, json.data.grm(), &lexer, text, &errors)?;
-    push_lints(&mut told, alloc, &lexer, text)?;
-    Ok(told)
+    let mut out = String::new(alloc);
+    push_errors(&mut out, alloc, json.data.grm(), &lexer, text, &errors)?;
+    push_lints(&mut out, alloc, &lexer, text)?;
+    Ok(out)
 }
 
-// Adds a line for each key that stands in its object already, and one for how deep the lexemes nest.
+// Adds a line for each key that its object already has, and one for how deep the lexemes nest.
 fn push_lints<'a>(
-    told: &mut String,
+    out: &mut String,
     alloc: Global,
     lexer: &RuleLexer<'_, 'a>,
     text: &'a str,
@@ -75,20 +75,20 @@ fn push_lints<'a>(
             }
             ":" => {
                 let key = text.get(last.0..last.1).unwrap_or("");
-                push_key(told, &mut open, key, line)?;
+                push_key(out, &mut open, key, line)?;
             }
             _ => {}
         }
         deepest = deepest.max(open.len());
         last = (span.start(), span.end());
     }
-    writeln!(told, "depth {deepest}")?;
+    writeln!(out, "depth {deepest}")?;
     Ok(())
 }
 
-// Keeps a key in the innermost object. Adds a line, where that has it already.
+// Keeps a key in the innermost object. Adds a line if the object already has it.
 fn push_key<'a>(
-    told: &mut String,
+    out: &mut String,
     open: &mut Vec<BTreeSet<&'a str>>,
     key: &'a str,
     line: usize,
@@ -97,7 +97,7 @@ fn push_key<'a>(
         return Ok(());
     };
     if !keys.insert(key)? {
-        writeln!(told, "line {line}: {key} stands in this object already")?;
+        writeln!(out, "line {line}: {key} stands in this object already")?;
     }
     open.push(keys)?;
     Ok(())

@@ -1,4 +1,4 @@
--- The way up from an item of a state, by places on the way that led to the state, to the start.
+-- The path up from an item of a state, by places on the access path of the state, to the start.
 use Rattle.std.proofs.Common.{◌≡◌, ◌≢◌, ◌<◌, ◌≤◌, ◌+◌, ◌-◌, ◌*◌, ◌==◌, ◌⊎◌, ◌∙◌, if◌then◌else◌, refl, sym, ap, subst, inl, inr, arith, ℕ, Bool, true, false, List, [], ◌∷◌, ◌++◌, drop, length, map, reverse, take}
 use Rattle.std.proofs.lemmas.List.{append_assoc, append-nil, length-reverse, length-take-le, reverse-append, reverse-reverse, length-drop, length-map, take-append-drop, take-take, take_all, drop_at, get_or_past}
 use Rattle.std.proofs.lemmas.Bool.{eq-eqb, ne_eqb}
@@ -8,11 +8,11 @@ use Rattle.lrpar_table_items.specs.ItemSets.{IsReachedBy}
 use Rattle.lrpar_table_build.proofs.ReachedLemmas.{reached_at_end, start_item_at_start}
 use Rattle.lrpar_table_sentences.specs.Moves.{MoveOf, Makes}
 use Rattle.lrpar_table_sentences.specs.AccessStrings.{StepOf, symbols_in}
-use Rattle.lrpar_conflict_derivations.specs.Climbing.{HasClimbed, HasFinished, HasItemFor, IsWay, LeadsUp, UpOf, place_at, state_before}
-use Rattle.lrpar_conflict_derivations.proofs.ClimbLemmas.{comes_from, up_back, up_end, up_then}
+use Rattle.lrpar_conflict_derivations.specs.Completion.{LeadsToKernel, HasFinished, HasItemFor, IsAccessPath, LeadsUp, UpOf, place_at, state_before}
+use Rattle.lrpar_conflict_derivations.proofs.CompletionLemmas.{comes_from, up_back, up_end, up_then}
 
--- moves were put behind the others that lead from production p with its dot at k up to production q with its dot at the front; the
--- first one makes the node of p, where it isn't q still
+-- moves were appended that lead from production p with its dot at k up to production q with its dot at the front; the first one reduces p,
+-- unless it is still q
 pub record IsFinishing (g : Grammar) (token : ℕ) (symbols : List GrammarSymbol) (p k : ℕ) (asked : Bool) (old new : List MoveOf)
     (front : List GrammarSymbol) (q : ℕ) (further : Bool) : Type 0 where
   pub done : List MoveOf
@@ -20,7 +20,7 @@ pub record IsFinishing (g : Grammar) (token : ℕ) (symbols : List GrammarSymbol
   pub leads : LeadsUp g token (place_at symbols p k asked) done (place_at front q 0 further)
   pub begins : ((done ≡ []) × (q ≡ p)) ⊎ ((rest : List MoveOf) × (done ≡ Makes p ∷ rest))
 
--- the symbols on the way before a place, from its end
+-- the symbols of the path before a place, from its end
 reversed_front : (symbols : List GrammarSymbol) (i k : ℕ) → k ≤ i → i ≤ length symbols
     → drop k (reverse (take i symbols)) ≡ reverse (take (i - k) symbols)
 reversed_front symbols i k low within =
@@ -33,7 +33,7 @@ reversed_front symbols i k low within =
     let turned : reverse all ≡ reverse (drop (i - k) all) ++ reverse (take (i - k) all) = ap reverse (sym parts) ∙ reverse-append (take (i - k) all) (drop (i - k) all) in
     ap (drop k) turned ∙ drop_at (reverse (drop (i - k) all)) (reverse (take (i - k) all)) k back ∙ ap reverse front
 
-module _ (g : Grammar) (well : IsWellFormed g) (graph : Graph) (steps : List StepOf) (last : ℕ) (way : IsWay g graph steps last) (token : ℕ) where
+module _ (g : Grammar) (well : IsWellFormed g) (graph : Graph) (steps : List StepOf) (last : ℕ) (access_path : IsAccessPath g graph steps last) (token : ℕ) where
   -- from an item of the state at a place back to where its dot is at the front
   pub record IsBack (i p k : ℕ) (asked : Bool) : Type 0 where
     pub within : k ≤ i
@@ -45,7 +45,7 @@ module _ (g : Grammar) (well : IsWellFormed g) (graph : Graph) (steps : List Ste
       let symbols = symbols_in steps in
       let long : length symbols ≡ length steps = length-map steps (λ (x : StepOf). x.symbol) in
       let path = reverse (take i symbols) in
-      let reached : IsReachedBy g path (item_at p k item.0) = (way i inside (item_at p k item.0)).0 item.1 in
+      let reached : IsReachedBy g path (item_at p k item.0) = (access_path i inside (item_at p k item.0)).0 item.1 in
       let from = comes_from g well k path p item.0 reached in
       let len : length path ≡ i = length-reverse (take i symbols) ∙ length-take-le i symbols (omega (arith, inside, long)) in
       let low : k ≤ i = let within = from.within in omega (arith, within, len) in
@@ -56,7 +56,7 @@ module _ (g : Grammar) (well : IsWellFormed g) (graph : Graph) (steps : List Ste
       let first : reverse path ≡ take i symbols = reverse-reverse (take i symbols) in
       let second : reverse (drop k path) ≡ take (i - k) symbols = ap reverse after ∙ reverse-reverse (take (i - k) symbols) in record {
         within = low;
-        item = (item.0, (way (i - k) (omega (arith, inside, low)) (item_at p 0 item.0)).1 there, item.2);
+        item = (item.0, (access_path (i - k) (omega (arith, inside, low)) (item_at p 0 item.0)).1 there, item.2);
         leads =
             subst (λ (w : List GrammarSymbol). LeadsUp g token (place_at w p k asked) [] (place_at (take (i - k) symbols) p 0 asked)) first
             (subst (λ (w : List GrammarSymbol). LeadsUp g token (place_at (reverse path) p k asked) [] (place_at w p 0 asked)) second up);
@@ -79,51 +79,51 @@ module _ (g : Grammar) (well : IsWellFormed g) (graph : Graph) (steps : List Ste
   -- one state further up
   pub finishing_more : (p k : ℕ) (asked : Bool) (old middle new : List MoveOf) (i q : ℕ) (further : Bool) (up : UpOf)
       → IsFinishing g token (symbols_in steps) p k asked old middle (take i (symbols_in steps)) q further
-      → HasClimbed g token q further middle new up → IsBack i up.prod up.dot up.asked
+      → LeadsToKernel g token q further middle new up → IsBack i up.prod up.dot up.asked
       → IsFinishing g token (symbols_in steps) p k asked old new (take (i - up.dot) (symbols_in steps)) up.prod up.asked
-  finishing_more p k asked old middle new i q further up way_up climbed back =
+  finishing_more p k asked old middle new i q further up path_up to_kernel back =
       let symbols = symbols_in steps in
       let start = place_at symbols p k asked in
       let here = place_at (take i symbols) q 0 further in
       let there = place_at (take i symbols) up.prod up.dot up.asked in
       let end = place_at (take (i - up.dot) symbols) up.prod 0 up.asked in
-      let node = Makes q ∷ climbed.more in
-      let two = up_then g token here there end node [] (climbed.leads (take i symbols)) back.leads in
+      let node = Makes q ∷ to_kernel.more in
+      let two = up_then g token here there end node [] (to_kernel.leads (take i symbols)) back.leads in
       let own : LeadsUp g token here node end = subst (λ (ms : List MoveOf). LeadsUp g token here ms end) (append-nil node) two in
-      let all = up_then g token start here end way_up.done node way_up.leads own in
-      let moves : new ≡ old ++ (way_up.done ++ node) = climbed.moves ∙ ap (λ ms. ms ++ node) way_up.moves ∙ append_assoc old way_up.done node in record {
-        done = way_up.done ++ node;
+      let all = up_then g token start here end path_up.done node path_up.leads own in
+      let moves : new ≡ old ++ (path_up.done ++ node) = to_kernel.moves ∙ ap (λ ms. ms ++ node) path_up.moves ∙ append_assoc old path_up.done node in record {
+        done = path_up.done ++ node;
         moves = moves;
         leads = all;
         begins =
-            elim way_up.begins [
-              | inl first ↦ inr (climbed.more, ap (λ ms. ms ++ node) first.0 ∙ ap (λ (n : ℕ). Makes n ∷ climbed.more) first.1)
+            elim path_up.begins [
+              | inl first ↦ inr (to_kernel.more, ap (λ ms. ms ++ node) first.0 ∙ ap (λ (n : ℕ). Makes n ∷ to_kernel.more) first.1)
               | inr later ↦ inr (later.0 ++ node, ap (λ ms. ms ++ node) later.1)
             ];
       }
 
-  -- at the start production the tree is finished
+  -- at the start production the tree is complete
   pub finished : (p k : ℕ) (asked : Bool) (old new : List MoveOf) (i q : ℕ) (further : Bool) → i ≤ length steps → q ≡ start_prod g
       → HasItemFor graph (state_before steps last i) token q 0 further
       → IsFinishing g token (symbols_in steps) p k asked old new (take i (symbols_in steps)) q further
       → HasFinished g token (symbols_in steps) p k asked old new
-  finished p k asked old new i q further inside is item way_up =
+  finished p k asked old new i q further inside is item path_up =
       let symbols = symbols_in steps in
       let path = reverse (take i symbols) in
       let at_start : HasItem graph (state_before steps last i) q 0 item.0 = item.1 in
-      let reached : IsReachedBy g path (item_at q 0 item.0) = (way i inside (item_at q 0 item.0)).0 at_start in
+      let reached : IsReachedBy g path (item_at q 0 item.0) = (access_path i inside (item_at q 0 item.0)).0 at_start in
       let none : path ≡ [] = start_item_at_start g well path (item_at q 0 item.0) reached is refl in
       let front : take i symbols ≡ [] = sym (reverse-reverse (take i symbols)) ∙ ap reverse none in
       let end : item.0 ≡ end_token g = reached_at_end g well path (item_at q 0 item.0) reached is in
-      let leads : LeadsUp g token (place_at symbols p k asked) way_up.done (place_at [] (start_prod g) 0 further) =
-      subst (λ (n : ℕ). LeadsUp g token (place_at symbols p k asked) way_up.done (place_at [] n 0 further)) is
-      (subst (λ (w : List GrammarSymbol). LeadsUp g token (place_at symbols p k asked) way_up.done (place_at w q 0 further)) front way_up.leads) in record {
-        later = way_up.done;
-        moves = way_up.moves;
-        finishes = up_end g token well (place_at symbols p k asked) way_up.done further (λ asks. sym (item.2 asks) ∙ end) leads;
-        makes =
+      let leads : LeadsUp g token (place_at symbols p k asked) path_up.done (place_at [] (start_prod g) 0 further) =
+      subst (λ (n : ℕ). LeadsUp g token (place_at symbols p k asked) path_up.done (place_at [] n 0 further)) is
+      (subst (λ (w : List GrammarSymbol). LeadsUp g token (place_at symbols p k asked) path_up.done (place_at w q 0 further)) front path_up.leads) in record {
+        later = path_up.done;
+        moves = path_up.moves;
+        finishes = up_end g token well (place_at symbols p k asked) path_up.done further (λ asks. sym (item.2 asks) ∙ end) leads;
+        reduces =
             λ listed.
-            elim way_up.begins [
+            elim path_up.begins [
               | inl first ↦ absurd (listed (sym first.1 ∙ is))
               | inr later ↦ later
             ];
@@ -134,7 +134,7 @@ pub state_last : (steps : List StepOf) (last : ℕ) → state_before steps last 
 state_last steps last =
     let long = length-map steps (λ (x : StepOf). x.from) in get_or_past (map (λ (x : StepOf). x.from) steps) (length steps) last (omega (arith, long))
 
--- a number is one where another one isn't the start production's, and at most one anyhow
+-- a number is one if another one isn't the start production's, and at most one in any case
 other_one : (q s : ℕ) → q ≢ s → ◌≡◌ {A = ℕ} (if q == s then 0 else 1) 1
 other_one q s apart = ap {B = ℕ} (λ (b : Bool). if b then 0 else 1) (ne_eqb q s apart)
 

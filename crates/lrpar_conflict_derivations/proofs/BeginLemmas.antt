@@ -1,4 +1,4 @@
--- A walk over symbols, which asks whether they begin with a token: where it stands, all begin with it where those that are left do.
+-- A walk over symbols, which asks whether they begin with a token: at each step, all begin with it if those that are left do.
 use Rattle.std.proofs.Common.{◌≡◌, ◌<◌, ◌≤◌, ◌==◌, ◌||◌, ◌&&◌, ◌∙◌, refl, sym, ap, ℕ, Bool, true, false, List, ◌∷◌, drop, nat_lt}
 use Rattle.std.proofs.lemmas.Bool.{lt-ltb, le-ltb}
 use Rattle.lrpar_grammar.specs.Grammar.{GrammarSymbol, Nonterminal, Terminal}
@@ -9,7 +9,7 @@ and_nothing : (b : Bool) → (b && false) ≡ false
 and_nothing true = refl
 and_nothing false = refl
 
--- the token isn't in the rule's set: the mark is in its place, or it is missing
+-- the token isn't in the rule's set: the dummy lookahead is in its place, or it is missing
 pub own_by_dummy : (t dummy : ℕ) (b : Bool) → dummy ≤ t → (nat_lt t dummy && b) ≡ false
 own_by_dummy t dummy b past = ap (λ x. x && b) (le-ltb t dummy past)
 

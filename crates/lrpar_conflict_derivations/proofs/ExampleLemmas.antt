@@ -1,4 +1,4 @@
--- Two readings that go on with two moves are an example.
+-- Two derivations that go on with two moves are a counterexample.
 use Rattle.std.proofs.Common.{◌≡◌, ◌≢◌, ◌<◌, ◌↔◌, ◌⊎◌, ◌∙◌, sym, ap, subst, inl, arith, ℕ, Bool, true, IsTrue, List, length}
 use Rattle.lrpar_grammar.specs.Grammar.{Grammar, IsWellFormed, prod_len, prods_len}
 use Rattle.lrpar_grammar.specs.Tree.{Forest, Tree, forest_leaves, leaves}
@@ -9,29 +9,29 @@ use Rattle.lrpar_table_sentences.specs.Texts.{AreTreesOf}
 use Rattle.lrpar_table_sentences.specs.AccessStrings.{StepOf, symbols_in}
 use Rattle.lrpar_conflict_derivations.specs.Example.{ExampleOf, IsExample, IsFront, IsLeastTo, IsShortestFront, IsTextTo}
 use Rattle.lrpar_conflict_derivations.specs.Derivation.{IsDerivation}
-use Rattle.lrpar_conflict_derivations.specs.Texts.{takes_in}
+use Rattle.lrpar_conflict_derivations.specs.Texts.{tokens_in}
 use Rattle.lrpar_conflict_derivations.proofs.LinkLemmas.{core_known}
 use Rattle.lrpar_conflict_derivations.proofs.DerivationLemmas.{derivations_differ}
-use Rattle.lrpar_conflict_derivations.proofs.TextLemmas.{takes_of_tree, takes_of_trees}
+use Rattle.lrpar_conflict_derivations.proofs.TextLemmas.{tokens_of_tree, tokens_of_trees}
 
--- the readings that begin with trees of the way's symbols
-abbrev pub Reads : Grammar → List StepOf → ℕ → List MoveOf → MoveOf → List MoveOf → Type 0
-Reads g steps token front next moves =
+-- the derivations that begin with trees of the path's symbols
+abbrev pub Derives : Grammar → List StepOf → ℕ → List MoveOf → MoveOf → List MoveOf → Type 0
+Derives g steps token front next moves =
     (trees : Forest ℕ) → AreTreesOf g (symbols_in steps) trees → front ≡ forest_moves trees
     → (tree : Tree ℕ) × IsDerivation g (forest_leaves trees) token trees next moves tree
 
 pub example_done : (g : Grammar) (graph : Graph) (s token : ℕ) (steps : List StepOf) (front first second : List MoveOf) (one other : MoveOf) (x : ExampleOf)
-    → one ≢ other → IsFront g graph s steps front → Reads g steps token front one first → Reads g steps token front other second
-    → x.before ≡ takes_in front → x.first ≡ first → x.second ≡ second → IsTrue x.ambiguous ↔ (takes_in first ≡ takes_in second)
-    → IsTrue x.shortest ↔ IsLeastTo g graph s (takes_in front) → (IsTrue x.shortest) ⊎ (IsTrue x.ambiguous) → IsExample g graph s token one other x
-example_done g graph s token steps front first second one other x apart lead reads_one reads_other before_is first_is second_is same short unless =
+    → one ≢ other → IsFront g graph s steps front → Derives g steps token front one first → Derives g steps token front other second
+    → x.before ≡ tokens_in front → x.first ≡ first → x.second ≡ second → IsTrue x.ambiguous ↔ (tokens_in first ≡ tokens_in second)
+    → IsTrue x.shortest ↔ IsLeastTo g graph s (tokens_in front) → (IsTrue x.shortest) ⊎ (IsTrue x.ambiguous) → IsExample g graph s token one other x
+example_done g graph s token steps front first second one other x apart lead derives_one derives_other before_is first_is second_is same short unless =
     let trees = lead.trees in
     let fit = lead.text.fit in
-    let before : x.before ≡ forest_leaves trees = before_is ∙ ap takes_in lead.moves_are ∙ takes_of_trees trees in
-    let a = reads_one trees fit lead.moves_are in
-    let b = reads_other trees fit lead.moves_are in
-    let text_a : takes_in first ≡ leaves a.0 = ap takes_in a.1.moves_are ∙ takes_of_tree a.0 in
-    let text_b : takes_in second ≡ leaves b.0 = ap takes_in b.1.moves_are ∙ takes_of_tree b.0 in record {
+    let before : x.before ≡ forest_leaves trees = before_is ∙ ap tokens_in lead.moves_are ∙ tokens_of_trees trees in
+    let a = derives_one trees fit lead.moves_are in
+    let b = derives_other trees fit lead.moves_are in
+    let text_a : tokens_in first ≡ leaves a.0 = ap tokens_in a.1.moves_are ∙ tokens_of_tree a.0 in
+    let text_b : tokens_in second ≡ leaves b.0 = ap tokens_in b.1.moves_are ∙ tokens_of_tree b.0 in record {
       symbols = symbols_in steps;
       trees = trees;
       before = subst (λ (w : List ℕ). IsTextTo g graph s w (symbols_in steps) trees) (sym before) lead.text;
@@ -49,25 +49,25 @@ example_done g graph s token steps front first second one other x apart lead rea
       ambiguous = (λ is. sym text_a ∙ same.0 is ∙ text_b, λ equal. same.1 (text_a ∙ equal ∙ sym text_b));
     }
 
--- the same by a shortest way
+-- the same by a shortest access path
 pub plain_done : (g : Grammar) (graph : Graph) (s token : ℕ) (steps : List StepOf) (front first second : List MoveOf) (one other : MoveOf) (x : ExampleOf)
-    → one ≢ other → IsShortestFront g graph s steps front → Reads g steps token front one first → Reads g steps token front other second
-    → x.before ≡ takes_in front → x.first ≡ first → x.second ≡ second → IsTrue x.ambiguous ↔ (takes_in first ≡ takes_in second) → x.shortest ≡ true
+    → one ≢ other → IsShortestFront g graph s steps front → Derives g steps token front one first → Derives g steps token front other second
+    → x.before ≡ tokens_in front → x.first ≡ first → x.second ≡ second → IsTrue x.ambiguous ↔ (tokens_in first ≡ tokens_in second) → x.shortest ≡ true
     → IsExample g graph s token one other x
-plain_done g graph s token steps front first second one other x apart lead reads_one reads_other before_is first_is second_is same short =
+plain_done g graph s token steps front first second one other x apart lead derives_one derives_other before_is first_is second_is same short =
     let is : IsTrue x.shortest = short in
-    example_done g graph s token steps front first second one other x apart lead.front reads_one reads_other before_is first_is second_is same
+    example_done g graph s token steps front first second one other x apart lead.front derives_one derives_other before_is first_is second_is same
     (λ _. lead.least, λ _. is) (inl is)
 
--- a way's text is a shortest one exactly where it has as many tokens as that of a shortest way
+-- a path's text is a shortest access string if and only if it has as many tokens as that of a shortest access path
 pub least_by : (g : Grammar) (graph : Graph) (s : ℕ) (steps short_steps : List StepOf) (front short : List MoveOf) (flag : Bool) → IsFront g graph s steps front
-    → IsShortestFront g graph s short_steps short → IsTrue flag ↔ (length (takes_in front) ≡ length (takes_in short))
-    → IsTrue flag ↔ IsLeastTo g graph s (takes_in front)
+    → IsShortestFront g graph s short_steps short → IsTrue flag ↔ (length (tokens_in front) ≡ length (tokens_in short))
+    → IsTrue flag ↔ IsLeastTo g graph s (tokens_in front)
 least_by g graph s steps short_steps front short flag lead least as_many =
-    let own : length (takes_in front) ≡ length (forest_leaves lead.trees) =
-    ap (λ (xs : List ℕ). length xs) (ap takes_in lead.moves_are ∙ takes_of_trees lead.trees) in
-    let few : length (takes_in short) ≡ length (forest_leaves least.front.trees) =
-    ap (λ (xs : List ℕ). length xs) (ap takes_in least.front.moves_are ∙ takes_of_trees least.front.trees) in (
+    let own : length (tokens_in front) ≡ length (forest_leaves lead.trees) =
+    ap (λ (xs : List ℕ). length xs) (ap tokens_in lead.moves_are ∙ tokens_of_trees lead.trees) in
+    let few : length (tokens_in short) ≡ length (forest_leaves least.front.trees) =
+    ap (λ (xs : List ℕ). length xs) (ap tokens_in least.front.moves_are ∙ tokens_of_trees least.front.trees) in (
       λ is path others to fit.
           let equal = as_many.0 is in
           let less = least.least path others to fit in omega (arith, equal, less),
@@ -76,7 +76,7 @@ least_by g graph s steps short_steps front short flag lead least as_many =
           let more = least.least (symbols_in steps) lead.trees lead.text.leads lead.text.fit in as_many.1 (omega (arith, own, few, less, more)),
     )
 
--- two productions that differ, and a node and a token
+-- two productions that differ, and a production and a token
 pub nodes_differ : (p q : ℕ) → p < q → Makes p ≢ Makes q
 nodes_differ p q less same = let equal : p ≡ q = cc in omega (arith, less, equal)
 

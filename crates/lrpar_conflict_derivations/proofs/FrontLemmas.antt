@@ -1,4 +1,4 @@
--- A shortest way to a state and shortest trees of its symbols are a shortest text that leads there.
+-- A shortest access path of a state and minimal sentences of its symbols are a shortest access string.
 use Rattle.std.proofs.Common.{◌≡◌, ◌<◌, ◌≤◌, ◌∙◌, refl, sym, ap, subst, inl, inr, arith, ℕ, List, [], ◌∷◌, All, None, Option, Some, length, map, min, option_map, reverse, slice_get, take}
 use Rattle.std.proofs.lemmas.Bool.{cases_lt}
 use Rattle.std.proofs.lemmas.List.{get_or_past, length-map, reverse-append, reverse-reverse, take_all}
@@ -15,14 +15,14 @@ use Rattle.lrpar_table_sentences.specs.Moves.{MoveOf, forest_moves}
 use Rattle.lrpar_table_sentences.specs.Reachable.{IsReachableRule, IsReachableSymbol, OnRight}
 use Rattle.lrpar_table_sentences.specs.Texts.{AreShortestTrees, AreTreesOf, HaveTrees, forest_width}
 use Rattle.lrpar_table_sentences.specs.AccessStrings.{IsPathTo, IsShortestPath, IsShortestAccessIfAny, StepOf, StepsLead, AccessOf, symbols_in, access_at}
-use Rattle.lrpar_conflict_derivations.specs.Climbing.{IsWay, state_before}
+use Rattle.lrpar_conflict_derivations.specs.Completion.{IsAccessPath, state_before}
 use Rattle.lrpar_conflict_derivations.specs.Example.{AreExamplesFor, ExamplesOf, IsFront, IsShortestFront}
 use Rattle.lrpar_conflict_derivations.proofs.PathLemmas.{state_reached}
 use Rattle.lrpar_table_sentences.proofs.AfterLemmas.{contains_at, have_trees, item_reached}
-use Rattle.lrpar_conflict_derivations.proofs.TextLemmas.{takes_of_trees, takes_short}
-use Rattle.lrpar_conflict_derivations.specs.Texts.{takes_in}
+use Rattle.lrpar_conflict_derivations.proofs.TextLemmas.{tokens_of_trees, tokens_short}
+use Rattle.lrpar_conflict_derivations.specs.Texts.{tokens_in}
 
--- what holds of each of a list holds of each of the list turned round
+-- what holds of each of a list holds of each of the list reversed
 All-reverse : {X : Type 0} (P : X → Type 0) (xs : List X) → All P xs → All P (reverse xs)
 All-reverse P [] all = All-nil P
 All-reverse {X} P (x ∷ xs) all =
@@ -30,7 +30,7 @@ All-reverse {X} P (x ∷ xs) all =
     subst (λ (ys : List X). All P ys) (sym (reverse-append (x ∷ []) xs)) turned
 
 module _ (g : Grammar) (well : IsWellFormed g) where
-  -- a symbol behind a dot of a rule that is reached is reached
+  -- a symbol after a dot of a reachable rule is reachable
   symbol_reached : (q j : ℕ) (s : GrammarSymbol) → slice_get (symbols_of g q) j ≡ Some s → IsReachableRule g (rule_of g q) → IsReachableSymbol g s
   symbol_reached q j (Terminal t) at reached = tt
   symbol_reached q j (Nonterminal r) at reached =
@@ -46,22 +46,22 @@ module _ (g : Grammar) (well : IsWellFormed g) where
       (path_reached path from.0 from.1))
 
 -- something is kept of a state to which trees lead
-some_by : (g : Grammar) (graph : Graph) (most s : ℕ) (way : Option AccessOf) → IsShortestAccessIfAny g graph most s (option_map (λ x. x.len) way)
-    → (symbols : List GrammarSymbol) → IsPathTo g graph s symbols → HaveTrees g symbols → (found : AccessOf) × (way ≡ Some found)
+some_by : (g : Grammar) (graph : Graph) (most s : ℕ) (access : Option AccessOf) → IsShortestAccessIfAny g graph most s (option_map (λ x. x.len) access)
+    → (symbols : List GrammarSymbol) → IsPathTo g graph s symbols → HaveTrees g symbols → (found : AccessOf) × (access ≡ Some found)
 some_by g graph most s None none symbols path trees = absurd (none symbols trees.0 path trees.1)
 some_by g graph most s (Some found) least symbols path trees = (found, refl)
 
 module _ (g : Grammar) (graph : Graph) (table : Table) (built : IsBuilt g graph table) (s : ℕ) where
-  -- steps that lead from the start are a way
-  pub way_by : IsClosed table → (steps : List StepOf) → StepsLead table table.start steps s → IsWay g graph steps s
-  way_by closed steps lead =
+  -- steps that lead from the start are an access path
+  pub access_path_by : IsClosed table → (steps : List StepOf) → StepsLead table table.start steps s → IsAccessPath g graph steps s
+  access_path_by closed steps lead =
       let start : IsPathTo g graph table.start [] =
       subst (λ (n : ℕ). AreSame (sets_of graph n) (IsReachedBy g [])) (sym built.resolved.start) built.canonical.start in
       state_reached g graph table built.resolved closed steps table.start s [] closed.start_within lead start
 
--- the symbols of a way lead to its last state
-pub way_leads : (g : Grammar) (graph : Graph) (s : ℕ) (steps : List StepOf) → IsWay g graph steps s → IsPathTo g graph s (symbols_in steps)
-way_leads g graph s steps way =
+-- the symbols of an access path lead to its last state
+pub path_leads : (g : Grammar) (graph : Graph) (s : ℕ) (steps : List StepOf) → IsAccessPath g graph steps s → IsPathTo g graph s (symbols_in steps)
+path_leads g graph s steps access_path =
     let froms = map (λ (x : StepOf). x.from) steps in
     let symbols = symbols_in steps in
     let long : length froms ≡ length steps = length-map steps (λ (x : StepOf). x.from) in
@@ -69,25 +69,25 @@ way_leads g graph s steps way =
     let last : state_before steps s (length steps) ≡ s = get_or_past froms (length steps) s (omega (arith, long)) in
     let whole : take (length steps) symbols ≡ symbols = take_all (length steps) symbols (omega (arith, all)) in
     subst (λ (n : ℕ). IsPathTo g graph n symbols) last
-    (subst (λ (w : List GrammarSymbol). IsPathTo g graph (state_before steps s (length steps)) w) whole (way (length steps) (omega arith)))
+    (subst (λ (w : List GrammarSymbol). IsPathTo g graph (state_before steps s (length steps)) w) whole (access_path (length steps) (omega arith)))
 
 -- steps that lead to the state, and moves of trees of their symbols
 pub front_by : (g : Grammar) (graph : Graph) (table : Table) → IsBuilt g graph table → IsClosed table → (s : ℕ) (steps : List StepOf)
     → StepsLead table table.start steps s → (trees : Forest ℕ) → AreTreesOf g (symbols_in steps) trees → (moves : List MoveOf) → moves ≡ forest_moves trees
     → IsFront g graph s steps moves
 front_by g graph table built closed s steps lead trees fit moves are =
-    let way = way_by g graph table built s closed steps lead in record {
-      way = way;
+    let access_path = access_path_by g graph table built s closed steps lead in record {
+      access_path = access_path;
       trees = trees;
-      text = record { leads = way_leads g graph s steps way; fit = fit; tokens = refl };
+      text = record { leads = path_leads g graph s steps access_path; fit = fit; tokens = refl };
       moves_are = are;
     }
 
 module _ (g : Grammar) (graph : Graph) (table : Table) (most : ℕ) (well : IsWellFormed g) (built : IsBuilt g graph table) (x : ExamplesOf)
     (made : AreExamplesFor g graph table most x) (s : ℕ) (low : s < graph_len graph) where
-  -- a way to the state is kept
-  pub some_way : (way : AccessOf) × (access_at x.access s ≡ Some way)
-  some_way =
+  -- an access path of the state is kept
+  pub some_access : (access : AccessOf) × (access_at x.access s ≡ Some access)
+  some_access =
       let reached = built.canonical.reached s low in
       let path = reached.0 in
       let item = built.canonical.some s low in
@@ -99,10 +99,10 @@ module _ (g : Grammar) (graph : Graph) (table : Table) (most : ℕ) (well : IsWe
 
   module _ (closed : IsClosed table) (steps : List StepOf) (path : IsShortestPath g graph table most s steps) where
     -- its symbols have trees
-    pub way_trees : HaveTrees g (symbols_in steps)
-    way_trees = let some = path.own.some in (some.0, some.1)
+    pub path_trees : HaveTrees g (symbols_in steps)
+    path_trees = let some = path.own.some in (some.0, some.1)
 
-    -- shortest ones have as few tokens as those of any other way
+    -- minimal ones have at most as many tokens as those of any other path
     no_shorter : (trees : Forest ℕ) → AreShortestTrees g (symbols_in steps) trees → forest_width trees ≤ most
         → (other : List GrammarSymbol) (others : Forest ℕ) → IsPathTo g graph s other → AreTreesOf g other others → forest_width trees ≤ forest_width others
     no_shorter trees least fits other others to fit =
@@ -117,9 +117,9 @@ module _ (g : Grammar) (graph : Graph) (table : Table) (most : ℕ) (well : IsWe
     pub front_done : (trees : Forest ℕ) → AreShortestTrees g (symbols_in steps) trees → (moves : List MoveOf) → moves ≡ forest_moves trees → length moves ≤ most
         → IsShortestFront g graph s steps moves
     front_done trees least moves are within =
-        let tokens : takes_in moves ≡ forest_leaves trees = ap takes_in are ∙ takes_of_trees trees in
-        let text : length (takes_in moves) ≡ forest_width trees = ap (λ (xs : List ℕ). length xs) tokens in
-        let short = takes_short moves in
+        let tokens : tokens_in moves ≡ forest_leaves trees = ap tokens_in are ∙ tokens_of_trees trees in
+        let text : length (tokens_in moves) ≡ forest_width trees = ap (λ (xs : List ℕ). length xs) tokens in
+        let short = tokens_short moves in
         let shorter = no_shorter trees least (omega (arith, text, short, within)) in record {
           front = front_by g graph table built closed s steps path.lead trees least.fit moves are;
           least = λ other others to fit. let less = shorter other others to fit in omega (arith, text, less);

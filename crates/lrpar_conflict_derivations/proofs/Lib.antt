@@ -1,6 +1,6 @@
 pub mod OkLemmas
 pub mod BeginLemmas
-pub mod ClimbLemmas
+pub mod CompletionLemmas
 pub mod DerivationLemmas
 pub mod MarkLemmas
 pub mod NoteLemmas
@@ -14,4 +14,4 @@ pub mod TextLemmas
 pub mod FrontLemmas
 pub mod ExampleLemmas
 pub mod ReplayLemmas
-pub mod ConfirmLemmas
+pub mod ValidationLemmas

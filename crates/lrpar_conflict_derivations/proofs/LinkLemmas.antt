@@ -1,5 +1,5 @@
--- Links of a state: those from items that aren't there by closure are put first, and then those from items of rules that are linked. Once
--- all is linked that comes with each of these, each item of the state that is there by closure has a link of its rule.
+-- Links of a state: those from kernel items come first, and then those from items of rules that have links. Once each of these has its
+-- links, each item that the state has by closure has a link of its rule.
 use Rattle.std.proofs.Common.{◌≡◌, ◌≢◌, ◌<◌, ◌≤◌, ◌+◌, ◌-◌, ◌⊎◌, ◌↔◌, ◌∙◌, refl, sym, ap, subst, inl, inr, arith, ℕ, zero, suc, Bool, true, false, IsTrue, List, [], ◌∷◌, ◌++◌, drop, length, map, Some, cond, slice_get, get_or}
 use mathlib.Core.Bool.{beq}
 use Rattle.std.specs.List.{Contains}
@@ -21,8 +21,8 @@ use Rattle.lrpar_table_first.proofs.GrowthLemmas.{prods_below}
 use Rattle.lrpar_table_items.specs.Canonical.{AreSame, IsCanonical, sets_of}
 use Rattle.lrpar_table_items.specs.ItemSets.{Adds, IsAdvanced, IsReachedBy, IsStartItem, Own}
 use Rattle.lrpar_table_build.proofs.ReachedLemmas.{closure_each, head_after, known_by_symbol, reached_items, symbol_listed}
-use Rattle.lrpar_conflict_derivations.specs.Links.{AreBegun, AreLinks, AreNoted, AreNotedOf, ArePut, HasLink, IsBegunItem, IsBegunLink, IsLink, IsLinkBelow, IsNotedCore, IsStep, LinkAll, LinkOf, PassesOn, link_at, link_of, links_of}
-use Rattle.lrpar_conflict_derivations.specs.declared.links.Link.{Link}
+use Rattle.lrpar_conflict_derivations.specs.ClosureLinks.{AreKernelItemsNoted, AreLinks, AreNoted, AreNotedOf, ArePut, HasLink, IsKernelItem, IsKernelLink, IsLink, IsLinkBelow, IsNotedCore, IsStep, LinkAll, LinkOf, PassesOn, link_at, link_of, links_of}
+use Rattle.lrpar_conflict_derivations.specs.declared.closure_links.Link.{Link}
 use Rattle.lrpar_conflict_derivations.proofs.MarkLemmas.{AreNoted-kept, link-append, put_then, put_weaker}
 
 -- the items of a state are of the grammar
@@ -33,7 +33,7 @@ core_known g well graph canonical s p k low has_core =
     let reached = canonical.reached s low in
     let known = reached_items g well reached.0 item ((reached.1 item).0 has_core.1) in (known.prod, known.dot)
 
--- a step, told by its own numbers
+-- a step, given by its own numbers
 pub own_step : (g : Grammar) (token q j : ℕ) (further : Bool) (above : ℕ) (x : LinkOf) → IsStep g token q j further above x
     → IsStep g token x.prod x.dot x.further x.above x
 own_step g token q j further above x step = record {
@@ -48,14 +48,14 @@ own_step g token q j further above x step = record {
   passes = subst (λ (b : Bool). PassesOn g token step.rest x.asked b) (sym step.further_is) step.passes;
 }
 
--- from an item that isn't there by closure it is such a link
-pub begun_link : (g : Grammar) (set : ItemOf → Type 0) (token q j : ℕ) (further : Bool) (above : ℕ) (x : LinkOf) → IsBegunItem g set token q j further
-    → IsStep g token q j further above x → IsBegunLink g set token x
+-- from a kernel item it is such a link
+pub begun_link : (g : Grammar) (set : ItemOf → Type 0) (token q j : ℕ) (further : Bool) (above : ℕ) (x : LinkOf) → IsKernelItem g set token q j further
+    → IsStep g token q j further above x → IsKernelLink g set token x
 begun_link g set token q j further above x begun step = (
   own_step g token q j further above x step,
-  subst (λ (b : Bool). IsBegunItem g set token x.prod x.dot b) (sym step.further_is)
-      (subst (λ (n : ℕ). IsBegunItem g set token x.prod n further) (sym step.dot)
-      (subst (λ (n : ℕ). IsBegunItem g set token n j further) (sym step.prod) begun)),
+  subst (λ (b : Bool). IsKernelItem g set token x.prod x.dot b) (sym step.further_is)
+      (subst (λ (n : ℕ). IsKernelItem g set token x.prod n further) (sym step.dot)
+      (subst (λ (n : ℕ). IsKernelItem g set token n j further) (sym step.prod) begun)),
 )
 
 -- the productions of a rule are listed
@@ -101,7 +101,7 @@ listed_of_rule r n (y ∷ ys) p has_one =
           later (subst (λ (b : Bool). Contains (cond b (n ∷ prods_from r (n + 1) ys) (prods_from r (n + 1) ys)) p) (ne_eqb y.rule r other) has_one)
     ]
 
--- what is left of symbols below a mark
+-- the symbols that are left, each below the dummy lookahead
 pub AreBelow-drop : (dummy n : ℕ) (w : List GrammarSymbol) → AreBelow dummy w → AreBelow dummy (drop n w)
 AreBelow-drop dummy zero w below = below
 AreBelow-drop dummy (suc n) [] below = tt
@@ -127,9 +127,9 @@ module _ (g : Grammar) where
       let at : slice_get g.prods p ≡ Some found.1 = subst (λ (n : ℕ). slice_get g.prods n ≡ Some found.1) (sym same) found.3 in
       (slice_get_within g.prods p found.1 at, ap (λ o. option_map_or (λ (x : Production). x.rule) o 0) at ∙ found.4)
 
--- links that are put behind others
+-- links that are appended
 module _ (g : Grammar) (set : ItemOf → Type 0) (token : ℕ) where
-  -- a link of a longer list is one of the shorter one, or of what was put behind it
+  -- a link of a longer list is one of the shorter one, or of those appended to it
   put_cases : (Good : LinkOf → Type 0) (old new : List LinkOf) (put : ArePut Good old new) (i : ℕ) → i < length new
       → ((i < length old) × (link_at new i ≡ link_at old i)) ⊎ ((length old ≤ i) × Good (link_at new i))
   put_cases Good old new put i low =
@@ -150,7 +150,7 @@ module _ (g : Grammar) (set : ItemOf → Type 0) (token : ℕ) where
   link_kept Good old new put i low same link = record {
     step = subst (λ (x : LinkOf). IsStep g token x.prod x.dot x.further x.above x) (sym same) link.step;
     from =
-        subst (λ (x : LinkOf). IsBegunItem g set token x.prod x.dot x.further
+        subst (λ (x : LinkOf). IsKernelItem g set token x.prod x.dot x.further
         ⊎ ((x.dot ≡ 0) × (x.prod ≢ start_prod g) × (x.above < i) × ((link_at new x.above).rule ≡ rule_of g x.prod) × ((link_at new x.above).asked ≡ x.further)))
         (sym same)
         (elim link.from [
@@ -163,14 +163,14 @@ module _ (g : Grammar) (set : ItemOf → Type 0) (token : ℕ) where
         ]);
   }
 
-  pub links_begun : (old new : List LinkOf) → AreLinks g set token old → ArePut (IsBegunLink g set token) old new → AreLinks g set token new
+  pub links_begun : (old new : List LinkOf) → AreLinks g set token old → ArePut (IsKernelLink g set token) old new → AreLinks g set token new
   links_begun old new links put i low =
-      elim (put_cases (IsBegunLink g set token) old new put i low) [
-        | inl before ↦ link_kept (IsBegunLink g set token) old new put i before.0 before.1 (links i before.0)
+      elim (put_cases (IsKernelLink g set token) old new put i low) [
+        | inl before ↦ link_kept (IsKernelLink g set token) old new put i before.0 before.1 (links i before.0)
         | inr beyond ↦ record { step = beyond.1.0; from = inl beyond.1.1 }
       ]
 
-  -- a symbol behind a dot is no added rule
+  -- a symbol after a dot is no added rule
   pub rule_within : IsWellFormed g → (x : LinkOf) → IsStep g token x.prod x.dot x.further x.above x → (0 < x.rule) × (x.rule < rules_len g)
   rule_within well x step =
       symbol_listed g well x.prod x.dot (Nonterminal x.rule) (head_after (symbols_of g x.prod) x.dot (Nonterminal x.rule) step.rest step.before)
@@ -204,8 +204,7 @@ module _ (g : Grammar) (set : ItemOf → Type 0) (token : ℕ) where
             }
       ]
 
--- once all is linked that comes with items which aren't there by closure, and with the productions of rules that are linked, each item has
--- a link
+-- once the kernel items have their links, and so have the productions of rules with links, each item has a link
 module _ (g : Grammar) (well : IsWellFormed g) (token : ℕ) (links : List LinkOf)
     (each : (i : ℕ) → i < length links → AreNotedOf g token links (link_at links i).rule (link_at links i).asked) where
   -- what is known of an item of the closure
@@ -243,8 +242,8 @@ module _ (g : Grammar) (well : IsWellFormed g) (token : ℕ) (links : List LinkO
             (subst (λ (b : Bool). AreNoted g token links y.prod 0 b) has_one.3 noted),
       )
 
-  -- of items that aren't there by closure it is known
-  begun_linked : (set : ItemOf → Type 0) → AreBegun g set token links → (y : ItemOf) → set y → (0 < y.dot) ⊎ (y.prod ≡ start_prod g) → IsLinked y
+  -- it is known of kernel items
+  begun_linked : (set : ItemOf → Type 0) → AreKernelItemsNoted g set token links → (y : ItemOf) → set y → (0 < y.dot) ⊎ (y.prod ≡ start_prod g) → IsLinked y
   begun_linked set begun y has_item at asked own = (
     λ front listed.
         elim at [
@@ -254,7 +253,7 @@ module _ (g : Grammar) (well : IsWellFormed g) (token : ℕ) (links : List LinkO
     begun y.prod y.dot asked (record { begun = at; lookahead = y.token; item = has_item; own = own }),
   )
 
-  reached_linked : (set : ItemOf → Type 0) (path : List GrammarSymbol) → AreSame set (IsReachedBy g path) → AreBegun g set token links
+  reached_linked : (set : ItemOf → Type 0) (path : List GrammarSymbol) → AreSame set (IsReachedBy g path) → AreKernelItemsNoted g set token links
       → (y : ItemOf) → IsReachedBy g path y → IsLinked y
   reached_linked set [] same begun =
       closure_each g IsLinked added_linked (IsStartItem g)
@@ -265,39 +264,39 @@ module _ (g : Grammar) (well : IsWellFormed g) (token : ℕ) (links : List LinkO
       let moved : y.dot ≡ from.0.dot + 1 = ap (λ (x : ItemOf). x.dot) from.3 in
       begun_linked set begun y ((same y).1 (Own y from)) (inl (omega (arith, moved))))
 
-  pub all_linked : (set : ItemOf → Type 0) (path : List GrammarSymbol) → AreSame set (IsReachedBy g path) → AreBegun g set token links
+  pub all_linked : (set : ItemOf → Type 0) (path : List GrammarSymbol) → AreSame set (IsReachedBy g path) → AreKernelItemsNoted g set token links
       → LinkAll g set token links
   all_linked set path same begun y asked has_item front listed own =
       (reached_linked set path same begun y ((same y).0 has_item) asked own).0 front listed
 
--- what comes with one core of a state is linked: with any lookahead, and with the token, where it is one of the core's
+-- what comes by closure with one core of a state is linked: for any lookahead, and for the token, if it is one of the core's
 module _ (g : Grammar) (graph : Graph) (s token q j : ℕ) (old middle new : List LinkOf) (has_core : HasCore graph s q j)
     (at : (0 < j) ⊎ (q ≡ start_prod g)) (first : ArePut (IsStep g token q j false 0) old middle) where
-  -- links with any lookahead are from an item
-  any_link : (x : LinkOf) → IsStep g token q j false 0 x → IsBegunLink g (sets_of graph s) token x
+  -- links for any lookahead are from an item
+  any_link : (x : LinkOf) → IsStep g token q j false 0 x → IsKernelLink g (sets_of graph s) token x
   any_link x step =
       begun_link g (sets_of graph s) token q j false 0 x
       (record { begun = at; lookahead = has_core.0; item = has_core.1; own = λ is. absurd (false≢true is) }) step
 
-  pub put_any : ArePut (IsBegunLink g (sets_of graph s) token) old middle
-  put_any = put_weaker (IsStep g token q j false 0) (IsBegunLink g (sets_of graph s) token) old middle any_link first
+  pub put_any : ArePut (IsKernelLink g (sets_of graph s) token) old middle
+  put_any = put_weaker (IsStep g token q j false 0) (IsKernelLink g (sets_of graph s) token) old middle any_link first
 
-  pub put_both : HasItem graph s q j token → ArePut (IsStep g token q j true 0) middle new → ArePut (IsBegunLink g (sets_of graph s) token) old new
+  pub put_both : HasItem graph s q j token → ArePut (IsStep g token q j true 0) middle new → ArePut (IsKernelLink g (sets_of graph s) token) old new
   put_both has_item second =
-      let asked_link : (x : LinkOf) → IsStep g token q j true 0 x → IsBegunLink g (sets_of graph s) token x =
+      let asked_link : (x : LinkOf) → IsStep g token q j true 0 x → IsKernelLink g (sets_of graph s) token x =
       λ x step.
       begun_link g (sets_of graph s) token q j true 0 x
       (record { begun = at; lookahead = token; item = has_item; own = λ is. refl }) step in
-      put_then (IsBegunLink g (sets_of graph s) token) old middle new put_any
-      (put_weaker (IsStep g token q j true 0) (IsBegunLink g (sets_of graph s) token) middle new asked_link second)
+      put_then (IsKernelLink g (sets_of graph s) token) old middle new put_any
+      (put_weaker (IsStep g token q j true 0) (IsKernelLink g (sets_of graph s) token) middle new asked_link second)
 
   pub noted_all : ArePut (IsStep g token q j true 0) middle new → AreNoted g token middle q j false → AreNoted g token new q j true → (asked : Bool)
-      → IsBegunItem g (sets_of graph s) token q j asked → AreNoted g token new q j asked
+      → IsKernelItem g (sets_of graph s) token q j asked → AreNoted g token new q j asked
   noted_all second any asked true begun = asked
   noted_all second any asked false begun = AreNoted-kept g token (IsStep g token q j true 0) middle new second q j false any
 
   pub noted_alone : ¬ (HasItem graph s q j token) → AreNoted g token middle q j false → (asked : Bool)
-      → IsBegunItem g (sets_of graph s) token q j asked → AreNoted g token middle q j asked
+      → IsKernelItem g (sets_of graph s) token q j asked → AreNoted g token middle q j asked
   noted_alone none any true begun = absurd (none (subst (λ (n : ℕ). HasItem graph s q j n) (begun.own refl) begun.item))
   noted_alone none any false begun = any
 
@@ -339,15 +338,15 @@ module _ (g : Grammar) (set : ItemOf → Type 0) (token : ℕ) (Good : LinkOf �
   pub notedOf_kept : (r : ℕ) (asked : Bool) → AreNotedOf g token old r asked → AreNotedOf g token new r asked
   notedOf_kept r asked noted p low is = AreNoted-kept g token Good old new put p 0 asked (noted p low is)
 
--- once the cores that aren't there by closure are noted, and the start item, all such items are
+-- once the kernel cores and the start item have their links, all such items have
 pub begun_noted : (g : Grammar) (graph : Graph) (s token : ℕ) (links : List LinkOf) (cores : List (ℕ × ℕ))
     → ((p k : ℕ) → (HasCore graph s p k × (0 < k)) ↔ Contains cores (p, k)) → IsNotedCore g (sets_of graph s) token links (start_prod g) 0
-    → ((q j : ℕ) → Contains cores (q, j) → IsNotedCore g (sets_of graph s) token links q j) → AreBegun g (sets_of graph s) token links
+    → ((q j : ℕ) → Contains cores (q, j) → IsNotedCore g (sets_of graph s) token links q j) → AreKernelItemsNoted g (sets_of graph s) token links
 begun_noted g graph s token links cores all start each q zero asked begun =
     elim begun.begun [
       | inl moved ↦ absurd (omega arith)
       | inr last ↦ subst (λ (n : ℕ). AreNoted g token links n 0 asked) (sym last)
-          (start asked (subst (λ (n : ℕ). IsBegunItem g (sets_of graph s) token n 0 asked) last begun))
+          (start asked (subst (λ (n : ℕ). IsKernelItem g (sets_of graph s) token n 0 asked) last begun))
     ]
 begun_noted g graph s token links cores all start each q (suc j) asked begun =
     each q (suc j) ((all q (suc j)).0 ((begun.lookahead, begun.item), omega arith)) asked begun
@@ -369,7 +368,7 @@ below_link g token at r p asked x low is step = (
   ap (rule_of g) step.prod ∙ is,
 )
 
--- a list that something is put behind gets no shorter
+-- a list that something is appended to gets no shorter
 pub length_put : (Good : LinkOf → Type 0) (old new : List LinkOf) → ArePut Good old new → length old ≤ length new
 length_put Good old new put =
     let long : length new ≡ length old + length put.more = ap (λ (xs : List LinkOf). length xs) put.put ∙ length-append old put.more in omega arith
@@ -383,7 +382,7 @@ link_is {S} index links i link low is =
     ∙ get_or_default (links_of index links) i (link_of index link) _ within
 
 module _ (g : Grammar) (set : ItemOf → Type 0) (token : ℕ) (Good : LinkOf → Type 0) (old new : List LinkOf) (put : ArePut Good old new) where
-  pub begun_kept : AreBegun g set token old → AreBegun g set token new
+  pub begun_kept : AreKernelItemsNoted g set token old → AreKernelItemsNoted g set token new
   begun_kept begun q j = noted_kept g set token Good old new put q j (begun q j)
 
   -- what comes with one link more is linked
@@ -402,7 +401,7 @@ module _ (g : Grammar) (set : ItemOf → Type 0) (token : ℕ) (Good : LinkOf �
             (subst (λ (y : LinkOf). AreNotedOf g token new y.rule y.asked) (is ∙ sym (same at inside)) fresh)
       ]
 
--- two truth values that are told apart aren't equal
+-- two truth values of which only one is true aren't equal
 pub differ : (a b : Bool) → beq a b ≡ false → a ≡ b → ⊥
 differ true true apart same = false≢true (sym apart)
 differ false false apart same = false≢true (sym apart)

@@ -1,4 +1,4 @@
--- Links put behind others, and the marks of their rules.
+-- Links that are appended, and the marks of their rules.
 use Rattle.std.proofs.Common.{◌≡◌, ◌<◌, ◌+◌, ◌⊎◌, ◌∙◌, refl, sym, ap, subst, inl, inr, arith, ℕ, Bool, true, false, cond, not, IsTrue, List, [], ◌∷◌, ◌++◌, length, set, get_or}
 use Rattle.std.specs.Bool.{OnTrue}
 use Rattle.std.proofs.lemmas.Bool.{OnTrue_from, cases_eq, false≢true}
@@ -7,7 +7,7 @@ use Rattle.std.proofs.lemmas.List.Sums.{count_by-le-length, sum_by-set}
 use Rattle.std.proofs.lemmas.List.Elements.{All-append, All-cons, All-nil, All-weaker}
 use Rattle.lrpar_grammar.specs.Grammar.{Grammar}
 use Rattle.lrpar_grammar.specs.Tokens.{has, missing}
-use Rattle.lrpar_conflict_derivations.specs.Links.{AreMarks, AreNoted, ArePut, HasLink, LinkOf, link_at}
+use Rattle.lrpar_conflict_derivations.specs.ClosureLinks.{AreMarks, AreNoted, ArePut, HasLink, LinkOf, link_at}
 
 -- one mark more is set
 pub missing-set : (bits : List Bool) (i : ℕ) → i < length bits → has bits i ≡ false → missing (set bits i true) + 1 ≡ missing bits

@@ -1,11 +1,11 @@
--- What is linked of a rule that stands behind a dot.
+-- The links of a rule that comes after a dot.
 use Rattle.std.proofs.Common.{◌≡◌, ◌∙◌, sym, ap, subst, ℕ, Bool, true, false, IsTrue, List, ◌∷◌, All, drop}
 use Rattle.std.proofs.lemmas.Bool.{false≢true}
 use Rattle.lrpar_grammar.specs.Grammar.{Grammar, GrammarSymbol, IsWellFormed, Nonterminal, rules_len, symbols_of, tokens_len}
 use Rattle.lrpar_table_first.specs.FirstRows.{AreFirsts, IsSymbolBelow, begins, dummy_lookahead}
 use Rattle.lrpar_table_first.proofs.BeforeLemmas.{begins_is, symbols_below}
 use Rattle.lrpar_table_items.proofs.SpreadLemmas.{same_rest, same_rule}
-use Rattle.lrpar_conflict_derivations.specs.Links.{AreNoted, HasLink, IsStep, LinkOf, PassesOn}
+use Rattle.lrpar_conflict_derivations.specs.ClosureLinks.{AreNoted, HasLink, IsStep, LinkOf, PassesOn}
 
 -- a link that was made so is a step
 pub step_by : (g : Grammar) (token q j r : ℕ) (w : List GrammarSymbol) (asked further : Bool) (above : ℕ) (x : LinkOf)
@@ -21,14 +21,14 @@ step_by g token q j r w asked further above x is before passes = record {
   passes = subst (λ (b : Bool). PassesOn g token w b further) (sym (ap (λ (y : LinkOf). y.asked) is)) passes;
 }
 
--- where no rule stands behind the dot, nothing is to be linked
+-- if no rule comes after the dot, nothing is to be linked
 pub noted_nothing : (g : Grammar) (token q j : ℕ) (links : List LinkOf) (further : Bool)
     → ((r : ℕ) (w : List GrammarSymbol) → drop j (symbols_of g q) ≡ Nonterminal r ∷ w → ⊥) → AreNoted g token links q j further
 noted_nothing g token q j links further none r w asked before passes = absurd (none r w before)
 
 module _ (g : Grammar) (well : IsWellFormed g) (rows : List (List Bool)) (firsts : AreFirsts g rows) (token q j r : ℕ) (w : List GrammarSymbol)
     (before : drop j (symbols_of g q) ≡ Nonterminal r ∷ w) (listed : All (IsSymbolBelow (rules_len g) (tokens_len g)) w) (links : List LinkOf) where
-  -- w begins with a token where it does by the sets
+  -- w begins with a token if it does by the FIRST sets
   pub passes_by : (t dummy : ℕ) (b : Bool) → dummy ≡ dummy_lookahead g → b ≡ begins dummy rows w t → b ≡ true → IsTrue (begins (dummy_lookahead g) rows w t)
   passes_by t dummy b marked is true_is = sym (ap (λ (n : ℕ). begins n rows w t) marked) ∙ sym is ∙ true_is
 
@@ -39,11 +39,11 @@ module _ (g : Grammar) (well : IsWellFormed g) (rows : List (List Bool)) (firsts
   first_by t dummy b marked is true_is =
       (begins_is g well rows firsts w (symbols_below (rules_len g) (tokens_len g) w listed) t).0 (passes_by t dummy b marked is true_is)
 
-  -- the token is asked for on, where w begins with it
+  -- the token is asked for on, if w begins with it
   pub passes_token : (t dummy : ℕ) (b : Bool) → t ≡ token → dummy ≡ dummy_lookahead g → b ≡ begins dummy rows w t → b ≡ true → PassesOn g token w true false
   passes_token t dummy b same marked is true_is = subst (λ (n : ℕ). PassesOn g n w true false) same (first_by t dummy b marked is true_is)
 
-  -- and further up, where w derives nothing
+  -- and further up, if w derives nothing
   pub passes_through : (dummy : ℕ) (b : Bool) → dummy ≡ dummy_lookahead g → b ≡ begins dummy rows w dummy → b ≡ true → PassesOn g token w true true
   passes_through dummy b marked is true_is =
       subst (λ (n : ℕ). PassesOn g n w true false) marked (first_by dummy dummy b marked is true_is)
@@ -60,7 +60,7 @@ module _ (g : Grammar) (well : IsWellFormed g) (rows : List (List Bool)) (firsts
       let passed = (begins_is g well rows firsts w free t).1 (subst (λ (u : List GrammarSymbol). PassesOn g t u true false) same passes) in
       false≢true (sym none ∙ passed)
 
-  -- all is linked: where the token is asked for further up
+  -- all is linked: if the token is asked for further up
   noted_further : (asked : Bool) → HasLink links true r → (s : ℕ) (v : List GrammarSymbol) → drop j (symbols_of g q) ≡ Nonterminal s ∷ v
       → PassesOn g token v asked true → HasLink links asked s
   noted_further true has_one s v also passes = own_link s v true also has_one
@@ -81,7 +81,7 @@ module _ (g : Grammar) (well : IsWellFormed g) (rows : List (List Bool)) (firsts
       let none = subst (λ (n : ℕ). begins (dummy_lookahead g) rows w n ≡ false) marked (fails_by dummy dummy b marked by false_is) in
       stopped_further asked none s v also (subst (λ (c : Bool). PassesOn g token v asked c) is passes)
 
-  -- and where it isn't
+  -- and if it isn't
   both_here : (asked : Bool) → HasLink links false r → HasLink links true r → (s : ℕ) (v : List GrammarSymbol)
       → drop j (symbols_of g q) ≡ Nonterminal s ∷ v → HasLink links asked s
   both_here true any_one asked_one s v also = own_link s v true also asked_one

@@ -1,4 +1,4 @@
--- What a call did hands on what follows of it.
+-- From what a call ensures, what follows of it.
 use Rattle.std.proofs.Common.{Option, Some, None, Result, Ok, Err, IfOk, IfSome, OnOk}
 
 pub OnOk-then : {T E : Type 0} (r : Result T E) (P Q : Type 0) → (P → Q) → OnOk r P → OnOk r Q

@@ -1,4 +1,4 @@
--- The states on the way to a state, and by which symbols each is reached.
+-- The states of an access path, and the symbols by which each is reached.
 use Rattle.std.proofs.Common.{◌≡◌, ◌<◌, ◌≤◌, ◌∙◌, refl, sym, ap, subst, inl, inr, arith, ℕ, zero, suc, List, [], ◌∷◌, ◌++◌, None, Some, get_or, length, map, reverse, take}
 use Rattle.std.proofs.lemmas.Bool.{cases_lt}
 use Rattle.std.proofs.lemmas.List.{append_assoc, append-nil, get_or-map, get_or_past, length-map, reverse-append}
@@ -13,10 +13,10 @@ use Rattle.lrpar_table_build.proofs.DecidedLemmas.{Accepting, Failing, IsActing,
 use Rattle.lrpar_table_build.proofs.SetLemmas.{next_more}
 use Rattle.lrpar_table_sentences.specs.AccessStrings.{IsPathTo, StepOf, StepsLead, step_of, steps_of, symbols_in}
 use Rattle.lrpar_table_sentences.specs.declared.transitions.Step.{Step}
-use Rattle.lrpar_conflict_derivations.specs.Climbing.{state_before}
+use Rattle.lrpar_conflict_derivations.specs.Completion.{state_before}
 
 module _ (g : Grammar) (graph : Graph) (table : Table) (resolved : IsCanonicalTable g graph table) where
-  -- what the table does is what the set wants, in range, and nothing out of range
+  -- the table's action is the one that the item set calls for, in range, and nothing out of range
   acts_in : (s t : ℕ) → IsActing g graph s table t
   acts_in s t =
       elim (cases_lt s (states_len table)) [
@@ -71,7 +71,7 @@ within_by : (table : Table) → IsClosed table → (s : ℕ) (x : GrammarSymbol)
 within_by table closed s (Terminal t) next goes = closed.shifts_within s t next goes
 within_by table closed s (Nonterminal r) next goes = closed.gotos_within s r next goes
 
--- each state on the way is reached by the symbols before it
+-- each state of an access path is reached by the symbols before it
 pub state_reached : (g : Grammar) (graph : Graph) (table : Table) → IsCanonicalTable g graph table → IsClosed table → (steps : List StepOf) (s last : ℕ)
     (front : List GrammarSymbol) → s < states_len table → StepsLead table s steps last → IsPathTo g graph s front
     → (i : ℕ) → i ≤ length steps → IsPathTo g graph (state_before steps last i) (front ++ take i (symbols_in steps))

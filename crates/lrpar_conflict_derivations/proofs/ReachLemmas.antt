@@ -1,5 +1,5 @@
--- The rules that links of a state are of are reached from the start; and where each rule that is reached has a tree, what stands behind
--- a dot has trees that begin with each token with which it can.
+-- The rules of a state's links are reachable; and if each reachable rule has a tree, the symbols after a dot have trees that begin with
+-- each token with which they can.
 use Rattle.std.proofs.Common.{◌≡◌, ◌<◌, ◌+◌, ◌∙◌, refl, sym, subst, inl, inr, arith, ℕ, zero, suc, List, [], ◌∷◌, ◌++◌, All, drop, length, Some, slice_get}
 use Rattle.std.proofs.lemmas.List.Elements.{All-append, All-head, All-tail}
 use Rattle.lrpar_grammar.specs.Grammar.{Grammar, GrammarSymbol, IsWellFormed, Nonterminal, Terminal, prods_len, rule_of, symbols_of}
@@ -13,10 +13,10 @@ use Rattle.lrpar_table_items.specs.ItemSets.{IsReachedBy}
 use Rattle.lrpar_table_sentences.specs.Reachable.{EachReachableHasTree, IsReachableRule, IsReachableSymbol}
 use Rattle.lrpar_table_sentences.specs.Texts.{AreTreesOf, BeginWith, HaveTrees}
 use Rattle.lrpar_table_sentences.proofs.AfterLemmas.{after_reached, drop_at_get, have_trees, item_reached, prod_reached, rest_reached}
-use Rattle.lrpar_conflict_derivations.specs.Links.{AreLinks, LinkOf, link_at}
+use Rattle.lrpar_conflict_derivations.specs.ClosureLinks.{AreLinks, LinkOf, link_at}
 
 module _ (g : Grammar) (well : IsWellFormed g) where
-  -- the production of each link is one of a rule that is reached
+  -- the production of each link is one of a reachable rule
   pub links_reached : (set : ItemOf → Type 0) (path : List GrammarSymbol) → AreSame set (IsReachedBy g path) → (token : ℕ) (links : List LinkOf)
       → AreLinks g set token links → (n i : ℕ) → i < n → i < length links → IsReachableRule g (rule_of g (link_at links i).prod)
   links_reached set path same token links are zero i low within = absurd (omega arith)
@@ -34,7 +34,7 @@ module _ (g : Grammar) (well : IsWellFormed g) where
       ]
 
 module _ (g : Grammar) (each : EachReachableHasTree g) where
-  -- trees with a node in front, of those that fit its production's symbols and others
+  -- trees with a node at the front, of those that fit its production's symbols and others
   node_in_front : (p : ℕ) (w : List GrammarSymbol) (trees : Forest ℕ) → p < prods_len g → AreTreesOf g (symbols_of g p ++ w) trees
       → (others : Forest ℕ) × AreTreesOf g (Nonterminal (rule_of g p) ∷ w) others × (forest_leaves others ≡ forest_leaves trees)
   node_in_front p w trees known fit =
@@ -74,7 +74,7 @@ module _ (g : Grammar) (each : EachReachableHasTree g) where
         let node = node_in_front p v more.0 known more.1 in
         (node.0, subst (λ (n : ℕ). AreTreesOf g (Nonterminal n ∷ v) node.0) by node.1, node.2 ∙ more.2)
 
--- what stands behind a symbol of an item of a state has trees
+-- the symbols after a symbol of an item of a state have trees
 pub core_rest : (g : Grammar) → IsWellFormed g → EachReachableHasTree g → (graph : Graph) → IsCanonical g graph → (s p k : ℕ) (x : GrammarSymbol)
     → s < graph_len graph → HasCore graph s p k → slice_get (symbols_of g p) k ≡ Some x → HaveTrees g (drop (k + 1) (symbols_of g p))
 core_rest g well each graph canonical s p k x low has_core at =

@@ -9,7 +9,7 @@ use Rattle.lrpar_grammar.proofs.ForestLemmas.{joined, joined_fits, splits}
 use Rattle.lrpar_table_sentences.specs.Moves.{Makes, MoveOf, Takes, forest_moves, moves_of}
 use Rattle.lrpar_table_sentences.specs.Texts.{AreTreesOf}
 use Rattle.lrpar_conflict_derivations.specs.Replay.{AreOfTree, Replays}
-use Rattle.lrpar_conflict_derivations.proofs.ClimbLemmas.{joined_moves, one_tree}
+use Rattle.lrpar_conflict_derivations.proofs.CompletionLemmas.{joined_moves, one_tree}
 
 -- the moves so far made trees of the symbols
 pub record HasMade (g : Grammar) (symbols : List GrammarSymbol) (moves : List MoveOf) : Type 0 where
@@ -53,7 +53,7 @@ pub symbol_at : {S : Type 0} (index : S → ℕ) (symbols : List (Symbol S)) (i 
     → symbol ≡ get_or symbols i symbol → get_or (map (symbol_of index) symbols) i d ≡ symbol_of index symbol
 symbol_at index symbols i symbol d low is = get_or-map (symbol_of index) symbols i symbol d low ∙ ap (symbol_of index) (sym is)
 
--- where the top of a stack is the symbols of a production
+-- if the top of a stack is the symbols of a production
 pub made_rule : {S : Type 0} (index : S → ℕ) (g : Grammar) (p from : ℕ) (stack rest new : List (Symbol S)) (top : Symbol S) (r : ℕ) → p < prods_len g
     → map (symbol_of index) (take (length stack - from) (drop from stack)) ≡ symbols_of g p → rest ≡ take from stack → new ≡ rest ++ top ∷ []
     → symbol_of index top ≡ Nonterminal r → r ≡ rule_of g p → Replays g (Makes p) (map (symbol_of index) stack) (map (symbol_of index) new)

@@ -1,4 +1,4 @@
--- Trees of what stands behind a link's rule.
+-- Trees of the symbols after a link's rule.
 use Rattle.std.proofs.Common.{◌≡◌, ◌<◌, ◌+◌, ◌-◌, ◌⊎◌, ◌∙◌, refl, sym, ap, subst, inl, inr, arith, ℕ, zero, suc, Bool, true, false, List, [], ◌∷◌, ◌++◌, All, drop, length, map, take}
 use Rattle.std.proofs.lemmas.Bool.{false≢true}
 use Rattle.std.proofs.lemmas.List.{nil_from_length, take_rest}
@@ -11,10 +11,10 @@ use Rattle.lrpar_table_build.proofs.ReachedLemmas.{head_after, known_by_symbol}
 use Rattle.lrpar_table_sentences.specs.Moves.{MoveOf, forest_moves}
 use Rattle.lrpar_table_sentences.specs.Reachable.{EachReachableHasTree, IsReachableRule, IsReachableSymbol}
 use Rattle.lrpar_table_sentences.specs.Texts.{AreShortestTrees, AreTreesOf, BeginWith, CanBeginWith, HaveTrees}
-use Rattle.lrpar_conflict_derivations.specs.Climbing.{HasRest, IsNextIf}
-use Rattle.lrpar_conflict_derivations.specs.Links.{IsStep, LinkOf, PassesOn}
+use Rattle.lrpar_conflict_derivations.specs.Completion.{HasRest, IsNextIf}
+use Rattle.lrpar_conflict_derivations.specs.ClosureLinks.{IsStep, LinkOf, PassesOn}
 use Rattle.lrpar_table_sentences.proofs.AfterLemmas.{drop_at_get, have_trees, rest_reached}
-use Rattle.lrpar_conflict_derivations.proofs.ClimbLemmas.{any_ahead, begin_ahead, through_ahead}
+use Rattle.lrpar_conflict_derivations.proofs.CompletionLemmas.{any_ahead, begin_ahead, through_ahead}
 use Rattle.lrpar_conflict_derivations.proofs.LinkLemmas.{AreBelow-drop}
 use Rattle.lrpar_conflict_derivations.proofs.ReachLemmas.{begins_with, derives_nothing}
 
@@ -24,13 +24,13 @@ map-drop f zero xs = refl
 map-drop f (suc n) [] = refl
 map-drop f (suc n) (x ∷ xs) = map-drop f n xs
 
--- the symbols behind a place, as a part of a list of code
+-- the symbols after a place, as a part of a list of code
 pub rest_of : {X Y : Type 0} (f : X → Y) (n : ℕ) (xs : List X) (all : List Y) → map f xs ≡ all → map f (take (length xs - n) (drop n xs)) ≡ drop n all
 rest_of f n xs all is = ap (map f) (take_rest xs n) ∙ map-drop f n xs ∙ ap (drop n) is
 
 module _ (g : Grammar) (well : IsWellFormed g) (each : EachReachableHasTree g) (token : ℕ) (low : token < dummy_lookahead g) (x : LinkOf)
     (step : IsStep g token x.prod x.dot x.further x.above x) (reached : IsReachableRule g (rule_of g x.prod)) (old new : List MoveOf) where
-  -- what stands behind the rule
+  -- the symbols after the rule
   pub rest_is : drop (x.dot + 1) (symbols_of g x.prod) ≡ step.rest
   rest_is =
       let at = drop_at_get (symbols_of g x.prod) x.dot (Nonterminal x.rule) (head_after (symbols_of g x.prod) x.dot (Nonterminal x.rule) step.rest step.before) in
@@ -69,7 +69,7 @@ module _ (g : Grammar) (well : IsWellFormed g) (each : EachReachableHasTree g) (
         (begin_ahead g token trees begin.first.0 x.further begin.first.1 text next);
   }
 
-  -- or they are shortest ones
+  -- or they are minimal sentences' trees
   ahead_by : (asked further : Bool) → PassesOn g token step.rest asked further → (asked ≡ false) ⊎ (further ≡ true) → (trees : Forest ℕ)
       → AreShortestTrees g step.rest trees → (text : List ℕ) → IsNextIf g token further text → IsNextIf g token asked (forest_leaves trees ++ text)
   ahead_by false further passes either trees least text next = any_ahead g token trees further text next

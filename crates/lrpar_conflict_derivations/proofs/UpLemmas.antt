@@ -1,4 +1,4 @@
--- The way up by links, from one to the one above it.
+-- The path up by links, from one to the one above it.
 use Rattle.std.proofs.Common.{◌≡◌, ◌≢◌, ◌<◌, ◌+◌, ◌⊎◌, ◌∙◌, refl, sym, ap, subst, inl, inr, arith, ℕ, suc, Bool, List, [], ◌∷◌, ◌++◌, drop, length}
 use Rattle.std.proofs.lemmas.List.{append_assoc, append-nil}
 use Rattle.lrpar_grammar.specs.Grammar.{Grammar, GrammarSymbol, IsWellFormed, Nonterminal, prods_len, rule_of, start_prod, symbols_of}
@@ -8,10 +8,10 @@ use Rattle.lrpar_table_items.specs.ItemSets.{IsReachedBy}
 use Rattle.lrpar_table_build.proofs.ReachedLemmas.{head_after, known_by_symbol}
 use Rattle.lrpar_table_sentences.specs.Moves.{MoveOf, Makes, forest_moves}
 use Rattle.lrpar_table_sentences.specs.Reachable.{IsReachableRule}
-use Rattle.lrpar_conflict_derivations.specs.Climbing.{AreUpLinks, EndsLink, HasClimbed, HasRest, LeadsUp, UpOf, place_at}
-use Rattle.lrpar_conflict_derivations.specs.Links.{AreLinks, IsBegunItem, IsStep, LinkOf, link_at}
+use Rattle.lrpar_conflict_derivations.specs.Completion.{AreUpLinks, EndsLink, LeadsToKernel, HasRest, LeadsUp, UpOf, place_at}
+use Rattle.lrpar_conflict_derivations.specs.ClosureLinks.{AreLinks, IsKernelItem, IsStep, LinkOf, link_at}
 use Rattle.lrpar_table_sentences.proofs.AfterLemmas.{drop_at_get}
-use Rattle.lrpar_conflict_derivations.proofs.ClimbLemmas.{up_added, up_none, up_then}
+use Rattle.lrpar_conflict_derivations.proofs.CompletionLemmas.{up_added, up_none, up_then}
 use Rattle.lrpar_conflict_derivations.proofs.ReachLemmas.{links_reached}
 
 -- links of a state lead up
@@ -35,17 +35,17 @@ up_links g well set path same token links are i low =
           ];
     }
 
--- and end at an item that isn't there by closure
+-- and end at a kernel item
 pub ends_begun : (g : Grammar) (set : ItemOf → Type 0) (token : ℕ) (links : List LinkOf) (up : UpOf) → AreLinks g set token links → EndsLink g links up
-    → IsBegunItem g set token up.prod up.dot up.asked
+    → IsKernelItem g set token up.prod up.dot up.asked
 ends_begun g set token links up are ends =
     let x = link_at links ends.number in
-    let Item = IsBegunItem g set token up.prod up.dot up.asked in
+    let Item = IsKernelItem g set token up.prod up.dot up.asked in
     elim (are ends.number ends.within).from as (λ _. Item) [
       | inl begun ↦
-          subst (λ (n : ℕ). IsBegunItem g set token n up.dot up.asked) ends.prod
-          (subst (λ (n : ℕ). IsBegunItem g set token x.prod n up.asked) ends.dot
-          (subst (λ (b : Bool). IsBegunItem g set token x.prod x.dot b) ends.further begun))
+          subst (λ (n : ℕ). IsKernelItem g set token n up.dot up.asked) ends.prod
+          (subst (λ (n : ℕ). IsKernelItem g set token x.prod n up.asked) ends.dot
+          (subst (λ (b : Bool). IsKernelItem g set token x.prod x.dot b) ends.further begun))
       | inr below ↦
           elim ends.begun as (λ _. Item) [
             | inl moved ↦ let front : up.dot ≡ 0 = sym ends.dot ∙ below.0 in absurd (omega (arith, moved, front))
@@ -53,28 +53,28 @@ ends_begun g set token links up are ends =
           ]
     ]
 
--- moves were put behind the others that lead from production p up to production q, with its dot at the front
-pub record IsWayUp (g : Grammar) (token p : ℕ) (asked : Bool) (old new : List MoveOf) (q : ℕ) (further : Bool) : Type 0 where
+-- moves were appended that lead from production p up to production q, with its dot at the front
+pub record IsPathUp (g : Grammar) (token p : ℕ) (asked : Bool) (old new : List MoveOf) (q : ℕ) (further : Bool) : Type 0 where
   pub done : List MoveOf
   pub moves : new ≡ old ++ done
   pub leads : (front : List GrammarSymbol) → LeadsUp g token (place_at front p 0 asked) done (place_at front q 0 further)
   pub begins : ((done ≡ []) × (q ≡ p)) ⊎ ((rest : List MoveOf) × (done ≡ Makes p ∷ rest))
 
 module _ (g : Grammar) (token p : ℕ) (asked : Bool) (old : List MoveOf) where
-  pub way_none : IsWayUp g token p asked old old p asked
-  way_none = record {
+  pub path_none : IsPathUp g token p asked old old p asked
+  path_none = record {
     done = [];
     moves = sym (append-nil old);
     leads = λ front. up_none g token (place_at front p 0 asked);
     begins = inl (refl, refl);
   }
 
-  -- a node and trees behind it lead up to the item of the link
-  pub way_further : IsWellFormed g → (middle pushed new : List MoveOf) (q : ℕ) (further : Bool) (x : LinkOf) → IsWayUp g token p asked old middle q further
+  -- a node and trees after it lead up to the item of the link
+  pub path_further : IsWellFormed g → (middle pushed new : List MoveOf) (q : ℕ) (further : Bool) (x : LinkOf) → IsPathUp g token p asked old middle q further
       → q < prods_len g → x.rule ≡ rule_of g q → x.asked ≡ further → IsStep g token x.prod x.dot x.further x.above x
       → pushed ≡ middle ++ Makes q ∷ [] → HasRest g token x pushed new
-      → HasClimbed g token p asked old new (record { prod = x.prod; dot = x.dot; asked = x.further })
-  way_further well middle pushed new q further x way known rule asks step push rest =
+      → LeadsToKernel g token p asked old new (record { prod = x.prod; dot = x.dot; asked = x.further })
+  path_further well middle pushed new q further x path known rule asks step push rest =
       let at = drop_at_get (symbols_of g x.prod) x.dot (Nonterminal x.rule)
       (head_after (symbols_of g x.prod) x.dot (Nonterminal x.rule) step.rest step.before) in
       let after : drop x.dot (symbols_of g x.prod) ≡ Nonterminal (rule_of g q) ∷ drop (x.dot + 1) (symbols_of g x.prod) =
@@ -85,14 +85,14 @@ module _ (g : Grammar) (token p : ℕ) (asked : Bool) (old : List MoveOf) where
       λ front.
       subst (λ (b : Bool). LeadsUp g token (place_at front q 0 b) (Makes q ∷ forest_moves rest.trees) (place_at front x.prod x.dot x.further)) asks (added front) in
       let all = λ (front : List GrammarSymbol).
-      up_then g token (place_at front p 0 asked) (place_at front q 0 further) (place_at front x.prod x.dot x.further) way.done (Makes q ∷ forest_moves rest.trees)
-      (way.leads front) (own front) in
-      let moves : new ≡ old ++ (way.done ++ Makes q ∷ forest_moves rest.trees) =
+      up_then g token (place_at front p 0 asked) (place_at front q 0 further) (place_at front x.prod x.dot x.further) path.done (Makes q ∷ forest_moves rest.trees)
+      (path.leads front) (own front) in
+      let moves : new ≡ old ++ (path.done ++ Makes q ∷ forest_moves rest.trees) =
       rest.moves ∙ ap (λ ms. ms ++ forest_moves rest.trees) push ∙ append_assoc middle (Makes q ∷ []) (forest_moves rest.trees)
-      ∙ ap (λ ms. ms ++ Makes q ∷ forest_moves rest.trees) way.moves ∙ append_assoc old way.done (Makes q ∷ forest_moves rest.trees) in
-      elim way.begins [
+      ∙ ap (λ ms. ms ++ Makes q ∷ forest_moves rest.trees) path.moves ∙ append_assoc old path.done (Makes q ∷ forest_moves rest.trees) in
+      elim path.begins [
         | inl first ↦
-            let is : way.done ++ Makes q ∷ forest_moves rest.trees ≡ Makes p ∷ forest_moves rest.trees =
+            let is : path.done ++ Makes q ∷ forest_moves rest.trees ≡ Makes p ∷ forest_moves rest.trees =
             ap (λ ms. ms ++ Makes q ∷ forest_moves rest.trees) first.0 ∙ ap (λ (n : ℕ). Makes n ∷ forest_moves rest.trees) first.1 in record {
               more = forest_moves rest.trees;
               moves = moves ∙ ap (λ ms. old ++ ms) is;
@@ -101,7 +101,7 @@ module _ (g : Grammar) (token p : ℕ) (asked : Bool) (old : List MoveOf) where
                   subst (λ (ms : List MoveOf). LeadsUp g token (place_at front p 0 asked) ms (place_at front x.prod x.dot x.further)) is (all front);
             }
         | inr later ↦
-            let is : way.done ++ Makes q ∷ forest_moves rest.trees ≡ Makes p ∷ (later.0 ++ Makes q ∷ forest_moves rest.trees) =
+            let is : path.done ++ Makes q ∷ forest_moves rest.trees ≡ Makes p ∷ (later.0 ++ Makes q ∷ forest_moves rest.trees) =
             ap (λ ms. ms ++ Makes q ∷ forest_moves rest.trees) later.1 in record {
               more = later.0 ++ Makes q ∷ forest_moves rest.trees;
               moves = moves ∙ ap (λ ms. old ++ ms) is;
@@ -111,17 +111,17 @@ module _ (g : Grammar) (token p : ℕ) (asked : Bool) (old : List MoveOf) where
             }
       ]
 
-  -- from there the way goes on, if the dot is at the front
-  pub way_on : (new : List MoveOf) (q j : ℕ) (further : Bool) (on : Bool) → HasClimbed g token p asked old new (record { prod = q; dot = j; asked = further })
-      → j ≡ 0 → further ≡ on → IsWayUp g token p asked old new q on
-  way_on new q j further on climbed front same = record {
-    done = Makes p ∷ climbed.more;
-    moves = climbed.moves;
+  -- from there the path goes on, if the dot is at the front
+  pub path_on : (new : List MoveOf) (q j : ℕ) (further : Bool) (on : Bool) → LeadsToKernel g token p asked old new (record { prod = q; dot = j; asked = further })
+      → j ≡ 0 → further ≡ on → IsPathUp g token p asked old new q on
+  path_on new q j further on to_kernel front same = record {
+    done = Makes p ∷ to_kernel.more;
+    moves = to_kernel.moves;
     leads =
         λ before.
-        subst (λ (b : Bool). LeadsUp g token (place_at before p 0 asked) (Makes p ∷ climbed.more) (place_at before q 0 b)) same
-        (subst (λ (n : ℕ). LeadsUp g token (place_at before p 0 asked) (Makes p ∷ climbed.more) (place_at before q n further)) front (climbed.leads before));
-    begins = inr (climbed.more, refl);
+        subst (λ (b : Bool). LeadsUp g token (place_at before p 0 asked) (Makes p ∷ to_kernel.more) (place_at before q 0 b)) same
+        (subst (λ (n : ℕ). LeadsUp g token (place_at before p 0 asked) (Makes p ∷ to_kernel.more) (place_at before q n further)) front (to_kernel.leads before));
+    begins = inr (to_kernel.more, refl);
   }
 
 -- one link of those that lead up

@@ -1,4 +1,4 @@
--- Examples of conflicts: a text that leads to the conflict's state, and two readings that go on from there.
+-- Counterexamples of conflicts: an access string of the conflict's state, and two derivations that go on from there.
 use Rattle.std.specs.Prelude.{◌≡◌, ◌≢◌, ◌≤◌, ◌↔◌, ◌⊎◌, ℕ, Bool, IsTrue, List, Option, length}
 use Rattle.lrpar_grammar.specs.Grammar.{Grammar, GrammarSymbol}
 use Rattle.lrpar_grammar.specs.Tree.{Forest, Tree, forest_leaves, leaves}
@@ -10,13 +10,13 @@ use Rattle.lrpar_table_sentences.specs.Moves.{MoveOf, forest_moves}
 use Rattle.lrpar_table_sentences.specs.Reachable.{EachReachableHasTree, IsFirstUnproductive}
 use Rattle.lrpar_table_sentences.specs.Texts.{AreTreesOf}
 use Rattle.lrpar_table_sentences.specs.AccessStrings.{AreAccessStrings, IsPathTo, StepOf, AccessOf, symbols_in}
-use Rattle.lrpar_conflict_derivations.specs.Climbing.{IsWay}
+use Rattle.lrpar_conflict_derivations.specs.Completion.{IsAccessPath}
 use Rattle.lrpar_conflict_derivations.specs.Derivation.{IsDerivation}
-use Rattle.lrpar_conflict_derivations.specs.Texts.{takes_in}
+use Rattle.lrpar_conflict_derivations.specs.Texts.{tokens_in}
 use Rattle.lrpar_conflict_derivations.specs.declared.fault.ExampleFault.{ExampleFault}
 use Rattle.lrpar_conflict_derivations.specs.declared.fault.ExampleFault.TheVariants.{Unproductive, Memory}
 
--- what an example tells
+-- what a counterexample says
 pub record ExampleOf : Type 0 where
   pub before : List ℕ
   pub first : List MoveOf
@@ -25,21 +25,21 @@ pub record ExampleOf : Type 0 where
   pub shortest : Bool
   pub bound : ℕ
 
--- the text leads to state s: the symbols do, and these trees fit them and have its tokens
+-- the text is an access string of state s: the symbols lead there, and these trees fit them and have its tokens
 pub record IsTextTo (g : Grammar) (graph : Graph) (s : ℕ) (text : List ℕ) (symbols : List GrammarSymbol) (trees : Forest ℕ) : Type 0 where
   pub leads : IsPathTo g graph s symbols
   pub fit : AreTreesOf g symbols trees
   pub tokens : forest_leaves trees ≡ text
 
--- no text that leads to state s has fewer tokens
+-- no access string of state s has fewer tokens
 abbrev pub IsLeastTo : Grammar → Graph → ℕ → List ℕ → Type 0
 IsLeastTo g graph s text =
     (path : List GrammarSymbol) (others : Forest ℕ) → IsPathTo g graph s path → AreTreesOf g path others → length text ≤ length (forest_leaves others)
 
--- An example of a conflict in state s at a token: a text that leads there, and two readings of trees of the start rule, each of which has
--- made the same trees of that text. One goes on with one move, the other with the other. The grammar is called ambiguous exactly where both
--- trees have one text; they are two trees anyhow. The text that leads there is called a shortest one exactly where none is shorter, and it
--- is one, unless both trees have one text
+-- A counterexample of a conflict in state s at a token: an access string of s, and two derivations of trees of the start rule, which have
+-- made the same trees of that string. One goes on with one move, the other with the other. It is called ambiguous if and only if both
+-- derivations have one text (a unifying counterexample); they are two trees in any case. The access string is called a shortest one if and
+-- only if none is shorter; it is one, unless both derivations have one text
 pub record IsExample (g : Grammar) (graph : Graph) (s token : ℕ) (one other : MoveOf) (x : ExampleOf) : Type 0 where
   pub symbols : List GrammarSymbol
   pub trees : Forest ℕ
@@ -53,33 +53,32 @@ pub record IsExample (g : Grammar) (graph : Graph) (s token : ℕ) (one other : 
   pub different : tree ≢ other_tree
   pub ambiguous : IsTrue x.ambiguous ↔ (leaves tree ≡ leaves other_tree)
 
--- what examples are made of: the tokens that rules begin with, their shortest texts, and the shortest ways to states
+-- what counterexamples are made of: FIRST sets of rules, minimal sentences, and the shortest access paths of states
 pub record ExamplesOf : Type 0 where
   pub firsts : List (List Bool)
   pub shortest : List (Option ChoiceOf)
   pub access : List (Option AccessOf)
 
--- they are those of a table that was built of a grammar, each of whose rules that are reached from the start derives some text; numbers
--- of tokens are told up to `most`
+-- they are those of a table that was built of a grammar whose reachable rules are productive; numbers of tokens are exact up to `most`
 pub record AreExamplesFor (g : Grammar) (graph : Graph) (table : Table) (most : ℕ) (x : ExamplesOf) : Type 0 where
   pub firsts : AreFirsts g x.firsts
   pub shortest : AreShortest g most x.shortest
   pub access : AreAccessStrings g graph table most x.access
   pub each : EachReachableHasTree g
 
--- what a refusal tells: the first rule that is reached from the start and derives no text
+-- a refusal names the first rule that is reachable and not productive
 abbrev pub IsExampleFault : {S : Type 0} → (S → ℕ) → Grammar → ExampleFault S → Type 0
 IsExampleFault index g (Unproductive r) = IsFirstUnproductive g (index r.0)
 IsExampleFault index g Memory = Unit {0}
 
--- the steps of a way to state s, by which each state on it is reached, and moves of trees of its symbols
+-- the steps of an access path of state s, and moves of trees of its symbols
 pub record IsFront (g : Grammar) (graph : Graph) (s : ℕ) (steps : List StepOf) (moves : List MoveOf) : Type 0 where
-  pub way : IsWay g graph steps s
+  pub access_path : IsAccessPath g graph steps s
   pub trees : Forest ℕ
   pub text : IsTextTo g graph s (forest_leaves trees) (symbols_in steps) trees
   pub moves_are : moves ≡ forest_moves trees
 
--- the same, with a text that is a shortest one
+-- the same, and its text is a shortest access string
 pub record IsShortestFront (g : Grammar) (graph : Graph) (s : ℕ) (steps : List StepOf) (moves : List MoveOf) : Type 0 where
   pub front : IsFront g graph s steps moves
-  pub least : IsLeastTo g graph s (takes_in moves)
+  pub least : IsLeastTo g graph s (tokens_in moves)

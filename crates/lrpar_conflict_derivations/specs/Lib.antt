@@ -1,6 +1,6 @@
 pub mod Derivation
 pub mod Example
-pub mod Climbing
-pub mod Links
+pub mod Completion
+pub mod ClosureLinks
 pub mod Texts
 pub mod Replay

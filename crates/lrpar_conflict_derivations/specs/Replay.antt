@@ -1,11 +1,11 @@
--- Moves replayed over a stack of symbols, which stand for trees.
+-- Moves replayed over a stack of symbols, each of which represents a tree.
 use Rattle.std.specs.Prelude.{◌≡◌, ◌<◌, ℕ, List, [], ◌∷◌, ◌++◌}
 use Rattle.lrpar_grammar.specs.Grammar.{Grammar, GrammarSymbol, Nonterminal, Terminal, prods_len, rule_of, symbols_of}
 use Rattle.lrpar_grammar.specs.Tree.{Tree}
 use Rattle.lrpar_table_sentences.specs.Moves.{Makes, MoveOf, Takes, moves_of}
 use Rattle.lrpar_table_sentences.specs.Texts.{IsTreeOf}
 
--- a token is put on top; or a rule, in place of the symbols of one of its productions
+-- a token is pushed; or the symbols of a production are replaced by its rule
 abbrev pub Replays : Grammar → MoveOf → List GrammarSymbol → List GrammarSymbol → Type 0
 Replays g (Takes t) old new = new ≡ old ++ Terminal t ∷ []
 Replays g (Makes p) old new =

@@ -3,13 +3,13 @@ use Rattle.std.specs.Prelude.{◌≡◌, ℕ, List, [], ◌∷◌, map}
 use Rattle.lrpar_grammar_places.specs.declared.span.TIdx.{TIdx}
 use Rattle.lrpar_table_sentences.specs.Moves.{Makes, MoveOf, Takes}
 
--- the tokens that moves take, in order
-abbrev pub takes_in : List MoveOf → List ℕ
-takes_in [] = []
-takes_in (Takes t ∷ moves) = t ∷ takes_in moves
-takes_in (Makes p ∷ moves) = takes_in moves
+-- the tokens that moves shift, in order
+abbrev pub tokens_in : List MoveOf → List ℕ
+tokens_in [] = []
+tokens_in (Takes t ∷ moves) = t ∷ tokens_in moves
+tokens_in (Makes p ∷ moves) = tokens_in moves
 
--- the numbers of tokens of the code
+-- the numbers of the code's tokens
 abbrev pub token_numbers : {S : Type 0} → (S → ℕ) → List (TIdx S) → List ℕ
 token_numbers index tokens = map (λ t. index t.0) tokens
 
@@ -17,6 +17,6 @@ token_numbers index tokens = map (λ t. index t.0) tokens
 abbrev pub BeginsBy : MoveOf → List MoveOf → Type 0
 BeginsBy next moves = (later : List MoveOf) × (moves ≡ next ∷ later)
 
--- the first token that they take is this one
-abbrev pub TakesFirst : ℕ → List MoveOf → Type 0
-TakesFirst token moves = (rest : List ℕ) × (takes_in moves ≡ token ∷ rest)
+-- the first token that they shift is this one
+abbrev pub ShiftsFirst : ℕ → List MoveOf → Type 0
+ShiftsFirst token moves = (rest : List ℕ) × (tokens_in moves ≡ token ∷ rest)

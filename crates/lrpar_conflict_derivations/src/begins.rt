@@ -1,4 +1,4 @@
-//! What symbols begin with.
+//! Which tokens symbols begin with.
 ghost use Rattle.std.specs.Prelude.{◌≡◌, ◌<◌, All, length, map};
 ghost use Rattle.lrpar_grammar.specs.Symbols.{symbol_of};
 ghost use Rattle.lrpar_table_first.specs.FirstRows.{IsSymbolBelow, begins, rows_of};
@@ -6,8 +6,8 @@ ghost use Rattle.lrpar_table_first.specs.FirstRows.{IsSymbolBelow, begins, rows_
 use lrpar_grammar::span::{StorageIndex, Symbol};
 use lrpar_grammar::token_set::TokenSet;
 
-/// Whether the symbols begin with the token, where each rule begins with its set. The mark, which no token has as its number, asks whether
-/// they derive nothing.
+/// Whether the symbols begin with the token, given the FIRST set of each rule. The dummy lookahead, which is the number of no token, asks
+/// whether they derive nothing.
 pub(crate) fn can_begin<StorageT: StorageIndex>(
     firsts: &[TokenSet],
     symbols: &[Symbol<StorageT>],

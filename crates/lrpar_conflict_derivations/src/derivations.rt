@@ -1,4 +1,4 @@
-//! Readings that go on from the text of a way: by a node, or by a token.
+//! Derivations that go on from an access path: by a reduction, or by a shift.
 ghost use Rattle.std.specs.Prelude.{◌≡◌, ◌≢◌, ◌<◌, ◌↔◌, ℕ, IfOk, IsTrue, MatchOption, Some, slice_get};
 ghost use Rattle.lrpar_grammar.specs.Grammar.{IsWellFormed, Terminal, prod_len, prods_len, start_prod, symbols_of};
 ghost use Rattle.lrpar_grammar.specs.Symbols.{symbol_of};
@@ -11,10 +11,10 @@ ghost use Rattle.lrpar_table_sentences.specs.Moves.{Makes, Takes, forest_moves, 
 ghost use Rattle.lrpar_table_sentences.specs.Reachable.{EachReachableHasTree};
 ghost use Rattle.lrpar_table_sentences.specs.Texts.{AreTreesOf};
 ghost use Rattle.lrpar_table_sentences.specs.AccessStrings.{steps_of, symbols_in};
-ghost use Rattle.lrpar_conflict_derivations.specs.Climbing.{IsWay};
+ghost use Rattle.lrpar_conflict_derivations.specs.Completion.{IsAccessPath};
 ghost use Rattle.lrpar_conflict_derivations.specs.Derivation.{IsDerivation};
 
-use crate::climb::climb;
+use crate::completion::complete_derivation;
 use lrpar_grammar::grammar::YaccGrammar;
 use lrpar_grammar::span::{PIdx, StIdx, StorageIndex, Symbol, TIdx};
 use lrpar_grammar::token_set::TokenSet;
@@ -24,9 +24,9 @@ use lrpar_table_sentences::moves::Move;
 use lrpar_table_sentences::shortest::Shortest;
 use std::alloc::{AllocError, Global};
 
-/// The moves of a reading that begins with the moves of trees of the way's symbols, and then makes the node of the production, of which
-/// the last state has a complete item with the token.
-pub(crate) fn making<StorageT: StorageIndex>(
+/// The moves of a derivation that begins with the moves of trees of the path's symbols, and then reduces the production, of which the last
+/// state has a complete item with the token.
+pub(crate) fn derive_by_reduce<StorageT: StorageIndex>(
     alloc: Global,
     grm: &YaccGrammar<StorageT>,
     firsts: &[TokenSet],
@@ -43,7 +43,7 @@ pub(crate) fn making<StorageT: StorageIndex>(
     requires each { EachReachableHasTree grm.now }
     requires canonical { IsCanonical grm.now graph.now }
     requires token { StorageT.index token.0 < dummy_lookahead grm.now }
-    requires way { IsWay grm.now graph.now (steps_of StorageT.index steps.now) (StorageT.index last.0) }
+    requires access_path { IsAccessPath grm.now graph.now (steps_of StorageT.index steps.now) (StorageT.index last.0) }
     requires prod { StorageT.index prod.0 < prods_len grm.now }
     requires listed { StorageT.index prod.0 ≢ start_prod grm.now }
     requires item { HasItem graph.now (StorageT.index last.0) (StorageT.index prod.0) (prod_len grm.now (StorageT.index prod.0)) (StorageT.index token.0) }
@@ -54,7 +54,7 @@ pub(crate) fn making<StorageT: StorageIndex>(
 {
     let mut moves = Vec::from_slice(alloc, front)?;
     let dot = grm.prod(prod).len();
-    climb(
+    complete_derivation(
         alloc,
         grm,
         firsts,
@@ -70,9 +70,9 @@ pub(crate) fn making<StorageT: StorageIndex>(
     Ok(moves)
 }
 
-/// The moves of a reading that begins with the moves of trees of the way's symbols, and then takes the token, before which an item of
-/// the last state stands.
-pub(crate) fn taking<StorageT: StorageIndex>(
+/// The moves of a derivation that begins with the moves of trees of the path's symbols, and then shifts the token, which comes after the
+/// dot of an item of the last state.
+pub(crate) fn derive_by_shift<StorageT: StorageIndex>(
     alloc: Global,
     grm: &YaccGrammar<StorageT>,
     firsts: &[TokenSet],
@@ -88,7 +88,7 @@ pub(crate) fn taking<StorageT: StorageIndex>(
     requires each { EachReachableHasTree grm.now }
     requires canonical { IsCanonical grm.now graph.now }
     requires token { StorageT.index token.0 < dummy_lookahead grm.now }
-    requires way { IsWay grm.now graph.now (steps_of StorageT.index steps.now) (StorageT.index last.0) }
+    requires access_path { IsAccessPath grm.now graph.now (steps_of StorageT.index steps.now) (StorageT.index last.0) }
     requires last { StorageT.index last.0 < graph_len graph.now }
     requires before { HasAfterDot grm.now (sets_of graph.now) (StorageT.index last.0) (Terminal (StorageT.index token.0)) }
     ensures { IfOk result (λ moves. (trees : Forest ℕ) → AreTreesOf grm.now (symbols_in (steps_of StorageT.index steps.now)) trees
@@ -101,13 +101,13 @@ pub(crate) fn taking<StorageT: StorageIndex>(
     let mut moves = Vec::from_slice(alloc, front)?;
     moves.push(Move::Take(token))?;
     shortest.push_all_moves(alloc, &mut moves, grm, &grm.prod(core.0)[core.1 + 1..])?;
-    climb(
+    complete_derivation(
         alloc, grm, firsts, shortest, graph, steps, last, core, false, token, &mut moves,
     )?;
     Ok(moves)
 }
 
-// A core of the state that stands before the token.
+// A core of the state with the token after its dot.
 fn core_before<StorageT: StorageIndex>(
     grm: &YaccGrammar<StorageT>,
     graph: &StateGraph<StorageT>,
@@ -129,7 +129,7 @@ fn core_before<StorageT: StorageIndex>(
     None
 }
 
-// Whether the core stands before the token.
+// Whether the token comes after the core's dot.
 fn has_after_dot<StorageT: StorageIndex>(
     grm: &YaccGrammar<StorageT>,
     core: Core<StorageT>,

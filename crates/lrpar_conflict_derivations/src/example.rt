@@ -1,14 +1,14 @@
-//! An example of a conflict.
+//! A counterexample of a conflict.
 ghost use Rattle.std.specs.Prelude.{◌≡◌, ◌↔◌, IfOk, IsTrue, length};
 ghost use Rattle.lrpar_table_sentences.specs.Moves.{moves_in};
-ghost use Rattle.lrpar_conflict_derivations.specs.Texts.{takes_in, token_numbers};
+ghost use Rattle.lrpar_conflict_derivations.specs.Texts.{tokens_in, token_numbers};
 
 use lrpar_grammar::span::{StorageIndex, TIdx};
 use lrpar_table_sentences::moves::Move;
 use std::alloc::{AllocError, Global};
 use std::marker::Model;
 
-/// An example of a conflict: a text that leads to the conflict's state, and two readings of trees that go on from there, as moves.
+/// A counterexample of a conflict: an access string of the conflict's state, and two derivations that go on from there, as moves.
 #[derive(Debug)]
 pub struct Example<StorageT: StorageIndex> {
     before: Vec<TIdx<StorageT>>,
@@ -19,7 +19,7 @@ pub struct Example<StorageT: StorageIndex> {
     bound: usize,
 }
 
-// A drop of its own, so that what lets go of one elsewhere proves one call.
+// A drop of its own, so that code that drops one elsewhere proves one call.
 impl<StorageT: StorageIndex> Drop for Example<StorageT> {
     fn drop(self) {
         let Example {
@@ -47,7 +47,8 @@ impl<StorageT: StorageIndex> Model for Example<StorageT> {
 }
 
 impl<StorageT: StorageIndex> Example<StorageT> {
-    // The example of two readings that begin with these first moves, whose text is a shortest one or not, with the bound of the search.
+    // The counterexample of two derivations that begin with these moves, whose text is a shortest access string or not, with the search's
+    // bound.
     pub(crate) fn new(
         alloc: Global,
         front: &[Move<StorageT>],
@@ -56,15 +57,15 @@ impl<StorageT: StorageIndex> Example<StorageT> {
         shortest: bool,
         bound: usize,
     ) -> Result<Self, AllocError>
-        ensures before { IfOk result (λ x. x.before ≡ takes_in (moves_in StorageT.index front.now)) }
+        ensures before { IfOk result (λ x. x.before ≡ tokens_in (moves_in StorageT.index front.now)) }
         ensures first { IfOk result (λ x. x.first ≡ moves_in StorageT.index first.items) }
         ensures second { IfOk result (λ x. x.second ≡ moves_in StorageT.index second.items) }
         ensures ambiguous { IfOk result (λ x. IsTrue x.ambiguous
-            ↔ (takes_in (moves_in StorageT.index first.items) ≡ takes_in (moves_in StorageT.index second.items))) }
+            ↔ (tokens_in (moves_in StorageT.index first.items) ≡ tokens_in (moves_in StorageT.index second.items))) }
         ensures shortest { IfOk result (λ x. x.shortest ≡ shortest) }
         ensures bound { IfOk result (λ x. x.bound ≡ bound) }
     {
-        let before = taken(alloc, front)?;
+        let before = tokens_of(alloc, front)?;
         let ambiguous = have_same_text(alloc, &first, &second)?;
         Ok(Example {
             before,
@@ -76,43 +77,43 @@ impl<StorageT: StorageIndex> Example<StorageT> {
         })
     }
 
-    /// The tokens of a text that leads to the conflict's state: a shortest one, unless both readings have one text that was found on
-    /// another way.
+    /// The tokens of an access string of the conflict's state: a shortest one, unless the counterexample is unifying and was found on
+    /// another access path.
     pub fn before(&self) -> &[TIdx<StorageT>]
         ensures { token_numbers StorageT.index result.now ≡ self.now.before }
     {
         &self.before
     }
 
-    /// The moves of the first reading.
+    /// The moves of the first derivation.
     pub fn first(&self) -> &[Move<StorageT>]
         ensures { moves_in StorageT.index result.now ≡ self.now.first }
     {
         &self.first
     }
 
-    /// The moves of the second reading.
+    /// The moves of the second derivation.
     pub fn second(&self) -> &[Move<StorageT>]
         ensures { moves_in StorageT.index result.now ≡ self.now.second }
     {
         &self.second
     }
 
-    /// Whether both readings have the same text, so that the grammar is ambiguous.
+    /// Whether the counterexample is unifying: both derivations have the same text, so that the grammar is ambiguous.
     pub fn is_ambiguous(&self) -> bool
         ensures { result ≡ self.now.ambiguous }
     {
         self.ambiguous
     }
 
-    /// Whether no text that leads to the conflict's state has fewer tokens than `before`.
+    /// Whether no access string of the conflict's state has fewer tokens than `before`.
     pub fn is_shortest(&self) -> bool
         ensures { result ≡ self.now.shortest }
     {
         self.shortest
     }
 
-    /// How far one text of both readings was looked for, if they weren't of one text from the start.
+    /// The bound of the search for a unifying counterexample. Nothing is searched for if both derivations had one text from the start.
     pub fn bound(&self) -> usize
         ensures { result ≡ self.now.bound }
     {
@@ -120,31 +121,31 @@ impl<StorageT: StorageIndex> Example<StorageT> {
     }
 }
 
-// Whether both take as many tokens.
+// Whether both shift the same number of tokens.
 pub(crate) fn have_as_many<StorageT: StorageIndex>(
     alloc: Global,
     one: &[Move<StorageT>],
     other: &[Move<StorageT>],
 ) -> Result<bool, AllocError>
     ensures { IfOk result (λ same. IsTrue same
-        ↔ (length (takes_in (moves_in StorageT.index one.now)) ≡ length (takes_in (moves_in StorageT.index other.now)))) }
+        ↔ (length (tokens_in (moves_in StorageT.index one.now)) ≡ length (tokens_in (moves_in StorageT.index other.now)))) }
 {
-    let one = taken(alloc, one)?;
-    let other = taken(alloc, other)?;
+    let one = tokens_of(alloc, one)?;
+    let other = tokens_of(alloc, other)?;
     Ok(one.len() == other.len())
 }
 
-// Whether the tokens that both take are the same.
+// Whether both shift the same tokens.
 fn have_same_text<StorageT: StorageIndex>(
     alloc: Global,
     first: &[Move<StorageT>],
     second: &[Move<StorageT>],
 ) -> Result<bool, AllocError>
     ensures { IfOk result (λ same. IsTrue same
-        ↔ (takes_in (moves_in StorageT.index first.now) ≡ takes_in (moves_in StorageT.index second.now))) }
+        ↔ (tokens_in (moves_in StorageT.index first.now) ≡ tokens_in (moves_in StorageT.index second.now))) }
 {
-    let one = taken(alloc, first)?;
-    let other = taken(alloc, second)?;
+    let one = tokens_of(alloc, first)?;
+    let other = tokens_of(alloc, second)?;
     Ok(are_same(&one, &other))
 }
 
@@ -163,12 +164,12 @@ fn are_same<StorageT: StorageIndex>(one: &[TIdx<StorageT>], other: &[TIdx<Storag
     true
 }
 
-/// The tokens that the moves take, in order. An `Err` comes where memory doesn't suffice.
-pub fn taken<StorageT: StorageIndex>(
+/// The tokens that the moves shift, in order. Fails only if an allocation does.
+pub fn tokens_of<StorageT: StorageIndex>(
     alloc: Global,
     moves: &[Move<StorageT>],
 ) -> Result<Vec<TIdx<StorageT>>, AllocError>
-    ensures { IfOk result (λ tokens. token_numbers StorageT.index tokens.items ≡ takes_in (moves_in StorageT.index moves.now)) }
+    ensures { IfOk result (λ tokens. token_numbers StorageT.index tokens.items ≡ tokens_in (moves_in StorageT.index moves.now)) }
 {
     let mut tokens = Vec::new(alloc);
     for step in moves {

@@ -1,4 +1,4 @@
-//! Examples of the conflicts of a table that was built of a grammar.
+//! Counterexamples of the conflicts of a table that was built of a grammar.
 ghost use Rattle.std.specs.Prelude.{◌≡◌, ◌≢◌, ◌<◌, IfErr, IfOk, IfSome, map};
 ghost use Rattle.std.specs.List.{Contains};
 ghost use Rattle.lrpar_grammar.specs.Symbols.{symbol_of};
@@ -12,15 +12,15 @@ ghost use Rattle.lrpar_table_sentences.specs.Reachable.{EachReachableHasTree};
 ghost use Rattle.lrpar_table_sentences.specs.AccessStrings.{steps_of, symbols_in};
 ghost use Rattle.lrpar_conflict_derivations.specs.Example.{AreExamplesFor, IsExample, IsExampleFault, IsShortestFront};
 
-use crate::backs::Backs;
-use crate::confirm::{confirmed, symbols_of};
-use crate::derivations::{making, taking};
-pub use crate::example::{Example, taken};
+use crate::context::Context;
+use crate::derivations::{derive_by_reduce, derive_by_shift};
+pub use crate::example::{Example, tokens_of};
 pub use crate::fault::ExampleFault;
-use crate::given::Given;
-use crate::lens::Lens;
-use crate::pairs::Clash;
-use crate::unify::unify;
+use crate::min_lengths::MinLengths;
+use crate::predecessors::Predecessors;
+use crate::search::Conflict;
+use crate::unifying::find_unifying;
+use crate::validation::{symbols_of, validated};
 use lrpar_grammar::grammar::YaccGrammar;
 use lrpar_grammar::span::{PIdx, StIdx, StorageIndex, Symbol, TIdx};
 use lrpar_grammar::token_set::TokenSet;
@@ -32,30 +32,30 @@ use lrpar_table_sentences::shortest::Shortest;
 use std::alloc::{AllocError, Global};
 use std::marker::Model;
 
-/// What the examples of all conflicts of a table share.
+/// What the counterexamples of all conflicts of a table share.
 pub struct Examples<StorageT: StorageIndex> {
     firsts: Vec<TokenSet>,
     shortest: Shortest<StorageT>,
     access: AccessStrings<StorageT>,
-    lens: Lens,
-    backs: Backs<StorageT>,
+    lengths: MinLengths,
+    predecessors: Predecessors<StorageT>,
 }
 
-// A drop of its own, so that what lets go of one elsewhere proves one call.
+// A drop of its own, so that code that drops one elsewhere proves one call.
 impl<StorageT: StorageIndex> Drop for Examples<StorageT> {
     fn drop(self) {
         let Examples {
             firsts,
             shortest,
             access,
-            lens,
-            backs,
+            lengths,
+            predecessors,
         } = self;
         drop(firsts);
         drop(shortest);
         drop(access);
-        drop(lens);
-        drop(backs);
+        drop(lengths);
+        drop(predecessors);
     }
 }
 
@@ -68,7 +68,7 @@ impl<StorageT: StorageIndex> Model for Examples<StorageT> {
     ghost view = { λ x. record { firsts = rows_of x.firsts.items; shortest = x.shortest; access = x.access } };
 }
 
-// The steps of a shortest way to a state, and the moves of shortest trees of its symbols.
+// The steps of a shortest access path of a state, and the moves of minimal sentences' trees of its symbols.
 #[derive(Drop)]
 struct Front<StorageT> {
     steps: Vec<Step<StorageT>>,
@@ -76,10 +76,10 @@ struct Front<StorageT> {
 }
 
 impl<StorageT: StorageIndex> Examples<StorageT> {
-    /// What examples of the conflicts of a table need that was built of the grammar.
+    /// What counterexamples of the conflicts of a table need that was built of the grammar.
     ///
-    /// `Barren` names the first rule, by its number, that the grammar reaches from its start and that derives no text: with one there are
-    /// no examples. `Memory` comes where it doesn't suffice.
+    /// `Unproductive` names the first rule, by its number, that the grammar reaches from its start and that derives no text: with one there
+    /// are no counterexamples. `Memory` says that an allocation failed.
     pub fn new(
         alloc: Global,
         grm: &YaccGrammar<StorageT>,
@@ -91,25 +91,25 @@ impl<StorageT: StorageIndex> Examples<StorageT> {
         ensures refused { IfErr result (IsExampleFault StorageT.index grm.now) }
     {
         let firsts = first_sets(alloc, grm)?;
-        let shortest = fertile(alloc, grm)?;
+        let shortest = productive(alloc, grm)?;
         let access = AccessStrings::new(alloc, grm, sgraph, stable, &shortest)?;
-        let lens = Lens::new(alloc, grm, &shortest)?;
-        let backs = Backs::new(alloc, stable)?;
+        let lengths = MinLengths::new(alloc, grm, &shortest)?;
+        let predecessors = Predecessors::new(alloc, stable)?;
         Ok(Examples {
             firsts,
             shortest,
             access,
-            lens,
-            backs,
+            lengths,
+            predecessors,
         })
     }
 
-    /// The example of a conflict between two reductions, as token, productions and state: one reading makes the node of the first
-    /// production, the other that of the second.
+    /// The counterexample of a conflict between two reductions, as token, productions and state: one derivation reduces the first
+    /// production, the other the second.
     ///
-    /// If the trees' texts differ, it looks for one text that has both readings, on any way to the state, shortest texts first, and gives
-    /// these in place of the others if it finds some. It tries at most `bound` pairs of readings and beginnings of ways; with a bound of 0 it
-    /// doesn't look. An `Err` comes where memory doesn't suffice.
+    /// If the derivations have different texts, it looks for a unifying counterexample on all access paths of the state, shortest texts
+    /// first, and returns that if it finds one. It tries at most `bound` configurations and ends of access paths; with a bound of 0 it
+    /// doesn't look. Fails only if an allocation does.
     pub fn of_reduce_reduce(
         &self,
         alloc: Global,
@@ -140,8 +140,8 @@ impl<StorageT: StorageIndex> Examples<StorageT> {
         )
     }
 
-    /// The example of a conflict between a shift and a reduction, as token, production and state: one reading makes the node of the
-    /// production, the other takes the token. `bound` is that of `of_reduce_reduce`, and so is an `Err`.
+    /// The counterexample of a conflict between a shift and a reduction, as token, production and state: one derivation reduces the
+    /// production, the other shifts the token. `bound` is that of `of_reduce_reduce`, and so is an `Err`.
     pub fn of_shift_reduce(
         &self,
         alloc: Global,
@@ -167,7 +167,7 @@ impl<StorageT: StorageIndex> Examples<StorageT> {
         )
     }
 
-    // The same by a way to the state.
+    // The counterexample that begins with this access path.
     fn reductions(
         &self,
         alloc: Global,
@@ -195,7 +195,7 @@ impl<StorageT: StorageIndex> Examples<StorageT> {
         let _start = grm.start_prod();
         let (token, one, other, state) = *conflict;
         let (firsts, shortest) = (&self.firsts, &self.shortest);
-        let first = making(
+        let first = derive_by_reduce(
             alloc,
             grm,
             firsts,
@@ -207,7 +207,7 @@ impl<StorageT: StorageIndex> Examples<StorageT> {
             one,
             token,
         )?;
-        let second = making(
+        let second = derive_by_reduce(
             alloc,
             grm,
             firsts,
@@ -222,7 +222,7 @@ impl<StorageT: StorageIndex> Examples<StorageT> {
         Example::new(alloc, &front.moves, first, second, true, bound)
     }
 
-    // The same by a way to the state.
+    // The counterexample that begins with this access path.
     fn shift(
         &self,
         alloc: Global,
@@ -245,7 +245,7 @@ impl<StorageT: StorageIndex> Examples<StorageT> {
         let _start = grm.start_prod();
         let (token, prod, state) = *conflict;
         let (firsts, shortest) = (&self.firsts, &self.shortest);
-        let first = making(
+        let first = derive_by_reduce(
             alloc,
             grm,
             firsts,
@@ -257,7 +257,7 @@ impl<StorageT: StorageIndex> Examples<StorageT> {
             prod,
             token,
         )?;
-        let second = taking(
+        let second = derive_by_shift(
             alloc,
             grm,
             firsts,
@@ -271,7 +271,7 @@ impl<StorageT: StorageIndex> Examples<StorageT> {
         Example::new(alloc, &front.moves, first, second, true, bound)
     }
 
-    // A shortest way to the state, and shortest trees of its symbols.
+    // A shortest access path of the state, and minimal sentences' trees of its symbols.
     fn front(
         &self,
         alloc: Global,
@@ -299,7 +299,7 @@ impl<StorageT: StorageIndex> Examples<StorageT> {
         Ok(Front { steps, moves })
     }
 
-    // The example of readings of one text that begin so, if one is found within the bound; else the plain one.
+    // A unifying counterexample, if one is found within the bound; else the plain one.
     fn with_one_text(
         &self,
         alloc: Global,
@@ -335,7 +335,7 @@ impl<StorageT: StorageIndex> Examples<StorageT> {
         }
     }
 
-    // The example of readings of one text that begin so, if one is found within the bound.
+    // A unifying counterexample whose derivations go on by these moves, if one is found within the bound.
     fn one_text(
         &self,
         alloc: Global,
@@ -358,24 +358,24 @@ impl<StorageT: StorageIndex> Examples<StorageT> {
             (move_of StorageT.index one) (move_of StorageT.index other))) }
         ensures bound { IfOk result (λ found. IfSome found (λ x. x.bound ≡ bound)) }
     {
-        let given = Given {
+        let context = Context {
             grm,
             graph: sgraph,
             table: stable,
             shortest: &self.shortest,
             access: &self.access,
-            lens: &self.lens,
-            backs: &self.backs,
+            lengths: &self.lengths,
+            predecessors: &self.predecessors,
         };
-        let clash = Clash {
+        let conflict = Conflict {
             state,
             token,
             one,
             other,
         };
-        match unify(alloc, &given, &clash, bound)? {
+        match find_unifying(alloc, &context, &conflict, bound)? {
             None => Ok(None),
-            Some(text) => confirmed(
+            Some(text) => validated(
                 alloc,
                 grm,
                 sgraph,
@@ -393,8 +393,8 @@ impl<StorageT: StorageIndex> Examples<StorageT> {
     }
 }
 
-// The shortest texts of the grammar's rules, if each rule that is reached derives some text.
-fn fertile<StorageT: StorageIndex>(
+// Minimal sentences of the grammar's rules, if each reachable rule is productive.
+fn productive<StorageT: StorageIndex>(
     alloc: Global,
     grm: &YaccGrammar<StorageT>,
 ) -> Result<Shortest<StorageT>, ExampleFault<StorageT>>

@@ -1,21 +1,21 @@
 //! A counterexample of one conflict: two derivations with a common beginning, and the search for one sentence with both.
 #![tactic(auto)]
 
-mod backs;
+mod access_paths;
 mod begins;
-mod climb;
-mod confirm;
+mod closure_links;
+mod completion;
+mod context;
 mod derivations;
 mod example;
 pub mod examples;
 mod fault;
-mod fronts;
-mod given;
-mod lens;
-mod levels;
-mod links;
-mod pairs;
-mod queue;
+mod min_lengths;
+mod minimal_sentences;
+mod predecessors;
+mod priority_queue;
 mod replay;
-mod texts;
-mod unify;
+mod search;
+mod stacks;
+mod unifying;
+mod validation;

@@ -10,7 +10,7 @@ use lrpar_grammar::span::{PIdx, StorageIndex, Symbol};
 use lrpar_table_sentences::moves::Move;
 use std::alloc::{AllocError, Global};
 
-/// Whether the moves are those of a tree of the start rule. Only so much is promised of a yes.
+/// Whether the moves are those of a tree of the start rule. Nothing is promised of a `false`.
 pub(crate) fn are_of_tree<StorageT: StorageIndex>(
     alloc: Global,
     grm: &YaccGrammar<StorageT>,
@@ -28,7 +28,7 @@ pub(crate) fn are_of_tree<StorageT: StorageIndex>(
     Ok(is_alone(&stack, start))
 }
 
-// Whether the symbols are this one.
+// Whether this symbol is the only one.
 fn is_alone<StorageT: StorageIndex>(symbols: &[Symbol<StorageT>], symbol: Symbol<StorageT>) -> bool
     ensures { IsTrue result → map (symbol_of StorageT.index) symbols.now ≡ symbol_of StorageT.index symbol ∷ [] }
 {
@@ -38,7 +38,7 @@ fn is_alone<StorageT: StorageIndex>(symbols: &[Symbol<StorageT>], symbol: Symbol
     is_same(symbols[0], symbol)
 }
 
-// Replays a move, if that can be.
+// Replays a move, if that is possible.
 fn replay<StorageT: StorageIndex>(
     grm: &YaccGrammar<StorageT>,
     step: Move<StorageT>,
@@ -54,7 +54,7 @@ fn replay<StorageT: StorageIndex>(
         }
         Move::Make(prod) => {
             if usize::from(prod) < grm.prods_len() {
-                make(grm, prod, stack)
+                reduce(grm, prod, stack)
             } else {
                 Ok(false)
             }
@@ -62,8 +62,8 @@ fn replay<StorageT: StorageIndex>(
     }
 }
 
-// Puts the production's rule in place of its symbols, if these are on top.
-fn make<StorageT: StorageIndex>(
+// Replaces the production's symbols by its rule, if they are on top.
+fn reduce<StorageT: StorageIndex>(
     grm: &YaccGrammar<StorageT>,
     prod: PIdx<StorageT>,
     stack: &mut Vec<Symbol<StorageT>>,
@@ -85,7 +85,7 @@ fn make<StorageT: StorageIndex>(
     Ok(true)
 }
 
-// Whether the symbols, of which there are as many, are the same.
+// Whether the symbols, the same number of them, are the same.
 fn are_same<StorageT: StorageIndex>(one: &[Symbol<StorageT>], other: &[Symbol<StorageT>]) -> bool
     requires { length one.now ≡ length other.now }
     ensures { IsTrue result → map (symbol_of StorageT.index) one.now ≡ map (symbol_of StorageT.index) other.now }

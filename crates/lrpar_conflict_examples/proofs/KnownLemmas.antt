@@ -1,4 +1,4 @@
--- What trees of a grammar's symbols name is of the grammar.
+-- The tokens and productions of trees of a grammar's symbols are the grammar's.
 use Rattle.std.proofs.Common.{◌≡◌, ◌<◌, ◌∙◌, refl, sym, ap, subst, arith, inl, inr, ℕ, suc, List, [], ◌∷◌, ◌++◌}
 use Rattle.std.specs.List.{All, AllByRecursion}
 use Rattle.std.proofs.lemmas.Bool.{cases_lt}
@@ -7,10 +7,10 @@ use Rattle.lrpar_grammar.specs.Grammar.{Grammar, GrammarSymbol, IsListedSymbol, 
 use Rattle.lrpar_grammar.specs.Tree.{Forest, Tree, Branch, Cons, Leaf, Nil, forest_leaves, leaves}
 use Rattle.lrpar_table_sentences.specs.Moves.{MoveOf, Makes, Takes, forest_moves, moves_of}
 use Rattle.lrpar_table_sentences.specs.Texts.{AreTreesOf, IsTreeOf}
-use Rattle.lrpar_conflict_derivations.specs.Texts.{takes_in}
+use Rattle.lrpar_conflict_derivations.specs.Texts.{tokens_in}
 use Rattle.lrpar_conflict_examples.specs.Fits.{AreTokensOf, IsSymbolOf}
 
--- what holds of two lists holds of both together, and the other way round
+-- what holds of two lists holds of both together, and conversely
 pub all_both : {A : Type 0} (P : A → Type 0) (xs ys : List A) → AllByRecursion P xs → AllByRecursion P ys → AllByRecursion P (xs ++ ys)
 all_both P [] ys one other = other
 all_both P (x ∷ xs) ys one other = (one.0, all_both P xs ys one.1 other)
@@ -59,20 +59,20 @@ module _ (g : Grammar) (well : IsWellFormed g) where
     all_leaves_known (Cons t ts) (s ∷ ss) fit known =
         all_both (λ x. x < tokens_len g) (leaves t) (forest_leaves ts) (leaves_known t s fit.0 known.0) (all_leaves_known ts ss fit.1 known.1)
 
--- the moves of a tree take its leaves
-takes-append : (moves more : List MoveOf) → takes_in (moves ++ more) ≡ takes_in moves ++ takes_in more
-takes-append [] more = refl
-takes-append (Takes t ∷ moves) more = ap (λ ts. t ∷ ts) (takes-append moves more)
-takes-append (Makes p ∷ moves) more = takes-append moves more
+-- the moves of a tree shift its leaves
+shifts-append : (moves more : List MoveOf) → tokens_in (moves ++ more) ≡ tokens_in moves ++ tokens_in more
+shifts-append [] more = refl
+shifts-append (Takes t ∷ moves) more = ap (λ ts. t ∷ ts) (shifts-append moves more)
+shifts-append (Makes p ∷ moves) more = shifts-append moves more
 
 mutual
-  pub takes_of_tree : (tree : Tree ℕ) → takes_in (moves_of tree) ≡ leaves tree
-  takes_of_tree (Leaf t) = refl
-  takes_of_tree (Branch p children) =
-      takes-append (forest_moves children) (Makes p ∷ []) ∙ append-nil (takes_in (forest_moves children)) ∙ takes_of_trees children
+  pub tokens_of_tree : (tree : Tree ℕ) → tokens_in (moves_of tree) ≡ leaves tree
+  tokens_of_tree (Leaf t) = refl
+  tokens_of_tree (Branch p children) =
+      shifts-append (forest_moves children) (Makes p ∷ []) ∙ append-nil (tokens_in (forest_moves children)) ∙ tokens_of_trees children
 
-  pub takes_of_trees : (trees : Forest ℕ) → takes_in (forest_moves trees) ≡ forest_leaves trees
-  takes_of_trees Nil = refl
-  takes_of_trees (Cons t ts) =
-      takes-append (moves_of t) (forest_moves ts) ∙ ap (λ xs. xs ++ takes_in (forest_moves ts)) (takes_of_tree t)
-      ∙ ap (λ xs. leaves t ++ xs) (takes_of_trees ts)
+  pub tokens_of_trees : (trees : Forest ℕ) → tokens_in (forest_moves trees) ≡ forest_leaves trees
+  tokens_of_trees Nil = refl
+  tokens_of_trees (Cons t ts) =
+      shifts-append (moves_of t) (forest_moves ts) ∙ ap (λ xs. xs ++ tokens_in (forest_moves ts)) (tokens_of_tree t)
+      ∙ ap (λ xs. leaves t ++ xs) (tokens_of_trees ts)

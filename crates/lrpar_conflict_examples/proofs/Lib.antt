@@ -2,4 +2,4 @@ pub mod TextLemmas
 pub mod KnownLemmas
 pub mod PieceLemmas
 pub mod ListedLemmas
-pub mod ReadLemmas
+pub mod BeforeLemmas

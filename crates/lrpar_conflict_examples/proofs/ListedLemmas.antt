@@ -1,4 +1,4 @@
--- Examples of conflicts, one behind the other, and that they fit the grammar.
+-- Counterexamples of conflicts, one after the other, and that they fit the grammar.
 use Rattle.std.proofs.Common.{◌≡◌, ◌<◌, ◌≤◌, ◌+◌, ◌∙◌, refl, sym, ap, subst, arith, ℕ, suc, List, [], ◌∷◌, ◌++◌, Option, Some, None, get_or, length, map, take}
 use Rattle.std.specs.List.{All, AllByRecursion, Contains}
 use Rattle.std.proofs.lemmas.List.Elements.{Contains-get_or}
@@ -15,7 +15,7 @@ use Rattle.lrpar_table_sentences.specs.Moves.{MoveOf}
 use Rattle.lrpar_conflict_derivations.specs.Example.{IsExample}
 use Rattle.lrpar_conflict_derivations.specs.Derivation.{IsDerivation}
 use Rattle.lrpar_conflict_examples.specs.Conflicts.{AddsExamples, AreExamplesOf, ConflictExampleOf, ConflictOf, IsExampleOf, conflicts_in, of_reductions, of_shift}
-use Rattle.lrpar_conflict_examples.specs.ExamplesFit.{ExamplesFit, ReadsFrom}
+use Rattle.lrpar_conflict_examples.specs.ExamplesFit.{ExamplesFit, DerivesFrom}
 use Rattle.lrpar_conflict_examples.specs.Fits.{IsMoveOf}
 use Rattle.lrpar_conflict_examples.proofs.KnownLemmas.{all_both}
 
@@ -27,7 +27,7 @@ module _ (g : Grammar) (graph : Graph) (bound : ℕ) where
   pub adds_none : (old : List ConflictExampleOf) → AddsExamples g graph bound [] old old
   adds_none old = record { more = []; put = sym (append-nil old); are = record { conflicts_are = refl; each = tt } }
 
-  -- one behind the other
+  -- one after the other
   pub adds_both : (first second : List ConflictOf) (old middle new : List ConflictExampleOf) → AddsExamples g graph bound first old middle
       → AddsExamples g graph bound second middle new → AddsExamples g graph bound (first ++ second) old new
   adds_both first second old middle new one other = record {
@@ -50,7 +50,7 @@ module _ (g : Grammar) (graph : Graph) (bound : ℕ) where
       (adds_both conflicts (conflict ∷ []) old now new so_far
       (record { more = x ∷ []; put = put; are = record { conflicts_are = ap (λ c. c ∷ []) own; each = (is, tt) } }))
 
-  -- behind nothing
+  -- after nothing
   pub adds_first : (conflicts : List ConflictOf) (old new : List ConflictExampleOf) → old ≡ [] → AddsExamples g graph bound conflicts old new
       → AreExamplesOf g graph bound conflicts new
   adds_first conflicts old new none adds =
@@ -72,14 +72,14 @@ pub adds_all : {A B : Type 0} (g : Grammar) (graph : Graph) (bound : ℕ) (f : A
     → length xs ≤ i → AddsExamples g graph bound (map own (map f (take i xs))) old new → AddsExamples g graph bound (map own (map f xs)) old new
 adds_all g graph bound f own xs i old new past adds = subst (λ l. AddsExamples g graph bound (map own (map f l)) old new) (take_all i xs past) adds
 
--- an element of a list is one of what it stands for
+-- an element of a list is among the values that the list represents
 pub is_member : {A B : Type 0} (f : A → B) (xs : List A) (all : List B) (i : ℕ) (x : A) → i < length xs → x ≡ get_or xs i x → map f xs ≡ all
     → Contains all (f x)
 is_member f xs all i x low is same =
     let there : Contains xs x = subst (Contains xs) (sym is) (Contains-get_or xs i x low) in
     subst (λ l. Contains l (f x)) same (Contains-image f xs x there)
 
--- where there are none, there are none
+-- if there are no conflicts, there are no counterexamples
 pub no_examples : (g : Grammar) (graph : Graph) (bound : ℕ) (conflicts : Option ConflictLists) (items : List ConflictExampleOf) → conflicts ≡ None → items ≡ []
     → AreExamplesOf g graph bound (conflicts_in (lists_in conflicts)) items
 no_examples g graph bound None [] none empty = record { conflicts_are = refl; each = tt }
@@ -110,17 +110,17 @@ conflicts_named g lists fit =
     all_both (NamesOf g) (map of_reductions lists.reduce_reduce) (map of_shift lists.shift_reduce)
     (reductions_named g lists.reduce_reduce fit.reduce_reduce) (shifts_named g lists.shift_reduce fit.shift_reduce)
 
--- a reading is that of a tree
-reads_from : (g : Grammar) (before : List ℕ) (token : ℕ) (trees : Forest ℕ) (next : MoveOf) (moves : List MoveOf) (tree : Tree ℕ)
-    → IsDerivation g before token trees next moves tree → ReadsFrom g before moves
-reads_from g before token trees next moves tree derivation = record {
+-- a derivation is that of a tree
+derives_from : (g : Grammar) (before : List ℕ) (token : ℕ) (trees : Forest ℕ) (next : MoveOf) (moves : List MoveOf) (tree : Tree ℕ)
+    → IsDerivation g before token trees next moves tree → DerivesFrom g before moves
+derives_from g before token trees next moves tree derivation = record {
   tree = tree;
   of_tree = record { fits = derivation.fits; are = derivation.moves_are };
   rest = derivation.rest;
   text = derivation.text;
 }
 
--- so examples of such conflicts fit
+-- so counterexamples of such conflicts fit
 each_fits : (g : Grammar) (graph : Graph) (bound : ℕ) (xs : List ConflictExampleOf) → AllByRecursion (NamesOf g) (map own_conflict xs)
     → AllByRecursion (IsExampleOf g graph bound) xs → ExamplesFit g xs
 each_fits g graph bound [] named each = tt
@@ -130,8 +130,8 @@ each_fits g graph bound (x ∷ xs) named each =
         token = named.0.token;
         first_move = named.0.first;
         second_move = named.0.second;
-        first = reads_from g x.example.before x.conflict.token own.trees x.conflict.first x.example.first own.tree own.first;
-        second = reads_from g x.example.before x.conflict.token own.trees x.conflict.second x.example.second own.other_tree own.second;
+        first = derives_from g x.example.before x.conflict.token own.trees x.conflict.first x.example.first own.tree own.first;
+        second = derives_from g x.example.before x.conflict.token own.trees x.conflict.second x.example.second own.other_tree own.second;
       },
       each_fits g graph bound xs named.1 each.1,
     )

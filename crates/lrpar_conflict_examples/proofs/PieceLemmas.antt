@@ -1,5 +1,5 @@
--- A tree's moves are read from the last one back. What waits to be met stands for trees; the moves that are left are theirs, and their
--- texts in front of what was written are the whole.
+-- A tree's moves are read from the last one back. Each entry that waits represents a tree or a node's front; the moves that are left are
+-- those of these trees, and their texts before what was written are the whole.
 use Rattle.std.proofs.Common.{◌≡◌, ◌<◌, ◌≤◌, ◌+◌, ◌∙◌, refl, sym, ap, subst, arith, ℕ, zero, suc, List, [], ◌∷◌, ◌++◌, codes, get_or, length, length-append, map, replicate, take}
 use Rattle.std.specs.List.{All, AllByRecursion, flat_map}
 use Rattle.std.proofs.lemmas.Grind.{flat_map-append}
@@ -22,37 +22,37 @@ use Rattle.lrpar_conflict_examples.specs.declared.pieces.Waiting.{Waiting}
 use Rattle.lrpar_conflict_examples.specs.declared.pieces.Waiting.TheVariants as waits
 use Rattle.lrpar_conflict_examples.proofs.KnownLemmas.{all_back, all_both, all_front, symbols_known}
 
--- what something that waits stands for: a tree, or what stands in front of the trees of a node
-pub data Standing (S : Type 0) : Type 0 where
-  Grown : (tree : Tree ℕ) → Standing S
-  Opened : (prod : PIdx S) → Standing S
+-- what an entry that waits represents: a tree, or the front of a node
+pub data Represented (S : Type 0) : Type 0 where
+  Grown : (tree : Tree ℕ) → Represented S
+  Opened : (prod : PIdx S) → Represented S
 
-abbrev pub erased : {S : Type 0} → Standing S → Waiting S
+abbrev pub erased : {S : Type 0} → Represented S → Waiting S
 erased (Grown tree) = waits.Tree
 erased (Opened p) = waits.Before p
 
-abbrev pub standing_moves : {S : Type 0} → Standing S → List MoveOf
-standing_moves (Grown tree) = moves_of tree
-standing_moves (Opened p) = []
+abbrev pub represented_moves : {S : Type 0} → Represented S → List MoveOf
+represented_moves (Grown tree) = moves_of tree
+represented_moves (Opened p) = []
 
-abbrev pub standing_text : {S : Type 0} → (S → ℕ) → Grammar → Standing S → List ℕ
-standing_text index g (Grown tree) = tree_text g tree
-standing_text index g (Opened p) = front_text g (index p.0)
+abbrev pub represented_text : {S : Type 0} → (S → ℕ) → Grammar → Represented S → List ℕ
+represented_text index g (Grown tree) = tree_text g tree
+represented_text index g (Opened p) = front_text g (index p.0)
 
 -- it is of the grammar
-abbrev pub IsStanding : {S : Type 0} → (S → ℕ) → Grammar → Standing S → Type 0
-IsStanding index g (Grown tree) = (s : GrammarSymbol) × IsTreeOf g s tree × IsSymbolOf g s
-IsStanding index g (Opened p) = index p.0 < prods_len g
+abbrev pub IsRepresented : {S : Type 0} → (S → ℕ) → Grammar → Represented S → Type 0
+IsRepresented index g (Grown tree) = (s : GrammarSymbol) × IsTreeOf g s tree × IsSymbolOf g s
+IsRepresented index g (Opened p) = index p.0 < prods_len g
 
--- what waits stands for these
+-- the entries that wait represent these
 pub record Walk {S : Type 0} (index : S → ℕ) (g : Grammar) (waiting : List (Waiting S)) (rest : List MoveOf) (done whole : List ℕ) : Type 0 where
-  pub standing : List (Standing S)
-  pub are : map erased standing ≡ waiting
-  pub each : AllByRecursion (IsStanding index g) standing
-  pub moves : rest ≡ flat_map standing_moves standing
-  pub text : flat_map (standing_text index g) standing ++ done ≡ whole
+  pub represented : List (Represented S)
+  pub are : map erased represented ≡ waiting
+  pub each : AllByRecursion (IsRepresented index g) represented
+  pub moves : rest ≡ flat_map represented_moves represented
+  pub text : flat_map (represented_text index g) represented ++ done ≡ whole
 
--- two lists with one element more behind each are equal in both parts
+-- two lists that are equal, each with one element appended, are equal in both parts
 last_same : {A : Type 0} (xs ys : List A) (x y : A) → xs ++ x ∷ [] ≡ ys ++ y ∷ [] → (xs ≡ ys) × (x ≡ y)
 last_same [] [] x y e = let same : x ≡ y = cc in (refl, same)
 last_same {A} [] (b ∷ ys) x y e =
@@ -65,7 +65,7 @@ last_same (a ∷ xs) (b ∷ ys) x y e =
     let more = last_same xs ys x y rest in
     (ap (λ z. z ∷ xs) first ∙ ap (λ zs. b ∷ zs) more.0, more.1)
 
--- a list whose image has one element more behind it
+-- a list whose image ends with one more element
 pub record Parts {A B : Type 0} (f : A → B) (xs : List A) (ys : List B) (y : B) : Type 0 where
   pub front : List A
   pub last : A
@@ -92,15 +92,15 @@ backward_more index g (y ∷ pieces) x =
     ∙ append_assoc (piece_text index g x) (backward_text index g pieces) (piece_text index g y)
 
 -- the trees of a list of trees
-abbrev pub grown : {S : Type 0} → Forest ℕ → List (Standing S)
+abbrev pub grown : {S : Type 0} → Forest ℕ → List (Represented S)
 grown Nil = []
 grown (Cons t ts) = Grown t ∷ grown ts
 
-grown_moves : (S : Type 0) (trees : Forest ℕ) → flat_map (standing_moves {S = S}) (grown trees) ≡ forest_moves trees
+grown_moves : (S : Type 0) (trees : Forest ℕ) → flat_map (represented_moves {S = S}) (grown trees) ≡ forest_moves trees
 grown_moves S Nil = refl
 grown_moves S (Cons t ts) = ap (λ ms. moves_of t ++ ms) (grown_moves S ts)
 
-grown_text : {S : Type 0} (index : S → ℕ) (g : Grammar) (trees : Forest ℕ) → flat_map (standing_text index g) (grown trees) ≡ forest_text g trees
+grown_text : {S : Type 0} (index : S → ℕ) (g : Grammar) (trees : Forest ℕ) → flat_map (represented_text index g) (grown trees) ≡ forest_text g trees
 grown_text index g Nil = refl
 grown_text index g (Cons t ts) = ap (λ text. tree_text g t ++ text) (grown_text index g ts)
 
@@ -111,11 +111,11 @@ grown_erased S g Nil (s ∷ ss) fit = absurd fit
 grown_erased S g (Cons t ts) [] fit = absurd fit
 grown_erased S g (Cons t ts) (s ∷ ss) fit = ap (λ l. waits.Tree ∷ l) (grown_erased S g ts ss fit.1)
 
-grown_stand : {S : Type 0} (index : S → ℕ) (g : Grammar) (trees : Forest ℕ) (symbols : List GrammarSymbol) → AreTreesOf g symbols trees
-    → AllByRecursion (IsSymbolOf g) symbols → AllByRecursion (IsStanding index g) (grown trees)
-grown_stand index g Nil symbols fit known = tt
-grown_stand index g (Cons t ts) [] fit known = absurd fit
-grown_stand index g (Cons t ts) (s ∷ ss) fit known = ((s, fit.0, known.0), grown_stand index g ts ss fit.1 known.1)
+grown_represented : {S : Type 0} (index : S → ℕ) (g : Grammar) (trees : Forest ℕ) (symbols : List GrammarSymbol) → AreTreesOf g symbols trees
+    → AllByRecursion (IsSymbolOf g) symbols → AllByRecursion (IsRepresented index g) (grown trees)
+grown_represented index g Nil symbols fit known = tt
+grown_represented index g (Cons t ts) [] fit known = absurd fit
+grown_represented index g (Cons t ts) (s ∷ ss) fit known = ((s, fit.0, known.0), grown_represented index g ts ss fit.1 known.1)
 
 -- a tree has moves
 moves_some : (tree : Tree ℕ) → 0 < length (moves_of tree)
@@ -127,7 +127,7 @@ module _ {S : Type 0} (index : S → ℕ) (g : Grammar) where
   pub walk_begins : (moves : List MoveOf) (tree : Tree ℕ) → IsWellFormed g → AreMovesOf g moves tree
       → Walk {S = S} index g (waits.Tree ∷ []) moves [] (tree_text g tree)
   walk_begins moves tree well of_tree = record {
-    standing = Grown tree ∷ [];
+    represented = Grown tree ∷ [];
     are = refl;
     each = ((Nonterminal g.start, of_tree.fits, well.start_within), tt);
     moves = of_tree.are ∙ sym (append-nil (moves_of tree));
@@ -137,36 +137,36 @@ module _ {S : Type 0} (index : S → ℕ) (g : Grammar) where
   -- nothing waits in the end
   pub walk_ends : (waiting : List (Waiting S)) (rest : List MoveOf) (done whole : List ℕ) → waiting ≡ [] → Walk index g waiting rest done whole → done ≡ whole
   walk_ends waiting rest done whole none walk =
-      elim walk.standing as (λ (l : List (Standing S)). map erased l ≡ [] → flat_map (standing_text index g) l ++ done ≡ whole → done ≡ whole) [
+      elim walk.represented as (λ (l : List (Represented S)). map erased l ≡ [] → flat_map (represented_text index g) l ++ done ≡ whole → done ≡ whole) [
         | [] ↦ λ are text. text
         | x ∷ xs ↦ λ are text. absurd (cc)
       ] (walk.are ∙ none) walk.text
 
   module _ (waiting left : List (Waiting S)) (rest : List MoveOf) (done whole : List ℕ) (walk : Walk index g waiting rest done whole) where
-    -- what stands in front of a node's trees comes next
+    -- a node's front comes next
     pub walk_opens : (p : PIdx S) → waiting ≡ left ++ waits.Before p ∷ [] → (index p.0 < prods_len g) × Walk index g left rest (front_text g (index p.0) ++ done) whole
     walk_opens p is =
-        let parts = parted erased walk.standing left (waits.Before p) (walk.are ∙ is) in
-        elim parts.last as (λ (l : Standing S). walk.standing ≡ parts.front ++ l ∷ [] → erased l ≡ waits.Before p
+        let parts = parted erased walk.represented left (waits.Before p) (walk.are ∙ is) in
+        elim parts.last as (λ (l : Represented S). walk.represented ≡ parts.front ++ l ∷ [] → erased l ≡ waits.Before p
         → (index p.0 < prods_len g) × Walk index g left rest (front_text g (index p.0) ++ done) whole) [
           | Grown tree ↦ λ both last. absurd (cc)
           | Opened q ↦ λ both last.
               let same : q ≡ p = cc in
-              let own : walk.standing ≡ parts.front ++ Opened p ∷ [] = both ∙ ap (λ o. parts.front ++ Opened o ∷ []) same in
-              let each = subst (AllByRecursion (IsStanding index g)) own walk.each in
-              let texts = ap (λ l. flat_map (standing_text index g) l ++ done) own in
-              let apart = flat_map-append (standing_text index g) parts.front (Opened p ∷ []) in (
-                (all_back (IsStanding index g) parts.front (Opened p ∷ []) each).0,
+              let own : walk.represented ≡ parts.front ++ Opened p ∷ [] = both ∙ ap (λ o. parts.front ++ Opened o ∷ []) same in
+              let each = subst (AllByRecursion (IsRepresented index g)) own walk.each in
+              let texts = ap (λ l. flat_map (represented_text index g) l ++ done) own in
+              let apart = flat_map-append (represented_text index g) parts.front (Opened p ∷ []) in (
+                (all_back (IsRepresented index g) parts.front (Opened p ∷ []) each).0,
                 record {
-                  standing = parts.front;
+                  represented = parts.front;
                   are = parts.front_is;
-                  each = all_front (IsStanding index g) parts.front (Opened p ∷ []) each;
+                  each = all_front (IsRepresented index g) parts.front (Opened p ∷ []) each;
                   moves =
-                      walk.moves ∙ ap (flat_map standing_moves) own ∙ flat_map-append standing_moves parts.front (Opened p ∷ [])
-                      ∙ append-nil (flat_map standing_moves parts.front);
+                      walk.moves ∙ ap (flat_map represented_moves) own ∙ flat_map-append represented_moves parts.front (Opened p ∷ [])
+                      ∙ append-nil (flat_map represented_moves parts.front);
                   text =
-                      sym (append_assoc (flat_map (standing_text index g) parts.front) (front_text g (index p.0)) done)
-                      ∙ ap (λ t. (flat_map (standing_text index g) parts.front ++ t) ++ done) (sym (append-nil (front_text g (index p.0))))
+                      sym (append_assoc (flat_map (represented_text index g) parts.front) (front_text g (index p.0)) done)
+                      ∙ ap (λ t. (flat_map (represented_text index g) parts.front ++ t) ++ done) (sym (append-nil (front_text g (index p.0))))
                       ∙ ap (λ t. t ++ done) (sym apart) ∙ sym texts ∙ walk.text;
                 },
               )
@@ -174,34 +174,34 @@ module _ {S : Type 0} (index : S → ℕ) (g : Grammar) where
 
     -- a tree comes next
     pub record HasLast : Type 0 where
-      pub front : List (Standing S)
+      pub front : List (Represented S)
       pub tree : Tree ℕ
       pub are : map erased front ≡ left
-      pub each : AllByRecursion (IsStanding index g) front
-      pub own : IsStanding index g (Grown tree)
-      pub moves : rest ≡ flat_map standing_moves front ++ moves_of tree
-      pub text : (flat_map (standing_text index g) front ++ tree_text g tree) ++ done ≡ whole
+      pub each : AllByRecursion (IsRepresented index g) front
+      pub own : IsRepresented index g (Grown tree)
+      pub moves : rest ≡ flat_map represented_moves front ++ moves_of tree
+      pub text : (flat_map (represented_text index g) front ++ tree_text g tree) ++ done ≡ whole
 
     pub walk_last : waiting ≡ left ++ waits.Tree ∷ [] → HasLast
     walk_last is =
-        let parts = parted erased walk.standing left waits.Tree (walk.are ∙ is) in
-        elim parts.last as (λ (l : Standing S). walk.standing ≡ parts.front ++ l ∷ [] → erased l ≡ waits.Tree → HasLast) [
+        let parts = parted erased walk.represented left waits.Tree (walk.are ∙ is) in
+        elim parts.last as (λ (l : Represented S). walk.represented ≡ parts.front ++ l ∷ [] → erased l ≡ waits.Tree → HasLast) [
           | Opened q ↦ λ both last. absurd (cc)
           | Grown tree ↦ λ both last.
-              let each = subst (AllByRecursion (IsStanding index g)) both walk.each in
+              let each = subst (AllByRecursion (IsRepresented index g)) both walk.each in
               record {
                 front = parts.front;
                 tree = tree;
                 are = parts.front_is;
-                each = all_front (IsStanding index g) parts.front (Grown tree ∷ []) each;
-                own = (all_back (IsStanding index g) parts.front (Grown tree ∷ []) each).0;
+                each = all_front (IsRepresented index g) parts.front (Grown tree ∷ []) each;
+                own = (all_back (IsRepresented index g) parts.front (Grown tree ∷ []) each).0;
                 moves =
-                    walk.moves ∙ ap (flat_map standing_moves) both ∙ flat_map-append standing_moves parts.front (Grown tree ∷ [])
-                    ∙ ap (λ ms. flat_map standing_moves parts.front ++ ms) (append-nil (moves_of tree));
+                    walk.moves ∙ ap (flat_map represented_moves) both ∙ flat_map-append represented_moves parts.front (Grown tree ∷ [])
+                    ∙ ap (λ ms. flat_map represented_moves parts.front ++ ms) (append-nil (moves_of tree));
                 text =
-                    ap (λ t. (flat_map (standing_text index g) parts.front ++ t) ++ done) (sym (append-nil (tree_text g tree)))
-                    ∙ ap (λ t. t ++ done) (sym (flat_map-append (standing_text index g) parts.front (Grown tree ∷ [])))
-                    ∙ ap (λ l. flat_map (standing_text index g) l ++ done) (sym both) ∙ walk.text;
+                    ap (λ t. (flat_map (represented_text index g) parts.front ++ t) ++ done) (sym (append-nil (tree_text g tree)))
+                    ∙ ap (λ t. t ++ done) (sym (flat_map-append (represented_text index g) parts.front (Grown tree ∷ [])))
+                    ∙ ap (λ l. flat_map (represented_text index g) l ++ done) (sym both) ∙ walk.text;
               }
         ] parts.both parts.last_is
 
@@ -211,10 +211,10 @@ module _ {S : Type 0} (index : S → ℕ) (g : Grammar) where
         let has = walk_last is in
         let own = moves_some has.tree in
         let all = ap (λ (l : List MoveOf). length l) has.moves in
-        let both = length-append (flat_map standing_moves has.front) (moves_of has.tree) in
+        let both = length-append (flat_map represented_moves has.front) (moves_of has.tree) in
         omega (arith, own, all, both)
 
--- a leaf's token, and what a node is made of
+-- a leaf's token, and the parts of a node
 leaf_known : (g : Grammar) (x : ℕ) (s : GrammarSymbol) → IsTreeOf g s (Leaf x) → IsSymbolOf g s → x < tokens_len g
 leaf_known g x (Terminal t) fits known = subst (λ n. n < tokens_len g) (sym fits) known
 leaf_known g x (Nonterminal r) fits known = absurd fits
@@ -229,19 +229,19 @@ seams : (a b c d e : List ℕ) → ((a ++ b) ++ c) ++ (d ++ e) ≡ (a ++ (b ++ (
 seams a b c d e = sym (append_assoc ((a ++ b) ++ c) d e) ∙ ap (λ l. l ++ e) (append_assoc (a ++ b) c d ∙ append_assoc a b (c ++ d))
 
 module _ {S : Type 0} (index : S → ℕ) (g : Grammar) (well : IsWellFormed g) (left new : List (Waiting S)) (before : List MoveOf) (old pieces : List (Piece S))
-    (whole : List ℕ) (front : List (Standing S)) (are : map erased front ≡ left) (each : AllByRecursion (IsStanding index g) front) where
-  -- a tree is met behind these
-  met : (tree : Tree ℕ) (m : Move S) → IsStanding index g (Grown tree)
-      → flat_map standing_moves front ++ moves_of tree ≡ before ++ move_of index m ∷ []
-      → (flat_map (standing_text index g) front ++ tree_text g tree) ++ backward_text index g old ≡ whole
+    (whole : List ℕ) (front : List (Represented S)) (are : map erased front ≡ left) (each : AllByRecursion (IsRepresented index g) front) where
+  -- a tree is taken up after these
+  met : (tree : Tree ℕ) (m : Move S) → IsRepresented index g (Grown tree)
+      → flat_map represented_moves front ++ moves_of tree ≡ before ++ move_of index m ∷ []
+      → (flat_map (represented_text index g) front ++ tree_text g tree) ++ backward_text index g old ≡ whole
       → IsMoveOf g (move_of index m) × (Meets index g m old pieces left new → Walk index g new before (backward_text index g pieces) whole)
   met (Leaf x) (Take t) own moves text =
-      let first = flat_map (standing_text index g) front in
-      let same = last_same (flat_map standing_moves front) before (Takes x) (Takes (index t.0)) moves in
+      let first = flat_map (represented_text index g) front in
+      let same = last_same (flat_map represented_moves front) before (Takes x) (Takes (index t.0)) moves in
       let token : x ≡ index t.0 = let last = same.1 in cc in (
         subst (λ n. n < tokens_len g) token (leaf_known g x own.0 own.1 own.2),
         λ meets. record {
-          standing = front;
+          represented = front;
           are = are ∙ sym meets.1;
           each = each;
           moves = sym same.0;
@@ -252,44 +252,44 @@ module _ {S : Type 0} (index : S → ℕ) (g : Grammar) (well : IsWellFormed g) 
         },
       )
   met (Leaf x) (Make p) own moves text =
-      let same = last_same (flat_map standing_moves front) before (Takes x) (Makes (index p.0)) moves in
+      let same = last_same (flat_map represented_moves front) before (Takes x) (Makes (index p.0)) moves in
       let last = same.1 in
       absurd (cc)
   met (Branch q children) (Take t) own moves text =
-      let first = flat_map standing_moves front in
+      let first = flat_map represented_moves front in
       let same = last_same (first ++ forest_moves children) before (Makes q) (Takes (index t.0)) (append_assoc first (forest_moves children) (Makes q ∷ []) ∙ moves) in
       let last = same.1 in
       absurd (cc)
   met (Branch q children) (Make p) own moves text =
-      let P = IsStanding index g in
+      let P = IsRepresented index g in
       let n = index p.0 in
-      let first = flat_map standing_moves front in
-      let texts = flat_map (standing_text index g) front in
+      let first = flat_map represented_moves front in
+      let texts = flat_map (represented_text index g) front in
       let same = last_same (first ++ forest_moves children) before (Makes q) (Makes n) (append_assoc first (forest_moves children) (Makes q ∷ []) ∙ moves) in
       let prod : q ≡ n = let last = same.1 in cc in
       let parts = node_parts g q children own.0 own.1 in
       let known = subst (λ m. m < prods_len g) prod parts.0 in
       let fit = subst (λ m. AreTreesOf g (symbols_of g m) children) prod parts.1 in
       let opened = front ++ Opened p ∷ [] in
-      let trees : List (Standing S) = grown children in (
+      let trees : List (Represented S) = grown children in (
         known,
         λ meets. record {
-          standing = opened ++ trees;
+          represented = opened ++ trees;
           are =
               map-append erased opened trees
               ∙ ap (λ l. l ++ map erased trees) (map-append erased front (Opened p ∷ []) ∙ ap (λ l. l ++ waits.Before p ∷ []) are)
               ∙ ap (λ l. (left ++ waits.Before p ∷ []) ++ l) (grown_erased S g children (symbols_of g n) fit) ∙ sym meets.1;
-          each = all_both P opened trees (all_both P front (Opened p ∷ []) each (known, tt)) (grown_stand index g children (symbols_of g n) fit (symbols_known g well n known));
+          each = all_both P opened trees (all_both P front (Opened p ∷ []) each (known, tt)) (grown_represented index g children (symbols_of g n) fit (symbols_known g well n known));
           moves =
               sym same.0 ∙ ap (λ ms. ms ++ forest_moves children) (sym (append-nil first))
               ∙ ap (λ ms. (first ++ []) ++ ms) (sym (grown_moves S children))
-              ∙ ap (λ ms. ms ++ flat_map standing_moves trees) (sym (flat_map-append standing_moves front (Opened p ∷ [])))
-              ∙ sym (flat_map-append standing_moves opened trees);
+              ∙ ap (λ ms. ms ++ flat_map represented_moves trees) (sym (flat_map-append represented_moves front (Opened p ∷ [])))
+              ∙ sym (flat_map-append represented_moves opened trees);
           text =
               ap (λ t. t ++ backward_text index g pieces)
-              (flat_map-append (standing_text index g) opened trees
-              ∙ ap (λ t. t ++ flat_map (standing_text index g) trees)
-              (flat_map-append (standing_text index g) front (Opened p ∷ []) ∙ ap (λ t. texts ++ t) (append-nil (front_text g n)))
+              (flat_map-append (represented_text index g) opened trees
+              ∙ ap (λ t. t ++ flat_map (represented_text index g) trees)
+              (flat_map-append (represented_text index g) front (Opened p ∷ []) ∙ ap (λ t. texts ++ t) (append-nil (front_text g n)))
               ∙ ap (λ t. (texts ++ front_text g n) ++ t) (grown_text index g children))
               ∙ ap (λ b. ((texts ++ front_text g n) ++ forest_text g children) ++ b) (ap (backward_text index g) meets.0 ∙ backward_more index g old End)
               ∙ seams texts (front_text g n) (forest_text g children) (codes " ]") (backward_text index g old)
@@ -300,7 +300,7 @@ module _ {S : Type 0} (index : S → ℕ) (g : Grammar) (well : IsWellFormed g) 
 module _ {S : Type 0} (index : S → ℕ) (g : Grammar) (well : IsWellFormed g) (waiting left : List (Waiting S)) (rest before : List MoveOf) (old : List (Piece S))
     (whole : List ℕ) (m : Move S) (walk : Walk index g waiting rest (backward_text index g old) whole) (is : waiting ≡ left ++ waits.Tree ∷ [])
     (last : rest ≡ before ++ move_of index m ∷ []) where
-  -- the last move is one of the grammar, and where the tree that ends by it is met, what waits then stands for the rest
+  -- the last move is one of the grammar, and if the tree that ends by it is taken up, what then waits represents the rest
   pub walk_meets : IsMoveOf g (move_of index m)
       × ((new : List (Waiting S)) (pieces : List (Piece S)) → Meets index g m old pieces left new → Walk index g new before (backward_text index g pieces) whole)
   walk_meets =
@@ -311,7 +311,7 @@ module _ {S : Type 0} (index : S → ℕ) (g : Grammar) (well : IsWellFormed g) 
         λ new pieces. (one new pieces).1,
       )
 
--- what is met is of the grammar
+-- what is taken up is of the grammar
 pub meets_fit : {S : Type 0} (index : S → ℕ) (g : Grammar) (m : Move S) (old new : List (Piece S)) (waits waiting : List (Waiting S)) → IsMoveOf g (move_of index m)
     → Meets index g m old new waits waiting → All (PieceFits index g) old → All (PieceFits index g) new
 meets_fit index g (Take t) old new waits waiting known meets all =
@@ -329,7 +329,7 @@ left_some index [] zero some = absurd (omega (arith, some))
 left_some index (x ∷ moves) zero some = absurd (omega (arith, some))
 left_some index moves (suc left) some = omega arith
 
--- where a tree waits there is a move left, and it is met by the last one
+-- if a tree waits there is a move left, and the last one takes the tree up
 pub walk_left : {S : Type 0} (index : S → ℕ) (g : Grammar) (waiting w : List (Waiting S)) (moves : List (Move S)) (left : ℕ) (done whole : List ℕ)
     → Walk index g waiting (moves_in index (take left moves)) done whole → waiting ≡ w ++ waits.Tree ∷ [] → 1 ≤ left
 walk_left index g waiting w moves left done whole walk is =

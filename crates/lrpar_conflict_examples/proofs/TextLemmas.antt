@@ -12,12 +12,12 @@ pub next_text : {A : Type 0} (f : A → List ℕ) (rest others : List A) (x : A)
 next_text f rest others x out new whole parted written all =
     ap (λ o. o ++ flat_map f others) written ∙ append_assoc out (f x) (flat_map f others) ∙ ap (λ xs. out ++ flat_map f xs) (sym parted) ∙ all
 
--- a text is added, unless memory was wanting
+-- a text is added, unless an allocation failed
 pub added : {T E : Type 0} (r : Result T E) (new out text whole : List ℕ) → new ≡ (if is_ok r then out ++ text else out) → out ++ text ≡ whole → OnOk r (new ≡ whole)
 added (Ok x) new out text whole e same = e ∙ same
 added (Err x) new out text whole e same = tt
 
--- a piece behind another
+-- a piece after another
 pub grown : (old first second x y : List ℕ) → first ≡ old ++ x → second ≡ first ++ y → second ≡ old ++ (x ++ y)
 grown old first second x y e₁ e₂ = e₂ ∙ ap (λ o. o ++ y) e₁ ∙ append_assoc old x y
 
@@ -43,7 +43,7 @@ pub five_pieces : {T E : Type 0} (r : Result T E) (old o₁ o₂ o₃ o₄ o₅ 
 five_pieces r old o₁ o₂ o₃ o₄ o₅ new a b c d f e₁ e₂ e₃ e₄ e₅ e =
     line_closed r old o₅ new (a ++ b ++ c ++ d ++ f) (grown old o₄ o₅ (a ++ b ++ c ++ d) f (four old o₁ o₂ o₃ o₄ a b c d e₁ e₂ e₃ e₄) e₅) e
 
--- what holds of each tree, unless memory was wanting
+-- what holds of each tree, unless an allocation failed
 pub on_ok_all : {T E X : Type 0} (P Q : X → Type 0) (r : Result T E) → ((x : X) → P x → OnOk r (Q x)) → OnOk r ((x : X) → P x → Q x)
 on_ok_all P Q (Ok x) each = each
 on_ok_all P Q (Err x) each = tt

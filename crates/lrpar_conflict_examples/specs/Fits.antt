@@ -1,4 +1,4 @@
--- What is told by numbers is of a grammar: tokens, symbols, moves, and the moves of trees.
+-- What is given by numbers is of a grammar: tokens, symbols, moves, and the moves of trees.
 use Rattle.std.specs.Prelude.{◌≡◌, ◌<◌, ℕ, List}
 use Rattle.std.specs.List.{AllByRecursion}
 use Rattle.lrpar_grammar.specs.Grammar.{Grammar, GrammarSymbol, Nonterminal, Terminal, prods_len, rules_len, tokens_len}
@@ -15,7 +15,7 @@ abbrev pub IsSymbolOf : Grammar → GrammarSymbol → Type 0
 IsSymbolOf g (Nonterminal r) = r < rules_len g
 IsSymbolOf g (Terminal t) = t < tokens_len g
 
--- the move takes a token of the grammar, or makes the node of a production of it
+-- the move shifts a token of the grammar, or reduces a production of it
 abbrev pub IsMoveOf : Grammar → MoveOf → Type 0
 IsMoveOf g (Takes t) = t < tokens_len g
 IsMoveOf g (Makes p) = p < prods_len g

@@ -26,7 +26,8 @@ abbrev pub backward_text : {S : Type 0} → (S → ℕ) → Grammar → List (Pi
 backward_text index g [] = []
 backward_text index g (x ∷ xs) = backward_text index g xs ++ piece_text index g x
 
--- a tree is met whose last move is this one: a token is all of it; of a node the end is, and its trees wait, and in front of them its front
+-- a tree whose last move is this one is taken up: a token is all of it; of a node there is the end, and its trees wait, and before them its
+-- front
 abbrev pub Meets : {S : Type 0} → (S → ℕ) → Grammar → Move S → List (Piece S) → List (Piece S) → List (Waiting S) → List (Waiting S) → Type 0
 Meets index g (Take t) old new waits waiting = (new ≡ old ++ Word t ∷ []) × (waiting ≡ waits)
 Meets index g (Make p) old new waits waiting =

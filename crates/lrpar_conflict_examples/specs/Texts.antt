@@ -1,4 +1,4 @@
--- The texts of examples.
+-- The texts of counterexamples.
 use Rattle.std.specs.Prelude.{◌≡◌, ℕ, List, [], ◌∷◌, ◌++◌, codes, if◌then◌else◌}
 use Rattle.std.specs.Fmt.{decimal}
 use Rattle.lrpar_grammar.specs.Grammar.{Grammar}
@@ -8,11 +8,11 @@ use Rattle.lrpar_conflict_examples.specs.Conflicts.{ConflictExampleOf}
 use Rattle.lrpar_conflict_examples.specs.Fits.{AreMovesOf}
 use Rattle.lrpar_conflict_examples.specs.Words.{derivation_text, shown_name, text_line}
 
--- that the readings have two texts, and how far one for both was looked for
+-- that the derivations have two texts, and the bound of the search for one
 abbrev pub bound_text : ℕ → List ℕ
 bound_text bound = codes "two texts; one for both not found within " ++ decimal bound
 
--- how many texts the readings have
+-- how many texts the derivations have
 abbrev pub count_text : ExampleOf → List ℕ
 count_text x = if x.ambiguous then codes "one text, two derivations" else bound_text x.bound
 
@@ -20,17 +20,17 @@ count_text x = if x.ambiguous then codes "one text, two derivations" else bound_
 abbrev pub title_text : Grammar → ConflictExampleOf → List ℕ
 title_text g x = codes "'" ++ shown_name g x.conflict.token ++ codes "' in state " ++ decimal x.conflict.state ++ codes ": " ++ count_text x.example ++ 10 ∷ []
 
--- the line of the second reading's text, where it isn't that of the first one
+-- the line of the second derivation's text, if it isn't that of the first one
 abbrev pub other_line : Grammar → ExampleOf → List ℕ → List ℕ
 other_line g x text = if x.ambiguous then [] else text_line g x.before text
 
--- an example whose readings are those of these trees
+-- a counterexample whose derivations are those of these trees
 abbrev pub example_text : Grammar → ConflictExampleOf → Tree ℕ → Tree ℕ → List ℕ
 example_text g x first second =
     title_text g x ++ text_line g x.example.before (leaves first) ++ derivation_text g x.conflict.first first
     ++ other_line g x.example (leaves second) ++ derivation_text g x.conflict.second second ++ 10 ∷ []
 
--- the text of an example: that of the trees whose moves its readings are
+-- the text of a counterexample: that of the trees whose moves its derivations are
 pub record IsExampleText (g : Grammar) (x : ConflictExampleOf) (text : List ℕ) : Type 0 where
   pub first : Tree ℕ
   pub of_first : AreMovesOf g x.example.first first
@@ -38,7 +38,7 @@ pub record IsExampleText (g : Grammar) (x : ConflictExampleOf) (text : List ℕ)
   pub of_second : AreMovesOf g x.example.second second
   pub is : text ≡ example_text g x first second
 
--- the texts of examples, one behind the other
+-- the texts of counterexamples, one after the other
 abbrev pub AreExampleTexts : Grammar → List ConflictExampleOf → List ℕ → Type 0
 AreExampleTexts g [] text = text ≡ []
 AreExampleTexts g (x ∷ xs) text = (own : List ℕ) × (others : List ℕ) × IsExampleText g x own × AreExampleTexts g xs others × (text ≡ own ++ others)

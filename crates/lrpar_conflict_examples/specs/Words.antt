@@ -9,7 +9,7 @@ use Rattle.lrpar_table_sentences.specs.Moves.{MoveOf, Makes, Takes}
 abbrev pub shown_name : Grammar → ℕ → List ℕ
 shown_name g t = unwrap_or (token_name g t) (codes "$")
 
--- tokens, each behind a space
+-- tokens, each after a space
 abbrev pub word_text : Grammar → ℕ → List ℕ
 word_text g t = 32 ∷ shown_name g t
 
@@ -20,7 +20,7 @@ words_text g tokens = flat_map (word_text g) tokens
 abbrev pub front_text : Grammar → ℕ → List ℕ
 front_text g p = 32 ∷ (rule_name g (rule_of g p) ++ 91 ∷ [])
 
--- a tree, and a list of trees: a token is a word, and a node has its rule in front of its trees, which stand in brackets
+-- a tree, and a list of trees: a token is a word, and a node is its rule and then its trees in brackets
 abbrev mutual
   pub tree_text : Grammar → Tree ℕ → List ℕ
   tree_text g (Leaf t) = word_text g t
@@ -30,27 +30,27 @@ abbrev mutual
   forest_text g Nil = []
   forest_text g (Cons t ts) = tree_text g t ++ forest_text g ts
 
--- a symbol of a production, behind a space: a rule by its name, and a token by its name in quotes
+-- a symbol of a production, after a space: a rule by its name, and a token by its name in quotes
 abbrev pub symbol_text : Grammar → GrammarSymbol → List ℕ
 symbol_text g (Nonterminal r) = 32 ∷ rule_name g r
 symbol_text g (Terminal t) = codes " '" ++ shown_name g t ++ codes "'"
 
--- the node of a production is made: `make S: 'i' S`
-abbrev pub make_text : Grammar → ℕ → List ℕ
-make_text g p = codes "make " ++ rule_name g (rule_of g p) ++ codes ":" ++ flat_map (symbol_text g) (symbols_of g p)
+-- a production is reduced: `reduce S: 'i' S`
+abbrev pub reduce_text : Grammar → ℕ → List ℕ
+reduce_text g p = codes "reduce " ++ rule_name g (rule_of g p) ++ codes ":" ++ flat_map (symbol_text g) (symbols_of g p)
 
--- what a move does: that, or `take 'e'`
+-- what a move does: that, or `shift 'e'`
 abbrev pub move_text : Grammar → MoveOf → List ℕ
-move_text g (Takes t) = codes "take '" ++ shown_name g t ++ codes "'"
-move_text g (Makes p) = make_text g p
+move_text g (Takes t) = codes "shift '" ++ shown_name g t ++ codes "'"
+move_text g (Makes p) = reduce_text g p
 
--- the line of a text, with a dot between what stands in front of the conflict and the rest
+-- the line of a text, with a dot between the access string and the rest
 abbrev pub line_text : Grammar → List ℕ → List ℕ → List ℕ
 line_text g before rest = codes " " ++ words_text g before ++ codes " ." ++ words_text g rest ++ 10 ∷ []
 
 abbrev pub text_line : Grammar → List ℕ → List ℕ → List ℕ
 text_line g before text = line_text g before (drop (length before) text)
 
--- the two lines of a reading: the move by which it goes on, and its tree
+-- the two lines of a derivation: the move by which it goes on, and its tree
 abbrev pub derivation_text : Grammar → MoveOf → Tree ℕ → List ℕ
 derivation_text g next tree = codes "  " ++ move_text g next ++ codes "\n   " ++ tree_text g tree ++ 10 ∷ []

@@ -1,4 +1,4 @@
-//! A conflict with its example.
+//! A conflict with its counterexample.
 ghost use Rattle.std.specs.Prelude.{◌≡◌};
 ghost use Rattle.lrpar_table_rows.specs.PlainConflicts.{reduce_reduce_of, shift_reduce_of};
 ghost use Rattle.lrpar_table_sentences.specs.Moves.{move_of};
@@ -9,7 +9,7 @@ use lrpar_grammar::span::{PIdx, StIdx, StorageIndex, TIdx};
 use lrpar_table_sentences::moves::Move;
 use std::marker::Model;
 
-/// A conflict of a table, with its example.
+/// A conflict of a table, with its counterexample.
 #[derive(Debug, Drop)]
 pub struct ConflictExample<StorageT: StorageIndex> {
     token: TIdx<StorageT>,
@@ -29,7 +29,7 @@ impl<StorageT: StorageIndex> Model for ConflictExample<StorageT> {
 }
 
 impl<StorageT: StorageIndex> ConflictExample<StorageT> {
-    // A conflict between two reductions.
+    // A reduce/reduce conflict.
     pub(crate) fn of_reductions(
         conflict: &(
             TIdx<StorageT>,
@@ -51,7 +51,7 @@ impl<StorageT: StorageIndex> ConflictExample<StorageT> {
         }
     }
 
-    // A conflict between a reduction and a shift.
+    // A shift/reduce conflict.
     pub(crate) fn of_shift(
         conflict: &(TIdx<StorageT>, PIdx<StorageT>, StIdx<StorageT>),
         example: Example<StorageT>,
@@ -82,21 +82,21 @@ impl<StorageT: StorageIndex> ConflictExample<StorageT> {
         self.state
     }
 
-    /// The move by which the first reading goes on: it makes the node of the conflict's production, or of the first one.
+    /// The move by which the first derivation goes on: it reduces the conflict's production, or the first of two.
     pub fn first(&self) -> Move<StorageT>
         ensures { move_of StorageT.index result ≡ self.now.conflict.first }
     {
         self.first
     }
 
-    /// The move by which the second reading goes on: it takes the token, or makes the node of the second production.
+    /// The move by which the second derivation goes on: it shifts the token, or reduces the second production.
     pub fn second(&self) -> Move<StorageT>
         ensures { move_of StorageT.index result ≡ self.now.conflict.second }
     {
         self.second
     }
 
-    /// The example.
+    /// The counterexample.
     pub fn example(&self) -> &Example<StorageT>
         ensures { result.now ≡ self.now.example }
     {

@@ -1,4 +1,4 @@
-//! Examples of the conflicts of a table that was built of a grammar, and their texts.
+//! Counterexamples of the conflicts of a table that was built of a grammar, and their texts.
 pub use crate::conflict::ConflictExample;
 pub use crate::listed::conflict_examples;
 pub use crate::text::format_examples;

@@ -1,4 +1,4 @@
-//! Examples of all conflicts of a table.
+//! Counterexamples of all conflicts of a table.
 ghost use Rattle.std.specs.Prelude.{◌≡◌, IfErr, IfOk, OnOk, map};
 ghost use Rattle.lrpar_table_build.specs.Built.{IsBuilt};
 ghost use Rattle.lrpar_table_build.specs.BuilderLaws.{lists_in};
@@ -14,13 +14,13 @@ use lrpar_grammar::span::{PIdx, StIdx, StorageIndex, TIdx};
 use lrpar_table_rows::table::{Conflicts, StateGraph, StateTable};
 use std::alloc::{AllocError, Global};
 
-/// An example of each conflict of a table that was built of the grammar: of those between two reductions first, and each in the order in
-/// which it is listed. Where it has no conflicts, there are none.
+/// A counterexample of each conflict of a table that was built of the grammar: first those of reduce/reduce conflicts, then those of
+/// shift/reduce conflicts, each in the order in which the table lists them. A table without conflicts has none.
 ///
-/// `bound` is that of `Examples::of_reduce_reduce`: how far one text for both readings is looked for, in each conflict; with 0 it isn't, and
-/// with 1,000 it takes less time than the table took in the grammars that were measured. Each example tells it.
-/// `Barren` comes, as from `Examples::new`, where a rule that the grammar reaches from its start derives no text, and `Memory` where it
-/// doesn't suffice.
+/// `bound` is that of `Examples::of_reduce_reduce`: the bound of the search for a unifying counterexample, for each conflict. With 0 there
+/// is no search; with 1,000 it takes less time than the table took, in the grammars that were measured. Each counterexample keeps its
+/// bound. `Unproductive` names, as in `Examples::new`, the first rule that the grammar reaches from its start and that derives no text;
+/// `Memory` says that an allocation failed.
 pub fn conflict_examples<StorageT: StorageIndex>(
     alloc: Global,
     grm: &YaccGrammar<StorageT>,
@@ -39,7 +39,7 @@ pub fn conflict_examples<StorageT: StorageIndex>(
     }
 }
 
-// An example of each of the conflicts of the table.
+// A counterexample of each of the conflicts of the table.
 fn examples_of<StorageT: StorageIndex>(
     alloc: Global,
     grm: &YaccGrammar<StorageT>,
@@ -79,7 +79,7 @@ fn examples_of<StorageT: StorageIndex>(
     Ok(examples)
 }
 
-// Adds an example of each of these conflicts between two reductions.
+// Adds a counterexample of each of these reduce/reduce conflicts.
 fn push_reductions<StorageT: StorageIndex>(
     alloc: Global,
     grm: &YaccGrammar<StorageT>,
@@ -108,7 +108,7 @@ fn push_reductions<StorageT: StorageIndex>(
     Ok(())
 }
 
-// Adds an example of each of these conflicts between a shift and a reduction.
+// Adds a counterexample of each of these shift/reduce conflicts.
 fn push_shifts<StorageT: StorageIndex>(
     alloc: Global,
     grm: &YaccGrammar<StorageT>,

@@ -1,5 +1,5 @@
-//! The text of a tree that is told by its moves. They are read from the last one back: each node then comes in front of its trees, and of
-//! these the last one first. So the text's pieces come from right to left, and nothing recurs, however deep the tree is.
+//! The text of a tree that is given by its moves. They are read from the last one back: so each node comes before its trees, and the last
+//! of these first. The text's pieces come from right to left, and nothing recurses, however deep the tree is.
 ghost use Rattle.std.specs.Prelude.{◌≡◌, ◌<◌, ◌++◌, ℕ, All, IfOk, OnOk, replicate};
 ghost use Rattle.std.specs.String.{string_bytes};
 ghost use Rattle.lrpar_grammar.specs.Grammar.{prods_len};
@@ -20,18 +20,18 @@ use std::alloc::{AllocError, Global};
 pub(crate) enum Piece<StorageT> {
     /// A token.
     Word(TIdx<StorageT>),
-    /// What stands in front of the trees of a node.
+    /// The front of a node, up to its trees.
     Front(PIdx<StorageT>),
-    /// What stands behind them.
+    /// The end of a node, after its trees.
     End,
 }
 
-/// What is still to be met.
+/// What is still to be written.
 #[derive(Clone, Copy)]
 pub(crate) enum Waiting<StorageT> {
     /// A tree.
     Tree,
-    /// What stands in front of the trees of a node.
+    /// The front of a node, up to its trees.
     Before(PIdx<StorageT>),
 }
 
@@ -81,7 +81,7 @@ fn pieces_of<StorageT: StorageIndex>(
     Ok(pieces)
 }
 
-// Meets the tree that is finished by this move: a token is all of it, and behind a node's end its trees wait, and in front of them its
+// Takes up the tree that ends by this move: a token is all of it; of a node, its end comes first, then its trees wait, and before them its
 // front.
 fn meet<StorageT: StorageIndex>(
     grm: &YaccGrammar<StorageT>,
@@ -102,7 +102,7 @@ fn meet<StorageT: StorageIndex>(
     }
 }
 
-// Adds so many trees.
+// Adds this number of trees.
 fn push_trees<StorageT: StorageIndex>(
     waiting: &mut Vec<Waiting<StorageT>>,
     count: usize,
@@ -131,7 +131,7 @@ fn push_piece<StorageT: StorageIndex>(
     }
 }
 
-// Adds what stands in front of the trees of a node.
+// Adds the front of a node, up to its trees.
 fn push_front<StorageT: StorageIndex>(
     out: &mut String,
     grm: &YaccGrammar<StorageT>,

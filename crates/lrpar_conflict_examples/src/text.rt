@@ -1,10 +1,10 @@
-//! The texts of examples.
+//! The texts of counterexamples.
 ghost use Rattle.std.specs.Prelude.{◌≡◌, ◌≤◌, ◌++◌, ℕ, List, IfOk, OnOk, drop, length};
 ghost use Rattle.std.specs.String.{string_bytes};
 ghost use Rattle.lrpar_grammar.specs.Tree.{Tree, leaves};
 ghost use Rattle.lrpar_table_sentences.specs.Moves.{move_of, moves_in};
 ghost use Rattle.lrpar_conflict_derivations.specs.Texts.{token_numbers};
-ghost use Rattle.lrpar_conflict_examples.specs.ExamplesFit.{ExampleFits, ExamplesFit, ReadsFrom};
+ghost use Rattle.lrpar_conflict_examples.specs.ExamplesFit.{ExampleFits, ExamplesFit, DerivesFrom};
 ghost use Rattle.lrpar_conflict_examples.specs.Fits.{AreMovesOf, AreTokensOf, HasTree, IsMoveOf};
 ghost use Rattle.lrpar_conflict_examples.specs.Texts.{AreExampleTexts, IsExampleText, bound_text, count_text, other_line, title_text};
 ghost use Rattle.lrpar_conflict_examples.specs.Words.{line_text, derivation_text, text_line};
@@ -12,31 +12,30 @@ ghost use Rattle.lrpar_conflict_examples.specs.Words.{line_text, derivation_text
 use crate::conflict::ConflictExample;
 use crate::pieces::push_tree;
 use crate::words::{push_move, push_words, shown_name};
-use lrpar_conflict_derivations::examples::{Example, taken};
+use lrpar_conflict_derivations::examples::{Example, tokens_of};
 use lrpar_grammar::grammar::YaccGrammar;
 use lrpar_grammar::span::{StorageIndex, TIdx};
 use lrpar_table_sentences::moves::Move;
 use std::alloc::{AllocError, Global};
 
-/// The texts of the examples, one behind the other, each with an empty line behind it. Rules and tokens are told by their names, and the
-/// end token by `$`.
+/// The texts of the counterexamples, one after the other, each with an empty line after it. Rules and tokens are shown by their names, and
+/// the end token by `$`.
 ///
 /// ```text
-/// 'e' in state 8: one text, two readings
+/// 'e' in state 8: one text, two derivations
 ///   i i x . e x
-///   make S: 'i' S
+///   reduce S: 'i' S
 ///     S[ i S[ i S[ x ] ] e S[ x ] ]
-///   take 'e'
+///   shift 'e'
 ///     S[ i S[ i S[ x ] e S[ x ] ] ]
 /// ```
 ///
-/// The first line has the conflict's token and state. Then comes the text of both readings, with a dot where the conflict is. If they
-/// have two texts, the first line has the bound within which one for both wasn't found, and each text comes before its own reading.
-/// A reading is shown by the move that it makes after the dot, a production whose node is made or a token that is taken, and by
-/// its tree.
+/// The first line has the conflict's token and state. Then comes the text of both derivations, with a dot at the conflict. If they have two
+/// texts, the first line has the bound within which no common one was found, and each text comes before its own derivation. A derivation is
+/// shown by its move after the dot, a production that is reduced or a token that is shifted, and by its tree.
 ///
-/// The examples have to fit the grammar, as those of `conflict_examples` do. Takes time and memory linear in the examples and in the text
-/// that is made, and no stack for a tree's levels. It fails if memory runs out.
+/// The counterexamples have to fit the grammar, as those of `conflict_examples` do. Takes time and memory linear in the counterexamples and
+/// in the resulting text, and no stack for a tree's levels. Fails only if an allocation does.
 pub fn format_examples<StorageT: StorageIndex>(
     alloc: Global,
     grm: &YaccGrammar<StorageT>,
@@ -54,7 +53,7 @@ pub fn format_examples<StorageT: StorageIndex>(
     Ok(out)
 }
 
-// Adds the text of an example.
+// Adds the text of a counterexample.
 fn push_example<StorageT: StorageIndex>(
     out: &mut String,
     alloc: Global,
@@ -73,7 +72,7 @@ fn push_example<StorageT: StorageIndex>(
     out.push('\n')
 }
 
-// Adds the first line of an example.
+// Adds the first line of a counterexample.
 fn push_title<StorageT: StorageIndex>(
     out: &mut String,
     grm: &YaccGrammar<StorageT>,
@@ -89,7 +88,7 @@ fn push_title<StorageT: StorageIndex>(
     out.push('\n')
 }
 
-// Adds how many texts the readings have.
+// Adds how many texts the derivations have.
 fn push_count<StorageT: StorageIndex>(
     out: &mut String,
     example: &Example<StorageT>,
@@ -100,24 +99,24 @@ fn push_count<StorageT: StorageIndex>(
         let bound = example.bound();
         return push_bound(out, bound);
     }
-    out.push_str("one text, two readings")
+    out.push_str("one text, two derivations")
 }
 
-// Adds that the readings have two texts, and how far one for both was looked for.
+// Adds that the derivations have two texts, and the bound of the search for one.
 fn push_bound(out: &mut String, bound: usize) -> Result<(), AllocError>
     ensures { OnOk result (string_bytes out.new ≡ string_bytes out.old ++ bound_text bound) }
 {
     write!(out, "two texts; one for both not found within {bound}")
 }
 
-// Adds the line of the second reading's text, where it isn't that of the first one.
+// Adds the line of the second derivation's text, if it isn't that of the first one.
 fn push_other_text<StorageT: StorageIndex>(
     out: &mut String,
     alloc: Global,
     grm: &YaccGrammar<StorageT>,
     example: &Example<StorageT>,
 ) -> Result<(), AllocError>
-    requires { ReadsFrom grm.now example.now.before example.now.second }
+    requires { DerivesFrom grm.now example.now.before example.now.second }
     ensures { OnOk result ((tree : Tree ℕ) → AreMovesOf grm.now example.now.second tree
         → string_bytes out.new ≡ string_bytes out.old ++ other_line grm.now example.now (leaves tree)) }
 {
@@ -127,7 +126,7 @@ fn push_other_text<StorageT: StorageIndex>(
     push_text(out, alloc, grm, example.before(), example.second())
 }
 
-// Adds the line of a reading's text.
+// Adds the line of a derivation's text.
 fn push_text<StorageT: StorageIndex>(
     out: &mut String,
     alloc: Global,
@@ -135,16 +134,16 @@ fn push_text<StorageT: StorageIndex>(
     before: &[TIdx<StorageT>],
     moves: &[Move<StorageT>],
 ) -> Result<(), AllocError>
-    requires { ReadsFrom grm.now (token_numbers StorageT.index before.now) (moves_in StorageT.index moves.now) }
+    requires { DerivesFrom grm.now (token_numbers StorageT.index before.now) (moves_in StorageT.index moves.now) }
     ensures { OnOk result ((tree : Tree ℕ) → AreMovesOf grm.now (moves_in StorageT.index moves.now) tree
         → string_bytes out.new ≡ string_bytes out.old ++ text_line grm.now (token_numbers StorageT.index before.now) (leaves tree)) }
 {
     let _start = grm.start_prod();
-    let text = taken(alloc, moves)?;
+    let text = tokens_of(alloc, moves)?;
     push_line(out, grm, before, rest_of(&text, before.len()))
 }
 
-// What stands behind so many tokens.
+// The tokens after the first `count`.
 fn rest_of<StorageT>(tokens: &[TIdx<StorageT>], count: usize) -> &[TIdx<StorageT>]
     requires { count ≤ length tokens.now }
     ensures { result.now ≡ drop count tokens.now }
@@ -152,7 +151,7 @@ fn rest_of<StorageT>(tokens: &[TIdx<StorageT>], count: usize) -> &[TIdx<StorageT
     &tokens[count..]
 }
 
-// Adds the line of a text of which so much stands in front of the dot, and the rest behind it.
+// Adds the line of a text, with a dot between its two parts.
 fn push_line<StorageT: StorageIndex>(
     out: &mut String,
     grm: &YaccGrammar<StorageT>,
@@ -171,7 +170,7 @@ fn push_line<StorageT: StorageIndex>(
     out.push('\n')
 }
 
-// Adds the lines of a reading: the move by which it goes on, and its tree.
+// Adds the lines of a derivation: the move by which it goes on, and its tree.
 fn push_derivation<StorageT: StorageIndex>(
     out: &mut String,
     alloc: Global,

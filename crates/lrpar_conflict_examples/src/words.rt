@@ -1,4 +1,4 @@
-//! The words of examples' texts.
+//! The words of counterexamples' texts.
 ghost use Rattle.std.specs.Prelude.{◌≡◌, ◌<◌, ◌++◌, OnOk, map};
 ghost use Rattle.std.specs.List.{AllByRecursion, flat_map};
 ghost use Rattle.std.specs.String.{string_bytes};
@@ -6,7 +6,7 @@ ghost use Rattle.lrpar_grammar.specs.Grammar.{prods_len, tokens_len};
 ghost use Rattle.lrpar_grammar.specs.Symbols.{symbol_of};
 ghost use Rattle.lrpar_table_sentences.specs.Moves.{move_of};
 ghost use Rattle.lrpar_conflict_examples.specs.Fits.{AreTokensOf, IsMoveOf, IsSymbolOf};
-ghost use Rattle.lrpar_conflict_examples.specs.Words.{make_text, move_text, shown_name, symbol_text, word_text, words_text};
+ghost use Rattle.lrpar_conflict_examples.specs.Words.{reduce_text, move_text, shown_name, symbol_text, word_text, words_text};
 
 use lrpar_grammar::grammar::YaccGrammar;
 use lrpar_grammar::span::{PIdx, StorageIndex, Symbol, TIdx};
@@ -24,7 +24,7 @@ pub(crate) fn shown_name<StorageT: StorageIndex>(
     grm.token_name(token).unwrap_or("$")
 }
 
-/// Adds a token, behind a space.
+/// Adds a token, after a space.
 pub(crate) fn push_word<StorageT: StorageIndex>(
     out: &mut String,
     grm: &YaccGrammar<StorageT>,
@@ -37,7 +37,7 @@ pub(crate) fn push_word<StorageT: StorageIndex>(
     out.push_str(shown_name(grm, token))
 }
 
-/// Adds tokens, each behind a space.
+/// Adds tokens, each after a space.
 pub(crate) fn push_words<StorageT: StorageIndex>(
     out: &mut String,
     grm: &YaccGrammar<StorageT>,
@@ -66,28 +66,28 @@ pub(crate) fn push_move<StorageT: StorageIndex>(
     match step {
         Move::Take(token) => {
             let name = shown_name(grm, token);
-            write!(out, "take '{name}'")
+            write!(out, "shift '{name}'")
         }
-        Move::Make(prod) => push_make(out, grm, prod),
+        Move::Make(prod) => push_reduce(out, grm, prod),
     }
 }
 
-// Adds which node is made: that of a production.
-fn push_make<StorageT: StorageIndex>(
+// Adds a reduction of the production.
+fn push_reduce<StorageT: StorageIndex>(
     out: &mut String,
     grm: &YaccGrammar<StorageT>,
     prod: PIdx<StorageT>,
 ) -> Result<(), AllocError>
     requires { StorageT.index prod.0 < prods_len grm.now }
-    ensures { OnOk result (string_bytes out.new ≡ string_bytes out.old ++ make_text grm.now (StorageT.index prod.0)) }
+    ensures { OnOk result (string_bytes out.new ≡ string_bytes out.old ++ reduce_text grm.now (StorageT.index prod.0)) }
 {
     let _start = grm.start_prod();
     let name = grm.rule_name_str(grm.prod_to_rule(prod));
-    write!(out, "make {name}:")?;
+    write!(out, "reduce {name}:")?;
     push_symbols(out, grm, grm.prod(prod))
 }
 
-// Adds symbols, each behind a space.
+// Adds symbols, each after a space.
 fn push_symbols<StorageT: StorageIndex>(
     out: &mut String,
     grm: &YaccGrammar<StorageT>,
@@ -105,7 +105,7 @@ fn push_symbols<StorageT: StorageIndex>(
     Ok(())
 }
 
-// Adds a symbol behind a space: a rule by its name, and a token by its name in quotes.
+// Adds a symbol after a space: a rule by its name, and a token by its name in quotes.
 fn push_symbol<StorageT: StorageIndex>(
     out: &mut String,
     grm: &YaccGrammar<StorageT>,

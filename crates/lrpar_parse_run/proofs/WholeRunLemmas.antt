@@ -15,7 +15,7 @@ use Rattle.lrpar_parse_errors.specs.Failure.{Failure}
 use Rattle.lrpar_parse_run.specs.Recovering.{GoesOnBy, IsListedBy, IsRecovered}
 use Rattle.lrpar_parse_run.specs.Moves.{GoesFar, IsReplayed}
 use Rattle.lrpar_parse_repair.specs.PlainSteps.{plain_sequences, plain_steps}
-use Rattle.lrpar_parse_run.specs.RepairAnswer.{SuppliesNone, IsRepairAnswer, IsRepairErrorOf, RepairWholeRun}
+use Rattle.lrpar_parse_run.specs.RepairAnswer.{SuppliesNone, IsRepairAnswer, IsRepairErrorOf, RunWithRepairs}
 use Rattle.lrpar_parse_run.specs.RepairRun.{RepairRun, RepairStop, ends_there, fed_between, is_repaired, runs_through}
 use Rattle.lrpar_table_stacks.specs.Run.{Stopped}
 use Rattle.lrpar_parse_run.specs.RunAnswer.{HasValue, IsOneWay, IsValueOf}
@@ -247,7 +247,7 @@ module _ {X E : Type 0} (about : Subject X) (builds : Building X E) (lexemes : L
     sentence_of (Some xs) prods (v, has, of) e = let same : xs ≡ lexemes = cc in (of.tree, of.fits, of.leaves_are ∙ same)
 
     -- an answer is that of the run that has its errors and its value, within the bound
-    whole_run_answer : IsChecked about.checked → (whole_run : RepairWholeRun about lexemes) → AllZip (IsRepairErrorOf about lexemes) whole_run.stops answer.1.items → HasIts whole_run.consumed whole_run.prods
+    whole_run_answer : IsChecked about.checked → (whole_run : RunWithRepairs about lexemes) → AllZip (IsRepairErrorOf about lexemes) whole_run.stops answer.1.items → HasIts whole_run.consumed whole_run.prods
         → MatchOption whole_run.consumed (Unit {0}) (λ xs. length whole_run.prods ≤ most_productions about.checked.cap (length xs) (length whole_run.stops))
         → IsRepairAnswer about (λ a. a.1.items) (HasValue (λ x. (about.facts x).token) about.checked.grammar Evaluates) lexemes answer
     whole_run_answer checked whole_run errors value bound = record {

@@ -16,7 +16,7 @@ use Rattle.lrpar_parse_errors.specs.declared.errors.LexParseError.TheVariants.{L
 
 -- A whole run by a checked table, from the start state at the first lexeme: its error points, with what is listed there; the lexemes
 -- that it consumes, if it accepts; and its reductions.
-pub record RepairWholeRun {X : Type 0} (about : Subject X) (lexemes : List X) : Type 0 where
+pub record RunWithRepairs {X : Type 0} (about : Subject X) (lexemes : List X) : Type 0 where
   pub stops : List RepairStop
   pub consumed : Option (List X)
   pub prods : List ℕ
@@ -34,7 +34,7 @@ SuppliesNone {X} allows = (point : Point X) (answer : List (List PlainStep)) →
 -- The answer is that of a whole run. `errors_of` gives the errors of an answer, and `IsValued` says which value it must have for what
 -- the run consumed and for its reductions.
 pub record IsRepairAnswer {T S L B C : Type 0} (about : Subject B) (errors_of : T → List (LexParseError S L B C)) (IsValued : Option (List B) → List ℕ → T → Type 0) (lexemes : List B) (answer : T) : Type 0 where
-  pub whole_run : RepairWholeRun about lexemes
+  pub whole_run : RunWithRepairs about lexemes
   -- errors: one for each error point, in order; if no sequence is supplied, there is at most one error, and the run ends with it
   pub errors : AllZip (IsRepairErrorOf about lexemes) whole_run.stops (errors_of answer)
   pub one_way : SuppliesNone about.allows → IsOneWay whole_run.consumed (errors_of answer)

@@ -1,22 +1,22 @@
-//! Lists of what may stand somewhere.
+//! Lists of what may come somewhere.
 use lrpar_grammar::grammar::YaccGrammar;
 use lrpar_grammar::span::{StorageIndex, TIdx};
 use std::alloc::AllocError;
 
-/// How many tokens are told at most.
+/// How many tokens are named at most.
 const MOST_CHOICES: usize = 12;
 
 /// Adds what may come: `expected A`, `expected A or B`, `expected A, B or C`; of more than twelve tokens the first twelve, and how many
-/// more there are. Adds nothing, where there are none.
+/// more there are. Adds nothing, if there are none.
 pub fn push_choices<StorageT: StorageIndex>(
     out: &mut String,
     grm: &YaccGrammar<StorageT>,
     tokens: &[TIdx<StorageT>],
 ) -> Result<(), AllocError> {
-    let told = tokens.get(..MOST_CHOICES).unwrap_or(tokens);
-    let more = tokens.len().saturating_sub(told.len());
-    for (place, token) in told.iter().enumerate() {
-        let after = told.len().saturating_sub(place).saturating_add(more);
+    let named = tokens.get(..MOST_CHOICES).unwrap_or(tokens);
+    let more = tokens.len().saturating_sub(named.len());
+    for (place, token) in named.iter().enumerate() {
+        let after = named.len().saturating_sub(place).saturating_add(more);
         out.push_str(joint(place, after))?;
         push_token(out, grm, *token)?;
     }
@@ -26,7 +26,7 @@ pub fn push_choices<StorageT: StorageIndex>(
     }
 }
 
-/// What stands in front of a choice, behind so many others, when so many are left with it.
+/// What comes before the choice at place `place` of a list, if `left` choices are left with it.
 pub(crate) fn joint(place: usize, left: usize) -> &'static str {
     match (place, left) {
         (0, _) => "expected ",

@@ -1,9 +1,9 @@
-//! Texts of files, and why there is none.
+//! Texts of files, or why there is none.
 use std::alloc::{AllocError, Global};
 use std::io;
 
 /// The text of these bytes, or the message that they aren't UTF-8: `PATH:LINE:COLUMN: error: not UTF-8 at byte N`, N counted from 0.
-/// The inner `Err` is the message, the outer one a want of memory.
+/// The inner `Err` is the message, the outer one a failed allocation.
 pub fn text_of(
     alloc: Global,
     path: &str,
@@ -19,7 +19,7 @@ pub fn text_of(
     }
 }
 
-// The message of bytes that aren't UTF-8 from this one on.
+// The message of bytes that aren't UTF-8 from byte `at` on.
 fn not_text(alloc: Global, path: &str, bytes: &[u8], at: usize) -> Result<String, AllocError> {
     let front = str::from_utf8(bytes.get(..at).unwrap_or(&[])).unwrap_or("");
     let line = front.matches('\n').count().saturating_add(1);

@@ -1,4 +1,4 @@
-//! Faults of grammar texts.
+//! Messages of faults in grammar texts.
 use crate::choices::push_quoted;
 use crate::message::{Level, Message};
 use crate::near::push_nearest;
@@ -9,9 +9,9 @@ use lrpar_grammar_words::outline::{Outline, OutlineFault};
 use lrpar_grammar_words::words::Word;
 use std::alloc::{AllocError, Global};
 
-/// The message of the fault that a grammar text has: what is wrong where, with the name in question, and what would be right there: what
-/// may stand at that place, or a rule or token whose name is near. `text` has to be the text whose fault that is; else the message is
-/// about places that tell nothing.
+/// The message of the fault in a grammar text: what is wrong and where, with the name in question, and what would be right there: what
+/// may come at that place, or a rule or token with a similar name. `text` has to be the text that has the fault; else the places in the
+/// message mean nothing.
 ///
 /// Takes time linear in the text, and in its names times the length of the one in question.
 pub fn grammar_message(
@@ -80,7 +80,7 @@ fn named(
     })
 }
 
-// The part of the text, if it has that one.
+// The part of the text at this place, or an empty one if the text has no such place.
 fn part(text: &str, span: Span) -> &str {
     text.get(span.start()..span.end()).unwrap_or("")
 }
@@ -99,7 +99,7 @@ fn unknown_rule(alloc: Global, text: &str, span: Span) -> Result<Message, AllocE
     named(alloc, text, span, "name", what, label.as_str())
 }
 
-// The message of a name behind `%epp` that is no token.
+// The message of a name after `%epp` that is no token.
 fn unknown_token(alloc: Global, text: &str, span: Span) -> Result<Message, AllocError> {
     let mut label = String::new(alloc);
     if let Ok(outline) = outline_of(alloc, text)? {
@@ -141,7 +141,7 @@ fn push_near(
     push_nearest(label, name, &names)
 }
 
-// The message of a text that isn't one of a grammar from a byte on.
+// The message of a text that isn't a grammar's from byte `at` on.
 fn syntax_message(alloc: Global, text: &str, at: usize) -> Result<Message, AllocError> {
     let (front, rest) = text.split_at_checked(at).unwrap_or((text, ""));
     let mut message = String::new(alloc);
@@ -165,7 +165,7 @@ fn syntax_message(alloc: Global, text: &str, at: usize) -> Result<Message, Alloc
     })
 }
 
-// What is said of a comment or a quote with which the text begins, if it isn't closed.
+// What is wrong with the comment or quote with which the text begins, if it isn't closed.
 fn unclosed(text: &str) -> Option<&'static str> {
     if text.starts_with("/*") {
         Some("comment without its `*/`")
@@ -176,7 +176,7 @@ fn unclosed(text: &str) -> Option<&'static str> {
     }
 }
 
-// Adds the word that stands where it can't; where there is none, that it is the end.
+// Adds the word that is unexpected, or that it is the end if there is none.
 fn push_unexpected(message: &mut String, word: &str) -> Result<(), AllocError> {
     message.push_str("unexpected ")?;
     if word.is_empty() {
@@ -210,7 +210,7 @@ fn first_word(text: &str) -> &str {
     text.get(..len).unwrap_or(text)
 }
 
-// Whether the character may stand in a name.
+// Whether the character may be part of a name.
 fn is_in_name(c: char) -> bool {
     c.is_ascii_alphanumeric() || c == '_' || c == '.'
 }

@@ -1,4 +1,4 @@
-//! Faults of the rules of a lexer.
+//! Messages of faults in the rules of a lexer.
 use crate::choices::push_quoted;
 use crate::message::{Level, Message};
 use crate::near::push_nearest;
@@ -7,8 +7,8 @@ use lrpar_grammar::span::Span;
 use lrpar_lexer::LineFault;
 use std::alloc::{AllocError, Global};
 
-/// The message of the fault that the line of this number, counted from 1, has in a text of rules: the cause, and where in the line it is.
-/// `text` has to be the text whose fault that is; else the message is about places that tell nothing.
+/// The message of a fault in the line of this number, counted from 1, of a text of rules: the cause, and where in the line it is.
+/// `text` has to be the text that has the fault; else the places in the message mean nothing.
 ///
 /// Takes time linear in the text, and in the tokens of the grammar times the length of the name in question.
 pub fn lexer_message(
@@ -27,7 +27,7 @@ pub fn lexer_message(
     }
 }
 
-// Where the line of this number stands, without spaces, tabs and carriage returns at its ends.
+// The place of the line of this number, without spaces, tabs and carriage returns at its ends.
 fn line_of(text: &str, number: usize) -> Span {
     let mut start = 0usize;
     let mut left = number;
@@ -41,7 +41,7 @@ fn line_of(text: &str, number: usize) -> Span {
     Span::new(text.len(), text.len())
 }
 
-// Where the core of a line stands that starts at a byte.
+// The same of a line that starts at byte `start`.
 fn core_of(line: &str, start: usize) -> Span {
     let after = line.trim_start_matches([' ', '\t', '\r']);
     let from = start.saturating_add(line.len().saturating_sub(after.len()));
@@ -62,7 +62,7 @@ fn unread(alloc: Global, core: Span) -> Result<Message, AllocError> {
     })
 }
 
-// The message of a line that starts at a byte and names no token.
+// The message of a line that starts at byte `start` and names no token.
 fn unnamed(
     alloc: Global,
     grm: &YaccGrammar<u32>,
@@ -123,7 +123,7 @@ fn refused(alloc: Global, error: &regex::Error, core: Span) -> Result<Message, A
     })
 }
 
-// The part of a line that a part of its pattern is, at whose start it stands.
+// The place of a part of the pattern with which a line begins.
 fn pattern_span(core: Span, start: usize, end: usize) -> Span {
     let from = core.start().saturating_add(start).min(core.end());
     Span::new(

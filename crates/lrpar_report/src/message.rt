@@ -18,7 +18,7 @@ pub enum Level {
 }
 
 impl Level {
-    /// The word in front of the message.
+    /// The word before the message.
     pub fn word(self) -> &'static str {
         match self {
             Level::Error => "error",
@@ -27,7 +27,7 @@ impl Level {
         }
     }
 
-    // What lets a terminal show that word in a colour.
+    // The escape sequence that sets the colour of that word on a terminal.
     fn colour(self) -> &'static str {
         match self {
             Level::Error => "\u{1b}[1;31m",
@@ -53,13 +53,13 @@ pub struct Message {
     pub level: Level,
     /// What is wrong.
     pub text: String,
-    /// Where; nowhere, where it is about all of the text.
+    /// Where; `None` if it is about all of the text.
     pub span: Option<Span>,
     /// What is said of that place: what would be right there. It may be empty.
     pub label: String,
 }
 
-/// Shows messages about a text, with the lines that they are about. It borrows the text, and the path under which it names it.
+/// Shows messages about a text, with the lines that they are about. It borrows the text, and the path by which messages name it.
 #[derive(Drop)]
 pub struct Reporter<'a> {
     text: &'a str,
@@ -86,8 +86,8 @@ impl<'a> Reporter<'a> {
         })
     }
 
-    /// Adds the message: `PATH:LINE:COLUMN: error: TEXT`, and then the lines that its place touches, underlined, with the label behind
-    /// the last underline; `PATH: error: TEXT` where it has no place in the text. Lines and columns count from 1, columns in characters.
+    /// Adds the message: `PATH:LINE:COLUMN: error: TEXT`, and then the lines that its place touches, underlined, with the label after
+    /// the last underline; `PATH: error: TEXT` if it has no place in the text. Lines and columns count from 1, columns in characters.
     pub fn push(
         &self,
         out: &mut String,

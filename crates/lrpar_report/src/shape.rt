@@ -1,4 +1,4 @@
-//! What may stand at a place of a grammar text, which is found by trying it.
+//! What may come at a place of a grammar text, which is found by trying it.
 use crate::choices::joint;
 use lrpar_grammar_words::outline::{Outline, OutlineFault};
 use lrpar_grammar_words::words::WordKind;
@@ -19,8 +19,8 @@ fn sample(kind: WordKind) -> (&'static str, &'static str) {
     }
 }
 
-/// Adds the kinds of words that may stand behind this beginning of a grammar text, which has whole words that can stand as they do:
-/// `, expected A, B or C`.
+/// Adds the kinds of words that may follow this beginning of a grammar text, which has to be a list of whole words that begins some
+/// grammar text: `, expected A, B or C`.
 pub(crate) fn push_expected(
     out: &mut String,
     alloc: Global,
@@ -37,23 +37,23 @@ pub(crate) fn push_expected(
     Ok(())
 }
 
-// The kinds of words that may stand behind the beginning.
+// The kinds of words that may follow the beginning.
 fn expected(alloc: Global, front: &str) -> Result<Vec<&'static str>, AllocError> {
     let mut names = Vec::new(alloc);
     for kind in WordKind::ALL {
         let (word, name) = sample(kind);
-        if can_stand(alloc, front, word)? {
+        if can_follow(alloc, front, word)? {
             names.push(name)?;
         }
     }
-    if can_stand(alloc, front, "")? {
+    if can_follow(alloc, front, "")? {
         names.push("the end")?;
     }
     Ok(names)
 }
 
-// Whether the word may stand behind the beginning: the text is then read to its end.
-fn can_stand(alloc: Global, front: &str, word: &str) -> Result<bool, AllocError> {
+// Whether the word may follow the beginning: the text is then read to its end.
+fn can_follow(alloc: Global, front: &str, word: &str) -> Result<bool, AllocError> {
     let text = format!(in alloc; "{front}{word}")?;
     match Outline::read(alloc, text.as_str()) {
         Ok(_) => Ok(true),

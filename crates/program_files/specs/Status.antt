@@ -9,7 +9,7 @@ status_code Success = 0
 status_code Errors = 1
 status_code NoAnswer = 2
 
--- how a program ends whose input has no error, or has one
+-- how a program ends if its input has no error, or has one
 abbrev pub status_of : Bool → Status
 status_of true = Success
 status_of false = Errors

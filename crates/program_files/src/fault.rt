@@ -1,4 +1,4 @@
-//! Why a command ends without an answer, and the line that says so.
+//! Why a program ends without an answer.
 ghost use Rattle.std.specs.Prelude.{◌≡◌};
 ghost use Rattle.program_files.specs.declared.fault.Fault.TheVariants.{Memory};
 
@@ -11,52 +11,55 @@ use std::alloc::{AllocError, AllocFailed, Global};
 use std::io;
 use thiserror::Error;
 
-/// Why a command ends without an answer. Its text is the line that standard error gets.
+/// Why a program ends without an answer. The text names no program: each program adds its name when it writes the text.
 #[derive(Debug, Drop, Error)]
 pub enum Fault {
-    /// No command has these words.
-    #[error("usage: lrpar demo TEXT | tree [--shifts K] GRAMMAR LEXER INPUT [REPAIRS] | check GRAMMAR CAP | conflicts GRAMMAR | calc [--shifts K] [REPAIRS]")]
-    Usage,
+    /// The words are no command of the program, as this says.
+    #[error("{0}")]
+    Usage(&'static str),
     /// No lexeme would have to follow a repair.
-    #[error("lrpar: shifts must be at least 1")]
+    #[error("shifts must be at least 1")]
     ZeroShifts,
     /// The file at this path isn't there, can't be read, or isn't UTF-8.
-    #[error("lrpar: cannot read {0}")]
+    #[error("cannot read {0}")]
     File(String),
     /// Standard input can't be read, or isn't UTF-8.
-    #[error("lrpar: cannot read standard input")]
+    #[error("cannot read standard input")]
     Input,
-    /// Memory was wanting.
-    #[error("lrpar: out of memory")]
+    /// What is wrong with a file, as messages show it, without its last line feed.
+    #[error("{0}")]
+    Message(String),
+    /// An allocation failed.
+    #[error("out of memory")]
     Memory,
     /// A grammar is refused.
-    #[error("lrpar: grammar: {0}")]
+    #[error("grammar: {0}")]
     Grammar(GrammarFault),
     /// No table is built of a grammar.
-    #[error("lrpar: table: {0}")]
+    #[error("table: {0}")]
     Build(BuildFault),
     /// A table isn't safe to parse by.
-    #[error("lrpar: table: {0}")]
+    #[error("table: {0}")]
     Check(CheckFault),
-    /// A line of a lexer is no rule.
-    #[error("lrpar: lexer: line {0}")]
+    /// The line of this number in a lexer is no rule.
+    #[error("lexer: line {0}")]
     Lexer(usize),
-    /// A line of repairs is no sequence.
-    #[error("lrpar: repairs: line {0}")]
+    /// The line of this number in a text of repairs is no sequence.
+    #[error("repairs: line {0}")]
     Repairs(usize),
     /// An error lies outside of its text, which no error of a parse does.
-    #[error("lrpar: an error lies outside of the text")]
+    #[error("an error lies outside of the text")]
     Misplaced,
-    /// A parse is refused for a lexeme, which the lexer of the program doesn't answer.
-    #[error("lrpar: {0}")]
+    /// A parse is refused for a lexeme that the program's lexer never gives.
+    #[error("{0}")]
     Parse(ParseFault),
     /// Standard output takes no more.
-    #[error("lrpar: cannot write standard output")]
+    #[error("cannot write standard output")]
     Output,
 }
 
 impl Fault {
-    // The fault of a file that can't be read.
+    /// The fault of a file that can't be read.
     pub fn of_file(alloc: Global, path: &str, error: &io::Error) -> Fault {
         if error.kind() == io::ErrorKind::OutOfMemory {
             return Fault::Memory;
@@ -67,7 +70,7 @@ impl Fault {
         }
     }
 
-    // The fault of standard input that can't be read.
+    /// The fault of standard input that can't be read.
     pub fn of_input(error: &io::Error) -> Fault {
         match error.kind() {
             io::ErrorKind::OutOfMemory => Fault::Memory,
@@ -75,12 +78,20 @@ impl Fault {
         }
     }
 
-    // The fault of a failed look at the program's arguments.
+    /// The fault of a program's arguments that can't be read.
     pub fn of_arguments(error: &io::Error) -> Fault {
         match error.kind() {
             io::ErrorKind::OutOfMemory => Fault::Memory,
-            _ => Fault::Usage,
+            _ => Fault::Usage("a word isn't UTF-8"),
         }
+    }
+
+    /// The fault that shows a message, which ends with a line feed.
+    pub fn of_message(mut message: String) -> Fault {
+        if message.as_str().ends_with('\n') {
+            let _ = message.pop();
+        }
+        Fault::Message(message)
     }
 }
 
@@ -129,7 +140,7 @@ impl From<RulesFault> for Fault {
     }
 }
 
-// Of a failed write to standard output. Where a read fails, the fault is made there.
+// For a failed write to standard output. A failed read has its own faults: see `of_file` and `of_input`.
 impl From<io::Error> for Fault {
     fn from(error: io::Error) -> Fault {
         match error.kind() {

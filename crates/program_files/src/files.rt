@@ -13,7 +13,7 @@ pub fn file_text<R: Files>(rt: &R, alloc: Global, path: &str) -> Result<String, 
     }
 }
 
-/// The text of a file, where there is a path.
+/// The text of a file, or no text if there is no path.
 pub fn text_if_any<R: Files>(rt: &R, alloc: Global, path: Option<&str>) -> Result<String, Fault> {
     match path {
         Some(path) => file_text(rt, alloc, path),

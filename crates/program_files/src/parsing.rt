@@ -9,7 +9,7 @@ use lrpar_lexer::{LexRule, Token, TokenTypes, rules_of};
 use lrpar_parse::RTParserBuilder;
 use lrpar_parse_errors::errors::LexParseError;
 use lrpar_parse_lexemes::lex_api::NonStreamingLexer;
-use lrpar_parse_repair::repair::FixedRecoverer;
+use lrpar_parse_repair::repair::{FixedRecoverer, Recoverer};
 use lrpar_parse_trees::node::Node;
 use lrpar_table::check::ParserData;
 use std::alloc::{AllocError, Global};
@@ -25,7 +25,7 @@ pub type Tree = Node<Token<u32>, u32>;
 pub type TextError = LexParseError<u32, TokenTypes>;
 
 /// The tree of a text, if there is one, and the errors.
-type Parsed = (Option<Tree>, Vec<TextError>);
+pub type Parsed = (Option<Tree>, Vec<TextError>);
 
 /// A parser of texts, with the rules of its lexer and what its messages print.
 #[derive(Drop)]
@@ -67,13 +67,20 @@ fn repairing_parser<'a>(
     parser_by(data, repairs, shifts)
 }
 
-/// The parser by this table, with these repairs; `shifts` lexemes have to follow a repair, where that is told.
+/// The parser by this table, with these repairs; `shifts` lexemes have to follow a repair, if it is given.
 pub fn parser_by(
     data: &ParserData<u32>,
     repairs: FixedRecoverer<u32>,
     shifts: Option<usize>,
 ) -> Result<Parser<'_>, Fault> {
-    let parser = RTParserBuilder::new(data).recoverer(repairs);
+    with_shifts(RTParserBuilder::new(data).recoverer(repairs), shifts)
+}
+
+/// The parser with this number of lexemes that have to follow a repair, if it is given. Returns [`Fault::ZeroShifts`] for 0.
+pub fn with_shifts<'a, R: Recoverer<u32, Token<u32>> + Drop>(
+    parser: RTParserBuilder<'a, u32, TokenTypes, R>,
+    shifts: Option<usize>,
+) -> Result<RTParserBuilder<'a, u32, TokenTypes, R>, Fault> {
     match shifts {
         Some(count) => match parser.shifts(count) {
             Ok(parser) => Ok(parser),
@@ -92,8 +99,8 @@ pub fn printed_names(alloc: Global, grm: &YaccGrammar<u32>) -> Result<Vec<&str>,
     Ok(names)
 }
 
-/// Parses the lexer's text to its tree, and prints each error's text and a line feed, and then the tree's text, if there is a
-/// tree. Answers whether there is one, and no error.
+/// Parses the lexer's text. Prints each error's text and a line feed, and then the tree's text, if there is a tree. Returns whether
+/// there is a tree, and no error.
 pub fn print_tree<'a, L: NonStreamingLexer<'a, TokenTypes>, O: Write>(
     alloc: Global,
     parser: &Parser<'_>,
@@ -161,7 +168,7 @@ pub fn print_line<O: Write>(out: &mut O, text: &str) -> Result<(), Fault> {
     Ok(())
 }
 
-/// The text of an error. Each token prints as some text, so only memory can be wanting.
+/// The text of an error. Each token has a printed text, so the only failures are [`Fault::Misplaced`] and [`Fault::Memory`].
 pub fn error_text<'a, L: NonStreamingLexer<'a, TokenTypes>>(
     alloc: Global,
     names: &'a [&'a str],
@@ -180,7 +187,7 @@ pub fn error_text<'a, L: NonStreamingLexer<'a, TokenTypes>>(
     }
 }
 
-// What messages print for a token: nothing, where it isn't the grammar's.
+// What messages print for a token: nothing, if it isn't one of the grammar.
 fn name_at<'a>(names: &'a [&'a str], token: TIdx<u32>) -> &'a str {
     match names.get(usize::from(token)) {
         Some(name) => *name,

@@ -7,9 +7,11 @@ use std::alloc::Global;
 /// A step, and the text after it.
 type StepAndRest<'a> = (RepairStep<u32>, &'a str);
 
-/// The recoverer of a text: a sequence a line, of steps `insert 'NAME'` or `insert "NAME"`, `delete` and `shift`, with spaces or
-/// tabs between. At both ends of a line spaces, tabs and carriage returns count for nothing, and a line that has nothing else is
-/// left out.
+/// The recoverer of a text: each line is a repair sequence. Its steps are `insert 'NAME'` or `insert "NAME"`, `delete` and `shift`,
+/// with spaces or tabs between them. Spaces, tabs and carriage returns at both ends of a line are skipped, and so is a line that
+/// has nothing else.
+///
+/// Returns [`Fault::Repairs`] with the number of the first line that is no sequence.
 pub fn recoverer_of(
     alloc: Global,
     grm: &YaccGrammar<u32>,
@@ -49,7 +51,7 @@ fn sequence_of(
     Ok(steps)
 }
 
-// The step with which a text begins, and the text after it and the gap behind it.
+// The step with which a text begins, and the text after it and its gap.
 fn step_of<'a>(grm: &YaccGrammar<u32>, text: &'a str) -> Option<StepAndRest<'a>> {
     let (step, after) = named_step(grm, text)?;
     Some((step, after_step(after)?))
@@ -72,7 +74,7 @@ fn insertion<'a>(grm: &YaccGrammar<u32>, text: &'a str) -> Option<StepAndRest<'a
     Some((RepairStep::Insert(grm.token_idx(name)?), after))
 }
 
-// What stands in the quotes with which a text begins, and the text after them.
+// The text between the quotes with which a text begins, and the text after them.
 fn quoted(text: &str) -> Option<(&str, &str)> {
     match text.strip_prefix('\'') {
         Some(inside) => inside.split_once('\''),
@@ -80,7 +82,7 @@ fn quoted(text: &str) -> Option<(&str, &str)> {
     }
 }
 
-// What stands after a step: nothing, or a gap and other steps, of which the gap is left out.
+// What comes after a step, without its gap: nothing, or other steps.
 fn after_step(text: &str) -> Option<&str> {
     if text.is_empty() {
         Some(text)
@@ -89,7 +91,7 @@ fn after_step(text: &str) -> Option<&str> {
     }
 }
 
-// What stands after the spaces and tabs with which a text begins. There has to be one.
+// What comes after the spaces and tabs with which a text begins. It has to begin with one.
 fn after_gap(text: &str) -> Option<&str> {
     let after = text.trim_start_matches([' ', '\t']);
     if after.len() < text.len() {

@@ -1,7 +1,8 @@
-//! What programs share: their words, and how they end.
+//! The words of a program, and how it ends.
 ghost use Rattle.std.specs.Prelude.{◌≡◌, ◌≤◌, IfOk, Ok, OnErr};
 ghost use Rattle.program_files.specs.Status.{status_code, status_of};
 
+use crate::fault::Fault;
 use std::env;
 use std::fmt::Display;
 use std::io::{self, BufWriter, Write};
@@ -18,7 +19,7 @@ pub enum Status {
 }
 
 impl Status {
-    /// How a program ends whose input has no error, or has one.
+    /// How a program ends if its input has no error, or has one.
     pub fn of(is_clean: bool) -> Status
         ensures { result ≡ status_of is_clean }
     {
@@ -47,11 +48,11 @@ pub fn words(rt: &HostRuntime) -> io::Result<Vec<String>> {
     Ok(env::args(rt)?.skip(1).collect(rt.alloc())?)
 }
 
-/// The answer, once all that was printed is written, or else a fault. What `out` doesn't take isn't tried again.
-pub fn finished<FaultT: From<io::Error> + Drop, O: Write + Drop>(
-    answer: Result<Status, FaultT>,
+/// The answer, after `out` is flushed; or a fault, and then what is left in its buffer is dropped.
+pub fn finished<O: Write + Drop>(
+    answer: Result<Status, Fault>,
     mut out: BufWriter<O>,
-) -> Result<Status, FaultT>
+) -> Result<Status, Fault>
     ensures { IfOk result (λ status. answer ≡ Ok status) }
 {
     let answer = flushed(answer, &mut out);
@@ -61,11 +62,8 @@ pub fn finished<FaultT: From<io::Error> + Drop, O: Write + Drop>(
     answer
 }
 
-// The answer, once all that was printed is written.
-fn flushed<FaultT: From<io::Error> + Drop, O: Write>(
-    answer: Result<Status, FaultT>,
-    out: &mut O,
-) -> Result<Status, FaultT>
+// The answer, after `out` is flushed.
+fn flushed<O: Write>(answer: Result<Status, Fault>, out: &mut O) -> Result<Status, Fault>
     ensures { IfOk result (λ status. answer ≡ Ok status) }
 {
     let written = out.flush();
@@ -76,7 +74,7 @@ fn flushed<FaultT: From<io::Error> + Drop, O: Write>(
     }
 }
 
-/// The number that a program ends with, whose fault is told on `err` first, with a line feed behind it, as far as that can be done.
+/// The number that a program ends with. A fault is written to `err` first, with a line feed after it, as far as that can be done.
 pub fn ended<FaultT: Display + Drop, E: Write>(ending: Result<Status, FaultT>, err: &mut E) -> u8
     ensures status { IfOk ending (λ status. result ≡ status_code status) }
     ensures fault { OnErr ending (result ≡ 2) }

@@ -24,7 +24,7 @@ place_of at c = record { start = at; end = at + len_utf8 c }
 abbrev pub answer_of : ℕ → ℕ → Result (Token ℕ) NoToken
 answer_of at c = option_map_or (λ token. Ok (lexeme_at (place_of at c) token)) (token_of c) (Err (error_at (place_of at c)))
 
--- the answers for characters of which the first starts at byte `at`
+-- the answers for characters, the first of which starts at byte `at`
 abbrev pub answers_from : ℕ → List ℕ → List (Result (Token ℕ) NoToken)
 answers_from at [] = []
 answers_from at (c ∷ cs) = answer_of at c ∷ answers_from (at + len_utf8 c) cs

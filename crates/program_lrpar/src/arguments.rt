@@ -1,6 +1,9 @@
 //! The words after the program's name as a command.
 use program_files::fault::Fault;
 
+/// Why words that are no command are refused.
+const NO_COMMAND: &str = "no command has these words";
+
 /// A command, with its words.
 #[derive(Clone, Copy)]
 pub(crate) enum Command<'a> {
@@ -18,11 +21,11 @@ pub(crate) enum Command<'a> {
         grammar: &'a str,
         cap: u16,
     },
-    /// Tells the conflicts of the table of the grammar of a file.
+    /// Prints the conflicts of the table of the grammar of a file.
     Conflicts {
         grammar: &'a str,
     },
-    /// Computes what stands on standard input, by the repairs of a file.
+    /// Computes the lines of standard input, by the repairs of a file.
     Calc {
         shifts: Option<usize>,
         repairs: Option<&'a str>,
@@ -50,7 +53,7 @@ pub(crate) fn command_of(args: &[String]) -> Result<Command<'_>, Fault> {
             grammar: grammar.as_str(),
         }),
         [name, words @ ..] if name.as_str() == "calc" => calc(words),
-        _ => Err(Fault::Usage),
+        _ => Err(Fault::Usage(NO_COMMAND)),
     }
 }
 
@@ -73,7 +76,7 @@ fn tree_paths(words: &[String]) -> Result<TreePaths<'_>, Fault> {
             input: input.as_str(),
             repairs: path_if_any(repairs)?,
         }),
-        _ => Err(Fault::Usage),
+        _ => Err(Fault::Usage(NO_COMMAND)),
     }
 }
 
@@ -82,21 +85,21 @@ fn path_if_any(words: &[String]) -> Result<Option<&str>, Fault> {
     match words {
         [] => Ok(None),
         [path] => Ok(Some(path.as_str())),
-        _ => Err(Fault::Usage),
+        _ => Err(Fault::Usage(NO_COMMAND)),
     }
 }
 
 // The command `check` of the words after it.
 fn check(words: &[String]) -> Result<Command<'_>, Fault> {
     let [grammar, cap] = words else {
-        return Err(Fault::Usage);
+        return Err(Fault::Usage(NO_COMMAND));
     };
     match digits(cap.as_str(), 5).parse::<u16>() {
         Ok(cap) => Ok(Command::Check {
             grammar: grammar.as_str(),
             cap,
         }),
-        Err(_) => Err(Fault::Usage),
+        Err(_) => Err(Fault::Usage(NO_COMMAND)),
     }
 }
 
@@ -115,11 +118,11 @@ fn option(words: &[String]) -> Result<(Option<usize>, &[String]), Fault> {
     match words {
         [name, rest @ ..] if name.as_str() == "--shifts" => {
             let [count, paths @ ..] = rest else {
-                return Err(Fault::Usage);
+                return Err(Fault::Usage(NO_COMMAND));
             };
             match digits(count.as_str(), 9).parse::<usize>() {
                 Ok(count) => Ok((Some(count), paths)),
-                Err(_) => Err(Fault::Usage),
+                Err(_) => Err(Fault::Usage(NO_COMMAND)),
             }
         }
         _ => Ok((None, words)),
@@ -134,7 +137,7 @@ fn nonzero(shifts: Option<usize>) -> Result<Option<usize>, Fault> {
     }
 }
 
-// The word, if it has ASCII digits alone and at most so many; else nothing.
+// The word, if it has ASCII digits alone and at most `most` of them; else nothing.
 fn digits(word: &str, most: usize) -> &str {
     if word.len() <= most && word.bytes().all(|byte| byte.is_ascii_digit()) {
         word

@@ -20,7 +20,7 @@ const GRAMMAR: &str =
 /// The rules of their lexer.
 const LEXER: &str = "[0-9]+ 'INT'\n\\+ '+'\n\\* '*'\n\\( '('\n\\) ')'\n[\\t ]+ ;\n";
 
-/// What a symbol stands for: a sign, or a number, which there may be none of.
+/// The value of a symbol: a sign, or a number, if it has one.
 #[derive(Clone, Copy)]
 enum Part {
     Sign(Sign),
@@ -38,17 +38,17 @@ enum Sign {
 /// The value of a line, if it has one, and its errors.
 type Parsed = (Option<Part>, Vec<TextError>);
 
-/// What a line gives.
+/// What is found in a line.
 #[derive(Clone, Copy)]
 struct Found {
     number: Option<u64>,
     has_errors: bool,
 }
 
-/// Computes each line of the input but those of white space alone, with the repairs of a text. Prints its errors, and then its
-/// number on `out`; where there is none, says so on `err`. Answers whether each line has a number, and no error.
+/// Computes each line of the input that isn't white space alone, with the repairs of a text. Prints its errors and then its number
+/// on `out`, or says on `err` that it has none. Returns whether each line has a number, and no error.
 ///
-/// The input is read once the repairs are made, and before the first line is computed.
+/// The input is read after the repairs are made, and before the first line is computed.
 pub(crate) fn calc<I: Read + Drop, O: Write, E: Write>(
     alloc: Global,
     repairs: &str,
@@ -91,7 +91,7 @@ fn calc_lines<O: Write, E: Write>(
     Ok(all)
 }
 
-// The line without its line feed, and without the carriage return that stands directly before that.
+// The line without its line feed, and without a carriage return directly before it.
 fn without_end(line: &str) -> &str {
     match line.strip_suffix('\n') {
         Some(line) => line.strip_suffix('\r').unwrap_or(line),
@@ -99,7 +99,7 @@ fn without_end(line: &str) -> &str {
     }
 }
 
-// Computes a line. One of white space alone is well.
+// Computes a line. A line of white space alone counts as clean.
 fn calc_line<O: Write, E: Write>(
     alloc: Global,
     text_parser: &TextParser<'_>,
@@ -115,7 +115,7 @@ fn calc_line<O: Write, E: Write>(
     Ok(found.number.is_some() && !found.has_errors)
 }
 
-// The number of a line, whose errors it prints.
+// Prints the errors of a line, and returns its number.
 fn computed<'a, O: Write>(
     alloc: Global,
     text_parser: &'a TextParser<'_>,
@@ -145,7 +145,7 @@ fn parsed_of(
     )
 }
 
-// Prints the errors of a line, and gives its number.
+// The same for a parsed line.
 fn print_parsed<'a, L: NonStreamingLexer<'a, TokenTypes>, O: Write>(
     alloc: Global,
     names: &'a [&'a str],
@@ -167,7 +167,7 @@ fn print_parsed<'a, L: NonStreamingLexer<'a, TokenTypes>, O: Write>(
     })
 }
 
-// What a lexeme stands for. One that a repair made has no number, and neither has one whose number is too large.
+// The value of a lexeme. It has no number if a repair made it, or if its number is too large.
 fn part_of(grm: &YaccGrammar<u32>, line: &str, lexeme: Token<u32>) -> Part {
     match token_name(grm, lexeme.tok_id()) {
         "+" => Part::Sign(Sign::Plus),
@@ -178,7 +178,7 @@ fn part_of(grm: &YaccGrammar<u32>, line: &str, lexeme: Token<u32>) -> Part {
     }
 }
 
-// The number that stands in a line, if it isn't too large.
+// The number at a place of a line, if it isn't too large.
 fn number_at(line: &str, span: Span) -> Option<u64> {
     line.get(span.start()..span.end())?.parse::<u64>().ok()
 }
@@ -193,7 +193,7 @@ fn token_name(grm: &YaccGrammar<u32>, number: u32) -> &str {
     }
 }
 
-// What the parts of a right side stand for.
+// The value of a right side.
 fn joined(parts: &[Part]) -> Part {
     Part::Number(match parts {
         [part] => number_of(*part),
@@ -202,7 +202,7 @@ fn joined(parts: &[Part]) -> Part {
     })
 }
 
-// The number of a sum, of a product, or of what stands in brackets.
+// The number of a sum, of a product, or of what is in brackets.
 fn number_of_three(left: Part, middle: Part, right: Part) -> Option<u64> {
     match middle {
         Part::Sign(Sign::Plus) => sum(number_of(left), number_of(right)),
@@ -211,7 +211,7 @@ fn number_of_three(left: Part, middle: Part, right: Part) -> Option<u64> {
     }
 }
 
-// The number that a part stands for, if it is one.
+// The number of a part, if it has one.
 fn number_of(part: Part) -> Option<u64> {
     match part {
         Part::Number(number) => number,
@@ -247,7 +247,7 @@ fn print_number<O: Write>(out: &mut O, number: u64) -> Result<(), Fault> {
     Ok(())
 }
 
-// Says that a line has no number, once all that was printed is written. That `err` fails changes nothing.
+// Says that a line has no number, after `out` is flushed. A failure of `err` is ignored.
 fn print_none<O: Write, E: Write>(out: &mut O, err: &mut E) -> Result<(), Fault> {
     out.flush()?;
     let _ = print_line(err, "Unable to evaluate expression.");

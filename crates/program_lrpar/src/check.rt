@@ -1,5 +1,5 @@
-//! The command `check`: how large the table of a grammar is, whether its chains are short, and whether it is complete. It is safe,
-//! as it is built.
+//! The command `check`: how large the table of a grammar is, whether its chains of reductions are short, and whether it is complete.
+//! It is safe, since it is built.
 use lrpar_grammar::grammar::YaccGrammar;
 use lrpar_grammar::span::TIdx;
 use lrpar_table::check::{CheckFault, CompleteFault, ParserData, Refused};
@@ -11,7 +11,7 @@ use std::alloc::Global;
 use std::io::Write;
 
 /// Prints how large the grammar of the text and its table are, what the check of chains says, and whether a table that passes is
-/// complete. Answers whether it passes.
+/// complete. Returns whether it passes.
 pub(crate) fn check<O: Write>(
     alloc: Global,
     grammar: &str,
@@ -44,7 +44,7 @@ fn print_checked<O: Write>(
     }
 }
 
-// Prints why the table isn't complete. Want of memory says nothing of it.
+// Prints why the table isn't complete. A failed allocation is a fault.
 fn print_incomplete<O: Write>(fault: CompleteFault, out: &mut O) -> Result<(), Fault> {
     let CompleteFault::Condition(condition, state) = fault else {
         return Err(Fault::Memory);
@@ -78,7 +78,7 @@ fn print_sizes<O: Write>(
     Ok(())
 }
 
-// Prints the chain that is too long. Want of memory is no refusal, and a table that is built has no other fault.
+// Prints the chain that is too long. A built table has no other fault but a failed allocation.
 fn print_refusal<O: Write>(
     grm: &YaccGrammar<u32>,
     fault: CheckFault,

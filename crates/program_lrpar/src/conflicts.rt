@@ -1,4 +1,4 @@
-//! The command `conflicts`: what was met, and decided, when the table of a grammar was made. The table isn't checked.
+//! The command `conflicts`: the conflicts of the table of a grammar, and how they were resolved. The table isn't checked.
 ghost use Rattle.lrpar_grammar.specs.SpansFit.{SpansFit};
 ghost use Rattle.lrpar_table_rows.specs.ConflictsFit.{ConflictsFit};
 
@@ -11,7 +11,7 @@ use program_files::tables::MAX_STATES;
 use std::alloc::{AllocError, Global};
 use std::io::Write;
 
-/// Prints the conflicts of the table of a grammar, whose text and path these are; nothing, where there are none.
+/// Prints the conflicts of the table of the grammar with this path and text; nothing, if there are none.
 pub(crate) fn conflicts<O: Write>(
     alloc: Global,
     path: &str,

@@ -8,10 +8,10 @@ use program_files::tables::data_of;
 use std::alloc::Global;
 use std::io::Write;
 
-/// The grammar of sums, whose first token is `+`, and whose second one is `ID`.
+/// The grammar of sums. Its first token is `+`, and its second one is `ID`.
 const GRAMMAR: &str = "%% E: T '+' E | T; T: 'ID';";
 
-/// Parses the text as a sum, and prints its errors and its tree. Answers whether there is a tree, and no error.
+/// Parses the text as a sum, and prints its errors and its tree. Returns whether there is a tree, and no error.
 pub(crate) fn demo<O: Write>(alloc: Global, text: &str, out: &mut O) -> Result<bool, Fault> {
     let data = data_of(alloc, GRAMMAR)?;
     demo_by(alloc, &data, text, out)

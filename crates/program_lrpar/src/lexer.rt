@@ -1,4 +1,4 @@
-//! The lexer of sums: one answer for each character of the text.
+//! The lexer of sums: a lexeme or an error for each character of the text.
 ghost use Rattle.std.specs.Prelude.{◌≡◌, ◌+◌, ◌≤◌, IfOk};
 ghost use Rattle.std.specs.Char.{len_utf8};
 ghost use Rattle.std.specs.Str.{IsCharBoundary};
@@ -18,7 +18,7 @@ const PLUS: u32 = 0;
 /// The token `ID`.
 const ID: u32 = 1;
 
-/// The lexer of sums over a text: `+` is a token, an ASCII letter and `_` are the token `ID` each, and no token fits
+/// The lexer of sums over a text: `+` is a token, each ASCII letter and `_` is the token `ID`, and no token fits
 /// any other character.
 #[derive(Drop)]
 pub(crate) struct SumLexer<'input> {

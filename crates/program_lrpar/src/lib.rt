@@ -6,6 +6,7 @@ mod calc;
 mod check;
 mod conflicts;
 mod demo;
+mod fault_line;
 mod lexer;
 mod program;
 mod tree;

@@ -1,4 +1,5 @@
-//! The whole program: its words to commands, their answers to standard output, their faults to a line and a status.
+//! The whole program: it reads its words as a command, and writes the answer to standard output, or one line about a fault to
+//! standard error.
 ghost use Rattle.std.specs.Prelude.{◌≤◌};
 
 use crate::arguments::{Command, TreePaths, command_of};
@@ -6,6 +7,7 @@ use crate::calc::calc;
 use crate::check::check;
 use crate::conflicts::conflicts;
 use crate::demo::demo;
+use crate::fault_line::FaultLine;
 use crate::tree::{TreeTexts, tree};
 use program_files::fault::Fault;
 use program_files::files::{file_text, text_if_any};
@@ -14,24 +16,27 @@ use std::alloc::Global;
 use std::io::{BufWriter, Read, Write};
 use std::rt::Files;
 
-/// Runs the program on the process's own arguments and streams, and answers its exit status, as [`run`] does. An argument that
+/// Runs the program on the process's own arguments and streams, and returns its exit status, as [`run`] does. An argument that
 /// isn't UTF-8 is a wrong one.
 pub fn run_of_process(rt: &HostRuntime) -> u8
     ensures status { result ≤ 2 }
 {
     match words(rt) {
         Ok(args) => run(rt, rt.alloc(), &args, rt.stdin(), rt.stdout(), rt.stderr()),
-        Err(error) => ended(Err(Fault::of_arguments(&error)), &mut rt.stderr()),
+        Err(error) => ended(
+            Err(FaultLine(Fault::of_arguments(&error))),
+            &mut rt.stderr(),
+        ),
     }
 }
 
-/// Runs the program and answers its exit status: 0 for an answer, 1 for an answer on an input with errors, 2 for no
-/// answer. `args` are the words after the program's name, and the files that they name are read by `rt`.
+/// Runs the program and returns its exit status: 0 for an answer, 1 for an answer on an input with errors, 2 for no
+/// answer. `args` are the words after the program's name, and `rt` reads the files that they name.
 ///
-/// Answers are written to `out`. A command that gives none, as its words are wrong, memory is wanting or `out` fails,
-/// writes one line to `err`, which says why; that `err` fails changes nothing.
+/// Answers are written to `out`. A command without an answer writes one line to `err` that says why: its words are wrong,
+/// an allocation failed or `out` failed, say. A failure of `err` is ignored.
 ///
-/// What is written to `out` is kept back until much of it is there, or something is written to `err`, or the program ends.
+/// `out` is buffered: it is flushed before something is written to `err`, and at the end.
 pub fn run<R: Files, I: Read + Drop, O: Write + Drop, E: Write + Drop>(
     rt: &R,
     alloc: Global,
@@ -43,10 +48,10 @@ pub fn run<R: Files, I: Read + Drop, O: Write + Drop, E: Write + Drop>(
     ensures status { result ≤ 2 }
 {
     let ending = written(rt, alloc, args, input, out, &mut err);
-    ended(ending, &mut err)
+    ended(ending.map_err(FaultLine), &mut err)
 }
 
-// The status of the command, once all that it prints is written.
+// The status of the command, after `out` is flushed.
 fn written<R: Files, I: Read + Drop, O: Write + Drop, E: Write>(
     rt: &R,
     alloc: Global,
@@ -64,7 +69,7 @@ fn written<R: Files, I: Read + Drop, O: Write + Drop, E: Write>(
     }
 }
 
-// The status of the command, which prints its answer.
+// Runs the command, which prints its answer, and returns its status.
 fn printed<R: Files, I: Read + Drop, O: Write, E: Write>(
     rt: &R,
     alloc: Global,
@@ -90,7 +95,7 @@ fn printed<R: Files, I: Read + Drop, O: Write, E: Write>(
     }
 }
 
-// Prints the errors and the tree of a file. Answers whether there is a tree, and no error.
+// Prints the errors and the tree of a file. Returns whether there is a tree, and no error.
 fn tree_of_files<R: Files, O: Write>(
     rt: &R,
     alloc: Global,
@@ -112,7 +117,7 @@ fn tree_texts<R: Files>(rt: &R, alloc: Global, paths: TreePaths<'_>) -> Result<T
     })
 }
 
-// Checks the table of a file's grammar, and prints what the check says. There is no answer where it doesn't pass.
+// Checks the table of a file's grammar, and prints what the check says. There is no answer if it doesn't pass.
 fn check_file<R: Files, O: Write>(
     rt: &R,
     alloc: Global,
@@ -128,7 +133,7 @@ fn check_file<R: Files, O: Write>(
     }
 }
 
-// Prints the conflicts of the table of a file's grammar, which they name by its path.
+// Prints the conflicts of the table of a file's grammar.
 fn conflicts_of_file<R: Files, O: Write>(
     rt: &R,
     alloc: Global,
@@ -139,7 +144,7 @@ fn conflicts_of_file<R: Files, O: Write>(
     conflicts(alloc, path, grammar.as_str(), out)
 }
 
-// Computes the lines of standard input, with the repairs of a file. Answers whether each has a number, and no error.
+// Computes the lines of standard input, with the repairs of a file. Returns whether each has a number, and no error.
 fn calc_input<R: Files, I: Read + Drop, O: Write, E: Write>(
     rt: &R,
     alloc: Global,

@@ -16,7 +16,7 @@ pub(crate) struct TreeTexts {
     pub(crate) repairs: String,
 }
 
-/// Prints the errors and the tree of the input. Answers whether there is a tree, and no error.
+/// Prints the errors and the tree of the input. Returns whether there is a tree, and no error.
 pub(crate) fn tree<O: Write>(
     alloc: Global,
     texts: &TreeTexts,

@@ -1,4 +1,4 @@
--- Rules that lead back to themselves while a parse takes no token.
+-- Rules that lead back to themselves while a parse shifts no token.
 use Rattle.std.specs.Prelude.{◌≡◌, ◌<◌, ◌+◌, ◌∷◌, ℕ, List, [], Some, drop, slice_get, take}
 use Rattle.lrpar_grammar.specs.Grammar.{Grammar, GrammarSymbol, Nonterminal, prods_len, rule_of, symbols_of}
 use Rattle.lrpar_grammar.specs.Tree.{Forest, forest_leaves}
@@ -43,13 +43,13 @@ abbrev pub Lead : LoopKind → Grammar → ℕ → List StepOf → ℕ → Type 
 Lead kind g from [] to = from ≡ to
 Lead kind g from (step ∷ steps) to = (next : ℕ) × IsStep kind g from step next × Lead kind g next steps to
 
--- there is a first step; of hidden left recursion that has something before its place
+-- there is a first step; for hidden left recursion, something comes before its place
 abbrev pub Begins : LoopKind → List StepOf → Type 0
 Begins kind [] = ⊥
 Begins DerivesItself (step ∷ steps) = Unit {0}
 Begins IsHiddenLeft (step ∷ steps) = 0 < step.place
 
--- A loop: steps from a rule back to it. By those of the first kind the rule derives itself alone; by those of the second kind it
+-- A loop: steps from a rule back to it. By a loop of the first kind the rule derives itself alone; by one of the second kind it
 -- begins with itself, after what derives nothing.
 pub record IsLoop (kind : LoopKind) (g : Grammar) (steps : List StepOf) : Type 0 where
   pub begins : Begins kind steps

@@ -1,4 +1,4 @@
-//! The conflicts of a table, with an example of each.
+//! The conflicts of a table, with a counterexample of each.
 ghost use Rattle.lrpar_table_build.specs.Built.{IsBuilt};
 ghost use Rattle.lrpar_conflict_examples.specs.ExamplesFit.{ExamplesFit};
 
@@ -13,11 +13,11 @@ use lrpar_table::table::{StateGraph, StateTable};
 use lrpar_table_sentences::moves::Move;
 use std::alloc::{AllocError, Global};
 
-/// How far one text for both readings of a conflict is looked for.
+/// The bound of the search for a unifying counterexample of a conflict.
 const BOUND: usize = 1_000;
 
-/// Adds a warning for each conflict of the table, with its example. Where a rule that is reached derives no text, there are no examples,
-/// which a note tells.
+/// Adds a warning for each conflict of the table, with its counterexample. If a reachable rule derives no text, there are no
+/// counterexamples, and one warning says so.
 pub(crate) fn push_conflicts(
     out: &mut String,
     alloc: Global,
@@ -35,7 +35,7 @@ pub(crate) fn push_conflicts(
     }
 }
 
-// Adds how many conflicts there are, of which none has an example.
+// Adds how many conflicts there are, if none has a counterexample.
 fn push_count(
     out: &mut String,
     alloc: Global,
@@ -50,7 +50,7 @@ fn push_count(
     push_message(out, alloc, reporter, Level::Warning, None, text, "")
 }
 
-// Adds a warning for each example.
+// Adds a warning for each counterexample.
 fn push_examples(
     out: &mut String,
     alloc: Global,
@@ -66,7 +66,7 @@ fn push_examples(
     out.push_str(format_examples(alloc, grm, examples)?.as_str())
 }
 
-// Adds the warning of a conflict: what may be done at its token, and which of both is done.
+// Adds the warning of a conflict: the two moves at its token, and which of them the table has.
 fn push_title(
     out: &mut String,
     alloc: Global,
@@ -79,11 +79,11 @@ fn push_title(
     text.push_str(" in state ")?;
     let state = usize::from(example.state());
     write!(text, "{state}: ")?;
-    push_ways(&mut text, grm, example)?;
+    push_moves(&mut text, grm, example)?;
     let label = match example.second() {
-        Move::Take(_) => "this could be made instead; an example is below",
+        Move::Take(_) => "this could be reduced instead; an example is below",
         Move::Make(_) =>
-            "of two productions that can be made, the one that stands first is; an example is below",
+            "of two productions that can be reduced, the first one is; an example is below",
     };
     push_message(
         out,
@@ -96,28 +96,28 @@ fn push_title(
     )
 }
 
-// Adds the two ways to go on.
-fn push_ways(
+// Adds the two moves at the conflict's token.
+fn push_moves(
     text: &mut String,
     grm: &YaccGrammar<u32>,
     example: &ConflictExample<u32>,
 ) -> Result<(), AllocError> {
     match example.second() {
         Move::Take(_) => {
-            text.push_str("the token is taken, and ")?;
+            text.push_str("the token is shifted, and ")?;
             push_rule_of(text, grm, example.first())?;
-            text.push_str(" isn't made")
+            text.push_str(" isn't reduced")
         }
         Move::Make(_) => {
             push_rule_of(text, grm, example.first())?;
             text.push_str(" or ")?;
             push_rule_of(text, grm, example.second())?;
-            text.push_str(" can be made")
+            text.push_str(" can be reduced")
         }
     }
 }
 
-// Adds the rule of a production whose node is made.
+// Adds the rule of the production that is reduced.
 fn push_rule_of(
     text: &mut String,
     grm: &YaccGrammar<u32>,
@@ -131,7 +131,7 @@ fn push_rule_of(
     }
 }
 
-// Where the production of a node is that is made.
+// The place of the production that is reduced.
 fn place_of(grm: &YaccGrammar<u32>, step: Move<u32>) -> Option<Span> {
     match step {
         Move::Make(prod) if usize::from(prod) < grm.prods_len() => Some(grm.prod_span(prod)),

@@ -9,10 +9,11 @@ use lrpar_lexer::{NoToken, Token, TokenTypes};
 use lrpar_parse_errors::errors::ParseError;
 use lrpar_parse_lexemes::lex_api::{LexError, Lexeme, NonStreamingLexer};
 use lrpar_report::{Level, Reporter, push_choices, push_quoted};
+use program_files::fault::Fault;
 use program_files::parsing::{TextError, error_text};
 use std::alloc::{AllocError, Global};
 
-/// How many characters of an unexpected lexeme are told at most.
+/// How many characters of an unexpected lexeme are shown at most.
 const MOST_CHARACTERS: usize = 40;
 
 /// What messages about the errors of an input need.
@@ -20,7 +21,7 @@ const MOST_CHARACTERS: usize = 40;
 pub(crate) struct Subject<'a> {
     pub(crate) grm: &'a YaccGrammar<u32>,
     pub(crate) input: &'a str,
-    /// What may come at the error.
+    /// The tokens that may come at the error.
     pub(crate) expected: &'a [TIdx<u32>],
 }
 
@@ -48,7 +49,7 @@ pub(crate) fn push_lexing_error(
     )
 }
 
-// Adds the character with which the text begins, and its number, where it isn't one of ASCII. Answers how many bytes it has.
+// Adds the character with which the text begins, and its number, if it isn't a visible one of ASCII. Returns how many bytes it has.
 fn push_character(out: &mut String, text: &str) -> Result<usize, AllocError> {
     let Some(c) = text.chars().next() else {
         return Ok(0);
@@ -88,7 +89,7 @@ pub(crate) fn push_parse_error(
     )
 }
 
-// Adds a lexeme: the end, where it has the end token, its part of the input otherwise.
+// Adds a lexeme: that it is the end, if it has the end token, and else its part of the input.
 fn push_lexeme(
     text: &mut String,
     subject: &Subject<'_>,
@@ -120,7 +121,7 @@ fn push_shortened(out: &mut String, text: &str) -> Result<(), AllocError> {
     }
 }
 
-/// Adds the repairs that were found for an error, a line each; or that none were, or none were looked for.
+/// Adds the repairs that were found for an error, a line each; or that none was found, or that none was looked for.
 pub(crate) fn push_repairs<'a, L: NonStreamingLexer<'a, TokenTypes>>(
     out: &mut String,
     alloc: Global,
@@ -129,13 +130,10 @@ pub(crate) fn push_repairs<'a, L: NonStreamingLexer<'a, TokenTypes>>(
     lexer: &L,
     input: &str,
     error: &TextError,
-) -> Result<(), AllocError>
+) -> Result<(), Fault>
     requires { L.text lexer.now ≡ input.now }
 {
-    let text = match error_text(alloc, names, lexer, input, error) {
-        Ok(text) => text,
-        Err(_) => return Err(AllocError),
-    };
+    let text = error_text(alloc, names, lexer, input, error)?;
     match text.as_str().split_once('\n') {
         Some((_, repairs)) => {
             out.push_str("repairs that were found, of which the first is taken:\n")?;

@@ -1,11 +1,10 @@
-//! The grammar of a text and its table, and why there is none.
+//! The grammar of a text and its table, or why there is none.
 ghost use Rattle.lrpar_table_build.specs.Built.{IsBuilt};
 ghost use Rattle.lrpar_table_rows.specs.Safe.{IsSafe};
 
 use crate::conflicts::push_conflicts;
-use crate::fault::Fault;
 use crate::loops::{LoopKind, LoopStep, loop_of};
-use crate::show::{push_message, tell, told};
+use crate::show::{fault_of_message, push_message, write_messages};
 use crate::warnings::push_rule_warnings;
 use lrpar_grammar::grammar::YaccGrammar;
 use lrpar_grammar::span::{RIdx, Span, TIdx};
@@ -13,14 +12,15 @@ use lrpar_report::{Level, Reporter, grammar_message, push_quoted, push_token};
 use lrpar_table::build::{BuildFault, from_yacc};
 use lrpar_table::check::{CheckFault, ParserData, Refused};
 use lrpar_table::table::{StateGraph, StateTable};
+use program_files::fault::Fault;
 use program_files::tables::MAX_STATES;
 use std::alloc::{AllocError, Global};
 use std::io::Write;
 
-/// The cap with which tables are checked: a table that is refused with it passes with no cap.
+/// The cap with which tables are checked. It's the largest one, so a table that is refused with it passes with no cap.
 const MOST: u16 = u16::MAX;
 
-/// The checked table of a grammar's text. Tells of rules that are of no use, and of conflicts, unless it is to be quiet.
+/// The checked table of a grammar's text. Warns of rules that are of no use, and of conflicts, unless the program is to be quiet.
 pub fn data_of<O: Write, E: Write>(
     alloc: Global,
     reporter: &Reporter<'_>,
@@ -33,7 +33,7 @@ pub fn data_of<O: Write, E: Write>(
     match from_yacc(alloc, &grm, MAX_STATES) {
         Ok((sgraph, stable)) => {
             if !is_quiet {
-                tell_notes(alloc, reporter, &grm, &sgraph, &stable, out, err)?;
+                write_notes(alloc, reporter, &grm, &sgraph, &stable, out, err)?;
             }
             checked(alloc, reporter, grm, sgraph, stable)
         }
@@ -41,8 +41,8 @@ pub fn data_of<O: Write, E: Write>(
     }
 }
 
-// Tells of rules that are of no use, and of conflicts.
-fn tell_notes<O: Write, E: Write>(
+// Warns of rules that are of no use, and of conflicts.
+fn write_notes<O: Write, E: Write>(
     alloc: Global,
     reporter: &Reporter<'_>,
     grm: &YaccGrammar<u32>,
@@ -56,7 +56,7 @@ fn tell_notes<O: Write, E: Write>(
     let mut notes = String::new(alloc);
     push_rule_warnings(&mut notes, alloc, reporter, grm)?;
     push_conflicts(&mut notes, alloc, reporter, grm, sgraph, stable)?;
-    tell(out, err, notes.as_str())
+    write_messages(out, err, notes.as_str())
 }
 
 // The grammar of a text.
@@ -69,12 +69,12 @@ fn grammar_of(
         Ok(grm) => Ok(grm),
         Err(fault) => {
             let message = grammar_message(alloc, text, &fault)?;
-            Err(told(alloc, reporter, &message))
+            Err(fault_of_message(alloc, reporter, &message))
         }
     }
 }
 
-// The table, once its chains of reductions are checked.
+// The table, after its chains of reductions are checked.
 fn checked(
     alloc: Global,
     reporter: &Reporter<'_>,
@@ -119,8 +119,8 @@ fn too_large(alloc: Global, reporter: &Reporter<'_>) -> Fault {
     }
 }
 
-// The fault of a table with a chain of reductions that is too long, whatever the cap: that a rule derives itself, hidden left recursion,
-// or else how long the chain is.
+// The fault of a table with a chain of reductions that is too long for any cap: that a rule derives itself, that there is hidden left
+// recursion, or else how long the chain is.
 fn endless(alloc: Global, reporter: &Reporter<'_>, refused: Refused<u32>) -> Fault {
     let CheckFault::ChainTooLong(state, token) = refused.fault() else {
         return Fault::Memory;
@@ -161,7 +161,7 @@ fn push_token_of(out: &mut String, grm: &YaccGrammar<u32>, token: usize) -> Resu
     }
 }
 
-// The message of a loop of this kind, if there is one; if a rule is named, of one that begins with it.
+// The message of a loop of this kind, if there is one. If a rule is named, the loop begins with it.
 fn loop_text(
     alloc: Global,
     reporter: &Reporter<'_>,
@@ -190,7 +190,7 @@ fn place_of(grm: &YaccGrammar<u32>, steps: &[LoopStep<u32>]) -> Option<Span> {
     }
 }
 
-// Adds what is wrong about a loop, with the rules on the way.
+// Adds what is wrong about a loop, with its rules.
 fn push_loop(
     out: &mut String,
     grm: &YaccGrammar<u32>,
@@ -200,18 +200,18 @@ fn push_loop(
     match kind {
         LoopKind::DerivesItself => {
             out.push_str("rule ")?;
-            push_way(out, grm, " derives itself", steps)?;
+            push_loop_rules(out, grm, " derives itself", steps)?;
             out.push_str(", so that each of its texts has trees without end")
         }
         LoopKind::IsHiddenLeft => {
             out.push_str("hidden left recursion: rule ")?;
-            push_way(out, grm, " begins with itself", steps)?;
+            push_loop_rules(out, grm, " begins with itself", steps)?;
             out.push_str(", after what may derive nothing")
         }
     }
 }
 
-// Adds what would be right in the place of the first production of a loop.
+// Adds what would be right in place of the first production of a loop.
 fn push_loop_label(
     out: &mut String,
     grm: &YaccGrammar<u32>,
@@ -236,8 +236,8 @@ fn push_loop_label(
     }
 }
 
-// Adds the first rule of a loop, what it does, and the other rules on the way.
-fn push_way(
+// Adds the first rule of a loop, what it does, and the other rules of the loop.
+fn push_loop_rules(
     out: &mut String,
     grm: &YaccGrammar<u32>,
     does: &str,
@@ -271,7 +271,7 @@ fn push_rule_of(
     }
 }
 
-// The fault that shows this, about no place.
+// The fault with this text, about no place.
 fn fault_of(alloc: Global, reporter: &Reporter<'_>, text: &str) -> Fault {
     match plain_text(alloc, reporter, text) {
         Ok(text) => Fault::of_message(text),

@@ -1,12 +1,12 @@
 //! The texts of files and of standard input.
-use crate::fault::Fault;
 use lrpar_report::{file_message, text_of};
+use program_files::fault::Fault;
 use std::alloc::Global;
 use std::io::Read;
 use std::rt::Files;
 use std::{fs, io};
 
-/// What stands for standard input, and how messages name that.
+/// The path that means standard input, also in messages.
 pub(crate) const STANDARD_INPUT: &str = "-";
 
 /// The text of a file.
@@ -17,7 +17,7 @@ pub(crate) fn file_text<R: Files>(rt: &R, alloc: Global, path: &str) -> Result<S
     }
 }
 
-/// The text of standard input, which is named so.
+/// The text of standard input.
 pub(crate) fn input_text<I: Read + Drop>(alloc: Global, input: I) -> Result<String, Fault> {
     match all_bytes(alloc, input) {
         Ok(bytes) => text_or_fault(alloc, STANDARD_INPUT, bytes),

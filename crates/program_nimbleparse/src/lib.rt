@@ -3,7 +3,7 @@
 
 mod conflicts;
 mod errors;
-pub mod fault;
+mod fault_line;
 pub mod grammar;
 mod inputs;
 mod loops;

@@ -1,4 +1,4 @@
-//! Rules that lead back to themselves while a parse takes no token.
+//! Rules that lead back to themselves while a parse shifts no token.
 ghost use Rattle.std.specs.Prelude.{◌≡◌, ◌<◌, ◌∷◌, IfOk, IfSome, List, Some, length, map, slice_get};
 ghost use Rattle.std.specs.Bool.{OnTrue};
 ghost use Rattle.lrpar_grammar.specs.Grammar.{Grammar, Nonterminal, prods_len};
@@ -15,9 +15,9 @@ use std::alloc::{AllocError, Global};
 /// How a rule leads back to itself.
 #[derive(Clone, Copy, Debug, PartialEq, Eq)]
 pub(crate) enum LoopKind {
-    /// It derives itself alone: what is beside the rules on the way derives nothing.
+    /// It derives itself alone: all other symbols of the productions derive the empty text.
     DerivesItself,
-    /// Hidden left recursion: it begins with itself, and after symbols that derive nothing.
+    /// Hidden left recursion: it begins with itself, after symbols that derive the empty text.
     IsHiddenLeft,
 }
 
@@ -28,17 +28,18 @@ pub(crate) struct LoopStep<StorageT> {
     pub(crate) place: usize,
 }
 
-/// How a rule leads to the target: by a step, and by so many steps after it.
+/// A path from a rule to the target: its first step, and how many steps come after it.
 #[derive(Clone, Copy, Debug, PartialEq, Eq)]
-struct Way<StorageT> {
+struct Path<StorageT> {
     step: LoopStep<StorageT>,
     steps: usize,
 }
 
-/// A loop of this kind between rules that are reached from the start, if one is found: one that begins at the first production at which
-/// one can, and there one of the shortest. If a rule is named, it begins with that.
+/// A loop of this kind between reachable rules, if one is found: a shortest one that begins with the first step that begins any. If
+/// a rule is named, the loop begins with it.
 ///
-/// It looks for the shortest texts of all rules, and for each production at which one can begin by sweeps over all steps of the kind.
+/// It computes minimal sentences of all rules. For each step that a loop can begin with, it then looks for shortest paths by sweeps
+/// over all steps of the kind.
 pub(crate) fn loop_of<StorageT: StorageIndex>(
     alloc: Global,
     grm: &YaccGrammar<StorageT>,
@@ -122,7 +123,7 @@ fn rule_at<StorageT: StorageIndex>(
     }
 }
 
-// All steps of the kind between rules that are reached from the start, production by production.
+// All steps of the kind between reachable rules, production by production.
 fn steps_of<StorageT: StorageIndex>(
     alloc: Global,
     grm: &YaccGrammar<StorageT>,
@@ -171,7 +172,7 @@ fn loop_from<StorageT: StorageIndex>(
     let Some(target) = rule_of(grm, first) else {
         return Ok(None);
     };
-    let ways = ways_to(alloc, grm, steps, target)?;
+    let paths = paths_to(alloc, grm, steps, target)?;
     let mut found = Vec::new(alloc);
     let mut step = first;
     for _ in 0..grm.rules_len() {
@@ -182,36 +183,36 @@ fn loop_from<StorageT: StorageIndex>(
         if rule == target {
             return Ok(Some(found));
         }
-        match ways.get(usize::from(rule)) {
-            Some(Some(way)) => step = way.step,
+        match paths.get(usize::from(rule)) {
+            Some(Some(path)) => step = path.step,
             _ => return Ok(None),
         }
     }
     Ok(None)
 }
 
-// For each rule the first step of a shortest way to the target, if there is one.
-fn ways_to<StorageT: StorageIndex>(
+// For each rule a shortest path to the target, if there is one.
+fn paths_to<StorageT: StorageIndex>(
     alloc: Global,
     grm: &YaccGrammar<StorageT>,
     steps: &[LoopStep<StorageT>],
     target: RIdx<StorageT>,
-) -> Result<Vec<Option<Way<StorageT>>>, AllocError> {
-    let mut ways = Vec::with_capacity(alloc, grm.rules_len())?;
+) -> Result<Vec<Option<Path<StorageT>>>, AllocError> {
+    let mut paths = Vec::with_capacity(alloc, grm.rules_len())?;
     for _ in 0..grm.rules_len() {
-        ways.push(None)?;
+        paths.push(None)?;
     }
     for sweep in 0..grm.rules_len() {
-        if !add_ways(&mut ways, grm, steps, target, sweep) {
-            return Ok(ways);
+        if !add_paths(&mut paths, grm, steps, target, sweep) {
+            return Ok(paths);
         }
     }
-    Ok(ways)
+    Ok(paths)
 }
 
-// Adds the ways of so many steps after the first one, and tells whether there is one.
-fn add_ways<StorageT: StorageIndex>(
-    ways: &mut [Option<Way<StorageT>>],
+// Adds the paths with `sweep` steps after the first one, and returns whether there is one.
+fn add_paths<StorageT: StorageIndex>(
+    paths: &mut [Option<Path<StorageT>>],
     grm: &YaccGrammar<StorageT>,
     steps: &[LoopStep<StorageT>],
     target: RIdx<StorageT>,
@@ -219,16 +220,16 @@ fn add_ways<StorageT: StorageIndex>(
 ) -> bool {
     let mut has_more = false;
     for step in steps {
-        if leads_on(ways, grm, *step, target, sweep) && add_way(ways, grm, *step, sweep) {
+        if leads_on(paths, grm, *step, target, sweep) && add_path(paths, grm, *step, sweep) {
             has_more = true;
         }
     }
     has_more
 }
 
-// Whether the step leads to the target, or to a rule that was given a way by an earlier sweep.
+// Whether the step leads to the target, or to a rule for which an earlier sweep found a path.
 fn leads_on<StorageT: StorageIndex>(
-    ways: &[Option<Way<StorageT>>],
+    paths: &[Option<Path<StorageT>>],
     grm: &YaccGrammar<StorageT>,
     step: LoopStep<StorageT>,
     target: RIdx<StorageT>,
@@ -236,17 +237,17 @@ fn leads_on<StorageT: StorageIndex>(
 ) -> bool {
     match rule_after(grm, step) {
         Some(rule) if rule == target => true,
-        Some(rule) => match ways.get(usize::from(rule)) {
-            Some(Some(way)) => way.steps < sweep,
+        Some(rule) => match paths.get(usize::from(rule)) {
+            Some(Some(path)) => path.steps < sweep,
             _ => false,
         },
         None => false,
     }
 }
 
-// Keeps the step for its rule, and tells whether that had none.
-fn add_way<StorageT: StorageIndex>(
-    ways: &mut [Option<Way<StorageT>>],
+// Keeps a path with this first step for the step's rule, if the rule has none yet. Returns whether it had none.
+fn add_path<StorageT: StorageIndex>(
+    paths: &mut [Option<Path<StorageT>>],
     grm: &YaccGrammar<StorageT>,
     step: LoopStep<StorageT>,
     sweep: usize,
@@ -255,8 +256,8 @@ fn add_way<StorageT: StorageIndex>(
         return false;
     };
     let rule = usize::from(rule);
-    if rule < ways.len() && ways[rule].is_none() {
-        ways[rule] = Some(Way { step, steps: sweep });
+    if rule < paths.len() && paths[rule].is_none() {
+        paths[rule] = Some(Path { step, steps: sweep });
         true
     } else {
         false
@@ -285,7 +286,7 @@ fn is_loop<StorageT: StorageIndex>(
     }
 }
 
-// The rule to which the steps lead from this one, if they are steps of the kind.
+// The rule to which the steps lead from `from`, if they are steps of the kind.
 fn end_of<StorageT: StorageIndex>(
     grm: &YaccGrammar<StorageT>,
     shortest: &Shortest<StorageT>,
@@ -306,7 +307,7 @@ fn end_of<StorageT: StorageIndex>(
     Some(rule)
 }
 
-// The rule to which the step leads from this one, if it is a step of the kind.
+// The rule to which the step leads from `from`, if it is a step of the kind.
 fn end_of_step<StorageT: StorageIndex>(
     grm: &YaccGrammar<StorageT>,
     shortest: &Shortest<StorageT>,

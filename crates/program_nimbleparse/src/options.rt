@@ -1,6 +1,6 @@
 //! The words after the program's name as options and paths.
-use crate::fault::Fault;
 use crate::plan::{Format, Recovery};
+use program_files::fault::Fault;
 use std::alloc::Global;
 
 /// What the words ask for.
@@ -9,7 +9,7 @@ pub(crate) struct Options<'a> {
     /// Whether errors alone are printed.
     pub(crate) is_quiet: bool,
     pub(crate) recovery: Recovery,
-    /// How many lexemes have to follow a repair, where that is told.
+    /// How many lexemes have to follow a repair, if the words say so.
     pub(crate) shifts: Option<usize>,
     pub(crate) format: Format,
     /// The rules of the lexer.
@@ -19,19 +19,19 @@ pub(crate) struct Options<'a> {
     pub(crate) inputs: Vec<&'a str>,
 }
 
-/// How many beginnings of repairs may cost no more than the repairs that are looked for, if no word gives another number.
+/// The limit of the search for repairs, if the words give none.
 const LIMIT: usize = 4_000;
 
-/// What the program says of itself, behind its usage.
+/// The help text that follows the usage line.
 pub(crate) const HELP: &str = "
 
 Reads the rules of a lexer and a grammar, and parses each input: standard input for none, or for `-`.
 
   -q           print errors alone: no trees, no warnings, no notes
-  -r none      look for no repairs: the first error of an input is the last
-  -r cpctplus  look for the cheapest repairs at each error, and go on with the first of them (this is the default)
-  --limit N    give up at an error where more beginnings of repairs than this cost no more (4000)
-  --shifts K   so many lexemes have to follow a repair (3)
+  -r none      search for no repairs: the first error of an input is the last
+  -r cpctplus  search for the cheapest repairs at each error, and go on with the first of them (the default)
+  --limit N    give up at an error if more than N candidates cost no more than its repairs (4000)
+  --shifts K   K lexemes have to follow a repair (3)
   --format F   print trees in brackets on one line, as an indented tree, as json, or as a graph (dot)
   -h           print this
   --           the words after it are paths
@@ -66,7 +66,7 @@ enum Search {
     Cheapest,
 }
 
-/// Whether the words ask for what the program says of itself.
+/// Whether the words ask for the help text.
 pub(crate) fn asks_for_help(args: &[String]) -> bool {
     match args {
         [word] => matches!(word.as_str(), "-h" | "--help"),
@@ -74,7 +74,7 @@ pub(crate) fn asks_for_help(args: &[String]) -> bool {
     }
 }
 
-/// What these words ask for. Options may stand anywhere; behind `--` all words are paths.
+/// What these words ask for. Options may come anywhere; after `--` all words are paths.
 pub(crate) fn options_of(alloc: Global, args: &[String]) -> Result<Options<'_>, Fault> {
     let mut said = Said {
         is_quiet: false,
@@ -94,7 +94,7 @@ pub(crate) fn options_of(alloc: Global, args: &[String]) -> Result<Options<'_>, 
     options_said(said)
 }
 
-// Takes a word, and the words behind it that belong to it. Answers those that are left.
+// Takes a word, and the words after it that belong to it. Returns the words that are left.
 fn taken<'a>(
     said: &mut Said<'a>,
     word: &'a str,
@@ -121,7 +121,7 @@ fn taken<'a>(
     Ok(others)
 }
 
-// The option of that name, where a word belongs to it.
+// The option of that name, if it is one with a word of its own.
 fn option_named(word: &str) -> Option<Valued> {
     match word {
         "-r" => Some(Valued::Recovery),
@@ -132,7 +132,7 @@ fn option_named(word: &str) -> Option<Valued> {
     }
 }
 
-// The word that belongs to an option, and those behind it.
+// The word that belongs to an option, and the words after it.
 fn value<'a>(option: Valued, words: &'a [String]) -> Result<(&'a str, &'a [String]), Fault> {
     match words.split_first() {
         Some((value, left)) => Ok((value.as_str(), left)),
@@ -140,7 +140,7 @@ fn value<'a>(option: Valued, words: &'a [String]) -> Result<(&'a str, &'a [Strin
     }
 }
 
-// What an option needs behind it.
+// Which word an option needs.
 fn needs(option: Valued) -> &'static str {
     match option {
         Valued::Recovery => "-r needs none or cpctplus",
@@ -184,7 +184,7 @@ fn format_of(name: &str) -> Result<Format, Fault> {
 // How many lexemes have to follow a repair.
 fn shifts_of(digits: &str) -> Result<usize, Fault> {
     match number_of(Valued::Shifts, digits)? {
-        0 => Err(Fault::zero_shifts()),
+        0 => Err(Fault::Usage("--shifts must be at least 1")),
         count => Ok(count),
     }
 }
@@ -200,8 +200,8 @@ fn number_of(option: Valued, digits: &str) -> Result<usize, Fault> {
     }
 }
 
-// The options that are said: the first two paths are those of lexer and grammar, and the inputs are standard input where there are no
-// others.
+// The options of these words: the first two paths are those of the lexer and the grammar, and the input is standard input if there are
+// no others.
 fn options_said(said: Said<'_>) -> Result<Options<'_>, Fault> {
     let recovery = recovery_of(said.search, said.limit)?;
     let Said {
@@ -231,7 +231,7 @@ fn options_said(said: Said<'_>) -> Result<Options<'_>, Fault> {
     })
 }
 
-// Which repairs are looked for, with this limit, where it is told.
+// Which repairs are looked for, with this limit, if one is given.
 fn recovery_of(search: Search, limit: Option<usize>) -> Result<Recovery, Fault> {
     match (search, limit) {
         (Search::Nothing, None) => Ok(Recovery::Nothing),

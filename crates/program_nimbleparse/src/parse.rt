@@ -2,9 +2,8 @@
 ghost use Rattle.std.specs.Prelude.{◌≡◌};
 
 use crate::errors::{Subject, push_lexing_error, push_parse_error, push_repairs};
-use crate::fault::Fault;
 use crate::plan::{Format, Plan, Recovery};
-use crate::show::tell;
+use crate::show::write_messages;
 use lrpar_grammar::span::{StIdx, TIdx};
 use lrpar_lexer::{RuleLexer, Token, TokenTypes};
 use lrpar_parse::RTParserBuilder;
@@ -15,12 +14,13 @@ use lrpar_parse_repair::repair::Recoverer;
 use lrpar_parse_trees::{Form, write_graph, write_nested};
 use lrpar_report::Reporter;
 use lrpar_table::check::ParserData;
-use program_files::parsing::{TextError, Tree};
-use std::alloc::{AllocError, Global};
+use program_files::fault::Fault;
+use program_files::parsing::{Parsed, TextError, Tree, with_shifts};
+use std::alloc::Global;
 use std::io::Write;
 
-/// Parses the input of this path and text: tells its errors, and prints its tree, if there is one. Answers whether there is one, and no
-/// error.
+/// Parses the input of this path and text. Writes messages of its errors, and prints its tree, if there is one. Returns whether there is
+/// a tree, and no error.
 pub fn parse<O: Write, E: Write>(
     alloc: Global,
     plan: &Plan<'_>,
@@ -47,7 +47,7 @@ fn parse_text<'a, O: Write, E: Write>(
     printed(alloc, plan, &lexer, path, input, tree, &errors, out, err)
 }
 
-// Tells the errors, and prints the tree. Answers whether there is a tree, and no error.
+// Writes messages of the errors, and prints the tree. Returns whether there is a tree, and no error.
 fn printed<'a, O: Write, E: Write>(
     alloc: Global,
     plan: &'a Plan<'_>,
@@ -62,7 +62,7 @@ fn printed<'a, O: Write, E: Write>(
     requires { lexer.now.input.now ≡ input.now }
 {
     if !errors.is_empty() {
-        tell_errors(alloc, plan, lexer, path, input, errors, out, err)?;
+        write_errors(alloc, plan, lexer, path, input, errors, out, err)?;
     }
     match tree {
         Some(tree) => {
@@ -73,8 +73,8 @@ fn printed<'a, O: Write, E: Write>(
     }
 }
 
-// Tells the errors.
-fn tell_errors<'a, O: Write, E: Write>(
+// Writes messages of the errors.
+fn write_errors<'a, O: Write, E: Write>(
     alloc: Global,
     plan: &'a Plan<'_>,
     lexer: &RuleLexer<'_, 'a>,
@@ -88,15 +88,11 @@ fn tell_errors<'a, O: Write, E: Write>(
 {
     let expected = expected_tokens(alloc, plan, lexer, errors)?;
     let text = errors_text(alloc, plan, lexer, path, input, &expected, errors)?;
-    tell(out, err, text.as_str())
+    write_messages(out, err, text.as_str())
 }
 
 // The tree of the lexer's text, if there is one, and the errors.
-fn parsed(
-    alloc: Global,
-    plan: &Plan<'_>,
-    lexer: &RuleLexer<'_, '_>,
-) -> Result<(Option<Tree>, Vec<TextError>), Fault> {
+fn parsed(alloc: Global, plan: &Plan<'_>, lexer: &RuleLexer<'_, '_>) -> Result<Parsed, Fault> {
     let parser = RTParserBuilder::new(plan.data);
     match plan.recovery {
         Recovery::Nothing => parsed_by(alloc, parser, plan.shifts, lexer),
@@ -107,21 +103,14 @@ fn parsed(
     }
 }
 
-// The same by a parser, and by how many lexemes have to follow a repair, where that is told.
+// The same by a parser, with this number of lexemes that have to follow a repair, if it is given.
 fn parsed_by<R: Recoverer<u32, Token<u32>> + Drop>(
     alloc: Global,
     parser: RTParserBuilder<'_, u32, TokenTypes, R>,
     shifts: Option<usize>,
     lexer: &RuleLexer<'_, '_>,
-) -> Result<(Option<Tree>, Vec<TextError>), Fault> {
-    let parser = match shifts {
-        None => parser,
-        Some(count) => match parser.shifts(count) {
-            Ok(parser) => parser,
-            Err(_) => return Err(Fault::zero_shifts()),
-        },
-    };
-    Ok(parser.parse_generictree(alloc, lexer)?)
+) -> Result<Parsed, Fault> {
+    Ok(with_shifts(parser, shifts)?.parse_generictree(alloc, lexer)?)
 }
 
 // The messages of the errors of an input.
@@ -133,7 +122,7 @@ fn errors_text<'a, L: NonStreamingLexer<'a, TokenTypes>>(
     input: &str,
     expected: &[TIdx<u32>],
     errors: &[TextError],
-) -> Result<String, AllocError>
+) -> Result<String, Fault>
     requires { L.text lexer.now ≡ input.now }
 {
     let reporter = Reporter::new(alloc, input, path, plan.look)?;
@@ -196,11 +185,13 @@ fn push_error<'a, L: NonStreamingLexer<'a, TokenTypes>>(
     input: &str,
     expected: &[TIdx<u32>],
     error: &TextError,
-) -> Result<(), AllocError>
+) -> Result<(), Fault>
     requires { L.text lexer.now ≡ input.now }
 {
     match error {
-        LexParseError::LexError(error) => push_lexing_error(text, alloc, reporter, input, error),
+        LexParseError::LexError(error) => {
+            Ok(push_lexing_error(text, alloc, reporter, input, error)?)
+        }
         LexParseError::ParseError(failure) => {
             let subject = Subject {
                 grm: plan.data.grm(),
@@ -245,7 +236,7 @@ fn print_tree<O: Write>(
     Ok(())
 }
 
-// Prints the path in front of the tree of an input, where there are several.
+// Prints the path of an input before its tree, if there are several inputs.
 fn print_path<O: Write>(plan: &Plan<'_>, path: &str, out: &mut O) -> Result<(), Fault> {
     if plan.shows_paths {
         writeln!(out, "{path}:")?;

@@ -21,9 +21,9 @@ pub enum Format {
 pub enum Recovery {
     /// None.
     Nothing,
-    /// Those of least cost.
+    /// The cheapest ones.
     Cheapest {
-        /// How many beginnings of repairs may cost no more than the repairs that are looked for.
+        /// How many candidates, beginnings of repairs, may cost no more than the repairs.
         limit: usize,
     },
 }
@@ -36,7 +36,7 @@ pub struct Plan<'a> {
     /// What messages print for the tokens, in their order.
     pub names: &'a [&'a str],
     pub recovery: Recovery,
-    /// How many lexemes have to follow a repair, where that is told.
+    /// How many lexemes have to follow a repair, if the words say so.
     pub shifts: Option<usize>,
     pub format: Format,
     /// Whether errors alone are printed.

@@ -1,36 +1,38 @@
-//! The whole program: its words to a grammar, a lexer and inputs, their trees to standard output, and messages to standard error.
+//! The whole program: it reads its words, a grammar, a lexer and inputs, and writes trees to standard output and messages to standard
+//! error.
 ghost use Rattle.std.specs.Prelude.{◌≤◌};
 
-use crate::fault::{Fault, USAGE};
+use crate::fault_line::{FaultLine, USAGE};
 use crate::grammar::data_of;
 use crate::inputs::{STANDARD_INPUT, file_text, input_text};
 use crate::options::{HELP, Options, asks_for_help, options_of};
 use crate::parse::parse;
 use crate::plan::Plan;
 use crate::rules::lexer_rules;
-use crate::show::{push_message, tell};
+use crate::show::{push_message, write_messages};
 use crate::warnings::push_token_warnings;
 use lrpar_lexer::LexRule;
 use lrpar_report::{Level, Look, Reporter};
 use lrpar_table::check::ParserData;
+use program_files::fault::Fault;
 use program_files::parsing::printed_names;
 use program_files::streams::{Status, ended, finished, words};
 use std::alloc::{AllocError, Global};
+use std::env;
 use std::io::{BufWriter, IsTerminal, Read, Write};
 use std::rt::Files;
-use std::{env, io};
 
-/// What messages may rely on: that they come to a terminal, or not.
+/// What is known of the terminal that messages are written to.
 #[derive(Clone, Copy, Debug, PartialEq, Eq)]
 pub struct Terminal {
     /// Whether messages have colours.
     pub look: Look,
-    /// Whether a line tells what is done, where that can take long.
+    /// Whether a line says what the program does before something that can take long.
     pub shows_progress: bool,
 }
 
-/// Runs the program on the process's own arguments and streams, and answers its exit status, as [`run`] does. An argument that isn't
-/// UTF-8 is a wrong one. Messages have colours where standard error is a terminal, and `NO_COLOR` isn't set or is empty.
+/// Runs the program on the process's own arguments and streams, and returns its exit status, as [`run`] does. An argument that isn't
+/// UTF-8 is a wrong one. Messages have colours if standard error is a terminal, and `NO_COLOR` isn't set or is empty.
 pub fn run_of_process(rt: &HostRuntime) -> u8
     ensures status { result ≤ 2 }
 {
@@ -44,16 +46,19 @@ pub fn run_of_process(rt: &HostRuntime) -> u8
             rt.stdout(),
             rt.stderr(),
         ),
-        Err(error) => ended(Err(fault_of_arguments(&error)), &mut rt.stderr()),
+        Err(error) => ended(
+            Err(FaultLine(Fault::of_arguments(&error))),
+            &mut rt.stderr(),
+        ),
     }
 }
 
-/// Runs the program and answers its exit status: 0 where each input has a tree and no error, 1 where one has errors, 2 where there is no
-/// answer. `args` are the words after the program's name, and the files that they name are read by `rt`.
+/// Runs the program and returns its exit status: 0 if each input has a tree and no error, 1 if one has errors, 2 if there is no answer.
+/// `args` are the words after the program's name, and `rt` reads the files that they name.
 ///
 /// Trees are written to `out`, and messages to `err`: errors, and unless the words ask for errors alone, warnings and a note of how large
-/// the grammar and its table are. That `err` fails changes nothing. What is written to `out` is kept back until much of it is there, or
-/// something is written to `err`, or the program ends.
+/// the grammar and its table are. A failure of `err` is ignored. `out` is buffered: it is flushed before something is written to `err`,
+/// and at the end.
 pub fn run<R: Files, I: Read + Drop, O: Write + Drop, E: Write + Drop>(
     rt: &R,
     alloc: Global,
@@ -66,15 +71,7 @@ pub fn run<R: Files, I: Read + Drop, O: Write + Drop, E: Write + Drop>(
     ensures status { result ≤ 2 }
 {
     let ending = written(rt, alloc, args, terminal, input, out, &mut err);
-    ended(ending, &mut err)
-}
-
-// The fault of a failed look at the program's arguments.
-fn fault_of_arguments(error: &io::Error) -> Fault {
-    match error.kind() {
-        io::ErrorKind::OutOfMemory => Fault::Memory,
-        _ => Fault::Usage("a word isn't UTF-8"),
-    }
+    ended(ending.map_err(FaultLine), &mut err)
 }
 
 // What is known of the terminal.
@@ -98,7 +95,7 @@ fn may_colour(rt: &HostRuntime) -> bool {
     }
 }
 
-// How the program ends, once all that it prints is written.
+// How the program ends, after `out` is flushed.
 fn written<R: Files, I: Read + Drop, O: Write + Drop, E: Write>(
     rt: &R,
     alloc: Global,
@@ -117,7 +114,7 @@ fn written<R: Files, I: Read + Drop, O: Write + Drop, E: Write>(
     }
 }
 
-// The same, with what is printed.
+// The same, before `out` is flushed.
 fn printed<R: Files, I: Read + Drop, O: Write, E: Write>(
     rt: &R,
     alloc: Global,
@@ -134,7 +131,7 @@ fn printed<R: Files, I: Read + Drop, O: Write, E: Write>(
     printed_by_options(rt, alloc, &options, terminal, input, out, err)
 }
 
-// What the program says of itself.
+// Prints the usage line and the help text.
 fn helped<O: Write>(out: &mut O) -> Result<Status, Fault> {
     out.write_all(USAGE.as_bytes())?;
     out.write_all(HELP.as_bytes())?;
@@ -240,7 +237,7 @@ fn grammar_data<O: Write, E: Write>(
 ) -> Result<ParserData<u32>, Fault> {
     let is_quiet = work.options.is_quiet;
     if work.terminal.shows_progress && !is_quiet {
-        tell(out, err, "nimbleparse: building the table ..\n")?;
+        write_messages(out, err, "nimbleparse: building the table ..\n")?;
     }
     let reporter = work.grammar_reporter(alloc)?;
     data_of(alloc, &reporter, work.grammar, is_quiet, out, err)
@@ -257,7 +254,7 @@ fn rules_of_lexer(
     lexer_rules(alloc, &reporter, data.grm(), work.lexer)
 }
 
-// Warns of tokens that the lexer never gives, and tells how large the grammar and its table are, unless it is to be quiet.
+// Warns of tokens that the lexer never gives, and notes how large the grammar and its table are, unless the program is to be quiet.
 fn warn<O: Write, E: Write>(
     alloc: Global,
     work: Work<'_>,
@@ -270,7 +267,7 @@ fn warn<O: Write, E: Write>(
         return Ok(());
     }
     let text = warnings(alloc, work, data, rules)?;
-    tell(out, err, text.as_str())
+    write_messages(out, err, text.as_str())
 }
 
 // The text of the warnings and of the note.
@@ -287,7 +284,7 @@ fn warnings(
     Ok(text)
 }
 
-// Adds a note of how large a grammar and its table are, and of the least cap.
+// Adds a note of how large the grammar and its table are, and of the least cap.
 fn push_sizes(
     out: &mut String,
     alloc: Global,
@@ -305,7 +302,7 @@ fn push_sizes(
     push_message(out, alloc, reporter, Level::Note, None, text, "")
 }
 
-// Parses the inputs, and prints what comes of them: how that ends.
+// Parses the inputs, prints what comes of them, and returns how that ends.
 fn parse_inputs<R: Files, I: Read + Drop, O: Write, E: Write>(
     rt: &R,
     alloc: Global,
@@ -321,7 +318,7 @@ fn parse_inputs<R: Files, I: Read + Drop, O: Write, E: Write>(
     parse_paths(rt, alloc, &plan, &work.options.inputs, input, out, err)
 }
 
-// The same for the inputs of these paths: it's a success where each has a tree, and no error.
+// The same for the inputs of these paths. It's a success if each has a tree, and no error.
 fn parse_paths<R: Files, I: Read + Drop, O: Write, E: Write>(
     rt: &R,
     alloc: Global,

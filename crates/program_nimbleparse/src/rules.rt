@@ -1,12 +1,12 @@
-//! The rules of the lexer, and why there are none.
-use crate::fault::Fault;
-use crate::show::told;
+//! The rules of the lexer, or why there are none.
+use crate::show::fault_of_message;
 use lrpar_grammar::grammar::YaccGrammar;
 use lrpar_lexer::{LexRule, RulesFault, rules_of};
 use lrpar_report::{Reporter, lexer_message};
+use program_files::fault::Fault;
 use std::alloc::Global;
 
-/// The rules of a text.
+/// The rules of a lexer's text.
 pub fn lexer_rules(
     alloc: Global,
     reporter: &Reporter<'_>,
@@ -18,7 +18,7 @@ pub fn lexer_rules(
         Err(RulesFault::Memory) => Err(Fault::Memory),
         Err(RulesFault::Line(number, fault)) => {
             let message = lexer_message(alloc, grm, text, number, fault)?;
-            Err(told(alloc, reporter, &message))
+            Err(fault_of_message(alloc, reporter, &message))
         }
     }
 }

@@ -1,12 +1,16 @@
-//! What standard error gets while the program works.
-use crate::fault::Fault;
+//! Messages on standard error.
 use lrpar_grammar::span::Span;
 use lrpar_report::{Level, Message, Reporter};
+use program_files::fault::Fault;
 use std::alloc::{AllocError, Global};
 use std::io::Write;
 
-/// Writes the text to standard error, once what stands before it on standard output is written. That `err` fails changes nothing.
-pub fn tell<O: Write, E: Write>(out: &mut O, err: &mut E, text: &str) -> Result<(), Fault> {
+/// Writes the text to standard error, after `out` is flushed. A failure of `err` is ignored.
+pub fn write_messages<O: Write, E: Write>(
+    out: &mut O,
+    err: &mut E,
+    text: &str,
+) -> Result<(), Fault> {
     out.flush()?;
     if err.write_all(text.as_bytes()).is_ok() {
         let _ = err.flush();
@@ -15,7 +19,7 @@ pub fn tell<O: Write, E: Write>(out: &mut O, err: &mut E, text: &str) -> Result<
 }
 
 /// The fault that shows this message about a text.
-pub(crate) fn told(alloc: Global, reporter: &Reporter<'_>, message: &Message) -> Fault {
+pub(crate) fn fault_of_message(alloc: Global, reporter: &Reporter<'_>, message: &Message) -> Fault {
     match shown(alloc, reporter, message) {
         Ok(text) => Fault::of_message(text),
         Err(_) => Fault::Memory,

@@ -1,4 +1,4 @@
-//! What of a grammar is of no use.
+//! Warnings of rules and tokens that are of no use.
 use crate::show::push_message;
 use lrpar_grammar::grammar::YaccGrammar;
 use lrpar_grammar::span::{RIdx, TIdx};
@@ -8,7 +8,7 @@ use lrpar_table_sentences::reachable::Reachable;
 use lrpar_table_sentences::shortest::Shortest;
 use std::alloc::{AllocError, Global};
 
-/// Adds a warning for each rule that the grammar doesn't reach from its start, and for each that derives no text.
+/// Adds a warning for each rule that isn't reachable, and for each other one that isn't productive.
 pub(crate) fn push_rule_warnings(
     out: &mut String,
     alloc: Global,
@@ -80,7 +80,7 @@ pub fn push_token_warnings(
     Ok(())
 }
 
-// Of each token of the grammar but the end token whether a rule gives it.
+// For each token of the grammar but the end token, whether a rule of the lexer gives it.
 fn given_tokens(
     alloc: Global,
     grm: &YaccGrammar<u32>,

@@ -1,4 +1,4 @@
-//! Cases of the examples of conflicts.
+//! Cases of the counterexamples of conflicts.
 ghost use Rattle.lrpar_table_build.specs.Built.{IsBuilt};
 ghost use Rattle.lrpar_conflict_examples.specs.ExamplesFit.{ExamplesFit};
 
@@ -13,15 +13,15 @@ use std::rt::Files;
 use std::{fs, io};
 use test_case_lines::cases::Case;
 use test_case_lines::fault::Fault;
-use test_case_lines::told::Told;
+use test_case_lines::printed::Printed;
 use test_case_lines::values::number_at;
 
 /// The keys of the lines that say what is done.
 pub const INPUTS: &[&str] = &["text", "grammar", "bound", "show"];
 
-/// The examples of the conflicts of the grammar's table.
+/// The counterexamples of the conflicts of the grammar's table.
 pub fn outcome<R: Files>(
-    told: &mut Told,
+    told: &mut Printed,
     rt: &R,
     alloc: Global,
     case: Case<'_, '_>,
@@ -42,9 +42,9 @@ fn source<R: Files>(rt: &R, alloc: Global, case: Case<'_, '_>) -> Result<String,
     }
 }
 
-// The examples of the table that is built of the grammar.
+// The counterexamples of the table that is built of the grammar.
 fn push_of_grammar(
-    told: &mut Told,
+    told: &mut Printed,
     alloc: Global,
     case: Case<'_, '_>,
     grm: &YaccGrammar<u16>,
@@ -56,9 +56,9 @@ fn push_of_grammar(
     }
 }
 
-// The examples of a table.
+// The counterexamples of a table.
 fn push_of_table(
-    told: &mut Told,
+    told: &mut Printed,
     alloc: Global,
     case: Case<'_, '_>,
     grm: &YaccGrammar<u16>,
@@ -76,9 +76,9 @@ fn push_of_table(
     Ok(())
 }
 
-// What is asked for of the examples: their text, or how many there are.
+// What the case asks for: the text of the counterexamples, or how many there are.
 fn push_shown(
-    told: &mut Told,
+    told: &mut Printed,
     alloc: Global,
     case: Case<'_, '_>,
     grm: &YaccGrammar<u16>,
@@ -97,9 +97,9 @@ fn push_shown(
     }
 }
 
-// How many conflicts, examples and texts of them there are, and how many of these have one text with two readings.
+// How many conflicts, counterexamples and texts of them there are, and how many of these have one text with two derivations.
 fn push_count(
-    told: &mut Told,
+    told: &mut Printed,
     table: &StateTable<u16>,
     examples: &[ConflictExample<u16>],
     text: &str,
@@ -111,6 +111,9 @@ fn push_count(
     told.number("count ", conflicts);
     told.number(" conflicts, ", examples.len());
     told.number(" examples, ", text.matches("\n\n").count());
-    told.number(" texts, ", text.matches("one text, two readings\n").count());
+    told.number(
+        " texts, ",
+        text.matches("one text, two derivations\n").count(),
+    );
     told.text(" ambiguous\n");
 }

@@ -1,4 +1,4 @@
-//! Grammars of texts: why there is none, or what is asked for of it.
+//! Grammars of texts: why there is none, or what the case asks of it.
 use crate::uses::push_uses;
 use lrpar_grammar::grammar::{GrammarFault, YaccGrammar};
 use lrpar_grammar::span::{Span, Symbol};
@@ -6,90 +6,90 @@ use std::alloc::Global;
 use test_case_lines::cases::Case;
 use test_case_lines::fault::Fault;
 use test_case_lines::names::{rule_name, token_name};
-use test_case_lines::told::Told;
+use test_case_lines::printed::Printed;
 
 /// The keys that say what is done.
 pub const INPUTS: &[&str] = &["text", "over", "show", "find"];
 
 /// The grammar of the text, in the smallest storage type.
-pub fn outcome(told: &mut Told, alloc: Global, case: Case<'_, '_>) -> Result<(), Fault> {
+pub fn outcome(out: &mut Printed, alloc: Global, case: Case<'_, '_>) -> Result<(), Fault> {
     let text = case.text(alloc, "text")?;
     let made = YaccGrammar::new_with_storaget(alloc, text.as_str());
-    push_made(told, alloc, case, made)
+    push_made(out, alloc, case, made)
 }
 
-/// Adds what is asked for of the grammar, or why there is none.
+/// Adds what the case asks of the grammar, or why there is none.
 pub fn push_made(
-    told: &mut Told,
+    out: &mut Printed,
     alloc: Global,
     case: Case<'_, '_>,
     made: Result<YaccGrammar<u8>, GrammarFault>,
 ) -> Result<(), Fault> {
     match made {
-        Ok(grm) => push_shown(told, alloc, case, &grm),
+        Ok(grm) => push_shown(out, alloc, case, &grm),
         Err(fault) => {
-            push_fault(told, &fault);
+            push_fault(out, &fault);
             Ok(())
         }
     }
 }
 
 /// Why there is no grammar of each beginning of a text.
-pub fn outcome_of_cuts(told: &mut Told, alloc: Global, case: Case<'_, '_>) -> Result<(), Fault> {
+pub fn outcome_of_cuts(out: &mut Printed, alloc: Global, case: Case<'_, '_>) -> Result<(), Fault> {
     let text = case.text(alloc, "text")?;
     for (len, _) in text.as_str().char_indices() {
-        told.number("cut ", len);
-        told.text(": ");
-        push_cut(told, alloc, text.as_str().get(..len).unwrap_or(""));
+        out.number("cut ", len);
+        out.text(": ");
+        push_cut(out, alloc, text.as_str().get(..len).unwrap_or(""));
     }
     Ok(())
 }
 
 // Why the text is no grammar.
-fn push_cut(told: &mut Told, alloc: Global, cut: &str) {
+fn push_cut(out: &mut Printed, alloc: Global, cut: &str) {
     let fault = YaccGrammar::<u8>::new_with_storaget(alloc, cut).err();
     match fault {
-        None => told.text("a grammar\n"),
-        Some(fault) => push_fault(told, &fault),
+        None => out.text("a grammar\n"),
+        Some(fault) => push_fault(out, &fault),
     }
 }
 
-// The fault, with where its span ends, if it has one.
-fn push_fault(told: &mut Told, fault: &GrammarFault) {
-    told.text("fault ");
-    told.show(fault);
+// The fault, and the end of its span, if it has one.
+fn push_fault(out: &mut Printed, fault: &GrammarFault) {
+    out.text("fault ");
+    out.show(fault);
     match fault {
         GrammarFault::UnknownRule(span)
         | GrammarFault::UnknownToken(span)
         | GrammarFault::TokenIsRule(span)
         | GrammarFault::RepeatedStart(span)
-        | GrammarFault::RepeatedEpp(span) => told.line("..", &span.end()),
-        GrammarFault::Memory => told.lack_memory(),
+        | GrammarFault::RepeatedEpp(span) => out.line("..", &span.end()),
+        GrammarFault::Memory => out.lack_memory(),
         GrammarFault::BadSymbol
         | GrammarFault::BadStart
         | GrammarFault::NoRules
         | GrammarFault::StorageTooSmall
-        | GrammarFault::Syntax(_) => told.text("\n"),
+        | GrammarFault::Syntax(_) => out.text("\n"),
     }
 }
 
-// What is asked for of the grammar.
+// What the case asks of the grammar.
 fn push_shown(
-    told: &mut Told,
+    out: &mut Printed,
     alloc: Global,
     case: Case<'_, '_>,
     grm: &YaccGrammar<u8>,
 ) -> Result<(), Fault> {
     for word in case.value_or_nothing("show").split(' ') {
         match word {
-            "counts" => push_counts(told, grm),
-            "rules" => push_rules(told, grm),
-            "productions" => push_prods(told, grm),
-            "tokens" => push_tokens(told, grm),
-            "map" => push_map(told, alloc, grm),
-            "find" => push_found(told, case, grm),
-            "fits" => push_fits(told, alloc, case, grm)?,
-            "uses" => push_uses(told, alloc, grm)?,
+            "counts" => push_counts(out, grm),
+            "rules" => push_rules(out, grm),
+            "productions" => push_prods(out, grm),
+            "tokens" => push_tokens(out, grm),
+            "map" => push_map(out, alloc, grm),
+            "find" => push_found(out, case, grm),
+            "fits" => push_fits(out, alloc, case, grm)?,
+            "uses" => push_uses(out, alloc, grm)?,
             _ => return Err(Fault::Line(case.number, "what is shown isn't known")),
         }
     }
@@ -97,110 +97,110 @@ fn push_shown(
 }
 
 // How many of each there are, and the start.
-fn push_counts(told: &mut Told, grm: &YaccGrammar<u8>) {
-    told.number("counts ", grm.rules_len());
-    told.number(" rules, ", grm.prods_len());
-    told.number(" productions, ", grm.tokens_len());
-    told.number(" tokens, start rule ", usize::from(grm.start_rule_idx()));
-    told.number(" by ", usize::from(grm.start_prod()));
-    told.line(", end ", &usize::from(grm.eof_token_idx()));
+fn push_counts(out: &mut Printed, grm: &YaccGrammar<u8>) {
+    out.number("counts ", grm.rules_len());
+    out.number(" rules, ", grm.prods_len());
+    out.number(" productions, ", grm.tokens_len());
+    out.number(" tokens, start rule ", usize::from(grm.start_rule_idx()));
+    out.number(" by ", usize::from(grm.start_prod()));
+    out.line(", end ", &usize::from(grm.eof_token_idx()));
 }
 
-// A line for each rule: its number, its name, where that stands, and its productions.
-fn push_rules(told: &mut Told, grm: &YaccGrammar<u8>) {
+// A line for each rule: its number, its name, the span of the name, and its productions.
+fn push_rules(out: &mut Printed, grm: &YaccGrammar<u8>) {
     for rule in grm.iter_rules() {
-        told.number("rule ", usize::from(rule));
-        told.texts(" ", rule_name(grm, rule));
+        out.number("rule ", usize::from(rule));
+        out.texts(" ", rule_name(grm, rule));
         if usize::from(rule) < grm.rules_len() {
-            push_span(told, grm.rule_name_span(rule));
-            told.text(":");
+            push_span(out, grm.rule_name_span(rule));
+            out.text(":");
             for prod in grm.rule_to_prods(rule) {
-                told.number(" ", usize::from(*prod));
+                out.number(" ", usize::from(*prod));
             }
         }
-        told.text("\n");
+        out.text("\n");
     }
 }
 
-// Where something stands.
-fn push_span(told: &mut Told, span: Span) {
-    told.number(" ", span.start());
-    told.number("..", span.end());
+// A span.
+fn push_span(out: &mut Printed, span: Span) {
+    out.number(" ", span.start());
+    out.number("..", span.end());
 }
 
-// A line for each production: its number, its rule, where it stands, and its symbols.
-fn push_prods(told: &mut Told, grm: &YaccGrammar<u8>) {
+// A line for each production: its number, its rule, its span, and its symbols.
+fn push_prods(out: &mut Printed, grm: &YaccGrammar<u8>) {
     for prod in grm.iter_pidxs() {
-        told.number("production ", usize::from(prod));
+        out.number("production ", usize::from(prod));
         if usize::from(prod) < grm.prods_len() {
-            told.texts(" of ", rule_name(grm, grm.prod_to_rule(prod)));
-            push_span(told, grm.prod_span(prod));
-            push_symbols(told, grm, grm.prod(prod), grm.symbol_spans(prod));
+            out.texts(" of ", rule_name(grm, grm.prod_to_rule(prod)));
+            push_span(out, grm.prod_span(prod));
+            push_symbols(out, grm, grm.prod(prod), grm.symbol_spans(prod));
         }
-        told.text("\n");
+        out.text("\n");
     }
 }
 
-// Symbols, each with where it stands; the names of tokens in quotes.
-fn push_symbols(told: &mut Told, grm: &YaccGrammar<u8>, symbols: &[Symbol<u8>], spans: &[Span]) {
+// Symbols, each with its span; the names of tokens in quotes.
+fn push_symbols(out: &mut Printed, grm: &YaccGrammar<u8>, symbols: &[Symbol<u8>], spans: &[Span]) {
     let mut mark = ':';
     for (symbol, span) in symbols.iter().zip(spans) {
-        told.show(&mark);
-        told.text(" ");
+        out.show(&mark);
+        out.text(" ");
         match symbol {
-            Symbol::Rule(rule) => told.text(rule_name(grm, *rule)),
-            Symbol::Token(token) => told.quoted('\'', token_name(grm, *token)),
+            Symbol::Rule(rule) => out.text(rule_name(grm, *rule)),
+            Symbol::Token(token) => out.quoted('\'', token_name(grm, *token)),
         }
-        push_span(told, *span);
+        push_span(out, *span);
         mark = ',';
     }
 }
 
-// A line for each token: its number, its name, its printed text, and where it stands; `$` for the end token, which has none of these.
-fn push_tokens(told: &mut Told, grm: &YaccGrammar<u8>) {
+// A line for each token: its number, its name, its printed text, and its span; `$` for the end token, which has none of these.
+fn push_tokens(out: &mut Printed, grm: &YaccGrammar<u8>) {
     for token in grm.iter_tidxs() {
-        told.number("token ", usize::from(token));
-        told.texts(" ", token_name(grm, token));
+        out.number("token ", usize::from(token));
+        out.texts(" ", token_name(grm, token));
         if usize::from(token) < grm.tokens_len() {
             if let Some(epp) = grm.token_epp(token) {
-                told.text(" ");
-                told.quoted('"', epp);
+                out.text(" ");
+                out.quoted('"', epp);
             }
             if let Some(span) = grm.token_span(token) {
-                push_span(told, span);
+                push_span(out, span);
             }
         }
-        told.text("\n");
+        out.text("\n");
     }
 }
 
 // The tokens with names, each with its number.
-fn push_map(told: &mut Told, alloc: Global, grm: &YaccGrammar<u8>) {
+fn push_map(out: &mut Printed, alloc: Global, grm: &YaccGrammar<u8>) {
     match grm.tokens_map(alloc) {
         Ok(map) => {
             for (name, token) in &map {
-                told.texts("map ", name);
-                told.line(" ", &usize::from(*token));
+                out.texts("map ", name);
+                out.line(" ", &usize::from(*token));
             }
         }
-        Err(_) => told.lack_memory(),
+        Err(_) => out.lack_memory(),
     }
 }
 
 // The number of each token that is looked for by its name.
-fn push_found(told: &mut Told, case: Case<'_, '_>, grm: &YaccGrammar<u8>) {
+fn push_found(out: &mut Printed, case: Case<'_, '_>, grm: &YaccGrammar<u8>) {
     for name in case.value_or_nothing("find").split(' ') {
-        told.texts("found ", name);
+        out.texts("found ", name);
         match grm.token_idx(name) {
-            Some(token) => told.line(" ", &usize::from(token)),
-            None => told.text(" none\n"),
+            Some(token) => out.line(" ", &usize::from(token)),
+            None => out.text(" none\n"),
         }
     }
 }
 
-// Whether the places fit the text, or the other one that is named.
+// Whether the places fit the text, or the other text of the case.
 fn push_fits(
-    told: &mut Told,
+    out: &mut Printed,
     alloc: Global,
     case: Case<'_, '_>,
     grm: &YaccGrammar<u8>,
@@ -210,7 +210,7 @@ fn push_fits(
         None => "text",
     };
     let text = case.text(alloc, key)?;
-    told.text(match grm.spans_fit(text.as_str()) {
+    out.text(match grm.spans_fit(text.as_str()) {
         true => "fits yes\n",
         false => "fits no\n",
     });

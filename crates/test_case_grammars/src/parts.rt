@@ -6,7 +6,7 @@ use std::alloc::Global;
 use test_case_lines::cases::Case;
 use test_case_lines::fault::Fault;
 use test_case_lines::line::{Content, in_two};
-use test_case_lines::told::Told;
+use test_case_lines::printed::Printed;
 use test_case_lines::values::{index_of, number_of, span_of};
 
 /// The keys that say what is done.
@@ -21,13 +21,13 @@ pub const INPUTS: &[&str] = &[
     "find",
 ];
 
-/// What is said where a span can't be read.
+/// The reason if a span can't be read.
 const NO_SPAN: &str = "a span is wanted, as 3..4";
 
 /// The grammar of the parts, in the smallest storage type.
-pub fn outcome(told: &mut Told, alloc: Global, case: Case<'_, '_>) -> Result<(), Fault> {
+pub fn outcome(out: &mut Printed, alloc: Global, case: Case<'_, '_>) -> Result<(), Fault> {
     let parts = parts_of(alloc, case)?;
-    push_made(told, alloc, case, YaccGrammar::from_parts(alloc, parts))
+    push_made(out, alloc, case, YaccGrammar::from_parts(alloc, parts))
 }
 
 // The parts that the lines have.
@@ -97,7 +97,7 @@ fn add_token(
     }
 }
 
-// Adds so many tokens, all of one name.
+// Adds this number of tokens, all of one name.
 fn add_tokens(tokens: &mut Vec<TokenPart>, alloc: Global, count: usize) -> Result<(), Fault> {
     for _ in 0..count {
         push_token(tokens, alloc, "t", Span::new(0, 1), "")?;
@@ -105,7 +105,7 @@ fn add_tokens(tokens: &mut Vec<TokenPart>, alloc: Global, count: usize) -> Resul
     Ok(())
 }
 
-// Adds the token. It has no printed text of its own where this one is empty.
+// Adds the token. It has no printed text of its own if this one is empty.
 fn push_token(
     tokens: &mut Vec<TokenPart>,
     alloc: Global,

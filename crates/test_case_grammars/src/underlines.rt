@@ -12,7 +12,7 @@ use std::error::Error;
 use std::fmt;
 use test_case_lines::cases::Case;
 use test_case_lines::fault::Fault;
-use test_case_lines::told::Told;
+use test_case_lines::printed::Printed;
 use test_case_lines::values::{number_at, span_of};
 
 /// The keys of the lines that say what is done.
@@ -55,12 +55,12 @@ impl<'a> fmt::Display for Notice<'a> {
 
 impl<'a> Error for Notice<'a> {}
 
-/// What is asked for of the places of the text.
-pub fn outcome(told: &mut Told, alloc: Global, case: Case<'_, '_>) -> Result<(), Fault> {
+/// What the case asks of the places of the text.
+pub fn outcome(out: &mut Printed, alloc: Global, case: Case<'_, '_>) -> Result<(), Fault> {
     let text = case.text(alloc, "text")?;
     let spans = spans_of(alloc, case)?;
     match SpannedDiagnosticFormatter::new(alloc, text.as_str(), case.value_or_nothing("path")) {
-        Ok(formatter) => push_shown(told, alloc, case, text.as_str(), &formatter, &spans),
+        Ok(formatter) => push_shown(out, alloc, case, text.as_str(), &formatter, &spans),
         Err(_) => Err(Fault::Memory),
     }
 }
@@ -76,9 +76,9 @@ fn spans_of(alloc: Global, case: Case<'_, '_>) -> Result<Vec<Span>, Fault> {
     Ok(spans)
 }
 
-// What is asked for.
+// The same, by what it asks.
 fn push_shown(
-    told: &mut Told,
+    out: &mut Printed,
     alloc: Global,
     case: Case<'_, '_>,
     text: &str,
@@ -88,46 +88,46 @@ fn push_shown(
     requires { (formatter.now).text ≡ text.now }
 {
     match case.value_or_nothing("show") {
-        "ordinal" => push_ordinal(told, alloc, case),
+        "ordinal" => push_ordinal(out, alloc, case),
         "lines" => {
-            push_lines(told, text, formatter);
+            push_lines(out, text, formatter);
             Ok(())
         }
-        "location" => push_location(told, alloc, case, formatter, spans),
-        "block" => push_block(told, alloc, case, text, formatter, spans),
-        "row" => push_row(told, alloc, case, formatter, spans),
+        "location" => push_location(out, alloc, case, formatter, spans),
+        "block" => push_block(out, alloc, case, text, formatter, spans),
+        "row" => push_row(out, alloc, case, formatter, spans),
         "follow" => {
             let follow = formatter.spans_follow(spans);
-            told.field("follow", if follow { "yes" } else { "no" });
+            out.field("follow", if follow { "yes" } else { "no" });
             Ok(())
         }
-        "error" => push_error(told, alloc, case, text, formatter, spans),
-        "warning" => push_warning(told, alloc, case, text, formatter, spans),
+        "error" => push_error(out, alloc, case, text, formatter, spans),
+        "warning" => push_warning(out, alloc, case, text, formatter, spans),
         "memory" => {
-            told.line("fault ", &DiagnosticFault::Memory);
+            out.line("fault ", &DiagnosticFault::Memory);
             Ok(())
         }
         _ => Err(Fault::Line(case.number, "what is shown isn't known")),
     }
 }
 
-// The number of order.
-fn push_ordinal(told: &mut Told, alloc: Global, case: Case<'_, '_>) -> Result<(), Fault> {
+// The ordinal.
+fn push_ordinal(out: &mut Printed, alloc: Global, case: Case<'_, '_>) -> Result<(), Fault> {
     let ordinal = SpannedDiagnosticFormatter::ordinal(alloc, number_at(case, "number", 0)?)?;
-    told.field("ordinal", ordinal.as_str());
+    out.field("ordinal", ordinal.as_str());
     Ok(())
 }
 
 // The number of the last line.
-fn push_lines(told: &mut Told, text: &str, formatter: &SpannedDiagnosticFormatter<'_>) {
+fn push_lines(out: &mut Printed, text: &str, formatter: &SpannedDiagnosticFormatter<'_>) {
     if let Some(line) = formatter.nlc().byte_to_line_num(text.len()) {
-        told.line("lines ", &line);
+        out.line("lines ", &line);
     }
 }
 
-// Where the first place lies.
+// The line and the column of the first place.
 fn push_location(
-    told: &mut Told,
+    out: &mut Printed,
     alloc: Global,
     case: Case<'_, '_>,
     formatter: &SpannedDiagnosticFormatter<'_>,
@@ -135,13 +135,13 @@ fn push_location(
 ) -> Result<(), Fault> {
     let message = case.value_or_nothing("message");
     let location = formatter.file_location_msg(alloc, message, spans.first().copied())?;
-    told.field("location", location.as_str());
+    out.field("location", location.as_str());
     Ok(())
 }
 
 // The first place, underlined.
 fn push_block(
-    told: &mut Told,
+    out: &mut Printed,
     alloc: Global,
     case: Case<'_, '_>,
     text: &str,
@@ -165,7 +165,7 @@ fn push_block(
                     sign_of(case),
                 )?
             };
-            told.field("block", block.as_str());
+            out.field("block", block.as_str());
             Ok(())
         }
         _ => Err(Fault::Line(case.number, "a place in the text is wanted")),
@@ -174,7 +174,7 @@ fn push_block(
 
 // All places on one line, underlined.
 fn push_row(
-    told: &mut Told,
+    out: &mut Printed,
     alloc: Global,
     case: Case<'_, '_>,
     formatter: &SpannedDiagnosticFormatter<'_>,
@@ -185,13 +185,13 @@ fn push_row(
     }
     let message = case.text(alloc, "message")?;
     let row = formatter.underline_spans_on_line_with_text(alloc, spans, message, sign_of(case))?;
-    told.field("row", row.as_str());
+    out.field("row", row.as_str());
     Ok(())
 }
 
 // The places as those of an error.
 fn push_error(
-    told: &mut Told,
+    out: &mut Printed,
     alloc: Global,
     case: Case<'_, '_>,
     text: &str,
@@ -204,26 +204,26 @@ fn push_error(
         return Err(Fault::Line(case.number, "places in the text are wanted"));
     }
     match formatter.format_error(alloc, notice_of(alloc, case, spans)?) {
-        Ok(error) => push_error_text(told, alloc, &error),
-        Err(fault) => push_fault(told, fault),
+        Ok(error) => push_error_text(out, alloc, &error),
+        Err(fault) => push_fault(out, fault),
     }
     Ok(())
 }
 
 // The text of an error, and whether it prints as another one.
-fn push_error_text(told: &mut Told, alloc: Global, error: &DiagnosticError) {
-    told.field("error", error.text());
+fn push_error_text(out: &mut Printed, alloc: Global, error: &DiagnosticError) {
+    out.field("error", error.text());
     let Ok(printed) = error.to_string(alloc) else {
-        return told.lack_memory();
+        return out.lack_memory();
     };
     if printed.as_str() != error.text() {
-        told.text("differs\n");
+        out.text("differs\n");
     }
 }
 
 // The places as those of a warning.
 fn push_warning(
-    told: &mut Told,
+    out: &mut Printed,
     alloc: Global,
     case: Case<'_, '_>,
     text: &str,
@@ -236,21 +236,21 @@ fn push_warning(
         return Err(Fault::Line(case.number, "places in the text are wanted"));
     }
     match formatter.format_warning(alloc, notice_of(alloc, case, spans)?) {
-        Ok(warning) => told.field("warning", warning.as_str()),
-        Err(fault) => push_fault(told, fault),
+        Ok(warning) => out.field("warning", warning.as_str()),
+        Err(fault) => push_fault(out, fault),
     }
     Ok(())
 }
 
 // The fault.
-fn push_fault(told: &mut Told, fault: DiagnosticFault) {
+fn push_fault(out: &mut Printed, fault: DiagnosticFault) {
     match fault {
-        DiagnosticFault::SeveralSpans => told.line("fault ", &fault),
-        DiagnosticFault::Memory => told.lack_memory(),
+        DiagnosticFault::SeveralSpans => out.line("fault ", &fault),
+        DiagnosticFault::Memory => out.lack_memory(),
     }
 }
 
-// The message about the places, of the kind that the case tells.
+// The message about the places, of the kind that the case names.
 fn notice_of<'a>(alloc: Global, case: Case<'_, 'a>, spans: &[Span]) -> Result<Notice<'a>, Fault>
     ensures { IfOk result (λ notice. notice.spans.items ≡ spans.now) }
 {

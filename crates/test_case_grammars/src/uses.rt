@@ -5,11 +5,11 @@ use lrpar_table_sentences::shortest::Shortest;
 use std::alloc::Global;
 use test_case_lines::fault::Fault;
 use test_case_lines::names::rule_name;
-use test_case_lines::told::Told;
+use test_case_lines::printed::Printed;
 
 /// A line for each rule, and the first rule that is reached and derives no text.
 pub(crate) fn push_uses(
-    told: &mut Told,
+    told: &mut Printed,
     alloc: Global,
     grm: &YaccGrammar<u8>,
 ) -> Result<(), Fault> {
@@ -24,14 +24,14 @@ pub(crate) fn push_uses(
         );
     }
     match shortest.unproductive(alloc, grm)? {
-        Some(rule) => told.line("barren ", &rule_name(grm, rule)),
-        None => told.text("barren none\n"),
+        Some(rule) => told.line("unproductive ", &rule_name(grm, rule)),
+        None => told.text("unproductive none\n"),
     }
     Ok(())
 }
 
 // A rule's name, whether it is reached, and whether it derives some text.
-fn push_use(told: &mut Told, name: &str, is_reachable: bool, derives: bool) {
+fn push_use(told: &mut Printed, name: &str, is_reachable: bool, derives: bool) {
     told.texts("use ", name);
     told.text(if is_reachable {
         ": reached"

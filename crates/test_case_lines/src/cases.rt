@@ -17,7 +17,7 @@ pub struct Case<'t, 'a> {
     pub lines: &'t [Line<'a>],
 }
 
-/// The case that begins with the line of this place, if one does. Lines in front of the first case are a case without a kind.
+/// The case that begins with the line at this place, if one does. Lines before the first case are a case without a kind.
 pub fn case_at<'t, 'a>(lines: &'t [Line<'a>], at: usize) -> Option<Case<'t, 'a>> {
     let (first, below) = lines.get(at..)?.split_first()?;
     let number = first.number;
@@ -39,18 +39,18 @@ pub fn case_at<'t, 'a>(lines: &'t [Line<'a>], at: usize) -> Option<Case<'t, 'a>>
     }
 }
 
-/// The lines behind this place, up to the next case that is a subject.
+/// The lines after this place, up to the next case that is a subject.
 pub fn section_after<'t, 'a>(lines: &'t [Line<'a>], at: usize) -> &'t [Line<'a>] {
     until_subject(&lines[at.saturating_add(1).min(lines.len())..])
 }
 
-// The lines in front of the next case.
+// The lines before the next case.
 fn until_header<'t, 'a>(lines: &'t [Line<'a>]) -> &'t [Line<'a>] {
     let count = lines.iter().position(|line| is_header(*line));
     &lines[..count.unwrap_or(lines.len()).min(lines.len())]
 }
 
-// The lines in front of the next case that is a subject.
+// The lines before the next case that is a subject.
 fn until_subject<'t, 'a>(lines: &'t [Line<'a>]) -> &'t [Line<'a>] {
     let count = lines.iter().position(|line| begins_subject(*line));
     &lines[..count.unwrap_or(lines.len()).min(lines.len())]
@@ -64,7 +64,7 @@ fn begins_subject(line: Line<'_>) -> bool {
     }
 }
 
-// Whether a case of this kind is what those behind it are about.
+// Whether a case of this kind is the subject of the cases after it.
 fn is_subject(kind: &str) -> bool {
     kind == "grammar" || kind == "table"
 }
@@ -75,7 +75,7 @@ fn is_header(line: Line<'_>) -> bool {
 }
 
 impl<'t, 'a> Case<'t, 'a> {
-    /// Whether the cases behind it are about what it says.
+    /// Whether it is the subject of the cases after it.
     pub fn is_subject(&self) -> bool {
         is_subject(self.kind)
     }
@@ -85,12 +85,12 @@ impl<'t, 'a> Case<'t, 'a> {
         from_key(self.lines, key)
     }
 
-    /// The value beside the first line with this key, and the number of that line.
+    /// The value of the first line with this key, and the number of that line.
     pub fn value(&self, key: &str) -> Option<(&'a str, usize)> {
         value_of(self.from(key))
     }
 
-    /// The value beside the first line with this key, empty where there is none.
+    /// The value of the first line with this key, empty if there is none.
     pub fn value_or_nothing(&self, key: &str) -> &'a str {
         match self.value(key) {
             Some((value, _)) => value,
@@ -98,7 +98,7 @@ impl<'t, 'a> Case<'t, 'a> {
         }
     }
 
-    /// The text of the first line with this key, and of the lines of text below it, empty where there is none.
+    /// The text of the first line with this key, and of the lines of text below it, empty if there is none.
     pub fn bytes(&self, alloc: Global, key: &str) -> Result<Vec<u8>, Fault> {
         bytes_of(alloc, self.from(key))
     }
@@ -119,9 +119,9 @@ pub fn from_key<'t, 'a>(lines: &'t [Line<'a>], key: &str) -> &'t [Line<'a>] {
 }
 
 // Whether the line has this key.
-fn has_key(line: Line<'_>, wanted: &str) -> bool {
+fn has_key(line: Line<'_>, name: &str) -> bool {
     match line.content {
-        Content::Field { key, value: _ } => key == wanted,
+        Content::Field { key, value: _ } => key == name,
         Content::Header { .. } | Content::Text(_) => false,
     }
 }
@@ -135,14 +135,14 @@ pub fn value_of<'a>(lines: &[Line<'a>]) -> Option<(&'a str, usize)> {
 }
 
 /// The text of the first of these lines: its value, in which escapes are read, and then the lines of text below it, with a line feed
-/// behind each.
+/// after each.
 pub fn bytes_of(alloc: Global, lines: &[Line<'_>]) -> Result<Vec<u8>, Fault> {
     let (value, number) = value_of(lines).unwrap_or(("", 0));
     bytes_below(alloc, value, number, lines.get(1..).unwrap_or(&[]))
 }
 
 /// The text of a value in the line of this number, in which escapes are read, and then the lines of text with which those below it
-/// begin, with a line feed behind each.
+/// begin, with a line feed after each.
 pub fn bytes_below(
     alloc: Global,
     value: &str,

@@ -8,11 +8,11 @@ use std::{fmt, io};
 /// Why a case has no outcome, or why there are no more cases.
 #[derive(Clone, Copy)]
 pub enum Fault {
-    /// What stands in this line of the file can't be read as what is said here.
+    /// This line of the file can't be read, for this reason.
     Line(usize, &'static str),
     /// A file can't be read or written, or a stream takes no more.
     Io(io::ErrorKind),
-    /// Memory was wanting.
+    /// An allocation failed.
     Memory,
 }
 

@@ -5,7 +5,7 @@ pub mod cases;
 pub mod fault;
 pub mod line;
 pub mod names;
+pub mod printed;
 pub mod text;
-pub mod told;
 pub mod values;
 pub mod verdict;

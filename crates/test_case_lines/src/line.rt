@@ -45,7 +45,7 @@ fn content_of(line: &str) -> Option<Content<'_>> {
     }
 }
 
-// What the rest of a line has that begins with two spaces.
+// What a line has that begins with two spaces, by the rest of it.
 fn content_inside(inside: &str) -> Content<'_> {
     match inside.strip_prefix('|') {
         Some(text) => Content::Text(text),
@@ -56,7 +56,7 @@ fn content_inside(inside: &str) -> Content<'_> {
     }
 }
 
-/// The first word of a text, and what stands behind it without the blanks at both ends.
+/// The first word of a text, and what follows it, without the blanks at both ends.
 pub fn in_two(text: &str) -> (&str, &str) {
     match text.trim().split_once(' ') {
         Some((word, rest)) => (word, rest.trim()),

@@ -2,7 +2,7 @@
 use crate::fault::Fault;
 use std::alloc::Global;
 
-/// The bytes of a value: `\n`, `\r`, `\t`, `\\`, `\s` for a space, and `\xHH` for any byte are read as what they stand for.
+/// The bytes of a value: `\n`, `\r`, `\t`, `\\`, `\s` for a space, and `\xHH` for any byte are read as the bytes that they represent.
 pub fn unescaped(alloc: Global, value: &str, number: usize) -> Result<Vec<u8>, Fault> {
     let mut bytes = Vec::new(alloc);
     let mut rest = value.as_bytes();
@@ -16,7 +16,7 @@ pub fn unescaped(alloc: Global, value: &str, number: usize) -> Result<Vec<u8>, F
     Ok(bytes)
 }
 
-// The byte that a text begins with, which is none for an escape that isn't known, and the text behind it; none for the empty text.
+// The byte with which a text begins, or `None` for an escape that isn't known, and the text after it; `None` for the empty text.
 fn first_byte(text: &[u8]) -> Option<(Option<u8>, &[u8])> {
     match text {
         [] => None,
@@ -26,7 +26,7 @@ fn first_byte(text: &[u8]) -> Option<(Option<u8>, &[u8])> {
     }
 }
 
-// What a letter behind a backslash stands for.
+// The byte that a letter after a backslash represents.
 fn escaped(letter: u8) -> Option<u8> {
     match letter {
         b'n' => Some(b'\n'),

@@ -6,7 +6,7 @@ use lrpar_grammar::span::{Span, StorageIndex};
 /// The cap of a table whose case names none.
 pub const CAP: u16 = 10;
 
-/// The number that the word is.
+/// The word as a number.
 pub fn number_of(word: &str, line: usize) -> Result<usize, Fault> {
     match word.trim().parse::<usize>() {
         Ok(number) => Ok(number),
@@ -14,7 +14,7 @@ pub fn number_of(word: &str, line: usize) -> Result<usize, Fault> {
     }
 }
 
-/// The number beside the first line with this key, or this other one where there is none.
+/// The number of the first line with this key, or `other` if there is none.
 pub fn number_at(case: Case<'_, '_>, key: &str, other: usize) -> Result<usize, Fault> {
     match case.value(key) {
         None => Ok(other),
@@ -22,7 +22,7 @@ pub fn number_at(case: Case<'_, '_>, key: &str, other: usize) -> Result<usize, F
     }
 }
 
-/// The cap beside the first line with this key.
+/// The cap of the first line with this key, or [`CAP`] if there is none.
 pub fn cap_at(case: Case<'_, '_>, key: &str) -> Result<u16, Fault> {
     cap_of(number_at(case, key, usize::from(CAP))?, case.number)
 }
@@ -35,7 +35,7 @@ pub fn cap_of(number: usize, line: usize) -> Result<u16, Fault> {
     }
 }
 
-/// The number that the word is, in a storage type.
+/// The word as a number of a storage type.
 pub fn index_of<S: StorageIndex>(word: &str, line: usize) -> Result<S, Fault> {
     match S::from_index(number_of(word, line)?) {
         Some(index) => Ok(index),

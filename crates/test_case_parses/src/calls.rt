@@ -1,8 +1,8 @@
-//! The four parse calls, of which each that makes a value makes a tree.
+//! The four parse calls. Each one that makes a value makes a tree.
 ghost use Rattle.std.specs.Prelude.{◌↔◌, IfOk, IsTrue, map};
 ghost use Rattle.lrpar_parse_run.specs.Nodes.{IsNonterm, node_of};
 
-use crate::lexemes::HandedLexer;
+use crate::lexemes::ListLexer;
 use crate::recoverer::CaseRecoverer;
 use crate::shown::{CaseError, Tree};
 use lrpar_grammar::span::{PIdx, RIdx, Span, Symbol};
@@ -17,7 +17,7 @@ use std::cell::RefCell;
 /// A parser of a case.
 pub(crate) type Parser<'a> = RTParserBuilder<'a, u32, TokenTypes, CaseRecoverer>;
 
-/// What a parse answers.
+/// The result of a parse.
 pub(crate) type Answer = Result<(Option<Tree>, Vec<CaseError>), ParseFault>;
 
 /// Where rules lie, in the order of the reductions.
@@ -44,7 +44,7 @@ pub(crate) const CALLS: [Call; 4] = [
 #[derive(Drop)]
 struct Noting;
 
-impl<'a> Actions<u32, Token<u32>, HandedLexer<'a>> for Noting {
+impl<'a> Actions<u32, Token<u32>, ListLexer<'a>> for Noting {
     type ActionT = Tree;
 
     type ParamT = Places;
@@ -66,7 +66,7 @@ impl<'a> Actions<u32, Token<u32>, HandedLexer<'a>> for Noting {
         alloc: Global,
         _: PIdx<u32>,
         ridx: RIdx<u32>,
-        lexer: &HandedLexer<'a>,
+        lexer: &ListLexer<'a>,
         span: Span,
         args: Vec<AStackType<Token<u32>, Tree>>,
         places: &Places,
@@ -77,16 +77,16 @@ impl<'a> Actions<u32, Token<u32>, HandedLexer<'a>> for Noting {
         if let Ok(mut noted) = places.try_borrow_mut() {
             noted.push((ridx, span))?;
         }
-        action_generictree::<u32, TokenTypes, HandedLexer<'a>>(alloc, ridx, lexer, span, args, &())
+        action_generictree::<u32, TokenTypes, ListLexer<'a>>(alloc, ridx, lexer, span, args, &())
     }
 }
 
-/// What the call answers. Where it has actions, they note where the rules lie.
+/// The result of the call. If it has actions, they note where the rules lie.
 pub(crate) fn answer_by(
     alloc: Global,
     call: Call,
     parser: &Parser<'_>,
-    lexer: &HandedLexer<'_>,
+    lexer: &ListLexer<'_>,
     places: &Places,
 ) -> Answer {
     match call {

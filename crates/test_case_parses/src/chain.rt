@@ -1,4 +1,4 @@
-//! Cases of deep trees: what the calls of a tree answer.
+//! Cases of deep trees: what the calls of a tree return.
 use crate::shown::Tree;
 use lrpar_grammar::span::RIdx;
 use lrpar_lexer::Token;
@@ -9,17 +9,17 @@ use std::fmt;
 use std::fmt::Write;
 use test_case_lines::cases::Case;
 use test_case_lines::fault::Fault;
-use test_case_lines::told::Told;
+use test_case_lines::printed::Printed;
 use test_case_lines::values::number_at;
 use test_case_tables::subject::Subject;
 
 /// The keys that say what is done.
 pub const INPUTS: &[&str] = &["levels", "input"];
 
-/// What the calls of a tree answer in which a lexeme lies below so many rules. The calls that work without memory come
-/// before anything is written: if one of these is wrong, saying so needs no memory either.
+/// What the calls of a tree return, which has a lexeme below `levels` rules. The calls that need no memory come before anything is
+/// written: if one of them is wrong, saying so needs no memory either.
 pub fn outcome(
-    told: &mut Told,
+    out: &mut Printed,
     alloc: Global,
     subject: Option<Subject<'_, '_, '_>>,
     case: Case<'_, '_>,
@@ -39,11 +39,11 @@ pub fn outcome(
         return Err(Fault::Line(case.number, "the tree fits its input alone"));
     }
     match bytes_of(&tree) {
-        Some(bytes) => told.line("shown ", &bytes),
-        None => told.lack_memory(),
+        Some(bytes) => out.line("shown ", &bytes),
+        None => out.lack_memory(),
     }
     let again = tree.clone(alloc)?;
-    told.text(if again == tree {
+    out.text(if again == tree {
         "cloned\n"
     } else {
         "differs\n"
@@ -51,7 +51,7 @@ pub fn outcome(
     Ok(())
 }
 
-// A lexeme of so many bytes below so many rules.
+// A lexeme of `len` bytes below `levels` rules.
 fn chain_of(alloc: Global, levels: usize, len: usize) -> Result<Tree, Fault> {
     let mut tree: Tree = Node::Term {
         lexeme: Token::new(1, 0, len),

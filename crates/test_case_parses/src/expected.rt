@@ -1,6 +1,6 @@
-//! What may come next: at a list of states, over which tokens are fed first, or after lexemes.
+//! What may come next: at a list of states, after tokens are fed over it, or after lexemes.
 use crate::calls::Parser;
-use crate::lexemes::{Given, HandedLexer, given_of};
+use crate::lexemes::{Given, ListLexer, given_of};
 use crate::recoverer::no_recoverer;
 use lrpar_grammar::grammar::YaccGrammar;
 use lrpar_grammar::span::{StIdx, TIdx};
@@ -13,7 +13,7 @@ use std::alloc::Global;
 use test_case_lines::cases::Case;
 use test_case_lines::fault::Fault;
 use test_case_lines::names::{token_name, token_of};
-use test_case_lines::told::Told;
+use test_case_lines::printed::Printed;
 use test_case_tables::rows::push_agreed;
 use test_case_tables::stack::states_of;
 use test_case_tables::subject::Subject;
@@ -21,9 +21,9 @@ use test_case_tables::subject::Subject;
 /// The keys that say what is done.
 pub const INPUTS: &[&str] = &["states", "feed", "lexemes"];
 
-/// What may come next at the states, once the tokens are fed; or after the lexemes.
+/// What may come next at the states, after the tokens are fed; or after the lexemes.
 pub fn outcome(
-    told: &mut Told,
+    out: &mut Printed,
     alloc: Global,
     subject: Option<Subject<'_, '_, '_>>,
     case: Case<'_, '_>,
@@ -31,32 +31,32 @@ pub fn outcome(
     let Some(Subject { case: _, tables }) = subject else {
         return Err(Fault::Line(case.number, "a table in front is wanted"));
     };
-    let (mut by_rows, mut by_entries) = (Told::new(alloc), Told::new(alloc));
+    let (mut by_rows, mut by_entries) = (Printed::new(alloc), Printed::new(alloc));
     expected_by(&mut by_rows, alloc, case, &tables.by_rows)?;
     expected_by(&mut by_entries, alloc, case, &tables.by_entries)?;
-    push_agreed(told, &by_rows, &by_entries);
+    push_agreed(out, &by_rows, &by_entries);
     Ok(())
 }
 
 // The same by one table.
 fn expected_by(
-    told: &mut Told,
+    out: &mut Printed,
     alloc: Global,
     case: Case<'_, '_>,
     data: &ParserData<u32>,
 ) -> Result<(), Fault> {
     if case.value("lexemes").is_none() {
         let states = states_of(alloc, case)?;
-        return over_states(told, alloc, case, data, &states);
+        return over_states(out, alloc, case, data, &states);
     }
     let given = given_of(alloc, data.grm(), case)?;
-    after_lexemes(told, alloc, data, &given);
+    after_lexemes(out, alloc, data, &given);
     Ok(())
 }
 
-// What may come next at these states, bottom first, over which the tokens of the case are fed.
+// What may come next at these states, bottom first, after the tokens of the case are fed over them.
 fn over_states(
-    told: &mut Told,
+    out: &mut Printed,
     alloc: Global,
     case: Case<'_, '_>,
     data: &ParserData<u32>,
@@ -67,7 +67,7 @@ fn over_states(
     }
     let mut over = Overlay::new(alloc, states);
     feed_tokens(case, data, &mut over)?;
-    at_overlay(told, alloc, data, &over)
+    at_overlay(out, alloc, data, &over)
 }
 
 // Feeds the tokens of the case.
@@ -84,7 +84,7 @@ fn feed_tokens(
     Ok(())
 }
 
-// Feeds the token, if there is such a one; answers whether it was fed.
+// Feeds the token, if there is such a one. Returns whether it was fed.
 fn is_fed(
     data: &ParserData<u32>,
     over: &mut Overlay<'_, u32>,
@@ -97,9 +97,9 @@ fn is_fed(
     Ok(data.feed_over(over, token)?)
 }
 
-// What may come next at the overlay, and at a list of its states, where that is something else.
+// What may come next at a list of the overlay's states, and at the overlay if that is something else.
 fn at_overlay(
-    told: &mut Told,
+    out: &mut Printed,
     alloc: Global,
     data: &ParserData<u32>,
     over: &Overlay<'_, u32>,
@@ -110,40 +110,40 @@ fn at_overlay(
     }
     let by_list = data.expected(alloc, &states)?;
     let by_overlay = data.expected_over(alloc, over)?;
-    push_tokens(told, data.grm(), "expected", &by_list);
+    push_tokens(out, data.grm(), "expected", &by_list);
     if by_overlay != by_list {
-        push_tokens(told, data.grm(), "over", &by_overlay);
+        push_tokens(out, data.grm(), "over", &by_overlay);
     }
     Ok(())
 }
 
 // What may come next after the lexemes.
-fn after_lexemes(told: &mut Told, alloc: Global, data: &ParserData<u32>, given: &[Given]) {
-    let Ok(lexer) = HandedLexer::new(alloc, given, "") else {
-        return told.lack_memory();
+fn after_lexemes(out: &mut Printed, alloc: Global, data: &ParserData<u32>, given: &[Given]) {
+    let Ok(lexer) = ListLexer::new(alloc, given, "") else {
+        return out.lack_memory();
     };
     let parser: Parser<'_> = RTParserBuilder::new(data).recoverer(no_recoverer(alloc));
     match parser.expected(alloc, &lexer) {
-        Err(ParseFault::Memory) => told.lack_memory(),
-        Err(fault) => told.line("fault ", &fault),
-        Ok(expected) => push_expected(told, data.grm(), &expected),
+        Err(ParseFault::Memory) => out.lack_memory(),
+        Err(fault) => out.line("fault ", &fault),
+        Ok(expected) => push_expected(out, data.grm(), &expected),
     }
 }
 
 // How many lexemes were fed, what may come next, and the lexing error.
-fn push_expected(told: &mut Told, grm: &YaccGrammar<u32>, expected: &Expected<u32, NoToken>) {
-    told.line("place ", &expected.place);
-    push_tokens(told, grm, "expected", &expected.tokens);
+fn push_expected(out: &mut Printed, grm: &YaccGrammar<u32>, expected: &Expected<u32, NoToken>) {
+    out.line("place ", &expected.place);
+    push_tokens(out, grm, "expected", &expected.tokens);
     if let Some(error) = &expected.lexing_error {
-        told.span_line("lexing error ", error.span());
+        out.span_line("lexing error ", error.span());
     }
 }
 
 // Adds a line of tokens.
-fn push_tokens(told: &mut Told, grm: &YaccGrammar<u32>, key: &str, tokens: &[TIdx<u32>]) {
-    told.text(key);
+fn push_tokens(out: &mut Printed, grm: &YaccGrammar<u32>, key: &str, tokens: &[TIdx<u32>]) {
+    out.text(key);
     for token in tokens {
-        told.texts(" ", token_name(grm, *token));
+        out.texts(" ", token_name(grm, *token));
     }
-    told.text("\n");
+    out.text("\n");
 }

@@ -1,4 +1,4 @@
-//! Lexemes of cases, and the lexer that answers them.
+//! Lexemes of cases, and the lexer that gives them.
 ghost use Rattle.std.specs.Prelude.{◌≡◌, IfOk};
 
 use lrpar_grammar::grammar::YaccGrammar;
@@ -9,7 +9,7 @@ use std::alloc::{AllocError, Global};
 use test_case_lines::cases::Case;
 use test_case_lines::fault::Fault;
 
-/// What a lexer answers.
+/// What a lexer gives.
 #[derive(Clone, Copy)]
 pub(crate) enum Given {
     /// A lexeme.
@@ -71,24 +71,24 @@ pub(crate) fn token_number(grm: &YaccGrammar<u32>, name: &str) -> Option<u32> {
     }
 }
 
-/// A lexer that answers what it is handed, over a text.
+/// A lexer that gives the lexemes and errors of a list, over a text.
 #[derive(Drop)]
-pub(crate) struct HandedLexer<'a> {
+pub(crate) struct ListLexer<'a> {
     given: &'a [Given],
     text: RuleLexer<'a, 'a>,
 }
 
-impl<'a> HandedLexer<'a> {
-    /// The lexer that answers this over this text.
+impl<'a> ListLexer<'a> {
+    /// The lexer of this list over this text.
     pub(crate) fn new(alloc: Global, given: &'a [Given], input: &'a str) -> Result<Self, AllocError>
         ensures { IfOk result (λ lexer. lexer.text.input.now ≡ input.now) }
     {
         let text = RuleLexer::new(alloc, &[], input)?;
-        Ok(HandedLexer { given, text })
+        Ok(ListLexer { given, text })
     }
 }
 
-impl<'a> Lexer<TokenTypes> for HandedLexer<'a> {
+impl<'a> Lexer<TokenTypes> for ListLexer<'a> {
     ghost allows = { λ _ _. Unit {0} };
 
     fn iter(&self, alloc: Global) -> Result<Vec<Result<Token<u32>, NoToken>>, AllocError> {
@@ -103,7 +103,7 @@ impl<'a> Lexer<TokenTypes> for HandedLexer<'a> {
     }
 }
 
-impl<'a> NonStreamingLexer<'a, TokenTypes> for HandedLexer<'a> {
+impl<'a> NonStreamingLexer<'a, TokenTypes> for ListLexer<'a> {
     ghost text = { λ lexer. lexer.text.input.now };
 
     fn span_str(&self, span: Span) -> &'a str {

@@ -1,9 +1,9 @@
-//! Cases `parse`: what the four calls answer by both tables, which has to be the same.
+//! Cases `parse`: the results of the four calls by both tables, which have to be the same.
 ghost use Rattle.std.specs.Prelude.{◌≡◌};
 
 use crate::calls::{Answer, CALLS, Call, Parser, Places, answer_by};
 use crate::clones::{push_clone_of_tree, push_clones_of_errors};
-use crate::lexemes::{Given, HandedLexer, given_of};
+use crate::lexemes::{Given, ListLexer, given_of};
 use crate::recoverer::recoverer_of;
 use crate::shown::{CaseError, Tree, push_errors, push_places, push_tree};
 use lrpar_grammar::grammar::YaccGrammar;
@@ -16,7 +16,7 @@ use std::alloc::Global;
 use std::cell::RefCell;
 use test_case_lines::cases::Case;
 use test_case_lines::fault::Fault;
-use test_case_lines::told::Told;
+use test_case_lines::printed::Printed;
 use test_case_tables::subject::{Subject, Tables};
 
 /// The keys of the lines that say what is done.
@@ -36,14 +36,14 @@ pub const INPUTS: &[&str] = &[
 #[derive(Drop)]
 struct Parsed {
     // Its fault, or its errors.
-    errors: Told,
+    errors: Printed,
     // Its tree.
-    tree: Told,
+    tree: Printed,
 }
 
 /// What comes of the case.
 pub fn outcome(
-    told: &mut Told,
+    out: &mut Printed,
     alloc: Global,
     subject: Option<Subject<'_, '_, '_>>,
     case: Case<'_, '_>,
@@ -53,22 +53,22 @@ pub fn outcome(
     };
     let given = given_of(alloc, tables.by_rows.grm(), case)?;
     let input = case.text(alloc, "input")?;
-    by_lexemes(told, alloc, tables, case, &given, input.as_str())
+    by_lexemes(out, alloc, tables, case, &given, input.as_str())
 }
 
 // What comes of these lexemes.
 fn by_lexemes<'a>(
-    told: &mut Told,
+    out: &mut Printed,
     alloc: Global,
     tables: &Tables,
     case: Case<'_, '_>,
     given: &'a [Given],
     input: &'a str,
 ) -> Result<(), Fault> {
-    let lexer = HandedLexer::new(alloc, given, input)?;
+    let lexer = ListLexer::new(alloc, given, input)?;
     let by_rows = parser_of(alloc, &tables.by_rows, case)?;
     let by_entries = parser_of(alloc, &tables.by_entries, case)?;
-    by_parsers(told, alloc, case, &by_rows, &by_entries, &lexer, input);
+    by_parsers(out, alloc, case, &by_rows, &by_entries, &lexer, input);
     Ok(())
 }
 
@@ -89,33 +89,33 @@ fn parser_of<'a>(
     }
 }
 
-// What comes of the parses by both parsers: of the first one by actions, and what differs from that in any.
+// What comes of the parses by both parsers: that of the first parser by actions, and which other ones differ from it.
 fn by_parsers(
-    told: &mut Told,
+    out: &mut Printed,
     alloc: Global,
     case: Case<'_, '_>,
     first: &Parser<'_>,
     second: &Parser<'_>,
-    lexer: &HandedLexer<'_>,
+    lexer: &ListLexer<'_>,
     input: &str,
 ) {
     let places = RefCell::new(Vec::new(alloc));
     let answer = answer_by(alloc, Call::ParseActions, first, lexer, &places);
-    let wanted = answered(alloc, case, first.grammar(), &answer);
-    told.append(&wanted.errors);
-    told.field("tree", wanted.tree.so_far());
-    push_noted(told, case, first.grammar(), &places);
-    push_cloned(told, alloc, case, &answer);
-    push_printed(told, alloc, case, first.grammar(), input, &answer);
+    let expected = answered(alloc, case, first.grammar(), &answer);
+    out.append(&expected.errors);
+    out.field("tree", expected.tree.so_far());
+    push_noted(out, case, first.grammar(), &places);
+    push_cloned(out, alloc, case, &answer);
+    push_printed(out, alloc, case, first.grammar(), input, &answer);
     for call in CALLS {
-        push_difference(told, alloc, case, &wanted, call, first, lexer);
-        push_difference(told, alloc, case, &wanted, call, second, lexer);
+        push_difference(out, alloc, case, &expected, call, first, lexer);
+        push_difference(out, alloc, case, &expected, call, second, lexer);
     }
 }
 
 // What comes of an answer.
 fn answered(alloc: Global, case: Case<'_, '_>, grm: &YaccGrammar<u32>, answer: &Answer) -> Parsed {
-    let (mut errors, mut tree) = (Told::new(alloc), Told::new(alloc));
+    let (mut errors, mut tree) = (Printed::new(alloc), Printed::new(alloc));
     match answer {
         Err(ParseFault::Memory) => errors.lack_memory(),
         Err(fault) => errors.line("fault ", fault),
@@ -129,28 +129,28 @@ fn answered(alloc: Global, case: Case<'_, '_>, grm: &YaccGrammar<u32>, answer: &
     Parsed { errors, tree }
 }
 
-// Adds where the rules lie, where the case asks.
-fn push_noted(told: &mut Told, case: Case<'_, '_>, grm: &YaccGrammar<u32>, places: &Places) {
+// Adds where the rules lie, if the case asks.
+fn push_noted(out: &mut Printed, case: Case<'_, '_>, grm: &YaccGrammar<u32>, places: &Places) {
     if case.value_or_nothing("show") == "places" {
         if let Ok(noted) = places.try_borrow() {
-            push_places(told, grm, &noted);
+            push_places(out, grm, &noted);
         }
     }
 }
 
 // Adds what clones of the errors and of the tree are, if the case asks.
-fn push_cloned(told: &mut Told, alloc: Global, case: Case<'_, '_>, answer: &Answer) {
+fn push_cloned(out: &mut Printed, alloc: Global, case: Case<'_, '_>, answer: &Answer) {
     if let ("clones", Ok((tree, errors))) = (case.value_or_nothing("show"), answer) {
-        push_clones_of_errors(told, errors);
+        push_clones_of_errors(out, errors);
         if let Some(tree) = tree {
-            push_clone_of_tree(told, alloc, tree);
+            push_clone_of_tree(out, alloc, tree);
         }
     }
 }
 
-// Adds the texts of the errors and of the tree, where the case asks.
+// Adds the texts of the errors and of the tree, if the case asks.
 fn push_printed<'a>(
-    told: &mut Told,
+    out: &mut Printed,
     alloc: Global,
     case: Case<'_, '_>,
     grm: &'a YaccGrammar<u32>,
@@ -159,16 +159,16 @@ fn push_printed<'a>(
 ) {
     if let (Some((value, _)), Ok((tree, errors))) = (case.value("print"), answer) {
         let without = value.strip_prefix("all but ").unwrap_or("");
-        push_texts(told, alloc, grm, without.trim_matches('\''), input, errors);
+        push_texts(out, alloc, grm, without.trim_matches('\''), input, errors);
         if let Some(tree) = tree {
-            push_tree_text(told, alloc, grm, input, tree);
+            push_tree_text(out, alloc, grm, input, tree);
         }
     }
 }
 
-// Adds the texts of errors, where all tokens but this one have a printed name.
+// Adds the texts of errors, if all tokens but this one have a printed name.
 fn push_texts<'a>(
-    told: &mut Told,
+    out: &mut Printed,
     alloc: Global,
     grm: &'a YaccGrammar<u32>,
     without: &str,
@@ -176,16 +176,16 @@ fn push_texts<'a>(
     errors: &[CaseError],
 ) {
     let Ok(lexer) = RuleLexer::new(alloc, &[], input) else {
-        return told.lack_memory();
+        return out.lack_memory();
     };
     for error in errors {
-        push_error_text(told, alloc, grm, without, &lexer, input, error);
+        push_error_text(out, alloc, grm, without, &lexer, input, error);
     }
 }
 
 // Adds the text of an error; or that there is none.
 fn push_error_text<'a>(
-    told: &mut Told,
+    out: &mut Printed,
     alloc: Global,
     grm: &'a YaccGrammar<u32>,
     without: &str,
@@ -196,12 +196,12 @@ fn push_error_text<'a>(
     requires { lexer.now.input.now ≡ input.now }
 {
     if !error.fits(input) {
-        return told.text("unfit error\n");
+        return out.text("unfit error\n");
     }
     match error.pp(alloc, lexer, |token| printed_name(grm, without, token)) {
-        Ok(text) => told.lines("text", text.as_str()),
-        Err(PpFault::Memory) => told.lack_memory(),
-        Err(fault) => told.line("", &fault),
+        Ok(text) => out.lines("text", text.as_str()),
+        Err(PpFault::Memory) => out.lack_memory(),
+        Err(fault) => out.line("", &fault),
     }
 }
 
@@ -212,39 +212,39 @@ fn printed_name<'a>(grm: &'a YaccGrammar<u32>, without: &str, token: TIdx<u32>) 
 
 // Adds the text of a tree.
 fn push_tree_text(
-    told: &mut Told,
+    out: &mut Printed,
     alloc: Global,
     grm: &YaccGrammar<u32>,
     input: &str,
     tree: &Tree,
 ) {
     if !tree.fits(grm, input) {
-        return told.text("unfit tree\n");
+        return out.text("unfit tree\n");
     }
     match tree.pp(alloc, grm, input) {
-        Ok(text) => told.field("text", text.as_str()),
-        Err(_) => told.lack_memory(),
+        Ok(text) => out.field("text", text.as_str()),
+        Err(_) => out.lack_memory(),
     }
 }
 
-// Adds a line where the parse by the call doesn't come to what is wanted. Errors alone have no tree.
+// Adds a line if the parse by the call doesn't come to what is expected. A parse to errors alone has no tree.
 fn push_difference(
-    told: &mut Told,
+    out: &mut Printed,
     alloc: Global,
     case: Case<'_, '_>,
-    wanted: &Parsed,
+    expected: &Parsed,
     call: Call,
     parser: &Parser<'_>,
-    lexer: &HandedLexer<'_>,
+    lexer: &ListLexer<'_>,
 ) {
     let places = RefCell::new(Vec::new(alloc));
     let answer = answer_by(alloc, call, parser, lexer, &places);
     let found = answered(alloc, case, parser.grammar(), &answer);
-    let is_same_tree = told.agree(&found.tree, &wanted.tree);
+    let is_same_tree = out.agree(&found.tree, &expected.tree);
     let is_tree_right = is_same_tree || matches!(call, Call::ParseNoaction);
-    if !told.agree(&found.errors, &wanted.errors) || !is_tree_right {
-        told.text("differs ");
-        told.debug(&call);
-        told.text("\n");
+    if !out.agree(&found.errors, &expected.errors) || !is_tree_right {
+        out.text("differs ");
+        out.debug(&call);
+        out.text("\n");
     }
 }

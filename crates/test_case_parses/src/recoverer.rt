@@ -10,12 +10,12 @@ use std::alloc::{AllocError, Global};
 use test_case_lines::cases::Case;
 use test_case_lines::fault::Fault;
 
-/// What hands in sequences at the errors of a case.
+/// What supplies sequences at the errors of a case.
 #[derive(Drop)]
 pub(crate) enum CaseRecoverer {
     /// The same ones at each.
     Fixed(FixedRecoverer<u32>),
-    /// Those of least cost.
+    /// The cheapest ones.
     CpctPlus(CpctPlus),
 }
 
@@ -34,8 +34,8 @@ impl Recoverer<u32, Token<u32>> for CaseRecoverer {
     }
 }
 
-/// The recoverer that the line `recoverer` of a case says; where there is no such line, the one that hands in what the line `repairs`
-/// says.
+/// The recoverer that the line `recoverer` of a case names; if there is no such line, the one that supplies the sequences of the line
+/// `repairs`.
 pub(crate) fn recoverer_of(
     alloc: Global,
     grm: &YaccGrammar<u32>,
@@ -50,12 +50,12 @@ pub(crate) fn recoverer_of(
     }
 }
 
-/// The recoverer that hands in nothing.
+/// The recoverer that supplies no sequence.
 pub(crate) fn no_recoverer(alloc: Global) -> CaseRecoverer {
     CaseRecoverer::Fixed(FixedRecoverer::new(Vec::new(alloc)))
 }
 
-// The number behind `cpctplus`.
+// The number after `cpctplus`.
 fn limit_of(value: &str) -> Option<usize> {
     value.strip_prefix("cpctplus ")?.parse().ok()
 }
@@ -79,7 +79,7 @@ fn cpct_plus_of(
     }
 }
 
-// What the text `NAME=COST ..` says of the token; 1, where it doesn't name it.
+// The token's cost by the text `NAME=COST ..`; 1 if the text doesn't name it.
 fn cost_of(grm: &YaccGrammar<u32>, text: &str, token: TIdx<u32>) -> u8 {
     for word in text.split(' ') {
         if let Some((name, cost)) = word.rsplit_once('=') {

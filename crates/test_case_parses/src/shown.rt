@@ -5,7 +5,7 @@ use lrpar_lexer::{Token, TokenTypes};
 use lrpar_parse_errors::errors::{LexParseError, ParseError, ParseRepair};
 use lrpar_parse_lexemes::lex_api::{LexError, Lexeme};
 use lrpar_parse_trees::node::Node;
-use test_case_lines::told::Told;
+use test_case_lines::printed::Printed;
 
 /// A tree of a case.
 pub(crate) type Tree = Node<Token<u32>, u32>;
@@ -16,58 +16,58 @@ pub(crate) type CaseError = LexParseError<u32, TokenTypes>;
 /// A step of a sequence that is listed.
 type Repair = ParseRepair<Token<u32>, u32>;
 
-/// Adds the errors, a line each; parse errors without their states where those aren't told.
+/// Adds the errors, a line each, with the states of parse errors if `shows_states`.
 pub(crate) fn push_errors(
-    told: &mut Told,
+    out: &mut Printed,
     grm: &YaccGrammar<u32>,
-    tells_states: bool,
+    shows_states: bool,
     errors: &[CaseError],
 ) {
     for error in errors {
         match error {
-            LexParseError::LexError(error) => told.span_line("lexing error ", error.span()),
-            LexParseError::ParseError(error) => push_error(told, grm, tells_states, error),
+            LexParseError::LexError(error) => out.span_line("lexing error ", error.span()),
+            LexParseError::ParseError(error) => push_error(out, grm, shows_states, error),
         }
     }
 }
 
 // Adds the line of a parse error: its state, its lexeme and its sequences.
 fn push_error(
-    told: &mut Told,
+    out: &mut Printed,
     grm: &YaccGrammar<u32>,
-    tells_state: bool,
+    shows_state: bool,
     error: &ParseError<Token<u32>, u32>,
 ) {
-    told.text("error ");
-    if tells_state {
-        told.number("state ", usize::from(error.stidx()));
-        told.text(", ");
+    out.text("error ");
+    if shows_state {
+        out.number("state ", usize::from(error.stidx()));
+        out.text(", ");
     }
-    push_lexeme(told, grm, *error.lexeme());
+    push_lexeme(out, grm, *error.lexeme());
     let mut mark = ":";
     for sequence in error.repairs() {
-        told.text(mark);
-        push_sequence(told, grm, sequence);
+        out.text(mark);
+        push_sequence(out, grm, sequence);
         mark = " |";
     }
-    told.text("\n");
+    out.text("\n");
 }
 
-// Adds the steps of a sequence, each behind a blank.
-fn push_sequence(told: &mut Told, grm: &YaccGrammar<u32>, sequence: &[Repair]) {
+// Adds the steps of a sequence, each after a blank.
+fn push_sequence(out: &mut Printed, grm: &YaccGrammar<u32>, sequence: &[Repair]) {
     for repair in sequence {
         match repair {
             ParseRepair::Insert(token) => {
-                told.texts(" insert '", token_name(grm, *token).unwrap_or("$"));
-                told.text("'");
+                out.texts(" insert '", token_name(grm, *token).unwrap_or("$"));
+                out.text("'");
             }
             ParseRepair::Delete(lexeme) => {
-                told.text(" delete ");
-                push_lexeme(told, grm, *lexeme);
+                out.text(" delete ");
+                push_lexeme(out, grm, *lexeme);
             }
             ParseRepair::Shift(lexeme) => {
-                told.text(" shift ");
-                push_lexeme(told, grm, *lexeme);
+                out.text(" shift ");
+                push_lexeme(out, grm, *lexeme);
             }
         }
     }
@@ -82,22 +82,22 @@ fn token_name(grm: &YaccGrammar<u32>, token: TIdx<u32>) -> Option<&str> {
     }
 }
 
-// Adds a lexeme: the name of its token, `@` and its start, its length unless that is 1, and `!` where it is faulty.
-fn push_lexeme(told: &mut Told, grm: &YaccGrammar<u32>, lexeme: Token<u32>) {
+// Adds a lexeme: the name of its token, `@` and its start, its length unless that is 1, and `!` if it is faulty.
+fn push_lexeme(out: &mut Printed, grm: &YaccGrammar<u32>, lexeme: Token<u32>) {
     match token_name(grm, TIdx(lexeme.tok_id())) {
-        None => told.text("$"),
-        Some(name) if is_word(name) => told.text(name),
+        None => out.text("$"),
+        Some(name) if is_word(name) => out.text(name),
         Some(name) => {
-            told.texts("'", name);
-            told.text("'");
+            out.texts("'", name);
+            out.text("'");
         }
     }
-    told.number("@", lexeme.span().start());
+    out.number("@", lexeme.span().start());
     if lexeme.span().len() != 1 {
-        told.number("+", lexeme.span().len());
+        out.number("+", lexeme.span().len());
     }
     if lexeme.faulty() {
-        told.text("!");
+        out.text("!");
     }
 }
 
@@ -116,32 +116,32 @@ fn rule_name(grm: &YaccGrammar<u32>, rule: RIdx<u32>) -> &str {
 }
 
 /// Adds a tree: a lexeme, or a rule's name and, in brackets, the trees of its symbols.
-pub(crate) fn push_tree(told: &mut Told, grm: &YaccGrammar<u32>, tree: &Tree) {
+pub(crate) fn push_tree(out: &mut Printed, grm: &YaccGrammar<u32>, tree: &Tree) {
     match tree {
-        Node::Term { lexeme } => push_lexeme(told, grm, *lexeme),
+        Node::Term { lexeme } => push_lexeme(out, grm, *lexeme),
         Node::Nonterm { ridx, nodes } => {
-            told.text(rule_name(grm, *ridx));
+            out.text(rule_name(grm, *ridx));
             let mut mark = '(';
             for node in nodes {
-                told.show(&mark);
-                push_tree(told, grm, node);
+                out.show(&mark);
+                push_tree(out, grm, node);
                 mark = ' ';
             }
-            told.text(if nodes.is_empty() { "()" } else { ")" });
+            out.text(if nodes.is_empty() { "()" } else { ")" });
         }
     }
 }
 
 /// Adds where rules lie.
-pub(crate) fn push_places(told: &mut Told, grm: &YaccGrammar<u32>, places: &[(RIdx<u32>, Span)]) {
+pub(crate) fn push_places(out: &mut Printed, grm: &YaccGrammar<u32>, places: &[(RIdx<u32>, Span)]) {
     let mut mark = "places ";
     for (rule, span) in places {
-        told.texts(mark, rule_name(grm, *rule));
-        told.number(" ", span.start());
-        told.number("..", span.end());
+        out.texts(mark, rule_name(grm, *rule));
+        out.number(" ", span.start());
+        out.number("..", span.end());
         mark = ", ";
     }
     if !places.is_empty() {
-        told.text("\n");
+        out.text("\n");
     }
 }

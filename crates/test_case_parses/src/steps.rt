@@ -7,7 +7,7 @@ use std::alloc::Global;
 use test_case_lines::cases::Case;
 use test_case_lines::fault::Fault;
 
-/// The sequences that the line `repairs` of a case says, parted by `|`; none where there is no such line.
+/// The sequences of the line `repairs` of a case, parted by `|`; none if there is no such line.
 pub(crate) fn sequences_of(
     alloc: Global,
     grm: &YaccGrammar<u32>,

@@ -1,4 +1,4 @@
-//! Tables that are built of grammar texts, and texts of which none is.
+//! Tables that are built of grammar texts, and texts without a table.
 use crate::checks::{checked, push_fault};
 use crate::faults::of_grammar;
 use crate::rows::{push_conflicts, push_data};
@@ -10,7 +10,7 @@ use lrpar_table::table::{StateGraph, StateTable};
 use std::alloc::{AllocError, Global};
 use test_case_lines::cases::Case;
 use test_case_lines::fault::Fault;
-use test_case_lines::told::Told;
+use test_case_lines::printed::Printed;
 use test_case_lines::values::{cap_of, number_at, number_of};
 
 /// The keys that say what is done.
@@ -23,17 +23,17 @@ struct Limits {
     most: usize,
     // The cap of the check, if there is one.
     cap: Option<u16>,
-    // The cap of the check of what a refusal hands back, if there is one.
+    // The cap of the check of what a refusal returns, if there is one.
     then: Option<u16>,
 }
 
-/// What is built of the text: in the smallest storage type, or in that which is named.
-pub fn outcome(told: &mut Told, alloc: Global, case: Case<'_, '_>) -> Result<(), Fault> {
+/// What is built of the text: in the smallest storage type, or in the one that the case names.
+pub fn outcome(out: &mut Printed, alloc: Global, case: Case<'_, '_>) -> Result<(), Fault> {
     let limits = limits_of(case)?;
     let text = source(alloc, case)?;
     match case.value_or_nothing("storage") {
-        "u16" => push_built::<u16>(told, alloc, case, text.as_str(), limits),
-        _ => push_built::<u8>(told, alloc, case, text.as_str(), limits),
+        "u16" => push_built::<u16>(out, alloc, case, text.as_str(), limits),
+        _ => push_built::<u8>(out, alloc, case, text.as_str(), limits),
     }
 }
 
@@ -54,7 +54,7 @@ fn cap_beside(case: Case<'_, '_>, key: &str) -> Result<Option<u16>, Fault> {
     }
 }
 
-// The text, or that of one rule of so many symbols.
+// The text, or that of one rule of this number of symbols.
 fn source(alloc: Global, case: Case<'_, '_>) -> Result<String, Fault> {
     match case.value("symbols") {
         None => case.text(alloc, "text"),
@@ -62,7 +62,7 @@ fn source(alloc: Global, case: Case<'_, '_>) -> Result<String, Fault> {
     }
 }
 
-// The text of one rule of so many symbols.
+// The text of one rule of this number of symbols.
 fn long_rule(alloc: Global, symbols: usize) -> Result<String, AllocError> {
     let mut text = String::from_str(alloc, "%% S:")?;
     for _ in 0..symbols {
@@ -84,116 +84,116 @@ fn grammar<S: StorageIndex>(
     }
 }
 
-// What is built of the text, and where a cap is named, what comes of the check with it.
+// What is built of the text, and if a cap is named, what comes of the check with it.
 fn push_built<S: StorageIndex>(
-    told: &mut Told,
+    out: &mut Printed,
     alloc: Global,
     case: Case<'_, '_>,
     text: &str,
     limits: Limits,
 ) -> Result<(), Fault> {
     let grm = grammar::<S>(alloc, case, text)?;
-    push_tables(told, alloc, grm, limits);
+    push_tables(out, alloc, grm, limits);
     Ok(())
 }
 
 // The same of the grammar.
 fn push_tables<S: StorageIndex>(
-    told: &mut Told,
+    out: &mut Printed,
     alloc: Global,
     grm: YaccGrammar<S>,
     limits: Limits,
 ) {
-    push_table_of(told, alloc, &grm, limits.most);
+    push_table_of(out, alloc, &grm, limits.most);
     if let Some(cap) = limits.cap {
-        push_checked(told, alloc, grm, cap, limits);
+        push_checked(out, alloc, grm, cap, limits);
     }
 }
 
 // What is built of the grammar.
 fn push_table_of<S: StorageIndex>(
-    told: &mut Told,
+    out: &mut Printed,
     alloc: Global,
     grm: &YaccGrammar<S>,
     most: usize,
 ) {
     match from_yacc(alloc, grm, most) {
-        Ok((graph, table)) => push_table(told, grm, &graph, &table),
-        Err(fault) => push_build_fault(told, "fault ", fault),
+        Ok((graph, table)) => push_table(out, grm, &graph, &table),
+        Err(fault) => push_build_fault(out, "fault ", fault),
     }
 }
 
-// Adds the fault behind these words. Want of memory isn't told of a table.
-fn push_build_fault(told: &mut Told, words: &str, fault: BuildFault) {
+// Adds the fault after these words. A failed allocation says nothing of a table, and is noted apart.
+fn push_build_fault(out: &mut Printed, words: &str, fault: BuildFault) {
     match fault {
-        BuildFault::Memory => told.lack_memory(),
-        fault => told.line(words, &fault),
+        BuildFault::Memory => out.lack_memory(),
+        fault => out.line(words, &fault),
     }
 }
 
 // How many states there are, and the conflicts.
 fn push_table<S: StorageIndex>(
-    told: &mut Told,
+    out: &mut Printed,
     grm: &YaccGrammar<S>,
     graph: &StateGraph<S>,
     table: &StateTable<S>,
 ) {
-    told.number("built ", table.states_len());
-    told.number(" states, ", graph.states_len());
-    told.text(" item sets\n");
-    push_conflicts(told, grm, table);
+    out.number("built ", table.states_len());
+    out.number(" states, ", graph.states_len());
+    out.text(" item sets\n");
+    push_conflicts(out, grm, table);
 }
 
 // What comes of the check with the cap.
 fn push_checked<S: StorageIndex>(
-    told: &mut Told,
+    out: &mut Printed,
     alloc: Global,
     grm: YaccGrammar<S>,
     cap: u16,
     limits: Limits,
 ) {
     match parser_data(alloc, grm, limits.most, cap) {
-        Ok(data) => push_as_built(told, alloc, &data),
-        Err(Unbuilt::Table(fault, _)) => push_build_fault(told, "refused table: ", fault),
-        Err(Unbuilt::Chains(refused)) => push_refusal(told, alloc, refused, limits.then),
+        Ok(data) => push_as_built(out, alloc, &data),
+        Err(Unbuilt::Table(fault, _)) => push_build_fault(out, "refused table: ", fault),
+        Err(Unbuilt::Chains(refused)) => push_refusal(out, alloc, refused, limits.then),
     }
 }
 
-// That the table is checked; and its states and conflicts, where they aren't those that were built.
-fn push_as_built<S: StorageIndex>(told: &mut Told, alloc: Global, data: &ParserData<S>) {
-    let mut text = Told::new(alloc);
+// That the table is checked; and its states and conflicts, if they aren't those that were built.
+fn push_as_built<S: StorageIndex>(out: &mut Printed, alloc: Global, data: &ParserData<S>) {
+    let mut text = Printed::new(alloc);
     push_table(&mut text, data.grm(), data.sgraph(), data.stable());
-    let is_as_built = told.so_far() == text.so_far();
-    told.text("checked\n");
+    let is_as_built = out.so_far() == text.so_far();
+    out.text("checked\n");
     if !is_as_built {
-        told.append(&text);
+        out.append(&text);
     }
 }
 
-// Which chain is too long, and where another cap is named, what comes of the check of what is handed back.
+// Which chain is too long, and if another cap is named, what comes of the check of the parts that the refusal returns.
 fn push_refusal<S: StorageIndex>(
-    told: &mut Told,
+    out: &mut Printed,
     alloc: Global,
     refused: Refused<S>,
     then: Option<u16>,
 ) {
-    push_fault(told, "refused chains: ", refused.fault());
+    push_fault(out, "refused chains: ", refused.fault());
     if let Some(cap) = then {
-        push_second(told, alloc, refused, cap);
+        push_second(out, alloc, refused, cap);
     }
 }
 
-// What comes of the check of what is handed back, with this cap.
-fn push_second<S: StorageIndex>(told: &mut Told, alloc: Global, refused: Refused<S>, cap: u16) {
+// What comes of the check of the parts that the refusal returns, with this cap.
+fn push_second<S: StorageIndex>(out: &mut Printed, alloc: Global, refused: Refused<S>, cap: u16) {
     let (grm, graph, table) = refused.into_parts();
     match checked(alloc, grm, graph, table, cap) {
-        Ok(data) => push_rows(told, &data),
-        Err(fault) => push_fault(told, "then refused ", fault),
+        Ok(data) => push_rows(out, &data),
+        Err(fault) => push_fault(out, "then refused ", fault),
     }
 }
 
 // That the table is checked with the other cap, and its rows.
-fn push_rows<S: StorageIndex>(told: &mut Told, data: &ParserData<S>) {
-    told.text("then checked\n");
-    push_data(told, data);
+fn push_rows<S: StorageIndex>(out: &mut Printed, data: &ParserData<S>) {
+    out.text("then checked\n");
+    push_data(out, data);
 }

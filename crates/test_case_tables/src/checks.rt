@@ -1,4 +1,4 @@
-//! Checks of tables by hand: whether each is taken, for what it is refused, and what is handed back.
+//! Checks of tables by hand: whether each passes, why it is refused, and what a refusal returns.
 use crate::hand::{By, Hand};
 use crate::rows::{push_agreed, push_table};
 use crate::subject::Subject;
@@ -9,7 +9,7 @@ use lrpar_table::table::{StateGraph, StateTable};
 use std::alloc::Global;
 use test_case_lines::cases::Case;
 use test_case_lines::fault::Fault;
-use test_case_lines::told::Told;
+use test_case_lines::printed::Printed;
 use test_case_lines::values::CAP;
 
 /// The keys that say what is done.
@@ -19,9 +19,9 @@ pub const INPUTS: &[&str] = &[
 ];
 
 /// What comes of the check of the table that the case is about, with the lines of the case in place of its own; or of the table
-/// that the case has itself, where it is about none.
+/// that the case has itself, if it is about none.
 pub fn outcome(
-    told: &mut Told,
+    out: &mut Printed,
     alloc: Global,
     subject: Option<Subject<'_, '_, '_>>,
     case: Case<'_, '_>,
@@ -35,7 +35,7 @@ pub fn outcome(
     };
     let cap = hand.cap("cap", CAP)?;
     let then = hand.cap("then-cap", Hand::of(hand.table).cap("cap", CAP)?)?;
-    let (mut by_rows, mut by_entries) = (Told::new(alloc), Told::new(alloc));
+    let (mut by_rows, mut by_entries) = (Printed::new(alloc), Printed::new(alloc));
     push_made(
         &mut by_rows,
         alloc,
@@ -56,11 +56,11 @@ pub fn outcome(
             then,
         },
     )?;
-    push_agreed(told, &by_rows, &by_entries);
+    push_agreed(out, &by_rows, &by_entries);
     Ok(())
 }
 
-// What is tried: a table by hand, made by this call; and the caps of its check, and of that of what is handed back.
+// What is tried: a table by hand, made by this call; the cap of its check, and the cap of the check of what a refusal returns.
 #[derive(Clone, Copy)]
 struct Trial<'t, 'a> {
     hand: Hand<'t, 'a>,
@@ -70,76 +70,76 @@ struct Trial<'t, 'a> {
 }
 
 // What comes of the check of the table that is made.
-fn push_made(told: &mut Told, alloc: Global, trial: Trial<'_, '_>) -> Result<(), Fault> {
+fn push_made(out: &mut Printed, alloc: Global, trial: Trial<'_, '_>) -> Result<(), Fault> {
     let grm = trial.hand.grammar(alloc)?;
     let graph = trial.hand.graph(alloc, &grm)?;
     let table = trial.hand.table(alloc, &grm, trial.by)?;
-    push_checked(told, alloc, trial, grm, graph, table)
+    push_checked(out, alloc, trial, grm, graph, table)
 }
 
 // What comes of the check of these parts.
 fn push_checked(
-    told: &mut Told,
+    out: &mut Printed,
     alloc: Global,
     trial: Trial<'_, '_>,
     grm: YaccGrammar<u32>,
     graph: StateGraph<u32>,
     table: StateTable<u32>,
 ) -> Result<(), Fault> {
-    let mut was = Told::new(alloc);
+    let mut was = Printed::new(alloc);
     push_table(&mut was, &grm, &graph, &table);
     match ParserData::new(alloc, grm, graph, table, trial.cap) {
         Ok(data) => {
-            push_taken(told, alloc, &data, &was);
+            push_taken(out, alloc, &data, &was);
             Ok(())
         }
-        Err(refused) => push_refusal(told, alloc, trial, &was, refused),
+        Err(refused) => push_refusal(out, alloc, trial, &was, refused),
     }
 }
 
-// That the table is taken, whether it is complete, and whether it keeps its parts.
-fn push_taken(told: &mut Told, alloc: Global, data: &ParserData<u32>, was: &Told) {
-    told.text("checked\n");
+// That the table passes, whether it is complete, and whether it keeps its parts.
+fn push_taken(out: &mut Printed, alloc: Global, data: &ParserData<u32>, was: &Printed) {
+    out.text("checked\n");
     match data.check_complete(alloc) {
-        Ok(()) => told.text("complete\n"),
-        Err(CompleteFault::Memory) => told.lack_memory(),
-        Err(fault) => told.line("incomplete ", &fault),
+        Ok(()) => out.text("complete\n"),
+        Err(CompleteFault::Memory) => out.lack_memory(),
+        Err(fault) => out.line("incomplete ", &fault),
     }
-    push_kept(told, alloc, data.grm(), data.sgraph(), data.stable(), was);
+    push_kept(out, alloc, data.grm(), data.sgraph(), data.stable(), was);
 }
 
-// Says where the parts aren't as they were.
+// Adds a line if the parts aren't as they were.
 fn push_kept(
-    told: &mut Told,
+    out: &mut Printed,
     alloc: Global,
     grm: &YaccGrammar<u32>,
     graph: &StateGraph<u32>,
     table: &StateTable<u32>,
-    was: &Told,
+    was: &Printed,
 ) {
-    let mut is = Told::new(alloc);
+    let mut is = Printed::new(alloc);
     push_table(&mut is, grm, graph, table);
-    if !told.agree(&is, was) {
-        told.text("lost\n");
+    if !out.agree(&is, was) {
+        out.text("lost\n");
     }
 }
 
-// Why the table is refused, and what comes of what is handed back, once what was changed is mended.
+// Why the table is refused, and what comes of the parts that the refusal returns, after what was changed is mended.
 fn push_refusal(
-    told: &mut Told,
+    out: &mut Printed,
     alloc: Global,
     trial: Trial<'_, '_>,
-    was: &Told,
+    was: &Printed,
     refused: Refused<u32>,
 ) -> Result<(), Fault> {
-    push_fault(told, "refused ", refused.fault());
+    push_fault(out, "refused ", refused.fault());
     let (grm, mut graph, mut table) = refused.into_parts();
-    push_kept(told, alloc, &grm, &graph, &table, was);
+    push_kept(out, alloc, &grm, &graph, &table, was);
     let mended = mend(alloc, trial.hand, trial.by, &grm, &mut graph, &mut table);
     let second = checked(alloc, grm, graph, table, trial.then).err();
     match second {
-        None => told.text("then checked\n"),
-        Some(fault) => push_fault(told, "then refused ", fault),
+        None => out.text("then checked\n"),
+        Some(fault) => push_fault(out, "then refused ", fault),
     }
     mended
 }
@@ -158,11 +158,11 @@ pub(crate) fn checked<S: StorageIndex>(
     }
 }
 
-/// Adds the fault behind these words. Want of memory isn't told of a table.
-pub(crate) fn push_fault(told: &mut Told, words: &str, fault: CheckFault) {
+/// Adds the fault after these words. A failed allocation says nothing of a table, and is noted apart.
+pub(crate) fn push_fault(out: &mut Printed, words: &str, fault: CheckFault) {
     match fault {
-        CheckFault::Memory => told.lack_memory(),
-        fault => told.line(words, &fault),
+        CheckFault::Memory => out.lack_memory(),
+        fault => out.line(words, &fault),
     }
 }
 

@@ -1,10 +1,10 @@
-//! Why a case has no table. Want of memory stays what it is.
+//! Why a case has no table. A failed allocation stays [`Fault::Memory`].
 use lrpar_grammar::grammar::GrammarFault;
 use lrpar_table::check::CheckFault;
 use lrpar_table::table::TableFault;
 use test_case_lines::fault::Fault;
 
-/// Why there is no grammar in this line: what is said here, or that memory was wanting.
+/// Why there is no grammar in this line: this reason, or that an allocation failed.
 pub fn of_grammar(fault: GrammarFault, line: usize, text: &'static str) -> Fault {
     match fault {
         GrammarFault::Memory => Fault::Memory,
@@ -12,7 +12,7 @@ pub fn of_grammar(fault: GrammarFault, line: usize, text: &'static str) -> Fault
     }
 }
 
-/// Why there are no item sets or no rows in this line: what is said here, or that memory was wanting.
+/// Why there are no item sets or no rows in this line: this reason, or that an allocation failed.
 pub fn of_rows(fault: TableFault, line: usize, text: &'static str) -> Fault {
     match fault {
         TableFault::Memory => Fault::Memory,
@@ -20,7 +20,7 @@ pub fn of_rows(fault: TableFault, line: usize, text: &'static str) -> Fault {
     }
 }
 
-/// Why there is no checked table in this line: what is said here, or that memory was wanting.
+/// Why there is no checked table in this line: this reason, or that an allocation failed.
 pub fn of_check(fault: CheckFault, line: usize, text: &'static str) -> Fault {
     match fault {
         CheckFault::Memory => Fault::Memory,

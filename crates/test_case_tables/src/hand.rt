@@ -20,10 +20,10 @@ pub enum By {
     Entries,
 }
 
-// The actions of a state that aren't `Error`, each behind its token.
+// The actions of a state that aren't `Error`, each after its token.
 type ActionEntries = Vec<(TIdx<u32>, Action<u32>)>;
 
-// The gotos of a state, each behind its rule.
+// The gotos of a state, each after its rule.
 type GotoEntries = Vec<(RIdx<u32>, StIdx<u32>)>;
 
 /// A table by hand.
@@ -44,7 +44,7 @@ impl<'t, 'a> Hand<'t, 'a> {
         }
     }
 
-    /// The number beside this key, or this other one where there is none.
+    /// The number of this key, or `other` if there is none.
     pub fn number(self, key: &str, other: usize) -> Result<usize, Fault> {
         match value_of(from_key(self.changes, key)) {
             Some((value, line)) => number_of(value, line),
@@ -52,7 +52,7 @@ impl<'t, 'a> Hand<'t, 'a> {
         }
     }
 
-    /// The cap beside this key, or this other one where there is none.
+    /// The cap of this key, or `other` if there is none.
     pub fn cap(self, key: &str, other: u16) -> Result<u16, Fault> {
         cap_of(self.number(key, usize::from(other))?, self.table.number)
     }
@@ -63,7 +63,7 @@ impl<'t, 'a> Hand<'t, 'a> {
             .any(|key| !from_key(self.changes, key).is_empty())
     }
 
-    // What stands beside the name in the list of this key and this state, and the number of its line.
+    // What follows the name in the list of this key and this state, and the number of its line.
     fn said(self, key: &str, state: usize, name: &str) -> Option<(&'a str, usize)> {
         match said_in(self.changes, key, state, name) {
             Some(said) => Some(said),
@@ -86,7 +86,7 @@ impl<'t, 'a> Hand<'t, 'a> {
         }
     }
 
-    // The items of so many states.
+    // The items of this number of states.
     fn item_rows(
         self,
         alloc: Global,
@@ -181,7 +181,7 @@ impl<'t, 'a> Hand<'t, 'a> {
         })
     }
 
-    // What so many states do at the first so many tokens.
+    // What the first `states` states do at the first `tokens` tokens.
     fn action_rows(
         self,
         alloc: Global,
@@ -196,7 +196,7 @@ impl<'t, 'a> Hand<'t, 'a> {
         Ok(rows)
     }
 
-    // Where so many states go by the first so many rules.
+    // Where the first `states` states go by the first `rules` rules.
     fn goto_rows(
         self,
         alloc: Global,
@@ -211,7 +211,7 @@ impl<'t, 'a> Hand<'t, 'a> {
         Ok(rows)
     }
 
-    // What the state does at the first so many tokens.
+    // What the state does at the first `tokens` tokens.
     fn actions(
         self,
         alloc: Global,
@@ -231,7 +231,7 @@ impl<'t, 'a> Hand<'t, 'a> {
         Ok(row)
     }
 
-    // Where the state goes by the first so many rules.
+    // Where the state goes by the first `rules` rules.
     fn gotos(
         self,
         alloc: Global,
@@ -267,8 +267,8 @@ pub(crate) fn tables_by_hand(alloc: Global, case: Case<'_, '_>) -> Result<Tables
     tables_made(by_rows, Hand::of(case).data(alloc, By::Entries))
 }
 
-// What the first of these lines has that is a list of this key and this state with an entry of this name: what stands beside the
-// name, and the number of the line.
+// What follows this name in the first of these lines that is a list of this key and this state with an entry of the name, and the
+// number of that line.
 fn said_in<'a>(
     lines: &[Line<'a>],
     key: &str,
@@ -293,7 +293,7 @@ fn is_said(lines: &[Line<'_>], key: &str, state: usize, name: &str, text: &str) 
     }
 }
 
-// What stands beside the name in the list.
+// What follows the name in the list.
 fn beside<'a>(list: &'a str, name: &str) -> Option<&'a str> {
     for entry in list.split(',') {
         let (word, text) = in_two(entry);
@@ -305,13 +305,13 @@ fn beside<'a>(list: &'a str, name: &str) -> Option<&'a str> {
 }
 
 // The list of the line, if it has this key and this state: `STATE: LIST`.
-fn list_of<'a>(line: Line<'a>, wanted: &str, state: usize) -> Option<&'a str> {
+fn list_of<'a>(line: Line<'a>, name: &str, state: usize) -> Option<&'a str> {
     let Content::Field { key, value } = line.content else {
         return None;
     };
     let (number, list) = value.split_once(':')?;
     match number.parse::<usize>() {
-        Ok(number) if key == wanted && number == state => Some(list),
+        Ok(number) if key == name && number == state => Some(list),
         _ => None,
     }
 }

@@ -1,4 +1,4 @@
-//! Full rows, stored entries and item sets, of which there is a table or a graph or none.
+//! Full rows, stored entries and item sets, with which a table or a graph is made or refused.
 use crate::actions::action_of;
 use lrpar_grammar::span::{RIdx, StIdx, TIdx};
 use lrpar_table::table::{Action, SparseRows, StateGraph, StateTable, TableFault, TableRows};
@@ -6,60 +6,64 @@ use std::alloc::Global;
 use test_case_lines::cases::Case;
 use test_case_lines::fault::Fault;
 use test_case_lines::line::{Content, Line, in_two};
-use test_case_lines::told::Told;
+use test_case_lines::printed::Printed;
 use test_case_lines::values::{index_of, number_at};
 
 /// The keys that say what is done.
 pub const INPUTS: &[&str] = &["start", "states", "tokens", "rules", "actions", "gotos"];
 
 /// Whether there is a table of the full rows.
-pub fn outcome_of_rows(told: &mut Told, alloc: Global, case: Case<'_, '_>) -> Result<(), Fault> {
+pub fn outcome_of_rows(out: &mut Printed, alloc: Global, case: Case<'_, '_>) -> Result<(), Fault> {
     let rows = full_rows(alloc, case)?;
-    push_made(told, StateTable::from_rows(alloc, rows));
+    push_made(out, StateTable::from_rows(alloc, rows));
     Ok(())
 }
 
 /// Whether there is a table of the stored entries.
-pub fn outcome_of_entries(told: &mut Told, alloc: Global, case: Case<'_, '_>) -> Result<(), Fault> {
+pub fn outcome_of_entries(
+    out: &mut Printed,
+    alloc: Global,
+    case: Case<'_, '_>,
+) -> Result<(), Fault> {
     let rows = stored(alloc, case)?;
-    push_made(told, StateTable::from_sparse(alloc, rows));
+    push_made(out, StateTable::from_sparse(alloc, rows));
     Ok(())
 }
 
-/// Whether there are so many item sets, all empty.
-pub fn outcome_of_sets(told: &mut Told, alloc: Global, case: Case<'_, '_>) -> Result<(), Fault> {
+/// Whether there is a graph of this number of item sets, all empty.
+pub fn outcome_of_sets(out: &mut Printed, alloc: Global, case: Case<'_, '_>) -> Result<(), Fault> {
     let mut rows = Vec::new(alloc);
     for _ in 0..number_at(case, "states", 0)? {
         rows.push(Vec::new(alloc))?;
     }
     match StateGraph::<u8>::from_rows(alloc, rows) {
-        Ok(graph) => push_len(told, graph.states_len()),
-        Err(fault) => push_fault(told, fault),
+        Ok(graph) => push_len(out, graph.states_len()),
+        Err(fault) => push_fault(out, fault),
     }
     Ok(())
 }
 
 // How many states the table has, or why there is none.
-fn push_made(told: &mut Told, made: Result<StateTable<u8>, TableFault>) {
+fn push_made(out: &mut Printed, made: Result<StateTable<u8>, TableFault>) {
     match made {
-        Ok(table) => push_len(told, table.states_len()),
-        Err(fault) => push_fault(told, fault),
+        Ok(table) => push_len(out, table.states_len()),
+        Err(fault) => push_fault(out, fault),
     }
 }
 
-fn push_len(told: &mut Told, states: usize) {
-    told.number("made ", states);
-    told.text(" states\n");
+fn push_len(out: &mut Printed, states: usize) {
+    out.number("made ", states);
+    out.text(" states\n");
 }
 
-fn push_fault(told: &mut Told, fault: TableFault) {
+fn push_fault(out: &mut Printed, fault: TableFault) {
     match fault {
-        TableFault::Memory => told.lack_memory(),
-        TableFault::BadIndex => told.line("fault ", &fault),
+        TableFault::Memory => out.lack_memory(),
+        TableFault::BadIndex => out.line("fault ", &fault),
     }
 }
 
-// The full rows of the case: one of each kind for each of its lines, and then so many that are bare.
+// The full rows of the case: one of each kind for each of its lines, and then the bare ones that it asks for.
 fn full_rows(alloc: Global, case: Case<'_, '_>) -> Result<TableRows<u8>, Fault> {
     let mut rows = TableRows {
         start: StIdx(start_of(case)?),
@@ -121,7 +125,7 @@ fn goto_row(alloc: Global, value: &str, line: usize) -> Result<Vec<Option<StIdx<
     Ok(row)
 }
 
-// Adds so many rows that have no action and no goto.
+// Adds this number of rows that have no action and no goto.
 fn add_bare(rows: &mut TableRows<u8>, alloc: Global, states: usize) -> Result<(), Fault> {
     let (tokens, rules) = (rows.tokens, rows.rules);
     for _ in 0..states {
@@ -166,7 +170,7 @@ fn add_entries(rows: &mut SparseRows<u8>, alloc: Global, lines: &[Line<'_>]) -> 
     Ok(())
 }
 
-// The actions of a state, each behind the number of its token.
+// The actions of a state, each after the number of its token.
 fn stored_actions(
     alloc: Global,
     value: &str,
@@ -182,7 +186,7 @@ fn stored_actions(
     Ok(row)
 }
 
-// The gotos of a state, each behind the number of its rule.
+// The gotos of a state, each after the number of its rule.
 fn stored_gotos(
     alloc: Global,
     value: &str,

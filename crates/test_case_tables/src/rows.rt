@@ -8,11 +8,11 @@ use std::alloc::Global;
 use test_case_lines::cases::Case;
 use test_case_lines::fault::Fault;
 use test_case_lines::names::{rule_name, token_name};
-use test_case_lines::told::Told;
+use test_case_lines::printed::Printed;
 
 /// The item sets and the rows of the tables that the case is about.
 pub fn outcome(
-    told: &mut Told,
+    out: &mut Printed,
     alloc: Global,
     subject: Option<Subject<'_, '_, '_>>,
     case: Case<'_, '_>,
@@ -20,60 +20,60 @@ pub fn outcome(
     let Some(subject) = subject else {
         return Err(Fault::Line(case.number, "a table in front is wanted"));
     };
-    let (mut by_rows, mut by_entries) = (Told::new(alloc), Told::new(alloc));
+    let (mut by_rows, mut by_entries) = (Printed::new(alloc), Printed::new(alloc));
     push_data(&mut by_rows, &subject.tables.by_rows);
     push_data(&mut by_entries, &subject.tables.by_entries);
-    push_agreed(told, &by_rows, &by_entries);
+    push_agreed(out, &by_rows, &by_entries);
     Ok(())
 }
 
-/// Adds what comes by full rows; and below it what comes by stored entries, where that is something else.
-pub fn push_agreed(told: &mut Told, by_rows: &Told, by_entries: &Told) {
-    told.append(by_rows);
-    if !told.agree(by_rows, by_entries) {
-        told.text("by-entries\n");
-        told.append(by_entries);
+/// Adds what comes by full rows; and below it what comes by stored entries, if that is something else.
+pub fn push_agreed(out: &mut Printed, by_rows: &Printed, by_entries: &Printed) {
+    out.append(by_rows);
+    if !out.agree(by_rows, by_entries) {
+        out.text("by-entries\n");
+        out.append(by_entries);
     }
 }
 
 /// Adds the item sets and the rows of a checked table.
-pub fn push_data<S: StorageIndex>(told: &mut Told, data: &ParserData<S>) {
-    push_table(told, data.grm(), data.sgraph(), data.stable());
+pub fn push_data<S: StorageIndex>(out: &mut Printed, data: &ParserData<S>) {
+    push_table(out, data.grm(), data.sgraph(), data.stable());
 }
 
 /// Adds the item sets and the rows of a table: how many there are of each, and a line for the items, the actions and the gotos of each
-/// state, where it has any.
+/// state, if it has any.
 pub fn push_table<S: StorageIndex>(
-    told: &mut Told,
+    out: &mut Printed,
     grm: &YaccGrammar<S>,
     graph: &StateGraph<S>,
     table: &StateTable<S>,
 ) {
-    push_counts(told, graph, table);
+    push_counts(out, graph, table);
     for number in 0..graph.states_len().max(table.states_len()) {
         if let Some(state) = S::from_index(number) {
-            push_items(told, grm, graph, StIdx(state));
-            push_actions(told, grm, table, StIdx(state));
-            push_gotos(told, grm, table, StIdx(state));
+            push_items(out, grm, graph, StIdx(state));
+            push_actions(out, grm, table, StIdx(state));
+            push_gotos(out, grm, table, StIdx(state));
         }
     }
 }
 
 // How many there are of each.
-fn push_counts<S: StorageIndex>(told: &mut Told, graph: &StateGraph<S>, table: &StateTable<S>) {
-    told.number("has ", graph.states_len());
-    told.number(" item sets, ", table.states_len());
-    told.number(" states, ", table.tokens_len());
-    told.number(" tokens, ", table.rules_len());
-    told.text(" rules\n");
-    told.text("has ");
-    told.show(&table.entries());
-    told.line(" entries, start ", &usize::from(table.start_state()));
+fn push_counts<S: StorageIndex>(out: &mut Printed, graph: &StateGraph<S>, table: &StateTable<S>) {
+    out.number("has ", graph.states_len());
+    out.number(" item sets, ", table.states_len());
+    out.number(" states, ", table.tokens_len());
+    out.number(" tokens, ", table.rules_len());
+    out.text(" rules\n");
+    out.text("has ");
+    out.show(&table.entries());
+    out.line(" entries, start ", &usize::from(table.start_state()));
 }
 
 // The items of the state.
 fn push_items<S: StorageIndex>(
-    told: &mut Told,
+    out: &mut Printed,
     grm: &YaccGrammar<S>,
     graph: &StateGraph<S>,
     state: StIdx<S>,
@@ -83,17 +83,17 @@ fn push_items<S: StorageIndex>(
     }
     let mut line = Entries::new("items", usize::from(state));
     for (prod, dot, token) in graph.items(state) {
-        line.begin(told);
-        told.number(" ", usize::from(*prod));
-        told.number(".", *dot);
-        push_token(told, grm, *token);
+        line.begin(out);
+        out.number(" ", usize::from(*prod));
+        out.number(".", *dot);
+        push_token(out, grm, *token);
     }
-    line.end(told);
+    line.end(out);
 }
 
 // What the state does at tokens.
 fn push_actions<S: StorageIndex>(
-    told: &mut Told,
+    out: &mut Printed,
     grm: &YaccGrammar<S>,
     table: &StateTable<S>,
     state: StIdx<S>,
@@ -104,16 +104,16 @@ fn push_actions<S: StorageIndex>(
     let mut line = Entries::new("actions", usize::from(state));
     let (tokens, actions) = table.actions_of(state);
     for (token, action) in tokens.iter().zip(actions) {
-        line.begin(told);
-        push_token(told, grm, *token);
-        push_action(told, *action);
+        line.begin(out);
+        push_token(out, grm, *token);
+        push_action(out, *action);
     }
-    line.end(told);
+    line.end(out);
 }
 
 // Where the state goes by rules.
 fn push_gotos<S: StorageIndex>(
-    told: &mut Told,
+    out: &mut Printed,
     grm: &YaccGrammar<S>,
     table: &StateTable<S>,
     state: StIdx<S>,
@@ -124,11 +124,11 @@ fn push_gotos<S: StorageIndex>(
     let mut line = Entries::new("gotos", usize::from(state));
     let (rules, states) = table.gotos_of(state);
     for (rule, next) in rules.iter().zip(states) {
-        line.begin(told);
-        told.texts(" ", rule_name(grm, *rule));
-        told.number(" ", usize::from(*next));
+        line.begin(out);
+        out.texts(" ", rule_name(grm, *rule));
+        out.number(" ", usize::from(*next));
     }
-    line.end(told);
+    line.end(out);
 }
 
 // A line of entries of a state, as far as it is written.
@@ -148,89 +148,89 @@ impl Entries {
         }
     }
 
-    // What stands in front of an entry.
-    fn begin(&mut self, told: &mut Told) {
+    // What comes before an entry.
+    fn begin(&mut self, out: &mut Printed) {
         if self.is_begun {
-            told.text(",");
+            out.text(",");
         } else {
             self.is_begun = true;
-            told.texts(self.key, " ");
-            told.show(&self.state);
-            told.text(":");
+            out.texts(self.key, " ");
+            out.show(&self.state);
+            out.text(":");
         }
     }
 
     // The end of the line, if there is one.
-    fn end(self, told: &mut Told) {
+    fn end(self, out: &mut Printed) {
         if self.is_begun {
-            told.text("\n");
+            out.text("\n");
         }
     }
 }
 
 // The token; its number out of range.
-fn push_token<S: StorageIndex>(told: &mut Told, grm: &YaccGrammar<S>, token: TIdx<S>) {
+fn push_token<S: StorageIndex>(out: &mut Printed, grm: &YaccGrammar<S>, token: TIdx<S>) {
     let name = token_name(grm, token);
     if name.is_empty() {
-        told.number(" ", usize::from(token));
+        out.number(" ", usize::from(token));
     } else {
-        told.texts(" ", name);
+        out.texts(" ", name);
     }
 }
 
 // What a state does at a token.
-fn push_action<S: StorageIndex>(told: &mut Told, action: Action<S>) {
+fn push_action<S: StorageIndex>(out: &mut Printed, action: Action<S>) {
     match action {
-        Action::Shift(state) => told.number(" shift ", usize::from(state)),
-        Action::Reduce(prod) => told.number(" reduce ", usize::from(prod)),
-        Action::Accept => told.text(" accept"),
-        Action::Error => told.text(" error"),
+        Action::Shift(state) => out.number(" shift ", usize::from(state)),
+        Action::Reduce(prod) => out.number(" reduce ", usize::from(prod)),
+        Action::Accept => out.text(" accept"),
+        Action::Error => out.text(" error"),
     }
 }
 
-/// Adds the conflicts of a table, a line each; `conflicts none` where it has none.
+/// Adds the conflicts of a table, a line each; `conflicts none` if it has none.
 pub fn push_conflicts<S: StorageIndex>(
-    told: &mut Told,
+    out: &mut Printed,
     grm: &YaccGrammar<S>,
     table: &StateTable<S>,
 ) {
     match table.conflicts() {
-        None => told.text("conflicts none\n"),
+        None => out.text("conflicts none\n"),
         Some(conflicts) => {
-            push_reductions(told, grm, conflicts);
-            push_shifts(told, grm, conflicts);
+            push_reductions(out, grm, conflicts);
+            push_shifts(out, grm, conflicts);
         }
     }
 }
 
 // The conflicts between two reductions.
 fn push_reductions<S: StorageIndex>(
-    told: &mut Told,
+    out: &mut Printed,
     grm: &YaccGrammar<S>,
     conflicts: &Conflicts<S>,
 ) {
     for (token, kept, other, state) in conflicts.rr_conflicts() {
-        push_place(told, grm, *state, *token);
-        told.number(": reduce ", usize::from(*kept));
-        told.line(" or ", &usize::from(*other));
+        push_place(out, grm, *state, *token);
+        out.number(": reduce ", usize::from(*kept));
+        out.line(" or ", &usize::from(*other));
     }
 }
 
 // The conflicts between a shift and a reduction.
-fn push_shifts<S: StorageIndex>(told: &mut Told, grm: &YaccGrammar<S>, conflicts: &Conflicts<S>) {
+fn push_shifts<S: StorageIndex>(out: &mut Printed, grm: &YaccGrammar<S>, conflicts: &Conflicts<S>) {
     for (token, prod, state) in conflicts.sr_conflicts() {
-        push_place(told, grm, *state, *token);
-        told.line(": shift or reduce ", &usize::from(*prod));
+        push_place(out, grm, *state, *token);
+        out.line(": shift or reduce ", &usize::from(*prod));
     }
 }
 
 // In which state and at which token a conflict is.
 fn push_place<S: StorageIndex>(
-    told: &mut Told,
+    out: &mut Printed,
     grm: &YaccGrammar<S>,
     state: StIdx<S>,
     token: TIdx<S>,
 ) {
-    told.number("conflict state ", usize::from(state));
-    told.texts(", ", token_name(grm, token));
+    out.number("conflict state ", usize::from(state));
+    out.texts(", ", token_name(grm, token));
 }

@@ -5,7 +5,7 @@ use test_case_lines::cases::Case;
 use test_case_lines::fault::Fault;
 use test_case_lines::values::index_of;
 
-/// The states beside the key `states`, bottom first; none, where there is no such line.
+/// The states of the line `states`, bottom first; none if there is no such line.
 pub fn states_of(alloc: Global, case: Case<'_, '_>) -> Result<Vec<StIdx<u32>>, Fault> {
     let mut states = Vec::new(alloc);
     for word in case.value_or_nothing("states").split(' ') {

@@ -8,14 +8,14 @@ use std::alloc::{AllocError, Global};
 use test_case_lines::cases::Case;
 use test_case_lines::fault::Fault;
 use test_case_lines::names::token_of;
-use test_case_lines::told::Told;
+use test_case_lines::printed::Printed;
 
 /// The keys that say what is done.
 pub const INPUTS: &[&str] = &["states", "tokens"];
 
 /// Whether the states are a stack; or what each of the tokens does at it, settled and fed.
 pub fn outcome(
-    told: &mut Told,
+    out: &mut Printed,
     alloc: Global,
     subject: Option<Subject<'_, '_, '_>>,
     case: Case<'_, '_>,
@@ -24,7 +24,7 @@ pub fn outcome(
         return Err(Fault::Line(case.number, "a table in front is wanted"));
     };
     let states = states_of(alloc, case)?;
-    let (mut by_rows, mut by_entries) = (Told::new(alloc), Told::new(alloc));
+    let (mut by_rows, mut by_entries) = (Printed::new(alloc), Printed::new(alloc));
     push_by(&mut by_rows, alloc, case, &subject.tables.by_rows, &states)?;
     push_by(
         &mut by_entries,
@@ -33,29 +33,29 @@ pub fn outcome(
         &subject.tables.by_entries,
         &states,
     )?;
-    push_agreed(told, &by_rows, &by_entries);
+    push_agreed(out, &by_rows, &by_entries);
     Ok(())
 }
 
 // What comes by one table.
 fn push_by(
-    told: &mut Told,
+    out: &mut Printed,
     alloc: Global,
     case: Case<'_, '_>,
     data: &ParserData<u32>,
     states: &[StIdx<u32>],
 ) -> Result<(), Fault> {
     match (case.value("tokens"), data.is_stack(states)) {
-        (None, true) => told.text("stack yes\n"),
-        (Some((tokens, _)), true) => push_tokens(told, alloc, case, data, states, tokens)?,
-        (_, false) => told.text("stack no\n"),
+        (None, true) => out.text("stack yes\n"),
+        (Some((tokens, _)), true) => push_tokens(out, alloc, case, data, states, tokens)?,
+        (_, false) => out.text("stack no\n"),
     }
     Ok(())
 }
 
-// What each of the tokens does at a stack: by a list of its own, and over the stack, where the one before is set back.
+// What each of the tokens does at a stack: by a list of its own, and over the stack, after what the call before did is undone.
 fn push_tokens(
-    told: &mut Told,
+    out: &mut Printed,
     alloc: Global,
     case: Case<'_, '_>,
     data: &ParserData<u32>,
@@ -68,10 +68,10 @@ fn push_tokens(
     let mut over = Overlay::new(alloc, states);
     for word in tokens.split(' ') {
         let token = token_of(data.grm(), word, case.number)?;
-        told.texts("settles ", word);
-        push_call(told, alloc, data, states, &mut over, Call::Settle(token))?;
-        told.texts("feeds ", word);
-        push_call(told, alloc, data, states, &mut over, Call::Feed(token))?;
+        out.texts("settles ", word);
+        push_call(out, alloc, data, states, &mut over, Call::Settle(token))?;
+        out.texts("feeds ", word);
+        push_call(out, alloc, data, states, &mut over, Call::Feed(token))?;
     }
     Ok(())
 }
@@ -83,7 +83,7 @@ enum Call {
     Feed(TIdx<u32>),
 }
 
-// What a call answers: how many reductions it made, or whether it shifted.
+// What a call returns: how many reductions it made, or whether it shifted.
 #[derive(Clone, Copy)]
 enum Answer {
     Settled(u128),
@@ -92,10 +92,10 @@ enum Answer {
     Nothing,
 }
 
-// What the call answers and gives at a list, and how many states of the base it leaves; and what it answers and gives over the
-// base, where that is something else.
+// What the call returns and leaves at a list, and how many states of the base it keeps; and what it returns and leaves over the
+// base, if that is something else.
 fn push_call(
-    told: &mut Told,
+    out: &mut Printed,
     alloc: Global,
     data: &ParserData<u32>,
     states: &[StIdx<u32>],
@@ -103,34 +103,34 @@ fn push_call(
     call: Call,
 ) -> Result<(), Fault> {
     over.set_back();
-    let (mut by_list, mut by_overlay) = (Told::new(alloc), Told::new(alloc));
+    let (mut by_list, mut by_overlay) = (Printed::new(alloc), Printed::new(alloc));
     push_by_list(&mut by_list, alloc, data, states, call)?;
     push_by_overlay(&mut by_overlay, data, over, call)?;
-    told.append(&by_list);
-    told.line(", keeps ", &over.kept());
-    if !told.agree(&by_list, &by_overlay) {
-        told.text("over");
-        told.append(&by_overlay);
-        told.text("\n");
+    out.append(&by_list);
+    out.line(", keeps ", &over.kept());
+    if !out.agree(&by_list, &by_overlay) {
+        out.text("over");
+        out.append(&by_overlay);
+        out.text("\n");
     }
     Ok(())
 }
 
-// What the call answers and gives at a list of these states.
+// What the call returns and leaves at a list of these states.
 fn push_by_list(
-    told: &mut Told,
+    out: &mut Printed,
     alloc: Global,
     data: &ParserData<u32>,
     states: &[StIdx<u32>],
     call: Call,
 ) -> Result<(), AllocError> {
     let mut stack = Vec::from_slice(alloc, states)?;
-    push_answer(told, called(data, &mut stack, call)?);
-    push_states(told, &stack);
+    push_answer(out, called(data, &mut stack, call)?);
+    push_states(out, &stack);
     Ok(())
 }
 
-// What the call answers at the list.
+// What the call returns at the list.
 fn called(
     data: &ParserData<u32>,
     stack: &mut Vec<StIdx<u32>>,
@@ -151,19 +151,19 @@ fn called(
     }
 }
 
-// What the call answers and gives at the overlay.
+// What the call returns and leaves at the overlay.
 fn push_by_overlay(
-    told: &mut Told,
+    out: &mut Printed,
     data: &ParserData<u32>,
     over: &mut Overlay<'_, u32>,
     call: Call,
 ) -> Result<(), AllocError> {
-    push_answer(told, called_over(data, over, call)?);
-    push_states(told, &over.to_vec()?);
+    push_answer(out, called_over(data, over, call)?);
+    push_states(out, &over.to_vec()?);
     Ok(())
 }
 
-// What the call answers at the overlay.
+// What the call returns at the overlay.
 fn called_over(
     data: &ParserData<u32>,
     over: &mut Overlay<'_, u32>,
@@ -186,22 +186,22 @@ fn called_over(
 }
 
 // The answer.
-fn push_answer(told: &mut Told, answer: Answer) {
+fn push_answer(out: &mut Printed, answer: Answer) {
     match answer {
         Answer::Settled(count) => {
-            told.text(" ");
-            told.show(&count);
-            told.text(", gives");
+            out.text(" ");
+            out.show(&count);
+            out.text(", gives");
         }
-        Answer::Fed(true) => told.text(" yes, gives"),
-        Answer::Fed(false) => told.text(" no, gives"),
-        Answer::Nothing => told.text(" nothing of"),
+        Answer::Fed(true) => out.text(" yes, gives"),
+        Answer::Fed(false) => out.text(" no, gives"),
+        Answer::Nothing => out.text(" nothing of"),
     }
 }
 
 // The states.
-fn push_states(told: &mut Told, states: &[StIdx<u32>]) {
+fn push_states(out: &mut Printed, states: &[StIdx<u32>]) {
     for state in states {
-        told.number(" ", usize::from(*state));
+        out.number(" ", usize::from(*state));
     }
 }

@@ -8,8 +8,8 @@ use std::rt::Files;
 use test_case_lines::cases::{Case, bytes_below};
 use test_case_lines::fault::Fault;
 use test_case_lines::line::{Content, Line, in_two};
+use test_case_lines::printed::Printed;
 use test_case_lines::text::unescaped;
-use test_case_lines::told::Told;
 
 /// The keys of the lines that say what is done: words, one more word, a file, and standard input.
 pub const INPUTS: &[&str] = &["words", "word", "file", "stdin"];
@@ -20,26 +20,26 @@ const NO_TERMINAL: Terminal = Terminal {
     shows_progress: false,
 };
 
-/// What a case wants of a stream that may have any text.
+/// What a case says of a stream that may have any text.
 const ANYTHING: &str = "..";
 
-/// What the program of the case's kind writes to its two streams, and its status; or the same where its streams fail. The files of the
+/// What the program of the case's kind writes to its two streams, and its status; or the same if its streams fail. The files of the
 /// case are there while it runs.
 pub fn outcome<R: Files>(
-    told: &mut Told,
+    out: &mut Printed,
     rt: &R,
     alloc: Global,
     case: Case<'_, '_>,
 ) -> Result<(), Fault> {
     write_files(rt, alloc, case.lines)?;
-    let ran = push_run(told, rt, alloc, case);
+    let ran = push_run(out, rt, alloc, case);
     remove_files(rt, case.lines)?;
     ran
 }
 
 // The same, with the files in their places.
 fn push_run<R: Files>(
-    told: &mut Told,
+    out: &mut Printed,
     rt: &R,
     alloc: Global,
     case: Case<'_, '_>,
@@ -47,9 +47,9 @@ fn push_run<R: Files>(
     let words = words_of(alloc, case.lines)?;
     let input = case.bytes(alloc, "stdin")?;
     match case.kind {
-        "streams" => push_rounds(told, rt, alloc, case, &words, &input),
+        "streams" => push_rounds(out, rt, alloc, case, &words, &input),
         _ => {
-            push_ending(told, rt, alloc, case, &words, &input);
+            push_ending(out, rt, alloc, case, &words, &input);
             Ok(())
         }
     }
@@ -57,14 +57,14 @@ fn push_run<R: Files>(
 
 // The same, with these words and this input.
 fn push_ending<R: Files>(
-    told: &mut Told,
+    out: &mut Printed,
     rt: &R,
     alloc: Global,
     case: Case<'_, '_>,
     words: &[String],
     input: &[u8],
 ) {
-    let (mut out, mut err) = (Vec::new(alloc), Vec::new(alloc));
+    let (mut stdout, mut stderr) = (Vec::new(alloc), Vec::new(alloc));
     let status = match case.kind {
         "nimble" => program_nimbleparse::run(
             rt,
@@ -72,22 +72,22 @@ fn push_ending<R: Files>(
             words,
             NO_TERMINAL,
             input,
-            &mut out,
-            &mut err,
+            &mut stdout,
+            &mut stderr,
         ),
-        _ => run(rt, alloc, words, input, &mut out, &mut err),
+        _ => run(rt, alloc, words, input, &mut stdout, &mut stderr),
     };
-    push_stream(told, case, "out", &out);
-    push_stream(told, case, "err", &err);
-    told.line("status ", &status);
+    push_stream(out, case, "out", &stdout);
+    push_stream(out, case, "err", &stderr);
+    out.line("status ", &status);
 }
 
-// Adds what a stream took, under its key.
-fn push_stream(told: &mut Told, case: Case<'_, '_>, key: &str, bytes: &[u8]) {
+// Adds what was written to a stream, under its key.
+fn push_stream(out: &mut Printed, case: Case<'_, '_>, key: &str, bytes: &[u8]) {
     match str::from_utf8(bytes) {
-        Ok(_) if case.value_or_nothing(key) == ANYTHING => told.field(key, ANYTHING),
-        Ok(text) => told.field(key, text),
-        Err(_) => told.texts(key, " has bytes that aren't UTF-8\n"),
+        Ok(_) if case.value_or_nothing(key) == ANYTHING => out.field(key, ANYTHING),
+        Ok(text) => out.field(key, text),
+        Err(_) => out.texts(key, " has bytes that aren't UTF-8\n"),
     }
 }
 
@@ -114,7 +114,7 @@ fn push_words(alloc: Global, line: Line<'_>, words: &mut Vec<String>) -> Result<
     }
 }
 
-// Adds the words of a text, between which single spaces stand.
+// Adds the words of a text, which have single spaces between them.
 fn push_parts(alloc: Global, text: &str, words: &mut Vec<String>) -> Result<(), Fault> {
     for word in text.split(' ') {
         words.push(String::from_str(alloc, word)?)?;
@@ -164,7 +164,7 @@ fn remove_files<R: Files>(rt: &R, lines: &[Line<'_>]) -> Result<(), Fault> {
     Ok(())
 }
 
-// The path of the file that a line names, and what stands behind it.
+// The path of the file that a line names, and what follows it in the line.
 fn file_of<'a>(line: Line<'a>) -> Option<(&'a str, &'a str)> {
     match line.content {
         Content::Field { key: "file", value } => Some(in_two(value)),

@@ -5,7 +5,7 @@ use std::rt::Files;
 use test_case_grammars::{examples, grammars, parts, underlines};
 use test_case_lines::cases::Case;
 use test_case_lines::fault::Fault;
-use test_case_lines::told::Told;
+use test_case_lines::printed::Printed;
 use test_case_parses::{chain, expected, parse};
 use test_case_tables::subject::Subject;
 use test_case_tables::{built, checks, refusals, rows, stacks};
@@ -30,32 +30,32 @@ pub(crate) fn inputs_of(kind: &str) -> &'static [&'static str] {
     }
 }
 
-/// Writes what comes of the case, a line `KEY VALUE` for each thing, in the order in which the case has to want them.
+/// Writes what comes of the case, a line `KEY VALUE` for each thing, in the order in which the case has to expect them.
 pub(crate) fn outcome<R: Files>(
-    told: &mut Told,
+    out: &mut Printed,
     rt: &R,
     alloc: Global,
     subject: Option<Subject<'_, '_, '_>>,
     case: Case<'_, '_>,
 ) -> Result<(), Fault> {
     match case.kind {
-        "parse" => parse::outcome(told, alloc, subject, case),
-        "run" | "nimble" | "streams" => commands::outcome(told, rt, alloc, case),
+        "parse" => parse::outcome(out, alloc, subject, case),
+        "run" | "nimble" | "streams" => commands::outcome(out, rt, alloc, case),
         "nothing" => Ok(()),
-        "text" => grammars::outcome(told, alloc, case),
-        "cuts" => grammars::outcome_of_cuts(told, alloc, case),
-        "parts" => parts::outcome(told, alloc, case),
-        "build" => built::outcome(told, alloc, case),
-        "rows" => rows::outcome(told, alloc, subject, case),
-        "check" => checks::outcome(told, alloc, subject, case),
-        "stack" => stacks::outcome(told, alloc, subject, case),
-        "expected" => expected::outcome(told, alloc, subject, case),
-        "chain" => chain::outcome(told, alloc, subject, case),
-        "full" => refusals::outcome_of_rows(told, alloc, case),
-        "stored" => refusals::outcome_of_entries(told, alloc, case),
-        "sets" => refusals::outcome_of_sets(told, alloc, case),
-        "underlines" => underlines::outcome(told, alloc, case),
-        "examples" => examples::outcome(told, rt, alloc, case),
+        "text" => grammars::outcome(out, alloc, case),
+        "cuts" => grammars::outcome_of_cuts(out, alloc, case),
+        "parts" => parts::outcome(out, alloc, case),
+        "build" => built::outcome(out, alloc, case),
+        "rows" => rows::outcome(out, alloc, subject, case),
+        "check" => checks::outcome(out, alloc, subject, case),
+        "stack" => stacks::outcome(out, alloc, subject, case),
+        "expected" => expected::outcome(out, alloc, subject, case),
+        "chain" => chain::outcome(out, alloc, subject, case),
+        "full" => refusals::outcome_of_rows(out, alloc, case),
+        "stored" => refusals::outcome_of_entries(out, alloc, case),
+        "sets" => refusals::outcome_of_sets(out, alloc, case),
+        "underlines" => underlines::outcome(out, alloc, case),
+        "examples" => examples::outcome(out, rt, alloc, case),
         _ => Err(Fault::Line(case.number, "a kind of case that isn't known")),
     }
 }

@@ -1,4 +1,4 @@
-//! A program that runs the case files that it is told, and prints how many cases each has.
+//! A program that runs the case files that its words name, and prints how many cases each has.
 #![tactic(auto)]
 
 mod commands;

@@ -7,11 +7,11 @@ use std::{env, fs, io};
 use test_case_lines::cases::{Case, case_at, section_after};
 use test_case_lines::fault::Fault;
 use test_case_lines::line::{Line, lines_of};
-use test_case_lines::told::Told;
+use test_case_lines::printed::Printed;
 use test_case_lines::verdict::wrong_of;
 use test_case_tables::subject::{Subject, Tables, tables_of};
 
-/// What is told of the cases so far.
+/// What came of the cases so far.
 #[derive(Drop)]
 struct Report {
     /// How many cases of the file were run.
@@ -21,23 +21,23 @@ struct Report {
 }
 
 /// Runs the case files that the process's arguments name. Prints for each how many cases it has, and on standard error what is wrong.
-/// The status says whether nothing is.
+/// The status is a success if nothing is.
 pub(crate) fn run_of_process(rt: &HostRuntime) -> ExitCode {
     match run_files(rt) {
         Ok(wrong) if wrong.is_empty() => ExitCode::SUCCESS,
-        Ok(wrong) => told(rt, wrong.as_str()),
-        Err(fault) => told_fault(rt, &fault),
+        Ok(wrong) => print_wrong(rt, wrong.as_str()),
+        Err(fault) => print_fault(rt, &fault),
     }
 }
 
-// Says on standard error what is wrong.
-fn told(rt: &HostRuntime, wrong: &str) -> ExitCode {
+// Prints on standard error what is wrong.
+fn print_wrong(rt: &HostRuntime, wrong: &str) -> ExitCode {
     let _ = eprint!(rt; "{wrong}");
     ExitCode::FAILURE
 }
 
-// Says on standard error why there are no more cases.
-fn told_fault(rt: &HostRuntime, fault: &Fault) -> ExitCode {
+// Prints on standard error why there are no more cases.
+fn print_fault(rt: &HostRuntime, fault: &Fault) -> ExitCode {
     let _ = eprintln!(rt; "{fault}");
     ExitCode::FAILURE
 }
@@ -87,7 +87,7 @@ fn run_lines<R: Files>(
     Ok(report)
 }
 
-// Runs the cases that are about the subject that a case is.
+// Runs the cases whose subject is this case.
 fn run_section<R: Files>(
     rt: &R,
     alloc: Global,
@@ -134,9 +134,9 @@ fn run_case<R: Files>(
     report: &mut Report,
 ) -> Result<(), Fault> {
     report.cases = report.cases.saturating_add(1);
-    let mut told = Told::new(alloc);
-    let came = match outcome(&mut told, rt, alloc, subject, case) {
-        Ok(()) => told.end(),
+    let mut out = Printed::new(alloc);
+    let came = match outcome(&mut out, rt, alloc, subject, case) {
+        Ok(()) => out.end(),
         Err(fault) => Err(fault),
     };
     match wrong_of(alloc, case, inputs_of(case.kind), came)? {

@@ -5,7 +5,7 @@ use std::io::{self, Read, Write};
 use std::rt::Files;
 use test_case_lines::cases::Case;
 use test_case_lines::fault::Fault;
-use test_case_lines::told::Told;
+use test_case_lines::printed::Printed;
 use test_case_lines::values::number_at;
 
 /// The keys of the lines that say what is done: those of commands, how many bytes an output takes a call, and which streams fail.
@@ -25,7 +25,7 @@ struct Round<'a> {
     takes: usize,
 }
 
-// A stream that fails once it was called so many times, at each call from then on.
+// A stream that fails after some calls, at each call from then on.
 #[derive(Drop)]
 struct Stream<'a> {
     // What is left to be read.
@@ -38,10 +38,10 @@ struct Stream<'a> {
     has_failed: bool,
 }
 
-/// What comes of the program where the streams of the case fail at their first call, after one call, after two, and so on, until none
-/// fails any more. Rounds that are alike and follow each other are one line.
+/// What comes of the program if the streams of the case fail at their first call, after one call, after two, and so on, until none
+/// fails any more. Equal rounds in a row are one line.
 pub fn push_rounds<R: Files>(
-    told: &mut Told,
+    out: &mut Printed,
     rt: &R,
     alloc: Global,
     case: Case<'_, '_>,
@@ -53,15 +53,15 @@ pub fn push_rounds<R: Files>(
         calls: 0,
         takes: number_at(case, "takes", usize::MAX)?,
     };
-    let mut lines = Told::new(alloc);
+    let mut lines = Printed::new(alloc);
     push_lines(&mut lines, rt, alloc, words, input, first);
-    push_joined(told, lines.end()?.as_str());
+    push_joined(out, lines.end()?.as_str());
     Ok(())
 }
 
 // Adds what comes of each round, a line each, and an empty line.
 fn push_lines<R: Files>(
-    lines: &mut Told,
+    lines: &mut Printed,
     rt: &R,
     alloc: Global,
     words: &[String],
@@ -77,9 +77,9 @@ fn push_lines<R: Files>(
     lines.text("\n");
 }
 
-// Adds what comes of a round: the status, and what the outputs have that don't fail in it. Answers whether a call failed.
+// Adds what comes of a round: the status, and what was written to the outputs that don't fail in it. Returns whether a call failed.
 fn push_line<R: Files>(
-    lines: &mut Told,
+    lines: &mut Printed,
     rt: &R,
     alloc: Global,
     words: &[String],
@@ -87,19 +87,19 @@ fn push_line<R: Files>(
     round: Round<'_>,
 ) -> bool {
     let mut input = Stream::new(alloc, round, "input", input);
-    let mut out = Stream::new(alloc, round, "output", &[]);
-    let mut err = Stream::new(alloc, round, "error", &[]);
-    let status = run(rt, alloc, words, &mut input, &mut out, &mut err);
+    let mut stdout = Stream::new(alloc, round, "output", &[]);
+    let mut stderr = Stream::new(alloc, round, "error", &[]);
+    let status = run(rt, alloc, words, &mut input, &mut stdout, &mut stderr);
     lines.number("status ", usize::from(status));
-    push_taken(lines, round, "output", &out);
-    push_taken(lines, round, "error", &err);
+    push_taken(lines, round, "output", &stdout);
+    push_taken(lines, round, "error", &stderr);
     lines.text("\n");
     // Not by `||`, whose branches would each have the drops of the streams to prove.
-    input.has_failed | out.has_failed | err.has_failed
+    input.has_failed | stdout.has_failed | stderr.has_failed
 }
 
-// Adds what a stream took, if it is none of those that fail.
-fn push_taken(lines: &mut Told, round: Round<'_>, name: &str, stream: &Stream<'_>) {
+// Adds what was written to a stream, if it is none of those that fail.
+fn push_taken(lines: &mut Printed, round: Round<'_>, name: &str, stream: &Stream<'_>) {
     if !round.fails.contains(name) {
         lines.texts(", ", name);
         lines.text(" ");
@@ -110,25 +110,25 @@ fn push_taken(lines: &mut Told, round: Round<'_>, name: &str, stream: &Stream<'_
     }
 }
 
-// Adds the lines of the rounds, behind which an empty one stands: those that are alike and follow each other as one.
-fn push_joined(told: &mut Told, lines: &str) {
+// Adds the lines of the rounds, which end with an empty one: equal lines in a row as one.
+fn push_joined(out: &mut Printed, lines: &str) {
     let mut first = 0usize;
     for (last, (line, next)) in lines.lines().zip(lines.lines().skip(1)).enumerate() {
         if line != next {
-            push_calls(told, first, last);
-            told.texts(line, "\n");
+            push_calls(out, first, last);
+            out.texts(line, "\n");
             first = last.saturating_add(1);
         }
     }
 }
 
 // Adds the numbers of calls after which the streams fail.
-fn push_calls(told: &mut Told, first: usize, last: usize) {
-    told.number("calls ", first);
+fn push_calls(out: &mut Printed, first: usize, last: usize) {
+    out.number("calls ", first);
     if first < last {
-        told.number(" to ", last);
+        out.number(" to ", last);
     }
-    told.text(": ");
+    out.text(": ");
 }
 
 impl<'a> Stream<'a> {

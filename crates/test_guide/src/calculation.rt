@@ -118,7 +118,7 @@ pub(crate) fn calculated(
     Ok((shown(alloc, &lexer, &errors)?, number.unwrap_or(None)))
 }
 
-// What is handed in at each error: to leave a lexeme out, or to put a number in.
+// The repairs that are supplied at each error: to leave a lexeme out, or to put a number in.
 fn repairs(alloc: Global) -> Result<Vec<Vec<RepairStep<u32>>>, Fail> {
     let (leave_out, number) = (RepairStep::Delete, RepairStep::Insert(TIdx(4)));
     Ok(vec![in alloc; vec![in alloc; leave_out]?, vec![in alloc; number]?]?)

@@ -1,4 +1,4 @@
-//! The example of the README: a language of settings, and what is told of a file of them.
+//! The example of the README: a language of settings, and the report about a file of them.
 ghost use Rattle.std.specs.Prelude.{◌≡◌};
 
 use lrpar::build::{Unbuilt, parser_data};
@@ -15,7 +15,7 @@ const GRAMMAR: &str =
 
 const LEXER: &str = "[a-z_]+ 'NAME'\n= '='\n; ';'\n[0-9]+ 'NUMBER'\n\"[^\"]*\" 'TEXT'\n[ \\n]+ ;";
 
-/// Why nothing can be told.
+/// Why there is no report.
 #[derive(Debug, Drop, Error)]
 pub(crate) enum Failed {
     #[error("grammar: {0}")]
@@ -40,7 +40,7 @@ pub(crate) fn language(alloc: Global) -> Result<(ParserData<u32>, Vec<LexRule>),
 }
 
 /// The errors of a file of settings, and its tree.
-pub(crate) fn told<'a>(
+pub(crate) fn report<'a>(
     alloc: Global,
     data: &'a ParserData<u32>,
     rules: &'a [LexRule],

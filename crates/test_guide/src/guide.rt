@@ -1,5 +1,5 @@
 //! What the guide shows beside the example: a walk through a tree, and the tokens that may come next.
-use crate::example::{Failed, language, told};
+use crate::example::{Failed, language, report};
 use lrpar::span::TIdx;
 use lrpar::{Lexeme, Node, ParserData, RTParserBuilder};
 use lrpar_lexer::{LexRule, RuleLexer, Token};
@@ -44,7 +44,7 @@ fn push_names<'a>(
     Ok(())
 }
 
-/// What may come behind the text, a line each.
+/// What may come after the text, a line each.
 fn completions(
     alloc: Global,
     data: &ParserData<u32>,
@@ -65,7 +65,7 @@ fn settings(rt: HostRuntime) -> Result<(), Fail> {
     are_shown(&rt, rt.alloc(), &data, &rules)
 }
 
-// The names of settings, what may come next, and what is told are as the guide shows them.
+// The names of settings, what may come next, and the reports are as the guide shows them.
 fn are_shown(
     rt: &impl Abort,
     alloc: Global,
@@ -74,7 +74,7 @@ fn are_shown(
 ) -> Result<(), Fail> {
     names_are_listed(rt, alloc, data, rules)?;
     values_may_come_after_an_equals_sign(rt, alloc, data, rules)?;
-    settings_are_told(rt, alloc, data, rules)
+    settings_are_reported(rt, alloc, data, rules)
 }
 
 fn names_are_listed(
@@ -102,8 +102,8 @@ fn values_may_come_after_an_equals_sign(
     Ok(())
 }
 
-// Texts, and what is told of them.
-const TOLD: [(&str, &str); 2] = [
+// Texts, and the reports about them.
+const REPORTS: [(&str, &str); 2] = [
     (
         "width = 80;\n",
         "File\n File\n Setting\n  NAME width\n  = =\n  Value\n   NUMBER 80\n  ; ;\n",
@@ -114,15 +114,15 @@ const TOLD: [(&str, &str); 2] = [
     ),
 ];
 
-fn settings_are_told(
+fn settings_are_reported(
     rt: &impl Abort,
     alloc: Global,
     data: &ParserData<u32>,
     rules: &[LexRule],
 ) -> Result<(), Fail> {
-    for (input, wanted) in &TOLD {
-        let text = told(alloc, data, rules, *input)?;
-        assert_eq!(rt; text.as_str(), *wanted);
+    for (input, expected) in &REPORTS {
+        let text = report(alloc, data, rules, *input)?;
+        assert_eq!(rt; text.as_str(), *expected);
     }
     Ok(())
 }

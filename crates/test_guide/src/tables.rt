@@ -1,4 +1,4 @@
-//! A parse by a table of one's own, and a calculation, as a user writes them.
+//! A parse by a table that the user made, and a calculation, as a user writes them.
 use crate::calculation::calculated;
 use lrpar::check::CheckFault;
 use lrpar::grammar::{GrammarFault, YaccGrammar};
@@ -11,10 +11,10 @@ use std::alloc::Global;
 use std::process::Abort;
 use std::test::Fail;
 use test_parts::built::{CALC, built, lists};
-use test_parts::lexer::{HandedLexer, lexer_of};
+use test_parts::lexer::{ListLexer, lexer_of};
 use thiserror::Error;
 
-/// Why there is no answer.
+/// Why there is no tree.
 #[derive(Debug, Drop, Error)]
 enum Failed {
     #[error("grammar: {0}")]
@@ -33,13 +33,13 @@ type Answer = (
     Vec<LexParseError<u32, TokenTypes>>,
 );
 
-// The tree of what the lexer answers, by a grammar text, item sets and rows.
+// The tree of the lexemes, by a grammar text, item sets and rows.
 fn tree_of(
     alloc: Global,
     text: &str,
     items: Vec<Vec<Item<u32>>>,
     rows: TableRows<u32>,
-    lexer: &HandedLexer<'_>,
+    lexer: &ListLexer<'_>,
 ) -> Result<Answer, Failed> {
     let grm = YaccGrammar::new_with_storaget(alloc, text)?;
     let sgraph = StateGraph::from_rows(alloc, items)?;

@@ -11,7 +11,7 @@ use Rattle.lrpar_table_stacks.specs.Run.{Stop}
 use Rattle.lrpar_table_stacks.specs.Stack.{top_of}
 use Rattle.lrpar_parse_repair.specs.Repaired.{repairs_over}
 use Rattle.lrpar_parse_repair.specs.Sequences.{PlainStep, AreThoseWith, Works}
-use Rattle.lrpar_parse_run.specs.RepairAnswer.{RepairWholeRun}
+use Rattle.lrpar_parse_run.specs.RepairAnswer.{RunWithRepairs}
 use Rattle.lrpar_parse_run.specs.RepairRun.{RepairStop}
 use Rattle.lrpar_parse_run.specs.RunAnswer.{IsLexemeAt}
 use Rattle.lrpar_parse_run.specs.Subject.{Subject}
@@ -46,5 +46,5 @@ module _ {X : Type 0} (about : Subject X) (supplied : List (List PlainStep)) (le
 
   -- the errors are those of the error points of a run, in order, and each lists what works at its error point
   pub record EachListsWhatWorks {S L C : Type 0} (errors : List (LexParseError S L X C)) : Type 0 where
-    pub whole_run : RepairWholeRun about lexemes
+    pub whole_run : RunWithRepairs about lexemes
     pub each : AllZip ListsWhatWorks whole_run.stops errors

@@ -1,7 +1,7 @@
 //! Actions that count their calls, and the calculator's.
 ghost use Rattle.std.specs.Prelude.{◌↔◌, IfOk, IsTrue};
 
-use crate::wants::{holds, same};
+use crate::expectations::{holds, same};
 use lrpar_grammar::span::{PIdx, RIdx, Span, Symbol};
 use lrpar_lexer::{Token, TokenTypes};
 use lrpar_parse::RTParserBuilder;
@@ -14,16 +14,16 @@ use std::test::Fail;
 use test_parts::built::{ARITHMETIC, SUM, built};
 use test_parts::calculator::{Calculator, Value};
 use test_parts::drops::drop_errors;
-use test_parts::lexer::{Given, HandedLexer, lexer_of};
+use test_parts::lexer::{Given, ListLexer, lexer_of};
 
-/// Counts its calls, and finds no memory at one of them. Of its answers it states nothing.
+/// Counts its calls, and finds no memory at one of them. Its contracts claim nothing of its values.
 #[derive(Drop)]
 pub(crate) struct Counting {
     calls: Cell<usize>,
     fails_at: usize,
 }
 
-/// Those that find no memory at this call.
+/// Actions that find no memory at this call.
 pub(crate) fn failing_at(fails_at: usize) -> Counting {
     Counting {
         calls: Cell::new(0),
@@ -70,7 +70,7 @@ impl<LexerT> Actions<u32, Token<u32>, LexerT> for Counting {
     }
 }
 
-/// A parser that is handed nothing.
+/// A parser without a recoverer.
 type Parser<'a> = RTParserBuilder<'a, u32, TokenTypes>;
 
 // Two parses by one parser and by actions that find no memory at this call, as text: each fault, or whether there is a value, and how
@@ -95,7 +95,7 @@ fn acted_twice(
 fn has_value(
     alloc: Global,
     parser: &Parser<'_>,
-    lexer: &HandedLexer<'_>,
+    lexer: &ListLexer<'_>,
     counting: &Counting,
 ) -> Result<bool, ParseFault> {
     let (value, errors) = parser.parse_actions(alloc, lexer, counting, &())?;
@@ -129,9 +129,9 @@ fn calls_of_actions(rt: HostRuntime) -> Result<(), Fail> {
 
 // In each row the actions are called as the row says.
 fn are_called(rt: &impl Abort, alloc: Global, data: &ParserData<u32>) {
-    for (given, fails_at, want) in &TWO_PARSES {
+    for (given, fails_at, expected) in &TWO_PARSES {
         let text = acted_twice(rt, alloc, data, *given, *fails_at);
-        same(rt, fails_at, &text.as_str(), want);
+        same(rt, fails_at, &text.as_str(), expected);
     }
 }
 
@@ -191,7 +191,7 @@ fn a_calculator_of_another_grammar(rt: HostRuntime) -> Result<(), Fail> {
 
 // In each row the calculator makes the value that the row says.
 fn are_computed(rt: &impl Abort, alloc: Global, data: &ParserData<u32>, rows: &[Computed]) {
-    for (given, want) in rows {
-        same(rt, &"a value", &value_of(rt, alloc, data, *given), want);
+    for (given, expected) in rows {
+        same(rt, &"a value", &value_of(rt, alloc, data, *given), expected);
     }
 }

@@ -1,8 +1,8 @@
-//! How often a parse asks its lexer and its recoverer, in which order it calls the functions of its caller, and what comes where one
+//! How often a parse calls its lexer and its recoverer, in which order it calls the functions of its caller, and what comes of it if one
 //! of them finds no memory; and how often the text of an error asks for a token's.
 use crate::actions::failing_at;
+use crate::expectations::{holds, same};
 use crate::recoverer::{Asked, Deleting};
-use crate::wants::{holds, same};
 use lrpar_grammar::span::{StIdx, TIdx};
 use lrpar_lexer::{Token, TokenTypes};
 use lrpar_parse::RTParserBuilder;
@@ -16,7 +16,7 @@ use std::process::Abort;
 use std::test::Fail;
 use test_parts::built::{BRACKETS, SUM, TWICE, built};
 use test_parts::drops::{drop_error, drop_errors};
-use test_parts::lexer::{Given, HandedLexer, Last, lexer_of};
+use test_parts::lexer::{Given, Last, ListLexer, lexer_of};
 
 /// One of the four calls.
 #[derive(Clone, Copy, Debug, PartialEq, Eq)]
@@ -37,7 +37,7 @@ type Errors = Result<Vec<LexParseError<u32, TokenTypes>>, ParseFault>;
 type Parser<'a> = RTParserBuilder<'a, u32, TokenTypes, Deleting<'a>>;
 
 // The errors of the parse by the call.
-fn errors_by(alloc: Global, call: Call, parser: &Parser<'_>, lexer: &HandedLexer<'_>) -> Errors {
+fn errors_by(alloc: Global, call: Call, parser: &Parser<'_>, lexer: &ListLexer<'_>) -> Errors {
     match call {
         Call::Map => mapped_errors(alloc, parser, lexer),
         Call::Actions => acted_errors(alloc, parser, lexer),
@@ -47,25 +47,25 @@ fn errors_by(alloc: Global, call: Call, parser: &Parser<'_>, lexer: &HandedLexer
 }
 
 // Those of a parse by two functions.
-fn mapped_errors(alloc: Global, parser: &Parser<'_>, lexer: &HandedLexer<'_>) -> Errors {
+fn mapped_errors(alloc: Global, parser: &Parser<'_>, lexer: &ListLexer<'_>) -> Errors {
     let (_, errors) = parser.parse_map(alloc, lexer, |_| {}, |_, _| {})?;
     Ok(errors)
 }
 
 // Those of a parse by actions.
-fn acted_errors(alloc: Global, parser: &Parser<'_>, lexer: &HandedLexer<'_>) -> Errors {
+fn acted_errors(alloc: Global, parser: &Parser<'_>, lexer: &ListLexer<'_>) -> Errors {
     let (_, errors) = parser.parse_actions(alloc, lexer, &failing_at(0), &())?;
     Ok(errors)
 }
 
 // Those of a parse to a tree.
-fn tree_errors(alloc: Global, parser: &Parser<'_>, lexer: &HandedLexer<'_>) -> Errors {
+fn tree_errors(alloc: Global, parser: &Parser<'_>, lexer: &ListLexer<'_>) -> Errors {
     let (_tree, errors) = parser.parse_generictree(alloc, lexer)?;
     Ok(errors)
 }
 
 // Adds the state and the start of each parse error, or the fault.
-fn push_told(rt: &impl Abort, text: &mut String, answer: Errors) {
+fn push_outcome(rt: &impl Abort, text: &mut String, answer: Errors) {
     match answer {
         Err(fault) => holds(rt, &"memory", write!(text, "{fault} ").is_ok()),
         Ok(errors) => {
@@ -90,7 +90,7 @@ fn push_places(rt: &impl Abort, text: &mut String, errors: &[LexParseError<u32, 
 }
 
 /// Lexemes of the grammar *brackets* and what comes after them, the calls at which the lexer and the recoverer find no memory, what comes
-/// of two parses, and how often the lexer and the recoverer are asked in both.
+/// of two parses, and how often both parses call the lexer and the recoverer.
 type Row = (
     &'static [Given],
     Last,
@@ -160,11 +160,11 @@ fn lexers_and_recoverers_are_asked_once(rt: HostRuntime) -> Result<(), Fail> {
 
 // Each of the four calls asks as often as the row says.
 fn each_asks(rt: &impl Abort, alloc: Global, data: &ParserData<u32>, row: &Row) {
-    let (_, _, _, want, asked) = *row;
+    let (_, _, _, expected, asked) = *row;
     for call in &FOUR {
         let (text, found) = asks(rt, alloc, *call, data, row);
         let found = (*call, text.as_str(), found);
-        same(rt, &want, &found, &(*call, want, asked));
+        same(rt, &expected, &found, &(*call, expected, asked));
     }
 }
 
@@ -178,7 +178,7 @@ fn asks(
 ) -> (String, (usize, usize)) {
     let (given, last, (lexing, recovery), _, _) = *row;
     let (calls, asked) = (Cell::new(0), Cell::new((0, 0, [0, 0, 0], 0, false)));
-    let lexer = HandedLexer {
+    let lexer = ListLexer {
         given,
         last,
         calls: Cell::new(0),
@@ -190,8 +190,8 @@ fn asks(
         fails_at: recovery,
     });
     let mut text = String::new(alloc);
-    push_told(rt, &mut text, errors_by(alloc, call, &parser, &lexer));
-    push_told(rt, &mut text, errors_by(alloc, call, &parser, &lexer));
+    push_outcome(rt, &mut text, errors_by(alloc, call, &parser, &lexer));
+    push_outcome(rt, &mut text, errors_by(alloc, call, &parser, &lexer));
     (text, (lexer.calls.get(), calls.get()))
 }
 
@@ -215,9 +215,9 @@ fn asked(
     (calls.get(), asked.get())
 }
 
-// At the second name behind a bracket a recoverer is asked once, and is handed what belongs to that place.
+// At the second name after a bracket the recoverer is called once, and gets what belongs to that place.
 #[test]
-fn what_a_recoverer_is_handed(rt: HostRuntime) -> Result<(), Fail> {
+fn what_a_recoverer_gets(rt: HostRuntime) -> Result<(), Fail> {
     let data = built(rt.alloc(), BRACKETS)?;
     let found = asked(&rt, rt.alloc(), &data, &[(2, 1), (0, 1), (0, 1)]);
     same(&rt, &"asked", &found, &(1, (2, 3, [0, 3, 6], 3, true)));
@@ -272,7 +272,7 @@ enum Called {
 /// How many calls there were, and which were the first eight.
 type Calls = (usize, [Called; 8]);
 
-// Notes the call, where it is one of the first eight.
+// Notes the call, if it is one of the first eight.
 fn note(calls: &Cell<Calls>, call: Called) {
     let (count, mut noted) = calls.get();
     if let Some(place) = noted.get_mut(count) {
@@ -301,8 +301,8 @@ fn calls_of(rt: &impl Abort, alloc: Global, data: &ParserData<u32>, given: &[Giv
 /// Lexemes, and the calls of the functions in their order.
 type Order = (&'static [Given], &'static [Called]);
 
-// The sums `a+b`, `a+` and the empty one. A token's value is asked for where its production is reduced, so not for those that stand on
-// the stack at an error; and there is no call for the rule that is added.
+// The sums `a+b`, `a+` and the empty one. A token's value is asked for when its production is reduced, so not for tokens that are on the
+// stack at an error; and there is no call for the start rule of the augmented grammar.
 const SUMS: [Order; 3] = [
     (
         &[(1, 1), (0, 1), (1, 1)],
@@ -348,8 +348,8 @@ fn calls_of_one_right_side(rt: HostRuntime) -> Result<(), Fail> {
 
 // In each row the functions are called as the row says.
 fn are_called(rt: &impl Abort, alloc: Global, data: &ParserData<u32>, rows: &[Order]) {
-    for (given, want) in rows {
+    for (given, expected) in rows {
         let (count, noted) = calls_of(rt, alloc, data, *given);
-        same(rt, &count, &noted.get(..count), &Some(*want));
+        same(rt, &count, &noted.get(..count), &Some(*expected));
     }
 }

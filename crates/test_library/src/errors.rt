@@ -1,5 +1,5 @@
 //! Parse errors and repairs: their texts, equality, hashes and clones.
-use crate::wants::{holds, same};
+use crate::expectations::{holds, same};
 use lrpar_grammar::span::{Span, StIdx, TIdx};
 use lrpar_lexer::{NoToken, Token, TokenTypes};
 use lrpar_parse::parser::{ParseFault, PpFault};
@@ -20,7 +20,7 @@ fn lexeme(start: usize) -> Token<u32> {
     Token::new(1, start.min(1_000), 1)
 }
 
-// The error in this state at the lexeme of this byte, with so many sequences of one deletion.
+// The error in this state at the lexeme of this byte, with this number of sequences of one deletion.
 fn error(
     rt: &impl Abort,
     alloc: Global,
@@ -39,29 +39,29 @@ fn error(
 #[test]
 fn texts_of_errors(rt: HostRuntime) -> Result<(), Fail> {
     let alloc = rt.alloc();
-    is_told(&rt, alloc, &ParseFault::Memory, "out of memory");
-    is_told(&rt, alloc, &PpFault::<u32>::Memory, "out of memory");
+    has_text(&rt, alloc, &ParseFault::Memory, "out of memory");
+    has_text(&rt, alloc, &PpFault::<u32>::Memory, "out of memory");
     let error: LexParseError<u32, TokenTypes> = LexParseError::from(NoToken::new(Span::new(7, 8)));
-    is_told(&rt, alloc, &error, "no token fits at byte 7");
+    has_text(&rt, alloc, &error, "no token fits at byte 7");
     drop_error(error);
     Ok(())
 }
 
 // This is the text of the error.
-fn is_told<E: fmt::Display>(rt: &impl Abort, alloc: Global, error: &E, want: &str) {
+fn has_text<E: fmt::Display>(rt: &impl Abort, alloc: Global, error: &E, expected: &str) {
     let text = format!(in alloc; "{error}").expect(rt, "memory");
-    same(rt, &"a text", &text.as_str(), &want);
+    same(rt, &"a text", &text.as_str(), &expected);
 }
 
 // The text of a parse error names its lexeme, by itself and as one of both kinds.
 #[test]
 fn texts_of_parse_errors(rt: HostRuntime) -> Result<(), Fail> {
     let (alloc, lexeme) = (rt.alloc(), lexeme(1));
-    let want = format!(in alloc; "Parse error at lexeme {lexeme:?}").expect(&rt, "memory");
+    let expected = format!(in alloc; "Parse error at lexeme {lexeme:?}").expect(&rt, "memory");
     let error = error(&rt, alloc, 3, 1, 0);
-    is_told(&rt, alloc, &error, want.as_str());
+    has_text(&rt, alloc, &error, expected.as_str());
     let error: LexParseError<u32, TokenTypes> = LexParseError::from(error);
-    is_told(&rt, alloc, &error, want.as_str());
+    has_text(&rt, alloc, &error, expected.as_str());
     drop_error(error);
     Ok(())
 }

@@ -8,6 +8,8 @@ mod counts;
 #[cfg(test)]
 mod errors;
 #[cfg(test)]
+mod expectations;
+#[cfg(test)]
 mod lines;
 #[cfg(test)]
 mod recoverer;
@@ -25,5 +27,3 @@ mod span;
 mod table;
 #[cfg(test)]
 mod trees;
-#[cfg(test)]
-mod wants;

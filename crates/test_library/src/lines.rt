@@ -1,5 +1,5 @@
 //! Lines and columns of a text, and places that fit one.
-use crate::wants::same;
+use crate::expectations::same;
 use lrpar_grammar::grammar::{GrammarParts, ProdPart, RulePart, TokenPart, YaccGrammar};
 use lrpar_grammar::lines::NewlineCache;
 use lrpar_grammar::span::{RIdx, Span, Symbol, TIdx};

@@ -1,4 +1,4 @@
-//! A recoverer that counts how often it is asked, and notes where.
+//! A recoverer that counts its calls, and notes where they are.
 ghost use Rattle.std.specs.Prelude.{IfOk};
 
 use lrpar_lexer::Token;
@@ -6,11 +6,11 @@ use lrpar_parse_repair::repair::{Recoverer, RecoveryPoint, RepairStep};
 use std::alloc::{AllocError, Global};
 use std::cell::Cell;
 
-/// Where a recoverer is asked: the place, how many lexemes there are, the states of a stack of three, how many lexemes have to follow a
+/// Where a recoverer is called: the place, how many lexemes there are, the states of a stack of three, how many lexemes have to follow a
 /// repair, and whether the states are a stack of the table.
 pub(crate) type Asked = (usize, usize, [u32; 3], usize, bool);
 
-/// Hands in a deletion. At one of its calls it finds no memory.
+/// Supplies a deletion. At one of its calls it finds no memory.
 #[derive(Drop)]
 pub(crate) struct Deleting<'a> {
     pub(crate) calls: &'a Cell<usize>,
@@ -52,8 +52,8 @@ impl<'a> Recoverer<u32, Token<u32>> for Deleting<'a> {
         }
         let mut steps = Vec::new(alloc);
         steps.push(RepairStep::Delete)?;
-        let mut handed = Vec::new(alloc);
-        handed.push(steps)?;
-        Ok(handed)
+        let mut sequences = Vec::new(alloc);
+        sequences.push(steps)?;
+        Ok(sequences)
     }
 }

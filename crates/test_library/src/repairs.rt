@@ -1,5 +1,5 @@
 //! Many repairs, and how many lexemes have to follow one.
-use crate::wants::same;
+use crate::expectations::same;
 use lrpar_grammar::span::TIdx;
 use lrpar_lexer::TokenTypes;
 use lrpar_parse::RTParserBuilder;
@@ -13,8 +13,8 @@ use test_parts::built::{BRACKETS, built};
 use test_parts::drops::drop_errors;
 use test_parts::lexer::lexer_of;
 
-/// A parser that is handed the same sequences at each error.
-type Handing<'a> = RTParserBuilder<'a, u32, TokenTypes, FixedRecoverer<u32>>;
+/// A parser that gets the same sequences at each error.
+type FixedParser<'a> = RTParserBuilder<'a, u32, TokenTypes, FixedRecoverer<u32>>;
 
 const D: RepairStep<u32> = RepairStep::Delete;
 
@@ -22,20 +22,20 @@ const I0: RepairStep<u32> = RepairStep::Insert(TIdx(0));
 
 const I1: RepairStep<u32> = RepairStep::Insert(TIdx(1));
 
-// Two lexemes `N` of the grammar *brackets*, parsed with this handed in: how many sequences are listed, the length of the first one,
-// and how many leaves the value has.
+// The parse of two lexemes `N` of the grammar *brackets* with these sequences: how many are listed, the length of the first one, and
+// how many leaves the value has.
 fn counted(
     rt: &impl Abort,
     alloc: Global,
     data: &ParserData<u32>,
-    handed: Vec<Vec<RepairStep<u32>>>,
+    sequences: Vec<Vec<RepairStep<u32>>>,
 ) -> (usize, usize, usize) {
-    let parser = RTParserBuilder::new(data).recoverer(FixedRecoverer::new(handed));
+    let parser = RTParserBuilder::new(data).recoverer(FixedRecoverer::new(sequences));
     counted_by(rt, alloc, &parser)
 }
 
 // The same by a parser.
-fn counted_by(rt: &impl Abort, alloc: Global, parser: &Handing<'_>) -> (usize, usize, usize) {
+fn counted_by(rt: &impl Abort, alloc: Global, parser: &FixedParser<'_>) -> (usize, usize, usize) {
     let lexer = lexer_of(&[(0, 1), (0, 1)]);
     match parser.parse_map(alloc, &lexer, |_| 1, |_, below| sum(&below)) {
         Ok((leaves, errors)) => {
@@ -69,7 +69,7 @@ fn sum(numbers: &[usize]) -> usize {
     sum
 }
 
-// These steps so often, one after the other, and then the last one.
+// These steps `times` times, and then the last one.
 fn repeated(
     rt: &impl Abort,
     alloc: Global,
@@ -85,7 +85,7 @@ fn repeated(
     made
 }
 
-// 5,000 deletions, and then a sequence that ends in front of a name.
+// 5,000 deletions, and a sequence that ends before a name.
 fn long(rt: &impl Abort, alloc: Global) -> Vec<Vec<RepairStep<u32>>> {
     let deletions = repeated(rt, alloc, &[D], 4_999, D);
     let insertions = repeated(rt, alloc, &[I1, I0], 2_500, I1);
@@ -94,13 +94,13 @@ fn long(rt: &impl Abort, alloc: Global) -> Vec<Vec<RepairStep<u32>>> {
 
 // 10,000 sequences of one deletion.
 fn many(rt: &impl Abort, alloc: Global) -> Vec<Vec<RepairStep<u32>>> {
-    let mut handed = Vec::new(alloc);
+    let mut sequences = Vec::new(alloc);
     for _ in 0..10_000 {
-        handed
+        sequences
             .push(repeated(rt, alloc, &[], 0, D))
             .expect(rt, "memory");
     }
-    handed
+    sequences
 }
 
 // Two long sequences and many short ones are listed, and each first one is replayed.

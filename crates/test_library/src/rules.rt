@@ -1,5 +1,5 @@
 //! Rules of lexers, made one by one.
-use crate::wants::{holds, same};
+use crate::expectations::{holds, same};
 use lrpar_grammar::span::TIdx;
 use lrpar_lexer::{LexRule, RuleLexer};
 use lrpar_parse_lexemes::lex_api::Lexer;
@@ -7,7 +7,7 @@ use std::alloc::Global;
 use std::process::Abort;
 use std::test::Fail;
 
-// What the rules answer over the text, by the texts of lexemes and of errors.
+// What the rules give over the text: the texts of lexemes and of errors.
 fn answers(rt: &impl Abort, alloc: Global, rules: &[LexRule], input: &str) -> String {
     let lexer = RuleLexer::new(alloc, rules, input).expect(rt, "memory");
     let mut all = String::new(alloc);
@@ -21,8 +21,8 @@ fn answers(rt: &impl Abort, alloc: Global, rules: &[LexRule], input: &str) -> St
     all
 }
 
-// A text, and what words of the token 3 and blanks, which are skipped, answer over it. What nothing matches is an error at its place,
-// with which the answers end: a match has to begin there.
+// A text, and what the rules give over it: words are the token 3, and blanks are skipped. Where no rule matches there is an error, with
+// which the answers end: a match has to begin there.
 const ANSWERS: &[(&str, &str)] = &[
     ("ab  c", "token 3 at 0..2\ntoken 3 at 4..5\n"),
     ("   ", ""),
@@ -42,13 +42,13 @@ fn rules(rt: &impl Abort, alloc: Global) -> Vec<LexRule> {
     vec![in alloc; word, blank].expect(rt, "memory")
 }
 
-// The rules answer this over each text.
+// The rules give this over each text.
 #[test]
 fn rules_give_their_lexemes(rt: HostRuntime) -> Result<(), Fail> {
     let rules = rules(&rt, rt.alloc());
-    for (input, wanted) in ANSWERS {
+    for (input, expected) in ANSWERS {
         let found = answers(&rt, rt.alloc(), &rules, input);
-        same(&rt, input, &found.as_str(), wanted);
+        same(&rt, input, &found.as_str(), expected);
     }
     Ok(())
 }

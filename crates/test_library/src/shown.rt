@@ -1,6 +1,6 @@
 //! Trees as `Debug` shows them.
+use crate::expectations::{holds, same};
 use crate::trees::{Tree, chain_of};
-use crate::wants::{holds, same};
 use lrpar_grammar::span::RIdx;
 use lrpar_lexer::Token;
 use lrpar_parse_lexemes::lex_api::Lexeme;
@@ -110,7 +110,7 @@ fn are_shown(rt: &impl Abort, alloc: Global) {
     same(rt, &"bytes", &counter.bytes, &36_000_087);
 }
 
-// Adds a line after so many spaces.
+// Adds a line after this number of spaces.
 fn push_line(text: &mut String, spaces: usize, line: &str) -> Result<(), AllocError> {
     for _ in 0..spaces / 8 {
         text.push_str("        ")?;
@@ -121,7 +121,7 @@ fn push_line(text: &mut String, spaces: usize, line: &str) -> Result<(), AllocEr
     text.push_str(line)
 }
 
-// The lines of a lexeme, each after as many spaces, and its own.
+// The lines of a lexeme, and how many spaces each has beside those of its level.
 const LEXEME_LINES: [(usize, &str); 9] = [
     (4, "lexeme: Token {\n"),
     (8, "number: 1,\n"),
@@ -142,7 +142,7 @@ const RULE_LINES: [(usize, &str); 4] = [
     (4, "nodes: [\n"),
 ];
 
-// The lines of a chain of so many levels.
+// The lines of a chain of this number of levels.
 fn lines_of_chain(alloc: Global, levels: usize) -> Result<String, AllocError> {
     let mut text = String::new(alloc);
     for level in 0..levels {
@@ -174,14 +174,14 @@ fn lines_of_chain(alloc: Global, levels: usize) -> Result<String, AllocError> {
 
 #[test]
 fn lines_of_a_thousand_levels(rt: HostRuntime) -> Result<(), Fail> {
-    let wanted = lines_of_chain(rt.alloc(), 1_000)?;
-    are_shown_in_lines(&rt, rt.alloc(), &wanted);
+    let expected = lines_of_chain(rt.alloc(), 1_000)?;
+    are_shown_in_lines(&rt, rt.alloc(), &expected);
     Ok(())
 }
 
 // A chain of a thousand levels is shown in these lines.
-fn are_shown_in_lines(rt: &impl Abort, alloc: Global, wanted: &str) {
+fn are_shown_in_lines(rt: &impl Abort, alloc: Global, expected: &str) {
     let tree = chain_of(rt, alloc, 1_000);
     let text = format!(in alloc; "{tree:#?}").expect(rt, "memory");
-    holds(rt, &"the lines of a derive", text.as_str() == wanted);
+    holds(rt, &"the lines of a derive", text.as_str() == expected);
 }

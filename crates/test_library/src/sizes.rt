@@ -1,5 +1,5 @@
 //! The largest table, and a long grammar text.
-use crate::wants::{holds, same};
+use crate::expectations::{holds, same};
 use lrpar_grammar::grammar::{GrammarFault, YaccGrammar};
 use lrpar_grammar::span::{StIdx, TIdx};
 use lrpar_table::table::{Action, SparseRows, StateTable};
@@ -44,7 +44,7 @@ fn table_of_all_tokens(rt: HostRuntime) -> Result<(), Fail> {
     Ok(())
 }
 
-// A text of so many rules, each with alternatives and a comment.
+// A text of this number of rules, each with alternatives and a comment.
 fn long_text(alloc: Global, rules: u32) -> Result<String, AllocError> {
     let mut text = String::new(alloc);
     text.push_str("%token id %%\n")?;

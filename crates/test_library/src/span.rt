@@ -1,5 +1,5 @@
 //! Spans and the numbers of rules, productions, tokens and states.
-use crate::wants::{holds, same};
+use crate::expectations::{holds, same};
 use lrpar_grammar::span::{PIdx, RIdx, Span, StIdx, StorageIndex, TIdx};
 use std::cmp::Ordering;
 use std::test::Fail;
@@ -11,7 +11,7 @@ fn has_numbers<S: StorageIndex>(numbers: &[usize], last: usize) -> bool {
         && read_again::<S>(last.saturating_add(1)).is_none()
 }
 
-// The number that the type makes of `n`, read again, where it has it.
+// The number that the type makes of `n`, read again, if it has it.
 fn read_again<S: StorageIndex>(n: usize) -> Option<usize> {
     match S::from_index(n) {
         Some(found) => Some(found.to_index()),
@@ -50,13 +50,13 @@ fn numbers_of_four_kinds(rt: HostRuntime) -> Result<(), Fail> {
         TIdx(3u32).cmp(&TIdx(3)),
         StIdx(0u8).cmp(&StIdx(255)),
     ];
-    let want = [
+    let expected = [
         Ordering::Less,
         Ordering::Greater,
         Ordering::Equal,
         Ordering::Less,
     ];
-    same(&rt, &"in order", &found, &want);
+    same(&rt, &"in order", &found, &expected);
     Ok(())
 }
 

@@ -1,5 +1,5 @@
-//! Item sets, conflicts and stacks, and texts of faults, where no case can say it.
-use crate::wants::{holds, same};
+//! Item sets, conflicts and stacks, and texts of faults: what no case can say.
+use crate::expectations::{holds, same};
 use lrpar_grammar::grammar::{GrammarFault, YaccGrammar};
 use lrpar_grammar::span::{PIdx, StIdx, TIdx};
 use lrpar_table::build::{BuildFault, Unbuilt, from_yacc, parser_data};
@@ -22,12 +22,12 @@ fn built(rt: &impl Abort, alloc: Global, text: &str) -> (StateGraph<u8>, StateTa
     from_yacc(alloc, &grm, 100).expect(rt, "a table")
 }
 
-// Whether the graph lists the item in the state; none out of range.
+// Whether the graph lists the item in the state. A state out of range has none.
 fn lists(graph: &StateGraph<u8>, state: u8, item: Item<u8>) -> bool {
     usize::from(state) < graph.states_len() && graph.items(StIdx(state)).contains(&item)
 }
 
-// Whether the graph has, at this production and dot of the state, the items that it lists and no others, and the core where it has one.
+// Whether the graph has, at this production and dot of the state, the items that it lists and no others, and the core if it has one.
 fn has_at(graph: &StateGraph<u8>, state: u8, prod: u8, dot: usize) -> bool {
     let mut is_core = false;
     for token in 0..4u8 {
@@ -77,8 +77,8 @@ fn have_items(rt: &impl Abort, graph: &StateGraph<u8>) {
 /// A grammar, and its item sets and rows.
 type Parts = (YaccGrammar<u8>, StateGraph<u8>, StateTable<u8>);
 
-// What is handed back of the table of sums, which the cap 1 is too low for: the end token, 2, makes two reductions in state 4.
-fn handed_back(rt: &impl Abort, alloc: Global) -> Parts {
+// The parts that the refusal of the table of sums returns. The cap 1 is too low: the end token, 2, makes two reductions in state 4.
+fn returned_parts(rt: &impl Abort, alloc: Global) -> Parts {
     let grm = YaccGrammar::new_with_storaget(alloc, SUM).expect(rt, "a grammar");
     match parser_data(alloc, grm, 100, 1) {
         Err(Unbuilt::Chains(refused)) => {
@@ -96,7 +96,7 @@ fn handed_back(rt: &impl Abort, alloc: Global) -> Parts {
 
 // The same, checked with the cap 2.
 fn checked_again(rt: &impl Abort, alloc: Global) -> ParserData<u8> {
-    let (grm, graph, table) = handed_back(rt, alloc);
+    let (grm, graph, table) = returned_parts(rt, alloc);
     match ParserData::new(alloc, grm, graph, table, 2) {
         Ok(data) => data,
         Err(_) => panic!(rt; "refused again"),
@@ -109,7 +109,7 @@ fn items_and_cores_that_come_back(rt: HostRuntime) -> Result<(), Fail> {
     Ok(())
 }
 
-// The cores of the state whose dot isn't at the front: their productions and dots.
+// The cores of the state whose dot is after a symbol: their productions and dots.
 fn begun(rt: &impl Abort, alloc: Global, graph: &StateGraph<u8>, state: u8) -> Vec<(u8, usize)> {
     let mut begun = Vec::new(alloc);
     if usize::from(state) < graph.states_len() {
@@ -120,7 +120,7 @@ fn begun(rt: &impl Abort, alloc: Global, graph: &StateGraph<u8>, state: u8) -> V
     begun
 }
 
-// States of the table of sums, and their cores whose dot isn't at the front.
+// States of the table of sums, and their cores whose dot is after a symbol.
 const BEGUN: [(u8, &[(u8, usize)]); 6] = [
     (0, &[]),
     (1, &[(3, 1)]),
@@ -215,21 +215,37 @@ fn a_new_overlay_is_its_base(rt: HostRuntime) -> Result<(), Fail> {
 }
 
 #[test]
-fn want_of_memory_as_text(rt: HostRuntime) -> Result<(), Fail> {
+fn out_of_memory_as_text(rt: HostRuntime) -> Result<(), Fail> {
     let alloc = rt.alloc();
-    holds(&rt, &"a grammar", is_told(alloc, &GrammarFault::Memory)?);
-    holds(&rt, &"a build", is_told(alloc, &BuildFault::Memory)?);
-    holds(&rt, &"a table", is_told(alloc, &TableFault::Memory)?);
-    holds(&rt, &"a check", is_told(alloc, &CheckFault::Memory)?);
+    holds(
+        &rt,
+        &"a grammar",
+        is_out_of_memory(alloc, &GrammarFault::Memory)?,
+    );
+    holds(
+        &rt,
+        &"a build",
+        is_out_of_memory(alloc, &BuildFault::Memory)?,
+    );
+    holds(
+        &rt,
+        &"a table",
+        is_out_of_memory(alloc, &TableFault::Memory)?,
+    );
+    holds(
+        &rt,
+        &"a check",
+        is_out_of_memory(alloc, &CheckFault::Memory)?,
+    );
     holds(
         &rt,
         &"completeness",
-        is_told(alloc, &CompleteFault::Memory)?,
+        is_out_of_memory(alloc, &CompleteFault::Memory)?,
     );
     Ok(())
 }
 
-// Whether the fault has the text of want of memory.
-fn is_told<E: fmt::Display>(alloc: Global, fault: &E) -> Result<bool, Fail> {
+// Whether the fault has the text of a failed allocation.
+fn is_out_of_memory<E: fmt::Display>(alloc: Global, fault: &E) -> Result<bool, Fail> {
     Ok(format!(in alloc; "{fault}")?.as_str() == "out of memory")
 }

@@ -1,5 +1,5 @@
 //! Trees: of many levels, of no grammar, those that an action makes, and how they are written.
-use crate::wants::{holds, same};
+use crate::expectations::{holds, same};
 use lrpar_grammar::grammar::YaccGrammar;
 use lrpar_grammar::span::{RIdx, Span};
 use lrpar_lexer::{Token, TokenTypes};
@@ -20,10 +20,10 @@ use test_parts::lexer::{Given, lexer_of};
 /// A tree of the tests.
 pub(crate) type Tree = Node<Token<u32>, u32>;
 
-// A level for each: the first that a drop, a comparison and a clone by recursion have no stack for.
+// How many levels a deep tree has. A drop, a comparison or a clone by recursion has no stack for them.
 const LEVELS: usize = 200_000;
 
-// The lexemes of a sum of so many terms, of which the last one has so many bytes.
+// The lexemes of a sum of this number of terms, the last of which has this number of bytes.
 fn sum_of(rt: &impl Abort, alloc: Global, terms: usize, len: usize) -> Vec<Given> {
     let mut given = Vec::new(alloc);
     for _ in 1..terms {
@@ -47,7 +47,7 @@ fn tree_of(rt: &impl Abort, alloc: Global, data: &ParserData<u32>, given: &[Give
     }
 }
 
-// The tree of such a sum, in which each term but the last stands beside the sum of those behind it.
+// The tree of such a sum, in which each term but the last is beside the sum of those after it.
 fn tree_of_sum(
     rt: &impl Abort,
     alloc: Global,
@@ -72,7 +72,7 @@ fn levels(tree: &Tree) -> usize {
     levels
 }
 
-/// A lexeme below so many rules, each of which has one tree.
+/// A lexeme below this number of rules, each of which has one tree.
 pub(crate) fn chain_of(rt: &impl Abort, alloc: Global, levels: usize) -> Tree {
     let mut tree: Tree = Node::Term {
         lexeme: Token::new(1, 0, 1),
@@ -131,7 +131,7 @@ fn deep_trees_are_printed(rt: HostRuntime) -> Result<(), Fail> {
     Ok(())
 }
 
-// A chain of 20,000 rules `E` has a text of so many bytes: each line has a space for each level.
+// A chain of 20,000 rules `E` has a text of this number of bytes: each line has a space for each level.
 fn are_printed(rt: &impl Abort, alloc: Global, grm: &YaccGrammar<u32>) {
     let tree = chain_of(rt, alloc, 20_000);
     if tree.fits(grm, "a") {
@@ -166,12 +166,12 @@ fn trees_that_differ(rt: HostRuntime) -> Result<(), Fail> {
     Ok(())
 }
 
-// In each row the trees of both sums are equal, where the row says so.
+// In each row the trees of both sums are equal if and only if the row says so.
 fn differ(rt: &impl Abort, alloc: Global, data: &ParserData<u32>) {
-    for (first, terms, len, want) in SUMS {
+    for (first, terms, len, expected) in SUMS {
         let tree = tree_of_sum(rt, alloc, data, first, 1);
         let other = tree_of_sum(rt, alloc, data, terms, len);
-        same(rt, &terms, &(tree == other), &want);
+        same(rt, &terms, &(tree == other), &expected);
     }
 }
 

@@ -1,4 +1,4 @@
-//! Grammars, the tables that are built of them, and lists.
+//! Grammars, the tables that are built of them, and lists of lists.
 use crate::lexer::Given;
 use lrpar_grammar::grammar::YaccGrammar;
 use lrpar_table::build::parser_data;
@@ -12,7 +12,7 @@ pub const SUM: &str = "%% E: T '+' E | T; T: 'ID';";
 /// The grammar *brackets*: tokens `N` 0, `+` 1, `(` 2, `)` 3; rule `E` 1.
 pub const BRACKETS: &str = "%% E : 'N' | E '+' 'N' | '(' E ')';";
 
-/// The lexemes of `n)+n+n+n)` of that grammar, in which a bracket is to be left out twice.
+/// The lexemes of `n)+n+n+n)` of that grammar. Its two errors are brackets that are too many.
 pub const TWICE: [Given; 9] = [
     (0, 1),
     (3, 1),
@@ -42,7 +42,7 @@ pub fn built(alloc: Global, text: &str) -> Result<ParserData<u32>, Fail> {
     }
 }
 
-/// A list for each of these.
+/// A list for each row.
 pub fn lists<T: Copy>(alloc: Global, rows: &[&[T]]) -> Result<Vec<Vec<T>>, Fail> {
     let mut made = Vec::new(alloc);
     for row in rows {

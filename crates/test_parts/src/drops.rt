@@ -1,4 +1,4 @@
-//! Drops of errors. A crate that lets go of them by these calls has no drop of its own to prove.
+//! Drops of errors. A crate that drops them by these calls has no drop of its own to prove.
 use lrpar_lexer::TokenTypes;
 use lrpar_parse_errors::errors::LexParseError;
 

@@ -1,5 +1,4 @@
-//! A lexer that answers what it is handed, and counts how often it is asked. It tells nothing of its input, which is empty as far as
-//! it says.
+//! A lexer that gives the lexemes of a list, and counts its calls. It shows no input: its text is empty.
 ghost use Rattle.std.specs.Prelude.{[]};
 
 use lrpar_grammar::span::Span;
@@ -8,10 +7,10 @@ use lrpar_parse_lexemes::lex_api::{Lexeme, Lexer, NonStreamingLexer};
 use std::alloc::{AllocError, Global};
 use std::cell::Cell;
 
-/// A lexeme: its token, and how many bytes it has. It begins where the one in front of it ends.
+/// A lexeme: its token, and how many bytes it has. It begins where the one before it ends.
 pub type Given = (u32, usize);
 
-/// What a lexer answers after its lexemes.
+/// What a lexer gives after its lexemes.
 #[derive(Clone, Copy)]
 pub enum Last {
     /// Nothing more.
@@ -22,18 +21,18 @@ pub enum Last {
     First,
 }
 
-/// The lexer. At one of its calls it finds no memory.
+/// The lexer. The call with the number `fails_at` finds no memory.
 #[derive(Drop)]
-pub struct HandedLexer<'a> {
+pub struct ListLexer<'a> {
     pub given: &'a [Given],
     pub last: Last,
     pub calls: Cell<usize>,
     pub fails_at: usize,
 }
 
-/// The lexer of these lexemes, which never wants memory of its own.
-pub fn lexer_of(given: &[Given]) -> HandedLexer<'_> {
-    HandedLexer {
+/// The lexer of these lexemes. None of its calls fails by itself.
+pub fn lexer_of(given: &[Given]) -> ListLexer<'_> {
+    ListLexer {
         given,
         last: Last::Nothing,
         calls: Cell::new(0),
@@ -41,7 +40,7 @@ pub fn lexer_of(given: &[Given]) -> HandedLexer<'_> {
     }
 }
 
-// What is answered after lexemes that end at this byte, if anything is.
+// What follows lexemes that end at this byte, if anything does.
 fn answer_after(last: Last, end: usize) -> Option<Result<Token<u32>, NoToken>> {
     match last {
         Last::Nothing => None,
@@ -50,7 +49,7 @@ fn answer_after(last: Last, end: usize) -> Option<Result<Token<u32>, NoToken>> {
     }
 }
 
-impl<'a> Lexer<TokenTypes> for HandedLexer<'a> {
+impl<'a> Lexer<TokenTypes> for ListLexer<'a> {
     ghost allows = { λ _ _. Unit {0} };
 
     fn iter(&self, alloc: Global) -> Result<Vec<Result<Token<u32>, NoToken>>, AllocError> {
@@ -71,7 +70,7 @@ impl<'a> Lexer<TokenTypes> for HandedLexer<'a> {
     }
 }
 
-impl<'a, 'input> NonStreamingLexer<'input, TokenTypes> for HandedLexer<'a> {
+impl<'a, 'input> NonStreamingLexer<'input, TokenTypes> for ListLexer<'a> {
     ghost text = { λ _. [] };
 
     fn span_str(&self, _: Span) -> &'input str {

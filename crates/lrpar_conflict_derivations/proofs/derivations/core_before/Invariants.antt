@@ -4,7 +4,7 @@ use Rattle.lrpar_grammar.specs.Grammar.{Terminal, symbols_of}
 use Rattle.lrpar_table_rows.specs.PlainItems.{core_of}
 use Rattle.lrpar_conflict_derivations.proofs.derivations.core_before.Given as goal
 
--- none of the cores so far stands before the token
+-- none of the cores so far has the token after its dot
 abbrev pub invariant-loop-core : goal.invariant-loop-core
 invariant-loop-core g l =
     let index = g.StorageT.StorageIndex.index in

@@ -7,7 +7,7 @@ use Rattle.lrpar_conflict_examples.specs.Words.{tree_text}
 use Rattle.lrpar_conflict_examples.proofs.PieceLemmas.{Walk}
 use Rattle.lrpar_conflict_examples.proofs.pieces.pieces_of.Given as goal
 
--- what waits stands for trees whose moves are those that are left, and whose texts, with the pieces, are the whole
+-- what waits represents trees whose moves are those that are left, and whose texts, with the pieces, are the whole
 abbrev pub invariant-nodes : goal.invariant-nodes
 invariant-nodes g l =
     let index = g.StorageT.StorageIndex.index in
@@ -15,6 +15,6 @@ invariant-nodes g l =
     × ((tree : Tree ℕ) → AreMovesOf l.grm (moves_in index l.moves) tree
     → Walk index l.grm l.waiting.items (moves_in index (take l.left l.moves)) (backward_text index l.grm l.pieces.items) (tree_text l.grm tree))
 
--- a step meets a move, or takes one off what waits
+-- a step takes up a move, or removes an entry that waits
 abbrev pub decreases-nodes : goal.decreases-nodes
 decreases-nodes g l = l.left * 2 ^ 64 + vec_len l.waiting

@@ -1,5 +1,5 @@
 use Rattle.std.specs.String.{string_bytes}
-use Rattle.lrpar_conflict_examples.proofs.ReadLemmas.{next_example, no_example}
+use Rattle.lrpar_conflict_examples.proofs.BeforeLemmas.{next_example, no_example}
 use Rattle.lrpar_conflict_examples.proofs.text.format_examples.Goals as goal
 
 pub loop-example-preserved : goal.loop-example-preserved

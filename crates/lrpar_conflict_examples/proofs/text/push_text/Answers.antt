@@ -4,22 +4,22 @@ use Rattle.std.proofs.lemmas.Result.{on_ok_weaker}
 use Rattle.lrpar_table_sentences.specs.Moves.{moves_in}
 use Rattle.lrpar_conflict_derivations.specs.Texts.{token_numbers}
 use Rattle.lrpar_conflict_examples.specs.Words.{line_text}
-use Rattle.lrpar_conflict_examples.proofs.ReadLemmas.{read_before, read_len, read_rest, rest_is}
+use Rattle.lrpar_conflict_examples.proofs.BeforeLemmas.{before_known, before_len, after_known, rest_is}
 use Rattle.lrpar_conflict_examples.proofs.text.push_text.Goals as goal
 
 pub rest_of-requires : goal.rest_of-requires
 rest_of-requires g c =
-    read_len g.StorageT.StorageIndex.index c.args.grm.now c.args.before.now c.deref.result.now (moves_in g.StorageT.StorageIndex.index c.args.moves.now) c.requires
+    before_len g.StorageT.StorageIndex.index c.args.grm.now c.args.before.now c.deref.result.now (moves_in g.StorageT.StorageIndex.index c.args.moves.now) c.requires
     (ap (token_numbers g.StorageT.StorageIndex.index) c.deref.ensures.value ∙ c.in_ok-text.ensures)
 
 pub push_line-requires-clause-before : goal.push_line-requires-clause-before
 push_line-requires-clause-before g c =
-    read_before c.args.grm.now c.start_prod-start.ensures.well_formed (token_numbers g.StorageT.StorageIndex.index c.args.before.now)
+    before_known c.args.grm.now c.start_prod-start.ensures.well_formed (token_numbers g.StorageT.StorageIndex.index c.args.before.now)
     (moves_in g.StorageT.StorageIndex.index c.args.moves.now) c.requires
 
 pub push_line-requires-clause-rest : goal.push_line-requires-clause-rest
 push_line-requires-clause-rest g c =
-    read_rest g.StorageT.StorageIndex.index c.args.grm.now c.start_prod-start.ensures.well_formed c.args.before.now c.deref.result.now c.rest_of.result.now
+    after_known g.StorageT.StorageIndex.index c.args.grm.now c.start_prod-start.ensures.well_formed c.args.before.now c.deref.result.now c.rest_of.result.now
     (moves_in g.StorageT.StorageIndex.index c.args.moves.now) c.requires (ap (token_numbers g.StorageT.StorageIndex.index) c.deref.ensures.value ∙ c.in_ok-text.ensures) c.rest_of.ensures
 
 pub returns : goal.returns

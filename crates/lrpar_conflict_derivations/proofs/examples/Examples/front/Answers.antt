@@ -6,7 +6,7 @@ use Rattle.lrpar_table_sentences.specs.Moves.{forest_moves, move_of, moves_in}
 use Rattle.lrpar_table_sentences.specs.Texts.{AreShortestTrees, HaveTrees}
 use Rattle.lrpar_table_sentences.specs.AccessStrings.{AreAccessStrings, IsShortestPath, StepOf, AccessOf, steps_of, symbols_in, access_at}
 use Rattle.lrpar_conflict_derivations.specs.Example.{ExamplesOf}
-use Rattle.lrpar_conflict_derivations.proofs.FrontLemmas.{front_done, some_way, way_trees}
+use Rattle.lrpar_conflict_derivations.proofs.FrontLemmas.{front_done, some_access, path_trees}
 use Rattle.lrpar_conflict_derivations.proofs.examples.Examples.front.Goals as goal
 
 pub push_all_moves-requires-clause-some : goal.push_all_moves-requires-clause-some
@@ -19,7 +19,7 @@ push_all_moves-requires-clause-some g c =
     let x = c.args.self.now in
     let well = c.start_prod-start.ensures.well_formed in
     let access : c.self.inside.access ≡ x.access = ap (λ (y : ExamplesOf). y.access) c.self.view_is in
-    let some = some_way grm graph table 18446744073709551615 well c.requires.built x c.requires.made s c.requires.state in
+    let some = some_access grm graph table 18446744073709551615 well c.requires.built x c.requires.made s c.requires.state in
     let kept = ap (λ (w : List (Option AccessOf)). access_at w s) access ∙ some.1 in
     let are = subst (λ (w : List (Option AccessOf)). AreAccessStrings grm graph table 18446744073709551615 w) (sym access) c.requires.made.access in
     let found = c.in_ok-push_path.ensures grm graph table are some.0 kept in
@@ -29,7 +29,7 @@ push_all_moves-requires-clause-some g c =
     let symbols : map (symbol_of index) c.deref-2.result.now ≡ symbols_in steps =
     ap (map (symbol_of index)) c.deref-2.ensures.value ∙ c.in_ok-symbols.ensures ∙ ap (λ xs. symbols_in (steps_of index xs)) c.deref.ensures.value in
     let closed = c.states_len-states.ensures.closed in
-    subst (HaveTrees grm) (sym symbols) (way_trees grm graph table 18446744073709551615 well c.requires.built x c.requires.made s c.requires.state closed steps path)
+    subst (HaveTrees grm) (sym symbols) (path_trees grm graph table 18446744073709551615 well c.requires.built x c.requires.made s c.requires.state closed steps path)
 
 pub returns : goal.returns
 returns g c =
@@ -41,7 +41,7 @@ returns g c =
     let x = c.args.self.now in
     let well = c.start_prod-start.ensures.well_formed in
     let access : c.self.inside.access ≡ x.access = ap (λ (y : ExamplesOf). y.access) c.self.view_is in
-    let some = some_way grm graph table 18446744073709551615 well c.requires.built x c.requires.made s c.requires.state in
+    let some = some_access grm graph table 18446744073709551615 well c.requires.built x c.requires.made s c.requires.state in
     let kept = ap (λ (w : List (Option AccessOf)). access_at w s) access ∙ some.1 in
     let are = subst (λ (w : List (Option AccessOf)). AreAccessStrings grm graph table 18446744073709551615 w) (sym access) c.requires.made.access in
     let found = c.in_ok-push_path.ensures grm graph table are some.0 kept in

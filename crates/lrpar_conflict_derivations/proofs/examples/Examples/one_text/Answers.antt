@@ -5,18 +5,18 @@ use Rattle.lrpar_table_sentences.specs.AccessStrings.{steps_of}
 use Rattle.lrpar_conflict_derivations.specs.Example.{ExamplesOf, IsShortestFront}
 use Rattle.lrpar_conflict_derivations.proofs.examples.Examples.one_text.Goals as goal
 
-pub unify-requires : goal.unify-requires
-unify-requires g c =
+pub find_unifying-requires : goal.find_unifying-requires
+find_unifying-requires g c =
     subst (λ (w : List (Option ChoiceOf)). AreShortest c.args.grm.now 18446744073709551615 w)
     (sym (ap (λ (x : ExamplesOf). x.shortest) c.self.view_is)) c.requires.made.shortest
 
-pub confirmed-requires-clause-shortest : goal.confirmed-requires-clause-shortest
-confirmed-requires-clause-shortest g c =
+pub validated-requires-clause-shortest : goal.validated-requires-clause-shortest
+validated-requires-clause-shortest g c =
     subst (λ (w : List (Option ChoiceOf)). AreShortest c.args.grm.now 18446744073709551615 w)
     (sym (ap (λ (x : ExamplesOf). x.shortest) c.self.view_is)) c.requires.made.shortest
 
-pub confirmed-requires-clause-front : goal.confirmed-requires-clause-front
-confirmed-requires-clause-front g c =
+pub validated-requires-clause-front : goal.validated-requires-clause-front
+validated-requires-clause-front g c =
     let index = g.StorageT.StorageIndex.index in
     let steps = steps_of index c.args.front.now.steps.items in (
       steps,

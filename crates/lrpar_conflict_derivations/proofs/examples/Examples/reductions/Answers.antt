@@ -5,15 +5,15 @@ use Rattle.lrpar_table_sentences.specs.Choices.{AreShortest, ChoiceOf}
 use Rattle.lrpar_table_sentences.specs.Moves.{Makes, moves_in}
 use Rattle.lrpar_table_sentences.specs.Texts.{AreTreesOf}
 use Rattle.lrpar_table_sentences.specs.AccessStrings.{steps_of, symbols_in}
-use Rattle.lrpar_conflict_derivations.specs.Climbing.{IsWay}
+use Rattle.lrpar_conflict_derivations.specs.Completion.{IsAccessPath}
 use Rattle.lrpar_conflict_derivations.specs.Example.{ExamplesOf, IsExample}
-use Rattle.lrpar_conflict_derivations.specs.Texts.{takes_in}
-use Rattle.lrpar_conflict_derivations.proofs.ExampleLemmas.{Reads, complete_known, plain_done, nodes_differ}
+use Rattle.lrpar_conflict_derivations.specs.Texts.{tokens_in}
+use Rattle.lrpar_conflict_derivations.proofs.ExampleLemmas.{Derives, complete_known, plain_done, nodes_differ}
 use Rattle.lrpar_conflict_derivations.proofs.OkLemmas.{IfOk-five}
 use Rattle.lrpar_conflict_derivations.proofs.examples.Examples.reductions.Goals as goal
 
-pub making-requires-clause-firsts : goal.making-requires-clause-firsts
-making-requires-clause-firsts g c =
+pub derive_by_reduce-requires-clause-firsts : goal.derive_by_reduce-requires-clause-firsts
+derive_by_reduce-requires-clause-firsts g c =
     let index = g.StorageT.StorageIndex.index in
     let grm = c.args.grm.now in
     let graph = c.args.sgraph.now in
@@ -26,8 +26,8 @@ making-requires-clause-firsts g c =
     let q = index conflict.2.0 in
     subst (AreFirsts grm) (sym (ap rows_of c.deref.ensures.value ∙ ap (λ (x : ExamplesOf). x.firsts) c.self.view_is)) c.requires.made.firsts
 
-pub making-requires-clause-shortest : goal.making-requires-clause-shortest
-making-requires-clause-shortest g c =
+pub derive_by_reduce-requires-clause-shortest : goal.derive_by_reduce-requires-clause-shortest
+derive_by_reduce-requires-clause-shortest g c =
     let index = g.StorageT.StorageIndex.index in
     let grm = c.args.grm.now in
     let graph = c.args.sgraph.now in
@@ -40,8 +40,8 @@ making-requires-clause-shortest g c =
     let q = index conflict.2.0 in
     subst (λ (w : List (Option ChoiceOf)). AreShortest grm 18446744073709551615 w) (sym (ap (λ (x : ExamplesOf). x.shortest) c.self.view_is)) c.requires.made.shortest
 
-pub making-requires-clause-token : goal.making-requires-clause-token
-making-requires-clause-token g c =
+pub derive_by_reduce-requires-clause-token : goal.derive_by_reduce-requires-clause-token
+derive_by_reduce-requires-clause-token g c =
     let index = g.StorageT.StorageIndex.index in
     let grm = c.args.grm.now in
     let graph = c.args.sgraph.now in
@@ -54,8 +54,8 @@ making-requires-clause-token g c =
     let q = index conflict.2.0 in
     facts.1
 
-pub making-requires-clause-way : goal.making-requires-clause-way
-making-requires-clause-way g c =
+pub derive_by_reduce-requires-clause-access_path : goal.derive_by_reduce-requires-clause-access_path
+derive_by_reduce-requires-clause-access_path g c =
     let index = g.StorageT.StorageIndex.index in
     let grm = c.args.grm.now in
     let graph = c.args.sgraph.now in
@@ -66,10 +66,10 @@ making-requires-clause-way g c =
     let t = index conflict.0.0 in
     let p = index conflict.1.0 in
     let q = index conflict.2.0 in
-    subst (λ xs. IsWay grm graph (steps_of index xs) s) (sym c.deref-2.ensures.value) c.requires.front.front.way
+    subst (λ xs. IsAccessPath grm graph (steps_of index xs) s) (sym c.deref-2.ensures.value) c.requires.front.front.access_path
 
-pub making-requires-clause-prod : goal.making-requires-clause-prod
-making-requires-clause-prod g c =
+pub derive_by_reduce-requires-clause-prod : goal.derive_by_reduce-requires-clause-prod
+derive_by_reduce-requires-clause-prod g c =
     let index = g.StorageT.StorageIndex.index in
     let grm = c.args.grm.now in
     let graph = c.args.sgraph.now in
@@ -82,8 +82,8 @@ making-requires-clause-prod g c =
     let q = index conflict.2.0 in
     complete_known grm well graph c.requires.built.canonical s p t facts.0 facts.2.0.0.1
 
-pub making-requires-clause-listed : goal.making-requires-clause-listed
-making-requires-clause-listed g c =
+pub derive_by_reduce-requires-clause-listed : goal.derive_by_reduce-requires-clause-listed
+derive_by_reduce-requires-clause-listed g c =
     let index = g.StorageT.StorageIndex.index in
     let grm = c.args.grm.now in
     let graph = c.args.sgraph.now in
@@ -96,8 +96,8 @@ making-requires-clause-listed g c =
     let q = index conflict.2.0 in
     facts.2.0.0.0
 
-pub making-requires-clause-item : goal.making-requires-clause-item
-making-requires-clause-item g c =
+pub derive_by_reduce-requires-clause-item : goal.derive_by_reduce-requires-clause-item
+derive_by_reduce-requires-clause-item g c =
     let index = g.StorageT.StorageIndex.index in
     let grm = c.args.grm.now in
     let graph = c.args.sgraph.now in
@@ -110,8 +110,8 @@ making-requires-clause-item g c =
     let q = index conflict.2.0 in
     facts.2.0.0.1
 
-pub making-requires-2-clause-firsts : goal.making-requires-2-clause-firsts
-making-requires-2-clause-firsts g c =
+pub derive_by_reduce-requires-2-clause-firsts : goal.derive_by_reduce-requires-2-clause-firsts
+derive_by_reduce-requires-2-clause-firsts g c =
     let index = g.StorageT.StorageIndex.index in
     let grm = c.args.grm.now in
     let graph = c.args.sgraph.now in
@@ -124,8 +124,8 @@ making-requires-2-clause-firsts g c =
     let q = index conflict.2.0 in
     subst (AreFirsts grm) (sym (ap rows_of c.deref-4.ensures.value ∙ ap (λ (x : ExamplesOf). x.firsts) c.self.view_is)) c.requires.made.firsts
 
-pub making-requires-2-clause-shortest : goal.making-requires-2-clause-shortest
-making-requires-2-clause-shortest g c =
+pub derive_by_reduce-requires-2-clause-shortest : goal.derive_by_reduce-requires-2-clause-shortest
+derive_by_reduce-requires-2-clause-shortest g c =
     let index = g.StorageT.StorageIndex.index in
     let grm = c.args.grm.now in
     let graph = c.args.sgraph.now in
@@ -138,8 +138,8 @@ making-requires-2-clause-shortest g c =
     let q = index conflict.2.0 in
     subst (λ (w : List (Option ChoiceOf)). AreShortest grm 18446744073709551615 w) (sym (ap (λ (x : ExamplesOf). x.shortest) c.self.view_is)) c.requires.made.shortest
 
-pub making-requires-2-clause-token : goal.making-requires-2-clause-token
-making-requires-2-clause-token g c =
+pub derive_by_reduce-requires-2-clause-token : goal.derive_by_reduce-requires-2-clause-token
+derive_by_reduce-requires-2-clause-token g c =
     let index = g.StorageT.StorageIndex.index in
     let grm = c.args.grm.now in
     let graph = c.args.sgraph.now in
@@ -152,8 +152,8 @@ making-requires-2-clause-token g c =
     let q = index conflict.2.0 in
     facts.1
 
-pub making-requires-2-clause-way : goal.making-requires-2-clause-way
-making-requires-2-clause-way g c =
+pub derive_by_reduce-requires-2-clause-access_path : goal.derive_by_reduce-requires-2-clause-access_path
+derive_by_reduce-requires-2-clause-access_path g c =
     let index = g.StorageT.StorageIndex.index in
     let grm = c.args.grm.now in
     let graph = c.args.sgraph.now in
@@ -164,10 +164,10 @@ making-requires-2-clause-way g c =
     let t = index conflict.0.0 in
     let p = index conflict.1.0 in
     let q = index conflict.2.0 in
-    subst (λ xs. IsWay grm graph (steps_of index xs) s) (sym c.deref-5.ensures.value) c.requires.front.front.way
+    subst (λ xs. IsAccessPath grm graph (steps_of index xs) s) (sym c.deref-5.ensures.value) c.requires.front.front.access_path
 
-pub making-requires-2-clause-prod : goal.making-requires-2-clause-prod
-making-requires-2-clause-prod g c =
+pub derive_by_reduce-requires-2-clause-prod : goal.derive_by_reduce-requires-2-clause-prod
+derive_by_reduce-requires-2-clause-prod g c =
     let index = g.StorageT.StorageIndex.index in
     let grm = c.args.grm.now in
     let graph = c.args.sgraph.now in
@@ -180,8 +180,8 @@ making-requires-2-clause-prod g c =
     let q = index conflict.2.0 in
     complete_known grm well graph c.requires.built.canonical s q t facts.0 facts.2.1.1
 
-pub making-requires-2-clause-listed : goal.making-requires-2-clause-listed
-making-requires-2-clause-listed g c =
+pub derive_by_reduce-requires-2-clause-listed : goal.derive_by_reduce-requires-2-clause-listed
+derive_by_reduce-requires-2-clause-listed g c =
     let index = g.StorageT.StorageIndex.index in
     let grm = c.args.grm.now in
     let graph = c.args.sgraph.now in
@@ -194,8 +194,8 @@ making-requires-2-clause-listed g c =
     let q = index conflict.2.0 in
     facts.2.1.0
 
-pub making-requires-2-clause-item : goal.making-requires-2-clause-item
-making-requires-2-clause-item g c =
+pub derive_by_reduce-requires-2-clause-item : goal.derive_by_reduce-requires-2-clause-item
+derive_by_reduce-requires-2-clause-item g c =
     let index = g.StorageT.StorageIndex.index in
     let grm = c.args.grm.now in
     let graph = c.args.sgraph.now in
@@ -225,18 +225,18 @@ returns-clause-example g c =
     let moves = moves_in index front.moves.items in
     let first = moves_in index c.in_ok-first.first.items in
     let second = moves_in index c.in_ok-second.second.items in
-    let reads_one : Reads grm steps t moves (Makes p) first =
+    let derives_one : Derives grm steps t moves (Makes p) first =
     λ trees fit are.
     c.in_ok-first.ensures trees (subst (λ xs. AreTreesOf grm (symbols_in (steps_of index xs)) trees) (sym c.deref-2.ensures.value) fit)
     (ap (moves_in index) c.deref-3.ensures.value ∙ are) in
-    let reads_other : Reads grm steps t moves (Makes q) second =
+    let derives_other : Derives grm steps t moves (Makes q) second =
     λ trees fit are.
     c.in_ok-second.ensures trees (subst (λ xs. AreTreesOf grm (symbols_in (steps_of index xs)) trees) (sym c.deref-5.ensures.value) fit)
     (ap (moves_in index) c.deref-6.ensures.value ∙ are) in
-    let before = ap (λ xs. takes_in (moves_in index xs)) c.deref-7.ensures.value in
+    let before = ap (λ xs. tokens_in (moves_in index xs)) c.deref-7.ensures.value in
     let made = c.new.ensures in
     IfOk-five c.new.result _ _ _ _ _ (IsExample grm graph s t (Makes p) (Makes q))
     (λ x before_is first_is second_is same short.
-    plain_done grm graph s t steps moves first second (Makes p) (Makes q) x (nodes_differ p q facts.2.2) c.requires.front reads_one reads_other
+    plain_done grm graph s t steps moves first second (Makes p) (Makes q) x (nodes_differ p q facts.2.2) c.requires.front derives_one derives_other
     (before_is ∙ before) first_is second_is same short)
     made.before made.first made.second made.ambiguous made.shortest

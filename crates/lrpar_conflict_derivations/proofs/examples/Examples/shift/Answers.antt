@@ -5,15 +5,15 @@ use Rattle.lrpar_table_sentences.specs.Choices.{AreShortest, ChoiceOf}
 use Rattle.lrpar_table_sentences.specs.Moves.{Makes, Takes, moves_in}
 use Rattle.lrpar_table_sentences.specs.Texts.{AreTreesOf}
 use Rattle.lrpar_table_sentences.specs.AccessStrings.{steps_of, symbols_in}
-use Rattle.lrpar_conflict_derivations.specs.Climbing.{IsWay}
+use Rattle.lrpar_conflict_derivations.specs.Completion.{IsAccessPath}
 use Rattle.lrpar_conflict_derivations.specs.Example.{ExamplesOf, IsExample}
-use Rattle.lrpar_conflict_derivations.specs.Texts.{takes_in}
-use Rattle.lrpar_conflict_derivations.proofs.ExampleLemmas.{Reads, complete_known, plain_done, node_and_token}
+use Rattle.lrpar_conflict_derivations.specs.Texts.{tokens_in}
+use Rattle.lrpar_conflict_derivations.proofs.ExampleLemmas.{Derives, complete_known, plain_done, node_and_token}
 use Rattle.lrpar_conflict_derivations.proofs.OkLemmas.{IfOk-five}
 use Rattle.lrpar_conflict_derivations.proofs.examples.Examples.shift.Goals as goal
 
-pub making-requires-clause-firsts : goal.making-requires-clause-firsts
-making-requires-clause-firsts g c =
+pub derive_by_reduce-requires-clause-firsts : goal.derive_by_reduce-requires-clause-firsts
+derive_by_reduce-requires-clause-firsts g c =
     let index = g.StorageT.StorageIndex.index in
     let grm = c.args.grm.now in
     let graph = c.args.sgraph.now in
@@ -25,8 +25,8 @@ making-requires-clause-firsts g c =
     let p = index conflict.1.0 in
     subst (AreFirsts grm) (sym (ap rows_of c.deref.ensures.value ∙ ap (λ (x : ExamplesOf). x.firsts) c.self.view_is)) c.requires.made.firsts
 
-pub making-requires-clause-shortest : goal.making-requires-clause-shortest
-making-requires-clause-shortest g c =
+pub derive_by_reduce-requires-clause-shortest : goal.derive_by_reduce-requires-clause-shortest
+derive_by_reduce-requires-clause-shortest g c =
     let index = g.StorageT.StorageIndex.index in
     let grm = c.args.grm.now in
     let graph = c.args.sgraph.now in
@@ -38,8 +38,8 @@ making-requires-clause-shortest g c =
     let p = index conflict.1.0 in
     subst (λ (w : List (Option ChoiceOf)). AreShortest grm 18446744073709551615 w) (sym (ap (λ (x : ExamplesOf). x.shortest) c.self.view_is)) c.requires.made.shortest
 
-pub making-requires-clause-token : goal.making-requires-clause-token
-making-requires-clause-token g c =
+pub derive_by_reduce-requires-clause-token : goal.derive_by_reduce-requires-clause-token
+derive_by_reduce-requires-clause-token g c =
     let index = g.StorageT.StorageIndex.index in
     let grm = c.args.grm.now in
     let graph = c.args.sgraph.now in
@@ -51,8 +51,8 @@ making-requires-clause-token g c =
     let p = index conflict.1.0 in
     facts.1
 
-pub making-requires-clause-way : goal.making-requires-clause-way
-making-requires-clause-way g c =
+pub derive_by_reduce-requires-clause-access_path : goal.derive_by_reduce-requires-clause-access_path
+derive_by_reduce-requires-clause-access_path g c =
     let index = g.StorageT.StorageIndex.index in
     let grm = c.args.grm.now in
     let graph = c.args.sgraph.now in
@@ -62,10 +62,10 @@ making-requires-clause-way g c =
     let s = index conflict.2.0 in
     let t = index conflict.0.0 in
     let p = index conflict.1.0 in
-    subst (λ xs. IsWay grm graph (steps_of index xs) s) (sym c.deref-2.ensures.value) c.requires.front.front.way
+    subst (λ xs. IsAccessPath grm graph (steps_of index xs) s) (sym c.deref-2.ensures.value) c.requires.front.front.access_path
 
-pub making-requires-clause-prod : goal.making-requires-clause-prod
-making-requires-clause-prod g c =
+pub derive_by_reduce-requires-clause-prod : goal.derive_by_reduce-requires-clause-prod
+derive_by_reduce-requires-clause-prod g c =
     let index = g.StorageT.StorageIndex.index in
     let grm = c.args.grm.now in
     let graph = c.args.sgraph.now in
@@ -77,8 +77,8 @@ making-requires-clause-prod g c =
     let p = index conflict.1.0 in
     complete_known grm well graph c.requires.built.canonical s p t facts.0 facts.2.1.0.1
 
-pub making-requires-clause-listed : goal.making-requires-clause-listed
-making-requires-clause-listed g c =
+pub derive_by_reduce-requires-clause-listed : goal.derive_by_reduce-requires-clause-listed
+derive_by_reduce-requires-clause-listed g c =
     let index = g.StorageT.StorageIndex.index in
     let grm = c.args.grm.now in
     let graph = c.args.sgraph.now in
@@ -90,8 +90,8 @@ making-requires-clause-listed g c =
     let p = index conflict.1.0 in
     facts.2.1.0.0
 
-pub making-requires-clause-item : goal.making-requires-clause-item
-making-requires-clause-item g c =
+pub derive_by_reduce-requires-clause-item : goal.derive_by_reduce-requires-clause-item
+derive_by_reduce-requires-clause-item g c =
     let index = g.StorageT.StorageIndex.index in
     let grm = c.args.grm.now in
     let graph = c.args.sgraph.now in
@@ -103,8 +103,8 @@ making-requires-clause-item g c =
     let p = index conflict.1.0 in
     facts.2.1.0.1
 
-pub taking-requires-clause-firsts : goal.taking-requires-clause-firsts
-taking-requires-clause-firsts g c =
+pub derive_by_shift-requires-clause-firsts : goal.derive_by_shift-requires-clause-firsts
+derive_by_shift-requires-clause-firsts g c =
     let index = g.StorageT.StorageIndex.index in
     let grm = c.args.grm.now in
     let graph = c.args.sgraph.now in
@@ -116,8 +116,8 @@ taking-requires-clause-firsts g c =
     let p = index conflict.1.0 in
     subst (AreFirsts grm) (sym (ap rows_of c.deref-4.ensures.value ∙ ap (λ (x : ExamplesOf). x.firsts) c.self.view_is)) c.requires.made.firsts
 
-pub taking-requires-clause-shortest : goal.taking-requires-clause-shortest
-taking-requires-clause-shortest g c =
+pub derive_by_shift-requires-clause-shortest : goal.derive_by_shift-requires-clause-shortest
+derive_by_shift-requires-clause-shortest g c =
     let index = g.StorageT.StorageIndex.index in
     let grm = c.args.grm.now in
     let graph = c.args.sgraph.now in
@@ -129,8 +129,8 @@ taking-requires-clause-shortest g c =
     let p = index conflict.1.0 in
     subst (λ (w : List (Option ChoiceOf)). AreShortest grm 18446744073709551615 w) (sym (ap (λ (x : ExamplesOf). x.shortest) c.self.view_is)) c.requires.made.shortest
 
-pub taking-requires-clause-token : goal.taking-requires-clause-token
-taking-requires-clause-token g c =
+pub derive_by_shift-requires-clause-token : goal.derive_by_shift-requires-clause-token
+derive_by_shift-requires-clause-token g c =
     let index = g.StorageT.StorageIndex.index in
     let grm = c.args.grm.now in
     let graph = c.args.sgraph.now in
@@ -142,8 +142,8 @@ taking-requires-clause-token g c =
     let p = index conflict.1.0 in
     facts.1
 
-pub taking-requires-clause-way : goal.taking-requires-clause-way
-taking-requires-clause-way g c =
+pub derive_by_shift-requires-clause-access_path : goal.derive_by_shift-requires-clause-access_path
+derive_by_shift-requires-clause-access_path g c =
     let index = g.StorageT.StorageIndex.index in
     let grm = c.args.grm.now in
     let graph = c.args.sgraph.now in
@@ -153,10 +153,10 @@ taking-requires-clause-way g c =
     let s = index conflict.2.0 in
     let t = index conflict.0.0 in
     let p = index conflict.1.0 in
-    subst (λ xs. IsWay grm graph (steps_of index xs) s) (sym c.deref-5.ensures.value) c.requires.front.front.way
+    subst (λ xs. IsAccessPath grm graph (steps_of index xs) s) (sym c.deref-5.ensures.value) c.requires.front.front.access_path
 
-pub taking-requires-clause-last : goal.taking-requires-clause-last
-taking-requires-clause-last g c =
+pub derive_by_shift-requires-clause-last : goal.derive_by_shift-requires-clause-last
+derive_by_shift-requires-clause-last g c =
     let index = g.StorageT.StorageIndex.index in
     let grm = c.args.grm.now in
     let graph = c.args.sgraph.now in
@@ -168,8 +168,8 @@ taking-requires-clause-last g c =
     let p = index conflict.1.0 in
     facts.0
 
-pub taking-requires-clause-before : goal.taking-requires-clause-before
-taking-requires-clause-before g c =
+pub derive_by_shift-requires-clause-before : goal.derive_by_shift-requires-clause-before
+derive_by_shift-requires-clause-before g c =
     let index = g.StorageT.StorageIndex.index in
     let grm = c.args.grm.now in
     let graph = c.args.sgraph.now in
@@ -197,18 +197,18 @@ returns-clause-example g c =
     let moves = moves_in index front.moves.items in
     let first = moves_in index c.in_ok-first.first.items in
     let second = moves_in index c.in_ok-second.second.items in
-    let reads_one : Reads grm steps t moves (Makes p) first =
+    let derives_one : Derives grm steps t moves (Makes p) first =
     λ trees fit are.
     c.in_ok-first.ensures trees (subst (λ xs. AreTreesOf grm (symbols_in (steps_of index xs)) trees) (sym c.deref-2.ensures.value) fit)
     (ap (moves_in index) c.deref-3.ensures.value ∙ are) in
-    let reads_other : Reads grm steps t moves (Takes t) second =
+    let derives_other : Derives grm steps t moves (Takes t) second =
     λ trees fit are.
     c.in_ok-second.ensures trees (subst (λ xs. AreTreesOf grm (symbols_in (steps_of index xs)) trees) (sym c.deref-5.ensures.value) fit)
     (ap (moves_in index) c.deref-6.ensures.value ∙ are) in
-    let before = ap (λ xs. takes_in (moves_in index xs)) c.deref-7.ensures.value in
+    let before = ap (λ xs. tokens_in (moves_in index xs)) c.deref-7.ensures.value in
     let made = c.new.ensures in
     IfOk-five c.new.result _ _ _ _ _ (IsExample grm graph s t (Makes p) (Takes t))
     (λ x before_is first_is second_is same short.
-    plain_done grm graph s t steps moves first second (Makes p) (Takes t) x (node_and_token p t) c.requires.front reads_one reads_other
+    plain_done grm graph s t steps moves first second (Makes p) (Takes t) x (node_and_token p t) c.requires.front derives_one derives_other
     (before_is ∙ before) first_is second_is same short)
     made.before made.first made.second made.ambiguous made.shortest

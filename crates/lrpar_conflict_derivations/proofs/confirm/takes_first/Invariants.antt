@@ -1,8 +1,0 @@
-use Rattle.std.proofs.Common.{◌≡◌, [], take}
-use Rattle.lrpar_table_sentences.specs.Moves.{moves_in}
-use Rattle.lrpar_conflict_derivations.specs.Texts.{takes_in}
-use Rattle.lrpar_conflict_derivations.proofs.confirm.takes_first.Given as goal
-
--- no token is taken so far
-abbrev pub invariant-loop-step : goal.invariant-loop-step
-invariant-loop-step g l = takes_in (moves_in g.StorageT.StorageIndex.index (take l.step-index l.moves)) ≡ []

@@ -1,4 +1,0 @@
-use Rattle.lrpar_conflict_derivations.proofs.texts.push_text.Goals as goal
-
-pub push_moves-requires-clause-some : goal.push_moves-requires-clause-some
-push_moves-requires-clause-some g c = let some = (c.in-Some.ensures.shortest c.args.grm.now c.requires.shortest).some in (some.0, some.1)

@@ -1,0 +1,161 @@
+//! The access paths of a state, those with the shortest access strings first.
+
+use crate::context::Context;
+use crate::predecessors::Predecessor;
+use crate::priority_queue::{NONE, PriorityQueue};
+use crate::stacks::Stacks;
+use lrpar_grammar::span::{StIdx, StorageIndex, Symbol};
+use lrpar_table_sentences::access_strings::Step;
+use std::alloc::{AllocError, Global};
+
+// The end of an access path: a state, the symbol by which the path goes on from it, the number of the end that this symbol leads to, and
+// the length of the end's text.
+#[derive(Clone, Copy)]
+struct End<StorageT> {
+    state: StIdx<StorageT>,
+    symbol: Symbol<StorageT>,
+    toward: usize,
+    len: usize,
+}
+
+/// The ends of access paths to a state that were looked at. Those whose access strings may be shortest come first.
+#[derive(Drop)]
+pub(crate) struct AccessPaths<StorageT: StorageIndex> {
+    ends: Vec<End<StorageT>>,
+    queue: PriorityQueue,
+}
+
+impl<StorageT: StorageIndex> AccessPaths<StorageT> {
+    /// The state itself.
+    pub(crate) fn new(
+        alloc: Global,
+        context: &Context<'_, StorageT>,
+        state: StIdx<StorageT>,
+    ) -> Result<Self, AllocError> {
+        let mut paths = AccessPaths {
+            ends: Vec::new(alloc),
+            queue: PriorityQueue::new(alloc)?,
+        };
+        paths.add(
+            context,
+            End {
+                state,
+                symbol: Symbol::Rule(context.grm.start_rule_idx()),
+                toward: NONE,
+                len: 0,
+            },
+        )?;
+        Ok(paths)
+    }
+
+    /// The least length of an access string that may still be found, if there is one.
+    pub(crate) fn least(&self) -> Option<usize> {
+        self.queue.least()
+    }
+
+    /// Looks at one more end. If it is a whole access path, this is the level at its top, with the length of its text.
+    pub(crate) fn turn(
+        &mut self,
+        context: &Context<'_, StorageT>,
+        stacks: &mut Stacks<StorageT>,
+    ) -> Result<Option<(usize, usize)>, AllocError> {
+        let Some(number) = self.queue.pop() else {
+            return Ok(None);
+        };
+        let Some(end) = self.get(number) else {
+            return Ok(None);
+        };
+        if usize::from(end.state) == usize::from(context.table.start_state()) {
+            let level = self.walk(context, stacks, number)?;
+            return Ok(Some((level, end.len)));
+        }
+        self.extend(context, number, end)?;
+        Ok(None)
+    }
+
+    // The end with this number, if there is one.
+    fn get(&self, number: usize) -> Option<End<StorageT>> {
+        if number < self.ends.len() {
+            Some(self.ends[number])
+        } else {
+            None
+        }
+    }
+
+    // Adds an end, if its state has an access string. A symbol without tokens counts as one, so that no path goes round a cycle for free.
+    fn add(
+        &mut self,
+        context: &Context<'_, StorageT>,
+        end: End<StorageT>,
+    ) -> Result<(), AllocError> {
+        let key = context.len_to(end.state).saturating_add(end.len);
+        if key != NONE {
+            self.ends.push(end)?;
+            self.queue.add(key)?;
+        }
+        Ok(())
+    }
+
+    // Adds the ends that are longer by one step.
+    fn extend(
+        &mut self,
+        context: &Context<'_, StorageT>,
+        toward: usize,
+        end: End<StorageT>,
+    ) -> Result<(), AllocError> {
+        let mut number = context.predecessors.first(end.state);
+        for _ in 0..context.predecessors.len() {
+            let Some(predecessor) = context.predecessors.get(number) else {
+                return Ok(());
+            };
+            let Predecessor { step, next } = predecessor;
+            self.add_before(context, toward, end.len, step)?;
+            number = next;
+        }
+        Ok(())
+    }
+
+    // Adds the end that is longer by this step.
+    fn add_before(
+        &mut self,
+        context: &Context<'_, StorageT>,
+        toward: usize,
+        len: usize,
+        step: Step<StorageT>,
+    ) -> Result<(), AllocError> {
+        let Step { from, symbol } = step;
+        let own = context.len_of(symbol).max(1);
+        let len = len.saturating_add(own);
+        self.add(
+            context,
+            End {
+                state: from,
+                symbol,
+                toward,
+                len,
+            },
+        )
+    }
+
+    // The level at the top of the access path.
+    fn walk(
+        &self,
+        context: &Context<'_, StorageT>,
+        stacks: &mut Stacks<StorageT>,
+        number: usize,
+    ) -> Result<usize, AllocError> {
+        let mut number = number;
+        let mut level = 0;
+        for _ in 0..self.ends.len() {
+            let Some(end) = self.get(number) else {
+                return Ok(level);
+            };
+            let Some(next) = self.get(end.toward) else {
+                return Ok(level);
+            };
+            level = stacks.push(context, level, end.symbol, next.state)?;
+            number = end.toward;
+        }
+        Ok(level)
+    }
+}

@@ -1,0 +1,345 @@
+//! Why a state has the items that come by closure: for each of their rules, an item with the rule after its dot.
+ghost use Rattle.std.specs.Prelude.{◌≡◌, ◌<◌, ◌≤◌, ◌⊎◌, ℕ, [], IfOk, OnOk, false, true, length};
+ghost use Rattle.lrpar_grammar.specs.Grammar.{IsWellFormed, prod_len, prods_len, rules_len, start_prod};
+ghost use Rattle.lrpar_table_rows.specs.Graph.{HasCore, graph_len};
+ghost use Rattle.lrpar_table_first.specs.FirstRows.{AreFirsts, dummy_lookahead, rows_of};
+ghost use Rattle.lrpar_grammar.specs.Tokens.{has};
+ghost use Rattle.lrpar_table_items.specs.Canonical.{IsCanonical, sets_of};
+ghost use Rattle.std.specs.Bool.{OnFalse, OnTrue};
+ghost use Rattle.lrpar_conflict_derivations.specs.ClosureLinks.{AreKernelItemsNoted, AreLinks, AreMarks, AreNoted, AreNotedOf, ArePut, HasLink, IsKernelLink, IsLinkBelow, IsNotedCore, IsStep, LinkRule, link_of, links_of};
+
+use crate::begins::can_begin;
+use lrpar_grammar::grammar::YaccGrammar;
+use lrpar_grammar::span::{PIdx, RIdx, StIdx, StorageIndex, TIdx};
+use lrpar_grammar::token_set::TokenSet;
+use lrpar_table_first::after_dot::rule_after;
+use lrpar_table_rows::table::StateGraph;
+use std::alloc::{AllocError, Global};
+
+/// Why a state has items of a rule with the dot at the front: the rule comes after the dot of another item.
+#[derive(Clone, Copy, Debug)]
+pub(crate) struct Link<StorageT> {
+    /// The rule.
+    pub(crate) rule: RIdx<StorageT>,
+    /// Whether the items have the token that is asked for as lookahead.
+    pub(crate) asked: bool,
+    /// The production and the dot that the rule comes after.
+    pub(crate) prod: PIdx<StorageT>,
+    pub(crate) dot: usize,
+    /// Whether the token is asked for there, too.
+    pub(crate) further: bool,
+    /// If the dot is at the front, the number of the link of that production's rule.
+    pub(crate) above: usize,
+}
+
+/// The links that were found, and which rules have one: one for any lookahead, and one for the token.
+#[derive(Drop)]
+struct Found<StorageT> {
+    links: Vec<Link<StorageT>>,
+    any: Vec<bool>,
+    asked: Vec<bool>,
+}
+
+/// Links of rules of items that the state has by closure, found from the kernel items on, until one of this rule is among them. Each comes
+/// from a kernel item or from an item of an earlier link's rule.
+pub(crate) fn links_to<StorageT: StorageIndex>(
+    alloc: Global,
+    grm: &YaccGrammar<StorageT>,
+    firsts: &[TokenSet],
+    graph: &StateGraph<StorageT>,
+    state: StIdx<StorageT>,
+    token: TIdx<StorageT>,
+    rule: RIdx<StorageT>,
+    asked: bool,
+) -> Result<Vec<Link<StorageT>>, AllocError>
+    requires firsts { AreFirsts grm.now (rows_of firsts.now) }
+    requires canonical { IsCanonical grm.now graph.now }
+    requires state { StorageT.index state.0 < graph_len graph.now }
+    requires token { StorageT.index token.0 < dummy_lookahead grm.now }
+    requires rule { StorageT.index rule.0 < rules_len grm.now }
+    ensures links { IfOk result (λ links. AreLinks grm.now (sets_of graph.now (StorageT.index state.0)) (StorageT.index token.0)
+        (links_of StorageT.index links.items)) }
+    ensures linked { IfOk result (λ links. LinkRule grm.now (sets_of graph.now (StorageT.index state.0)) (StorageT.index token.0)
+        (links_of StorageT.index links.items) (StorageT.index rule.0) asked) }
+{
+    let _start = grm.start_prod();
+    let mut found = nothing_found(alloc, grm.rules_len())?;
+    note_kernel(grm, firsts, graph, state, token, &mut found)?;
+    let mut at = 0;
+    'links: while goes_on(&found, at, rule, asked) {
+        let link = found.links[at];
+        note_rule(grm, firsts, token, link, at, &mut found)?;
+        at += 1;
+    }
+    let Found {
+        links,
+        any: _,
+        asked: _,
+    } = found;
+    Ok(links)
+}
+
+// Whether there are links from this number on, and none yet of the rule.
+fn goes_on<StorageT: StorageIndex>(
+    found: &Found<StorageT>,
+    at: usize,
+    rule: RIdx<StorageT>,
+    asked: bool,
+) -> bool
+    requires marks { AreMarks (length found.now.any.items) (links_of StorageT.index found.now.links.items) found.now.any.items found.now.asked.items }
+    requires rule { StorageT.index rule.0 < length found.now.any.items }
+    ensures more { OnTrue result (at < length found.now.links.items) }
+    ensures done { OnFalse result ((length found.now.links.items ≤ at)
+        ⊎ HasLink (links_of StorageT.index found.now.links.items) asked (StorageT.index rule.0)) }
+{
+    if is_linked(found, rule, asked) {
+        return false;
+    }
+    at < found.links.len()
+}
+
+// Whether there is a link of the rule.
+fn is_linked<StorageT: StorageIndex>(
+    found: &Found<StorageT>,
+    rule: RIdx<StorageT>,
+    asked: bool,
+) -> bool
+    requires marks { AreMarks (length found.now.any.items) (links_of StorageT.index found.now.links.items) found.now.any.items found.now.asked.items }
+    requires rule { StorageT.index rule.0 < length found.now.any.items }
+    ensures { OnTrue result (HasLink (links_of StorageT.index found.now.links.items) asked (StorageT.index rule.0)) }
+{
+    if asked {
+        return found.asked[usize::from(rule)];
+    }
+    found.any[usize::from(rule)]
+}
+
+// No links, and no marks.
+fn nothing_found<StorageT: StorageIndex>(
+    alloc: Global,
+    rules: usize,
+) -> Result<Found<StorageT>, AllocError>
+    ensures none { IfOk result (λ found. links_of StorageT.index found.links.items ≡ []) }
+    ensures marks { IfOk result (λ found. AreMarks rules (links_of StorageT.index found.links.items) found.any.items found.asked.items) }
+{
+    Ok(Found {
+        links: Vec::new(alloc),
+        any: unmarked(alloc, rules)?,
+        asked: unmarked(alloc, rules)?,
+    })
+}
+
+// Marks for this number of rules, none of which is set.
+fn unmarked(alloc: Global, rules: usize) -> Result<Vec<bool>, AllocError>
+    ensures room { IfOk result (λ marks. length marks.items ≡ rules) }
+    ensures none { IfOk result (λ marks. (r : ℕ) → has marks.items r ≡ false) }
+{
+    vec![in alloc; false; rules]
+}
+
+// Links what comes by closure with the kernel items: those with a dot after a symbol, and the start item.
+fn note_kernel<StorageT: StorageIndex>(
+    grm: &YaccGrammar<StorageT>,
+    firsts: &[TokenSet],
+    graph: &StateGraph<StorageT>,
+    state: StIdx<StorageT>,
+    token: TIdx<StorageT>,
+    found: &mut Found<StorageT>,
+) -> Result<(), AllocError>
+    requires well_formed { IsWellFormed grm.now }
+    requires firsts { AreFirsts grm.now (rows_of firsts.now) }
+    requires canonical { IsCanonical grm.now graph.now }
+    requires state { StorageT.index state.0 < graph_len graph.now }
+    requires token { StorageT.index token.0 < dummy_lookahead grm.now }
+    requires marks { AreMarks (rules_len grm.now) (links_of StorageT.index found.old.links.items) found.old.any.items found.old.asked.items }
+    ensures marks { OnOk result (AreMarks (rules_len grm.now) (links_of StorageT.index found.new.links.items) found.new.any.items found.new.asked.items) }
+    ensures put { OnOk result (ArePut (IsKernelLink grm.now (sets_of graph.now (StorageT.index state.0)) (StorageT.index token.0))
+        (links_of StorageT.index found.old.links.items) (links_of StorageT.index found.new.links.items)) }
+    ensures noted { OnOk result (AreKernelItemsNoted grm.now (sets_of graph.now (StorageT.index state.0)) (StorageT.index token.0) (links_of StorageT.index found.new.links.items)) }
+{
+    note_start(grm, firsts, graph, state, token, found)?;
+    for core in graph.begun_cores(state) {
+        note_core(grm, firsts, graph, state, token, *core, found)?;
+    }
+    Ok(())
+}
+
+// Links what comes by closure with the start item, if the state has it.
+fn note_start<StorageT: StorageIndex>(
+    grm: &YaccGrammar<StorageT>,
+    firsts: &[TokenSet],
+    graph: &StateGraph<StorageT>,
+    state: StIdx<StorageT>,
+    token: TIdx<StorageT>,
+    found: &mut Found<StorageT>,
+) -> Result<(), AllocError>
+    requires well_formed { IsWellFormed grm.now }
+    requires firsts { AreFirsts grm.now (rows_of firsts.now) }
+    requires canonical { IsCanonical grm.now graph.now }
+    requires state { StorageT.index state.0 < graph_len graph.now }
+    requires token { StorageT.index token.0 < dummy_lookahead grm.now }
+    requires marks { AreMarks (rules_len grm.now) (links_of StorageT.index found.old.links.items) found.old.any.items found.old.asked.items }
+    ensures marks { OnOk result (AreMarks (rules_len grm.now) (links_of StorageT.index found.new.links.items) found.new.any.items found.new.asked.items) }
+    ensures put { OnOk result (ArePut (IsKernelLink grm.now (sets_of graph.now (StorageT.index state.0)) (StorageT.index token.0))
+        (links_of StorageT.index found.old.links.items) (links_of StorageT.index found.new.links.items)) }
+    ensures noted { OnOk result (IsNotedCore grm.now (sets_of graph.now (StorageT.index state.0)) (StorageT.index token.0)
+        (links_of StorageT.index found.new.links.items) (start_prod grm.now) 0) }
+{
+    let start = grm.start_prod();
+    if graph.has_core(state, start, 0) {
+        note_core(grm, firsts, graph, state, token, (start, 0), found)?;
+    }
+    Ok(())
+}
+
+// Links what comes by closure with one core: for any lookahead, and for the token, if it is one of the core's.
+fn note_core<StorageT: StorageIndex>(
+    grm: &YaccGrammar<StorageT>,
+    firsts: &[TokenSet],
+    graph: &StateGraph<StorageT>,
+    state: StIdx<StorageT>,
+    token: TIdx<StorageT>,
+    core: (PIdx<StorageT>, usize),
+    found: &mut Found<StorageT>,
+) -> Result<(), AllocError>
+    requires well_formed { IsWellFormed grm.now }
+    requires firsts { AreFirsts grm.now (rows_of firsts.now) }
+    requires canonical { IsCanonical grm.now graph.now }
+    requires state { StorageT.index state.0 < graph_len graph.now }
+    requires token { StorageT.index token.0 < dummy_lookahead grm.now }
+    requires marks { AreMarks (rules_len grm.now) (links_of StorageT.index found.old.links.items) found.old.any.items found.old.asked.items }
+    requires core { HasCore graph.now (StorageT.index state.0) (StorageT.index core.0.0) core.1 }
+    requires begun { (0 < core.1) ⊎ (StorageT.index core.0.0 ≡ start_prod grm.now) }
+    ensures marks { OnOk result (AreMarks (rules_len grm.now) (links_of StorageT.index found.new.links.items) found.new.any.items found.new.asked.items) }
+    ensures put { OnOk result (ArePut (IsKernelLink grm.now (sets_of graph.now (StorageT.index state.0)) (StorageT.index token.0))
+        (links_of StorageT.index found.old.links.items) (links_of StorageT.index found.new.links.items)) }
+    ensures noted { OnOk result (IsNotedCore grm.now (sets_of graph.now (StorageT.index state.0)) (StorageT.index token.0)
+        (links_of StorageT.index found.new.links.items) (StorageT.index core.0.0) core.1) }
+{
+    note(grm, firsts, token, core, false, 0, found)?;
+    if graph.has_item(state, core.0, core.1, token) {
+        note(grm, firsts, token, core, true, 0, found)?;
+    }
+    Ok(())
+}
+
+// Links what comes by closure with each production of the link's rule.
+fn note_rule<StorageT: StorageIndex>(
+    grm: &YaccGrammar<StorageT>,
+    firsts: &[TokenSet],
+    token: TIdx<StorageT>,
+    link: Link<StorageT>,
+    at: usize,
+    found: &mut Found<StorageT>,
+) -> Result<(), AllocError>
+    requires well_formed { IsWellFormed grm.now }
+    requires firsts { AreFirsts grm.now (rows_of firsts.now) }
+    requires token { StorageT.index token.0 < dummy_lookahead grm.now }
+    requires rule { StorageT.index link.rule.0 < rules_len grm.now }
+    requires marks { AreMarks (rules_len grm.now) (links_of StorageT.index found.old.links.items) found.old.any.items found.old.asked.items }
+    ensures marks { OnOk result (AreMarks (rules_len grm.now) (links_of StorageT.index found.new.links.items) found.new.any.items found.new.asked.items) }
+    ensures put { OnOk result (ArePut (IsLinkBelow grm.now (StorageT.index token.0) at (StorageT.index link.rule.0) link.asked)
+        (links_of StorageT.index found.old.links.items) (links_of StorageT.index found.new.links.items)) }
+    ensures noted { OnOk result (AreNotedOf grm.now (StorageT.index token.0) (links_of StorageT.index found.new.links.items)
+        (StorageT.index link.rule.0) link.asked) }
+{
+    for pidx in grm.rule_to_prods(link.rule) {
+        note(grm, firsts, token, (*pidx, 0), link.asked, at, found)?;
+    }
+    Ok(())
+}
+
+// Links what comes by closure with a core: the rule after its dot, if there is one.
+fn note<StorageT: StorageIndex>(
+    grm: &YaccGrammar<StorageT>,
+    firsts: &[TokenSet],
+    token: TIdx<StorageT>,
+    core: (PIdx<StorageT>, usize),
+    further: bool,
+    above: usize,
+    found: &mut Found<StorageT>,
+) -> Result<(), AllocError>
+    requires well_formed { IsWellFormed grm.now }
+    requires firsts { AreFirsts grm.now (rows_of firsts.now) }
+    requires token { StorageT.index token.0 < dummy_lookahead grm.now }
+    requires prod { StorageT.index core.0.0 < prods_len grm.now }
+    requires dot { core.1 ≤ prod_len grm.now (StorageT.index core.0.0) }
+    requires marks { AreMarks (rules_len grm.now) (links_of StorageT.index found.old.links.items) found.old.any.items found.old.asked.items }
+    ensures marks { OnOk result (AreMarks (rules_len grm.now) (links_of StorageT.index found.new.links.items) found.new.any.items found.new.asked.items) }
+    ensures put { OnOk result (ArePut (IsStep grm.now (StorageT.index token.0) (StorageT.index core.0.0) core.1 further above)
+        (links_of StorageT.index found.old.links.items) (links_of StorageT.index found.new.links.items)) }
+    ensures noted { OnOk result (AreNoted grm.now (StorageT.index token.0) (links_of StorageT.index found.new.links.items)
+        (StorageT.index core.0.0) core.1 further) }
+{
+    let dummy = grm.tokens_len();
+    let Some((rule, rest)) = rule_after(grm, core.0, core.1) else {
+        return Ok(());
+    };
+    let link = Link {
+        rule,
+        asked: further,
+        prod: core.0,
+        dot: core.1,
+        further,
+        above,
+    };
+    if further {
+        if can_begin(firsts, rest, dummy, dummy) {
+            add_asked(link, found)?;
+        }
+        return Ok(());
+    }
+    add_any(link, found)?;
+    if can_begin(firsts, rest, usize::from(token), dummy) {
+        add_asked(
+            Link {
+                asked: true,
+                ..link
+            },
+            found,
+        )?;
+    }
+    Ok(())
+}
+
+// Appends a link for any lookahead, unless there is one of its rule.
+fn add_any<StorageT: StorageIndex>(
+    link: Link<StorageT>,
+    found: &mut Found<StorageT>,
+) -> Result<(), AllocError>
+    requires asks { link.asked ≡ false }
+    requires rule { StorageT.index link.rule.0 < length found.old.any.items }
+    requires marks { AreMarks (length found.old.any.items) (links_of StorageT.index found.old.links.items) found.old.any.items found.old.asked.items }
+    ensures marks { OnOk result (AreMarks (length found.old.any.items) (links_of StorageT.index found.new.links.items) found.new.any.items found.new.asked.items) }
+    ensures put { OnOk result (ArePut (λ x. x ≡ link_of StorageT.index link) (links_of StorageT.index found.old.links.items)
+        (links_of StorageT.index found.new.links.items)) }
+    ensures linked { OnOk result (HasLink (links_of StorageT.index found.new.links.items) false (StorageT.index link.rule.0)) }
+{
+    let rule = usize::from(link.rule);
+    if !found.any[rule] {
+        found.links.push(link)?;
+        found.any[rule] = true;
+    }
+    Ok(())
+}
+
+// Appends a link for the token, unless there is one of its rule.
+fn add_asked<StorageT: StorageIndex>(
+    link: Link<StorageT>,
+    found: &mut Found<StorageT>,
+) -> Result<(), AllocError>
+    requires asks { link.asked ≡ true }
+    requires rule { StorageT.index link.rule.0 < length found.old.any.items }
+    requires marks { AreMarks (length found.old.any.items) (links_of StorageT.index found.old.links.items) found.old.any.items found.old.asked.items }
+    ensures marks { OnOk result (AreMarks (length found.old.any.items) (links_of StorageT.index found.new.links.items) found.new.any.items found.new.asked.items) }
+    ensures put { OnOk result (ArePut (λ x. x ≡ link_of StorageT.index link) (links_of StorageT.index found.old.links.items)
+        (links_of StorageT.index found.new.links.items)) }
+    ensures linked { OnOk result (HasLink (links_of StorageT.index found.new.links.items) true (StorageT.index link.rule.0)) }
+{
+    let rule = usize::from(link.rule);
+    if !found.asked[rule] {
+        found.links.push(link)?;
+        found.asked[rule] = true;
+    }
+    Ok(())
+}

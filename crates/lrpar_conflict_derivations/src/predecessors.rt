@@ -1,0 +1,115 @@
+//! The transitions into each state of a table.
+
+use crate::priority_queue::NONE;
+use lrpar_grammar::span::{StIdx, StorageIndex, Symbol};
+use lrpar_table_rows::table::{Action, StateTable};
+use lrpar_table_sentences::access_strings::Step;
+use std::alloc::{AllocError, Global};
+
+/// A step to a state, and the number of a further one to the same state.
+#[derive(Clone, Copy)]
+pub(crate) struct Predecessor<StorageT> {
+    pub(crate) step: Step<StorageT>,
+    pub(crate) next: usize,
+}
+
+/// The steps to each state.
+#[derive(Drop)]
+pub(crate) struct Predecessors<StorageT: StorageIndex> {
+    heads: Vec<usize>,
+    predecessors: Vec<Predecessor<StorageT>>,
+}
+
+impl<StorageT: StorageIndex> Predecessors<StorageT> {
+    /// Those of the table.
+    pub(crate) fn new(alloc: Global, table: &StateTable<StorageT>) -> Result<Self, AllocError> {
+        let states = table.states_len();
+        let mut heads = Vec::with_capacity(alloc, states)?;
+        for _ in 0..states {
+            heads.push(NONE)?;
+        }
+        let mut made = Predecessors {
+            heads,
+            predecessors: Vec::new(alloc),
+        };
+        for number in 0..states {
+            if let Some(state) = StorageT::from_index(number) {
+                made.push_from(table, StIdx(state))?;
+            }
+        }
+        Ok(made)
+    }
+
+    /// The number of the first step to the state, or none.
+    pub(crate) fn first(&self, state: StIdx<StorageT>) -> usize {
+        let number = usize::from(state);
+        if number < self.heads.len() {
+            self.heads[number]
+        } else {
+            NONE
+        }
+    }
+
+    /// How many steps there are.
+    pub(crate) fn len(&self) -> usize {
+        self.predecessors.len()
+    }
+
+    /// The step of the number, if there is one.
+    pub(crate) fn get(&self, number: usize) -> Option<Predecessor<StorageT>> {
+        if number < self.predecessors.len() {
+            Some(self.predecessors[number])
+        } else {
+            None
+        }
+    }
+
+    // Adds the steps from the state.
+    fn push_from(
+        &mut self,
+        table: &StateTable<StorageT>,
+        from: StIdx<StorageT>,
+    ) -> Result<(), AllocError> {
+        if usize::from(from) >= table.states_len() {
+            return Ok(());
+        }
+        let (tokens, actions) = table.actions_of(from);
+        for (place, token) in tokens.iter().enumerate() {
+            if place < actions.len() {
+                if let Action::Shift(to) = actions[place] {
+                    self.push(
+                        Step {
+                            from,
+                            symbol: Symbol::Token(*token),
+                        },
+                        to,
+                    )?;
+                }
+            }
+        }
+        let (rules, states) = table.gotos_of(from);
+        for (place, rule) in rules.iter().enumerate() {
+            if place < states.len() {
+                self.push(
+                    Step {
+                        from,
+                        symbol: Symbol::Rule(*rule),
+                    },
+                    states[place],
+                )?;
+            }
+        }
+        Ok(())
+    }
+
+    // Adds a step to the state.
+    fn push(&mut self, step: Step<StorageT>, to: StIdx<StorageT>) -> Result<(), AllocError> {
+        let number = usize::from(to);
+        if number < self.heads.len() {
+            let next = self.heads[number];
+            self.heads[number] = self.predecessors.len();
+            self.predecessors.push(Predecessor { step, next })?;
+        }
+        Ok(())
+    }
+}

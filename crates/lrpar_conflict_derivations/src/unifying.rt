@@ -1,0 +1,275 @@
+//! The search for a unifying counterexample, shortest texts first. Its result is validated by a replay.
+ghost use Rattle.lrpar_table_sentences.specs.Choices.{AreShortest};
+
+use crate::context::Context;
+use crate::minimal_sentences::{push_sentence, push_sentences};
+use crate::search::{Conflict, Origin, Search, Side, Turn};
+use crate::stacks::Stacks;
+use lrpar_grammar::span::{PIdx, StorageIndex, Symbol};
+use lrpar_table_sentences::access_strings::Step;
+use lrpar_table_sentences::moves::Move;
+use std::alloc::{AllocError, Global};
+
+/// The steps of an access path of the conflict's state, and the moves of two derivations after it.
+#[derive(Drop)]
+pub(crate) struct Unifying<StorageT> {
+    pub(crate) steps: Vec<Step<StorageT>>,
+    pub(crate) first: Vec<Move<StorageT>>,
+    pub(crate) second: Vec<Move<StorageT>>,
+}
+
+/// An access path of the conflict's state, and two derivations after it that begin with the conflict's moves and have one text, if some are
+/// found within this number of turns. Nothing is promised of them.
+pub(crate) fn find_unifying<StorageT: StorageIndex>(
+    alloc: Global,
+    context: &Context<'_, StorageT>,
+    conflict: &Conflict<StorageT>,
+    bound: usize,
+) -> Result<Option<Unifying<StorageT>>, AllocError>
+    requires { AreShortest context.now.grm.now usize.MAX context.now.shortest.now }
+{
+    let mut search = Search::new(alloc, context, conflict)?;
+    for _ in 0..bound {
+        match search.turn(context, conflict)? {
+            Turn::Found(number) => return Ok(Some(unifying_of(
+                alloc, context, conflict, &search, number,
+            )?)),
+            Turn::Further => {}
+            Turn::Over => return Ok(None),
+        }
+    }
+    Ok(None)
+}
+
+// The access path and the derivations of the configuration.
+fn unifying_of<StorageT: StorageIndex>(
+    alloc: Global,
+    context: &Context<'_, StorageT>,
+    conflict: &Conflict<StorageT>,
+    search: &Search<StorageT>,
+    number: usize,
+) -> Result<Unifying<StorageT>, AllocError>
+    requires { AreShortest context.now.grm.now usize.MAX context.now.shortest.now }
+{
+    let origins = origins_of(alloc, search, number)?;
+    let mut text = Unifying {
+        steps: Vec::new(alloc),
+        first: Vec::new(alloc),
+        second: Vec::new(alloc),
+    };
+    push_reduce(&mut text.first, conflict.one)?;
+    push_reduce(&mut text.second, conflict.other)?;
+    for origin in &origins {
+        push_origin(alloc, context, search, *origin, &mut text)?;
+    }
+    finish(
+        alloc,
+        context,
+        &search.stacks,
+        search.top(number),
+        &mut text,
+    )?;
+    Ok(text)
+}
+
+// How the configuration came about, from the access path on.
+fn origins_of<StorageT: StorageIndex>(
+    alloc: Global,
+    search: &Search<StorageT>,
+    number: usize,
+) -> Result<Vec<Origin<StorageT>>, AllocError> {
+    let mut origins = Vec::new(alloc);
+    let mut number = number;
+    for _ in 0..search.len() {
+        if let Some((origin, parent)) = search.origin(number) {
+            origins.push(origin)?;
+            number = parent;
+        }
+    }
+    origins.reverse();
+    Ok(origins)
+}
+
+// Appends the move, if it is a reduction.
+fn push_reduce<StorageT: StorageIndex>(
+    out: &mut Vec<Move<StorageT>>,
+    next: Move<StorageT>,
+) -> Result<(), AllocError> {
+    if let Move::Make(_) = next {
+        out.push(next)?;
+    }
+    Ok(())
+}
+
+// Appends the moves by which a configuration came about.
+fn push_origin<StorageT: StorageIndex>(
+    alloc: Global,
+    context: &Context<'_, StorageT>,
+    search: &Search<StorageT>,
+    origin: Origin<StorageT>,
+    text: &mut Unifying<StorageT>,
+) -> Result<(), AllocError>
+    requires { AreShortest context.now.grm.now usize.MAX context.now.shortest.now }
+{
+    match origin {
+        Origin::Start(level) => push_steps(&search.stacks, level, &mut text.steps),
+        Origin::Reduced(Side::First, prod) => Ok(text.first.push(Move::Make(prod))?),
+        Origin::Reduced(Side::Second, prod) => Ok(text.second.push(Move::Make(prod))?),
+        Origin::Both(symbol) => push_symbol(alloc, context, symbol, text),
+    }
+}
+
+// Appends the steps from the bottom to the level.
+fn push_steps<StorageT: StorageIndex>(
+    stacks: &Stacks<StorageT>,
+    level: usize,
+    steps: &mut Vec<Step<StorageT>>,
+) -> Result<(), AllocError> {
+    let mut level = level;
+    for _ in 0..stacks.len() {
+        if let Some((step, below)) = step_to(stacks, level) {
+            steps.push(step)?;
+            level = below;
+        }
+    }
+    steps.reverse();
+    Ok(())
+}
+
+// The step to the level, and the level that it goes from, if there is one.
+fn step_to<StorageT: StorageIndex>(
+    stacks: &Stacks<StorageT>,
+    level: usize,
+) -> Option<(Step<StorageT>, usize)> {
+    let own = stacks.get(level)?;
+    let below = stacks.get(own.below)?;
+    let step = Step {
+        from: below.state,
+        symbol: own.symbol,
+    };
+    Some((step, own.below))
+}
+
+// Appends a minimal sentence of the symbol to both derivations.
+fn push_symbol<StorageT: StorageIndex>(
+    alloc: Global,
+    context: &Context<'_, StorageT>,
+    symbol: Symbol<StorageT>,
+    text: &mut Unifying<StorageT>,
+) -> Result<(), AllocError>
+    requires { AreShortest context.now.grm.now usize.MAX context.now.shortest.now }
+{
+    push_sentence(
+        alloc,
+        context.grm,
+        context.shortest,
+        symbol,
+        &mut text.first,
+    )?;
+    push_sentence(
+        alloc,
+        context.grm,
+        context.shortest,
+        symbol,
+        &mut text.second,
+    )
+}
+
+// Appends minimal sentences of the symbols to both derivations.
+fn push_both<StorageT: StorageIndex>(
+    alloc: Global,
+    context: &Context<'_, StorageT>,
+    symbols: &[Symbol<StorageT>],
+    text: &mut Unifying<StorageT>,
+) -> Result<(), AllocError>
+    requires { AreShortest context.now.grm.now usize.MAX context.now.shortest.now }
+{
+    let _first = push_sentences(
+        alloc,
+        context.grm,
+        context.shortest,
+        symbols,
+        &mut text.first,
+    )?;
+    let _second = push_sentences(
+        alloc,
+        context.grm,
+        context.shortest,
+        symbols,
+        &mut text.second,
+    )?;
+    Ok(())
+}
+
+// Appends moves that complete both derivations from their common level, by the shortest text.
+fn finish<StorageT: StorageIndex>(
+    alloc: Global,
+    context: &Context<'_, StorageT>,
+    stacks: &Stacks<StorageT>,
+    level: usize,
+    text: &mut Unifying<StorageT>,
+) -> Result<(), AllocError>
+    requires { AreShortest context.now.grm.now usize.MAX context.now.shortest.now }
+{
+    let Some((prod, dot)) = least_core(context, stacks, level) else {
+        return Ok(());
+    };
+    let mut level = stacks.below(level, dot);
+    let (mut prod, mut dot) = (prod, dot);
+    for _ in 0..stacks.len().saturating_mul(context.table.rules_len()) {
+        push_rest(alloc, context, prod, dot, text)?;
+        let Some(rule) = context.rule_of(prod) else {
+            return Ok(());
+        };
+        if context.is_start(prod) {
+            return Ok(());
+        }
+        text.first.push(Move::Make(prod))?;
+        text.second.push(Move::Make(prod))?;
+        let Some(waiting) = stacks.waiting(level, rule) else {
+            return Ok(());
+        };
+        level = stacks.below(level, waiting.dot);
+        prod = waiting.prod;
+        dot = waiting.dot.saturating_add(1);
+    }
+    Ok(())
+}
+
+// The core of the level's state from which the fewest tokens complete a text, if there is one.
+fn least_core<StorageT: StorageIndex>(
+    context: &Context<'_, StorageT>,
+    stacks: &Stacks<StorageT>,
+    level: usize,
+) -> Option<(PIdx<StorageT>, usize)> {
+    let top = stacks.get(level)?;
+    if usize::from(top.state) >= context.graph.states_len() {
+        return None;
+    }
+    for core in context.graph.begun_cores(top.state) {
+        if stacks.rest_of(context, level, *core) == top.rest {
+            return Some(*core);
+        }
+    }
+    None
+}
+
+// Appends minimal sentences of the production's symbols after the dot to both derivations.
+fn push_rest<StorageT: StorageIndex>(
+    alloc: Global,
+    context: &Context<'_, StorageT>,
+    prod: PIdx<StorageT>,
+    dot: usize,
+    text: &mut Unifying<StorageT>,
+) -> Result<(), AllocError>
+    requires { AreShortest context.now.grm.now usize.MAX context.now.shortest.now }
+{
+    if usize::from(prod) >= context.grm.prods_len() {
+        return Ok(());
+    }
+    let symbols = context.grm.prod(prod);
+    if dot > symbols.len() {
+        return Ok(());
+    }
+    push_both(alloc, context, &symbols[dot..], text)
+}

@@ -1,0 +1,273 @@
+//! Whether the result of the search is a unifying counterexample.
+ghost use Rattle.std.specs.Prelude.{◌≡◌, ◌≢◌, ◌<◌, ◌++◌, ℕ, IfOk, IfSome, IsTrue, List, map};
+ghost use Rattle.lrpar_grammar.specs.Grammar.{Terminal};
+ghost use Rattle.lrpar_grammar.specs.Symbols.{symbol_of};
+ghost use Rattle.lrpar_table_rows.specs.Graph.{Graph};
+ghost use Rattle.lrpar_table_rows.specs.Safe.{GoesBy};
+ghost use Rattle.lrpar_table_rows.specs.Table.{states_len};
+ghost use Rattle.lrpar_table_build.specs.Built.{IsBuilt};
+ghost use Rattle.lrpar_table_sentences.specs.Choices.{AreShortest};
+ghost use Rattle.lrpar_table_sentences.specs.Moves.{move_of, moves_in};
+ghost use Rattle.lrpar_table_sentences.specs.AccessStrings.{StepOf, StepsLead, steps_of, symbols_in};
+ghost use Rattle.lrpar_conflict_derivations.specs.Example.{IsExample, IsFront, IsShortestFront};
+ghost use Rattle.lrpar_conflict_derivations.specs.Texts.{BeginsBy, ShiftsFirst};
+
+use crate::example::{Example, have_as_many};
+use crate::minimal_sentences::push_sentences;
+use crate::replay::are_of_tree;
+use crate::unifying::Unifying;
+use lrpar_grammar::grammar::YaccGrammar;
+use lrpar_grammar::span::{StIdx, StorageIndex, Symbol, TIdx};
+use lrpar_table_rows::table::{Action, StateGraph, StateTable};
+use lrpar_table_sentences::access_strings::Step;
+use lrpar_table_sentences::moves::Move;
+use lrpar_table_sentences::shortest::Shortest;
+use std::alloc::{AllocError, Global};
+
+/// The counterexample of an access path and two derivations that were found, if the path leads to the state, and the derivations begin with
+/// these moves, shift the token next, are those of trees, and have one text. `front` is that of a shortest access path.
+pub(crate) fn validated<StorageT: StorageIndex>(
+    alloc: Global,
+    grm: &YaccGrammar<StorageT>,
+    graph: &StateGraph<StorageT>,
+    table: &StateTable<StorageT>,
+    shortest: &Shortest<StorageT>,
+    front: &[Move<StorageT>],
+    state: StIdx<StorageT>,
+    one: Move<StorageT>,
+    other: Move<StorageT>,
+    token: TIdx<StorageT>,
+    text: &Unifying<StorageT>,
+    bound: usize,
+) -> Result<Option<Example<StorageT>>, AllocError>
+    requires built { IsBuilt grm.now graph.now table.now }
+    requires shortest { AreShortest grm.now usize.MAX shortest.now }
+    requires apart { move_of StorageT.index one ≢ move_of StorageT.index other }
+    requires front { (steps : List StepOf) × IsShortestFront grm.now graph.now (StorageT.index state.0) steps (moves_in StorageT.index front.now) }
+    ensures example { IfOk result (λ found. IfSome found (IsExample grm.now graph.now (StorageT.index state.0) (StorageT.index token.0)
+        (move_of StorageT.index one) (move_of StorageT.index other))) }
+    ensures bound { IfOk result (λ found. IfSome found (λ x. x.bound ≡ bound)) }
+{
+    match path_moves(alloc, grm, graph, table, shortest, &text.steps, state)? {
+        None => Ok(None),
+        Some(moves) => example_of(
+            alloc,
+            grm,
+            &moves,
+            front,
+            one,
+            other,
+            token,
+            &text.first,
+            &text.second,
+            bound,
+        ),
+    }
+}
+
+// The moves of minimal sentences' trees of the steps' symbols, if the steps lead to the state.
+fn path_moves<StorageT: StorageIndex>(
+    alloc: Global,
+    grm: &YaccGrammar<StorageT>,
+    graph: &StateGraph<StorageT>,
+    table: &StateTable<StorageT>,
+    shortest: &Shortest<StorageT>,
+    steps: &[Step<StorageT>],
+    state: StIdx<StorageT>,
+) -> Result<Option<Vec<Move<StorageT>>>, AllocError>
+    requires built { IsBuilt grm.now graph.now table.now }
+    requires shortest { AreShortest grm.now usize.MAX shortest.now }
+    ensures { IfOk result (λ found. IfSome found (λ moves. IsFront grm.now graph.now (StorageT.index state.0) (steps_of StorageT.index steps.now)
+        (moves_in StorageT.index moves.items))) }
+{
+    let _graph = graph.states_len();
+    let _states = table.states_len();
+    if !lead(table, steps, state) {
+        return Ok(None);
+    }
+    let symbols = symbols_of(alloc, steps)?;
+    let mut moves = Vec::new(alloc);
+    if !push_sentences(alloc, grm, shortest, &symbols, &mut moves)? {
+        return Ok(None);
+    }
+    Ok(Some(moves))
+}
+
+// Whether the steps lead from the table's start to the state.
+fn lead<StorageT: StorageIndex>(
+    table: &StateTable<StorageT>,
+    steps: &[Step<StorageT>],
+    last: StIdx<StorageT>,
+) -> bool
+    ensures { IsTrue result → StepsLead table.now (table.now).start (steps_of StorageT.index steps.now) (StorageT.index last.0) }
+{
+    let mut state = table.start_state();
+    let mut rest = steps;
+    while let Some((step, others)) = rest.split_first() {
+        if usize::from(step.from) != usize::from(state) {
+            return false;
+        }
+        let Some(next) = next_by(table, state, step.symbol) else {
+            return false;
+        };
+        state = next;
+        rest = others;
+    }
+    usize::from(state) == usize::from(last)
+}
+
+// The state that the symbol leads to.
+fn next_by<StorageT: StorageIndex>(
+    table: &StateTable<StorageT>,
+    state: StIdx<StorageT>,
+    symbol: Symbol<StorageT>,
+) -> Option<StIdx<StorageT>>
+    ensures { IfSome result (λ next. GoesBy table.now (StorageT.index state.0) (symbol_of StorageT.index symbol) (StorageT.index next.0)) }
+{
+    if usize::from(state) >= table.states_len() {
+        return None;
+    }
+    match symbol {
+        Symbol::Token(token) => shift_by(table, state, token),
+        Symbol::Rule(rule) => {
+            if usize::from(rule) < table.rules_len() {
+                table.goto(state, rule)
+            } else {
+                None
+            }
+        }
+    }
+}
+
+// The state that a shift of the token leads to.
+fn shift_by<StorageT: StorageIndex>(
+    table: &StateTable<StorageT>,
+    state: StIdx<StorageT>,
+    token: TIdx<StorageT>,
+) -> Option<StIdx<StorageT>>
+    requires { StorageT.index state.0 < states_len table.now }
+    ensures { IfSome result (λ next. GoesBy table.now (StorageT.index state.0) (Terminal (StorageT.index token.0)) (StorageT.index next.0)) }
+{
+    if usize::from(token) >= table.tokens_len() {
+        return None;
+    }
+    match table.action(state, token) {
+        Action::Shift(next) => Some(next),
+        Action::Reduce(_) | Action::Accept | Action::Error => None,
+    }
+}
+
+// The counterexample of two derivations that continue these first moves, if they begin with `one` and `other`, shift the token next, are
+// those of trees, and have one text.
+fn example_of<StorageT: StorageIndex>(
+    alloc: Global,
+    grm: &YaccGrammar<StorageT>,
+    front: &[Move<StorageT>],
+    short: &[Move<StorageT>],
+    one: Move<StorageT>,
+    other: Move<StorageT>,
+    token: TIdx<StorageT>,
+    first: &[Move<StorageT>],
+    second: &[Move<StorageT>],
+    bound: usize,
+) -> Result<Option<Example<StorageT>>, AllocError>
+    requires { move_of StorageT.index one ≢ move_of StorageT.index other }
+    ensures example { IfOk result (λ found. IfSome found (λ x. (graph : Graph) (s : ℕ) (steps short_steps : List StepOf)
+        → IsFront grm.now graph s steps (moves_in StorageT.index front.now)
+        → IsShortestFront grm.now graph s short_steps (moves_in StorageT.index short.now)
+        → IsExample grm.now graph s (StorageT.index token.0) (move_of StorageT.index one) (move_of StorageT.index other) x)) }
+    ensures bound { IfOk result (λ found. IfSome found (λ x. x.bound ≡ bound)) }
+{
+    if !begin_with(first, one, token) || !begin_with(second, other, token) {
+        return Ok(None);
+    }
+    let first = joined(alloc, front, first)?;
+    let second = joined(alloc, front, second)?;
+    if !are_of_tree(alloc, grm, &first)? || !are_of_tree(alloc, grm, &second)? {
+        return Ok(None);
+    }
+    let shortest = have_as_many(alloc, front, short)?;
+    let example = Example::new(alloc, front, first, second, shortest, bound)?;
+    if !example.is_ambiguous() {
+        return Ok(None);
+    }
+    Ok(Some(example))
+}
+
+// Whether the moves begin with this one, and the token is the first that they shift.
+fn begin_with<StorageT: StorageIndex>(
+    moves: &[Move<StorageT>],
+    next: Move<StorageT>,
+    token: TIdx<StorageT>,
+) -> bool
+    ensures begins { IsTrue result → BeginsBy (move_of StorageT.index next) (moves_in StorageT.index moves.now) }
+    ensures shifts { IsTrue result → ShiftsFirst (StorageT.index token.0) (moves_in StorageT.index moves.now) }
+{
+    begins_by(moves, next) && shifts_first(moves, token)
+}
+
+// Whether the moves begin with this one.
+fn begins_by<StorageT: StorageIndex>(moves: &[Move<StorageT>], next: Move<StorageT>) -> bool
+    ensures { IsTrue result → BeginsBy (move_of StorageT.index next) (moves_in StorageT.index moves.now) }
+{
+    if moves.is_empty() {
+        return false;
+    }
+    is_same(moves[0], next)
+}
+
+// Whether the token is the first that the moves shift.
+fn shifts_first<StorageT: StorageIndex>(moves: &[Move<StorageT>], token: TIdx<StorageT>) -> bool
+    ensures { IsTrue result → ShiftsFirst (StorageT.index token.0) (moves_in StorageT.index moves.now) }
+{
+    for step in moves {
+        match *step {
+            Move::Take(first) => return usize::from(first) == usize::from(token),
+            Move::Make(_) => {}
+        }
+    }
+    false
+}
+
+// Whether the moves are the same.
+fn is_same<StorageT: StorageIndex>(one: Move<StorageT>, other: Move<StorageT>) -> bool
+    ensures { IsTrue result → move_of StorageT.index one ≡ move_of StorageT.index other }
+{
+    match one {
+        Move::Take(own) => match other {
+            Move::Take(token) => usize::from(own) == usize::from(token),
+            Move::Make(_) => false,
+        },
+        Move::Make(own) => match other {
+            Move::Take(_) => false,
+            Move::Make(prod) => usize::from(own) == usize::from(prod),
+        },
+    }
+}
+
+// One list of moves after the other.
+fn joined<StorageT: StorageIndex>(
+    alloc: Global,
+    front: &[Move<StorageT>],
+    moves: &[Move<StorageT>],
+) -> Result<Vec<Move<StorageT>>, AllocError>
+    ensures { IfOk result (λ all. moves_in StorageT.index all.items ≡ moves_in StorageT.index front.now ++ moves_in StorageT.index moves.now) }
+{
+    let mut all = Vec::from_slice(alloc, front)?;
+    all.extend_from_slice(moves)?;
+    Ok(all)
+}
+
+/// The symbols of the steps.
+pub(crate) fn symbols_of<StorageT: StorageIndex>(
+    alloc: Global,
+    steps: &[Step<StorageT>],
+) -> Result<Vec<Symbol<StorageT>>, AllocError>
+    ensures { IfOk result (λ symbols. map (symbol_of StorageT.index) symbols.items ≡ symbols_in (steps_of StorageT.index steps.now)) }
+{
+    let mut symbols = Vec::with_capacity(alloc, steps.len())?;
+    for step in steps {
+        symbols.push(step.symbol)?;
+    }
+    Ok(symbols)
+}
