@@ -1,5 +1,5 @@
-//! The library for users: parses over a grammar and its state table, from lexers and lexemes to values and errors. All that a user of
-//! the library names is here.
+//! The library for users: parses over a grammar and its state table, from lexers and lexemes to values and errors. What a parse needs
+//! is named here, with the laws of the crates below.
 #![tactic(auto)]
 
 mod storage_num;

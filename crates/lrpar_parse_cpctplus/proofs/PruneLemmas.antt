@@ -115,11 +115,11 @@ module _ {X : Type 0} (token : X → ℕ) (at : Asked X) (some : 0 < at.shifts) 
       let way = works_leads token g at.checked.table at.lexemes at.shifts at.stack at.place ((a ++ row) ++ b) r.works in
       let outer = replays_parted token g at.checked.table at.lexemes at.stack at.place (a ++ row) b way.0 way.1 way.2 way.3 in
       let inner = replays_parted token g at.checked.table at.lexemes at.stack at.place a row outer.first outer.mid outer.place outer.before in
-      let goes = shifts_go_on token g at.checked.table at.lexemes at.shifts 0 inner.mid inner.place inner.second outer.mid outer.place inner.after tt in
+      let goes = shifts_go_on token g at.checked.table at.lexemes at.shifts 0 inner.mid inner.place inner.second outer.mid outer.place inner.further tt in
       let whole = subst (λ (l : List PlainStep). Replays token g at.checked.table at.lexemes at.stack at.place l inner.first inner.mid inner.place) s.is inner.before in
       let last = replays_parted token g at.checked.table at.lexemes at.stack at.place s.rest (replicate s.count PlainShift) inner.first inner.mid inner.place whole in
       let sum : at.shifts + 0 ≡ at.shifts = omega arith in
-      let more = shifts_go_on token g at.checked.table at.lexemes s.count at.shifts last.mid last.place last.second inner.mid inner.place last.after
+      let more = shifts_go_on token g at.checked.table at.lexemes s.count at.shifts last.mid last.place last.second inner.mid inner.place last.further
       (subst (λ (n : ℕ). CanGoOn token g at.checked.table at.lexemes n inner.mid inner.place) sum goes) in
       let turned : s.count + at.shifts ≡ at.shifts + s.count = omega arith in
       let on = fewer_go_on token g at.checked.table at.lexemes at.shifts s.count last.mid last.place
