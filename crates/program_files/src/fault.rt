@@ -11,12 +11,39 @@ use std::alloc::{AllocError, AllocFailed, Global};
 use std::io;
 use thiserror::Error;
 
+/// What is wrong with the words of a program.
+#[derive(Clone, Copy, Debug, Error)]
+pub enum Misuse {
+    #[error("no command has these words")]
+    Command,
+    #[error("a word isn't UTF-8")]
+    NotUtf8,
+    #[error("unknown option")]
+    UnknownOption,
+    #[error("-r needs none or cpctplus")]
+    Recovery,
+    #[error("--limit needs a number")]
+    Limit,
+    #[error("--limit needs -r cpctplus")]
+    LimitAlone,
+    #[error("--shifts needs a number")]
+    Shifts,
+    #[error("--shifts must be at least 1")]
+    ZeroShifts,
+    #[error("--format needs brackets, tree, json or dot")]
+    Format,
+    #[error("LEXER and GRAMMAR are missing")]
+    Paths,
+    #[error("standard input can be read once")]
+    Input,
+}
+
 /// Why a program ends without an answer. The text names no program: each program adds its name when it writes the text.
 #[derive(Debug, Drop, Error)]
 pub enum Fault {
     /// The words are no command of the program, as this says.
     #[error("{0}")]
-    Usage(&'static str),
+    Usage(Misuse),
     /// No lexeme would have to follow a repair.
     #[error("shifts must be at least 1")]
     ZeroShifts,
@@ -82,7 +109,7 @@ impl Fault {
     pub fn of_arguments(error: &io::Error) -> Fault {
         match error.kind() {
             io::ErrorKind::OutOfMemory => Fault::Memory,
-            _ => Fault::Usage("a word isn't UTF-8"),
+            _ => Fault::Usage(Misuse::NotUtf8),
         }
     }
 

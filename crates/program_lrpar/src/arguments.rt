@@ -1,8 +1,5 @@
 //! The words after the program's name as a command.
-use program_files::fault::Fault;
-
-/// Why words that are no command are refused.
-const NO_COMMAND: &str = "no command has these words";
+use program_files::fault::{Fault, Misuse};
 
 /// A command, with its words.
 #[derive(Clone, Copy)]
@@ -53,7 +50,7 @@ pub(crate) fn command_of(args: &[String]) -> Result<Command<'_>, Fault> {
             grammar: grammar.as_str(),
         }),
         [name, words @ ..] if name.as_str() == "calc" => calc(words),
-        _ => Err(Fault::Usage(NO_COMMAND)),
+        _ => Err(Fault::Usage(Misuse::Command)),
     }
 }
 
@@ -76,7 +73,7 @@ fn tree_paths(words: &[String]) -> Result<TreePaths<'_>, Fault> {
             input: input.as_str(),
             repairs: path_if_any(repairs)?,
         }),
-        _ => Err(Fault::Usage(NO_COMMAND)),
+        _ => Err(Fault::Usage(Misuse::Command)),
     }
 }
 
@@ -85,21 +82,21 @@ fn path_if_any(words: &[String]) -> Result<Option<&str>, Fault> {
     match words {
         [] => Ok(None),
         [path] => Ok(Some(path.as_str())),
-        _ => Err(Fault::Usage(NO_COMMAND)),
+        _ => Err(Fault::Usage(Misuse::Command)),
     }
 }
 
 // The command `check` of the words after it.
 fn check(words: &[String]) -> Result<Command<'_>, Fault> {
     let [grammar, cap] = words else {
-        return Err(Fault::Usage(NO_COMMAND));
+        return Err(Fault::Usage(Misuse::Command));
     };
     match digits(cap.as_str(), 5).parse::<u16>() {
         Ok(cap) => Ok(Command::Check {
             grammar: grammar.as_str(),
             cap,
         }),
-        Err(_) => Err(Fault::Usage(NO_COMMAND)),
+        Err(_) => Err(Fault::Usage(Misuse::Command)),
     }
 }
 
@@ -118,11 +115,11 @@ fn option(words: &[String]) -> Result<(Option<usize>, &[String]), Fault> {
     match words {
         [name, rest @ ..] if name.as_str() == "--shifts" => {
             let [count, paths @ ..] = rest else {
-                return Err(Fault::Usage(NO_COMMAND));
+                return Err(Fault::Usage(Misuse::Command));
             };
             match digits(count.as_str(), 9).parse::<usize>() {
                 Ok(count) => Ok((Some(count), paths)),
-                Err(_) => Err(Fault::Usage(NO_COMMAND)),
+                Err(_) => Err(Fault::Usage(Misuse::Command)),
             }
         }
         _ => Ok((None, words)),

@@ -1,6 +1,6 @@
 //! The words after the program's name as options and paths.
 use crate::plan::{Format, Recovery};
-use program_files::fault::Fault;
+use program_files::fault::{Fault, Misuse};
 use std::alloc::Global;
 
 /// What the words ask for.
@@ -114,7 +114,7 @@ fn taken<'a>(
             return Ok(&[]);
         }
         _ if word.starts_with('-') && word != "-" => {
-            return Err(Fault::Usage("unknown option"));
+            return Err(Fault::Usage(Misuse::UnknownOption));
         }
         _ => said.paths.push(word)?,
     }
@@ -140,13 +140,13 @@ fn value<'a>(option: Valued, words: &'a [String]) -> Result<(&'a str, &'a [Strin
     }
 }
 
-// Which word an option needs.
-fn needs(option: Valued) -> &'static str {
+// What is wrong if an option hasn't the word that it needs.
+fn needs(option: Valued) -> Misuse {
     match option {
-        Valued::Recovery => "-r needs none or cpctplus",
-        Valued::Limit => "--limit needs a number",
-        Valued::Shifts => "--shifts needs a number",
-        Valued::Format => "--format needs brackets, tree, json or dot",
+        Valued::Recovery => Misuse::Recovery,
+        Valued::Limit => Misuse::Limit,
+        Valued::Shifts => Misuse::Shifts,
+        Valued::Format => Misuse::Format,
     }
 }
 
@@ -184,7 +184,7 @@ fn format_of(name: &str) -> Result<Format, Fault> {
 // How many lexemes have to follow a repair.
 fn shifts_of(digits: &str) -> Result<usize, Fault> {
     match number_of(Valued::Shifts, digits)? {
-        0 => Err(Fault::Usage("--shifts must be at least 1")),
+        0 => Err(Fault::Usage(Misuse::ZeroShifts)),
         count => Ok(count),
     }
 }
@@ -213,7 +213,7 @@ fn options_said(said: Said<'_>) -> Result<Options<'_>, Fault> {
         mut paths,
     } = said;
     if paths.len() < 2 {
-        return Err(Fault::Usage("LEXER and GRAMMAR are missing"));
+        return Err(Fault::Usage(Misuse::Paths));
     }
     let lexer = paths.remove(0);
     let grammar = paths.remove(0);
@@ -235,7 +235,7 @@ fn options_said(said: Said<'_>) -> Result<Options<'_>, Fault> {
 fn recovery_of(search: Search, limit: Option<usize>) -> Result<Recovery, Fault> {
     match (search, limit) {
         (Search::Nothing, None) => Ok(Recovery::Nothing),
-        (Search::Nothing, Some(_)) => Err(Fault::Usage("--limit needs -r cpctplus")),
+        (Search::Nothing, Some(_)) => Err(Fault::Usage(Misuse::LimitAlone)),
         (Search::Cheapest, limit) => Ok(Recovery::Cheapest {
             limit: limit.unwrap_or(LIMIT),
         }),

@@ -14,7 +14,7 @@ use crate::warnings::push_token_warnings;
 use lrpar_lexer::LexRule;
 use lrpar_report::{Level, Look, Reporter};
 use lrpar_table::check::ParserData;
-use program_files::fault::Fault;
+use program_files::fault::{Fault, Misuse};
 use program_files::parsing::printed_names;
 use program_files::streams::{Status, ended, finished, words};
 use std::alloc::{AllocError, Global};
@@ -349,6 +349,6 @@ fn text_of_input<R: Files, I: Read + Drop>(
     }
     match input.take() {
         Some(input) => input_text(alloc, input),
-        None => Err(Fault::Usage("standard input can be read once")),
+        None => Err(Fault::Usage(Misuse::Input)),
     }
 }
