@@ -8,8 +8,9 @@ readonly NOT_BUILT=125
 readonly FIRST_BUILD="15 to 45 minutes"
 # The kilobytes that one process of a proof takes at most.
 readonly JOB_MEMORY=2000000
-# A crate gets at most one process, and one more for each JOB_LINES of its lines: each takes 15 seconds to start.
-readonly JOB_LINES=150
+# A process of a proof first reads the crates below, so one more costs most where those are many. A crate gets one process, and
+# another one each time that JOB_SHARE times its lines are as many as there are up to it.
+readonly JOB_SHARE=30
 
 say() {
     printf '%s: %s\n' "$label" "$1" >&2
@@ -35,6 +36,8 @@ declare -A uses=()
 declare -a crates=()
 # By crate, how many lines it has of code, definitions and proofs.
 declare -A lines=()
+# By crate, how many processes it gets at most.
+declare -A most=()
 # By crate, how many lines there are from its own to the program's, by the longest path through crates that use one another.
 declare -A ahead=()
 # By crate: waits, runs or done.
@@ -89,11 +92,13 @@ note() {
     fi
 }
 
-# Counts the lines of each crate, and those ahead of it.
+# Counts the lines of each crate, those up to it, and those ahead of it.
 weigh_crates() {
-    local at name below
+    local at name below read=0
     for name in "${crates[@]}"; do
         lines[$name]=$(find "$base/crates/$name" -type f -exec cat {} + | wc -l)
+        read=$((read + lines[$name]))
+        most[$name]=$((lines[$name] * JOB_SHARE / read + 1))
         ahead[$name]=0
     done
     for ((at = ${#crates[@]} - 1; at >= 0; at--)); do
@@ -260,7 +265,7 @@ is_ready() {
 # Starts crates that are ready, as many as there are slots, first those with most ahead. Each gets one slot, and the first one also
 # gets all that are left: a process more costs its start, and the time of the whole is that of the longest way.
 start_ready() {
-    local name process free=$slots ready=() most jobs
+    local name process free=$slots ready=() jobs
     for process in "${!job[@]}"; do
         free=$((free - given[$process]))
     done
@@ -273,8 +278,7 @@ start_ready() {
     mapfile -t ready < <(printf '%s\n' "${ready[@]}" | sort -rn | head -n "$free")
     jobs=$((free - ${#ready[@]} + 1))
     for name in "${ready[@]#* }"; do
-        most=$((lines[$name] / JOB_LINES + 1))
-        start "$name" $((jobs < most ? jobs : most)) || return 1
+        start "$name" $((jobs < most[$name] ? jobs : most[$name])) || return 1
         jobs=1
     done
 }
