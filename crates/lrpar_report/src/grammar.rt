@@ -35,7 +35,7 @@ pub fn grammar_message(
             let label = "this token has a printed text already";
             named(alloc, text, *span, "token", "has a second %epp", label)
         }
-        GrammarFault::NoRules => whole(alloc, "no rules: a grammar needs one behind its %%"),
+        GrammarFault::NoRules => whole(alloc, "no rules: a grammar needs one after its %%"),
         GrammarFault::StorageTooSmall => whole(
             alloc,
             "more rules, tokens or productions than can be numbered",

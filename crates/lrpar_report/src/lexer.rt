@@ -97,7 +97,7 @@ fn push_near_token(
     }
     push_nearest(label, name, &names)?;
     if label.is_empty() {
-        label.push_str("a token stands in quotes in the grammar, or is declared by %token")?;
+        label.push_str("a token is in quotes in the grammar, or is declared by %token")?;
     }
     Ok(())
 }

@@ -21,14 +21,14 @@ pub const INPUTS: &[&str] = &["text", "grammar", "bound", "show"];
 
 /// The counterexamples of the conflicts of the grammar's table.
 pub fn outcome<R: Files>(
-    told: &mut Printed,
+    printed: &mut Printed,
     rt: &R,
     alloc: Global,
     case: Case<'_, '_>,
 ) -> Result<(), Fault> {
     let text = source(rt, alloc, case)?;
     match YaccGrammar::<u16>::new_with_storaget(alloc, text.as_str()) {
-        Ok(grm) => push_of_grammar(told, alloc, case, &grm),
+        Ok(grm) => push_of_grammar(printed, alloc, case, &grm),
         Err(GrammarFault::Memory) => Err(Fault::Memory),
         Err(_) => Err(Fault::Line(case.number, "the text is no grammar")),
     }
@@ -44,13 +44,13 @@ fn source<R: Files>(rt: &R, alloc: Global, case: Case<'_, '_>) -> Result<String,
 
 // The counterexamples of the table that is built of the grammar.
 fn push_of_grammar(
-    told: &mut Printed,
+    printed: &mut Printed,
     alloc: Global,
     case: Case<'_, '_>,
     grm: &YaccGrammar<u16>,
 ) -> Result<(), Fault> {
     match from_yacc(alloc, grm, 10_000) {
-        Ok((graph, table)) => push_of_table(told, alloc, case, grm, &graph, &table),
+        Ok((graph, table)) => push_of_table(printed, alloc, case, grm, &graph, &table),
         Err(BuildFault::Memory) => Err(Fault::Memory),
         Err(_) => Err(Fault::Line(case.number, "the grammar has no table")),
     }
@@ -58,7 +58,7 @@ fn push_of_grammar(
 
 // The counterexamples of a table.
 fn push_of_table(
-    told: &mut Printed,
+    printed: &mut Printed,
     alloc: Global,
     case: Case<'_, '_>,
     grm: &YaccGrammar<u16>,
@@ -69,16 +69,16 @@ fn push_of_table(
 {
     let bound = number_at(case, "bound", 1000)?;
     match conflict_examples(alloc, grm, graph, table, bound) {
-        Ok(examples) => push_shown(told, alloc, case, grm, table, &examples),
-        Err(ExampleFault::Memory) => told.lack_memory(),
-        Err(fault) => told.line("fault ", &fault),
+        Ok(examples) => push_shown(printed, alloc, case, grm, table, &examples),
+        Err(ExampleFault::Memory) => printed.lack_memory(),
+        Err(fault) => printed.line("fault ", &fault),
     }
     Ok(())
 }
 
 // What the case asks for: the text of the counterexamples, or how many there are.
 fn push_shown(
-    told: &mut Printed,
+    printed: &mut Printed,
     alloc: Global,
     case: Case<'_, '_>,
     grm: &YaccGrammar<u16>,
@@ -88,18 +88,18 @@ fn push_shown(
     requires { ExamplesFit grm.now examples.now }
 {
     let Ok(text) = format_examples(alloc, grm, examples) else {
-        return told.lack_memory();
+        return printed.lack_memory();
     };
     if case.value_or_nothing("show") == "count" {
-        push_count(told, table, examples, text.as_str());
+        push_count(printed, table, examples, text.as_str());
     } else {
-        told.field("examples", text.as_str());
+        printed.field("examples", text.as_str());
     }
 }
 
 // How many conflicts, counterexamples and texts of them there are, and how many of these have one text with two derivations.
 fn push_count(
-    told: &mut Printed,
+    printed: &mut Printed,
     table: &StateTable<u16>,
     examples: &[ConflictExample<u16>],
     text: &str,
@@ -108,12 +108,12 @@ fn push_count(
         Some(conflicts) => conflicts.rr_len().saturating_add(conflicts.sr_len()),
         None => 0,
     };
-    told.number("count ", conflicts);
-    told.number(" conflicts, ", examples.len());
-    told.number(" examples, ", text.matches("\n\n").count());
-    told.number(
+    printed.number("count ", conflicts);
+    printed.number(" conflicts, ", examples.len());
+    printed.number(" examples, ", text.matches("\n\n").count());
+    printed.number(
         " texts, ",
         text.matches("one text, two derivations\n").count(),
     );
-    told.text(" ambiguous\n");
+    printed.text(" ambiguous\n");
 }

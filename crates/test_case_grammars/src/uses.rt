@@ -9,7 +9,7 @@ use test_case_lines::printed::Printed;
 
 /// A line for each rule, and the first rule that is reached and derives no text.
 pub(crate) fn push_uses(
-    told: &mut Printed,
+    printed: &mut Printed,
     alloc: Global,
     grm: &YaccGrammar<u8>,
 ) -> Result<(), Fault> {
@@ -17,28 +17,28 @@ pub(crate) fn push_uses(
     let reached = Reachable::new(alloc, grm)?;
     for rule in grm.iter_rules() {
         push_use(
-            told,
+            printed,
             rule_name(grm, rule),
             reached.is_reachable(rule),
             shortest.derives_text(rule),
         );
     }
     match shortest.unproductive(alloc, grm)? {
-        Some(rule) => told.line("unproductive ", &rule_name(grm, rule)),
-        None => told.text("unproductive none\n"),
+        Some(rule) => printed.line("unproductive ", &rule_name(grm, rule)),
+        None => printed.text("unproductive none\n"),
     }
     Ok(())
 }
 
 // A rule's name, whether it is reached, and whether it derives some text.
-fn push_use(told: &mut Printed, name: &str, is_reachable: bool, derives: bool) {
-    told.texts("use ", name);
-    told.text(if is_reachable {
+fn push_use(printed: &mut Printed, name: &str, is_reachable: bool, derives: bool) {
+    printed.texts("use ", name);
+    printed.text(if is_reachable {
         ": reached"
     } else {
         ": not reached"
     });
-    told.text(if derives {
+    printed.text(if derives {
         ", derives a text\n"
     } else {
         ", derives none\n"

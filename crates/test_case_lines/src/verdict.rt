@@ -45,7 +45,7 @@ fn wrong_message(
     match verdict {
         None => Ok(Some(format!(in alloc; "it has to be wrong: {expected}")?)),
         Some(verdict) if verdict.as_str() == expected => Ok(None),
-        Some(verdict) => Ok(Some(format!(in alloc; "it is told as: {verdict}")?)),
+        Some(verdict) => Ok(Some(format!(in alloc; "the outcome is: {verdict}")?)),
     }
 }
 
