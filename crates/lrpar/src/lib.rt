@@ -18,6 +18,7 @@ pub use lrpar_table::{build, check, table};
 /// Spans of a text, and the numbers of rules, productions, tokens and states.
 pub mod span {
     pub use crate::storage_num::StorageNum;
+    pub use lrpar_grammar::text_range::TextRange;
     pub use lrpar_grammar::span::{
         Numbered, PIdx, RIdx, Span, Spanned, SpansKind, StIdx, StorageIndex, Symbol, TIdx,
     };
@@ -38,6 +39,7 @@ pub mod laws {
     };
     pub use lrpar_grammar_places::laws::{
         numbers_compare_by_value, spans_compare_by_ends, symbols_compare_by_contents,
+        text_ranges_compare_by_ends,
     };
     pub use lrpar_grammar_words::laws::{
         outlines_are_of_grammar_texts, pieces_are_longest, text_has_one_outline,

@@ -5,4 +5,4 @@ pub mod grammar;
 pub mod laws;
 pub mod token_set;
 
-pub use lrpar_grammar_places::{lines, span};
+pub use lrpar_grammar_places::{lines, span, text_range};

@@ -3,14 +3,23 @@ ghost use Rattle.std.specs.Prelude.{◌≡◌, ◌↔◌, ◌++◌, IsTrue};
 ghost use Rattle.std.specs.Hash as fed;
 ghost use Rattle.lrpar_grammar_places.specs.Span.{Extent};
 ghost use Rattle.lrpar_grammar_places.specs.Comparisons.{ComparesByNumber, HashesAs, IsSameSymbol, symbol_input};
+ghost use Rattle.lrpar_grammar_places.specs.declared.text_range.TextRange.{TextRange};
 
 use crate::span::{PIdx, RIdx, Span, StIdx, StorageIndex, Symbol, TIdx};
+use crate::text_range::TextRange;
 use std::hash::Hash;
 
 /// Spans are equal if and only if their starts and their ends are. A hasher is fed the start and then the end.
 pub fn spans_compare_by_ends()
     ensures equal { (x y : Extent) → IsTrue (⟦<Span as PartialEq>⟧.eq x y) ↔ ((x.start ≡ y.start) × (x.end ≡ y.end)) }
     ensures hash { HashesAs (λ x. fed.usize x.start ++ fed.usize x.end) ⟦<Span as PartialEq>⟧.eq ⟦<Span as Hash>⟧.hash_input }
+{}
+
+/// Parts of a text, as trees keep them, are equal if and only if their starts and their ends are. A hasher is fed the start and then
+/// the end.
+pub fn text_ranges_compare_by_ends()
+    ensures equal { (x y : TextRange) → IsTrue (⟦<TextRange as PartialEq>⟧.eq x y) ↔ ((x.start ≡ y.start) × (x.end ≡ y.end)) }
+    ensures hash { HashesAs (λ x. fed.usize x.start ++ fed.usize x.end) ⟦<TextRange as PartialEq>⟧.eq ⟦<TextRange as Hash>⟧.hash_input }
 {}
 
 /// The numbers of rules, productions, tokens and states are equal and ordered as numbers are. A hasher is fed what it is fed

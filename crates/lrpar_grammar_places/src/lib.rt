@@ -4,3 +4,4 @@
 pub mod laws;
 pub mod lines;
 pub mod span;
+pub mod text_range;

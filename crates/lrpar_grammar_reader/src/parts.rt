@@ -67,7 +67,7 @@ pub struct GrammarParts<StorageT> {
 }
 
 /// Why there is no grammar.
-#[derive(Debug, Drop, PartialEq, Eq, Error)]
+#[derive(Clone, Debug, Drop, PartialEq, Eq, Error)]
 pub enum GrammarFault {
     /// A production's rule or one of its symbols isn't the number of a listed rule or token.
     #[error("bad symbol")]

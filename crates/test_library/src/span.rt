@@ -1,6 +1,7 @@
 //! Spans and the numbers of rules, productions, tokens and states.
 use crate::expectations::{holds, same};
 use lrpar_grammar::span::{PIdx, RIdx, Span, StIdx, StorageIndex, TIdx};
+use lrpar_grammar::text_range::TextRange;
 use std::cmp::Ordering;
 use std::test::Fail;
 
@@ -69,5 +70,37 @@ fn spans(rt: HostRuntime) -> Result<(), Fail> {
         same(&rt, &start, &found, &(start, end, len, is_empty));
         same(&rt, &start, &(span == Span::new(3, 7)), &(start == 3));
     }
+    Ok(())
+}
+
+// A name of a tree, with its place: what a user copies, and gives back from either of two branches.
+#[derive(Clone, Copy, Debug, PartialEq, Eq)]
+struct Name<'text> {
+    text: &'text str,
+    range: TextRange,
+}
+
+// The longer one of two names.
+fn longer<'text>(name: Name<'text>, other: Name<'text>) -> Name<'text> {
+    if name.text.len() < other.text.len() {
+        other
+    } else {
+        name
+    }
+}
+
+#[test]
+fn text_ranges(rt: HostRuntime) -> Result<(), Fail> {
+    let range = TextRange::from(Span::new(3, 7));
+    let found = (range.start(), range.end(), range.len(), range.is_empty());
+    same(&rt, &"its ends", &found, &(3, 7, 4, false));
+    same(&rt, &"back", &Span::from(range), &Span::new(3, 7));
+    same(&rt, &"span", &TextRange::new(5, 5).span(), &Span::new(5, 5));
+    let name = Name { text: "long", range };
+    let short = Name {
+        text: "a",
+        range: TextRange::new(5, 5),
+    };
+    same(&rt, &"in a tree", &longer(short, name), &name);
     Ok(())
 }
