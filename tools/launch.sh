@@ -2,6 +2,9 @@
 # They set `label`, the program's name; `root`, the repository; `main`, the crate of the program; and `answered`, words that the program
 # answers with status 0. Nothing but the program writes to standard output.
 
+# shellcheck source=tools/crates.sh
+. "$root/tools/crates.sh"
+
 # What the launcher itself ends with if there is no program to run. The program ends with 0, 1 or 2.
 readonly NOT_BUILT=125
 # What README.md says of the first build.
@@ -30,46 +33,18 @@ readonly lock=$crate/out/launcher.lock
 readonly rooms=$crate/out/launcher.rooms
 readonly base=$rooms/base
 
-# By crate, what its line of crates.txt names: crates of the repository, and libraries of the kit.
-declare -A uses=()
-# The crates that the program uses, itself or through others, each after those that it names; the program comes last.
-declare -a crates=()
 # By crate, how many lines it has of code, definitions and proofs.
 declare -A lines=()
 # By crate, how many processes it gets at most.
 declare -A most=()
 # By crate, how many lines there are from its own to the program's, by the longest path through crates that use one another.
 declare -A ahead=()
-# By crate: waits, runs or done.
+# By crate of the repository: waits, runs or done.
 declare -A state=()
 # By process, the crate that it proves, and how many processes of proofs it was given.
 declare -A job=() given=()
 # The signal that ended the build, if one did.
 interrupted=
-
-# Reads crates.txt, whose lines are `NAME: NAME NAME ..`, in any order.
-read_crates() {
-    local line name
-    while IFS= read -r line; do
-        line=${line%%#*}
-        name=${line%%[: ]*}
-        if [[ -n $name ]]; then
-            uses[$name]=${line#*:}
-        fi
-    done <"$root/crates.txt"
-}
-
-# Adds the crate, after those that it names.
-add_crate() {
-    local below
-    state[$1]=waits
-    for below in ${uses[$1]-}; do
-        if [[ -v uses[$below] && ! -v state[$below] ]]; then
-            add_crate "$below"
-        fi
-    done
-    crates+=("$1")
-}
 
 # Whether the program is there and nothing that it is built of has changed since.
 is_built() {
@@ -92,10 +67,11 @@ note() {
     fi
 }
 
-# Counts the lines of each crate, those up to it, and those ahead of it.
+# Counts the lines of each crate, those up to it, and those ahead of it. Each crate waits from then on.
 weigh_crates() {
     local at name below read=0
     for name in "${crates[@]}"; do
+        state[$name]=waits
         lines[$name]=$(find "$base/crates/$name" -type f -exec cat {} + | wc -l)
         read=$((read + lines[$name]))
         most[$name]=$((lines[$name] * JOB_SHARE / read + 1))
@@ -142,12 +118,6 @@ announce() {
     else
         say "proving and building what isn't yet; all of it $took .."
     fi
-}
-
-# link FROM TO: a copy of a folder that has the very files of the first, if the file system allows. They are read or replaced, and
-# never written into.
-link() {
-    cp -al "$1" "$2" 2>/dev/null || { rm -rf "$2" && cp -a "$1" "$2"; }
 }
 
 # Copies the sources as they are, so that what is built is one state of them.

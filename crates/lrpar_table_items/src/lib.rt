@@ -1,4 +1,4 @@
-//! Closure and goto of LR(1) items, and the canonical collection of item sets.
+//! Closure and goto of LR(1) items, the canonical collection of item sets, and the choice between the actions of a state.
 #![tactic(auto)]
 
 mod closure;

@@ -1,4 +1,4 @@
-//! A state table as it is stored: actions, gotos, conflicts, and the item set of each state.
+//! A state table as it is stored: actions, gotos, conflicts, and the item set of each state; and what a safe table is.
 #![tactic(auto)]
 
 mod ascending;
