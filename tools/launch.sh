@@ -13,7 +13,7 @@ readonly FIRST_BUILD="15 to 45 minutes"
 readonly JOB_MEMORY=2000000
 # A process of a proof first reads the crates below, so one more costs most where those are many. A crate gets one process, and
 # another one each time that JOB_SHARE times its lines are as many as there are up to it.
-readonly JOB_SHARE=30
+readonly JOB_SHARE=20
 
 say() {
     printf '%s: %s\n' "$label" "$1" >&2
