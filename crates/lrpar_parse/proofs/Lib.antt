@@ -3,6 +3,8 @@ pub mod ParseLemmas
 pub mod FoldLemmas
 pub mod ActedEntryLemmas
 pub mod ActedLemmas
+pub mod GivenLemmas
+pub mod CarriedLemmas
 pub mod SumLemmas
 pub mod RepairRunLemmas
 pub mod StopStackLemmas

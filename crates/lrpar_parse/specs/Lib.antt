@@ -4,6 +4,8 @@ pub mod Acted
 pub mod Lexed
 pub mod SumRun
 pub mod Parse
+pub mod ValueArguments
+pub mod Values
 pub mod ExpectedAnswer
 pub mod Parser
 pub mod RepairLaws

@@ -2,6 +2,7 @@
 #![tactic(auto)]
 
 mod actions;
+mod args;
 mod expected;
 pub mod fault;
 pub mod generictree;
@@ -10,5 +11,6 @@ mod lexed;
 pub mod lexeme_fault;
 pub mod parser;
 mod shifts;
+mod values;
 
 pub use parser::RTParserBuilder;

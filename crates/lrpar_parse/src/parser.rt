@@ -15,9 +15,11 @@ ghost use Rattle.lrpar_parse_run.specs.Nodes.{IsNonterm, IsTerm};
 ghost use Rattle.lrpar_parse.specs.Parse.{ParsesTo, ParsesToErrors};
 ghost use Rattle.lrpar_parse.specs.Parser.{subject};
 ghost use Rattle.lrpar_parse_run.specs.TreeAnswer.{IsTreeAnswer};
+ghost use Rattle.lrpar_parse.specs.Values.{IsGivenValue, ParsesToValue};
 
 use crate::actions::Acting;
 pub use crate::actions::Actions;
+pub use crate::args::Args;
 pub use crate::expected::Expected;
 use crate::expected::expected_after;
 pub use crate::fault::ParseFault;
@@ -25,6 +27,8 @@ pub use crate::generictree::action_generictree;
 use crate::lexed::{lexemes_before_error, lexemes_or_error};
 use crate::lexeme_fault::lexeme_fault;
 pub use crate::shifts::ZeroShifts;
+pub use crate::values::Values;
+use crate::values::{Valued, come_out};
 use lrpar_grammar::grammar::YaccGrammar;
 use lrpar_grammar::span::{PIdx, RIdx, StorageIndex};
 pub use lrpar_parse_errors::{LexParseError, ParseError, ParseRepair, PpFault};
@@ -247,6 +251,33 @@ impl<
             }
         }
         true
+    }
+
+    /// Parses the lexemes that the lexer returns, and makes a value. `values` gives the value of each production, from its number and its
+    /// arguments, or an error of its own. The lexer is called once.
+    ///
+    /// An error of a production is the value of each production above it, so the parse goes on and finds all its errors. If it comes to a
+    /// value and this is an error, the result is this error: the first one, in the order in which values are made. If it comes to no
+    /// value, there is none, and the result has the errors of the parse alone.
+    ///
+    /// What for `parse_map` is an `Err` is also one here: a `ParseFault`, made an error of `values` by `From`.
+    ///
+    /// The time and the memory are those of `parse_actions`, and each argument is looked at once more.
+    pub fn parse_values<
+        'input,
+        L: NonStreamingLexer<'input, LexerTypesT>,
+        V: Values<StorageT, LexerTypesT::LexemeT, L>,
+    >(
+        &self,
+        alloc: Global,
+        lexer: &L,
+        values: &V,
+    ) -> Result<Answer<StorageT, LexerTypesT, V::Value>, V::Error>
+        // A parse to a value or an error, as that of `parse_actions`, and the result is what comes out of it.
+        ensures parse { ParsesToValue (subject StorageT.index LexerTypesT.LexemeT.parts R.allows self.now) (L.allows lexer.now) V.Error.from_gives
+            (IsGivenValue (span_by LexerTypesT.LexemeT.parts) (V.gives values.now) self.now.checked.grammar lexer.now) result }
+    {
+        come_out(self.parse_actions(alloc, lexer, &Valued { values }, &()))
     }
 
     /// The grammar of the parser.

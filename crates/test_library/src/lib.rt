@@ -27,3 +27,5 @@ mod span;
 mod table;
 #[cfg(test)]
 mod trees;
+#[cfg(test)]
+mod values;

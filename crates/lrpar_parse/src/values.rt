@@ -1,0 +1,126 @@
+//! Values: what a caller's function makes of each production, or its error.
+ghost use Rattle.std.specs.Prelude.{◌≡◌, ◌≢◌, ◌↔◌, ℕ, IfOk, IsTrue, None, Result, Some, is_some};
+ghost use Rattle.lrpar_parse.specs.ValueArguments.{ValueArguments, first_failure};
+ghost use Rattle.lrpar_parse.specs.Values.{ComesOut, GivesOrCarries};
+
+use crate::actions::Actions;
+use crate::args::Args;
+use crate::fault::ParseFault;
+use lrpar_grammar::span::{PIdx, RIdx, Span, StorageIndex, Symbol};
+use lrpar_parse_lexemes::lex_api::Lexeme;
+use lrpar_parse_run::values::AStackType;
+use std::alloc::{AllocError, Global};
+
+/// Values: they are made production by production, by `parse_values`. Nothing has to be stated of them.
+pub trait Values<StorageT: StorageIndex, LexemeT: Lexeme<StorageT>, LexerT> {
+    /// The values of rules.
+    type Value: Drop;
+
+    /// Why a production has no value. It is made of a `ParseFault`, so that it also says why a parse has no result.
+    type Error: Drop + From<ParseFault>;
+
+    /// The results that `value` may have: by production and arguments. Who claims nothing of them leaves it out.
+    ghost gives: { Self → ℕ → ValueArguments LexerT LexemeT Self.Value → Result Self.Value Self.Error → Type 0 } = { λ _ _ _ _. Unit {0} };
+
+    /// The value of a production, from the arguments for its symbols. It is called for each production of the tree but those that
+    /// have an error among their arguments: from left to right, each after those below it.
+    ///
+    /// An `Err` doesn't end the parse. It is the value of each production above, until `parse_values` returns it.
+    fn value(
+        &self,
+        alloc: Global,
+        pidx: PIdx<StorageT>,
+        args: Args<'_, LexerT, LexemeT, Self::Value, Self::Error>,
+    ) -> Result<Self::Value, Self::Error>
+        ensures { gives self.now (StorageT.index pidx.0) args.entry result };
+}
+
+/// The actions that make a caller's values: the value of a production with an error among its arguments is the first such error.
+#[derive(Drop)]
+pub(crate) struct Valued<'a, V> {
+    pub(crate) values: &'a V,
+}
+
+impl<
+    'a,
+    StorageT: StorageIndex,
+    LexemeT: Lexeme<StorageT>,
+    LexerT,
+    V: Values<StorageT, LexemeT, LexerT>,
+> Actions<StorageT, LexemeT, LexerT> for Valued<'a, V> {
+    type ActionT = Result<V::Value, V::Error>;
+
+    type ParamT = ();
+
+    ghost taken = { λ _ _ _ _. Unit {0} };
+
+    ghost fact = { λ _ _ _. Unit {0} };
+
+    ghost answers = { λ valued. GivesOrCarries (V.gives valued.values.now) };
+
+    fn takes(&self, _: PIdx<StorageT>, _: RIdx<StorageT>, _: &[Symbol<StorageT>]) -> bool
+        ensures { IsTrue result ↔ Unit {0} }
+    {
+        true
+    }
+
+    fn act(
+        &self,
+        alloc: Global,
+        pidx: PIdx<StorageT>,
+        ridx: RIdx<StorageT>,
+        lexer: &LexerT,
+        span: Span,
+        args: Vec<AStackType<LexemeT, Result<V::Value, V::Error>>>,
+        param: &(),
+    ) -> Result<Result<V::Value, V::Error>, AllocError>
+        ensures fact { IfOk result (λ _. Unit {0}) }
+        ensures answers { IfOk result (GivesOrCarries (V.gives self.now.values.now) (StorageT.index pidx.0) (StorageT.index ridx.0) lexer.now span args.items param.now) }
+    {
+        if has_failure(&args) {
+            return Ok(Err(first_failure(args)));
+        }
+        Ok(self.values.value(alloc, pidx, Args::new(lexer, span, args)))
+    }
+}
+
+// Whether an argument is an error.
+fn has_failure<LexemeT, V, E>(args: &[AStackType<LexemeT, Result<V, E>>]) -> bool
+    ensures { result ≡ is_some (first_failure args.now) }
+{
+    for arg in args {
+        if let AStackType::ActionType(Err(_)) = arg {
+            return true;
+        }
+    }
+    false
+}
+
+// The first error among the arguments.
+fn first_failure<LexemeT: Drop, V: Drop, E: Drop>(args: Vec<AStackType<LexemeT, Result<V, E>>>) -> E
+    requires { first_failure args.items ≢ None }
+    ensures { first_failure args.items ≡ Some result }
+{
+    for arg in args {
+        if let AStackType::ActionType(Err(error)) = arg {
+            return error;
+        }
+    }
+    unreachable!()
+}
+
+/// What comes out of a parse by these actions: a value with the rest of the answer, or an error alone.
+pub(crate) fn come_out<V: Drop, E: Drop + From<ParseFault>, T: Drop>(
+    parsed: Result<(Option<Result<V, E>>, T), ParseFault>,
+) -> Result<(Option<V>, T), E>
+    ensures { ComesOut E.from_gives parsed result }
+{
+    match parsed {
+        Ok((value, rest)) => match value {
+            Some(Ok(value)) => Ok((Some(value), rest)),
+            Some(Err(error)) => Err(error),
+            None => Ok((None, rest)),
+        },
+        Err(fault) => Err(E::from(fault)),
+    }
+}
