@@ -10,7 +10,9 @@ pub use lrpar_grammar::{grammar, lines};
 pub use lrpar_parse::generictree::action_generictree;
 pub use lrpar_parse::{RTParserBuilder, parser};
 pub use lrpar_parse_errors::{LexParseError, ParseError, ParseRepair, errors};
-pub use lrpar_parse_lexemes::{LexError, Lexeme, Lexer, LexerTypes, NonStreamingLexer, lex_api};
+pub use lrpar_parse_lexemes::{
+    InputLexer, LexError, Lexeme, Lexer, LexerTypes, NonStreamingLexer, lex_api,
+};
 pub use lrpar_parse_trees::Node;
 pub use lrpar_table::check::ParserData;
 pub use lrpar_table::{build, check, table};

@@ -19,7 +19,7 @@ module _ (patterns : List Re) (rest : List ℕ) where
       (all i wins.pattern (slice_get_within patterns i wins.pattern wins.is))
 
   -- if a pattern wins, it isn't true that none matches
-  wins_not_none : (i n : ℕ) → Wins patterns rest i n → NoneMatches patterns rest → ⊥
+  pub wins_not_none : (i n : ℕ) → Wins patterns rest i n → NoneMatches patterns rest → ⊥
   wins_not_none i n wins none = of_winner (HasNoMatch rest) i n none wins n wins.matches
 
   -- no winner matches more than another
@@ -54,7 +54,7 @@ module _ (patterns : List Re) (rest : List ℕ) where
 
 module _ (rules : List Rule) (text : List ℕ) (at : ℕ) where
   -- what is read at a place is one token and one length
-  one_read : (s t : Option ℕ) (n m : ℕ) → Reads rules text at s n → Reads rules text at t m → (s ≡ t) × (n ≡ m)
+  pub one_read : (s t : Option ℕ) (n m : ℕ) → Reads rules text at s n → Reads rules text at t m → (s ≡ t) × (n ≡ m)
   one_read s t n m one other =
       let same = one_winner (map (λ r. r.pattern) rules) (drop at text) one.rule n other.rule m one.wins other.wins in
       let there : slice_get (map (λ (r : Rule). r.token) rules) other.rule ≡ Some s =
@@ -62,7 +62,7 @@ module _ (rules : List Rule) (text : List ℕ) (at : ℕ) where
       (same_Some s t (sym there ∙ other.is), same.1)
 
   -- if something is read, a pattern matches
-  read_not_none : (s : Option ℕ) (n : ℕ) → Reads rules text at s n → NoneMatches (map (λ r. r.pattern) rules) (drop at text) → ⊥
+  pub read_not_none : (s : Option ℕ) (n : ℕ) → Reads rules text at s n → NoneMatches (map (λ r. r.pattern) rules) (drop at text) → ⊥
   read_not_none s n one none = wins_not_none (map (λ r. r.pattern) rules) (drop at text) one.rule n one.wins none
 
 pub lexes_one_way : LexesOneWay

@@ -1,15 +1,19 @@
 -- The lexemes and errors of a text, step by step.
 use Rattle.std.proofs.Common.{◌≡◌, ℕ, ◌+◌, ◌<◌, ◌≤◌, ◌-◌, List, [], ◌∷◌, ◌++◌, length, map, drop, Option, Some, Result, Err, sym, subst, ap, refl, arith, slice_get, append_assoc, length-drop, get_or}
+use Rattle.std.specs.List.{AllZip}
 use Rattle.std.specs.Str.{IsCharBoundary}
 use Rattle.std.proofs.lemmas.List.{append-nil, get_or-drop, length-map}
 use Rattle.std.proofs.lemmas.Option.{slice_get_within}
 use Rattle.regex.specs.Patterns.{Re}
+use Rattle.regex_meta.specs.declared.program.Program.{Program}
 use Rattle.lrpar_lexer.specs.declared.rule.LexRule.{LexRule}
 use Rattle.lrpar_lexer.specs.declared.matching.Winner.{Winner}
 use Rattle.lrpar_lexer.specs.declared.token.Token.{Token}
 use Rattle.lrpar_lexer.specs.declared.token.NoToken.{NoToken}
 use Rattle.lrpar_lexer.specs.Matching.{IsWinner, NoneMatches, Wins}
-use Rattle.lrpar_lexer.specs.Rules.{Rule, pattern_of, plain_rules}
+use Rattle.lrpar_lexer.specs.Anchored.{FindsAtStart}
+use Rattle.lrpar_lexer.specs.Rules.{Rule, anchored_of, pattern_of, plain_rules}
+use Rattle.lrpar_lexer.proofs.WinnerLemmas.{rules_find}
 use Rattle.lrpar_lexer.specs.Lexing.{Lexes, Reads, lexemes_of, nothing_at, ends, stops, reads}
 
 -- the results so far, and then those from byte `at` on, are the results of the whole text
@@ -45,26 +49,35 @@ boundary_past text at n within boundary =
     (omega arith, λ inside high. let lead : 192 ≤ get_or (drop at text) n 0 = boundary.1 (omega arith) (omega arith) in omega arith)
 
 -- the patterns of rules
-patterns_same : (rules : List LexRule) → map pattern_of rules ≡ map (λ (r : Rule). r.pattern) (plain_rules rules)
-patterns_same [] = refl
-patterns_same (rule ∷ rules) = ap (λ ps. pattern_of rule ∷ ps) (patterns_same rules)
+pub patterns_same : {S : Type 0} (index : S → ℕ) (rules : List (LexRule S))
+    → map pattern_of rules ≡ map (λ (r : Rule). r.pattern) (plain_rules index rules)
+patterns_same index [] = refl
+patterns_same index (rule ∷ rules) = ap (λ ps. pattern_of rule ∷ ps) (patterns_same index rules)
 
--- what wins in the rest of a text
-pub winner_of_rest : (patterns : List Re) (text rest : List ℕ) (at : ℕ) (winner : Option Winner) → rest ≡ drop at text
-    → IsWinner patterns rest winner → IsWinner patterns (drop at text) winner
-winner_of_rest patterns text rest at winner is wins = subst (λ r. IsWinner patterns r winner) is wins
+-- searches that run the programs of rules give the winner of their patterns
+pub winner_of_rules : {S : Type 0} (rules : List (LexRule S)) (programs : List Program) (text rest : List ℕ) (at : ℕ) (winner : Option Winner)
+    → programs ≡ map anchored_of rules → rest ≡ drop at text
+    → ((patterns : List Re) → AllZip FindsAtStart programs patterns → IsWinner patterns rest winner)
+    → IsWinner (map pattern_of rules) (drop at text) winner
+winner_of_rules rules programs text rest at winner same is wins =
+    subst (λ r. IsWinner (map pattern_of rules) r winner) is
+    (wins (map pattern_of rules) (subst (λ ps. AllZip FindsAtStart ps (map pattern_of rules)) (sym same) (rules_find rules)))
 
-module _ (rules : List LexRule) (text : List ℕ) (at : ℕ) where
+module _ {S : Type 0} (index : S → ℕ) (rules : List (LexRule S)) (text : List ℕ) (at : ℕ) where
   -- a rule that wins is one of the rules
   pub wins_within : (i n : ℕ) → Wins (map pattern_of rules) (drop at text) i n → i < length rules
   wins_within i n wins = omega (arith, length-map rules pattern_of, slice_get_within (map pattern_of rules) i wins.pattern wins.is)
 
+  -- its match lies in the text
+  pub winner_within : (i n : ℕ) → at ≤ length text → Wins (map pattern_of rules) (drop at text) i n → (0 < n) × (at + n ≤ length text)
+  winner_within i n inside wins = (wins.matches.some, (boundary_past text at n inside wins.matches.boundary).0)
+
   -- the winner is read
   pub reads_winner : (i n : ℕ) (token : Option ℕ) → Wins (map pattern_of rules) (drop at text) i n
-      → slice_get (map (λ (r : Rule). r.token) (plain_rules rules)) i ≡ Some token → Reads (plain_rules rules) text at token n
+      → slice_get (map (λ (r : Rule). r.token) (plain_rules index rules)) i ≡ Some token → Reads (plain_rules index rules) text at token n
   reads_winner i n token wins is =
-      record { rule = i; wins = subst (λ ps. Wins ps (drop at text) i n) (patterns_same rules) wins; is = is }
+      record { rule = i; wins = subst (λ ps. Wins ps (drop at text) i n) (patterns_same index rules) wins; is = is }
 
   -- if no pattern matches, no rule does
-  pub none_matches : NoneMatches (map pattern_of rules) (drop at text) → NoneMatches (map (λ (r : Rule). r.pattern) (plain_rules rules)) (drop at text)
-  none_matches none = subst (λ ps. NoneMatches ps (drop at text)) (patterns_same rules) none
+  pub none_matches : NoneMatches (map pattern_of rules) (drop at text) → NoneMatches (map (λ (r : Rule). r.pattern) (plain_rules index rules)) (drop at text)
+  none_matches none = subst (λ ps. NoneMatches ps (drop at text)) (patterns_same index rules) none

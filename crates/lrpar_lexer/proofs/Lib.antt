@@ -1,6 +1,12 @@
 pub mod WinnerLemmas
 pub mod LexingLemmas
 pub mod LexingLawLemmas
+pub mod AnswerLemmas
+pub mod UnmatchedLemmas
+pub mod LexingAllLemmas
+pub mod LexingAllLawLemmas
+pub mod LexesEachLemmas
+pub mod ListPlaceLemmas
 pub mod AnchoredLemmas
 pub mod TrimLemmas
 pub mod MarginLemmas

@@ -1,15 +1,14 @@
 -- The winner of some patterns, and of one more.
-use Rattle.std.proofs.Common.{◌≡◌, ℕ, ◌+◌, ◌<◌, ◌≤◌, List, [], ◌∷◌, ◌++◌, map, length, take, get_or, set, Option, Some, None, option_map, ⊎_elim, nat_le, sym, subst, ◌∙◌, ap, refl, zero, suc, arith, slice_get}
-use Rattle.std.specs.List.{All}
+use Rattle.std.proofs.Common.{◌≡◌, ℕ, ◌+◌, ◌<◌, ◌≤◌, List, [], ◌∷◌, ◌++◌, map, length, take, get_or, set, Option, Some, None, option_map, nat_le, sym, subst, ◌∙◌, ap, refl, zero, suc, arith, slice_get}
+use Rattle.std.specs.List.{All, AllZip}
 use Rattle.std.proofs.lemmas.Bool.{cond_both}
 use Rattle.std.proofs.lemmas.Bool.Decides.{nat_tests}
 use Rattle.std.proofs.lemmas.Grind.{common_steps}
 use Rattle.std.proofs.Math.Seq.{take-append_seam}
 use Rattle.std.proofs.lemmas.List.{map-append, map-set, set-get_or, get_or-map, take_all, take_more, take-append-le}
 use Rattle.std.proofs.lemmas.List.Elements.{All-push, All-same, All-weaker}
-use Rattle.std.proofs.lemmas.Option.{none-some, same_Some, slice_get-get_or, slice_get-map, slice_get_read, slice_get_within}
+use Rattle.std.proofs.lemmas.Option.{same_Some, slice_get-get_or, slice_get-map, slice_get_read, slice_get_within}
 use Rattle.regex.specs.Patterns.{Re, empty}
-use Rattle.regex_hir.proofs.OptionLemmas.{option_cases}
 use Rattle.regex_meta.specs.declared.program.Program.{Program}
 use Rattle.lrpar_lexer.specs.declared.matching.Winner.{Winner}
 use Rattle.lrpar_lexer.specs.declared.rule.LexRule.{LexRule}
@@ -99,22 +98,30 @@ better_wins_at patterns rest i best found within wins at =
     (subst (λ k. IsWinner (take i patterns ++ pattern ∷ []) rest (better best k found)) len
     (better_wins (take i patterns) rest pattern best found wins found_at))
 
--- what a rule's program finds is the match of its pattern
-pub match_of_rule : (rules : List LexRule) (programs : List Program) (rest : List ℕ) (i : ℕ) (found : Option ℕ) → programs ≡ map anchored_of rules
+-- the program of each pattern finds what the pattern finds
+program_of : (programs : List Program) (patterns : List Re) (i : ℕ) (pattern : Re) → AllZip FindsAtStart programs patterns
+    → slice_get patterns i ≡ Some pattern → (program : Program) × (slice_get programs i ≡ Some program) × FindsAtStart program pattern
+program_of [] [] i pattern find is = absurd (cc)
+program_of [] (p ∷ patterns) i pattern find is = absurd find
+program_of (p ∷ programs) [] i pattern find is = absurd find
+program_of (p ∷ programs) (q ∷ patterns) zero pattern find is = (p, refl, subst (FindsAtStart p) (same_Some q pattern is) find.0)
+program_of (p ∷ programs) (q ∷ patterns) (suc i) pattern find is = program_of programs patterns i pattern find.1 is
+
+-- what a pattern's program finds is the match of the pattern
+pub match_of_program : (programs : List Program) (patterns : List Re) (rest : List ℕ) (i : ℕ) (found : Option ℕ) → AllZip FindsAtStart programs patterns
     → ((program : Program) (pattern : Re) → slice_get programs i ≡ Some program → FindsAtStart program pattern → IsMatchLen rest pattern found)
-    → (pattern : Re) → slice_get (map pattern_of rules) i ≡ Some pattern → IsMatchLen rest pattern found
-match_of_rule rules programs rest i found same asks pattern at = ⊎_elim
-    (λ none. absurd (none-some pattern (sym (slice_get-map pattern_of rules i ∙ ap (option_map pattern_of) none) ∙ at)))
-    (λ (some : (r : LexRule) × (slice_get rules i ≡ Some r)).
-    let is : pattern_of some.0 ≡ pattern =
-    same_Some (pattern_of some.0) pattern (sym (slice_get-map pattern_of rules i ∙ ap (option_map pattern_of) some.1) ∙ at) in
-    let program : slice_get programs i ≡ Some (anchored_of some.0) =
-    ap (λ ps. slice_get ps i) same ∙ slice_get-map anchored_of rules i ∙ ap (option_map anchored_of) some.1 in
-    subst (λ re. IsMatchLen rest re found) is (asks (anchored_of some.0) (pattern_of some.0) program some.0.finds))
-    (option_cases (slice_get rules i))
+    → (pattern : Re) → slice_get patterns i ≡ Some pattern → IsMatchLen rest pattern found
+match_of_program programs patterns rest i found find asks pattern at =
+    let program = program_of programs patterns i pattern find at in
+    asks program.0 pattern program.1 program.2
+
+-- the program of each rule finds what its pattern finds
+pub rules_find : {S : Type 0} (rules : List (LexRule S)) → AllZip FindsAtStart (map anchored_of rules) (map pattern_of rules)
+rules_find [] = tt
+rules_find (rule ∷ rules) = (rule.finds, rules_find rules)
 
 -- one more search, for the next rule
-pub programs_more : {A : Type 0} (value : A → Program) (all after : List A) (one : A) (rules : List LexRule) (i : ℕ) (rule : LexRule) → i < length rules
+pub programs_more : {A S : Type 0} (value : A → Program) (all after : List A) (one : A) (rules : List (LexRule S)) (i : ℕ) (rule : LexRule S) → i < length rules
     → rule ≡ get_or rules i rule → after ≡ all ++ one ∷ [] → value one ≡ anchored_of rule → map value all ≡ map anchored_of (take i rules)
     → map value after ≡ map anchored_of (take (i + 1) rules)
 programs_more value all after one rules i rule within read put is so_far =
@@ -122,7 +129,7 @@ programs_more value all after one rules i rule within read put is so_far =
     ∙ ap (λ p. map anchored_of (take i rules) ++ p ∷ []) (is ∙ ap anchored_of read)
     ∙ sym (map-append anchored_of (take i rules) (get_or rules i rule ∷ [])) ∙ ap (map anchored_of) (sym (take_more rules i rule within))
 
-pub programs_all : {A : Type 0} (value : A → Program) (all : List A) (rules : List LexRule) (i : ℕ) → length rules ≤ i → map value all ≡ map anchored_of (take i rules)
+pub programs_all : {A S : Type 0} (value : A → Program) (all : List A) (rules : List (LexRule S)) (i : ℕ) → length rules ≤ i → map value all ≡ map anchored_of (take i rules)
     → map value all ≡ map anchored_of rules
 programs_all value all rules i long so_far = so_far ∙ ap (map anchored_of) (take_all i rules long)
 

@@ -2,9 +2,13 @@ pub mod Matching
 pub mod Anchored
 pub mod Matchers
 pub mod Rules
+pub mod Answers
 pub mod RuleLines
 pub mod RuleLineLaws
 pub mod RuleTexts
 pub mod Lexing
 pub mod LexingLaws
+pub mod LexingAll
+pub mod LexingAllLaws
+pub mod ListPlaces
 pub mod TokenTexts

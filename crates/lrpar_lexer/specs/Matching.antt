@@ -1,5 +1,5 @@
 -- Which of several patterns wins at the start of a text. What a pattern finds is what `regex` finds.
-use Rattle.std.specs.Prelude.{◌≡◌, ℕ, ◌<◌, ◌≤◌, List, Option, Some, None, if◌then◌else◌, nat_le, option_map, MatchOption, take, slice_get}
+use Rattle.std.specs.Prelude.{◌≡◌, ℕ, ◌+◌, ◌<◌, ◌≤◌, List, length, Option, Some, None, if◌then◌else◌, nat_le, option_map, MatchOption, take, drop, slice_get}
 use Rattle.std.specs.List.{All}
 use Rattle.std.specs.Str.{IsCharBoundary}
 use Rattle.regex.specs.Patterns.{Re, find_str, span}
@@ -38,6 +38,15 @@ pub record Wins (patterns : List Re) (rest : List ℕ) (i : ℕ) (n : ℕ) : Typ
 -- none of the patterns matches
 abbrev pub NoneMatches : List Re → List ℕ → Type 0
 NoneMatches patterns rest = All (HasNoMatch rest) patterns
+
+-- The n bytes from byte `at` of the text on, at least one, are the longest run of characters at which no pattern matches: none matches at
+-- `at`, nor at a later character of the run, and after the run the text ends, or one matches.
+pub record IsUnmatched (patterns : List Re) (text : List ℕ) (at : ℕ) (n : ℕ) : Type 0 where
+  pub some : 0 < n
+  pub boundary : IsCharBoundary text (at + n)
+  pub none : NoneMatches patterns (drop at text)
+  pub later : (place : ℕ) → at < place → place < at + n → IsCharBoundary text place → NoneMatches patterns (drop place text)
+  pub ends : at + n < length text → ¬ (NoneMatches patterns (drop (at + n) text))
 
 -- the winner of the patterns, if one matches
 abbrev pub IsWinner : List Re → List ℕ → Option Winner → Type 0

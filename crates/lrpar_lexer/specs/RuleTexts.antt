@@ -24,17 +24,18 @@ abbrev pub IsTokenOf : Grammar → Option (List ℕ) → Option ℕ → Type 0
 IsTokenOf grammar None token = token ≡ None
 IsTokenOf grammar (Some name) token = (token ≡ first_named grammar name) × IsSome token
 
--- the rule is the one of the line: its pattern is what `regex` reads in the line's pattern, and its token is that of the line's name
-pub record IsRuleOf (grammar : Grammar) (line : List ℕ) (rule : LexRule) : Type 0 where
+-- the rule is the one of the line: its pattern is what `regex` reads in the line's pattern, and its token is that of the line's name;
+-- `index` gives the number of a value of the storage type
+pub record IsRuleOf {S : Type 0} (index : S → ℕ) (grammar : Grammar) (line : List ℕ) (rule : LexRule S) : Type 0 where
   pub pattern : List ℕ
   pub name : Option (List ℕ)
   pub reads : ReadsAs line pattern name
   pub has_pattern : HasPattern pattern rule
-  pub has_token : IsTokenOf grammar name (token_of rule)
+  pub has_token : IsTokenOf grammar name (token_of index rule)
 
 -- there is one rule for each line that isn't blank, in the order of the lines, and it is the rule of that line
-abbrev pub AreRulesOf : Grammar → List (List ℕ) → List LexRule → Type 0
-AreRulesOf grammar lines rules = AllZip (IsRuleOf grammar) (cores_of lines) rules
+abbrev pub AreRulesOf : {S : Type 0} → (S → ℕ) → Grammar → List (List ℕ) → List (LexRule S) → Type 0
+AreRulesOf index grammar lines rules = AllZip (IsRuleOf index grammar) (cores_of lines) rules
 
 -- `regex` refuses the pattern with this error, which is neither `OutOfMemory` nor `Internal`: the grammar of patterns refuses it, or its
 -- program would be too big
@@ -49,14 +50,14 @@ SaysNoRule grammar line Unnamed = (pattern name : List ℕ) × ReadsAs line patt
 SaysNoRule grammar line (Pattern error) = (pattern : List ℕ) × (name : Option (List ℕ)) × ReadsAs line pattern name × IsRefusalOf pattern error
 
 -- line `number`, counted from 1, isn't blank and gives no rule for this reason, and the lines before it give rules, blank ones aside
-pub record IsFirstFault (grammar : Grammar) (lines : List (List ℕ)) (number : ℕ) (why : LineFault) : Type 0 where
+pub record IsFirstFault {S : Type 0} (index : S → ℕ) (grammar : Grammar) (lines : List (List ℕ)) (number : ℕ) (why : LineFault) : Type 0 where
   pub line : List ℕ
   pub from_one : 0 < number
   pub is : slice_get lines (number - 1) ≡ Some line
   pub counts : 0 < length (core_of line)
   pub says_none : SaysNoRule grammar (core_of line) why
-  pub rules : List LexRule
-  pub before : AreRulesOf grammar (take (number - 1) lines) rules
+  pub rules : List (LexRule S)
+  pub before : AreRulesOf index grammar (take (number - 1) lines) rules
 
 -- `IsSuch` holds for the line and the reason of the fault, unless the fault is `Memory`
 abbrev pub NamesLine : (ℕ → LineFault → Type 0) → RulesFault → Type 0
@@ -64,5 +65,5 @@ NamesLine IsSuch (Line number why) = IsSuch number why
 NamesLine IsSuch Memory = ⊤
 
 -- the fault is that of the first line, blank ones aside, that gives no rule, with the reason; or it is `Memory`
-abbrev pub IsFaultOf : Grammar → List ℕ → RulesFault → Type 0
-IsFaultOf grammar text fault = NamesLine (IsFirstFault grammar (text_lines text)) fault
+abbrev pub IsFaultOf : {S : Type 0} → (S → ℕ) → Grammar → List ℕ → RulesFault → Type 0
+IsFaultOf index grammar text fault = NamesLine (IsFirstFault index grammar (text_lines text)) fault

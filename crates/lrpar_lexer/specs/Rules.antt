@@ -15,26 +15,26 @@ pub record Rule : Type 0 where
   pub token : Option ℕ
 
 -- what a rule's program searches for, without the assertion that the text starts there
-abbrev pub pattern_of : LexRule → Re
+abbrev pub pattern_of : {S : Type 0} → LexRule S → Re
 pattern_of rule = without_start (programs.pattern_of rule.anchored)
 
 -- the program that searches for the rule's pattern at the start of a text
-abbrev pub anchored_of : LexRule → Program
+abbrev pub anchored_of : {S : Type 0} → LexRule S → Program
 anchored_of rule = rule.anchored
 
--- a rule of the code as plain data
-abbrev pub plain_rule : LexRule → Rule
-plain_rule rule = record { pattern = pattern_of rule; token = option_map (λ token. token.0) rule.token }
+-- a rule of the code as plain data; `index` gives the number of a value of the storage type
+abbrev pub plain_rule : {S : Type 0} → (S → ℕ) → LexRule S → Rule
+plain_rule index rule = record { pattern = pattern_of rule; token = option_map (λ token. index token.0) rule.token }
 
-abbrev pub plain_rules : List LexRule → List Rule
-plain_rules rules = map plain_rule rules
+abbrev pub plain_rules : {S : Type 0} → (S → ℕ) → List (LexRule S) → List Rule
+plain_rules index rules = map (plain_rule index) rules
 
 -- the rule's pattern is what the grammar of `regex` reads in the text, with the default options
-pub record HasPattern (text : List ℕ) (rule : LexRule) : Type 0 where
+pub record HasPattern {S : Type 0} (text : List ℕ) (rule : LexRule S) : Type 0 where
   pub tree : Hir
   pub names : Names
   pub read : Reads default_config text tree names
   pub is : pattern_of rule ≡ meaning tree
 
-abbrev pub token_of : LexRule → Option ℕ
-token_of rule = option_map (λ token. token.0) rule.token
+abbrev pub token_of : {S : Type 0} → (S → ℕ) → LexRule S → Option ℕ
+token_of index rule = option_map (λ token. index token.0) rule.token

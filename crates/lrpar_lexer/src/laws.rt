@@ -2,6 +2,7 @@
 ghost use Rattle.std.specs.Prelude.{◌↔◌, IsTrue};
 ghost use Rattle.lrpar_grammar_places.specs.Comparisons.{HashesAs};
 ghost use Rattle.lrpar_lexer.specs.LexingLaws.{LexesOneWay};
+ghost use Rattle.lrpar_lexer.specs.LexingAllLaws.{LexesAllAsLexemes, LexesAllAsRules, LexesAllOneWay, LexesEachText};
 ghost use Rattle.lrpar_lexer.specs.RuleLineLaws.{LinesReadOneWay};
 ghost use Rattle.lrpar_lexer.specs.TokenTexts.{IsSameToken, token_input};
 ghost use Rattle.lrpar_lexer.specs.declared.token.Token.{Token};
@@ -13,6 +14,15 @@ use std::hash::Hash;
 /// With the same rules a text has one list of lexemes and errors, from each place on.
 pub fn texts_are_lexed_one_way()
     ensures { LexesOneWay }
+{}
+
+/// With the same rules, and a token for unmatched characters, a text has exactly one list of lexemes. It has no error. If the rules alone
+/// give a list without an error, it is that list.
+pub fn texts_are_lexed_without_errors()
+    ensures some { LexesEachText }
+    ensures one { LexesAllOneWay }
+    ensures lexemes { LexesAllAsLexemes }
+    ensures rules { LexesAllAsRules }
 {}
 
 /// A line of a text of rules reads as at most one pattern and one name, or no name.

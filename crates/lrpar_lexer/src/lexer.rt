@@ -1,47 +1,88 @@
 //! The lexer of a text by rules.
-ghost use Rattle.std.specs.Prelude.{◌≡◌, IfOk};
+ghost use Rattle.std.specs.Prelude.{◌≡◌, [], IfOk, Some, None, option_map, slice_range};
 ghost use Rattle.std.specs.Str.{IsCharBoundary};
 ghost use Rattle.lrpar_grammar_places.specs.Lines.{column_of, line_of, line_table};
-ghost use Rattle.lrpar_lexer.specs.Lexing.{Lexes};
+ghost use Rattle.lrpar_grammar_places.specs.Span.{IsPartOf};
+ghost use Rattle.lrpar_lexer.specs.Answers.{plain_answers};
+ghost use Rattle.lrpar_lexer.specs.LexingAll.{LexesBy};
 ghost use Rattle.lrpar_lexer.specs.Rules.{plain_rules};
 
 use crate::lexing::answers;
+use crate::lexing_all::all_answers;
+use crate::list_lexer::ListLexer;
+use crate::parts::part_of;
 use crate::rule::LexRule;
 use crate::token::{NoToken, Token, TokenTypes};
 use lrpar_grammar_places::lines::NewlineCache;
-use lrpar_grammar_places::span::Span;
-use lrpar_parse_lexemes::{Lexer, NonStreamingLexer};
+use lrpar_grammar_places::span::{Span, StorageIndex, TIdx};
+use lrpar_parse_lexemes::{InputLexer, Lexeme, Lexer, NonStreamingLexer};
 use std::alloc::{AllocError, Global};
 
 /// A lexer of a text by rules. At each place the rule with the longest match wins, and among several such rules the first. If it
 /// has a token, the match is a lexeme; otherwise the match is skipped. If no rule matches, there is an error, and it is the last
-/// result.
+/// result; `with_unmatched` gives lexemes in place of errors.
 ///
 /// A pattern's match at a place is what `regex` finds in the text from that place on, if it begins there and isn't empty.
 #[derive(Drop)]
-pub struct RuleLexer<'rules, 'input> {
-    rules: &'rules [LexRule],
+pub struct RuleLexer<'rules, 'input, StorageT = u32> {
+    rules: &'rules [LexRule<StorageT>],
     input: &'input str,
     lines: NewlineCache,
+    // the token of characters at which no rule matches
+    unmatched: Option<TIdx<StorageT>>,
     ghost lines_of_input: { lines ≡ line_table input.now },
 }
 
-impl<'rules, 'input> RuleLexer<'rules, 'input> {
+impl<'rules, 'input, StorageT: StorageIndex> RuleLexer<'rules, 'input, StorageT> {
     /// The lexer of this text by these rules. Takes time linear in the text, and memory for each of its lines.
     pub fn new(
         alloc: Global,
-        rules: &'rules [LexRule],
+        rules: &'rules [LexRule<StorageT>],
         input: &'input str,
     ) -> Result<Self, AllocError>
         ensures rules { IfOk result (λ lexer. lexer.rules.now ≡ rules.now) }
         ensures input { IfOk result (λ lexer. lexer.input.now ≡ input.now) }
+        ensures unmatched { IfOk result (λ lexer. lexer.unmatched ≡ None) }
     {
         let lines = NewlineCache::new(alloc, input)?;
         Ok(RuleLexer {
             rules,
             input,
             lines,
+            unmatched: None,
         })
+    }
+
+    /// The same lexer, but it never gives an error: the longest run of characters at which no rule matches is one lexeme of this token. A
+    /// run ends at the first character at which a rule matches, or at the end of the text. `iter` tries the rules once more at each
+    /// character of a run, so its time stays linear in the text, if the time of a match is bounded.
+    pub fn with_unmatched(mut self, token: TIdx<StorageT>) -> Self
+        ensures rules { result.rules.now ≡ self.entry.rules.now }
+        ensures input { result.input.now ≡ self.entry.input.now }
+        ensures unmatched { result.unmatched ≡ Some token }
+    {
+        self.unmatched = Some(token);
+        self
+    }
+
+    /// The lexeme's part of the input. It is empty if the lexeme doesn't start and end in the input, each between two characters.
+    pub fn text(&self, lexeme: Token<StorageT>) -> &'input str
+        ensures part { IsPartOf self.now.input.now lexeme.span
+            → result.now ≡ slice_range self.now.input.now lexeme.span.start lexeme.span.end }
+        ensures outside { ¬ (IsPartOf self.now.input.now lexeme.span) → result.now ≡ [] }
+    {
+        part_of(self.input, lexeme.span())
+    }
+
+    /// A lexer with the lexemes and errors that this one gives, which are found only here. So calls that each need the lexemes of one
+    /// text, as a parse and a report, find them once. Takes the memory of the list, and of the lines of the text once more.
+    pub fn lexed(&self, alloc: Global) -> Result<ListLexer<'input, StorageT>, AllocError>
+        ensures answers { IfOk result (λ lexer. LexesBy (plain_rules StorageT.index self.now.rules.now)
+            (option_map (λ token. StorageT.index token.0) self.now.unmatched) self.now.input.now
+            (plain_answers StorageT.index lexer.answers.items)) }
+        ensures input { IfOk result (λ lexer. lexer.input.now ≡ self.now.input.now) }
+    {
+        ListLexer::over(alloc, self.input, self.iter(alloc)?)
     }
 
     // The line and the column of a byte.
@@ -56,18 +97,25 @@ impl<'rules, 'input> RuleLexer<'rules, 'input> {
     }
 }
 
-impl<'rules, 'input> Lexer<TokenTypes> for RuleLexer<'rules, 'input> {
-    ghost use Rattle.lrpar_lexer.specs.Lexing.{Lexes};
+impl<'rules, 'input, StorageT: StorageIndex> Lexer<TokenTypes<StorageT>>
+    for RuleLexer<'rules, 'input, StorageT> {
+    ghost use Rattle.lrpar_lexer.specs.Answers.{plain_answers};
+    ghost use Rattle.lrpar_lexer.specs.LexingAll.{LexesBy};
     ghost use Rattle.lrpar_lexer.specs.Rules.{plain_rules};
 
-    ghost allows = { λ lexer given. Lexes (plain_rules lexer.rules.now) lexer.input.now 0 given };
+    ghost allows = { λ lexer given. LexesBy (plain_rules StorageT.index lexer.rules.now)
+        (option_map (λ token. StorageT.index token.0) lexer.unmatched) lexer.input.now (plain_answers StorageT.index given) };
 
-    fn iter(&self, alloc: Global) -> Result<Vec<Result<Token<u32>, NoToken>>, AllocError> {
-        answers(alloc, self.rules, self.input)
+    fn iter(&self, alloc: Global) -> Result<Vec<Result<Token<StorageT>, NoToken>>, AllocError> {
+        match self.unmatched {
+            Some(token) => all_answers(alloc, self.rules, token, self.input),
+            None => answers(alloc, self.rules, self.input),
+        }
     }
 }
 
-impl<'rules, 'input> NonStreamingLexer<'input, TokenTypes> for RuleLexer<'rules, 'input> {
+impl<'rules, 'input, StorageT: StorageIndex> NonStreamingLexer<'input, TokenTypes<StorageT>>
+    for RuleLexer<'rules, 'input, StorageT> {
     ghost text = { λ lexer. lexer.input.now };
 
     fn span_str(&self, span: Span) -> &'input str {
@@ -81,5 +129,12 @@ impl<'rules, 'input> NonStreamingLexer<'input, TokenTypes> for RuleLexer<'rules,
 
     fn line_col(&self, span: Span) -> ((usize, usize), (usize, usize)) {
         (self.place(span.start()), self.place(span.end()))
+    }
+}
+
+impl<'rules, 'input, StorageT: StorageIndex> InputLexer<'input, TokenTypes<StorageT>>
+    for RuleLexer<'rules, 'input, StorageT> {
+    fn input(&self) -> &'input str {
+        self.input
     }
 }

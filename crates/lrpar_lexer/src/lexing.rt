@@ -1,21 +1,22 @@
 //! The lexemes and errors of a text.
-ghost use Rattle.std.specs.Prelude.{◌≡◌, ◌<◌, ◌≤◌, ◌+◌, ◌++◌, IfOk, OnOk, length, map, option_map, slice_get};
+ghost use Rattle.std.specs.Prelude.{◌≡◌, ◌<◌, ◌≤◌, ◌+◌, ◌++◌, IfOk, OnOk, Some, length, map, option_map, slice_get};
+ghost use Rattle.lrpar_lexer.specs.Answers.{plain_answers};
 ghost use Rattle.lrpar_lexer.specs.Lexing.{Lexes, lexemes_of};
 ghost use Rattle.lrpar_lexer.specs.Rules.{plain_rules};
 
 use crate::matching::Matchers;
 use crate::rule::LexRule;
 use crate::token::{NoToken, Token};
-use lrpar_grammar_places::span::TIdx;
+use lrpar_grammar_places::span::{StorageIndex, TIdx};
 use std::alloc::{AllocError, Global};
 
 // The lexemes and errors of a text, by the rules.
-pub(crate) fn answers(
+pub(crate) fn answers<StorageT: StorageIndex>(
     alloc: Global,
-    rules: &[LexRule],
+    rules: &[LexRule<StorageT>],
     text: &str,
-) -> Result<Vec<Result<Token<u32>, NoToken>>, AllocError>
-    ensures { IfOk result (λ answers. Lexes (plain_rules rules.now) text.now 0 answers.items) }
+) -> Result<Vec<Result<Token<StorageT>, NoToken>>, AllocError>
+    ensures { IfOk result (λ answers. Lexes (plain_rules StorageT.index rules.now) text.now 0 (plain_answers StorageT.index answers.items)) }
 {
     let mut matchers = Matchers::new(alloc, rules)?;
     let mut answers = Vec::new(alloc);
@@ -32,25 +33,30 @@ pub(crate) fn answers(
 }
 
 // The token of one of the rules.
-fn token_of(rules: &[LexRule], rule: usize) -> Option<TIdx<u32>>
+pub(crate) fn token_of<StorageT: StorageIndex>(
+    rules: &[LexRule<StorageT>],
+    rule: usize,
+) -> Option<TIdx<StorageT>>
     requires { rule < length rules.now }
-    ensures { slice_get (map (λ r. r.token) (plain_rules rules.now)) rule ≡ Some (option_map (λ token. token.0) result) }
+    ensures { slice_get (map (λ r. r.token) (plain_rules StorageT.index rules.now)) rule ≡ Some (option_map (λ token. StorageT.index token.0) result) }
 {
     rules[rule].token
 }
 
 // Appends the lexeme of the token, with `len` bytes from byte `at` on; nothing if there is no token.
-fn push_lexeme(
-    answers: &mut Vec<Result<Token<u32>, NoToken>>,
-    token: Option<TIdx<u32>>,
+pub(crate) fn push_lexeme<StorageT: StorageIndex>(
+    answers: &mut Vec<Result<Token<StorageT>, NoToken>>,
+    token: Option<TIdx<StorageT>>,
     at: usize,
     len: usize,
 ) -> Result<(), AllocError>
     requires fits { at + len ≤ usize.MAX }
-    ensures { OnOk result (answers.new.items ≡ answers.old.items ++ lexemes_of (option_map (λ token. token.0) token) at len) }
+    ensures { OnOk result (plain_answers StorageT.index answers.new.items
+        ≡ plain_answers StorageT.index answers.old.items ++ lexemes_of (option_map (λ token. StorageT.index token.0) token) at len) }
 {
-    if let Some(token) = token {
-        answers.push(Ok(Token::read(token.0, at, len)))?;
-    }
+    let Some(token) = token else {
+        return Ok(());
+    };
+    answers.push(Ok(Token::read(token.0, at, len)))?;
     Ok(())
 }

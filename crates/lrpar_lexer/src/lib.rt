@@ -4,12 +4,19 @@
 pub mod laws;
 mod lexer;
 mod lexing;
+mod lexing_all;
+mod list_fault;
+mod list_lexer;
+mod list_places;
 mod matching;
+mod parts;
 mod rule;
 mod rules;
 mod token;
 
 pub use lexer::RuleLexer;
+pub use list_fault::ListFault;
+pub use list_lexer::ListLexer;
 pub use rule::LexRule;
 pub use rules::{LineFault, RulesFault, rules_of};
 pub use token::{NoToken, Token, TokenTypes};

@@ -1,12 +1,13 @@
 //! Which of several patterns wins at a place of a text.
-ghost use Rattle.std.specs.Prelude.{◌≡◌, ◌<◌, IfOk, false, List, map, slice_get, vec_len};
+ghost use Rattle.std.specs.Prelude.{◌≡◌, ◌<◌, IfOk, MatchBool, false, List, drop, length, map, slice_get, vec_len};
+ghost use Rattle.std.specs.List.{AllZip};
+ghost use Rattle.std.specs.Str.{IsCharBoundary};
 ghost use Rattle.regex.specs.Patterns.{Re};
 ghost use Rattle.regex_meta.specs.Programs.{pattern_of as searched_by};
 ghost use Rattle.regex_meta.specs.declared.program.Program.{Program};
 ghost use Rattle.lrpar_lexer.specs.Anchored.{FindsAtStart, HasNothingAtStart};
-ghost use Rattle.lrpar_lexer.specs.Matching.{IsMatchLen, IsWinner, better};
-ghost use Rattle.lrpar_lexer.specs.Rules.{anchored_of, pattern_of};
-ghost use Rattle.lrpar_lexer.specs.declared.rule.LexRule.{LexRule};
+ghost use Rattle.lrpar_lexer.specs.Matching.{IsMatchLen, IsUnmatched, IsWinner, NoneMatches, better};
+ghost use Rattle.lrpar_lexer.specs.Rules.{anchored_of};
 
 use crate::rule::LexRule;
 use regex_meta::{Program, Searcher};
@@ -29,7 +30,10 @@ impl<'r> Matchers<'r> {
     ghost use Rattle.lrpar_lexer.specs.Matchers.{programs_of};
 
     // The searches for the patterns of the rules.
-    pub(crate) fn new(alloc: Global, rules: &'r [LexRule]) -> Result<Matchers<'r>, AllocError>
+    pub(crate) fn new<StorageT>(
+        alloc: Global,
+        rules: &'r [LexRule<StorageT>],
+    ) -> Result<Matchers<'r>, AllocError>
         ensures { IfOk result (λ matchers. programs_of matchers ≡ map anchored_of rules.now) }
     {
         let mut searchers = Vec::with_capacity(alloc, rules.len())?;
@@ -41,8 +45,7 @@ impl<'r> Matchers<'r> {
 
     // The winner at the start of a text, if a pattern matches there.
     pub(crate) fn winner(&mut self, rest: &str) -> Option<Winner>
-        ensures winner { (rules : List LexRule) → programs_of self.old ≡ map anchored_of rules
-            → IsWinner (map pattern_of rules) rest.now result }
+        ensures winner { (patterns : List Re) → AllZip FindsAtStart (programs_of self.old) patterns → IsWinner patterns rest.now result }
         ensures same { programs_of self.new ≡ programs_of self.old }
     {
         let mut best = None;
@@ -51,6 +54,36 @@ impl<'r> Matchers<'r> {
             best = better(best, index, found);
         }
         best
+    }
+
+    // The number of bytes of the longest run of characters from byte `at` on at which no pattern matches, if none matches at `at`.
+    pub(crate) fn unmatched_len(&mut self, text: &str, at: usize) -> usize
+        requires { at < length text.now }
+        ensures unmatched { (patterns : List Re) → AllZip FindsAtStart (programs_of self.old) patterns
+            → NoneMatches patterns (drop at text.now) → IsUnmatched patterns text.now at result }
+        ensures same { programs_of self.new ≡ programs_of self.old }
+    {
+        let mut len = 1;
+        'run: while at + len < text.len() {
+            if self.matches_at(text, at + len) {
+                return len;
+            }
+            len += 1;
+        }
+        len
+    }
+
+    // Whether byte `at` begins a character at which a pattern matches.
+    fn matches_at(&mut self, text: &str, at: usize) -> bool
+        ensures matches { (patterns : List Re) → AllZip FindsAtStart (programs_of self.old) patterns → MatchBool result
+            (IsCharBoundary text.now at × ¬ (NoneMatches patterns (drop at text.now)))
+            (IsCharBoundary text.now at → NoneMatches patterns (drop at text.now)) }
+        ensures same { programs_of self.new ≡ programs_of self.old }
+    {
+        if !text.is_char_boundary(at) {
+            return false;
+        }
+        self.winner(&text[at..]).is_some()
     }
 
     // The number of bytes that one of the patterns matches at the start of a text, if it does.

@@ -8,7 +8,7 @@ ghost use Rattle.regex_hir.specs.Meaning.{meaning};
 ghost use Rattle.regex_meta.specs.Programs.{pattern_of};
 ghost use Rattle.lrpar_lexer.specs.Anchored.{FindsAtStart, IsAfterStart, after_start, without_start};
 
-use lrpar_grammar_places::span::TIdx;
+use lrpar_grammar_places::span::{StorageIndex, TIdx};
 use regex::Error;
 use regex_hir::{Hir, Look};
 use regex_meta::Program;
@@ -20,29 +20,29 @@ use std::fmt;
 const SIZE_LIMIT: usize = 11 << 20;
 
 /// A rule: a pattern, and the token of its matches. The matches of a rule without a token are skipped.
-pub struct LexRule {
+pub struct LexRule<StorageT = u32> {
     /// The pattern after an assertion that the text starts there, so that a search of the rest of a text reads no further than
     /// a match at its start could.
     pub(crate) anchored: Program,
-    pub(crate) token: Option<TIdx<u32>>,
+    pub(crate) token: Option<TIdx<StorageT>>,
     ghost finds: { FindsAtStart anchored (without_start (pattern_of anchored)) },
 }
 
 // Hand-written, so that code that drops a rule needs the proof of one call only.
-impl Drop for LexRule {
+impl<StorageT: Drop> Drop for LexRule<StorageT> {
     fn drop(self) {
         let LexRule { anchored, token: _ } = self;
         drop(anchored);
     }
 }
 
-impl LexRule {
+impl<StorageT: StorageIndex> LexRule<StorageT> {
     ghost use Rattle.lrpar_lexer.specs.Rules.{HasPattern, token_of};
 
     /// The rule with this pattern and token. Fails as `regex` fails for the pattern. The pattern is compiled only here.
-    pub fn new(alloc: Global, pattern: &str, token: Option<TIdx<u32>>) -> Result<LexRule, Error>
+    pub fn new(alloc: Global, pattern: &str, token: Option<TIdx<StorageT>>) -> Result<Self, Error>
         ensures pattern { IfOk result (HasPattern pattern.now) }
-        ensures token { IfOk result (λ rule. token_of rule ≡ option_map (λ token. token.0) token) }
+        ensures token { IfOk result (λ rule. token_of StorageT.index rule ≡ option_map (λ token. StorageT.index token.0) token) }
         ensures refused { IfErr result (IsRefusal default_config pattern.now) }
         ensures kind { IfErr result (IsRightKind default_config pattern.now) }
         ensures no_internal { IfErr result (λ error. error ≢ Internal) }
@@ -52,14 +52,14 @@ impl LexRule {
     }
 
     /// The token of the pattern's matches, if they have one.
-    pub fn token(&self) -> Option<TIdx<u32>>
-        ensures { token_of self.now ≡ option_map (λ token. token.0) result }
+    pub fn token(&self) -> Option<TIdx<StorageT>>
+        ensures { token_of StorageT.index self.now ≡ option_map (λ token. StorageT.index token.0) result }
     {
         self.token
     }
 }
 
-impl fmt::Debug for LexRule {
+impl<StorageT: fmt::Debug> fmt::Debug for LexRule<StorageT> {
     fn fmt<W: fmt::Write>(&self, f: &mut fmt::Formatter<W>) -> fmt::Result {
         f.debug_struct("LexRule")
             .field("token", &self.token)

@@ -6,7 +6,7 @@ ghost use Rattle.lrpar_lexer.specs.RuleTexts.{AreRulesOf, IsFaultOf, IsRuleOf, N
 
 use crate::rule::LexRule;
 use lrpar_grammar::grammar::YaccGrammar;
-use lrpar_grammar_places::span::TIdx;
+use lrpar_grammar_places::span::{StorageIndex, TIdx};
 use std::alloc::{AllocError, AllocFailed, Global};
 use thiserror::Error;
 
@@ -37,13 +37,13 @@ pub enum LineFault {
 /// returns at both ends of a line are ignored, and so is a line with nothing else. NAME is the text between the last two quotes.
 ///
 /// The rules are in the order of their lines. A fault has the first line that gives no rule, and the reason.
-pub fn rules_of(
+pub fn rules_of<StorageT: StorageIndex>(
     alloc: Global,
-    grm: &YaccGrammar<u32>,
+    grm: &YaccGrammar<StorageT>,
     text: &str,
-) -> Result<Vec<LexRule>, RulesFault>
-    ensures rules { IfOk result (λ rules. AreRulesOf grm.now (text_lines text.now) rules.items) }
-    ensures fault { IfErr result (IsFaultOf grm.now text.now) }
+) -> Result<Vec<LexRule<StorageT>>, RulesFault>
+    ensures rules { IfOk result (λ rules. AreRulesOf StorageT.index grm.now (text_lines text.now) rules.items) }
+    ensures fault { IfErr result (IsFaultOf StorageT.index grm.now text.now) }
 {
     let mut rules = Vec::new(alloc);
     let mut number = 0;
@@ -66,13 +66,13 @@ fn core_of(line: &str) -> &str
 }
 
 // The rule of a line with this number.
-fn rule_of(
+fn rule_of<StorageT: StorageIndex>(
     alloc: Global,
-    grm: &YaccGrammar<u32>,
+    grm: &YaccGrammar<StorageT>,
     line: &str,
     number: usize,
-) -> Result<LexRule, RulesFault>
-    ensures rule { IfOk result (IsRuleOf grm.now line.now) }
+) -> Result<LexRule<StorageT>, RulesFault>
+    ensures rule { IfOk result (IsRuleOf StorageT.index grm.now line.now) }
     ensures fault { IfErr result (NamesLine (λ n why. (n ≡ number) × SaysNoRule grm.now line.now why)) }
 {
     let Some((pattern, name)) = rule_parts(line) else {
@@ -99,8 +99,12 @@ fn refusal(error: &regex::Error, number: usize) -> RulesFault
 }
 
 // The first token with that name.
-fn token_named(grm: &YaccGrammar<u32>, name: &str, number: usize) -> Result<TIdx<u32>, RulesFault>
-    ensures token { IfOk result (λ token. first_named grm.now name.now ≡ Some token.0) }
+fn token_named<StorageT: StorageIndex>(
+    grm: &YaccGrammar<StorageT>,
+    name: &str,
+    number: usize,
+) -> Result<TIdx<StorageT>, RulesFault>
+    ensures token { IfOk result (λ token. first_named grm.now name.now ≡ Some (StorageT.index token.0)) }
     ensures fault { IfErr result (NamesLine (λ n why. (n ≡ number) × (why ≡ LineFault.Unnamed) × (first_named grm.now name.now ≡ None))) }
 {
     match grm.token_idx(name) {

@@ -1,11 +1,13 @@
 //! Lexemes, and the error for a place at which no rule matches.
 ghost use Rattle.std.specs.Prelude.{◌≡◌, ◌+◌, ◌≤◌};
+ghost use Rattle.lrpar_lexer.specs.Answers.{plain_token};
 ghost use Rattle.lrpar_lexer.specs.Lexing.{lexeme_of, nothing_at};
 
 use lrpar_grammar_places::span::{Span, StorageIndex};
 use lrpar_parse_lexemes::{LexError, Lexeme, LexerTypes};
 use std::error::Error;
 use std::fmt;
+use std::marker::PhantomData;
 
 /// A lexeme: its token, its place, and whether a repair made it.
 #[derive(Clone, Copy, Debug, PartialEq, Eq, Hash)]
@@ -15,11 +17,11 @@ pub struct Token<StorageT> {
     is_faulty: bool,
 }
 
-impl Token<u32> {
+impl<StorageT: StorageIndex> Token<StorageT> {
     // The lexeme of `len` bytes from byte `at` on.
-    pub(crate) fn read(number: u32, at: usize, len: usize) -> Token<u32>
+    pub(crate) fn read(number: StorageT, at: usize, len: usize) -> Token<StorageT>
         requires fits { at + len ≤ usize.MAX }
-        ensures { result ≡ lexeme_of number at len }
+        ensures { plain_token StorageT.index result ≡ lexeme_of (StorageT.index number) at len }
     {
         Token {
             number,
@@ -75,7 +77,7 @@ impl<StorageT: StorageIndex> Lexeme<StorageT> for Token<StorageT> {
 }
 
 /// The error for a place at which no token fits.
-#[derive(Debug, Drop)]
+#[derive(Clone, Copy, Debug)]
 pub struct NoToken {
     span: Span,
 }
@@ -119,14 +121,16 @@ impl LexError for NoToken {
     }
 }
 
-/// The types of lexers with these lexemes and these errors.
+/// The types of lexers with these lexemes and these errors. Tokens are numbered by `StorageT`.
 #[derive(Clone, Debug, Drop)]
-pub struct TokenTypes;
+pub struct TokenTypes<StorageT = u32> {
+    storage: PhantomData<StorageT>,
+}
 
-impl LexerTypes for TokenTypes {
-    type LexemeT = Token<u32>;
+impl<StorageT: StorageIndex> LexerTypes for TokenTypes<StorageT> {
+    type LexemeT = Token<StorageT>;
 
-    type StorageT = u32;
+    type StorageT = StorageT;
 
     type LexErrorT = NoToken;
 }

@@ -1,70 +1,40 @@
 //! Sums and products, computed as they are parsed: a lexer, actions and repairs as a user writes them.
-ghost use Rattle.std.specs.Prelude.{◌≡◌, ◌↔◌, IfOk, IsTrue};
-ghost use Rattle.lrpar_grammar_places.specs.Lines.{line_table};
+ghost use Rattle.std.specs.Prelude.{◌↔◌, IfOk, IsTrue};
 
-use lrpar::lines::NewlineCache;
 use lrpar::parser::AStackType::ActionType;
 use lrpar::parser::{AStackType, Actions};
 use lrpar::repair::{FixedRecoverer, RepairStep};
 use lrpar::span::{PIdx, RIdx, Span, Symbol, TIdx};
-use lrpar::{LexParseError, Lexeme, Lexer, NonStreamingLexer, ParserData, RTParserBuilder};
-use lrpar_lexer::{NoToken, Token, TokenTypes};
+use lrpar::{InputLexer, LexParseError, Lexeme, ParserData, RTParserBuilder};
+use lrpar_lexer::{ListFault, ListLexer, NoToken, Token, TokenTypes};
 use std::alloc::{AllocError, Global};
 use std::test::Fail;
 
-#[derive(Drop)]
-struct SumLexer<'input> {
-    text: &'input str,
-    lines: NewlineCache,
-    ghost lines_of_text: { lines ≡ line_table text.now },
-}
-
-impl<'input> Lexer<TokenTypes> for SumLexer<'input> {
-    ghost allows = { λ _ _. Unit {0} };
-
-    fn iter(&self, alloc: Global) -> Result<Vec<Result<Token<u32>, NoToken>>, AllocError> {
-        let (bytes, mut answers) = (self.text.as_bytes(), Vec::new(alloc));
-        for (at, byte) in bytes.iter().enumerate() {
-            let digits = bytes[at..].iter().take_while(|b| b.is_ascii_digit());
-            answers.push(match *byte {
-                b' ' => continue,
-                b'+' => Ok(Token::new(0, at, 1)),
-                b'*' => Ok(Token::new(1, at, 1)),
-                b'(' => Ok(Token::new(2, at, 1)),
-                b')' => Ok(Token::new(3, at, 1)),
-                b'0'..=b'9' if at > 0 && bytes[at - 1].is_ascii_digit() => continue,
-                b'0'..=b'9' => Ok(Token::new(4, at, digits.count())),
-                _ => Err(NoToken::new(Span::new(at, at))),
-            })?;
-        }
-        Ok(answers)
+// The lexer of a sum.
+fn sum_lexer<'input>(alloc: Global, text: &'input str) -> Result<ListLexer<'input>, ListFault> {
+    let (bytes, mut answers) = (text.as_bytes(), Vec::new(alloc));
+    for (at, byte) in bytes.iter().enumerate() {
+        let digits = bytes[at..].iter().take_while(|b| b.is_ascii_digit());
+        answers.push(match *byte {
+            b' ' => continue,
+            b'+' => Ok(Token::new(0, at, 1)),
+            b'*' => Ok(Token::new(1, at, 1)),
+            b'(' => Ok(Token::new(2, at, 1)),
+            b')' => Ok(Token::new(3, at, 1)),
+            b'0'..=b'9' if at > 0 && bytes[at - 1].is_ascii_digit() => continue,
+            b'0'..=b'9' => Ok(Token::new(4, at, digits.count())),
+            // a byte inside a character
+            0x80..=0xbf => continue,
+            _ => Err(NoToken::new(Span::new(at, at))),
+        })?;
     }
-}
-
-impl<'input> NonStreamingLexer<'input, TokenTypes> for SumLexer<'input> {
-    ghost text = { λ lexer. lexer.text.now };
-
-    fn span_str(&self, span: Span) -> &'input str {
-        &self.text[span.start()..span.end()]
-    }
-
-    fn span_lines_str(&self, span: Span) -> &'input str {
-        let (start, end) = self.lines.span_line_bytes(span);
-        &self.text[start..end]
-    }
-
-    fn line_col(&self, span: Span) -> ((usize, usize), (usize, usize)) {
-        let (lines, text) = (&self.lines, self.text);
-        let start = lines.byte_to_line_num_and_col_num(text, span.start());
-        let end = lines.byte_to_line_num_and_col_num(text, span.end());
-        (start.unwrap(), end.unwrap())
-    }
+    ListLexer::new(alloc, text, answers)
 }
 
 #[derive(Drop)]
 struct Calculation;
 
-impl<'input> Actions<u32, Token<u32>, SumLexer<'input>> for Calculation {
+impl<'input> Actions<u32, Token<u32>, ListLexer<'input>> for Calculation {
     type ActionT = Option<u64>;
 
     type ParamT = ();
@@ -86,7 +56,7 @@ impl<'input> Actions<u32, Token<u32>, SumLexer<'input>> for Calculation {
         _: Global,
         pidx: PIdx<u32>,
         _: RIdx<u32>,
-        lexer: &SumLexer<'input>,
+        lexer: &ListLexer<'input>,
         span: Span,
         args: Vec<AStackType<Token<u32>, Option<u64>>>,
         _: &(),
@@ -94,7 +64,7 @@ impl<'input> Actions<u32, Token<u32>, SumLexer<'input>> for Calculation {
         ensures fact { IfOk result (λ _. Unit {0}) }
         ensures answers { IfOk result (λ _. Unit {0}) }
     {
-        let text = lexer.text.get(span.start()..span.end()).unwrap_or("");
+        let text = lexer.input().get(span.start()..span.end()).unwrap_or("");
         Ok(match (pidx.as_storaget(), args.as_slice()) {
             (0, [ActionType(Some(left)), _, ActionType(Some(right))]) => left.checked_add(*right),
             (2, [ActionType(Some(left)), _, ActionType(Some(right))]) => left.checked_mul(*right),
@@ -112,8 +82,7 @@ pub(crate) fn calculated(
     line: &str,
 ) -> Result<(String, Option<u64>), Fail> {
     let parser = RTParserBuilder::new(data).recoverer(FixedRecoverer::new(repairs(alloc)?));
-    let lines = NewlineCache::new(alloc, line)?;
-    let lexer = SumLexer { text: line, lines };
+    let lexer = sum_lexer(alloc, line)?;
     let (number, errors) = parser.parse_actions(alloc, &lexer, &Calculation, &())?;
     Ok((shown(alloc, &lexer, &errors)?, number.unwrap_or(None)))
 }
@@ -127,12 +96,12 @@ fn repairs(alloc: Global) -> Result<Vec<Vec<RepairStep<u32>>>, Fail> {
 // The text of the errors, with `INT` for each token.
 fn shown(
     alloc: Global,
-    lexer: &SumLexer<'_>,
+    lexer: &ListLexer<'_>,
     errors: &[LexParseError<u32, TokenTypes>],
 ) -> Result<String, Fail> {
     let mut text = String::new(alloc);
     for error in errors {
-        if error.fits(lexer.text) {
+        if error.fits(lexer.input()) {
             writeln!(text, "{}", error.pp(alloc, lexer, |_| Some("INT"))?)?;
         }
     }

@@ -10,6 +10,8 @@ mod errors;
 #[cfg(test)]
 mod expectations;
 #[cfg(test)]
+mod lexers;
+#[cfg(test)]
 mod lines;
 #[cfg(test)]
 mod recoverer;

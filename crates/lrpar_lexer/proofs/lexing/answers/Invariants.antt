@@ -1,5 +1,6 @@
 use Rattle.std.proofs.Common.{◌≡◌, ◌-◌, length, map}
 use Rattle.std.specs.Str.{IsCharBoundary}
+use Rattle.lrpar_lexer.specs.Answers.{plain_answers}
 use Rattle.lrpar_lexer.specs.Matchers.{programs_of}
 use Rattle.lrpar_lexer.specs.Rules.{anchored_of, plain_rules}
 use Rattle.lrpar_lexer.proofs.LexingLemmas.{LeadsTo}
@@ -7,11 +8,11 @@ use Rattle.lrpar_lexer.proofs.lexing.answers.Given as goal
 
 -- the results so far, and then those of the rest of the text, are the results of the text
 abbrev pub invariant-places : goal.invariant-places
-invariant-places l = record {
+invariant-places g l = record {
   programs : programs_of l.matchers ≡ map anchored_of l.rules;
   boundary : IsCharBoundary l.text l.at;
-  leads : LeadsTo (plain_rules l.rules) l.text l.at l.answers.items;
+  leads : LeadsTo (plain_rules g.StorageT.StorageIndex.index l.rules) l.text l.at (plain_answers g.StorageT.StorageIndex.index l.answers.items);
 }
 
 abbrev pub decreases-places : goal.decreases-places
-decreases-places l = length l.text - l.at
+decreases-places g l = length l.text - l.at

@@ -4,8 +4,9 @@ use Rattle.lrpar_lexer.specs.Rules.{Rule, plain_rule, plain_rules}
 use Rattle.lrpar_lexer.proofs.lexing.token_of.Goals as goal
 
 pub returns : goal.returns
-returns c =
+returns g c =
+    let index = g.StorageT.StorageIndex.index in
     let all = c.args.rules.now in
     let token : Rule → Option ℕ = λ r. r.token in
-    slice_get-map token (plain_rules all) c.args.rule
-    ∙ ap (option_map token) (slice_get-map plain_rule all c.args.rule ∙ ap (option_map plain_rule) (slice_get-get_or all c.args.rule c.index-rules-rule.result c.requires))
+    slice_get-map token (plain_rules index all) c.args.rule
+    ∙ ap (option_map token) (slice_get-map (plain_rule index) all c.args.rule ∙ ap (option_map (plain_rule index)) (slice_get-get_or all c.args.rule c.index-rules-rule.result c.requires))

@@ -7,7 +7,7 @@ use Rattle.lrpar_lexer.proofs.RuleFaultLemmas.{names_returned, names_weaker}
 use Rattle.lrpar_lexer.proofs.rules.rule_of.Goals as goal
 
 pub returns-in_err-token_named-in-Some-name-clause-fault : goal.returns-in_err-token_named-in-Some-name-clause-fault
-returns-in_err-token_named-in-Some-name-clause-fault c =
+returns-in_err-token_named-in-Some-name-clause-fault g c =
     let grammar = c.args.grm.now in
     let line = c.args.line.now in
     let pattern = c.in-Some.pattern.now in
@@ -20,7 +20,7 @@ returns-in_err-token_named-in-Some-name-clause-fault c =
     c.from_residual.ensures.1 c.in_err-token_named-in-Some-name.ensures.fault
 
 pub returns-in-Err : goal.returns-in-Err
-returns-in-Err c =
+returns-in-Err g c =
     let grammar = c.args.grm.now in
     let line = c.args.line.now in
     let pattern = c.in-Some.pattern.now in

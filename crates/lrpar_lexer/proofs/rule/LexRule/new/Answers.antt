@@ -4,9 +4,9 @@ use Rattle.lrpar_lexer.proofs.AnchoredLemmas.{finds_after}
 use Rattle.lrpar_lexer.proofs.rule.LexRule.new.Goals as goal
 
 pub invariant_of-result : goal.invariant_of-result
-invariant_of-result c = record { finds = finds_after c.args.pattern.now c.in_ok-anchored.anchored c.in_ok-anchored.ensures.read }
+invariant_of-result g c = record { finds = finds_after c.args.pattern.now c.in_ok-anchored.anchored c.in_ok-anchored.ensures.read }
 
 pub returns-clause-pattern : goal.returns-clause-pattern
-returns-clause-pattern c =
+returns-clause-pattern g c =
     let it = c.in_ok-anchored.ensures.read in
     record { tree = it.tree; names = it.names; read = it.read; is = ap without_start it.after }

@@ -1,0 +1,155 @@
+-- Each text has a list of lexemes, if unmatched characters are lexemes, too: at each place it can be found out what comes there.
+use Rattle.std.proofs.Common.{◌≡◌, ℕ, ◌+◌, ◌-◌, ◌<◌, ◌≤◌, ◌⊎◌, List, [], length, map, drop, take, get_or, Option, Some, None, option_map, Result, sym, subst, ◌∙◌, ap, arith, add-one, inl, inr, refl, zero, suc, slice_get, ◌++◌}
+use Rattle.std.specs.List.{All}
+use Rattle.std.specs.Str.{IsCharBoundary}
+use Rattle.std.proofs.lemmas.Bool.{cases_lt}
+use Rattle.std.proofs.lemmas.List.{length-map, take_all}
+use Rattle.std.proofs.lemmas.List.Elements.{All-nil}
+use Rattle.std.proofs.lemmas.Option.{none-some, same_Some, slice_get-get_or, slice_get_within}
+use Rattle.regex.specs.Patterns.{Re, empty, find_str, span}
+use Rattle.regex_hir.proofs.OptionLemmas.{option_cases}
+use Rattle.lrpar_lexer.specs.declared.matching.Winner.{Winner}
+use Rattle.lrpar_lexer.specs.declared.token.Token.{Token}
+use Rattle.lrpar_lexer.specs.declared.token.NoToken.{NoToken}
+use Rattle.lrpar_lexer.specs.Matching.{HasNoMatch, IsMatch, IsMatchLen, IsUnmatched, IsWinner, NoneMatches, Wins, better}
+use Rattle.lrpar_lexer.specs.Rules.{Rule}
+use Rattle.lrpar_lexer.specs.Lexing.{Reads, lexemes_of}
+use Rattle.lrpar_lexer.specs.LexingAll.{IsNext, LexesAll, finishes, goes_on}
+use Rattle.lrpar_lexer.specs.LexingAllLaws.{LexesEachText}
+use Rattle.lrpar_lexer.proofs.LexingLawLemmas.{wins_not_none}
+use Rattle.lrpar_lexer.proofs.UnmatchedLemmas.{NoneLater, none_later_first, run_to_end}
+use Rattle.lrpar_lexer.proofs.WinnerLemmas.{better_wins_at}
+
+-- a place is between two characters, or isn't
+boundary_or_not : (text : List ℕ) (at : ℕ) → IsCharBoundary text at ⊎ (¬ (IsCharBoundary text at))
+boundary_or_not text at = elim (cases_lt (length text) at) [
+  | inl past ↦ inr (λ boundary. omega (arith, boundary.0))
+  | inr within ↦ elim (cases_lt at (length text)) [
+    | inl inside ↦ elim (cases_lt (get_or text at 0) 128) [
+      | inl ascii ↦ inl (within, λ _ high. absurd (omega arith))
+      | inr high ↦ elim (cases_lt (get_or text at 0) 192) [
+        | inl continues ↦ inr (λ boundary. let lead : 192 ≤ get_or text at 0 = boundary.1 inside high in omega arith)
+        | inr leads ↦ inl (within, λ _ _. leads)
+      ]
+    ]
+    | inr end ↦ inl (within, λ inside. absurd (omega arith))
+  ]
+]
+
+module _ (rest : List ℕ) (pattern : Re) where
+  -- what the pattern finds is a match at the start, or isn't
+  found_len : (s : ℕ × ℕ) → option_map span (find_str pattern rest 0) ≡ Some s → (found : Option ℕ) × IsMatchLen rest pattern found
+  found_len s is = elim (cases_lt 0 s.0) [
+    | inl later ↦ (None, λ n is_match. let first : s.0 ≡ 0 = ap (λ (p : ℕ × ℕ). p.0) (same_Some s (0, n) (sym is ∙ is_match.found)) in omega arith)
+    | inr first ↦ elim (cases_lt 0 s.1) [
+      | inl some ↦ elim (boundary_or_not rest s.1) [
+        | inl boundary ↦
+            let at : s.0 ≡ 0 = omega arith in
+            (Some s.1, record { found = is ∙ ap (λ k. Some (k, s.1)) at; some = some; boundary = boundary })
+        | inr not ↦ (
+          None,
+          λ n is_match. let same : s.1 ≡ n = ap (λ (p : ℕ × ℕ). p.1) (same_Some s (0, n) (sym is ∙ is_match.found)) in
+              not (subst (IsCharBoundary rest) (sym same) is_match.boundary),
+        )
+      ]
+      | inr nothing ↦ (
+        None,
+        λ n is_match. let same : s.1 ≡ n = ap (λ (p : ℕ × ℕ). p.1) (same_Some s (0, n) (sym is ∙ is_match.found)) in
+            omega (arith, is_match.some),
+      )
+    ]
+  ]
+
+  -- so the pattern has a match at the start, or none
+  match_len_of : (found : Option ℕ) × IsMatchLen rest pattern found
+  match_len_of = elim (option_cases (option_map span (find_str pattern rest 0))) [
+    | inl none ↦ (None, λ n is_match. none-some (0, n) (sym none ∙ is_match.found))
+    | inr some ↦ found_len some.0 some.1
+  ]
+
+-- the first patterns have a winner, or none of them matches
+winner_of : (patterns : List Re) (rest : List ℕ) (i : ℕ) → i ≤ length patterns → (winner : Option Winner) × IsWinner (take i patterns) rest winner
+winner_of patterns rest zero within = (None, All-nil (HasNoMatch rest))
+winner_of patterns rest (suc i) within =
+    let before = winner_of patterns rest i (omega arith) in
+    let inside : i < length patterns = omega arith in
+    let there = match_len_of rest (get_or patterns i empty) in
+    let next : suc i ≡ i + 1 = omega arith in (
+      better before.0 i there.0,
+      subst (λ k. IsWinner (take k patterns) rest (better before.0 i there.0)) (sym next)
+          (better_wins_at patterns rest i before.0 there.0 inside before.1
+          (λ pattern is. subst (λ re. IsMatchLen rest re there.0)
+          (same_Some (get_or patterns i empty) pattern (sym (slice_get-get_or patterns i empty inside) ∙ is)) there.1)),
+    )
+
+module _ (rules : List Rule) (text : List ℕ) where
+  abbrev patterns : List Re
+  patterns = map (λ (r : Rule). r.pattern) rules
+
+  -- the winner is read, and if there is none, no rule matches
+  read_of_winner : (at : ℕ) (winner : Option Winner) → IsWinner patterns (drop at text) winner
+      → ((token : Option ℕ) × (n : ℕ) × Reads rules text at token n) ⊎ NoneMatches patterns (drop at text)
+  read_of_winner at None none = inr none
+  read_of_winner at (Some w) wins =
+      let tokens = map (λ (r : Rule). r.token) rules in
+      let within : w.rule < length tokens =
+      omega (arith, slice_get_within patterns w.rule wins.pattern wins.is, length-map rules (λ (r : Rule). r.pattern), length-map rules (λ (r : Rule). r.token)) in
+      inl (get_or tokens w.rule None, w.len, record { rule = w.rule; wins = wins; is = slice_get-get_or tokens w.rule None within })
+
+  -- at each place a rule wins, or none matches
+  read_or_none : (at : ℕ) → ((token : Option ℕ) × (n : ℕ) × Reads rules text at token n) ⊎ NoneMatches patterns (drop at text)
+  read_or_none at =
+      let winner = winner_of patterns (drop at text) (length patterns) (omega arith) in
+      read_of_winner at winner.0 (subst (λ ps. IsWinner ps (drop at text) winner.0) (take_all (length patterns) patterns (omega arith)) winner.1)
+
+  -- a run of n bytes so far ends somewhere
+  run_of : (at : ℕ) → NoneMatches patterns (drop at text) → (left n : ℕ) → 0 < n → at + n + left ≡ length text → NoneLater patterns text at n
+      → (m : ℕ) × IsUnmatched patterns text at m
+  run_of at none zero n some end later = (n, run_to_end patterns text at n some (omega arith) none later)
+  run_of at none (suc left) n some end later = elim (boundary_or_not text (at + n)) [
+    | inl boundary ↦ elim (read_or_none (at + n)) [
+      | inl read ↦ (
+        n,
+        record {
+          some = some;
+          boundary = boundary;
+          none = none;
+          later = later;
+          ends = λ _ here. wins_not_none patterns (drop (at + n) text) read.2.rule read.1 read.2.wins here;
+        },
+      )
+      | inr here ↦ run_of at none left (n + 1) (omega arith) (omega arith) (more (λ _. here))
+    ]
+    | inr not ↦ run_of at none left (n + 1) (omega arith) (omega arith) (more (λ boundary. absurd (not boundary)))
+  ]
+    where
+      more : (IsCharBoundary text (at + n) → NoneMatches patterns (drop (at + n) text)) → NoneLater patterns text at (n + 1)
+      more here place above below boundary = elim (cases_lt place (at + n)) [
+        | inl before ↦ later place above before boundary
+        | inr past ↦
+            let same : at + n ≡ place = omega arith in
+            subst (λ k. NoneMatches patterns (drop k text)) same (here (subst (IsCharBoundary text) (sym same) boundary))
+      ]
+
+  -- so at each place something comes
+  next_of : (unmatched at : ℕ) → at < length text → (token : Option ℕ) × (n : ℕ) × (0 < n) × IsNext rules unmatched text at token n
+  next_of unmatched at within = elim (read_or_none at) [
+    | inl read ↦ (read.0, read.1, read.2.wins.matches.some, inl read.2)
+    | inr none ↦
+        let run = run_of at none (length text - (at + 1)) 1 (omega arith) (omega arith) (none_later_first patterns text at) in
+        (Some unmatched, run.0, run.1.some, inr (run.1, refl))
+  ]
+
+  -- and the rest of the text has a list
+  lexes_rest : (unmatched left at : ℕ) → length text ≤ at + left → (answers : List (Result (Token ℕ) NoToken)) × LexesAll rules unmatched text at answers
+  lexes_rest unmatched zero at end = ([], finishes at (omega arith))
+  lexes_rest unmatched (suc left) at end = elim (cases_lt at (length text)) [
+    | inl within ↦
+        let next = next_of unmatched at within in
+        let rest = lexes_rest unmatched left (at + next.1) (omega (arith, next.2)) in
+        (lexemes_of next.0 at next.1 ++ rest.0, goes_on at next.1 next.0 rest.0 within next.3 rest.1)
+    | inr past ↦ ([], finishes at past)
+  ]
+
+pub lexes_each_text : LexesEachText
+lexes_each_text rules unmatched text = lexes_rest rules text unmatched (length text) 0 (omega arith)

@@ -1,0 +1,19 @@
+use Rattle.std.proofs.Common.{◌≡◌, ◌-◌, length, map}
+use Rattle.std.specs.Str.{IsCharBoundary}
+use Rattle.lrpar_lexer.specs.Answers.{plain_answers}
+use Rattle.lrpar_lexer.specs.Matchers.{programs_of}
+use Rattle.lrpar_lexer.specs.Rules.{anchored_of, plain_rules}
+use Rattle.lrpar_lexer.proofs.LexingAllLemmas.{LeadsToAll}
+use Rattle.lrpar_lexer.proofs.lexing_all.all_answers.Given as goal
+
+-- the lexemes so far, and then those of the rest of the text, are the lexemes of the text
+abbrev pub invariant-places : goal.invariant-places
+invariant-places g l = record {
+  programs : programs_of l.matchers ≡ map anchored_of l.rules;
+  boundary : IsCharBoundary l.text l.at;
+  leads : LeadsToAll (plain_rules g.StorageT.StorageIndex.index l.rules) (g.StorageT.StorageIndex.index l.unmatched.0) l.text l.at
+      (plain_answers g.StorageT.StorageIndex.index l.answers.items);
+}
+
+abbrev pub decreases-places : goal.decreases-places
+decreases-places g l = length l.text - l.at
