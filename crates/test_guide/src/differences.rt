@@ -36,6 +36,7 @@ enum Failed {
 }
 
 /// The numbers of a text.
+#[derive(Drop)]
 struct Differences<'a> {
     text: &'a str,
 }
@@ -116,7 +117,7 @@ const SHOWN: [(&str, &str); 5] = [
 ];
 
 #[test]
-fn differences(rt: HostRuntime) -> Result<(), Fail> {
+fn numbers_of_differences(rt: HostRuntime) -> Result<(), Fail> {
     let (data, rules) = language(rt.alloc())?;
     are_shown(&rt, rt.alloc(), &data, &rules)
 }
