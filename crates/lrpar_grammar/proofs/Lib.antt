@@ -10,3 +10,4 @@ pub mod MatchingLemmas
 pub mod ListingLemmas
 pub mod SymbolNameLemmas
 pub mod TakeLemmas
+pub mod ProdTextLemmas

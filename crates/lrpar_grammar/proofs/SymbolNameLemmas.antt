@@ -6,7 +6,8 @@ use Rattle.std.specs.List.{slice_get}
 use Rattle.std.specs.Map.{update}
 use Rattle.std.specs.Option.{option_map_or}
 use Rattle.std.proofs.lemmas.List.{append-nil, at_drop_all, at_drop_more, drop_more, get_or-map, length-map, map-append}
-use Rattle.lrpar_grammar_words.specs.Words.{PlacedWord, ReadsAs}
+use Rattle.lrpar_grammar_words.specs.declared.words.Word.{Word}
+use Rattle.lrpar_grammar_words.specs.Words.{PlacedWord, ReadsAs, placed}
 use Rattle.lrpar_grammar_words.proofs.WordsLemmas.{reads_as_one}
 use Rattle.lrpar_grammar_reader.specs.Grammar.{Grammar, rule_name, rules_len}
 use Rattle.lrpar_grammar.specs.Spelled.{NamedSymbols, SpellsNumbers, first_number, number_named, numbers_named, numbers_spelled}
@@ -88,3 +89,17 @@ module _ (n : NamedSymbols) where
       let some : Some numbers ≡ None = sym spells.spelled ∙ ap (numbers_spelled n) same ∙ sym is in
       cc
   numbers_of_words text words reads (Some x) is = record { words = words; reads = reads; spelled = sym is }
+
+  -- the same for a word of the code
+  pub named_more_code : (words : List Word) (i : ℕ) (d : Word) (xs : List ℕ) (k : ℕ) → i < length words
+      → number_named n (get_or words i d).kind (get_or words i d).name.now ≡ Some k
+      → option_map (λ ks. xs ++ ks) (numbers_named n (drop i (map placed words))) ≡ option_map (λ ks. (xs ++ k ∷ []) ++ ks) (numbers_named n (drop (i + 1) (map placed words)))
+  named_more_code words i d xs k within named =
+      let w = placed (get_or words i d) in
+      named_more_words (map placed words) i w xs k (omega (arith, length-map words placed)) (sym (get_or-map placed words i d w within)) named
+
+  pub unnamed_word_code : (words : List Word) (i : ℕ) (d : Word) (xs : List ℕ) → i < length words
+      → number_named n (get_or words i d).kind (get_or words i d).name.now ≡ None → option_map (λ ks. xs ++ ks) (numbers_named n (drop i (map placed words))) ≡ None
+  unnamed_word_code words i d xs within named =
+      let w = placed (get_or words i d) in
+      unnamed_word (map placed words) i w xs (omega (arith, length-map words placed)) (sym (get_or-map placed words i d w within)) named

@@ -16,7 +16,7 @@ use Rattle.lrpar_grammar.proofs.MatchingLemmas.{all_of}
 
 -- a value that is there
 some_of : (o : Option ℕ) → IsSome o → (t : ℕ) × (o ≡ Some t)
-some_of None is = absurd is
+some_of None is = absurd (cc)
 some_of (Some t) is = (t, refl)
 
 -- the faults of a text, by the fault that is made
@@ -62,6 +62,7 @@ module _ (n : NamedSymbols) (prods spelled : List (List ℕ)) (first : BTreeMap 
 
   -- a production without a text
   pub missing_at : SpellEach n texts spelled → (p : ℕ) → IsFirstWithout places p → IsMissingAt n prods texts p
+  unfolding go_well
   missing_at spell p bad =
       let len = matched.places_len in
       let below = bad.within in
@@ -74,6 +75,43 @@ module _ (n : NamedSymbols) (prods spelled : List (List ℕ)) (first : BTreeMap 
             let place = some_of (get_or places q None) (bad.first q before) in
             (place.0, subst (IsPlaceOf prods spelled q) place.1 (matched.places_are q (omega arith)));
       }
+
+module _ (n : NamedSymbols) (prods spelled : List (List ℕ)) (first : BTreeMap (Bor (List ℕ)) ℕ) (next free places : List (Option ℕ))
+    (matched : AreMatched prods spelled first next free places) (texts : List (List ℕ)) (place : ℕ) (bytes : List ℕ)
+    (within : place < length texts) (is : bytes ≡ numbers_at texts place) (spell : SpellEach n (take place texts) spelled) where
+  -- a text that has no form of a production
+  pub unread_at : ((numbers : List ℕ) → SpellsNumbers n bytes numbers → ⊥) → IsUnknownAt n prods texts bytes place
+  unread_at unread = record {
+    within = within;
+    is = is;
+    before = go_well n prods spelled first next free places matched (take place texts) spell;
+    unknown = λ p below spells. unread (numbers_at prods p) spells;
+  }
+
+  -- a text of a production that isn't there
+  pub unknown_at : (numbers : List ℕ) → SpellsNumbers n bytes numbers → count_of numbers prods ≡ 0 → IsUnknownAt n prods texts bytes place
+  unknown_at numbers spells none = record {
+    within = within;
+    is = is;
+    before = go_well n prods spelled first next free places matched (take place texts) spell;
+    unknown = λ p below again.
+        let less = count_before numbers prods p below (spells_one n bytes (numbers_at prods p) numbers again spells) in
+        absurd (omega arith);
+  }
+
+  -- a text too many
+  pub repeated_at : (numbers : List ℕ) → SpellsNumbers n bytes numbers → (0 < count_of numbers prods) × (count_of numbers prods ≤ count_of numbers spelled)
+      → IsRepeatedAt n prods texts bytes place
+  unfolding go_well
+  repeated_at numbers spells full = record {
+    within = within;
+    is = is;
+    before = go_well n prods spelled first next free places matched (take place texts) spell;
+    numbers = numbers;
+    spells = spells;
+    known = full.0;
+    full = full.1;
+  }
 
 -- the texts list the productions
 pub listing : (g : Grammar) (prods texts spelled : List (List ℕ)) (first : BTreeMap (Bor (List ℕ)) ℕ) (next free places : List (Option ℕ))

@@ -18,7 +18,7 @@ impl<StorageT: StorageIndex> YaccGrammar<StorageT> {
     {
         let mut text = String::from_str(alloc, self.rule_name_str(self.prod_to_rule(pidx)))?;
         text.push(':')?;
-        for symbol in self.prod(pidx) {
+        for symbol in self.listed_symbols(pidx) {
             text.push(' ')?;
             self.push_symbol(&mut text, *symbol)?;
         }

@@ -83,7 +83,8 @@ impl<StorageT: StorageIndex> YaccGrammar<StorageT> {
         prods: &[Vec<usize>],
         texts: &[&str],
     ) -> Result<Vec<Option<usize>>, SpelledFault>
-        requires { map (λ numbers. numbers.items) prods.now ≡ listed_prods self.now }
+        requires prods { map (λ numbers. numbers.items) prods.now ≡ listed_prods self.now }
+        requires fits { start_prod self.now < StorageT.limit }
         ensures listed { IfOk result (λ places. IsListing self.now (map (λ text. text.now) texts.now) places.items) }
         ensures faulty { IfErr result (IsSpelledFault self.now (map (λ text. text.now) texts.now)) }
     {
@@ -98,13 +99,12 @@ impl<StorageT: StorageIndex> YaccGrammar<StorageT> {
 
     // The fault that a production has no text.
     fn missing(&self, alloc: Global, prod: usize) -> SpelledFault
-        requires { prod < prods_len self.now }
+        requires within { prod < prods_len self.now }
+        requires fits { prod < StorageT.limit }
         ensures { IsMissingOf self.now prod result }
     {
-        let Some(number) = StorageT::from_index(prod) else {
-            unreachable!()
-        };
-        match self.prod_text(alloc, PIdx(number)) {
+        let pidx = PIdx(StorageT::from_index(prod).unwrap());
+        match self.prod_text(alloc, pidx) {
             Ok(text) => SpelledFault::Missing { text },
             Err(_) => SpelledFault::Memory,
         }
@@ -112,9 +112,10 @@ impl<StorageT: StorageIndex> YaccGrammar<StorageT> {
 
     // The productions other than the start production, as numbers of symbols.
     fn listed_prods(&self, alloc: Global) -> Result<Vec<Vec<usize>>, AllocError>
-        ensures { IfOk result (λ prods. map (λ numbers. numbers.items) prods.items ≡ listed_prods self.now) }
+        ensures prods { IfOk result (λ prods. map (λ numbers. numbers.items) prods.items ≡ listed_prods self.now) }
+        ensures fits { start_prod self.now < StorageT.limit }
     {
-        let end = usize::from(self.start_prod());
+        let end = self.start_prod().0.to_index();
         let mut prods = Vec::with_capacity(alloc, end)?;
         for number in 0..end {
             let pidx = PIdx(StorageT::from_index(number).unwrap());

@@ -8,4 +8,4 @@ use Rattle.lrpar_grammar.proofs.grammar.value.YaccGrammar.numbers.Given as goal
 abbrev pub invariant-loop-symbol : goal.invariant-loop-symbol
 invariant-loop-symbol g l =
     let index = g.StorageT.StorageIndex.index in
-    l.numbers.items ≡ rule_of l.self (index l.pidx.0) ∷ map (λ s. symbol_number (rules_len l.self) (symbol_of index s)) (take l.symbol-index l.symbol-items)
+    l.numbers.items ≡ rule_of l.self (index l.fn.pidx.0) ∷ map (λ s. symbol_number (rules_len l.self) (symbol_of index s)) (take l.symbol-index l.symbol-items)

@@ -9,4 +9,4 @@ use Rattle.lrpar_grammar.proofs.grammar.value.YaccGrammar.prod_text.Given as goa
 abbrev pub invariant-loop-symbol : goal.invariant-loop-symbol
 invariant-loop-symbol g l =
     let index = g.StorageT.StorageIndex.index in
-    string_bytes l.text ≡ rule_name l.self (rule_of l.self (index l.pidx.0)) ++ (58 ∷ flat_map (λ s. 32 ∷ symbol_text l.self s) (map (symbol_of index) (take l.symbol-index l.symbol-items)))
+    string_bytes l.text ≡ rule_name l.self (rule_of l.self (index l.fn.pidx.0)) ++ (58 ∷ flat_map (λ s. 32 ∷ symbol_text l.self s) (map (symbol_of index) (take l.symbol-index l.symbol-items)))
