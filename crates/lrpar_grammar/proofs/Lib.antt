@@ -4,3 +4,10 @@ pub mod PartsLemmas
 pub mod ForestLemmas
 pub mod RewritingLemmas
 pub mod FitLemmas
+pub mod CountLemmas
+pub mod ChainLemmas
+pub mod MatchingLemmas
+pub mod ListingLemmas
+pub mod SymbolNameLemmas
+pub mod TakeLemmas
+pub mod ProdTextLemmas

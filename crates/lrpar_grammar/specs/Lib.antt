@@ -8,3 +8,9 @@ pub mod Sum
 pub mod SpansFit
 pub mod Tokens
 pub mod Printed
+pub mod Spelled
+pub mod Chains
+pub mod Matching
+pub mod SymbolNames
+pub mod ProdText
+pub mod SpelledFaults

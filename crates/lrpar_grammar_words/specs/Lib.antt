@@ -4,3 +4,4 @@ pub mod Outline
 pub mod Phrases
 pub mod Forms
 pub mod Kinds
+pub mod WordList

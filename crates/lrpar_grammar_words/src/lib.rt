@@ -3,5 +3,6 @@
 
 pub mod laws;
 pub mod outline;
+pub mod word_list;
 pub mod word_order;
 pub mod words;

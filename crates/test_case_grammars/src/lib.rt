@@ -4,5 +4,6 @@
 pub mod examples;
 pub mod grammars;
 pub mod parts;
+pub mod spelled;
 pub mod underlines;
 mod uses;

@@ -2,7 +2,7 @@
 use crate::{commands, streams};
 use std::alloc::Global;
 use std::rt::Files;
-use test_case_grammars::{examples, grammars, parts, underlines};
+use test_case_grammars::{examples, grammars, parts, spelled, underlines};
 use test_case_lines::cases::Case;
 use test_case_lines::fault::Fault;
 use test_case_lines::printed::Printed;
@@ -18,6 +18,7 @@ pub(crate) fn inputs_of(kind: &str) -> &'static [&'static str] {
         "streams" => streams::INPUTS,
         "text" | "cuts" => grammars::INPUTS,
         "parts" => parts::INPUTS,
+        "spelled" => spelled::INPUTS,
         "build" => built::INPUTS,
         "check" => checks::INPUTS,
         "stack" => stacks::INPUTS,
@@ -45,6 +46,7 @@ pub(crate) fn outcome<R: Files>(
         "text" => grammars::outcome(out, alloc, case),
         "cuts" => grammars::outcome_of_cuts(out, alloc, case),
         "parts" => parts::outcome(out, alloc, case),
+        "spelled" => spelled::outcome(out, alloc, case),
         "build" => built::outcome(out, alloc, case),
         "rows" => rows::outcome(out, alloc, subject, case),
         "check" => checks::outcome(out, alloc, subject, case),

@@ -1,5 +1,5 @@
 //! The grammar value.
-ghost use Rattle.std.specs.Prelude.{◌≡◌, ◌<◌, ◌≤◌, ◌+◌, ◌↔◌, if◌then◌else◌, codes, IfErr, IfOk, IsErrOf, IsNone, IsTrue, Some, map, option_map, position};
+ghost use Rattle.std.specs.Prelude.{◌≡◌, ◌<◌, ◌≤◌, ◌+◌, ◌↔◌, if◌then◌else◌, All, codes, IfErr, IfOk, IsErrOf, IsNone, IsTrue, Some, map, option_map, position};
 ghost use Rattle.std.specs.List.{range_with_len, slice_get};
 ghost use Rattle.std.specs.Str.{bytes_eq};
 ghost use Rattle.lrpar_grammar_reader.specs.SpansFit.{NamesFit, SpansFit};
@@ -59,7 +59,7 @@ impl<StorageT: StorageIndex> YaccGrammar<StorageT> {
     ghost use Rattle.lrpar_grammar_reader.specs.Parts.{AreSound, grammar_of, parts_of, token_name_of, IsFirstFault, IsRefusalOf};
     ghost use Rattle.lrpar_grammar.specs.Kept.{split_prod_of};
     ghost use Rattle.lrpar_grammar.specs.Printed.{printed_of};
-    ghost use Rattle.lrpar_grammar_reader.specs.Grammar.{IsWellFormed, rules_len, prods_len, tokens_len, end_token, start_prod, rule_of, symbols_of, symbol_spans_of, prod_span_of, prods_of, rule_name, rule_span, token_name, token_epp, token_span};
+    ghost use Rattle.lrpar_grammar_reader.specs.Grammar.{IsListedSymbol, IsWellFormed, rules_len, prods_len, tokens_len, end_token, start_prod, rule_of, symbols_of, symbol_spans_of, prod_span_of, prods_of, rule_name, rule_span, token_name, token_epp, token_span};
 
     /// The grammar of the parts. Its rules are the added rule and the listed ones, in order; its productions are the
     /// listed ones, in order, and the start production; its tokens are the listed ones, in order, and the end token.
@@ -160,6 +160,15 @@ impl<StorageT: StorageIndex> YaccGrammar<StorageT> {
         ensures { map (symbol_of StorageT.index) result.now ≡ symbols_of self.now (StorageT.index pidx.0) }
     {
         &self.kept(pidx).symbols
+    }
+
+    // The right side of a production, whose symbols are rules and tokens of the grammar.
+    pub(super) fn listed_symbols(&self, pidx: PIdx<StorageT>) -> &[Symbol<StorageT>]
+        requires { StorageT.index pidx.0 < prods_len self.now }
+        ensures symbols { map (symbol_of StorageT.index) result.now ≡ symbols_of self.now (StorageT.index pidx.0) }
+        ensures listed { All (IsListedSymbol (rules_len self.now) (end_token self.now)) (symbols_of self.now (StorageT.index pidx.0)) }
+    {
+        &self.prods[usize::from(pidx)].symbols
     }
 
     /// The place of each symbol of a production.
