@@ -30,9 +30,9 @@ pub trait Values<StorageT: StorageIndex, LexemeT: Lexeme<StorageT>, LexerT> {
         &self,
         alloc: Global,
         pidx: PIdx<StorageT>,
-        args: Args<'_, LexerT, LexemeT, Self::Value, Self::Error>,
+        args: &mut Args<'_, LexerT, LexemeT, Self::Value, Self::Error>,
     ) -> Result<Self::Value, Self::Error>
-        ensures { gives self.now (StorageT.index pidx.0) args.entry result };
+        ensures { gives self.now (StorageT.index pidx.0) args.old result };
 }
 
 /// The actions that make a caller's values: the value of a production with an error among its arguments is the first such error.
@@ -80,7 +80,8 @@ impl<
         if has_failure(&args) {
             return Ok(Err(first_failure(args)));
         }
-        Ok(self.values.value(alloc, pidx, Args::new(lexer, span, args)))
+        let mut args = Args::new(lexer, span, args);
+        Ok(self.values.value(alloc, pidx, &mut args))
     }
 }
 

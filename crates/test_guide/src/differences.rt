@@ -50,7 +50,7 @@ impl<'a, L> Values<u32, Token<u32>, L> for Differences<'a> {
         &self,
         _: Global,
         pidx: PIdx<u32>,
-        mut args: Args<'_, L, Token<u32>, u64, Failed>,
+        args: &mut Args<'_, L, Token<u32>, u64, Failed>,
     ) -> Result<u64, Failed> {
         match usize::from(pidx) {
             0 => {

@@ -52,7 +52,7 @@ impl<'a, L> Values<u32, Token<u32>, L> for Recording<'a> {
         &self,
         _: Global,
         pidx: PIdx<u32>,
-        args: Args<'_, L, Token<u32>, (), Failed>,
+        args: &mut Args<'_, L, Token<u32>, (), Failed>,
     ) -> Result<(), Failed> {
         let production = usize::from(pidx).saturating_mul(10);
         let call = production.saturating_add(args.span().start());
@@ -143,7 +143,7 @@ impl<L> Values<u32, Token<u32>, L> for Differences {
         &self,
         _: Global,
         pidx: PIdx<u32>,
-        mut args: Args<'_, L, Token<u32>, usize, Failed>,
+        args: &mut Args<'_, L, Token<u32>, usize, Failed>,
     ) -> Result<usize, Failed> {
         match usize::from(pidx) {
             0 => {
