@@ -103,3 +103,12 @@ pub trait NonStreamingLexer<'input, LexerTypesT: LexerTypes>: Lexer<LexerTypesT>
         ensures end_line { result.1.0 ≡ line_of (text self.now) span.end }
         ensures end_column { result.1.1 ≡ column_of (text self.now) span.end };
 }
+
+/// A lexer that can also return its whole input.
+pub trait InputLexer<'input, LexerTypesT: LexerTypes>:
+    NonStreamingLexer<'input, LexerTypesT>
+{
+    /// The whole input.
+    fn input(&self) -> &'input str
+        ensures input { result.now ≡ Self.text self.now };
+}

@@ -7,6 +7,6 @@ pub mod places;
 pub mod pp_fault;
 pub mod repairs;
 
-pub use lex_api::{LexError, Lexeme, Lexer, LexerTypes, NonStreamingLexer};
+pub use lex_api::{InputLexer, LexError, Lexeme, Lexer, LexerTypes, NonStreamingLexer};
 pub use pp_fault::PpFault;
 pub use repairs::ParseRepair;
