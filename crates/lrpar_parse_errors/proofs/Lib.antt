@@ -2,3 +2,5 @@ pub mod SequenceTextLemmas
 pub mod FailureLemmas
 pub mod ErrorTextLemmas
 pub mod LexParseTextLemmas
+pub mod MessageLemmas
+pub mod ActedOnLemmas

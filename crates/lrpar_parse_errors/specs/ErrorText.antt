@@ -17,6 +17,10 @@ digits n = length (decimal n)
 abbrev pub place_text : List ℕ → List ℕ → ℕ → List ℕ
 place_text what input byte = what ++ codes " at line " ++ decimal (line_of input byte) ++ codes " column " ++ decimal (column_of input byte) ++ codes "."
 
+-- what is wrong, and a byte of the input
+abbrev pub byte_text : List ℕ → ℕ → List ℕ
+byte_text what byte = what ++ codes " at byte " ++ decimal byte ++ codes "."
+
 -- what comes before sequence i: its number, right-aligned in a column for numbers of at most `most` digits
 abbrev pub numbering : ℕ → ℕ → List ℕ
 numbering most i = 10 ∷ codes "  " ++ replicate (most - digits i + 1) 32 ++ decimal i ++ codes ": "

@@ -6,3 +6,4 @@ pub mod ErrorText
 pub mod LexParseText
 pub mod SequenceText
 pub mod PrintedParts
+pub mod ActedOn

@@ -10,6 +10,7 @@ ghost use Rattle.lrpar_grammar.specs.SpansFit.{IsPartOf};
 ghost use Rattle.lrpar_parse_errors.specs.SequenceText.{IsPartsText, RepairFits, RepairsFit, parts_of};
 
 use crate::errors::LexParseError;
+use crate::names::{ByFunction, TokenNames};
 use crate::sequence_text::push_sequence;
 use crate::spaces::push_spaces;
 use lrpar_grammar::span::{Span, StorageIndex, TIdx};
@@ -60,6 +61,22 @@ impl<StorageT: StorageIndex, LexerTypesT: LexerTypes<StorageT = StorageT>> LexPa
         ensures fault { IfErr result (IsPpFault StorageT.index
             (printed_by StorageT.index (F.post epp)) (error_tokens (λ x. (LexerTypesT.LexemeT.parts x).span) self.now)) }
     {
+        self.text_by(alloc, lexer, &ByFunction(epp))
+    }
+
+    // The text of the error, with these names.
+    pub(crate) fn text_by<
+        'input,
+        L: NonStreamingLexer<'input, LexerTypesT>,
+        N: TokenNames<'input, StorageT>,
+    >(&self, alloc: Global, lexer: &L, names: &N) -> Result<String, PpFault<StorageT>>
+        requires names { N.can_name names.now }
+        requires fits { ErrorFits LexerTypesT.LexErrorT.place (λ x. (LexerTypesT.LexemeT.parts x).span) (L.text lexer.now) self.now }
+        ensures text { IfOk result (λ text. IsErrorText LexerTypesT.LexErrorT.place (λ x. (LexerTypesT.LexemeT.parts x).span)
+            (N.prints names.now) (L.text lexer.now) self.now (string_bytes text)) }
+        ensures fault { IfErr result (IsPpFault StorageT.index
+            (N.prints names.now) (error_tokens (λ x. (LexerTypesT.LexemeT.parts x).span) self.now)) }
+    {
         let mut out = String::new(alloc);
         match self {
             LexParseError::LexError(error) => {
@@ -68,7 +85,7 @@ impl<StorageT: StorageIndex, LexerTypesT: LexerTypes<StorageT = StorageT>> LexPa
             }
             LexParseError::ParseError(error) => {
                 push_place(&mut out, lexer, "Parsing error", error.lexeme().span())?;
-                push_repairs(&mut out, alloc, lexer, &epp, error.repairs())?;
+                push_repairs(&mut out, alloc, lexer, names, error.repairs())?;
                 Ok(out)
             }
         }
@@ -163,21 +180,21 @@ fn push_repairs<
     StorageT: StorageIndex,
     LexerTypesT: LexerTypes<StorageT = StorageT>,
     L: NonStreamingLexer<'input, LexerTypesT>,
-    F: Fn(TIdx<StorageT>) -> Option<&'input str>,
+    N: TokenNames<'input, StorageT>,
 >(
     out: &mut String,
     alloc: Global,
     lexer: &L,
-    epp: &F,
+    names: &N,
     sequences: &[Vec<ParseRepair<LexerTypesT::LexemeT, StorageT>>],
 ) -> Result<(), PpFault<StorageT>>
-    requires epp { F.IsAlwaysCallable epp.now }
+    requires names { N.can_name names.now }
     requires fits { AllByRecursion (RepairsFit (λ x. (LexerTypesT.LexemeT.parts x).span) (L.text lexer.now)) (repairs_of StorageT.index sequences.now) }
     ensures text { OnOk result ((texts : List (List ℕ)) × (string_bytes out.new ≡ string_bytes out.old ++ repairs_text texts)
-        × AllZip (IsPartsText (printed_by StorageT.index (F.post epp.now)) (L.text lexer.now))
+        × AllZip (IsPartsText (N.prints names.now) (L.text lexer.now))
         (map (parts_of (λ x. (LexerTypesT.LexemeT.parts x).span)) (repairs_of StorageT.index sequences.now)) texts) }
     ensures fault { IfErr result (IsPpFault StorageT.index
-        (printed_by StorageT.index (F.post epp.now))
+        (N.prints names.now)
         (tokens_of (λ x. (LexerTypesT.LexemeT.parts x).span) (repairs_of StorageT.index sequences.now))) }
 {
     if sequences.is_empty() {
@@ -186,7 +203,7 @@ fn push_repairs<
     }
     out.push_str(" Repair sequences found:")?;
     let most = sequences.len().to_string(alloc)?.len();
-    push_listed(out, alloc, lexer, epp, most, sequences)
+    push_listed(out, alloc, lexer, names, most, sequences)
 }
 
 // Adds the sequences, each after its number. The numbers have at most `most` digits.
@@ -195,27 +212,27 @@ fn push_listed<
     StorageT: StorageIndex,
     LexerTypesT: LexerTypes<StorageT = StorageT>,
     L: NonStreamingLexer<'input, LexerTypesT>,
-    F: Fn(TIdx<StorageT>) -> Option<&'input str>,
+    N: TokenNames<'input, StorageT>,
 >(
     out: &mut String,
     alloc: Global,
     lexer: &L,
-    epp: &F,
+    names: &N,
     most: usize,
     sequences: &[Vec<ParseRepair<LexerTypesT::LexemeT, StorageT>>],
 ) -> Result<(), PpFault<StorageT>>
-    requires epp { F.IsAlwaysCallable epp.now }
+    requires names { N.can_name names.now }
     requires fits { AllByRecursion (RepairsFit (λ x. (LexerTypesT.LexemeT.parts x).span) (L.text lexer.now)) (repairs_of StorageT.index sequences.now) }
     ensures text { OnOk result ((texts : List (List ℕ)) × (string_bytes out.new ≡ string_bytes out.old ++ numbered most 1 texts)
-        × AllZip (IsPartsText (printed_by StorageT.index (F.post epp.now)) (L.text lexer.now))
+        × AllZip (IsPartsText (N.prints names.now) (L.text lexer.now))
         (map (parts_of (λ x. (LexerTypesT.LexemeT.parts x).span)) (repairs_of StorageT.index sequences.now)) texts) }
     ensures fault { IfErr result (IsPpFault StorageT.index
-        (printed_by StorageT.index (F.post epp.now))
+        (N.prints names.now)
         (tokens_of (λ x. (LexerTypesT.LexemeT.parts x).span) (repairs_of StorageT.index sequences.now))) }
 {
     for (i, sequence) in sequences.iter().enumerate() {
         push_numbering(out, alloc, most, i + 1)?;
-        push_sequence(out, lexer, epp, sequence)?;
+        push_sequence(out, lexer, names, sequence)?;
     }
     Ok(())
 }

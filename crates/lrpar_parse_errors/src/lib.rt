@@ -3,6 +3,9 @@
 
 mod error_text;
 pub mod errors;
+mod expected;
+mod message;
+mod names;
 pub mod printed_parts;
 mod sequence_text;
 pub mod spaces;

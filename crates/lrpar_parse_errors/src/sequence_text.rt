@@ -1,13 +1,14 @@
 //! The text of one repair sequence.
 ghost use Rattle.std.specs.Prelude.{◌≡◌, ◌++◌, List, ℕ, OnOk, IfErr, map};
 ghost use Rattle.std.specs.String.{string_bytes};
-ghost use Rattle.lrpar_parse_errors.specs.Printed.{IsPpFault, printed_by};
+ghost use Rattle.lrpar_parse_errors.specs.Printed.{IsPpFault};
 ghost use Rattle.lrpar_parse_lexemes.specs.Repairs.{repair_of};
 ghost use Rattle.lrpar_parse_errors.specs.PrintedParts.{part_of, sequence_parts};
 ghost use Rattle.lrpar_parse_errors.specs.SequenceText.{IsPartText, IsPartsText, PartFits, RepairsFit, inserted, inserted_by, on_one_line};
 
+use crate::names::TokenNames;
 use crate::printed_parts::{Part, next_part};
-use lrpar_grammar::span::{StorageIndex, TIdx};
+use lrpar_grammar::span::StorageIndex;
 use lrpar_parse_lexemes::lex_api::{LexerTypes, NonStreamingLexer};
 use lrpar_parse_lexemes::{ParseRepair, PpFault};
 use std::alloc::AllocError;
@@ -31,24 +32,24 @@ fn push_part<
     StorageT: StorageIndex,
     LexerTypesT: LexerTypes<StorageT = StorageT>,
     L: NonStreamingLexer<'input, LexerTypesT>,
-    F: Fn(TIdx<StorageT>) -> Option<&'input str>,
->(out: &mut String, lexer: &L, epp: &F, part: Part<StorageT>) -> Result<(), PpFault<StorageT>>
-    requires epp { F.IsAlwaysCallable epp.now }
+    N: TokenNames<'input, StorageT>,
+>(out: &mut String, lexer: &L, names: &N, part: Part<StorageT>) -> Result<(), PpFault<StorageT>>
+    requires names { N.can_name names.now }
     requires fits { PartFits (L.text lexer.now) (part_of StorageT.index part) }
     ensures text { OnOk result ((text : List ℕ) × (string_bytes out.new ≡ string_bytes out.old ++ text)
-        × IsPartText (printed_by StorageT.index (F.post epp.now)) (L.text lexer.now) (part_of StorageT.index part) text) }
+        × IsPartText (N.prints names.now) (L.text lexer.now) (part_of StorageT.index part) text) }
     ensures fault { IfErr result (IsPpFault StorageT.index
-        (printed_by StorageT.index (F.post epp.now)) (inserted_by (part_of StorageT.index part))) }
+        (N.prints names.now) (inserted_by (part_of StorageT.index part))) }
 {
     match part {
-        Part::Insert(tidx) => match epp(tidx) {
-            Some(name) => {
-                out.push_str("Insert ")?;
-                out.push_str(name)?;
+        Part::Insert(tidx) => {
+            out.push_str("Insert ")?;
+            if names.push_name(out, tidx)? {
                 Ok(())
+            } else {
+                Err(PpFault::NoPrintedName(tidx))
             }
-            None => Err(PpFault::NoPrintedName(tidx)),
-        },
+        }
         Part::Delete(span) => {
             out.push_str("Delete ")?;
             push_on_one_line(out, lexer.span_str(span))?;
@@ -69,27 +70,27 @@ pub(crate) fn push_sequence<
     StorageT: StorageIndex,
     LexerTypesT: LexerTypes<StorageT = StorageT>,
     L: NonStreamingLexer<'input, LexerTypesT>,
-    F: Fn(TIdx<StorageT>) -> Option<&'input str>,
+    N: TokenNames<'input, StorageT>,
 >(
     out: &mut String,
     lexer: &L,
-    epp: &F,
+    names: &N,
     sequence: &Vec<ParseRepair<LexerTypesT::LexemeT, StorageT>>,
 ) -> Result<(), PpFault<StorageT>>
-    requires epp { F.IsAlwaysCallable epp.now }
+    requires names { N.can_name names.now }
     requires fits { RepairsFit (λ x. (LexerTypesT.LexemeT.parts x).span) (L.text lexer.now) (map (repair_of StorageT.index) sequence.now.items) }
     ensures text { OnOk result ((text : List ℕ) × (string_bytes out.new ≡ string_bytes out.old ++ text)
-        × IsPartsText (printed_by StorageT.index (F.post epp.now)) (L.text lexer.now)
+        × IsPartsText (N.prints names.now) (L.text lexer.now)
         (sequence_parts StorageT.index (λ x. (LexerTypesT.LexemeT.parts x).span) sequence.now.items) text) }
     ensures fault { IfErr result (IsPpFault StorageT.index
-        (printed_by StorageT.index (F.post epp.now))
+        (N.prints names.now)
         (inserted (sequence_parts StorageT.index (λ x. (LexerTypesT.LexemeT.parts x).span) sequence.now.items))) }
 {
     let mut separator = "";
     let mut rest = sequence.as_slice();
     while let Some((part, others)) = next_part(rest) {
         out.push_str(separator)?;
-        push_part(out, lexer, epp, part)?;
+        push_part(out, lexer, names, part)?;
         separator = ", ";
         rest = others;
     }

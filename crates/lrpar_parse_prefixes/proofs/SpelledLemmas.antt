@@ -99,7 +99,7 @@ module _ (g : Grammar) (table : Table) (never : NeverSticks g table) where
 module _ (g : Grammar) (graph : Graph) (table : Table) (well : IsWellFormed g) (closed : IsClosed table) (built : IsBuilt g graph table)
     (each : EachReachableHasTree g) where
   -- a path goes on as a walk
-  walks_on : (s : ℕ) (path symbols : List GrammarSymbol) (st : List ℕ) → IsWalk table s path → s < states_len table → Leads table s symbols st
+  pub walks_on : (s : ℕ) (path symbols : List GrammarSymbol) (st : List ℕ) → IsWalk table s path → s < states_len table → Leads table s symbols st
       → IsWalk table (last_of s st) (reverse symbols ++ path) × (last_of s st < states_len table)
   walks_on s path [] [] walk within leads = (walk, within)
   walks_on s path [] (next ∷ st) walk within leads = absurd leads

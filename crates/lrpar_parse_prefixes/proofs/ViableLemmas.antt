@@ -83,7 +83,7 @@ module _ (g : Grammar) (graph : Graph) (table : Table) (well : IsWellFormed g) (
 
   module _ (complete : IsComplete g graph table) where
     -- what can come next may
-    follows_next : (tokens st : List ℕ) (i t : ℕ) → FeedsFront (λ (t : ℕ). t) g table tokens i st → CanFollow g (take i tokens) t
+    pub follows_next : (tokens st : List ℕ) (i t : ℕ) → FeedsFront (λ (t : ℕ). t) g table tokens i st → CanFollow g (take i tokens) t
         → IsExpected g table st t
     follows_next tokens st i t fed can =
         let expects = complete_tables_expect_sentences (λ (t : ℕ). t) g graph table well closed built.safe complete in
@@ -110,11 +110,11 @@ module _ (g : Grammar) (graph : Graph) (table : Table) (well : IsWellFormed g) (
 
 module _ {X : Type 0} (token : X → ℕ) (g : Grammar) (table : Table) (lexemes : List X) where
   -- a run over lexemes feeds their tokens
-  fed_by_tokens : (i : ℕ) (st : List ℕ) → FeedsFront token g table lexemes i st → FeedsFront (λ (t : ℕ). t) g table (map token lexemes) i st
+  pub fed_by_tokens : (i : ℕ) (st : List ℕ) → FeedsFront token g table lexemes i st → FeedsFront (λ (t : ℕ). t) g table (map token lexemes) i st
   fed_by_tokens i st fed = (fed.0, comes_by_tokens token g table lexemes (table.start ∷ []) 0 fed.0 st i fed.1)
 
   -- the tokens of the first lexemes are the first tokens
-  front_tokens : (i : ℕ) → take i (map token lexemes) ≡ map token (take i lexemes)
+  pub front_tokens : (i : ℕ) → take i (map token lexemes) ≡ map token (take i lexemes)
   front_tokens i = take-map token i lexemes
 
 pub built_tables_keep_to_sentences : {X : Type 0} → BuiltTablesKeepToSentences X

@@ -1,3 +1,4 @@
 pub mod Viable
 pub mod ViableLaws
 pub mod FirstErrors
+pub mod ErrorStates

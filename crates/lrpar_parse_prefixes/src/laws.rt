@@ -4,6 +4,7 @@ ghost use Rattle.lrpar_grammar.specs.Sentence.{LexemeFacts};
 ghost use Rattle.lrpar_parse_lexemes.specs.Views.{facts_by};
 ghost use Rattle.lrpar_parse_repair.specs.Asked.{allowed_at};
 ghost use Rattle.lrpar_table_check.specs.Checked.{Checked};
+ghost use Rattle.lrpar_parse_prefixes.specs.ErrorStates.{BuiltActionsKeepToSentences, CompleteBuiltActionsFollowSentences, ErrorStatesFollowSentences, ErrorStatesKeepToSentences};
 ghost use Rattle.lrpar_parse_prefixes.specs.FirstErrors.{FirstErrorsAreExact, FirstErrorsComeInTime};
 ghost use Rattle.lrpar_parse_prefixes.specs.ViableLaws.{BuiltTablesKeepToSentences, CompleteBuiltTablesFollowSentences, SentencesAreOfTokens};
 
@@ -45,4 +46,32 @@ pub fn first_errors_are_where_texts_go_wrong<
 >()
     ensures in_time { (r : R) (d : Checked) (k : ℕ) → FirstErrorsComeInTime (facts_by StorageT.index LexemeT.parts) (allowed_at (R.allows r) d k) }
     ensures exact { (r : R) (d : Checked) (k : ℕ) → FirstErrorsAreExact (facts_by StorageT.index LexemeT.parts) (allowed_at (R.allows r) d k) }
+{}
+
+/// Over a table that was built of a grammar in which each reachable rule is productive, with conflicts or without, each token at
+/// which a state has an action can come next. This holds of the top of each stack to which a run without repairs feeds lexemes,
+/// and of the state of its error point: after the lexemes before it, some sentence goes on with the token; or it is the end token,
+/// and they are a sentence.
+pub fn actions_keep_to_sentences<LexemeT>()
+    ensures keep { BuiltActionsKeepToSentences LexemeT }
+    ensures facts_keep { BuiltActionsKeepToSentences LexemeFacts }
+{}
+
+/// If such a table is complete, these states have an action at exactly the tokens that can come next; the state of an error point,
+/// if no lexeme has the end token. So before an error point no reduction is made at the token that can't come.
+pub fn complete_actions_follow_sentences<LexemeT>()
+    ensures follow { CompleteBuiltActionsFollowSentences LexemeT }
+    ensures facts_follow { CompleteBuiltActionsFollowSentences LexemeFacts }
+{}
+
+/// The same for each error of a parse, the later ones, too, whatever its recoverer: the state of an error has an action only at
+/// tokens that can come after the lexemes before it, as repaired so far; and at exactly these, if the table is complete and no
+/// lexeme has the end token, as in the parse calls. `ParseError::expected` returns these tokens.
+pub fn errors_expect_what_can_follow<
+    StorageT: StorageIndex,
+    LexemeT: Lexeme<StorageT>,
+    R: Recoverer<StorageT, LexemeT>,
+>()
+    ensures keep { (r : R) (d : Checked) (k : ℕ) → ErrorStatesKeepToSentences (facts_by StorageT.index LexemeT.parts) (allowed_at (R.allows r) d k) }
+    ensures follow { (r : R) (d : Checked) (k : ℕ) → ErrorStatesFollowSentences (facts_by StorageT.index LexemeT.parts) (allowed_at (R.allows r) d k) }
 {}

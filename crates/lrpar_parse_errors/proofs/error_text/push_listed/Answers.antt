@@ -1,6 +1,5 @@
 use Rattle.std.proofs.Common.{refl}
 use Rattle.std.specs.String.{string_bytes}
-use Rattle.lrpar_parse_errors.specs.Printed.{printed_by}
 use Rattle.lrpar_parse_errors.proofs.SequenceTextLemmas.{err_same}
 use Rattle.lrpar_parse_errors.proofs.ErrorTextLemmas.{listed_none, listed_next, listed_all, fault_listed, sequence_fits}
 use Rattle.lrpar_parse_errors.proofs.error_text.push_listed.Goals as goal
@@ -14,7 +13,7 @@ push_sequence-requires g c κs =
     let span = λ (x : g.row.LexerTypesT-LexemeT.Denot). (g.LexerTypesT.LexemeT.Lexeme.parts x).span in (
       (refl, tt),
       (
-        c.requires.epp,
+        c.requires.names,
         sequence_fits index span (g.L.NonStreamingLexer.text c.args.lexer.now) c.args.sequences.now c.loop-i.i c.index-sequences-i.result c.loop-i-test.true c.index-sequences-i.is c.requires.fits,
       ),
     )
@@ -24,7 +23,7 @@ returns-in_err-push_sequence-clause-fault g c =
     let index = g.StorageT.StorageIndex.index in
     let span = λ (x : g.row.LexerTypesT-LexemeT.Denot). (g.LexerTypesT.LexemeT.Lexeme.parts x).span in
     err_same c.from_residual-in_err-push_sequence.result _ c.in_err-push_sequence.field-0.0 c.from_residual-in_err-push_sequence.ensures.1
-    (fault_listed index span (printed_by index (λ t name. g.F.Fn.post c.args.epp.now (t, tt) name)) (g.L.NonStreamingLexer.text c.args.lexer.now) c.args.most
+    (fault_listed index span (g.N.TokenNames.prints c.args.names.now) (g.L.NonStreamingLexer.text c.args.lexer.now) c.args.most
     c.args.sequences.now c.loop-i.i c.index-sequences-i.result (string_bytes c.args.out.now) (string_bytes c.loop-i.out) c.in_err-push_sequence.field-0.0
     c.loop-i-test.true c.index-sequences-i.is c.loop-i.invariant c.in_err-push_sequence.ensures.fault)
 
@@ -33,7 +32,7 @@ loop-i-preserved g c =
     let index = g.StorageT.StorageIndex.index in
     let span = λ (x : g.row.LexerTypesT-LexemeT.Denot). (g.LexerTypesT.LexemeT.Lexeme.parts x).span in
     let text = c.in_ok-push_sequence.ensures.text in
-    listed_next index span (printed_by index (λ t name. g.F.Fn.post c.args.epp.now (t, tt) name)) (g.L.NonStreamingLexer.text c.args.lexer.now) c.args.most
+    listed_next index span (g.N.TokenNames.prints c.args.names.now) (g.L.NonStreamingLexer.text c.args.lexer.now) c.args.most
     c.args.sequences.now c.loop-i.i c.index-sequences-i.result (string_bytes c.args.out.now) (string_bytes c.loop-i.out) (string_bytes c.push_numbering.new.out)
     text.0 (string_bytes c.push_sequence.new.out)
     c.loop-i-test.true c.index-sequences-i.is c.loop-i.invariant text.2 c.in_ok-push_numbering.ensures text.1
@@ -42,5 +41,5 @@ pub returns-clause-text : goal.returns-clause-text
 returns-clause-text g c =
     let index = g.StorageT.StorageIndex.index in
     let span = λ (x : g.row.LexerTypesT-LexemeT.Denot). (g.LexerTypesT.LexemeT.Lexeme.parts x).span in
-    listed_all index span (printed_by index (λ t name. g.F.Fn.post c.args.epp.now (t, tt) name)) (g.L.NonStreamingLexer.text c.args.lexer.now) c.args.most
+    listed_all index span (g.N.TokenNames.prints c.args.names.now) (g.L.NonStreamingLexer.text c.args.lexer.now) c.args.most
     c.args.sequences.now c.loop-i.i (string_bytes c.args.out.now) (string_bytes c.loop-i.out) c.loop-i-test.false c.loop-i.invariant

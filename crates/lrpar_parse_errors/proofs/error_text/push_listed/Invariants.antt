@@ -1,6 +1,5 @@
 use Rattle.std.proofs.Common.{map, take}
 use Rattle.std.specs.String.{string_bytes}
-use Rattle.lrpar_parse_errors.specs.Printed.{printed_by}
 use Rattle.lrpar_parse_lexemes.specs.Repairs.{repairs_of}
 use Rattle.lrpar_parse_errors.specs.SequenceText.{parts_of}
 use Rattle.lrpar_parse_errors.proofs.ErrorTextLemmas.{AreListed}
@@ -11,5 +10,5 @@ abbrev pub invariant-loop-i : goal.invariant-loop-i
 invariant-loop-i g l =
     let index = g.StorageT.StorageIndex.index in
     let span = λ (x : g.row.LexerTypesT-LexemeT.Denot). (g.LexerTypesT.LexemeT.Lexeme.parts x).span in
-    AreListed (printed_by index (λ t name. g.F.Fn.post l.epp (t, tt) name)) (g.L.NonStreamingLexer.text l.lexer) l.most
+    AreListed (g.N.TokenNames.prints l.names) (g.L.NonStreamingLexer.text l.lexer) l.most
     (map (parts_of span) (repairs_of index (take l.i l.sequences))) (string_bytes l.initial.out) (string_bytes l.out)

@@ -2,7 +2,6 @@ use Rattle.std.proofs.Common.{rules, ◌≡◌, ◌<◌, [], length, arith}
 use Rattle.std.proofs.lemmas.List.{nil_from_length}
 use Rattle.std.proofs.lemmas.Result.{on_ok_weaker}
 use Rattle.std.specs.String.{string_bytes}
-use Rattle.lrpar_parse_errors.specs.Printed.{printed_by}
 use Rattle.lrpar_parse_errors.proofs.ErrorTextLemmas.{listed_after}
 use Rattle.lrpar_parse_errors.proofs.error_text.push_repairs.Goals as goal
 
@@ -18,7 +17,7 @@ returns-clause-text g c =
     let span = λ (x : g.row.LexerTypesT-LexemeT.Denot). (g.LexerTypesT.LexemeT.Lexeme.parts x).span in
     let full : 0 < length c.args.sequences.now = grind arith in
     on_ok_weaker c.push_listed.result
-    (listed_after index span (printed_by index (λ t name. g.F.Fn.post c.args.epp.now (t, tt) name)) (g.L.NonStreamingLexer.text c.args.lexer.now) c.len-most.result
+    (listed_after index span (g.N.TokenNames.prints c.args.names.now) (g.L.NonStreamingLexer.text c.args.lexer.now) c.len-most.result
     c.args.sequences.now (string_bytes c.args.out.now) (string_bytes c.push_str-2.new.self) (string_bytes c.push_listed.new.out)
     full (search rules) c.in_ok-push_str-2.ensures.bytes)
     c.push_listed.ensures.text

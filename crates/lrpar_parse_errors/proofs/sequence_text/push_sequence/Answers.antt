@@ -1,6 +1,5 @@
 use Rattle.std.proofs.Common.{rules, ◌++◌, ap, ◌∙◌, map}
 use Rattle.std.specs.String.{string_bytes}
-use Rattle.lrpar_parse_errors.specs.Printed.{printed_by}
 use Rattle.lrpar_parse_errors.specs.PrintedParts.{part_of, sequence_parts}
 use Rattle.lrpar_parse_lexemes.specs.Repairs.{repair_of}
 use Rattle.lrpar_parse_errors.proofs.SequenceTextLemmas.{printed_none, printed_more, printed_all, parts_fit, fault_next, err_same}
@@ -16,7 +15,7 @@ loop-part-init g c =
       fits = rw c.as_slice-rest.ensures.value (parts_fit span input (map (repair_of index) c.args.sequence.now.items) c.requires.fits);
       printed =
           rw c.as_slice-rest.ensures.value
-          (printed_none (printed_by index (λ t name. g.F.Fn.post c.args.epp.now (t, tt) name)) input (sequence_parts index span c.args.sequence.now.items) (string_bytes c.args.out.now));
+          (printed_none (g.N.TokenNames.prints c.args.names.now) input (sequence_parts index span c.args.sequence.now.items) (string_bytes c.args.out.now));
     }
 
 pub loop-part-preserved : goal.loop-part-preserved
@@ -30,7 +29,7 @@ loop-part-preserved g c =
     record {
       utf8 = search rules;
       fits = fits.1;
-      printed = printed_more (printed_by index (λ t name. g.F.Fn.post c.args.epp.now (t, tt) name)) input (sequence_parts index span c.args.sequence.now.items)
+      printed = printed_more (g.N.TokenNames.prints c.args.names.now) input (sequence_parts index span c.args.sequence.now.items)
           (sequence_parts index span c.in-Some.others.now) (part_of index c.in-Some.part) (string_bytes c.args.out.now) (string_bytes c.loop-part.out) c.loop-part.separator.now
           text.0 (string_bytes c.push_part.new.out) so_far text.2 (text.1 ∙ ap (λ o. o ++ text.0) c.in_ok-push_str.ensures.bytes);
     }
@@ -42,7 +41,7 @@ returns-in_err-push_part-clause-fault g c =
     let span = λ (x : g.row.LexerTypesT-LexemeT.Denot). (g.LexerTypesT.LexemeT.Lexeme.parts x).span in
     let so_far = rw c.in-Some.ensures.next at c.loop-part.invariant.printed in
     err_same c.from_residual-in_err-push_part.result _ c.in_err-push_part.field-0.0 c.from_residual-in_err-push_part.ensures.1
-    (fault_next index (printed_by index (λ t name. g.F.Fn.post c.args.epp.now (t, tt) name)) input (sequence_parts index span c.args.sequence.now.items)
+    (fault_next index (g.N.TokenNames.prints c.args.names.now) input (sequence_parts index span c.args.sequence.now.items)
     (sequence_parts index span c.in-Some.others.now) (part_of index c.in-Some.part) (string_bytes c.args.out.now) (string_bytes c.loop-part.out) c.loop-part.separator.now
     c.in_err-push_part.field-0.0 so_far c.in_err-push_part.ensures.fault)
 
@@ -51,5 +50,5 @@ returns-clause-text g c =
     let index = g.StorageT.StorageIndex.index in
     let input = g.L.NonStreamingLexer.text c.args.lexer.now in
     let span = λ (x : g.row.LexerTypesT-LexemeT.Denot). (g.LexerTypesT.LexemeT.Lexeme.parts x).span in
-    printed_all (printed_by index (λ t name. g.F.Fn.post c.args.epp.now (t, tt) name)) input (sequence_parts index span c.args.sequence.now.items)
+    printed_all (g.N.TokenNames.prints c.args.names.now) input (sequence_parts index span c.args.sequence.now.items)
     (string_bytes c.args.out.now) (string_bytes c.loop-part.out) c.loop-part.separator.now (rw c.in_default.ensures.next at c.loop-part.invariant.printed)

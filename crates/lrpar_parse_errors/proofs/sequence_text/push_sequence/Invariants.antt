@@ -3,7 +3,6 @@ use denote.Text.{Utf8}
 use Rattle.std.proofs.Common.{length}
 use Rattle.std.specs.List.{AllByRecursion}
 use Rattle.std.specs.String.{string_bytes}
-use Rattle.lrpar_parse_errors.specs.Printed.{printed_by}
 use Rattle.lrpar_parse_errors.specs.PrintedParts.{sequence_parts}
 use Rattle.lrpar_parse_errors.specs.SequenceText.{PartFits}
 use Rattle.lrpar_parse_errors.proofs.SequenceTextLemmas.{IsPrintedSoFar}
@@ -18,7 +17,7 @@ invariant-loop-part g l =
     record {
       utf8 : shadow (Utf8 l.separator);
       fits : AllByRecursion (PartFits input) (sequence_parts index span l.rest);
-      printed : IsPrintedSoFar (printed_by index (λ t name. g.F.Fn.post l.epp (t, tt) name)) input
+      printed : IsPrintedSoFar (g.N.TokenNames.prints l.names) input
           (sequence_parts index span l.fn.sequence.items) (sequence_parts index span l.rest) (string_bytes l.initial.out) (string_bytes l.out) l.separator;
     }
 

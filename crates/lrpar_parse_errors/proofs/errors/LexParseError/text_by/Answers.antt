@@ -2,11 +2,10 @@ use Rattle.std.proofs.Common.{ap, ◌∙◌}
 use Rattle.std.specs.String.{string_bytes}
 use Rattle.lrpar_parse_lexemes.specs.Repairs.{repairs_of}
 use Rattle.lrpar_parse_lexemes.specs.declared.pp_fault.PpFault.TheVariants.{Memory}
-use Rattle.lrpar_parse_errors.specs.Printed.{printed_by}
 use Rattle.lrpar_parse_errors.proofs.SequenceTextLemmas.{err_same}
 use Rattle.lrpar_grammar_places.proofs.FaultLemmas.{no_value}
 use Rattle.lrpar_parse_errors.proofs.LexParseTextLemmas.{lexing_text, parsing_fault, parsing_text}
-use Rattle.lrpar_parse_errors.proofs.errors.LexParseError.pp.Goals as goal
+use Rattle.lrpar_parse_errors.proofs.errors.LexParseError.text_by.Goals as goal
 
 pub returns-in_err-push_place-in-LexError-clause-text : goal.returns-in_err-push_place-in-LexError-clause-text
 returns-in_err-push_place-in-LexError-clause-text g c = no_value c.from_residual.result _ _ c.from_residual.ensures.1
@@ -14,9 +13,9 @@ returns-in_err-push_place-in-LexError-clause-text g c = no_value c.from_residual
 pub returns-in_err-push_place-in-LexError-clause-fault : goal.returns-in_err-push_place-in-LexError-clause-fault
 returns-in_err-push_place-in-LexError-clause-fault g c = err_same c.from_residual.result _ Memory c.from_residual.ensures.1 tt
 
-pub returns-in-LexError-clause-text : goal.returns-in-LexError-clause-text
-returns-in-LexError-clause-text g c =
-    lexing_text (λ x. (g.LexerTypesT.LexemeT.Lexeme.parts x).span) (printed_by g.StorageT.StorageIndex.index (λ t name. g.F.Fn.post c.args.epp (t, tt) name))
+pub returns-in_ok-push_place-in-LexError-clause-text : goal.returns-in_ok-push_place-in-LexError-clause-text
+returns-in_ok-push_place-in-LexError-clause-text g c =
+    lexing_text (λ x. (g.LexerTypesT.LexemeT.Lexeme.parts x).span) (g.N.TokenNames.prints c.args.names.now)
     g.LexerTypesT.LexErrorT.LexError.place (g.L.NonStreamingLexer.text c.args.lexer.now) c.args.self.now c.in-LexError.error c.span.result
     (string_bytes c.new-out.result) (string_bytes c.push_place.new.out) c.in-LexError.is c.span.ensures.place c.new-out.ensures.bytes
     c.in_ok-push_place-in-LexError.ensures
@@ -37,14 +36,14 @@ pub returns-in_err-push_repairs-in-ParseError-clause-fault : goal.returns-in_err
 returns-in_err-push_repairs-in-ParseError-clause-fault g c =
     err_same c.from_residual-in_err-push_repairs-in-ParseError.result _ c.in_err-push_repairs-in-ParseError.field-0.0
     c.from_residual-in_err-push_repairs-in-ParseError.ensures.1
-    (parsing_fault (λ x. (g.LexerTypesT.LexemeT.Lexeme.parts x).span) (printed_by g.StorageT.StorageIndex.index (λ t name. g.F.Fn.post c.args.epp (t, tt) name))
+    (parsing_fault (λ x. (g.LexerTypesT.LexemeT.Lexeme.parts x).span) (g.N.TokenNames.prints c.args.names.now)
     g.StorageT.StorageIndex.index c.args.self.now c.in-ParseError.error (repairs_of g.StorageT.StorageIndex.index c.deref.result.now)
     c.in_err-push_repairs-in-ParseError.field-0.0 c.in-ParseError.is
     (ap (repairs_of g.StorageT.StorageIndex.index) c.deref.ensures.value ∙ c.repairs.ensures.repairs) c.in_err-push_repairs-in-ParseError.ensures.fault)
 
-pub returns-clause-text : goal.returns-clause-text
-returns-clause-text g c =
-    parsing_text (λ x. (g.LexerTypesT.LexemeT.Lexeme.parts x).span) (printed_by g.StorageT.StorageIndex.index (λ t name. g.F.Fn.post c.args.epp (t, tt) name))
+pub returns-in_ok-push_repairs-in-ParseError-clause-text : goal.returns-in_ok-push_repairs-in-ParseError-clause-text
+returns-in_ok-push_repairs-in-ParseError-clause-text g c =
+    parsing_text (λ x. (g.LexerTypesT.LexemeT.Lexeme.parts x).span) (g.N.TokenNames.prints c.args.names.now)
     g.LexerTypesT.LexErrorT.LexError.place (g.L.NonStreamingLexer.text c.args.lexer.now) c.args.self.now c.in-ParseError.error c.lexeme.result.now
     (repairs_of g.StorageT.StorageIndex.index c.deref.result.now) c.span-in-ParseError.result (string_bytes c.new-out.result)
     (string_bytes c.push_place-in-ParseError.new.out) (string_bytes c.push_repairs.new.out) c.in-ParseError.is c.span-in-ParseError.ensures.span

@@ -1,0 +1,89 @@
+//! The text of an error of any input, with the names that a grammar prints.
+ghost use Rattle.std.specs.Prelude.{◌≡◌, IfOk};
+ghost use Rattle.std.specs.String.{string_bytes};
+ghost use Rattle.lrpar_parse_errors.specs.ErrorText.{byte_text};
+ghost use Rattle.lrpar_parse_errors.specs.Printed.{IsPrintedName};
+
+use crate::errors::{LexParseError, PpFault};
+use lrpar_grammar::grammar::YaccGrammar;
+use lrpar_grammar::span::StorageIndex;
+use lrpar_parse_lexemes::lex_api::{InputLexer, LexError, Lexeme, LexerTypes, NonStreamingLexer};
+use std::alloc::{AllocError, Global};
+
+impl<StorageT: StorageIndex, LexerTypesT: LexerTypes<StorageT = StorageT>> LexParseError<
+    StorageT,
+    LexerTypesT,
+> {
+    ghost use Rattle.lrpar_parse_errors.specs.LexParseText.{ErrorFits, IsErrorText, unfit_text};
+
+    /// The text of the error, whatever error and input these are: that of [`LexParseError::pp`], with what the grammar prints
+    /// for each token to insert ([`YaccGrammar::epp_of`]).
+    ///
+    /// If the error names a part that doesn't start and end between two characters of the lexer's input, as an error of a parse
+    /// of another text can, the text has no line, no column and no repairs. It is `Lexing error at byte B.` or
+    /// `Parsing error at byte B.`, where B is the byte at which the part that no token fits, or the lexeme that has no action,
+    /// starts. Bytes count from 0.
+    ///
+    /// `Err`: out of memory. Takes time linear in the text and in the repairs, and the lexer's time for the line and the column.
+    pub fn message<'input, L: InputLexer<'input, LexerTypesT>>(
+        &self,
+        alloc: Global,
+        grm: &YaccGrammar<StorageT>,
+        lexer: &L,
+    ) -> Result<String, AllocError>
+        // The error fits the input.
+        ensures text { ErrorFits LexerTypesT.LexErrorT.place (λ x. (LexerTypesT.LexemeT.parts x).span) (L.text lexer.now) self.now
+            → IfOk result (λ text. IsErrorText LexerTypesT.LexErrorT.place (λ x. (LexerTypesT.LexemeT.parts x).span)
+            (IsPrintedName grm.now) (L.text lexer.now) self.now (string_bytes text)) }
+
+        // It doesn't.
+        ensures unfit { ¬ (ErrorFits LexerTypesT.LexErrorT.place (λ x. (LexerTypesT.LexemeT.parts x).span) (L.text lexer.now) self.now)
+            → IfOk result (λ text. string_bytes text ≡ unfit_text LexerTypesT.LexErrorT.place (λ x. (LexerTypesT.LexemeT.parts x).span) self.now) }
+    {
+        if self.fits(lexer.input()) {
+            self.named_text(alloc, grm, lexer)
+        } else {
+            self.text_at_byte(alloc)
+        }
+    }
+
+    // The text of an error that fits the input. As the grammar prints something for each token, no name is missing.
+    fn named_text<'input, L: NonStreamingLexer<'input, LexerTypesT>>(
+        &self,
+        alloc: Global,
+        grm: &YaccGrammar<StorageT>,
+        lexer: &L,
+    ) -> Result<String, AllocError>
+        requires { ErrorFits LexerTypesT.LexErrorT.place (λ x. (LexerTypesT.LexemeT.parts x).span) (L.text lexer.now) self.now }
+        ensures { IfOk result (λ text. IsErrorText LexerTypesT.LexErrorT.place (λ x. (LexerTypesT.LexemeT.parts x).span)
+            (IsPrintedName grm.now) (L.text lexer.now) self.now (string_bytes text)) }
+    {
+        match self.text_by(alloc, lexer, grm) {
+            Ok(text) => Ok(text),
+            Err(PpFault::Memory) => Err(AllocError),
+            Err(PpFault::NoPrintedName(_)) => unreachable!(),
+        }
+    }
+
+    // The text of an error that doesn't fit the input.
+    fn text_at_byte(&self, alloc: Global) -> Result<String, AllocError>
+        ensures { IfOk result (λ text. string_bytes text
+            ≡ unfit_text LexerTypesT.LexErrorT.place (λ x. (LexerTypesT.LexemeT.parts x).span) self.now) }
+    {
+        match self {
+            LexParseError::LexError(error) => at_byte(alloc, "Lexing error", error.span().start()),
+            LexParseError::ParseError(error) => {
+                at_byte(alloc, "Parsing error", error.lexeme().span().start())
+            }
+        }
+    }
+}
+
+// What is wrong, and the byte.
+fn at_byte(alloc: Global, what: &str, byte: usize) -> Result<String, AllocError>
+    ensures { IfOk result (λ text. string_bytes text ≡ byte_text what.now byte) }
+{
+    let mut out = String::new(alloc);
+    write!(out, "{what} at byte {byte}.")?;
+    Ok(out)
+}
