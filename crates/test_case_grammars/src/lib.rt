@@ -1,8 +1,9 @@
-//! Cases of grammars, of underlined messages, and of counterexamples.
+//! Cases of grammars, of underlined messages, of reports, and of counterexamples.
 #![tactic(auto)]
 
 pub mod examples;
 pub mod grammars;
 pub mod parts;
+pub mod reports;
 pub mod underlines;
 mod uses;
