@@ -139,7 +139,12 @@ fn report_of<StorageT: StorageIndex>(
     match group.other {
         None => labelled(report, grm, group.prod, "this could be reduced instead"),
         Some(other) => {
-            let report = labelled(report, grm, group.prod, "this is reduced, as it comes first")?;
+            let report = labelled(
+                report,
+                grm,
+                group.prod,
+                "this is reduced, as it comes first",
+            )?;
             labelled(report, grm, other, "this could be reduced instead")
         }
     }

@@ -1,5 +1,6 @@
 //! Reports of errors of inputs.
 ghost use Rattle.std.specs.Prelude.{◌≡◌, IfOk};
+ghost use Rattle.lrpar_report_lines.specs.declared.levels.Level.TheVariants.{Error};
 
 use crate::choices::{push_choices, push_quoted};
 use crate::repairs::with_repairs;
@@ -25,7 +26,7 @@ pub fn error_report<StorageT: StorageIndex, LexerTypesT: LexerTypes<StorageT = S
     text: &str,
     error: &LexParseError<StorageT, LexerTypesT>,
 ) -> Result<Report, AllocError>
-    ensures { IfOk result (λ report. report.level ≡ Level.Error) }
+    ensures { IfOk result (λ report. report.level ≡ Error) }
 {
     match error {
         LexParseError::LexError(error) => lexing_report(alloc, text, error),
@@ -42,7 +43,7 @@ pub fn lexing_report<ErrorT: LexError>(
     text: &str,
     error: &ErrorT,
 ) -> Result<Report, AllocError>
-    ensures { IfOk result (λ report. report.level ≡ Level.Error) }
+    ensures { IfOk result (λ report. report.level ≡ Error) }
 {
     let at = part_of(text, error.span()).start();
     let rest = text.get(at..).unwrap_or("");
@@ -78,7 +79,7 @@ pub fn parse_report<LexemeT: Lexeme<StorageT>, StorageT: StorageIndex>(
     text: &str,
     error: &ParseError<LexemeT, StorageT>,
 ) -> Result<Report, AllocError>
-    ensures { IfOk result (λ report. report.level ≡ Level.Error) }
+    ensures { IfOk result (λ report. report.level ≡ Error) }
 {
     let expected = tokens_at(data.stable(), error.stidx());
     let report = unexpected_report(alloc, data.grm(), text, error.lexeme(), expected)?;
@@ -108,7 +109,7 @@ pub fn unexpected_report<LexemeT: Lexeme<StorageT>, StorageT: StorageIndex>(
     lexeme: &LexemeT,
     expected: &[TIdx<StorageT>],
 ) -> Result<Report, AllocError>
-    ensures { IfOk result (λ report. report.level ≡ Level.Error) }
+    ensures { IfOk result (λ report. report.level ≡ Error) }
 {
     let is_end = lexeme.tok_id().to_index().saturating_add(1) >= grm.tokens_len();
     let mut message = String::from_str(alloc, "unexpected ")?;
@@ -121,12 +122,7 @@ pub fn unexpected_report<LexemeT: Lexeme<StorageT>, StorageT: StorageIndex>(
 }
 
 // Adds a lexeme: that it is the end, if it has the end token, and else its part of the text.
-fn push_lexeme(
-    out: &mut String,
-    text: &str,
-    is_end: bool,
-    span: Span,
-) -> Result<(), AllocError> {
+fn push_lexeme(out: &mut String, text: &str, is_end: bool, span: Span) -> Result<(), AllocError> {
     if !is_end {
         return push_shortened(out, part_text(text, span));
     }

@@ -1,5 +1,6 @@
 //! Reports of faults in the rules of a lexer.
 ghost use Rattle.std.specs.Prelude.{◌≡◌, IfOk};
+ghost use Rattle.lrpar_report_lines.specs.declared.levels.Level.TheVariants.{Error};
 
 use crate::choices::push_quoted;
 use crate::near::push_nearest;
@@ -20,7 +21,7 @@ pub fn rules_report(
     text: &str,
     fault: &RulesFault,
 ) -> Result<Report, AllocError>
-    ensures { IfOk result (λ report. report.level ≡ Level.Error) }
+    ensures { IfOk result (λ report. report.level ≡ Error) }
 {
     match fault {
         RulesFault::Line(number, fault) => line_report(alloc, grm, text, *number, *fault),
@@ -36,7 +37,7 @@ fn line_report(
     number: usize,
     fault: LineFault,
 ) -> Result<Report, AllocError>
-    ensures { IfOk result (λ report. report.level ≡ Level.Error) }
+    ensures { IfOk result (λ report. report.level ≡ Error) }
 {
     let core = line_of(text, number);
     let line = text.get(core.start()..core.end()).unwrap_or("");
@@ -71,7 +72,7 @@ fn core_of(line: &str, start: usize) -> Span {
 
 // The report of a line that isn't written as a rule.
 fn unread(alloc: Global, core: Span) -> Result<Report, AllocError>
-    ensures { IfOk result (λ report. report.level ≡ Level.Error) }
+    ensures { IfOk result (λ report. report.level ≡ Error) }
 {
     let label = "expected PATTERN 'NAME' for a token, or PATTERN ; for what is skipped";
     Report::error(alloc, "this line is no rule")?.label(core, label)
@@ -84,7 +85,7 @@ fn unnamed(
     line: &str,
     start: usize,
 ) -> Result<Report, AllocError>
-    ensures { IfOk result (λ report. report.level ≡ Level.Error) }
+    ensures { IfOk result (λ report. report.level ≡ Error) }
 {
     let quoted = line.strip_suffix('\'').unwrap_or(line);
     let (front, name) = quoted.rsplit_once('\'').unwrap_or(("", quoted));
@@ -117,7 +118,7 @@ fn push_near_token(
 
 // The report of a pattern that is refused.
 fn refused(alloc: Global, error: &regex::Error, core: Span) -> Result<Report, AllocError>
-    ensures { IfOk result (λ report. report.level ≡ Level.Error) }
+    ensures { IfOk result (λ report. report.level ≡ Error) }
 {
     let mut text = String::from_str(alloc, "bad pattern: ")?;
     let span = match error {

@@ -13,7 +13,7 @@ use std::alloc::{AllocError, Global};
 /// How many repair sequences are notes at most.
 const MOST_REPAIRS: usize = 3;
 
-/// The report with a note for each of the first repair sequences, and one for how many more there are.
+/// The report with these notes in place of its own: one for each of the first repair sequences, and one for how many more there are.
 pub(crate) fn with_repairs<LexemeT: Lexeme<StorageT>, StorageT: StorageIndex>(
     report: Report,
     alloc: Global,
@@ -24,19 +24,26 @@ pub(crate) fn with_repairs<LexemeT: Lexeme<StorageT>, StorageT: StorageIndex>(
     ensures { IfOk result (λ noted. noted.level ≡ report.level) }
 {
     let notes = notes_of(alloc, grm, text, sequences)?;
-    with_notes(report, &notes)
+    Ok(with_notes(report, notes))
 }
 
-// The report with these notes.
-fn with_notes(report: Report, notes: &[String]) -> Result<Report, AllocError>
-    ensures { IfOk result (λ noted. noted.level ≡ report.level) }
+// The report with these notes in place of its own.
+fn with_notes(report: Report, notes: Vec<String>) -> Report
+    ensures { result.level ≡ report.level }
 {
-    let mut report = report;
-    for note in notes {
-        let text = String::from_str(*report.notes.allocator(), note.as_str())?;
-        report.notes.push(text)?;
+    let Report {
+        level,
+        message,
+        labels,
+        notes: others,
+    } = report;
+    drop(others);
+    Report {
+        level,
+        message,
+        labels,
+        notes,
     }
-    Ok(report)
 }
 
 // A note for each of the first sequences, and one for how many more there are.

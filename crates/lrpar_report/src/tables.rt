@@ -1,5 +1,6 @@
 //! Reports of why a grammar has no table, or none that can be used.
 ghost use Rattle.std.specs.Prelude.{◌≡◌, IfOk, IfSome};
+ghost use Rattle.lrpar_report_lines.specs.declared.levels.Level.TheVariants.{Error};
 
 use crate::choices::push_token;
 use crate::conflicts::push_rule_of;
@@ -21,7 +22,7 @@ pub fn build_report<StorageT: StorageIndex>(
     fault: &BuildFault,
     max_states: usize,
 ) -> Result<Report, AllocError>
-    ensures { IfOk result (λ report. report.level ≡ Level.Error) }
+    ensures { IfOk result (λ report. report.level ≡ Error) }
 {
     match fault {
         BuildFault::Memory => Err(AllocError),
@@ -51,7 +52,7 @@ pub fn chain_report<StorageT: StorageIndex>(
     token: usize,
     cap: u16,
 ) -> Result<Report, AllocError>
-    ensures { IfOk result (λ report. report.level ≡ Level.Error) }
+    ensures { IfOk result (λ report. report.level ≡ Error) }
 {
     if let Some(report) = loop_report(alloc, grm, LoopKind::DerivesItself, None)? {
         return Ok(report);
@@ -85,7 +86,7 @@ fn loop_report<StorageT: StorageIndex>(
     kind: LoopKind,
     rule: Option<RIdx<StorageT>>,
 ) -> Result<Option<Report>, AllocError>
-    ensures { IfOk result (λ found. IfSome found (λ report. report.level ≡ Level.Error)) }
+    ensures { IfOk result (λ found. IfSome found (λ report. report.level ≡ Error)) }
 {
     match loop_of(alloc, grm, kind, rule)? {
         Some(steps) => Ok(Some(report_of(alloc, grm, kind, &steps)?)),
@@ -100,7 +101,7 @@ fn report_of<StorageT: StorageIndex>(
     kind: LoopKind,
     steps: &[LoopStep<StorageT>],
 ) -> Result<Report, AllocError>
-    ensures { IfOk result (λ report. report.level ≡ Level.Error) }
+    ensures { IfOk result (λ report. report.level ≡ Error) }
 {
     let mut message = String::new(alloc);
     push_loop(&mut message, grm, kind, steps)?;

@@ -52,15 +52,10 @@ impl<'a> Lines<'a> {
         self.cache.span_line_bytes(Span::new(at, at))
     }
 
-    /// The text between two bytes, or nothing if one isn't a boundary of characters.
-    pub(crate) fn between(&self, start: usize, end: usize) -> &str {
-        self.text.get(start..end).unwrap_or("")
-    }
-
     /// The byte at which the shown text of the line ends that starts at a byte: without a carriage return before its line feed.
     pub(crate) fn text_end(&self, start: usize) -> usize {
         let end = self.end(start);
-        if end < self.text.len() && self.between(start, end).ends_with('\r') {
+        if end < self.text.len() && between(self.text, start, end).ends_with('\r') {
             end.saturating_sub(1)
         } else {
             end
@@ -69,7 +64,7 @@ impl<'a> Lines<'a> {
 
     /// How many columns the text between two bytes takes.
     pub(crate) fn columns(&self, start: usize, end: usize) -> usize {
-        self.between(start, end).width()
+        between(self.text, start, end).width()
     }
 
     /// Adds the line that starts at a byte, with its number, and a line feed. Returns how many columns come before the line's text.
@@ -78,10 +73,15 @@ impl<'a> Lines<'a> {
         let before = out.len();
         write!(out, "{number}| ")?;
         let margin = out.len().saturating_sub(before);
-        out.push_str(self.between(start, self.text_end(start)))?;
+        out.push_str(between(self.text, start, self.text_end(start)))?;
         out.push('\n')?;
         Ok(margin)
     }
+}
+
+// The text between two bytes, or nothing if one isn't a boundary of characters.
+fn between(text: &str, start: usize, end: usize) -> &str {
+    text.get(start..end).unwrap_or("")
 }
 
 /// Adds a character `count` times.

@@ -1,7 +1,7 @@
 //! How reports are shown.
 use crate::captions::push_captions;
-use crate::lines::{Lines, push_repeated};
 use crate::levels::{Level, Look, push_word};
+use crate::lines::{Lines, push_repeated};
 use crate::marks::{marks_of, push_marks};
 use crate::places::next_boundary;
 use crate::reports::{Label, Report};
@@ -61,12 +61,7 @@ impl<'a> Reporter<'a> {
     ///
     /// Takes time linear in what it writes and in the lines that it shows, and for n labels O(n log n) more, and memory for the underlines
     /// of one line. `Err`: out of memory; then a part of the report may have been added.
-    pub fn push(
-        &self,
-        out: &mut String,
-        alloc: Global,
-        report: &Report,
-    ) -> Result<(), AllocError> {
+    pub fn push(&self, out: &mut String, alloc: Global, report: &Report) -> Result<(), AllocError> {
         self.push_title(out, report)?;
         if !report.labels.is_empty() {
             let touched = Touched::new(alloc, &self.lines, &report.labels)?;
