@@ -11,6 +11,7 @@ use lrpar::parser::{AStackType, Actions};
 use lrpar::repair::CpctPlus;
 use lrpar::span::{PIdx, RIdx, Span, Symbol};
 use lrpar_lexer::{RuleLexer, Token};
+use lrpar_report::{Look, Reporter};
 use std::alloc::{AllocError, Global};
 use std::io;
 
@@ -90,7 +91,8 @@ fn calculated<'a>(alloc: Global, calc: &'a Language, line: &'a str) -> Result<St
     let parser = RTParserBuilder::new(&calc.data).recoverer(CpctPlus::new(10_000));
     let (value, errors) = parser.parse_actions(alloc, &lexer, &Calculation { line }, &())?;
     let mut out = String::new(alloc);
-    push_errors(&mut out, alloc, calc.data.grm(), &lexer, line, &errors)?;
+    let reporter = Reporter::new(alloc, line, "line", Look::Plain)?;
+    push_errors(&mut out, alloc, calc, &reporter, line, &errors)?;
     match value.unwrap_or(None) {
         Some(number) => writeln!(out, "{line} = {number}")?,
         None => writeln!(out, "{line} has no value")?,

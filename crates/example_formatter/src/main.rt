@@ -5,6 +5,7 @@
 use example_language::{Failed, Language, language_of, push_errors};
 use lrpar::{Lexeme, Lexer, RTParserBuilder};
 use lrpar_lexer::RuleLexer;
+use lrpar_report::{Look, Reporter};
 use std::alloc::Global;
 use std::io;
 
@@ -35,7 +36,8 @@ fn formatted<'a>(alloc: Global, settings: &'a Language, text: &'a str) -> Result
     if errors.is_empty() {
         push_settings(&mut out, alloc, &lexer, text)?;
     } else {
-        push_errors(&mut out, alloc, settings.data.grm(), &lexer, text, &errors)?;
+        let reporter = Reporter::new(alloc, text, "input", Look::Plain)?;
+        push_errors(&mut out, alloc, settings, &reporter, text, &errors)?;
     }
     Ok(out)
 }

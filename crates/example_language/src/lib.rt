@@ -1,14 +1,12 @@
-//! What the programs of the examples share: a language of a grammar and a lexer, and the texts of its errors.
+//! What the programs of the examples share: a language of a grammar and a lexer, and reports of errors.
 #![tactic(auto)]
 
-ghost use Rattle.std.specs.Prelude.{◌≡◌};
-
 use lrpar::build::{Unbuilt, parser_data};
-use lrpar::errors::PpFault;
 use lrpar::grammar::{GrammarFault, YaccGrammar};
 use lrpar::parser::ParseFault;
-use lrpar::{LexParseError, NonStreamingLexer, ParserData};
+use lrpar::{LexParseError, ParserData};
 use lrpar_lexer::{LexRule, RulesFault, TokenTypes, rules_of};
+use lrpar_report::{Reporter, error_report};
 use std::alloc::{AllocError, Global};
 use std::io;
 use thiserror::Error;
@@ -26,8 +24,6 @@ pub enum Failed {
     Table(#[from] Unbuilt<u32>),
     #[error("parse: {0}")]
     Parse(#[from] ParseFault),
-    #[error("error text: {0}")]
-    Text(#[from] PpFault<u32>),
     #[error("out of memory")]
     Memory(#[from] AllocError),
 }
@@ -47,22 +43,18 @@ pub fn language_of(alloc: Global, grammar: &str, lexer: &str) -> Result<Language
     Ok(Language { data, rules })
 }
 
-/// Adds the text of each error, with a line feed after it.
-pub fn push_errors<'a, L: NonStreamingLexer<'a, TokenTypes>>(
+/// Adds the report of each error of a parse of the reporter's text.
+pub fn push_errors(
     out: &mut String,
     alloc: Global,
-    grm: &'a YaccGrammar<u32>,
-    lexer: &L,
+    language: &Language,
+    reporter: &Reporter<'_>,
     text: &str,
     errors: &[LexParseError<u32, TokenTypes>],
-) -> Result<(), Failed>
-    requires { L.text lexer.now ≡ text.now }
-{
+) -> Result<(), AllocError> {
     for error in errors {
-        if error.fits(text) {
-            out.push_str(&error.pp(alloc, lexer, |token| Some(grm.epp_of(token)))?)?;
-            out.push('\n')?;
-        }
+        let report = error_report(alloc, &language.data, text, error)?;
+        reporter.push(out, alloc, &report)?;
     }
     Ok(())
 }

@@ -1,26 +1,28 @@
-//! Messages of faults in grammar texts.
+//! Reports of faults in grammar texts.
+ghost use Rattle.std.specs.Prelude.{◌≡◌, IfOk};
+ghost use Rattle.lrpar_report_lines.specs.declared.levels.Level.TheVariants.{Error};
+
 use crate::choices::push_quoted;
-use crate::message::{Level, Message};
 use crate::near::push_nearest;
 use crate::shape::push_expected;
 use lrpar_grammar::grammar::GrammarFault;
 use lrpar_grammar::span::Span;
 use lrpar_grammar_words::outline::{Outline, OutlineFault};
 use lrpar_grammar_words::words::Word;
+use lrpar_report_lines::Report;
 use std::alloc::{AllocError, Global};
 
-/// The message of the fault in a grammar text: what is wrong and where, with the name in question, and what would be right there: what
-/// may come at that place, or a rule or token with a similar name. `text` has to be the text that has the fault; else the places in the
-/// message mean nothing.
+/// The report of the fault in a grammar text: what is wrong and where, with the name in question, and what would be right there: what
+/// may come at that place, or a rule or token with a similar name. `text` should be the text that has the fault; else the places in the
+/// report mean nothing.
 ///
-/// Takes time linear in the text, and in its names times the length of the one in question.
-pub fn grammar_message(
-    alloc: Global,
-    text: &str,
-    fault: &GrammarFault,
-) -> Result<Message, AllocError> {
+/// Takes time linear in the text, and in its names times the length of the one in question. `Err`: out of memory, also if that is the
+/// fault.
+pub fn grammar_report(alloc: Global, text: &str, fault: &GrammarFault) -> Result<Report, AllocError>
+    ensures { IfOk result (λ report. report.level ≡ Error) }
+{
     match fault {
-        GrammarFault::Syntax(at) => syntax_message(alloc, text, *at),
+        GrammarFault::Syntax(at) => syntax_report(alloc, text, *at),
         GrammarFault::UnknownRule(span) => unknown_rule(alloc, text, *span),
         GrammarFault::UnknownToken(span) => unknown_token(alloc, text, *span),
         GrammarFault::TokenIsRule(span) => {
@@ -35,12 +37,15 @@ pub fn grammar_message(
             let label = "this token has a printed text already";
             named(alloc, text, *span, "token", "has a second %epp", label)
         }
-        GrammarFault::NoRules => whole(alloc, "no rules: a grammar needs one after its %%"),
-        GrammarFault::StorageTooSmall => whole(
+        GrammarFault::NoRules => Report::error(
+            alloc,
+            "no rules: a grammar needs one after its %%",
+        ),
+        GrammarFault::StorageTooSmall => Report::error(
             alloc,
             "more rules, tokens or productions than can be numbered",
         ),
-        GrammarFault::BadSymbol | GrammarFault::BadStart => whole(
+        GrammarFault::BadSymbol | GrammarFault::BadStart => Report::error(
             alloc,
             "parts that don't fit one another",
         ),
@@ -48,17 +53,7 @@ pub fn grammar_message(
     }
 }
 
-// A message about all of the text.
-fn whole(alloc: Global, text: &str) -> Result<Message, AllocError> {
-    Ok(Message {
-        level: Level::Error,
-        text: String::from_str(alloc, text)?,
-        span: None,
-        label: String::new(alloc),
-    })
-}
-
-// A message about a name: `KIND 'NAME' WHAT`.
+// A report about a name: `KIND 'NAME' WHAT`.
 fn named(
     alloc: Global,
     text: &str,
@@ -66,18 +61,15 @@ fn named(
     kind: &str,
     what: &str,
     label: &str,
-) -> Result<Message, AllocError> {
+) -> Result<Report, AllocError>
+    ensures { IfOk result (λ report. report.level ≡ Error) }
+{
     let mut message = String::from_str(alloc, kind)?;
     message.push(' ')?;
     push_quoted(&mut message, part(text, span))?;
     message.push(' ')?;
     message.push_str(what)?;
-    Ok(Message {
-        level: Level::Error,
-        text: message,
-        span: Some(span),
-        label: String::from_str(alloc, label)?,
-    })
+    Report::error(alloc, message.as_str())?.label(span, label)
 }
 
 // The part of the text at this place, or an empty one if the text has no such place.
@@ -85,8 +77,10 @@ fn part(text: &str, span: Span) -> &str {
     text.get(span.start()..span.end()).unwrap_or("")
 }
 
-// The message of a name that is neither a rule nor a declared token.
-fn unknown_rule(alloc: Global, text: &str, span: Span) -> Result<Message, AllocError> {
+// The report of a name that is neither a rule nor a declared token.
+fn unknown_rule(alloc: Global, text: &str, span: Span) -> Result<Report, AllocError>
+    ensures { IfOk result (λ report. report.level ≡ Error) }
+{
     let mut label = String::new(alloc);
     if let Ok(outline) = outline_of(alloc, text)? {
         let lists = [&outline.defined, &outline.declared];
@@ -99,8 +93,10 @@ fn unknown_rule(alloc: Global, text: &str, span: Span) -> Result<Message, AllocE
     named(alloc, text, span, "name", what, label.as_str())
 }
 
-// The message of a name after `%epp` that is no token.
-fn unknown_token(alloc: Global, text: &str, span: Span) -> Result<Message, AllocError> {
+// The report of a name after `%epp` that is no token.
+fn unknown_token(alloc: Global, text: &str, span: Span) -> Result<Report, AllocError>
+    ensures { IfOk result (λ report. report.level ≡ Error) }
+{
     let mut label = String::new(alloc);
     if let Ok(outline) = outline_of(alloc, text)? {
         push_near(&mut label, alloc, part(text, span), &[&outline.declared])?;
@@ -141,8 +137,10 @@ fn push_near(
     push_nearest(label, name, &names)
 }
 
-// The message of a text that isn't a grammar's from byte `at` on.
-fn syntax_message(alloc: Global, text: &str, at: usize) -> Result<Message, AllocError> {
+// The report of a text that isn't a grammar's from byte `at` on.
+fn syntax_report(alloc: Global, text: &str, at: usize) -> Result<Report, AllocError>
+    ensures { IfOk result (λ report. report.level ≡ Error) }
+{
     let (front, rest) = text.split_at_checked(at).unwrap_or((text, ""));
     let mut message = String::new(alloc);
     let len = match unclosed(rest) {
@@ -157,12 +155,8 @@ fn syntax_message(alloc: Global, text: &str, at: usize) -> Result<Message, Alloc
             word.len()
         }
     };
-    Ok(Message {
-        level: Level::Error,
-        text: message,
-        span: Some(Span::new(front.len(), front.len().saturating_add(len))),
-        label: String::new(alloc),
-    })
+    let span = Span::new(front.len(), front.len().saturating_add(len));
+    Report::error(alloc, message.as_str())?.label(span, "")
 }
 
 // What is wrong with the comment or quote with which the text begins, if it isn't closed.

@@ -1,23 +1,44 @@
-//! Messages of faults in the rules of a lexer.
+//! Reports of faults in the rules of a lexer.
+ghost use Rattle.std.specs.Prelude.{◌≡◌, IfOk};
+ghost use Rattle.lrpar_report_lines.specs.declared.levels.Level.TheVariants.{Error};
+
 use crate::choices::push_quoted;
-use crate::message::{Level, Message};
 use crate::near::push_nearest;
 use lrpar_grammar::grammar::YaccGrammar;
 use lrpar_grammar::span::Span;
-use lrpar_lexer::LineFault;
+use lrpar_lexer::{LineFault, RulesFault};
+use lrpar_report_lines::Report;
 use std::alloc::{AllocError, Global};
 
-/// The message of a fault in the line of this number, counted from 1, of a text of rules: the cause, and where in the line it is.
-/// `text` has to be the text that has the fault; else the places in the message mean nothing.
+/// The report of the fault in a text of rules for a lexer: the cause, and where it is. `text` should be the text that has the fault, and
+/// `grm` its grammar; else the places in the report mean nothing.
 ///
-/// Takes time linear in the text, and in the tokens of the grammar times the length of the name in question.
-pub fn lexer_message(
+/// Takes time linear in the text, and in the tokens of the grammar times the length of the name in question. `Err`: out of memory, also
+/// if that is the fault.
+pub fn rules_report(
+    alloc: Global,
+    grm: &YaccGrammar<u32>,
+    text: &str,
+    fault: &RulesFault,
+) -> Result<Report, AllocError>
+    ensures { IfOk result (λ report. report.level ≡ Error) }
+{
+    match fault {
+        RulesFault::Line(number, fault) => line_report(alloc, grm, text, *number, *fault),
+        RulesFault::Memory => Err(AllocError),
+    }
+}
+
+// The report of a fault in the line of this number, counted from 1.
+fn line_report(
     alloc: Global,
     grm: &YaccGrammar<u32>,
     text: &str,
     number: usize,
     fault: LineFault,
-) -> Result<Message, AllocError> {
+) -> Result<Report, AllocError>
+    ensures { IfOk result (λ report. report.level ≡ Error) }
+{
     let core = line_of(text, number);
     let line = text.get(core.start()..core.end()).unwrap_or("");
     match fault {
@@ -49,26 +70,23 @@ fn core_of(line: &str, start: usize) -> Span {
     Span::new(from, from.saturating_add(core.len()))
 }
 
-// The message of a line that isn't written as a rule.
-fn unread(alloc: Global, core: Span) -> Result<Message, AllocError> {
-    Ok(Message {
-        level: Level::Error,
-        text: String::from_str(alloc, "this line is no rule")?,
-        span: Some(core),
-        label: String::from_str(
-            alloc,
-            "expected PATTERN 'NAME' for a token, or PATTERN ; for what is skipped",
-        )?,
-    })
+// The report of a line that isn't written as a rule.
+fn unread(alloc: Global, core: Span) -> Result<Report, AllocError>
+    ensures { IfOk result (λ report. report.level ≡ Error) }
+{
+    let label = "expected PATTERN 'NAME' for a token, or PATTERN ; for what is skipped";
+    Report::error(alloc, "this line is no rule")?.label(core, label)
 }
 
-// The message of a line that starts at byte `start` and names no token.
+// The report of a line that starts at byte `start` and names no token.
 fn unnamed(
     alloc: Global,
     grm: &YaccGrammar<u32>,
     line: &str,
     start: usize,
-) -> Result<Message, AllocError> {
+) -> Result<Report, AllocError>
+    ensures { IfOk result (λ report. report.level ≡ Error) }
+{
     let quoted = line.strip_suffix('\'').unwrap_or(line);
     let (front, name) = quoted.rsplit_once('\'').unwrap_or(("", quoted));
     let at = start.saturating_add(front.len()).saturating_add(1);
@@ -76,12 +94,8 @@ fn unnamed(
     push_quoted(&mut text, name)?;
     let mut label = String::new(alloc);
     push_near_token(&mut label, alloc, grm, name)?;
-    Ok(Message {
-        level: Level::Error,
-        text,
-        span: Some(Span::new(at, at.saturating_add(name.len()))),
-        label,
-    })
+    let span = Span::new(at, at.saturating_add(name.len()));
+    Report::error(alloc, text.as_str())?.label(span, label.as_str())
 }
 
 // Adds the token that somebody may have meant, if one is near.
@@ -102,8 +116,10 @@ fn push_near_token(
     Ok(())
 }
 
-// The message of a pattern that is refused.
-fn refused(alloc: Global, error: &regex::Error, core: Span) -> Result<Message, AllocError> {
+// The report of a pattern that is refused.
+fn refused(alloc: Global, error: &regex::Error, core: Span) -> Result<Report, AllocError>
+    ensures { IfOk result (λ report. report.level ≡ Error) }
+{
     let mut text = String::from_str(alloc, "bad pattern: ")?;
     let span = match error {
         regex::Error::Syntax(error) => {
@@ -115,12 +131,8 @@ fn refused(alloc: Global, error: &regex::Error, core: Span) -> Result<Message, A
             core
         }
     };
-    Ok(Message {
-        level: Level::Error,
-        text,
-        span: Some(span),
-        label: String::from_str(alloc, "patterns are those of the crate `regex`")?,
-    })
+    let label = "patterns are those of the crate `regex`";
+    Report::error(alloc, text.as_str())?.label(span, label)
 }
 
 // The place of a part of the pattern with which a line begins.

@@ -1,17 +1,29 @@
-//! Messages for people about grammar texts, lexer texts and files.
+//! Reports for people: what is wrong with a grammar text, with rules of a lexer, with a table, and with an input, and where.
+//!
+//! A report is made by one call for each fault, or by [`Report::error`] and its kin for faults of your own. [`Reporter::push`] shows it.
 #![tactic(auto)]
 
 mod choices;
+mod conflicts;
+mod errors;
 mod file;
 mod grammar;
 mod lexer;
-mod message;
+mod loops;
 mod near;
+mod repairs;
 mod shape;
+mod tables;
+mod warnings;
 
 pub use choices::{push_choices, push_quoted, push_token};
+pub use conflicts::conflict_reports;
+pub use errors::{error_report, lexing_report, parse_report, unexpected_report};
 pub use file::{file_message, text_of};
-pub use grammar::grammar_message;
-pub use lexer::lexer_message;
-pub use message::{Level, Look, Message, Reporter};
+pub use grammar::grammar_report;
+pub use lexer::rules_report;
+pub use lrpar_report_lines::{Label, Level, Look, Report, Reporter, next_boundary, part_of};
 pub use near::nearest;
+pub use repairs::push_repairs;
+pub use tables::{build_report, chain_report};
+pub use warnings::{rule_warnings, token_warnings};

@@ -1,20 +1,13 @@
 //! Errors of inputs.
-ghost use Rattle.std.specs.Prelude.{◌≡◌};
-
 use crate::plan::Recovery;
-use crate::show::push_message;
+use crate::show::with_label_text;
 use lrpar_grammar::grammar::YaccGrammar;
-use lrpar_grammar::span::{Span, TIdx};
-use lrpar_lexer::{NoToken, Token, TokenTypes};
+use lrpar_grammar::span::TIdx;
+use lrpar_lexer::{NoToken, Token};
 use lrpar_parse_errors::errors::ParseError;
-use lrpar_parse_lexemes::lex_api::{LexError, Lexeme, NonStreamingLexer};
-use lrpar_report::{Level, Reporter, push_choices, push_quoted};
-use program_files::fault::Fault;
-use program_files::parsing::{TextError, error_text};
+use lrpar_parse_errors::spaces::push_spaces;
+use lrpar_report::{Reporter, lexing_report, push_repairs, unexpected_report};
 use std::alloc::{AllocError, Global};
-
-/// How many characters of an unexpected lexeme are shown at most.
-const MOST_CHARACTERS: usize = 40;
 
 /// What messages about the errors of an input need.
 #[derive(Clone, Copy)]
@@ -33,34 +26,9 @@ pub(crate) fn push_lexing_error(
     input: &str,
     error: &NoToken,
 ) -> Result<(), AllocError> {
-    let at = error.span().start();
-    let rest = input.get(at..).unwrap_or("");
-    let mut text = String::from_str(alloc, "unexpected character ")?;
-    let len = push_character(&mut text, rest)?;
-    let span = Span::new(at, at.saturating_add(len));
-    push_message(
-        out,
-        alloc,
-        reporter,
-        Level::Error,
-        Some(span),
-        text,
-        "no line of LEXER matches here",
-    )
-}
-
-// Adds the character with which the text begins, and its number, if it isn't a visible one of ASCII. Returns how many bytes it has.
-fn push_character(out: &mut String, text: &str) -> Result<usize, AllocError> {
-    let Some(c) = text.chars().next() else {
-        return Ok(0);
-    };
-    let len = c.len_utf8();
-    push_quoted(out, text.get(..len).unwrap_or(""))?;
-    if !c.is_ascii_graphic() {
-        let number = u32::from(c);
-        write!(out, " (U+{number:04X})")?;
-    }
-    Ok(len)
+    let report = lexing_report(alloc, input, error)?;
+    let report = with_label_text(report, "no line of LEXER matches here")?;
+    reporter.push(out, alloc, &report)
 }
 
 /// Adds the message of a parse error: what wasn't expected, what was, and the repairs that were found.
@@ -69,78 +37,39 @@ pub(crate) fn push_parse_error(
     alloc: Global,
     reporter: &Reporter<'_>,
     subject: &Subject<'_>,
+    recovery: Recovery,
     error: &ParseError<Token<u32>, u32>,
 ) -> Result<(), AllocError> {
-    let lexeme = *error.lexeme();
-    let mut text = String::from_str(alloc, "unexpected ")?;
-    push_lexeme(&mut text, subject, lexeme)?;
-    if !subject.expected.is_empty() {
-        text.push_str(", ")?;
-        push_choices(&mut text, subject.grm, subject.expected)?;
-    }
-    push_message(
-        out,
-        alloc,
-        reporter,
-        Level::Error,
-        Some(lexeme.span()),
-        text,
-        "",
-    )
-}
-
-// Adds a lexeme: that it is the end, if it has the end token, and else its part of the input.
-fn push_lexeme(
-    text: &mut String,
-    subject: &Subject<'_>,
-    lexeme: Token<u32>,
-) -> Result<(), AllocError> {
-    let token = usize::from(TIdx(lexeme.tok_id()));
-    let span = lexeme.span();
-    if token.saturating_add(1) < subject.grm.tokens_len() {
-        let part = subject.input.get(span.start()..span.end()).unwrap_or("");
-        return push_shortened(text, part);
-    }
-    if subject.input.is_empty() {
-        text.push_str("end of input, as it is empty")
-    } else if span.start() == 0 {
-        text.push_str("end of input, as it has no token")
+    let Subject {
+        grm,
+        input,
+        expected,
+    } = *subject;
+    let report = unexpected_report(alloc, grm, input, error.lexeme(), expected)?;
+    reporter.push(out, alloc, &report)?;
+    if error.repairs().is_empty() {
+        push_no_repairs(out, recovery)
     } else {
-        text.push_str("end of input")
+        push_listed(out, alloc, subject, error)
     }
 }
 
-// Adds the text between quotes, or its first characters and dots.
-fn push_shortened(out: &mut String, text: &str) -> Result<(), AllocError> {
-    match text.char_indices().nth(MOST_CHARACTERS) {
-        Some((end, _)) => {
-            push_quoted(out, text.get(..end).unwrap_or(""))?;
-            out.push_str(" ..")
-        }
-        None => push_quoted(out, text),
-    }
-}
-
-/// Adds the repairs that were found for an error, a line each; or that none was found, or that none was looked for.
-pub(crate) fn push_repairs<'a, L: NonStreamingLexer<'a, TokenTypes>>(
+// Adds the repairs that were found for an error, a line each, after their numbers, right-aligned.
+fn push_listed(
     out: &mut String,
     alloc: Global,
-    recovery: Recovery,
-    names: &'a [&'a str],
-    lexer: &L,
-    input: &str,
-    error: &TextError,
-) -> Result<(), Fault>
-    requires { L.text lexer.now ≡ input.now }
-{
-    let text = error_text(alloc, names, lexer, input, error)?;
-    match text.as_str().split_once('\n') {
-        Some((_, repairs)) => {
-            out.push_str("repairs that were found, of which the first is taken:\n")?;
-            out.push_str(repairs)?;
-            out.push('\n')?;
-        }
-        None => push_no_repairs(out, recovery)?,
+    subject: &Subject<'_>,
+    error: &ParseError<Token<u32>, u32>,
+) -> Result<(), AllocError> {
+    out.push_str("repairs that were found, of which the first is taken:\n")?;
+    let most = error.repairs().len().to_string(alloc)?.len();
+    for (place, repairs) in error.repairs().iter().enumerate() {
+        let number = place.saturating_add(1).to_string(alloc)?;
+        push_spaces(out, most.saturating_sub(number.len()).saturating_add(3))?;
+        out.push_str(number.as_str())?;
+        out.push_str(": ")?;
+        push_repairs(out, subject.grm, subject.input, repairs)?;
+        out.push('\n')?;
     }
     Ok(())
 }

@@ -6,14 +6,12 @@ mod errors;
 mod fault_line;
 pub mod grammar;
 mod inputs;
-mod loops;
 mod options;
 pub mod parse;
 pub mod plan;
 mod program;
 pub mod rules;
 pub mod show;
-pub mod warnings;
 
 pub use lrpar_report::Look;
 pub use program::{Terminal, run, run_of_process};

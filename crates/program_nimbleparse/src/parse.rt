@@ -1,7 +1,5 @@
 //! The parse of one input, and what is printed of it.
-ghost use Rattle.std.specs.Prelude.{◌≡◌};
-
-use crate::errors::{Subject, push_lexing_error, push_parse_error, push_repairs};
+use crate::errors::{Subject, push_lexing_error, push_parse_error};
 use crate::plan::{Format, Plan, Recovery};
 use crate::show::write_messages;
 use lrpar_grammar::span::{StIdx, TIdx};
@@ -9,14 +7,13 @@ use lrpar_lexer::{RuleLexer, Token, TokenTypes};
 use lrpar_parse::RTParserBuilder;
 use lrpar_parse_cpctplus::CpctPlus;
 use lrpar_parse_errors::errors::LexParseError;
-use lrpar_parse_lexemes::lex_api::NonStreamingLexer;
 use lrpar_parse_repair::repair::Recoverer;
 use lrpar_parse_trees::{Form, write_graph, write_nested};
 use lrpar_report::Reporter;
 use lrpar_table::check::ParserData;
 use program_files::fault::Fault;
 use program_files::parsing::{Parsed, TextError, Tree, with_shifts};
-use std::alloc::Global;
+use std::alloc::{AllocError, Global};
 use std::io::Write;
 
 /// Parses the input of this path and text. Writes messages of its errors, and prints its tree, if there is one. Returns whether there is
@@ -29,18 +26,6 @@ pub fn parse<O: Write, E: Write>(
     out: &mut O,
     err: &mut E,
 ) -> Result<bool, Fault> {
-    parse_text(alloc, plan, path, input, out, err)
-}
-
-// The same, with one lifetime for what messages print of tokens and of the input.
-fn parse_text<'a, O: Write, E: Write>(
-    alloc: Global,
-    plan: &'a Plan<'_>,
-    path: &str,
-    input: &'a str,
-    out: &mut O,
-    err: &mut E,
-) -> Result<bool, Fault> {
     let lexer = RuleLexer::new(alloc, plan.rules, input)?;
     let (tree, errors) = parsed(alloc, plan, &lexer)?;
     let tree = tree.as_ref();
@@ -48,19 +33,17 @@ fn parse_text<'a, O: Write, E: Write>(
 }
 
 // Writes messages of the errors, and prints the tree. Returns whether there is a tree, and no error.
-fn printed<'a, O: Write, E: Write>(
+fn printed<O: Write, E: Write>(
     alloc: Global,
-    plan: &'a Plan<'_>,
-    lexer: &RuleLexer<'_, 'a>,
+    plan: &Plan<'_>,
+    lexer: &RuleLexer<'_, '_>,
     path: &str,
     input: &str,
     tree: Option<&Tree>,
     errors: &[TextError],
     out: &mut O,
     err: &mut E,
-) -> Result<bool, Fault>
-    requires { lexer.now.input.now ≡ input.now }
-{
+) -> Result<bool, Fault> {
     if !errors.is_empty() {
         write_errors(alloc, plan, lexer, path, input, errors, out, err)?;
     }
@@ -74,20 +57,18 @@ fn printed<'a, O: Write, E: Write>(
 }
 
 // Writes messages of the errors.
-fn write_errors<'a, O: Write, E: Write>(
+fn write_errors<O: Write, E: Write>(
     alloc: Global,
-    plan: &'a Plan<'_>,
-    lexer: &RuleLexer<'_, 'a>,
+    plan: &Plan<'_>,
+    lexer: &RuleLexer<'_, '_>,
     path: &str,
     input: &str,
     errors: &[TextError],
     out: &mut O,
     err: &mut E,
-) -> Result<(), Fault>
-    requires { lexer.now.input.now ≡ input.now }
-{
+) -> Result<(), Fault> {
     let expected = expected_tokens(alloc, plan, lexer, errors)?;
-    let text = errors_text(alloc, plan, lexer, path, input, &expected, errors)?;
+    let text = errors_text(alloc, plan, path, input, &expected, errors)?;
     write_messages(out, err, text.as_str())
 }
 
@@ -114,24 +95,23 @@ fn parsed_by<R: Recoverer<u32, Token<u32>> + Drop>(
 }
 
 // The messages of the errors of an input.
-fn errors_text<'a, L: NonStreamingLexer<'a, TokenTypes>>(
+fn errors_text(
     alloc: Global,
-    plan: &'a Plan<'_>,
-    lexer: &L,
+    plan: &Plan<'_>,
     path: &str,
     input: &str,
     expected: &[TIdx<u32>],
     errors: &[TextError],
-) -> Result<String, Fault>
-    requires { L.text lexer.now ≡ input.now }
-{
+) -> Result<String, AllocError> {
     let reporter = Reporter::new(alloc, input, path, plan.look)?;
     let mut text = String::new(alloc);
     for (place, error) in errors.iter().enumerate() {
-        let tokens = tokens_of(plan.data, expected, place, error);
-        push_error(
-            &mut text, alloc, plan, &reporter, lexer, input, tokens, error,
-        )?;
+        let subject = Subject {
+            grm: plan.data.grm(),
+            input,
+            expected: tokens_of(plan.data, expected, place, error),
+        };
+        push_error(&mut text, alloc, plan.recovery, &reporter, &subject, error)?;
     }
     Ok(text)
 }
@@ -176,30 +156,20 @@ fn tokens_at(data: &ParserData<u32>, state: StIdx<u32>) -> &[TIdx<u32>] {
 }
 
 // Adds the message of an error.
-fn push_error<'a, L: NonStreamingLexer<'a, TokenTypes>>(
+fn push_error(
     text: &mut String,
     alloc: Global,
-    plan: &'a Plan<'_>,
+    recovery: Recovery,
     reporter: &Reporter<'_>,
-    lexer: &L,
-    input: &str,
-    expected: &[TIdx<u32>],
+    subject: &Subject<'_>,
     error: &TextError,
-) -> Result<(), Fault>
-    requires { L.text lexer.now ≡ input.now }
-{
+) -> Result<(), AllocError> {
     match error {
         LexParseError::LexError(error) => {
-            Ok(push_lexing_error(text, alloc, reporter, input, error)?)
+            push_lexing_error(text, alloc, reporter, subject.input, error)
         }
         LexParseError::ParseError(failure) => {
-            let subject = Subject {
-                grm: plan.data.grm(),
-                input,
-                expected,
-            };
-            push_parse_error(text, alloc, reporter, &subject, failure)?;
-            push_repairs(text, alloc, plan.recovery, plan.names, lexer, input, error)
+            push_parse_error(text, alloc, reporter, subject, recovery, failure)
         }
     }
 }

@@ -33,8 +33,6 @@ pub enum Recovery {
 pub struct Plan<'a> {
     pub data: &'a ParserData<u32>,
     pub rules: &'a [LexRule],
-    /// What messages print for the tokens, in their order.
-    pub names: &'a [&'a str],
     pub recovery: Recovery,
     /// How many lexemes have to follow a repair, if the words say so.
     pub shifts: Option<usize>,

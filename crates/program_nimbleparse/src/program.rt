@@ -9,13 +9,12 @@ use crate::options::{HELP, Options, asks_for_help, options_of};
 use crate::parse::parse;
 use crate::plan::Plan;
 use crate::rules::lexer_rules;
-use crate::show::{push_message, write_messages};
-use crate::warnings::push_token_warnings;
+use crate::show::{with_label_text, write_messages};
+use lrpar_grammar::grammar::YaccGrammar;
 use lrpar_lexer::LexRule;
-use lrpar_report::{Level, Look, Reporter};
+use lrpar_report::{Level, Look, Report, Reporter, token_warnings};
 use lrpar_table::check::ParserData;
 use program_files::fault::{Fault, Misuse};
-use program_files::parsing::printed_names;
 use program_files::streams::{Status, ended, finished, words};
 use std::alloc::{AllocError, Global};
 use std::env;
@@ -180,16 +179,10 @@ impl<'a> Work<'a> {
     }
 
     // How inputs are parsed and trees are printed.
-    fn plan(
-        self,
-        data: &'a ParserData<u32>,
-        rules: &'a [LexRule],
-        names: &'a [&'a str],
-    ) -> Plan<'a> {
+    fn plan(self, data: &'a ParserData<u32>, rules: &'a [LexRule]) -> Plan<'a> {
         Plan {
             data,
             rules,
-            names,
             recovery: self.options.recovery,
             shifts: self.options.shifts,
             format: self.options.format,
@@ -284,6 +277,21 @@ fn warnings(
     Ok(text)
 }
 
+// Adds a warning for each token that no rule gives.
+fn push_token_warnings(
+    out: &mut String,
+    alloc: Global,
+    reporter: &Reporter<'_>,
+    grm: &YaccGrammar<u32>,
+    rules: &[LexRule],
+) -> Result<(), AllocError> {
+    for report in token_warnings(alloc, grm, rules)? {
+        let report = with_label_text(report, "no line of LEXER names this token")?;
+        reporter.push(out, alloc, &report)?;
+    }
+    Ok(())
+}
+
 // Adds a note of how large the grammar and its table are, and of the least cap.
 fn push_sizes(
     out: &mut String,
@@ -299,7 +307,7 @@ fn push_sizes(
     let text = format!(in alloc;
         "rules {rules}, productions {prods}, tokens {tokens}, states {states}, least cap {cap}"
     )?;
-    push_message(out, alloc, reporter, Level::Note, None, text, "")
+    reporter.push(out, alloc, &Report::new(alloc, Level::Note, text.as_str())?)
 }
 
 // Parses the inputs, prints what comes of them, and returns how that ends.
@@ -313,8 +321,7 @@ fn parse_inputs<R: Files, I: Read + Drop, O: Write, E: Write>(
     out: &mut O,
     err: &mut E,
 ) -> Result<Status, Fault> {
-    let names = printed_names(alloc, data.grm())?;
-    let plan = work.plan(data, rules, &names);
+    let plan = work.plan(data, rules);
     parse_paths(rt, alloc, &plan, &work.options.inputs, input, out, err)
 }
 

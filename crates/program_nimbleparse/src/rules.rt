@@ -1,8 +1,8 @@
 //! The rules of the lexer, or why there are none.
-use crate::show::fault_of_message;
+use crate::show::fault_of_report;
 use lrpar_grammar::grammar::YaccGrammar;
-use lrpar_lexer::{LexRule, RulesFault, rules_of};
-use lrpar_report::{Reporter, lexer_message};
+use lrpar_lexer::{LexRule, rules_of};
+use lrpar_report::{Reporter, rules_report};
 use program_files::fault::Fault;
 use std::alloc::Global;
 
@@ -15,10 +15,9 @@ pub fn lexer_rules(
 ) -> Result<Vec<LexRule>, Fault> {
     match rules_of(alloc, grm, text) {
         Ok(rules) => Ok(rules),
-        Err(RulesFault::Memory) => Err(Fault::Memory),
-        Err(RulesFault::Line(number, fault)) => {
-            let message = lexer_message(alloc, grm, text, number, fault)?;
-            Err(fault_of_message(alloc, reporter, &message))
+        Err(fault) => {
+            let report = rules_report(alloc, grm, text, &fault);
+            Err(fault_of_report(alloc, reporter, report))
         }
     }
 }

@@ -1,6 +1,5 @@
-//! Messages on standard error.
-use lrpar_grammar::span::Span;
-use lrpar_report::{Level, Message, Reporter};
+//! Reports on standard error.
+use lrpar_report::{Report, Reporter};
 use program_files::fault::Fault;
 use std::alloc::{AllocError, Global};
 use std::io::Write;
@@ -18,37 +17,48 @@ pub fn write_messages<O: Write, E: Write>(
     Ok(())
 }
 
-/// The fault that shows this message about a text.
-pub(crate) fn fault_of_message(alloc: Global, reporter: &Reporter<'_>, message: &Message) -> Fault {
-    match shown(alloc, reporter, message) {
+/// The fault that shows this report about a text.
+pub(crate) fn fault_of_report(
+    alloc: Global,
+    reporter: &Reporter<'_>,
+    report: Result<Report, AllocError>,
+) -> Fault {
+    match shown(alloc, reporter, report) {
         Ok(text) => Fault::of_message(text),
         Err(_) => Fault::Memory,
     }
 }
 
-// The text of a message.
-fn shown(alloc: Global, reporter: &Reporter<'_>, message: &Message) -> Result<String, AllocError> {
+// The text of a report.
+fn shown(
+    alloc: Global,
+    reporter: &Reporter<'_>,
+    report: Result<Report, AllocError>,
+) -> Result<String, AllocError> {
+    let report = report?;
     let mut text = String::new(alloc);
-    reporter.push(&mut text, alloc, message)?;
+    reporter.push(&mut text, alloc, &report)?;
     Ok(text)
 }
 
-/// Adds a message of this level, place, text and label.
-pub fn push_message(
+/// Adds the reports.
+pub fn push_reports(
     out: &mut String,
     alloc: Global,
     reporter: &Reporter<'_>,
-    level: Level,
-    span: Option<Span>,
-    text: String,
-    label: &str,
+    reports: &[Report],
 ) -> Result<(), AllocError> {
-    let label = String::from_str(alloc, label)?;
-    let message = Message {
-        level,
-        text,
-        span,
-        label,
-    };
-    reporter.push(out, alloc, &message)
+    for report in reports {
+        reporter.push(out, alloc, report)?;
+    }
+    Ok(())
+}
+
+/// The report with this text at its last label, if it has one.
+pub fn with_label_text(report: Report, text: &str) -> Result<Report, AllocError> {
+    let mut report = report;
+    match report.labels.pop() {
+        Some(label) => report.label(label.span, text),
+        None => Ok(report),
+    }
 }

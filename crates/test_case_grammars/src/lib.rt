@@ -1,9 +1,10 @@
-//! Cases of grammars, of underlined messages, and of counterexamples.
+//! Cases of grammars, of underlined messages, of reports, and of counterexamples.
 #![tactic(auto)]
 
 pub mod examples;
 pub mod grammars;
 pub mod parts;
+pub mod reports;
 pub mod spelled;
 pub mod underlines;
 mod uses;

@@ -2,7 +2,7 @@
 use crate::{commands, streams};
 use std::alloc::Global;
 use std::rt::Files;
-use test_case_grammars::{examples, grammars, parts, spelled, underlines};
+use test_case_grammars::{examples, grammars, parts, reports, spelled, underlines};
 use test_case_lines::cases::Case;
 use test_case_lines::fault::Fault;
 use test_case_lines::printed::Printed;
@@ -26,6 +26,7 @@ pub(crate) fn inputs_of(kind: &str) -> &'static [&'static str] {
         "chain" => chain::INPUTS,
         "full" | "stored" | "sets" => refusals::INPUTS,
         "underlines" => underlines::INPUTS,
+        "report" => reports::INPUTS,
         "examples" => examples::INPUTS,
         _ => &[],
     }
@@ -57,6 +58,7 @@ pub(crate) fn outcome<R: Files>(
         "stored" => refusals::outcome_of_entries(out, alloc, case),
         "sets" => refusals::outcome_of_sets(out, alloc, case),
         "underlines" => underlines::outcome(out, alloc, case),
+        "report" => reports::outcome(out, alloc, case),
         "examples" => examples::outcome(out, rt, alloc, case),
         _ => Err(Fault::Line(case.number, "a kind of case that isn't known")),
     }

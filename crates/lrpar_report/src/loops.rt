@@ -4,7 +4,7 @@ ghost use Rattle.std.specs.Bool.{OnTrue};
 ghost use Rattle.lrpar_grammar.specs.Grammar.{Grammar, Nonterminal, prods_len};
 ghost use Rattle.lrpar_grammar.specs.Symbols.{symbol_of};
 ghost use Rattle.lrpar_table_sentences.specs.Choices.{AreShortest};
-ghost use Rattle.program_nimbleparse.specs.Loops.{Begins, DeriveNothing, IsLoop, IsPlaceOf, IsStep, Lead, StepOf, step_of};
+ghost use Rattle.lrpar_report.specs.Loops.{Begins, DeriveNothing, IsLoop, IsPlaceOf, IsStep, Lead, StepOf, step_of};
 
 use lrpar_grammar::grammar::YaccGrammar;
 use lrpar_grammar::span::{PIdx, RIdx, StorageIndex, Symbol};

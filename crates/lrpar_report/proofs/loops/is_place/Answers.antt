@@ -2,9 +2,9 @@ use Rattle.std.proofs.Common.{◌≡◌, ◌+◌, ◌-◌, ◌∙◌, ap, arith,
 use Rattle.std.specs.Bool.{OnTrue}
 use Rattle.std.proofs.lemmas.List.{drop-map, take-map, take_all}
 use Rattle.lrpar_grammar.specs.Symbols.{symbol_of}
-use Rattle.program_nimbleparse.specs.Loops.{DeriveNothing}
-use Rattle.program_nimbleparse.proofs.LoopLemmas.{front_place, lone_place}
-use Rattle.program_nimbleparse.proofs.loops.is_place.Goals as goal
+use Rattle.lrpar_report.specs.Loops.{DeriveNothing}
+use Rattle.lrpar_report.proofs.LoopLemmas.{front_place, lone_place}
+use Rattle.lrpar_report.proofs.loops.is_place.Goals as goal
 
 pub returns-then-derive_nothing : goal.returns-then-derive_nothing
 returns-then-derive_nothing g c = λ grm shortest.

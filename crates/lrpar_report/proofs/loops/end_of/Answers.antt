@@ -1,9 +1,9 @@
 use Rattle.std.proofs.Common.{◌+◌, map, take, subst}
 use Rattle.std.proofs.lemmas.List.{take_all}
 use Rattle.lrpar_grammar_places.proofs.ListLemmas.{map-take_more}
-use Rattle.program_nimbleparse.specs.Loops.{Lead, step_of}
-use Rattle.program_nimbleparse.proofs.LoopLemmas.{lead_more}
-use Rattle.program_nimbleparse.proofs.loops.end_of.Goals as goal
+use Rattle.lrpar_report.specs.Loops.{Lead, step_of}
+use Rattle.lrpar_report.proofs.LoopLemmas.{lead_more}
+use Rattle.lrpar_report.proofs.loops.end_of.Goals as goal
 
 pub steps-preserved : goal.steps-preserved
 steps-preserved g c =

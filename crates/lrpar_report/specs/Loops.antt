@@ -3,9 +3,9 @@ use Rattle.std.specs.Prelude.{◌≡◌, ◌<◌, ◌+◌, ◌∷◌, ℕ, List,
 use Rattle.lrpar_grammar.specs.Grammar.{Grammar, GrammarSymbol, Nonterminal, prods_len, rule_of, symbols_of}
 use Rattle.lrpar_grammar.specs.Tree.{Forest, forest_leaves}
 use Rattle.lrpar_table_sentences.specs.Texts.{AreTreesOf}
-use Rattle.program_nimbleparse.specs.declared.loops.LoopKind.{LoopKind}
-use Rattle.program_nimbleparse.specs.declared.loops.LoopKind.TheVariants.{DerivesItself, IsHiddenLeft}
-use Rattle.program_nimbleparse.specs.declared.loops.LoopStep.{LoopStep}
+use Rattle.lrpar_report.specs.declared.loops.LoopKind.{LoopKind}
+use Rattle.lrpar_report.specs.declared.loops.LoopKind.TheVariants.{DerivesItself, IsHiddenLeft}
+use Rattle.lrpar_report.specs.declared.loops.LoopStep.{LoopStep}
 
 -- a step: a production of a rule, and the place of a symbol on its right side
 pub record StepOf : Type 0 where

@@ -2,9 +2,9 @@
 use Rattle.std.proofs.Common.{◌≡◌, ◌+◌, ℕ, Bool, true, false, List, [], ◌∷◌, ◌++◌, drop, take, refl, subst, sym}
 use Rattle.std.specs.Bool.{OnTrue}
 use Rattle.lrpar_grammar.specs.Grammar.{Grammar, GrammarSymbol}
-use Rattle.program_nimbleparse.specs.declared.loops.LoopKind.{LoopKind}
-use Rattle.program_nimbleparse.specs.declared.loops.LoopKind.TheVariants.{DerivesItself, IsHiddenLeft}
-use Rattle.program_nimbleparse.specs.Loops.{DeriveNothing, IsPlaceOf, IsStep, Lead, StepOf}
+use Rattle.lrpar_report.specs.declared.loops.LoopKind.{LoopKind}
+use Rattle.lrpar_report.specs.declared.loops.LoopKind.TheVariants.{DerivesItself, IsHiddenLeft}
+use Rattle.lrpar_report.specs.Loops.{DeriveNothing, IsPlaceOf, IsStep, Lead, StepOf}
 
 lead_push : (kind : LoopKind) (g : Grammar) (from mid to : ℕ) (steps : List StepOf) (step : StepOf)
     → Lead kind g from steps mid → IsStep kind g mid step to → Lead kind g from (steps ++ step ∷ []) to

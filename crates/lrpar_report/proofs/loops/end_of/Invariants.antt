@@ -1,6 +1,6 @@
 use Rattle.std.proofs.Common.{map, take}
-use Rattle.program_nimbleparse.specs.Loops.{Lead, step_of}
-use Rattle.program_nimbleparse.proofs.loops.end_of.Given as goal
+use Rattle.lrpar_report.specs.Loops.{Lead, step_of}
+use Rattle.lrpar_report.proofs.loops.end_of.Given as goal
 
 -- the steps so far lead to the rule
 abbrev pub invariant-steps : goal.invariant-steps

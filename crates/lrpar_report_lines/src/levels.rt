@@ -1,0 +1,54 @@
+//! The levels of reports, and how reports look.
+use std::alloc::AllocError;
+
+/// What a report is.
+#[derive(Clone, Copy, Debug, PartialEq, Eq)]
+pub enum Level {
+    /// Something is wrong.
+    Error,
+    /// Something may be wrong.
+    Warning,
+    /// Something that is good to know.
+    Note,
+}
+
+impl Level {
+    /// The word before the message.
+    pub fn word(self) -> &'static str {
+        match self {
+            Level::Error => "error",
+            Level::Warning => "warning",
+            Level::Note => "note",
+        }
+    }
+
+    // The escape sequence that sets the colour of that word on a terminal.
+    fn colour(self) -> &'static str {
+        match self {
+            Level::Error => "\u{1b}[1;31m",
+            Level::Warning => "\u{1b}[1;33m",
+            Level::Note => "\u{1b}[1;36m",
+        }
+    }
+}
+
+/// How reports look.
+#[derive(Clone, Copy, Debug, PartialEq, Eq)]
+pub enum Look {
+    /// Without colours.
+    Plain,
+    /// With colours, for a terminal.
+    Coloured,
+}
+
+/// Adds the word of a level, in its colour if there are colours.
+pub(crate) fn push_word(out: &mut String, look: Look, level: Level) -> Result<(), AllocError> {
+    match look {
+        Look::Plain => out.push_str(level.word()),
+        Look::Coloured => {
+            out.push_str(level.colour())?;
+            out.push_str(level.word())?;
+            out.push_str("\u{1b}[0m")
+        }
+    }
+}

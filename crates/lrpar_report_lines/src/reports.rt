@@ -1,0 +1,111 @@
+//! A report: what is wrong with a text, and at which places.
+ghost use Rattle.std.specs.Prelude.{◌≡◌, ◌∷◌, ◌++◌, [], IfOk, map};
+ghost use Rattle.std.specs.String.{string_bytes};
+
+use crate::levels::Level;
+use lrpar_grammar_places::span::Span;
+use std::alloc::{AllocError, Global};
+
+/// A place of a text, and what is said of it.
+#[derive(Debug, Drop)]
+pub struct Label {
+    /// The place, in bytes of the text. An end that is after the text's end or inside a character is moved when the report is shown
+    /// ([`crate::part_of`]).
+    pub span: Span,
+    /// What is said of the place, on one line. It may be empty: then the place is only underlined.
+    pub text: String,
+}
+
+/// What is wrong with a text, at which places, and what else is good to know. A linter of queries that knows the places of a column and
+/// of its table reports both in one go:
+///
+/// ```text
+/// let report = Report::error(alloc, "table 'users' has no column 'nmae'")?
+///     .label(column, "did you mean 'name'?")?
+///     .label(table, "its columns are 'id' and 'name'")?
+///     .note("names of columns are compared letter by letter")?;
+/// reporter.push(&mut out, alloc, &report)?;
+/// ```
+///
+/// ```text
+/// query.sql:1:8: error: table 'users' has no column 'nmae'
+/// 1| SELECT nmae FROM users
+///           ^^^^      ----- its columns are 'id' and 'name'
+///           |
+///           did you mean 'name'?
+/// note: names of columns are compared letter by letter
+/// ```
+#[derive(Debug, Drop)]
+pub struct Report {
+    /// What it is.
+    pub level: Level,
+    /// What is wrong.
+    pub message: String,
+    /// Where, with the place that the title names first. Without any, the report is about all of the text.
+    pub labels: Vec<Label>,
+    /// What else is good to know.
+    pub notes: Vec<String>,
+}
+
+impl Report {
+    /// The report with this message, without labels and notes. `Err`: out of memory.
+    pub fn new(alloc: Global, level: Level, message: &str) -> Result<Self, AllocError>
+        ensures level { IfOk result (λ report. report.level ≡ level) }
+        ensures message { IfOk result (λ report. string_bytes report.message ≡ message.now) }
+        ensures labels { IfOk result (λ report. report.labels.items ≡ []) }
+        ensures notes { IfOk result (λ report. report.notes.items ≡ []) }
+    {
+        Ok(Report {
+            level,
+            message: String::from_str(alloc, message)?,
+            labels: Vec::new(alloc),
+            notes: Vec::new(alloc),
+        })
+    }
+
+    /// The report of an error, without labels and notes. `Err`: out of memory.
+    pub fn error(alloc: Global, message: &str) -> Result<Self, AllocError>
+        ensures level { IfOk result (λ report. report.level ≡ Level.Error) }
+        ensures message { IfOk result (λ report. string_bytes report.message ≡ message.now) }
+        ensures labels { IfOk result (λ report. report.labels.items ≡ []) }
+        ensures notes { IfOk result (λ report. report.notes.items ≡ []) }
+    {
+        Report::new(alloc, Level::Error, message)
+    }
+
+    /// The report of a warning, without labels and notes. `Err`: out of memory.
+    pub fn warning(alloc: Global, message: &str) -> Result<Self, AllocError>
+        ensures level { IfOk result (λ report. report.level ≡ Level.Warning) }
+        ensures message { IfOk result (λ report. string_bytes report.message ≡ message.now) }
+        ensures labels { IfOk result (λ report. report.labels.items ≡ []) }
+        ensures notes { IfOk result (λ report. report.notes.items ≡ []) }
+    {
+        Report::new(alloc, Level::Warning, message)
+    }
+
+    /// The report with one more label, after those that it has. The text may be empty. `Err`: out of memory; the report is dropped.
+    pub fn label(mut self, span: Span, text: &str) -> Result<Self, AllocError>
+        ensures level { IfOk result (λ report. report.level ≡ self.level) }
+        ensures message { IfOk result (λ report. report.message ≡ self.message) }
+        ensures spans { IfOk result (λ report. map (λ label. label.span) report.labels.items ≡ map (λ label. label.span) self.labels.items ++ span ∷ []) }
+        ensures texts { IfOk result (λ report. map (λ label. string_bytes label.text) report.labels.items
+            ≡ map (λ label. string_bytes label.text) self.labels.items ++ text.now ∷ []) }
+        ensures notes { IfOk result (λ report. report.notes ≡ self.notes) }
+    {
+        let text = String::from_str(*self.labels.allocator(), text)?;
+        self.labels.push(Label { span, text })?;
+        Ok(self)
+    }
+
+    /// The report with one more note, after those that it has. `Err`: out of memory; the report is dropped.
+    pub fn note(mut self, text: &str) -> Result<Self, AllocError>
+        ensures level { IfOk result (λ report. report.level ≡ self.level) }
+        ensures message { IfOk result (λ report. report.message ≡ self.message) }
+        ensures labels { IfOk result (λ report. report.labels ≡ self.labels) }
+        ensures notes { IfOk result (λ report. map string_bytes report.notes.items ≡ map string_bytes self.notes.items ++ text.now ∷ []) }
+    {
+        let text = String::from_str(*self.notes.allocator(), text)?;
+        self.notes.push(text)?;
+        Ok(self)
+    }
+}
