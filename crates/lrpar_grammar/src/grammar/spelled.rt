@@ -15,9 +15,18 @@ use std::alloc::{AllocError, Global};
 use std::marker::{Model, PhantomData};
 
 /// The productions of a grammar by their places in a caller's list of texts, as `YaccGrammar::prods_spelled` gives them.
+#[derive(Debug)]
 pub struct Spelled<StorageT: StorageIndex> {
     places: Vec<Option<usize>>,
     kind: PhantomData<StorageT>,
+}
+
+// An `impl Drop` of its own, so that a function that drops a value proves one call only.
+impl<StorageT: StorageIndex> Drop for Spelled<StorageT> {
+    fn drop(self) {
+        let Spelled { places, kind: _ } = self;
+        drop(places);
+    }
 }
 
 impl<StorageT: StorageIndex> Model for Spelled<StorageT> {
