@@ -1,0 +1,66 @@
+//! The syntax tree of queries.
+use lrpar::span::TextRange;
+
+/// A part of the text, and where it is.
+#[derive(Clone, Copy, Debug, PartialEq, Eq)]
+pub(crate) struct Name<'text> {
+    pub(crate) text: &'text str,
+    pub(crate) range: TextRange,
+}
+
+#[derive(Drop)]
+pub(crate) enum Statement<'text> {
+    /// Gives a query a name, for the statements after it.
+    Let(Name<'text>, Query<'text>),
+    /// Prints what a query finds.
+    Show(Query<'text>),
+}
+
+/// The rows of a table or of a named query, and what is done with them in turn.
+#[derive(Drop)]
+pub(crate) struct Query<'text> {
+    pub(crate) from: Name<'text>,
+    pub(crate) stages: Vec<Stage<'text>>,
+}
+
+#[derive(Drop)]
+pub(crate) enum Stage<'text> {
+    Where(Expr<'text>),
+    Select(Vec<Expr<'text>>),
+    Take(Name<'text>),
+}
+
+#[derive(Drop)]
+pub(crate) struct Expr<'text> {
+    pub(crate) range: TextRange,
+    pub(crate) kind: ExprKind<'text>,
+}
+
+#[derive(Drop)]
+pub(crate) enum ExprKind<'text> {
+    /// A column, a number or a text.
+    Atom(Atom, &'text str),
+    Null,
+    Call(Name<'text>, Vec<Expr<'text>>),
+    Not(Box<Expr<'text>>),
+    Binary(Operator, Box<Expr<'text>>, Box<Expr<'text>>),
+}
+
+#[derive(Clone, Copy, Debug, PartialEq, Eq)]
+pub(crate) enum Atom {
+    Column,
+    Number,
+    Text,
+}
+
+#[derive(Clone, Copy, Debug, PartialEq, Eq)]
+pub(crate) enum Operator {
+    Or,
+    And,
+    Equal,
+    Less,
+    Plus,
+    Minus,
+    Times,
+    Over,
+}
