@@ -3,7 +3,6 @@ ghost use Rattle.std.specs.Prelude.{IfOk};
 ghost use Rattle.test_library.specs.Differences.{IsDifference};
 
 use crate::expectations::same;
-use lrpar_grammar::span::PIdx;
 use lrpar_lexer::{Token, TokenTypes};
 use lrpar_parse::RTParserBuilder;
 use lrpar_parse::parser::{Args, ParseFault, Values};
@@ -43,7 +42,7 @@ pub(crate) struct Recording<'a> {
     fails: &'a [usize],
 }
 
-impl<'a, L> Values<u32, Token<u32>, L> for Recording<'a> {
+impl<'a, L> Values<Token<u32>, L> for Recording<'a> {
     type Value = ();
 
     type Error = Failed;
@@ -51,11 +50,10 @@ impl<'a, L> Values<u32, Token<u32>, L> for Recording<'a> {
     fn value(
         &self,
         _: Global,
-        pidx: PIdx<u32>,
+        production: usize,
         args: &mut Args<'_, L, Token<u32>, (), Failed>,
     ) -> Result<(), Failed> {
-        let production = usize::from(pidx).saturating_mul(10);
-        let call = production.saturating_add(args.span().start());
+        let call = production.saturating_mul(10).saturating_add(args.span().start());
         let calls = self.calls.get().saturating_mul(100);
         self.calls.set(calls.saturating_add(call as u64));
         if self.fails.contains(&call) {
@@ -132,7 +130,7 @@ fn are_recorded(rt: &impl Abort, alloc: Global, data: &ParserData<u32>) {
 #[derive(Drop)]
 pub(crate) struct Differences;
 
-impl<L> Values<u32, Token<u32>, L> for Differences {
+impl<L> Values<Token<u32>, L> for Differences {
     type Value = usize;
 
     type Error = Failed;
@@ -142,10 +140,10 @@ impl<L> Values<u32, Token<u32>, L> for Differences {
     fn value(
         &self,
         _: Global,
-        pidx: PIdx<u32>,
+        production: usize,
         args: &mut Args<'_, L, Token<u32>, usize, Failed>,
     ) -> Result<usize, Failed> {
-        match usize::from(pidx) {
+        match production {
             0 => {
                 let (left, _, right) = (args.value(), args.lexeme(), args.value());
                 let (Some(left), Some(right)) = (left, right) else {
