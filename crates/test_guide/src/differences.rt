@@ -81,7 +81,11 @@ fn difference(
     text: &str,
 ) -> Result<Option<u64>, Failed> {
     let lexer = RuleLexer::new(alloc, rules, text)?;
-    let (number, _) = RTParserBuilder::new(data).parse_values(alloc, &lexer, &Differences { text })?;
+    let (number, _) = RTParserBuilder::new(data).parse_values(
+        alloc,
+        &lexer,
+        &Differences { text },
+    )?;
     Ok(number)
 }
 
