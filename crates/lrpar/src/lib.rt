@@ -20,10 +20,10 @@ pub use lrpar_table::{build, check, table};
 /// Spans of a text, and the numbers of rules, productions, tokens and states.
 pub mod span {
     pub use crate::storage_num::StorageNum;
-    pub use lrpar_grammar::text_range::TextRange;
     pub use lrpar_grammar::span::{
         Numbered, PIdx, RIdx, Span, Spanned, SpansKind, StIdx, StorageIndex, Symbol, TIdx,
     };
+    pub use lrpar_grammar::text_range::TextRange;
 }
 
 /// Recoverers: what a parse passes to one at an error point, the steps of the sequences that it returns, and the recoverers of the library.

@@ -266,7 +266,7 @@ impl<
     pub fn parse_values<
         'input,
         L: NonStreamingLexer<'input, LexerTypesT>,
-        V: Values<StorageT, LexerTypesT::LexemeT, L>,
+        V: Values<LexerTypesT::LexemeT, L>,
     >(
         &self,
         alloc: Global,

@@ -12,7 +12,7 @@ use lrpar_parse_run::values::AStackType;
 use std::alloc::{AllocError, Global};
 
 /// Values: they are made production by production, by `parse_values`. Nothing has to be stated of them.
-pub trait Values<StorageT: StorageIndex, LexemeT: Lexeme<StorageT>, LexerT> {
+pub trait Values<LexemeT, LexerT> {
     /// The values of rules.
     type Value: Drop;
 
@@ -22,17 +22,18 @@ pub trait Values<StorageT: StorageIndex, LexemeT: Lexeme<StorageT>, LexerT> {
     /// The results that `value` may have: by production and arguments. Who claims nothing of them leaves it out.
     ghost gives: { Self → ℕ → ValueArguments LexerT LexemeT Self.Value → Result Self.Value Self.Error → Type 0 } = { λ _ _ _ _. Unit {0} };
 
-    /// The value of a production, from the arguments for its symbols. It is called for each production of the tree but those that
-    /// have an error among their arguments: from left to right, each after those below it.
+    /// The value of a production, from its number and the arguments for its symbols. It is called for each production of the tree but
+    /// those that have an error among their arguments: from left to right, each after those below it. Productions are numbered from 0,
+    /// in the order of the grammar text.
     ///
     /// An `Err` doesn't end the parse. It is the value of each production above, until `parse_values` returns it.
     fn value(
         &self,
         alloc: Global,
-        pidx: PIdx<StorageT>,
+        production: usize,
         args: &mut Args<'_, LexerT, LexemeT, Self::Value, Self::Error>,
     ) -> Result<Self::Value, Self::Error>
-        ensures { gives self.now (StorageT.index pidx.0) args.old result };
+        ensures { gives self.now production args.old result };
 }
 
 /// The actions that make a caller's values: the value of a production with an error among its arguments is the first such error.
@@ -46,7 +47,7 @@ impl<
     StorageT: StorageIndex,
     LexemeT: Lexeme<StorageT>,
     LexerT,
-    V: Values<StorageT, LexemeT, LexerT>,
+    V: Values<LexemeT, LexerT>,
 > Actions<StorageT, LexemeT, LexerT> for Valued<'a, V> {
     type ActionT = Result<V::Value, V::Error>;
 
@@ -81,7 +82,7 @@ impl<
             return Ok(Err(first_failure(args)));
         }
         let mut args = Args::new(lexer, span, args);
-        Ok(self.values.value(alloc, pidx, &mut args))
+        Ok(self.values.value(alloc, usize::from(pidx), &mut args))
     }
 }
 

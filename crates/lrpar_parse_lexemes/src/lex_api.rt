@@ -105,9 +105,7 @@ pub trait NonStreamingLexer<'input, LexerTypesT: LexerTypes>: Lexer<LexerTypesT>
 }
 
 /// A lexer that can also return its whole input.
-pub trait InputLexer<'input, LexerTypesT: LexerTypes>:
-    NonStreamingLexer<'input, LexerTypesT>
-{
+pub trait InputLexer<'input, LexerTypesT: LexerTypes>: NonStreamingLexer<'input, LexerTypesT> {
     /// The whole input.
     fn input(&self) -> &'input str
         ensures input { result.now ≡ Self.text self.now };

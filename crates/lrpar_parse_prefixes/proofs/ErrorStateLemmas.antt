@@ -23,7 +23,7 @@ use Rattle.lrpar_table_check.specs.ExpectedRuns.{FeedsFront}
 use Rattle.lrpar_table_check.proofs.ExpectedLemmas.{expected_acts_at}
 use Rattle.lrpar_table_stacks.specs.Expected.{IsExpected}
 use Rattle.lrpar_table_stacks.specs.Reduction.{Feeds, Settles, top_action}
-use Rattle.lrpar_table_stacks.specs.Run.{Comes, IsStuck, Stopped, comes_on, stays, token_at}
+use Rattle.lrpar_table_stacks.specs.Run.{Accepted, Comes, Far, FarEnd, IsStuck, Stop, Stopped, accepts, comes_on, goes_on, stays, stops, token_at}
 use Rattle.lrpar_table_stacks.specs.RunLaws.{KeepOffEnd}
 use Rattle.lrpar_table_stacks.proofs.PathLemmas.{last_of, top_is_last}
 use Rattle.lrpar_table_stacks.proofs.Reductions.{settles_one_way}
@@ -138,19 +138,17 @@ module _ (g : Grammar) (graph : Graph) (table : Table) (well : IsWellFormed g) (
           (follows_next g graph table well closed built each complete front st (length front) t fed (subst (λ (ts : List ℕ). CanFollow g ts t) whole can)),
     )
 
-    -- no reduction is made at the token of an error point
-    fed_stops : {X : Type 0} (token : X → ℕ) (lexemes : List X) → KeepOffEnd token g lexemes → (i : ℕ) (st ps settled front : List ℕ) → i ≤ length lexemes
-        → Fed g table st front → Settles g table (token_at token g lexemes i) st ps settled → IsStuck token g table lexemes settled i
-        → Fed g table settled front
-    fed_stops token lexemes apart i st [] settled front fits fed settles stuck = subst (λ (l : List ℕ). Fed g table l front) settles.0 fed
-    fed_stops token lexemes apart i st (p ∷ ps) settled front fits fed settles stuck =
+    -- no reduction is made at the token of an error point: after tokens that were fed, the stack there is settled
+    fed_settles : {X : Type 0} (token : X → ℕ) (lexemes : List X) → KeepOffEnd token g lexemes → (i : ℕ) (st ps settled tokens : List ℕ) (j : ℕ)
+        → i ≤ length lexemes → FeedsFront (λ (t : ℕ). t) g table tokens j st → Settles g table (token_at token g lexemes i) st ps settled
+        → IsStuck token g table lexemes settled i → st ≡ settled
+    fed_settles token lexemes apart i st [] settled tokens j fits fed settles stuck = settles.0
+    fed_settles token lexemes apart i st (p ∷ ps) settled tokens j fits fed settles stuck =
         let t = token_at token g lexemes i in
-        let spelled = fed_spelled st front fed in
+        let spelled = run_spells g table (never g graph table well closed built each) tokens fed.0 st j fed.1 in
         let acts : top_action table t st ≢ Fails = λ fails. let no : ReduceBy p ≡ Fails = sym settles.1.action ∙ fails in cc in
-        let whole = sym (take_all (length front) front (omega arith)) in
-        let can = top_follows st front spelled t acts in
-        let expected = follows_next g graph table well closed built each complete front st (length front) t fed
-        (subst (λ (ts : List ℕ). CanFollow g ts t) whole can) in
+        let can = top_follows st (take j tokens) spelled t acts in
+        let expected = follows_next g graph table well closed built each complete tokens st j t fed can in
         absurd (stuck_unexpected token g table lexemes i st (p ∷ ps) settled apart fits settles stuck expected)
       where
         top_follows : (st front : List ℕ) → Spelled st front → (t : ℕ) → top_action table t st ≢ Fails → CanFollow g front t
@@ -159,6 +157,29 @@ module _ (g : Grammar) (graph : Graph) (table : Table) (well : IsWellFormed g) (
             let top = top_is_last b st in
             spelled_acts g graph table well closed built each (b ∷ st) front spelled (last_of b st) t top
             (λ fails. acts (action_by_top table t (b ∷ st) (last_of b st) top ∙ fails))
+
+    fed_stops : {X : Type 0} (token : X → ℕ) (lexemes : List X) → KeepOffEnd token g lexemes → (i : ℕ) (st ps settled front : List ℕ) → i ≤ length lexemes
+        → Fed g table st front → Settles g table (token_at token g lexemes i) st ps settled → IsStuck token g table lexemes settled i
+        → Fed g table settled front
+    fed_stops token lexemes apart i st ps settled front fits fed settles stuck =
+        subst (λ (l : List ℕ). Fed g table l front)
+        (fed_settles token lexemes apart i st ps settled front (length front) fits fed settles stuck) fed
+
+    -- so a run without repairs feeds the lexemes before its error point to the stack of this point
+    stops_unreduced : {X : Type 0} (token : X → ℕ) (lexemes : List X) → KeepOffEnd token g lexemes → (st : List ℕ) (i : ℕ) (ps : List ℕ) (end : FarEnd) (stop : Stop)
+        → Far token g table lexemes st i ps end → end ≡ Stopped stop → FeedsFront token g table lexemes i st
+        → FeedsFront token g table lexemes stop.place stop.stack
+    stops_unreduced token lexemes apart _ _ _ _ stop (goes_on st i ps qs next end within first rest) is fed =
+        stops_unreduced token lexemes apart next (i + 1) qs end stop rest is
+        (fed.0 ++ ps, comes_more token g table lexemes (table.start ∷ []) 0 fed.0 st i ps next fed.1 within first)
+    stops_unreduced token lexemes apart _ _ _ _ stop (accepts st i ps settled at_end settles accepted) is fed =
+        let no : Accepted ≡ Stopped stop = is in absurd (let none : ⊥ = cc in none)
+    stops_unreduced token lexemes apart _ _ _ _ stop (stops st i ps settled fits settles stuck) is fed =
+        let tokens = fed_by_tokens token g table lexemes i st fed in
+        let same = fed_settles token lexemes apart i st ps settled (map token lexemes) i fits tokens settles stuck in
+        let here : record { stack = settled; place = i } ≡ stop = cc in
+        subst (λ (s : Stop). FeedsFront token g table lexemes s.place s.stack) here
+        (subst (λ (l : List ℕ). FeedsFront token g table lexemes i l) same fed)
 
 -- the lexemes that are fed from the first one on
 fed_front : {X : Type 0} (lexemes : List X) (j : ℕ) → fed_between lexemes 0 j ≡ take j lexemes
@@ -194,6 +215,9 @@ complete_built_actions_follow_sentences {X} token g graph table well closed buil
       (table.start ∷ []) 0 prods (Stopped stop) stop runs refl [] (fed_start g table) in
       subst (λ (xs : List X). ActsAsFollows g table stop.stack (map token xs)) (fed_front lexemes stop.place)
       (fed_acts g graph table well closed built each complete stop.stack (map token (fed_between lexemes 0 stop.place)) fed);
+  unreduced = λ lexemes prods stop apart runs.
+      stops_unreduced g graph table well closed built each complete token lexemes apart (table.start ∷ []) 0 prods (Stopped stop) stop runs refl
+      ([], stays (table.start ∷ []) 0);
 }
 
 -- claims that hold at each error point give weaker ones
@@ -205,28 +229,28 @@ zip_weaker R Q weaker (x ∷ xs) (y ∷ ys) all = (weaker x y all.0, zip_weaker 
 
 module _ {X : Type 0} (facts : X → LexemeFacts) (allows : Point X → List (List PlainStep) → Type 0) where
   pub error_states_keep_to_sentences : ErrorStatesKeepToSentences facts allows
-  error_states_keep_to_sentences k g graph table lexemes stops consumed prods well closed built each runs =
+  error_states_keep_to_sentences k g graph table lexemes points consumed prods well closed built each runs =
       let Claim = Spelled g graph table well closed built each in
       let at = run_claims facts allows k g table lexemes Claim (spelled_feeds g graph table well closed built each)
       (spelled_stops g graph table well closed built each (λ (x : X). (facts x).token) lexemes)
-      (table.start ∷ []) 0 stops consumed prods runs [] (spelled_start g graph table well closed built each) in
+      (table.start ∷ []) 0 points consumed prods runs [] (spelled_start g graph table well closed built each) in
       let R : RepairStop → List X → Type 0 = λ at front. Claim at.stop.stack (map (λ (x : X). (facts x).token) front) in
       let Q : RepairStop → List X → Type 0 = λ at front. ActsOnlyAsFollows g table at.stop.stack (map (λ (x : X). (facts x).token) front) in (
         at.0,
         at.1,
         zip_weaker R Q (λ stop front holds. spelled_acts g graph table well closed built each stop.stop.stack (map (λ (x : X). (facts x).token) front) holds)
-            stops at.0 at.2,
+            points at.0 at.2,
       )
 
   pub error_states_follow_sentences : ErrorStatesFollowSentences facts allows
-  error_states_follow_sentences k g graph table lexemes stops consumed prods well closed built each complete apart runs =
+  error_states_follow_sentences k g graph table lexemes points consumed prods well closed built each complete apart runs =
       let at = run_claims facts allows k g table lexemes (Fed g table) (fed_more g table)
       (fed_stops g graph table well closed built each complete (λ (x : X). (facts x).token) lexemes apart)
-      (table.start ∷ []) 0 stops consumed prods runs [] (fed_start g table) in
+      (table.start ∷ []) 0 points consumed prods runs [] (fed_start g table) in
       let R : RepairStop → List X → Type 0 = λ at front. Fed g table at.stop.stack (map (λ (x : X). (facts x).token) front) in
       let Q : RepairStop → List X → Type 0 = λ at front. ActsAsFollows g table at.stop.stack (map (λ (x : X). (facts x).token) front) in (
         at.0,
         at.1,
         zip_weaker R Q (λ stop front holds. fed_acts g graph table well closed built each complete stop.stop.stack (map (λ (x : X). (facts x).token) front) holds)
-            stops at.0 at.2,
+            points at.0 at.2,
       )

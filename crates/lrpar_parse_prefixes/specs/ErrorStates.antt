@@ -36,12 +36,15 @@ pub record ActionsKeepToSentences {X : Type 0} (token : X → ℕ) (g : Grammar)
   pub stop : (lexemes : List X) (prods : List ℕ) (stop : Stop) → RunsTo token g table lexemes prods (Stopped stop)
       → ActsOnlyAsFollows g table stop.stack (map token (take stop.place lexemes))
 
--- the same with exactly the tokens that can come; at error points, if no lexeme has the end token
+-- The same with exactly the tokens that can come; at error points, if no lexeme has the end token. And then an error is found before
+-- any reduction: the stack of an error point is the one to which the lexemes before it are fed
 pub record ActionsFollowSentences {X : Type 0} (token : X → ℕ) (g : Grammar) (table : Table) : Type 0 where
   pub fed : (lexemes : List X) (i : ℕ) (st : List ℕ) → FeedsFront token g table lexemes i st
       → ActsAsFollows g table st (map token (take i lexemes))
   pub stop : (lexemes : List X) (prods : List ℕ) (stop : Stop) → KeepOffEnd token g lexemes → RunsTo token g table lexemes prods (Stopped stop)
       → ActsAsFollows g table stop.stack (map token (take stop.place lexemes))
+  pub unreduced : (lexemes : List X) (prods : List ℕ) (stop : Stop) → KeepOffEnd token g lexemes
+      → RunsTo token g table lexemes prods (Stopped stop) → FeedsFront token g table lexemes stop.place stop.stack
 
 -- over a table that was built of a grammar in which each reachable rule is productive; the table may have conflicts
 abbrev pub BuiltActionsKeepToSentences : Type 0 → Type 0

@@ -58,7 +58,8 @@ pub fn actions_keep_to_sentences<LexemeT>()
 {}
 
 /// If such a table is complete, these states have an action at exactly the tokens that can come next; the state of an error point,
-/// if no lexeme has the end token. So before an error point no reduction is made at the token that can't come.
+/// if no lexeme has the end token. And then an error is found before any reduction: the stack of an error point is the one to which
+/// the lexemes before it are fed.
 pub fn complete_actions_follow_sentences<LexemeT>()
     ensures follow { CompleteBuiltActionsFollowSentences LexemeT }
     ensures facts_follow { CompleteBuiltActionsFollowSentences LexemeFacts }

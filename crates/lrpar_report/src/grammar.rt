@@ -37,10 +37,7 @@ pub fn grammar_report(alloc: Global, text: &str, fault: &GrammarFault) -> Result
             let label = "this token has a printed text already";
             named(alloc, text, *span, "token", "has a second %epp", label)
         }
-        GrammarFault::NoRules => Report::error(
-            alloc,
-            "no rules: a grammar needs one after its %%",
-        ),
+        GrammarFault::NoRules => Report::error(alloc, "no rules: a grammar needs one after its %%"),
         GrammarFault::StorageTooSmall => Report::error(
             alloc,
             "more rules, tokens or productions than can be numbered",

@@ -101,7 +101,10 @@ fn push_list(
 fn push_places(out: &mut Printed, prods: usize, spelled: &Spelled<u8>) {
     for number in 0..=prods {
         out.number("place ", number);
-        match u8::try_from(number).ok().and_then(|at| spelled.of(PIdx(at))) {
+        match u8::try_from(number)
+            .ok()
+            .and_then(|at| spelled.of(PIdx(at)))
+        {
             Some(place) => out.line(" ", &place),
             None => out.text(" none\n"),
         }

@@ -2,7 +2,6 @@
 use lrpar::build::{Unbuilt, parser_data};
 use lrpar::grammar::{GrammarFault, YaccGrammar};
 use lrpar::parser::{Args, ParseFault, Values};
-use lrpar::span::PIdx;
 use lrpar::{ParserData, RTParserBuilder};
 use lrpar_lexer::{LexRule, RuleLexer, RulesFault, Token, rules_of};
 use std::alloc::{AllocError, Global};
@@ -41,7 +40,7 @@ struct Differences<'a> {
     text: &'a str,
 }
 
-impl<'a, L> Values<u32, Token<u32>, L> for Differences<'a> {
+impl<'a, L> Values<Token<u32>, L> for Differences<'a> {
     type Value = u64;
 
     type Error = Failed;
@@ -49,10 +48,10 @@ impl<'a, L> Values<u32, Token<u32>, L> for Differences<'a> {
     fn value(
         &self,
         _: Global,
-        pidx: PIdx<u32>,
+        production: usize,
         args: &mut Args<'_, L, Token<u32>, u64, Failed>,
     ) -> Result<u64, Failed> {
-        match usize::from(pidx) {
+        match production {
             0 => {
                 let (left, _, right) = (args.value(), args.lexeme(), args.value());
                 let (Some(left), Some(right)) = (left, right) else {
@@ -82,7 +81,11 @@ fn difference(
     text: &str,
 ) -> Result<Option<u64>, Failed> {
     let lexer = RuleLexer::new(alloc, rules, text)?;
-    let (number, _) = RTParserBuilder::new(data).parse_values(alloc, &lexer, &Differences { text })?;
+    let (number, _) = RTParserBuilder::new(data).parse_values(
+        alloc,
+        &lexer,
+        &Differences { text },
+    )?;
     Ok(number)
 }
 

@@ -129,11 +129,21 @@ fn lists_are_lexers(rt: HostRuntime) -> Result<(), Fail> {
     let alloc = rt.alloc();
     let lexer = listed(alloc)?;
     let expected = "token 1 at 0..3\nno token fits at byte 3\ntoken 2 at 4..5\n";
-    same(&rt, &"list", &written(&rt, alloc, &lexer).as_str(), &expected);
+    same(
+        &rt,
+        &"list",
+        &written(&rt, alloc, &lexer).as_str(),
+        &expected,
+    );
     same(&rt, &"input", &lexer.input(), &PARTED);
     same(&rt, &"part", &lexer.span_str(Span::new(1, 4)), &"é\n");
     same(&rt, &"lines", &lexer.span_lines_str(Span::new(1, 3)), &"aé");
-    same(&rt, &"places", &lexer.line_col(Span::new(3, 5)), &((1, 3), (2, 2)));
+    same(
+        &rt,
+        &"places",
+        &lexer.line_col(Span::new(3, 5)),
+        &((1, 3), (2, 2)),
+    );
     Ok(())
 }
 

@@ -96,7 +96,10 @@ fn text_ranges(rt: HostRuntime) -> Result<(), Fail> {
     same(&rt, &"its ends", &found, &(3, 7, 4, false));
     same(&rt, &"back", &Span::from(range), &Span::new(3, 7));
     same(&rt, &"span", &TextRange::new(5, 5).span(), &Span::new(5, 5));
-    let name = Name { text: "long", range };
+    let name = Name {
+        text: "long",
+        range,
+    };
     let short = Name {
         text: "a",
         range: TextRange::new(5, 5),

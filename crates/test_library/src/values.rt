@@ -3,7 +3,6 @@ ghost use Rattle.std.specs.Prelude.{IfOk};
 ghost use Rattle.test_library.specs.Differences.{IsDifference};
 
 use crate::expectations::same;
-use lrpar_grammar::span::PIdx;
 use lrpar_lexer::{Token, TokenTypes};
 use lrpar_parse::RTParserBuilder;
 use lrpar_parse::parser::{Args, ParseFault, Values};
@@ -43,7 +42,7 @@ pub(crate) struct Recording<'a> {
     fails: &'a [usize],
 }
 
-impl<'a, L> Values<u32, Token<u32>, L> for Recording<'a> {
+impl<'a, L> Values<Token<u32>, L> for Recording<'a> {
     type Value = ();
 
     type Error = Failed;
@@ -51,11 +50,12 @@ impl<'a, L> Values<u32, Token<u32>, L> for Recording<'a> {
     fn value(
         &self,
         _: Global,
-        pidx: PIdx<u32>,
+        production: usize,
         args: &mut Args<'_, L, Token<u32>, (), Failed>,
     ) -> Result<(), Failed> {
-        let production = usize::from(pidx).saturating_mul(10);
-        let call = production.saturating_add(args.span().start());
+        let call = production
+            .saturating_mul(10)
+            .saturating_add(args.span().start());
         let calls = self.calls.get().saturating_mul(100);
         self.calls.set(calls.saturating_add(call as u64));
         if self.fails.contains(&call) {
@@ -98,7 +98,9 @@ fn found_by(
 
 // `2+3*4`, `2+`, and a lexeme of no token of the grammar.
 const SUM: &[Given] = &[(2, 1), (0, 1), (2, 1), (1, 1), (2, 1)];
+
 const HALF: &[Given] = &[(2, 1), (0, 1)];
+
 const FAULTY: &[Given] = &[(9, 1)];
 
 // Lexemes of the grammar *arithmetic*, the calls that fail, the calls that are made, and what comes of the parse.
@@ -132,7 +134,7 @@ fn are_recorded(rt: &impl Abort, alloc: Global, data: &ParserData<u32>) {
 #[derive(Drop)]
 pub(crate) struct Differences;
 
-impl<L> Values<u32, Token<u32>, L> for Differences {
+impl<L> Values<Token<u32>, L> for Differences {
     type Value = usize;
 
     type Error = Failed;
@@ -142,10 +144,10 @@ impl<L> Values<u32, Token<u32>, L> for Differences {
     fn value(
         &self,
         _: Global,
-        pidx: PIdx<u32>,
+        production: usize,
         args: &mut Args<'_, L, Token<u32>, usize, Failed>,
     ) -> Result<usize, Failed> {
-        match usize::from(pidx) {
+        match production {
             0 => {
                 let (left, _, right) = (args.value(), args.lexeme(), args.value());
                 let (Some(left), Some(right)) = (left, right) else {
@@ -180,7 +182,10 @@ fn difference(
 // `9-3-2`, `2-3-9`, `9-`, where each number is as long as it says.
 const COMPUTED: [(&[Given], Result<Option<usize>, Failed>); 3] = [
     (&[(1, 9), (0, 1), (1, 3), (0, 1), (1, 2)], Ok(Some(4))),
-    (&[(1, 2), (0, 1), (1, 3), (0, 1), (1, 9)], Err(Failed::Negative)),
+    (
+        &[(1, 2), (0, 1), (1, 3), (0, 1), (1, 9)],
+        Err(Failed::Negative),
+    ),
     (&[(1, 9), (0, 1)], Ok(None)),
 ];
 
@@ -194,6 +199,11 @@ fn values_of_differences(rt: HostRuntime) -> Result<(), Fail> {
 // In each row the number is the one that the row says.
 fn are_differences(rt: &impl Abort, alloc: Global, data: &ParserData<u32>) {
     for (given, expected) in &COMPUTED {
-        same(rt, &"a difference", &difference(alloc, data, *given), expected);
+        same(
+            rt,
+            &"a difference",
+            &difference(alloc, data, *given),
+            expected,
+        );
     }
 }
