@@ -80,7 +80,7 @@ pub(crate) struct Language {
     pub(crate) unmatched: TIdx<u32>,
 }
 
-pub(crate) fn language(alloc: Global) -> Result<Language, Failed> {
+pub(crate) fn new_language(alloc: Global) -> Result<Language, Failed> {
     let grm = YaccGrammar::<u32>::new_with_storaget(alloc, GRAMMAR)?;
     let rules = rules_of(alloc, &grm, LEXER)?;
     let unmatched = grm.token_idx("UNMATCHED").ok_or(Failed::Production)?;

@@ -12,7 +12,10 @@ pub(crate) fn lints(
     let mut warnings = Vec::new(alloc);
     for statement in statements {
         if let Statement::Let(name, _) = statement {
-            if !statements.iter().any(|s| query_of(s).from.text == name.text) {
+            if !statements
+                .iter()
+                .any(|s| query_of(s).from.text == name.text)
+            {
                 warn(&mut warnings, alloc, "no query reads this name", name.range)?;
             }
         }
@@ -70,11 +73,7 @@ fn lint_exprs(
     Ok(())
 }
 
-fn lint_expr(
-    warnings: &mut Vec<Report>,
-    alloc: Global,
-    expr: &Expr<'_>,
-) -> Result<(), AllocError> {
+fn lint_expr(warnings: &mut Vec<Report>, alloc: Global, expr: &Expr<'_>) -> Result<(), AllocError> {
     match &expr.kind {
         ExprKind::Binary(operator, left, right) => {
             if let Some(message) = lint_of(*operator, &left.kind, &right.kind) {
@@ -90,19 +89,14 @@ fn lint_expr(
 }
 
 // What may be wrong with an operator between two expressions.
-fn lint_of(
-    operator: Operator,
-    left: &ExprKind<'_>,
-    right: &ExprKind<'_>,
-) -> Option<&'static str> {
+fn lint_of(operator: Operator, left: &ExprKind<'_>, right: &ExprKind<'_>) -> Option<&'static str> {
     match (operator, left, right) {
         (Operator::Equal, ExprKind::Null, _) | (Operator::Equal, _, ExprKind::Null) => {
             Some("nothing is equal to null, not even null")
         }
         (Operator::Over, _, ExprKind::Atom(Atom::Number, "0")) => Some("this divides by zero"),
-        (_, ExprKind::Atom(kind, text), ExprKind::Atom(other, same)) if kind == other && text == same => {
-            Some("both sides are the same")
-        }
+        (_, ExprKind::Atom(kind, text), ExprKind::Atom(other, same))
+            if kind == other && text == same => { Some("both sides are the same") }
         _ => None,
     }
 }

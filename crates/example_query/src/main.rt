@@ -6,7 +6,7 @@ mod lints;
 mod tree;
 mod values;
 
-use crate::language::{Failed, Language, language};
+use crate::language::{Failed, Language, new_language};
 use crate::lints::lints;
 use crate::values::{PRODS, Queries, Value};
 use lrpar::RTParserBuilder;
@@ -18,7 +18,7 @@ use std::io;
 
 fn main(rt: HostRuntime) -> Result<(), Failed> {
     let text = io::read_to_string(rt.alloc(), rt.stdin())?;
-    let queries = language(rt.alloc())?;
+    let queries = new_language(rt.alloc())?;
     let out = linted(rt.alloc(), &queries, text.as_str())?;
     print!(rt; "{out}")?;
     Ok(())

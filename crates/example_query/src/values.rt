@@ -6,7 +6,7 @@ use lrpar::Lexeme;
 use lrpar::grammar::Spelled;
 use lrpar::parser::AStackType::{self, ActionType};
 use lrpar::parser::{Args, Values};
-use lrpar::span::{PIdx, TextRange};
+use lrpar::span::TextRange;
 use lrpar_lexer::{RuleLexer, Token};
 use std::alloc::{AllocError, Global};
 
@@ -60,7 +60,13 @@ pub(crate) enum Value<'text> {
     Expr(Expr<'text>),
 }
 
-type Given<'a, 'rules, 'text> = Args<'a, RuleLexer<'rules, 'text>, Token<u32>, Value<'text>, Failed>;
+type Given<'a, 'rules, 'text> = Args<
+    'a,
+    RuleLexer<'rules, 'text>,
+    Token<u32>,
+    Value<'text>,
+    Failed,
+>;
 
 /// Makes the syntax tree of a text.
 #[derive(Drop)]
@@ -68,7 +74,7 @@ pub(crate) struct Queries<'a> {
     pub(crate) spelled: &'a Spelled<u32>,
 }
 
-impl<'a, 'rules, 'text> Values<u32, Token<u32>, RuleLexer<'rules, 'text>> for Queries<'a> {
+impl<'a, 'rules, 'text> Values<Token<u32>, RuleLexer<'rules, 'text>> for Queries<'a> {
     type Value = Value<'text>;
 
     type Error = Failed;
@@ -76,10 +82,10 @@ impl<'a, 'rules, 'text> Values<u32, Token<u32>, RuleLexer<'rules, 'text>> for Qu
     fn value(
         &self,
         alloc: Global,
-        pidx: PIdx<u32>,
+        production: usize,
         args: &mut Args<'_, RuleLexer<'rules, 'text>, Token<u32>, Value<'text>, Failed>,
     ) -> Result<Value<'text>, Failed> {
-        match self.spelled.of(pidx) {
+        match self.spelled.of_number(production) {
             Some(place @ 0..=10) => statement(alloc, place, args),
             Some(place) => expr(alloc, place, args),
             None => Err(Failed::Production),
