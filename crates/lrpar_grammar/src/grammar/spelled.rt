@@ -43,7 +43,14 @@ impl<StorageT: StorageIndex> Spelled<StorageT> {
     pub fn of(&self, pidx: PIdx<StorageT>) -> Option<usize>
         ensures { result ≡ slice_index_or self.now (StorageT.index pidx.0) None }
     {
-        match self.places.get(usize::from(pidx)) {
+        self.of_number(usize::from(pidx))
+    }
+
+    /// The same for the production with this number. Takes constant time.
+    pub fn of_number(&self, production: usize) -> Option<usize>
+        ensures { result ≡ slice_index_or self.now production None }
+    {
+        match self.places.get(production) {
             Some(place) => *place,
             None => None,
         }
