@@ -15,6 +15,7 @@ use std::alloc::{AllocError, Global};
 use std::marker::{Model, PhantomData};
 
 /// The productions of a grammar by their places in a caller's list of texts, as `YaccGrammar::prods_spelled` gives them.
+#[derive(Debug, Drop)]
 pub struct Spelled<StorageT: StorageIndex> {
     places: Vec<Option<usize>>,
     kind: PhantomData<StorageT>,
