@@ -1,8 +1,7 @@
 -- Productions with the same numbers: the first of them, and the next one of each, as the productions are gone through from the
 -- last to the first.
-use Rattle.std.proofs.Common.{◌≡◌, ◌≢◌, ◌<◌, ◌≤◌, ◌+◌, ℕ, Bool, true, false, cond, List, [], ◌∷◌, ◌++◌, bytes_eq, drop, get_or, length, set, take, Option, Some, None, ap, inl, inr, refl, subst, sym, ◌∙◌, arith, zero-add}
-use Rattle.std.specs.List.{count_by, sum_by}
-use Rattle.std.proofs.lemmas.Bool.{cases_Bool, cases_lt, cases_eq}
+use Rattle.std.proofs.Common.{◌≡◌, ◌≢◌, ◌<◌, ◌≤◌, ◌+◌, ℕ, true, false, cond, List, [], bytes_eq, drop, get_or, length, set, take, Option, Some, None, ap, inl, inr, refl, subst, sym, ◌∙◌, arith, zero-add}
+use Rattle.std.proofs.lemmas.Bool.{cases_Bool, cases_eq}
 use Rattle.std.proofs.lemmas.List.{drop_all, get_or-set_other, get_or-set_same}
 use Rattle.std.proofs.lemmas.List.Sums.{sum_by-drop_more}
 use Rattle.std.proofs.lemmas.Slice.Eq.{bytes_eq-Decides}

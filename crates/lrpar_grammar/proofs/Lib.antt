@@ -11,3 +11,4 @@ pub mod ListingLemmas
 pub mod SymbolNameLemmas
 pub mod TakeLemmas
 pub mod ProdTextLemmas
+pub mod SpelledLawLemmas

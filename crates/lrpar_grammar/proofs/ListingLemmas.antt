@@ -1,14 +1,13 @@
 -- Lists of productions by their texts: what the texts spell is one thing, and a list with a fault is no listing.
-use Rattle.std.proofs.Common.{◌≡◌, ◌≢◌, ◌<◌, ◌≤◌, ◌+◌, ℕ, zero, suc, Bool, true, false, List, [], ◌∷◌, ◌++◌, get_or, length, map, take, Option, Some, None, string_bytes, ap, inl, inr, refl, subst, sym, ◌∙◌, arith}
+use Rattle.std.proofs.Common.{◌≡◌, ◌≢◌, ◌<◌, ◌≤◌, ◌+◌, ℕ, zero, suc, List, [], ◌∷◌, ◌++◌, length, take, Option, Some, string_bytes, ap, refl, subst, sym, ◌∙◌, arith}
 use Rattle.std.specs.List.{range_with_len}
-use Rattle.std.proofs.lemmas.List.{length-map, length_push, take_more}
-use Rattle.lrpar_grammar_words.specs.Words.{PlacedWord, ReadsAs}
+use Rattle.std.proofs.lemmas.List.{length-map}
 use Rattle.lrpar_grammar_words.proofs.WordsLemmas.{reads_as_one}
 use Rattle.lrpar_grammar_reader.specs.Grammar.{Grammar, start_prod}
 use Rattle.lrpar_grammar.specs.declared.grammar.spelled_fault.SpelledFault.{SpelledFault}
 use Rattle.lrpar_grammar.specs.declared.grammar.spelled_fault.SpelledFault.TheVariants.{Unknown, Repeated, Missing, Memory}
-use Rattle.lrpar_grammar.specs.Spelled.{GoesTo, IsListing, IsTaken, IsTextOf, NamedSymbols, SpellEach, SpellsNumbers, count_of, listed_prods, named_symbols, numbers_at, numbers_of, numbers_spelled}
-use Rattle.lrpar_grammar.specs.SpelledFaults.{GoWell, IsMissingAt, IsRepeatedAt, IsSpelledFault, IsUnknownAt}
+use Rattle.lrpar_grammar.specs.Spelled.{IsListing, IsTextOf, NamedSymbols, SpellEach, SpellsNumbers, count_of, listed_prods, named_symbols, numbers_at, numbers_of, numbers_spelled}
+use Rattle.lrpar_grammar.specs.SpelledFaults.{IsMissingAt, IsRepeatedAt, IsSpelledFault, IsUnknownAt}
 use Rattle.lrpar_grammar.proofs.CountLemmas.{count_before}
 
 -- a text spells one production at most

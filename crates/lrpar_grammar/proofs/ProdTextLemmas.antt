@@ -1,6 +1,6 @@
 -- The symbols of productions, and the texts of these.
-use Rattle.std.proofs.Common.{◌≡◌, ◌<◌, ◌≤◌, ◌+◌, ◌-◌, ℕ, List, [], ◌∷◌, ◌++◌, append_assoc, get_or, length, map, take, ap, inl, inr, refl, subst, sym, ◌∙◌, arith}
-use Rattle.std.specs.List.{All, flat_map, slice_get}
+use Rattle.std.proofs.Common.{◌≡◌, ◌<◌, ◌+◌, ℕ, List, [], ◌∷◌, ◌++◌, append_assoc, get_or, length, map, take, ap, inl, inr, subst, sym, ◌∙◌, arith}
+use Rattle.std.specs.List.{All, flat_map}
 use Rattle.std.proofs.lemmas.Bool.{cases_lt}
 use Rattle.std.proofs.lemmas.List.{flat_map_more}
 use Rattle.std.proofs.lemmas.List.Elements.{All-cons, All-nil}

@@ -1,16 +1,16 @@
 -- The names of symbols, and the numbers that words of a production name.
-use Rattle.std.proofs.Common.{◌≡◌, ◌<◌, ◌≤◌, ◌+◌, ℕ, zero, suc, Bool, true, false, cond, List, [], ◌∷◌, ◌++◌, append_assoc, bytes_eq, drop, get_or, length, map, take, Option, Some, None, option_map, option_and_then, nat_cmp, ap, refl, subst, sym, ◌∙◌, arith, Bor}
+use Rattle.std.proofs.Common.{◌≡◌, ◌<◌, ◌≤◌, ◌+◌, ℕ, zero, suc, cond, List, [], ◌∷◌, ◌++◌, append_assoc, bytes_eq, drop, get_or, length, map, take, Option, Some, None, option_map, option_and_then, nat_cmp, ap, refl, sym, ◌∙◌, arith, Bor}
 use Rattle.std.specs.BTreeMap.{BTreeMap, get_by}
 use Rattle.std.specs.Cmp.Lexicographic.{slice_cmp}
 use Rattle.std.specs.List.{slice_get}
 use Rattle.std.specs.Map.{update}
 use Rattle.std.specs.Option.{option_map_or}
-use Rattle.std.proofs.lemmas.List.{append-nil, at_drop_all, at_drop_more, drop_more, get_or-map, length-map, map-append}
+use Rattle.std.proofs.lemmas.List.{append-nil, at_drop_all, at_drop_more, get_or-map, length-map, map-append}
 use Rattle.lrpar_grammar_words.specs.declared.words.Word.{Word}
 use Rattle.lrpar_grammar_words.specs.Words.{PlacedWord, ReadsAs, placed}
 use Rattle.lrpar_grammar_words.proofs.WordsLemmas.{reads_as_one}
 use Rattle.lrpar_grammar_reader.specs.Grammar.{Grammar, rule_name, rules_len}
-use Rattle.lrpar_grammar.specs.Spelled.{NamedSymbols, SpellsNumbers, first_number, number_named, numbers_named, numbers_spelled}
+use Rattle.lrpar_grammar.specs.Spelled.{NamedSymbols, first_number, number_named, numbers_named, numbers_spelled}
 use Rattle.lrpar_grammar.specs.SymbolNames.{AreFirst, AreNumbersOf}
 
 -- what the first members are mapped to, with one more

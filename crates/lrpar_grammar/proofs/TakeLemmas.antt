@@ -1,14 +1,13 @@
 -- A list of texts, taken one by one: when it lists the productions, and which fault it has.
-use Rattle.std.proofs.Common.{◌≡◌, ◌≢◌, ◌<◌, ◌≤◌, ◌+◌, ℕ, List, [], ◌∷◌, ◌++◌, get_or, length, map, take, Option, Some, None, string_bytes, ap, refl, subst, sym, ◌∙◌, arith}
+use Rattle.std.proofs.Common.{◌≡◌, ◌<◌, ◌≤◌, ℕ, List, get_or, length, take, Option, Some, None, string_bytes, refl, subst, sym, ◌∙◌, arith}
 use Rattle.std.specs.Option.{IsSome}
 use Rattle.std.specs.BTreeMap.{BTreeMap}
 use Rattle.std.specs.Borrow.{Bor}
-use Rattle.lrpar_grammar_reader.specs.Grammar.{Grammar, start_prod}
+use Rattle.lrpar_grammar_reader.specs.Grammar.{Grammar}
 use Rattle.lrpar_grammar.specs.declared.grammar.spelled_fault.SpelledFault.{SpelledFault}
 use Rattle.lrpar_grammar.specs.declared.grammar.spelled_fault.SpelledFault.TheVariants.{Unknown, Repeated, Missing, Memory}
 use Rattle.lrpar_grammar.specs.Matching.{AreMatched, HavePlaces, IsFirstWithout, IsPlaceOf}
-use Rattle.lrpar_grammar.specs.ProdText.{prod_text}
-use Rattle.lrpar_grammar.specs.Spelled.{GoesTo, HasText, IsListing, IsTaken, IsTextOf, NamedSymbols, SpellEach, SpellsNumbers, count_of, listed_prods, named_symbols, numbers_at}
+use Rattle.lrpar_grammar.specs.Spelled.{IsListing, NamedSymbols, SpellEach, SpellsNumbers, count_of, listed_prods, named_symbols, numbers_at}
 use Rattle.lrpar_grammar.specs.SpelledFaults.{GoWell, IsMissingAt, IsMissingOf, IsRepeatedAt, IsRepeatedOf, IsSpelledFault, IsTextFault, IsUnknownAt, IsUnknownOf}
 use Rattle.lrpar_grammar.proofs.CountLemmas.{count_before}
 use Rattle.lrpar_grammar.proofs.ListingLemmas.{listed_len, spell_len, spells_one}

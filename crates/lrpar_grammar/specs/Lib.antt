@@ -14,3 +14,4 @@ pub mod Matching
 pub mod SymbolNames
 pub mod ProdText
 pub mod SpelledFaults
+pub mod SpelledLaws

@@ -1,5 +1,5 @@
 -- Productions as texts: which text spells which production, and lists in which each production is spelled once.
-use Rattle.std.specs.Prelude.{◌≡◌, ◌≢◌, ◌<◌, ◌≤◌, ◌+◌, ◌&&◌, ℕ, Bool, true, false, List, [], ◌∷◌, ◌++◌, drop, length, map, take, bytes_eq, count_by, if◌then◌else◌, slice_index_or, Option, Some, None, option_map, option_and_then}
+use Rattle.std.specs.Prelude.{◌≡◌, ◌<◌, ◌+◌, ◌&&◌, ℕ, Bool, true, false, List, [], ◌∷◌, ◌++◌, drop, length, map, take, bytes_eq, count_by, if◌then◌else◌, slice_index_or, Option, Some, None, option_map, option_and_then}
 use Rattle.std.specs.List.{range_with_len}
 use Rattle.lrpar_grammar_words.specs.declared.words.WordKind.{WordKind}
 use Rattle.lrpar_grammar_words.specs.declared.words.WordKind.TheVariants.{Name, Quoted, Colon}

@@ -3,6 +3,7 @@ ghost use Rattle.std.specs.Prelude.{◌≡◌, [], ◌∷◌};
 ghost use Rattle.lrpar_grammar_reader.specs.Grammar.{Nonterminal};
 ghost use Rattle.lrpar_grammar.specs.Rewriting.{LeavesAreDerived, DerivedAreLeaves};
 ghost use Rattle.lrpar_grammar.specs.Sentence.{LexemeFacts};
+ghost use Rattle.lrpar_grammar.specs.SpelledLaws.{ListingsKeepOrder, NumbersTellApart};
 ghost use Rattle.lrpar_grammar.specs.Sum.{SumIsWorkedOut, sum_grammar, sum_lexemes, sum_tree};
 ghost use Rattle.lrpar_grammar.specs.Tree.{Fits, leaves, productions};
 
@@ -30,4 +31,15 @@ pub fn trees_are_derivations<LexemeT>()
     ensures has_tree { DerivedAreLeaves LexemeT }
     ensures facts_derived { LeavesAreDerived LexemeFacts }
     ensures facts_have_tree { DerivedAreLeaves LexemeFacts }
+{}
+
+/// The numbers of a production's symbols tell which rule and which right side it has.
+pub fn numbers_tell_productions_apart()
+    ensures { NumbersTellApart }
+{}
+
+/// In a list of productions by their texts, no two productions have the same place, and the places of productions that are spelled
+/// alike are in the order of these productions.
+pub fn listings_keep_order()
+    ensures { ListingsKeepOrder }
 {}

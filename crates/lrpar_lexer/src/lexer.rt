@@ -54,8 +54,8 @@ impl<'rules, 'input, StorageT: StorageIndex> RuleLexer<'rules, 'input, StorageT>
     }
 
     /// The same lexer, but it never gives an error: the longest run of characters at which no rule matches is one lexeme of this token. A
-    /// run ends at the first character at which a rule matches, or at the end of the text. `iter` tries the rules once more at each
-    /// character of a run, so its time stays linear in the text, if the time of a match is bounded.
+    /// run ends at the first character at which a rule matches, or at the end of the text. `iter` then takes the time of one match at
+    /// each character of a run, and of two at the character after it.
     pub fn with_unmatched(mut self, token: TIdx<StorageT>) -> Self
         ensures rules { result.rules.now ≡ self.entry.rules.now }
         ensures input { result.input.now ≡ self.entry.input.now }
@@ -74,8 +74,8 @@ impl<'rules, 'input, StorageT: StorageIndex> RuleLexer<'rules, 'input, StorageT>
         part_of(self.input, lexeme.span())
     }
 
-    /// A lexer with the lexemes and errors that this one gives, which are found only here. So calls that each need the lexemes of one
-    /// text, as a parse and a report, find them once. Takes the memory of the list, and of the lines of the text once more.
+    /// A lexer over the lexemes and errors that this one gives. They are found here, and only once, so that a parse, `expected` and a
+    /// report about one text can share them. Takes memory for the list, and for each line of the text.
     pub fn lexed(&self, alloc: Global) -> Result<ListLexer<'input, StorageT>, AllocError>
         ensures answers { IfOk result (λ lexer. LexesBy (plain_rules StorageT.index self.now.rules.now)
             (option_map (λ token. StorageT.index token.0) self.now.unmatched) self.now.input.now

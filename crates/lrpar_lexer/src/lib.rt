@@ -1,4 +1,4 @@
-//! A lexer that uses rules, each a regular expression and a token; and its rules as a text.
+//! A lexer that uses rules, each a regular expression and a token; its rules as a text; and a lexer over a list of lexemes.
 #![tactic(auto)]
 
 pub mod laws;

@@ -1,4 +1,4 @@
-use Rattle.std.proofs.Common.{◌≤◌, drop, length, map}
+use Rattle.std.proofs.Common.{◌≤◌, drop, map}
 use Rattle.lrpar_grammar.specs.SymbolNames.{AreFirst}
 use Rattle.lrpar_grammar.proofs.grammar.symbol_names.first_numbers.Given as goal
 

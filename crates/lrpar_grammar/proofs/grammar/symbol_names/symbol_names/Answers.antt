@@ -1,4 +1,4 @@
-use Rattle.std.proofs.Common.{◌≡◌, ◌++◌, ◌∷◌, [], append_assoc, map, take, ap, sym, ◌∙◌, arith}
+use Rattle.std.proofs.Common.{◌++◌, ◌∷◌, [], append_assoc, map, take, ap, sym, ◌∙◌}
 use Rattle.std.proofs.lemmas.List.{append-nil, map-append, take_all}
 use Rattle.lrpar_grammar_places.proofs.ListLemmas.{map-take_more}
 use Rattle.lrpar_grammar.proofs.grammar.symbol_names.symbol_names.Goals as goal

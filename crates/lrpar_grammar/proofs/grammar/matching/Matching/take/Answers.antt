@@ -1,4 +1,4 @@
-use Rattle.std.proofs.Common.{◌≡◌, ◌<◌, ◌∷◌, ◌++◌, [], ℕ, List, Some, None, get_or, length, map, set, ap, subst, sym, ◌∙◌, arith}
+use Rattle.std.proofs.Common.{◌≡◌, ◌∷◌, ◌++◌, [], Some, None, get_or, length, map, set, ap, subst, sym, ◌∙◌, arith}
 use Rattle.std.proofs.lemmas.List.{get_or_read, length-map, map-append}
 use Rattle.lrpar_grammar.specs.Chains.{found}
 use Rattle.lrpar_grammar.specs.Matching.{AreMatched, prods_of, texts_of}

@@ -1,4 +1,4 @@
-use Rattle.std.proofs.Common.{◌≡◌, ◌+◌, ◌++◌, ◌∷◌, [], ap, drop, map, option_map, sym, ◌∙◌, arith}
+use Rattle.std.proofs.Common.{◌+◌, ◌++◌, [], ap, drop, map, option_map, sym, ◌∙◌}
 use Rattle.lrpar_grammar_words.specs.declared.words.Word.{Word}
 use Rattle.lrpar_grammar_words.specs.declared.words.WordKind.TheVariants.{Name}
 use Rattle.lrpar_grammar_words.specs.Words.{placed}

@@ -1,4 +1,4 @@
-use Rattle.std.proofs.Common.{◌≡◌, ◌∷◌, ap, map, ◌∙◌, sym, arith}
+use Rattle.std.proofs.Common.{◌∷◌, ap, map, ◌∙◌, sym}
 use Rattle.std.proofs.lemmas.List.{take_all}
 use Rattle.std.proofs.lemmas.Simd.{map-map}
 use Rattle.lrpar_grammar_reader.specs.Grammar.{rule_of, rules_len}

@@ -1,4 +1,4 @@
-use Rattle.std.proofs.Common.{◌≡◌, Result, Ok, Err, IfErr, map, rules}
+use Rattle.std.proofs.Common.{Result, Ok, Err, IfErr, map, rules}
 use Rattle.lrpar_grammar.specs.SpelledFaults.{IsSpelledFault}
 use Rattle.lrpar_grammar.proofs.ListingLemmas.{fault_refutes}
 use Rattle.lrpar_grammar.proofs.grammar.value.YaccGrammar.prods_spelled.Goals as goal

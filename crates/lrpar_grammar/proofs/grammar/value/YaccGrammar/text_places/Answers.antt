@@ -1,4 +1,4 @@
-use Rattle.std.proofs.Common.{◌≡◌, ◌<◌, ℕ, List, ap, length, map, subst, sym, ◌∙◌, arith}
+use Rattle.std.proofs.Common.{◌≡◌, ◌<◌, ap, length, map, subst, sym, ◌∙◌, arith}
 use Rattle.lrpar_grammar_reader.specs.Grammar.{start_prod}
 use Rattle.lrpar_grammar.specs.Matching.{prods_of, texts_of}
 use Rattle.lrpar_grammar.specs.Spelled.{IsListing, SpellEach, listed_prods, named_symbols}
