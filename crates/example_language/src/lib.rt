@@ -2,7 +2,7 @@
 #![tactic(auto)]
 
 use lrpar::build::{Unbuilt, parser_data};
-use lrpar::grammar::{GrammarFault, YaccGrammar};
+use lrpar::grammar::{GrammarFault, SpelledFault, YaccGrammar};
 use lrpar::parser::ParseFault;
 use lrpar::{LexParseError, ParserData};
 use lrpar_lexer::{LexRule, RulesFault, TokenTypes, rules_of};
@@ -22,10 +22,14 @@ pub enum Failed {
     Lexer(#[from] RulesFault),
     #[error("table: {0}")]
     Table(#[from] Unbuilt<u32>),
+    #[error("productions: {0}")]
+    Productions(#[from] SpelledFault),
+    #[error("a production has other symbols than its value needs")]
+    Symbols,
     #[error("parse: {0}")]
     Parse(#[from] ParseFault),
     #[error("out of memory")]
-    Memory(#[from] AllocError),
+    Memory(#[from(alloc)] AllocError),
 }
 
 /// A language: the table of its grammar, and the rules of its lexer.

@@ -6,37 +6,37 @@ mod lints;
 mod tree;
 mod values;
 
-use crate::language::{Failed, Language, new_language};
+use crate::language::{GRAMMAR, LEXER};
 use crate::lints::lints;
 use crate::values::{PRODS, Queries, Value};
+use example_language::{Failed, Language, language_of, push_errors};
 use lrpar::RTParserBuilder;
 use lrpar::repair::CpctPlus;
 use lrpar_lexer::RuleLexer;
-use lrpar_report::{Look, Reporter, error_report};
+use lrpar_report::{Look, Reporter};
 use std::alloc::Global;
 use std::io;
 
 fn main(rt: HostRuntime) -> Result<(), Failed> {
     let text = io::read_to_string(rt.alloc(), rt.stdin())?;
-    let queries = new_language(rt.alloc())?;
+    let queries = language_of(rt.alloc(), GRAMMAR, LEXER)?;
     let out = linted(rt.alloc(), &queries, text.as_str())?;
     print!(rt; "{out}")?;
     Ok(())
 }
 
-// The reports about a file.
+// The reports about a file: its errors, and what may be wrong with the statements of the file as repaired.
 fn linted(alloc: Global, queries: &Language, text: &str) -> Result<String, Failed> {
-    let spelled = queries.data.grm().prods_spelled(alloc, &PRODS)?;
-    let lexer = RuleLexer::new(alloc, &queries.rules, text)?.with_unmatched(queries.unmatched);
+    let grm = queries.data.grm();
+    let spelled = grm.prods_spelled(alloc, &PRODS)?;
+    let unmatched = grm.token_idx("UNMATCHED").ok_or(Failed::Symbols)?;
+    let lexer = RuleLexer::new(alloc, &queries.rules, text)?.with_unmatched(unmatched);
     let parser = RTParserBuilder::new(&queries.data).recoverer(CpctPlus::new(10_000));
     let values = Queries { spelled: &spelled };
     let (file, errors) = parser.parse_values(alloc, &lexer, &values)?;
-    let reporter = Reporter::new(alloc, text, "queries", Look::Plain)?;
+    let reporter = Reporter::new(alloc, text, "input", Look::Plain)?;
     let mut out = String::new(alloc);
-    for error in &errors {
-        let report = error_report(alloc, &queries.data, text, error)?;
-        reporter.push(&mut out, alloc, &report)?;
-    }
+    push_errors(&mut out, alloc, queries, &reporter, text, &errors)?;
     if let Some(Value::File(statements)) = &file {
         for warning in &lints(alloc, statements)? {
             reporter.push(&mut out, alloc, warning)?;

@@ -1,7 +1,7 @@
 //! The values of queries: the syntax tree.
-use crate::language::Failed;
 use crate::tree::Operator::{And, Equal, Less, Minus, Or, Over, Plus, Times};
 use crate::tree::{Atom, Expr, ExprKind, Name, Operator, Query, Stage, Statement};
+use example_language::Failed;
 use lrpar::Lexeme;
 use lrpar::grammar::Spelled;
 use lrpar::parser::AStackType::{self, ActionType};
@@ -88,7 +88,7 @@ impl<'a, 'rules, 'text> Values<Token<u32>, RuleLexer<'rules, 'text>> for Queries
         match self.spelled.of_number(production) {
             Some(place @ 0..=10) => statement(alloc, place, args),
             Some(place) => expr(alloc, place, args),
-            None => Err(Failed::Production),
+            None => Err(Failed::Symbols),
         }
     }
 }
@@ -135,7 +135,7 @@ fn statement<'text>(
         (10, Some(ActionType(Value::Exprs(exprs))), _, Some(ActionType(Value::Expr(next))), _) => {
             Value::Exprs(with(exprs, next)?)
         }
-        _ => return Err(Failed::Production),
+        _ => return Err(Failed::Symbols),
     })
 }
 
@@ -149,7 +149,7 @@ fn expr<'text>(
     let kind = match (place, args.next(), args.next(), args.next()) {
         (11..=18, Some(ActionType(Value::Expr(left))), _, Some(ActionType(Value::Expr(right)))) => {
             let Some(operator) = OPERATORS.get(place - 11) else {
-                return Err(Failed::Production);
+                return Err(Failed::Symbols);
             };
             ExprKind::Binary(*operator, Box::new(alloc, left)?, Box::new(alloc, right)?)
         }
@@ -165,7 +165,7 @@ fn expr<'text>(
         }
         (25, _, Some(ActionType(value)), _) => return Ok(value),
         (_, Some(ActionType(value)), ..) => return Ok(value),
-        _ => return Err(Failed::Production),
+        _ => return Err(Failed::Symbols),
     };
     Ok(Value::Expr(Expr { range, kind }))
 }
