@@ -1,0 +1,51 @@
+//! A language of settings, to start from: its grammar, its lexer, its values, and reports of what is wrong in a text.
+#![tactic(auto)]
+
+mod language;
+#[cfg(test)]
+mod tests;
+mod values;
+
+use crate::language::{Failed, Language, new_language};
+use crate::values::{Settings, Value};
+use lrpar::RTParserBuilder;
+use lrpar::repair::CpctPlus;
+use lrpar_lexer::RuleLexer;
+use lrpar_report::{Look, Reporter, error_report};
+use std::alloc::Global;
+use std::io;
+
+fn main(rt: HostRuntime) -> Result<(), Failed> {
+    let text = io::read_to_string(rt.alloc(), rt.stdin())?;
+    let settings = new_language(rt.alloc())?;
+    let out = shown(rt.alloc(), &settings, text.as_str())?;
+    print!(rt; "{out}")?;
+    Ok(())
+}
+
+/// A report for each error of a text, and then a line for each setting, if the repairs make it a text of settings.
+pub(crate) fn shown(alloc: Global, language: &Language, text: &str) -> Result<String, Failed> {
+    let lexer = RuleLexer::new(alloc, &language.rules, text)?;
+    let parser = RTParserBuilder::new(&language.data).recoverer(CpctPlus::new(10_000));
+    let values = Settings {
+        spelled: &language.spelled,
+    };
+    let (file, errors) = parser.parse_values(alloc, &lexer, &values)?;
+    let reporter = Reporter::new(alloc, text, "input", Look::Plain)?;
+    let mut out = String::new(alloc);
+    for error in &errors {
+        let report = error_report(alloc, &language.data, text, error)?;
+        reporter.push(&mut out, alloc, &report)?;
+    }
+    if let Some(Value::File(settings)) = &file {
+        for setting in settings {
+            writeln!(
+                out,
+                "{name} is {value}",
+                name = setting.name,
+                value = setting.value
+            )?;
+        }
+    }
+    Ok(out)
+}
