@@ -90,7 +90,7 @@ fn push_list(
     }
     let spelled = grm.prods_spelled(alloc, &texts);
     match &spelled {
-        Ok(spelled) => push_places(out, grm.prods_len(), spelled),
+        Ok(spelled) => push_places(out, grm, spelled),
         Err(SpelledFault::Memory) => out.lack_memory(),
         Err(fault) => out.line("fault ", fault),
     }
@@ -98,15 +98,20 @@ fn push_list(
 }
 
 // A line for each production, and for the number after the last one: its place in the list.
-fn push_places(out: &mut Printed, prods: usize, spelled: &Spelled<u8>) {
-    for number in 0..=prods {
-        out.number("place ", number);
-        match u8::try_from(number)
-            .ok()
-            .and_then(|at| spelled.of(PIdx(at)))
-        {
-            Some(place) => out.line(" ", &place),
-            None => out.text(" none\n"),
-        }
+fn push_places(out: &mut Printed, grm: &YaccGrammar<u8>, spelled: &Spelled<u8>) {
+    for prod in grm.iter_pidxs() {
+        push_place(out, prod, spelled);
+    }
+    if let Ok(past) = u8::try_from(grm.prods_len()) {
+        push_place(out, PIdx(past), spelled);
+    }
+}
+
+// A line for a production: its number and its place in the list.
+fn push_place(out: &mut Printed, prod: PIdx<u8>, spelled: &Spelled<u8>) {
+    out.number("place ", usize::from(prod));
+    match spelled.of(prod) {
+        Some(place) => out.line(" ", &place),
+        None => out.text(" none\n"),
     }
 }
