@@ -5,8 +5,8 @@ use lrpar::parser::AStackType::ActionType;
 use lrpar::parser::{AStackType, Actions};
 use lrpar::repair::{FixedRecoverer, RepairStep};
 use lrpar::span::{PIdx, RIdx, Span, Symbol, TIdx};
-use lrpar::{InputLexer, LexParseError, Lexeme, ParserData, RTParserBuilder};
-use lrpar_lexer::{ListFault, ListLexer, NoToken, Token, TokenTypes};
+use lrpar::{InputLexer, Lexeme, ParserData, RTParserBuilder};
+use lrpar_lexer::{ListFault, ListLexer, NoToken, Token};
 use std::alloc::{AllocError, Global};
 use std::test::Fail;
 
@@ -84,26 +84,15 @@ pub(crate) fn calculated(
     let parser = RTParserBuilder::new(data).recoverer(FixedRecoverer::new(repairs(alloc)?));
     let lexer = sum_lexer(alloc, line)?;
     let (number, errors) = parser.parse_actions(alloc, &lexer, &Calculation, &())?;
-    Ok((shown(alloc, &lexer, &errors)?, number.unwrap_or(None)))
+    let mut text = String::new(alloc);
+    for error in &errors {
+        writeln!(text, "{}", error.message(alloc, data.grm(), &lexer)?)?;
+    }
+    Ok((text, number.unwrap_or(None)))
 }
 
 // The repairs that are supplied at each error: to leave a lexeme out, or to put a number in.
 fn repairs(alloc: Global) -> Result<Vec<Vec<RepairStep<u32>>>, Fail> {
     let (leave_out, number) = (RepairStep::Delete, RepairStep::Insert(TIdx(4)));
     Ok(vec![in alloc; vec![in alloc; leave_out]?, vec![in alloc; number]?]?)
-}
-
-// The text of the errors, with `INT` for each token.
-fn shown(
-    alloc: Global,
-    lexer: &ListLexer<'_>,
-    errors: &[LexParseError<u32, TokenTypes>],
-) -> Result<String, Fail> {
-    let mut text = String::new(alloc);
-    for error in errors {
-        if error.fits(lexer.input()) {
-            writeln!(text, "{}", error.pp(alloc, lexer, |_| Some("INT"))?)?;
-        }
-    }
-    Ok(text)
 }

@@ -1,12 +1,9 @@
 //! The example of the README: a language of settings, and the report about a file of them.
-ghost use Rattle.std.specs.Prelude.{◌≡◌};
-
 use lrpar::build::{Unbuilt, parser_data};
-use lrpar::errors::PpFault;
 use lrpar::grammar::{GrammarFault, YaccGrammar};
 use lrpar::parser::ParseFault;
-use lrpar::{LexParseError, NonStreamingLexer, ParserData, RTParserBuilder};
-use lrpar_lexer::{LexRule, RuleLexer, RulesFault, TokenTypes, rules_of};
+use lrpar::{ParserData, RTParserBuilder};
+use lrpar_lexer::{LexRule, RuleLexer, RulesFault, rules_of};
 use std::alloc::{AllocError, Global};
 use thiserror::Error;
 
@@ -26,8 +23,6 @@ pub(crate) enum Failed {
     Table(#[from] Unbuilt<u32>),
     #[error("parse: {0}")]
     Parse(#[from] ParseFault),
-    #[error("error text: {0}")]
-    Text(#[from] PpFault<u32>),
     #[error("out of memory")]
     Memory(#[from] AllocError),
 }
@@ -50,31 +45,14 @@ pub(crate) fn report<'a>(
     let (tree, errors) = RTParserBuilder::new(data).parse_generictree(alloc, &lexer)?;
     let mut text = String::new(alloc);
     let grm = data.grm();
-    push_errors(&mut text, alloc, grm, &lexer, input, &errors)?;
+    for error in &errors {
+        text.push_str(&error.message(alloc, grm, &lexer)?)?;
+        text.push('\n')?;
+    }
     if let Some(tree) = &tree {
         if tree.fits(grm, input) {
             text.push_str(&tree.pp(alloc, grm, input)?)?;
         }
     }
     Ok(text)
-}
-
-// Adds a line for each error.
-fn push_errors<'a, L: NonStreamingLexer<'a, TokenTypes>>(
-    text: &mut String,
-    alloc: Global,
-    grm: &'a YaccGrammar<u32>,
-    lexer: &L,
-    input: &str,
-    errors: &[LexParseError<u32, TokenTypes>],
-) -> Result<(), Failed>
-    requires { L.text lexer.now ≡ input.now }
-{
-    for error in errors {
-        if error.fits(input) {
-            text.push_str(&error.pp(alloc, lexer, |token| Some(grm.epp_of(token)))?)?;
-            text.push('\n')?;
-        }
-    }
-    Ok(())
 }
