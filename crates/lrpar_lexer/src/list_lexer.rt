@@ -61,10 +61,10 @@ impl<'input, StorageT: StorageIndex> ListLexer<'input, StorageT> {
     }
 
     /// The lexeme's part of the text. It is empty if the lexeme doesn't start and end in the text, each between two characters.
-    pub fn text(&self, lexeme: Token<StorageT>) -> &'input str
-        ensures part { IsPartOf self.now.input.now lexeme.span
-            → result.now ≡ slice_range self.now.input.now lexeme.span.start lexeme.span.end }
-        ensures outside { ¬ (IsPartOf self.now.input.now lexeme.span) → result.now ≡ [] }
+    pub fn text(&self, lexeme: &Token<StorageT>) -> &'input str
+        ensures part { IsPartOf self.now.input.now lexeme.now.span
+            → result.now ≡ slice_range self.now.input.now lexeme.now.span.start lexeme.now.span.end }
+        ensures outside { ¬ (IsPartOf self.now.input.now lexeme.now.span) → result.now ≡ [] }
     {
         part_of(self.input, lexeme.span())
     }

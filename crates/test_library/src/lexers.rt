@@ -108,10 +108,10 @@ fn lexemes_have_their_texts(rt: HostRuntime) -> Result<(), Fail> {
     for (start, len, expected) in PARTS {
         let (start, len) = (usize::from(*start), usize::from(*len));
         let lexeme: Token<u8> = Token::new(3, start, len);
-        same(&rt, expected, &lexer.text(lexeme), expected);
-        same(&rt, expected, &list.text(lexeme), expected);
+        holds(&rt, expected, lexer.text(&lexeme) == *expected);
+        holds(&rt, expected, list.text(&lexeme) == *expected);
     }
-    same(&rt, &"input", &lexer.input(), &PARTED);
+    holds(&rt, &"input", lexer.input() == PARTED);
     Ok(())
 }
 
@@ -124,25 +124,42 @@ fn listed(alloc: Global) -> Result<ListLexer<'static, u16>, Fail> {
     Ok(ListLexer::new(alloc, PARTED, answers)?)
 }
 
+/// The lines and columns of both ends of a span.
+type Ends = ((usize, usize), (usize, usize));
+
+// Whether this part of the lexer's input, its lines, and the lines and columns of its ends are these.
+fn has(lexer: &ListLexer<'_, u16>, span: Span, part: &str, lines: &str, ends: Ends) -> bool {
+    let input = lexer.input();
+    if !input.is_char_boundary(span.start()) {
+        return false;
+    }
+    if !input.is_char_boundary(span.end()) {
+        return false;
+    }
+    lexer.span_str(span) == part
+        && lexer.span_lines_str(span) == lines
+        && lexer.line_col(span) == ends
+}
+
+const LISTED: &str = "token 1 at 0..3\nno token fits at byte 3\ntoken 2 at 4..5\n";
+
 #[test]
 fn lists_are_lexers(rt: HostRuntime) -> Result<(), Fail> {
-    let alloc = rt.alloc();
-    let lexer = listed(alloc)?;
-    let expected = "token 1 at 0..3\nno token fits at byte 3\ntoken 2 at 4..5\n";
-    same(
+    let lexer = listed(rt.alloc())?;
+    let all = written(&rt, rt.alloc(), &lexer);
+    holds(&rt, &"list", all.as_str() == LISTED);
+    holds(&rt, &"input", lexer.input() == PARTED);
+    let ends = ((1, 2), (2, 1));
+    holds(
         &rt,
-        &"list",
-        &written(&rt, alloc, &lexer).as_str(),
-        &expected,
+        &"two lines",
+        has(&lexer, Span::new(1, 4), "é\n", PARTED, ends),
     );
-    same(&rt, &"input", &lexer.input(), &PARTED);
-    same(&rt, &"part", &lexer.span_str(Span::new(1, 4)), &"é\n");
-    same(&rt, &"lines", &lexer.span_lines_str(Span::new(1, 3)), &"aé");
-    same(
+    let ends = ((1, 2), (1, 3));
+    holds(
         &rt,
-        &"places",
-        &lexer.line_col(Span::new(3, 5)),
-        &((1, 3), (2, 2)),
+        &"a line",
+        has(&lexer, Span::new(1, 3), "é", "aé", ends),
     );
     Ok(())
 }
