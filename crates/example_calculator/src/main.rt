@@ -11,7 +11,6 @@ use lrpar::parser::{AStackType, Actions};
 use lrpar::repair::CpctPlus;
 use lrpar::span::{PIdx, RIdx, Span, Symbol};
 use lrpar_lexer::{RuleLexer, Token};
-use lrpar_report::{Look, Reporter};
 use std::alloc::{AllocError, Global};
 use std::io;
 
@@ -91,8 +90,7 @@ fn calculated<'a>(alloc: Global, calc: &'a Language, line: &'a str) -> Result<St
     let parser = RTParserBuilder::new(&calc.data).recoverer(CpctPlus::new(10_000));
     let (value, errors) = parser.parse_actions(alloc, &lexer, &Calculation { line }, &())?;
     let mut out = String::new(alloc);
-    let reporter = Reporter::new(alloc, line, "line", Look::Plain)?;
-    push_errors(&mut out, alloc, calc, &reporter, line, &errors)?;
+    push_errors(&mut out, alloc, calc.data.grm(), &lexer, line, &errors)?;
     match value.unwrap_or(None) {
         Some(number) => writeln!(out, "{line} = {number}")?,
         None => writeln!(out, "{line} has no value")?,

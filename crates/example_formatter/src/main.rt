@@ -5,7 +5,6 @@
 use example_language::{Failed, Language, language_of, push_errors};
 use lrpar::{Lexeme, Lexer, RTParserBuilder};
 use lrpar_lexer::RuleLexer;
-use lrpar_report::{Look, Reporter};
 use std::alloc::Global;
 use std::io;
 
@@ -36,8 +35,7 @@ fn formatted<'a>(alloc: Global, settings: &'a Language, text: &'a str) -> Result
     if errors.is_empty() {
         push_settings(&mut out, alloc, &lexer, text)?;
     } else {
-        let reporter = Reporter::new(alloc, text, "input", Look::Plain)?;
-        push_errors(&mut out, alloc, settings, &reporter, text, &errors)?;
+        push_errors(&mut out, alloc, settings.data.grm(), &lexer, text, &errors)?;
     }
     Ok(out)
 }

@@ -1,12 +1,14 @@
-//! What the programs of the examples share: a language of a grammar and a lexer, and reports of errors.
+//! What the programs of the examples share: a language of a grammar and a lexer, and the texts of its errors.
 #![tactic(auto)]
 
+ghost use Rattle.std.specs.Prelude.{◌≡◌};
+
 use lrpar::build::{Unbuilt, parser_data};
+use lrpar::errors::PpFault;
 use lrpar::grammar::{GrammarFault, YaccGrammar};
 use lrpar::parser::ParseFault;
-use lrpar::{LexParseError, ParserData};
+use lrpar::{LexParseError, NonStreamingLexer, ParserData};
 use lrpar_lexer::{LexRule, RulesFault, TokenTypes, rules_of};
-use lrpar_report::{Reporter, error_report};
 use std::alloc::{AllocError, Global};
 use std::io;
 use thiserror::Error;
@@ -24,6 +26,8 @@ pub enum Failed {
     Table(#[from] Unbuilt<u32>),
     #[error("parse: {0}")]
     Parse(#[from] ParseFault),
+    #[error("error text: {0}")]
+    Text(#[from] PpFault<u32>),
     #[error("out of memory")]
     Memory(#[from] AllocError),
 }
@@ -43,18 +47,22 @@ pub fn language_of(alloc: Global, grammar: &str, lexer: &str) -> Result<Language
     Ok(Language { data, rules })
 }
 
-/// Adds the report of each error of a parse of the reporter's text.
-pub fn push_errors(
+/// Adds the text of each error, with a line feed after it.
+pub fn push_errors<'a, L: NonStreamingLexer<'a, TokenTypes>>(
     out: &mut String,
     alloc: Global,
-    language: &Language,
-    reporter: &Reporter<'_>,
+    grm: &'a YaccGrammar<u32>,
+    lexer: &L,
     text: &str,
     errors: &[LexParseError<u32, TokenTypes>],
-) -> Result<(), AllocError> {
+) -> Result<(), Failed>
+    requires { L.text lexer.now ≡ text.now }
+{
     for error in errors {
-        let report = error_report(alloc, &language.data, text, error)?;
-        reporter.push(out, alloc, &report)?;
+        if error.fits(text) {
+            out.push_str(&error.pp(alloc, lexer, |token| Some(grm.epp_of(token)))?)?;
+            out.push('\n')?;
+        }
     }
     Ok(())
 }

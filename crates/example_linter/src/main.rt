@@ -1,5 +1,5 @@
-//! A linter of JSON. It reads a text from standard input, and prints reports of its errors, with repairs, and of keys that are twice in an
-//! object; and how deep the text nests.
+//! A linter of JSON. It reads a text from standard input, and prints its errors, with repairs; keys that are twice in an object; and how
+//! deep the text nests.
 #![tactic(auto)]
 
 use example_language::{Failed, Language, language_of, push_errors};
@@ -7,9 +7,8 @@ use lrpar::repair::CpctPlus;
 use lrpar::span::Span;
 use lrpar::{Lexeme, Lexer, RTParserBuilder};
 use lrpar_lexer::RuleLexer;
-use lrpar_report::{Look, Report, Reporter};
 use std::alloc::{AllocError, Global};
-use std::collections::BTreeMap;
+use std::collections::BTreeSet;
 use std::io;
 
 const GRAMMAR: &str = "%% Value: Object | Array | 'STRING' | 'NUMBER' | 'WORD';
@@ -39,84 +38,72 @@ fn main(rt: HostRuntime) -> Result<(), Failed> {
     Ok(())
 }
 
-// The reports about the text, on its errors and on what its lexemes show.
+// The report about the text: its errors, and what its lexemes show.
 fn linted<'a>(alloc: Global, json: &'a Language, text: &'a str) -> Result<String, Failed> {
     let lexer = RuleLexer::new(alloc, &json.rules, text)?;
     let parser = RTParserBuilder::new(&json.data).recoverer(CpctPlus::new(10_000));
     let errors = parser.parse_noaction(alloc, &lexer)?;
-    let reporter = Reporter::new(alloc, text, "input", Look::Plain)?;
     let mut out = String::new(alloc);
-    push_errors(&mut out, alloc, json, &reporter, text, &errors)?;
-    push_lints(&mut out, alloc, &lexer, &reporter, text)?;
+    push_errors(&mut out, alloc, json.data.grm(), &lexer, text, &errors)?;
+    push_lints(&mut out, alloc, &lexer, text)?;
     Ok(out)
 }
 
-// Adds a warning for each key that its object already has, and a line for how deep the lexemes nest.
+// Adds a line for each key that its object already has, and one for how deep the lexemes nest.
 fn push_lints<'a>(
     out: &mut String,
     alloc: Global,
     lexer: &RuleLexer<'_, 'a>,
-    reporter: &Reporter<'_>,
     text: &'a str,
 ) -> Result<(), AllocError> {
-    // The keys so far of each object and array that is open, with their places.
+    // The keys so far of each object and array that is open.
     let mut open = Vec::new(alloc);
     let mut deepest = 0usize;
-    let mut last = Span::new(0, 0);
+    let mut line = 1usize;
+    // The last lexeme's start and end.
+    let mut last = (0usize, 0usize);
     for lexeme in lexer.iter(alloc)? {
         let Ok(lexeme) = lexeme else {
             continue;
         };
         let span = lexeme.span();
+        line = line.saturating_add(lines_in(text, last.0, span.start()));
         match text.get(span.start()..span.end()).unwrap_or("") {
-            "{" | "[" => open.push(BTreeMap::new(alloc))?,
+            "{" | "[" => open.push(BTreeSet::new(alloc))?,
             "}" | "]" => {
                 let _ = open.pop();
             }
             ":" => {
-                let key = text.get(last.start()..last.end()).unwrap_or("");
-                push_key(out, alloc, reporter, &mut open, key, last)?;
+                let key = text.get(last.0..last.1).unwrap_or("");
+                push_key(out, &mut open, key, line)?;
             }
             _ => {}
         }
         deepest = deepest.max(open.len());
-        last = span;
+        last = (span.start(), span.end());
     }
     writeln!(out, "depth {deepest}")?;
     Ok(())
 }
 
-// Keeps a key in the innermost object. Adds a warning if the object already has it.
+// Keeps a key in the innermost object. Adds a line if the object already has it.
 fn push_key<'a>(
     out: &mut String,
-    alloc: Global,
-    reporter: &Reporter<'_>,
-    open: &mut Vec<BTreeMap<&'a str, Span>>,
+    open: &mut Vec<BTreeSet<&'a str>>,
     key: &'a str,
-    span: Span,
+    line: usize,
 ) -> Result<(), AllocError> {
     let Some(mut keys) = open.pop() else {
         return Ok(());
     };
-    if let Some(first) = keys.insert(key, span)? {
-        push_repeated(out, alloc, reporter, key, span, first)?;
+    if !keys.insert(key)? {
+        writeln!(out, "line {line}: {key} stands in this object already")?;
     }
     open.push(keys)?;
     Ok(())
 }
 
-// Adds the warning of a key that its object already has, at another place.
-fn push_repeated(
-    out: &mut String,
-    alloc: Global,
-    reporter: &Reporter<'_>,
-    key: &str,
-    span: Span,
-    first: Span,
-) -> Result<(), AllocError> {
-    let message = format!(in alloc; "this object already has the key {key}")?;
-    let report = Report::warning(alloc, message.as_str())?
-        .label(span, "the second one")?
-        .label(first, "the first one")?;
-    reporter.push(out, alloc, &report)
+// How many lines end between two bytes.
+fn lines_in(text: &str, start: usize, end: usize) -> usize {
+    text.get(start..end).unwrap_or("").matches('\n').count()
 }

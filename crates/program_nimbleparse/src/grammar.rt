@@ -94,7 +94,11 @@ fn unbuilt(
     grm: &YaccGrammar<u32>,
     fault: BuildFault,
 ) -> Fault {
-    fault_of_report(alloc, reporter, build_report(alloc, grm, &fault, MAX_STATES))
+    fault_of_report(
+        alloc,
+        reporter,
+        build_report(alloc, grm, &fault, MAX_STATES),
+    )
 }
 
 // The fault of a table with a chain of reductions that is too long for any cap.
