@@ -143,7 +143,7 @@ fn report_of<StorageT: StorageIndex>(
                 report,
                 grm,
                 group.prod,
-                "this is reduced, as it comes first",
+                "this comes first, so it is preferred",
             )?;
             labelled(report, grm, other, "this could be reduced instead")
         }
