@@ -2,11 +2,12 @@
 use Rattle.std.specs.Prelude.{◌≡◌, ℕ, List, Option, Some, None, MatchOption, Result, Ok, Err, IsErrAnd, Vec}
 use Rattle.lrpar_grammar.specs.Grammar.{Grammar}
 use Rattle.lrpar_grammar.specs.Tree.{Tree}
-use Rattle.lrpar_grammar_places.specs.Span.{Extent}
+use Rattle.lrpar_grammar_places.specs.Span.{Extent, nowhere}
 use Rattle.lrpar_parse_run.specs.Subject.{Subject}
 use Rattle.lrpar_parse_run.specs.declared.values.AStackType.{AStackType}
+use Rattle.lrpar_parse_run.specs.declared.values.AStackType.TheVariants.{ActionType}
 use Rattle.lrpar_parse_errors.specs.declared.errors.LexParseError.{LexParseError}
-use Rattle.lrpar_parse.specs.Acted.{IsActedValue}
+use Rattle.lrpar_parse.specs.Acted.{ActedTo, IsActedValue}
 use Rattle.lrpar_parse.specs.Parse.{ParsesTo}
 use Rattle.lrpar_parse.specs.ValueArguments.{ValueArguments, first_failure, given_of}
 use Rattle.lrpar_parse.specs.declared.fault.ParseFault.{ParseFault}
@@ -25,6 +26,12 @@ given_by gives lexer p span args value = gives p (record { lexer = lexer; span =
 abbrev pub IsGivenValue : {X V E L : Type 0} → (X → Extent) → (ℕ → ValueArguments L X V → Result V E → Type 0) → Grammar → L → Tree X → Result V E → Type 0
 IsGivenValue span gives g lexer tree value =
     IsActedValue span (GivesOrCarries gives) (λ r v. Unit {0}) g lexer (tt {0}) tree value
+
+-- a tree that folds to a value folds to it by the caller's function alone
+abbrev pub FoldsPlainly : {X V E L : Type 0} → (X → Extent) → (ℕ → ValueArguments L X V → Result V E → Type 0) → L → Type 0
+FoldsPlainly {X} {V} span gives lexer =
+    (g : Grammar) (tree : Tree X) (value : V) → IsGivenValue span gives g lexer tree (Ok value)
+    → ActedTo span (given_by gives lexer) nowhere tree (ActionType value)
 
 -- A value, or none, comes out with the rest of the answer. An error comes out alone, and so does what `From` makes of a fault;
 -- `converts` says what this may be.

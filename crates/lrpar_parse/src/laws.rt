@@ -13,8 +13,11 @@ ghost use Rattle.lrpar_table_stacks.specs.RunLaws.{RunsEndOneWay, RunsGoOnOrEnd,
 ghost use Rattle.lrpar_parse.specs.SumRun.{SumRunsThrough};
 ghost use Rattle.lrpar_parse_run.specs.Spans.{SpansAreWorkedOut};
 ghost use Rattle.lrpar_parse_repair.specs.TestWork.{BoundsTests};
+ghost use Rattle.lrpar_parse_lexemes.specs.Views.{span_by};
+ghost use Rattle.lrpar_parse.specs.Values.{FoldsPlainly};
 
 use crate::fault::ParseFault;
+use crate::values::Values;
 use lrpar_grammar::span::StorageIndex;
 use lrpar_parse_lexemes::lex_api::Lexeme;
 use lrpar_parse_repair::repair::Recoverer;
@@ -105,4 +108,15 @@ pub fn spans_are_worked_out()
 /// Two faults of a parse are equal if and only if they are of one kind and name the same lexeme.
 pub fn faults_are_compared_by_contents()
     ensures { (x y : ParseFault) → IsTrue (⟦<ParseFault as PartialEq>⟧.eq x y) ↔ (x ≡ y) }
+{}
+
+/// If a tree folds to a value by `parse_values`, and not to an error, it folds to this value by the caller's function alone: no
+/// production of the tree has an error.
+pub fn values_fold_without_errors<
+    StorageT: StorageIndex,
+    LexemeT: Lexeme<StorageT>,
+    LexerT,
+    V: Values<LexemeT, LexerT>,
+>(_lexer: &LexerT, _values: &V)
+    ensures { FoldsPlainly (span_by LexemeT.parts) (V.gives _values.now) _lexer.now }
 {}

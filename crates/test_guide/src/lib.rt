@@ -4,8 +4,6 @@
 #[cfg(test)]
 mod calculation;
 #[cfg(test)]
-mod differences;
-#[cfg(test)]
 mod example;
 #[cfg(test)]
 mod guide;
