@@ -94,7 +94,7 @@ fn named_number<'text>(
     let (Some(name), Some(Value::Number(value))) = (name, number) else {
         return Err(Failed::Symbols);
     };
-    let name = lexer.text(name);
+    let name = lexer.text(&name);
     Ok(Value::Setting(Setting { name, value }))
 }
 
@@ -116,7 +116,7 @@ fn digits(args: &mut Given<'_, '_, '_>) -> Result<u64, Failed> {
     if lexeme.faulty() {
         return Ok(0);
     }
-    match args.lexer().text(lexeme).parse::<u64>() {
+    match args.lexer().text(&lexeme).parse::<u64>() {
         Ok(number) => Ok(number),
         Err(_) => Err(Failed::TooBig(lexeme.span().start())),
     }

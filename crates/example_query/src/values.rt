@@ -156,9 +156,9 @@ fn expr<'text>(
         (19, _, Some(ActionType(Value::Expr(operand))), _) => {
             ExprKind::Not(Box::new(alloc, operand)?)
         }
-        (20, Some(AStackType::Lexeme(atom)), ..) => ExprKind::Atom(Atom::Column, lexer.text(atom)),
-        (21, Some(AStackType::Lexeme(atom)), ..) => ExprKind::Atom(Atom::Number, lexer.text(atom)),
-        (22, Some(AStackType::Lexeme(atom)), ..) => ExprKind::Atom(Atom::Text, lexer.text(atom)),
+        (20, Some(AStackType::Lexeme(atom)), ..) => ExprKind::Atom(Atom::Column, lexer.text(&atom)),
+        (21, Some(AStackType::Lexeme(atom)), ..) => ExprKind::Atom(Atom::Number, lexer.text(&atom)),
+        (22, Some(AStackType::Lexeme(atom)), ..) => ExprKind::Atom(Atom::Text, lexer.text(&atom)),
         (23, ..) => ExprKind::Null,
         (24, Some(AStackType::Lexeme(name)), _, Some(ActionType(Value::Exprs(exprs)))) => {
             ExprKind::Call(named(lexer, name), exprs)
@@ -179,7 +179,7 @@ fn with<T: Drop>(mut list: Vec<T>, next: T) -> Result<Vec<T>, AllocError> {
 // The lexeme as a part of the text.
 fn named<'text>(lexer: &RuleLexer<'_, 'text>, lexeme: Token<u32>) -> Name<'text> {
     Name {
-        text: lexer.text(lexeme),
+        text: lexer.text(&lexeme),
         range: TextRange::from(lexeme.span()),
     }
 }

@@ -37,7 +37,8 @@ pub mod repair {
 /// What follows from the definitions: public functions that do nothing, each with a law as its contract.
 pub mod laws {
     pub use lrpar_grammar::laws::{
-        sum_is_worked_out, sum_tree_fits, text_spells_one_grammar, trees_are_derivations,
+        listings_keep_order, numbers_tell_productions_apart, sum_is_worked_out, sum_tree_fits,
+        text_spells_one_grammar, trees_are_derivations,
     };
     pub use lrpar_grammar_places::laws::{
         numbers_compare_by_value, spans_compare_by_ends, symbols_compare_by_contents,
@@ -51,7 +52,7 @@ pub mod laws {
         faults_are_compared_by_contents, runs_go_on_or_end, runs_have_one_answer,
         runs_stop_by_failing, runs_with_repairs_are_sound, runs_with_repairs_have_one_answer,
         runs_without_a_recoverer, sequences_that_work_are_replayed, spans_are_worked_out,
-        sum_run_is_worked_out, tests_of_sequences_are_bounded,
+        sum_run_is_worked_out, tests_of_sequences_are_bounded, values_fold_without_errors,
     };
     pub use lrpar_parse_cpctplus::laws::{
         cheapest_repairs_have_one_answer, no_sequence_is_cheaper_than_repairs,
