@@ -1,6 +1,5 @@
 -- Each text has a list of lexemes, if unmatched characters are lexemes, too: at each place it can be found out what comes there.
-use Rattle.std.proofs.Common.{◌≡◌, ℕ, ◌+◌, ◌-◌, ◌<◌, ◌≤◌, ◌⊎◌, List, [], length, map, drop, take, get_or, Option, Some, None, option_map, Result, sym, subst, ◌∙◌, ap, arith, add-one, inl, inr, refl, zero, suc, slice_get, ◌++◌}
-use Rattle.std.specs.List.{All}
+use Rattle.std.proofs.Common.{◌≡◌, ℕ, ◌+◌, ◌-◌, ◌<◌, ◌≤◌, ◌⊎◌, List, [], length, map, drop, take, get_or, Option, Some, None, option_map, Result, sym, subst, ◌∙◌, ap, arith, inl, inr, refl, zero, suc, ◌++◌}
 use Rattle.std.specs.Str.{IsCharBoundary}
 use Rattle.std.proofs.lemmas.Bool.{cases_lt}
 use Rattle.std.proofs.lemmas.List.{length-map, take_all}
@@ -11,7 +10,7 @@ use Rattle.regex_hir.proofs.OptionLemmas.{option_cases}
 use Rattle.lrpar_lexer.specs.declared.matching.Winner.{Winner}
 use Rattle.lrpar_lexer.specs.declared.token.Token.{Token}
 use Rattle.lrpar_lexer.specs.declared.token.NoToken.{NoToken}
-use Rattle.lrpar_lexer.specs.Matching.{HasNoMatch, IsMatch, IsMatchLen, IsUnmatched, IsWinner, NoneMatches, Wins, better}
+use Rattle.lrpar_lexer.specs.Matching.{HasNoMatch, IsMatchLen, IsUnmatched, IsWinner, NoneMatches, better}
 use Rattle.lrpar_lexer.specs.Rules.{Rule}
 use Rattle.lrpar_lexer.specs.Lexing.{Reads, lexemes_of}
 use Rattle.lrpar_lexer.specs.LexingAll.{IsNext, LexesAll, finishes, goes_on}

@@ -1,12 +1,10 @@
 -- Each text has exactly one list of lexemes, if unmatched characters are lexemes, too.
-use Rattle.std.proofs.Common.{◌≡◌, ℕ, ◌+◌, ◌<◌, ◌≤◌, ◌⊎◌, List, [], ◌∷◌, ◌++◌, length, map, drop, Option, Some, None, Result, Ok, Err, IsOk, sym, subst, ◌∙◌, ap, ap₂, refl, arith, inl, inr}
+use Rattle.std.proofs.Common.{◌≡◌, ℕ, ◌+◌, ◌≤◌, List, [], ◌++◌, map, Option, Some, None, Result, Ok, Err, IsOk, sym, subst, ◌∙◌, ap₂, refl, arith, inl, inr}
 use Rattle.std.specs.List.{All}
 use Rattle.std.proofs.lemmas.Bool.{false≢true}
 use Rattle.std.proofs.lemmas.List.Elements.{All-append, All-cons, All-head, All-nil, All-tail}
-use Rattle.std.proofs.lemmas.Option.{same_Some}
-use Rattle.lrpar_lexer.specs.Matching.{IsUnmatched}
 use Rattle.lrpar_lexer.specs.Rules.{Rule}
-use Rattle.lrpar_lexer.specs.Lexing.{Lexes, Reads, lexeme_of, lexemes_of, nothing_at, ends, stops, reads}
+use Rattle.lrpar_lexer.specs.Lexing.{lexeme_of, lexemes_of, nothing_at, ends, stops, reads}
 use Rattle.lrpar_lexer.specs.LexingAll.{IsNext, LexesAll, finishes, goes_on}
 use Rattle.lrpar_lexer.specs.LexingAllLaws.{LexesAllAsLexemes, LexesAllAsRules, LexesAllOneWay}
 use Rattle.lrpar_lexer.specs.declared.token.Token.{Token}

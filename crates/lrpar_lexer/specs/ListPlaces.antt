@@ -1,5 +1,5 @@
 -- Lists of lexemes and errors that fit a text.
-use Rattle.std.specs.Prelude.{◌≡◌, ℕ, List, All, take, slice_get, Option, Some, Result, Ok, Err}
+use Rattle.std.specs.Prelude.{◌≡◌, ℕ, List, All, take, slice_get, Some, Result, Ok, Err}
 use Rattle.lrpar_grammar_places.specs.Span.{Extent, IsPartOf}
 use Rattle.lrpar_lexer.specs.declared.list_fault.ListFault.{ListFault}
 use Rattle.lrpar_lexer.specs.declared.list_fault.ListFault.TheVariants.{Misplaced, Memory}
