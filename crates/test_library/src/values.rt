@@ -53,7 +53,9 @@ impl<'a, L> Values<Token<u32>, L> for Recording<'a> {
         production: usize,
         args: &mut Args<'_, L, Token<u32>, (), Failed>,
     ) -> Result<(), Failed> {
-        let call = production.saturating_mul(10).saturating_add(args.span().start());
+        let call = production
+            .saturating_mul(10)
+            .saturating_add(args.span().start());
         let calls = self.calls.get().saturating_mul(100);
         self.calls.set(calls.saturating_add(call as u64));
         if self.fails.contains(&call) {
@@ -96,7 +98,9 @@ fn found_by(
 
 // `2+3*4`, `2+`, and a lexeme of no token of the grammar.
 const SUM: &[Given] = &[(2, 1), (0, 1), (2, 1), (1, 1), (2, 1)];
+
 const HALF: &[Given] = &[(2, 1), (0, 1)];
+
 const FAULTY: &[Given] = &[(9, 1)];
 
 // Lexemes of the grammar *arithmetic*, the calls that fail, the calls that are made, and what comes of the parse.
@@ -178,7 +182,10 @@ fn difference(
 // `9-3-2`, `2-3-9`, `9-`, where each number is as long as it says.
 const COMPUTED: [(&[Given], Result<Option<usize>, Failed>); 3] = [
     (&[(1, 9), (0, 1), (1, 3), (0, 1), (1, 2)], Ok(Some(4))),
-    (&[(1, 2), (0, 1), (1, 3), (0, 1), (1, 9)], Err(Failed::Negative)),
+    (
+        &[(1, 2), (0, 1), (1, 3), (0, 1), (1, 9)],
+        Err(Failed::Negative),
+    ),
     (&[(1, 9), (0, 1)], Ok(None)),
 ];
 
@@ -192,6 +199,11 @@ fn values_of_differences(rt: HostRuntime) -> Result<(), Fail> {
 // In each row the number is the one that the row says.
 fn are_differences(rt: &impl Abort, alloc: Global, data: &ParserData<u32>) {
     for (given, expected) in &COMPUTED {
-        same(rt, &"a difference", &difference(alloc, data, *given), expected);
+        same(
+            rt,
+            &"a difference",
+            &difference(alloc, data, *given),
+            expected,
+        );
     }
 }
