@@ -12,6 +12,8 @@ mod expectations;
 #[cfg(test)]
 mod lines;
 #[cfg(test)]
+mod messages;
+#[cfg(test)]
 mod recoverer;
 #[cfg(test)]
 mod repairs;
