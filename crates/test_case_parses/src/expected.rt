@@ -139,8 +139,13 @@ fn push_expected(out: &mut Printed, grm: &YaccGrammar<u32>, expected: &Expected<
     }
 }
 
-// Adds a line of tokens.
-fn push_tokens(out: &mut Printed, grm: &YaccGrammar<u32>, key: &str, tokens: &[TIdx<u32>]) {
+/// Adds a line of tokens.
+pub(crate) fn push_tokens(
+    out: &mut Printed,
+    grm: &YaccGrammar<u32>,
+    key: &str,
+    tokens: &[TIdx<u32>],
+) {
     out.text(key);
     for token in tokens {
         out.texts(" ", token_name(grm, *token));

@@ -1,6 +1,7 @@
 //! Cases of parses.
 #![tactic(auto)]
 
+mod at_errors;
 mod calls;
 pub mod chain;
 mod clones;

@@ -1,6 +1,7 @@
 //! Cases `parse`: the results of the four calls by both tables, which have to be the same.
 ghost use Rattle.std.specs.Prelude.{◌≡◌};
 
+use crate::at_errors::push_expected_at_errors;
 use crate::calls::{Answer, CALLS, Call, Parser, Places, answer_by};
 use crate::clones::{push_clone_of_tree, push_clones_of_errors};
 use crate::lexemes::{Given, ListLexer, given_of};
@@ -69,6 +70,7 @@ fn by_lexemes<'a>(
     let by_rows = parser_of(alloc, &tables.by_rows, case)?;
     let by_entries = parser_of(alloc, &tables.by_entries, case)?;
     by_parsers(out, alloc, case, &by_rows, &by_entries, &lexer, input);
+    push_expected_at_errors(out, alloc, case, tables, &by_rows, &lexer);
     Ok(())
 }
 

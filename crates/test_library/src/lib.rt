@@ -14,6 +14,8 @@ mod lexers;
 #[cfg(test)]
 mod lines;
 #[cfg(test)]
+mod messages;
+#[cfg(test)]
 mod recoverer;
 #[cfg(test)]
 mod repairs;
