@@ -1,7 +1,7 @@
 #!/usr/bin/env python3
 """Looks whether each Rust block of README.md and docs/GUIDE.md is part of a source: blocks.py
 
-A block is looked for in the sources of a crate of tests and of two crates of examples, which the gate proves and runs, but for
+A block is looked for in the sources of a crate of tests and of crates of examples, which the gate proves and runs, but for
 their `pub(crate)`. Each block that is part of none is printed, and the status is then 1."""
 
 import pathlib
@@ -10,7 +10,7 @@ import sys
 
 ROOT = pathlib.Path(__file__).resolve().parent.parent
 PAGES = ["README.md", "docs/GUIDE.md"]
-CRATES = ["test_guide", "example_language", "example_linter"]
+CRATES = ["test_guide", "example_language", "example_linter", "example_project", "example_query"]
 
 
 def main():
