@@ -1,5 +1,5 @@
 //! What may be wrong with queries that have no error.
-use crate::tree::{Atom, Expr, ExprKind, Operator, Query, Stage, Statement};
+use crate::tree::{Atom, Expr, Operator, Query, Stage, Statement};
 use lrpar::span::TextRange;
 use lrpar_report::Report;
 use std::alloc::{AllocError, Global};
@@ -51,7 +51,11 @@ fn lint_query(
     for stage in &query.stages {
         match stage {
             Stage::Where(condition) => lint_expr(warnings, alloc, condition)?,
-            Stage::Select(exprs) => lint_exprs(warnings, alloc, exprs)?,
+            Stage::Select(columns) => {
+                for column in columns {
+                    lint_expr(warnings, alloc, column)?;
+                }
+            }
             Stage::Take(count) => {
                 if count.text == "0" {
                     warn(warnings, alloc, "this takes no row", count.range)?;
@@ -62,41 +66,36 @@ fn lint_query(
     Ok(())
 }
 
-fn lint_exprs(
-    warnings: &mut Vec<Report>,
-    alloc: Global,
-    exprs: &[Expr<'_>],
-) -> Result<(), AllocError> {
-    for expr in exprs {
-        lint_expr(warnings, alloc, expr)?;
-    }
-    Ok(())
-}
-
 fn lint_expr(warnings: &mut Vec<Report>, alloc: Global, expr: &Expr<'_>) -> Result<(), AllocError> {
-    match &expr.kind {
-        ExprKind::Binary(operator, left, right) => {
-            if let Some(message) = lint_of(*operator, &left.kind, &right.kind) {
-                warn(warnings, alloc, message, expr.range)?;
+    match expr {
+        Expr::Binary(operator, range, left, right) => {
+            if let Some(message) = lint_of(*operator, left, right) {
+                warn(warnings, alloc, message, *range)?;
             }
             lint_expr(warnings, alloc, left)?;
             lint_expr(warnings, alloc, right)
         }
-        ExprKind::Not(operand) => lint_expr(warnings, alloc, operand),
-        ExprKind::Call(_, exprs) => lint_exprs(warnings, alloc, exprs),
-        _ => Ok(()),
+        Expr::Not(operand) => lint_expr(warnings, alloc, operand),
+        Expr::Call(_, exprs) => {
+            for expr in exprs {
+                lint_expr(warnings, alloc, expr)?;
+            }
+            Ok(())
+        }
+        Expr::Atom(_, _) | Expr::Null => Ok(()),
     }
 }
 
 // What may be wrong with an operator between two expressions.
-fn lint_of(operator: Operator, left: &ExprKind<'_>, right: &ExprKind<'_>) -> Option<&'static str> {
+fn lint_of(operator: Operator, left: &Expr<'_>, right: &Expr<'_>) -> Option<&'static str> {
     match (operator, left, right) {
-        (Operator::Equal, ExprKind::Null, _) | (Operator::Equal, _, ExprKind::Null) => {
+        (Operator::Equal, Expr::Null, _) | (Operator::Equal, _, Expr::Null) => {
             Some("nothing is equal to null, not even null")
         }
-        (Operator::Over, _, ExprKind::Atom(Atom::Number, "0")) => Some("this divides by zero"),
-        (_, ExprKind::Atom(kind, text), ExprKind::Atom(other, same))
-            if kind == other && text == same => { Some("both sides are the same") }
+        (Operator::Over, _, Expr::Atom(Atom::Number, "0")) => Some("this divides by zero"),
+        (_, Expr::Atom(kind, text), Expr::Atom(other, same)) if kind == other && text == same => {
+            Some("both sides are the same")
+        }
         _ => None,
     }
 }

@@ -31,19 +31,14 @@ pub(crate) enum Stage<'text> {
 }
 
 #[derive(Drop)]
-pub(crate) struct Expr<'text> {
-    pub(crate) range: TextRange,
-    pub(crate) kind: ExprKind<'text>,
-}
-
-#[derive(Drop)]
-pub(crate) enum ExprKind<'text> {
+pub(crate) enum Expr<'text> {
     /// A column, a number or a text.
     Atom(Atom, &'text str),
     Null,
     Call(Name<'text>, Vec<Expr<'text>>),
     Not(Box<Expr<'text>>),
-    Binary(Operator, Box<Expr<'text>>, Box<Expr<'text>>),
+    /// An operator between two expressions, and where all of it is.
+    Binary(Operator, TextRange, Box<Expr<'text>>, Box<Expr<'text>>),
 }
 
 #[derive(Clone, Copy, Debug, PartialEq, Eq)]

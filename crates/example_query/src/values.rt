@@ -1,6 +1,6 @@
 //! The values of queries: the syntax tree.
 use crate::tree::Operator::{And, Equal, Less, Minus, Or, Over, Plus, Times};
-use crate::tree::{Atom, Expr, ExprKind, Name, Operator, Query, Stage, Statement};
+use crate::tree::{Atom, Expr, Name, Operator, Query, Stage, Statement};
 use example_language::Failed;
 use lrpar::Lexeme;
 use lrpar::grammar::Spelled;
@@ -146,28 +146,32 @@ fn expr<'text>(
     args: &mut Given<'_, '_, 'text>,
 ) -> Result<Value<'text>, Failed> {
     let (lexer, range) = (args.lexer(), TextRange::from(args.span()));
-    let kind = match (place, args.next(), args.next(), args.next()) {
+    Ok(Value::Expr(match (place, args.next(), args.next(), args.next()) {
         (11..=18, Some(ActionType(Value::Expr(left))), _, Some(ActionType(Value::Expr(right)))) => {
             let Some(operator) = OPERATORS.get(place - 11) else {
                 return Err(Failed::Symbols);
             };
-            ExprKind::Binary(*operator, Box::new(alloc, left)?, Box::new(alloc, right)?)
+            Expr::Binary(
+                *operator,
+                range,
+                Box::new(alloc, left)?,
+                Box::new(alloc, right)?,
+            )
         }
         (19, _, Some(ActionType(Value::Expr(operand))), _) => {
-            ExprKind::Not(Box::new(alloc, operand)?)
+            Expr::Not(Box::new(alloc, operand)?)
         }
-        (20, Some(AStackType::Lexeme(atom)), ..) => ExprKind::Atom(Atom::Column, lexer.text(&atom)),
-        (21, Some(AStackType::Lexeme(atom)), ..) => ExprKind::Atom(Atom::Number, lexer.text(&atom)),
-        (22, Some(AStackType::Lexeme(atom)), ..) => ExprKind::Atom(Atom::Text, lexer.text(&atom)),
-        (23, ..) => ExprKind::Null,
+        (20, Some(AStackType::Lexeme(atom)), ..) => Expr::Atom(Atom::Column, lexer.text(&atom)),
+        (21, Some(AStackType::Lexeme(atom)), ..) => Expr::Atom(Atom::Number, lexer.text(&atom)),
+        (22, Some(AStackType::Lexeme(atom)), ..) => Expr::Atom(Atom::Text, lexer.text(&atom)),
+        (23, ..) => Expr::Null,
         (24, Some(AStackType::Lexeme(name)), _, Some(ActionType(Value::Exprs(exprs)))) => {
-            ExprKind::Call(named(lexer, name), exprs)
+            Expr::Call(named(lexer, name), exprs)
         }
         (25, _, Some(ActionType(value)), _) => return Ok(value),
         (_, Some(ActionType(value)), ..) => return Ok(value),
         _ => return Err(Failed::Symbols),
-    };
-    Ok(Value::Expr(Expr { range, kind }))
+    }))
 }
 
 // The list with one more at its end.
