@@ -4,7 +4,7 @@
 
 use example_language::{Failed, Language, language_of, push_errors};
 use lrpar::repair::CpctPlus;
-use lrpar::span::Span;
+use lrpar::span::TextRange;
 use lrpar::{Lexeme, Lexer, RTParserBuilder};
 use lrpar_lexer::RuleLexer;
 use lrpar_report::{Look, Report, Reporter};
@@ -62,7 +62,7 @@ fn push_lints<'a>(
     // The keys so far of each object and array that is open, with their places.
     let mut open = Vec::new(alloc);
     let mut deepest = 0usize;
-    let mut last = Span::new(0, 0);
+    let mut last = TextRange::new(0, 0);
     for lexeme in lexer.iter(alloc)? {
         let Ok(lexeme) = lexeme else {
             continue;
@@ -80,7 +80,7 @@ fn push_lints<'a>(
             _ => {}
         }
         deepest = deepest.max(open.len());
-        last = span;
+        last = TextRange::from(span);
     }
     writeln!(out, "depth {deepest}")?;
     Ok(())
@@ -91,15 +91,15 @@ fn push_key<'a>(
     out: &mut String,
     alloc: Global,
     reporter: &Reporter<'_>,
-    open: &mut Vec<BTreeMap<&'a str, Span>>,
+    open: &mut Vec<BTreeMap<&'a str, TextRange>>,
     key: &'a str,
-    span: Span,
+    range: TextRange,
 ) -> Result<(), AllocError> {
     let Some(mut keys) = open.pop() else {
         return Ok(());
     };
-    if let Some(first) = keys.insert(key, span)? {
-        push_repeated(out, alloc, reporter, key, span, first)?;
+    if let Some(first) = keys.insert(key, range)? {
+        push_repeated(out, alloc, reporter, key, range, first)?;
     }
     open.push(keys)?;
     Ok(())
@@ -111,12 +111,12 @@ fn push_repeated(
     alloc: Global,
     reporter: &Reporter<'_>,
     key: &str,
-    span: Span,
-    first: Span,
+    range: TextRange,
+    first: TextRange,
 ) -> Result<(), AllocError> {
     let message = format!(in alloc; "this object already has the key {key}")?;
     let report = Report::warning(alloc, message.as_str())?
-        .label(span, "the second one")?
-        .label(first, "the first one")?;
+        .label(range.span(), "the second one")?
+        .label(first.span(), "the first one")?;
     reporter.push(out, alloc, &report)
 }
