@@ -1,5 +1,5 @@
 //! What may be wrong with queries that have no error.
-use crate::tree::{Atom, Expr, Operator, Query, Stage, Statement};
+use crate::tree::{Atom, Expr, Name, Operator, Query, Stage, Statement};
 use lrpar::span::TextRange;
 use lrpar_report::Report;
 use std::alloc::{AllocError, Global};
@@ -11,23 +11,26 @@ pub(crate) fn lints(
 ) -> Result<Vec<Report>, AllocError> {
     let mut warnings = Vec::new(alloc);
     for statement in statements {
-        if let Statement::Let(name, _) = statement {
-            if !statements
-                .iter()
-                .any(|s| query_of(s).from.text == name.text)
-            {
-                warn(&mut warnings, alloc, "no query reads this name", name.range)?;
-            }
+        if let Some(name) = statement.name {
+            lint_name(&mut warnings, alloc, name, statements)?;
         }
-        lint_query(&mut warnings, alloc, query_of(statement))?;
+        lint_query(&mut warnings, alloc, &statement.query)?;
     }
     Ok(warnings)
 }
 
-fn query_of<'a, 'text>(statement: &'a Statement<'text>) -> &'a Query<'text> {
-    match statement {
-        Statement::Let(_, query) | Statement::Show(query) => query,
+fn lint_name(
+    warnings: &mut Vec<Report>,
+    alloc: Global,
+    name: Name<'_>,
+    statements: &[Statement<'_>],
+) -> Result<(), AllocError> {
+    for statement in statements {
+        if statement.query.from.text == name.text {
+            return Ok(());
+        }
     }
+    warn(warnings, alloc, "no query reads this name", name.range)
 }
 
 fn warn(
@@ -75,7 +78,6 @@ fn lint_expr(warnings: &mut Vec<Report>, alloc: Global, expr: &Expr<'_>) -> Resu
             lint_expr(warnings, alloc, left)?;
             lint_expr(warnings, alloc, right)
         }
-        Expr::Not(operand) => lint_expr(warnings, alloc, operand),
         Expr::Call(_, exprs) => {
             for expr in exprs {
                 lint_expr(warnings, alloc, expr)?;

@@ -8,12 +8,11 @@ pub(crate) struct Name<'text> {
     pub(crate) range: TextRange,
 }
 
+/// A query: with a name, for the statements after it, or to be shown.
 #[derive(Drop)]
-pub(crate) enum Statement<'text> {
-    /// Gives a query a name, for the statements after it.
-    Let(Name<'text>, Query<'text>),
-    /// Prints what a query finds.
-    Show(Query<'text>),
+pub(crate) struct Statement<'text> {
+    pub(crate) name: Option<Name<'text>>,
+    pub(crate) query: Query<'text>,
 }
 
 /// The rows of a table or of a named query, and what is done with them in turn.
@@ -36,7 +35,6 @@ pub(crate) enum Expr<'text> {
     Atom(Atom, &'text str),
     Null,
     Call(Name<'text>, Vec<Expr<'text>>),
-    Not(Box<Expr<'text>>),
     /// An operator between two expressions, and where all of it is.
     Binary(Operator, TextRange, Box<Expr<'text>>, Box<Expr<'text>>),
 }

@@ -4,14 +4,13 @@ use crate::tree::{Atom, Expr, Name, Operator, Query, Stage, Statement};
 use example_language::Failed;
 use lrpar::Lexeme;
 use lrpar::grammar::Spelled;
-use lrpar::parser::AStackType::{self, ActionType};
 use lrpar::parser::{Args, Values};
 use lrpar::span::TextRange;
 use lrpar_lexer::{RuleLexer, Token};
-use std::alloc::{AllocError, Global};
+use std::alloc::Global;
 
 /// The productions. The functions below go by their places in this list, whatever their order in the grammar.
-pub(crate) const PRODS: [&str; 32] = [
+pub(crate) const PRODS: [&str; 30] = [
     "File:",
     "File: File Statement ';'",
     "Statement: 'let' 'NAME' '=' Query",
@@ -25,14 +24,13 @@ pub(crate) const PRODS: [&str; 32] = [
     "Exprs: Exprs ',' Expr",
     // The expressions; first those with an operator.
     "Expr: Expr 'or' And",
-    "And: And 'and' Not",
+    "And: And 'and' Comparison",
     "Comparison: Sum '=' Sum",
     "Comparison: Sum '<' Sum",
     "Sum: Sum '+' Product",
     "Sum: Sum '-' Product",
     "Product: Product '*' Atom",
     "Product: Product '/' Atom",
-    "Not: 'not' Not",
     "Atom: 'NAME'",
     "Atom: 'INT'",
     "Atom: 'TEXT'",
@@ -40,8 +38,7 @@ pub(crate) const PRODS: [&str; 32] = [
     "Atom: 'NAME' '(' Exprs ')'",
     "Atom: '(' Expr ')'",
     "Expr: And",
-    "And: Not",
-    "Not: Comparison",
+    "And: Comparison",
     "Comparison: Sum",
     "Sum: Product",
     "Product: Atom",
@@ -99,44 +96,102 @@ fn statement<'text>(
     place: usize,
     args: &mut Given<'_, '_, 'text>,
 ) -> Result<Value<'text>, Failed> {
-    let lexer = args.lexer();
-    let (first, second, third, last) = (args.next(), args.next(), args.next(), args.next());
-    Ok(match (place, first, second, third, last) {
-        (0, ..) => Value::File(Vec::new(alloc)),
-        (1, Some(ActionType(Value::File(file))), Some(ActionType(Value::Statement(next))), ..) => {
-            Value::File(with(file, next)?)
+    match place {
+        0 => Ok(Value::File(Vec::new(alloc))),
+        1 => more_statements(args.value(), args.value()),
+        2 => {
+            let _let = args.lexeme();
+            let name = named(args)?;
+            let _equals = args.lexeme();
+            stated(Some(name), args.value())
         }
-        (2, _, Some(AStackType::Lexeme(name)), _, Some(ActionType(Value::Query(query)))) => {
-            Value::Statement(Statement::Let(named(lexer, name), query))
+        3 => {
+            let _show = args.lexeme();
+            stated(None, args.value())
         }
-        (3, _, Some(ActionType(Value::Query(query))), ..) => {
-            Value::Statement(Statement::Show(query))
+        4 => {
+            let _from = args.lexeme();
+            let from = named(args)?;
+            let stages = Vec::new(alloc);
+            Ok(Value::Query(Query { from, stages }))
         }
-        (4, _, Some(AStackType::Lexeme(name)), ..) => Value::Query(Query {
-            from: named(lexer, name),
-            stages: Vec::new(alloc),
-        }),
-        (5, Some(ActionType(Value::Query(query))), Some(ActionType(Value::Stage(next))), ..) => {
-            Value::Query(Query {
-                from: query.from,
-                stages: with(query.stages, next)?,
-            })
+        5 => more_stages(args.value(), args.value()),
+        6 => {
+            let _where = args.lexeme();
+            kept(args.value())
         }
-        (6, _, Some(ActionType(Value::Expr(condition))), ..) => {
-            Value::Stage(Stage::Where(condition))
+        7 => {
+            let _select = args.lexeme();
+            selected(args.value())
         }
-        (7, _, Some(ActionType(Value::Exprs(columns))), ..) => Value::Stage(Stage::Select(columns)),
-        (8, _, Some(AStackType::Lexeme(count)), ..) => {
-            Value::Stage(Stage::Take(named(lexer, count)))
+        8 => {
+            let _take = args.lexeme();
+            Ok(Value::Stage(Stage::Take(named(args)?)))
         }
-        (9, Some(ActionType(Value::Expr(only))), ..) => {
-            Value::Exprs(with(Vec::new(alloc), only)?)
+        9 => more_exprs(Some(Value::Exprs(Vec::new(alloc))), args.value()),
+        _ => {
+            let exprs = args.value();
+            let _comma = args.lexeme();
+            more_exprs(exprs, args.value())
         }
-        (10, Some(ActionType(Value::Exprs(exprs))), _, Some(ActionType(Value::Expr(next))), _) => {
-            Value::Exprs(with(exprs, next)?)
-        }
-        _ => return Err(Failed::Symbols),
-    })
+    }
+}
+
+fn stated<'text>(
+    name: Option<Name<'text>>,
+    query: Option<Value<'text>>,
+) -> Result<Value<'text>, Failed> {
+    let Some(Value::Query(query)) = query else {
+        return Err(Failed::Symbols);
+    };
+    Ok(Value::Statement(Statement { name, query }))
+}
+
+fn kept<'text>(condition: Option<Value<'text>>) -> Result<Value<'text>, Failed> {
+    let Some(Value::Expr(condition)) = condition else {
+        return Err(Failed::Symbols);
+    };
+    Ok(Value::Stage(Stage::Where(condition)))
+}
+
+fn selected<'text>(columns: Option<Value<'text>>) -> Result<Value<'text>, Failed> {
+    let Some(Value::Exprs(columns)) = columns else {
+        return Err(Failed::Symbols);
+    };
+    Ok(Value::Stage(Stage::Select(columns)))
+}
+
+fn more_statements<'text>(
+    file: Option<Value<'text>>,
+    statement: Option<Value<'text>>,
+) -> Result<Value<'text>, Failed> {
+    let (Some(Value::File(mut file)), Some(Value::Statement(statement))) = (file, statement) else {
+        return Err(Failed::Symbols);
+    };
+    file.push(statement)?;
+    Ok(Value::File(file))
+}
+
+fn more_stages<'text>(
+    query: Option<Value<'text>>,
+    stage: Option<Value<'text>>,
+) -> Result<Value<'text>, Failed> {
+    let (Some(Value::Query(mut query)), Some(Value::Stage(stage))) = (query, stage) else {
+        return Err(Failed::Symbols);
+    };
+    query.stages.push(stage)?;
+    Ok(Value::Query(query))
+}
+
+fn more_exprs<'text>(
+    exprs: Option<Value<'text>>,
+    expr: Option<Value<'text>>,
+) -> Result<Value<'text>, Failed> {
+    let (Some(Value::Exprs(mut exprs)), Some(Value::Expr(expr))) = (exprs, expr) else {
+        return Err(Failed::Symbols);
+    };
+    exprs.push(expr)?;
+    Ok(Value::Exprs(exprs))
 }
 
 // The value of a production of expressions.
@@ -145,45 +200,70 @@ fn expr<'text>(
     place: usize,
     args: &mut Given<'_, '_, 'text>,
 ) -> Result<Value<'text>, Failed> {
-    let (lexer, range) = (args.lexer(), TextRange::from(args.span()));
-    Ok(Value::Expr(match (place, args.next(), args.next(), args.next()) {
-        (11..=18, Some(ActionType(Value::Expr(left))), _, Some(ActionType(Value::Expr(right)))) => {
-            let Some(operator) = OPERATORS.get(place - 11) else {
-                return Err(Failed::Symbols);
-            };
-            Expr::Binary(
-                *operator,
-                range,
-                Box::new(alloc, left)?,
-                Box::new(alloc, right)?,
+    match place {
+        11..=18 => {
+            let left = args.value();
+            let _operator = args.lexeme();
+            binary(
+                alloc,
+                place,
+                TextRange::from(args.span()),
+                left,
+                args.value(),
             )
         }
-        (19, _, Some(ActionType(Value::Expr(operand))), _) => {
-            Expr::Not(Box::new(alloc, operand)?)
+        19 => Ok(Value::Expr(Expr::Atom(Atom::Column, named(args)?.text))),
+        20 => Ok(Value::Expr(Expr::Atom(Atom::Number, named(args)?.text))),
+        21 => Ok(Value::Expr(Expr::Atom(Atom::Text, named(args)?.text))),
+        22 => Ok(Value::Expr(Expr::Null)),
+        23 => {
+            let name = named(args)?;
+            let _bracket = args.lexeme();
+            call(name, args.value())
         }
-        (20, Some(AStackType::Lexeme(atom)), ..) => Expr::Atom(Atom::Column, lexer.text(&atom)),
-        (21, Some(AStackType::Lexeme(atom)), ..) => Expr::Atom(Atom::Number, lexer.text(&atom)),
-        (22, Some(AStackType::Lexeme(atom)), ..) => Expr::Atom(Atom::Text, lexer.text(&atom)),
-        (23, ..) => Expr::Null,
-        (24, Some(AStackType::Lexeme(name)), _, Some(ActionType(Value::Exprs(exprs)))) => {
-            Expr::Call(named(lexer, name), exprs)
+        _ => {
+            // An expression in brackets, or a rule of one symbol.
+            let _bracket = args.lexeme();
+            args.value().ok_or(Failed::Symbols)
         }
-        (25, _, Some(ActionType(value)), _) => return Ok(value),
-        (_, Some(ActionType(value)), ..) => return Ok(value),
-        _ => return Err(Failed::Symbols),
-    }))
-}
-
-// The list with one more at its end.
-fn with<T: Drop>(mut list: Vec<T>, next: T) -> Result<Vec<T>, AllocError> {
-    list.push(next)?;
-    Ok(list)
-}
-
-// The lexeme as a part of the text.
-fn named<'text>(lexer: &RuleLexer<'_, 'text>, lexeme: Token<u32>) -> Name<'text> {
-    Name {
-        text: lexer.text(&lexeme),
-        range: TextRange::from(lexeme.span()),
     }
+}
+
+fn binary<'text>(
+    alloc: Global,
+    place: usize,
+    range: TextRange,
+    left: Option<Value<'text>>,
+    right: Option<Value<'text>>,
+) -> Result<Value<'text>, Failed> {
+    let Some(operator) = OPERATORS.get(place.saturating_sub(11)) else {
+        return Err(Failed::Symbols);
+    };
+    let (left, right) = (operand(alloc, left)?, operand(alloc, right)?);
+    Ok(Value::Expr(Expr::Binary(*operator, range, left, right)))
+}
+
+fn operand<'text>(alloc: Global, value: Option<Value<'text>>) -> Result<Box<Expr<'text>>, Failed> {
+    let Some(Value::Expr(expr)) = value else {
+        return Err(Failed::Symbols);
+    };
+    Ok(Box::new(alloc, expr)?)
+}
+
+fn call<'text>(name: Name<'text>, exprs: Option<Value<'text>>) -> Result<Value<'text>, Failed> {
+    let Some(Value::Exprs(exprs)) = exprs else {
+        return Err(Failed::Symbols);
+    };
+    Ok(Value::Expr(Expr::Call(name, exprs)))
+}
+
+// The next lexeme, as a part of the text.
+fn named<'text>(args: &mut Given<'_, '_, 'text>) -> Result<Name<'text>, Failed> {
+    let Some(lexeme) = args.lexeme() else {
+        return Err(Failed::Symbols);
+    };
+    Ok(Name {
+        text: args.lexer().text(&lexeme),
+        range: TextRange::from(lexeme.span()),
+    })
 }
