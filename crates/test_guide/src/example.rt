@@ -31,7 +31,7 @@ pub(crate) enum Failed {
 pub(crate) fn language(alloc: Global) -> Result<(ParserData<u32>, Vec<LexRule>), Failed> {
     let grm = YaccGrammar::<u32>::new_with_storaget(alloc, GRAMMAR)?;
     let rules = rules_of(alloc, &grm, LEXER)?;
-    Ok((parser_data(alloc, grm, 10_000, 2)?, rules))
+    Ok((parser_data(alloc, grm, 10_000, 1_000)?, rules))
 }
 
 /// The errors of a file of settings, and its tree.
