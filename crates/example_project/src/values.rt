@@ -54,7 +54,7 @@ impl<'a, 'rules, 'text> Values<Token<u32>, RuleLexer<'rules, 'text>> for Setting
         &self,
         alloc: Global,
         production: usize,
-        args: &mut Args<'_, RuleLexer<'rules, 'text>, Token<u32>, Value<'text>, Failed>,
+        args: &mut Given<'_, 'rules, 'text>,
     ) -> Result<Value<'text>, Failed> {
         match self.spelled.of_number(production) {
             Some(0) => Ok(Value::File(Vec::new(alloc))),

@@ -37,8 +37,8 @@ fn linted(alloc: Global, queries: &Language, text: &str) -> Result<String, Faile
     let reporter = Reporter::new(alloc, text, "input", Look::Plain)?;
     let mut out = String::new(alloc);
     push_errors(&mut out, alloc, queries, &reporter, text, &errors)?;
-    if let Some(Value::File(statements)) = &file {
-        for warning in &lints(alloc, statements)? {
+    if let Some(Value::File(queries)) = &file {
+        for warning in &lints(alloc, queries)? {
             reporter.push(&mut out, alloc, warning)?;
         }
     }

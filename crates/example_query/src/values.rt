@@ -1,6 +1,6 @@
 //! The values of queries: the syntax tree.
 use crate::tree::Operator::{And, Equal, Less, Minus, Or, Over, Plus, Times};
-use crate::tree::{Atom, Expr, Name, Operator, Query, Stage, Statement};
+use crate::tree::{Atom, Expr, Name, Operator, Query, Stage};
 use example_language::Failed;
 use lrpar::Lexeme;
 use lrpar::grammar::Spelled;
@@ -49,8 +49,7 @@ const OPERATORS: [Operator; 8] = [Or, And, Equal, Less, Plus, Minus, Times, Over
 /// The value of a rule.
 #[derive(Drop)]
 pub(crate) enum Value<'text> {
-    File(Vec<Statement<'text>>),
-    Statement(Statement<'text>),
+    File(Vec<Query<'text>>),
     Query(Query<'text>),
     Stage(Stage<'text>),
     Exprs(Vec<Expr<'text>>),
@@ -64,6 +63,10 @@ type Given<'a, 'rules, 'text> = Args<
     Value<'text>,
     Failed,
 >;
+
+type Part<'text> = Option<Value<'text>>;
+
+type Made<'text> = Result<Value<'text>, Failed>;
 
 /// Makes the syntax tree of a text.
 #[derive(Drop)]
@@ -80,102 +83,75 @@ impl<'a, 'rules, 'text> Values<Token<u32>, RuleLexer<'rules, 'text>> for Queries
         &self,
         alloc: Global,
         production: usize,
-        args: &mut Args<'_, RuleLexer<'rules, 'text>, Token<u32>, Value<'text>, Failed>,
+        args: &mut Given<'_, 'rules, 'text>,
     ) -> Result<Value<'text>, Failed> {
         match self.spelled.of_number(production) {
-            Some(place @ 0..=10) => statement(alloc, place, args),
+            Some(place @ 0..=10) => query(alloc, place, args),
             Some(place) => expr(alloc, place, args),
             None => Err(Failed::Symbols),
         }
     }
 }
 
-// The value of a production of files, statements, queries, stages and lists.
-fn statement<'text>(
-    alloc: Global,
-    place: usize,
-    args: &mut Given<'_, '_, 'text>,
-) -> Result<Value<'text>, Failed> {
+// The value of a production of files, queries, stages and lists.
+fn query<'text>(alloc: Global, place: usize, args: &mut Given<'_, '_, 'text>) -> Made<'text> {
     match place {
         0 => Ok(Value::File(Vec::new(alloc))),
-        1 => more_statements(args.value(), args.value()),
+        1 => more_queries(args.value(), args.value()),
         2 => {
-            let _let = args.lexeme();
-            let name = named(args)?;
-            let _equals = args.lexeme();
-            stated(Some(name), args.value())
-        }
-        3 => {
-            let _show = args.lexeme();
-            stated(None, args.value())
+            let (_let, name, _equals) = (args.lexeme(), named(args)?, args.lexeme());
+            named_query(name, args.value())
         }
         4 => {
             let _from = args.lexeme();
-            let from = named(args)?;
-            let stages = Vec::new(alloc);
-            Ok(Value::Query(Query { from, stages }))
+            let (name, from, stages) = (None, named(args)?, Vec::new(alloc));
+            Ok(Value::Query(Query { name, from, stages }))
         }
         5 => more_stages(args.value(), args.value()),
-        6 => {
-            let _where = args.lexeme();
-            kept(args.value())
-        }
-        7 => {
-            let _select = args.lexeme();
-            selected(args.value())
-        }
         8 => {
             let _take = args.lexeme();
             Ok(Value::Stage(Stage::Take(named(args)?)))
         }
         9 => more_exprs(Some(Value::Exprs(Vec::new(alloc))), args.value()),
-        _ => {
+        10 => {
             let exprs = args.value();
             let _comma = args.lexeme();
             more_exprs(exprs, args.value())
         }
+        _ => {
+            let _keyword = args.lexeme();
+            after_keyword(args.value())
+        }
     }
 }
 
-fn stated<'text>(
-    name: Option<Name<'text>>,
-    query: Option<Value<'text>>,
-) -> Result<Value<'text>, Failed> {
-    let Some(Value::Query(query)) = query else {
-        return Err(Failed::Symbols);
-    };
-    Ok(Value::Statement(Statement { name, query }))
+// What a keyword makes of the only value after it.
+fn after_keyword<'text>(value: Part<'text>) -> Made<'text> {
+    match value {
+        Some(Value::Query(query)) => Ok(Value::Query(query)),
+        Some(Value::Expr(condition)) => Ok(Value::Stage(Stage::Where(condition))),
+        Some(Value::Exprs(columns)) => Ok(Value::Stage(Stage::Select(columns))),
+        _ => Err(Failed::Symbols),
+    }
 }
 
-fn kept<'text>(condition: Option<Value<'text>>) -> Result<Value<'text>, Failed> {
-    let Some(Value::Expr(condition)) = condition else {
+fn named_query<'text>(name: Name<'text>, query: Part<'text>) -> Made<'text> {
+    let Some(Value::Query(mut query)) = query else {
         return Err(Failed::Symbols);
     };
-    Ok(Value::Stage(Stage::Where(condition)))
+    query.name = Some(name);
+    Ok(Value::Query(query))
 }
 
-fn selected<'text>(columns: Option<Value<'text>>) -> Result<Value<'text>, Failed> {
-    let Some(Value::Exprs(columns)) = columns else {
+fn more_queries<'text>(file: Part<'text>, query: Part<'text>) -> Made<'text> {
+    let (Some(Value::File(mut file)), Some(Value::Query(query))) = (file, query) else {
         return Err(Failed::Symbols);
     };
-    Ok(Value::Stage(Stage::Select(columns)))
-}
-
-fn more_statements<'text>(
-    file: Option<Value<'text>>,
-    statement: Option<Value<'text>>,
-) -> Result<Value<'text>, Failed> {
-    let (Some(Value::File(mut file)), Some(Value::Statement(statement))) = (file, statement) else {
-        return Err(Failed::Symbols);
-    };
-    file.push(statement)?;
+    file.push(query)?;
     Ok(Value::File(file))
 }
 
-fn more_stages<'text>(
-    query: Option<Value<'text>>,
-    stage: Option<Value<'text>>,
-) -> Result<Value<'text>, Failed> {
+fn more_stages<'text>(query: Part<'text>, stage: Part<'text>) -> Made<'text> {
     let (Some(Value::Query(mut query)), Some(Value::Stage(stage))) = (query, stage) else {
         return Err(Failed::Symbols);
     };
@@ -183,10 +159,7 @@ fn more_stages<'text>(
     Ok(Value::Query(query))
 }
 
-fn more_exprs<'text>(
-    exprs: Option<Value<'text>>,
-    expr: Option<Value<'text>>,
-) -> Result<Value<'text>, Failed> {
+fn more_exprs<'text>(exprs: Part<'text>, expr: Part<'text>) -> Made<'text> {
     let (Some(Value::Exprs(mut exprs)), Some(Value::Expr(expr))) = (exprs, expr) else {
         return Err(Failed::Symbols);
     };
@@ -195,23 +168,9 @@ fn more_exprs<'text>(
 }
 
 // The value of a production of expressions.
-fn expr<'text>(
-    alloc: Global,
-    place: usize,
-    args: &mut Given<'_, '_, 'text>,
-) -> Result<Value<'text>, Failed> {
+fn expr<'text>(alloc: Global, place: usize, args: &mut Given<'_, '_, 'text>) -> Made<'text> {
     match place {
-        11..=18 => {
-            let left = args.value();
-            let _operator = args.lexeme();
-            binary(
-                alloc,
-                place,
-                TextRange::from(args.span()),
-                left,
-                args.value(),
-            )
-        }
+        11..=18 => binary(alloc, OPERATORS.get(place - 11), args),
         19 => Ok(Value::Expr(Expr::Atom(Atom::Column, named(args)?.text))),
         20 => Ok(Value::Expr(Expr::Atom(Atom::Number, named(args)?.text))),
         21 => Ok(Value::Expr(Expr::Atom(Atom::Text, named(args)?.text))),
@@ -231,26 +190,24 @@ fn expr<'text>(
 
 fn binary<'text>(
     alloc: Global,
-    place: usize,
-    range: TextRange,
-    left: Option<Value<'text>>,
-    right: Option<Value<'text>>,
-) -> Result<Value<'text>, Failed> {
-    let Some(operator) = OPERATORS.get(place.saturating_sub(11)) else {
-        return Err(Failed::Symbols);
-    };
-    let (left, right) = (operand(alloc, left)?, operand(alloc, right)?);
-    Ok(Value::Expr(Expr::Binary(*operator, range, left, right)))
+    operator: Option<&Operator>,
+    args: &mut Given<'_, '_, 'text>,
+) -> Made<'text> {
+    let operator = *operator.ok_or(Failed::Symbols)?;
+    let left = operand(alloc, args.value())?;
+    let _operator = args.lexeme();
+    let right = operand(alloc, args.value())?;
+    Ok(Value::Expr(Expr::Binary(operator, TextRange::from(args.span()), left, right)))
 }
 
-fn operand<'text>(alloc: Global, value: Option<Value<'text>>) -> Result<Box<Expr<'text>>, Failed> {
+fn operand<'text>(alloc: Global, value: Part<'text>) -> Result<Box<Expr<'text>>, Failed> {
     let Some(Value::Expr(expr)) = value else {
         return Err(Failed::Symbols);
     };
     Ok(Box::new(alloc, expr)?)
 }
 
-fn call<'text>(name: Name<'text>, exprs: Option<Value<'text>>) -> Result<Value<'text>, Failed> {
+fn call<'text>(name: Name<'text>, exprs: Part<'text>) -> Made<'text> {
     let Some(Value::Exprs(exprs)) = exprs else {
         return Err(Failed::Symbols);
     };
@@ -259,9 +216,7 @@ fn call<'text>(name: Name<'text>, exprs: Option<Value<'text>>) -> Result<Value<'
 
 // The next lexeme, as a part of the text.
 fn named<'text>(args: &mut Given<'_, '_, 'text>) -> Result<Name<'text>, Failed> {
-    let Some(lexeme) = args.lexeme() else {
-        return Err(Failed::Symbols);
-    };
+    let lexeme = args.lexeme().ok_or(Failed::Symbols)?;
     Ok(Name {
         text: args.lexer().text(&lexeme),
         range: TextRange::from(lexeme.span()),

@@ -11,11 +11,11 @@
 -- sentence. A reduction, or the accept, belongs to a complete item with the token as lookahead.
 use Rattle.std.proofs.Common.{◌≡◌, ◌≢◌, ◌<◌, ◌+◌, ◌⊎◌, ◌∙◌, inl, inr, refl, sym, ap, subst, arith, ℕ, List, [], ◌∷◌, ◌++◌, All, Some, drop, reverse, slice_get}
 use Rattle.std.proofs.lemmas.Bool.{cases_lt}
-use Rattle.std.proofs.lemmas.List.{append_assoc, append-nil, drop_all, reverse-append, reverse-reverse}
+use Rattle.std.proofs.lemmas.List.{append_assoc, append-nil, drop_all, reverse-reverse}
 use Rattle.std.proofs.lemmas.List.Elements.{All-append, All-head, All-tail}
 use Rattle.lrpar_grammar.specs.Grammar.{Grammar, GrammarSymbol, IsWellFormed, Nonterminal, Terminal, end_token, prod_len, rule_of, start_prod, symbols_of, tokens_len}
 use Rattle.lrpar_grammar.specs.Tree.{Branch, Cons, Forest, Leaf, Nil, forest_leaves, leaves}
-use Rattle.lrpar_grammar.proofs.ForestLemmas.{joined, joined_fits, joined_leaves, split_leaves, splits}
+use Rattle.lrpar_grammar.proofs.ForestLemmas.{split_leaves, splits}
 use Rattle.lrpar_table_rows.specs.Graph.{Graph, ItemOf, item_at}
 use Rattle.lrpar_table_rows.specs.Table.{Fails, IsClosed, Table, action_of, states_len}
 use Rattle.lrpar_table_first.specs.First.{IsFirst, Empty, Rule, Token}
@@ -33,7 +33,7 @@ use Rattle.lrpar_table_sentences.proofs.AfterLemmas.{after_reached, drop_at_get,
 use Rattle.lrpar_table_sentences.proofs.WalkLemmas.{walk_path}
 use Rattle.lrpar_parse_prefixes.specs.ErrorStates.{ActsOnlyAsFollows}
 use Rattle.lrpar_parse_prefixes.specs.Viable.{AreSentence, BeginSentence, CanFollow}
-use Rattle.lrpar_parse_prefixes.proofs.FinishLemmas.{begin_less, item_holds}
+use Rattle.lrpar_parse_prefixes.proofs.FinishLemmas.{HoldsOfTrees, begin_less, item_holds, moved_holds, start_sentence}
 use Rattle.lrpar_parse_prefixes.proofs.SpelledLemmas.{Spells, never, walks_on}
 
 -- trees of symbols that begin with token t; or trees of them without tokens, and t is a
@@ -73,37 +73,11 @@ module _ (g : Grammar) (well : IsWellFormed g) (each : EachReachableHasTree g) w
 
   -- trees of the path's symbols, and then trees of the symbols after the item's dot, can be followed by its lookahead
   abbrev Looks : List GrammarSymbol → ItemOf → Type 0
-  Looks path x =
-      (front rest : Forest ℕ) → AreTreesOf g (reverse path) front → AreTreesOf g (drop x.dot (symbols_of g x.prod)) rest
-      → CanFollow g (forest_leaves front ++ forest_leaves rest) x.token
-
-  -- a tree of the start rule is a sentence
-  start_sentence : (front rest : Forest ℕ) → AreTreesOf g [] front → AreTreesOf g (Nonterminal g.start ∷ []) rest
-      → AreSentence g (forest_leaves front ++ forest_leaves rest)
-  start_sentence (Cons t ts) rest fit rest_fit = absurd fit
-  start_sentence Nil Nil fit rest_fit = absurd rest_fit
-  start_sentence Nil (Cons t (Cons u us)) fit rest_fit = absurd rest_fit.1
-  start_sentence Nil (Cons t Nil) fit rest_fit = (t, rest_fit.0, sym (append-nil (leaves t)))
+  Looks path x = HoldsOfTrees g (λ ts. CanFollow g ts x.token) path x
 
   start_looks : Looks [] (item_at (start_prod g) 0 (end_token g))
   start_looks front rest fit rest_fit =
-      inr (refl, start_sentence front rest fit (subst (λ (w : List GrammarSymbol). AreTreesOf g w rest) well.last_symbols rest_fit))
-
-  -- the dot is moved on by a symbol
-  moved_looks : (path : List GrammarSymbol) (s : GrammarSymbol) (x : ItemOf) → slice_get (symbols_of g x.prod) x.dot ≡ Some s
-      → Looks path x → Looks (s ∷ path) (item_at x.prod (x.dot + 1) x.token)
-  moved_looks path s x at looks front rest fit rest_fit =
-      let parts = splits (λ (t : ℕ). t) g front (reverse path) (s ∷ [])
-      (subst (λ (w : List GrammarSymbol). AreTreesOf g w front) (reverse-append (s ∷ []) path) fit) in
-      let after = joined parts.others rest in
-      let after_fit : AreTreesOf g (drop x.dot (symbols_of g x.prod)) after =
-      subst (λ (w : List GrammarSymbol). AreTreesOf g w after) (sym (drop_at_get (symbols_of g x.prod) x.dot s at))
-      (joined_fits (λ (t : ℕ). t) g parts.others rest (s ∷ []) (drop (x.dot + 1) (symbols_of g x.prod)) parts.others_fit rest_fit) in
-      let all : forest_leaves parts.first ++ forest_leaves after ≡ forest_leaves front ++ forest_leaves rest =
-      ap (λ (ts : List ℕ). forest_leaves parts.first ++ ts) (joined_leaves parts.others rest)
-      ∙ sym (append_assoc (forest_leaves parts.first) (forest_leaves parts.others) (forest_leaves rest))
-      ∙ ap (λ (ts : List ℕ). ts ++ forest_leaves rest) (sym (split_leaves (λ (t : ℕ). t) g front (reverse path) (s ∷ []) parts)) in
-      subst (λ (ts : List ℕ). CanFollow g ts x.token) all (looks parts.first after parts.first_fits after_fit)
+      inr (refl, start_sentence g front rest fit (subst (λ (w : List GrammarSymbol). AreTreesOf g w rest) well.last_symbols rest_fit))
 
   -- another item adds the item
   added_looks : (path : List GrammarSymbol) (x y : ItemOf) (adds : Adds g x y) → FirstTrees g x.token adds.rest y.token → Looks path x → Looks path y
@@ -145,7 +119,7 @@ module _ (g : Grammar) (well : IsWellFormed g) (each : EachReachableHasTree g) w
       closure_each g (Follows (s ∷ path)) (added_follows (s ∷ path)) (IsAdvanced g (IsReachedBy g path) s)
       (λ y from.
       let before = item_follows path from.0 from.1 in
-      subst (Follows (s ∷ path)) (sym from.3) (before.0, moved_looks path s from.0 from.2 before.1))
+      subst (Follows (s ∷ path)) (sym from.3) (before.0, moved_holds g (λ ts. CanFollow g ts from.0.token) path s from.0 from.2 before.1))
 
   -- trees along the path of an item with a token after its dot can be followed by this token
   shift_follows : (path : List GrammarSymbol) (x : ItemOf) (t : ℕ) → IsReachedBy g path x → slice_get (symbols_of g x.prod) x.dot ≡ Some (Terminal t)

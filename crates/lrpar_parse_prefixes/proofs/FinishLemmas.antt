@@ -14,47 +14,52 @@ use Rattle.lrpar_table_build.proofs.ReachedLemmas.{closure_each}
 use Rattle.lrpar_table_sentences.specs.Reachable.{Added, EachReachableHasTree, IsReachableRule}
 use Rattle.lrpar_table_sentences.specs.Texts.{AreTreesOf, HaveTrees}
 use Rattle.lrpar_table_sentences.proofs.AfterLemmas.{after_reached, drop_at_get, have_trees, rest_reached}
-use Rattle.lrpar_parse_prefixes.specs.Viable.{BeginSentence}
+use Rattle.lrpar_parse_prefixes.specs.Viable.{AreSentence, BeginSentence}
 
 -- if the whole list begins a sentence, its first tokens do
 pub begin_less : (g : Grammar) (front more : List ℕ) → BeginSentence g (front ++ more) → BeginSentence g front
 begin_less g front more begins =
     let sentence = begins.1 in (more ++ begins.0, (sentence.0, sentence.1, sentence.2 ∙ append_assoc front more begins.0))
 
+-- something holds of the leaves of trees of the path's symbols and then of trees of the symbols after the item's dot
+abbrev pub HoldsOfTrees : Grammar → (List ℕ → Type 0) → List GrammarSymbol → ItemOf → Type 0
+HoldsOfTrees g P path x =
+    (front rest : Forest ℕ) → AreTreesOf g (reverse path) front → AreTreesOf g (drop x.dot (symbols_of g x.prod)) rest
+    → P (forest_leaves front ++ forest_leaves rest)
+
+-- then it also holds if the dot is moved on by a symbol
+pub moved_holds : (g : Grammar) (P : List ℕ → Type 0) (path : List GrammarSymbol) (s : GrammarSymbol) (x : ItemOf)
+    → slice_get (symbols_of g x.prod) x.dot ≡ Some s → HoldsOfTrees g P path x → HoldsOfTrees g P (s ∷ path) (item_at x.prod (x.dot + 1) x.token)
+moved_holds g P path s x at holds front rest fit rest_fit =
+    let parts = splits (λ (t : ℕ). t) g front (reverse path) (s ∷ [])
+    (subst (λ (w : List GrammarSymbol). AreTreesOf g w front) (reverse-append (s ∷ []) path) fit) in
+    let after = joined parts.others rest in
+    let after_fit : AreTreesOf g (drop x.dot (symbols_of g x.prod)) after =
+    subst (λ (w : List GrammarSymbol). AreTreesOf g w after) (sym (drop_at_get (symbols_of g x.prod) x.dot s at))
+    (joined_fits (λ (t : ℕ). t) g parts.others rest (s ∷ []) (drop (x.dot + 1) (symbols_of g x.prod)) parts.others_fit rest_fit) in
+    let all : forest_leaves parts.first ++ forest_leaves after ≡ forest_leaves front ++ forest_leaves rest =
+    ap (λ (ts : List ℕ). forest_leaves parts.first ++ ts) (joined_leaves parts.others rest)
+    ∙ sym (append_assoc (forest_leaves parts.first) (forest_leaves parts.others) (forest_leaves rest))
+    ∙ ap (λ (ts : List ℕ). ts ++ forest_leaves rest) (sym (split_leaves (λ (t : ℕ). t) g front (reverse path) (s ∷ []) parts)) in
+    subst P all (holds parts.first after parts.first_fits after_fit)
+
 -- trees of the path's symbols, and then trees of the symbols after the item's dot, begin a sentence
 abbrev pub Finishes : Grammar → List GrammarSymbol → ItemOf → Type 0
-Finishes g path x =
-    (front rest : Forest ℕ) → AreTreesOf g (reverse path) front → AreTreesOf g (drop x.dot (symbols_of g x.prod)) rest
-    → BeginSentence g (forest_leaves front ++ forest_leaves rest)
+Finishes g path x = HoldsOfTrees g (BeginSentence g) path x
 
 -- a tree of the start rule is a sentence
-start_tree : (g : Grammar) (front rest : Forest ℕ) → AreTreesOf g [] front → AreTreesOf g (Nonterminal g.start ∷ []) rest
-    → BeginSentence g (forest_leaves front ++ forest_leaves rest)
-start_tree g (Cons t ts) rest fit rest_fit = absurd fit
-start_tree g Nil Nil fit rest_fit = absurd rest_fit
-start_tree g Nil (Cons t (Cons u us)) fit rest_fit = absurd rest_fit.1
-start_tree g Nil (Cons t Nil) fit rest_fit = ([], (t, rest_fit.0, sym (append-nil (leaves t ++ []) ∙ append-nil (leaves t))))
+pub start_sentence : (g : Grammar) (front rest : Forest ℕ) → AreTreesOf g [] front → AreTreesOf g (Nonterminal g.start ∷ []) rest
+    → AreSentence g (forest_leaves front ++ forest_leaves rest)
+start_sentence g (Cons t ts) rest fit rest_fit = absurd fit
+start_sentence g Nil Nil fit rest_fit = absurd rest_fit
+start_sentence g Nil (Cons t (Cons u us)) fit rest_fit = absurd rest_fit.1
+start_sentence g Nil (Cons t Nil) fit rest_fit = (t, rest_fit.0, sym (append-nil (leaves t)))
 
 module _ (g : Grammar) (well : IsWellFormed g) (each : EachReachableHasTree g) where
   start_finishes : Finishes g [] (item_at (start_prod g) 0 (end_token g))
   start_finishes front rest fit rest_fit =
-      start_tree g front rest fit (subst (λ (w : List GrammarSymbol). AreTreesOf g w rest) well.last_symbols rest_fit)
-
-  -- the dot is moved on by a symbol
-  moved_finishes : (path : List GrammarSymbol) (s : GrammarSymbol) (x : ItemOf) → slice_get (symbols_of g x.prod) x.dot ≡ Some s
-      → Finishes g path x → Finishes g (s ∷ path) (item_at x.prod (x.dot + 1) x.token)
-  moved_finishes path s x at finishes front rest fit rest_fit =
-      let parts = splits (λ (t : ℕ). t) g front (reverse path) (s ∷ [])
-      (subst (λ (w : List GrammarSymbol). AreTreesOf g w front) (reverse-append (s ∷ []) path) fit) in
-      let after = joined parts.others rest in
-      let after_fit : AreTreesOf g (drop x.dot (symbols_of g x.prod)) after =
-      subst (λ (w : List GrammarSymbol). AreTreesOf g w after) (sym (drop_at_get (symbols_of g x.prod) x.dot s at))
-      (joined_fits (λ (t : ℕ). t) g parts.others rest (s ∷ []) (drop (x.dot + 1) (symbols_of g x.prod)) parts.others_fit rest_fit) in
-      let all : forest_leaves parts.first ++ forest_leaves after ≡ forest_leaves front ++ forest_leaves rest =
-      ap (λ (ts : List ℕ). forest_leaves parts.first ++ ts) (joined_leaves parts.others rest)
-      ∙ sym (append_assoc (forest_leaves parts.first) (forest_leaves parts.others) (forest_leaves rest))
-      ∙ ap (λ (ts : List ℕ). ts ++ forest_leaves rest) (sym (split_leaves (λ (t : ℕ). t) g front (reverse path) (s ∷ []) parts)) in
-      subst (BeginSentence g) all (finishes parts.first after parts.first_fits after_fit)
+      let sentence = start_sentence g front rest fit (subst (λ (w : List GrammarSymbol). AreTreesOf g w rest) well.last_symbols rest_fit) in
+      ([], subst (AreSentence g) (sym (append-nil (forest_leaves front ++ forest_leaves rest))) sentence)
 
   -- another item adds the item
   added_finishes : (path : List GrammarSymbol) (x y : ItemOf) (adds : Adds g x y) → HaveTrees g adds.rest → Finishes g path x → Finishes g path y
@@ -86,4 +91,4 @@ module _ (g : Grammar) (well : IsWellFormed g) (each : EachReachableHasTree g) w
       closure_each g (Holds (s ∷ path)) (added_holds (s ∷ path)) (IsAdvanced g (IsReachedBy g path) s)
       (λ y from.
       let before = item_holds path from.0 from.1 in
-      subst (Holds (s ∷ path)) (sym from.3) (before.0, moved_finishes path s from.0 from.2 before.1))
+      subst (Holds (s ∷ path)) (sym from.3) (before.0, moved_holds g (BeginSentence g) path s from.0 from.2 before.1))

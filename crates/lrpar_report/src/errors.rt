@@ -5,12 +5,11 @@ ghost use Rattle.lrpar_report_lines.specs.declared.levels.Level.TheVariants.{Err
 use crate::choices::{push_choices, push_quoted};
 use crate::repairs::with_repairs;
 use lrpar_grammar::grammar::YaccGrammar;
-use lrpar_grammar::span::{Span, StIdx, StorageIndex, TIdx};
+use lrpar_grammar::span::{Span, StorageIndex, TIdx};
 use lrpar_parse_errors::errors::{LexParseError, ParseError};
 use lrpar_parse_lexemes::lex_api::{LexError, Lexeme, LexerTypes};
 use lrpar_report_lines::{Report, part_of};
 use lrpar_table::check::ParserData;
-use lrpar_table::table::StateTable;
 use std::alloc::{AllocError, Global};
 
 /// How many characters of an unexpected lexeme are shown at most.
@@ -81,21 +80,9 @@ pub fn parse_report<LexemeT: Lexeme<StorageT>, StorageT: StorageIndex>(
 ) -> Result<Report, AllocError>
     ensures { IfOk result (λ report. report.level ≡ Error) }
 {
-    let expected = tokens_at(data.stable(), error.stidx());
+    let expected = error.expected(data);
     let report = unexpected_report(alloc, data.grm(), text, error.lexeme(), expected)?;
     with_repairs(report, alloc, data.grm(), text, error.repairs())
-}
-
-// The tokens at which a state has an action.
-fn tokens_at<StorageT: StorageIndex>(
-    stable: &StateTable<StorageT>,
-    state: StIdx<StorageT>,
-) -> &[TIdx<StorageT>] {
-    if usize::from(state) >= stable.states_len() {
-        return &[];
-    }
-    let (tokens, _) = stable.actions_of(state);
-    tokens
 }
 
 /// The report of a lexeme of a text that can't be where it is, and of the tokens that can: `unexpected 'LEXEME', expected A, B or C`. The

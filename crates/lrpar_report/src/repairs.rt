@@ -23,27 +23,9 @@ pub(crate) fn with_repairs<LexemeT: Lexeme<StorageT>, StorageT: StorageIndex>(
 ) -> Result<Report, AllocError>
     ensures { IfOk result (λ noted. noted.level ≡ report.level) }
 {
-    let notes = notes_of(alloc, grm, text, sequences)?;
-    Ok(with_notes(report, notes))
-}
-
-// The report with these notes in place of its own.
-fn with_notes(report: Report, notes: Vec<String>) -> Report
-    ensures { result.level ≡ report.level }
-{
-    let Report {
-        level,
-        message,
-        labels,
-        notes: others,
-    } = report;
-    drop(others);
-    Report {
-        level,
-        message,
-        labels,
-        notes,
-    }
+    let mut report = report;
+    report.notes = notes_of(alloc, grm, text, sequences)?;
+    Ok(report)
 }
 
 // A note for each of the first sequences, and one for how many more there are.
@@ -62,6 +44,7 @@ fn notes_of<LexemeT: Lexeme<StorageT>, StorageT: StorageIndex>(
     }
     match sequences.len().saturating_sub(MOST_REPAIRS) {
         0 => {}
+        1 => notes.push(String::from_str(alloc, "1 more repair was found")?)?,
         more => notes.push(format!(in alloc; "{more} more repairs were found")?)?,
     }
     Ok(notes)

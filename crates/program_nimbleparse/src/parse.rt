@@ -2,7 +2,7 @@
 use crate::errors::{Subject, push_lexing_error, push_parse_error};
 use crate::plan::{Format, Plan, Recovery};
 use crate::show::write_messages;
-use lrpar_grammar::span::{StIdx, TIdx};
+use lrpar_grammar::span::TIdx;
 use lrpar_lexer::{RuleLexer, Token, TokenTypes};
 use lrpar_parse::RTParserBuilder;
 use lrpar_parse_cpctplus::CpctPlus;
@@ -141,18 +141,9 @@ fn tokens_of<'a>(
 ) -> &'a [TIdx<u32>] {
     match error {
         _ if place == 0 => first,
-        LexParseError::ParseError(failure) => tokens_at(data, failure.stidx()),
+        LexParseError::ParseError(failure) => failure.expected(data),
         LexParseError::LexError(_) => &[],
     }
-}
-
-// The tokens at which a state has an action.
-fn tokens_at(data: &ParserData<u32>, state: StIdx<u32>) -> &[TIdx<u32>] {
-    if usize::from(state) >= data.stable().states_len() {
-        return &[];
-    }
-    let (tokens, _) = data.stable().actions_of(state);
-    tokens
 }
 
 // Adds the message of an error.
