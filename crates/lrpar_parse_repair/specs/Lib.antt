@@ -7,4 +7,5 @@ pub mod StepComparisons
 pub mod TestWork
 pub mod Counting
 pub mod Asked
+pub mod AlwaysRepairs
 pub mod Replays

@@ -2,9 +2,9 @@
 ghost use Rattle.std.specs.Prelude.{◌≡◌, ◌<◌, ◌≤◌, ◌+◌, ◌↔◌, length, IfOk, OnOk, IsTrue, None};
 ghost use Rattle.lrpar_table_stacks.specs.Overlay.{overlaid};
 ghost use Rattle.lrpar_table_stacks.specs.Stack.{IsStack, states_of};
-ghost use Rattle.lrpar_grammar.specs.Sentence.{IsValidList};
 ghost use Rattle.lrpar_parse_repair.specs.Counting.{CostsAtMost, most_listed};
-ghost use Rattle.lrpar_parse_lexemes.specs.Views.{known};
+ghost use Rattle.lrpar_parse_lexemes.specs.Views.{token_by};
+ghost use Rattle.lrpar_parse_repair.specs.Asked.{HaveTokens};
 ghost use Rattle.lrpar_parse_repair.specs.PlainSteps.{plain_sequences, plain_step, plain_steps};
 ghost use Rattle.lrpar_parse_repair.specs.Sequences.{PlainInsert, PlainShift, AreThoseWith};
 
@@ -24,7 +24,7 @@ pub struct Trial<'a, StorageT: StorageIndex, LexemeT> {
 }
 
 impl<'a, StorageT: StorageIndex, LexemeT: Lexeme<StorageT>> Trial<'a, StorageT, LexemeT> {
-    ghost use Rattle.lrpar_parse_repair.specs.TrialView.{GoesOnFrom, IsTakenBy, WorksBy};
+    ghost use Rattle.lrpar_parse_repair.specs.TrialView.{GoesOnFrom, IsTakenBy, SomeWorksBy, WorksBy};
 
     pub fn new(checked: &'a ParserData<StorageT>, lexemes: &'a [LexemeT], shifts: usize) -> Self
         ensures checked { result.checked.now ≡ checked.now }
@@ -49,7 +49,7 @@ impl<'a, StorageT: StorageIndex, LexemeT: Lexeme<StorageT>> Trial<'a, StorageT, 
         place: usize,
         answer: Vec<Vec<RepairStep<StorageT>>>,
     ) -> Result<Vec<Vec<RepairStep<StorageT>>>, AllocError>
-        requires valid { IsValidList self.now.checked.now.grammar (known StorageT.index LexemeT.parts self.now.lexemes.now) }
+        requires tokens { HaveTokens (token_by StorageT.index LexemeT.parts) self.now.checked.now.grammar self.now.lexemes.now }
         requires stack { IsStack self.now.checked.now.table (states_of StorageT.index stack.now) }
         requires within { place ≤ length self.now.lexemes.now }
         ensures listed { IfOk result (λ listed. AreThoseWith
@@ -68,7 +68,7 @@ impl<'a, StorageT: StorageIndex, LexemeT: Lexeme<StorageT>> Trial<'a, StorageT, 
         place: usize,
         answer: Vec<Vec<RepairStep<StorageT>>>,
     ) -> Result<Vec<Vec<RepairStep<StorageT>>>, AllocError>
-        requires valid { IsValidList self.now.checked.now.grammar (known StorageT.index LexemeT.parts self.now.lexemes.now) }
+        requires tokens { HaveTokens (token_by StorageT.index LexemeT.parts) self.now.checked.now.grammar self.now.lexemes.now }
         requires stack { IsStack self.now.checked.now.table states.old.stack.base }
         requires within { place ≤ length self.now.lexemes.now }
         ensures listed { IfOk result (λ listed. AreThoseWith
@@ -91,6 +91,51 @@ impl<'a, StorageT: StorageIndex, LexemeT: Lexeme<StorageT>> Trial<'a, StorageT, 
         Ok(listed)
     }
 
+    /// Whether some sequence of the answer works from the stack at the place. They are tested in order, up to the first one that works.
+    /// `Err`: out of memory.
+    pub fn some_works(
+        &self,
+        alloc: Global,
+        stack: &[StIdx<StorageT>],
+        place: usize,
+        answer: &[Vec<RepairStep<StorageT>>],
+    ) -> Result<bool, AllocError>
+        requires tokens { HaveTokens (token_by StorageT.index LexemeT.parts) self.now.checked.now.grammar self.now.lexemes.now }
+        requires stack { IsStack self.now.checked.now.table (states_of StorageT.index stack.now) }
+        requires within { place ≤ length self.now.lexemes.now }
+        ensures works { IfOk result (λ works. IsTrue works ↔ SomeWorksBy StorageT.index LexemeT.parts self.now
+            (states_of StorageT.index stack.now) place (plain_sequences StorageT.index answer.now)) }
+    {
+        let mut states = Counter::new(alloc, stack);
+        self.has_working(&mut states, place, answer)
+    }
+
+    // Whether some sequence of the answer works from the borrowed states at the place. Each is tested at most once.
+    fn has_working(
+        &self,
+        states: &mut Counter<'_, StorageT>,
+        place: usize,
+        answer: &[Vec<RepairStep<StorageT>>],
+    ) -> Result<bool, AllocError>
+        requires tokens { HaveTokens (token_by StorageT.index LexemeT.parts) self.now.checked.now.grammar self.now.lexemes.now }
+        requires stack { IsStack self.now.checked.now.table states.old.stack.base }
+        requires within { place ≤ length self.now.lexemes.now }
+        ensures works { IfOk result (λ works. IsTrue works ↔ SomeWorksBy StorageT.index LexemeT.parts self.now
+            states.old.stack.base place (plain_sequences StorageT.index answer.now)) }
+
+        // The tests make at most as many reductions as the sequences may cost.
+        ensures bounded { OnOk result (states.new.reductions
+            ≤ states.old.reductions + most_listed self.now.checked.now.cap (length states.old.stack.base) self.now.shifts (plain_sequences StorageT.index answer.now)) }
+    {
+        for steps in answer {
+            states.set_back();
+            if self.works(states, place, steps)? {
+                return Ok(true);
+            }
+        }
+        Ok(false)
+    }
+
     // Whether the sequence works from the states at the place.
     fn works(
         &self,
@@ -98,7 +143,7 @@ impl<'a, StorageT: StorageIndex, LexemeT: Lexeme<StorageT>> Trial<'a, StorageT, 
         place: usize,
         steps: &[RepairStep<StorageT>],
     ) -> Result<bool, AllocError>
-        requires valid { IsValidList self.now.checked.now.grammar (known StorageT.index LexemeT.parts self.now.lexemes.now) }
+        requires tokens { HaveTokens (token_by StorageT.index LexemeT.parts) self.now.checked.now.grammar self.now.lexemes.now }
         requires stack { IsStack self.now.checked.now.table (overlaid states.old.stack) }
         requires within { place ≤ length self.now.lexemes.now }
         ensures works { IfOk result (λ works. IsTrue works ↔
@@ -123,7 +168,7 @@ impl<'a, StorageT: StorageIndex, LexemeT: Lexeme<StorageT>> Trial<'a, StorageT, 
         states: &mut Counter<'_, StorageT>,
         place: usize,
     ) -> Result<bool, AllocError>
-        requires valid { IsValidList self.now.checked.now.grammar (known StorageT.index LexemeT.parts self.now.lexemes.now) }
+        requires tokens { HaveTokens (token_by StorageT.index LexemeT.parts) self.now.checked.now.grammar self.now.lexemes.now }
         requires stack { IsStack self.now.checked.now.table (overlaid states.old.stack) }
         requires within { place ≤ length self.now.lexemes.now }
         ensures goes_on { IfOk result (λ goes_on. IsTrue goes_on ↔
@@ -151,7 +196,7 @@ impl<'a, StorageT: StorageIndex, LexemeT: Lexeme<StorageT>> Trial<'a, StorageT, 
         place: usize,
         step: RepairStep<StorageT>,
     ) -> Result<Option<usize>, AllocError>
-        requires valid { IsValidList self.now.checked.now.grammar (known StorageT.index LexemeT.parts self.now.lexemes.now) }
+        requires tokens { HaveTokens (token_by StorageT.index LexemeT.parts) self.now.checked.now.grammar self.now.lexemes.now }
         requires stack { IsStack self.now.checked.now.table (overlaid states.old.stack) }
         ensures taken { IfOk result (IsTakenBy StorageT.index LexemeT.parts self.now
             (overlaid states.old.stack) place (plain_step StorageT.index step) (overlaid states.new.stack)) }
@@ -200,7 +245,7 @@ impl<'a, StorageT: StorageIndex, LexemeT: Lexeme<StorageT>> Trial<'a, StorageT, 
         states: &mut Counter<'_, StorageT>,
         place: usize,
     ) -> Result<Option<usize>, AllocError>
-        requires valid { IsValidList self.now.checked.now.grammar (known StorageT.index LexemeT.parts self.now.lexemes.now) }
+        requires tokens { HaveTokens (token_by StorageT.index LexemeT.parts) self.now.checked.now.grammar self.now.lexemes.now }
         requires stack { IsStack self.now.checked.now.table (overlaid states.old.stack) }
         ensures taken { IfOk result (IsTakenBy StorageT.index LexemeT.parts self.now
             (overlaid states.old.stack) place PlainShift (overlaid states.new.stack)) }
