@@ -37,8 +37,8 @@ pub mod repair {
 /// What follows from the definitions: public functions that do nothing, each with a law as its contract.
 pub mod laws {
     pub use lrpar_grammar::laws::{
-        listings_keep_order, numbers_tell_productions_apart, sum_is_worked_out, sum_tree_fits,
-        text_spells_one_grammar, trees_are_derivations,
+        listings_keep_order, numbers_tell_productions_apart, parts_keep_texts, sum_is_worked_out,
+        sum_tree_fits, text_spells_one_grammar, trees_are_derivations,
     };
     pub use lrpar_grammar_places::laws::{
         numbers_compare_by_value, spans_compare_by_ends, symbols_compare_by_contents,
