@@ -20,13 +20,13 @@ returns-clause-place g c =
           let is : labels ≡ first ∷ rest = sym c.deref.ensures.value ∙ w.in-Some.ensures.cases.0 in
           subst (λ place. IsFirstPlace text spans place) (sym w.place-is)
           (place_of_first text spans first.span (map (λ label. label.span) rest) w.part_of-place.result (ap (map (λ label. label.span)) is)
-            (record { start = part.start; end = part.end }))
+          (record { start = part.start; end = part.end }))
       | in-None w ↦
           let part = w.part_of-place-in-None.ensures in
           let start = IsCharBoundary-start text c.utf8.text in
           let is : labels ≡ [] = sym c.deref.ensures.value ∙ none_listed c.deref.result.now w.in-None.ensures.cases in
           subst (λ place. IsFirstPlace text spans place) (sym w.place-is)
           (place_of_none text spans w.part_of-place-in-None.result (ap (map (λ label. label.span)) is)
-            (part.same_start (subst (IsCharBoundary text) (sym w.new.ensures.start) start) ∙ w.new.ensures.start)
-            (part.same_end (subst (IsCharBoundary text) (sym w.new.ensures.end) start) ∙ w.new.ensures.end))
+          (part.same_start (subst (IsCharBoundary text) (sym w.new.ensures.start) start) ∙ w.new.ensures.start)
+          (part.same_end (subst (IsCharBoundary text) (sym w.new.ensures.end) start) ∙ w.new.ensures.end))
     ]
