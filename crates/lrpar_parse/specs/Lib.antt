@@ -9,4 +9,3 @@ pub mod Values
 pub mod ExpectedAnswer
 pub mod Parser
 pub mod RepairLaws
-pub mod EveryText

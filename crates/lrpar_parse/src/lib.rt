@@ -3,7 +3,6 @@
 
 mod actions;
 mod args;
-pub mod every_text;
 mod expected;
 pub mod fault;
 pub mod generictree;
