@@ -49,6 +49,10 @@ pub mod laws {
         outlines_are_of_grammar_texts, pieces_are_longest, text_has_one_outline,
         text_is_stuck_at_one_place, text_reads_as_one,
     };
+    pub use lrpar_parse::every_text::{
+        every_text_has_a_tree, every_text_has_a_value, every_text_has_a_value_or_an_error,
+        every_text_has_an_acted_value, every_text_is_accepted,
+    };
     pub use lrpar_parse::laws::{
         faults_are_compared_by_contents, or_has_one_answer, runs_go_on_or_end,
         runs_have_one_answer, runs_stop_by_failing, runs_with_repairs_are_sound,

@@ -8,6 +8,7 @@ pub mod CarriedLemmas
 pub mod SumLemmas
 pub mod RepairRunLemmas
 pub mod StopStackLemmas
+pub mod EveryTextLemmas
 pub mod OneAnswerLemmas
 pub mod RepairWayLemmas
 pub mod ExpectedLemmas

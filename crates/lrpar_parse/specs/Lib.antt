@@ -9,3 +9,4 @@ pub mod Values
 pub mod ExpectedAnswer
 pub mod Parser
 pub mod RepairLaws
+pub mod EveryText

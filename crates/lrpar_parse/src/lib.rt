@@ -3,6 +3,7 @@
 
 mod actions;
 mod args;
+pub mod every_text;
 mod expected;
 pub mod fault;
 pub mod generictree;

@@ -349,6 +349,13 @@ impl<
         })
     }
 
+    /// The grammar of the parser with its checked table.
+    pub(crate) fn checked(&self) -> &'a ParserData<StorageT>
+        ensures { result.now ≡ self.now.checked }
+    {
+        self.checked
+    }
+
     // Parses the lexemes that the lexer returns to an entry of the builder.
     fn parsed<
         'input,

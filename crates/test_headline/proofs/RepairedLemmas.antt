@@ -11,6 +11,7 @@ use Rattle.lrpar_parse_run.specs.Subject.{Subject}
 use Rattle.lrpar_grammar.specs.Grammar.{Grammar}
 use Rattle.lrpar_grammar.specs.Sentence.{LexemeFacts}
 use Rattle.lrpar_grammar.specs.Tree.{Tree, leaves}
+use Rattle.lrpar_parse.specs.EveryText.{ListsRepair}
 use Rattle.lrpar_parse.specs.Lexed.{first_error, lexemes_of}
 use Rattle.lrpar_parse.specs.RepairLaws.{AcceptsWhereRepaired}
 use Rattle.lrpar_table_rows.specs.Table.{Table}
@@ -22,7 +23,7 @@ use Rattle.lrpar_parse.specs.Parse.{ParsesTo}
 use Rattle.lrpar_parse.specs.declared.fault.ParseFault.{ParseFault}
 use Rattle.test_headline.proofs.AnswerLemmas.{Goes, by_error, by_run, of_answer, of_any}
 use Rattle.test_headline.specs.Answered.{OfAnswer}
-use Rattle.test_headline.specs.Repaired.{AsFirstRepaired, IsValueOfRepaired, ListsRepair}
+use Rattle.test_headline.specs.Repaired.{AsFirstRepaired, IsValueOfRepaired}
 
 -- an option that is there is `Some`
 is_there : {A : Type 0} (o : Option A) (x : A) → o ≡ Some x → IsSome o

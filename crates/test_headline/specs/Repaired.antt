@@ -1,11 +1,10 @@
--- Errors that list a repair, and lexemes as first repaired.
-use Rattle.std.specs.Prelude.{◌≡◌, ◌≢◌, ◌+◌, ℕ, List, [], ◌∷◌, ◌++◌, drop, None, Result}
+-- Lexemes as first repaired.
+use Rattle.std.specs.Prelude.{◌≡◌, ◌+◌, ℕ, List, [], ◌∷◌, ◌++◌, drop, None, Result}
 use Rattle.std.specs.List.{AllZip}
 use Rattle.lrpar_grammar.specs.Grammar.{Nonterminal}
 use Rattle.lrpar_grammar.specs.Sentence.{LexemeFacts}
 use Rattle.lrpar_grammar.specs.Tree.{Tree, Fits, leaves}
 use Rattle.lrpar_parse_errors.specs.declared.errors.LexParseError.{LexParseError}
-use Rattle.lrpar_parse_errors.specs.declared.errors.LexParseError.TheVariants.{LexError, ParseError}
 use Rattle.lrpar_parse_repair.specs.Repaired.{Consumes}
 use Rattle.lrpar_parse_repair.specs.Replays.{places_of}
 use Rattle.lrpar_parse_repair.specs.Sequences.{PlainStep}
@@ -13,11 +12,6 @@ use Rattle.lrpar_parse_run.specs.RepairAnswer.{IsRepairErrorOf}
 use Rattle.lrpar_parse_run.specs.RepairRun.{RepairStop, fed_between}
 use Rattle.lrpar_parse_run.specs.Subject.{Subject}
 use Rattle.lrpar_parse.specs.Lexed.{first_error, lexemes_of}
-
--- a parse error that lists a repair
-abbrev pub ListsRepair : {S L B C : Type 0} → LexParseError S L B C → Type 0
-ListsRepair (LexError error) = ⊥
-ListsRepair (ParseError failure) = failure.repairs ≢ []
 
 -- The lexemes from place i on, as first repaired at these error points: those before the first error point, what the first sequence that
 -- is listed there consumes, and then those after the lexemes that it uses up, as first repaired at the other error points.

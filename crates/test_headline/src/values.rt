@@ -1,6 +1,6 @@
 //! There is a value if and only if there is no lexing error and each parse error lists a repair.
 ghost use Rattle.std.specs.Prelude.{◌↔◌, All, IfOk, IsSome};
-ghost use Rattle.test_headline.specs.Repaired.{ListsRepair};
+ghost use Rattle.lrpar_parse.specs.EveryText.{ListsRepair};
 
 use lrpar_grammar::span::{RIdx, StorageIndex};
 use lrpar_parse::RTParserBuilder;

@@ -1,0 +1,62 @@
+-- What a recoverer that always repairs gives: each text has a value, and each error lists a repair.
+use Rattle.std.specs.declared.alloc.Global.{Global}
+use Rattle.std.specs.Prelude.{◌≡◌, ◌≢◌, ◌<◌, ℕ, List, [], ◌∷◌, All, map, MatchOption, Option, IsSome, Result, IfOk, Vec}
+use Rattle.lrpar_grammar.specs.Sentence.{IsValidList, LexemeFacts}
+use Rattle.lrpar_grammar.specs.Tree.{Tree}
+use Rattle.lrpar_table_check.specs.Checked.{Checked, IsChecked}
+use Rattle.lrpar_table_stacks.specs.Stack.{IsStack}
+use Rattle.lrpar_parse_errors.specs.declared.errors.LexParseError.{LexParseError}
+use Rattle.lrpar_parse_errors.specs.declared.errors.LexParseError.TheVariants.{LexError, ParseError}
+use Rattle.lrpar_parse_repair.specs.AlwaysRepairs.{AlwaysRepairs}
+use Rattle.lrpar_parse_repair.specs.Asked.{Asked, allowed_at}
+use Rattle.lrpar_parse_repair.specs.Sequences.{PlainStep}
+use Rattle.lrpar_parse_run.specs.RepairRun.{RepairRun, RepairStop}
+use Rattle.lrpar_parse_run.specs.Subject.{Subject}
+use Rattle.lrpar_parse.specs.Lexed.{first_error}
+use Rattle.lrpar_parse.specs.Parse.{ParsesTo, ParsesToErrors}
+use Rattle.lrpar_parse.specs.Values.{ParsesToValue}
+use Rattle.lrpar_parse.specs.declared.fault.ParseFault.{ParseFault}
+
+-- Over a checked table over which the recoverer always repairs, a run over a valid list, from a stack of the table, lists a sequence at
+-- each error point, and accepts.
+abbrev pub AcceptsEveryText : {X : Type 0} → (X → LexemeFacts) → (Asked X → List (List PlainStep) → Type 0) → Type 0
+AcceptsEveryText {X} facts allows =
+    (d : Checked) (k : ℕ) (lexemes : List X) (st : List ℕ) (stops : List RepairStop) (consumed : Option (List X)) (prods : List ℕ)
+    → AlwaysRepairs (λ x. (facts x).token) allows d → IsChecked d → 0 < k → IsValidList d.grammar (map facts lexemes) → IsStack d.table st
+    → RepairRun facts (allowed_at allows d k) k d.grammar d.table lexemes st 0 stops consumed prods
+    → All (λ s. s.listed ≢ []) stops × IsSome consumed
+
+-- a parse error that lists a repair
+abbrev pub ListsRepair : {S L B C : Type 0} → LexParseError S L B C → Type 0
+ListsRepair (LexError error) = ⊥
+ListsRepair (ParseError failure) = failure.repairs ≢ []
+
+-- The lexer allows an answer. If it has no lexing error, each error of the parse lists a repair, and its answer has a value; otherwise
+-- the first lexing error is the only error. `IsWhole` says that an answer of the parse has a value.
+abbrev pub RepairsText : {T S L B C F : Type 0} → (List (Result B C) → Type 0) → (T → List (LexParseError S L B C)) → (T → Type 0) → Result T F → Type 0
+RepairsText {B = B} {C = C} lexes errors_of IsWhole result =
+    IfOk result (λ answer. (lexed : List (Result B C)) × lexes lexed
+    × MatchOption (first_error lexed) (All ListsRepair (errors_of answer) × IsWhole answer) (λ error. errors_of answer ≡ LexError error ∷ []))
+
+-- the same for a parse to errors and a value
+abbrev pub HasValueOfText : {V S L B C Z F : Type 0} → (List (Result B C) → Type 0) → Result (Option V × Vec (LexParseError S L B C) Z) F → Type 0
+HasValueOfText lexes result = RepairsText lexes (λ answer. answer.1.items) (λ answer. IsSome answer.0) result
+
+-- and for a parse to errors alone
+abbrev pub HasRepairsOfText : {S L B C Z F : Type 0} → (List (Result B C) → Type 0) → Result (Vec (LexParseError S L B C) Z) F → Type 0
+HasRepairsOfText lexes result = RepairsText lexes (λ errors. errors.items) (λ errors. Unit {0}) result
+
+-- each result that such a parse may have is as above; `S` is the storage type and `L` the type of the types of a lexer
+abbrev pub EachHasValue : {V B C : Type 0} → (S L : Type 0) → Subject B → (List (Result B C) → Type 0) → (Tree B → V → Type 0) → Type 0
+EachHasValue {V} {B} {C} S L about lexes Evaluates =
+    (result : Result (Option V × Vec (LexParseError S L B C) Global) ParseFault) → ParsesTo about lexes Evaluates result → HasValueOfText lexes result
+
+-- the same for a parse to a value or an error
+abbrev pub EachOutcomeHasValue : {V E B C : Type 0} → (S L : Type 0) → Subject B → (List (Result B C) → Type 0) → (ParseFault → E → Type 0) → (Tree B → Result V E → Type 0) → Type 0
+EachOutcomeHasValue {V} {E} {B} {C} S L about lexes converts Evaluates =
+    (result : Result (Option V × Vec (LexParseError S L B C) Global) E) → ParsesToValue about lexes converts Evaluates result → HasValueOfText lexes result
+
+-- and for one to errors alone
+abbrev pub EachHasRepairs : {B C : Type 0} → (S L : Type 0) → Subject B → (List (Result B C) → Type 0) → Type 0
+EachHasRepairs {B} {C} S L about lexes =
+    (result : Result (Vec (LexParseError S L B C) Global) ParseFault) → ParsesToErrors about lexes result → HasRepairsOfText lexes result

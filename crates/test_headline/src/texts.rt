@@ -1,0 +1,65 @@
+//! If the recoverer always repairs, every text has a value, and each error lists a repair.
+ghost use Rattle.lrpar_parse.specs.EveryText.{HasRepairsOfText, HasValueOfText};
+ghost use Rattle.lrpar_parse_lexemes.specs.Views.{token_by};
+ghost use Rattle.lrpar_parse_repair.specs.AlwaysRepairs.{AlwaysRepairs};
+
+use lrpar_grammar::span::StorageIndex;
+use lrpar_parse::RTParserBuilder;
+use lrpar_parse::every_text::every_text_has_a_tree;
+use lrpar_parse::parser::{LexParseError, Node, ParseFault};
+use lrpar_parse_lexemes::lex_api::{LexerTypes, NonStreamingLexer};
+use lrpar_parse_repair::laws::or_repairs_where_one_does;
+use lrpar_parse_repair::repair::Recoverer;
+use lrpar_table::check::ParserData;
+use std::alloc::Global;
+
+/// The tree and the errors of a parse whose recoverer always repairs. If there is no lexing error, there is a tree, and each error lists a
+/// repair.
+pub fn tree_of_any_text<
+    'input,
+    StorageT: StorageIndex,
+    LexerTypesT: LexerTypes<StorageT = StorageT>,
+    L: NonStreamingLexer<'input, LexerTypesT>,
+    R: Recoverer<StorageT, LexerTypesT::LexemeT> + Drop,
+>(
+    alloc: Global,
+    parser: &RTParserBuilder<'_, StorageT, LexerTypesT, R>,
+    lexer: &L,
+) -> Result<
+    (
+        Option<Node<LexerTypesT::LexemeT, StorageT>>,
+        Vec<LexParseError<StorageT, LexerTypesT>>,
+    ),
+    ParseFault,
+>
+    requires { AlwaysRepairs (token_by StorageT.index LexerTypesT.LexemeT.parts) (R.allows parser.now.recoverer) parser.now.checked }
+    ensures { HasValueOfText (L.allows lexer.now) result }
+{
+    every_text_has_a_tree(parser, lexer);
+    parser.parse_generictree(alloc, lexer)
+}
+
+/// The errors of a parse by two recoverers, of which the second one always repairs: whatever the first one supplies, each error lists a
+/// repair, if there is no lexing error.
+pub fn errors_of_any_text<
+    'input,
+    StorageT: StorageIndex,
+    LexerTypesT: LexerTypes<StorageT = StorageT>,
+    L: NonStreamingLexer<'input, LexerTypesT>,
+    A: Recoverer<StorageT, LexerTypesT::LexemeT> + Drop,
+    B: Recoverer<StorageT, LexerTypesT::LexemeT> + Drop,
+>(
+    alloc: Global,
+    checked: &ParserData<StorageT>,
+    lexer: &L,
+    first: A,
+    second: B,
+) -> Result<Vec<LexParseError<StorageT, LexerTypesT>>, ParseFault>
+    requires { AlwaysRepairs (token_by StorageT.index LexerTypesT.LexemeT.parts) (B.allows second) checked.now }
+    ensures { HasRepairsOfText (L.allows lexer.now) result }
+{
+    or_repairs_where_one_does::<StorageT, LexerTypesT::LexemeT, A, B>();
+    let parser = RTParserBuilder::new(checked).recoverer(first.or(second));
+    every_text_has_a_tree(&parser, lexer);
+    parser.parse_noaction(alloc, lexer)
+}
