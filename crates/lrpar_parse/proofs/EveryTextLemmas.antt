@@ -118,9 +118,9 @@ module _ (g : Grammar) (lexemes : List LexemeFacts) (no_bad : (i : ℕ) → ¬ (
                           starts = before.1;
                         }))
                     | inr later ↦ (
-                        subst (HasGoodTokens g lexemes) next (good_more g lexemes n found.0 before.0 found.2 good),
-                        subst (HasOrderedStarts lexemes) next (ordered_more lexemes n previous.0 found.0 before.1 previous.1 found.2 later),
-                      )
+                      subst (HasGoodTokens g lexemes) next (good_more g lexemes n found.0 before.0 found.2 good),
+                      subst (HasOrderedStarts lexemes) next (ordered_more lexemes n previous.0 found.0 before.1 previous.1 found.2 later),
+                    )
                   ]
               | inr bad ↦ absurd (no_bad n (record { bad = (found.0, found.2, bad); tokens = before.0; starts = before.1 }))
             ]
@@ -156,8 +156,8 @@ value_there {V = V} token g Evaluates (Some xs) prods answer some (value, is, of
 answer_as : {V W S L B C : Type 0} (error : Option C) (before : Option V) (after : Option W) (errors : List (LexParseError S L B C)) → (IsSome before → IsSome after)
     → MatchOption error (All ListsRepair errors × IsSome before) (λ e. errors ≡ LexError e ∷ [])
     → MatchOption error (All ListsRepair errors × IsSome after) (λ e. errors ≡ LexError e ∷ [])
-answer_as None before after errors as has = (has.0, as has.1)
-answer_as (Some e) before after errors as has = has
+answer_as None before after errors keeps has = (has.0, keeps has.1)
+answer_as (Some e) before after errors keeps has = has
 
 -- a recoverer that always repairs over the table, of a parse over which k lexemes must follow a repair
 module _ {X : Type 0} (facts : X → LexemeFacts) (allows : Asked X → List (List PlainStep) → Type 0) (d : Checked) (k : ℕ)
@@ -183,8 +183,8 @@ module _ {X : Type 0} (facts : X → LexemeFacts) (allows : Asked X → List (Li
     answer_repairs lexed answer (Some error) is_some is = (is.lexing_error error is_some).0
     answer_repairs lexed answer None none is =
         let valid = valid_without_fault d.grammar (lexeme_facts facts lexed)
-            (λ i bad. ok_not_err answer (BadToken i) ((is.bad_token i).1 (none, bad)))
-            (λ i early. ok_not_err answer (StartsDecrease i) ((is.starts_decrease i).1 (none, early))) in
+        (λ i bad. ok_not_err answer (BadToken i) ((is.bad_token i).1 (none, bad)))
+        (λ i early. ok_not_err answer (StartsDecrease i) ((is.starts_decrease i).1 (none, early))) in
         run_repairs (lexemes_of lexed) answer valid (is.run none)
 
     -- the result of a parse
