@@ -8,4 +8,4 @@ pub returns : goal.returns
 returns c =
     added_thrice (string_bytes c.args.line.now) (codes "  n" ++ decimal c.args.number ++ codes " [label=\"")
     (leaf_label c.args.leaf.name.now c.args.leaf.text.now c.args.leaf.is_faulty) (leaf_shape c.args.leaf.is_faulty) _ _ _
-    c.in_ok-push_front.ensures c.in_ok-push_leaf_label.ensures c.in_ok-push_str.ensures.bytes
+    c.in_ok-push_front.ensures c.in_ok-push_leaf_label.ensures (rw c.leaf_shape.ensures at c.in_ok-push_str.ensures.bytes)
