@@ -8,7 +8,7 @@ mod values;
 
 use crate::language::{GRAMMAR, LEXER};
 use crate::lints::lints;
-use crate::values::{PRODS, Queries, Value};
+use crate::values::{EXPR_PRODS, QUERY_PRODS, Queries, Value};
 use example_language::{Failed, Language, language_of, push_errors};
 use lrpar::RTParserBuilder;
 use lrpar::repair::CpctPlus;
@@ -28,7 +28,7 @@ fn main(rt: HostRuntime) -> Result<(), Failed> {
 // The reports about a file: its errors, and what may be wrong with the statements of the file as repaired.
 fn linted(alloc: Global, queries: &Language, text: &str) -> Result<String, Failed> {
     let grm = queries.data.grm();
-    let spelled = grm.prods_spelled(alloc, &PRODS)?;
+    let spelled = grm.prods_spelled_in_parts(alloc, &[&QUERY_PRODS, &EXPR_PRODS])?;
     let unmatched = grm.token_idx("UNMATCHED").ok_or(Failed::Symbols)?;
     let lexer = RuleLexer::new(alloc, &queries.rules, text)?.with_unmatched(unmatched);
     let parser = RTParserBuilder::new(&queries.data).recoverer(CpctPlus::new(10_000));

@@ -3,14 +3,14 @@ use crate::tree::Operator::{And, Equal, Less, Minus, Or, Over, Plus, Times};
 use crate::tree::{Atom, Expr, Name, Operator, Query, Stage};
 use example_language::Failed;
 use lrpar::Lexeme;
-use lrpar::grammar::Spelled;
+use lrpar::grammar::SpelledParts;
 use lrpar::parser::{Args, Values};
 use lrpar::span::TextRange;
 use lrpar_lexer::{RuleLexer, Token};
 use std::alloc::Global;
 
-/// The productions. The functions below go by their places in this list, whatever their order in the grammar.
-pub(crate) const PRODS: [&str; 30] = [
+/// The productions of files, queries, stages and lists. `query` goes by their places here, whatever their order in the grammar.
+pub(crate) const QUERY_PRODS: [&str; 11] = [
     "File:",
     "File: File Statement ';'",
     "Statement: 'let' 'NAME' '=' Query",
@@ -22,7 +22,10 @@ pub(crate) const PRODS: [&str; 30] = [
     "Stage: 'take' 'INT'",
     "Exprs: Expr",
     "Exprs: Exprs ',' Expr",
-    // The expressions; first those with an operator.
+];
+
+/// Those of expressions, first the ones with an operator. `expr` goes by their places here.
+pub(crate) const EXPR_PRODS: [&str; 19] = [
     "Expr: Expr 'or' And",
     "And: And 'and' Comparison",
     "Comparison: Sum '=' Sum",
@@ -71,7 +74,7 @@ type Made<'text> = Result<Value<'text>, Failed>;
 /// Makes the syntax tree of a text.
 #[derive(Drop)]
 pub(crate) struct Queries<'a> {
-    pub(crate) spelled: &'a Spelled<u32>,
+    pub(crate) spelled: &'a SpelledParts<u32>,
 }
 
 impl<'a, 'rules, 'text> Values<Token<u32>, RuleLexer<'rules, 'text>> for Queries<'a> {
@@ -86,8 +89,8 @@ impl<'a, 'rules, 'text> Values<Token<u32>, RuleLexer<'rules, 'text>> for Queries
         args: &mut Given<'_, 'rules, 'text>,
     ) -> Result<Value<'text>, Failed> {
         match self.spelled.of_number(production) {
-            Some(place @ 0..=10) => query(alloc, place, args),
-            Some(place) => expr(alloc, place, args),
+            Some((0, place)) => query(alloc, place, args),
+            Some((_, place)) => expr(alloc, place, args),
             None => Err(Failed::Symbols),
         }
     }
@@ -170,12 +173,12 @@ fn more_exprs<'text>(exprs: Part<'text>, expr: Part<'text>) -> Made<'text> {
 // The value of a production of expressions.
 fn expr<'text>(alloc: Global, place: usize, args: &mut Given<'_, '_, 'text>) -> Made<'text> {
     match place {
-        11..=18 => binary(alloc, OPERATORS.get(place - 11), args),
-        19 => Ok(Value::Expr(Expr::Atom(Atom::Column, named(args)?.text))),
-        20 => Ok(Value::Expr(Expr::Atom(Atom::Number, named(args)?.text))),
-        21 => Ok(Value::Expr(Expr::Atom(Atom::Text, named(args)?.text))),
-        22 => Ok(Value::Expr(Expr::Null)),
-        23 => {
+        0..=7 => binary(alloc, OPERATORS[place], args),
+        8 => Ok(Value::Expr(Expr::Atom(Atom::Column, named(args)?.text))),
+        9 => Ok(Value::Expr(Expr::Atom(Atom::Number, named(args)?.text))),
+        10 => Ok(Value::Expr(Expr::Atom(Atom::Text, named(args)?.text))),
+        11 => Ok(Value::Expr(Expr::Null)),
+        12 => {
             let name = named(args)?;
             let _bracket = args.lexeme();
             call(name, args.value())
@@ -188,16 +191,11 @@ fn expr<'text>(alloc: Global, place: usize, args: &mut Given<'_, '_, 'text>) -> 
     }
 }
 
-fn binary<'text>(
-    alloc: Global,
-    operator: Option<&Operator>,
-    args: &mut Given<'_, '_, 'text>,
-) -> Made<'text> {
-    let operator = *operator.ok_or(Failed::Symbols)?;
+fn binary<'text>(alloc: Global, sign: Operator, args: &mut Given<'_, '_, 'text>) -> Made<'text> {
     let left = operand(alloc, args.value())?;
     let _operator = args.lexeme();
     let right = operand(alloc, args.value())?;
-    Ok(Value::Expr(Expr::Binary(operator, TextRange::from(args.span()), left, right)))
+    Ok(Value::Expr(Expr::Binary(sign, TextRange::from(args.span()), left, right)))
 }
 
 fn operand<'text>(alloc: Global, value: Part<'text>) -> Result<Box<Expr<'text>>, Failed> {
