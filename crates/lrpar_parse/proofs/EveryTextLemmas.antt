@@ -1,22 +1,19 @@
 -- A recoverer that always repairs: each error point of a run is one at which it is asked, so a sequence is listed there. Then the run
 -- accepts, and the parse has a value.
-use Rattle.std.proofs.Common.{◌≡◌, ◌≢◌, ◌<◌, ◌≤◌, ◌+◌, ◌∙◌, inl, inr, ℕ, zero, suc, List, [], ◌∷◌, All, Contains, IfOk, IsSome, MatchOption, None, Option, Ok, Err, Result, Some, Vec, ap, arith, drop, get_or, length, map, refl, slice_get, subst, sym}
+use Rattle.std.proofs.Common.{◌≡◌, ◌≢◌, ◌<◌, ◌≤◌, ◌+◌, ◌∙◌, inl, inr, ℕ, zero, suc, List, [], ◌∷◌, All, Contains, IsSome, MatchOption, None, Option, Ok, Err, Result, Some, Vec, arith, drop, get_or, length, map, refl, subst, sym}
 use Rattle.std.specs.List.{AllZip}
 use Rattle.std.proofs.lemmas.Bool.{cases_lt}
-use Rattle.std.proofs.lemmas.List.{length-map}
 use Rattle.std.proofs.lemmas.List.Elements.{All-nil, All-cons, All-head, All-tail}
 use Rattle.std.proofs.lemmas.Option.{slice_get_cases}
 use Rattle.lrpar_grammar.specs.Grammar.{Grammar, end_token}
 use Rattle.lrpar_grammar.specs.Sentence.{HasGoodTokens, HasOrderedStarts, IsFirstBadToken, IsFirstEarlyStart, IsValidList, LexemeFacts}
 use Rattle.lrpar_grammar.specs.Tree.{Tree}
-use Rattle.lrpar_table_rows.specs.Table.{Table, Fails}
+use Rattle.lrpar_table_rows.specs.Table.{Table}
 use Rattle.lrpar_table_check.specs.Checked.{Checked, IsChecked}
-use Rattle.lrpar_table_stacks.specs.Reduction.{top_action}
-use Rattle.lrpar_table_stacks.specs.Run.{Stopped, token_at}
-use Rattle.lrpar_table_stacks.specs.Stack.{IsStack}
+use Rattle.lrpar_table_stacks.specs.Run.{Stopped}
 use Rattle.lrpar_parse_errors.specs.declared.errors.LexParseError.{LexParseError}
 use Rattle.lrpar_parse_errors.specs.declared.errors.LexParseError.TheVariants.{LexError, ParseError}
-use Rattle.lrpar_parse_repair.specs.AlwaysRepairs.{AlwaysRepairs, SomeWorks}
+use Rattle.lrpar_parse_repair.specs.AlwaysRepairs.{AlwaysRepairs}
 use Rattle.lrpar_parse_repair.specs.Asked.{Asked, IsStop, allowed_at, asked_at}
 use Rattle.lrpar_parse_repair.specs.Recovery.{Point}
 use Rattle.lrpar_parse_repair.specs.Repaired.{repairs_over}
