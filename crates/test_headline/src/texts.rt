@@ -9,8 +9,8 @@ use lrpar_parse::every_text::every_text_has_a_tree;
 use lrpar_parse::parser::{LexParseError, Node, ParseFault};
 use lrpar_parse_lexemes::lex_api::{LexerTypes, NonStreamingLexer};
 use lrpar_parse_repair::laws::or_repairs_where_one_does;
+use lrpar_parse_repair::or::Or;
 use lrpar_parse_repair::repair::Recoverer;
-use lrpar_table::check::ParserData;
 use std::alloc::Global;
 
 /// The tree and the errors of a parse whose recoverer always repairs. If there is no lexing error, there is a tree, and each error lists a
@@ -50,16 +50,13 @@ pub fn errors_of_any_text<
     B: Recoverer<StorageT, LexerTypesT::LexemeT> + Drop,
 >(
     alloc: Global,
-    checked: &ParserData<StorageT>,
+    parser: &RTParserBuilder<'_, StorageT, LexerTypesT, Or<A, B, StorageT, LexerTypesT::LexemeT>>,
     lexer: &L,
-    first: A,
-    second: B,
 ) -> Result<Vec<LexParseError<StorageT, LexerTypesT>>, ParseFault>
-    requires { AlwaysRepairs (token_by StorageT.index LexerTypesT.LexemeT.parts) (B.allows second) checked.now }
+    requires { AlwaysRepairs (token_by StorageT.index LexerTypesT.LexemeT.parts) (B.allows parser.now.recoverer.second) parser.now.checked }
     ensures { HasRepairsOfText (L.allows lexer.now) result }
 {
     or_repairs_where_one_does::<StorageT, LexerTypesT::LexemeT, A, B>();
-    let parser = RTParserBuilder::new(checked).recoverer(first.or(second));
-    every_text_has_a_tree(&parser, lexer);
+    every_text_has_a_tree(parser, lexer);
     parser.parse_noaction(alloc, lexer)
 }
