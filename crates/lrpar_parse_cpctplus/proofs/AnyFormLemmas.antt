@@ -16,10 +16,10 @@ use Rattle.lrpar_parse_cpctplus.proofs.PruneLemmas.{Stripped, strip}
 use Rattle.lrpar_parse_cpctplus.proofs.LeadLemmas.{cost_begins, fewer_go_on, leads_works, replays_parted, shifts_go_on, works_leads}
 
 -- steps are at the beginning of a sequence, or after its first step
-abbrev BeginsBy : List PlainStep → List PlainStep → Type 0
+abbrev pub BeginsBy : List PlainStep → List PlainStep → Type 0
 BeginsBy p part = (rest : List PlainStep) × (p ≡ part ++ rest)
 
-first_or_later : (s : PlainStep) (p : List PlainStep) (x : PlainStep) (part before after : List PlainStep) → s ∷ p ≡ before ++ (x ∷ part) ++ after
+pub first_or_later : (s : PlainStep) (p : List PlainStep) (x : PlainStep) (part before after : List PlainStep) → s ∷ p ≡ before ++ (x ∷ part) ++ after
     → ((s ≡ x) × BeginsBy p part) ⊎ Has p (x ∷ part)
 first_or_later s p x part [] after e =
     let whole : s ∷ p ≡ x ∷ (part ++ after) = e in
@@ -33,7 +33,7 @@ first_or_later s p x part (y ∷ before) after e =
 
 module _ (end : ℕ) where
   -- a step before a well-formed sequence: a Delete only if no Insert follows
-  formed_prepend : (s : PlainStep) (p : List PlainStep) → IsStepOf end s
+  pub formed_prepend : (s : PlainStep) (p : List PlainStep) → IsStepOf end s
       → ((t : ℕ) → s ≡ PlainDelete → ¬ (BeginsBy p (PlainInsert t ∷ []))) → IsFormed end p → IsFormed end (s ∷ p)
   formed_prepend s p is apart h = record {
     inserts = λ t at.
@@ -48,20 +48,20 @@ module _ (end : ℕ) where
         ];
   }
 
-  formed_after : (s : PlainStep) (p : List PlainStep) → IsFormed end (s ∷ p) → IsFormed end p
+  pub formed_after : (s : PlainStep) (p : List PlainStep) → IsFormed end (s ∷ p) → IsFormed end p
   formed_after s p h = record {
     inserts = λ t at. h.inserts t (has_after s p (PlainInsert t ∷ []) at);
     apart = λ t at. h.apart t (has_after s p (PlainDelete ∷ PlainInsert t ∷ []) at);
   }
 
 -- a Delete after the Inserts that a sequence begins with
-abbrev sunk : List PlainStep → List PlainStep
+abbrev pub sunk : List PlainStep → List PlainStep
 sunk [] = PlainDelete ∷ []
 sunk (PlainInsert t ∷ p) = PlainInsert t ∷ sunk p
 sunk (PlainDelete ∷ p) = PlainDelete ∷ (PlainDelete ∷ p)
 sunk (PlainShift ∷ p) = PlainDelete ∷ (PlainShift ∷ p)
 
-sunk_formed : (end : ℕ) (p : List PlainStep) → IsFormed end p → IsFormed end (sunk p)
+pub sunk_formed : (end : ℕ) (p : List PlainStep) → IsFormed end p → IsFormed end (sunk p)
 sunk_formed end [] h = formed_prepend end PlainDelete [] tt (λ t e at. let none : [] ≡ PlainInsert t ∷ at.0 = at.1 in cc) h
 sunk_formed end (PlainInsert t ∷ p) h =
     formed_prepend end (PlainInsert t) (sunk p) (h.inserts t ([], p, refl)) (λ u e at. cc) (sunk_formed end p (formed_after end (PlainInsert t) p h))
@@ -72,7 +72,7 @@ sunk_formed end (PlainShift ∷ p) h =
 
 module _ {X : Type 0} (token : X → ℕ) (g : Grammar) (lexemes : List X) (costs : List ℕ) where
   -- it costs there what it does at the beginning
-  sunk_costs : (i : ℕ) (p : List PlainStep)
+  pub sunk_costs : (i : ℕ) (p : List PlainStep)
       → steps_cost token g lexemes costs i (sunk p) ≡ step_cost token g lexemes costs i PlainDelete + steps_cost token g lexemes costs (i + 1) p
   sunk_costs i [] = refl
   sunk_costs i (PlainInsert t ∷ p) = omega (arith, sunk_costs i p)

@@ -16,3 +16,11 @@ pub mod StackAnswerLemmas
 pub mod CostLemmas
 pub mod SaidLemmas
 pub mod OneAnswerLemmas
+pub mod DistanceLemmas
+pub mod ChainLemmas
+pub mod EndLemmas
+pub mod LastStepLemmas
+pub mod FirstLemmas
+pub mod ListingLemmas
+pub mod RoundLemmas
+pub mod WayLemmas

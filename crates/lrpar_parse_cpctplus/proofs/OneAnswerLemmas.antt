@@ -40,7 +40,7 @@ differ_one_way (z ∷ s) x y a b (w ∷ t) u v c d left right h k =
     let other : s ++ y ∷ b ≡ t ++ u ∷ c = let e : z ∷ (s ++ y ∷ b) ≡ w ∷ (t ++ u ∷ c) = right in cc in
     differ_one_way s x y a b t u v c d one other h k
 
-earlier_one_way : (xs ys : List PlainStep) → IsEarlier xs ys → ¬ (IsEarlier ys xs)
+pub earlier_one_way : (xs ys : List PlainStep) → IsEarlier xs ys → ¬ (IsEarlier ys xs)
 earlier_one_way xs ys h k =
     differ_one_way h.same h.x h.y h.after_x h.after_y k.same k.x k.y k.after_x k.after_y (sym h.left ∙ k.right) (sym h.right ∙ k.left) h.before k.before
 
@@ -56,7 +56,7 @@ first_one_way token at xs ys h k =
 
 -- lists that are in an order
 module _ {A : Type 0} (R : A → A → Type 0) (one_way : (x y : A) → R x y → ¬ (R y x)) where
-  at_any : (P : A → Type 0) (x : A) (xs : List A) → All P xs → IsIn x xs → P x
+  pub at_any : (P : A → Type 0) (x : A) (xs : List A) → All P xs → IsIn x xs → P x
   at_any P x xs all m = let h = contained x xs m in subst P h.2 (all h.0 x h.1)
 
   -- the first ones are the same

@@ -8,6 +8,10 @@ pub mod Reaching
 pub mod Order
 pub mod Answer
 pub mod OneAnswer
+pub mod Configurations
+pub mod Chains
+pub mod Listing
+pub mod Ways
 pub mod Walking
 pub mod Tallied
 pub mod SearchView

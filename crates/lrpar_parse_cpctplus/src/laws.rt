@@ -1,6 +1,8 @@
 //! Laws about the definitions that contracts cite: each function has one as its contract, and does nothing.
 ghost use Rattle.lrpar_grammar.specs.Sentence.{LexemeFacts};
 ghost use Rattle.lrpar_parse_cpctplus.specs.AnyForm.{CostNoLess, HaveRepairs};
+ghost use Rattle.lrpar_parse_cpctplus.specs.Chains.{EndsHaveRepairs, LastStepsAreLinks, LeastCostByLastSteps, RepairsAreChains};
+ghost use Rattle.lrpar_parse_cpctplus.specs.Listing.{ListedAreOne, ListedInOrder};
 ghost use Rattle.lrpar_parse_cpctplus.specs.OneAnswer.{CheapestAreOne};
 
 /// The form of repairs leaves out nothing that is cheaper: for each sequence that works at an error point, whatever the order of
@@ -15,4 +17,30 @@ pub fn no_sequence_is_cheaper_than_repairs<LexemeT>()
 /// At an error point there is one answer: its proved properties leave no choice, neither of the repairs nor of their order.
 pub fn cheapest_repairs_have_one_answer<LexemeT>()
     ensures { CheapestAreOne LexemeT }
+{}
+
+/// The repairs of least cost are the well-formed chains of links from the error point to an end, and each end is that of a repair. So
+/// a search may keep each stack and place once, however many sequences lead to it.
+pub fn cheapest_repairs_are_chains<LexemeT>()
+    ensures repairs { RepairsAreChains LexemeT }
+    ensures ends { EndsHaveRepairs LexemeT }
+    ensures facts_repairs { RepairsAreChains LexemeFacts }
+    ensures facts_ends { EndsHaveRepairs LexemeFacts }
+{}
+
+/// The least cost of a repair is the least one at which a step other than a Shift leads to where a parse can go on; and these steps
+/// are the links of the ends.
+pub fn last_steps_give_the_least_cost<LexemeT>()
+    ensures least { LeastCostByLastSteps LexemeT }
+    ensures links { LastStepsAreLinks LexemeT }
+    ensures facts_least { LeastCostByLastSteps LexemeFacts }
+    ensures facts_links { LastStepsAreLinks LexemeFacts }
+{}
+
+/// At an error point one list is allowed: of two repairs that may be listed, one comes before the other.
+pub fn listed_repairs_have_one_answer<LexemeT>()
+    ensures one { ListedAreOne LexemeT }
+    ensures order { ListedInOrder LexemeT }
+    ensures facts_one { ListedAreOne LexemeFacts }
+    ensures facts_order { ListedInOrder LexemeFacts }
 {}

@@ -1,0 +1,82 @@
+-- The repairs that are listed at an error point: the first ones in an order, of those of least cost.
+use Rattle.std.specs.Prelude.{◌≡◌, ◌<◌, ◌≤◌, ◌↔◌, ◌⊎◌, ℕ, Bool, false, IsTrue, List, [], ◌∷◌, length, slice_index_or}
+use Rattle.std.specs.List.{All, AllPairs, Contains}
+use Rattle.lrpar_parse_repair.specs.Asked.{Asked}
+use Rattle.lrpar_parse_repair.specs.Sequences.{PlainStep, PlainInsert}
+use Rattle.lrpar_parse_cpctplus.specs.Cheapest.{AreAtMost, IsLeastCost, RepairsAt}
+use Rattle.lrpar_parse_cpctplus.specs.Configurations.{IsNearer}
+use Rattle.lrpar_parse_cpctplus.specs.Forms.{Has}
+use Rattle.lrpar_parse_cpctplus.specs.Order.{IsEarlier}
+use Rattle.lrpar_parse_cpctplus.specs.Reaching.{GoesAsFar}
+
+-- How a recoverer is set: how many configurations a search may keep; what each token costs, by its number, where a token past these
+-- costs 1; which tokens are to be avoided, by their numbers; how many repairs are listed at most; and whether all repairs of least
+-- cost are listed, or only those after which a parse goes on furthest.
+pub record Settings : Type 0 where
+  pub limit : ℕ
+  pub costs : List ℕ
+  pub avoided : List Bool
+  pub most : ℕ
+  pub lists_all : Bool
+
+-- the sequence inserts a token that is to be avoided
+abbrev pub InsertsAvoided : List Bool → List PlainStep → Type 0
+InsertsAvoided avoided steps = (t : ℕ) × IsTrue (slice_index_or avoided t false) × Has steps (PlainInsert t ∷ [])
+
+-- either both sequences insert such a token, or none does
+abbrev pub AreAlike : List Bool → List PlainStep → List PlainStep → Type 0
+AreAlike avoided xs ys = InsertsAvoided avoided xs ↔ InsertsAvoided avoided ys
+
+-- of two repairs after which a parse goes on as far, the first one comes before the other
+pub data IsPreferred (avoided : List Bool) (xs ys : List PlainStep) : Type 0 where
+  -- only the other inserts a token that is to be avoided
+  avoids : ¬ (InsertsAvoided avoided xs) → InsertsAvoided avoided ys → IsPreferred avoided xs ys
+  -- they are alike in that, and it has fewer steps
+  is_shorter : AreAlike avoided xs ys → length xs < length ys → IsPreferred avoided xs ys
+  -- or as many, and it is earlier
+  is_earlier : AreAlike avoided xs ys → length xs ≡ length ys → IsEarlier xs ys → IsPreferred avoided xs ys
+
+-- one repair is listed before another: a parse goes on further after it; or as far, and it is preferred
+abbrev pub IsListedBefore : {X : Type 0} → (X → ℕ) → Asked X → List Bool → List PlainStep → List PlainStep → Type 0
+IsListedBefore token at avoided xs ys =
+    (m n : ℕ) × GoesAsFar token at xs m × GoesAsFar token at ys n × ((n < m) ⊎ ((m ≡ n) × IsPreferred avoided xs ys))
+
+-- These are the first n things that have P, in an order, or all of them: if one isn't among them, they are n, and it comes after each.
+pub record AreFirst {A : Type 0} (n : ℕ) (P : A → Type 0) (Before : A → A → Type 0) (xs : List A) : Type 0 where
+  pub few : length xs ≤ n
+  pub each : (x : A) → Contains xs x → P x
+  pub ordered : AllPairs Before xs
+  pub others : (x : A) → P x → Contains xs x ⊎ ((length xs ≡ n) × All (λ y. Before y x) xs)
+
+module _ {X : Type 0} (token : X → ℕ) (settings : Settings) (at : Asked X) where
+  -- c is the least cost of a repair, and no more configurations than may be kept are nearer than c
+  pub record IsFoundAt (c : ℕ) : Type 0 where
+    pub least : IsLeastCost token settings.costs at c
+    pub within : AreAtMost settings.limit (IsNearer token settings.costs at c)
+
+  -- after no other repair that costs c a parse goes on further
+  abbrev pub GoesFurthest : ℕ → List PlainStep → Type 0
+  GoesFurthest c steps =
+      (m : ℕ) × GoesAsFar token at steps m
+      × ((other : List PlainStep) (n : ℕ) → RepairsAt token settings.costs at c other → GoesAsFar token at other n → n ≤ m)
+
+  -- a repair that costs c and may be listed
+  abbrev pub MayBeListed : ℕ → List PlainStep → Type 0
+  MayBeListed c steps = RepairsAt token settings.costs at c steps × (IsTrue settings.lists_all ⊎ GoesFurthest c steps)
+
+  -- what is answered: the first repairs of least cost, if the limit allows to find that cost, and none otherwise
+  pub record AreListed (answer : List (List PlainStep)) : Type 0 where
+    pub first : (c : ℕ) → IsFoundAt c → AreFirst settings.most (MayBeListed c) (IsListedBefore token at settings.avoided) answer
+    pub else : (answer ≡ []) ⊎ ((c : ℕ) × IsFoundAt c)
+
+-- at an error point there is one answer
+abbrev pub ListedAreOne : Type 0 → Type 0
+ListedAreOne X =
+    (token : X → ℕ) (settings : Settings) (at : Asked X) (xs ys : List (List PlainStep))
+    → AreListed token settings at xs → AreListed token settings at ys → xs ≡ ys
+
+-- of two repairs one is listed before the other, or they are the same
+abbrev pub ListedInOrder : Type 0 → Type 0
+ListedInOrder X =
+    (token : X → ℕ) (at : Asked X) (avoided : List Bool) (xs ys : List PlainStep) (m n : ℕ) → GoesAsFar token at xs m → GoesAsFar token at ys n
+    → IsListedBefore token at avoided xs ys ⊎ ((xs ≡ ys) ⊎ IsListedBefore token at avoided ys xs)

@@ -1,0 +1,47 @@
+-- The ways from a configuration to ends: what is left of the repairs of least cost that pass it.
+use Rattle.std.specs.Prelude.{◌≡◌, ◌||◌, ℕ, Bool, true, false, List, [], ◌∷◌, length, slice_index_or}
+use Rattle.lrpar_parse_repair.specs.Asked.{Asked}
+use Rattle.lrpar_parse_repair.specs.Sequences.{PlainStep, PlainInsert, PlainDelete, PlainShift}
+use Rattle.lrpar_parse_cpctplus.specs.Chains.{IsChain, IsEnd}
+use Rattle.lrpar_parse_cpctplus.specs.Configurations.{Configured}
+use Rattle.lrpar_parse_cpctplus.specs.Listing.{Settings}
+
+-- whether it is a Delete
+abbrev pub is_delete : PlainStep → Bool
+is_delete (PlainInsert t) = false
+is_delete PlainDelete = true
+is_delete PlainShift = false
+
+-- the step may be the next one: it is no Insert, if the step before it is a Delete
+abbrev pub FitsAfter : Bool → PlainStep → Type 0
+FitsAfter deleted (PlainInsert t) = deleted ≡ false
+FitsAfter deleted PlainDelete = Unit {0}
+FitsAfter deleted PlainShift = Unit {0}
+
+-- so may the steps, each after the one before it
+abbrev pub FitAfter : Bool → List PlainStep → Type 0
+FitAfter deleted [] = Unit {0}
+FitAfter deleted (step ∷ steps) = FitsAfter deleted step × FitAfter (is_delete step) steps
+
+-- a way from v to an end at c, after a Delete or another step
+pub record IsWay {X : Type 0} (token : X → ℕ) (costs : List ℕ) (at : Asked X) (c : ℕ) (deleted : Bool) (v : Configured) (steps : List PlainStep) : Type 0 where
+  pub fits : FitAfter deleted steps
+  pub end : Configured
+  pub ends : IsEnd token costs at c end
+  pub chain : IsChain token costs at c v steps end
+
+-- whether the step inserts a token that is to be avoided
+abbrev pub is_avoided : List Bool → PlainStep → Bool
+is_avoided avoided (PlainInsert t) = slice_index_or avoided t false
+is_avoided avoided PlainDelete = false
+is_avoided avoided PlainShift = false
+
+-- whether one of the steps does
+abbrev pub has_avoided : List Bool → List PlainStep → Bool
+has_avoided avoided [] = false
+has_avoided avoided (step ∷ steps) = is_avoided avoided step || has_avoided avoided steps
+
+-- there is a way of n steps, one of which inserts such a token, or none does
+abbrev pub HasWay : {X : Type 0} → (X → ℕ) → Settings → Asked X → ℕ → Bool → Configured → ℕ → Bool → Type 0
+HasWay token settings at c deleted v n avoided =
+    (steps : List PlainStep) × IsWay token settings.costs at c deleted v steps × (length steps ≡ n) × (has_avoided settings.avoided steps ≡ avoided)
