@@ -99,8 +99,8 @@ module _ {X : Type 0} (states : X → List ℕ) (reduces : X → ℕ → ℕ →
         let by = h.settles.of_states in
         let higher : length (states new) ≡ length (states h.settled) + 1 =
         ap (λ (l : List ℕ). length l) h.pushed ∙ length-append (states h.settled) (h.next ∷ []) in
-        let shift = shifted_first 0 h.settled new new t (record { next = h.next; does = h.does; pushed = h.pushed; of_rest = h.of_rest }) (stays new) in
         let none : length by.prods + 0 ≡ length by.prods = omega arith in
+        let shift = shifted_first 0 h.settled new new t (record { next = h.next; does = h.does; pushed = h.pushed; of_rest = h.of_rest }) (stays new) in
         record {
           count = length by.prods;
           moved = subst (λ (k : ℕ). IsMovedBy states reduces shifts g table k old new) none

@@ -238,7 +238,10 @@ impl<'a, StorageT: StorageIndex, LexemeT: Lexeme<StorageT>> Engine<'a, StorageT,
         ensures moved { OnOk result (IsMovedFor self.now S.states S.reduces S.shifts 1 stack.old stack.new) }
     {
         let end = self.checked.grm().eof_token_idx();
-        if usize::from(token) < usize::from(end) && self.feed(stack, token)? {
+        if usize::from(token) >= usize::from(end) {
+            return Ok(None);
+        }
+        if self.feed(stack, token)? {
             Ok(Some(place))
         } else {
             Ok(None)

@@ -1,19 +1,22 @@
-use Rattle.std.proofs.Common.{IsTrue, ◌+◌, arith}
+use Rattle.std.proofs.Common.{◌≡◌, ◌+◌, ◌-◌, ℕ, IsTrue, arith, subst, sym}
 use Rattle.std.proofs.lemmas.Result.{IfOk-weaker, on_ok_weaker}
-use Rattle.lrpar_parse_repair.specs.Sequences.{PlainShift}
+use Rattle.lrpar_parse_repair.specs.Sequences.{CanGoOn, PlainShift}
 use Rattle.lrpar_parse_repair.proofs.SequenceLemmas.{go_on_ends, go_on_next, go_on_stops, taken_within}
 use Rattle.lrpar_parse_repair.proofs.EngineLemmas.{moved_more, unmoved}
 use Rattle.lrpar_parse_repair.proofs.engine.Engine.can_go_on.Goals as goal
 
 pub lexemes-init : goal.lexemes-init
 lexemes-init g c =
+    let token = λ (x : g.row.LexemeT.Denot). g.StorageT.StorageIndex.index (g.LexemeT.Lexeme.parts x).token in
     let d = c.args.self.now.checked.now in
     let kind = g.S.StateStack in
+    let all : c.args.self.now.shifts ≡ c.args.self.now.shifts - 0 = omega arith in
+    let goes_on = λ (k : ℕ). CanGoOn token d.grammar d.table c.args.self.now.lexemes.now k (kind.states c.args.stack.now) c.args.place in
     record {
       stack = c.requires.stack;
       within = c.requires.within;
       moved = unmoved kind.states kind.reduces g.S.ShiftStack.shifts d.grammar d.table d.cap 0 c.args.stack.now;
-      left = (λ h. h, λ h. h);
+      left = (λ h. subst goes_on (sym all) h, λ h. subst goes_on all h);
     }
 
 pub returns-then-at-self-clause-goes_on : goal.returns-then-at-self-clause-goes_on
@@ -31,6 +34,7 @@ pub returns-in-None-clause-goes_on : goal.returns-in-None-clause-goes_on
 returns-in-None-clause-goes_on g c =
     let token = λ (x : g.row.LexemeT.Denot). g.StorageT.StorageIndex.index (g.LexemeT.Lexeme.parts x).token in
     let d = c.args.self.now.checked.now in
+    let kind = g.S.StateStack in
     let l = c.lexemes in (
       λ h. absurd (cc),
       λ all. absurd (go_on_stops token d.grammar d.table c.args.self.now.lexemes.now _ c.args.self.now.shifts l.counter (kind.states l.stack) l.at _ _
