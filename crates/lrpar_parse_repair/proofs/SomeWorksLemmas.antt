@@ -10,7 +10,7 @@ use Rattle.lrpar_table_rows.specs.Table.{Table}
 use Rattle.lrpar_table_check.specs.Checked.{Checked}
 use Rattle.lrpar_table_stacks.specs.Overlay.{OverlayReduces, OverlayShifts, Overlaid, overlaid}
 use Rattle.lrpar_parse_repair.specs.AlwaysRepairs.{AlwaysRepairs, FirstOrSecond, SomeWorks}
-use Rattle.lrpar_parse_repair.specs.Asked.{Asked, IsStop}
+use Rattle.lrpar_parse_repair.specs.Asked.{Asked}
 use Rattle.lrpar_parse_repair.specs.Moves.{AreTestsWithin, IsMovedWithin, at_base}
 use Rattle.lrpar_parse_repair.specs.PlainSteps.{plain_sequences, plain_steps}
 use Rattle.lrpar_parse_repair.specs.Sequences.{PlainStep, Works}

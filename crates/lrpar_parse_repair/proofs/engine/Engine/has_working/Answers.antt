@@ -1,5 +1,5 @@
-use Rattle.std.proofs.Common.{◌+◌, ◌∙◌, refl, subst, sym, length}
-use Rattle.lrpar_table_stacks.specs.Overlay.{overlaid}
+use Rattle.std.proofs.Common.{◌+◌, ◌∙◌, ap, arith, length, refl, subst, sym}
+use Rattle.lrpar_table_stacks.specs.Overlay.{Overlaid, overlaid}
 use Rattle.lrpar_table_stacks.specs.Stack.{IsStack}
 use Rattle.lrpar_parse_repair.proofs.EngineLemmas.{base_stays, untested}
 use Rattle.lrpar_parse_repair.proofs.SomeWorksLemmas.{none_of_all, none_works, tested_of_all, tested_one_more}
@@ -16,7 +16,7 @@ loop-steps-init g c =
     let d = c.args.self.now.checked.now in
     record {
       base = refl;
-      none = tt;
+      none = λ n steps below. absurd (omega (arith, below));
       bounded = untested d.grammar d.table d.cap _ c.args.states.now;
     }
 
@@ -31,7 +31,7 @@ loop-steps-preserved g c =
     let answer = c.args.answer.now in
     let from = c.set_back.ensures.states ∙ l.invariant.base in
     record {
-      base = base_stays d.grammar d.table d.cap _ c.set_back.new.self c.works.new.stack c.in_ok-works.ensures.moved ∙ (c.set_back.ensures.base ∙ l.invariant.base);
+      base = base_stays d.grammar d.table d.cap _ c.set_back.new.self c.works.new.stack c.in_ok-works.ensures.moved ∙ (ap (λ (o : Overlaid). o.base) c.set_back.ensures.made ∙ l.invariant.base);
       none = none_works token d.grammar d.table self.lexemes.now index self.shifts start.base c.args.place answer l.steps-index c.steps-item.result c.deref.result.now
           (overlaid c.set_back.new.self) _ c.loop-steps-test.true c.steps-item.is from c.deref.ensures.value c.in_ok-works.ensures.works c.if-branch.false l.invariant.none;
       bounded = tested_one_more d.grammar d.table index d.cap self.shifts start l.states c.set_back.new.self c.works.new.stack answer l.steps-index c.steps-item.result c.deref.result.now

@@ -1,6 +1,7 @@
-use Rattle.std.proofs.Common.{◌∙◌, refl, subst, sym}
-use Rattle.lrpar_table_stacks.specs.Overlay.{overlaid}
+use Rattle.std.proofs.Common.{◌∙◌, ap, refl, subst, sym}
+use Rattle.lrpar_table_stacks.specs.Overlay.{Overlaid, overlaid}
 use Rattle.lrpar_table_stacks.specs.Stack.{IsStack}
+use Rattle.lrpar_parse_repair.specs.PlainSteps.{plain_sequences}
 use Rattle.lrpar_parse_repair.proofs.EngineLemmas.{base_stays, tested_more, untested}
 use Rattle.lrpar_parse_repair.proofs.SequenceLemmas.{listed_more, listed_no_more}
 use Rattle.lrpar_parse_repair.proofs.engine.Engine.tested.Goals as goal
@@ -16,7 +17,7 @@ loop-steps-init g c =
     let d = c.args.self.now.checked.now in
     record {
       base = refl;
-      listed = refl;
+      listed = ap (λ items. plain_sequences g.StorageT.StorageIndex.index items) c.new-listed.ensures.items;
       bounded = untested d.grammar d.table d.cap _ c.args.states.now;
     }
 
@@ -29,7 +30,7 @@ loop-steps-preserved-then-not-works g c =
     let l = c.loop-steps in
     let from = c.set_back.ensures.states ∙ l.invariant.base in
     record {
-      base = base_stays d.grammar d.table d.cap _ c.set_back.new.self c.works.new.stack c.in_ok-works.ensures.moved ∙ (c.set_back.ensures.base ∙ l.invariant.base);
+      base = base_stays d.grammar d.table d.cap _ c.set_back.new.self c.works.new.stack c.in_ok-works.ensures.moved ∙ (ap (λ (o : Overlaid). o.base) c.set_back.ensures.made ∙ l.invariant.base);
       listed = listed_no_more token d.grammar d.table self.lexemes.now index self.shifts c.args.states.now.base c.args.place l.yielded
           l.listed.items c.in-Some.steps c.deref.result.now (overlaid c.set_back.new.self) _ from c.deref.ensures.value
           c.in_ok-works.ensures.works c.if-not-works.true l.invariant.listed;
@@ -46,7 +47,7 @@ loop-steps-preserved g c =
     let l = c.loop-steps in
     let from = c.set_back.ensures.states ∙ l.invariant.base in
     record {
-      base = base_stays d.grammar d.table d.cap _ c.set_back.new.self c.works.new.stack c.in_ok-works.ensures.moved ∙ (c.set_back.ensures.base ∙ l.invariant.base);
+      base = base_stays d.grammar d.table d.cap _ c.set_back.new.self c.works.new.stack c.in_ok-works.ensures.moved ∙ (ap (λ (o : Overlaid). o.base) c.set_back.ensures.made ∙ l.invariant.base);
       listed = listed_more token d.grammar d.table self.lexemes.now index self.shifts c.args.states.now.base c.args.place l.yielded
           l.listed.items c.push.new.self.items c.in-Some.steps c.deref.result.now (overlaid c.set_back.new.self) _ from c.deref.ensures.value c.in_ok-push.ensures.items
           c.in_ok-works.ensures.works c.if-not-works.false l.invariant.listed;
