@@ -1,24 +1,14 @@
--- What follows for a stack from its top state's action.
-use Rattle.std.proofs.Common.{◌≡◌, ◌∙◌, ◌↔◌, ℕ, Bool, Some, IsTrue, sym, subst}
-use Rattle.lrpar_grammar.specs.Grammar.{Grammar, end_token}
-use Rattle.lrpar_table_rows.specs.PlainRows.{plain_action}
-use Rattle.lrpar_table_rows.specs.Table.{Table, Accepts, action_of}
-use Rattle.lrpar_table_rows.specs.declared.rows.Action.{Action}
-use Rattle.lrpar_table_stacks.specs.Expected.{AcceptsAtEnd}
-use Rattle.lrpar_table_stacks.specs.Overlay.{Overlaid, IsSettledOver, overlaid}
-use Rattle.lrpar_table_stacks.specs.Reduction.{top_action}
-use Rattle.lrpar_table_stacks.specs.Stack.{top_of}
-use Rattle.lrpar_table_stacks.proofs.StepLemmas.{action_by_top}
-use Rattle.lrpar_parse_repair.proofs.SequenceLemmas.{accepts_by_top}
+-- The top state of a stack.
+use Rattle.std.proofs.Common.{◌≡◌, ◌<◌, ◌-◌, ℕ, List, Some, length, subst}
+use Rattle.std.proofs.lemmas.List.Elements.{All-get_or}
+use Rattle.std.proofs.lemmas.Option.{get_or_from_slice_get, slice_get_within}
+use Rattle.lrpar_table_rows.specs.Table.{Table, IsClosed, states_len}
+use Rattle.lrpar_table_stacks.specs.Stack.{IsStack, top_of}
+use Rattle.lrpar_table_stacks.proofs.SettleLemmas.{stack_states}
 
--- the settled stack accepts if and only if its top does
-pub accepts_by_action : {S : Type 0} (g : Grammar) (table : Table) (cap : ℕ) (old new : Overlaid) (count t s : ℕ) (index : S → ℕ) (action : Action S) (accepts : Bool)
-    → IsSettledOver g table cap t old count new → t ≡ end_token g → top_of (overlaid new) ≡ Some s
-    → plain_action index action ≡ action_of table s t → IsTrue accepts ↔ (plain_action index action ≡ Accepts)
-    → IsTrue accepts ↔ AcceptsAtEnd g table (overlaid old)
-accepts_by_action g table cap old new count t s index action accepts settled is top read agrees =
-    let at_end = subst (λ (u : ℕ). IsSettledOver g table cap u old count new) is settled in
-    let both = accepts_by_top g table cap old count new at_end in
-    let same : top_action table (end_token g) (overlaid new) ≡ plain_action index action =
-    subst (λ (u : ℕ). top_action table u (overlaid new) ≡ plain_action index action) is (action_by_top table t (overlaid new) s top ∙ sym read) in
-    ((λ yes_it. both.0 (same ∙ agrees.0 yes_it)), (λ ends. agrees.1 (sym same ∙ both.1 ends)))
+-- the top of a stack is a state of the table
+pub top_known : (table : Table) → IsClosed table → (st : List ℕ) (s : ℕ) → IsStack table st → top_of st ≡ Some s → s < states_len table
+top_known table closed st s stack top =
+    let below = slice_get_within st (length st - 1) s top in
+    let within = All-get_or (λ (x : ℕ). x < states_len table) st (length st - 1) s below (stack_states table closed st stack) in
+    subst (λ (x : ℕ). x < states_len table) (get_or_from_slice_get st (length st - 1) s s top) within

@@ -2,21 +2,22 @@
 ghost use Rattle.std.specs.Prelude.{◌≡◌, ◌<◌, ◌≤◌, ◌+◌, ◌^◌, ◌↔◌, ℕ, List, [], ◌∷◌, length, replicate, IfOk, IfSome, IsTrue, IsNone, OnOk};
 ghost use Rattle.lrpar_grammar.specs.Grammar.{end_token, tokens_len};
 ghost use Rattle.lrpar_table_rows.specs.PlainRows.{plain_action};
-ghost use Rattle.lrpar_table_rows.specs.Table.{Accepts, Fails};
-ghost use Rattle.lrpar_table_stacks.specs.Expected.{AcceptsAtEnd};
+ghost use Rattle.lrpar_table_rows.specs.Table.{Fails};
 ghost use Rattle.lrpar_table_stacks.specs.Overlay.{overlaid};
 ghost use Rattle.lrpar_table_stacks.specs.Reduction.{top_action};
 ghost use Rattle.lrpar_table_stacks.specs.Run.{token_at};
 ghost use Rattle.lrpar_table_stacks.specs.Stack.{IsStack};
 ghost use Rattle.lrpar_parse_lexemes.specs.Views.{token_by};
+ghost use Rattle.lrpar_parse_repair.specs.Asked.{HaveTokens};
 ghost use Rattle.lrpar_parse_repair.specs.PlainSteps.{plain_step, plain_steps};
-ghost use Rattle.lrpar_parse_repair.specs.Sequences.{PlainDelete, PlainInsert, PlainShift, IsTokenFed, StepsTo};
+ghost use Rattle.lrpar_parse_repair.specs.Sequences.{PlainDelete, PlainShift, StepsTo};
 ghost use Rattle.lrpar_parse_cpctplus.specs.Forms.{EndsIn};
 ghost use Rattle.lrpar_parse_cpctplus.specs.Walking.{IsStepOf, MayFollow, rank_of};
 
 use crate::cpct_plus::CpctPlus;
 use lrpar_grammar::span::{StorageIndex, TIdx};
 use lrpar_parse_lexemes::lex_api::Lexeme;
+use lrpar_parse_repair::engine::Engine;
 use lrpar_parse_repair::repair::{RecoveryPoint, RepairStep};
 use lrpar_table_check::check::{Overlay, ParserData};
 use lrpar_table_rows::table::Action;
@@ -137,6 +138,16 @@ impl<'a, 'p, StorageT: StorageIndex, LexemeT: Lexeme<StorageT>> Search<'a, 'p, S
         }
     }
 
+    // The engine of the point.
+    fn engine(&self) -> Engine<'p, StorageT, LexemeT>
+        ensures checked { result.checked.now ≡ self.now.point.now.checked }
+        ensures lexemes { result.lexemes.now ≡ self.now.point.now.lexemes }
+        ensures shifts { result.shifts ≡ self.now.point.now.shifts }
+        ensures tokens { HaveTokens (token_by StorageT.index LexemeT.parts) self.now.point.now.checked.grammar self.now.point.now.lexemes }
+    {
+        Engine::new(self.point.data(), self.point.lexemes(), self.point.shifts())
+    }
+
     /// Takes the step from the states at the place, and returns the place after it; `None` if it can't be taken.
     pub(crate) fn take(
         &self,
@@ -150,60 +161,7 @@ impl<'a, 'p, StorageT: StorageIndex, LexemeT: Lexeme<StorageT>> Search<'a, 'p, S
         ensures stack { IsStack self.now.point.now.checked.table (overlaid states.new) }
         ensures base { OnOk result (states.new.base ≡ states.old.base) }
     {
-        match step {
-            RepairStep::Insert(token) => self.insert(states, place, token),
-            RepairStep::Delete => {
-                if place < self.point.lexemes().len() {
-                    Ok(Some(place + 1))
-                } else {
-                    Ok(None)
-                }
-            }
-            RepairStep::Shift => self.shift(states, place),
-        }
-    }
-
-    // Feeds the token, if it is one of the grammar other than the end token; the place stays.
-    fn insert(
-        &self,
-        states: &mut Overlay<'_, StorageT>,
-        place: usize,
-        token: TIdx<StorageT>,
-    ) -> Result<Option<usize>, AllocError>
-        requires stack { IsStack self.now.point.now.checked.table (overlaid states.old) }
-        ensures taken { IfOk result (IsTakenBy StorageT.index LexemeT.parts self.now
-            (overlaid states.old) place (PlainInsert (StorageT.index token.0)) (overlaid states.new)) }
-        ensures stack { IsStack self.now.point.now.checked.table (overlaid states.new) }
-        ensures base { OnOk result (states.new.base ≡ states.old.base) }
-    {
-        let end = self.point.data().grm().eof_token_idx();
-        if usize::from(token) < usize::from(end) && feed(self.point.data(), states, token)? {
-            Ok(Some(place))
-        } else {
-            Ok(None)
-        }
-    }
-
-    // Feeds the token of the lexeme at the place, if there is one; the next place comes after it.
-    fn shift(
-        &self,
-        states: &mut Overlay<'_, StorageT>,
-        place: usize,
-    ) -> Result<Option<usize>, AllocError>
-        requires stack { IsStack self.now.point.now.checked.table (overlaid states.old) }
-        ensures taken { IfOk result (IsTakenBy StorageT.index LexemeT.parts self.now
-            (overlaid states.old) place PlainShift (overlaid states.new)) }
-        ensures stack { IsStack self.now.point.now.checked.table (overlaid states.new) }
-        ensures base { OnOk result (states.new.base ≡ states.old.base) }
-    {
-        let Some(lexeme) = self.point.lexemes().get(place) else {
-            return Ok(None);
-        };
-        if feed(self.point.data(), states, TIdx(lexeme.tok_id()))? {
-            Ok(Some(place + 1))
-        } else {
-            Ok(None)
-        }
+        self.engine().take(states, place, step)
     }
 
     /// Whether as many lexemes as have to follow a repair can be fed in turn; or all that are left, if they are fewer, and the
@@ -219,17 +177,7 @@ impl<'a, 'p, StorageT: StorageIndex, LexemeT: Lexeme<StorageT>> Search<'a, 'p, S
         ensures stack { IsStack self.now.point.now.checked.table (overlaid states.new) }
         ensures base { OnOk result (states.new.base ≡ states.old.base) }
     {
-        let mut at = place;
-        'feeding: for _ in 0..self.point.shifts() {
-            if at == self.point.lexemes().len() {
-                return accepts(self.point.data(), states);
-            }
-            match self.shift(states, at)? {
-                None => return Ok(false),
-                Some(next) => at = next,
-            }
-        }
-        Ok(true)
+        self.engine().can_go_on(states, place)
     }
 
     /// Whether it is clear at once that no parse can go on: the top state has no action at the token of the place.
@@ -257,15 +205,16 @@ impl<'a, 'p, StorageT: StorageIndex, LexemeT: Lexeme<StorageT>> Search<'a, 'p, S
     {
         let most = self.point.place().saturating_add(FURTHEST);
         let end = self.point.lexemes().len();
+        let engine = self.engine();
         'feeding: for at in place..most.min(end) {
-            let Some(_next) = self.shift(states, at)? else {
+            let Some(_next) = engine.shift(states, at)? else {
                 return Ok(at as u128);
             };
         }
         if place.max(most) < end {
             return Ok(most as u128);
         }
-        let ends = accepts(self.point.data(), states)?;
+        let ends = engine.accepts(states)?;
         Ok(most.min(end) as u128 + u128::from(ends))
     }
 }
@@ -311,48 +260,6 @@ fn finds_error<StorageT: StorageIndex>(
 {
     let table = checked.stable();
     is_error(table.action(states.top(), token))
-}
-
-// Feeds the token, which is one of the grammar; returns whether it was fed.
-fn feed<StorageT: StorageIndex>(
-    checked: &ParserData<StorageT>,
-    states: &mut Overlay<'_, StorageT>,
-    token: TIdx<StorageT>,
-) -> Result<bool, AllocError>
-    requires token { StorageT.index token.0 < tokens_len checked.now.grammar }
-    requires stack { IsStack checked.now.table (overlaid states.old) }
-    ensures fed { IfOk result (IsTokenFed checked.now.grammar checked.now.table (StorageT.index token.0) (overlaid states.old) (overlaid states.new)) }
-    ensures stack { IsStack checked.now.table (overlaid states.new) }
-    ensures base { OnOk result (states.new.base ≡ states.old.base) }
-{
-    // A checked table has the grammar's tokens.
-    let _table = checked.stable();
-    checked.feed_over(states, token)
-}
-
-// Whether the stack accepts at the end token, whose reductions are made.
-fn accepts<StorageT: StorageIndex>(
-    checked: &ParserData<StorageT>,
-    states: &mut Overlay<'_, StorageT>,
-) -> Result<bool, AllocError>
-    requires stack { IsStack checked.now.table (overlaid states.old) }
-    ensures accepts { IfOk result (λ accepts. IsTrue accepts ↔ AcceptsAtEnd checked.now.grammar checked.now.table (overlaid states.old)) }
-    ensures stack { IsStack checked.now.table (overlaid states.new) }
-    ensures base { OnOk result (states.new.base ≡ states.old.base) }
-{
-    let (table, end) = (checked.stable(), checked.grm().eof_token_idx());
-    checked.settle_over(states, end)?;
-    Ok(is_accept(table.action(states.top(), end)))
-}
-
-// Whether the action is to accept.
-fn is_accept<StorageT: StorageIndex>(action: Action<StorageT>) -> bool
-    ensures { IsTrue result ↔ (plain_action StorageT.index action ≡ Accepts) }
-{
-    match action {
-        Action::Accept => true,
-        Action::Shift(_) | Action::Reduce(_) | Action::Error => false,
-    }
 }
 
 // Whether the action is an error.

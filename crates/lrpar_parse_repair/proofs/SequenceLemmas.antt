@@ -1,19 +1,12 @@
 -- Repair sequences: the results of steps, and what they say about whether a sequence works.
-use Rattle.std.proofs.Common.{◌≡◌, ◌≢◌, ◌<◌, ◌≤◌, ◌+◌, ◌-◌, ◌∙◌, ◌↔◌, ◌⊎◌, inl, inr, ℕ, suc, List, [], ◌∷◌, ◌++◌, Bool, true, false, Option, Some, None, slice_get, drop, take, get_or, Vec, vec_len, length, IsTrue, refl, sym, subst, ap, arith}
+use Rattle.std.proofs.Common.{◌≡◌, ◌≢◌, ◌<◌, ◌≤◌, ◌+◌, ◌-◌, ◌∙◌, ◌↔◌, inl, inr, ℕ, suc, List, [], ◌∷◌, ◌++◌, Bool, true, false, Option, Some, None, slice_get, drop, take, get_or, Vec, vec_len, length, IsTrue, refl, sym, subst, ap, arith}
 use Rattle.std.specs.Prelude.{map}
 use Rattle.std.specs.List.{AllZip, each_same}
 use Rattle.std.proofs.lemmas.List.{drop_more, map-append, take_more}
 use Rattle.std.proofs.lemmas.Option.{slice_get_within}
 use Rattle.lrpar_grammar.specs.Grammar.{Grammar, end_token}
-use Rattle.lrpar_table_rows.specs.Table.{Table, Accepts, Fails, ReduceBy, ShiftTo}
-use Rattle.lrpar_table_rows.specs.PlainRows.{plain_action}
-use Rattle.lrpar_table_rows.specs.declared.rows.Action.{Action}
-use Rattle.lrpar_table_rows.specs.declared.rows.Action.TheVariants.{Error, Reduce, Shift}
-use Rattle.lrpar_grammar_places.specs.declared.span.PIdx.{PIdx}
-use Rattle.lrpar_grammar_places.specs.declared.span.StIdx.{StIdx}
-use Rattle.lrpar_table_stacks.specs.Reduction.{Feeds, top_action}
-use Rattle.lrpar_table_stacks.specs.Overlay.{Overlaid, IsFedOver, IsSettledOver, overlaid}
-use Rattle.lrpar_table_stacks.proofs.Reductions.{settles_one_way}
+use Rattle.lrpar_table_rows.specs.Table.{Table}
+use Rattle.lrpar_table_stacks.specs.Reduction.{Feeds}
 use Rattle.lrpar_parse_repair.specs.PlainSteps.{plain_sequences, plain_step, plain_steps}
 use Rattle.lrpar_table_stacks.specs.Run.{token_at}
 use Rattle.lrpar_table_stacks.specs.Expected.{AcceptsAtEnd}
@@ -256,31 +249,3 @@ module _ {X : Type 0} (token : X → ℕ) (g : Grammar) (table : Table) (lexemes
       let works_here = tested.1 (subst (λ (l : List (RepairStep _)). Works token g table lexemes k from i (plain_steps index l)) (sym items) here) in
       let differ : IsTrue false = subst (λ (b : Bool). IsTrue b) e works_here in cc in
       those_no_more (λ (v : Vec (RepairStep _) _). plain_steps index v.items) (Works token g table lexemes k st i) xs ys x h fails
-
--- what an overlay's states say about a token that is fed
-pub token_fed : (g : Grammar) (table : Table) (cap t : ℕ) (old : Overlaid) (fed : Bool) (new : Overlaid) → IsFedOver g table cap t old fed new
-    → IsTokenFed g table t (overlaid old) (overlaid new) fed
-token_fed g table cap t old true new h = (h.prods, h.states)
-token_fed g table cap t old false new h = λ prods next feeds.
-    let by = h.0.1.states in
-    let same = settles_one_way g table t (overlaid old) prods by.prods feeds.settled (overlaid new) feeds.settles by.settles in
-    h.1 feeds.next (subst (λ (st : List ℕ). top_action table t st ≡ ShiftTo feeds.next) same.1 feeds.shifts)
-
--- if all reductions at the end token are made, the states accept if the top does
-pub accepts_by_top : (g : Grammar) (table : Table) (cap : ℕ) (old : Overlaid) (count : ℕ) (new : Overlaid)
-    → IsSettledOver g table cap (end_token g) old count new
-    → (top_action table (end_token g) (overlaid new) ≡ Accepts) ↔ AcceptsAtEnd g table (overlaid old)
-accepts_by_top g table cap old count new h =
-    let by = h.states in (
-      (λ accepts. record { prods = by.prods; settled = overlaid new; settles = by.settles; action = accepts }),
-      (λ ends.
-          let same = settles_one_way g table (end_token g) (overlaid old) ends.prods by.prods ends.settled (overlaid new) ends.settles by.settles in
-          subst (λ (st : List ℕ). top_action table (end_token g) st ≡ Accepts) same.1 ends.action),
-    )
-
--- an action of another kind is no Accept
-pub is_no_accept : {S : Type 0} (index : S → ℕ) (action : Action S)
-    → ((s : StIdx S) × (action ≡ Shift s)) ⊎ (((p : PIdx S) × (action ≡ Reduce p)) ⊎ (action ≡ Error)) → ¬ (plain_action index action ≡ Accepts)
-is_no_accept index action (inl (s, is)) accepts = let e : ShiftTo (index s.0) ≡ Accepts = sym (ap (plain_action index) is) ∙ accepts in cc
-is_no_accept index action (inr (inl (p, is))) accepts = let e : ReduceBy (index p.0) ≡ Accepts = sym (ap (plain_action index) is) ∙ accepts in cc
-is_no_accept index action (inr (inr is)) accepts = let e : Fails ≡ Accepts = sym (ap (plain_action index) is) ∙ accepts in cc

@@ -8,15 +8,15 @@ use Rattle.std.proofs.lemmas.List.Sums.{sum_by-append}
 use Rattle.lrpar_grammar.specs.Grammar.{Grammar}
 use Rattle.lrpar_table_rows.specs.Table.{Table}
 use Rattle.lrpar_table_check.specs.Checked.{Checked}
-use Rattle.lrpar_table_stacks.specs.Overlay.{overlaid}
+use Rattle.lrpar_table_stacks.specs.Overlay.{OverlayReduces, OverlayShifts, Overlaid, overlaid}
 use Rattle.lrpar_parse_repair.specs.AlwaysRepairs.{AlwaysRepairs, FirstOrSecond, SomeWorks}
-use Rattle.lrpar_parse_repair.specs.Asked.{Asked, IsStop}
-use Rattle.lrpar_parse_repair.specs.Counting.{Counted, CostsAtMost, most_listed}
+use Rattle.lrpar_parse_repair.specs.Asked.{Asked}
+use Rattle.lrpar_parse_repair.specs.Moves.{AreTestsWithin, IsMovedWithin, at_base}
 use Rattle.lrpar_parse_repair.specs.PlainSteps.{plain_sequences, plain_steps}
 use Rattle.lrpar_parse_repair.specs.Sequences.{PlainStep, Works}
-use Rattle.lrpar_parse_repair.specs.TestWork.{most_tested}
+use Rattle.lrpar_parse_repair.specs.TestWork.{most_listed, most_tested}
 use Rattle.lrpar_parse_repair.specs.declared.repair_step.RepairStep.{RepairStep}
-use Rattle.lrpar_parse_repair.proofs.TrialLemmas.{listed_costs}
+use Rattle.lrpar_parse_repair.proofs.EngineLemmas.{tested_more}
 
 module _ {A B : Type 0} (f : A → B) (P : B → Type 0) where
   -- the images of the members before place i haven't P
@@ -83,18 +83,19 @@ module _ {X : Type 0} (token : X → ℕ) (g : Grammar) (table : Table) (lexemes
   none_of_all n past none = none_has plain_of WorksHere answer n past none
 
 -- the sequence at place n was tested after those before it, from the borrowed stack
-pub tested_costs : {S A : Type 0} (index : S → ℕ) (cap k : ℕ) (start old set new : Counted) (answer : List (Vec (RepairStep S) A)) (n : ℕ) (x : Vec (RepairStep S) A) (steps : List (RepairStep S))
-    → n < length answer → x ≡ get_or answer n x
-    → overlaid set.stack ≡ start.stack.base → steps ≡ x.items → set.reductions ≡ old.reductions → CostsAtMost cap (length steps + k) set new
-    → old.reductions ≤ start.reductions + most_listed cap (length start.stack.base) k (plain_sequences index (take n answer))
-    → new.reductions ≤ start.reductions + most_listed cap (length start.stack.base) k (plain_sequences index (take (n + 1) answer))
-tested_costs {S} {A} index cap k start old set new answer n x steps below is from items stays costs before =
+pub tested_one_more : (g : Grammar) (table : Table) {S A : Type 0} (index : S → ℕ) (cap k : ℕ) (start old set new : Overlaid) (answer : List (Vec (RepairStep S) A)) (n : ℕ)
+    (x : Vec (RepairStep S) A) (steps : List (RepairStep S)) → n < length answer → x ≡ get_or answer n x
+    → set ≡ at_base old → overlaid set ≡ start.base → steps ≡ x.items
+    → IsMovedWithin overlaid (λ old p r n new. OverlayReduces old n new) OverlayShifts g table cap (length steps + k) set new
+    → AreTestsWithin g table (most_listed cap (length start.base) k (plain_sequences index (take n answer))) start old
+    → AreTestsWithin g table (most_listed cap (length start.base) k (plain_sequences index (take (n + 1) answer))) start new
+tested_one_more g table {S} {A} index cap k start old set new answer n x steps below is back from items here before =
     let next : take (n + 1) answer ≡ take n answer ++ x ∷ [] = take_more answer n x below ∙ ap (λ y. take n answer ++ y ∷ []) (sym is) in
-    subst (λ (ys : List (Vec (RepairStep S) A)). new.reductions ≤ start.reductions + most_listed cap (length start.stack.base) k (plain_sequences index ys)) (sym next)
-    (listed_costs index cap k start old set new (take n answer) x steps from items stays costs before)
+    subst (λ (ys : List (Vec (RepairStep S) A)). AreTestsWithin g table (most_listed cap (length start.base) k (plain_sequences index ys)) start new) (sym next)
+    (tested_more g table cap index k start old set new (take n answer) x steps back from items here before)
 
 -- the first n sequences cost no more than all
-pub costs_of_some : {S A : Type 0} (index : S → ℕ) (cap height k : ℕ) (answer : List (Vec (RepairStep S) A)) (n : ℕ)
+costs_of_some : {S A : Type 0} (index : S → ℕ) (cap height k : ℕ) (answer : List (Vec (RepairStep S) A)) (n : ℕ)
     → most_listed cap height k (plain_sequences index (take n answer)) ≤ most_listed cap height k (plain_sequences index answer)
 costs_of_some {S} {A} index cap height k answer n =
     let most = λ (s : List PlainStep). most_tested cap height (length s) k in
@@ -104,6 +105,16 @@ costs_of_some {S} {A} index cap height k answer n =
     ≡ most_listed cap height k (plain_sequences index (take n answer)) + most_listed cap height k (plain_sequences index (drop n answer)) = both in
     subst (λ (ys : List (Vec (RepairStep S) A)). most_listed cap height k (plain_sequences index (take n answer)) ≤ most_listed cap height k (plain_sequences index ys))
     (take-append-drop n answer) (omega (arith, parts))
+
+-- so their tests are within what all may cost
+pub tested_of_all : (g : Grammar) (table : Table) {S A : Type 0} (index : S → ℕ) (cap height k : ℕ) (answer : List (Vec (RepairStep S) A)) (n : ℕ) (old new : Overlaid)
+    → AreTestsWithin g table (most_listed cap height k (plain_sequences index (take n answer))) old new
+    → AreTestsWithin g table (most_listed cap height k (plain_sequences index answer)) old new
+tested_of_all g table index cap height k answer n old new tests = record {
+  count = tests.count;
+  tests = tests.tests;
+  cost = omega (arith, tests.cost, costs_of_some index cap height k answer n);
+}
 
 -- the first recoverer's answer was tested, and none of it works; so an answer of the second one is one of the two
 pub asks_second : {X : Type 0} (token : X → ℕ) (first second : Asked X → List (List PlainStep) → Type 0) (at : Asked X) (tried answer : List (List PlainStep)) (works : Bool)

@@ -1,5 +1,5 @@
 -- The tokens of a valid list.
-use Rattle.std.proofs.Common.{◌≡◌, ◌<◌, ℕ, List, length, map, Some, ap, ◌∙◌}
+use Rattle.std.proofs.Common.{◌≡◌, ◌<◌, ℕ, List, map, Some, ap, ◌∙◌}
 use Rattle.std.specs.List.{slice_get}
 use Rattle.std.specs.Option.{option_map}
 use Rattle.std.proofs.lemmas.List.{length-map}

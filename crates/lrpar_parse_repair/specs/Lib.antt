@@ -1,11 +1,11 @@
-pub mod TrialView
+pub mod EngineView
 pub mod Sequences
 pub mod PlainSteps
 pub mod Repaired
 pub mod Recovery
 pub mod StepComparisons
 pub mod TestWork
-pub mod Counting
+pub mod Moves
 pub mod Asked
 pub mod AlwaysRepairs
 pub mod Replays

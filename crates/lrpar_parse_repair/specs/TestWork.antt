@@ -1,5 +1,6 @@
--- How many reductions the test of a sequence makes.
+-- How many reductions the test of a sequence makes, and those of several.
 use Rattle.std.specs.Prelude.{◌≡◌, ◌<◌, ◌≤◌, ◌+◌, ◌*◌, ◌⊎◌, ℕ, zero, suc, List, [], ◌∷◌, ◌++◌, length}
+use Rattle.std.specs.List.{sum_by}
 use Rattle.lrpar_grammar.specs.Grammar.{Grammar, GrammarSymbol, end_token}
 use Rattle.lrpar_table_rows.specs.Table.{Table}
 use Rattle.lrpar_table_stacks.specs.Chain.{IsBounded}
@@ -35,6 +36,10 @@ module _ {X : Type 0} (token : X → ℕ) (g : Grammar) (table : Table) (lexemes
 -- follow a repair
 abbrev pub most_tested : ℕ → ℕ → ℕ → ℕ → ℕ
 most_tested cap height steps k = cap * (height + (steps + k + 1) * (cap + 3))
+
+-- how many reductions the tests of these sequences make at most, each from a stack of this height, if k lexemes must follow a repair
+abbrev pub most_listed : ℕ → ℕ → ℕ → List (List PlainStep) → ℕ
+most_listed cap height k sequences = sum_by (λ steps. most_tested cap height (length steps) k) sequences
 
 -- if runs over the table never stick and its reductions are bounded, the test of a sequence is bounded
 abbrev pub BoundsTests : Type 0 → Type 0

@@ -4,9 +4,9 @@ ghost use Rattle.lrpar_parse_lexemes.specs.Views.{token_by};
 ghost use Rattle.lrpar_parse_repair.specs.AlwaysRepairs.{FirstOrSecond, SomeWorks};
 ghost use Rattle.lrpar_parse_repair.specs.PlainSteps.{plain_sequences};
 
+use crate::engine::Engine;
 use crate::repair::{Recoverer, RecoveryPoint};
 use crate::repair_step::RepairStep;
-use crate::trial::Trial;
 use lrpar_grammar::span::StorageIndex;
 use lrpar_parse_lexemes::lex_api::Lexeme;
 use std::alloc::{AllocError, Global};
@@ -79,6 +79,6 @@ fn some_works<StorageT: StorageIndex, LexemeT: Lexeme<StorageT>>(
     ensures works { IfOk result (λ works. IsTrue works ↔
         SomeWorks (token_by StorageT.index LexemeT.parts) point.now (plain_sequences StorageT.index answer.now)) }
 {
-    let trial = Trial::new(point.data(), point.lexemes(), point.shifts());
-    trial.some_works(alloc, point.stack(), point.place(), answer)
+    let engine = Engine::new(point.data(), point.lexemes(), point.shifts());
+    engine.some_works(alloc, point.stack(), point.place(), answer)
 }

@@ -23,10 +23,10 @@ use lrpar_grammar::span::StorageIndex;
 use lrpar_parse_errors::errors::{LexParseError, ParseError};
 use lrpar_parse_lexemes::lex_api::{Lexeme, LexerTypes};
 use lrpar_parse_lexemes::places::end_lexeme;
+use lrpar_parse_repair::engine::Engine;
 use lrpar_parse_repair::listed_repairs::listed_repairs;
 use lrpar_parse_repair::repair::{Recoverer, RecoveryPoint};
 use lrpar_parse_repair::repair_step::RepairStep;
-use lrpar_parse_repair::trial::Trial;
 use std::alloc::{AllocError, Global};
 
 /// What a whole run needs: the table and the builder, the lexemes, the recoverer, and how many lexemes must follow a repair.
@@ -164,7 +164,9 @@ impl<
         let states = stack.states();
         let point = RecoveryPoint::new(self.run.checked, self.shifts, self.lexemes, place, states);
         let answer = self.recoverer.recover(alloc, &point)?;
-        Trial::new(self.run.checked, self.lexemes, self.shifts).listed(alloc, states, place, answer)
+        Engine::new(self.run.checked, self.lexemes, self.shifts).listed(
+            alloc, states, place, answer,
+        )
     }
 
     // The error of the error point, which lists these sequences.

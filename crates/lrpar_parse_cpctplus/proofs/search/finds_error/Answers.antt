@@ -1,7 +1,7 @@
 use Rattle.std.proofs.Common.{◌∙◌, sym}
 use Rattle.lrpar_table_stacks.specs.Overlay.{overlaid}
 use Rattle.lrpar_table_stacks.proofs.StepLemmas.{action_by_top}
-use Rattle.lrpar_parse_repair.proofs.TrialLemmas.{top_known}
+use Rattle.lrpar_parse_cpctplus.proofs.StackAnswerLemmas.{top_known}
 use Rattle.lrpar_parse_cpctplus.proofs.search.finds_error.Goals as goal
 
 pub action-requires-clause-state : goal.action-requires-clause-state
