@@ -1,6 +1,6 @@
 -- What a recoverer gets at an error point, with the checked table, and what holds for it.
 use Rattle.std.specs.Prelude.{◌≡◌, ◌<◌, ◌≤◌, ℕ, List, length, slice_get, Some}
-use Rattle.lrpar_grammar.specs.Grammar.{end_token}
+use Rattle.lrpar_grammar.specs.Grammar.{Grammar, end_token}
 use Rattle.lrpar_table_rows.specs.Table.{Fails}
 use Rattle.lrpar_table_check.specs.Checked.{Checked, IsChecked}
 use Rattle.lrpar_table_stacks.specs.Reduction.{top_action}
@@ -26,12 +26,16 @@ asked_at d k point = record { checked = d; shifts = k; lexemes = point.lexemes; 
 abbrev pub allowed_at : {X : Type 0} → (Asked X → List (List PlainStep) → Type 0) → Checked → ℕ → Point X → List (List PlainStep) → Type 0
 allowed_at allows d k point answer = allows (asked_at d k point) answer
 
+-- each lexeme has a token of the grammar other than the end token
+abbrev pub HaveTokens : {X : Type 0} → (X → ℕ) → Grammar → List X → Type 0
+HaveTokens {X} token g lexemes = (i : ℕ) (x : X) → slice_get lexemes i ≡ Some x → token x < end_token g
+
 -- An error point of a parse: at least one lexeme must follow a repair; the place is that of a lexeme, or one past the last; each lexeme
 -- has a token of the grammar other than the end token; the stack is the table's; and its top has no action at the token of the place.
 pub record IsStop {X : Type 0} (token : X → ℕ) (at : Asked X) : Type 0 where
   pub checked : IsChecked at.checked
   pub shifts : 0 < at.shifts
   pub within : at.place ≤ length at.lexemes
-  pub tokens : (i : ℕ) (x : X) → slice_get at.lexemes i ≡ Some x → token x < end_token at.checked.grammar
+  pub tokens : HaveTokens token at.checked.grammar at.lexemes
   pub stack : IsStack at.checked.table at.stack
   pub fails : top_action at.checked.table (token_at token at.checked.grammar at.lexemes at.place) at.stack ≡ Fails

@@ -2,9 +2,9 @@
 ghost use Rattle.std.specs.Prelude.{◌≡◌, ◌<◌, ◌≤◌, ◌+◌, ◌↔◌, length, IfOk, OnOk, IsTrue, None};
 ghost use Rattle.lrpar_table_stacks.specs.Overlay.{overlaid};
 ghost use Rattle.lrpar_table_stacks.specs.Stack.{IsStack, states_of};
-ghost use Rattle.lrpar_grammar.specs.Sentence.{IsValidList};
 ghost use Rattle.lrpar_parse_repair.specs.Counting.{CostsAtMost, most_listed};
-ghost use Rattle.lrpar_parse_lexemes.specs.Views.{known};
+ghost use Rattle.lrpar_parse_lexemes.specs.Views.{token_by};
+ghost use Rattle.lrpar_parse_repair.specs.Asked.{HaveTokens};
 ghost use Rattle.lrpar_parse_repair.specs.PlainSteps.{plain_sequences, plain_step, plain_steps};
 ghost use Rattle.lrpar_parse_repair.specs.Sequences.{PlainInsert, PlainShift, AreThoseWith};
 
@@ -49,7 +49,7 @@ impl<'a, StorageT: StorageIndex, LexemeT: Lexeme<StorageT>> Trial<'a, StorageT, 
         place: usize,
         answer: Vec<Vec<RepairStep<StorageT>>>,
     ) -> Result<Vec<Vec<RepairStep<StorageT>>>, AllocError>
-        requires valid { IsValidList self.now.checked.now.grammar (known StorageT.index LexemeT.parts self.now.lexemes.now) }
+        requires tokens { HaveTokens (token_by StorageT.index LexemeT.parts) self.now.checked.now.grammar self.now.lexemes.now }
         requires stack { IsStack self.now.checked.now.table (states_of StorageT.index stack.now) }
         requires within { place ≤ length self.now.lexemes.now }
         ensures listed { IfOk result (λ listed. AreThoseWith
@@ -68,7 +68,7 @@ impl<'a, StorageT: StorageIndex, LexemeT: Lexeme<StorageT>> Trial<'a, StorageT, 
         place: usize,
         answer: Vec<Vec<RepairStep<StorageT>>>,
     ) -> Result<Vec<Vec<RepairStep<StorageT>>>, AllocError>
-        requires valid { IsValidList self.now.checked.now.grammar (known StorageT.index LexemeT.parts self.now.lexemes.now) }
+        requires tokens { HaveTokens (token_by StorageT.index LexemeT.parts) self.now.checked.now.grammar self.now.lexemes.now }
         requires stack { IsStack self.now.checked.now.table states.old.stack.base }
         requires within { place ≤ length self.now.lexemes.now }
         ensures listed { IfOk result (λ listed. AreThoseWith
@@ -98,7 +98,7 @@ impl<'a, StorageT: StorageIndex, LexemeT: Lexeme<StorageT>> Trial<'a, StorageT, 
         place: usize,
         steps: &[RepairStep<StorageT>],
     ) -> Result<bool, AllocError>
-        requires valid { IsValidList self.now.checked.now.grammar (known StorageT.index LexemeT.parts self.now.lexemes.now) }
+        requires tokens { HaveTokens (token_by StorageT.index LexemeT.parts) self.now.checked.now.grammar self.now.lexemes.now }
         requires stack { IsStack self.now.checked.now.table (overlaid states.old.stack) }
         requires within { place ≤ length self.now.lexemes.now }
         ensures works { IfOk result (λ works. IsTrue works ↔
@@ -116,14 +116,14 @@ impl<'a, StorageT: StorageIndex, LexemeT: Lexeme<StorageT>> Trial<'a, StorageT, 
         self.can_go_on(states, at)
     }
 
-    // Whether the number of lexemes that must follow a repair can be fed in turn; or, if fewer are left, whether all of these can,
-    // and the states then accept.
-    fn can_go_on(
+    /// Whether the number of lexemes that must follow a repair can be fed in turn; or, if fewer are left, whether all of these can,
+    /// and the states then accept. `Err`: out of memory.
+    pub fn can_go_on(
         &self,
         states: &mut Counter<'_, StorageT>,
         place: usize,
     ) -> Result<bool, AllocError>
-        requires valid { IsValidList self.now.checked.now.grammar (known StorageT.index LexemeT.parts self.now.lexemes.now) }
+        requires tokens { HaveTokens (token_by StorageT.index LexemeT.parts) self.now.checked.now.grammar self.now.lexemes.now }
         requires stack { IsStack self.now.checked.now.table (overlaid states.old.stack) }
         requires within { place ≤ length self.now.lexemes.now }
         ensures goes_on { IfOk result (λ goes_on. IsTrue goes_on ↔
@@ -151,7 +151,7 @@ impl<'a, StorageT: StorageIndex, LexemeT: Lexeme<StorageT>> Trial<'a, StorageT, 
         place: usize,
         step: RepairStep<StorageT>,
     ) -> Result<Option<usize>, AllocError>
-        requires valid { IsValidList self.now.checked.now.grammar (known StorageT.index LexemeT.parts self.now.lexemes.now) }
+        requires tokens { HaveTokens (token_by StorageT.index LexemeT.parts) self.now.checked.now.grammar self.now.lexemes.now }
         requires stack { IsStack self.now.checked.now.table (overlaid states.old.stack) }
         ensures taken { IfOk result (IsTakenBy StorageT.index LexemeT.parts self.now
             (overlaid states.old.stack) place (plain_step StorageT.index step) (overlaid states.new.stack)) }
@@ -200,7 +200,7 @@ impl<'a, StorageT: StorageIndex, LexemeT: Lexeme<StorageT>> Trial<'a, StorageT, 
         states: &mut Counter<'_, StorageT>,
         place: usize,
     ) -> Result<Option<usize>, AllocError>
-        requires valid { IsValidList self.now.checked.now.grammar (known StorageT.index LexemeT.parts self.now.lexemes.now) }
+        requires tokens { HaveTokens (token_by StorageT.index LexemeT.parts) self.now.checked.now.grammar self.now.lexemes.now }
         requires stack { IsStack self.now.checked.now.table (overlaid states.old.stack) }
         ensures taken { IfOk result (IsTakenBy StorageT.index LexemeT.parts self.now
             (overlaid states.old.stack) place PlainShift (overlaid states.new.stack)) }

@@ -61,7 +61,7 @@ not_start g formed q r by listed is =
     let none : rule_of g q ≡ 0 = ap (rule_of g) is ∙ formed.last_rule in omega (arith, none, by, listed)
 
 -- the top of a stack with one state more
-top_more : (st : List ℕ) (next : ℕ) → top_of (st ++ next ∷ []) ≡ Some next
+pub top_more : (st : List ℕ) (next : ℕ) → top_of (st ++ next ∷ []) ≡ Some next
 top_more st next = top_over st (next ∷ []) (omega arith)
 
 -- what is left of a stack without its upper states
@@ -71,7 +71,7 @@ left_lower g q st ups many =
     rw e (take-append_seam st ups)
 
 -- a reduction of the upper states, whose symbols are a production's
-reduces_upper : (g : Grammar) (table : Table) (t q s top next : ℕ) (st ups : List ℕ) → q < prods_len g → length ups ≡ prod_len g q
+pub reduces_upper : (g : Grammar) (table : Table) (t q s top next : ℕ) (st ups : List ℕ) → q < prods_len g → length ups ≡ prod_len g q
     → top_of st ≡ Some s → top_of (st ++ ups) ≡ Some top → action_of table top t ≡ ReduceBy q → goto_of table s (rule_of g q) ≡ Some next
     → Reduces g table t (st ++ ups) q (st ++ next ∷ [])
 reduces_upper g table t q s top next st ups known many is_top is_upper action goto =

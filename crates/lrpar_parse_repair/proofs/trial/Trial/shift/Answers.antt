@@ -3,7 +3,6 @@ use Rattle.std.proofs.lemmas.Bool.{ltb-true}
 use Rattle.std.proofs.lemmas.Option.{slice_get_read}
 use Rattle.lrpar_grammar.specs.Grammar.{end_token}
 use Rattle.lrpar_parse_lexemes.specs.Lexemes.{facts_of}
-use Rattle.lrpar_parse_repair.proofs.TokenLemmas.{good_token}
 use Rattle.lrpar_parse_repair.proofs.SequenceLemmas.{shift_fails, shift_taken}
 use Rattle.lrpar_parse_repair.proofs.trial.Trial.shift.Goals as goal
 
@@ -15,7 +14,7 @@ feed-requires-clause-token g c =
     let i = c.args.place in
     let x = c.in-Some.lexeme.now in
     let is = slice_get_read lexemes (length lexemes) i x refl (ltb-true i (length lexemes) (sym c.in-Some.ensures.lookup.0)) c.in-Some.ensures.lookup.1 in
-    let good : (facts x).token < end_token c.args.self.now.checked.now.grammar = good_token facts _ lexemes i x c.requires.valid is in
+    let good : (facts x).token < end_token c.args.self.now.checked.now.grammar = c.requires.tokens i x is in
     let same : index c.tok_id.result ≡ (facts x).token = ap index c.tok_id.ensures.token in
     omega (arith, good, same)
 
