@@ -68,7 +68,7 @@ module _ (g : Grammar) (graph : Graph) (table : Table) (closed : IsClosed table)
   within s p k core = let low = state_in_range graph s p k core.0 core.1 in omega (arith, low, safe.shape.states)
 
   -- a state of the stack is one of the table
-  low_in : (j low : ℕ) → slice_get st j ≡ Some low → low < states_len table
+  pub low_in : (j low : ℕ) → slice_get st j ≡ Some low → low < states_len table
   low_in j low here = within_at (states_len table) st j low (stack_states table closed st stack) here
 
   pub down : (k i p s : ℕ) → slice_get st i ≡ Some s → HasCore graph s p k → Down i p k

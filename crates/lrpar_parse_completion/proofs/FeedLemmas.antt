@@ -1,22 +1,28 @@
 -- Tokens that are fed in turn. They lead to one stack; and a run over them that accepts feeds them all and then accepts. So a completion
 -- is a repair: all its tokens are inserted, and all lexemes that are left are deleted.
-use Rattle.std.proofs.Common.{◌≡◌, ◌≢◌, ◌<◌, ◌≤◌, ◌+◌, ◌-◌, ◌∙◌, ◌⊎◌, inl, inr, refl, sym, ap, subst, arith, ℕ, zero, suc, List, [], ◌∷◌, ◌++◌, length, drop, take, get_or, Option, Some, None}
+use Rattle.std.proofs.Common.{◌≡◌, ◌≢◌, ◌<◌, ◌≤◌, ◌+◌, ◌-◌, ◌∙◌, ◌⊎◌, inl, inr, refl, sym, ap, subst, arith, ℕ, zero, suc, Bool, true, false, List, [], ◌∷◌, ◌++◌, length, drop, take, get_or, slice_get, Option, Some, None, Vec}
 use Rattle.std.specs.Prelude.{map, replicate}
-use Rattle.std.specs.Option.{option_map_or}
+use Rattle.std.specs.Option.{option_map, option_map_or}
 use Rattle.std.proofs.lemmas.Bool.{cases_lt}
-use Rattle.std.proofs.lemmas.List.{drop_more, drop_all, take_all}
-use Rattle.std.proofs.lemmas.Option.{slice_get-get_or}
+use Rattle.std.proofs.lemmas.List.{drop_more, drop_all, map-append, take_all}
+use Rattle.std.proofs.lemmas.Option.{get_or_from_slice_get, slice_get-get_or, slice_get-map, slice_get_within}
+use Rattle.lrpar_grammar_places.specs.declared.span.StIdx.{StIdx}
+use Rattle.lrpar_grammar_places.specs.declared.span.TIdx.{TIdx}
 use Rattle.lrpar_grammar.specs.Grammar.{Grammar, end_token, tokens_len}
 use Rattle.lrpar_table_rows.specs.Table.{Table, TableAction, ShiftTo, Fails, action_of}
-use Rattle.lrpar_table_stacks.specs.Expected.{AcceptsAtEnd}
+use Rattle.lrpar_table_stacks.specs.Expected.{AcceptsAtEnd, tokens_of}
 use Rattle.lrpar_table_stacks.specs.Path.{NeverSticks}
 use Rattle.lrpar_table_stacks.specs.Reduction.{Feeds, top_action}
 use Rattle.lrpar_table_stacks.specs.Run.{Accepted, Far, FarEnd, Stop, Stopped, accepts, goes_on, stops, token_at}
-use Rattle.lrpar_table_stacks.specs.Stack.{top_of}
+use Rattle.lrpar_table_stacks.specs.Settled.{IsFedBy}
+use Rattle.lrpar_table_stacks.specs.Stack.{states_of, top_of}
+use Rattle.lrpar_table_stacks.proofs.Reductions.{settles_one_way}
 use Rattle.lrpar_table_stacks.proofs.RunLemmas.{HasPath, feeds_one_way, feeds_path, settles_path}
 use Rattle.lrpar_parse_repair.specs.Asked.{Asked}
 use Rattle.lrpar_parse_repair.specs.Sequences.{PlainStep, PlainInsert, PlainDelete, CanGoOn, Works}
 use Rattle.lrpar_parse_completion.specs.Completing.{Completes}
+use Rattle.lrpar_parse_completion.specs.Trying.{IsInserted, stacks_of}
+use Rattle.lrpar_parse_completion.proofs.WaitingLemmas.{take_get}
 use Rattle.lrpar_parse_completion.specs.Nearest.{FeedsAll, GoesOnAt, repair_at}
 
 -- past the table's tokens a stack has no action
@@ -137,3 +143,46 @@ module _ {X : Type 0} (token : X → ℕ) (at : Asked X) (tokens : List ℕ) whe
       let sum : j ≡ at.place + n = omega (arith, after_stop) in
       inserts_work (take m tokens) at.stack on.0 at.place (replicate n PlainDelete) on.1
       (deletes_work n at.place on.0 (omega (arith, sum, within)) (subst (λ (i : ℕ). CanGoOn token g table at.lexemes at.shifts on.0 i) sum on.2))
+
+-- what `feed` says of a token of the grammar that isn't the end token
+pub inserted_by : (g : Grammar) (table : Table) (cap t : ℕ) (st : List ℕ) (fed : Bool) (after : List ℕ) → t < end_token g → IsFedBy g table cap t st fed after
+    → IsInserted g table t st after fed
+inserted_by g table cap t st true after low h = (low, h)
+inserted_by g table cap t st false after low h = λ below prods next feeds.
+    let same = settles_one_way g table t st h.0.1.prods prods after feeds.settled h.0.1.settles feeds.settles in
+    h.1 feeds.next (subst (λ (l : List ℕ). top_action table t l ≡ ShiftTo feeds.next) (sym same.1) feeds.shifts)
+
+-- a token of the code in its place
+pub token_is : {S : Type 0} (index : S → ℕ) (tokens : List (TIdx S)) (i : ℕ) (token : TIdx S) → i < length tokens → token ≡ get_or tokens i token
+    → get_or (tokens_of index tokens) i 0 ≡ index token.0
+token_is {S} index tokens i token low is =
+    get_or_from_slice_get (tokens_of index tokens) i (index token.0) 0
+    (slice_get-map (λ (t : TIdx S). index t.0) tokens i
+    ∙ ap (option_map (λ (t : TIdx S). index t.0)) (slice_get-get_or tokens i token low ∙ ap (λ (t : TIdx S). Some t) (sym is)))
+
+-- a stack of the code in its place
+pub stack_at : {S A : Type 0} (index : S → ℕ) (stacks : List (Vec (StIdx S) A)) (i : ℕ) (stack : Vec (StIdx S) A) → i < length stacks
+    → stack ≡ get_or stacks i stack → slice_get (stacks_of index stacks) i ≡ Some (states_of index stack.items)
+stack_at {S} {A} index stacks i stack low is =
+    slice_get-map (λ (v : Vec (StIdx S) A). states_of index v.items) stacks i
+    ∙ ap (option_map (λ (v : Vec (StIdx S) A). states_of index v.items))
+    (slice_get-get_or stacks i stack low ∙ ap (λ (v : Vec (StIdx S) A). Some v) (sym is))
+
+-- one stack more
+pub stacks_pushed : {S A : Type 0} (index : S → ℕ) (stacks after : List (Vec (StIdx S) A)) (stack : Vec (StIdx S) A) (states : List ℕ)
+    → after ≡ stacks ++ stack ∷ [] → states_of index stack.items ≡ states → stacks_of index after ≡ stacks_of index stacks ++ states ∷ []
+stacks_pushed {S} {A} index stacks after stack states is same =
+    ap (stacks_of index) is ∙ map-append (λ (v : Vec (StIdx S) A). states_of index v.items) stacks (stack ∷ [])
+    ∙ ap (λ (st : List ℕ). stacks_of index stacks ++ st ∷ []) same
+
+-- a token of the code in its place among the first ones
+pub token_front : {S : Type 0} (index : S → ℕ) (tokens tried : List (TIdx S)) (n i : ℕ) (token : TIdx S) → tried ≡ take n tokens → i < length tried
+    → token ≡ get_or tried i token → (i < length tokens) × (get_or (tokens_of index tokens) i 0 ≡ index token.0)
+token_front {S} index tokens tried n i token front low is =
+    let low_there : i < length (take n tokens) = subst (λ (l : List (TIdx S)). i < length l) front low in
+    let is_there : get_or (take n tokens) i token ≡ token = sym (subst (λ (l : List (TIdx S)). token ≡ get_or l i token) front is) in
+    let at = (take_get tokens n i token low_there is_there).1 in (
+      slice_get_within tokens i token at,
+      get_or_from_slice_get (tokens_of index tokens) i (index token.0) 0
+          (slice_get-map (λ (t : TIdx S). index t.0) tokens i ∙ ap (option_map (λ (t : TIdx S). index t.0)) at),
+    )

@@ -9,8 +9,12 @@ use Rattle.lrpar_table_rows.specs.Table.{Table}
 use Rattle.lrpar_table_stacks.specs.Reduction.{Feeds}
 use Rattle.lrpar_table_stacks.specs.Stack.{IsStack}
 use Rattle.lrpar_parse_repair.specs.Asked.{Asked}
-use Rattle.lrpar_parse_repair.specs.Sequences.{CanGoOn}
-use Rattle.lrpar_parse_completion.specs.Nearest.{FeedsAll, GoesOnAt, IsNearest, MayBeTried}
+use Rattle.lrpar_parse_repair.specs.PlainSteps.{plain_step, plain_steps}
+use Rattle.lrpar_parse_repair.specs.Sequences.{PlainStep, PlainInsert, PlainDelete, CanGoOn}
+use Rattle.lrpar_parse_repair.specs.declared.repair_step.RepairStep.{RepairStep}
+use Rattle.lrpar_parse_repair.specs.declared.repair_step.RepairStep.TheVariants.{Delete, Insert}
+use Rattle.lrpar_grammar_places.specs.declared.span.TIdx.{TIdx}
+use Rattle.lrpar_parse_completion.specs.Nearest.{FeedsAll, GoesOnAt, IsNearest, MayBeTried, inserts_deletes}
 use Rattle.lrpar_parse_completion.specs.Trying.{AreTried, IsFewest, IsInserted}
 use Rattle.lrpar_parse_completion.proofs.FeedLemmas.{feeds_all_more, feeds_all_one_way, feeds_all_split}
 
@@ -217,3 +221,31 @@ module _ {X : Type 0} (token : X → ℕ) (at : Asked X) (tokens : List ℕ) whe
       nearest = λ i n tried nearer. none i n tried.after_stop nearer tried.some (tried.few nearer);
       fewest = fewest.fewest;
     }
+
+-- one insertion more
+pub steps_inserted : {S : Type 0} (index : S → ℕ) (steps after : List (RepairStep S)) (tokens : List ℕ) (i : ℕ) (token : TIdx S) → i < length tokens
+    → get_or tokens i 0 ≡ index token.0 → after ≡ steps ++ Insert token ∷ [] → plain_steps index steps ≡ inserts_deletes (take i tokens) 0
+    → plain_steps index after ≡ inserts_deletes (take (i + 1) tokens) 0
+steps_inserted {S} index steps after tokens i token low is pushed so_far =
+    let front : map (λ (t : ℕ). PlainInsert t) (take (i + 1) tokens) ≡ map (λ (t : ℕ). PlainInsert t) (take i tokens) ++ PlainInsert (index token.0) ∷ [] =
+    ap (map (λ (t : ℕ). PlainInsert t)) (take_more tokens i 0 low) ∙ map-append (λ (t : ℕ). PlainInsert t) (take i tokens) (get_or tokens i 0 ∷ [])
+    ∙ ap (λ (n : ℕ). map (λ (t : ℕ). PlainInsert t) (take i tokens) ++ PlainInsert n ∷ []) is in
+    let bare : plain_steps index steps ≡ map (λ (t : ℕ). PlainInsert t) (take i tokens) =
+    so_far ∙ append-nil (map (λ (t : ℕ). PlainInsert t) (take i tokens)) in
+    ap (plain_steps index) pushed ∙ map-append (plain_step index) steps (Insert token ∷ [])
+    ∙ ap (λ (xs : List PlainStep). xs ++ PlainInsert (index token.0) ∷ []) bare ∙ sym front
+    ∙ sym (append-nil (map (λ (t : ℕ). PlainInsert t) (take (i + 1) tokens)))
+
+-- one deletion more
+pub steps_deleted : {S : Type 0} (index : S → ℕ) (steps after : List (RepairStep S)) (tokens : List ℕ) (n : ℕ) → after ≡ steps ++ Delete ∷ []
+    → plain_steps index steps ≡ inserts_deletes tokens n → plain_steps index after ≡ inserts_deletes tokens (n + 1)
+steps_deleted {S} index steps after tokens n pushed so_far =
+    ap (plain_steps index) pushed ∙ map-append (plain_step index) steps (Delete ∷ [])
+    ∙ ap (λ (xs : List PlainStep). xs ++ PlainDelete ∷ []) so_far
+    ∙ append_assoc (map (λ (t : ℕ). PlainInsert t) tokens) (replicate n PlainDelete) (PlainDelete ∷ [])
+    ∙ ap (λ (xs : List PlainStep). map (λ (t : ℕ). PlainInsert t) tokens ++ xs) (one_more n)
+  where
+    one_more : (m : ℕ) → replicate m PlainDelete ++ PlainDelete ∷ [] ≡ replicate (m + 1) PlainDelete
+    one_more zero = refl
+    one_more (suc m) = let next : suc m + 1 ≡ suc (m + 1) = omega arith in
+        ap (λ (xs : List PlainStep). PlainDelete ∷ xs) (one_more m) ∙ ap (λ (k : ℕ). replicate k PlainDelete) (sym next)

@@ -24,11 +24,11 @@ use Rattle.lrpar_table_stacks.specs.Stack.{IsStack, top_of}
 use Rattle.lrpar_parse_completion.specs.Completing.{IsCompletion, IsTail, IsTailOfRule, Opened}
 use Rattle.lrpar_parse_completion.specs.Opening.{ArePushed, CanComplete, IsKernelCore, IsOpenedBy}
 use Rattle.lrpar_parse_completion.specs.Waiting.{AreLinks, AreWaiting, IsLink, IsOwnCore, LinkOf, rules_in}
-use Rattle.lrpar_parse_completion.proofs.DownLemmas.{Down, down, start_tail}
+use Rattle.lrpar_parse_completion.proofs.DownLemmas.{Down, down, low_in, start_tail}
 use Rattle.lrpar_parse_completion.proofs.WaitingLemmas.{core_reached, kernel_or_start, links_have_trees, waited_for}
 
 -- a rule that isn't that of the last link is one of the others
-not_last : (links : List LinkOf) (link : LinkOf) (r : ℕ) → Contains (rules_in (links ++ link ∷ [])) r → link.rule ≢ r → Contains (rules_in links) r
+pub not_last : (links : List LinkOf) (link : LinkOf) (r : ℕ) → Contains (rules_in (links ++ link ∷ [])) r → link.rule ≢ r → Contains (rules_in links) r
 not_last [] link r (zero, below, is) other = absurd (other is)
 not_last [] link r (suc i, below, is) other = absurd (omega (arith, below))
 not_last (x ∷ links) link r (zero, below, is) other = (0, omega arith, is)
@@ -36,7 +36,7 @@ not_last (x ∷ links) link r (suc i, below, is) other =
     let more = not_last links link r (i, omega (arith, below), is) other in (suc more.0, omega (arith, more.1), more.2)
 
 -- the links up to one of them
-links_to : (links : List LinkOf) (n : ℕ) (link : LinkOf) → slice_get links n ≡ Some link → take (n + 1) links ≡ take n links ++ link ∷ []
+pub links_to : (links : List LinkOf) (n : ℕ) (link : LinkOf) → slice_get links n ≡ Some link → take (n + 1) links ≡ take n links ++ link ∷ []
 links_to links n link at =
     take_more links n link (slice_get_within links n link at) ∙ ap (λ (x : LinkOf). take n links ++ x ∷ []) (get_or_from_slice_get links n link link at)
 
@@ -102,6 +102,11 @@ module _ (g : Grammar) (graph : Graph) (table : Table) where
           waiting_tail st rest (subst (λ (n : ℕ). IsTail g table st q n rest) (sym first) whole);
     }
 
+-- no stack is empty
+pub no_stack : (table : Table) (st : List ℕ) → length st ≡ 0 → IsStack table st → ⊥
+no_stack table [] none stack = stack
+no_stack table (s ∷ st) none stack = absurd (omega (arith, none))
+
 module _ (d : Checked) (checked : IsChecked d) where
   abbrev g : Grammar
   g = d.grammar
@@ -111,6 +116,12 @@ module _ (d : Checked) (checked : IsChecked d) where
 
   abbrev table : Table
   table = d.table
+
+  -- a state of a stack is one of the graph
+  pub state_known : (st : List ℕ) → IsStack table st → (i s : ℕ) → slice_get st i ≡ Some s → s < graph_len graph
+  state_known st stack i s at =
+      let low = low_in g graph table checked.closed checked.safe st stack i s at in
+      let same = checked.safe.shape.states in omega (arith, low, same)
 
   module _ (can : CanComplete d) where
     -- the symbols after a dot of a core of a state have minimal sentences

@@ -19,7 +19,7 @@ use Rattle.lrpar_table_sentences.proofs.AfterLemmas.{after_reached, have_trees, 
 use Rattle.lrpar_parse_completion.specs.Waiting.{AreLinks, AreWaiting, HasRuleAfter, IsLink, IsOwnCore, LinkOf, rules_in}
 
 -- an element of the first ones is in its place in the list
-take_get : {A : Type 0} (xs : List A) (n i : ℕ) (x : A) → i < length (take n xs) → get_or (take n xs) i x ≡ x → (i < n) × (slice_get xs i ≡ Some x)
+pub take_get : {A : Type 0} (xs : List A) (n i : ℕ) (x : A) → i < length (take n xs) → get_or (take n xs) i x ≡ x → (i < n) × (slice_get xs i ≡ Some x)
 take_get [] zero i x low is = absurd (omega (arith, low))
 take_get [] (suc n) i x low is = absurd (omega (arith, low))
 take_get (y ∷ ys) zero i x low is = absurd (omega (arith, low))

@@ -1,5 +1,5 @@
 //! The completion of a stack: tokens that lead from it to a stack that accepts.
-ghost use Rattle.std.specs.Prelude.{◌≡◌, ◌≢◌, ◌<◌, ◌≤◌, ◌↔◌, IfOk, IfSome, IsSome, IsSomeAnd, IsTrue, map};
+ghost use Rattle.std.specs.Prelude.{◌≡◌, ◌≢◌, ◌<◌, ◌≤◌, ◌⊎◌, ◌↔◌, IfOk, IfSome, IsSome, IsSomeAnd, IsTrue, map};
 ghost use Rattle.lrpar_grammar.specs.Grammar.{prod_len, prods_len, rule_of, start_prod};
 ghost use Rattle.lrpar_grammar.specs.Symbols.{symbol_of};
 ghost use Rattle.lrpar_table_rows.specs.Graph.{HasCore, graph_len};
@@ -10,7 +10,7 @@ ghost use Rattle.lrpar_table_stacks.specs.Stack.{IsStack, states_of};
 ghost use Rattle.lrpar_parse_completion.specs.Completing.{IsCompletion};
 ghost use Rattle.lrpar_parse_completion.specs.Opening.{ArePushed, CanComplete, IsKernelCore, IsOpenedBy};
 
-use crate::waiting::{Link, waiting};
+use crate::waiting::waiting;
 use lrpar_grammar::span::{PIdx, StIdx, StorageIndex, Symbol, TIdx};
 use lrpar_table_check::check::ParserData;
 use lrpar_table_sentences::moves::Move;
@@ -38,28 +38,34 @@ impl<'a, StorageT: StorageIndex> Completer<'a, StorageT> {
         ensures completion { let d = self.now.data.now in IfOk result (λ found. CanComplete d → IsStack d.table (states_of StorageT.index stack.now)
             → IsSomeAnd found (λ tokens. IsCompletion d.grammar d.table (states_of StorageT.index stack.now) (tokens_of StorageT.index tokens.items))) }
     {
-        let Some(top) = stack.last() else {
-            return Ok(None);
-        };
-        if !self.has_state(*top) {
-            return Ok(None);
-        }
-        let start = usize::from(self.data.grm().start_prod());
-        let (mut prod, mut dot) = self.kernel_core(*top);
-        let mut tokens = Vec::new(alloc);
-        if !self.push_rest(alloc, &mut tokens, &self.data.grm().prod(prod)[dot..])? {
+        if stack.is_empty() {
             return Ok(None);
         }
         let mut place = stack.len() - 1;
+        let top = stack[place];
+        if !self.has_state(top) {
+            return Ok(None);
+        }
+        let start = usize::from(self.data.grm().start_prod());
+        let (mut prod, mut dot) = self.kernel_core(top);
+        let mut tokens = Vec::new(alloc);
+        let rest = &self.data.grm().prod(prod)[dot..];
+        if !self.push_rest(alloc, &mut tokens, rest)? {
+            return Ok(None);
+        }
         'items: while usize::from(prod) != start {
-            if dot == 0 || place < dot {
+            if dot == 0 {
+                return Ok(None);
+            }
+            if place < dot {
                 return Ok(None);
             }
             place -= dot;
-            if !self.has_state(stack[place]) {
+            let base = stack[place];
+            if !self.has_state(base) {
                 return Ok(None);
             }
-            let Some((next, at)) = self.opened(alloc, stack[place], prod, &mut tokens)? else {
+            let Some((next, at)) = self.opened(alloc, base, prod, &mut tokens)? else {
                 return Ok(None);
             };
             prod = next;
@@ -84,10 +90,18 @@ impl<'a, StorageT: StorageIndex> Completer<'a, StorageT> {
             → IsKernelCore self.now.data.now.grammar self.now.data.now.graph (StorageT.index state.0) (StorageT.index result.0.0) result.1 }
     {
         let _table = self.data.stable();
-        match self.data.sgraph().begun_cores(state).first() {
-            Some(core) => *core,
-            None => (self.data.grm().start_prod(), 0),
+        let cores = self.data.sgraph().begun_cores(state);
+        if cores.is_empty() {
+            return (self.data.grm().start_prod(), 0);
         }
+        cores[0]
+    }
+
+    // Whether the core is that of a kernel item, or of an item of the start production.
+    fn is_kernel(&self, prod: PIdx<StorageT>, dot: usize) -> bool
+        ensures { IsTrue result ↔ ((0 < dot) ⊎ (StorageT.index prod.0 ≡ start_prod self.now.data.now.grammar)) }
+    {
+        dot > 0 || usize::from(prod) == usize::from(self.data.grm().start_prod())
     }
 
     // The core of an item of the state by which the production was opened: a kernel item or the start item. Appends minimal sentences of
@@ -111,23 +125,24 @@ impl<'a, StorageT: StorageIndex> Completer<'a, StorageT> {
             → StorageT.index prod.0 ≢ start_prod d.grammar → IsSome found) }
     {
         let grm = self.data.grm();
-        let start = usize::from(grm.start_prod());
+        let _table = self.data.stable();
         let links = waiting(alloc, self.data, state)?;
         let mut wanted = grm.prod_to_rule(prod);
         let mut place = links.len();
         'links: while place > 0 {
             place -= 1;
-            let Link { rule, prod, dot } = links[place];
-            if usize::from(rule) != usize::from(wanted) {
+            let link = links[place];
+            if usize::from(link.rule) != usize::from(wanted) {
                 continue;
             }
-            if !self.push_rest(alloc, tokens, &grm.prod(prod)[dot + 1..])? {
+            let rest = &grm.prod(link.prod)[link.dot + 1..];
+            if !self.push_rest(alloc, tokens, rest)? {
                 return Ok(None);
             }
-            if dot > 0 || usize::from(prod) == start {
-                return Ok(Some((prod, dot)));
+            if self.is_kernel(link.prod, link.dot) {
+                return Ok(Some((link.prod, link.dot)));
             }
-            wanted = grm.prod_to_rule(prod);
+            wanted = grm.prod_to_rule(link.prod);
         }
         Ok(None)
     }

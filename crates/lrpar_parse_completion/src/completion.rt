@@ -28,6 +28,11 @@ const MOST: usize = 8;
 /// has no action on, it looks for the first place at which the parse can go on after the lexemes before it are deleted and some first
 /// tokens of the completion are inserted, and there for the fewest tokens. The answer is that one sequence: the insertions, and then the
 /// deletions. At the latest it deletes all that is left and inserts the whole completion.
+///
+/// At each error point it makes the whole completion, once: that takes time linear in the grammar for each state in which it goes down,
+/// and in the tokens of the completion. It copies the stack once for each number of tokens that is tried before the end. Then each place
+/// before the nearest one takes at most one test for each of these numbers, and a test feeds at most as many lexemes as have to follow a
+/// repair. Over another table than its own it may find nothing; what it finds works.
 #[derive(Debug)]
 pub struct Completion<'a, StorageT: StorageIndex> {
     data: &'a ParserData<StorageT>,

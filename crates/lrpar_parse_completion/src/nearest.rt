@@ -58,11 +58,12 @@ impl<'a, 'p, StorageT: StorageIndex, LexemeT: Lexeme<StorageT>> Search<'a, 'p, S
         ensures { IfOk result (λ stacks. AreTried self.now.point.now.checked.grammar self.now.point.now.checked.table self.now.point.now.stack
             self.now.most (tokens_of StorageT.index self.now.tokens.now) (stacks_of StorageT.index stacks.items)) }
     {
-        let tried = self.tokens.len().min(self.most);
+        let tried = &self.tokens[..self.tokens.len().min(self.most)];
         let mut stack = Vec::from_slice(alloc, self.point.stack())?;
         let mut stacks = Vec::new(alloc);
-        'tokens: for token in &self.tokens[..tried] {
-            stacks.push(Vec::from_slice(alloc, &stack)?)?;
+        'tokens: for token in tried {
+            let before = Vec::from_slice(alloc, &stack)?;
+            stacks.push(before)?;
             if !self.feed(&mut stack, *token)? {
                 return Ok(stacks);
             }
@@ -167,10 +168,11 @@ impl<'a, 'p, StorageT: StorageIndex, LexemeT: Lexeme<StorageT>> Search<'a, 'p, S
             ≡ repair_at (tokens_of StorageT.index self.now.tokens.now) self.now.point.now.place repair.place repair.inserted) }
     {
         let mut steps = Vec::new(alloc);
-        for token in &self.tokens[..repair.inserted] {
+        let inserted = &self.tokens[..repair.inserted];
+        'inserted: for token in inserted {
             steps.push(RepairStep::Insert(*token))?;
         }
-        for _ in self.point.place()..repair.place {
+        'deleted: for _ in self.point.place()..repair.place {
             steps.push(RepairStep::Delete)?;
         }
         Ok(steps)

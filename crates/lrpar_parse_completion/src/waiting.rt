@@ -1,10 +1,10 @@
 //! The rules that the items of a state wait for, each with an item that has it after the dot.
-ghost use Rattle.std.specs.Prelude.{◌≡◌, ◌<◌, ◌≤◌, ℕ, IfOk, OnOk, length};
+ghost use Rattle.std.specs.Prelude.{◌≡◌, ◌<◌, ◌≤◌, ℕ, [], false, IfOk, OnOk, length, replicate};
 ghost use Rattle.std.specs.List.{Contains};
-ghost use Rattle.lrpar_grammar.specs.Grammar.{IsWellFormed, prod_len, prods_len, rules_len};
-ghost use Rattle.lrpar_table_rows.specs.Graph.{Graph, graph_len};
+ghost use Rattle.lrpar_grammar.specs.Grammar.{IsWellFormed, prod_len, prods_len, rules_len, start_prod};
+ghost use Rattle.lrpar_table_rows.specs.Graph.{Graph, HasCore, graph_len};
 ghost use Rattle.lrpar_table_rows.specs.Table.{Table};
-ghost use Rattle.lrpar_parse_completion.specs.Waiting.{AreCounted, AreFound, AreWaiting, Grows, IsAdded, IsClosedAt, IsOwnCore, links_of, rules_in};
+ghost use Rattle.lrpar_parse_completion.specs.Waiting.{AreCounted, AreFound, AreWaiting, Grows, HasRuleAfter, IsAdded, IsClosedAt, IsOwnCore, links_of, rules_in};
 
 use lrpar_grammar::grammar::YaccGrammar;
 use lrpar_grammar::span::{PIdx, RIdx, StIdx, StorageIndex};
@@ -39,28 +39,76 @@ pub(crate) fn waiting<StorageT: StorageIndex>(
     requires { StorageT.index state.0 < graph_len checked.now.graph }
     ensures { IfOk result (λ links. AreWaiting checked.now.grammar checked.now.graph checked.now.table (StorageT.index state.0) (links_of StorageT.index links.items)) }
 {
+    let _table = checked.stable();
     let grm = checked.grm();
-    let table = checked.stable();
-    let mut found = Found {
-        links: Vec::new(alloc),
-        marks: vec![in alloc; false; grm.rules_len()]?,
-    };
-    for (prod, dot) in checked.sgraph().begun_cores(state) {
-        found.add(grm, *prod, *dot)?;
-    }
-    if usize::from(state) == usize::from(table.start_state()) {
-        found.add(grm, grm.start_prod(), 0)?;
-    }
+    let mut found = Found::new(alloc, grm)?;
+    found.add_kernel(checked, state)?;
+    found.add_start(checked, state)?;
     let mut place = 0;
     'found: while place < found.links.len() {
-        let rule = found.links[place].rule;
-        found.add_prods(grm, rule)?;
+        let link = found.links[place];
+        found.add_prods(grm, link.rule)?;
         place += 1;
     }
-    Ok(found.links)
+    let Found { links, marks: _ } = found;
+    Ok(links)
 }
 
 impl<StorageT: StorageIndex> Found<StorageT> {
+    // No rule.
+    fn new(alloc: Global, grm: &YaccGrammar<StorageT>) -> Result<Self, AllocError>
+        ensures links { IfOk result (λ found. links_of StorageT.index found.links.items ≡ []) }
+        ensures marks { IfOk result (λ found. found.marks.items ≡ replicate (rules_len grm.now) false) }
+    {
+        let marks = vec![in alloc; false; grm.rules_len()]?;
+        Ok(Found {
+            links: Vec::new(alloc),
+            marks,
+        })
+    }
+
+    // Adds the rules after the dots of the state's kernel items.
+    fn add_kernel(
+        &mut self,
+        checked: &ParserData<StorageT>,
+        state: StIdx<StorageT>,
+    ) -> Result<(), AllocError>
+        requires state { StorageT.index state.0 < graph_len checked.now.graph }
+        requires counted { AreCounted checked.now.grammar (links_of StorageT.index self.old.links.items) self.old.marks.items }
+        ensures counted { OnOk result (AreCounted checked.now.grammar (links_of StorageT.index self.new.links.items) self.new.marks.items) }
+        ensures grows { let g = checked.now.grammar in let s = StorageT.index state.0 in let own = IsOwnCore g checked.now.graph checked.now.table s in
+            OnOk result (AreFound g own (links_of StorageT.index self.old.links.items) self.old.marks.items
+            → Grows g own (links_of StorageT.index self.old.links.items) (links_of StorageT.index self.new.links.items) self.new.marks.items
+            × ((p k : ℕ) → HasCore checked.now.graph s p k → 0 < k → HasRuleAfter g (links_of StorageT.index self.new.links.items) p k)) }
+    {
+        let _table = checked.stable();
+        let grm = checked.grm();
+        for (prod, dot) in checked.sgraph().begun_cores(state) {
+            self.add(grm, *prod, *dot)?;
+        }
+        Ok(())
+    }
+
+    // Adds the start rule, if the state is the start state.
+    fn add_start(
+        &mut self,
+        checked: &ParserData<StorageT>,
+        state: StIdx<StorageT>,
+    ) -> Result<(), AllocError>
+        requires counted { AreCounted checked.now.grammar (links_of StorageT.index self.old.links.items) self.old.marks.items }
+        ensures counted { OnOk result (AreCounted checked.now.grammar (links_of StorageT.index self.new.links.items) self.new.marks.items) }
+        ensures grows { let g = checked.now.grammar in let s = StorageT.index state.0 in let own = IsOwnCore g checked.now.graph checked.now.table s in
+            OnOk result (AreFound g own (links_of StorageT.index self.old.links.items) self.old.marks.items
+            → Grows g own (links_of StorageT.index self.old.links.items) (links_of StorageT.index self.new.links.items) self.new.marks.items
+            × (s ≡ checked.now.table.start → HasRuleAfter g (links_of StorageT.index self.new.links.items) (start_prod g) 0)) }
+    {
+        if usize::from(state) != usize::from(checked.stable().start_state()) {
+            return Ok(());
+        }
+        let grm = checked.grm();
+        self.add(grm, grm.start_prod(), 0)
+    }
+
     // Adds the rule after the dot of each production of the rule, with the dot at the start.
     fn add_prods(
         &mut self,

@@ -1,19 +1,7 @@
-use Rattle.std.proofs.Common.{◌≡◌, ◌<◌, ◌≤◌, ◌-◌, ℕ, Some, get_or, length, slice_get}
+use Rattle.std.proofs.Common.{◌≡◌, ◌<◌, ◌≤◌, ◌-◌, ℕ, Some, length, slice_get}
 use Rattle.lrpar_grammar.specs.Grammar.{rules_len}
 use Rattle.lrpar_parse_completion.specs.Waiting.{AreCounted, AreFound, HasRuleAfter, IsClosedAt, IsOwnCore, LinkOf, links_of}
 use Rattle.lrpar_parse_completion.proofs.waiting.waiting.Given as goal
-
--- the rules after the dots of the kernel items so far are found
-abbrev pub invariant-loop-prod : goal.invariant-loop-prod
-invariant-loop-prod g l =
-    let index = g.StorageT.StorageIndex.index in
-    let grm = l.checked.grammar in
-    let links = links_of index l.found.links.items in
-    record {
-      counted : AreCounted grm links l.found.marks.items;
-      found : AreFound grm (IsOwnCore grm l.checked.graph l.checked.table (index l.state.0)) links l.found.marks.items;
-      begun : (k : ℕ) (d : _) → k < l.prod-index → HasRuleAfter grm links (index (get_or l.prod-items k d).0.0) (get_or l.prod-items k d).1;
-    }
 
 -- the productions of the rules before the place are closed
 abbrev pub invariant-found : goal.invariant-found
