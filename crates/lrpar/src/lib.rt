@@ -29,6 +29,7 @@ pub mod span {
 /// Recoverers: what a parse passes to one at an error point, the steps of the sequences that it returns, and the recoverers of the library.
 pub mod repair {
     pub use lrpar_parse_cpctplus::{CostFault, CpctPlus};
+    pub use lrpar_parse_repair::or::Or;
     pub use lrpar_parse_repair::repair::{
         FixedRecoverer, NoRecovery, Recoverer, RecoveryPoint, RepairStep,
     };
@@ -37,8 +38,8 @@ pub mod repair {
 /// What follows from the definitions: public functions that do nothing, each with a law as its contract.
 pub mod laws {
     pub use lrpar_grammar::laws::{
-        listings_keep_order, numbers_tell_productions_apart, sum_is_worked_out, sum_tree_fits,
-        text_spells_one_grammar, trees_are_derivations,
+        listings_keep_order, numbers_tell_productions_apart, parts_keep_texts, sum_is_worked_out,
+        sum_tree_fits, text_spells_one_grammar, trees_are_derivations,
     };
     pub use lrpar_grammar_places::laws::{
         numbers_compare_by_value, spans_compare_by_ends, symbols_compare_by_contents,
@@ -49,10 +50,11 @@ pub mod laws {
         text_is_stuck_at_one_place, text_reads_as_one,
     };
     pub use lrpar_parse::laws::{
-        faults_are_compared_by_contents, runs_go_on_or_end, runs_have_one_answer,
-        runs_stop_by_failing, runs_with_repairs_are_sound, runs_with_repairs_have_one_answer,
-        runs_without_a_recoverer, sequences_that_work_are_replayed, spans_are_worked_out,
-        sum_run_is_worked_out, tests_of_sequences_are_bounded, values_fold_without_errors,
+        faults_are_compared_by_contents, or_has_one_answer, runs_go_on_or_end,
+        runs_have_one_answer, runs_stop_by_failing, runs_with_repairs_are_sound,
+        runs_with_repairs_have_one_answer, runs_without_a_recoverer,
+        sequences_that_work_are_replayed, spans_are_worked_out, sum_run_is_worked_out,
+        tests_of_sequences_are_bounded, values_fold_without_errors,
     };
     pub use lrpar_parse_cpctplus::laws::{
         cheapest_repairs_have_one_answer, no_sequence_is_cheaper_than_repairs,
@@ -60,7 +62,7 @@ pub mod laws {
     pub use lrpar_parse_lexemes::laws::{
         pp_faults_are_compared_by_contents, repairs_are_compared_by_contents,
     };
-    pub use lrpar_parse_repair::laws::steps_are_compared_by_contents;
+    pub use lrpar_parse_repair::laws::{or_repairs_where_one_does, steps_are_compared_by_contents};
     pub use lrpar_table::laws::{
         ambiguous_grammars_have_conflicts, built_tables_are_complete_without_conflicts,
     };

@@ -12,3 +12,4 @@ pub mod SymbolNameLemmas
 pub mod TakeLemmas
 pub mod ProdTextLemmas
 pub mod SpelledLawLemmas
+pub mod SpelledPartsLemmas

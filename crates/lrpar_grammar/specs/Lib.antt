@@ -14,4 +14,5 @@ pub mod Matching
 pub mod SymbolNames
 pub mod ProdText
 pub mod SpelledFaults
+pub mod SpelledParts
 pub mod SpelledLaws

@@ -1,7 +1,8 @@
 -- What follows from the definitions of productions as numbers of symbols, and of lists of productions.
-use Rattle.std.specs.Prelude.{◌≡◌, ◌≢◌, ◌↔◌, ◌<◌, ℕ, List, slice_index_or, Option, Some, None}
+use Rattle.std.specs.Prelude.{◌≡◌, ◌≢◌, ◌↔◌, ◌<◌, ℕ, List, [], length, slice_index_or, Option, Some, None}
 use Rattle.lrpar_grammar_reader.specs.Grammar.{Grammar, IsWellFormed, prods_len, rule_of, start_prod, symbols_of}
 use Rattle.lrpar_grammar.specs.Spelled.{IsListing, numbers_of}
+use Rattle.lrpar_grammar.specs.SpelledParts.{IsPlaceInPart, joined}
 
 -- two productions have the same numbers if and only if they have the same rule and the same right side
 abbrev pub NumbersTellApart : Type 0
@@ -15,3 +16,11 @@ ListingsKeepOrder =
     (g : Grammar) (texts : List (List ℕ)) (places : List (Option ℕ)) → IsListing g texts places
     → (p q t u : ℕ) → p < q → q < start_prod g → slice_index_or places p None ≡ Some t → slice_index_or places q None ≡ Some u
     → (t ≢ u) × (numbers_of g p ≡ numbers_of g q → t < u)
+
+-- each place of the whole list is a place of one part, which has the same text there
+pub record PartsKeepTexts : Type 0 where
+  pub has_place : (parts : List (List (List ℕ))) (whole : ℕ) → whole < length (joined parts) → (part : ℕ) × (place : ℕ) × IsPlaceInPart parts whole part place
+  pub one_place : (parts : List (List (List ℕ))) (whole part place other_part other_place : ℕ) → IsPlaceInPart parts whole part place
+      → IsPlaceInPart parts whole other_part other_place → (part ≡ other_part) × (place ≡ other_place)
+  pub same_text : (parts : List (List (List ℕ))) (whole part place : ℕ) → IsPlaceInPart parts whole part place
+      → slice_index_or (slice_index_or parts part []) place [] ≡ slice_index_or (joined parts) whole []

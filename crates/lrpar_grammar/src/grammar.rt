@@ -7,6 +7,7 @@ mod prod_text;
 mod prods;
 mod spelled;
 mod spelled_fault;
+mod spelled_parts;
 mod symbol_names;
 mod text;
 mod tokens;
@@ -16,4 +17,5 @@ pub use lrpar_grammar_reader::parts::{GrammarFault, GrammarParts, ProdPart, Rule
 pub use numbers::Numbers;
 pub use spelled::Spelled;
 pub use spelled_fault::SpelledFault;
+pub use spelled_parts::SpelledParts;
 pub use value::YaccGrammar;

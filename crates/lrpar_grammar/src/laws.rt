@@ -3,7 +3,7 @@ ghost use Rattle.std.specs.Prelude.{◌≡◌, [], ◌∷◌};
 ghost use Rattle.lrpar_grammar_reader.specs.Grammar.{Nonterminal};
 ghost use Rattle.lrpar_grammar.specs.Rewriting.{LeavesAreDerived, DerivedAreLeaves};
 ghost use Rattle.lrpar_grammar.specs.Sentence.{LexemeFacts};
-ghost use Rattle.lrpar_grammar.specs.SpelledLaws.{ListingsKeepOrder, NumbersTellApart};
+ghost use Rattle.lrpar_grammar.specs.SpelledLaws.{ListingsKeepOrder, NumbersTellApart, PartsKeepTexts};
 ghost use Rattle.lrpar_grammar.specs.Sum.{SumIsWorkedOut, sum_grammar, sum_lexemes, sum_tree};
 ghost use Rattle.lrpar_grammar.specs.Tree.{Fits, leaves, productions};
 
@@ -42,4 +42,9 @@ pub fn numbers_tell_productions_apart()
 /// alike are in the order of these productions.
 pub fn listings_keep_order()
     ensures { ListingsKeepOrder }
+{}
+
+/// If a list comes in parts, each place of the whole list is one place of one part, and this part has the same text there.
+pub fn parts_keep_texts()
+    ensures { PartsKeepTexts }
 {}

@@ -14,7 +14,7 @@ use thiserror::Error;
 #[derive(Debug, Drop, Error)]
 pub enum RulesFault {
     /// The line with this number, counted from 1, gives no rule, for this reason.
-    #[error("line {0}")]
+    #[error("line {0}: {1}")]
     Line(usize, LineFault),
     /// An allocation failed.
     #[error("out of memory")]
@@ -22,13 +22,16 @@ pub enum RulesFault {
 }
 
 /// Why a line gives no rule.
-#[derive(Clone, Copy, Debug, PartialEq, Eq)]
+#[derive(Clone, Copy, Debug, PartialEq, Eq, Error)]
 pub enum LineFault {
     /// It doesn't have the form of a rule.
+    #[error("expected PATTERN 'NAME' or PATTERN ;")]
     Unread,
     /// Its name isn't the name of a token of the grammar.
+    #[error("the grammar has no token of this name")]
     Unnamed,
     /// `regex` refuses its pattern, with this error. The places of the error are bytes of the pattern.
+    #[error("bad pattern: {0}")]
     Pattern(regex::Error),
 }
 

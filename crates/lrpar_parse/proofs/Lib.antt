@@ -8,6 +8,7 @@ pub mod CarriedLemmas
 pub mod SumLemmas
 pub mod RepairRunLemmas
 pub mod StopStackLemmas
+pub mod OneAnswerLemmas
 pub mod RepairWayLemmas
 pub mod ExpectedLemmas
 pub mod FaultComparisonLemmas

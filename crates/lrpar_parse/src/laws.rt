@@ -4,10 +4,11 @@ ghost use Rattle.lrpar_table_stacks.specs.Chain.{most_productions};
 ghost use Rattle.lrpar_grammar.specs.Sentence.{LexemeFacts};
 ghost use Rattle.lrpar_table_stacks.specs.Run.{RunsOneWay};
 ghost use Rattle.lrpar_parse_lexemes.specs.Views.{facts_by};
+ghost use Rattle.lrpar_parse_repair.specs.AlwaysRepairs.{TwoRecoverers};
 ghost use Rattle.lrpar_parse_repair.specs.Asked.{allowed_at};
 ghost use Rattle.lrpar_table_check.specs.Checked.{Checked};
 ghost use Rattle.lrpar_parse.specs.declared.fault.ParseFault.{ParseFault};
-ghost use Rattle.lrpar_parse.specs.RepairLaws.{AcceptsWhereRepaired, ListsSound, RepairRunsOneWay, RunsWithoutRepairs, StopsAtStacks, StopsByFailing, StopsLieApart};
+ghost use Rattle.lrpar_parse.specs.RepairLaws.{AcceptsWhereRepaired, ListsSound, RepairRunsOneWay, RunsWithoutRepairs, StopsAtStacks, StopsByFailing, StopsLieApart, SuppliesOne};
 ghost use Rattle.lrpar_parse_repair.specs.Replays.{ReplaysOneWay, WorksByReplay};
 ghost use Rattle.lrpar_table_stacks.specs.RunLaws.{RunsEndOneWay, RunsGoOnOrEnd, RunsStopByFailing};
 ghost use Rattle.lrpar_parse.specs.SumRun.{SumRunsThrough};
@@ -20,6 +21,7 @@ use crate::fault::ParseFault;
 use crate::values::Values;
 use lrpar_grammar::span::StorageIndex;
 use lrpar_parse_lexemes::lex_api::Lexeme;
+use lrpar_parse_repair::or::Or;
 use lrpar_parse_repair::repair::Recoverer;
 
 /// From a stack at a place there is at most one run, over lexemes of any type and over those that contracts use: two runs make the same
@@ -84,6 +86,17 @@ pub fn runs_with_repairs_have_one_answer<
     R: Recoverer<StorageT, LexemeT>,
 >()
     ensures { (r : R) (d : Checked) (k : ℕ) → RepairRunsOneWay (facts_by StorageT.index LexemeT.parts) (allowed_at (R.allows r) d k) }
+{}
+
+/// If each of two recoverers has at most one answer at each error point, so has `first.or(second)`.
+pub fn or_has_one_answer<
+    StorageT: StorageIndex,
+    LexemeT: Lexeme<StorageT>,
+    A: Recoverer<StorageT, LexemeT>,
+    B: Recoverer<StorageT, LexemeT>,
+>()
+    ensures { (both : TwoRecoverers A B) (d : Checked) (k : ℕ) → SuppliesOne (allowed_at (A.allows both.first) d k) → SuppliesOne (allowed_at (B.allows both.second) d k)
+        → SuppliesOne (allowed_at (⟦<Or<A, B, StorageT, LexemeT> as Recoverer<StorageT, LexemeT>>⟧.allows both) d k) }
 {}
 
 /// If a recoverer supplies nothing, a run with repairs is a run without repairs.

@@ -10,6 +10,7 @@ use Rattle.lrpar_grammar.specs.Sentence.{LexemeFacts}
 use Rattle.lrpar_table_rows.specs.Table.{Table}
 use Rattle.lrpar_table_stacks.specs.Reduction.{Feeds, Settles}
 use Rattle.lrpar_table_stacks.specs.Run.{Accepted, Far, FarEnd, IsStuck, Stop, Stopped, accepts, goes_on, stops, token_at}
+use Rattle.lrpar_table_check.proofs.SentenceLemmas.{stops_later}
 use Rattle.lrpar_table_stacks.proofs.RunLemmas.{token_at_lexeme}
 use Rattle.lrpar_table_sentences.proofs.AfterLemmas.{drop_at_get}
 use Rattle.lrpar_parse_repair.specs.Recovery.{Point}
@@ -34,18 +35,6 @@ pub fed_first : {X : Type 0} (lexemes : List X) (i j : ℕ) (x : X) → i < j �
 fed_first {X} lexemes i j x below at =
     let many : j - i ≡ suc (j - (i + 1)) = omega (arith, below) in
     ap (λ (n : ℕ). take n (drop i lexemes)) many ∙ ap (λ (xs : List X). take (suc (j - (i + 1))) xs) (drop_at_get lexemes i x at)
-
--- a run stops at no earlier place than its first
-stops_later : {X : Type 0} (token : X → ℕ) (g : Grammar) (table : Table) (lexemes : List X) (st : List ℕ) (i : ℕ) (ps : List ℕ) (end : FarEnd) (stop : Stop)
-    → Far token g table lexemes st i ps end → end ≡ Stopped stop → i ≤ stop.place
-stops_later token g table lexemes _ _ _ _ stop (goes_on st i ps qs next end within first rest) is =
-    let later = stops_later token g table lexemes next (i + 1) qs end stop rest is in omega (arith, later)
-stops_later token g table lexemes _ _ _ _ stop (accepts st i ps settled at_end settles accepted) is =
-    let no : Accepted ≡ Stopped stop = is in absurd (let none : ⊥ = cc in none)
-stops_later token g table lexemes _ _ _ _ stop (stops st i ps settled fits settles stuck) is =
-    let same : record { stack = settled; place = i } ≡ stop = cc in
-    let place : i ≡ stop.place = ap (λ (s : Stop). s.place) same in
-    omega (arith, place)
 
 -- the claim is kept up to an error point
 module _ {X : Type 0} (token : X → ℕ) (g : Grammar) (table : Table) (lexemes : List X) (Claim : List ℕ → List ℕ → Type 0)

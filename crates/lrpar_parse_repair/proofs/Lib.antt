@@ -4,4 +4,5 @@ pub mod StepComparisonLemmas
 pub mod TestWorkLemmas
 pub mod TrialLemmas
 pub mod ReplayLemmas
+pub mod SomeWorksLemmas
 pub mod ListedLemmas

@@ -4,6 +4,11 @@ use Rattle.lrpar_table_check.specs.Checked.{Checked}
 use Rattle.lrpar_parse_repair.specs.Asked.{Asked, IsStop}
 use Rattle.lrpar_parse_repair.specs.Sequences.{PlainStep, Works}
 
+-- two recoverers, of which the second is asked where no sequence of the first works
+pub record TwoRecoverers (A B : Type 0) : Type 0 where
+  pub first : A
+  pub second : B
+
 -- `token` gives the number of a lexeme's token, and `allows` says which answers a recoverer may give
 module _ {X : Type 0} (token : X → ℕ) where
   -- some sequence of the answer works at the error point

@@ -4,6 +4,7 @@
 pub mod counter;
 pub mod laws;
 pub mod listed_repairs;
+pub mod or;
 pub mod repair;
 pub mod repair_step;
 pub mod trial;

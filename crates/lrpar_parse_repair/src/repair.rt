@@ -6,6 +6,7 @@ ghost use Rattle.lrpar_parse_repair.specs.PlainSteps.{plain_sequences};
 ghost use Rattle.lrpar_parse_repair.specs.Sequences.{PlainStep};
 ghost use Rattle.lrpar_parse_repair.specs.Asked.{Asked, IsStop};
 
+use crate::or::Or;
 pub use crate::repair_step::RepairStep;
 use lrpar_grammar::span::{StIdx, StorageIndex};
 use lrpar_parse_lexemes::lex_api::Lexeme;
@@ -134,6 +135,15 @@ pub trait Recoverer<StorageT: StorageIndex, LexemeT: Lexeme<StorageT>> {
         point: &RecoveryPoint<'_, StorageT, LexemeT>,
     ) -> Result<Vec<Vec<RepairStep<StorageT>>>, AllocError>
         ensures allowed { IfOk result (λ answer. allows self.now point.now (plain_sequences StorageT.index answer.items)) };
+
+    /// This recoverer, and the second one for the error points at which none of its sequences works. Takes no memory.
+    final fn or<B: Recoverer<StorageT, LexemeT>>(self, second: B) -> Or<Self, B, StorageT, LexemeT>
+    where
+        Self: Sized,
+        ensures { result ≡ record { first = self; second = second } }
+    {
+        Or::new(self, second)
+    }
 }
 
 /// The recoverer that supplies no sequence. So a parse ends at its first error. It never fails.

@@ -24,7 +24,7 @@ pub struct Trial<'a, StorageT: StorageIndex, LexemeT> {
 }
 
 impl<'a, StorageT: StorageIndex, LexemeT: Lexeme<StorageT>> Trial<'a, StorageT, LexemeT> {
-    ghost use Rattle.lrpar_parse_repair.specs.TrialView.{GoesOnFrom, IsTakenBy, WorksBy};
+    ghost use Rattle.lrpar_parse_repair.specs.TrialView.{GoesOnFrom, IsTakenBy, SomeWorksBy, WorksBy};
 
     pub fn new(checked: &'a ParserData<StorageT>, lexemes: &'a [LexemeT], shifts: usize) -> Self
         ensures checked { result.checked.now ≡ checked.now }
@@ -89,6 +89,51 @@ impl<'a, StorageT: StorageIndex, LexemeT: Lexeme<StorageT>> Trial<'a, StorageT, 
             listed.push(steps)?;
         }
         Ok(listed)
+    }
+
+    /// Whether some sequence of the answer works from the stack at the place. They are tested in order, up to the first one that works.
+    /// `Err`: out of memory.
+    pub fn some_works(
+        &self,
+        alloc: Global,
+        stack: &[StIdx<StorageT>],
+        place: usize,
+        answer: &[Vec<RepairStep<StorageT>>],
+    ) -> Result<bool, AllocError>
+        requires tokens { HaveTokens (token_by StorageT.index LexemeT.parts) self.now.checked.now.grammar self.now.lexemes.now }
+        requires stack { IsStack self.now.checked.now.table (states_of StorageT.index stack.now) }
+        requires within { place ≤ length self.now.lexemes.now }
+        ensures works { IfOk result (λ works. IsTrue works ↔ SomeWorksBy StorageT.index LexemeT.parts self.now
+            (states_of StorageT.index stack.now) place (plain_sequences StorageT.index answer.now)) }
+    {
+        let mut states = Counter::new(alloc, stack);
+        self.has_working(&mut states, place, answer)
+    }
+
+    // Whether some sequence of the answer works from the borrowed states at the place. Each is tested at most once.
+    fn has_working(
+        &self,
+        states: &mut Counter<'_, StorageT>,
+        place: usize,
+        answer: &[Vec<RepairStep<StorageT>>],
+    ) -> Result<bool, AllocError>
+        requires tokens { HaveTokens (token_by StorageT.index LexemeT.parts) self.now.checked.now.grammar self.now.lexemes.now }
+        requires stack { IsStack self.now.checked.now.table states.old.stack.base }
+        requires within { place ≤ length self.now.lexemes.now }
+        ensures works { IfOk result (λ works. IsTrue works ↔ SomeWorksBy StorageT.index LexemeT.parts self.now
+            states.old.stack.base place (plain_sequences StorageT.index answer.now)) }
+
+        // The tests make at most as many reductions as the sequences may cost.
+        ensures bounded { OnOk result (states.new.reductions
+            ≤ states.old.reductions + most_listed self.now.checked.now.cap (length states.old.stack.base) self.now.shifts (plain_sequences StorageT.index answer.now)) }
+    {
+        for steps in answer {
+            states.set_back();
+            if self.works(states, place, steps)? {
+                return Ok(true);
+            }
+        }
+        Ok(false)
     }
 
     // Whether the sequence works from the states at the place.

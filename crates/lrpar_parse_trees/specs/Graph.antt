@@ -1,5 +1,5 @@
 -- Trees as graphs for Graphviz: a line for each node, and one for the edge from the node above it.
-use Rattle.std.specs.Prelude.{◌+◌, ◌∷◌, ◌++◌, if◌then◌else◌, ℕ, List, [], bytes_eq, codes, slice_range, sum_by}
+use Rattle.std.specs.Prelude.{◌+◌, ◌∷◌, ◌++◌, if◌then◌else◌, ℕ, Bool, true, false, List, [], bytes_eq, codes, slice_range, sum_by}
 use Rattle.std.specs.Fmt.{decimal}
 use Rattle.std.specs.Option.{option_map_or}
 use Rattle.lrpar_grammar.specs.Grammar.{Grammar, rule_name, token_name}
@@ -13,18 +13,25 @@ use Rattle.lrpar_parse_trees.specs.Labels.{label_text}
 abbrev pub rule_line : ℕ → List ℕ → List ℕ
 rule_line number name = codes "  n" ++ decimal number ++ codes " [label=\"" ++ label_text name ++ codes "\"];\n"
 
--- the label of a lexeme: its token's name, if that isn't its text, on a line of its own, and its text
-abbrev pub leaf_label : List ℕ → List ℕ → List ℕ
-leaf_label name text = (if bytes_eq name text then [] else label_text name ++ codes "\\n") ++ label_text text
+-- the label of a lexeme: its token's name, if that isn't its text, on a line of its own, and its text; of one that a repair made, the
+-- name
+abbrev pub leaf_label : List ℕ → List ℕ → Bool → List ℕ
+leaf_label name text false = (if bytes_eq name text then [] else label_text name ++ codes "\\n") ++ label_text text
+leaf_label name text true = label_text name
 
--- the line of a lexeme, which is drawn in a box
-abbrev pub leaf_line : ℕ → List ℕ → List ℕ → List ℕ
-leaf_line number name text = codes "  n" ++ decimal number ++ codes " [label=\"" ++ leaf_label name text ++ codes "\", shape=box];\n"
+-- how a lexeme is drawn: in a box, with a dashed line if a repair made it
+abbrev pub leaf_shape : Bool → List ℕ
+leaf_shape false = codes "\", shape=box];\n"
+leaf_shape true = codes "\", shape=box, style=dashed];\n"
+
+-- the line of a lexeme
+abbrev pub leaf_line : ℕ → List ℕ → List ℕ → Bool → List ℕ
+leaf_line number name text faulty = codes "  n" ++ decimal number ++ codes " [label=\"" ++ leaf_label name text faulty ++ leaf_shape faulty
 
 -- the line of a lexeme of the grammar over the input
 abbrev pub lexeme_line : Grammar → List ℕ → ℕ → LexemeFacts → List ℕ
 lexeme_line g input number x =
-    leaf_line number (option_map_or (λ name. name) (token_name g x.token) []) (slice_range input x.span.start x.span.end)
+    leaf_line number (option_map_or (λ name. name) (token_name g x.token) []) (slice_range input x.span.start x.span.end) x.faulty
 
 -- the line of an edge, from the number of a node to that of a node below it
 abbrev pub edge_line : ℕ → ℕ → List ℕ

@@ -33,9 +33,11 @@ abbrev pub rule_front : Form → List ℕ → List ℕ
 rule_front Brackets name = bracket_rule name
 rule_front Json name = json_rule name
 
--- a lexeme in the form with brackets: its token's name, if that isn't its text, and its text between double quotes
-abbrev pub bracket_leaf : List ℕ → List ℕ → List ℕ
-bracket_leaf name text = (if bytes_eq name text then [] else name ++ codes " ") ++ codes "\"" ++ escaped text ++ codes "\""
+-- a lexeme in the form with brackets: its token's name, if that isn't its text, and its text between double quotes; of one that a repair
+-- made, the name and `(inserted)`
+abbrev pub bracket_leaf : List ℕ → List ℕ → Bool → List ℕ
+bracket_leaf name text false = (if bytes_eq name text then [] else name ++ codes " ") ++ codes "\"" ++ escaped text ++ codes "\""
+bracket_leaf name text true = name ++ codes " (inserted)"
 
 -- the place of a lexeme, and whether a repair made it
 abbrev pub json_place : ℕ → ℕ → Bool → List ℕ
@@ -48,7 +50,7 @@ json_leaf name text start end faulty =
     codes "{\"token\":\"" ++ escaped name ++ codes "\",\"text\":\"" ++ escaped text ++ json_place start end faulty
 
 abbrev pub leaf_text : Form → List ℕ → List ℕ → ℕ → ℕ → Bool → List ℕ
-leaf_text Brackets name text start end faulty = bracket_leaf name text
+leaf_text Brackets name text start end faulty = bracket_leaf name text faulty
 leaf_text Json name text start end faulty = json_leaf name text start end faulty
 
 -- the text of a lexeme of the grammar over the input

@@ -4,7 +4,7 @@ ghost use Rattle.std.specs.Fmt.{decimal};
 ghost use Rattle.std.specs.Io.KnownBytes.{Appends};
 ghost use Rattle.std.specs.String.{string_bytes};
 ghost use Rattle.lrpar_parse_lexemes.specs.Lexemes.{facts_of};
-ghost use Rattle.lrpar_parse_trees.specs.Graph.{edge_line, graph_text, leaf_label, leaf_line, rule_line};
+ghost use Rattle.lrpar_parse_trees.specs.Graph.{edge_line, graph_text, leaf_label, leaf_line, leaf_shape, rule_line};
 ghost use Rattle.lrpar_parse_trees.specs.Labels.{label_text};
 ghost use Rattle.lrpar_parse_trees.specs.Lines.{node_line, trees_lines};
 
@@ -19,8 +19,8 @@ use std::io::{self, ErrorKind, Write};
 
 /// Writes the tree as a graph in the language of Graphviz (<https://graphviz.org/doc/info/lang.html>). Each node has a line, before
 /// the nodes below it; and each node but the root then has a line for the edge from the node above. A rule is labelled with its name; a
-/// lexeme is a box, labelled with its part of the input, after its token's name if that is another text. Nodes are numbered from 0 in
-/// the order of the lines.
+/// lexeme is a box, labelled with its part of the input, after its token's name if that is another text. The box of one that a repair made
+/// is dashed, and has the name alone. Nodes are numbered from 0 in the order of the lines.
 ///
 /// Fails as `write_nested` does, and as out of memory if `usize` has no number for a node. Takes the time and the memory that
 /// `write_nested` takes.
@@ -125,12 +125,23 @@ fn push_rule(line: &mut String, number: usize, rule: &str) -> Result<(), AllocEr
 
 // Adds the line of a lexeme.
 fn push_leaf(line: &mut String, number: usize, leaf: Leaf<'_>) -> Result<(), AllocError>
-    ensures { OnOk result (string_bytes line.new ≡ string_bytes line.old ++ leaf_line number leaf.entry.name.now leaf.entry.text.now) }
+    ensures { OnOk result (string_bytes line.new ≡ string_bytes line.old ++ leaf_line number leaf.entry.name.now leaf.entry.text.now leaf.entry.is_faulty) }
 {
     push_front(line, number)?;
-    push_leaf_label(line, leaf.name, leaf.text)?;
-    line.push_str("\", shape=box];\n")?;
+    push_leaf_label(line, leaf)?;
+    line.push_str(leaf_shape(leaf.is_faulty))?;
     Ok(())
+}
+
+// How a lexeme is drawn.
+fn leaf_shape(is_faulty: bool) -> &'static str
+    ensures { result.now ≡ leaf_shape is_faulty }
+{
+    if is_faulty {
+        "\", shape=box, style=dashed];\n"
+    } else {
+        "\", shape=box];\n"
+    }
 }
 
 // Adds the beginning of a node's line, up to its label.
@@ -141,11 +152,14 @@ fn push_front(line: &mut String, number: usize) -> Result<(), AllocError>
 }
 
 // Adds the label of a lexeme.
-fn push_leaf_label(line: &mut String, name: &str, text: &str) -> Result<(), AllocError>
-    ensures { OnOk result (string_bytes line.new ≡ string_bytes line.old ++ leaf_label name.now text.now) }
+fn push_leaf_label(line: &mut String, leaf: Leaf<'_>) -> Result<(), AllocError>
+    ensures { OnOk result (string_bytes line.new ≡ string_bytes line.old ++ leaf_label leaf.entry.name.now leaf.entry.text.now leaf.entry.is_faulty) }
 {
-    push_other_name(line, name, text)?;
-    push_label(line, text)
+    if leaf.is_faulty {
+        return push_label(line, leaf.name);
+    }
+    push_other_name(line, leaf.name, leaf.text)?;
+    push_label(line, leaf.text)
 }
 
 // Adds the name of a token as a line of a label, if the name isn't the text.

@@ -1,5 +1,5 @@
 //! Trees on one line: the text of a node encloses the texts of its trees.
-ghost use Rattle.std.specs.Prelude.{◌≡◌, ◌++◌, [], if◌then◌else◌, OnOk, bytes_eq, codes};
+ghost use Rattle.std.specs.Prelude.{false, ◌≡◌, ◌++◌, [], if◌then◌else◌, OnOk, bytes_eq, codes};
 ghost use Rattle.std.specs.Io.KnownBytes.{Appends};
 ghost use Rattle.std.specs.String.{string_bytes};
 ghost use Rattle.lrpar_parse_lexemes.specs.Lexemes.{facts_of};
@@ -146,13 +146,25 @@ fn push_leaf(piece: &mut String, form: Form, leaf: Leaf<'_>) -> Result<(), Alloc
     }
 }
 
-// Adds a lexeme: its token's name, if that isn't its text, and its text between double quotes.
+// Adds a lexeme: its token's name, if that isn't its text, and its text between double quotes; or its name and that it was inserted.
 fn push_bracket_leaf(piece: &mut String, leaf: Leaf<'_>) -> Result<(), AllocError>
-    ensures { OnOk result (string_bytes piece.new ≡ string_bytes piece.old ++ bracket_leaf leaf.entry.name.now leaf.entry.text.now) }
+    ensures { OnOk result (string_bytes piece.new ≡ string_bytes piece.old ++ bracket_leaf leaf.entry.name.now leaf.entry.text.now leaf.entry.is_faulty) }
 {
-    push_other_name(piece, leaf.name, leaf.text)?;
+    if leaf.is_faulty {
+        piece.push_str(leaf.name)?;
+        piece.push_str(" (inserted)")
+    } else {
+        push_bracket_text(piece, leaf.name, leaf.text)
+    }
+}
+
+// Adds the name of a token, if that isn't the text, and the text between double quotes.
+fn push_bracket_text(piece: &mut String, name: &str, text: &str) -> Result<(), AllocError>
+    ensures { OnOk result (string_bytes piece.new ≡ string_bytes piece.old ++ bracket_leaf name.now text.now false) }
+{
+    push_other_name(piece, name, text)?;
     piece.push('"')?;
-    push_escaped(piece, leaf.text)?;
+    push_escaped(piece, text)?;
     piece.push('"')
 }
 

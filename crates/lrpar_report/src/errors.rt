@@ -1,5 +1,7 @@
 //! Reports of errors of inputs.
-ghost use Rattle.std.specs.Prelude.{◌≡◌, IfOk};
+ghost use Rattle.std.specs.Prelude.{◌≡◌, ◌∷◌, [], IfOk};
+ghost use Rattle.lrpar_report.specs.FaultPlaces.{AreErrorSpans, IsCharacterAt, IsOne};
+ghost use Rattle.lrpar_report_lines.specs.Labels.{label_spans};
 ghost use Rattle.lrpar_report_lines.specs.declared.levels.Level.TheVariants.{Error};
 
 use crate::choices::{push_choices, push_quoted};
@@ -8,7 +10,7 @@ use lrpar_grammar::grammar::YaccGrammar;
 use lrpar_grammar::span::{Span, StorageIndex, TIdx};
 use lrpar_parse_errors::errors::{LexParseError, ParseError};
 use lrpar_parse_lexemes::lex_api::{LexError, Lexeme, LexerTypes};
-use lrpar_report_lines::{Report, part_of};
+use lrpar_report_lines::{Report, next_boundary, part_of};
 use lrpar_table::check::ParserData;
 use std::alloc::{AllocError, Global};
 
@@ -25,7 +27,9 @@ pub fn error_report<StorageT: StorageIndex, LexerTypesT: LexerTypes<StorageT = S
     text: &str,
     error: &LexParseError<StorageT, LexerTypesT>,
 ) -> Result<Report, AllocError>
-    ensures { IfOk result (λ report. report.level ≡ Error) }
+    ensures level { IfOk result (λ report. report.level ≡ Error) }
+    ensures spans { IfOk result (λ report. AreErrorSpans LexerTypesT.LexErrorT.place (λ x. (LexerTypesT.LexemeT.parts x).span) text.now error.now
+        (label_spans report)) }
 {
     match error {
         LexParseError::LexError(error) => lexing_report(alloc, text, error),
@@ -42,30 +46,35 @@ pub fn lexing_report<ErrorT: LexError>(
     text: &str,
     error: &ErrorT,
 ) -> Result<Report, AllocError>
-    ensures { IfOk result (λ report. report.level ≡ Error) }
+    ensures level { IfOk result (λ report. report.level ≡ Error) }
+    ensures span { IfOk result (λ report. IsOne (IsCharacterAt text.now (ErrorT.place error.now).start) (label_spans report)) }
 {
-    let at = part_of(text, error.span()).start();
-    let rest = text.get(at..).unwrap_or("");
+    let span = character_at(text, error.span().start());
     let mut message = String::from_str(alloc, "unexpected ")?;
-    let len = push_character(&mut message, rest)?;
-    let span = Span::new(at, at.saturating_add(len));
+    push_character(&mut message, part_text(text, span))?;
     Report::error(alloc, message.as_str())?.label(span, "no rule of the lexer matches here")
 }
 
-// Adds the character with which the text begins, and its number, if it isn't a visible one of ASCII. Returns how many bytes it has.
-fn push_character(out: &mut String, text: &str) -> Result<usize, AllocError> {
+// The place of the character at a byte, which is moved to the next boundary of characters. It is empty at the text's end.
+fn character_at(text: &str, byte: usize) -> Span
+    ensures { IsCharacterAt text.now byte result }
+{
+    let start = next_boundary(text, byte);
+    Span::new(start, next_boundary(text, start + 1))
+}
+
+// Adds a character, and its number, if it isn't a visible one of ASCII; or that the input ends, if there is none.
+fn push_character(out: &mut String, text: &str) -> Result<(), AllocError> {
     let Some(c) = text.chars().next() else {
-        out.push_str("end of input")?;
-        return Ok(0);
+        return out.push_str("end of input");
     };
     out.push_str("character ")?;
-    let len = c.len_utf8();
-    push_quoted(out, text.get(..len).unwrap_or(""))?;
+    push_quoted(out, text)?;
     if !c.is_ascii_graphic() {
         let number = u32::from(c);
         write!(out, " (U+{number:04X})")?;
     }
-    Ok(len)
+    Ok(())
 }
 
 /// The report of a parse error: that of [`unexpected_report`], with the tokens at which the state of the error has an action, and the
@@ -78,7 +87,8 @@ pub fn parse_report<LexemeT: Lexeme<StorageT>, StorageT: StorageIndex>(
     text: &str,
     error: &ParseError<LexemeT, StorageT>,
 ) -> Result<Report, AllocError>
-    ensures { IfOk result (λ report. report.level ≡ Error) }
+    ensures level { IfOk result (λ report. report.level ≡ Error) }
+    ensures span { IfOk result (λ report. label_spans report ≡ (LexemeT.parts (error.now).lexeme).span ∷ []) }
 {
     let expected = error.expected(data);
     let report = unexpected_report(alloc, data.grm(), text, error.lexeme(), expected)?;
@@ -96,7 +106,8 @@ pub fn unexpected_report<LexemeT: Lexeme<StorageT>, StorageT: StorageIndex>(
     lexeme: &LexemeT,
     expected: &[TIdx<StorageT>],
 ) -> Result<Report, AllocError>
-    ensures { IfOk result (λ report. report.level ≡ Error) }
+    ensures level { IfOk result (λ report. report.level ≡ Error) }
+    ensures span { IfOk result (λ report. label_spans report ≡ (LexemeT.parts lexeme.now).span ∷ []) }
 {
     let is_end = lexeme.tok_id().to_index().saturating_add(1) >= grm.tokens_len();
     let mut message = String::from_str(alloc, "unexpected ")?;

@@ -1,5 +1,7 @@
 //! Reports of faults in grammar texts.
-ghost use Rattle.std.specs.Prelude.{◌≡◌, IfOk};
+ghost use Rattle.std.specs.Prelude.{◌≡◌, ◌∷◌, [], IfOk};
+ghost use Rattle.lrpar_report.specs.FaultPlaces.{AreGrammarSpans, IsOne, StartsAt};
+ghost use Rattle.lrpar_report_lines.specs.Labels.{label_spans};
 ghost use Rattle.lrpar_report_lines.specs.declared.levels.Level.TheVariants.{Error};
 
 use crate::choices::push_quoted;
@@ -19,7 +21,8 @@ use std::alloc::{AllocError, Global};
 /// Takes time linear in the text, and in its names times the length of the one in question. `Err`: out of memory, also if that is the
 /// fault.
 pub fn grammar_report(alloc: Global, text: &str, fault: &GrammarFault) -> Result<Report, AllocError>
-    ensures { IfOk result (λ report. report.level ≡ Error) }
+    ensures level { IfOk result (λ report. report.level ≡ Error) }
+    ensures spans { IfOk result (λ report. AreGrammarSpans text.now fault.now (label_spans report)) }
 {
     match fault {
         GrammarFault::Syntax(at) => syntax_report(alloc, text, *at),
@@ -59,7 +62,8 @@ fn named(
     what: &str,
     label: &str,
 ) -> Result<Report, AllocError>
-    ensures { IfOk result (λ report. report.level ≡ Error) }
+    ensures level { IfOk result (λ report. report.level ≡ Error) }
+    ensures span { IfOk result (λ report. label_spans report ≡ span ∷ []) }
 {
     let mut message = String::from_str(alloc, kind)?;
     message.push(' ')?;
@@ -76,7 +80,8 @@ fn part(text: &str, span: Span) -> &str {
 
 // The report of a name that is neither a rule nor a declared token.
 fn unknown_rule(alloc: Global, text: &str, span: Span) -> Result<Report, AllocError>
-    ensures { IfOk result (λ report. report.level ≡ Error) }
+    ensures level { IfOk result (λ report. report.level ≡ Error) }
+    ensures span { IfOk result (λ report. label_spans report ≡ span ∷ []) }
 {
     let mut label = String::new(alloc);
     if let Ok(outline) = outline_of(alloc, text)? {
@@ -92,7 +97,8 @@ fn unknown_rule(alloc: Global, text: &str, span: Span) -> Result<Report, AllocEr
 
 // The report of a name after `%epp` that is no token.
 fn unknown_token(alloc: Global, text: &str, span: Span) -> Result<Report, AllocError>
-    ensures { IfOk result (λ report. report.level ≡ Error) }
+    ensures level { IfOk result (λ report. report.level ≡ Error) }
+    ensures span { IfOk result (λ report. label_spans report ≡ span ∷ []) }
 {
     let mut label = String::new(alloc);
     if let Ok(outline) = outline_of(alloc, text)? {
@@ -136,7 +142,8 @@ fn push_near(
 
 // The report of a text that isn't a grammar's from byte `at` on.
 fn syntax_report(alloc: Global, text: &str, at: usize) -> Result<Report, AllocError>
-    ensures { IfOk result (λ report. report.level ≡ Error) }
+    ensures level { IfOk result (λ report. report.level ≡ Error) }
+    ensures span { IfOk result (λ report. IsOne (StartsAt text.now at) (label_spans report)) }
 {
     let (front, rest) = text.split_at_checked(at).unwrap_or((text, ""));
     let mut message = String::new(alloc);

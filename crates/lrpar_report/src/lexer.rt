@@ -1,5 +1,7 @@
 //! Reports of faults in the rules of a lexer.
-ghost use Rattle.std.specs.Prelude.{◌≡◌, IfOk};
+ghost use Rattle.std.specs.Prelude.{◌≡◌, ◌∷◌, [], IfOk};
+ghost use Rattle.lrpar_report.specs.FaultPlaces.{AreRulesSpans, IsOnLine, IsOne, IsWithin};
+ghost use Rattle.lrpar_report_lines.specs.Labels.{label_spans};
 ghost use Rattle.lrpar_report_lines.specs.declared.levels.Level.TheVariants.{Error};
 
 use crate::choices::push_quoted;
@@ -21,7 +23,8 @@ pub fn rules_report(
     text: &str,
     fault: &RulesFault,
 ) -> Result<Report, AllocError>
-    ensures { IfOk result (λ report. report.level ≡ Error) }
+    ensures level { IfOk result (λ report. report.level ≡ Error) }
+    ensures spans { IfOk result (λ report. AreRulesSpans text.now fault.now (label_spans report)) }
 {
     match fault {
         RulesFault::Line(number, fault) => line_report(alloc, grm, text, *number, *fault),
@@ -37,64 +40,80 @@ fn line_report(
     number: usize,
     fault: LineFault,
 ) -> Result<Report, AllocError>
-    ensures { IfOk result (λ report. report.level ≡ Error) }
+    ensures level { IfOk result (λ report. report.level ≡ Error) }
+    ensures span { IfOk result (λ report. IsOne (IsOnLine text.now number) (label_spans report)) }
 {
-    let core = line_of(text, number);
+    let whole = line_of(text, number);
+    let core = core_of(text, whole);
     let line = text.get(core.start()..core.end()).unwrap_or("");
     match fault {
         LineFault::Unread => unread(alloc, core),
-        LineFault::Unnamed => unnamed(alloc, grm, line, core.start()),
+        LineFault::Unnamed => unnamed(alloc, grm, line, core),
         LineFault::Pattern(error) => refused(alloc, &error, core),
     }
 }
 
-// The place of the line of this number, without spaces, tabs and carriage returns at its ends.
-fn line_of(text: &str, number: usize) -> Span {
-    let mut start = 0usize;
-    let mut left = number;
-    for line in text.split('\n') {
-        left = left.saturating_sub(1);
-        if left == 0 {
-            return core_of(line, start);
+// The place of the line of this number, counted from 1, without its line feed. It is empty at the text's end, if there is no such line.
+fn line_of(text: &str, number: usize) -> Span
+    ensures { IsOnLine text.now number result }
+{
+    let mut line = 1;
+    let mut start = 0;
+    'bytes: for (at, byte) in text.as_bytes().iter().enumerate() {
+        if *byte == b'\n' {
+            if line == number {
+                return Span::new(start, at);
+            }
+            line += 1;
+            start = at + 1;
         }
-        start = start.saturating_add(line.len()).saturating_add(1);
     }
-    Span::new(text.len(), text.len())
+    let end = text.len();
+    if line == number {
+        Span::new(start, end)
+    } else {
+        Span::new(end, end)
+    }
 }
 
-// The same of a line that starts at byte `start`.
-fn core_of(line: &str, start: usize) -> Span {
-    let after = line.trim_start_matches([' ', '\t', '\r']);
-    let from = start.saturating_add(line.len().saturating_sub(after.len()));
+// The part of a line without spaces, tabs and carriage returns at its ends.
+fn core_of(text: &str, line: Span) -> Span
+    ensures { IsWithin line result }
+{
+    let whole = text.get(line.start()..line.end()).unwrap_or("");
+    let after = whole.trim_start_matches([' ', '\t', '\r']);
     let core = after.trim_end_matches([' ', '\t', '\r']);
-    Span::new(from, from.saturating_add(core.len()))
+    let front = whole.len() - after.len();
+    part_within(line, front, front + core.len())
 }
 
 // The report of a line that isn't written as a rule.
 fn unread(alloc: Global, core: Span) -> Result<Report, AllocError>
-    ensures { IfOk result (λ report. report.level ≡ Error) }
+    ensures level { IfOk result (λ report. report.level ≡ Error) }
+    ensures span { IfOk result (λ report. label_spans report ≡ core ∷ []) }
 {
     let label = "expected PATTERN 'NAME' for a token, or PATTERN ; for what is skipped";
     Report::error(alloc, "this line is no rule")?.label(core, label)
 }
 
-// The report of a line that starts at byte `start` and names no token.
+// The report of a line that names no token.
 fn unnamed(
     alloc: Global,
     grm: &YaccGrammar<u32>,
     line: &str,
-    start: usize,
+    core: Span,
 ) -> Result<Report, AllocError>
-    ensures { IfOk result (λ report. report.level ≡ Error) }
+    ensures level { IfOk result (λ report. report.level ≡ Error) }
+    ensures span { IfOk result (λ report. IsOne (IsWithin core) (label_spans report)) }
 {
     let quoted = line.strip_suffix('\'').unwrap_or(line);
     let (front, name) = quoted.rsplit_once('\'').unwrap_or(("", quoted));
-    let at = start.saturating_add(front.len()).saturating_add(1);
+    let at = front.len().saturating_add(1);
     let mut text = String::from_str(alloc, "the grammar has no token ")?;
     push_quoted(&mut text, name)?;
     let mut label = String::new(alloc);
     push_near_token(&mut label, alloc, grm, name)?;
-    let span = Span::new(at, at.saturating_add(name.len()));
+    let span = part_within(core, at, at.saturating_add(name.len()));
     Report::error(alloc, text.as_str())?.label(span, label.as_str())
 }
 
@@ -118,28 +137,38 @@ fn push_near_token(
 
 // The report of a pattern that is refused.
 fn refused(alloc: Global, error: &regex::Error, core: Span) -> Result<Report, AllocError>
-    ensures { IfOk result (λ report. report.level ≡ Error) }
+    ensures level { IfOk result (λ report. report.level ≡ Error) }
+    ensures span { IfOk result (λ report. IsOne (IsWithin core) (label_spans report)) }
 {
     let mut text = String::from_str(alloc, "bad pattern: ")?;
-    let span = match error {
-        regex::Error::Syntax(error) => {
-            text.push_str(error.kind.message())?;
-            pattern_span(core, error.span.start, error.span.end)
-        }
-        error => {
-            write!(text, "{error}")?;
-            core
-        }
-    };
+    push_refusal(&mut text, error)?;
     let label = "patterns are those of the crate `regex`";
-    Report::error(alloc, text.as_str())?.label(span, label)
+    Report::error(alloc, text.as_str())?.label(refused_part(error, core), label)
 }
 
-// The place of a part of the pattern with which a line begins.
-fn pattern_span(core: Span, start: usize, end: usize) -> Span {
-    let from = core.start().saturating_add(start).min(core.end());
-    Span::new(
-        from,
-        core.start().saturating_add(end).min(core.end()).max(from),
-    )
+// Adds why a pattern is refused.
+fn push_refusal(text: &mut String, error: &regex::Error) -> Result<(), AllocError> {
+    match error {
+        regex::Error::Syntax(error) => text.push_str(error.kind.message()),
+        error => write!(text, "{error}"),
+    }
+}
+
+// The part of a line that the error of its pattern is about. The line begins with the pattern.
+fn refused_part(error: &regex::Error, core: Span) -> Span
+    ensures { IsWithin core result }
+{
+    match error {
+        regex::Error::Syntax(error) => part_within(core, error.span.start, error.span.end),
+        _ => part_within(core, 0, core.len()),
+    }
+}
+
+// The part of a line from one byte of it to another, as far as the line has them.
+fn part_within(line: Span, start: usize, end: usize) -> Span
+    ensures { IsWithin line result }
+{
+    let from = line.start().saturating_add(start).min(line.end());
+    let to = line.start().saturating_add(end).min(line.end());
+    Span::new(from, to.max(from))
 }

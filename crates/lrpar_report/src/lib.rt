@@ -11,6 +11,7 @@ mod grammar;
 mod lexer;
 mod loops;
 mod near;
+mod placed;
 mod repairs;
 mod shape;
 mod tables;
@@ -22,8 +23,11 @@ pub use errors::{error_report, lexing_report, parse_report, unexpected_report};
 pub use file::{file_message, text_of};
 pub use grammar::grammar_report;
 pub use lexer::rules_report;
-pub use lrpar_report_lines::{Label, Level, Look, Report, Reporter, next_boundary, part_of};
+pub use lrpar_report_lines::{
+    Label, Level, Look, PlacedFault, Report, Reporter, next_boundary, part_of,
+};
 pub use near::nearest;
+pub use placed::{placed_error, placed_grammar_fault, placed_rules_fault};
 pub use repairs::push_repairs;
 pub use tables::{build_report, chain_report};
 pub use warnings::{rule_warnings, token_warnings};

@@ -21,7 +21,8 @@ pub(crate) fn with_repairs<LexemeT: Lexeme<StorageT>, StorageT: StorageIndex>(
     text: &str,
     sequences: &Vec<Vec<ParseRepair<LexemeT, StorageT>>>,
 ) -> Result<Report, AllocError>
-    ensures { IfOk result (λ noted. noted.level ≡ report.level) }
+    ensures level { IfOk result (λ noted. noted.level ≡ report.level) }
+    ensures labels { IfOk result (λ noted. noted.labels ≡ report.labels) }
 {
     let mut report = report;
     report.notes = notes_of(alloc, grm, text, sequences)?;

@@ -5,12 +5,14 @@ mod captions;
 mod levels;
 mod lines;
 mod marks;
+mod placed;
 mod places;
 mod reporting;
 mod reports;
 mod touched;
 
 pub use levels::{Level, Look};
+pub use placed::PlacedFault;
 pub use places::{next_boundary, part_of};
 pub use reporting::Reporter;
 pub use reports::{Label, Report};

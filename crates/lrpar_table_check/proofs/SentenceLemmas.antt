@@ -119,7 +119,7 @@ module _ {X : Type 0} (token : X → ℕ) (g : Grammar) (table : Table) (never :
       let no : Stopped (record { stack = settled; place = i }) ≡ Accepted = is in absurd (let none : ⊥ = cc in none)
 
 -- a run stops at no earlier place than its first
-stops_later : {X : Type 0} (token : X → ℕ) (g : Grammar) (table : Table) (lexemes : List X) (st : List ℕ) (i : ℕ) (ps : List ℕ) (end : FarEnd) (stop : Stop)
+pub stops_later : {X : Type 0} (token : X → ℕ) (g : Grammar) (table : Table) (lexemes : List X) (st : List ℕ) (i : ℕ) (ps : List ℕ) (end : FarEnd) (stop : Stop)
     → Far token g table lexemes st i ps end → end ≡ Stopped stop → i ≤ stop.place
 stops_later token g table lexemes _ _ _ _ stop (goes_on st i ps qs next end within feeds rest) is =
     let later = stops_later token g table lexemes next (i + 1) qs end stop rest is in omega (arith, later)

@@ -2,6 +2,7 @@
 use crate::{commands, streams};
 use std::alloc::Global;
 use std::rt::Files;
+use test_case_faults::faults;
 use test_case_grammars::{examples, grammars, parts, reports, spelled, underlines};
 use test_case_lines::cases::Case;
 use test_case_lines::fault::Fault;
@@ -27,6 +28,7 @@ pub(crate) fn inputs_of(kind: &str) -> &'static [&'static str] {
         "full" | "stored" | "sets" => refusals::INPUTS,
         "underlines" => underlines::INPUTS,
         "report" => reports::INPUTS,
+        "fault" => faults::INPUTS,
         "examples" => examples::INPUTS,
         _ => &[],
     }
@@ -59,6 +61,7 @@ pub(crate) fn outcome<R: Files>(
         "sets" => refusals::outcome_of_sets(out, alloc, case),
         "underlines" => underlines::outcome(out, alloc, case),
         "report" => reports::outcome(out, alloc, case),
+        "fault" => faults::outcome(out, alloc, case),
         "examples" => examples::outcome(out, rt, alloc, case),
         _ => Err(Fault::Line(case.number, "a kind of case that isn't known")),
     }

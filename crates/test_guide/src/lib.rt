@@ -10,4 +10,6 @@ mod example;
 #[cfg(test)]
 mod guide;
 #[cfg(test)]
+mod placed;
+#[cfg(test)]
 mod tables;

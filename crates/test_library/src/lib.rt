@@ -32,4 +32,6 @@ mod table;
 #[cfg(test)]
 mod trees;
 #[cfg(test)]
+mod two_recoverers;
+#[cfg(test)]
 mod values;

@@ -1,10 +1,10 @@
 //! Many repairs, and how many lexemes have to follow one.
 use crate::expectations::same;
 use lrpar_grammar::span::TIdx;
-use lrpar_lexer::TokenTypes;
+use lrpar_lexer::{Token, TokenTypes};
 use lrpar_parse::RTParserBuilder;
 use lrpar_parse_errors::errors::LexParseError;
-use lrpar_parse_repair::repair::{FixedRecoverer, NoRecovery, RepairStep};
+use lrpar_parse_repair::repair::{FixedRecoverer, NoRecovery, Recoverer, RepairStep};
 use lrpar_table::check::ParserData;
 use std::alloc::Global;
 use std::process::Abort;
@@ -12,9 +12,6 @@ use std::test::Fail;
 use test_parts::built::{BRACKETS, built};
 use test_parts::drops::drop_errors;
 use test_parts::lexer::lexer_of;
-
-/// A parser that gets the same sequences at each error.
-type FixedParser<'a> = RTParserBuilder<'a, u32, TokenTypes, FixedRecoverer<u32>>;
 
 const D: RepairStep<u32> = RepairStep::Delete;
 
@@ -34,8 +31,12 @@ fn counted(
     counted_by(rt, alloc, &parser)
 }
 
-// The same by a parser.
-fn counted_by(rt: &impl Abort, alloc: Global, parser: &FixedParser<'_>) -> (usize, usize, usize) {
+/// The same by a parser.
+pub(crate) fn counted_by<R: Recoverer<u32, Token<u32>> + Drop>(
+    rt: &impl Abort,
+    alloc: Global,
+    parser: &RTParserBuilder<'_, u32, TokenTypes, R>,
+) -> (usize, usize, usize) {
     let lexer = lexer_of(&[(0, 1), (0, 1)]);
     match parser.parse_map(alloc, &lexer, |_| 1, |_, below| sum(&below)) {
         Ok((leaves, errors)) => {

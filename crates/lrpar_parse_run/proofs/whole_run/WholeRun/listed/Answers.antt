@@ -1,8 +1,9 @@
 use Rattle.std.proofs.Common.{◌≡◌, subst}
-use Rattle.lrpar_parse_repair.specs.Asked.{asked_at}
+use Rattle.lrpar_parse_repair.specs.Asked.{HaveTokens, asked_at}
 use Rattle.lrpar_parse_run.specs.WholeRunView.{subject}
-use Rattle.lrpar_parse_lexemes.specs.Views.{facts_by}
+use Rattle.lrpar_parse_lexemes.specs.Views.{facts_by, token_by}
 use Rattle.lrpar_parse_repair.specs.PlainSteps.{plain_sequences}
+use Rattle.lrpar_parse_repair.proofs.TokenLemmas.{good_token}
 use Rattle.lrpar_parse_run.proofs.AskedLemmas.{stop_of}
 use Rattle.lrpar_parse_run.proofs.WholeRunLemmas.{listed_ok}
 use Rattle.lrpar_parse_run.proofs.whole_run.WholeRun.listed.Goals as goal
@@ -17,8 +18,14 @@ new-point-requires g c =
     c.requires.valid c.requires.stack c.requires.within c.requires.fails in
     record { stop = rw c.states-states.ensures made }
 
-pub listed-requires-clause-valid : goal.listed-requires-clause-valid
-listed-requires-clause-valid g c = rw (c.new.ensures.checked, c.new.ensures.lexemes) c.requires.valid
+pub listed-requires-clause-tokens : goal.listed-requires-clause-tokens
+listed-requires-clause-tokens g c =
+    let index = g.StorageT.StorageIndex.index in
+    let parts = g.LexerTypesT.LexemeT.Lexeme.parts in
+    let self = c.args.self.now in
+    let tokens : HaveTokens (token_by index parts) self.run.checked.now.grammar self.lexemes.now =
+    λ i x at. good_token (facts_by index parts) self.run.checked.now.grammar self.lexemes.now i x c.requires.valid at in
+    rw (c.new.ensures.checked, c.new.ensures.lexemes) tokens
 
 pub returns : goal.returns
 returns g c =

@@ -1,0 +1,39 @@
+-- Lists of productions that come in parts.
+use Rattle.std.specs.Prelude.{◌≡◌, ◌<◌, ◌+◌, ℕ, List, [], length, slice_get, slice_index_or, take, Option, Some, None}
+use Rattle.std.specs.List.{AllZip, flat_map}
+use Rattle.lrpar_grammar_reader.specs.Grammar.{Grammar}
+use Rattle.lrpar_grammar.specs.Spelled.{IsListing}
+
+-- the whole list: the texts of the parts, one part after another
+abbrev pub joined : List (List (List ℕ)) → List (List ℕ)
+joined parts = flat_map (λ texts. texts) parts
+
+-- The text at place `whole` of the whole list is at this place of part number `part`: the part has such a place, and before it come
+-- the parts before that one.
+pub record IsPlaceInPart (parts : List (List (List ℕ))) (whole part place : ℕ) : Type 0 where
+  pub within : place < length (slice_index_or parts part [])
+  pub is : whole ≡ length (joined (take part parts)) + place
+
+-- a place in the whole list and one in a part are those of one text; or there is neither
+abbrev pub IsSamePlace : List (List (List ℕ)) → Option ℕ → Option (ℕ × ℕ) → Type 0
+IsSamePlace parts None None = Unit {0}
+IsSamePlace parts None (Some at) = ⊥
+IsSamePlace parts (Some whole) None = ⊥
+IsSamePlace parts (Some whole) (Some at) = IsPlaceInPart parts whole at.0 at.1
+
+-- The parts list the productions: the whole list does, and each production has the place of its text there, but as a part and a place
+-- in it.
+pub record IsListingInParts (g : Grammar) (parts : List (List (List ℕ))) (places : List (Option (ℕ × ℕ))) : Type 0 where
+  pub whole : List (Option ℕ)
+  pub listing : IsListing g (joined parts) whole
+  pub same : AllZip (IsSamePlace parts) whole places
+
+-- for each place of the whole list the part and the place in it
+pub record ArePlaces (parts : List (List (List ℕ))) (places : List (ℕ × ℕ)) : Type 0 where
+  pub len : length places ≡ length (joined parts)
+  pub each : (t : ℕ) → t < length places → IsPlaceInPart parts t (slice_index_or places t (0, 0)).0 (slice_index_or places t (0, 0)).1
+
+-- the part and the place in it, of a place in the whole list
+abbrev pub place_in_parts : List (ℕ × ℕ) → Option ℕ → Option (ℕ × ℕ)
+place_in_parts places None = None
+place_in_parts places (Some whole) = slice_get places whole

@@ -1,0 +1,68 @@
+-- The places of faults: the spans of the labels of their reports.
+use Rattle.std.specs.Prelude.{◌≡◌, ◌<◌, ◌≤◌, ◌+◌, ◌∷◌, ℕ, List, [], length}
+use Rattle.std.specs.Str.{IsCharBoundary}
+use Rattle.lrpar_grammar_places.specs.Lines.{line_of}
+use Rattle.lrpar_grammar_places.specs.Span.{Extent}
+use Rattle.lrpar_grammar_reader.specs.declared.parts.GrammarFault.{GrammarFault}
+use Rattle.lrpar_grammar_reader.specs.declared.parts.GrammarFault.TheVariants.{BadStart, BadSymbol, Memory, NoRules, RepeatedEpp, RepeatedStart, StorageTooSmall, Syntax, TokenIsRule, UnknownRule, UnknownToken}
+use Rattle.lrpar_lexer.specs.RuleTexts.{NamesLine}
+use Rattle.lrpar_lexer.specs.declared.rules.RulesFault.{RulesFault}
+use Rattle.lrpar_parse_errors.specs.declared.errors.LexParseError.{LexParseError}
+use Rattle.lrpar_parse_errors.specs.declared.errors.LexParseError.TheVariants.{LexError, ParseError}
+use Rattle.lrpar_report_lines.specs.Places.{IsFirstPlace, IsNextBoundary}
+
+-- there is one span, which is such a span
+abbrev pub IsOne : (Extent → Type 0) → List Extent → Type 0
+IsOne IsSuch spans = (span : Extent) × (spans ≡ span ∷ []) × IsSuch span
+
+-- a span that starts at the byte, if that is a boundary of characters
+abbrev pub StartsAt : List ℕ → ℕ → Extent → Type 0
+StartsAt text byte span = IsCharBoundary text byte → span.start ≡ byte
+
+-- The spans of a fault in a grammar text: that of the name in question, or one that starts at the byte from which the text isn't a
+-- grammar's. Other faults have none.
+abbrev pub AreGrammarSpans : List ℕ → GrammarFault → List Extent → Type 0
+AreGrammarSpans text (Syntax byte) spans = IsOne (StartsAt text byte) spans
+AreGrammarSpans text (UnknownRule span) spans = spans ≡ span ∷ []
+AreGrammarSpans text (UnknownToken span) spans = spans ≡ span ∷ []
+AreGrammarSpans text (TokenIsRule span) spans = spans ≡ span ∷ []
+AreGrammarSpans text (RepeatedStart span) spans = spans ≡ span ∷ []
+AreGrammarSpans text (RepeatedEpp span) spans = spans ≡ span ∷ []
+AreGrammarSpans text BadSymbol spans = spans ≡ []
+AreGrammarSpans text BadStart spans = spans ≡ []
+AreGrammarSpans text NoRules spans = spans ≡ []
+AreGrammarSpans text StorageTooSmall spans = spans ≡ []
+AreGrammarSpans text Memory spans = spans ≡ []
+
+-- the text has a line of this number, counted from 1
+abbrev pub HasLine : List ℕ → ℕ → Type 0
+HasLine text number = (0 < number) × (number ≤ line_of text (length text))
+
+-- a span that starts and ends on the line of this number, if the text has that line
+pub record IsOnLine (text : List ℕ) (number : ℕ) (span : Extent) : Type 0 where
+  pub start : HasLine text number → line_of text span.start ≡ number
+  pub end : HasLine text number → line_of text span.end ≡ number
+
+-- a span that is part of another one
+pub record IsWithin (whole : Extent) (span : Extent) : Type 0 where
+  pub start : whole.start ≤ span.start
+  pub ordered : span.start ≤ span.end
+  pub end : span.end ≤ whole.end
+
+-- the spans of a fault in the rules of a lexer: one on the line of the fault
+abbrev pub AreRulesSpans : List ℕ → RulesFault → List Extent → Type 0
+AreRulesSpans text fault spans = NamesLine (λ number _. IsOne (IsOnLine text number) spans) fault
+
+-- a character: from the boundary to which a byte is moved to the next one, or the empty part at the text's end
+pub record IsCharacterAt (text : List ℕ) (byte : ℕ) (span : Extent) : Type 0 where
+  pub start : IsNextBoundary text byte span.start
+  pub end : IsNextBoundary text (span.start + 1) span.end
+
+-- the spans of an error of a parse: the character at which a lexing error starts, or the lexeme of a parse error
+abbrev pub AreErrorSpans : {S L B C : Type 0} → (C → Extent) → (B → Extent) → List ℕ → LexParseError S L B C → List Extent → Type 0
+AreErrorSpans place span text (LexError e) spans = IsOne (IsCharacterAt text (place e).start) spans
+AreErrorSpans place span text (ParseError e) spans = spans ≡ span e.lexeme ∷ []
+
+-- the place of a fault that has such spans: the first of them, moved to boundaries of the text; without any, the text's start
+abbrev pub IsPlaceBy : (List Extent → Type 0) → List ℕ → Extent → Type 0
+IsPlaceBy AreSpans text place = (spans : List Extent) × AreSpans spans × IsFirstPlace text spans place

@@ -1,0 +1,4 @@
+//! Cases of faults that are shown where they are.
+#![tactic(auto)]
+
+pub mod faults;
