@@ -106,7 +106,8 @@ impl<StorageT: StorageIndex> Found<StorageT> {
             return Ok(());
         }
         let grm = checked.grm();
-        self.add(grm, grm.start_prod(), 0)
+        self.add(grm, grm.start_prod(), 0)?;
+        Ok(())
     }
 
     // Adds the rule after the dot of each production of the rule, with the dot at the start.

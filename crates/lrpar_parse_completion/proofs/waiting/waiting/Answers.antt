@@ -1,6 +1,7 @@
-use Rattle.std.proofs.Common.{◌≡◌, ◌<◌, ◌≤◌, ◌+◌, ◌∙◌, ℕ, Bool, List, [], Some, ap, arith, inl, inr, length, refl, slice_get, subst, sym}
+use Rattle.std.proofs.Common.{◌≡◌, ◌<◌, ◌≤◌, ◌+◌, ◌∙◌, ℕ, Bool, List, [], Some, ap, arith, inl, inr, length, refl, slice_get, subst, sym, length-append}
 use Rattle.std.specs.List.{Contains}
 use Rattle.std.proofs.lemmas.List.{length-map}
+use Rattle.std.proofs.lemmas.Option.{slice_get_within}
 use Rattle.lrpar_grammar.specs.Grammar.{rules_len, start_prod}
 use Rattle.lrpar_parse_completion.specs.Waiting.{AreCounted, AreFound, HasRuleAfter, IsClosedAt, IsOwnCore, LinkOf, link_of, links_of, rules_in}
 use Rattle.lrpar_parse_completion.proofs.FoundLemmas.{after_kept, closed_all, closed_more, counted_none, found_none, link_at, link_contained, link_rule_low}
@@ -67,11 +68,17 @@ found-preserved g c =
       found = one.0.found;
       begun = λ p k mine. subst (λ (xs : List LinkOf). HasRuleAfter grm xs p k) (sym one.0.more) (after_kept grm links one.0.tail p k (l.invariant.begun p k mine));
       closed = closed_more grm links one.0.tail after l.place link one.0.more at one.1 l.invariant.closed;
-      within = ?;
+      within = let inside = slice_get_within links l.place link at in
+          omega (arith, inside, ap (λ (xs : List LinkOf). length xs) one.0.more, length-append links one.0.tail);
     }
 
 pub found-smaller : goal.found-smaller
-found-smaller g c = ?
+found-smaller g c =
+    let index = g.StorageT.StorageIndex.index in
+    let l = c.found in
+    let at = link_at index l.found.links.items l.place c.index-link.result.now c.found-test.true c.index-link.ensures in
+    let inside = slice_get_within (links_of index l.found.links.items) l.place _ at in
+    omega (arith, inside, l.invariant.counted.0, l.invariant.counted.1)
 
 pub returns : goal.returns
 returns g c =
@@ -82,5 +89,5 @@ returns g c =
     record {
       each = l.invariant.found.each;
       own = l.invariant.begun;
-      closed = closed_all d.grammar links l.place ? l.invariant.closed;
+      closed = closed_all d.grammar links l.place (omega (arith, c.found-test.false, length-map l.found.links.items (link_of index))) l.invariant.closed;
     }
