@@ -161,9 +161,9 @@ impl<'a, StorageT: StorageIndex, LexemeT: Lexeme<StorageT>> Trial<'a, StorageT, 
         self.can_go_on(states, at)
     }
 
-    // Whether the number of lexemes that must follow a repair can be fed in turn; or, if fewer are left, whether all of these can,
-    // and the states then accept.
-    fn can_go_on(
+    /// Whether the number of lexemes that must follow a repair can be fed in turn; or, if fewer are left, whether all of these can,
+    /// and the states then accept. `Err`: out of memory.
+    pub fn can_go_on(
         &self,
         states: &mut Counter<'_, StorageT>,
         place: usize,
