@@ -9,3 +9,4 @@ pub mod StackReductionLemmas
 pub mod OverlayLemmas
 pub mod OverSettleLemmas
 pub mod RunLemmas
+pub mod SharedStacksLemmas

@@ -1,10 +1,11 @@
 //! Laws about the definitions that contracts cite. Each function has such a law as its contract, and does nothing.
-ghost use Rattle.std.specs.Prelude.{◌≡◌, ◌≤◌, ℕ, List, ◌∷◌, [], None};
+ghost use Rattle.std.specs.Prelude.{◌≡◌, ◌<◌, ◌≤◌, ℕ, List, ◌∷◌, [], None, length};
 ghost use Rattle.lrpar_grammar.specs.Grammar.{GrammarSymbol, Nonterminal, Terminal};
 ghost use Rattle.lrpar_grammar.specs.Sum.{sum_grammar};
 ghost use Rattle.lrpar_table_stacks.specs.Chain.{AreChainsShort, BoundsReductions, IsLongChain};
 ghost use Rattle.lrpar_table_stacks.specs.Path.{CheckedRunsNeverStick, IsPath};
 ghost use Rattle.lrpar_table_stacks.specs.Reduction.{SettlesOneWay, Settles};
+ghost use Rattle.lrpar_table_stacks.specs.SharedStacks.{Extends, Shared, stack_at};
 ghost use Rattle.lrpar_table_stacks.specs.Stack.{IsStack};
 ghost use Rattle.lrpar_table_rows.specs.Sum.{sum_table};
 ghost use Rattle.lrpar_table_rows.specs.Table.{Table, Fails, action_of, goto_of};
@@ -58,4 +59,9 @@ pub fn reductions_are_bounded()
 pub fn sum_table_has_chains()
     ensures long { IsLongChain sum_grammar sum_table 1 4 2 }
     ensures short { AreChainsShort sum_grammar sum_table 2 }
+{}
+
+/// The number of a stack means the same stack from then on.
+pub fn numbered_stacks_stay()
+    ensures { (old new : Shared) (n : ℕ) → Extends old new → n < length old.stacks → (n < length new.stacks) × (stack_at new.stacks n ≡ stack_at old.stacks n) }
 {}

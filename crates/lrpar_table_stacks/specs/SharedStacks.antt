@@ -1,0 +1,53 @@
+-- Stacks of states that share their lower states, by numbers.
+use Rattle.std.specs.Prelude.{◌≡◌, ◌<◌, ◌≤◌, ◌+◌, ℕ, List, [], ◌∷◌, ◌++◌, length, slice_get, slice_index_or, Some}
+use Rattle.lrpar_table_stacks.specs.declared.shared_stacks.Top.{Top}
+
+-- the stacks by their numbers, and the number of the current one
+pub record Shared : Type 0 where
+  pub stacks : List (List ℕ)
+  pub current : ℕ
+
+-- the stack with a number
+abbrev pub stack_at : List (List ℕ) → ℕ → List ℕ
+stack_at stacks n = slice_index_or stacks n []
+
+-- the current stack
+abbrev pub current_stack : Shared → List ℕ
+current_stack s = stack_at s.stacks s.current
+
+-- no two numbers have the same stack
+abbrev pub AreApart : List (List ℕ) → Type 0
+AreApart stacks = (m n : ℕ) → m < length stacks → n < length stacks → stack_at stacks m ≡ stack_at stacks n → m ≡ n
+
+-- there are more stacks, perhaps, and those that were there have their numbers
+abbrev pub Extends : Shared → Shared → Type 0
+Extends old new = (more : List (List ℕ)) × (new.stacks ≡ old.stacks ++ more)
+
+-- the stack that has a state on top of a numbered one
+abbrev pub stack_of : List (List ℕ) → Top → List ℕ
+stack_of stacks top = stack_at stacks top.below ++ top.state ∷ []
+
+-- the stacks of these tops, in order, after others
+abbrev pub stacks_after : List (List ℕ) → List Top → List (List ℕ)
+stacks_after stacks [] = stacks
+stacks_after stacks (top ∷ tops) = stacks_after (stacks ++ stack_of stacks top ∷ []) tops
+
+-- the stacks of these tops by their numbers: number 0 is the empty stack, and top i is that of stack i + 1
+abbrev pub stacks_of : List Top → List (List ℕ)
+stacks_of tops = stacks_after ([] ∷ []) tops
+
+-- a top that is on one of the first i + 1 stacks, and has the height of its own
+pub record IsTop (stacks : List (List ℕ)) (i : ℕ) (top : Top) : Type 0 where
+  pub below : top.below ≤ i
+  pub height : top.height ≡ length (stack_at stacks top.below) + 1
+
+-- each top is on an earlier stack, and has the height of its own
+abbrev pub AreTops : List Top → Type 0
+AreTops tops = (i : ℕ) (top : Top) → slice_get tops i ≡ Some top → IsTop (stacks_of tops) i top
+
+-- each top is one of a stack, with a state below the limit; no two stacks are the same; and the current number is that of one
+pub record AreShared (limit : ℕ) (tops : List Top) (current : ℕ) : Type 0 where
+  pub each : AreTops tops
+  pub fits : (i : ℕ) (top : Top) → slice_get tops i ≡ Some top → top.state < limit
+  pub apart : AreApart (stacks_of tops)
+  pub within : current < length (stacks_of tops)
