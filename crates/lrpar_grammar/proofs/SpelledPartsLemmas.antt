@@ -16,12 +16,6 @@ use Rattle.lrpar_grammar.specs.SpelledLaws.{PartsKeepTexts}
 use Rattle.lrpar_grammar.specs.SpelledParts.{ArePlaces, IsListingInParts, IsPlaceInPart, IsSamePlace, joined, place_in_parts}
 use Rattle.lrpar_grammar.proofs.ListingLemmas.{spell_len}
 
--- a member of a mapped list, or the default
-pub get_or-map-default : {X Y : Type 0} (f : X → Y) (xs : List X) (i : ℕ) (d : X) → get_or (map f xs) i (f d) ≡ f (get_or xs i d)
-get_or-map-default f [] i d = refl
-get_or-map-default f (x ∷ xs) zero d = refl
-get_or-map-default f (x ∷ xs) (suc i) d = get_or-map-default f xs i d
-
 -- the mapped members of lists, joined
 pub map-joined : {X Y Z : Type 0} (f : Y → Z) (g : X → List Y) (xs : List X) → map f (flat_map g xs) ≡ flat_map (λ s. s) (map (λ x. map f (g x)) xs)
 map-joined f g [] = refl

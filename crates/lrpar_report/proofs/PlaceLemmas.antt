@@ -1,5 +1,5 @@
 -- Lines of a text by their numbers.
-use Rattle.std.proofs.Common.{◌≡◌, ◌≤◌, ◌∷◌, ℕ, List, [], ap, arith, cond, take, Result, Ok, Err, IfOk}
+use Rattle.std.proofs.Common.{◌≡◌, ◌≤◌, ◌∷◌, ℕ, List, [], ap, arith, cond, take}
 use Rattle.std.proofs.lemmas.List.{take-take}
 use Rattle.std.proofs.lemmas.List.Sums.{sum_by-take-drop}
 use Rattle.std.specs.List.{count_by}
@@ -37,8 +37,3 @@ spans_on_line text number line core spans on within one =
 pub core_on_line : (text : List ℕ) (number : ℕ) (line core : Extent) (spans : List Extent) → IsOnLine text number line → IsWithin line core
     → spans ≡ core ∷ [] → IsOne (IsOnLine text number) spans
 core_on_line text number line core spans on within is = (core, is, within_on_line text number line core on within)
-
--- what follows for a value follows for a result
-pub if_ok : {T E : Type 0} (result : Result T E) (P Q : T → Type 0) → ((x : T) → P x → Q x) → IfOk result P → IfOk result Q
-if_ok (Ok x) P Q so holds = so x holds
-if_ok (Err e) P Q so holds = tt
