@@ -78,7 +78,7 @@ fn push_listed(
 fn push_no_repairs(out: &mut String, recovery: Recovery) -> Result<(), AllocError> {
     match recovery {
         Recovery::Nothing => out.push_str("no repairs were looked for\n"),
-        Recovery::Cheapest { limit } => writeln!(
+        Recovery::Cheapest { limit } | Recovery::Complete { limit } => writeln!(
             out,
             "no repair was found within --limit {limit}; a larger limit may find one"
         ),
