@@ -3,7 +3,7 @@ import os
 
 import answers
 from grammars import text_of
-from program import complaint
+from program import complaint, excess
 
 
 class Wrong(Exception):
@@ -22,8 +22,8 @@ def expect(is_met, expected, came):
 class Case:
     """One case: its chance, its folder with files, and its runs."""
 
-    def __init__(self, chance, program, folder, is_repeated):
-        self.chance, self.program, self.folder, self.is_repeated = chance, program, folder, is_repeated
+    def __init__(self, chance, program, nimbleparse, folder, is_repeated):
+        self.chance, self.program, self.nimbleparse, self.folder, self.is_repeated = chance, program, nimbleparse, folder, is_repeated
         self.files, self.runs = {}, []
 
     def file(self, name, content):
@@ -48,6 +48,15 @@ class Case:
         self.runs.append((words, given, dict(self.files), answer))
         wrong = complaint(words, self.files, answer)
         expect(wrong is None, "an answer of a known form, within the limits", wrong)
+        return answer
+
+    def nimble(self, *words):
+        """the answer of `nimbleparse`, within the limits"""
+        words = [word.encode() for word in words]
+        answer = self.nimbleparse.run(words, b"", self.folder)
+        self.runs.append((words, b"", dict(self.files), answer))
+        wrong = excess(answer)
+        expect(wrong is None, "an answer within the limits", wrong)
         return answer
 
     def tree(self, text, repairs=None, shifts=None):

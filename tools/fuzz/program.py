@@ -87,10 +87,17 @@ def written(stream):
     return stream.read()
 
 
-def complaint(words, files, answer):
-    """what is wrong with an answer, whatever the words and the files (paths and their bytes, or nothing if they can't be read)"""
+def excess(answer):
+    """what is wrong with the status of an answer, or with what its run took"""
     if answer.seconds > SECONDS or answer.memory > MEMORY or answer.status not in (0, 1, 2):
         return f"status {answer.status} after {answer.seconds:.1f} seconds with {answer.memory} bytes"
+    return None
+
+
+def complaint(words, files, answer):
+    """what is wrong with an answer, whatever the words and the files (paths and their bytes, or nothing if they can't be read)"""
+    if wrong := excess(answer):
+        return wrong
     try:
         out, err = answer.out.decode(), answer.err.decode()
     except UnicodeDecodeError:

@@ -1,6 +1,7 @@
 """The properties, and which one the case of a number has. Each makes a case by chance, runs the program on it, and raises `Wrong`
 if the answer isn't what is expected."""
 from checks import check
+from completed import completed
 from ends import ends
 from leaves import leaves, repairs
 from places import places
@@ -16,6 +17,7 @@ def same(case):
 # By name, in the order of README.md.
 PROPERTIES = {
     "ends": ends, "same": same, "leaves": leaves, "repairs": repairs, "places": places, "check": check, "sentences": sentences,
+    "completed": completed,
 }
 # Which property a case has, by its number.
-PLAN = ("ends", "leaves", "repairs", "places", "check", "sentences", "ends", "repairs", "places", "sentences", "same", "ends")
+PLAN = ("ends", "leaves", "repairs", "places", "check", "sentences", "ends", "repairs", "places", "sentences", "same", "ends", "completed")

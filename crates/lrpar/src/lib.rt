@@ -28,6 +28,7 @@ pub mod span {
 
 /// Recoverers: what a parse passes to one at an error point, the steps of the sequences that it returns, and the recoverers of the library.
 pub mod repair {
+    pub use lrpar_parse_completion::{Completion, NoCompletion};
     pub use lrpar_parse_cpctplus::{CostFault, CpctPlus};
     pub use lrpar_parse_repair::or::Or;
     pub use lrpar_parse_repair::repair::{
@@ -60,6 +61,7 @@ pub mod laws {
         sequences_that_work_are_replayed, spans_are_worked_out, sum_run_is_worked_out,
         tests_of_sequences_are_bounded, values_fold_without_errors,
     };
+    pub use lrpar_parse_completion::laws::completions_always_repair;
     pub use lrpar_parse_cpctplus::laws::{
         cheapest_repairs_have_one_answer, no_sequence_is_cheaper_than_repairs,
     };

@@ -20,11 +20,11 @@ pub enum Misuse {
     NotUtf8,
     #[error("unknown option")]
     UnknownOption,
-    #[error("-r needs none or cpctplus")]
+    #[error("-r needs none, cpctplus or complete")]
     Recovery,
     #[error("--limit needs a number")]
     Limit,
-    #[error("--limit needs -r cpctplus")]
+    #[error("--limit needs -r cpctplus or complete")]
     LimitAlone,
     #[error("--shifts needs a number")]
     Shifts,

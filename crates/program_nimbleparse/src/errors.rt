@@ -5,9 +5,11 @@ use lrpar_grammar::grammar::YaccGrammar;
 use lrpar_grammar::span::TIdx;
 use lrpar_lexer::{NoToken, Token};
 use lrpar_parse_errors::errors::ParseError;
-use lrpar_parse_errors::spaces::push_spaces;
 use lrpar_report::{Reporter, lexing_report, push_repairs, unexpected_report};
 use std::alloc::{AllocError, Global};
+
+/// How many repairs of an error are shown.
+const SHOWN: usize = 3;
 
 /// What messages about the errors of an input need.
 #[derive(Clone, Copy)]
@@ -50,35 +52,33 @@ pub(crate) fn push_parse_error(
     if error.repairs().is_empty() {
         push_no_repairs(out, recovery)
     } else {
-        push_listed(out, alloc, subject, error)
+        push_listed(out, subject, error)
     }
 }
 
-// Adds the repairs that were found for an error, a line each, after their numbers, right-aligned.
+// Adds the first repairs that were found for an error, a line each, and how many more there are.
 fn push_listed(
     out: &mut String,
-    alloc: Global,
     subject: &Subject<'_>,
     error: &ParseError<Token<u32>, u32>,
 ) -> Result<(), AllocError> {
     out.push_str("repairs that were found, of which the first is taken:\n")?;
-    let most = error.repairs().len().to_string(alloc)?.len();
-    for (place, repairs) in error.repairs().iter().enumerate() {
-        let number = place.saturating_add(1).to_string(alloc)?;
-        push_spaces(out, most.saturating_sub(number.len()).saturating_add(3))?;
-        out.push_str(number.as_str())?;
-        out.push_str(": ")?;
+    for (place, repairs) in error.repairs().iter().take(SHOWN).enumerate() {
+        write!(out, "   {}: ", place.saturating_add(1))?;
         push_repairs(out, subject.grm, subject.input, repairs)?;
         out.push('\n')?;
     }
-    Ok(())
+    match error.repairs().len().saturating_sub(SHOWN) {
+        0 => Ok(()),
+        more => writeln!(out, "   and {more} more"),
+    }
 }
 
 // Adds that no repairs were found, or that none were looked for.
 fn push_no_repairs(out: &mut String, recovery: Recovery) -> Result<(), AllocError> {
     match recovery {
         Recovery::Nothing => out.push_str("no repairs were looked for\n"),
-        Recovery::Cheapest { limit } => writeln!(
+        Recovery::Cheapest { limit } | Recovery::Complete { limit } => writeln!(
             out,
             "no repair was found within --limit {limit}; a larger limit may find one"
         ),

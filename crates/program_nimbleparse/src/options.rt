@@ -29,7 +29,8 @@ Reads the rules of a lexer and a grammar, and parses each input: standard input 
 
   -q           print errors alone: no trees, no warnings, no notes
   -r none      search for no repairs: the first error of an input is the last
-  -r cpctplus  search for the cheapest repairs at each error, and go on with the first of them (the default)
+  -r cpctplus  search for the cheapest repairs at each error, and go on with the first of them
+  -r complete  the same; where none is found, insert and delete what leads to the nearest place to go on (the default)
   --limit N    give up at an error if more than N candidates cost no more than its repairs (4000)
   --shifts K   K lexemes have to follow a repair (3)
   --format F   print trees in brackets on one line, as an indented tree, as json, or as a graph (dot)
@@ -64,6 +65,7 @@ enum Valued {
 enum Search {
     Nothing,
     Cheapest,
+    Complete,
 }
 
 /// Whether the words ask for the help text.
@@ -78,7 +80,7 @@ pub(crate) fn asks_for_help(args: &[String]) -> bool {
 pub(crate) fn options_of(alloc: Global, args: &[String]) -> Result<Options<'_>, Fault> {
     let mut said = Said {
         is_quiet: false,
-        search: Search::Cheapest,
+        search: Search::Complete,
         limit: None,
         shifts: None,
         format: Format::Brackets,
@@ -166,6 +168,7 @@ fn search_of(name: &str) -> Result<Search, Fault> {
     match name {
         "none" => Ok(Search::Nothing),
         "cpctplus" => Ok(Search::Cheapest),
+        "complete" => Ok(Search::Complete),
         _ => Err(Fault::Usage(needs(Valued::Recovery))),
     }
 }
@@ -237,6 +240,9 @@ fn recovery_of(search: Search, limit: Option<usize>) -> Result<Recovery, Fault> 
         (Search::Nothing, None) => Ok(Recovery::Nothing),
         (Search::Nothing, Some(_)) => Err(Fault::Usage(Misuse::LimitAlone)),
         (Search::Cheapest, limit) => Ok(Recovery::Cheapest {
+            limit: limit.unwrap_or(LIMIT),
+        }),
+        (Search::Complete, limit) => Ok(Recovery::Complete {
             limit: limit.unwrap_or(LIMIT),
         }),
     }

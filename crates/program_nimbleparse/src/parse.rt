@@ -5,21 +5,21 @@ use crate::show::write_messages;
 use lrpar_grammar::span::TIdx;
 use lrpar_lexer::{RuleLexer, Token, TokenTypes};
 use lrpar_parse::RTParserBuilder;
-use lrpar_parse_cpctplus::CpctPlus;
 use lrpar_parse_errors::errors::LexParseError;
 use lrpar_parse_repair::repair::Recoverer;
 use lrpar_parse_trees::{Form, write_graph, write_nested};
 use lrpar_report::Reporter;
 use lrpar_table::check::ParserData;
 use program_files::fault::Fault;
-use program_files::parsing::{Parsed, TextError, Tree, with_shifts};
+use program_files::parsing::{TextError, Tree};
 use std::alloc::{AllocError, Global};
 use std::io::Write;
 
-/// Parses the input of this path and text. Writes messages of its errors, and prints its tree, if there is one. Returns whether there is
-/// a tree, and no error.
-pub fn parse<O: Write, E: Write>(
+/// Parses the input of this path and text by the parser, which is that of the plan's table. Writes messages of its errors, and prints its
+/// tree, if there is one. Returns whether there is a tree, and no error.
+pub fn parse<R: Recoverer<u32, Token<u32>> + Drop, O: Write, E: Write>(
     alloc: Global,
+    parser: &RTParserBuilder<'_, u32, TokenTypes, R>,
     plan: &Plan<'_>,
     path: &str,
     input: &str,
@@ -27,7 +27,7 @@ pub fn parse<O: Write, E: Write>(
     err: &mut E,
 ) -> Result<bool, Fault> {
     let lexer = RuleLexer::new(alloc, plan.rules, input)?;
-    let (tree, errors) = parsed(alloc, plan, &lexer)?;
+    let (tree, errors) = parser.parse_generictree(alloc, &lexer)?;
     let tree = tree.as_ref();
     printed(alloc, plan, &lexer, path, input, tree, &errors, out, err)
 }
@@ -70,28 +70,6 @@ fn write_errors<O: Write, E: Write>(
     let expected = expected_tokens(alloc, plan, lexer, errors)?;
     let text = errors_text(alloc, plan, path, input, &expected, errors)?;
     write_messages(out, err, text.as_str())
-}
-
-// The tree of the lexer's text, if there is one, and the errors.
-fn parsed(alloc: Global, plan: &Plan<'_>, lexer: &RuleLexer<'_, '_>) -> Result<Parsed, Fault> {
-    let parser = RTParserBuilder::new(plan.data);
-    match plan.recovery {
-        Recovery::Nothing => parsed_by(alloc, parser, plan.shifts, lexer),
-        Recovery::Cheapest { limit } => {
-            let parser = parser.recoverer(CpctPlus::new(limit));
-            parsed_by(alloc, parser, plan.shifts, lexer)
-        }
-    }
-}
-
-// The same by a parser, with this number of lexemes that have to follow a repair, if it is given.
-fn parsed_by<R: Recoverer<u32, Token<u32>> + Drop>(
-    alloc: Global,
-    parser: RTParserBuilder<'_, u32, TokenTypes, R>,
-    shifts: Option<usize>,
-    lexer: &RuleLexer<'_, '_>,
-) -> Result<Parsed, Fault> {
-    Ok(with_shifts(parser, shifts)?.parse_generictree(alloc, lexer)?)
 }
 
 // The messages of the errors of an input.

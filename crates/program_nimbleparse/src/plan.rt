@@ -26,6 +26,11 @@ pub enum Recovery {
         /// How many candidates, beginnings of repairs, may cost no more than the repairs.
         limit: usize,
     },
+    /// The cheapest ones, and a completion where none of these is found.
+    Complete {
+        /// As above.
+        limit: usize,
+    },
 }
 
 /// What inputs are parsed by, and how trees are printed.
@@ -34,8 +39,6 @@ pub struct Plan<'a> {
     pub data: &'a ParserData<u32>,
     pub rules: &'a [LexRule],
     pub recovery: Recovery,
-    /// How many lexemes have to follow a repair, if the words say so.
-    pub shifts: Option<usize>,
     pub format: Format,
     /// Whether errors alone are printed.
     pub is_quiet: bool,

@@ -7,14 +7,19 @@ use crate::grammar::data_of;
 use crate::inputs::{STANDARD_INPUT, file_text, input_text};
 use crate::options::{HELP, Options, asks_for_help, options_of};
 use crate::parse::parse;
-use crate::plan::Plan;
+use crate::plan::{Plan, Recovery};
 use crate::rules::lexer_rules;
 use crate::show::{with_label_text, write_messages};
 use lrpar_grammar::grammar::YaccGrammar;
-use lrpar_lexer::LexRule;
+use lrpar_lexer::{LexRule, Token, TokenTypes};
+use lrpar_parse::RTParserBuilder;
+use lrpar_parse_completion::{Completion, NoCompletion};
+use lrpar_parse_cpctplus::CpctPlus;
+use lrpar_parse_repair::repair::Recoverer;
 use lrpar_report::{Level, Look, Report, Reporter, token_warnings};
 use lrpar_table::check::ParserData;
 use program_files::fault::{Fault, Misuse};
+use program_files::parsing::with_shifts;
 use program_files::streams::{Status, ended, finished, words};
 use std::alloc::{AllocError, Global};
 use std::env;
@@ -184,7 +189,6 @@ impl<'a> Work<'a> {
             data,
             rules,
             recovery: self.options.recovery,
-            shifts: self.options.shifts,
             format: self.options.format,
             is_quiet: self.options.is_quiet,
             shows_paths: self.options.inputs.len() > 1,
@@ -322,24 +326,93 @@ fn parse_inputs<R: Files, I: Read + Drop, O: Write, E: Write>(
     err: &mut E,
 ) -> Result<Status, Fault> {
     let plan = work.plan(data, rules);
-    parse_paths(rt, alloc, &plan, &work.options.inputs, input, out, err)
+    let parser = RTParserBuilder::new(data);
+    match plan.recovery {
+        Recovery::Nothing => parse_by(rt, alloc, work, &plan, parser, input, out, err),
+        Recovery::Cheapest { limit } => {
+            let parser = parser.recoverer(CpctPlus::new(limit));
+            parse_by(rt, alloc, work, &plan, parser, input, out, err)
+        }
+        Recovery::Complete { limit } => match completion(alloc, work, data, out, err)? {
+            Some(completion) => {
+                let parser = parser.recoverer(CpctPlus::new(limit).or(completion));
+                parse_by(rt, alloc, work, &plan, parser, input, out, err)
+            }
+            None => {
+                let parser = parser.recoverer(CpctPlus::new(limit));
+                parse_by(rt, alloc, work, &plan, parser, input, out, err)
+            }
+        },
+    }
 }
 
-// The same for the inputs of these paths. It's a success if each has a tree, and no error.
-fn parse_paths<R: Files, I: Read + Drop, O: Write, E: Write>(
+// What completes each input, if the table is fit for it. Otherwise a note says why it isn't, unless the program is to be quiet.
+fn completion<'a, O: Write, E: Write>(
+    alloc: Global,
+    work: Work<'_>,
+    data: &'a ParserData<u32>,
+    out: &mut O,
+    err: &mut E,
+) -> Result<Option<Completion<'a, u32>>, Fault> {
+    match Completion::new(alloc, data) {
+        Ok(completion) => Ok(Some(completion)),
+        Err(NoCompletion::Memory) => Err(Fault::Memory),
+        Err(refusal) => {
+            if !work.options.is_quiet {
+                let text = no_completion(alloc, work, data.grm(), refusal)?;
+                write_messages(out, err, text.as_str())?;
+            }
+            Ok(None)
+        }
+    }
+}
+
+// The note that there is no completion, and why.
+fn no_completion(
+    alloc: Global,
+    work: Work<'_>,
+    grm: &YaccGrammar<u32>,
+    refusal: NoCompletion<u32>,
+) -> Result<String, AllocError> {
+    let mut why = String::from_str(alloc, "an error may have no repair, as ")?;
+    match refusal {
+        NoCompletion::Unproductive(rule) => {
+            why.push_str("rule '")?;
+            why.push_str(grm.rule_name_str(rule))?;
+            why.push_str("' derives no text")?;
+        }
+        NoCompletion::Incomplete(_, _) | NoCompletion::Memory => {
+            why.push_str("the grammar has conflicts")?;
+        }
+    }
+    let mut text = String::new(alloc);
+    let reporter = work.grammar_reporter(alloc)?;
+    reporter.push(
+        &mut text,
+        alloc,
+        &Report::new(alloc, Level::Note, why.as_str())?,
+    )?;
+    Ok(text)
+}
+
+// Parses the inputs by a parser, with the number of lexemes that have to follow a repair, if the words say one. It's a success if each
+// has a tree, and no error.
+fn parse_by<R: Files, P: Recoverer<u32, Token<u32>> + Drop, I: Read + Drop, O: Write, E: Write>(
     rt: &R,
     alloc: Global,
+    work: Work<'_>,
     plan: &Plan<'_>,
-    paths: &[&str],
+    parser: RTParserBuilder<'_, u32, TokenTypes, P>,
     input: I,
     out: &mut O,
     err: &mut E,
 ) -> Result<Status, Fault> {
+    let parser = with_shifts(parser, work.options.shifts)?;
     let mut input = Some(input);
     let mut are_clean = true;
-    for path in paths {
+    for path in &work.options.inputs {
         let text = text_of_input(rt, alloc, path, &mut input)?;
-        are_clean = parse(alloc, plan, path, text.as_str(), out, err)? && are_clean;
+        are_clean = parse(alloc, &parser, plan, path, text.as_str(), out, err)? && are_clean;
     }
     Ok(Status::of(are_clean))
 }

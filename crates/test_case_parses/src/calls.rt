@@ -15,7 +15,7 @@ use std::alloc::{AllocError, Global};
 use std::cell::RefCell;
 
 /// A parser of a case.
-pub(crate) type Parser<'a> = RTParserBuilder<'a, u32, TokenTypes, CaseRecoverer>;
+pub(crate) type Parser<'a> = RTParserBuilder<'a, u32, TokenTypes, CaseRecoverer<'a>>;
 
 /// The result of a parse.
 pub(crate) type Answer = Result<(Option<Tree>, Vec<CaseError>), ParseFault>;

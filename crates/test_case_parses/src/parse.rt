@@ -80,7 +80,7 @@ fn parser_of<'a>(
     data: &'a ParserData<u32>,
     case: Case<'_, '_>,
 ) -> Result<Parser<'a>, Fault> {
-    let recoverer = recoverer_of(alloc, data.grm(), case)?;
+    let recoverer = recoverer_of(alloc, data, case)?;
     let parser = RTParserBuilder::new(data).recoverer(recoverer);
     let Some((value, number)) = case.value("shifts") else {
         return Ok(parser);

@@ -4,22 +4,26 @@ use crate::steps::sequences_of;
 use lrpar_grammar::grammar::YaccGrammar;
 use lrpar_grammar::span::TIdx;
 use lrpar_lexer::Token;
+use lrpar_parse_completion::{Completion, NoCompletion};
 use lrpar_parse_cpctplus::{CostFault, CpctPlus};
 use lrpar_parse_repair::repair::{FixedRecoverer, Recoverer, RecoveryPoint, RepairStep};
+use lrpar_table::check::ParserData;
 use std::alloc::{AllocError, Global};
 use test_case_lines::cases::Case;
 use test_case_lines::fault::Fault;
 
 /// What supplies sequences at the errors of a case.
 #[derive(Drop)]
-pub(crate) enum CaseRecoverer {
+pub(crate) enum CaseRecoverer<'a> {
     /// The same ones at each.
     Fixed(FixedRecoverer<u32>),
     /// The cheapest ones.
     CpctPlus(CpctPlus),
+    /// That of the nearest place, by a completion.
+    Completion(Completion<'a, u32>),
 }
 
-impl Recoverer<u32, Token<u32>> for CaseRecoverer {
+impl Recoverer<u32, Token<u32>> for CaseRecoverer<'_> {
     ghost allows = { λ _ _ _. Unit {0} };
 
     fn recover(
@@ -30,34 +34,56 @@ impl Recoverer<u32, Token<u32>> for CaseRecoverer {
         match self {
             CaseRecoverer::Fixed(recoverer) => recoverer.recover(alloc, point),
             CaseRecoverer::CpctPlus(recoverer) => recoverer.recover(alloc, point),
+            CaseRecoverer::Completion(recoverer) => recoverer.recover(alloc, point),
         }
     }
 }
 
 /// The recoverer that the line `recoverer` of a case names; if there is no such line, the one that supplies the sequences of the line
 /// `repairs`.
-pub(crate) fn recoverer_of(
+pub(crate) fn recoverer_of<'a>(
     alloc: Global,
-    grm: &YaccGrammar<u32>,
+    data: &'a ParserData<u32>,
     case: Case<'_, '_>,
-) -> Result<CaseRecoverer, Fault> {
-    match case.value("recoverer") {
-        None => Ok(CaseRecoverer::Fixed(FixedRecoverer::new(sequences_of(alloc, grm, case)?))),
-        Some((value, number)) => match limit_of(value) {
-            None => Err(Fault::Line(number, "cpctplus and a number are wanted")),
-            Some(limit) => Ok(CaseRecoverer::CpctPlus(cpct_plus_of(alloc, grm, case, limit)?)),
-        },
+) -> Result<CaseRecoverer<'a>, Fault> {
+    let grm = data.grm();
+    let Some((value, number)) = case.value("recoverer") else {
+        return Ok(CaseRecoverer::Fixed(FixedRecoverer::new(sequences_of(alloc, grm, case)?)));
+    };
+    if let Some(most) = number_after("completion ", value) {
+        return Ok(CaseRecoverer::Completion(completion_of(alloc, data, most, number)?));
+    }
+    match number_after("cpctplus ", value) {
+        None => Err(Fault::Line(number, "cpctplus or completion, and a number, are wanted")),
+        Some(limit) => Ok(CaseRecoverer::CpctPlus(cpct_plus_of(alloc, grm, case, limit)?)),
     }
 }
 
 /// The recoverer that supplies no sequence.
-pub(crate) fn no_recoverer(alloc: Global) -> CaseRecoverer {
+pub(crate) fn no_recoverer<'a>(alloc: Global) -> CaseRecoverer<'a> {
     CaseRecoverer::Fixed(FixedRecoverer::new(Vec::new(alloc)))
 }
 
-// The number after `cpctplus`.
-fn limit_of(value: &str) -> Option<usize> {
-    value.strip_prefix("cpctplus ")?.parse().ok()
+// The number after the name of a recoverer.
+fn number_after(name: &str, value: &str) -> Option<usize> {
+    value.strip_prefix(name)?.parse().ok()
+}
+
+// The completion over the table, which tries this many tokens at each place.
+fn completion_of<'a>(
+    alloc: Global,
+    data: &'a ParserData<u32>,
+    most: usize,
+    number: usize,
+) -> Result<Completion<'a, u32>, Fault> {
+    match Completion::new(alloc, data) {
+        Ok(completion) => Ok(completion.most(most)),
+        Err(NoCompletion::Unproductive(_)) => Err(Fault::Line(number, "a rule derives no text")),
+        Err(NoCompletion::Incomplete(_, _)) => {
+            Err(Fault::Line(number, "the table isn't complete"))
+        }
+        Err(NoCompletion::Memory) => Err(Fault::Memory),
+    }
 }
 
 // The search with this limit; the line `costs` says what tokens cost that don't cost 1.

@@ -4,6 +4,8 @@
 #[cfg(test)]
 mod calculation;
 #[cfg(test)]
+mod completed;
+#[cfg(test)]
 mod differences;
 #[cfg(test)]
 mod example;

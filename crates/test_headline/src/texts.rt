@@ -1,4 +1,6 @@
 //! If the recoverer always repairs, every text has a value, and each error lists a repair.
+ghost use Rattle.std.specs.Prelude.{◌≡◌};
+ghost use Rattle.lrpar_table_build.specs.Built.{IsBuilt};
 ghost use Rattle.lrpar_parse.specs.EveryText.{HasRepairsOfText, HasValueOfText};
 ghost use Rattle.lrpar_parse_lexemes.specs.Views.{token_by};
 ghost use Rattle.lrpar_parse_repair.specs.AlwaysRepairs.{AlwaysRepairs};
@@ -7,6 +9,8 @@ use lrpar_grammar::span::StorageIndex;
 use lrpar_parse::RTParserBuilder;
 use lrpar_parse::every_text::every_text_has_a_tree;
 use lrpar_parse::parser::{LexParseError, Node, ParseFault};
+use lrpar_parse_completion::Completion;
+use lrpar_parse_completion::laws::completions_always_repair;
 use lrpar_parse_lexemes::lex_api::{LexerTypes, NonStreamingLexer};
 use lrpar_parse_repair::laws::or_repairs_where_one_does;
 use lrpar_parse_repair::or::Or;
@@ -59,4 +63,39 @@ pub fn errors_of_any_text<
     or_repairs_where_one_does::<StorageT, LexerTypesT::LexemeT, A, B>();
     every_text_has_a_tree(parser, lexer);
     parser.parse_noaction(alloc, lexer)
+}
+
+/// The tree and the errors of a parse by two recoverers, of which the second one is a completion over the table of the parser. If that
+/// table is built, and there is no lexing error, there is a tree, and each error lists a repair, whatever the first recoverer supplies.
+pub fn completed_tree_of_any_text<
+    'input,
+    'a,
+    StorageT: StorageIndex,
+    LexerTypesT: LexerTypes<StorageT = StorageT>,
+    L: NonStreamingLexer<'input, LexerTypesT>,
+    A: Recoverer<StorageT, LexerTypesT::LexemeT> + Drop,
+>(
+    alloc: Global,
+    parser: &RTParserBuilder<
+        'a,
+        StorageT,
+        LexerTypesT,
+        Or<A, Completion<'a, StorageT>, StorageT, LexerTypesT::LexemeT>,
+    >,
+    lexer: &L,
+) -> Result<
+    (
+        Option<Node<LexerTypesT::LexemeT, StorageT>>,
+        Vec<LexParseError<StorageT, LexerTypesT>>,
+    ),
+    ParseFault,
+>
+    requires built { IsBuilt parser.now.checked.grammar parser.now.checked.graph parser.now.checked.table }
+    requires own { parser.now.recoverer.second.checked ≡ parser.now.checked }
+    ensures { HasValueOfText (L.allows lexer.now) result }
+{
+    completions_always_repair::<LexerTypesT::LexemeT>();
+    or_repairs_where_one_does::<StorageT, LexerTypesT::LexemeT, A, Completion<'a, StorageT>>();
+    every_text_has_a_tree(parser, lexer);
+    parser.parse_generictree(alloc, lexer)
 }

@@ -1,0 +1,97 @@
+-- The answer of a completion. Over its own table, if that is built, there is a completion of the stack of an error point, and it goes on at
+-- the end, if it is inserted whole. So a nearest place is found, and its repair works.
+use Rattle.std.proofs.Common.{◌≡◌, ◌<◌, ◌≤◌, ◌∙◌, refl, sym, ap, subst, arith, ℕ, List, [], ◌∷◌, length, take, All, Option}
+use Rattle.std.specs.List.{Contains}
+use Rattle.std.proofs.lemmas.List.Elements.{All-cons, All-head, All-nil}
+use Rattle.lrpar_grammar.specs.Grammar.{Grammar}
+use Rattle.lrpar_table_rows.specs.Table.{Table}
+use Rattle.lrpar_table_build.specs.Built.{IsBuilt}
+use Rattle.lrpar_table_check.specs.Checked.{Checked, IsChecked}
+use Rattle.lrpar_table_sentences.specs.Choices.{ChoiceOf}
+use Rattle.lrpar_table_stacks.specs.Path.{NeverSticks}
+use Rattle.lrpar_table_stacks.specs.Stack.{IsStack}
+use Rattle.lrpar_table_stacks.proofs.PathLemmas.{never_sticks}
+use Rattle.lrpar_table_stacks.proofs.StackLemmas.{stack_has_path}
+use Rattle.lrpar_parse_repair.specs.AlwaysRepairs.{SomeWorks}
+use Rattle.lrpar_parse_repair.specs.Asked.{Asked, IsStop}
+use Rattle.lrpar_parse_repair.specs.Sequences.{PlainStep, Works}
+use Rattle.lrpar_parse_completion.specs.Answer.{Completer, IsCompleted, IsNearestRepair, IsReady}
+use Rattle.lrpar_parse_completion.specs.Completing.{Completes, IsCompletion}
+use Rattle.lrpar_parse_completion.specs.CompletionLaws.{CompletionsRepair}
+use Rattle.lrpar_parse_completion.specs.Nearest.{GoesOnAt, IsNearest, repair_at}
+use Rattle.lrpar_parse_completion.specs.Opening.{CanComplete}
+use Rattle.lrpar_parse_completion.proofs.CompletesLemmas.{completion_completes}
+use Rattle.lrpar_parse_completion.proofs.FeedLemmas.{completes_feeds_all, goes_on_at_end, repair_works}
+
+module _ {X : Type 0} (token : X → ℕ) (own : Completer) (most : ℕ) (shortest : List (Option ChoiceOf)) (ready : IsReady most own.checked shortest)
+    (at : Asked X) (stop : IsStop token at) where
+  -- the error point is over the completion's own table, which is built
+  module _ (is : at.checked ≡ own.checked) (built : IsBuilt own.checked.grammar own.checked.graph own.checked.table) where
+    pub can_complete : CanComplete own.checked
+    can_complete = record { built = built; complete = ready.complete; productive = ready.productive }
+
+    pub own_stack : IsStack own.checked.table at.stack
+    own_stack = subst (λ (d : Checked). IsStack d.table at.stack) is stop.stack
+
+    can_there : CanComplete at.checked
+    can_there = subst CanComplete (sym is) can_complete
+
+    module _ (tokens : List ℕ) (completion : IsCompletion own.checked.grammar own.checked.table at.stack tokens) where
+      there : IsCompletion at.checked.grammar at.checked.table at.stack tokens
+      there = subst (λ (d : Checked). IsCompletion d.grammar d.table at.stack tokens) (sym is) completion
+
+      completes : Completes at.checked.grammar at.checked.table at.stack tokens
+      completes =
+          completion_completes at.checked.grammar at.checked.graph at.checked.table stop.checked.well_formed stop.checked.closed stop.checked.safe.shape
+          can_there.complete at.stack tokens there
+
+      -- the completion goes on at the end
+      pub goes_on_last : GoesOnAt token at tokens (length at.lexemes) (length tokens)
+      goes_on_last =
+          let never = never_sticks at.checked.grammar at.checked.graph at.checked.table stop.checked.closed stop.checked.safe stop.checked.well_formed in
+          let path = stack_has_path at.checked.table at.stack stop.stack in
+          goes_on_at_end token at tokens stop.shifts
+          (completes_feeds_all at.checked.grammar at.checked.table never can_there.built.resolved.no_token can_there.built.resolved.tokens at.stack tokens path completes)
+
+      pub nearest_repair : (place inserted : ℕ) (answer : List (List PlainStep)) → IsNearest token at own.most tokens place inserted
+          → answer ≡ repair_at tokens at.place place inserted ∷ [] → IsNearestRepair token at own.most answer
+      nearest_repair place inserted answer nearest one = record {
+        tokens = tokens;
+        completion = there;
+        completes = completes;
+        place = place;
+        inserted = inserted;
+        nearest = nearest;
+        one = one;
+      }
+
+  -- nothing was found
+  pub completed_none : (at.checked ≡ own.checked → IsBuilt own.checked.grammar own.checked.graph own.checked.table → ⊥) → IsCompleted token own at []
+  completed_none never = record { works = All-nil WorksHere; nearest = λ is built. absurd (never is built) }
+    where
+      WorksHere : List PlainStep → Type 0
+      WorksHere = Works token at.checked.grammar at.checked.table at.lexemes at.shifts at.stack at.place
+
+  -- the repair of the nearest place was found
+  pub completed_some : (tokens : List ℕ) (place inserted : ℕ) (answer : List (List PlainStep)) → IsNearest token at own.most tokens place inserted
+      → answer ≡ repair_at tokens at.place place inserted ∷ []
+      → (at.checked ≡ own.checked → IsBuilt own.checked.grammar own.checked.graph own.checked.table
+      → IsCompletion own.checked.grammar own.checked.table at.stack tokens)
+      → IsCompleted token own at answer
+  completed_some tokens place inserted answer nearest one completion =
+      let WorksHere : List PlainStep → Type 0 = Works token at.checked.grammar at.checked.table at.lexemes at.shifts at.stack at.place in
+      let steps = repair_at tokens at.place place inserted in
+      let works = repair_works token at tokens place inserted nearest.tried.after_stop nearest.tried.within nearest.goes_on in
+      record {
+        works = subst (All WorksHere) (sym one) (All-cons WorksHere steps [] works (All-nil WorksHere));
+        nearest = λ is built. nearest_repair is built tokens (completion is built) place inserted answer nearest one;
+      }
+
+pub completions_repair : {X : Type 0} → CompletionsRepair X
+completions_repair {X} token own built at stop is answer completed =
+    let repair = completed.nearest is built in
+    let WorksHere : List PlainStep → Type 0 = Works token at.checked.grammar at.checked.table at.lexemes at.shifts at.stack at.place in
+    let steps = repair_at repair.tokens at.place repair.place repair.inserted in
+    let works = All-head WorksHere steps [] (subst (All WorksHere) repair.one completed.works) in
+    let here : Contains (steps ∷ []) steps = (0, omega arith, refl) in
+    (steps, subst (λ (l : List (List PlainStep)). Contains l steps) (sym repair.one) here, works)

@@ -1,0 +1,9 @@
+pub mod CompletesLemmas
+pub mod DownLemmas
+pub mod WaitingLemmas
+pub mod FoundLemmas
+pub mod OpenLemmas
+pub mod FeedLemmas
+pub mod NearestLemmas
+pub mod TakeLemmas
+pub mod AnswerLemmas

@@ -1,0 +1,40 @@
+-- The answer of a completion at an error point.
+use Rattle.std.specs.Prelude.{◌≡◌, ℕ, List, [], ◌∷◌, All, Option}
+use Rattle.lrpar_table_build.specs.Built.{IsBuilt}
+use Rattle.lrpar_table_check.specs.Checked.{Checked, IsChecked}
+use Rattle.lrpar_table_conditions.specs.Complete.{IsComplete}
+use Rattle.lrpar_table_sentences.specs.Choices.{AreShortest, ChoiceOf}
+use Rattle.lrpar_table_sentences.specs.Reachable.{EachReachableHasTree}
+use Rattle.lrpar_parse_repair.specs.Asked.{Asked}
+use Rattle.lrpar_parse_repair.specs.Sequences.{PlainStep, Works}
+use Rattle.lrpar_parse_completion.specs.Completing.{Completes, IsCompletion}
+use Rattle.lrpar_parse_completion.specs.Nearest.{IsNearest, repair_at}
+
+-- the checked table of a completion, and how many tokens are tried at each place before the end
+pub record Completer : Type 0 where
+  pub checked : Checked
+  pub most : ℕ
+
+-- the table is checked and complete, its reachable rules are productive, and the minimal sentences are those of its grammar
+pub record IsReady (most_len : ℕ) (d : Checked) (shortest : List (Option ChoiceOf)) : Type 0 where
+  pub checked : IsChecked d
+  pub complete : IsComplete d.grammar d.graph d.table
+  pub productive : EachReachableHasTree d.grammar
+  pub shortest : AreShortest d.grammar most_len shortest
+
+-- the answer is one sequence: the repair of a completion of the stack, at the nearest place
+pub record IsNearestRepair {X : Type 0} (token : X → ℕ) (at : Asked X) (most : ℕ) (answer : List (List PlainStep)) : Type 0 where
+  pub tokens : List ℕ
+  pub completion : IsCompletion at.checked.grammar at.checked.table at.stack tokens
+  pub completes : Completes at.checked.grammar at.checked.table at.stack tokens
+  pub place : ℕ
+  pub inserted : ℕ
+  pub nearest : IsNearest token at most tokens place inserted
+  pub one : answer ≡ repair_at tokens at.place place inserted ∷ []
+
+-- the answer at an error point: each of its sequences works; and at an error point over the completion's own table, if it is built, the
+-- answer is the repair of a completion at the nearest place
+pub record IsCompleted {X : Type 0} (token : X → ℕ) (own : Completer) (at : Asked X) (answer : List (List PlainStep)) : Type 0 where
+  pub works : All (Works token at.checked.grammar at.checked.table at.lexemes at.shifts at.stack at.place) answer
+  pub nearest : at.checked ≡ own.checked → IsBuilt own.checked.grammar own.checked.graph own.checked.table
+      → IsNearestRepair token at own.most answer

@@ -1,0 +1,176 @@
+//! The completion of a stack: tokens that lead from it to a stack that accepts.
+ghost use Rattle.std.specs.Prelude.{◌≡◌, ◌≢◌, ◌<◌, ◌≤◌, ◌⊎◌, ◌↔◌, IfOk, IfSome, IsSome, IsSomeAnd, IsTrue, map};
+ghost use Rattle.lrpar_grammar.specs.Grammar.{prod_len, prods_len, rule_of, start_prod};
+ghost use Rattle.lrpar_grammar.specs.Symbols.{symbol_of};
+ghost use Rattle.lrpar_table_rows.specs.Graph.{HasCore, graph_len};
+ghost use Rattle.lrpar_table_sentences.specs.Choices.{AreShortest};
+ghost use Rattle.lrpar_table_sentences.specs.Texts.{HaveTrees};
+ghost use Rattle.lrpar_table_stacks.specs.Expected.{tokens_of};
+ghost use Rattle.lrpar_table_stacks.specs.Stack.{IsStack, states_of};
+ghost use Rattle.lrpar_parse_completion.specs.Completing.{IsCompletion};
+ghost use Rattle.lrpar_parse_completion.specs.Opening.{ArePushed, CanComplete, IsKernelCore, IsOpenedBy};
+
+use crate::waiting::waiting;
+use lrpar_grammar::span::{PIdx, StIdx, StorageIndex, Symbol, TIdx};
+use lrpar_table_check::check::ParserData;
+use lrpar_table_sentences::moves::Move;
+use lrpar_table_sentences::shortest::Shortest;
+use std::alloc::{AllocError, Global};
+
+/// What the completion of a stack needs: a checked table, and the minimal sentences of its grammar's rules.
+#[derive(Drop)]
+pub(crate) struct Completer<'a, StorageT: StorageIndex> {
+    pub(crate) data: &'a ParserData<StorageT>,
+    pub(crate) shortest: &'a Shortest<StorageT>,
+}
+
+impl<'a, StorageT: StorageIndex> Completer<'a, StorageT> {
+    /// The completion of the stack, bottom first: a minimal sentence of the symbols after the dot of a kernel item of the top state, and
+    /// then, for each item whose rule this ends, of those after the rule in an item that waits for it, down to the start item.
+    ///
+    /// There is one, if the table is built and complete and its reachable rules are productive.
+    pub(crate) fn completion(
+        &self,
+        alloc: Global,
+        stack: &[StIdx<StorageT>],
+    ) -> Result<Option<Vec<TIdx<StorageT>>>, AllocError>
+        requires shortest { AreShortest self.now.data.now.grammar usize.MAX self.now.shortest.now }
+        ensures completion { let d = self.now.data.now in IfOk result (λ found. CanComplete d → IsStack d.table (states_of StorageT.index stack.now)
+            → IsSomeAnd found (λ tokens. IsCompletion d.grammar d.table (states_of StorageT.index stack.now) (tokens_of StorageT.index tokens.items))) }
+    {
+        if stack.is_empty() {
+            return Ok(None);
+        }
+        let mut place = stack.len() - 1;
+        let top = stack[place];
+        if !self.has_state(top) {
+            return Ok(None);
+        }
+        let start = usize::from(self.data.grm().start_prod());
+        let (mut prod, mut dot) = self.kernel_core(top);
+        let mut tokens = Vec::new(alloc);
+        let rest = &self.data.grm().prod(prod)[dot..];
+        if !self.push_rest(alloc, &mut tokens, rest)? {
+            return Ok(None);
+        }
+        'items: while usize::from(prod) != start {
+            if dot == 0 {
+                return Ok(None);
+            }
+            if place < dot {
+                return Ok(None);
+            }
+            place -= dot;
+            let base = stack[place];
+            if !self.has_state(base) {
+                return Ok(None);
+            }
+            let Some((next, at)) = self.opened(alloc, base, prod, &mut tokens)? else {
+                return Ok(None);
+            };
+            prod = next;
+            dot = at;
+        }
+        Ok(Some(tokens))
+    }
+
+    // Whether the state is one of the table.
+    fn has_state(&self, state: StIdx<StorageT>) -> bool
+        ensures { IsTrue result ↔ (StorageT.index state.0 < graph_len self.now.data.now.graph) }
+    {
+        usize::from(state) < self.data.sgraph().states_len()
+    }
+
+    // The core of the first kernel item of the state; that of the start item, if the state has none.
+    fn kernel_core(&self, state: StIdx<StorageT>) -> (PIdx<StorageT>, usize)
+        requires { StorageT.index state.0 < graph_len self.now.data.now.graph }
+        ensures prod { StorageT.index result.0.0 < prods_len self.now.data.now.grammar }
+        ensures dot { result.1 ≤ prod_len self.now.data.now.grammar (StorageT.index result.0.0) }
+        ensures kernel { CanComplete self.now.data.now
+            → IsKernelCore self.now.data.now.grammar self.now.data.now.graph (StorageT.index state.0) (StorageT.index result.0.0) result.1 }
+    {
+        let _table = self.data.stable();
+        let cores = self.data.sgraph().begun_cores(state);
+        if cores.is_empty() {
+            return (self.data.grm().start_prod(), 0);
+        }
+        cores[0]
+    }
+
+    // Whether the core is that of a kernel item, or of an item of the start production.
+    fn is_kernel(&self, prod: PIdx<StorageT>, dot: usize) -> bool
+        ensures { IsTrue result ↔ ((0 < dot) ⊎ (StorageT.index prod.0 ≡ start_prod self.now.data.now.grammar)) }
+    {
+        dot > 0 || usize::from(prod) == usize::from(self.data.grm().start_prod())
+    }
+
+    // The core of an item of the state by which the production was opened: a kernel item or the start item. Appends minimal sentences of
+    // what comes after the production's rule there, and after the rules of the items between.
+    //
+    // An item comes later in the list of those that wait for rules than the one that waits for its own rule.
+    fn opened(
+        &self,
+        alloc: Global,
+        state: StIdx<StorageT>,
+        prod: PIdx<StorageT>,
+        tokens: &mut Vec<TIdx<StorageT>>,
+    ) -> Result<Option<(PIdx<StorageT>, usize)>, AllocError>
+        requires shortest { AreShortest self.now.data.now.grammar usize.MAX self.now.shortest.now }
+        requires state { StorageT.index state.0 < graph_len self.now.data.now.graph }
+        requires prod { StorageT.index prod.0 < prods_len self.now.data.now.grammar }
+        ensures opened { let d = self.now.data.now in IfOk result (λ found. IfSome found (λ core.
+            IsOpenedBy d.grammar d.graph d.table (StorageT.index state.0) (rule_of d.grammar (StorageT.index prod.0))
+            (tokens_of StorageT.index tokens.old.items) (tokens_of StorageT.index tokens.new.items) (StorageT.index core.0.0) core.1)) }
+        ensures some { let d = self.now.data.now in IfOk result (λ found. CanComplete d → HasCore d.graph (StorageT.index state.0) (StorageT.index prod.0) 0
+            → StorageT.index prod.0 ≢ start_prod d.grammar → IsSome found) }
+    {
+        let grm = self.data.grm();
+        let _table = self.data.stable();
+        let links = waiting(alloc, self.data, state)?;
+        let mut wanted = grm.prod_to_rule(prod);
+        let mut place = links.len();
+        'links: while place > 0 {
+            place -= 1;
+            let link = links[place];
+            if usize::from(link.rule) != usize::from(wanted) {
+                continue;
+            }
+            let rest = &grm.prod(link.prod)[link.dot + 1..];
+            if !self.push_rest(alloc, tokens, rest)? {
+                return Ok(None);
+            }
+            if self.is_kernel(link.prod, link.dot) {
+                return Ok(Some((link.prod, link.dot)));
+            }
+            wanted = grm.prod_to_rule(link.prod);
+        }
+        Ok(None)
+    }
+
+    // Appends the tokens of a minimal sentence of the symbols; returns whether there is one.
+    fn push_rest(
+        &self,
+        alloc: Global,
+        tokens: &mut Vec<TIdx<StorageT>>,
+        symbols: &[Symbol<StorageT>],
+    ) -> Result<bool, AllocError>
+        requires shortest { AreShortest self.now.data.now.grammar usize.MAX self.now.shortest.now }
+        ensures pushed { IfOk result (λ some. IsTrue some → ArePushed self.now.data.now.grammar (map (symbol_of StorageT.index) symbols.now)
+            (tokens_of StorageT.index tokens.old.items) (tokens_of StorageT.index tokens.new.items)) }
+        ensures some { IfOk result (λ some. HaveTrees self.now.data.now.grammar (map (symbol_of StorageT.index) symbols.now) → IsTrue some) }
+    {
+        if self.shortest.len_of_all(symbols).is_none() {
+            return Ok(false);
+        }
+        let mut moves = Vec::new(alloc);
+        self.shortest
+            .push_all_moves(alloc, &mut moves, self.data.grm(), symbols)?;
+        for step in moves {
+            let Move::Take(token) = step else {
+                continue;
+            };
+            tokens.push(token)?;
+        }
+        Ok(true)
+    }
+}

@@ -1,0 +1,10 @@
+//! Laws about the definitions that contracts cite: each function has one as its contract, and does nothing.
+ghost use Rattle.lrpar_grammar.specs.Sentence.{LexemeFacts};
+ghost use Rattle.lrpar_parse_completion.specs.CompletionLaws.{CompletionsRepair};
+
+/// A completion always repairs: over its own table, if that is built, each answer that it may give at an error point has a sequence that
+/// works.
+pub fn completions_always_repair<LexemeT>()
+    ensures repair { CompletionsRepair LexemeT }
+    ensures facts_repair { CompletionsRepair LexemeFacts }
+{}

@@ -1,0 +1,180 @@
+//! The nearest lexeme at which a parse can go on, after some first tokens of a completion are inserted.
+ghost use Rattle.std.specs.Prelude.{◌≡◌, ◌<◌, ◌≤◌, ◌↔◌, ℕ, IfOk, IsTrue, MatchOption, length};
+ghost use Rattle.lrpar_table_stacks.specs.Expected.{tokens_of};
+ghost use Rattle.lrpar_table_stacks.specs.Stack.{IsStack, states_of};
+ghost use Rattle.lrpar_parse_lexemes.specs.Views.{token_by};
+ghost use Rattle.lrpar_parse_repair.specs.PlainSteps.{plain_steps};
+ghost use Rattle.lrpar_parse_repair.specs.Sequences.{CanGoOn};
+ghost use Rattle.lrpar_parse_completion.specs.Nearest.{GoesOnAt, IsNearest, repair_at};
+ghost use Rattle.lrpar_parse_completion.specs.Trying.{AreTried, IsFewest, IsInserted, stacks_of};
+
+use lrpar_grammar::span::{StIdx, StorageIndex, TIdx};
+use lrpar_parse_lexemes::lex_api::Lexeme;
+use lrpar_parse_repair::counter::Counter;
+use lrpar_parse_repair::repair::{RecoveryPoint, RepairStep};
+use lrpar_parse_repair::trial::Trial;
+use std::alloc::{AllocError, Global};
+
+/// A repair: how many tokens of a completion are inserted, and the place up to which lexemes are deleted.
+#[derive(Clone, Copy, Debug)]
+pub(crate) struct Nearest {
+    pub(crate) inserted: usize,
+    pub(crate) place: usize,
+}
+
+/// An error point, the tokens of a completion of its stack, and how many of them are tried before the end of the input.
+#[derive(Drop)]
+pub(crate) struct Search<'a, 'p, StorageT: StorageIndex, LexemeT: Lexeme<StorageT>> {
+    pub(crate) point: &'a RecoveryPoint<'p, StorageT, LexemeT>,
+    pub(crate) tokens: &'a [TIdx<StorageT>],
+    pub(crate) most: usize,
+}
+
+impl<'a, 'p, StorageT: StorageIndex, LexemeT: Lexeme<StorageT>> Search<'a, 'p, StorageT, LexemeT> {
+    /// The repair at the nearest place; of several, the one that inserts fewest tokens.
+    pub(crate) fn nearest(&self, alloc: Global) -> Result<Option<Nearest>, AllocError>
+        ensures { let token = token_by StorageT.index LexemeT.parts in let at = self.now.point.now in let tokens = tokens_of StorageT.index self.now.tokens.now in
+            IfOk result (λ found. MatchOption found
+            ((m : ℕ) → m ≤ length tokens → ¬ (GoesOnAt token at tokens (length at.lexemes) m))
+            (λ repair. IsNearest token at self.now.most tokens repair.place repair.inserted)) }
+    {
+        let stacks = self.stacks(alloc)?;
+        for place in self.point.place()..self.point.lexemes().len() {
+            if let Some(inserted) = self.first_going_on(alloc, &stacks, place)? {
+                return Ok(Some(Nearest { inserted, place }));
+            }
+        }
+        match self.at_end(alloc)? {
+            None => Ok(None),
+            Some(inserted) => Ok(Some(Nearest {
+                inserted,
+                place: self.point.lexemes().len(),
+            })),
+        }
+    }
+
+    // The stacks after none, one, two, .. of the tokens, up to the number that is tried, as long as they can be fed.
+    fn stacks(&self, alloc: Global) -> Result<Vec<Vec<StIdx<StorageT>>>, AllocError>
+        ensures { IfOk result (λ stacks. AreTried self.now.point.now.checked.grammar self.now.point.now.checked.table self.now.point.now.stack
+            self.now.most (tokens_of StorageT.index self.now.tokens.now) (stacks_of StorageT.index stacks.items)) }
+    {
+        let tried = &self.tokens[..self.tokens.len().min(self.most)];
+        let mut stack = Vec::from_slice(alloc, self.point.stack())?;
+        let mut stacks = Vec::new(alloc);
+        'tokens: for token in tried {
+            let before = Vec::from_slice(alloc, &stack)?;
+            stacks.push(before)?;
+            if !self.feed(&mut stack, *token)? {
+                return Ok(stacks);
+            }
+        }
+        stacks.push(stack)?;
+        Ok(stacks)
+    }
+
+    // How many tokens lead to the first of the stacks from which a parse can go on at the place.
+    fn first_going_on(
+        &self,
+        alloc: Global,
+        stacks: &[Vec<StIdx<StorageT>>],
+        place: usize,
+    ) -> Result<Option<usize>, AllocError>
+        requires tried { AreTried self.now.point.now.checked.grammar self.now.point.now.checked.table self.now.point.now.stack
+            self.now.most (tokens_of StorageT.index self.now.tokens.now) (stacks_of StorageT.index stacks.now) }
+        requires within { place ≤ length self.now.point.now.lexemes }
+        ensures first { let token = token_by StorageT.index LexemeT.parts in let at = self.now.point.now in let tokens = tokens_of StorageT.index self.now.tokens.now in
+            IfOk result (λ found. MatchOption found
+            ((m : ℕ) → m ≤ length tokens → m ≤ self.now.most → ¬ (GoesOnAt token at tokens place m))
+            (λ m. IsFewest token at tokens place m × (m ≤ self.now.most))) }
+    {
+        for (inserted, stack) in stacks.iter().enumerate() {
+            if self.goes_on(alloc, stack, place)? {
+                return Ok(Some(inserted));
+            }
+        }
+        Ok(None)
+    }
+
+    // The fewest tokens after which a parse can go on at the end of the lexemes: the stack then accepts.
+    fn at_end(&self, alloc: Global) -> Result<Option<usize>, AllocError>
+        ensures { let token = token_by StorageT.index LexemeT.parts in let at = self.now.point.now in let tokens = tokens_of StorageT.index self.now.tokens.now in
+            IfOk result (λ found. MatchOption found
+            ((m : ℕ) → m ≤ length tokens → ¬ (GoesOnAt token at tokens (length at.lexemes) m))
+            (IsFewest token at tokens (length at.lexemes))) }
+    {
+        let place = self.point.lexemes().len();
+        let mut stack = Vec::from_slice(alloc, self.point.stack())?;
+        'tokens: for (inserted, token) in self.tokens.iter().enumerate() {
+            if self.goes_on(alloc, &stack, place)? {
+                return Ok(Some(inserted));
+            }
+            if !self.feed(&mut stack, *token)? {
+                return Ok(None);
+            }
+        }
+        if self.goes_on(alloc, &stack, place)? {
+            Ok(Some(self.tokens.len()))
+        } else {
+            Ok(None)
+        }
+    }
+
+    // Feeds the token, if it is one of the grammar other than the end token; returns whether it was fed.
+    fn feed(
+        &self,
+        stack: &mut Vec<StIdx<StorageT>>,
+        token: TIdx<StorageT>,
+    ) -> Result<bool, AllocError>
+        requires { IsStack self.now.point.now.checked.table (states_of StorageT.index stack.old.items) }
+        ensures fed { IfOk result (IsInserted self.now.point.now.checked.grammar self.now.point.now.checked.table (StorageT.index token.0)
+            (states_of StorageT.index stack.old.items) (states_of StorageT.index stack.new.items)) }
+        ensures stack { IsStack self.now.point.now.checked.table (states_of StorageT.index stack.new.items) }
+    {
+        let data = self.point.data();
+        if usize::from(token) >= usize::from(data.grm().eof_token_idx()) {
+            return Ok(false);
+        }
+        data.feed(stack, token)
+    }
+
+    // Whether a parse can go on from the stack at the place.
+    fn goes_on(
+        &self,
+        alloc: Global,
+        stack: &[StIdx<StorageT>],
+        place: usize,
+    ) -> Result<bool, AllocError>
+        requires stack { IsStack self.now.point.now.checked.table (states_of StorageT.index stack.now) }
+        requires within { place ≤ length self.now.point.now.lexemes }
+        ensures { let at = self.now.point.now in IfOk result (λ goes_on. IsTrue goes_on ↔
+            CanGoOn (token_by StorageT.index LexemeT.parts) at.checked.grammar at.checked.table at.lexemes at.shifts (states_of StorageT.index stack.now) place) }
+    {
+        let mut states = Counter::new(alloc, stack);
+        states.set_back();
+        Trial::new(self.point.data(), self.point.lexemes(), self.point.shifts()).can_go_on(
+            &mut states,
+            place,
+        )
+    }
+
+    /// The steps of the repair: the inserted tokens, and then a deletion of each lexeme before its place.
+    pub(crate) fn steps(
+        &self,
+        alloc: Global,
+        repair: Nearest,
+    ) -> Result<Vec<RepairStep<StorageT>>, AllocError>
+        requires { repair.inserted ≤ length self.now.tokens.now }
+        ensures { IfOk result (λ steps. plain_steps StorageT.index steps.items
+            ≡ repair_at (tokens_of StorageT.index self.now.tokens.now) self.now.point.now.place repair.place repair.inserted) }
+    {
+        let mut steps = Vec::new(alloc);
+        let inserted = &self.tokens[..repair.inserted];
+        'inserted: for token in inserted {
+            steps.push(RepairStep::Insert(*token))?;
+        }
+        'deleted: for _ in self.point.place()..repair.place {
+            steps.push(RepairStep::Delete)?;
+        }
+        Ok(steps)
+    }
+}
