@@ -38,6 +38,7 @@ impl<'a, StorageT: StorageIndex> Completer<'a, StorageT> {
         ensures completion { let d = self.now.data.now in IfOk result (λ found. CanComplete d → IsStack d.table (states_of StorageT.index stack.now)
             → IsSomeAnd found (λ tokens. IsCompletion d.grammar d.table (states_of StorageT.index stack.now) (tokens_of StorageT.index tokens.items))) }
     {
+        let _table = self.data.stable();
         if stack.is_empty() {
             return Ok(None);
         }

@@ -1,0 +1,35 @@
+use Rattle.std.proofs.Common.{◌≡◌, ◌<◌, ◌≤◌, ◌+◌, ◌-◌, ◌∙◌, ℕ, ap, arith, length, refl, subst, sym, take}
+use Rattle.std.proofs.lemmas.List.{length-map}
+use Rattle.lrpar_table_stacks.specs.Expected.{tokens_of}
+use Rattle.lrpar_parse_repair.specs.PlainSteps.{plain_steps}
+use Rattle.lrpar_parse_completion.specs.Nearest.{inserts_deletes}
+use Rattle.lrpar_parse_completion.proofs.FeedLemmas.{token_front}
+use Rattle.lrpar_parse_completion.proofs.NearestLemmas.{steps_deleted, steps_inserted}
+use Rattle.lrpar_parse_completion.proofs.nearest.Search.steps.Goals as goal
+
+pub inserted-preserved : goal.inserted-preserved
+inserted-preserved g c =
+    let index = g.StorageT.StorageIndex.index in
+    let all = c.args.self.now.tokens.now in
+    let n = c.args.repair.inserted in
+    let l = c.inserted in
+    let token = c.token-item.result in
+    let front = token_front index all (take n all) n l.token-index token refl c.inserted-test.true c.token-item.is in
+    let low : l.token-index < length (tokens_of index all) = omega (arith, front.0, length-map all (λ t. index t.0)) in
+    steps_inserted index l.steps.items c.push.new.self.items (tokens_of index all) l.token-index token low front.1 c.in_ok-push.ensures.items l.invariant
+
+pub deleted-init : goal.deleted-init
+deleted-init g c = ?
+
+pub deleted-preserved : goal.deleted-preserved
+deleted-preserved g c =
+    let index = g.StorageT.StorageIndex.index in
+    let tokens = tokens_of index c.args.self.now.tokens.now in
+    let l = c.deleted in
+    let n = l.counter - c.args.self.now.point.now.place in
+    let next : n + 1 ≡ (l.counter + 1) - c.args.self.now.point.now.place = omega arith in
+    subst (λ k. plain_steps index c.push-in-deleted.new.self.items ≡ inserts_deletes (take c.args.repair.inserted tokens) k) next
+    (steps_deleted index l.steps.items c.push-in-deleted.new.self.items (take c.args.repair.inserted tokens) n c.in_ok-push-in-deleted.ensures.items l.invariant)
+
+pub returns : goal.returns
+returns g c = ?
